@@ -1,0 +1,128 @@
+-- Each definition on a small example, computed.
+use Rattle.std.proofs.Common.{◌≡◌, ℕ, List, [], ◌∷◌, None, Some, true, false, refl}
+use Rattle.blk_image.specs.Bytes.{content, half_at, word_at, long_at, word_bytes, range_at, words_at, spliced, zeros, resized}
+use Rattle.blk_image.specs.Image.{Index, Block, External, Image, same_file, empty_image, has_file, bytes_of, length_of, byte, word, word_in, with_file}
+use Rattle.blk_image.specs.Steps.{TrailStep, Word, SetLength, Delete, Note, after, image_at, words, before_words, word_step, word_steps, with_word, with_words}
+use Rattle.blk_image.specs.Order.{kind_of, number_of}
+use Rattle.blk_image.specs.Notes.{notes_in}
+use Rattle.blk_image.specs.Footprint.{nothing, range, one_word, size_of, whole, either}
+
+-- the magic word of an index as it lies in the file
+magic : List ℕ
+magic = 0xC3 ∷ 0xCA ∷ 0x03 ∷ 0xC1 ∷ []
+
+byte_past_the_end : content (7 ∷ 8 ∷ []) 2 ≡ 0
+byte_past_the_end = refl
+
+half_is_little_endian : half_at (content (0x34 ∷ 0x12 ∷ [])) 0 ≡ 0x1234
+half_is_little_endian = refl
+
+word_is_little_endian : word_at (content (0xC3 ∷ 0xCA ∷ 0x03 ∷ 0xC1 ∷ [])) 0 ≡ 0xC103CAC3
+word_is_little_endian = refl
+
+long_is_little_endian : long_at (content (1 ∷ 0 ∷ 0 ∷ 0 ∷ 2 ∷ [])) 0 ≡ 0x200000001
+long_is_little_endian = refl
+
+bytes_of_a_word : word_bytes 0xC103CAC3 ≡ 0xC3 ∷ 0xCA ∷ 0x03 ∷ 0xC1 ∷ []
+bytes_of_a_word = refl
+
+range_of_three : range_at (content (5 ∷ 6 ∷ 7 ∷ 8 ∷ [])) 1 3 ≡ 6 ∷ 7 ∷ 8 ∷ []
+unfolding range_at
+range_of_three = refl
+
+two_words : words_at (content (1 ∷ 0 ∷ 0 ∷ 0 ∷ 2 ∷ [])) 0 2 ≡ 1 ∷ 2 ∷ []
+unfolding words_at
+two_words = refl
+
+splice_keeps_the_length : spliced 1 (8 ∷ 9 ∷ []) (1 ∷ 2 ∷ []) ≡ 1 ∷ 8 ∷ []
+unfolding spliced
+splice_keeps_the_length = refl
+
+lengthened_with_zeros : resized 3 (7 ∷ []) ≡ 7 ∷ 0 ∷ 0 ∷ []
+unfolding resized zeros
+lengthened_with_zeros = refl
+
+cut : resized 1 (7 ∷ 8 ∷ []) ≡ 7 ∷ []
+unfolding resized zeros
+cut = refl
+
+block_files_differ : same_file (Block 3) (Block 4) ≡ false
+block_files_differ = refl
+
+kinds_differ : same_file (Block 3) (External 3) ≡ false
+kinds_differ = refl
+
+-- a folder with one external file of three bytes
+small : Image
+small = with_file empty_image (External 1) (Some (1 ∷ 2 ∷ 3 ∷ []))
+
+one_file_is_there : (has_file small (External 1) ≡ true) × (has_file small Index ≡ false)
+unfolding small
+one_file_is_there = (refl, refl)
+
+its_length : (length_of small (External 1) ≡ 3) × (length_of small Index ≡ 0)
+unfolding small
+its_length = (refl, refl)
+
+its_bytes : bytes_of small (External 1) ≡ 1 ∷ 2 ∷ 3 ∷ []
+unfolding small
+its_bytes = refl
+
+its_byte : byte small (External 1) 2 ≡ 3
+unfolding small
+its_byte = refl
+
+its_word_past_the_end : (word small (External 1) 0 ≡ 0x30201) × (word_in small (External 1) 0 ≡ None)
+unfolding small
+its_word_past_the_end = (refl, refl)
+
+-- seven bytes from place 2 on touch three words
+write_is_cut : words (Block 1) 2 (1 ∷ 2 ∷ 3 ∷ 4 ∷ 5 ∷ 6 ∷ 7 ∷ []) ≡ Word (Block 1) 2 (1 ∷ 2 ∷ []) ∷ Word (Block 1) 4 (3 ∷ 4 ∷ 5 ∷ 6 ∷ []) ∷ Word (Block 1) 8 (7 ∷ []) ∷ []
+unfolding words before_words
+write_is_cut = refl
+
+no_bytes_no_step : words Index 4 [] ≡ []
+unfolding words
+no_bytes_no_step = refl
+
+one_word_is_one_step : word_steps Index ((0, 0xC103CAC3) ∷ (4, 1) ∷ []) ≡ Word Index 0 (0xC3 ∷ 0xCA ∷ 0x03 ∷ 0xC1 ∷ []) ∷ Word Index 4 (1 ∷ 0 ∷ 0 ∷ 0 ∷ []) ∷ []
+unfolding word_step
+one_word_is_one_step = refl
+
+words_over_bytes : with_words ((0, 1) ∷ (4, 2) ∷ []) (9 ∷ 9 ∷ 9 ∷ 9 ∷ 9 ∷ 9 ∷ []) ≡ 1 ∷ 0 ∷ 0 ∷ 0 ∷ 2 ∷ 0 ∷ []
+unfolding with_word spliced
+words_over_bytes = refl
+
+-- a file is made, lengthened and written; another is deleted; a command is noted
+trail : List TrailStep
+trail = SetLength Index 2 ∷ Word Index 1 (5 ∷ []) ∷ Delete (External 1) ∷ Note 1 ∷ []
+
+after_a_trail : (after trail small Index ≡ Some (0 ∷ 5 ∷ [])) × (after trail small (External 1) ≡ None)
+unfolding trail small resized zeros spliced
+after_a_trail = (refl, refl)
+
+stopped_in_a_trail : (image_at small trail 1 Index ≡ Some (0 ∷ 0 ∷ [])) × (has_file (image_at small trail 1) (External 1) ≡ true)
+unfolding trail small resized zeros spliced
+stopped_in_a_trail = (refl, refl)
+
+one_note : notes_in trail ≡ 1
+unfolding trail
+one_note = refl
+
+block_files_are_second : (kind_of (Block 9) ≡ 1) × (number_of (Block 9) ≡ 9)
+block_files_are_second = (refl, refl)
+
+range_of_a_footprint : ((range Index 4 2).bytes Index 5 ≡ true) × ((range Index 4 2).bytes Index 6 ≡ false) × ((range Index 4 2).bytes (Block 0) 5 ≡ false) × ((range Index 4 2).sizes Index ≡ false)
+range_of_a_footprint = (refl, refl, refl, refl)
+
+word_of_a_footprint : ((one_word Index 4).bytes Index 7 ≡ true) × ((one_word Index 4).bytes Index 8 ≡ false)
+word_of_a_footprint = (refl, refl)
+
+size_of_a_footprint : ((size_of Index).sizes Index ≡ true) × ((size_of Index).bytes Index 0 ≡ false)
+size_of_a_footprint = (refl, refl)
+
+file_of_a_footprint : ((whole Index).sizes Index ≡ true) × ((whole Index).bytes Index 0 ≡ true) × ((whole Index).bytes (Block 0) 0 ≡ false)
+file_of_a_footprint = (refl, refl, refl)
+
+two_footprints : ((either (whole (Block 1)) (one_word Index 0)).bytes Index 3 ≡ true) × ((either nothing nothing).sizes Index ≡ false)
+two_footprints = (refl, refl)

@@ -1,0 +1,11 @@
+pub mod Splices
+pub mod Words
+pub mod Images
+pub mod Cuts
+pub mod Runs
+pub mod WordSteps
+pub mod NotesLemmas
+pub mod Orders
+pub mod Footprints
+pub mod ByteSteps
+pub mod Examples

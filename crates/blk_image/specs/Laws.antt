@@ -1,0 +1,24 @@
+-- The laws of this crate, which say that its definitions fit together.
+use Rattle.std.specs.Prelude.{◌≡◌, ℕ, ◌<◌, List}
+use Rattle.std.specs.List.{All}
+use Rattle.blk_image.specs.Image.{File, Image, HasRange, with_file}
+use Rattle.blk_image.specs.Steps.{TrailStep, IsTrail, after, words, written}
+use Rattle.blk_image.specs.Told.{Along}
+use Rattle.blk_image.specs.Footprint.{SameOutside, range, touched_by_all}
+use Rattle.std.specs.Prelude.{length}
+
+-- the word steps of a write leave the file with the bytes at their place, and every other file as it was
+abbrev pub WordsWriteTheBytes : Type 0
+WordsWriteTheBytes = (file : File) (place : ℕ) (bytes : List ℕ) (image : Image) → after (words file place bytes) image ≡ with_file image file (written place bytes (image file))
+
+-- each of them is a write of one to four bytes inside one aligned word
+abbrev pub WordsAreAligned : Type 0
+WordsAreAligned = (file : File) (place : ℕ) (bytes : List ℕ) (image : Image) → All (λ b. b < 256) bytes → HasRange image file place (length bytes) → IsTrail image (words file place bytes)
+
+-- at each of them only bytes of the range have changed, and bytes stay bytes
+abbrev pub WordsStayInside : Type 0
+WordsStayInside = (file : File) (place : ℕ) (bytes : List ℕ) (image : Image) → Along (SameOutside (range file place (length bytes)) image) image (words file place bytes)
+
+-- at each of some steps, what none of them touches is as before
+abbrev pub StepsStayInside : Type 0
+StepsStayInside = (steps : List TrailStep) (image : Image) → Along (SameOutside (touched_by_all steps) image) image steps
