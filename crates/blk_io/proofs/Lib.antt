@@ -1,0 +1,3 @@
+pub mod FileLists
+pub mod Trails
+pub mod ReadBytes

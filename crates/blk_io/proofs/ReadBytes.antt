@@ -1,0 +1,40 @@
+-- What a read of a file gives.
+use Rattle.std.proofs.Common.{◌≡◌, ℕ, zero, suc, ◌+◌, ◌-◌, ◌<◌, ◌≤◌, nat_le, Bool, true, false, if◌then◌else◌, min, List, [], length, take, drop, Option, None, Some, unwrap_or, refl, sym, ◌∙◌, ap, arith}
+use Rattle.std.proofs.lemmas.Bool.Decides.{nat_tests}
+use Rattle.blk_image.specs.Bytes.{content, range_at}
+use Rattle.blk_image.specs.Image.{File, Image, bytes_of, length_of, word, word_in}
+use Rattle.blk_image.specs.Told.{GivesBytes}
+use Rattle.blk_image.proofs.Words.{range-is}
+
+-- the front of what is behind a place, as a range
+front_is : (n place : ℕ) (bytes : List ℕ) (old : List ℕ) → n ≡ min (length old) (length bytes - place) → range_at (content bytes) place n ≡ take n (drop place bytes)
+unfolding range_at
+front_is zero place bytes old many = refl
+front_is (suc n) place bytes old many = range-is (suc n) place bytes (omega (arith, many))
+
+-- bytes of a file that were moved into the front of a buffer
+pub gives_front : (image : Image) (file : File) (place : ℕ) (bytes old new : List ℕ) (n : ℕ) → bytes_of image file ≡ bytes → n ≡ min (length old) (length bytes - place) → take n new ≡ take n (drop place bytes) → drop n new ≡ drop n old
+    → GivesBytes image file place old new n
+gives_front image file place bytes old new n is many front rest = record {
+  many = many ∙ ap (λ (l : List ℕ). min (length old) (length l - place)) (sym is);
+  front = front ∙ sym (front_is n place bytes old many) ∙ ap (λ (l : List ℕ). range_at (content l) place n) (sym is);
+  rest = rest;
+}
+
+-- a file that is not there gives nothing
+pub gives_nothing : (image : Image) (file : File) (place : ℕ) (old : List ℕ) → image file ≡ None → GivesBytes image file place old old 0
+unfolding range_at
+gives_nothing image file place old none =
+    let empty : length_of image file ≡ 0 = ap (λ (o : Option (List ℕ)). length (unwrap_or o [])) none in
+    record { many = omega (arith, empty); front = refl; rest = refl }
+
+-- a word that the file has, and one that it hasn't
+pub word_in-some : (image : Image) (file : File) (place : ℕ) → place + 4 ≤ length_of image file → word_in image file place ≡ Some (word image file place)
+word_in-some image file place enough =
+    let test : nat_le (place + 4) (length_of image file) ≡ true = grind (arith, nat_tests) in
+    ap (λ (t : Bool). if t then Some (word image file place) else None) test
+
+pub word_in-none : (image : Image) (file : File) (place : ℕ) → length_of image file < place + 4 → word_in image file place ≡ None
+word_in-none image file place few =
+    let test : nat_le (place + 4) (length_of image file) ≡ false = grind (arith, nat_tests) in
+    ap (λ (t : Bool). if t then Some (word image file place) else None) test

@@ -1,0 +1,14 @@
+use Rattle.std.proofs.Common.{sym, subst}
+use Rattle.blk_image.specs.Image.{AreBytes}
+use Rattle.blk_image.specs.Steps.{Delete}
+use Rattle.blk_image.proofs.ByteSteps.{are_bytes-step}
+use Rattle.blk_io.specs.FileNames.{file_of}
+use Rattle.blk_io.specs.Files.{image_of}
+use Rattle.blk_io.proofs.Trails.{trail_goes_on}
+use Rattle.blk_io.proofs.mem.MemFolder.remove_told.Goals as goal
+
+pub invariant_of-self-2 : goal.invariant_of-self-2
+invariant_of-self-2 c = record {
+  agrees = trail_goes_on _ _ _ _ _ _ c.args.self.now.agrees c.remove.ensures c.in_ok-keep.ensures.done;
+  bytes = subst AreBytes (sym c.remove.ensures) (are_bytes-step (image_of c.args.self.now.files.items) (Delete (file_of c.args.file)) tt c.args.self.now.bytes);
+}

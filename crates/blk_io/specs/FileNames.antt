@@ -1,0 +1,10 @@
+-- The names of files as the files of images.
+use Rattle.blk_io.specs.declared.folder.FileId.{FileId}
+use Rattle.blk_io.specs.declared.folder.FileId.TheVariants.{Index, Block, External}
+use Rattle.blk_image.specs.Image as image
+
+-- the file that a name stands for
+abbrev pub file_of : FileId → image.File
+file_of Index = image.Index
+file_of (Block n) = image.Block n
+file_of (External n) = image.External n

@@ -1,0 +1,35 @@
+-- The files that a folder in memory keeps, as an image.
+use Rattle.std.specs.Prelude.{◌≡◌, ℕ, ◌<◌, if◌then◌else◌, ◌⊎◌, List, [], ◌∷◌, length, take, slice_index_or, Option, None, Some}
+use Rattle.std.specs.Option.{ForSome}
+use Rattle.blk_image.specs.Image.{File, Image, same_file}
+use Rattle.blk_image.specs.Order.{IsAfter, IsBefore, IsUpTo}
+use Rattle.blk_io.specs.declared.mem.MemFile.{MemFile}
+use Rattle.blk_io.specs.FileNames.{file_of}
+
+-- the bytes of the first of these files that has the name
+abbrev pub image_of : List MemFile → Image
+image_of [] file = None
+image_of (one ∷ files) file = if same_file (file_of one.file) file then Some one.bytes.items else image_of files file
+
+-- the first file with this name is at place i
+pub record IsPlaceOf (files : List MemFile) (file : File) (i : ℕ) : Type 0 where
+  pub one : MemFile
+  pub within : i < length files
+  pub there : one ≡ slice_index_or files i one
+  pub named : file_of one.file ≡ file
+  pub none_before : image_of (take i files) file ≡ None
+
+-- a file takes the place of the next one
+pub record TakesPlace (file : File) (after next new : Option File) : Type 0 where
+  pub is : new ≡ Some file
+  pub follows : IsAfter after file
+  pub before : ForSome next (IsBefore file)
+
+-- the next one stays, since a file doesn't come before it
+pub record KeepsPlace (file : File) (after next new : Option File) : Type 0 where
+  pub is : new ≡ next
+  pub later : IsAfter after file → IsUpTo file next
+
+-- the nearer of a file and the next one so far
+abbrev pub IsNearer : File → Option File → Option File → Option File → Type 0
+IsNearer file after next new = TakesPlace file after next new ⊎ KeepsPlace file after next new

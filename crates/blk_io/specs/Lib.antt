@@ -1,0 +1,7 @@
+pub mod FileNames
+pub mod Files
+pub mod Trail
+pub mod MemFolder
+pub mod Streams
+pub mod Clock
+pub mod StopFolder

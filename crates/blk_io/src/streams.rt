@@ -1,0 +1,49 @@
+// A source of bytes, a sink of bytes and a clock.
+ghost use Rattle.std.specs.Prelude.{◌≡◌, ◌+◌, ◌-◌, ◌^◌, ◌<◌, ◌≤◌, ℕ, List, [], ◌∷◌, ◌++◌, length, take, drop, min, Option, OnOk, OnErr, IfOk};
+ghost use Rattle.std.specs.Option.{ForSome, option_map};
+ghost use Rattle.blk_image.specs.Told.{Rises};
+ghost use Rattle.blk_io.specs.Streams.{Appends, Moves, Readings, reading_of, later_of};
+
+use crate::Failed;
+
+pub trait Source {
+    /// The bytes that are left, where they are told.
+    ghost left: { Self → Option (List ℕ) };
+
+    /// How often the source has failed.
+    ghost faults: { Self → ℕ };
+
+    /// Moves bytes of what is left into the front of `out`. None into a buffer that isn't empty is the end.
+    fn take(&mut self, out: &mut [u8]) -> Result<usize, Failed>
+        ensures within { IfOk result (λ n. n ≤ length out.old) }
+        ensures left { IfOk result (λ n. left self.new ≡ option_map (drop n) (left self.old)) }
+        ensures bytes { IfOk result (λ n. ForSome (left self.old) (λ bytes. Moves bytes out.old out.new n)) }
+        ensures stays { OnErr result (left self.new ≡ left self.old) }
+        ensures later { faults self.old ≤ faults self.new }
+        ensures failed { OnErr result (Rises (faults self.old) (faults self.new)) };
+}
+
+pub trait Sink {
+    /// The bytes that were written, where they are told.
+    ghost written: { Self → Option (List ℕ) };
+
+    /// How often the sink has failed.
+    ghost faults: { Self → ℕ };
+
+    /// Writes all the bytes, or a front of them where it fails.
+    fn put(&mut self, bytes: &[u8]) -> Result<(), Failed>
+        ensures whole { OnOk result (written self.new ≡ option_map (λ w. w ++ bytes.now) (written self.old)) }
+        ensures part { Appends (written self.old) (written self.new) bytes.now }
+        ensures later { faults self.old ≤ faults self.new }
+        ensures failed { OnErr result (Rises (faults self.old) (faults self.new)) };
+}
+
+pub trait Clock {
+    /// The readings to come, where they are told.
+    ghost readings: { Self → Option Readings };
+
+    /// The next reading.
+    fn now(&mut self) -> u64
+        ensures reading { ForSome (readings self.old) (λ r. result ≡ reading_of r) }
+        ensures later { readings self.new ≡ option_map later_of (readings self.old) };
+}
