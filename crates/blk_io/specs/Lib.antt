@@ -1,4 +1,5 @@
 pub mod FileNames
+pub mod Faults
 pub mod Files
 pub mod Trail
 pub mod MemFolder

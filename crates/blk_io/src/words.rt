@@ -1,12 +1,14 @@
-// Words that are written one by one.
-ghost use Rattle.std.specs.Prelude.{◌≡◌, ◌+◌, ◌%◌, ◌≤◌, ◌<◌, ℕ, All, OnOk, OnErr, IfOk};
+// Words and bytes that are read whole, and words that are written one by one.
+ghost use Rattle.std.specs.Prelude.{◌≡◌, ◌⊎◌, ◌+◌, ◌%◌, ◌^◌, ◌≤◌, ◌<◌, ℕ, All, length, OnOk, OnErr, IfOk};
 ghost use Rattle.std.specs.Option.{ForSome};
-ghost use Rattle.blk_image.specs.Image.{HasRange, word_in};
+ghost use Rattle.blk_image.specs.Bytes.{range_at};
+ghost use Rattle.blk_image.specs.Image.{HasRange, byte, word};
 ghost use Rattle.blk_image.specs.Steps.{word_step, word_steps};
 ghost use Rattle.blk_image.specs.Told.{Grows, GrowsInPart, Stays, Rises};
 ghost use Rattle.blk_io.specs.FileNames.{file_of};
+ghost use Rattle.blk_io.specs.Faults.{IfDamaged, IfDevice, IsShort};
 
-use crate::{Failed, FileId, Folder};
+use crate::{Damage, Failed, Fault, FileId, Folder};
 
 /// Writes a word, its low byte first.
 pub fn write_word<F: Folder>(f: &mut F, file: FileId, at: u64, value: u32) -> Result<(), Failed>
@@ -35,17 +37,41 @@ pub fn write_words<F: Folder>(f: &mut F, file: FileId, words: &[(u64, u32)]) -> 
     Ok(())
 }
 
-/// Reads the word at a place, or None where the file has none there.
-pub fn read_word<F: Folder>(f: &mut F, file: FileId, at: u64) -> Result<Option<u32>, Failed>
-    ensures word { IfOk result (λ w. ForSome (F.told f.old).files (λ image. w ≡ word_in image (file_of file) at)) }
+/// Reads bytes of a file into the whole of `out`.
+///
+/// Too few bytes are a damage: it has the place of the read, and finds how many bytes there were.
+pub fn read_exact<F: Folder>(
+    f: &mut F,
+    file: FileId,
+    at: u64,
+    out: &mut [u8],
+) -> Result<(), Fault>
+    requires { length out.old < 2 ^ 32 }
+    ensures bytes { OnOk result (ForSome (F.told f.old).files (λ image. out.new ≡ range_at (byte image (file_of file)) at (length out.old))) }
+    ensures inside { OnOk result (ForSome (F.told f.old).files (λ image. HasRange image (file_of file) at (length out.old) ⊎ (length out.old ≡ 0))) }
+    ensures short { IfDamaged result (IsShort (F.told f.old) file at (length out.old)) }
     ensures stays { Stays (F.told f.old) (F.told f.new) }
     ensures later { F.faults f.old ≤ F.faults f.new }
-    ensures failed { OnErr result (Rises (F.faults f.old) (F.faults f.new)) }
+    ensures device { IfDevice result (Rises (F.faults f.old) (F.faults f.new)) }
+{
+    let n = f.read_at(file, at, out)?;
+    if n < out.len() {
+        let found = n as u32;
+        return Err(Fault::Damaged(Damage { file, at, found }));
+    }
+    Ok(())
+}
+
+/// Reads the word at a place, its low byte first. Too few bytes are a damage.
+pub fn read_word<F: Folder>(f: &mut F, file: FileId, at: u64) -> Result<u32, Fault>
+    ensures word { IfOk result (λ w. ForSome (F.told f.old).files (λ image. w ≡ word image (file_of file) at)) }
+    ensures inside { OnOk result (ForSome (F.told f.old).files (λ image. HasRange image (file_of file) at 4)) }
+    ensures short { IfDamaged result (IsShort (F.told f.old) file at 4) }
+    ensures stays { Stays (F.told f.old) (F.told f.new) }
+    ensures later { F.faults f.old ≤ F.faults f.new }
+    ensures device { IfDevice result (Rises (F.faults f.old) (F.faults f.new)) }
 {
     let mut word = [0u8; 4];
-    let n = f.read_at(file, at, &mut word)?;
-    if n < 4 {
-        return Ok(None);
-    }
-    Ok(Some(u32::from_le_bytes(word)))
+    read_exact(f, file, at, &mut word)?;
+    Ok(u32::from_le_bytes(word))
 }

@@ -1,0 +1,29 @@
+-- The answers of calls that read and check.
+use Rattle.std.specs.Prelude.{◌≡◌, ℕ, ◌-◌, ◌<◌, min, Result, Ok, Err}
+use Rattle.std.specs.Option.{ForSome}
+use Rattle.blk_image.specs.Image.{length_of}
+use Rattle.blk_image.specs.Told.{Told}
+use Rattle.blk_io.specs.declared.folder.FileId.{FileId}
+use Rattle.blk_io.specs.declared.fault.Damage.{Damage}
+use Rattle.blk_io.specs.declared.fault.Fault.{Fault}
+use Rattle.blk_io.specs.declared.fault.Fault.TheVariants.{Device, Damaged}
+use Rattle.blk_io.specs.FileNames.{file_of}
+
+-- where the answer is a damage, the damage is so
+abbrev pub IfDamaged : {A : Type 0} → Result A Fault → (Damage → Type 0) → Type 0
+IfDamaged (Ok a) P = Unit {0}
+IfDamaged (Err Device) P = Unit {0}
+IfDamaged (Err (Damaged damage)) P = P damage
+
+-- where the answer is that the device failed, this holds
+abbrev pub IfDevice : {A : Type 0} → Result A Fault → Type 0 → Type 0
+IfDevice (Ok a) P = Unit {0}
+IfDevice (Err Device) P = P
+IfDevice (Err (Damaged damage)) P = Unit {0}
+
+-- a read of so many bytes at a place gave fewer: the damage has the place, and finds how many there were
+pub record IsShort (told : Told) (file : FileId) (place count : ℕ) (damage : Damage) : Type 0 where
+  pub of_file : damage.file ≡ file
+  pub at_place : damage.at ≡ place
+  pub few : damage.found < count
+  pub many : ForSome told.files (λ image. damage.found ≡ min count (length_of image (file_of file) - place))
