@@ -5,4 +5,5 @@ pub mod Order
 pub mod Told
 pub mod Notes
 pub mod Footprint
+pub mod Checks
 pub mod Laws

@@ -1,3 +1,4 @@
 pub mod FileLists
 pub mod Trails
 pub mod ReadBytes
+pub mod Shorts

@@ -3,11 +3,16 @@ use Rattle.std.specs.Prelude.{◌≡◌, ℕ, ◌-◌, ◌<◌, min, Result, Ok,
 use Rattle.std.specs.Option.{ForSome}
 use Rattle.blk_image.specs.Image.{length_of}
 use Rattle.blk_image.specs.Told.{Told}
+use Rattle.blk_image.specs.Checks as checks
 use Rattle.blk_io.specs.declared.folder.FileId.{FileId}
 use Rattle.blk_io.specs.declared.fault.Damage.{Damage}
 use Rattle.blk_io.specs.declared.fault.Fault.{Fault}
 use Rattle.blk_io.specs.declared.fault.Fault.TheVariants.{Device, Damaged}
 use Rattle.blk_io.specs.FileNames.{file_of}
+
+-- a damage as a check of an image has it
+abbrev pub damage_of : Damage → checks.Damage
+damage_of damage = record { file = file_of damage.file; at = damage.at; found = damage.found }
 
 -- where the answer is a damage, the damage is so
 abbrev pub IfDamaged : {A : Type 0} → Result A Fault → (Damage → Type 0) → Type 0

@@ -1,0 +1,2 @@
+pub mod HeaderExamples
+pub mod HeaderLemmas

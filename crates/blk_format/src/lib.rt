@@ -1,0 +1,11 @@
+//! What the bytes of a cache's files mean: the fields of its records by place, and the checks of its headers.
+//!
+//! The crate has definitions that the contracts of the other crates cite, and their laws.
+#![tactic(auto)]
+
+ghost use Rattle.blk_format.specs.Headers.{UnfinishedAgrees};
+
+/// The test for an unfinished index agrees with what it tests.
+pub fn unfinished_agrees()
+    ensures { UnfinishedAgrees }
+{}

@@ -1,0 +1,45 @@
+// The words of the index's header, and the words of its table.
+ghost use Rattle.std.specs.Prelude.{◌≡◌, ◌+◌, ◌*◌, ◌%◌, ◌<◌, ◌≤◌, IfOk, None};
+ghost use Rattle.std.specs.Option.{ForSome};
+ghost use Rattle.blk_image.specs.Image.{byte, word, length_of, Index as index};
+ghost use Rattle.blk_image.specs.Told.{Stays, Rises};
+ghost use Rattle.blk_format.specs.Headers.{bucket_of, place_of_bucket, index_length, header_length};
+ghost use Rattle.blk_io.specs.Faults.{IfDamaged, IfDevice, IsShort};
+
+use blk_io::{Fault, FileId, Folder, read_word};
+
+const HEADER_LEN: u64 = 368;
+
+/// Reads the word of the header at a place in bytes.
+pub fn word<F: Folder>(f: &mut F, at: u32) -> Result<u32, Fault>
+    requires aligned { at % 4 ≡ 0 }
+    requires inside { at < header_length }
+    requires whole { ForSome (F.told f.old).files (λ image. length_of image index ≡ index_length) }
+    ensures word { IfOk result (λ w. ForSome (F.told f.old).files (λ image. w ≡ word image index at)) }
+
+    // Too few bytes, which a folder that tells its files never gives.
+    ensures short { IfDamaged result (IsShort (F.told f.old) FileId.Index at 4) }
+    ensures untold { IfDamaged result (λ _. (F.told f.old).files ≡ None) }
+
+    ensures stays { Stays (F.told f.old) (F.told f.new) }
+    ensures later { F.faults f.old ≤ F.faults f.new }
+    ensures device { IfDevice result (Rises (F.faults f.old) (F.faults f.new)) }
+{
+    read_word(f, FileId::Index, u64::from(at))
+}
+
+/// Reads the word of a bucket: the first address of its chain, or 0.
+pub fn bucket<F: Folder>(f: &mut F, number: u16) -> Result<u32, Fault>
+    requires { ForSome (F.told f.old).files (λ image. length_of image index ≡ index_length) }
+    ensures word { IfOk result (λ w. ForSome (F.told f.old).files (λ image. w ≡ bucket_of (byte image index) number)) }
+
+    // Too few bytes, which a folder that tells its files never gives.
+    ensures short { IfDamaged result (IsShort (F.told f.old) FileId.Index (place_of_bucket number) 4) }
+    ensures untold { IfDamaged result (λ _. (F.told f.old).files ≡ None) }
+
+    ensures stays { Stays (F.told f.old) (F.told f.new) }
+    ensures later { F.faults f.old ≤ F.faults f.new }
+    ensures device { IfDevice result (Rises (F.faults f.old) (F.faults f.new)) }
+{
+    read_word(f, FileId::Index, HEADER_LEN + 4 * u64::from(number))
+}
