@@ -1,0 +1,120 @@
+// The header of a block file.
+ghost use Rattle.std.specs.Prelude.{◌≡◌, ◌<◌, ◌≤◌, ◌↔◌, length, IsSome, IfSome};
+ghost use Rattle.blk_image.specs.Bytes.{content};
+ghost use Rattle.blk_format.specs.Headers.{allocations_of, block_fields_length, empty_of, entry_size_of, hints_of, magic_of, max_entries_of, next_file_of, this_file_of, updating_of, user_of, version_of};
+
+use crate::words::{half, word};
+use std::marker::Model;
+
+// The bytes that the fields take.
+const LENGTH: usize = 80;
+
+/// A view of the header of a block file, over a window that has at least 80 bytes.
+#[derive(Debug, Drop)]
+pub struct BlockHead<'a> {
+    window: &'a [u8],
+}
+
+impl<'a> Model for BlockHead<'a> {
+    ghost use Rattle.std.specs.Prelude.{ℕ, List, ◌≤◌, length};
+    ghost use Rattle.blk_format.specs.Headers.{block_fields_length};
+
+    ghost Value = { List ℕ };
+
+    ghost view = { λ head. head.window.now };
+
+    ghost invariant = { λ head. block_fields_length ≤ length head.window.now };
+}
+
+impl<'a> BlockHead<'a> {
+    /// The view of a window, or `None` where it has fewer than 80 bytes.
+    pub fn over(window: &'a [u8]) -> Option<BlockHead<'a>>
+        ensures enough { IsSome result ↔ (block_fields_length ≤ length window.now) }
+        ensures same { IfSome result (λ head. head ≡ window.now) }
+    {
+        if window.len() < LENGTH {
+            return None;
+        }
+        Some(BlockHead { window })
+    }
+
+    /// The magic number.
+    pub fn magic(&self) -> u32
+        ensures { result ≡ magic_of (content self.now) }
+    {
+        word(self.window, 0)
+    }
+
+    /// The version of the format.
+    pub fn version(&self) -> u32
+        ensures { result ≡ version_of (content self.now) }
+    {
+        word(self.window, 4)
+    }
+
+    /// The number of the file.
+    pub fn this_file(&self) -> u16
+        ensures { result ≡ this_file_of (content self.now) }
+    {
+        half(self.window, 8)
+    }
+
+    /// The number of the next file of its type, or 0.
+    pub fn next_file(&self) -> u16
+        ensures { result ≡ next_file_of (content self.now) }
+    {
+        half(self.window, 10)
+    }
+
+    /// The bytes of a block.
+    pub fn entry_size(&self) -> u32
+        ensures { result ≡ entry_size_of (content self.now) }
+    {
+        word(self.window, 12)
+    }
+
+    /// The number of allocations.
+    pub fn num_entries(&self) -> u32
+        ensures { result ≡ allocations_of (content self.now) }
+    {
+        word(self.window, 16)
+    }
+
+    /// The number of blocks.
+    pub fn max_entries(&self) -> u32
+        ensures { result ≡ max_entries_of (content self.now) }
+    {
+        word(self.window, 20)
+    }
+
+    /// One of 4 words: how many groups have a longest free run of `i + 1` blocks.
+    pub fn empty(&self, i: usize) -> u32
+        requires { i < 4 }
+        ensures { result ≡ empty_of (content self.now) i }
+    {
+        word(self.window, 24 + 4 * i)
+    }
+
+    /// One of 4 words: the group where a search for `i + 1` blocks begins.
+    pub fn hints(&self, i: usize) -> u32
+        requires { i < 4 }
+        ensures { result ≡ hints_of (content self.now) i }
+    {
+        word(self.window, 40 + 4 * i)
+    }
+
+    /// 1 while the map and the counters change.
+    pub fn updating(&self) -> u32
+        ensures { result ≡ updating_of (content self.now) }
+    {
+        word(self.window, 56)
+    }
+
+    /// One of 5 words that are not used.
+    pub fn user(&self, i: usize) -> u32
+        requires { i < 5 }
+        ensures { result ≡ user_of (content self.now) i }
+    {
+        word(self.window, 60 + 4 * i)
+    }
+}

@@ -1,0 +1,193 @@
+// The header of the index.
+ghost use Rattle.std.specs.Prelude.{◌≡◌, ◌<◌, ◌≤◌, ◌↔◌, length, IsSome, IfSome};
+ghost use Rattle.blk_image.specs.Bytes.{content};
+ghost use Rattle.blk_format.specs.Headers.{crash_of, create_time_of, experiment_of, filled_of, header_length, heads_of, last_file_of, magic_of, num_bytes_of, num_entries_of, operation_list_of, operation_of, pad1_of, pad2_of, pad_of, sizes_of, stats_of, table_len_of, tails_of, this_id_of, transaction_of, version_of};
+
+use crate::words::{long, word};
+use std::marker::Model;
+
+// The bytes that the fields take.
+const LENGTH: usize = 368;
+
+/// A view of the header of the index, over a window that has at least 368 bytes.
+#[derive(Debug, Drop)]
+pub struct IndexHead<'a> {
+    window: &'a [u8],
+}
+
+impl<'a> Model for IndexHead<'a> {
+    ghost use Rattle.std.specs.Prelude.{ℕ, List, ◌≤◌, length};
+    ghost use Rattle.blk_format.specs.Headers.{header_length};
+
+    ghost Value = { List ℕ };
+
+    ghost view = { λ head. head.window.now };
+
+    ghost invariant = { λ head. header_length ≤ length head.window.now };
+}
+
+impl<'a> IndexHead<'a> {
+    /// The view of a window, or `None` where it has fewer than 368 bytes.
+    pub fn over(window: &'a [u8]) -> Option<IndexHead<'a>>
+        ensures enough { IsSome result ↔ (header_length ≤ length window.now) }
+        ensures same { IfSome result (λ head. head ≡ window.now) }
+    {
+        if window.len() < LENGTH {
+            return None;
+        }
+        Some(IndexHead { window })
+    }
+
+    /// The magic number.
+    pub fn magic(&self) -> u32
+        ensures { result ≡ magic_of (content self.now) }
+    {
+        word(self.window, 0)
+    }
+
+    /// The version of the format.
+    pub fn version(&self) -> u32
+        ensures { result ≡ version_of (content self.now) }
+    {
+        word(self.window, 4)
+    }
+
+    /// The number of listed items.
+    pub fn num_entries(&self) -> u32
+        ensures { result ≡ num_entries_of (content self.now) }
+    {
+        word(self.window, 8)
+    }
+
+    /// The sum of the items' charges, modulo 2^32.
+    pub fn num_bytes(&self) -> u32
+        ensures { result ≡ num_bytes_of (content self.now) }
+    {
+        word(self.window, 12)
+    }
+
+    /// The last external number that was made.
+    pub fn last_file(&self) -> u32
+        ensures { result ≡ last_file_of (content self.now) }
+    {
+        word(self.window, 16)
+    }
+
+    /// The number of the session, raised at each opening.
+    pub fn this_id(&self) -> u32
+        ensures { result ≡ this_id_of (content self.now) }
+    {
+        word(self.window, 20)
+    }
+
+    /// A word that is to be 0.
+    pub fn stats(&self) -> u32
+        ensures { result ≡ stats_of (content self.now) }
+    {
+        word(self.window, 24)
+    }
+
+    /// The number of the table's words, or 0 for the usual one.
+    pub fn table_len(&self) -> u32
+        ensures { result ≡ table_len_of (content self.now) }
+    {
+        word(self.window, 28)
+    }
+
+    /// 1 while a session is open.
+    pub fn crash(&self) -> u32
+        ensures { result ≡ crash_of (content self.now) }
+    {
+        word(self.window, 32)
+    }
+
+    /// A word that is to be 0.
+    pub fn experiment(&self) -> u32
+        ensures { result ≡ experiment_of (content self.now) }
+    {
+        word(self.window, 36)
+    }
+
+    /// The moment of making, in the clock's units.
+    pub fn create_time(&self) -> u64
+        ensures { result ≡ create_time_of (content self.now) }
+    {
+        long(self.window, 40)
+    }
+
+    /// One of 52 words that are not used.
+    pub fn pad(&self, i: usize) -> u32
+        requires { i < 52 }
+        ensures { result ≡ pad_of (content self.now) i }
+    {
+        word(self.window, 48 + 4 * i)
+    }
+
+    /// One of 2 words that are not used.
+    pub fn pad1(&self, i: usize) -> u32
+        requires { i < 2 }
+        ensures { result ≡ pad1_of (content self.now) i }
+    {
+        word(self.window, 256 + 4 * i)
+    }
+
+    /// A word that is not used.
+    pub fn filled(&self) -> u32
+        ensures { result ≡ filled_of (content self.now) }
+    {
+        word(self.window, 264)
+    }
+
+    /// One of 5 words: the number of nodes, and then zeros.
+    pub fn sizes(&self, i: usize) -> u32
+        requires { i < 5 }
+        ensures { result ≡ sizes_of (content self.now) i }
+    {
+        word(self.window, 268 + 4 * i)
+    }
+
+    /// One of 5 words: the head of the use list, and then zeros.
+    pub fn heads(&self, i: usize) -> u32
+        requires { i < 5 }
+        ensures { result ≡ heads_of (content self.now) i }
+    {
+        word(self.window, 288 + 4 * i)
+    }
+
+    /// One of 5 words: the tail of the use list, and then zeros.
+    pub fn tails(&self, i: usize) -> u32
+        requires { i < 5 }
+        ensures { result ≡ tails_of (content self.now) i }
+    {
+        word(self.window, 308 + 4 * i)
+    }
+
+    /// The node of the operation in flight, or 0.
+    pub fn transaction(&self) -> u32
+        ensures { result ≡ transaction_of (content self.now) }
+    {
+        word(self.window, 328)
+    }
+
+    /// The operation in flight: 1 insert, 2 remove, 3 move.
+    pub fn operation(&self) -> u32
+        ensures { result ≡ operation_of (content self.now) }
+    {
+        word(self.window, 332)
+    }
+
+    /// A word that is to be 0.
+    pub fn operation_list(&self) -> u32
+        ensures { result ≡ operation_list_of (content self.now) }
+    {
+        word(self.window, 336)
+    }
+
+    /// One of 7 words that are not used.
+    pub fn pad2(&self, i: usize) -> u32
+        requires { i < 7 }
+        ensures { result ≡ pad2_of (content self.now) i }
+    {
+        word(self.window, 340 + 4 * i)
+    }
+}
