@@ -1,1 +1,5 @@
+pub mod Address
+pub mod Storage
+pub mod Claims
+pub mod Standing
 pub mod Headers

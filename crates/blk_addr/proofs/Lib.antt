@@ -1,0 +1,4 @@
+pub mod AddressFields
+pub mod BitLemmas
+pub mod ClaimLemmas
+pub mod ClaimSetLemmas

@@ -1,0 +1,4 @@
+pub mod Kind
+pub mod FileId
+pub mod Bits
+pub mod Claims

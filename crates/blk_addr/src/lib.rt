@@ -1,0 +1,20 @@
+// Addresses of blocks and external files, the storage of data by its size, and claims.
+#![tactic(auto)]
+
+mod address;
+mod bitmap;
+mod claim_set;
+mod fields;
+mod file_id;
+mod kinds;
+mod no_memory;
+mod storage;
+#[cfg(test)]
+mod tests;
+
+pub use address::{Addr, from_word_of_word};
+pub use claim_set::Claims;
+pub use file_id::FileId;
+pub use kinds::Kind;
+pub use no_memory::NoMemory;
+pub use storage::{blocks_for, entry_blocks, kind_for};

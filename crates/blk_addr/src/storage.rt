@@ -1,0 +1,85 @@
+// The storage of data by its size.
+ghost use Rattle.std.specs.Prelude.{◌≡◌, ◌≢◌, ◌<◌};
+ghost use Rattle.blk_format.specs.Address as address;
+ghost use Rattle.blk_format.specs.Address.{external};
+ghost use Rattle.blk_format.specs.Storage as storage;
+ghost use Rattle.blk_addr.specs.Kind.{kind_number};
+
+use crate::kinds::Kind;
+
+// The largest sizes of the three kinds of blocks that hold data.
+const MOST_IN_256: u32 = 1023;
+
+const MOST_IN_1K: u32 = 4095;
+
+const MOST_IN_4K: u32 = 16384;
+
+// The bytes of one block of each kind.
+const NODE_SIZE: u32 = 36;
+
+const SIZE_OF_256: u32 = 256;
+
+const SIZE_OF_1K: u32 = 1024;
+
+const SIZE_OF_4K: u32 = 4096;
+
+// The first length at which a key needs a second block of its record, and the longest key in a record.
+const SECOND_BLOCK_FROM: u32 = 160;
+
+const MOST_IN_RECORD: u32 = 927;
+
+/// The kind of data of `size` bytes, above 0.
+#[tactic(auto, unfolding(blk_format::specs::Storage::kind_for))]
+pub fn kind_for(size: u32) -> Kind
+    requires { 0 < size }
+    ensures { kind_number result ≡ storage.kind_for size }
+{
+    if size <= MOST_IN_256 {
+        Kind::B256
+    } else if size <= MOST_IN_1K {
+        Kind::B1K
+    } else if size <= MOST_IN_4K {
+        Kind::B4K
+    } else {
+        Kind::External
+    }
+}
+
+/// The number of blocks of data of `size` bytes, above 0; 0 where the data is external.
+#[tactic(auto, unfolding(blk_format::specs::Storage::blocks_for))]
+pub fn blocks_for(size: u32) -> u32
+    requires { 0 < size }
+    ensures { result ≡ storage.blocks_for size }
+{
+    match kind_for(size) {
+        Kind::External => 0,
+        kind => size.div_ceil(block_size(kind)),
+    }
+}
+
+// The bytes of one block of a kind that has blocks.
+#[tactic(auto, unfolding(blk_format::specs::Address::block_size))]
+fn block_size(kind: Kind) -> u32
+    requires { kind_number kind ≢ external }
+    ensures size { result ≡ address.block_size (kind_number kind) }
+    ensures some { 0 < result }
+{
+    match kind {
+        Kind::Rankings => NODE_SIZE,
+        Kind::B256 => SIZE_OF_256,
+        Kind::B1K => SIZE_OF_1K,
+        Kind::External | Kind::B4K => SIZE_OF_4K,
+    }
+}
+
+/// The number of blocks of an entry record whose key has `key_len` bytes.
+#[tactic(auto, unfolding(blk_format::specs::Storage::entry_blocks))]
+pub fn entry_blocks(key_len: u32) -> u32
+    ensures { result ≡ storage.entry_blocks key_len }
+{
+    if key_len < SECOND_BLOCK_FROM || key_len > MOST_IN_RECORD {
+        1
+    } else {
+        (key_len - SECOND_BLOCK_FROM) / SIZE_OF_256 + 2
+    }
+}

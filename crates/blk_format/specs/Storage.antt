@@ -1,0 +1,32 @@
+-- The storage of data by its size: its type, its number of blocks, and the address words that fit.
+use Rattle.std.specs.Prelude.{ℕ, ◌+◌, ◌-◌, ◌/◌, Bool, ◌&&◌, ◌||◌, nat_lt, nat_le, ◌==◌, if◌then◌else◌}
+use Rattle.blk_format.specs.Address.{kind_of, block_count, is_address, block_size, external, blocks_256, blocks_1k, blocks_4k}
+
+-- the type of data of a size above 0
+unfoldable pub kind_for : ℕ → ℕ
+kind_for size =
+    if nat_le size 1023 then blocks_256 else
+    if nat_le size 4095 then blocks_1k else
+    if nat_le size 16384 then blocks_4k else
+    external
+
+-- a size divided by a block size, rounded up
+abbrev pub divided_up : ℕ → ℕ → ℕ
+divided_up size block = (size + block - 1) / block
+
+-- the number of blocks of data of a size above 0, and 0 where it is external
+unfoldable pub blocks_for : ℕ → ℕ
+blocks_for size = if kind_for size == external then 0 else divided_up size (block_size (kind_for size))
+
+-- the number of blocks of an entry record whose key has so many bytes: a key of more than 927 bytes lies elsewhere
+unfoldable pub entry_blocks : ℕ → ℕ
+entry_blocks key_len =
+    if nat_lt key_len 160 then 1 else
+    if nat_le key_len 927 then (key_len - 160) / 256 + 2 else
+    1
+
+-- whether a word is the storage of data of a size: the word 0 of none, else an address of its type and number of blocks
+unfoldable pub is_storage : ℕ → ℕ → Bool
+is_storage size w =
+    if size == 0 then w == 0 else
+    is_address w && (kind_of w == kind_for size) && ((kind_of w == external) || (block_count w == blocks_for size))

@@ -1,0 +1,97 @@
+-- Worked stops on the model, computed: the items that a stop inside a command may leave.
+use Rattle.std.proofs.Common.{◌≡◌, ℕ, Bool, true, false, List, [], ◌∷◌, ◌++◌, refl, codes, length, map}
+use Rattle.blk_model.specs.Items.{Item, main, part, item_of}
+use Rattle.blk_model.specs.Request.{Request, to_create, to_open, to_write, to_close, to_trim, to_doom_key, to_sparse_write, to_sparse_read}
+use Rattle.blk_model.specs.State.{State}
+use Rattle.blk_model.specs.Holding.{rest}
+use Rattle.blk_model.specs.Step.{step}
+use Rattle.blk_model.specs.ListSteps.{list_steps, list_after}
+use Rattle.blk_model.specs.Stops.{pick}
+use Rattle.blk_model.proofs.Computing.{computing}
+use Rattle.blk_model.proofs.Rows.{after_all, new}
+
+abbrev a : List ℕ
+a = codes "a"
+
+abbrev b : List ℕ
+b = codes "b"
+
+abbrev c : List ℕ
+c = codes "c"
+
+-- an empty object, made and closed
+abbrev made : List ℕ → List Request
+made key = to_create 0 key ∷ to_close 0 ∷ []
+
+-- three closed objects, c used last
+abbrev three : State
+three = after_all new (made a ++ made b ++ made c)
+
+-- the items that are left where a request is stopped after some list steps
+abbrev held : State → Request → ℕ → Bool → List Item
+held state request j with_turned = map item_of (pick state (step state 100 request).state with_turned (list_after state 100 request j))
+
+-- touching an item: the old order before it moves, the new one after
+touched : length (list_steps three 100 (to_open 0 b)) ∷ [] ≡ 1 ∷ []
+unfolding computing
+touched = refl
+
+touched_held : held three (to_open 0 b) 0 false ∷ held three (to_open 0 b) 1 false ∷ held three (to_open 0 b) 1 true ∷ []
+    ≡ (main c ∷ main b ∷ main a ∷ []) ∷ (main b ∷ main c ∷ main a ∷ []) ∷ (main b ∷ main c ∷ main a ∷ []) ∷ []
+unfolding computing
+touched_held = refl
+
+-- a is open and changed
+abbrev changed : State
+changed = after_all three (to_open 5 a ∷ to_write 5 0 0 false (codes "x") ∷ [])
+
+-- closing it makes no list step: it is absent until it is turned, and then there
+closed_steps : length (list_steps changed 100 (to_close 5)) ≡ 0
+unfolding computing
+closed_steps = refl
+
+closed_held : held changed (to_close 5) 0 false ∷ held changed (to_close 5) 0 true ∷ [] ≡ (main c ∷ main b ∷ []) ∷ (main a ∷ main c ∷ main b ∷ []) ∷ []
+unfolding computing
+closed_held = refl
+
+-- the first write to an open settled object: it is there with what it had, or absent, in the old order or the new one
+abbrev opened_a : State
+opened_a = after_all three (to_open 5 a ∷ to_open 6 b ∷ [])
+
+written_held : held opened_a (to_write 5 0 0 false (codes "x")) 0 true ∷ held opened_a (to_write 5 0 0 false (codes "x")) 0 false ∷ held opened_a (to_write 5 0 0 false (codes "x")) 1 true ∷ held opened_a (to_write 5 0 0 false (codes "x")) 1 false ∷ []
+    ≡ (main b ∷ main a ∷ main c ∷ []) ∷ (main b ∷ main c ∷ []) ∷ (main a ∷ main b ∷ main c ∷ []) ∷ (main b ∷ main c ∷ []) ∷ []
+unfolding computing
+written_held = refl
+
+-- a new object is never left by a stop in the command that makes it
+created_held : held three (to_create 5 (codes "d")) 0 true ∷ held three (to_create 5 (codes "d")) 1 true ∷ [] ≡ (main c ∷ main b ∷ main a ∷ []) ∷ (main c ∷ main b ∷ main a ∷ []) ∷ []
+unfolding computing
+created_held = refl
+
+-- a doomed object is there until its list step
+doomed_held : held three (to_doom_key b) 0 false ∷ held three (to_doom_key b) 1 false ∷ [] ≡ (main c ∷ main b ∷ main a ∷ []) ∷ (main c ∷ main a ∷ []) ∷ []
+unfolding computing
+doomed_held = refl
+
+-- a closed sparse object with two parts, both used after its main item by one read over them
+abbrev sparse_c : State
+sparse_c = after_all new (to_create 0 c ∷ to_sparse_write 0 0 (codes "x") ∷ to_sparse_write 0 1048576 (codes "y") ∷ to_sparse_read 0 1048575 2 ∷ to_close 0 ∷ [])
+
+-- its eviction takes it whole or not at all
+evicted_whole : held sparse_c (to_trim 0) 0 false ∷ held sparse_c (to_trim 0) 1 false ∷ [] ≡ (part c 1 ∷ part c 0 ∷ main c ∷ []) ∷ [] ∷ []
+unfolding computing
+evicted_whole = refl
+
+-- the same with a part behind its main item, which goes alone and first
+abbrev part_behind : State
+part_behind = after_all new (made a ++ to_create 0 c ∷ to_sparse_write 0 0 (codes "x") ∷ to_sparse_write 0 1048576 (codes "y") ∷ to_close 0 ∷ [])
+
+evicted_part_first : held part_behind (to_trim 0) 0 false ∷ held part_behind (to_trim 0) 1 false ∷ held part_behind (to_trim 0) 2 false ∷ held part_behind (to_trim 0) 3 false ∷ []
+    ≡ (part c 1 ∷ main c ∷ part c 0 ∷ main a ∷ []) ∷ (part c 1 ∷ main c ∷ part c 0 ∷ []) ∷ (part c 1 ∷ main c ∷ []) ∷ [] ∷ []
+unfolding computing
+evicted_part_first = refl
+
+-- an open changed object is not at rest, and neither are its parts
+at_rest : map item_of (rest changed) ∷ map item_of (rest (after_all sparse_c (to_open 1 c ∷ to_sparse_write 1 7 (codes "z") ∷ []))) ∷ [] ≡ (main c ∷ main b ∷ []) ∷ [] ∷ []
+unfolding computing
+at_rest = refl

@@ -1,0 +1,22 @@
+-- What items are charged.
+use Rattle.std.specs.Prelude.{ℕ, ◌+◌, false, List, ◌++◌, length, codes}
+use Rattle.std.specs.Fmt.{digits}
+use Rattle.blk_model.specs.Sizes.{parts_index_charge, blocks_index_charge}
+use Rattle.blk_model.specs.Items.{Shape, Streams, plain, sparse, PartValue}
+
+-- a number in lower-case hexadecimal, without leading zeros
+abbrev pub hexadecimal : ℕ → List ℕ
+hexadecimal n = digits 16 false n
+
+-- the name of a part of a sparse object: its parent's key, the signature and the number
+unfoldable pub part_name : List ℕ → ℕ → ℕ → List ℕ
+part_name key signature n = codes "Range_" ++ key ++ codes ":" ++ hexadecimal signature ++ codes ":" ++ hexadecimal n
+
+-- a main item is charged its key and its streams, where a sparse object's stream 2 is its parts' index
+abbrev pub main_charge : List ℕ → Shape → Streams → ℕ
+main_charge key plain streams = length key + length streams.0 + length streams.1 + length streams.2
+main_charge key (sparse signature) streams = length key + length streams.0 + parts_index_charge
+
+-- a part is charged its name, its data and the index of its blocks
+abbrev pub part_charge : List ℕ → ℕ → ℕ → PartValue → ℕ
+part_charge key signature n value = length (part_name key signature n) + length value.bytes + blocks_index_charge

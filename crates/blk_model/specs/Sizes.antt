@@ -1,0 +1,66 @@
+-- The numbers that the model rests on. A copy with smaller ones here is a smaller model of the same rules.
+use Rattle.std.specs.Prelude.{ℕ, ◌^◌}
+
+-- a byte is below this
+abbrev pub byte_values : ℕ
+byte_values = 256
+
+-- a key has at most this many bytes
+abbrev pub longest_key : ℕ
+longest_key = 32768
+
+-- handle names are below this
+abbrev pub handle_names : ℕ
+handle_names = 4096
+
+-- an object has this many streams, numbered from 0
+abbrev pub stream_count : ℕ
+stream_count = 3
+
+-- a stream has at most this share of the bytes that a cache keeps
+abbrev pub stream_share : ℕ
+stream_share = 8
+
+-- room is made until this share of the bytes that a cache keeps is free
+abbrev pub free_share : ℕ
+free_share = 16
+
+-- a part of a sparse object covers this many bytes
+abbrev pub part_size : ℕ
+part_size = 1048576
+
+-- a block of a part has this many bytes
+abbrev pub block_size : ℕ
+block_size = 1024
+
+-- a part has this many blocks
+abbrev pub part_blocks : ℕ
+part_blocks = 1024
+
+-- the numbers of parts are below this
+abbrev pub part_count : ℕ
+part_count = 65536
+
+-- sparse data ends here
+abbrev pub largest_offset : ℕ
+largest_offset = 68719476736
+
+-- signatures are below this
+abbrev pub signatures : ℕ
+signatures = 2 ^ 63
+
+-- what a sparse object is charged for the index of its parts
+abbrev pub parts_index_charge : ℕ
+parts_index_charge = 8256
+
+-- what a part is charged for the index of its blocks
+abbrev pub blocks_index_charge : ℕ
+blocks_index_charge = 192
+
+-- a cache keeps at most this many bytes, whatever it is told
+abbrev pub most_bytes : ℕ
+most_bytes = 2147483647
+
+-- a cache keeps at most this many items, whatever it is told
+abbrev pub most_items : ℕ
+most_items = 131072

@@ -1,0 +1,19 @@
+//! How much a cache may keep.
+ghost use Rattle.std.specs.Prelude.{◌≤◌};
+ghost use Rattle.blk_model.specs.Sizes.{most_bytes, most_items};
+
+/// The greatest number of bytes that a cache may be told to keep.
+pub const MOST_BYTES: u64 = 2147483647;
+/// The greatest number of items that a cache may be told to keep.
+pub const MOST_ITEMS: u32 = 131072;
+
+/// How many bytes and items a cache keeps at most: from 1 to `MOST_BYTES`, and from 1 to `MOST_ITEMS`.
+#[derive(Clone, Copy, Debug, PartialEq, Eq)]
+pub struct Limits {
+    pub max_bytes: u64,
+    pub max_items: u32,
+    ghost some_bytes: { 1 ≤ max_bytes },
+    ghost few_bytes: { max_bytes ≤ most_bytes },
+    ghost some_items: { 1 ≤ max_items },
+    ghost few_items: { max_items ≤ most_items },
+}

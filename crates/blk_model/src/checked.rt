@@ -1,0 +1,43 @@
+//! Numbers from outside, made to limits.
+ghost use Rattle.std.specs.Prelude.{◌≡◌, ◌↔◌, IsSome, IfSome};
+ghost use Rattle.blk_model.specs.Bounds.{AreAllowed};
+
+use crate::bounds::{Limits, MOST_BYTES, MOST_ITEMS};
+
+/// The limits with these numbers, or `None` where a cache may not have them.
+pub fn limits(max_bytes: u64, max_items: u32) -> Option<Limits>
+    ensures allowed { IsSome result ↔ AreAllowed max_bytes max_items }
+    ensures numbers { IfSome result (λ l. (l.max_bytes ≡ max_bytes) × (l.max_items ≡ max_items)) }
+{
+    if (1..=MOST_BYTES).contains(&max_bytes) && (1..=MOST_ITEMS).contains(&max_items) {
+        Some(Limits {
+            max_bytes,
+            max_items,
+        })
+    } else {
+        None
+    }
+}
+
+#[cfg(test)]
+mod tests {
+    use crate::{Limits, limits};
+
+    #[test]
+    fn limits_are_refused_outside_their_bounds(rt: HostRuntime) {
+        assert!(rt; limits(0, 1).is_none());
+        assert!(rt; limits(1, 0).is_none());
+        assert!(rt; limits(1, 131073).is_none());
+        assert!(rt; limits(2147483648, 1).is_none());
+    }
+
+    #[test]
+    fn limits_keep_their_numbers(rt: HostRuntime) {
+        assert_eq!(rt;
+            limits(83886080, 65536).map(|l| (l.max_bytes, l.max_items)),
+            Some((83886080, 65536))
+        );
+        assert!(rt; limits(1, 1).is_some());
+        assert!(rt; limits(2147483647, 131072).is_some());
+    }
+}

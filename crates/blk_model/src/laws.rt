@@ -1,0 +1,73 @@
+//! Laws of the model, each the contract of a function that does nothing.
+ghost use Rattle.blk_model.specs.Request.{IsRequest, request_of};
+ghost use Rattle.blk_model.specs.Items.{IsBytes};
+ghost use Rattle.blk_model.specs.Laws.{StepsKeepStatesValid, ListStepsLeadToTheUseList, OpenedStatesAreValid, WhatIsFoundIsAtRest, RestsAreHoldings, StopsLeaveHoldings, StopsMayLeaveWhatWas, StopsMayLeaveWhatIs, RefusalsChangeNothing, RefusalsAreTheFirst, NoneIsRefusedForMemory, TotalsAreSums};
+
+use crate::Command;
+
+// The elements of a slice of bytes are bytes.
+fn are_bytes(slice: &[u8])
+    ensures { IsBytes slice.now }
+{
+    let _len = slice.len();
+}
+
+/// Each command is a request that a client can make.
+pub fn commands_are_requests(command: Command<'_>)
+    ensures { IsRequest (request_of command.entry) }
+{
+    match command {
+        Command::Create { key, .. } | Command::Open { key, .. } | Command::DoomKey { key } =>
+            are_bytes(key),
+        Command::Write { bytes, .. } | Command::SparseWrite { bytes, .. } => are_bytes(bytes),
+        Command::Read { .. }
+        | Command::Size { .. }
+        | Command::SparseRead { .. }
+        | Command::SparseRange { .. } => {}
+        Command::Doom { .. }
+        | Command::Close { .. }
+        | Command::List
+        | Command::Trim { .. }
+        | Command::Total => {}
+    }
+}
+
+/// A command leads from a valid state to a valid state.
+pub fn steps_keep_states_valid()
+    ensures { StepsKeepStatesValid }
+{}
+
+/// The use list after the list steps of a command is that of the state after it.
+pub fn list_steps_lead_to_the_use_list()
+    ensures { ListStepsLeadToTheUseList }
+{}
+
+/// A cache that finds a valid holding opens with a valid state, and that holding is what is at rest in it.
+pub fn opened_states_are_valid()
+    ensures valid { OpenedStatesAreValid }
+    ensures at_rest { WhatIsFoundIsAtRest }
+{}
+
+/// What is at rest in a valid state is a valid holding, and so is whatever a stop leaves.
+pub fn stops_leave_holdings()
+    ensures rests { RestsAreHoldings }
+    ensures stops { StopsLeaveHoldings }
+{}
+
+/// What is at rest before a command, and what is at rest after it, may be left by a stop in it.
+pub fn stops_may_leave_what_is_at_rest()
+    ensures before { StopsMayLeaveWhatWas }
+    ensures after { StopsMayLeaveWhatIs }
+{}
+
+/// A refused command changes nothing; its refusal is the first that holds, and never for want of memory.
+pub fn refusals_change_nothing()
+    ensures nothing { RefusalsChangeNothing }
+    ensures first { RefusalsAreTheFirst }
+    ensures memory { NoneIsRefusedForMemory }
+{}
+
+/// The totals are the sums over the listed rows and the doomed objects.
+pub fn totals_are_sums()
+    ensures { TotalsAreSums }
+{}

@@ -1,0 +1,82 @@
+// The lines that are printed. Each goes to the sink in pieces, and takes no memory.
+ghost use Rattle.std.specs.Prelude.{◌≡◌, ◌++◌, ◌≤◌, ◌^◌, ◌<◌, List, ℕ, OnOk, OnErr, decimal, drop, length, codes};
+ghost use Rattle.std.specs.List.{flat_map};
+ghost use Rattle.std.specs.Option.{option_map};
+ghost use Rattle.blk_image.specs.Told.{Rises};
+ghost use Rattle.blk_io.specs.Streams.{Appends};
+ghost use Rattle.blk_io.specs.Faults.{damage_of};
+ghost use Rattle.blk_io.specs.FileNames.{file_of};
+ghost use Rattle.blk_run.specs.Texts.{hex8, left_out, damage_text, name_of, not_built_text, Prints};
+
+use blk_io::{Damage, Failed, FileId, Sink};
+use itoa::Buffer;
+
+// Prints these pieces, one after another.
+fn print_all<K: Sink>(out: &mut K, pieces: &[&[u8]]) -> Result<(), Failed>
+    ensures whole { OnOk result (K.written out.new ≡ option_map (λ w. w ++ flat_map (λ piece. piece.now) pieces.now) (K.written out.old)) }
+    ensures front { Appends (K.written out.old) (K.written out.new) (flat_map (λ piece. piece.now) pieces.now) }
+    ensures later { K.faults out.old ≤ K.faults out.new }
+    ensures failed { OnErr result (Rises (K.faults out.old) (K.faults out.new)) }
+{
+    for piece in pieces {
+        out.put(piece)?;
+    }
+    Ok(())
+}
+
+// The eight hexadecimal digits of a word.
+fn digits_of(word: u32) -> [u8; 8]
+    ensures { result ≡ hex8 word }
+{
+    let mut digits = [0u8; 8];
+    match hex::encode_to_slice(word.to_be_bytes(), &mut digits) {
+        Ok(()) => digits,
+        Err(_) => unreachable!(),
+    }
+}
+
+/// Prints the damage that a check found.
+pub fn print_damage<K: Sink>(out: &mut K, damage: Damage)
+    ensures printed { Prints (K.written out.old) (K.written out.new) (K.faults out.old) (K.faults out.new) (damage_text (damage_of damage)) }
+    ensures later { K.faults out.old ≤ K.faults out.new }
+{
+    let mut number = Buffer::new();
+    let mut place = Buffer::new();
+    let at = place.format(damage.at).as_bytes();
+    let found = digits_of(damage.found);
+    let _ = match damage.file {
+        FileId::Index => print_all(out, &[b"damaged index ", at, b" ", &found, b"\n"]),
+        FileId::Block(n) => {
+            let n = number.format(n).as_bytes();
+            print_all(out, &[b"damaged data_", n, b" ", at, b" ", &found, b"\n"])
+        }
+        FileId::External(n) => {
+            let digits = digits_of(n);
+            let name = &digits[leading_zeros(n)..];
+            print_all(out, &[b"damaged f_", name, b" ", at, b" ", &found, b"\n"])
+        }
+    };
+}
+
+// How many of the eight digits the name of an external file leaves out.
+fn leading_zeros(n: u32) -> usize
+    ensures left_out { result ≡ left_out n }
+    ensures few { result ≤ 2 }
+{
+    match n {
+        0..0x100_0000 => 2,
+        0x100_0000..0x1000_0000 => 1,
+        _ => 0,
+    }
+}
+
+/// Prints that a folder with entries can't be opened yet, with the place and the word of the index that shows them.
+pub fn print_not_built<K: Sink>(out: &mut K, at: u32, found: u32)
+    ensures printed { Prints (K.written out.old) (K.written out.new) (K.faults out.old) (K.faults out.new) (not_built_text at found) }
+    ensures later { K.faults out.old ≤ K.faults out.new }
+{
+    let mut place = Buffer::new();
+    let at = place.format(at).as_bytes();
+    let found = digits_of(found);
+    let _ = print_all(out, &[b"not built ", at, b" ", &found, b"\n"]);
+}

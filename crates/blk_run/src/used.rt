@@ -1,0 +1,139 @@
+// The first word of a finished index that shows that the folder has entries.
+ghost use Rattle.std.specs.Prelude.{◌≡◌, ◌+◌, ◌*◌, ◌<◌, ◌≤◌, length, IfOk, None};
+ghost use Rattle.std.specs.Option.{ForSome};
+ghost use Rattle.blk_image.specs.Bytes.{content, word_at};
+ghost use Rattle.blk_image.specs.Image.{Index as index, length_of};
+ghost use Rattle.blk_image.specs.Told.{Stays, Rises};
+ghost use Rattle.blk_format.specs.Headers.{index_length, place_of_bucket};
+ghost use Rattle.blk_io.specs.Faults.{IfDamaged, IfDevice};
+ghost use Rattle.blk_run.specs.Used.{FirstUsed, FirstOf, FirstWord};
+ghost use Rattle.blk_run.specs.Count.{checked_place, checked_places};
+
+use blk_io::{Fault, FileId, Folder, read_exact};
+use blk_record::IndexHead;
+use byteorder::{ByteOrder, LittleEndian};
+
+const HEADER_LEN: u32 = 368;
+
+const PIECE_LEN: u32 = 4096;
+
+/// A word that isn't 0, and its place in bytes.
+#[derive(Clone, Copy, Debug, PartialEq, Eq)]
+pub struct Used {
+    pub at: u32,
+    pub found: u32,
+}
+
+/// Looks for the first word that isn't 0: of the six of the header, and then of the table.
+pub fn first_used<F: Folder>(f: &mut F) -> Result<Option<Used>, Fault>
+    requires { ForSome (F.told f.old).files (λ image. length_of image index ≡ index_length) }
+    ensures first { IfOk result (λ used. ForSome (F.told f.old).files (λ image. FirstUsed checked_place checked_places image used)) }
+    ensures untold { IfDamaged result (λ _. (F.told f.old).files ≡ None) }
+    ensures stays { Stays (F.told f.old) (F.told f.new) }
+    ensures later { F.faults f.old ≤ F.faults f.new }
+    ensures device { IfDevice result (Rises (F.faults f.old) (F.faults f.new)) }
+{
+    match first_in_head(f)? {
+        Some(used) => Ok(Some(used)),
+        None => first_in_table(f),
+    }
+}
+
+// The first of the six words of the header that isn't 0.
+fn first_in_head<F: Folder>(f: &mut F) -> Result<Option<Used>, Fault>
+    requires { ForSome (F.told f.old).files (λ image. length_of image index ≡ index_length) }
+    ensures first { IfOk result (λ used. ForSome (F.told f.old).files (λ image. FirstUsed checked_place 6 image used)) }
+    ensures untold { IfDamaged result (λ _. (F.told f.old).files ≡ None) }
+    ensures stays { Stays (F.told f.old) (F.told f.new) }
+    ensures later { F.faults f.old ≤ F.faults f.new }
+    ensures device { IfDevice result (Rises (F.faults f.old) (F.faults f.new)) }
+{
+    let mut window = [0u8; 368];
+    read_exact(f, FileId::Index, 0, &mut window)?;
+    let Some(head) = IndexHead::over(&window) else {
+        unreachable!();
+    };
+    Ok(first_of(&[
+        (8, head.num_entries()),
+        (12, head.num_bytes()),
+        (268, head.sizes(0)),
+        (288, head.heads(0)),
+        (308, head.tails(0)),
+        (328, head.transaction()),
+    ]))
+}
+
+// The first of these words, each with its place, that isn't 0.
+fn first_of(words: &[(u32, u32)]) -> Option<Used>
+    ensures { FirstOf words.now result }
+{
+    for (at, found) in words {
+        if *found != 0 {
+            return Some(Used {
+                at: *at,
+                found: *found,
+            });
+        }
+    }
+    None
+}
+
+// The first word of the table that isn't 0.
+fn first_in_table<F: Folder>(f: &mut F) -> Result<Option<Used>, Fault>
+    requires { ForSome (F.told f.old).files (λ image. length_of image index ≡ index_length) }
+    ensures first { IfOk result (λ used. ForSome (F.told f.old).files (λ image. FirstUsed place_of_bucket 65536 image used)) }
+    ensures untold { IfDamaged result (λ _. (F.told f.old).files ≡ None) }
+    ensures stays { Stays (F.told f.old) (F.told f.new) }
+    ensures later { F.faults f.old ≤ F.faults f.new }
+    ensures device { IfDevice result (Rises (F.faults f.old) (F.faults f.new)) }
+{
+    for number in 0..64 {
+        if let Some(used) = first_in_piece(f, number)? {
+            return Ok(Some(used));
+        }
+    }
+    Ok(None)
+}
+
+// The first word of a piece of the table that isn't 0.
+fn first_in_piece<F: Folder>(f: &mut F, number: u32) -> Result<Option<Used>, Fault>
+    requires piece { number < 64 }
+    requires whole { ForSome (F.told f.old).files (λ image. length_of image index ≡ index_length) }
+    ensures first { IfOk result (λ used. ForSome (F.told f.old).files (λ image. FirstUsed (λ j. place_of_bucket (1024 * number + j)) 1024 image used)) }
+    ensures untold { IfDamaged result (λ _. (F.told f.old).files ≡ None) }
+    ensures stays { Stays (F.told f.old) (F.told f.new) }
+    ensures later { F.faults f.old ≤ F.faults f.new }
+    ensures device { IfDevice result (Rises (F.faults f.old) (F.faults f.new)) }
+{
+    let mut bytes = [0u8; 4096];
+    let base = HEADER_LEN + PIECE_LEN * number;
+    read_exact(f, FileId::Index, u64::from(base), &mut bytes)?;
+    match first_word(&bytes) {
+        Some(i) => Ok(Some(Used {
+            at: base + 4 * i as u32,
+            found: word_of(&bytes, 4 * i),
+        })),
+        None => Ok(None),
+    }
+}
+
+// The number of the first word of a piece that isn't 0.
+fn first_word(bytes: &[u8]) -> Option<usize>
+    requires { length bytes.now ≡ 4096 }
+    ensures { FirstWord bytes.now result }
+{
+    for i in 0..1024 {
+        if word_of(bytes, 4 * i) != 0 {
+            return Some(i);
+        }
+    }
+    None
+}
+
+// The word at a place of some bytes.
+fn word_of(bytes: &[u8], at: usize) -> u32
+    requires { at + 4 ≤ length bytes.now }
+    ensures { result ≡ word_at (content bytes.now) at }
+{
+    LittleEndian::read_u32(&bytes[at..])
+}
