@@ -4,3 +4,6 @@ pub mod StorageExamples
 pub mod ClaimsExamples
 pub mod HeaderExamples
 pub mod HeaderLemmas
+pub mod Bodies
+pub mod HashExamples
+pub mod RecordLemmas

@@ -4,11 +4,24 @@
 #![tactic(auto)]
 
 mod block_head;
+mod entry;
+mod flags;
+mod hash;
 mod index_head;
+mod node;
+mod record;
+mod seals;
+mod sparse_head;
 mod words;
 
 pub use block_head::BlockHead;
+pub use entry::{EntryMut, EntryView};
+pub use flags::EntryFlags;
+pub use hash::super_fast_hash;
 pub use index_head::IndexHead;
+pub use node::{NodeMut, NodeView};
+pub use record::{Record, RecordMut};
+pub use sparse_head::SparseHead;
 
 #[cfg(test)]
 mod tests;

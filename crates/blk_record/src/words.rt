@@ -1,6 +1,7 @@
 // The little endian numbers in a window of bytes.
 ghost use Rattle.std.specs.Prelude.{◌≡◌, ◌+◌, ◌≤◌, length};
 ghost use Rattle.blk_image.specs.Bytes.{content, half_at, long_at, word_at};
+ghost use Rattle.blk_image.specs.Steps.{with_word};
 
 use byteorder::{ByteOrder, LittleEndian};
 
@@ -26,4 +27,12 @@ pub(crate) fn long(window: &[u8], at: usize) -> u64
     ensures { result ≡ long_at (content window.now) at }
 {
     LittleEndian::read_u64(&window[at..])
+}
+
+// Writes a word at a place.
+pub(crate) fn put_word(window: &mut [u8], at: usize, value: u32)
+    requires { at + 4 ≤ length window.old }
+    ensures { window.new ≡ with_word at value window.old }
+{
+    LittleEndian::write_u32(&mut window[at..], value);
 }

@@ -1,0 +1,7 @@
+use Rattle.std.proofs.Common.{refl}
+use Rattle.blk_format.specs.Hash.{mixed}
+use Rattle.blk_record.proofs.hash.mix_last.Goals as goal
+
+pub returns : goal.returns
+unfolding mixed
+returns c = refl

@@ -1,0 +1,127 @@
+// Views of entry records.
+ghost use Rattle.std.specs.Prelude.{◌≡◌, ◌≤◌, ◌↔◌, length, IsSome, IfSome};
+ghost use Rattle.blk_format.specs.Records.{entry_size, entry_seal_place};
+
+use crate::record::{Record, RecordMut};
+use crate::seals::{is_sealed, put_seal};
+use crate::words::{put_word, word};
+
+// The number of the record's bytes, and the place of its seal.
+const SIZE: usize = 96;
+
+const SEAL: usize = 92;
+
+/// A view of an entry record, over a window that has at least its 96 bytes.
+#[derive(Debug, Drop)]
+pub struct EntryView<'a> {
+    window: &'a [u8],
+    ghost enough: { entry_size ≤ length window.now },
+}
+
+impl<'a> EntryView<'a> {
+    ghost use Rattle.blk_record.specs.Views.{entry_window};
+
+    /// The view of a window, or `None` where it has fewer than 96 bytes.
+    pub fn over(window: &'a [u8]) -> Option<EntryView<'a>>
+        ensures enough { IsSome result ↔ (entry_size ≤ length window.now) }
+        ensures same { IfSome result (λ view. entry_window view ≡ window.now) }
+    {
+        if window.len() < SIZE {
+            return None;
+        }
+        Some(EntryView { window })
+    }
+}
+
+impl<'a> Record for EntryView<'a> {
+    ghost use Rattle.blk_record.specs.Views.{entry_window};
+
+    ghost size = { entry_size };
+
+    ghost seal_place = { entry_seal_place };
+
+    ghost window_of = { entry_window };
+
+    const SIZE: usize = 96;
+
+    const SEAL: usize = 92;
+
+    fn bytes(&self) -> &[u8] {
+        &self.window[..SIZE]
+    }
+
+    fn word(&self, at: usize) -> u32 {
+        word(self.window, at)
+    }
+
+    fn checks(&self) -> bool {
+        is_sealed(self.window, SEAL)
+    }
+}
+
+/// A view of an entry record that is written, over a window that has at least its 96 bytes.
+#[derive(Debug, Drop)]
+pub struct EntryMut<'a> {
+    window: &'a mut [u8],
+    ghost enough: { entry_size ≤ length window.now },
+}
+
+impl<'a> EntryMut<'a> {
+    ghost use Rattle.blk_record.specs.Views.{entry_mut_window, entry_mut_reference};
+
+    /// The view of a window, or `None` where it has fewer than 96 bytes.
+    pub fn over(window: &'a mut [u8]) -> Option<EntryMut<'a>>
+        ensures enough { IsSome result ↔ (entry_size ≤ length window.old) }
+        ensures same { IfSome result (λ view. entry_mut_window view ≡ window.old) }
+        ensures same_reference { IfSome result (λ view. entry_mut_reference view ≡ window.entry.ghost_name) }
+    {
+        if window.len() < SIZE {
+            return None;
+        }
+        Some(EntryMut { window })
+    }
+}
+
+impl<'a> Record for EntryMut<'a> {
+    ghost use Rattle.blk_record.specs.Views.{entry_mut_window};
+
+    ghost size = { entry_size };
+
+    ghost seal_place = { entry_seal_place };
+
+    ghost window_of = { entry_mut_window };
+
+    const SIZE: usize = 96;
+
+    const SEAL: usize = 92;
+
+    fn bytes(&self) -> &[u8] {
+        &self.window[..SIZE]
+    }
+
+    fn word(&self, at: usize) -> u32 {
+        word(self.window, at)
+    }
+
+    fn checks(&self) -> bool {
+        is_sealed(self.window, SEAL)
+    }
+}
+
+impl<'a> RecordMut for EntryMut<'a> {
+    ghost use Rattle.blk_record.specs.Views.{entry_mut_reference};
+
+    ghost reference = { entry_mut_reference };
+
+    fn set_word(&mut self, at: usize, value: u32) {
+        put_word(self.window, at, value);
+    }
+
+    fn unseal(&mut self) {
+        put_word(self.window, SEAL, 0);
+    }
+
+    fn seal(&mut self) {
+        put_seal(self.window, SEAL);
+    }
+}

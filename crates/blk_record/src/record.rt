@@ -1,0 +1,65 @@
+// Sealed records over windows of bytes.
+ghost use Rattle.std.specs.Prelude.{◌≡◌, ℕ, ◌≤◌, List, length, take, true};
+ghost use Rattle.std.specs.Borrow.{GName};
+ghost use Rattle.blk_image.specs.Bytes.{content, word_at};
+ghost use Rattle.blk_image.specs.Steps.{with_word};
+ghost use Rattle.blk_format.specs.Records.{checks, seal_of};
+ghost use Rattle.blk_record.specs.Fields.{IsField, OtherFieldsStay};
+
+/// A record of little endian words with a seal, which is 0 or the hash of the bytes before it.
+///
+/// The record lies at the front of a window of bytes.
+pub trait Record {
+    ghost size: { ℕ };
+
+    ghost seal_place: { ℕ };
+
+    ghost window_of: { Self → List ℕ };
+
+    /// The number of the record's bytes.
+    const SIZE: usize;
+
+    /// The place of the seal.
+    const SEAL: usize;
+
+    /// The bytes of the record.
+    fn bytes(&self) -> &[u8]
+        ensures enough { size ≤ length (window_of self.now) }
+        ensures value { result.now ≡ take size (window_of self.now) };
+
+    /// The word at a place.
+    fn word(&self, at: usize) -> u32
+        requires { IsField size at }
+        ensures { result ≡ word_at (content (window_of self.now)) at };
+
+    /// Whether the seal is 0 or the hash of the bytes before it.
+    fn checks(&self) -> bool
+        ensures { result ≡ checks seal_place (window_of self.now) };
+}
+
+/// A record that is written.
+pub trait RecordMut: Record {
+    ghost reference: { Self → GName };
+
+    /// Writes a word at a place.
+    fn set_word(&mut self, at: usize, value: u32)
+        requires { IsField Self.size at }
+        ensures window { Self.window_of self.new ≡ with_word at value (Self.window_of self.old) }
+        ensures set { word_at (content (Self.window_of self.new)) at ≡ value }
+        ensures others { OtherFieldsStay Self.size at (Self.window_of self.old) (Self.window_of self.new) }
+        ensures same_reference { reference self.new ≡ reference self.old };
+
+    /// Makes the seal 0.
+    fn unseal(&mut self)
+        ensures window { Self.window_of self.new ≡ with_word Self.seal_place 0 (Self.window_of self.old) }
+        ensures checks { checks Self.seal_place (Self.window_of self.new) ≡ true }
+        ensures others { OtherFieldsStay Self.size Self.seal_place (Self.window_of self.old) (Self.window_of self.new) }
+        ensures same_reference { reference self.new ≡ reference self.old };
+
+    /// Makes the seal the hash of the bytes before it.
+    fn seal(&mut self)
+        ensures window { Self.window_of self.new ≡ with_word Self.seal_place (seal_of Self.seal_place (Self.window_of self.old)) (Self.window_of self.old) }
+        ensures checks { checks Self.seal_place (Self.window_of self.new) ≡ true }
+        ensures others { OtherFieldsStay Self.size Self.seal_place (Self.window_of self.old) (Self.window_of self.new) }
+        ensures same_reference { reference self.new ≡ reference self.old };
+}
