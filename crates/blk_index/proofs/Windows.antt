@@ -85,8 +85,8 @@ finished_given image new given gives finished (inl none) = finished (inl (omega 
 finished_given image new given gives finished (inr (inl few)) = finished (inl (omega (arith, given_is image new given gives)))
 finished_given image new given gives finished (inr (inr zero)) = finished (inr (same_magic (content new) (byte image Index) (window_is image new given gives) ∙ zero))
 
--- an index whose length was checked
-length_checked : (image : Image) → first_index_damage image ≡ None → length_of image Index ≡ 262512
+-- an index of which no check fails has its length
+pub length_checked : (image : Image) → first_index_damage image ≡ None → length_of image Index ≡ 262512
 unfolding head_checks
 length_checked image none =
     let f = byte image Index in

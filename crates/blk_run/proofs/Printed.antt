@@ -1,12 +1,19 @@
 -- Texts that are printed in pieces.
-use Rattle.std.proofs.Common.{◌≡◌, ℕ, ◌+◌, ◌<◌, ◌≤◌, ◌++◌, List, [], ◌∷◌, length, take, drop, get_or, Option, None, Some, Result, Ok, Err, OnOk, OnErr, refl, sym, ◌∙◌, ap, append_assoc, take-append-drop}
+use Rattle.std.proofs.Common.{◌≡◌, ℕ, ◌+◌, ◌<◌, ◌≤◌, ◌++◌, List, [], ◌∷◌, length, take, drop, get_or, Option, None, Some, Result, Ok, Err, OnOk, OnErr, refl, sym, ◌∙◌, ap, append_assoc, take-append-drop, subst, codes}
 use Rattle.std.specs.List.{flat_map}
 use Rattle.std.specs.Option.{option_map}
 use Rattle.std.proofs.lemmas.Grind.{flat_map-append}
 use Rattle.std.proofs.lemmas.List.{take_more, append-nil, take_all}
+use Rattle.blk_image.specs.Image.{File}
 use Rattle.blk_image.specs.Told.{Rises}
 use Rattle.blk_io.specs.Streams.{Appends}
-use Rattle.blk_run.specs.Texts.{Prints}
+use Rattle.blk_io.specs.declared.folder.FileId.{FileId}
+use Rattle.blk_io.specs.declared.folder.FileId.TheVariants as names
+use Rattle.blk_io.specs.declared.fault.Damage.{Damage}
+use Rattle.blk_io.specs.FileNames.{file_of}
+use Rattle.blk_io.specs.Faults.{damage_of}
+use Rattle.std.specs.Prelude.{decimal}
+use Rattle.blk_run.specs.Texts.{Prints, damage_text, hex8, name_of}
 
 -- one text after another
 pub then_more : (a b : List ℕ) (w0 w1 w2 : Option (List ℕ)) → w1 ≡ option_map (λ (w : List ℕ). w ++ a) w0 → w2 ≡ option_map (λ (w : List ℕ). w ++ b) w1 → w2 ≡ option_map (λ (w : List ℕ). w ++ (a ++ b)) w0
@@ -49,3 +56,35 @@ pieces_split f xs i d within =
 pub prints : {A E : Type 0} (r : Result A E) (text : List ℕ) (w0 w1 : Option (List ℕ)) (before now : ℕ) → OnOk r (w1 ≡ option_map (λ (w : List ℕ). w ++ text) w0) → Appends w0 w1 text → OnErr r (Rises before now) → Prints w0 w1 before now text
 prints (Ok a) text w0 w1 before now whole part failed = record { front = part; whole = λ level. whole }
 prints (Err e) text w0 w1 before now whole part failed = record { front = part; whole = λ level. absurd (level failed) }
+
+-- five pieces
+five : (a b c d e : List ℕ) → a ++ (b ++ (c ++ (d ++ (e ++ [])))) ≡ a ++ b ++ c ++ d ++ e
+five a b c d e =
+    ap (λ (l : List ℕ). a ++ (b ++ (c ++ (d ++ l)))) (append-nil e)
+    ∙ sym (append_assoc a b (c ++ (d ++ e)))
+    ∙ sym (append_assoc (a ++ b) c (d ++ e))
+    ∙ sym (append_assoc (a ++ b ++ c) d e)
+
+-- a damage with its place and its word, printed
+damage_line : File → List ℕ → List ℕ → List ℕ
+damage_line file at found = codes "damaged " ++ name_of file ++ codes " " ++ at ++ codes " " ++ found ++ codes "\n"
+
+line_is : (damage : Damage) (file : FileId) (at found : List ℕ) → damage.file ≡ file → at ≡ decimal damage.at → found ≡ hex8 damage.found → damage_line (file_of file) at found ≡ damage_text (damage_of damage)
+unfolding damage_line
+line_is damage file at found is place word =
+    ap (λ (f : FileId). damage_line (file_of f) at found) (sym is) ∙ ap (λ (l : List ℕ). damage_line (file_of damage.file) l found) place ∙ ap (λ (l : List ℕ). damage_line (file_of damage.file) (decimal damage.at) l) word
+
+-- the pieces of a damage of the index, and of a block file
+pub index_line : (damage : Damage) (at found : List ℕ) → damage.file ≡ names.Index → at ≡ decimal damage.at → found ≡ hex8 damage.found → codes "damaged index " ++ (at ++ (codes " " ++ (found ++ (codes "\n" ++ [])))) ≡ damage_text (damage_of damage)
+unfolding damage_line
+index_line damage at found is place word = five (codes "damaged index ") at (codes " ") found (codes "\n") ∙ line_is damage names.Index at found is place word
+
+pub block_line : (damage : Damage) (n : ℕ) (number at found : List ℕ) → damage.file ≡ names.Block n → number ≡ decimal n → at ≡ decimal damage.at → found ≡ hex8 damage.found
+    → codes "damaged data_" ++ (number ++ (codes " " ++ (at ++ (codes " " ++ (found ++ (codes "\n" ++ [])))))) ≡ damage_text (damage_of damage)
+unfolding damage_line
+block_line damage n number at found is digits place word =
+    ap (λ (l : List ℕ). codes "damaged data_" ++ (l ++ (codes " " ++ (at ++ (codes " " ++ (found ++ (codes "\n" ++ []))))))) digits
+    ∙ sym (append_assoc (codes "damaged data_") (decimal n) (codes " " ++ (at ++ (codes " " ++ (found ++ (codes "\n" ++ []))))))
+    ∙ sym (append_assoc (codes "damaged data_" ++ decimal n) (codes " ") (at ++ (codes " " ++ (found ++ (codes "\n" ++ [])))))
+    ∙ five (codes "damaged data_" ++ decimal n ++ codes " ") at (codes " ") found (codes "\n")
+    ∙ line_is damage (names.Block n) at found is place word

@@ -1,4 +1,4 @@
-use Rattle.std.proofs.Common.{◌≡◌, ◌+◌, ◌≤◌, refl, arith, lit≤}
+use Rattle.std.proofs.Common.{◌≡◌, ◌+◌, ◌≤◌, ℕ, List, [], ◌∷◌, refl, arith, lit≤}
 use Rattle.blk_image.specs.Bytes.{range_at}
 use Rattle.blk_image.specs.Image.{Index, byte}
 use Rattle.blk_io.specs.declared.folder.FileId.TheVariants as names
@@ -19,7 +19,8 @@ returns-clause-first g c image there =
     let window = c.read_exact.new.out in
     let is : window ≡ range_at (byte image Index) 0 368 = c.in_ok-read_exact.ensures.bytes image there in
     let same = c.in-Some.ensures.same in
-    from_list checked_place 6 image _ refl
+    let words : List (ℕ × ℕ) = (8, c.num_entries.result) ∷ (12, c.num_bytes.result) ∷ (268, c.sizes.result) ∷ (288, c.heads.result) ∷ (308, c.tails.result) ∷ (328, c.transaction.result) ∷ [] in
+    from_list checked_place 6 image words refl
     (head_words image _ _ _ _ _ _
     (head_word image _ window 8 _ same is (lit≤ tt) c.num_entries.ensures)
     (head_word image _ window 12 _ same is (lit≤ tt) c.num_bytes.ensures)
