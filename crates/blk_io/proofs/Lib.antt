@@ -1,3 +1,7 @@
 pub mod FileLists
 pub mod Trails
 pub mod ReadBytes
+pub mod WordCounts
+pub mod Splicing
+pub mod CallLists
+pub mod Writes

@@ -1,7 +1,10 @@
 pub mod FileNames
 pub mod Files
 pub mod Trail
+pub mod Counts
+pub mod Calls
 pub mod MemFolder
 pub mod Streams
 pub mod Clock
+pub mod MemStreams
 pub mod StopFolder

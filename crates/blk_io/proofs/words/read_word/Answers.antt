@@ -1,9 +1,9 @@
-use Rattle.std.proofs.Common.{◌≡◌, ◌+◌, ◌-◌, ◌≤◌, ℕ, Some, ap, sym, ◌∙◌, subst, take, arith}
+use Rattle.std.proofs.Common.{◌≡◌, ◌+◌, ◌≤◌, ℕ, Some, ap, sym, ◌∙◌, subst, take, arith}
 use Rattle.blk_image.specs.Bytes.{range_at}
 use Rattle.blk_image.specs.Image.{byte, length_of}
 use Rattle.blk_image.proofs.Words.{word-from_bytes}
 use Rattle.blk_io.specs.FileNames.{file_of}
-use Rattle.blk_io.proofs.ReadBytes.{word_in-some, word_in-none}
+use Rattle.blk_io.proofs.ReadBytes.{word_in-some}
 use Rattle.blk_io.proofs.words.read_word.Goals as goal
 
 pub returns-clause-word : goal.returns-clause-word
