@@ -22,7 +22,7 @@ sink_written sink = sink.bytes.items
 
 -- the counts of its calls, and the calls that are to fail
 abbrev pub sink_counts : MemSink → Counts
-sink_counts sink = counts_in sink.calls
+sink_counts sink = counts_in sink.puts
 
 -- the readings to come of a clock, and the one that is repeated after them
 abbrev pub clock_readings : ListClock → Readings
