@@ -1,13 +1,14 @@
 -- How an edit of the list of files changes the image.
-use Rattle.std.proofs.Common.{◌≡◌, ◌≢◌, ℕ, zero, suc, ◌+◌, ◌<◌, Bool, true, false, not, if◌then◌else◌, List, [], ◌∷◌, ◌++◌, length, take, drop, get_or, filter, Option, None, Some, Result, Ok, Err, OnErr, refl, sym, ◌∙◌, ap, subst, arith, IsSome, is_some, ◌⊎◌, inl, inr, ⊎_elim}
+use Rattle.std.proofs.Common.{◌≡◌, ◌≢◌, ℕ, zero, suc, ◌+◌, ◌<◌, Bool, true, false, not, if◌then◌else◌, List, [], ◌∷◌, ◌++◌, length, take, drop, get_or, filter, Option, None, Some, Result, Ok, Err, OnErr, refl, sym, ◌∙◌, ap, subst, arith, IsSome, ◌⊎◌, inl, inr, ⊎_elim}
 use Rattle.std.proofs.Math.ListN.{set}
 use Rattle.std.proofs.lemmas.List.{take_more, get_or_default, take_at}
 use Rattle.std.specs.Option.{ForSome}
-use Rattle.blk_image.specs.Image.{File, same_file, with_file, has_file}
+use Rattle.blk_image.specs.Image.{File, Image, same_file, with_file}
 use Rattle.blk_image.specs.Order.{IsAfter, IsUpTo, IsNextFile, IsBefore}
 use Rattle.blk_image.proofs.Images.{same_file-refl, same_file-true, same_file-swap, with_file-id}
 use Rattle.blk_image.proofs.Orders.{before_trans}
-use Rattle.blk_io.specs.declared.mem.MemFile.{MemFile}
+use Rattle.blk_io.specs.declared.mem_files.MemFile.{MemFile}
+use Rattle.blk_io.specs.declared.folder.FileId.{FileId}
 use Rattle.blk_io.specs.FileNames.{file_of}
 use Rattle.blk_io.specs.Files.{image_of, IsPlaceOf, IsNearer}
 
@@ -211,3 +212,26 @@ next_more files one after next new so_far (inr kept) = subst (IsNextFile (image_
   least = λ file follows there. ⊎_elim (λ was. so_far.least file follows was) (λ same. subst (λ (f : File). IsUpTo f next) (sym same) (kept.later (subst (IsAfter after) same follows))) (there-was file files one there);
 })
 
+-- the first, where there is one, and otherwise the second
+abbrev pub first_of : Option (List ℕ) → Option (List ℕ) → Option (List ℕ)
+first_of None other = other
+first_of (Some bytes) other = Some bytes
+
+-- the files of two lists, one behind the other
+pub image_of-both : (f : File) (xs ys : List MemFile) → image_of (xs ++ ys) f ≡ first_of (image_of xs f) (image_of ys f)
+image_of-both f [] ys = refl
+image_of-both f (x ∷ xs) ys = by_test (same_file (file_of x.file) f) (image_of-both f xs ys)
+  where
+    by_test : (t : Bool) → image_of (xs ++ ys) f ≡ first_of (image_of xs f) (image_of ys f) → (if t then Some x.bytes.items else image_of (xs ++ ys) f) ≡ first_of (if t then Some x.bytes.items else image_of xs f) (image_of ys f)
+    by_test true deeper = refl
+    by_test false deeper = deeper
+
+-- one more file in a copy
+pub copied_more : (copies files : List MemFile) (copy one : MemFile) → image_of copies ≡ image_of files → copy.file ≡ one.file → copy.bytes.items ≡ one.bytes.items → image_of (copies ++ copy ∷ []) ≡ image_of (files ++ one ∷ [])
+copied_more copies files copy one so_far same bytes = λ i f. at_file f i
+  where
+    last : (f : File) → image_of (copy ∷ []) f ≡ image_of (one ∷ []) f
+    last f = ap (λ (name : FileId). if same_file (file_of name) f then Some copy.bytes.items else None) same ∙ ap (λ (b : List ℕ). if same_file (file_of one.file) f then Some b else None) bytes
+
+    at_file : (f : File) → image_of (copies ++ copy ∷ []) f ≡ image_of (files ++ one ∷ []) f
+    at_file f = image_of-both f copies (copy ∷ []) ∙ ap (λ (image : Image). first_of (image f) (image_of (copy ∷ []) f)) so_far ∙ ap (first_of (image_of files f)) (last f) ∙ sym (image_of-both f files (one ∷ []))

@@ -3,7 +3,7 @@ use Rattle.std.specs.Prelude.{◌≡◌, ℕ, ◌<◌, if◌then◌else◌, ◌�
 use Rattle.std.specs.Option.{ForSome}
 use Rattle.blk_image.specs.Image.{File, Image, same_file}
 use Rattle.blk_image.specs.Order.{IsAfter, IsBefore, IsUpTo}
-use Rattle.blk_io.specs.declared.mem.MemFile.{MemFile}
+use Rattle.blk_io.specs.declared.mem_files.MemFile.{MemFile}
 use Rattle.blk_io.specs.FileNames.{file_of}
 
 -- the bytes of the first of these files that has the name

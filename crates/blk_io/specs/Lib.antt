@@ -2,7 +2,10 @@ pub mod FileNames
 pub mod Faults
 pub mod Files
 pub mod Trail
+pub mod Counts
+pub mod Calls
 pub mod MemFolder
 pub mod Streams
 pub mod Clock
+pub mod MemStreams
 pub mod StopFolder

@@ -1,19 +1,34 @@
--- What a folder in memory tells.
-use Rattle.std.specs.Prelude.{◌≡◌, ℕ, ◌+◌, ◌-◌, ◌^◌, ◌==◌, min, find, List, Option, None, Some}
+-- What a folder in memory tells, and what it counts.
+use Rattle.std.specs.Prelude.{◌≡◌, ℕ, List, [], Option, None, Some}
 use Rattle.std.specs.Option.{option_map}
-use Rattle.blk_io.specs.declared.mem.Listed.{Listed}
 use Rattle.std.proofs.Common.{refl, sym, ◌∙◌, ap, subst}
-use Rattle.blk_io.specs.declared.mem.MemFile.{MemFile}
+use Rattle.blk_io.specs.declared.mem_files.MemFile.{MemFile}
 use Rattle.blk_io.specs.declared.mem.MemFolder.{MemFolder}
 use Rattle.blk_image.specs.Steps.{TrailStep, after}
-use Rattle.blk_image.specs.Image.{Image, AreBytes}
+use Rattle.blk_image.specs.Image.{File, Image, AreBytes, with_file}
 use Rattle.blk_image.specs.Told.{Told, Trail, Agrees, TellsBytes}
-use Rattle.blk_io.specs.Files.{image_of}
+use Rattle.blk_io.specs.Calls.{counts_in}
+use Rattle.blk_io.specs.Counts.{Counts}
 use Rattle.blk_io.specs.Trail.{told_of, kept_steps, IsTrailOf}
 
 -- the files at the start, the files now, and the trail
 abbrev pub mem_told : MemFolder → Told
 mem_told m = told_of m.start.items m.files.items (kept_steps m.trail)
+
+-- the counts of the calls on it, and the calls that are to fail
+abbrev pub mem_counts : MemFolder → Counts
+mem_counts m = counts_in m.calls
+
+-- these files are there at the start, and no step was made
+abbrev pub newly_told : Image → Told
+newly_told image = record { files = Some image; trail = Some (record { start = image; steps = [] }) }
+
+-- the same, with a file more among those at the start and those now
+abbrev pub told_with_file : File → List ℕ → Told → Told
+told_with_file file bytes told = record {
+  files = option_map (λ (image : Image). with_file image file (Some bytes)) told.files;
+  trail = option_map (λ (trail : Trail). record { start = with_file trail.start file (Some bytes); steps = trail.steps }) told.trail;
+}
 
 some_inj : {A : Type 0} {x y : A} → Some x ≡ Some y → x ≡ y
 some_inj e = cc
@@ -32,7 +47,3 @@ mem_agrees m = told_agrees m.start.items m.files.items (kept_steps m.trail) m.ag
 
 pub mem_are_bytes : (m : MemFolder) → TellsBytes (mem_told m)
 mem_are_bytes m image there = subst AreBytes (some_inj there) m.bytes
-
--- whether the next call is listed to fail, and how many words of it last
-abbrev pub next_failure : MemFolder → Option ℕ
-next_failure m = option_map (λ (one : Listed). one.words) (find (λ (one : Listed). one.call == min (m.calls + 1) (2 ^ 64 - 1)) m.failing.items)

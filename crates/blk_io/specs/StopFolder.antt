@@ -1,13 +1,40 @@
 -- What a folder that stops tells: what the folder inside tells.
+use Rattle.std.specs.Prelude.{◌≡◌, ℕ, ◌<◌, ◌+◌, Bool, true}
 use Rattle.blk_io.specs.declared.stop.StopFolder.{StopFolder}
 use Rattle.blk_image.specs.Told.{Told, Agrees, TellsBytes}
-use Rattle.blk_io.specs.MemFolder.{mem_told, mem_agrees, mem_are_bytes}
+use Rattle.blk_io.specs.Counts.{Counts, CountsCall}
+use Rattle.blk_io.specs.MemFolder.{mem_told, mem_counts, mem_agrees, mem_are_bytes}
 
+-- what the folder inside tells
 abbrev pub stop_told : StopFolder → Told
 stop_told s = mem_told s.inner
+
+-- the counts of the folder inside, on which only those calls are made that are passed on
+abbrev pub stop_counts : StopFolder → Counts
+stop_counts s = mem_counts s.inner
+
+-- how many steps may still pass
+abbrev pub left_of : StopFolder → ℕ
+left_of s = s.left
+
+-- how often it failed, inside or for want of steps
+abbrev pub stop_faults : StopFolder → ℕ
+stop_faults s = (mem_counts s.inner).faults + s.stops
 
 pub stop_agrees : (s : StopFolder) → Agrees (stop_told s)
 stop_agrees s = mem_agrees s.inner
 
 pub stop_are_bytes : (s : StopFolder) → TellsBytes (stop_told s)
 stop_are_bytes s = mem_are_bytes s.inner
+
+-- a call failed, and only its failure was counted
+pub record IsStopped (old new : StopFolder) (failed : Bool) : Type 0 where
+  pub fails : failed ≡ true
+  pub told : stop_told new ≡ stop_told old
+  pub counts : stop_counts new ≡ stop_counts old
+  pub left : left_of new ≡ left_of old
+
+-- with no step left the call fails and changes nothing; otherwise it is counted inside, and this is the cause of a failure there
+pub record PassesOn (old new : StopFolder) (failed cause : Bool) : Type 0 where
+  pub stopped : left_of old ≡ 0 → IsStopped old new failed
+  pub passed : 0 < left_of old → CountsCall (stop_counts old) (stop_counts new) failed cause

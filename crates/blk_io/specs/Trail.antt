@@ -1,13 +1,13 @@
 -- The trail that a folder in memory keeps, a change for each call.
-use Rattle.std.specs.Prelude.{◌≡◌, List, [], ◌∷◌, ◌++◌, Option, Some, Vec}
+use Rattle.std.specs.Prelude.{◌≡◌, ℕ, ◌+◌, ◌-◌, ◌*◌, ◌/◌, ◌%◌, ◌≤◌, ◌==◌, if◌then◌else◌, min, List, [], ◌∷◌, ◌++◌, length, take, Option, Some, Vec}
 use Rattle.std.specs.Option.{option_map, ForSome}
 use Rattle.std.specs.declared.alloc.Global.{Global}
-use Rattle.blk_io.specs.declared.mem.MemFile.{MemFile}
-use Rattle.blk_io.specs.declared.mem.Change.{Change}
-use Rattle.blk_io.specs.declared.mem.Change.TheVariants.{Wrote, Sized, Deleted, Noted}
-use Rattle.blk_image.specs.Image.{File}
-use Rattle.blk_image.specs.Steps.{TrailStep, SetLength, Delete, Note, after, words}
-use Rattle.blk_image.specs.Told.{Told}
+use Rattle.blk_io.specs.declared.mem_files.MemFile.{MemFile}
+use Rattle.blk_io.specs.declared.mem_trail.Change.{Change}
+use Rattle.blk_io.specs.declared.mem_trail.Change.TheVariants.{Wrote, Sized, Deleted, Noted}
+use Rattle.blk_image.specs.Image.{File, AreBytes}
+use Rattle.blk_image.specs.Steps.{TrailStep, SetLength, Delete, Note, after, image_at, words}
+use Rattle.blk_image.specs.Told.{Told, Grows}
 use Rattle.blk_io.specs.FileNames.{file_of}
 use Rattle.blk_io.specs.Files.{image_of}
 
@@ -41,3 +41,22 @@ told_of start files steps = record {
 -- the files are those at the start after the steps, where these are kept
 abbrev pub IsTrailOf : List MemFile → List MemFile → Option (List TrailStep) → Type 0
 IsTrailOf start files steps = ForSome steps (λ s. (file : File) → image_of files file ≡ after s (image_of start) file)
+
+-- at each of the steps, where these are kept, the files hold bytes
+abbrev pub AreBytesAlong : List MemFile → Option (List TrailStep) → Type 0
+AreBytesAlong start steps = ForSome steps (λ s. (p : ℕ) → AreBytes (image_at (image_of start) s p))
+
+-- how many of the n bytes of a write at a place its first words have
+abbrev pub front_in : ℕ → ℕ → ℕ → ℕ
+front_in at n words = if words == 0 then 0 else min n (4 * (at / 4 + words) - at)
+
+-- how many words a write of n bytes at a place has
+abbrev pub words_in : ℕ → ℕ → ℕ
+words_in at n = if n == 0 then 0 else (at % 4 + n + 3) / 4
+
+-- so many of these steps were made, from the first on, and so many fewer are left than before
+pub record UsesUp (old new : Told) (steps : List TrailStep) (before now : ℕ) : Type 0 where
+  pub made : ℕ
+  pub grows : Grows old new (take made steps)
+  pub within : made ≤ length steps
+  pub uses : now + made ≡ before

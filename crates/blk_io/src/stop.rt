@@ -1,10 +1,17 @@
 // A folder that stops after so many steps.
-ghost use Rattle.std.specs.Prelude.{◌≡◌, ◌+◌, ◌≤◌, ◌<◌, ◌^◌};
+ghost use Rattle.std.specs.Prelude.{◌≡◌, ◌==◌, ◌||◌, nat_lt, ◌+◌, ◌≤◌, ◌<◌, [], ◌∷◌, length, take, OnOk, OnErr, IfOk, is_err, is_ok, if◌then◌else◌};
+ghost use Rattle.std.specs.Option.{ForSome, option_map};
+ghost use Rattle.blk_image.specs.Image.{HasRange};
+ghost use Rattle.blk_image.specs.Order.{IsAfter, IsNextFile};
+ghost use Rattle.blk_image.specs.Steps.{SetLength, Delete, Note, words};
+ghost use Rattle.blk_image.specs.Told.{Grows, GrowsInPart, Stays, Rises, GivesBytes};
+ghost use Rattle.blk_io.specs.FileNames.{file_of};
+ghost use Rattle.blk_io.specs.Counts.{next_failure, fails_next, lasting, FindsMemory};
+ghost use Rattle.blk_io.specs.Trail.{UsesUp};
 
-use crate::mem::{fail, front_len, word_count};
 use crate::{Failed, FileId, Folder, MemFolder};
 
-/// A folder in memory that passes so many steps on and then fails every call.
+/// A folder in memory that lets so many steps pass and then fails every call.
 #[derive(Drop)]
 pub struct StopFolder {
     inner: MemFolder,
@@ -13,12 +20,14 @@ pub struct StopFolder {
 }
 
 impl StopFolder {
-    ghost use Rattle.blk_io.specs.StopFolder.{stop_told};
-    ghost use Rattle.blk_io.specs.MemFolder.{mem_told};
+    ghost use Rattle.blk_io.specs.MemFolder.{mem_told, mem_counts};
+    ghost use Rattle.blk_io.specs.StopFolder.{stop_told, stop_counts, left_of};
 
-    /// Passes so many steps on.
+    /// Lets so many steps pass.
     pub fn new(inner: MemFolder, steps: u64) -> StopFolder
         ensures told { stop_told result ≡ mem_told inner }
+        ensures counts { stop_counts result ≡ mem_counts inner }
+        ensures left { left_of result ≡ steps }
     {
         StopFolder {
             inner,
@@ -30,80 +39,133 @@ impl StopFolder {
     /// The folder that was stopped.
     pub fn into_inner(self) -> MemFolder
         ensures told { mem_told result ≡ stop_told self }
+        ensures counts { mem_counts result ≡ stop_counts self }
     {
         self.inner
+    }
+
+    // Fails where no step is left.
+    fn pass(&mut self) -> Result<(), Failed>
+        ensures exact { is_err result ≡ (left_of self.old == 0) }
+        ensures inner { self.new.inner ≡ self.old.inner }
+        ensures left { self.new.left ≡ self.old.left }
+        ensures done { OnOk result (self.new.stops ≡ self.old.stops) }
+        ensures later { self.old.stops ≤ self.new.stops }
+        ensures failed { OnErr result (Rises self.old.stops self.new.stops) }
+    {
+        if self.left > 0 {
+            return Ok(());
+        }
+        self.stops = self.stops.saturating_add(1);
+        Err(Failed)
     }
 }
 
 impl Folder for StopFolder {
-    ghost use Rattle.std.specs.Prelude.{◌+◌};
-    ghost use Rattle.blk_io.specs.StopFolder.{stop_told, stop_agrees, stop_are_bytes};
+    ghost use Rattle.blk_io.specs.StopFolder.{stop_told, stop_counts, stop_faults, left_of, stop_agrees, stop_are_bytes, PassesOn};
 
     ghost told = { stop_told };
 
-    ghost faults = { λ s. s.inner.faults + s.stops };
+    ghost faults = { stop_faults };
 
     ghost agrees = { stop_agrees };
 
     ghost are_bytes = { stop_are_bytes };
 
-    fn length(&mut self, file: FileId) -> Result<Option<u64>, Failed> {
-        if self.left == 0 {
-            return Err(fail(&mut self.stops));
-        }
+    fn length(&mut self, file: FileId) -> Result<Option<u64>, Failed>
+        ensures length { IfOk result (λ n. ForSome (stop_told self.old).files (λ image. n ≡ option_map length (image (file_of file)))) }
+        ensures stays { Stays (stop_told self.old) (stop_told self.new) }
+        ensures later { stop_faults self.old ≤ stop_faults self.new }
+        ensures failed { OnErr result (Rises (stop_faults self.old) (stop_faults self.new)) }
+        ensures passes { PassesOn self.old self.new (is_err result) (fails_next (stop_counts self.old)) }
+        ensures left { left_of self.new ≡ left_of self.old }
+    {
+        self.pass()?;
         self.inner.length(file)
     }
 
-    fn read_at(&mut self, file: FileId, at: u64, out: &mut [u8]) -> Result<usize, Failed> {
-        if self.left == 0 {
-            return Err(fail(&mut self.stops));
-        }
+    fn read_at(&mut self, file: FileId, at: u64, out: &mut [u8]) -> Result<usize, Failed>
+        ensures within { IfOk result (λ n. n ≤ length out.old) }
+        ensures bytes { IfOk result (λ n. ForSome (stop_told self.old).files (λ image. GivesBytes image (file_of file) at out.old out.new n)) }
+        ensures stays { Stays (stop_told self.old) (stop_told self.new) }
+        ensures later { stop_faults self.old ≤ stop_faults self.new }
+        ensures failed { OnErr result (Rises (stop_faults self.old) (stop_faults self.new)) }
+        ensures passes { PassesOn self.old self.new (is_err result) (fails_next (stop_counts self.old)) }
+        ensures left { left_of self.new ≡ left_of self.old }
+    {
+        self.pass()?;
         self.inner.read_at(file, at, out)
     }
 
-    fn write_at(&mut self, file: FileId, at: u64, bytes: &[u8]) -> Result<(), Failed> {
-        let n = front_len(at, bytes.len(), self.left);
-        if n == bytes.len() {
-            self.left = self.left.saturating_sub(word_count(at, n));
-            return self.inner.write_at(file, at, bytes);
-        }
-        match self.inner.write_at(file, at, &bytes[..n]) {
-            Ok(()) => {
-                self.left = 0;
-                Err(fail(&mut self.stops))
-            }
-            Err(e) => Err(e),
-        }
+    fn write_at(&mut self, file: FileId, at: u64, bytes: &[u8]) -> Result<(), Failed>
+        requires { ForSome (stop_told self.old).files (λ image. HasRange image (file_of file) at (length bytes.now)) }
+        ensures whole { OnOk result (Grows (stop_told self.old) (stop_told self.new) (words (file_of file) at bytes.now)) }
+        ensures part { GrowsInPart (stop_told self.old) (stop_told self.new) (words (file_of file) at bytes.now) }
+        ensures later { stop_faults self.old ≤ stop_faults self.new }
+        ensures failed { OnErr result (Rises (stop_faults self.old) (stop_faults self.new)) }
+        ensures passes { PassesOn self.old self.new (is_err result) (fails_next (stop_counts self.old) || nat_lt (left_of self.old) (length (words (file_of file) at bytes.now))) }
+
+        // The words that last are as many as are left, or fewer where a listed failure says so.
+        ensures lasted { FindsMemory (stop_counts self.old) (stop_counts self.new) → Grows (stop_told self.old) (stop_told self.new) (take (lasting (next_failure (stop_counts self.old)) (left_of self.old)) (words (file_of file) at bytes.now)) }
+        ensures lacking { (stop_counts self.old).lacks < (stop_counts self.new).lacks → Stays (stop_told self.old) (stop_told self.new) }
+        ensures left { UsesUp (stop_told self.old) (stop_told self.new) (words (file_of file) at bytes.now) (left_of self.old) (left_of self.new) }
+    {
+        self.pass()?;
+        self.inner.write_within(&mut self.left, file, at, bytes)
     }
 
-    fn set_len(&mut self, file: FileId, length: u64) -> Result<(), Failed> {
-        if self.left == 0 {
-            return Err(fail(&mut self.stops));
-        }
+    fn set_len(&mut self, file: FileId, length: u64) -> Result<(), Failed>
+        ensures done { OnOk result (Grows (stop_told self.old) (stop_told self.new) (SetLength (file_of file) length ∷ [])) }
+        ensures undone { OnErr result (Stays (stop_told self.old) (stop_told self.new)) }
+        ensures later { stop_faults self.old ≤ stop_faults self.new }
+        ensures failed { OnErr result (Rises (stop_faults self.old) (stop_faults self.new)) }
+        ensures passes { PassesOn self.old self.new (is_err result) (fails_next (stop_counts self.old)) }
+        ensures left { left_of self.new + (if is_ok result then 1 else 0) ≡ left_of self.old }
+    {
+        self.pass()?;
+        self.inner.set_len(file, length)?;
         self.left -= 1;
-        self.inner.set_len(file, length)
+        Ok(())
     }
 
-    fn delete(&mut self, file: FileId) -> Result<(), Failed> {
-        if self.left == 0 {
-            return Err(fail(&mut self.stops));
-        }
+    fn delete(&mut self, file: FileId) -> Result<(), Failed>
+        ensures done { OnOk result (Grows (stop_told self.old) (stop_told self.new) (Delete (file_of file) ∷ [])) }
+        ensures undone { OnErr result (Stays (stop_told self.old) (stop_told self.new)) }
+        ensures later { stop_faults self.old ≤ stop_faults self.new }
+        ensures failed { OnErr result (Rises (stop_faults self.old) (stop_faults self.new)) }
+        ensures passes { PassesOn self.old self.new (is_err result) (fails_next (stop_counts self.old)) }
+        ensures left { left_of self.new + (if is_ok result then 1 else 0) ≡ left_of self.old }
+    {
+        self.pass()?;
+        self.inner.delete(file)?;
         self.left -= 1;
-        self.inner.delete(file)
+        Ok(())
     }
 
-    fn list(&mut self, after: Option<FileId>) -> Result<Option<FileId>, Failed> {
-        if self.left == 0 {
-            return Err(fail(&mut self.stops));
-        }
+    fn list(&mut self, after: Option<FileId>) -> Result<Option<FileId>, Failed>
+        ensures after { IfOk result (λ next. ForSome next (λ file. IsAfter (option_map file_of after) (file_of file))) }
+        ensures next { IfOk result (λ next. ForSome (stop_told self.old).files (λ image. IsNextFile image (option_map file_of after) (option_map file_of next))) }
+        ensures stays { Stays (stop_told self.old) (stop_told self.new) }
+        ensures later { stop_faults self.old ≤ stop_faults self.new }
+        ensures failed { OnErr result (Rises (stop_faults self.old) (stop_faults self.new)) }
+        ensures passes { PassesOn self.old self.new (is_err result) (fails_next (stop_counts self.old)) }
+        ensures left { left_of self.new ≡ left_of self.old }
+    {
+        self.pass()?;
         self.inner.list(after)
     }
 
-    fn note(&mut self, answered: u64) -> Result<(), Failed> {
-        if self.left == 0 {
-            return Err(fail(&mut self.stops));
-        }
+    fn note(&mut self, answered: u64) -> Result<(), Failed>
+        ensures done { OnOk result (Grows (stop_told self.old) (stop_told self.new) (Note answered ∷ [])) }
+        ensures undone { OnErr result (Stays (stop_told self.old) (stop_told self.new)) }
+        ensures later { stop_faults self.old ≤ stop_faults self.new }
+        ensures failed { OnErr result (Rises (stop_faults self.old) (stop_faults self.new)) }
+        ensures passes { PassesOn self.old self.new (is_err result) (fails_next (stop_counts self.old)) }
+        ensures left { left_of self.new + (if is_ok result then 1 else 0) ≡ left_of self.old }
+    {
+        self.pass()?;
+        self.inner.note(answered)?;
         self.left -= 1;
-        self.inner.note(answered)
+        Ok(())
     }
 }

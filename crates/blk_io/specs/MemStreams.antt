@@ -1,0 +1,29 @@
+-- What a source, a sink and a clock in memory tell, and what they count.
+use Rattle.std.specs.Prelude.{ℕ, List, drop}
+use Rattle.blk_io.specs.declared.mem_streams.MemSource.{MemSource}
+use Rattle.blk_io.specs.declared.mem_streams.MemSink.{MemSink}
+use Rattle.blk_io.specs.declared.mem_streams.ListClock.{ListClock}
+use Rattle.blk_io.specs.Calls.{counts_in}
+use Rattle.blk_io.specs.Clock.{readings_from}
+use Rattle.blk_io.specs.Counts.{Counts}
+use Rattle.blk_io.specs.Streams.{Readings}
+
+-- the bytes that are left of a source
+abbrev pub source_left : MemSource → List ℕ
+source_left source = drop source.at source.bytes.items
+
+-- the counts of its calls, and the calls that are to fail
+abbrev pub source_counts : MemSource → Counts
+source_counts source = counts_in source.calls
+
+-- the bytes that were written to a sink
+abbrev pub sink_written : MemSink → List ℕ
+sink_written sink = sink.bytes.items
+
+-- the counts of its calls, and the calls that are to fail
+abbrev pub sink_counts : MemSink → Counts
+sink_counts sink = counts_in sink.puts
+
+-- the readings to come of a clock, and the one that is repeated after them
+abbrev pub clock_readings : ListClock → Readings
+clock_readings clock = readings_from clock.readings.items clock.at
