@@ -1,0 +1,5 @@
+pub mod Untold
+pub mod FileIds
+pub mod Names
+pub mod Numbers
+pub mod Spelling

@@ -1,0 +1,4 @@
+mod HasNames
+mod LeastNames
+mod NameTexts
+mod Numerals

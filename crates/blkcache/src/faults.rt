@@ -1,0 +1,21 @@
+// The count of the machine's failures.
+ghost use Rattle.std.specs.Prelude.{◌≡◌, ◌≤◌, Ok, OnErr, IfOk};
+ghost use Rattle.blk_image.specs.Told.{Rises};
+
+use blk_io::Failed;
+use std::io;
+
+/// What the machine answered, with its failure counted.
+pub fn counted<T>(answer: io::Result<T>, faults: &mut u64) -> Result<T, Failed>
+    ensures answer { IfOk result (λ value. answer ≡ Ok value) }
+    ensures later { faults.old ≤ faults.new }
+    ensures failed { OnErr result (Rises faults.old faults.new) }
+{
+    match answer {
+        Ok(value) => Ok(value),
+        Err(_) => {
+            *faults = faults.saturating_add(1);
+            Err(Failed)
+        }
+    }
+}
