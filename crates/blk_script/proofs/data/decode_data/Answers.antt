@@ -1,0 +1,27 @@
+use Rattle.std.proofs.Common.{◌≡◌, ◌≤◌, ◌/◌, ℕ, List, take, sym, ◌∙◌, arith, length, length-take}
+use Rattle.blk_script.proofs.Printed.{tested_empty, tested_some}
+use Rattle.blk_script.proofs.Decoding.{data_field-none, data_field-long, data_field-empty, data_field-digits, decoded_ok, decoded_err, dash_is}
+use Rattle.blk_script.proofs.data.decode_data.Goals as goal
+
+-- half as many bytes as there are digits fit into the room
+half_fits : (field room : List ℕ) → length field ≤ length room → length field / 2 ≡ length (take (length field / 2) room)
+half_fits field room fits = simp length-take (omega arith)
+
+pub returns-then-eq : goal.returns-then-eq
+returns-then-eq c = sym (data_field-none c.args.field.now (dash_is _ _ _ _ c.eq.ensures c.as_slice.ensures c.if-eq.true))
+
+pub returns-then-field-gt-LONGEST_DATA : goal.returns-then-field-gt-LONGEST_DATA
+returns-then-field-gt-LONGEST_DATA c = sym (data_field-long c.args.field.now (dash_is _ _ _ _ c.eq.ensures c.as_slice.ensures c.if-eq.false) c.if-field-gt-LONGEST_DATA.true)
+
+pub returns-then-is_empty : goal.returns-then-is_empty
+returns-then-is_empty c = sym (data_field-empty c.args.field.now (dash_is _ _ _ _ c.eq.ensures c.as_slice.ensures c.if-eq.false) c.if-field-gt-LONGEST_DATA.false (tested_empty _ _ c.is_empty.ensures c.if-is_empty.true))
+
+pub returns-in-Ok : goal.returns-in-Ok
+returns-in-Ok c =
+    sym (data_field-digits c.args.field.now (dash_is _ _ _ _ c.eq.ensures c.as_slice.ensures c.if-eq.false) c.if-field-gt-LONGEST_DATA.false (tested_some _ _ c.is_empty.ensures c.if-is_empty.false)
+    ∙ decoded_ok c.args.field.now _ _ _ _ (half_fits _ _ c.requires) c.decode_to_slice.ensures.value c.in-Ok.is)
+
+pub returns-in-Err : goal.returns-in-Err
+returns-in-Err c =
+    sym (data_field-digits c.args.field.now (dash_is _ _ _ _ c.eq.ensures c.as_slice.ensures c.if-eq.false) c.if-field-gt-LONGEST_DATA.false (tested_some _ _ c.is_empty.ensures c.if-is_empty.false)
+    ∙ decoded_err c.args.field.now _ _ _ c.in-Err.field-0 _ (half_fits _ _ c.requires) c.decode_to_slice.ensures.value c.in-Err.is)

@@ -1,0 +1,151 @@
+-- What a script line says.
+use Rattle.std.specs.Prelude.{ℕ, true, false, ◌==◌, nat_lt, if◌then◌else◌, List, [], ◌∷◌, length, codes, Result, Ok, Err}
+use Rattle.std.specs.Str.{bytes_eq}
+use Rattle.blk_model.specs.Request.{Request, to_create, to_open, to_read, to_write, to_size, to_sparse_write, to_sparse_read, to_sparse_range, to_doom, to_doom_key, to_close, to_list, to_trim, to_total}
+use Rattle.blk_script.specs.declared.fault.LineFault.{LineFault}
+use Rattle.blk_script.specs.declared.fault.LineFault.TheVariants as fault
+use Rattle.blk_script.specs.Fields.{◌>>=◌, fields_of, number_field, data_field, key_field}
+
+-- the number of a handle
+abbrev pub handle_field : List ℕ → Result ℕ LineFault
+handle_field = number_field 65535
+
+-- the number of a stream
+abbrev pub stream_field : List ℕ → Result ℕ LineFault
+stream_field = number_field 255
+
+-- a number of 64 bits
+abbrev pub count_field : List ℕ → Result ℕ LineFault
+count_field = number_field 18446744073709551615
+
+-- no field stands behind the word
+abbrev pub no_fields : Request → List (List ℕ) → Result Request LineFault
+no_fields request [] = Ok request
+no_fields request (field ∷ fields) = Err fault.FieldCount
+
+-- one field stands behind the word
+abbrev pub one_field : (List ℕ → Result Request LineFault) → List (List ℕ) → Result Request LineFault
+one_field read (a ∷ []) = read a
+one_field read _ = Err fault.FieldCount
+
+-- two fields stand behind the word
+abbrev pub two_fields : (List ℕ → List ℕ → Result Request LineFault) → List (List ℕ) → Result Request LineFault
+two_fields read (a ∷ b ∷ []) = read a b
+two_fields read _ = Err fault.FieldCount
+
+-- three fields stand behind the word
+abbrev pub three_fields : (List ℕ → List ℕ → List ℕ → Result Request LineFault) → List (List ℕ) → Result Request LineFault
+three_fields read (a ∷ b ∷ c ∷ []) = read a b c
+three_fields read _ = Err fault.FieldCount
+
+-- four fields stand behind the word
+abbrev pub four_fields : (List ℕ → List ℕ → List ℕ → List ℕ → Result Request LineFault) → List (List ℕ) → Result Request LineFault
+four_fields read (a ∷ b ∷ c ∷ d ∷ []) = read a b c d
+four_fields read _ = Err fault.FieldCount
+
+-- fields are read from the left, and the first that fails decides: a handle and a key
+abbrev pub handle_and_key : (ℕ → List ℕ → Request) → List ℕ → List ℕ → Result Request LineFault
+handle_and_key make h k = do
+  handle ← handle_field h
+  key ← key_field k
+  Ok (make handle key)
+
+-- a handle alone
+abbrev pub handle_alone : (ℕ → Request) → List ℕ → Result Request LineFault
+handle_alone make h = do
+  handle ← handle_field h
+  Ok (make handle)
+
+-- a key alone
+abbrev pub key_alone : (List ℕ → Request) → List ℕ → Result Request LineFault
+key_alone make k = do
+  key ← key_field k
+  Ok (make key)
+
+-- a number alone
+abbrev pub number_alone : (ℕ → Request) → List ℕ → Result Request LineFault
+number_alone make n = do
+  number ← count_field n
+  Ok (make number)
+
+-- a handle and a stream
+abbrev pub handle_and_stream : (ℕ → ℕ → Request) → List ℕ → List ℕ → Result Request LineFault
+handle_and_stream make h s = do
+  handle ← handle_field h
+  stream ← stream_field s
+  Ok (make handle stream)
+
+-- a handle, an offset and a count
+abbrev pub handle_and_range : (ℕ → ℕ → ℕ → Request) → List ℕ → List ℕ → List ℕ → Result Request LineFault
+handle_and_range make h o c = do
+  handle ← handle_field h
+  offset ← count_field o
+  count ← count_field c
+  Ok (make handle offset count)
+
+-- a handle, an offset and data
+abbrev pub handle_and_data : (ℕ → ℕ → List ℕ → Request) → List ℕ → List ℕ → List ℕ → Result Request LineFault
+handle_and_data make h o d = do
+  handle ← handle_field h
+  offset ← count_field o
+  bytes ← data_field d
+  Ok (make handle offset bytes)
+
+-- a handle, a stream, an offset and a count
+abbrev pub stream_and_range : (ℕ → ℕ → ℕ → ℕ → Request) → List ℕ → List ℕ → List ℕ → List ℕ → Result Request LineFault
+stream_and_range make h s o c = do
+  handle ← handle_field h
+  stream ← stream_field s
+  offset ← count_field o
+  count ← count_field c
+  Ok (make handle stream offset count)
+
+-- a handle, a stream, an offset and data
+abbrev pub stream_and_data : (ℕ → ℕ → ℕ → List ℕ → Request) → List ℕ → List ℕ → List ℕ → List ℕ → Result Request LineFault
+stream_and_data make h s o d = do
+  handle ← handle_field h
+  stream ← stream_field s
+  offset ← count_field o
+  bytes ← data_field d
+  Ok (make handle stream offset bytes)
+
+-- the words, each with how the fields behind it are read
+unfoldable pub words : List (List ℕ × (List (List ℕ) → Result Request LineFault))
+words =
+    (codes "create", two_fields (handle_and_key to_create))
+    ∷ (codes "open", two_fields (handle_and_key to_open))
+    ∷ (codes "read", four_fields (stream_and_range to_read))
+    ∷ (codes "write", four_fields (stream_and_data (λ h s o d. to_write h s o false d)))
+    ∷ (codes "cut", four_fields (stream_and_data (λ h s o d. to_write h s o true d)))
+    ∷ (codes "size", two_fields (handle_and_stream to_size))
+    ∷ (codes "swrite", three_fields (handle_and_data to_sparse_write))
+    ∷ (codes "sread", three_fields (handle_and_range to_sparse_read))
+    ∷ (codes "srange", three_fields (handle_and_range to_sparse_range))
+    ∷ (codes "doom", one_field (handle_alone to_doom))
+    ∷ (codes "close", one_field (handle_alone to_close))
+    ∷ (codes "doomkey", one_field (key_alone to_doom_key))
+    ∷ (codes "trim", one_field (number_alone to_trim))
+    ∷ (codes "list", no_fields to_list)
+    ∷ (codes "total", no_fields to_total)
+    ∷ []
+
+-- what the fields behind a word say, by the first line of a table with that word
+abbrev pub by_word : List ℕ → List (List ℕ) → List (List ℕ × (List (List ℕ) → Result Request LineFault)) → Result Request LineFault
+by_word word fields [] = Err fault.UnknownWord
+by_word word fields (line ∷ table) = if bytes_eq word line.0 then line.1 fields else by_word word fields table
+
+-- what the fields of a line say
+abbrev pub by_fields : List (List ℕ) → Result Request LineFault
+by_fields [] = Err fault.UnknownWord
+by_fields (word ∷ fields) = by_word word fields words
+
+-- no line is longer, its end left aside
+abbrev pub longest_line : ℕ
+longest_line = 2200000
+
+-- the command that a line says, or its first fault
+unfoldable pub read_text : List ℕ → Result Request LineFault
+read_text line =
+    if nat_lt longest_line (length line) then Err fault.TooLong
+    else if length line == 0 then Err fault.Empty
+    else by_fields (fields_of line)

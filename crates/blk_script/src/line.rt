@@ -1,0 +1,58 @@
+// A script line is read into a command.
+ghost use Rattle.std.specs.Prelude.{◌≡◌, ◌≤◌, length};
+ghost use Rattle.blk_model.specs.Request.{request_of};
+ghost use Rattle.blk_script.specs.Fields.{fields_left, length_left, given};
+ghost use Rattle.blk_script.specs.Line.{read_text};
+ghost use Rattle.blk_script.specs.Words.{reading};
+
+use crate::fields::{Fields, first_field};
+use crate::words::{Word, word_of};
+use crate::{LineFault, readers};
+use blk_model::Command;
+
+/// No line has more bytes, its end left aside.
+pub const LONGEST_LINE: usize = 2200000;
+
+/// The command that a line says, or its first fault. The line comes without its end. The key or
+/// the data of the command is decoded into the front of the room.
+pub fn read_line<'a>(line: &[u8], room: &'a mut [u8]) -> Result<Command<'a>, LineFault>
+    requires { length line.now ≤ length room.old }
+    ensures { given request_of result ≡ read_text line.now }
+{
+    if line.len() > LONGEST_LINE {
+        return Err(LineFault::TooLong);
+    }
+    if line.is_empty() {
+        return Err(LineFault::Empty);
+    }
+    let (word, fields) = first_field(line);
+    match word_of(word) {
+        Some(word) => read_fields(word, fields, room),
+        None => Err(LineFault::UnknownWord),
+    }
+}
+
+// What the fields behind a word say.
+#[tactic(auto, unfolding(crate::specs::Words::reading))]
+fn read_fields<'a>(word: Word, fields: Fields, room: &'a mut [u8]) -> Result<Command<'a>, LineFault>
+    requires { length_left fields ≤ length room.old }
+    ensures { given request_of result ≡ reading word (fields_left fields.entry) }
+{
+    match word {
+        Word::Create => readers::read_create(fields, room),
+        Word::Open => readers::read_open(fields, room),
+        Word::Read => readers::read_read(fields),
+        Word::Write => readers::read_write(fields, room, false),
+        Word::Cut => readers::read_write(fields, room, true),
+        Word::Size => readers::read_size(fields),
+        Word::SparseWrite => readers::read_sparse_write(fields, room),
+        Word::SparseRead => readers::read_sparse_read(fields),
+        Word::SparseRange => readers::read_sparse_range(fields),
+        Word::Doom => readers::read_doom(fields),
+        Word::Close => readers::read_close(fields),
+        Word::DoomKey => readers::read_doom_key(fields, room),
+        Word::Trim => readers::read_trim(fields),
+        Word::List => readers::read_list(fields),
+        Word::Total => readers::read_total(fields),
+    }
+}
