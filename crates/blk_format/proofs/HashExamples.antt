@@ -1,6 +1,6 @@
 -- The hash of some bytes, computed.
 use Rattle.std.proofs.Common.{◌≡◌, [], ◌∷◌, refl}
-use Rattle.blk_format.specs.Hash.{hash, mixed, of_bytes, of_four, of_three, of_two, of_one}
+use Rattle.blk_format.specs.Hash.{hash, mixed, of_bytes, of_four, of_one}
 
 hash_of_none : hash [] ≡ 0
 unfolding hash

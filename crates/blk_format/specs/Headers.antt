@@ -1,6 +1,6 @@
 -- The headers of the index and of the block files: each field by its place, and the checks of the index.
 -- A field is read from a content, a function that gives the byte at each place: of a file, or of a window of bytes.
-use Rattle.std.specs.Prelude.{ℕ, ◌+◌, ◌*◌, ◌%◌, ◌^◌, ◌<◌, ◌≡◌, ◌⊎◌, ◌↔◌, List, [], ◌∷◌, ◌++◌, map, Bool, not, ◌||◌, ◌==◌, nat_lt, if◌then◌else◌, IsTrue, IsNone, None, Some}
+use Rattle.std.specs.Prelude.{ℕ, ◌+◌, ◌*◌, ◌<◌, ◌≡◌, ◌⊎◌, ◌↔◌, List, [], ◌∷◌, ◌++◌, map, Bool, not, ◌||◌, ◌==◌, nat_lt, IsTrue, IsNone}
 use Rattle.std.specs.declared.option.Option.{Option}
 use Rattle.blk_image.specs.Bytes.{half_at, word_at, long_at}
 use Rattle.blk_image.specs.Image.{Index, Image, has_file, length_of, byte}

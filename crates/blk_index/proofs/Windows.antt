@@ -1,11 +1,11 @@
 -- The first bytes of the index, in a window that had zeros.
-use Rattle.std.proofs.Common.{◌≡◌, ℕ, ◌+◌, ◌-◌, ◌%◌, ◌^◌, ◌<◌, ◌≤◌, ◌==◌, nat_lt, min, Bool, true, false, if◌then◌else◌, List, [], ◌++◌, length, take, drop, get_or, Option, None, Some, unwrap_or, Result, Ok, Err, refl, sym, ◌∙◌, ap, subst, arith, ◌⊎◌, inl, inr, ⊎_elim, get_or-take}
+use Rattle.std.proofs.Common.{◌≡◌, ℕ, ◌+◌, ◌-◌, ◌%◌, ◌^◌, ◌<◌, ◌≤◌, ◌==◌, nat_lt, min, Bool, true, false, if◌then◌else◌, List, [], ◌++◌, length, Option, None, Some, unwrap_or, Result, refl, sym, ◌∙◌, ap, subst, arith, ◌⊎◌, inl, inr, ⊎_elim, get_or-take}
 use Rattle.std.proofs.lemmas.Bool.{cases_lt, eqb-true}
 use Rattle.std.proofs.lemmas.Bool.Decides.{nat_tests}
 use Rattle.std.proofs.lemmas.List.{get_or-drop, get_or_past}
 use Rattle.std.specs.Option.{option_map}
 use Rattle.std.specs.Prelude.{IsNone}
-use Rattle.blk_image.specs.Bytes.{content, range_at, zeros, word_at}
+use Rattle.blk_image.specs.Bytes.{content, zeros}
 use Rattle.blk_image.specs.Image.{Index, Image, byte, length_of}
 use Rattle.blk_image.specs.Checks as checks
 use Rattle.blk_image.specs.Checks.{first_of}
@@ -15,7 +15,7 @@ use Rattle.blk_image.proofs.Words.{content-range, same-word}
 use Rattle.blk_format.specs.Headers.{IsUnfinished, head_checks, list_checks, first_index_damage, magic_of}
 use Rattle.blk_io.specs.declared.fault.Fault.{Fault}
 use Rattle.blk_index.specs.declared.start.Start.{Start}
-use Rattle.blk_index.specs.Start.{IsFinished, LooksAs, Judges}
+use Rattle.blk_index.specs.Start.{LooksAs, Judges}
 use Rattle.blk_index.proofs.Firsts.{all_none, passed}
 
 -- how many bytes were given

@@ -40,12 +40,7 @@ pub fn write_words<F: Folder>(f: &mut F, file: FileId, words: &[(u64, u32)]) -> 
 /// Reads bytes of a file into the whole of `out`.
 ///
 /// Too few bytes are a damage: it has the place of the read, and finds how many bytes there were.
-pub fn read_exact<F: Folder>(
-    f: &mut F,
-    file: FileId,
-    at: u64,
-    out: &mut [u8],
-) -> Result<(), Fault>
+pub fn read_exact<F: Folder>(f: &mut F, file: FileId, at: u64, out: &mut [u8]) -> Result<(), Fault>
     requires { length out.old < 2 ^ 32 }
     ensures bytes { OnOk result (ForSome (F.told f.old).files (λ image. out.new ≡ range_at (byte image (file_of file)) at (length out.old))) }
     ensures inside { OnOk result (ForSome (F.told f.old).files (λ image. HasRange image (file_of file) at (length out.old) ⊎ (length out.old ≡ 0))) }

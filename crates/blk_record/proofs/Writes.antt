@@ -1,5 +1,5 @@
 -- A word that is written into a window.
-use Rattle.std.proofs.Common.{◌≡◌, ℕ, ◌+◌, ◌-◌, ◌<◌, ◌≤◌, ◌%◌, ◌^◌, ◌≢◌, List, [], ◌∷◌, ◌++◌, length, take, drop, Bool, true, refl, sym, subst, ap, ap₂, ◌∙◌, arith, ◌⊎◌, inl, inr, ⊎_elim, length-drop, append-nil}
+use Rattle.std.proofs.Common.{◌≡◌, ℕ, ◌+◌, ◌-◌, ◌<◌, ◌≤◌, ◌%◌, ◌^◌, List, [], ◌∷◌, ◌++◌, length, take, drop, true, refl, sym, ap, ap₂, ◌∙◌, arith, ◌⊎◌, inl, inr, ⊎_elim, length-drop, append-nil}
 use Rattle.std.proofs.lemmas.Bool.{cases_lt}
 use Rattle.std.proofs.lemmas.List.{take_all, drop_all, drop-drop, take-append-le, length-take-le}
 use Rattle.std.specs.Prelude.{◌||◌, ◌==◌}
@@ -9,7 +9,7 @@ use Rattle.blk_image.proofs.Splices.{spliced-is}
 use Rattle.blk_image.proofs.Words.{word-there, word-beside}
 use Rattle.blk_format.specs.Hash.{hash, mixed}
 use Rattle.blk_format.specs.Records.{checks, seal_of}
-use Rattle.blk_record.specs.Fields.{IsField, OtherFieldsStay}
+use Rattle.blk_record.specs.Fields.{OtherFieldsStay}
 
 -- a window with a word is its front, the four bytes of the word, and the rest
 with_word-is : (place value : ℕ) (window : List ℕ) → place + 4 ≤ length window → with_word place value window ≡ take place window ++ (word_bytes value ++ drop (place + 4) window)

@@ -69,6 +69,15 @@ pub struct EntryMut<'a> {
 impl<'a> EntryMut<'a> {
     ghost use Rattle.blk_record.specs.Views.{entry_mut_window, entry_mut_reference};
 
+    /// The view of a window that has the bytes.
+    pub fn new(window: &'a mut [u8]) -> EntryMut<'a>
+        requires { entry_size ≤ length window.old }
+        ensures same { entry_mut_window result ≡ window.old }
+        ensures same_reference { entry_mut_reference result ≡ window.entry.ghost_name }
+    {
+        EntryMut { window }
+    }
+
     /// The view of a window, or `None` where it has fewer than 96 bytes.
     pub fn over(window: &'a mut [u8]) -> Option<EntryMut<'a>>
         ensures enough { IsSome result ↔ (entry_size ≤ length window.old) }
@@ -78,7 +87,7 @@ impl<'a> EntryMut<'a> {
         if window.len() < SIZE {
             return None;
         }
-        Some(EntryMut { window })
+        Some(EntryMut::new(window))
     }
 }
 

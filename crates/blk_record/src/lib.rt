@@ -24,4 +24,6 @@ pub use record::{Record, RecordMut};
 pub use sparse_head::SparseHead;
 
 #[cfg(test)]
+mod record_tests;
+#[cfg(test)]
 mod tests;

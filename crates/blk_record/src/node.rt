@@ -69,6 +69,15 @@ pub struct NodeMut<'a> {
 impl<'a> NodeMut<'a> {
     ghost use Rattle.blk_record.specs.Views.{node_mut_window, node_mut_reference};
 
+    /// The view of a window that has the bytes.
+    pub fn new(window: &'a mut [u8]) -> NodeMut<'a>
+        requires { node_size ≤ length window.old }
+        ensures same { node_mut_window result ≡ window.old }
+        ensures same_reference { node_mut_reference result ≡ window.entry.ghost_name }
+    {
+        NodeMut { window }
+    }
+
     /// The view of a window, or `None` where it has fewer than 36 bytes.
     pub fn over(window: &'a mut [u8]) -> Option<NodeMut<'a>>
         ensures enough { IsSome result ↔ (node_size ≤ length window.old) }
@@ -78,7 +87,7 @@ impl<'a> NodeMut<'a> {
         if window.len() < SIZE {
             return None;
         }
-        Some(NodeMut { window })
+        Some(NodeMut::new(window))
     }
 }
 

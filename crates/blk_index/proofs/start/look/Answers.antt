@@ -1,6 +1,6 @@
-use Rattle.std.proofs.Common.{◌≡◌, ◌<◌, ◌⊎◌, ◌++◌, ℕ, List, length, Bool, true, false, Some, refl, sym, ◌∙◌, ap, subst}
+use Rattle.std.proofs.Common.{◌≡◌, ◌<◌, ◌⊎◌, ◌++◌, ℕ, List, Bool, true, false, sym, ◌∙◌, ap, subst}
 use Rattle.blk_image.specs.Bytes.{content, zeros}
-use Rattle.blk_image.specs.Image.{Image, Index}
+use Rattle.blk_image.specs.Image.{Index}
 use Rattle.blk_image.specs.Checks.{first_of}
 use Rattle.blk_image.specs.Told.{Told, GivesBytes}
 use Rattle.blk_format.specs.Headers.{head_checks, list_checks, magic_of}

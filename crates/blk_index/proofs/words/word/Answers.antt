@@ -1,4 +1,4 @@
-use Rattle.std.proofs.Common.{◌≡◌, ◌+◌, ◌≤◌, arith}
+use Rattle.std.proofs.Common.{arith}
 use Rattle.blk_io.specs.declared.folder.FileId.TheVariants.{Index}
 use Rattle.blk_io.proofs.Shorts.{untold_if}
 use Rattle.blk_index.proofs.words.word.Goals as goal

@@ -1,4 +1,4 @@
-use Rattle.std.proofs.Common.{◌≡◌, length, arith, sym, ◌∙◌}
+use Rattle.std.proofs.Common.{arith, sym, ◌∙◌}
 use Rattle.blk_record.proofs.Hashing.{of_bytes-three, of_bytes-two, of_bytes-one, of_bytes-none}
 use Rattle.blk_record.proofs.hash.mix_rest.Goals as goal
 
