@@ -1,7 +1,7 @@
 -- The block files that are linked, the checks of their headers, and the first damage of a folder.
 use Rattle.std.proofs.Common.{zero, suc}
 use Rattle.std.specs.Prelude.{ℕ, ◌-◌, ◌%◌, ◌≡◌, List, [], ◌∷◌, ◌++◌, Bool, not, ◌&&◌, ◌||◌, ◌==◌, nat_le, nat_lt, if◌then◌else◌, None, Some}
-use Rattle.std.specs.List.{list_any}
+use Rattle.std.specs.List.{list_any, flat_map}
 use Rattle.std.specs.declared.option.Option.{Option}
 use Rattle.blk_image.specs.Image.{Index, Block, External, Image, has_file, length_of, byte}
 use Rattle.blk_image.specs.Checks.{Damage, first_of, check_word, check_length}
@@ -110,9 +110,13 @@ checks_along image kind met (suc left) n =
 unfoldable pub checks_of_type : Image → ℕ → List (Option Damage)
 checks_of_type image kind = checks_along image kind (linked_up_to image (kind - 1)) (most_files - 1) (kind - 1)
 
+-- the types of blocks, in the order of their numbers
+abbrev pub block_types : List ℕ
+block_types = rankings ∷ blocks_256 ∷ blocks_1k ∷ blocks_4k ∷ []
+
 -- the checks of all block files, type after type
 abbrev pub block_checks : Image → List (Option Damage)
-block_checks image = checks_of_type image rankings ++ checks_of_type image blocks_256 ++ checks_of_type image blocks_1k ++ checks_of_type image blocks_4k
+block_checks image = flat_map (checks_of_type image) block_types
 
 -- the first check of the block files that fails
 abbrev pub first_block_damage : Image → Option Damage

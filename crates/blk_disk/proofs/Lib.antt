@@ -1,0 +1,5 @@
+pub mod Among
+pub mod Joining
+pub mod Firsts
+pub mod Windows
+pub mod Following
