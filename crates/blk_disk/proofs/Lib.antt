@@ -3,3 +3,4 @@ pub mod Joining
 pub mod Firsts
 pub mod Windows
 pub mod Following
+pub mod Standings

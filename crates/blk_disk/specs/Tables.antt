@@ -1,8 +1,9 @@
 -- What is kept of the block files: the linked files of each type, and the blocks and the length of each.
-use Rattle.std.specs.Prelude.{ℕ, ◌≡◌, ◌≢◌, List, [], ◌∷◌, ◌++◌, Bool, true, slice_index, ◌==◌, if◌then◌else◌}
+use Rattle.std.specs.Prelude.{ℕ, ◌≡◌, ◌≢◌, List, [], ◌∷◌, ◌++◌, Bool, false, true, slice_index, ◌==◌, if◌then◌else◌}
 use Rattle.blk_image.specs.Image.{Block, Image, length_of}
 use Rattle.blk_format.specs.Address.{rankings, blocks_256, blocks_1k, blocks_4k, is_block_kind}
-use Rattle.blk_format.specs.BlockFiles.{linked, max_entries_in, is_among}
+use Rattle.blk_format.specs.BlockFiles.{linked, max_entries_in, is_among, type_among}
+use Rattle.blk_format.specs.Standing.{stands_as_blocks}
 use Rattle.blk_disk.specs.declared.tables.BlockFiles.{BlockFiles}
 
 -- the linked files of a type, in the order of the links
@@ -45,3 +46,7 @@ pub record Joins (old new : BlockFiles) (kind n blocks size : ℕ) : Type 0 wher
   pub size_there : length_in new n ≡ size
   pub other_blocks : (other : ℕ) → other ≢ n → blocks_of new other ≡ blocks_of old other
   pub other_lengths : (other : ℕ) → other ≢ n → length_in new other ≡ length_in old other
+
+-- a word is an address of blocks that are there: their file is linked and of its type, and all are below its number of blocks and end inside it
+abbrev pub stands_among : BlockFiles → ℕ → Bool
+stands_among files w = stands_as_blocks (type_among (files_of files)) (blocks_of files) (length_in files) (λ number. false) w

@@ -52,7 +52,8 @@ pub struct Head {
 #[tactic(auto, unfolding(blk_format::specs::Address::block_size))]
 pub(crate) fn block_size(kind: Kind) -> u32
     requires { kind_number kind ≢ external }
-    ensures { result ≡ address.block_size (kind_number kind) }
+    ensures size { result ≡ address.block_size (kind_number kind) }
+    ensures most { result ≤ 4096 }
 {
     match kind {
         Kind::Rankings => 36,

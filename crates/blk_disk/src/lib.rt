@@ -5,6 +5,7 @@ mod checks;
 mod heads;
 mod load;
 mod names;
+mod standing;
 mod tables;
 
 pub use names::file_of;

@@ -30,7 +30,7 @@ pub struct BlockFiles {
 }
 
 impl BlockFiles {
-    ghost use Rattle.blk_disk.specs.Tables.{all_files, files_of, HoldsNone, Joins};
+    ghost use Rattle.blk_disk.specs.Tables.{all_files, blocks_of, files_of, length_in, HoldsNone, Joins};
 
     // No files.
     pub(crate) fn none() -> BlockFiles
@@ -48,7 +48,7 @@ impl BlockFiles {
 
     // The numbers of the files of a kind.
     #[tactic(auto, unfolding(crate::specs::Tables::files_of))]
-    fn files(&self, kind: Kind) -> &[u8]
+    pub(crate) fn files(&self, kind: Kind) -> &[u8]
         ensures files { result.now ≡ files_of self.now (kind_number kind) }
         ensures most { length result.now ≤ most_files }
     {
@@ -78,6 +78,22 @@ impl BlockFiles {
         ensures len { result ≡ length (files_of self.now (kind_number kind)) }
     {
         self.files(kind).len()
+    }
+
+    // The number of blocks of a linked file.
+    #[tactic(auto, unfolding(crate::specs::Tables::blocks_of))]
+    pub(crate) fn blocks(&self, file: u8) -> u32
+        ensures { result ≡ blocks_of self.now file }
+    {
+        self.blocks[usize::from(file)]
+    }
+
+    // The length of a linked file in bytes.
+    #[tactic(auto, unfolding(crate::specs::Tables::length_in))]
+    pub(crate) fn length(&self, file: u8) -> u64
+        ensures { result ≡ length_in self.now file }
+    {
+        self.lengths[usize::from(file)]
     }
 
     // Takes up a file as the last one of its type.

@@ -18,6 +18,6 @@ returns c =
     let version = c.check_is-2.ensures ∙ (λ i. check_found (Block n) 4 (c.version.ensures i) (c.version.ensures i == 0x20000)) in
     let this_file = c.check-2.ensures ∙ (λ i. check_found (Block n) 8 (numbers i) (c.this_file.ensures i == c.from.ensures i)) in
     let next_file = c.check-3.ensures ∙ (λ i. check_found (Block n) 8 (numbers i) (link i)) in
-    let entry_size = c.check_is-3.ensures ∙ (λ i. check_found (Block n) 12 (c.entry_size.ensures i) (c.entry_size.ensures i == c.block_size.ensures i)) in
+    let entry_size = c.check_is-3.ensures ∙ (λ i. check_found (Block n) 12 (c.entry_size.ensures i) (c.entry_size.ensures i == c.block_size.ensures.size i)) in
     let max_entries = c.check-4.ensures ∙ (λ i. check_found (Block n) 20 (c.max_entries-blocks.ensures i) (count i)) in
     c.first_failed.ensures ∙ (λ i. first_of (c.check.ensures i ∷ magic i ∷ version i ∷ this_file i ∷ next_file i ∷ entry_size i ∷ max_entries i ∷ []))
