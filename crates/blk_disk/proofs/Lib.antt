@@ -4,3 +4,5 @@ pub mod Firsts
 pub mod Windows
 pub mod Following
 pub mod Standings
+pub mod Ranges
+pub mod Agreeing

@@ -35,7 +35,7 @@ names_external w file e differs = by_test (kind_of w == external) refl e
     by_test false is e = absurd (differs (file_selector w) e)
 
 -- no file is linked as external
-not_external : (lists : ℕ → List ℕ) (n : ℕ) → is_linked_as (type_among lists n) 0 ≡ false
+pub not_external : (lists : ℕ → List ℕ) (n : ℕ) → is_linked_as (type_among lists n) 0 ≡ false
 unfolding type_among
 not_external lists n = by_tests (is_among (lists 1) n) (is_among (lists 2) n) (is_among (lists 3) n) (is_among (lists 4) n)
   where

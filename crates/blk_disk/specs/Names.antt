@@ -1,10 +1,11 @@
--- The names of files that addresses have, as the files of images.
+-- The names of files that addresses have, as a folder has them.
 use Rattle.blk_addr.specs.declared.file_id.FileId.{FileId}
 use Rattle.blk_addr.specs.declared.file_id.FileId.TheVariants.{Index, Block, External}
-use Rattle.blk_image.specs.Image as image
+use Rattle.blk_io.specs.declared.folder.FileId as folder
+use Rattle.blk_io.specs.declared.folder.FileId.TheVariants as folder_names
 
--- the file that a name stands for
-abbrev pub image_file : FileId → image.File
-image_file Index = image.Index
-image_file (Block n) = image.Block n
-image_file (External n) = image.External n
+-- the name of the same variant and number
+abbrev pub name_of : FileId → folder.FileId
+name_of Index = folder_names.Index
+name_of (Block n) = folder_names.Block n
+name_of (External n) = folder_names.External n

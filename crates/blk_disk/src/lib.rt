@@ -1,6 +1,7 @@
 //! The block files of a cache folder: their headers checked at the start, and their blocks.
 #![tactic(auto)]
 
+mod blocks;
 mod checks;
 mod heads;
 mod load;

@@ -1,12 +1,13 @@
 // Addresses that stand in the linked block files.
 ghost use Rattle.std.specs.Prelude.{◌≡◌, ◌≢◌, ◌+◌, ◌*◌, ◌^◌, ◌<◌, ◌==◌, Some, None, length, slice_get, if◌then◌else◌};
 ghost use Rattle.std.specs.Option.{option_map};
+ghost use Rattle.blk_image.specs.Image.{Image};
 ghost use Rattle.blk_format.specs.Address as address;
 ghost use Rattle.blk_format.specs.Address.{external, file_selector, kind_of, place, room};
-ghost use Rattle.blk_format.specs.BlockFiles.{is_among, type_among};
+ghost use Rattle.blk_format.specs.BlockFiles.{is_among, stands_in_blocks, type_among};
 ghost use Rattle.blk_format.specs.Standing as standing;
 ghost use Rattle.blk_addr.specs.Kind.{kind_number};
-ghost use Rattle.blk_disk.specs.Tables.{all_files, blocks_of, files_of, stands_among};
+ghost use Rattle.blk_disk.specs.Tables.{Agrees, all_files, blocks_of, files_of, stands_among};
 
 use crate::heads::block_size;
 use crate::tables::BlockFiles;
@@ -61,7 +62,8 @@ impl BlockFiles {
     /// Whether an address is one of blocks that are there: their file is linked and of the kind,
     /// and all are below its number of blocks and end inside it.
     pub fn stands(&self, addr: Addr) -> bool
-        ensures { result ≡ stands_among self.now addr }
+        ensures among { result ≡ stands_among self.now addr }
+        ensures in_folder { (image : Image) → Agrees self.now image → result ≡ stands_in_blocks image addr }
     {
         let FileId::Block(file) = addr.file() else {
             return false;
