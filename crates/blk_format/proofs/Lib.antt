@@ -7,3 +7,4 @@ pub mod HeaderLemmas
 pub mod Bodies
 pub mod HashExamples
 pub mod RecordLemmas
+pub mod BlockFileExamples

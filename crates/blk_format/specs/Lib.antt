@@ -6,3 +6,4 @@ pub mod Headers
 pub mod Hash
 pub mod Records
 pub mod SparseIndex
+pub mod BlockFiles

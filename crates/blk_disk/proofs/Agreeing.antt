@@ -1,0 +1,51 @@
+-- What is kept of the block files goes on agreeing with them, where no header and no length changes.
+use Rattle.std.proofs.Common.{◌≡◌, ◌≢◌, ℕ, ◌+◌, ◌-◌, ◌*◌, ◌^◌, ◌<◌, ◌≤◌, Bool, true, false, ◌&&◌, List, length, refl, sym, ◌∙◌, ap, arith}
+use Rattle.std.specs.Prelude.{nat_le, nat_lt}
+use Rattle.std.proofs.lemmas.Bool.Decides.{nat_tests}
+use Rattle.blk_image.specs.Bytes.{half_at, word_at}
+use Rattle.blk_image.specs.Image.{File, Block, Image, byte, length_of, same_file}
+use Rattle.blk_image.specs.Footprint.{Footprint, SameOutside, range}
+use Rattle.blk_format.specs.Headers.{next_file_of, max_entries_of}
+use Rattle.blk_format.specs.Address.{place, block_place}
+use Rattle.blk_format.specs.BlockFiles.{linked, files_along, next_file_in, max_entries_in}
+use Rattle.blk_disk.specs.declared.tables.BlockFiles.{BlockFiles}
+use Rattle.blk_disk.specs.Tables.{Agrees}
+
+-- no byte of a header is in a footprint
+pub record SparesHeaders (F : Footprint) : Type 0 where
+  pub bytes : (n i : ℕ) → i < 8192 → F.bytes (Block n) i ≡ false
+
+module _ (F : Footprint) (a b : Image) (spares : SparesHeaders F) (same : SameOutside F a b) where
+  byte_same : (n i : ℕ) → i < 8192 → byte b (Block n) i ≡ byte a (Block n) i
+  byte_same n i small = same.bytes (Block n) i (spares.bytes n i small)
+
+  pub next_same : next_file_in b ≡ next_file_in a
+  unfolding next_file_in
+  next_same = λ j n. byte_same n 10 (omega arith) j + 256 * byte_same n 11 (omega arith) j
+
+  pub blocks_same : (n : ℕ) → max_entries_in b n ≡ max_entries_in a n
+  unfolding max_entries_in
+  blocks_same n = λ j. byte_same n 20 (omega arith) j + 256 * byte_same n 21 (omega arith) j + 65536 * byte_same n 22 (omega arith) j + 16777216 * byte_same n 23 (omega arith) j
+
+  pub linked_same : (kind : ℕ) → linked b kind ≡ linked a kind
+  unfolding linked
+  linked_same kind = ap (λ (next : ℕ → ℕ). files_along next 59 (kind - 1)) next_same
+
+  pub agrees_still : (files : BlockFiles) → ((n : ℕ) → F.sizes (Block n) ≡ false) → Agrees files a → Agrees files b
+  agrees_still files sizes agrees = record {
+    links = λ kind holds. agrees.links kind holds ∙ sym (linked_same kind);
+    blocks = λ n among. agrees.blocks n among ∙ sym (blocks_same n);
+    lengths = λ n among. agrees.lengths n among ∙ sym (same.lengths (Block n) (sizes n));
+  }
+
+-- the bytes of blocks lie past the headers
+past_header : (w : ℕ) → 8192 ≤ place w
+unfolding place block_place
+past_header w = omega arith
+
+pub blocks_spare : (file : File) (w at n : ℕ) → SparesHeaders (range file (place w + at) n)
+blocks_spare file w at n = record { bytes = λ m i small. before (same_file file (Block m)) (place w + at) i (omega (arith, past_header w)) }
+  where
+    before : (t : Bool) (from i : ℕ) → i < from → (t && (nat_le from i && nat_lt i (from + n))) ≡ false
+    before true from i below = grind (arith, nat_tests)
+    before false from i below = refl

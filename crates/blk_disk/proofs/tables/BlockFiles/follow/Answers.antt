@@ -1,0 +1,24 @@
+use Rattle.std.proofs.Common.{◌≡◌, ◌<◌, ◌≤◌, ◌-◌, ◌∙◌, ℕ, length, None, Some, refl, sym, ap, subst, arith, List}
+use Rattle.std.specs.declared.option.Option.{Option}
+use Rattle.blk_addr.specs.Kind.{kind_number}
+use Rattle.blk_disk.specs.Tables.{files_of}
+use Rattle.blk_disk.specs.Loading.{Follows, HasRoom}
+use Rattle.blk_disk.proofs.Following.{follows_kind}
+use Rattle.blk_disk.proofs.tables.BlockFiles.follow.Goals as goal
+
+pub loop-next-init : goal.loop-next-init
+loop-next-init g c = record {
+  room = let none = ap (λ (l : List ℕ). length l) c.requires.empty in omega (arith, none);
+  follows =
+      λ image there. subst (λ (n : ℕ). Follows c.args.self.now image (kind_number c.args.kind) (Some n)) (sym c.first_file.ensures)
+      (follows_kind c.args.kind c.args.self.now image c.requires.of_blocks (c.requires.begun image there));
+  others = λ other differs. refl;
+  stays = refl;
+  later = omega arith;
+}
+
+pub link-requires-clause-next : goal.link-requires-clause-next
+link-requires-clause-next g c image there = subst (λ (o : Option ℕ). Follows c.loop-next.self image (kind_number c.args.kind) o) c.in-Some.is (c.loop-next.invariant.follows image there)
+
+pub returns-clause-followed : goal.returns-clause-followed
+returns-clause-followed g c image there = subst (λ (o : Option ℕ). Follows c.loop-next.self image (kind_number c.args.kind) o) c.in_default.is (c.loop-next.invariant.follows image there)

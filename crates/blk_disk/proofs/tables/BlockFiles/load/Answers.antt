@@ -1,0 +1,12 @@
+use Rattle.std.proofs.Common.{sym, ◌∙◌, ap}
+use Rattle.blk_image.specs.Told.{Told}
+use Rattle.blk_disk.proofs.Following.{follows_none, follows_all}
+use Rattle.blk_disk.proofs.tables.BlockFiles.load.Goals as goal
+
+pub follow-requires-clause-begun : goal.follow-requires-clause-begun
+follow-requires-clause-begun g c image there = follows_none c.none-files.result image c.none-files.ensures
+
+pub returns-clause-loaded : goal.returns-clause-loaded
+returns-clause-loaded g c image there =
+    let stays = c.in_ok-follow-4.ensures.stays ∙ c.in_ok-follow-3.ensures.stays ∙ c.in_ok-follow-2.ensures.stays ∙ c.in_ok-follow.ensures.stays in
+    follows_all c.follow-4.new.self image (c.in_ok-follow-4.ensures.followed image (ap (λ (t : Told). t.files) stays ∙ there))

@@ -1,0 +1,84 @@
+-- How block files are checked and taken up, one along the links after another.
+use Rattle.std.specs.Prelude.{◌≡◌, ◌≢◌, ℕ, ◌+◌, ◌-◌, ◌<◌, ◌≤◌, List, [], ◌∷◌, ◌++◌, length, drop, ◌==◌, if◌then◌else◌, true, Option, None, Some, Result, Ok, Err}
+use Rattle.std.specs.Option.{option_map}
+use Rattle.std.specs.List.{flat_map}
+use Rattle.blk_image.specs.Image.{Block, Image, byte, length_of}
+use Rattle.blk_image.specs.Checks as checks
+use Rattle.blk_image.specs.Checks.{first_of}
+use Rattle.blk_format.specs.Headers.{next_file_of, max_entries_of, block_fields_length}
+use Rattle.blk_format.specs.BlockFiles.{most_files, next_file_in, max_entries_in, files_along, linked, linked_up_to, is_among, file_checks, checks_along, checks_of_type, block_types, block_checks, first_block_damage}
+use Rattle.blk_io.specs.declared.fault.Damage.{Damage}
+use Rattle.blk_io.specs.declared.fault.Fault.{Fault}
+use Rattle.blk_io.specs.declared.fault.Fault.TheVariants.{Device, Damaged}
+use Rattle.blk_io.specs.Faults.{damage_of}
+use Rattle.blk_disk.specs.declared.tables.BlockFiles.{BlockFiles}
+use Rattle.blk_disk.specs.declared.heads.Head.{Head}
+use Rattle.blk_disk.specs.Tables.{files_of, all_files, blocks_of, length_in, Agrees}
+
+-- the answer for an image: what is kept agrees with it and no check fails; or the damage is the first check that fails; a failed device says nothing of the image
+abbrev pub LoadsAs : Result BlockFiles Fault → Image → Type 0
+LoadsAs (Ok files) image = Agrees files image × (first_block_damage image ≡ None)
+LoadsAs (Err Device) image = Unit {0}
+LoadsAs (Err (Damaged damage)) image = first_block_damage image ≡ Some (damage_of damage)
+
+-- a next file, as a number of 16 bits has it
+abbrev pub next_of : ℕ → Option ℕ
+next_of next = if next == 0 then None else Some next
+
+-- what a header with this content says of a file of so many bytes
+pub record IsHead (f : ℕ → ℕ) (bytes : ℕ) (head : Head) : Type 0 where
+  pub next : head.next ≡ next_of (next_file_of f)
+  pub blocks : head.blocks ≡ max_entries_of f
+  pub size : head.size ≡ bytes
+
+-- the answer for a header of which so many bytes were given, and whose checks are these
+abbrev pub Judges : Option checks.Damage → (ℕ → ℕ) → ℕ → ℕ → Result Head Fault → Type 0
+Judges None f size given answer = block_fields_length ≤ given → (head : Head) × (answer ≡ Ok head) × IsHead f size head
+Judges (Some damage) f size given answer = (found : Damage) × (answer ≡ Err (Damaged found)) × (damage_of found ≡ damage)
+
+-- how many files of a type may follow the next one
+abbrev pub files_left : BlockFiles → ℕ → ℕ
+files_left files kind = most_files - 1 - length (files_of files kind)
+
+-- the checks of the next file of a type, with those that are taken up already
+abbrev pub next_checks : BlockFiles → Image → ℕ → ℕ → List (Option checks.Damage)
+next_checks files image kind n = file_checks kind (all_files files ++ n ∷ []) (files_left files kind) n (byte image (Block n)) (length_of image (Block n))
+
+-- the answer for the next file of an image: what its header says, where its checks hold, or the first that fails
+abbrev pub ReadsAs : BlockFiles → Image → ℕ → ℕ → Result Head Fault → Type 0
+ReadsAs files image kind n (Ok head) = (first_of (next_checks files image kind n) ≡ None) × IsHead (byte image (Block n)) (length_of image (Block n)) head
+ReadsAs files image kind n (Err Device) = Unit {0}
+ReadsAs files image kind n (Err (Damaged damage)) = first_of (next_checks files image kind n) ≡ Some (damage_of damage)
+
+-- the checks of the types after one
+abbrev pub checks_after : Image → ℕ → List (Option checks.Damage)
+checks_after image kind = flat_map (checks_of_type image) (drop kind block_types)
+
+-- the checks from the next file of a type on
+abbrev pub checks_from : BlockFiles → Image → ℕ → Option ℕ → List (Option checks.Damage)
+checks_from files image kind None = checks_after image kind
+checks_from files image kind (Some n) = checks_along image kind (all_files files) (files_left files kind) n ++ checks_after image kind
+
+-- the files of a type from the next one on
+abbrev pub links_from : BlockFiles → Image → ℕ → Option ℕ → List ℕ
+links_from files image kind None = []
+links_from files image kind (Some n) = files_along (next_file_in image) (files_left files kind) n
+
+-- where there is a next file of a type, there is room for it after so many
+abbrev pub HasRoom : ℕ → Option ℕ → Type 0
+HasRoom count None = Unit {0}
+HasRoom count (Some n) = count < most_files
+
+-- the files of all other types are as before
+abbrev pub KeepsOthers : BlockFiles → BlockFiles → ℕ → Type 0
+KeepsOthers old new kind = (other : ℕ) → other ≢ kind → files_of new other ≡ files_of old other
+
+-- the files of the types before one, and those of this type before the next, are taken up, and no check of them fails
+pub record Follows (files : BlockFiles) (image : Image) (kind : ℕ) (next : Option ℕ) : Type 0 where
+  pub met : linked_up_to image (kind - 1) ++ files_of files kind ≡ all_files files
+  pub before : (other : ℕ) → 0 < other → other < kind → files_of files other ≡ linked image other
+  pub after : (other : ℕ) → kind < other → files_of files other ≡ []
+  pub here : 0 < kind → linked image kind ≡ files_of files kind ++ links_from files image kind next
+  pub undamaged : first_of (block_checks image) ≡ first_of (checks_from files image kind next)
+  pub blocks : (n : ℕ) → is_among (all_files files) n ≡ true → blocks_of files n ≡ max_entries_in image n
+  pub lengths : (n : ℕ) → is_among (all_files files) n ≡ true → length_in files n ≡ length_of image (Block n)

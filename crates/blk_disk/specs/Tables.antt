@@ -1,0 +1,52 @@
+-- What is kept of the block files: the linked files of each type, and the blocks and the length of each.
+use Rattle.std.specs.Prelude.{ℕ, ◌≡◌, ◌≢◌, List, [], ◌∷◌, ◌++◌, Bool, false, true, slice_index, ◌==◌, if◌then◌else◌}
+use Rattle.blk_image.specs.Image.{Block, Image, length_of}
+use Rattle.blk_format.specs.Address.{rankings, blocks_256, blocks_1k, blocks_4k, is_block_kind}
+use Rattle.blk_format.specs.BlockFiles.{linked, max_entries_in, is_among, type_among}
+use Rattle.blk_format.specs.Standing.{stands_as_blocks}
+use Rattle.blk_disk.specs.declared.tables.BlockFiles.{BlockFiles}
+
+-- the linked files of a type, in the order of the links
+unfoldable pub files_of : BlockFiles → ℕ → List ℕ
+files_of files kind =
+    if kind == rankings then files.rankings.items else
+    if kind == blocks_256 then files.b256.items else
+    if kind == blocks_1k then files.b1k.items else
+    if kind == blocks_4k then files.b4k.items else
+    []
+
+-- the linked files of all types, type after type
+unfoldable pub all_files : BlockFiles → List ℕ
+all_files files = files_of files rankings ++ files_of files blocks_256 ++ files_of files blocks_1k ++ files_of files blocks_4k
+
+-- the number of blocks of a file
+unfoldable pub blocks_of : BlockFiles → ℕ → ℕ
+blocks_of files n = slice_index files.blocks n
+
+-- the length of a file in bytes
+unfoldable pub length_in : BlockFiles → ℕ → ℕ
+length_in files n = slice_index files.lengths n
+
+-- what is kept agrees with the headers and the lengths of the files
+pub record Agrees (files : BlockFiles) (image : Image) : Type 0 where
+  pub links : (kind : ℕ) → is_block_kind kind ≡ true → files_of files kind ≡ linked image kind
+  pub blocks : (n : ℕ) → is_among (all_files files) n ≡ true → blocks_of files n ≡ max_entries_in image n
+  pub lengths : (n : ℕ) → is_among (all_files files) n ≡ true → length_in files n ≡ length_of image (Block n)
+
+-- no file is kept
+pub record HoldsNone (files : BlockFiles) : Type 0 where
+  pub all : all_files files ≡ []
+  pub each : (kind : ℕ) → files_of files kind ≡ []
+
+-- file n, of so many blocks and so long, is the new last one of a type, and all else is as before
+pub record Joins (old new : BlockFiles) (kind n blocks size : ℕ) : Type 0 where
+  pub last : files_of new kind ≡ files_of old kind ++ n ∷ []
+  pub others : (other : ℕ) → other ≢ kind → files_of new other ≡ files_of old other
+  pub blocks_there : blocks_of new n ≡ blocks
+  pub size_there : length_in new n ≡ size
+  pub other_blocks : (other : ℕ) → other ≢ n → blocks_of new other ≡ blocks_of old other
+  pub other_lengths : (other : ℕ) → other ≢ n → length_in new other ≡ length_in old other
+
+-- a word is an address of blocks that are there: their file is linked and of its type, and all are below its number of blocks and end inside it
+abbrev pub stands_among : BlockFiles → ℕ → Bool
+stands_among files w = stands_as_blocks (type_among (files_of files)) (blocks_of files) (length_in files) (λ number. false) w

@@ -1,0 +1,67 @@
+// The bytes of blocks.
+ghost use Rattle.std.specs.Prelude.{◌≡◌, ◌+◌, ◌≤◌, IsTrue, None, length, OnOk, OnErr};
+ghost use Rattle.std.specs.Option.{ForSome};
+ghost use Rattle.blk_image.specs.Bytes.{range_at};
+ghost use Rattle.blk_image.specs.Image.{Block as block, byte};
+ghost use Rattle.blk_image.specs.Steps.{words};
+ghost use Rattle.blk_image.specs.Footprint.{SameOutside, range};
+ghost use Rattle.blk_image.specs.Told.{Grows, GrowsInPart, Passes, Rises, Stays};
+ghost use Rattle.blk_format.specs.Address.{file_selector, place, room};
+ghost use Rattle.blk_io.specs.Faults.{IfDamaged, IfDevice, IsShort};
+ghost use Rattle.blk_disk.specs.Tables.{Agrees, stands_among};
+
+use crate::names::file_of;
+use crate::standing::place_of;
+use crate::tables::BlockFiles;
+use blk_addr::Addr;
+use blk_io::{Failed, Fault, FileId, Folder, read_exact};
+
+impl BlockFiles {
+    /// Reads bytes of the blocks of an address, from a place among them on.
+    pub fn read_block<F: Folder>(
+        &self,
+        f: &mut F,
+        addr: Addr,
+        at: u32,
+        out: &mut [u8],
+    ) -> Result<(), Fault>
+        requires stands { IsTrue (stands_among self.now addr) }
+        requires inside { at + length out.old ≤ room addr }
+        requires agrees { ForSome (F.told f.old).files (Agrees self.now) }
+        ensures bytes { OnOk result (ForSome (F.told f.old).files (λ image. out.new ≡ range_at (byte image (block (file_selector addr))) (place addr + at) (length out.old))) }
+
+        // Too few bytes, which a folder that tells its files never gives.
+        ensures short { IfDamaged result (IsShort (F.told f.old) (FileId.Block (file_selector addr)) (place addr + at) (length out.old)) }
+        ensures untold { IfDamaged result (λ _. (F.told f.old).files ≡ None) }
+
+        ensures stays { Stays (F.told f.old) (F.told f.new) }
+        ensures later { F.faults f.old ≤ F.faults f.new }
+        ensures device { IfDevice result (Rises (F.faults f.old) (F.faults f.new)) }
+    {
+        read_exact(f, file_of(addr), place_of(addr) + u64::from(at), out)
+    }
+
+    /// Writes bytes over the blocks of an address, from a place among them on, one word after another.
+    pub fn write_block<F: Folder>(
+        &self,
+        f: &mut F,
+        addr: Addr,
+        at: u32,
+        bytes: &[u8],
+    ) -> Result<(), Failed>
+        requires stands { IsTrue (stands_among self.now addr) }
+        requires inside { at + length bytes.now ≤ room addr }
+        requires agrees { ForSome (F.told f.old).files (Agrees self.now) }
+        ensures whole { OnOk result (Grows (F.told f.old) (F.told f.new) (words (block (file_selector addr)) (place addr + at) bytes.now)) }
+        ensures part { GrowsInPart (F.told f.old) (F.told f.new) (words (block (file_selector addr)) (place addr + at) bytes.now) }
+
+        // At each word nothing else has changed.
+        ensures outside { ForSome (F.told f.old).files (λ from. Passes (F.told f.old) (F.told f.new) (SameOutside (range (block (file_selector addr)) (place addr + at) (length bytes.now)) from)) }
+        ensures agrees { ForSome (F.told f.new).files (Agrees self.now) }
+
+        ensures later { F.faults f.old ≤ F.faults f.new }
+        ensures failed { OnErr result (Rises (F.faults f.old) (F.faults f.new)) }
+    {
+        f.write_at(file_of(addr), place_of(addr) + u64::from(at), bytes)
+    }
+}

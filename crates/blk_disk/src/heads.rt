@@ -1,0 +1,172 @@
+// The headers of block files, read and checked.
+ghost use Rattle.std.specs.Prelude.{◌≡◌, ◌≢◌, ◌+◌, ◌-◌, ◌<◌, ◌≤◌, ◌∷◌, ◌++◌, [], length, IfOk};
+ghost use Rattle.std.specs.Option.{ForSome, option_map};
+ghost use Rattle.blk_image.specs.Bytes.{content, word_at};
+ghost use Rattle.blk_image.specs.Checks.{first_of};
+ghost use Rattle.blk_image.specs.Told.{Stays, Rises};
+ghost use Rattle.blk_format.specs.Address as address;
+ghost use Rattle.blk_format.specs.Address.{external};
+ghost use Rattle.blk_format.specs.BlockFiles as block_files;
+ghost use Rattle.blk_format.specs.BlockFiles.{file_checks, most_files};
+ghost use Rattle.blk_addr.specs.Kind.{kind_number};
+ghost use Rattle.blk_io.specs.Faults.{IfDevice, damage_of};
+ghost use Rattle.blk_disk.specs.Tables.{all_files, files_of};
+ghost use Rattle.blk_disk.specs.Loading.{HasRoom, Judges, ReadsAs, files_left, next_of};
+
+use crate::checks::{check, check_is, damage_at, first_failed};
+use crate::tables::{BlockFiles, MOST_FILES};
+use blk_addr::Kind;
+use blk_io::{Damage, Fault, FileId, Folder};
+use blk_record::BlockHead;
+
+// The bytes of the fields of a header, and of the whole header.
+const FIELDS_LEN: usize = 80;
+
+const HEADER_LEN: u64 = 8192;
+
+const MAGIC: u32 = 0xC104_CAC3;
+
+const VERSION: u32 = 0x20000;
+
+// The numbers that a link may have.
+const FIRST_LINK: u16 = 4;
+
+const LAST_LINK: u16 = 255;
+
+// A file grows by so many blocks, but for the last time.
+const GROWTH: u32 = 1024;
+
+const MOST_WHOLE_BLOCKS: u32 = 64512;
+
+const MOST_BLOCKS: u32 = 64896;
+
+// What the header of a block file says, and the length of the file.
+#[derive(Clone, Copy, Debug)]
+pub struct Head {
+    pub next: Option<u8>,
+    pub blocks: u32,
+    pub size: u64,
+}
+
+// The bytes of a block of a kind.
+#[tactic(auto, unfolding(blk_format::specs::Address::block_size))]
+pub(crate) fn block_size(kind: Kind) -> u32
+    requires { kind_number kind ≢ external }
+    ensures size { result ≡ address.block_size (kind_number kind) }
+    ensures most { result ≤ 4096 }
+{
+    match kind {
+        Kind::Rankings => 36,
+        Kind::B256 => 256,
+        Kind::B1K => 1024,
+        Kind::External | Kind::B4K => 4096,
+    }
+}
+
+// Whether a file may have so many blocks.
+#[tactic(auto, unfolding(blk_format::specs::BlockFiles::is_block_count))]
+fn is_block_count(blocks: u32) -> bool
+    ensures { result ≡ block_files.is_block_count blocks }
+{
+    (blocks % GROWTH == 0 && blocks <= MOST_WHOLE_BLOCKS) || blocks == MOST_BLOCKS
+}
+
+// The word of a header that has the numbers of the file and of the next one.
+fn numbers_word(head: &BlockHead<'_>) -> u32
+    ensures { result ≡ word_at (content head.now) 8 }
+{
+    u32::from(head.this_file()) + 0x1_0000 * u32::from(head.next_file())
+}
+
+impl BlockFiles {
+    // Reads and checks the header of the next file of a kind.
+    pub(crate) fn read_head<F: Folder>(&self, f: &mut F, kind: Kind, n: u8) -> Result<Head, Fault>
+        requires { kind_number kind ≢ external }
+        ensures room { IfOk result (λ head. HasRoom (length (files_of self.now (kind_number kind)) + 1) head.next) }
+        ensures read { ForSome (F.told f.old).files (λ image. ReadsAs self.now image (kind_number kind) n result) }
+        ensures stays { Stays (F.told f.old) (F.told f.new) }
+        ensures later { F.faults f.old ≤ F.faults f.new }
+        ensures device { IfDevice result (Rises (F.faults f.old) (F.faults f.new)) }
+    {
+        let mut window = [0u8; FIELDS_LEN];
+        let file = FileId::Block(n);
+        let given = f.read_at(file, 0, &mut window)?;
+        let size = f.length(file)?.unwrap_or(0);
+        let Some(head) = BlockHead::over(&window) else {
+            unreachable!();
+        };
+        self.judge(&head, kind, n, given, size)
+    }
+
+    // Checks a header, of which so many bytes were given, of a file of this length.
+    fn judge(
+        &self,
+        head: &BlockHead<'_>,
+        kind: Kind,
+        n: u8,
+        given: usize,
+        size: u64,
+    ) -> Result<Head, Fault>
+        requires { kind_number kind ≢ external }
+        ensures room { IfOk result (λ head. HasRoom (length (files_of self.now (kind_number kind)) + 1) head.next) }
+        ensures judged { Judges (first_of (file_checks (kind_number kind) (all_files self.now ++ n ∷ []) (files_left self.now (kind_number kind)) n (content head.now) size)) (content head.now) size given result }
+        ensures device { IfDevice result ⊥ }
+    {
+        if let Some(damage) = self.header_damage(head, kind, n, size) {
+            return Err(Fault::Damaged(damage));
+        }
+        if given < FIELDS_LEN {
+            return Err(Fault::Damaged(damage_at(n, 0, given as u32)));
+        }
+        let next = next_file(head.next_file());
+        let blocks = head.max_entries();
+        Ok(Head { next, blocks, size })
+    }
+
+    // The first check of a header that fails.
+    fn header_damage(&self, head: &BlockHead<'_>, kind: Kind, n: u8, size: u64) -> Option<Damage>
+        requires { kind_number kind ≢ external }
+        ensures { option_map damage_of result ≡ first_of (file_checks (kind_number kind) (all_files self.now ++ n ∷ []) (files_left self.now (kind_number kind)) n (content head.now) size) }
+    {
+        let low = (size % 0x1_0000_0000) as u32;
+        let numbers = numbers_word(head);
+        let blocks = head.max_entries();
+        first_failed(&[
+            check(n, HEADER_LEN, low, HEADER_LEN <= size),
+            check_is(n, 0, head.magic(), MAGIC),
+            check_is(n, 4, head.version(), VERSION),
+            check(n, 8, numbers, head.this_file() == u16::from(n)),
+            check(n, 8, numbers, self.is_link(kind, n, head.next_file())),
+            check_is(n, 12, head.entry_size(), block_size(kind)),
+            check(n, 20, blocks, is_block_count(blocks)),
+        ])
+    }
+
+    // Whether the next file of a file may be this one.
+    #[tactic(auto, unfolding(blk_format::specs::BlockFiles::is_link))]
+    fn is_link(&self, kind: Kind, n: u8, next: u16) -> bool
+        ensures { result ≡ block_files.is_link (all_files self.now ++ n ∷ []) (files_left self.now (kind_number kind)) next }
+    {
+        next == 0
+            || (FIRST_LINK <= next
+                && next <= LAST_LINK
+                && !self.is_met(n, next as u8)
+                && self.len(kind) + 1 < MOST_FILES)
+    }
+
+    // Whether a file is among those that are met with file n.
+    #[tactic(auto, using(crate::proofs::Among::is_among_more))]
+    fn is_met(&self, n: u8, file: u8) -> bool
+        ensures { result ≡ block_files.is_among (all_files self.now ++ n ∷ []) file }
+    {
+        self.has(file) || n == file
+    }
+}
+
+// The next file, by its number in a header.
+fn next_file(next: u16) -> Option<u8>
+    requires { next < 256 }
+    ensures { result ≡ next_of next }
+{
+    if next == 0 { None } else { Some(next as u8) }
+}

@@ -1,0 +1,13 @@
+//! The block files of a cache folder: their headers checked at the start, and their blocks.
+#![tactic(auto)]
+
+mod blocks;
+mod checks;
+mod heads;
+mod load;
+mod names;
+mod standing;
+mod tables;
+
+pub use names::file_of;
+pub use tables::BlockFiles;

@@ -1,0 +1,85 @@
+// The block files of a folder are taken up, one along the links after another.
+ghost use Rattle.std.specs.Prelude.{◌≡◌, ◌≢◌, ◌+◌, ◌-◌, ◌<◌, ◌≤◌, [], length, OnOk, IfOk, Some, None};
+ghost use Rattle.std.specs.Option.{ForSome};
+ghost use Rattle.blk_image.specs.Told.{Stays, Rises};
+ghost use Rattle.blk_format.specs.Address.{external};
+ghost use Rattle.blk_format.specs.BlockFiles.{first_block_damage, most_files};
+ghost use Rattle.blk_addr.specs.Kind.{kind_number};
+ghost use Rattle.blk_io.specs.Faults.{IfDamaged, IfDevice, damage_of};
+ghost use Rattle.blk_disk.specs.Tables.{files_of};
+ghost use Rattle.blk_disk.specs.Loading.{LoadsAs, Follows, HasRoom, KeepsOthers};
+
+use crate::tables::BlockFiles;
+use blk_addr::Kind;
+use blk_io::{Fault, Folder};
+
+impl BlockFiles {
+    /// Checks the headers of the block files, and takes them up.
+    ///
+    /// They are `data_0` to `data_3`, and after each the files along its links. A damage names the
+    /// first check that fails.
+    pub fn load<F: Folder>(f: &mut F) -> Result<BlockFiles, Fault>
+        ensures loaded { ForSome (F.told f.old).files (LoadsAs result) }
+        ensures stays { Stays (F.told f.old) (F.told f.new) }
+        ensures later { F.faults f.old ≤ F.faults f.new }
+        ensures device { IfDevice result (Rises (F.faults f.old) (F.faults f.new)) }
+    {
+        let mut files = BlockFiles::none();
+        files.follow(f, Kind::Rankings)?;
+        files.follow(f, Kind::B256)?;
+        files.follow(f, Kind::B1K)?;
+        files.follow(f, Kind::B4K)?;
+        Ok(files)
+    }
+
+    // Takes up the files of a kind. Those of the kinds before it are taken up already.
+    fn follow<F: Folder>(&mut self, f: &mut F, kind: Kind) -> Result<(), Fault>
+        requires of_blocks { kind_number kind ≢ external }
+        requires empty { files_of self.old (kind_number kind) ≡ [] }
+        requires begun { ForSome (F.told f.old).files (λ image. Follows self.old image (kind_number kind - 1) None) }
+        ensures followed { OnOk result (ForSome (F.told f.new).files (λ image. Follows self.new image (kind_number kind) None)) }
+        ensures others { OnOk result (KeepsOthers self.old self.new (kind_number kind)) }
+        ensures damaged { IfDamaged result (λ damage. ForSome (F.told f.old).files (λ image. first_block_damage image ≡ Some (damage_of damage))) }
+        ensures stays { Stays (F.told f.old) (F.told f.new) }
+        ensures later { F.faults f.old ≤ F.faults f.new }
+        ensures device { IfDevice result (Rises (F.faults f.old) (F.faults f.new)) }
+    {
+        let mut next = Some(first_file(kind));
+        while let Some(n) = next {
+            next = self.link(f, kind, n)?;
+        }
+        Ok(())
+    }
+
+    // Takes up the next file of a kind, and gives the one after it.
+    fn link<F: Folder>(&mut self, f: &mut F, kind: Kind, n: u8) -> Result<Option<u8>, Fault>
+        requires of_blocks { kind_number kind ≢ external }
+        requires room { length (files_of self.old (kind_number kind)) < most_files }
+        requires next { ForSome (F.told f.old).files (λ image. Follows self.old image (kind_number kind) (Some n)) }
+        ensures linked { IfOk result (λ next. ForSome (F.told f.new).files (λ image. Follows self.new image (kind_number kind) next)) }
+        ensures room { IfOk result (HasRoom (length (files_of self.new (kind_number kind)))) }
+        ensures longer { OnOk result (length (files_of self.new (kind_number kind)) ≡ length (files_of self.old (kind_number kind)) + 1) }
+        ensures others { OnOk result (KeepsOthers self.old self.new (kind_number kind)) }
+        ensures damaged { IfDamaged result (λ damage. ForSome (F.told f.old).files (λ image. first_block_damage image ≡ Some (damage_of damage))) }
+        ensures stays { Stays (F.told f.old) (F.told f.new) }
+        ensures later { F.faults f.old ≤ F.faults f.new }
+        ensures device { IfDevice result (Rises (F.faults f.old) (F.faults f.new)) }
+    {
+        let head = self.read_head(f, kind, n)?;
+        self.join(kind, n, head.blocks, head.size);
+        Ok(head.next)
+    }
+}
+
+// The first file of a kind.
+fn first_file(kind: Kind) -> u8
+    requires { kind_number kind ≢ external }
+    ensures { result ≡ kind_number kind - 1 }
+{
+    match kind {
+        Kind::External | Kind::Rankings => 0,
+        Kind::B256 => 1,
+        Kind::B1K => 2,
+        Kind::B4K => 3,
+    }
+}

@@ -1,0 +1,115 @@
+// What is kept of the block files.
+ghost use Rattle.std.specs.Prelude.{◌≡◌, ◌≢◌, ◌<◌, ◌≤◌, ◌+◌, [], ◌∷◌, ◌++◌, ◌==◌, length, IsTrue, Some, None, slice_get, if◌then◌else◌};
+ghost use Rattle.std.specs.Option.{option_map};
+ghost use Rattle.blk_format.specs.Address.{external};
+ghost use Rattle.blk_format.specs.BlockFiles.{is_among, type_among, most_files};
+ghost use Rattle.blk_addr.specs.Kind.{kind_number};
+
+use arrayvec::ArrayVec;
+use blk_addr::Kind;
+
+// The most files of one type.
+pub(crate) const MOST_FILES: usize = 60;
+
+// The numbers of block files.
+const NUMBERS: usize = 256;
+
+/// The linked block files: their numbers, by type and in the order of the links, and what is
+/// known of each.
+#[derive(Debug, Drop)]
+pub struct BlockFiles {
+    rankings: ArrayVec<u8, MOST_FILES>,
+    b256: ArrayVec<u8, MOST_FILES>,
+    b1k: ArrayVec<u8, MOST_FILES>,
+    b4k: ArrayVec<u8, MOST_FILES>,
+    // The number of blocks and the length in bytes of each linked file.
+    blocks: [u32; NUMBERS],
+    lengths: [u64; NUMBERS],
+    ghost all_blocks: { length blocks ≡ 256 },
+    ghost all_lengths: { length lengths ≡ 256 },
+}
+
+impl BlockFiles {
+    ghost use Rattle.blk_disk.specs.Tables.{all_files, blocks_of, files_of, length_in, HoldsNone, Joins};
+
+    // No files.
+    pub(crate) fn none() -> BlockFiles
+        ensures { HoldsNone result }
+    {
+        BlockFiles {
+            rankings: ArrayVec::new(),
+            b256: ArrayVec::new(),
+            b1k: ArrayVec::new(),
+            b4k: ArrayVec::new(),
+            blocks: [0; NUMBERS],
+            lengths: [0; NUMBERS],
+        }
+    }
+
+    // The numbers of the files of a kind.
+    #[tactic(auto, unfolding(crate::specs::Tables::files_of))]
+    pub(crate) fn files(&self, kind: Kind) -> &[u8]
+        ensures files { result.now ≡ files_of self.now (kind_number kind) }
+        ensures most { length result.now ≤ most_files }
+    {
+        match kind {
+            Kind::External => &[],
+            Kind::Rankings => self.rankings.as_slice(),
+            Kind::B256 => self.b256.as_slice(),
+            Kind::B1K => self.b1k.as_slice(),
+            Kind::B4K => self.b4k.as_slice(),
+        }
+    }
+
+    // Whether a file is linked.
+    #[tactic(auto, using(crate::proofs::Among::all_files_among))]
+    pub(crate) fn has(&self, file: u8) -> bool
+        ensures { result ≡ is_among (all_files self.now) file }
+    {
+        self.rankings.as_slice().contains(&file)
+            || self.b256.as_slice().contains(&file)
+            || self.b1k.as_slice().contains(&file)
+            || self.b4k.as_slice().contains(&file)
+    }
+
+    // The number of linked files of a kind, as a size.
+    pub(crate) fn len(&self, kind: Kind) -> usize
+        ensures most { result ≤ most_files }
+        ensures len { result ≡ length (files_of self.now (kind_number kind)) }
+    {
+        self.files(kind).len()
+    }
+
+    // The number of blocks of a linked file.
+    #[tactic(auto, unfolding(crate::specs::Tables::blocks_of))]
+    pub(crate) fn blocks(&self, file: u8) -> u32
+        ensures { result ≡ blocks_of self.now file }
+    {
+        self.blocks[usize::from(file)]
+    }
+
+    // The length of a linked file in bytes.
+    #[tactic(auto, unfolding(crate::specs::Tables::length_in))]
+    pub(crate) fn length(&self, file: u8) -> u64
+        ensures { result ≡ length_in self.now file }
+    {
+        self.lengths[usize::from(file)]
+    }
+
+    // Takes up a file as the last one of its type.
+    pub(crate) fn join(&mut self, kind: Kind, file: u8, blocks: u32, size: u64)
+        requires of_blocks { kind_number kind ≢ external }
+        requires room { length (files_of self.old (kind_number kind)) < most_files }
+        ensures { Joins self.old self.new (kind_number kind) file blocks size }
+    {
+        self.blocks[usize::from(file)] = blocks;
+        self.lengths[usize::from(file)] = size;
+        match kind {
+            Kind::External => unreachable!(),
+            Kind::Rankings => self.rankings.push(file),
+            Kind::B256 => self.b256.push(file),
+            Kind::B1K => self.b1k.push(file),
+            Kind::B4K => self.b4k.push(file),
+        }
+    }
+}
