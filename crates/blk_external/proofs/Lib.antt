@@ -1,0 +1,6 @@
+pub mod Words
+pub mod Searches
+pub mod Listed
+pub mod Makings
+mod Writings
+mod Carried

@@ -1,0 +1,99 @@
+// The bytes of an external file.
+ghost use Rattle.std.specs.Prelude.{◌≡◌, ◌≤◌, [], ◌∷◌, None, Some, length, OnOk, OnErr};
+ghost use Rattle.std.specs.Option.{ForSome};
+ghost use Rattle.blk_image.specs.Bytes.{range_at, spliced, resized};
+ghost use Rattle.blk_image.specs.Image.{HasRange, bytes_of, byte};
+ghost use Rattle.blk_image.specs.Steps.{SetLength, Delete, words};
+ghost use Rattle.blk_image.specs.Told.{Grows, GrowsInPart, Stays, PassesTo, Rises};
+ghost use Rattle.blk_image.specs.Footprint.{SameOutside, range, whole};
+ghost use Rattle.blk_format.specs.Address.{kind_of, external, external_number};
+ghost use Rattle.blk_io.specs.FileNames.{file_of};
+ghost use Rattle.blk_io.specs.Faults.{IfDamaged, IfDevice};
+ghost use Rattle.blk_external.specs.Numbers.{named_file};
+ghost use Rattle.blk_external.specs.Reading.{IsFew};
+
+use blk_addr::Addr;
+use blk_io::{Damage, Failed, Fault, FileId, Folder};
+
+/// Reads bytes from a place on into the whole of `out`.
+///
+/// Too few bytes are a damage, which only a folder that tells nothing gives. It has the place of the
+/// read, and finds how many bytes there were, modulo 2^32.
+pub fn read<F: Folder>(f: &mut F, addr: Addr, at: u64, out: &mut [u8]) -> Result<(), Fault>
+    requires kind { kind_of addr ≡ external }
+    requires inside { ForSome (F.told f.old).files (λ image. HasRange image (named_file addr) at (length out.old)) }
+    ensures bytes { OnOk result (ForSome (F.told f.old).files (λ image. out.new ≡ range_at (byte image (named_file addr)) at (length out.old))) }
+    ensures few { IfDamaged result (IsFew (F.told f.old) (external_number addr) at (length out.old)) }
+    ensures untold { IfDamaged result (λ _. (F.told f.old).files ≡ None) }
+    ensures stays { Stays (F.told f.old) (F.told f.new) }
+    ensures later { F.faults f.old ≤ F.faults f.new }
+    ensures device { IfDevice result (Rises (F.faults f.old) (F.faults f.new)) }
+{
+    let file = name_of(addr);
+    let given = f.read_at(file, at, out)?;
+    if given < out.len() {
+        let found = (given % 0x1_0000_0000) as u32;
+        return Err(Fault::Damaged(Damage { file, at, found }));
+    }
+    Ok(())
+}
+
+/// Writes over bytes from a place on, one word after another.
+pub fn write<F: Folder>(f: &mut F, addr: Addr, at: u64, bytes: &[u8]) -> Result<(), Failed>
+    requires kind { kind_of addr ≡ external }
+    requires inside { ForSome (F.told f.old).files (λ image. HasRange image (named_file addr) at (length bytes.now)) }
+    ensures whole { OnOk result (Grows (F.told f.old) (F.told f.new) (words (named_file addr) at bytes.now)) }
+    ensures file { OnOk result (ForSome (F.told f.old).files (λ from. ForSome (F.told f.new).files (λ image. bytes_of image (named_file addr) ≡ spliced at bytes.now (bytes_of from (named_file addr))))) }
+
+    // Whatever the answer: a front of the words, and at each moment all other bytes as before.
+    ensures part { GrowsInPart (F.told f.old) (F.told f.new) (words (named_file addr) at bytes.now) }
+    ensures stops { ForSome (F.told f.old).files (λ from. PassesTo (F.told f.old) (F.told f.new) (SameOutside (range (named_file addr) at (length bytes.now)) from) (SameOutside (range (named_file addr) at (length bytes.now)) from)) }
+
+    ensures later { F.faults f.old ≤ F.faults f.new }
+    ensures failed { OnErr result (Rises (F.faults f.old) (F.faults f.new)) }
+{
+    f.write_at(name_of(addr), at, bytes)
+}
+
+/// Gives the file this length, and makes it where there is none. New bytes are 0.
+pub fn resize<F: Folder>(f: &mut F, addr: Addr, length: u64) -> Result<(), Failed>
+    requires kind { kind_of addr ≡ external }
+    ensures done { OnOk result (Grows (F.told f.old) (F.told f.new) (SetLength (named_file addr) length ∷ [])) }
+    ensures undone { OnErr result (Stays (F.told f.old) (F.told f.new)) }
+    ensures file { OnOk result (ForSome (F.told f.old).files (λ from. ForSome (F.told f.new).files (λ image. image (named_file addr) ≡ Some (resized length (bytes_of from (named_file addr)))))) }
+
+    // At each moment all other files are as before.
+    ensures stops { ForSome (F.told f.old).files (λ from. PassesTo (F.told f.old) (F.told f.new) (SameOutside (whole (named_file addr)) from) (SameOutside (whole (named_file addr)) from)) }
+
+    ensures later { F.faults f.old ≤ F.faults f.new }
+    ensures failed { OnErr result (Rises (F.faults f.old) (F.faults f.new)) }
+{
+    f.set_len(name_of(addr), length)
+}
+
+/// Removes the file, if it is there.
+pub fn delete<F: Folder>(f: &mut F, addr: Addr) -> Result<(), Failed>
+    requires kind { kind_of addr ≡ external }
+    ensures done { OnOk result (Grows (F.told f.old) (F.told f.new) (Delete (named_file addr) ∷ [])) }
+    ensures undone { OnErr result (Stays (F.told f.old) (F.told f.new)) }
+    ensures file { OnOk result (ForSome (F.told f.new).files (λ image. image (named_file addr) ≡ None)) }
+
+    // At each moment all other files are as before.
+    ensures stops { ForSome (F.told f.old).files (λ from. PassesTo (F.told f.old) (F.told f.new) (SameOutside (whole (named_file addr)) from) (SameOutside (whole (named_file addr)) from)) }
+
+    ensures later { F.faults f.old ≤ F.faults f.new }
+    ensures failed { OnErr result (Rises (F.faults f.old) (F.faults f.new)) }
+{
+    f.delete(name_of(addr))
+}
+
+// The name of an external file.
+pub(crate) fn name_of(addr: Addr) -> FileId
+    requires { kind_of addr ≡ external }
+    ensures { file_of result ≡ named_file addr }
+{
+    match addr.file() {
+        blk_addr::FileId::External(number) => FileId::External(number),
+        _ => unreachable!(),
+    }
+}

@@ -1,0 +1,118 @@
+// An external file is made, with the first free number.
+ghost use Rattle.std.specs.Prelude.{◌≡◌, ◌⊎◌, ◌+◌, ◌≤◌, ◌<◌, None, OnOk, OnErr, IfOk};
+ghost use Rattle.std.specs.Option.{ForSome};
+ghost use Rattle.blk_image.specs.Image.{Index as index, length_of};
+ghost use Rattle.blk_image.specs.Told.{Grows, GrowsInPart, Stays, PassesTo, Rises};
+ghost use Rattle.blk_format.specs.Address.{kind_of, external, external_number};
+ghost use Rattle.blk_format.specs.Headers.{index_length};
+ghost use Rattle.blk_io.specs.Faults.{IfDamaged, IfDevice, IsShort};
+ghost use Rattle.blk_external.specs.Numbers.{IsNumber, HasFreeNumber, IsFirstFree, IsSearched, IsLeastFree, most_number};
+ghost use Rattle.blk_external.specs.Making.{making, last_number, last_file_place, MakesInPart, IsMaking, IsMade, IsFull};
+
+use blk_addr::Addr;
+use blk_io::{Damage, Failed, Fault, FileId, Folder, read_word, write_word};
+
+const MOST_NUMBER: u32 = 0x0FFF_FFFF;
+
+const LAST_FILE: u64 = 16;
+
+const EXTERNAL: u32 = 0x8000_0000;
+
+/// Makes an empty file with the first free number after the last one, and writes that number to the index.
+///
+/// The search takes the numbers above the last one in rising order and then goes on at 1. So it begins
+/// at 1 where the index has 0, the largest number or a word that is no number. A damage is a read that
+/// gave too few bytes of the last number, or that no number is free; both need a folder that tells nothing.
+/// Where the next number is free, two folder calls find it.
+pub fn create<F: Folder>(f: &mut F) -> Result<Addr, Fault>
+    requires free { ForSome (F.told f.old).files HasFreeNumber }
+    requires whole { ForSome (F.told f.old).files (λ image. length_of image index ≡ index_length) }
+    ensures kind { IfOk result (λ addr. kind_of addr ≡ external) }
+    ensures number { IfOk result (λ addr. IsNumber (external_number addr)) }
+    ensures first { IfOk result (λ addr. ForSome (F.told f.old).files (λ image. IsFirstFree image (last_number image) (external_number addr))) }
+    ensures steps { IfOk result (λ addr. Grows (F.told f.old) (F.told f.new) (making (external_number addr))) }
+    ensures made { IfOk result (λ addr. ForSome (F.told f.new).files (λ image. IsMade image (external_number addr))) }
+
+    // Whatever the answer: a front of the steps, at each moment all else as before, and the index as long as it was.
+    ensures part { MakesInPart (F.told f.old) (F.told f.new) }
+    ensures stops { ForSome (F.told f.old).files (λ from. PassesTo (F.told f.old) (F.told f.new) (IsMaking from) (IsMaking from)) }
+    ensures whole { ForSome (F.told f.new).files (λ image. length_of image index ≡ index_length) }
+
+    ensures damaged { IfDamaged result (λ damage. IsShort (F.told f.old) FileId.Index last_file_place 4 damage ⊎ IsFull (F.told f.old) damage) }
+    ensures untold { IfDamaged result (λ _. (F.told f.old).files ≡ None) }
+    ensures later { F.faults f.old ≤ F.faults f.new }
+    ensures device { IfDevice result (Rises (F.faults f.old) (F.faults f.new)) }
+{
+    let last = read_word(f, FileId::Index, LAST_FILE)?;
+    let Some(number) = first_free(f, last)? else {
+        return Err(Fault::Damaged(full(last)));
+    };
+    make(f, number)?;
+    Ok(address_of(number))
+}
+
+// No number is free.
+fn full(last: u32) -> Damage
+    ensures { result ≡ record { file = FileId.Index; at = last_file_place; found = last } }
+{
+    Damage {
+        file: FileId::Index,
+        at: LAST_FILE,
+        found: last,
+    }
+}
+
+// The first free number after the last one.
+fn first_free<F: Folder>(f: &mut F, last: u32) -> Result<Option<u32>, Failed>
+    ensures number { IfOk result (λ found. ForSome found IsNumber) }
+    ensures first { IfOk result (λ found. ForSome (F.told f.old).files (λ image. IsSearched image last found)) }
+    ensures stays { Stays (F.told f.old) (F.told f.new) }
+    ensures later { F.faults f.old ≤ F.faults f.new }
+    ensures failed { OnErr result (Rises (F.faults f.old) (F.faults f.new)) }
+{
+    let end = last.min(MOST_NUMBER) + 1;
+    match least_free(f, end, MOST_NUMBER + 1)? {
+        Some(number) => Ok(Some(number)),
+        None => least_free(f, 1, end),
+    }
+}
+
+// The least free number from one on and below another.
+fn least_free<F: Folder>(f: &mut F, low: u32, end: u32) -> Result<Option<u32>, Failed>
+    ensures within { IfOk result (λ found. ForSome found (λ n. (low ≤ n) × (n < end))) }
+    ensures least { IfOk result (λ found. ForSome (F.told f.old).files (λ image. IsLeastFree image low end found)) }
+    ensures stays { Stays (F.told f.old) (F.told f.new) }
+    ensures later { F.faults f.old ≤ F.faults f.new }
+    ensures failed { OnErr result (Rises (F.faults f.old) (F.faults f.new)) }
+{
+    for number in low..end {
+        if f.length(FileId::External(number))?.is_none() {
+            return Ok(Some(number));
+        }
+    }
+    Ok(None)
+}
+
+// Makes the file of a number.
+fn make<F: Folder>(f: &mut F, number: u32) -> Result<(), Failed>
+    requires { ForSome (F.told f.old).files (λ image. length_of image index ≡ index_length) }
+    ensures whole { OnOk result (Grows (F.told f.old) (F.told f.new) (making number)) }
+    ensures part { GrowsInPart (F.told f.old) (F.told f.new) (making number) }
+    ensures later { F.faults f.old ≤ F.faults f.new }
+    ensures failed { OnErr result (Rises (F.faults f.old) (F.faults f.new)) }
+{
+    f.set_len(FileId::External(number), 0)?;
+    write_word(f, FileId::Index, LAST_FILE, number)
+}
+
+// The address of a number.
+fn address_of(number: u32) -> Addr
+    requires { IsNumber number }
+    ensures kind { kind_of result ≡ external }
+    ensures number { external_number result ≡ number }
+{
+    match Addr::from_word(EXTERNAL + number) {
+        Some(addr) => addr,
+        None => unreachable!(),
+    }
+}
