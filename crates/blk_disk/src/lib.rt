@@ -11,3 +11,6 @@ mod tables;
 
 pub use names::file_of;
 pub use tables::BlockFiles;
+
+#[cfg(test)]
+mod tests;

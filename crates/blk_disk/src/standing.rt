@@ -1,5 +1,5 @@
 // Addresses that stand in the linked block files.
-ghost use Rattle.std.specs.Prelude.{◌≡◌, ◌≢◌, ◌+◌, ◌*◌, ◌^◌, ◌<◌, ◌==◌, Some, None, length, slice_get, if◌then◌else◌};
+ghost use Rattle.std.specs.Prelude.{IsTrue, ◌≡◌, ◌≢◌, ◌+◌, ◌*◌, ◌^◌, ◌<◌, ◌==◌, Some, None, length, slice_get, if◌then◌else◌};
 ghost use Rattle.std.specs.Option.{option_map};
 ghost use Rattle.blk_image.specs.Image.{Image};
 ghost use Rattle.blk_format.specs.Address as address;
@@ -63,6 +63,7 @@ impl BlockFiles {
     /// and all are below its number of blocks and end inside it.
     pub fn stands(&self, addr: Addr) -> bool
         ensures among { result ≡ stands_among self.now addr }
+        ensures of_blocks { IsTrue result → kind_of addr ≢ external }
         ensures in_folder { (image : Image) → Agrees self.now image → result ≡ stands_in_blocks image addr }
     {
         let FileId::Block(file) = addr.file() else {
