@@ -3,6 +3,7 @@
 
 mod blocks;
 mod checks;
+mod growth;
 mod heads;
 mod load;
 mod names;
