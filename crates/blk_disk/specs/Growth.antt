@@ -1,5 +1,5 @@
 -- How block files get longer.
-use Rattle.std.specs.Prelude.{ℕ, ◌+◌, ◌*◌, List, [], ◌∷◌, max, nat_lt, if◌then◌else◌, None, Some}
+use Rattle.std.specs.Prelude.{ℕ, ◌+◌, ◌*◌, List, [], ◌∷◌, nat_lt, if◌then◌else◌, None, Some}
 use Rattle.std.specs.declared.option.Option.{Option}
 use Rattle.blk_image.specs.Image.{Block}
 use Rattle.blk_image.specs.Steps.{TrailStep, SetLength}

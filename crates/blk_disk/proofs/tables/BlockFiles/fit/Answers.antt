@@ -1,4 +1,4 @@
-use Rattle.std.proofs.Common.{◌≡◌, ◌<◌, ◌≤◌, arith}
+use Rattle.std.proofs.Common.{◌≡◌, ◌≤◌, arith}
 use Rattle.blk_image.specs.Image.{Block, length_of}
 use Rattle.blk_image.proofs.Runs.{told_whole}
 use Rattle.blk_disk.specs.Tables.{Agrees, length_in}

@@ -1,4 +1,4 @@
-use Rattle.std.proofs.Common.{◌≡◌, ◌<◌, length, refl, arith}
+use Rattle.std.proofs.Common.{◌<◌, length, refl, arith}
 use Rattle.blk_disk.specs.Tables.{all_files, blocks_of, files_of, length_in}
 use Rattle.blk_disk.proofs.Joining.{there, elsewhere}
 use Rattle.blk_disk.proofs.tables.BlockFiles.set_length.Goals as goal
