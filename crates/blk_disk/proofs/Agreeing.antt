@@ -1,15 +1,17 @@
 -- What is kept of the block files goes on agreeing with them, where no header and no length changes.
-use Rattle.std.proofs.Common.{◌≡◌, ◌≢◌, ℕ, ◌+◌, ◌-◌, ◌*◌, ◌^◌, ◌<◌, ◌≤◌, Bool, true, false, ◌&&◌, List, length, refl, sym, ◌∙◌, ap, arith}
+use Rattle.std.proofs.Common.{◌≡◌, ◌≢◌, ℕ, ◌+◌, ◌-◌, ◌*◌, ◌<◌, ◌≤◌, Bool, true, false, ◌&&◌, List, refl, sym, ⊎_elim, ◌∙◌, ap, arith}
 use Rattle.std.specs.Prelude.{nat_le, nat_lt}
 use Rattle.std.proofs.lemmas.Bool.Decides.{nat_tests}
-use Rattle.blk_image.specs.Bytes.{half_at, word_at}
 use Rattle.blk_image.specs.Image.{File, Block, Image, byte, length_of, same_file}
-use Rattle.blk_image.specs.Footprint.{Footprint, SameOutside, range}
-use Rattle.blk_format.specs.Headers.{next_file_of, max_entries_of}
+use Rattle.blk_image.specs.Footprint.{Footprint, SameOutside, range, size_of}
+use Rattle.blk_image.specs.Steps.{applied, SetLength}
+use Rattle.blk_image.proofs.Images.{length-after_set_len}
+use Rattle.blk_image.proofs.Footprints.{outside_longer}
+use Rattle.std.proofs.lemmas.Bool.{cases_eq}
 use Rattle.blk_format.specs.Address.{place, block_place}
-use Rattle.blk_format.specs.BlockFiles.{linked, files_along, next_file_in, max_entries_in}
+use Rattle.blk_format.specs.BlockFiles.{is_among, linked, files_along, next_file_in, max_entries_in}
 use Rattle.blk_disk.specs.declared.tables.BlockFiles.{BlockFiles}
-use Rattle.blk_disk.specs.Tables.{Agrees}
+use Rattle.blk_disk.specs.Tables.{Agrees, Resizes, all_files, length_in}
 
 -- no byte of a header is in a footprint
 pub record SparesHeaders (F : Footprint) : Type 0 where
@@ -49,3 +51,30 @@ blocks_spare file w at n = record { bytes = λ m i small. before (same_file file
     before : (t : Bool) (from i : ℕ) → i < from → (t && (nat_le from i && nat_lt i (from + n))) ≡ false
     before true from i below = grind (arith, nat_tests)
     before false from i below = refl
+
+-- a file of another number
+other_file : (n m : ℕ) → m ≢ n → same_file (Block n) (Block m) ≡ false
+other_file n m differs = grind (arith, nat_tests)
+
+sizes_spare : (file : File) → SparesHeaders (size_of file)
+sizes_spare file = record { bytes = λ n i small. refl }
+
+-- a file that gets longer, where its new length is kept
+pub agrees_longer : (old new : BlockFiles) (image : Image) (n size : ℕ) → length_of image (Block n) ≤ size → Resizes old new n size → Agrees old image → Agrees new (applied (SetLength (Block n) size) image)
+agrees_longer old new image n size longer resizes agrees = record {
+  links = λ kind holds. resizes.files kind ∙ agrees.links kind holds ∙ sym (linked_same (size_of (Block n)) image (applied (SetLength (Block n) size) image) (sizes_spare (Block n)) same kind);
+  blocks = λ m among. resizes.blocks m ∙ agrees.blocks m (before m among) ∙ sym (blocks_same (size_of (Block n)) image (applied (SetLength (Block n) size) image) (sizes_spare (Block n)) same m);
+  lengths =
+      λ m among. ⊎_elim (λ e. ap (length_in new) e ∙ resizes.size_there ∙ sym (length-after_set_len image (Block n) size) ∙ ap (λ (k : ℕ). length_of (applied (SetLength (Block n) size) image) (Block k)) (sym e))
+      (λ differs. resizes.other_lengths m differs ∙ agrees.lengths m (before m among) ∙ sym (same.lengths (Block m) (other_file n m differs))) (cases_eq m n);
+}
+  where
+    same : SameOutside (size_of (Block n)) image (applied (SetLength (Block n) size) image)
+    same = outside_longer (Block n) size image longer
+
+    before : (m : ℕ) → is_among (all_files new) m ≡ true → is_among (all_files old) m ≡ true
+    before m among = ap (λ (l : List ℕ). is_among l m) (sym resizes.all) ∙ among
+
+-- a length that stays
+pub resizes_none : (files : BlockFiles) (n size : ℕ) → length_in files n ≡ size → Resizes files files n size
+resizes_none files n size e = record { files = λ kind. refl; all = refl; blocks = λ m. refl; size_there = e; other_lengths = λ other differs. refl }

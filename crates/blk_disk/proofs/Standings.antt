@@ -1,6 +1,6 @@
 -- Addresses of blocks, and the files in which they are.
-use Rattle.std.proofs.Common.{◌≡◌, ◌≢◌, ℕ, ◌+◌, ◌*◌, ◌^◌, ◌<◌, ◌≤◌, Bool, true, false, ◌&&◌, if◌then◌else◌, List, refl, sym, ◌∙◌, ap, ap₂, arith}
-use Rattle.std.specs.Prelude.{◌==◌, nat_le, None, Some}
+use Rattle.std.proofs.Common.{◌≡◌, ◌≢◌, ℕ, ◌+◌, ◌*◌, ◌<◌, ◌≤◌, Bool, true, false, if◌then◌else◌, List, refl, ◌∙◌, ap, ap₂, arith}
+use Rattle.std.specs.Prelude.{◌==◌, None, Some}
 use Rattle.std.proofs.lemmas.Bool.Decides.{nat_tests}
 use Rattle.std.proofs.Math.Nat.{mul-le-mul}
 use Rattle.blk_format.specs.Address.{kind_of, file_selector, external_number, external, first_block, block_count, block_size, block_place, place, room}
@@ -9,7 +9,7 @@ use Rattle.blk_format.specs.BlockFiles.{type_among, is_among}
 use Rattle.blk_format.specs.Standing.{is_linked_as, stands_as_blocks}
 use Rattle.blk_addr.specs.FileId.{file_of_word}
 use Rattle.blk_addr.specs.declared.file_id.FileId.{FileId}
-use Rattle.blk_addr.specs.declared.file_id.FileId.TheVariants.{Index, Block, External}
+use Rattle.blk_addr.specs.declared.file_id.FileId.TheVariants.{Block, External}
 use Rattle.blk_disk.specs.declared.tables.BlockFiles.{BlockFiles}
 use Rattle.blk_disk.specs.Tables.{stands_among, files_of}
 

@@ -1,12 +1,11 @@
 -- The first bytes of a block file, in a window that had zeros.
-use Rattle.std.proofs.Common.{◌≡◌, ℕ, ◌+◌, ◌-◌, ◌%◌, ◌^◌, ◌<◌, ◌≤◌, ◌==◌, nat_lt, min, Bool, true, false, if◌then◌else◌, List, [], ◌∷◌, ◌++◌, length, take, drop, get_or, None, Some, unwrap_or, Result, Ok, Err, refl, sym, ◌∙◌, ap, subst, arith, ◌⊎◌, inl, inr, ⊎_elim, get_or-take}
-use Rattle.std.proofs.lemmas.Bool.{cases_lt, leb-true}
+use Rattle.std.proofs.Common.{◌≡◌, ℕ, ◌+◌, ◌-◌, ◌<◌, ◌≤◌, nat_lt, min, Bool, true, false, if◌then◌else◌, List, [], ◌∷◌, ◌++◌, length, None, Some, unwrap_or, Result, refl, sym, ◌∙◌, ap, subst, arith, ⊎_elim, get_or-take}
+use Rattle.std.proofs.lemmas.Bool.{cases_lt}
 use Rattle.std.proofs.lemmas.Bool.Decides.{nat_tests}
 use Rattle.std.proofs.lemmas.List.{get_or-drop, get_or_past}
 use Rattle.std.specs.Option.{option_map}
-use Rattle.std.specs.Prelude.{nat_le}
 use Rattle.std.specs.declared.option.Option.{Option}
-use Rattle.blk_image.specs.Bytes.{content, range_at, zeros, word_at}
+use Rattle.blk_image.specs.Bytes.{content, zeros}
 use Rattle.blk_image.specs.Image.{File, Block, Image, byte, length_of}
 use Rattle.blk_image.specs.Checks as checks
 use Rattle.blk_image.specs.Checks.{first_of}

@@ -50,3 +50,11 @@ pub record Joins (old new : BlockFiles) (kind n blocks size : ℕ) : Type 0 wher
 -- a word is an address of blocks that are there: their file is linked and of its type, and all are below its number of blocks and end inside it
 abbrev pub stands_among : BlockFiles → ℕ → Bool
 stands_among files w = stands_as_blocks (type_among (files_of files)) (blocks_of files) (length_in files) (λ number. false) w
+
+-- a file has this length now, and all else is as before
+pub record Resizes (old new : BlockFiles) (n size : ℕ) : Type 0 where
+  pub files : (kind : ℕ) → files_of new kind ≡ files_of old kind
+  pub all : all_files new ≡ all_files old
+  pub blocks : (m : ℕ) → blocks_of new m ≡ blocks_of old m
+  pub size_there : length_in new n ≡ size
+  pub other_lengths : (other : ℕ) → other ≢ n → length_in new other ≡ length_in old other

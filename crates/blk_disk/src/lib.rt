@@ -3,6 +3,7 @@
 
 mod blocks;
 mod checks;
+mod growth;
 mod heads;
 mod load;
 mod names;
@@ -11,3 +12,6 @@ mod tables;
 
 pub use names::file_of;
 pub use tables::BlockFiles;
+
+#[cfg(test)]
+mod tests;

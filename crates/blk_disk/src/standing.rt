@@ -1,5 +1,5 @@
 // Addresses that stand in the linked block files.
-ghost use Rattle.std.specs.Prelude.{◌≡◌, ◌≢◌, ◌+◌, ◌*◌, ◌^◌, ◌<◌, ◌==◌, Some, None, length, slice_get, if◌then◌else◌};
+ghost use Rattle.std.specs.Prelude.{IfSome, IsTrue, ◌≡◌, ◌≢◌, ◌+◌, ◌*◌, ◌^◌, ◌<◌, ◌==◌, Some, None, length, slice_get, if◌then◌else◌};
 ghost use Rattle.std.specs.Option.{option_map};
 ghost use Rattle.blk_image.specs.Image.{Image};
 ghost use Rattle.blk_format.specs.Address as address;
@@ -63,6 +63,7 @@ impl BlockFiles {
     /// and all are below its number of blocks and end inside it.
     pub fn stands(&self, addr: Addr) -> bool
         ensures among { result ≡ stands_among self.now addr }
+        ensures of_blocks { IsTrue result → kind_of addr ≢ external }
         ensures in_folder { (image : Image) → Agrees self.now image → result ≡ stands_in_blocks image addr }
     {
         let FileId::Block(file) = addr.file() else {
@@ -96,8 +97,9 @@ impl BlockFiles {
 
     // The kind as which a file is linked.
     #[tactic(auto, unfolding(blk_format::specs::BlockFiles::type_among))]
-    fn linked_as(&self, file: u8) -> Option<Kind>
-        ensures { option_map kind_number result ≡ type_among (files_of self.now) file }
+    pub(crate) fn linked_as(&self, file: u8) -> Option<Kind>
+        ensures of_blocks { IfSome result (λ kind. kind_number kind ≢ external) }
+        ensures kind { option_map kind_number result ≡ type_among (files_of self.now) file }
     {
         if self.has_in(Kind::Rankings, file) {
             Some(Kind::Rankings)

@@ -30,7 +30,7 @@ pub struct BlockFiles {
 }
 
 impl BlockFiles {
-    ghost use Rattle.blk_disk.specs.Tables.{all_files, blocks_of, files_of, length_in, HoldsNone, Joins};
+    ghost use Rattle.blk_disk.specs.Tables.{all_files, blocks_of, files_of, length_in, HoldsNone, Joins, Resizes};
 
     // No files.
     pub(crate) fn none() -> BlockFiles
@@ -94,6 +94,13 @@ impl BlockFiles {
         ensures { result ≡ length_in self.now file }
     {
         self.lengths[usize::from(file)]
+    }
+
+    // Keeps that a file has so many bytes.
+    pub(crate) fn set_length(&mut self, file: u8, size: u64)
+        ensures { Resizes self.old self.new file size }
+    {
+        self.lengths[usize::from(file)] = size;
     }
 
     // Takes up a file as the last one of its type.

@@ -1,8 +1,7 @@
-use Rattle.std.proofs.Common.{◌≡◌, ◌<◌, ◌≤◌, ◌-◌, ◌∙◌, ℕ, length, None, Some, refl, sym, ap, subst, arith, List}
+use Rattle.std.proofs.Common.{ℕ, length, Some, refl, sym, ap, subst, arith, List}
 use Rattle.std.specs.declared.option.Option.{Option}
 use Rattle.blk_addr.specs.Kind.{kind_number}
-use Rattle.blk_disk.specs.Tables.{files_of}
-use Rattle.blk_disk.specs.Loading.{Follows, HasRoom}
+use Rattle.blk_disk.specs.Loading.{Follows}
 use Rattle.blk_disk.proofs.Following.{follows_kind}
 use Rattle.blk_disk.proofs.tables.BlockFiles.follow.Goals as goal
 

@@ -1,4 +1,4 @@
-use Rattle.std.proofs.Common.{◌≡◌, ◌≢◌, ◌-◌, ◌≤◌, length}
+use Rattle.std.proofs.Common.{◌-◌, ◌≤◌, length}
 use Rattle.std.specs.Option.{ForSome}
 use Rattle.blk_addr.specs.Kind.{kind_number}
 use Rattle.blk_image.specs.Told.{Stays}

@@ -1,8 +1,7 @@
-use Rattle.std.proofs.Common.{◌≡◌, ◌<◌, ◌++◌, ◌∷◌, [], ℕ, length, subst, arith, List, lit<, sym, refl}
-use Rattle.blk_format.specs.BlockFiles.{most_files}
+use Rattle.std.proofs.Common.{◌<◌, length, subst, lit<, refl}
 use Rattle.blk_addr.specs.Kind.{kind_number}
 use Rattle.blk_addr.specs.declared.kinds.Kind.{Kind}
-use Rattle.blk_disk.specs.Tables.{files_of, Joins}
+use Rattle.blk_disk.specs.Tables.{files_of}
 use Rattle.blk_disk.proofs.Joining.{joins_rankings, joins_b256, joins_b1k, joins_b4k}
 use Rattle.blk_disk.proofs.tables.BlockFiles.join.Goals as goal
 

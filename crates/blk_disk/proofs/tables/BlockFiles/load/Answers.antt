@@ -1,4 +1,4 @@
-use Rattle.std.proofs.Common.{sym, ◌∙◌, ap}
+use Rattle.std.proofs.Common.{◌∙◌, ap}
 use Rattle.blk_image.specs.Told.{Told}
 use Rattle.blk_disk.proofs.Following.{follows_none, follows_all}
 use Rattle.blk_disk.proofs.tables.BlockFiles.load.Goals as goal

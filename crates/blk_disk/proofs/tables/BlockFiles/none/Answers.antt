@@ -1,4 +1,4 @@
-use Rattle.std.proofs.Common.{◌≡◌, ◌++◌, Bool, true, false, if◌then◌else◌, ℕ, List, [], refl, ◌∙◌, ap}
+use Rattle.std.proofs.Common.{◌≡◌, Bool, true, false, if◌then◌else◌, ℕ, List, [], refl}
 use Rattle.std.specs.Prelude.{◌==◌}
 use Rattle.blk_disk.specs.Tables.{all_files, files_of}
 use Rattle.blk_disk.proofs.tables.BlockFiles.none.Goals as goal

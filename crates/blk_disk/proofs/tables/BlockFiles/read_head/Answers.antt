@@ -1,6 +1,6 @@
-use Rattle.std.proofs.Common.{◌≡◌, ◌++◌, ◌∷◌, [], ℕ, List, subst, sym, ◌∙◌, ap}
+use Rattle.std.proofs.Common.{◌++◌, ◌∷◌, [], ℕ, List, subst, ◌∙◌, ap}
 use Rattle.blk_image.specs.Bytes.{content, zeros}
-use Rattle.blk_image.specs.Image.{Image, Block}
+use Rattle.blk_image.specs.Image.{Block}
 use Rattle.blk_image.specs.Checks.{first_of}
 use Rattle.blk_image.specs.Told.{Told, GivesBytes}
 use Rattle.blk_format.specs.BlockFiles.{file_checks}

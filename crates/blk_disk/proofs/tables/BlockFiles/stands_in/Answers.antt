@@ -1,4 +1,4 @@
-use Rattle.std.proofs.Common.{◌≡◌, ◌+◌, ◌<◌, ◌≤◌, ◌∙◌, arith}
+use Rattle.std.proofs.Common.{arith}
 use Rattle.blk_disk.proofs.Standings.{start_is, start_small, count_is, count_small}
 use Rattle.blk_disk.proofs.tables.BlockFiles.stands_in.Goals as goal
 

@@ -1,4 +1,4 @@
-use Rattle.std.proofs.Common.{◌≡◌, ◌+◌, ◌<◌, ◌≤◌, ℕ, List, length, ap, ap₂, subst, refl, sym, ◌∙◌, arith}
+use Rattle.std.proofs.Common.{◌≡◌, ◌+◌, ℕ, List, length, ap₂, subst, refl, sym, ◌∙◌}
 use Rattle.std.specs.Prelude.{OnOk}
 use Rattle.blk_image.specs.Image.{Image, Block, HasRange}
 use Rattle.blk_image.specs.Steps.{words}
@@ -7,7 +7,7 @@ use Rattle.blk_image.specs.Told.{Grows, GrowsInPart, Until}
 use Rattle.blk_image.proofs.Runs.{passes_part, some_inj, told_part, until_weaker2}
 use Rattle.blk_image.proofs.WordSteps.{quiet-words}
 use Rattle.blk_image.proofs.Footprints.{words_inside}
-use Rattle.blk_format.specs.Address.{file_selector, place, room}
+use Rattle.blk_format.specs.Address.{file_selector, place}
 use Rattle.blk_io.specs.declared.folder.FileId.{FileId}
 use Rattle.blk_io.specs.FileNames.{file_of}
 use Rattle.blk_disk.specs.Tables.{Agrees}

@@ -1,0 +1,49 @@
+// Block files get longer.
+ghost use Rattle.std.specs.Prelude.{◌≡◌, ◌+◌, ◌*◌, ◌≤◌, IsTrue, max, OnOk, OnErr};
+ghost use Rattle.std.specs.Option.{ForSome};
+ghost use Rattle.blk_image.specs.Told.{Grows, Rises, Stays};
+ghost use Rattle.blk_format.specs.BlockFiles.{is_among};
+ghost use Rattle.blk_disk.specs.Tables.{Agrees, all_files, length_in, Resizes};
+ghost use Rattle.blk_disk.specs.Growth as growth;
+ghost use Rattle.blk_disk.specs.Growth.{fit_steps};
+
+use crate::heads::block_size;
+use crate::tables::BlockFiles;
+use blk_io::{Failed, FileId, Folder};
+
+const HEADER_LEN: u64 = 8192;
+
+impl BlockFiles {
+    /// Lengthens a linked file to its header and all its blocks, where it is shorter.
+    pub fn fit<F: Folder>(&mut self, f: &mut F, file: u8) -> Result<(), Failed>
+        requires linked { IsTrue (is_among (all_files self.old) file) }
+        requires agrees { ForSome (F.told f.old).files (Agrees self.old) }
+        ensures fitted { OnOk result (Grows (F.told f.old) (F.told f.new) (fit_steps self.old file)) }
+        ensures undone { OnErr result (Stays (F.told f.old) (F.told f.new)) }
+        ensures kept { OnOk result (Resizes self.old self.new file (max (length_in self.old file) (growth.whole_length self.old file))) }
+        ensures same { OnErr result (self.new ≡ self.old) }
+        ensures agrees { ForSome (F.told f.new).files (Agrees self.new) }
+        ensures later { F.faults f.old ≤ F.faults f.new }
+        ensures failed { OnErr result (Rises (F.faults f.old) (F.faults f.new)) }
+    {
+        let wanted = self.whole_length(file);
+        if wanted <= self.length(file) {
+            return Ok(());
+        }
+        f.set_len(FileId::Block(file), wanted)?;
+        self.set_length(file, wanted);
+        Ok(())
+    }
+
+    // The length of a file with all its blocks.
+    #[tactic(auto, unfolding(crate::specs::Growth::whole_length))]
+    fn whole_length(&self, file: u8) -> u64
+        ensures { result ≡ growth.whole_length self.now file }
+    {
+        let size = match self.linked_as(file) {
+            Some(kind) => block_size(kind),
+            None => 0,
+        };
+        HEADER_LEN + u64::from(self.blocks(file)) * u64::from(size)
+    }
+}
