@@ -210,3 +210,28 @@ fn bytes_are_written_over_the_end_of_a_block(rt: HostRuntime) -> Result<(), Fail
     );
     Ok(())
 }
+
+// Loads the block files and fits one of them, where it is linked.
+fn fit_file<F: Folder>(f: &mut F, file: u8) -> Result<bool, Fault> {
+    let mut files = BlockFiles::load(f)?;
+    if !files.has(file) {
+        return Ok(false);
+    }
+    files.fit(f, file)?;
+    Ok(true)
+}
+
+#[test]
+fn a_short_file_is_fitted_to_its_blocks(rt: HostRuntime) -> Result<(), Fail> {
+    let headers = [FILES[0], (1, 0, 256, 1024), (2, 0, 1024, 0), FILES[3]];
+    let mut f = folder_of(rt.alloc(), &headers, HEADER_LEN)?;
+    assert_eq!(rt; fit_file(&mut f, 1), Ok(true));
+    assert_eq!(rt; f.length(FileId::Block(1)), Ok(Some(270_336)));
+    assert_eq!(rt; f.steps(), Some(1));
+
+    // A file that is long enough stays as it is, and so does one that isn't linked.
+    assert_eq!(rt; fit_file(&mut f, 1), Ok(true));
+    assert_eq!(rt; fit_file(&mut f, 4), Ok(false));
+    assert_eq!(rt; f.steps(), Some(1));
+    Ok(())
+}
