@@ -133,7 +133,7 @@ fn read_from(file: &File, at: u64, out: &mut [u8]) -> io::Result<usize>
     ensures { IfOk result (λ n. n ≤ length out.old) }
 {
     let mut done = 0;
-    for _ in 0..out.len() {
+    while done < out.len() {
         let n = file.read_at(&mut out[done..], at.saturating_add(done as u64))?;
         if n == 0 {
             break;
