@@ -8,3 +8,4 @@ pub mod Bodies
 pub mod HashExamples
 pub mod RecordLemmas
 pub mod BlockFileExamples
+pub mod MapExamples

@@ -7,3 +7,4 @@ pub mod Hash
 pub mod Records
 pub mod SparseIndex
 pub mod BlockFiles
+pub mod Maps
