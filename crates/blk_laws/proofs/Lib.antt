@@ -1,0 +1,4 @@
+pub mod Walks
+pub mod ListWrites
+pub mod Lists
+pub mod ListMoments
