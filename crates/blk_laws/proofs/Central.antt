@@ -35,12 +35,12 @@ module _ (m : State) (y : Layout) (lay : (i : Item) → is_listed m i ≡ true �
   settled-on items sub = record {
     owners = λ key n there. owners key n (sub (part key n) there) (model.owner m (part key n)) refl;
     main_test = λ key l number among here own. let there : is_listed m (main key) ≡ true = sub (main key) among in
-    let laid : IsLaid m y (main key) = lay (main key) there in
-    let same : laid.loaded ≡ l = let a : y.at (y.place (main key)) ≡ Some laid.loaded = laid.here in cc in
-    let o : IsOwned m (main key) number = owned m (main key) number own in
-    let found : model.owner_object m (main key) ≡ Some o.object = rw own o.here in
-    let mark : (laid.loaded.dirty == 0) ≡ o.object.settled = rw found at laid.mark in
-    ap (λ (x : Loaded). x.dirty == 0) (sym same) ∙ mark ∙ rw (o.here, live o.object (main key) o.has) refl;
+        let laid : IsLaid m y (main key) = lay (main key) there in
+        let same : laid.loaded ≡ l = let a : y.at (y.place (main key)) ≡ Some laid.loaded = laid.here in cc in
+        let o : IsOwned m (main key) number = owned m (main key) number own in
+        let found : model.owner_object m (main key) ≡ Some o.object = rw own o.here in
+        let mark : (laid.loaded.dirty == 0) ≡ o.object.settled = rw found at laid.mark in
+        ap (λ (x : Loaded). x.dirty == 0) (sym same) ∙ mark ∙ rw (o.here, live o.object (main key) o.has) refl;
   } where
     owners : (key : List ℕ) (n : ℕ) → is_in m.uses (part key n) ≡ true → (w : Option ℕ) → model.owner m (part key n) ≡ w → model.owner m (part key n) ≡ model.owner m (main key)
     owners key n there (Some number) e = e ∙ sym (same_owner m valid key n number e)
@@ -77,10 +77,10 @@ module _ (v : Stock) (m : State) (y : Layout) (r : Holds v m y) (valid : IsValid
 
   pub all-kept : Distinct (order m y) → dropped_among v listed (order m y) ≡ []
   all-kept once = dropped-none v listed (order m y) (given_by (λ _. true) y) (all-shown once) (λ w there none.
-    let a : IsNodeOf y m.uses w = node-of y m.uses w there in
-    let laid : IsLaid m y a.item = r.lies.laid a.item a.among in
-    let some : given_by (λ _. true) y w ≡ Some laid.loaded = ap (given_by (λ _. true) y) (sym a.is) ∙ rw laid.here refl in
-    let c : ◌≡◌ {A = Option Loaded} (Some laid.loaded) None = sym some ∙ none in cc)
+      let a : IsNodeOf y m.uses w = node-of y m.uses w there in
+      let laid : IsLaid m y a.item = r.lies.laid a.item a.among in
+      let some : given_by (λ _. true) y w ≡ Some laid.loaded = ap (given_by (λ _. true) y) (sym a.is) ∙ rw laid.here refl in
+      let c : ◌≡◌ {A = Option Loaded} (Some laid.loaded) None = sym some ∙ none in cc)
 
   pub rest-found : Distinct (order m y) → map row_of (kept_among v held (order m y)) ≡ model.rest m
   rest-found once = found-picked m y r.lies.laid m.uses (λ i there. there) (λ number. is_live_and_settled (object_at m number)) (settled-is_test m y r.lies.laid valid) v r once (all-closed m y r.lies.laid valid) ∙ sym (rest-picked m)
@@ -120,8 +120,8 @@ module _ (v : View) (m : State) (y : Layout) (r : Represents v m y) where
   none-unlisted : unlisted v ≡ []
   unfolding unlisted
   none-unlisted = flat_map-none (unlisted_in v) 0 65536 (λ b low high.
-    let c : chain v.stock b ≡ record { reached = y.chains b; end = 0 } = chain-is v.stock b (y.chains b) r.holds.shows.no_record (r.holds.shows.chains b high) in
-    rw c (rw (filter-none (is_unlisted v) (y.chains b) (λ x there. is-listed b x high there)) refl))
+      let c : chain v.stock b ≡ record { reached = y.chains b; end = 0 } = chain-is v.stock b (y.chains b) r.holds.shows.no_record (r.holds.shows.chains b high) in
+      rw c (rw (filter-none (is_unlisted v) (y.chains b) (λ x there. is-listed b x high there)) refl))
 
   pub none-dropped : IsValidState m → dropped_by listed v ≡ []
   none-dropped valid = rw walk-order (rw (all-kept v.stock m y r.holds valid r.list.distinct) none-unlisted)

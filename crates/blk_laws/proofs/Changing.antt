@@ -80,7 +80,7 @@ module _ (m : State) (objects : List (Option Object)) (y : Layout) (i : Item) (l
       (record { loaded = k; here = at-place (y.place i) refl; row = ch.row; mark = ch.mark; parent = parent-next i k ch.parent }))
       (λ (e : same_item j i ≡ false).
       let apart : (y.place i == y.place j) ≡ false = ⊎_elim (λ (x : (eqb (y.place i) (y.place j) ≡ true) × (y.place i ≡ y.place j)).
-        let s : j ≡ i = sym (same-place m y r i j listed there x.1) in let t : same_item j i ≡ true = ap (same_item j) (sym s) ∙ same_item_self j in absurd (let z : true ≡ false = sym t ∙ e in cc)) (λ (x : (eqb (y.place i) (y.place j) ≡ false) × _). x.0) (eqb_tells (y.place i) (y.place j)) in
+      let s : j ≡ i = sym (same-place m y r i j listed there x.1) in let t : same_item j i ≡ true = ap (same_item j) (sym s) ∙ same_item_self j in absurd (let z : true ≡ false = sym t ∙ e in cc)) (λ (x : (eqb (y.place i) (y.place j) ≡ false) × _). x.0) (eqb_tells (y.place i) (y.place j)) in
       record { loaded = a.loaded; here = at-else (y.place j) apart ∙ a.here; row = one.rows j e ∙ a.row; mark = mark-next j a.loaded e a.mark; parent = parent-next j a.loaded a.parent })
       (cases_Bool (same_item j i))
 
@@ -93,25 +93,25 @@ module _ (m : State) (objects : List (Option Object)) (y : Layout) (i : Item) (l
     laid = laid-next;
     normal = r.normal;
     chained = λ w x there is. by-place (λ v. v ≡ w → is_among (y.chains (bucket_of_hash (hash x.key))) x.contents ≡ true) w
-      (λ e _. let s : x ≡ k = is-k w x e is in
-      subst (λ (z : Loaded). is_among (y.chains (bucket_of_hash (hash z.key))) z.contents ≡ true) (sym s)
-      (ap (λ (q : List ℕ). is_among (y.chains (bucket_of_hash (hash q))) k.contents) ch.key ∙ ap (λ (c : ℕ). is_among (y.chains (bucket_of_hash (hash l.key))) c) ch.contents ∙ r.chained w l there (ap y.at (sym e) ∙ here)))
-      (λ e _. r.chained w x there (sym (at-else w e) ∙ is)) refl;
+        (λ e _. let s : x ≡ k = is-k w x e is in
+        subst (λ (z : Loaded). is_among (y.chains (bucket_of_hash (hash z.key))) z.contents ≡ true) (sym s)
+        (ap (λ (q : List ℕ). is_among (y.chains (bucket_of_hash (hash q))) k.contents) ch.key ∙ ap (λ (c : ℕ). is_among (y.chains (bucket_of_hash (hash l.key))) c) ch.contents ∙ r.chained w l there (ap y.at (sym e) ∙ here)))
+        (λ e _. r.chained w x there (sym (at-else w e) ∙ is)) refl;
     unchained = λ b c below there. let q : IsListedRecord m y c = r.unchained b c below there in
-      by-place (λ v. v ≡ q.node → IsListedRecord (record m { objects = objects }) (changed_at y (y.place i) k owner) c) q.node
-      (λ e _. let s : l ≡ q.loaded = let a : y.at (y.place i) ≡ y.at q.node = ap y.at e in let b : y.at q.node ≡ Some q.loaded = q.here in let d : y.at (y.place i) ≡ Some l = here in cc in
-      record { node = q.node; loaded = k; listed = q.listed; here = at-place q.node e; record_is = ch.contents ∙ ap (λ (z : Loaded). z.contents) s ∙ q.record_is })
-      (λ e _. record { node = q.node; loaded = q.loaded; listed = q.listed; here = at-else q.node e ∙ q.here; record_is = q.record_is }) refl;
+        by-place (λ v. v ≡ q.node → IsListedRecord (record m { objects = objects }) (changed_at y (y.place i) k owner) c) q.node
+        (λ e _. let s : l ≡ q.loaded = let a : y.at (y.place i) ≡ y.at q.node = ap y.at e in let b : y.at q.node ≡ Some q.loaded = q.here in let d : y.at (y.place i) ≡ Some l = here in cc in
+        record { node = q.node; loaded = k; listed = q.listed; here = at-place q.node e; record_is = ch.contents ∙ ap (λ (z : Loaded). z.contents) s ∙ q.record_is })
+        (λ e _. record { node = q.node; loaded = q.loaded; listed = q.listed; here = at-else q.node e ∙ q.here; record_is = q.record_is }) refl;
     own = λ w x c is h. by-place (λ v. v ≡ w → owner c ≡ Some w) w
-      (λ e _. ch.own c (ap (λ (z : Loaded). has_claim (all_claims z) c) (sym (is-k w x e is)) ∙ h) ∙ ap (λ (z : ℕ). Some z) e)
-      (λ e _. ch.others c w (r.own w x c (sym (at-else w e) ∙ is) h) e) refl;
+        (λ e _. ch.own c (ap (λ (z : Loaded). has_claim (all_claims z) c) (sym (is-k w x e is)) ∙ h) ∙ ap (λ (z : ℕ). Some z) e)
+        (λ e _. ch.others c w (r.own w x c (sym (at-else w e) ∙ is) h) e) refl;
     single = λ w x is. by-place (λ v. v ≡ w → repeats (all_claims x) ≡ false) w
-      (λ e _. ap (λ (z : Loaded). repeats (all_claims z)) (is-k w x e is) ∙ ch.single)
-      (λ e _. r.single w x (sym (at-else w e) ∙ is)) refl;
+        (λ e _. ap (λ (z : Loaded). repeats (all_claims z)) (is-k w x e is) ∙ ch.single)
+        (λ e _. r.single w x (sym (at-else w e) ∙ is)) refl;
     doomed_objects = λ number o is dead. let d : IsDoomedAt m y number o = r.doomed_objects number o (one.doomed_same number o is dead) dead in
-      let apart : (y.place i == y.place_of_doomed number) ≡ false = ⊎_elim (λ (x : (eqb (y.place i) (y.place_of_doomed number) ≡ true) × (y.place i ≡ y.place_of_doomed number)).
+        let apart : (y.place i == y.place_of_doomed number) ≡ false = ⊎_elim (λ (x : (eqb (y.place i) (y.place_of_doomed number) ≡ true) × (y.place i ≡ y.place_of_doomed number)).
         let a : is_among (order m y) (y.place i) ≡ true = is_among-node y m.uses i listed in let b : is_among (order m y) (y.place i) ≡ is_among (order m y) (y.place_of_doomed number) = ap (is_among (order m y)) x.1 in absurd (let z : true ≡ false = sym a ∙ b ∙ d.unlisted in cc)) (λ (x : (eqb (y.place i) (y.place_of_doomed number) ≡ false) × _). x.0) (eqb_tells (y.place i) (y.place_of_doomed number)) in
-      record { loaded = d.loaded; here = at-else (y.place_of_doomed number) apart ∙ d.here; row = d.row; mark = d.mark; unlisted = d.unlisted };
+        record { loaded = d.loaded; here = at-else (y.place_of_doomed number) apart ∙ d.here; row = d.row; mark = d.mark; unlisted = d.unlisted };
   }
 
 -- ---- a state with another object in a slot, with the same items

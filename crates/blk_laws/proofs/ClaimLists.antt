@@ -41,7 +41,7 @@ pub contents-claims : (l : Loaded) (c : Claim) → has_claim (claims_of l.conten
 unfolding all_claims record_claims
 contents-claims l c h = claim-append (claims_of l.node) (record_claims l) c ∙ or_right (has_claim (claims_of l.node) c) (has_claim (record_claims l) c) (claim-append (claims_of l.contents) (flat_map claims_of l.others) c ∙ or_left (has_claim (claims_of l.contents) c) (has_claim (flat_map claims_of l.others) c) h)
 
-some-blocks : (w : ℕ) → 0 < block_count w
+pub some-blocks : (w : ℕ) → 0 < block_count w
 unfolding block_count
 some-blocks w = omega arith
 
@@ -49,13 +49,13 @@ some-blocks w = omega arith
 pub some-claim : (w : ℕ) → (w ≡ 0 → ⊥) → (c : Claim) × (has_claim (claims_of w) c ≡ true)
 unfolding claims_of
 some-claim w apart = ⊎_elim
-  (λ (z : (eqb w 0 ≡ true) × (w ≡ 0)). absurd (apart z.1))
-  (λ (z : (eqb w 0 ≡ false) × _). ⊎_elim
+    (λ (z : (eqb w 0 ≡ true) × (w ≡ 0)). absurd (apart z.1))
+    (λ (z : (eqb w 0 ≡ false) × _). ⊎_elim
     (λ (k : (kind_of w == external) ≡ true). (ExternalOf (external_number w), rw (z.0, k) (claim-head (ExternalOf (external_number w)) [] (ExternalOf (external_number w)) ∙ or_left (same_claim (ExternalOf (external_number w)) (ExternalOf (external_number w))) (has_claim [] (ExternalOf (external_number w))) (same_claim-self (ExternalOf (external_number w))))))
     (λ (k : (kind_of w == external) ≡ false). (BlockOf (file_selector w) (first_block w), rw (z.0, k) (go (block_count w) (some-blocks w))))
     (cases_Bool (kind_of w == external)))
-  (eqb_tells w 0) where
-    go : (n : ℕ) → 0 < n → has_claim (map (λ b. BlockOf (file_selector w) b) (range_with_len (first_block w) n)) (BlockOf (file_selector w) (first_block w)) ≡ true
-    go zero some = absurd (omega arith)
-    go (suc n) some = claim-head (BlockOf (file_selector w) (first_block w)) (map (λ b. BlockOf (file_selector w) b) (range_with_len (first_block w + 1) n)) (BlockOf (file_selector w) (first_block w))
-      ∙ or_left (same_claim (BlockOf (file_selector w) (first_block w)) (BlockOf (file_selector w) (first_block w))) (has_claim (map (λ b. BlockOf (file_selector w) b) (range_with_len (first_block w + 1) n)) (BlockOf (file_selector w) (first_block w))) (same_claim-self (BlockOf (file_selector w) (first_block w)))
+    (eqb_tells w 0) where
+      go : (n : ℕ) → 0 < n → has_claim (map (λ b. BlockOf (file_selector w) b) (range_with_len (first_block w) n)) (BlockOf (file_selector w) (first_block w)) ≡ true
+      go zero some = absurd (omega arith)
+      go (suc n) some = claim-head (BlockOf (file_selector w) (first_block w)) (map (λ b. BlockOf (file_selector w) b) (range_with_len (first_block w + 1) n)) (BlockOf (file_selector w) (first_block w))
+          ∙ or_left (same_claim (BlockOf (file_selector w) (first_block w)) (BlockOf (file_selector w) (first_block w))) (has_claim (map (λ b. BlockOf (file_selector w) b) (range_with_len (first_block w + 1) n)) (BlockOf (file_selector w) (first_block w))) (same_claim-self (BlockOf (file_selector w) (first_block w)))

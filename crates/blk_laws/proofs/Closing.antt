@@ -48,23 +48,23 @@ module _ (m : State) (valid : IsValidState m) (number : ℕ) (o : Object) (b : B
       ≡ (is_safe m (record m { objects = set m.objects number (Some (record o { settled = b })); names = names }) k || ((o.settled && not b) && is_turned m (record m { objects = set m.objects number (Some (record o { settled = b })); names = names }) k))
   unfolding is_safe is_turned
   test-before k = ⊎_elim
-    (λ (e : (eqb k number ≡ true) × (k ≡ number)). rw (e.1, at-number, here, live) (before-turn o.settled b))
-    (λ (e : (eqb k number ≡ false) × (k ≢ number)). rw (at-other k e.1) (go (object_at m k)))
-    (eqb_tells k number) where
-      go : (x : Option Object) → is_live_and_settled x ≡ ((is_live_and_settled x && (is_live_and_settled x || not (is_live x))) || ((o.settled && not b) && (is_live x && is_live x && differ (is_live_and_settled x) (is_live_and_settled x))))
-      go None = stays false false (o.settled && not b)
-      go (Some p) = stays p.live p.settled (o.settled && not b)
+      (λ (e : (eqb k number ≡ true) × (k ≡ number)). rw (e.1, at-number, here, live) (before-turn o.settled b))
+      (λ (e : (eqb k number ≡ false) × (k ≢ number)). rw (at-other k e.1) (go (object_at m k)))
+      (eqb_tells k number) where
+        go : (x : Option Object) → is_live_and_settled x ≡ ((is_live_and_settled x && (is_live_and_settled x || not (is_live x))) || ((o.settled && not b) && (is_live x && is_live x && differ (is_live_and_settled x) (is_live_and_settled x))))
+        go None = stays false false (o.settled && not b)
+        go (Some p) = stays p.live p.settled (o.settled && not b)
 
   test-after : (k : ℕ) → is_live_and_settled (object_at (record m { objects = set m.objects number (Some (record o { settled = b })); names = names }) k)
       ≡ (is_safe m (record m { objects = set m.objects number (Some (record o { settled = b })); names = names }) k || ((not o.settled && b) && is_turned m (record m { objects = set m.objects number (Some (record o { settled = b })); names = names }) k))
   unfolding is_safe is_turned
   test-after k = ⊎_elim
-    (λ (e : (eqb k number ≡ true) × (k ≡ number)). rw (e.1, at-number, here, live) (after-turn o.settled b))
-    (λ (e : (eqb k number ≡ false) × (k ≢ number)). rw (at-other k e.1) (go (object_at m k)))
-    (eqb_tells k number) where
-      go : (x : Option Object) → is_live_and_settled x ≡ ((is_live_and_settled x && (is_live_and_settled x || not (is_live x))) || ((not o.settled && b) && (is_live x && is_live x && differ (is_live_and_settled x) (is_live_and_settled x))))
-      go None = stays false false (not o.settled && b)
-      go (Some p) = stays p.live p.settled (not o.settled && b)
+      (λ (e : (eqb k number ≡ true) × (k ≡ number)). rw (e.1, at-number, here, live) (after-turn o.settled b))
+      (λ (e : (eqb k number ≡ false) × (k ≢ number)). rw (at-other k e.1) (go (object_at m k)))
+      (eqb_tells k number) where
+        go : (x : Option Object) → is_live_and_settled x ≡ ((is_live_and_settled x && (is_live_and_settled x || not (is_live x))) || ((not o.settled && b) && (is_live x && is_live x && differ (is_live_and_settled x) (is_live_and_settled x))))
+        go None = stays false false (not o.settled && b)
+        go (Some p) = stays p.live p.settled (not o.settled && b)
 
   pub rest-before : model.rest m ≡ pick m (record m { objects = set m.objects number (Some (record o { settled = b })); names = names }) (o.settled && not b) m.uses
   unfolding pick picked picked_by
@@ -75,7 +75,7 @@ module _ (m : State) (valid : IsValidState m) (number : ℕ) (o : Object) (b : B
   rest-after = rest-picked (record m { objects = set m.objects number (Some (record o { settled = b })); names = names })
       ∙ ap (λ (f : Item → Option Row). filter_map f m.uses) (λ i x. same x i)
       ∙ ap (λ (t : ℕ → Bool). filter_map (picked_with m t) m.uses) (λ i k. test-after k i) where
-    same : (x : Item) → picked_with (record m { objects = set m.objects number (Some (record o { settled = b })); names = names }) (λ k. is_live_and_settled (object_at (record m { objects = set m.objects number (Some (record o { settled = b })); names = names }) k)) x
-        ≡ picked_with m (λ k. is_live_and_settled (object_at (record m { objects = set m.objects number (Some (record o { settled = b })); names = names }) k)) x
-    same x = ap (λ (w : Option ℕ). option_and_then (λ (k : ℕ). cond (is_live_and_settled (object_at (record m { objects = set m.objects number (Some (record o { settled = b })); names = names }) k)) (model.row_of (record m { objects = set m.objects number (Some (record o { settled = b })); names = names }) x) None) w) (owner-same m valid number o b here live x)
-        ∙ ap (λ (r : Option Row). option_and_then (λ (k : ℕ). cond (is_live_and_settled (object_at (record m { objects = set m.objects number (Some (record o { settled = b })); names = names }) k)) r None) (model.owner m x)) (rows-same m valid number o b here live x)
+        same : (x : Item) → picked_with (record m { objects = set m.objects number (Some (record o { settled = b })); names = names }) (λ k. is_live_and_settled (object_at (record m { objects = set m.objects number (Some (record o { settled = b })); names = names }) k)) x
+            ≡ picked_with m (λ k. is_live_and_settled (object_at (record m { objects = set m.objects number (Some (record o { settled = b })); names = names }) k)) x
+        same x = ap (λ (w : Option ℕ). option_and_then (λ (k : ℕ). cond (is_live_and_settled (object_at (record m { objects = set m.objects number (Some (record o { settled = b })); names = names }) k)) (model.row_of (record m { objects = set m.objects number (Some (record o { settled = b })); names = names }) x) None) w) (owner-same m valid number o b here live x)
+            ∙ ap (λ (r : Option Row). option_and_then (λ (k : ℕ). cond (is_live_and_settled (object_at (record m { objects = set m.objects number (Some (record o { settled = b })); names = names }) k)) r None) (model.owner m x)) (rows-same m valid number o b here live x)

@@ -27,6 +27,7 @@ use Rattle.blk_volume.specs.Footprint.{SameBut, IsFree}
 use Rattle.blk_volume.specs.Creation.{IsNewEntry, IsFrontOfChain, with_new, linked_front}
 use Rattle.blk_laws.proofs.Central.{rest-found}
 use Rattle.blk_laws.proofs.Owner.{rest-picked}
+use Rattle.blk_laws.specs.CommandLaws.{IsWritten}
 use Rattle.blk_laws.proofs.Opening.{safe-same}
 use Rattle.blk_laws.proofs.Outside.{represents-outside}
 use Rattle.blk_laws.proofs.Creating.{created-shows, created-lies, created-rest, order-after, inserted-rest, new-lacks, push-here}
@@ -42,9 +43,9 @@ module _ (v u : View) (m : State) (y : Layout) (r : Represents v m y) (valid : I
   pub insert-moments : (k : ℕ) → map row_of (kept_among u.stock held (walk (completed_list (after_writes (take k (writes_of 1 l.node u.list)) u.list)))) ≡ model.rest m
   insert-moments k =
       ap (λ (ws : List ℕ). map row_of (kept_among u.stock held ws)) (insert_turns l.node u.list (order m y) written.list written.idle (new-lacks u.stock m y written.holds valid key l new written.list.distinct) good few k) ∙ go (nat_lt k 2) where
-    go : (b : Bool) → map row_of (kept_among u.stock held (if b then order m y else l.node ∷ order m y)) ≡ model.rest m
-    go true = rest-found u.stock m y written.holds valid written.list.distinct
-    go false = inserted-rest u.stock m y written.holds valid key l new written.list.distinct
+        go : (b : Bool) → map row_of (kept_among u.stock held (if b then order m y else l.node ∷ order m y)) ≡ model.rest m
+        go true = rest-found u.stock m y written.holds valid written.list.distinct
+        go false = inserted-rest u.stock m y written.holds valid key l new written.list.distinct
 
   -- and once the record is linked
   pub create-ends : Represents (record { list = after_writes (writes_of 1 l.node u.list) u.list; stock = linked_front u.stock l }) (created handle key m) (with_new y key l)
@@ -79,3 +80,13 @@ module _ (m : State) (handle : ℕ) (key : List ℕ) where
       let ends : (step m moment (to_create handle key)).state ≡ created handle key m = rw (passed, room) refl in
       subst (λ (n : State). StopOutcome m moment (to_create handle key) n (model.rest m)) (sym ends)
       (record { step_count = 0; within = omega arith; with_turned = false; picked_rows = pick-created })
+
+module _ (v u : View) (m : State) (y : Layout) (key : List ℕ) (l : Loaded) (w : IsWritten v u m y key l) where
+  pub creates-moments : (k : ℕ) → map row_of (kept_among u.stock held (walk (completed_list (after_writes (take k (writes_of 1 l.node u.list)) u.list)))) ≡ model.rest m
+  creates-moments = insert-moments v u m y w.represents w.valid w.touched w.same w.free 0 key l w.entry w.front w.good w.few w.missing
+
+  pub creates-end : (handle : ℕ) → Represents (record { list = after_writes (writes_of 1 l.node u.list) u.list; stock = linked_front u.stock l }) (created handle key m) (with_new y key l)
+  creates-end handle = create-ends v u m y w.represents w.valid w.touched w.same w.free handle key l w.entry w.front w.good w.few w.missing
+
+  pub creates-rest : (handle : ℕ) → model.rest (created handle key m) ≡ model.rest m
+  creates-rest handle = create-rest v u m y w.represents w.valid w.touched w.same w.free handle key l w.entry w.front w.good w.few w.missing

@@ -74,10 +74,10 @@ module _ (m : State) (y : Layout) (r : Lies m y) (v : Stock) (handle : ℕ) (key
   unlisted : is_listed m (main key) ≡ false
   unfolding model.row_of
   unlisted = ⊎_elim
-    (λ (e : is_listed m (main key) ≡ true). let q : IsLaid m y (main key) = r.laid (main key) e in let no_row : model.row_of m (main key) ≡ None = rw none refl in
+      (λ (e : is_listed m (main key) ≡ true). let q : IsLaid m y (main key) = r.laid (main key) e in let no_row : model.row_of m (main key) ≡ None = rw none refl in
       absurd (let c : ◌≡◌ {A = Option Row} (Some (row_of q.loaded)) None = sym q.row ∙ no_row in cc))
-    (λ (e : is_listed m (main key) ≡ false). e)
-    (cases_Bool (is_listed m (main key)))
+      (λ (e : is_listed m (main key) ≡ false). e)
+      (cases_Bool (is_listed m (main key)))
 
   -- an item that had an owner has it still
   owner-object : (i : Item) (j : ℕ) → model.owner m i ≡ Some j → model.owner_object (created handle key m) i ≡ model.owner_object m i
@@ -106,18 +106,18 @@ module _ (m : State) (y : Layout) (r : Lies m y) (v : Stock) (handle : ℕ) (key
   -- nodes that keep something are other nodes
   other-node : (w : ℕ) (x : Loaded) → y.at w ≡ Some x → (l.node == w) ≡ false
   other-node w x is = ⊎_elim
-    (λ (e : (eqb l.node w ≡ true) × (l.node ≡ w)). let a : y.at w ≡ None = ap y.at (sym e.1) ∙ new.nobody in absurd (let c : ◌≡◌ {A = Option Loaded} (Some x) None = sym is ∙ a in cc))
-    (λ (e : (eqb l.node w ≡ false) × _). e.0)
-    (eqb_tells l.node w)
+      (λ (e : (eqb l.node w ≡ true) × (l.node ≡ w)). let a : y.at w ≡ None = ap y.at (sym e.1) ∙ new.nobody in absurd (let c : ◌≡◌ {A = Option Loaded} (Some x) None = sym is ∙ a in cc))
+      (λ (e : (eqb l.node w ≡ false) × _). e.0)
+      (eqb_tells l.node w)
 
   at-old : (w : ℕ) (x : Loaded) → y.at w ≡ Some x → put y.at l.node (Some l) w ≡ Some x
   at-old w x is = at-elsewhere y.at l.node (Some l) w (other-node w x is) ∙ is
 
   old-item : (i : Item) → is_listed m i ≡ true → same_item i (main key) ≡ false
   old-item i there = ⊎_elim
-    (λ (e : same_item i (main key) ≡ true). let a : is_listed m (main key) ≡ true = subst (λ (j : Item). is_listed m j ≡ true) (one_item i (main key) e) there in absurd (let c : true ≡ false = sym a ∙ unlisted in cc))
-    (λ (e : same_item i (main key) ≡ false). e)
-    (cases_Bool (same_item i (main key)))
+      (λ (e : same_item i (main key) ≡ true). let a : is_listed m (main key) ≡ true = subst (λ (j : Item). is_listed m j ≡ true) (one_item i (main key) e) there in absurd (let c : true ≡ false = sym a ∙ unlisted in cc))
+      (λ (e : same_item i (main key) ≡ false). e)
+      (cases_Bool (same_item i (main key)))
 
   place-old : (i : Item) → is_listed m i ≡ true → (if same_item i (main key) then l.node else y.place i) ≡ y.place i
   place-old i there = rw (old-item i there) refl
@@ -192,7 +192,12 @@ module _ (m : State) (y : Layout) (r : Lies m y) (v : Stock) (handle : ℕ) (key
         parent : (i : Item) (x : Loaded) → HasParentAt m y i x → HasParentAt (created handle key m) (with_new y key l) i x
         parent (main k) x h = h
         parent (part k n) x h = record {
-          name = h.name; index = h.index; role = h.role; of_key = h.of_key; listed = listed-still (main k) h.listed; parent = h.parent;
+          name = h.name;
+          index = h.index;
+          role = h.role;
+          of_key = h.of_key;
+          listed = listed-still (main k) h.listed;
+          parent = h.parent;
           at_parent = ap (put y.at l.node (Some l)) (place-old (main k) h.listed) ∙ at-old (y.place (main k)) h.parent h.at_parent;
           of = h.of;
         }
@@ -200,12 +205,12 @@ module _ (m : State) (y : Layout) (r : Lies m y) (v : Stock) (handle : ℕ) (key
   -- what is at a node afterwards is the new record, or was there
   at-after : (P : ℕ → Loaded → Type 0) (w : ℕ) (x : Loaded) → put y.at l.node (Some l) w ≡ Some x → P l.node l → (y.at w ≡ Some x → P w x) → P w x
   at-after P w x is f g = ⊎_elim
-    (λ (e : (eqb l.node w ≡ true) × (l.node ≡ w)).
-    let a : ◌≡◌ {A = Option Loaded} (Some l) (Some x) = sym (at-itself y.at l.node (Some l)) ∙ ap (put y.at l.node (Some l)) e.1 ∙ is in
-    let s : l ≡ x = cc in
-    subst (λ (z : ℕ). P z x) e.1 (subst (P l.node) s f))
-    (λ (e : (eqb l.node w ≡ false) × _). g (sym (at-elsewhere y.at l.node (Some l) w e.0) ∙ is))
-    (eqb_tells l.node w)
+      (λ (e : (eqb l.node w ≡ true) × (l.node ≡ w)).
+      let a : ◌≡◌ {A = Option Loaded} (Some l) (Some x) = sym (at-itself y.at l.node (Some l)) ∙ ap (put y.at l.node (Some l)) e.1 ∙ is in
+      let s : l ≡ x = cc in
+      subst (λ (z : ℕ). P z x) e.1 (subst (P l.node) s f))
+      (λ (e : (eqb l.node w ≡ false) × _). g (sym (at-elsewhere y.at l.node (Some l) w e.0) ∙ is))
+      (eqb_tells l.node w)
 
   b : ℕ
   b = bucket_of_hash (hash l.key)
@@ -213,60 +218,63 @@ module _ (m : State) (y : Layout) (r : Lies m y) (v : Stock) (handle : ℕ) (key
   -- a record of a chain afterwards
   chain-after : (n c : ℕ) → is_among (put y.chains (bucket_of_hash (hash l.key)) (l.contents ∷ y.chains (bucket_of_hash (hash l.key))) n) c ≡ true → (c ≡ l.contents) ⊎ (is_among (y.chains n) c ≡ true)
   chain-after n c h = ⊎_elim
-    (λ (e : (eqb (bucket_of_hash (hash l.key)) n ≡ true) × (bucket_of_hash (hash l.key) ≡ n)).
-    let a : is_among (l.contents ∷ y.chains (bucket_of_hash (hash l.key))) c ≡ true = ap (λ (xs : List ℕ). is_among xs c) (sym (at-itself y.chains (bucket_of_hash (hash l.key)) (l.contents ∷ y.chains (bucket_of_hash (hash l.key))))) ∙ ap (λ (z : ℕ). is_among (put y.chains (bucket_of_hash (hash l.key)) (l.contents ∷ y.chains (bucket_of_hash (hash l.key))) z) c) e.1 ∙ h in
-    ⊎_elim (λ (f : (eqb l.contents c ≡ true) × (l.contents ≡ c)). inl (sym f.1)) (λ (f : (eqb l.contents c ≡ false) × _). let z : is_among (y.chains (bucket_of_hash (hash l.key))) c ≡ true = rw f.0 at a in inr (ap (λ (q : ℕ). is_among (y.chains q) c) (sym e.1) ∙ z)) (eqb_tells l.contents c))
-    (λ (e : (eqb (bucket_of_hash (hash l.key)) n ≡ false) × _). inr (ap (λ (xs : List ℕ). is_among xs c) (sym (at-elsewhere y.chains (bucket_of_hash (hash l.key)) (l.contents ∷ y.chains (bucket_of_hash (hash l.key))) n e.0)) ∙ h))
-    (eqb_tells (bucket_of_hash (hash l.key)) n)
+      (λ (e : (eqb (bucket_of_hash (hash l.key)) n ≡ true) × (bucket_of_hash (hash l.key) ≡ n)).
+      let a : is_among (l.contents ∷ y.chains (bucket_of_hash (hash l.key))) c ≡ true = ap (λ (xs : List ℕ). is_among xs c) (sym (at-itself y.chains (bucket_of_hash (hash l.key)) (l.contents ∷ y.chains (bucket_of_hash (hash l.key))))) ∙ ap (λ (z : ℕ). is_among (put y.chains (bucket_of_hash (hash l.key)) (l.contents ∷ y.chains (bucket_of_hash (hash l.key))) z) c) e.1 ∙ h in
+      ⊎_elim (λ (f : (eqb l.contents c ≡ true) × (l.contents ≡ c)). inl (sym f.1)) (λ (f : (eqb l.contents c ≡ false) × _). let z : is_among (y.chains (bucket_of_hash (hash l.key))) c ≡ true = rw f.0 at a in inr (ap (λ (q : ℕ). is_among (y.chains q) c) (sym e.1) ∙ z)) (eqb_tells l.contents c))
+      (λ (e : (eqb (bucket_of_hash (hash l.key)) n ≡ false) × _). inr (ap (λ (xs : List ℕ). is_among xs c) (sym (at-elsewhere y.chains (bucket_of_hash (hash l.key)) (l.contents ∷ y.chains (bucket_of_hash (hash l.key))) n e.0)) ∙ h))
+      (eqb_tells (bucket_of_hash (hash l.key)) n)
 
   chain-still : (n c : ℕ) → is_among (y.chains n) c ≡ true → is_among (put y.chains (bucket_of_hash (hash l.key)) (l.contents ∷ y.chains (bucket_of_hash (hash l.key))) n) c ≡ true
   chain-still n c h = ⊎_elim
-    (λ (e : (eqb (bucket_of_hash (hash l.key)) n ≡ true) × (bucket_of_hash (hash l.key) ≡ n)).
-    subst (λ (z : ℕ). is_among (put y.chains (bucket_of_hash (hash l.key)) (l.contents ∷ y.chains (bucket_of_hash (hash l.key))) z) c ≡ true) e.1
-    (ap (λ (xs : List ℕ). is_among xs c) (at-itself y.chains (bucket_of_hash (hash l.key)) (l.contents ∷ y.chains (bucket_of_hash (hash l.key)))) ∙ or_right (l.contents == c) (is_among (y.chains (bucket_of_hash (hash l.key))) c) (ap (λ (q : ℕ). is_among (y.chains q) c) e.1 ∙ h)))
-    (λ (e : (eqb (bucket_of_hash (hash l.key)) n ≡ false) × _). ap (λ (xs : List ℕ). is_among xs c) (at-elsewhere y.chains (bucket_of_hash (hash l.key)) (l.contents ∷ y.chains (bucket_of_hash (hash l.key))) n e.0) ∙ h)
-    (eqb_tells (bucket_of_hash (hash l.key)) n)
+      (λ (e : (eqb (bucket_of_hash (hash l.key)) n ≡ true) × (bucket_of_hash (hash l.key) ≡ n)).
+      subst (λ (z : ℕ). is_among (put y.chains (bucket_of_hash (hash l.key)) (l.contents ∷ y.chains (bucket_of_hash (hash l.key))) z) c ≡ true) e.1
+      (ap (λ (xs : List ℕ). is_among xs c) (at-itself y.chains (bucket_of_hash (hash l.key)) (l.contents ∷ y.chains (bucket_of_hash (hash l.key)))) ∙ or_right (l.contents == c) (is_among (y.chains (bucket_of_hash (hash l.key))) c) (ap (λ (q : ℕ). is_among (y.chains q) c) e.1 ∙ h)))
+      (λ (e : (eqb (bucket_of_hash (hash l.key)) n ≡ false) × _). ap (λ (xs : List ℕ). is_among xs c) (at-elsewhere y.chains (bucket_of_hash (hash l.key)) (l.contents ∷ y.chains (bucket_of_hash (hash l.key))) n e.0) ∙ h)
+      (eqb_tells (bucket_of_hash (hash l.key)) n)
 
   owned-after : (w : ℕ) (x : Loaded) (c : Claim) → y.at w ≡ Some x → has_claim (all_claims x) c ≡ true → (if has_claim (all_claims l) c then Some l.node else y.owner c) ≡ Some w
   owned-after w x c is h = ⊎_elim
-    (λ (e : has_claim (all_claims l) c ≡ true). let p : y.owner c ≡ None = new.free c e in let q : y.owner c ≡ Some w = r.own w x c is h in absurd (let z : ◌≡◌ {A = Option ℕ} (Some w) None = sym q ∙ p in cc))
-    (λ (e : has_claim (all_claims l) c ≡ false). rw e (r.own w x c is h))
-    (cases_Bool (has_claim (all_claims l) c))
+      (λ (e : has_claim (all_claims l) c ≡ true). let p : y.owner c ≡ None = new.free c e in let q : y.owner c ≡ Some w = r.own w x c is h in absurd (let z : ◌≡◌ {A = Option ℕ} (Some w) None = sym q ∙ p in cc))
+      (λ (e : has_claim (all_claims l) c ≡ false). rw e (r.own w x c is h))
+      (cases_Bool (has_claim (all_claims l) c))
 
   pub created-lies : Lies (created handle key m) (with_new y key l)
   unfolding created
   created-lies = record {
     laid = λ i h. ⊎_elim (λ (e : i ≡ main key). subst (IsLaid (created handle key m) (with_new y key l)) (sym e) laid-new) (λ (there : is_listed m i ≡ true). laid-old i there) (listed-after i h);
     normal = λ w h. ⊎_elim
-      (λ (e : w ≡ l.node). ap (put y.state l.node 0) e ∙ at-itself y.state l.node 0)
-      (λ (there : is_among (order m y) w ≡ true).
-      let n : IsNodeOf y m.uses w = node-of y m.uses w there in
-      let q : IsLaid m y n.item = r.laid n.item n.among in
-      let o : (l.node == w) ≡ false = other-node w q.loaded (ap y.at (sym n.is) ∙ q.here) in
-      at-elsewhere y.state l.node 0 w o ∙ r.normal w there)
-      (node-after w h);
+        (λ (e : w ≡ l.node). ap (put y.state l.node 0) e ∙ at-itself y.state l.node 0)
+        (λ (there : is_among (order m y) w ≡ true).
+        let n : IsNodeOf y m.uses w = node-of y m.uses w there in
+        let q : IsLaid m y n.item = r.laid n.item n.among in
+        let o : (l.node == w) ≡ false = other-node w q.loaded (ap y.at (sym n.is) ∙ q.here) in
+        at-elsewhere y.state l.node 0 w o ∙ r.normal w there)
+        (node-after w h);
     chained = λ w x h is. at-after (λ z k. is_among (order (created handle key m) (with_new y key l)) z ≡ true → is_among (put y.chains (bucket_of_hash (hash l.key)) (l.contents ∷ y.chains (bucket_of_hash (hash l.key))) (bucket_of_hash (hash k.key))) k.contents ≡ true) w x is
-      (λ _. ap (λ (xs : List ℕ). is_among xs l.contents) (at-itself y.chains (bucket_of_hash (hash l.key)) (l.contents ∷ y.chains (bucket_of_hash (hash l.key)))) ∙ or_left (l.contents == l.contents) (is_among (y.chains (bucket_of_hash (hash l.key))) l.contents) (eq-eqb l.contents l.contents refl))
-      (λ old g. ⊎_elim
-      (λ (e : w ≡ l.node). let a : y.at w ≡ None = ap y.at e ∙ new.nobody in absurd (let z : ◌≡◌ {A = Option Loaded} (Some x) None = sym old ∙ a in cc))
-      (λ (there : is_among (order m y) w ≡ true). chain-still (bucket_of_hash (hash x.key)) x.contents (r.chained w x there old))
-      (node-after w g))
-      h;
+        (λ _. ap (λ (xs : List ℕ). is_among xs l.contents) (at-itself y.chains (bucket_of_hash (hash l.key)) (l.contents ∷ y.chains (bucket_of_hash (hash l.key)))) ∙ or_left (l.contents == l.contents) (is_among (y.chains (bucket_of_hash (hash l.key))) l.contents) (eq-eqb l.contents l.contents refl))
+        (λ old g. ⊎_elim
+        (λ (e : w ≡ l.node). let a : y.at w ≡ None = ap y.at e ∙ new.nobody in absurd (let z : ◌≡◌ {A = Option Loaded} (Some x) None = sym old ∙ a in cc))
+        (λ (there : is_among (order m y) w ≡ true). chain-still (bucket_of_hash (hash x.key)) x.contents (r.chained w x there old))
+        (node-after w g))
+        h;
     unchained = λ n c below h. ⊎_elim
-      (λ (e : c ≡ l.contents). record { node = l.node; loaded = l; listed = ap (λ (xs : List ℕ). is_among xs l.node) order-after ∙ or_left (l.node == l.node) (is_among (order m y) l.node) (eq-eqb l.node l.node refl); here = at-itself y.at l.node (Some l); record_is = sym e })
-      (λ (there : is_among (y.chains n) c ≡ true). let q : IsListedRecord m y c = r.unchained n c below there in
-      record { node = q.node; loaded = q.loaded; listed = node-still q.node q.listed; here = at-old q.node q.loaded q.here; record_is = q.record_is })
-      (chain-after n c h);
+        (λ (e : c ≡ l.contents). record { node = l.node; loaded = l; listed = ap (λ (xs : List ℕ). is_among xs l.node) order-after ∙ or_left (l.node == l.node) (is_among (order m y) l.node) (eq-eqb l.node l.node refl); here = at-itself y.at l.node (Some l); record_is = sym e })
+        (λ (there : is_among (y.chains n) c ≡ true). let q : IsListedRecord m y c = r.unchained n c below there in
+        record { node = q.node; loaded = q.loaded; listed = node-still q.node q.listed; here = at-old q.node q.loaded q.here; record_is = q.record_is })
+        (chain-after n c h);
     own = λ w x c is h. at-after (λ z k. has_claim (all_claims k) c ≡ true → (if has_claim (all_claims l) c then Some l.node else y.owner c) ≡ Some z) w x is (λ g. rw g refl) (λ old g. owned-after w x c old g) h;
     single = λ w x is. at-after (λ z k. repeats (all_claims k) ≡ false) w x is new.single (λ old. r.single w x old);
     doomed_objects = λ number o is dead. ⊎_elim
-      (λ (old : object_at m number ≡ Some o). let d : IsDoomedAt m y number o = r.doomed_objects number o old dead in
-      record {
-        loaded = d.loaded; here = at-old (y.place_of_doomed number) d.loaded d.here; row = d.row; mark = d.mark;
-        unlisted = ap (λ (xs : List ℕ). is_among xs (y.place_of_doomed number)) order-after ∙ none-of l.node (y.place_of_doomed number) (order m y) (other-node (y.place_of_doomed number) d.loaded d.here) d.unlisted;
-      })
-      (λ (e : Some (new_object key) ≡ Some o). let s : new_object key ≡ o = cc in absurd (let z : true ≡ false = ap (λ (q : Object). q.live) s ∙ dead in cc))
-      (push-back m.objects (Some (new_object key)) number o is);
+        (λ (old : object_at m number ≡ Some o). let d : IsDoomedAt m y number o = r.doomed_objects number o old dead in
+        record {
+          loaded = d.loaded;
+          here = at-old (y.place_of_doomed number) d.loaded d.here;
+          row = d.row;
+          mark = d.mark;
+          unlisted = ap (λ (xs : List ℕ). is_among xs (y.place_of_doomed number)) order-after ∙ none-of l.node (y.place_of_doomed number) (order m y) (other-node (y.place_of_doomed number) d.loaded d.here) d.unlisted;
+        })
+        (λ (e : Some (new_object key) ≡ Some o). let s : new_object key ≡ o = cc in absurd (let z : true ≡ false = ap (λ (q : Object). q.live) s ∙ dead in cc))
+        (push-back m.objects (Some (new_object key)) number o is);
   }
 
   -- what is at rest is the same before and after
@@ -318,7 +326,7 @@ load-table v t rule w l free ok = load-then v rule w l ok (λ n e g.
       };
     }))
 
-linked-table : (v : Stock) (t : ℕ → ℕ) (b w : ℕ) (cs : List ℕ) → Linked v b w cs → Linked (record v { table = t }) b w cs
+pub linked-table : (v : Stock) (t : ℕ → ℕ) (b w : ℕ) (cs : List ℕ) → Linked v b w cs → Linked (record v { table = t }) b w cs
 linked-table v t b w [] h = h
 linked-table v t b w (c ∷ cs) h = (h.0, h.1, linked-table v t b (v.follow c) cs h.2)
 
@@ -335,36 +343,39 @@ module _ (v : Stock) (y : Layout) (r : Shows v y) (key : List ℕ) (l : Loaded) 
 
   front-chain : bucket_of_hash (hash l.key) < 65536 → IsChain (linked_front v l) (bucket_of_hash (hash l.key)) (l.contents ∷ y.chains (bucket_of_hash (hash l.key)))
   front-chain below = let c : IsChain v (bucket_of_hash (hash l.key)) (y.chains (bucket_of_hash (hash l.key))) = r.chains (bucket_of_hash (hash l.key)) below in
-    record {
-      linked = (at-itself v.table (bucket_of_hash (hash l.key)) l.contents, of_bucket,
-      linked-table v (put v.table (bucket_of_hash (hash l.key)) l.contents) (bucket_of_hash (hash l.key)) (v.follow l.contents) (y.chains (bucket_of_hash (hash l.key))) (subst (λ (x : ℕ). Linked v (bucket_of_hash (hash l.key)) x (y.chains (bucket_of_hash (hash l.key)))) (sym front.follows) c.linked));
-      once = (front.fresh, c.once);
-      few = let f = front.few in omega arith;
-    }
+      record {
+        linked = (
+          at-itself v.table (bucket_of_hash (hash l.key)) l.contents,
+          of_bucket,
+          linked-table v (put v.table (bucket_of_hash (hash l.key)) l.contents) (bucket_of_hash (hash l.key)) (v.follow l.contents) (y.chains (bucket_of_hash (hash l.key))) (subst (λ (x : ℕ). Linked v (bucket_of_hash (hash l.key)) x (y.chains (bucket_of_hash (hash l.key)))) (sym front.follows) c.linked),
+        );
+        once = (front.fresh, c.once);
+        few = let f = front.few in omega arith;
+      }
 
   chains-after : (n : ℕ) → n < 65536 → IsChain (linked_front v l) n (put y.chains (bucket_of_hash (hash l.key)) (l.contents ∷ y.chains (bucket_of_hash (hash l.key))) n)
   chains-after n below = ⊎_elim
-    (λ (e : (eqb (bucket_of_hash (hash l.key)) n ≡ true) × (bucket_of_hash (hash l.key) ≡ n)).
-    subst (λ (z : ℕ). IsChain (linked_front v l) z (put y.chains (bucket_of_hash (hash l.key)) (l.contents ∷ y.chains (bucket_of_hash (hash l.key))) z)) e.1
-    (subst (IsChain (linked_front v l) (bucket_of_hash (hash l.key))) (sym (at-itself y.chains (bucket_of_hash (hash l.key)) (l.contents ∷ y.chains (bucket_of_hash (hash l.key))))) (front-chain (subst (λ (z : ℕ). z < 65536) (sym e.1) below))))
-    (λ (e : (eqb (bucket_of_hash (hash l.key)) n ≡ false) × _).
-    let c : IsChain v n (y.chains n) = r.chains n below in
-    subst (IsChain (linked_front v l) n) (sym (at-elsewhere y.chains (bucket_of_hash (hash l.key)) (l.contents ∷ y.chains (bucket_of_hash (hash l.key))) n e.0))
-    (record { linked = subst (λ (x : ℕ). Linked (linked_front v l) n x (y.chains n)) (sym (at-elsewhere v.table (bucket_of_hash (hash l.key)) l.contents n e.0)) (linked-table v (put v.table (bucket_of_hash (hash l.key)) l.contents) n (v.table n) (y.chains n) c.linked); once = c.once; few = c.few }))
-    (eqb_tells (bucket_of_hash (hash l.key)) n)
+      (λ (e : (eqb (bucket_of_hash (hash l.key)) n ≡ true) × (bucket_of_hash (hash l.key) ≡ n)).
+      subst (λ (z : ℕ). IsChain (linked_front v l) z (put y.chains (bucket_of_hash (hash l.key)) (l.contents ∷ y.chains (bucket_of_hash (hash l.key))) z)) e.1
+      (subst (IsChain (linked_front v l) (bucket_of_hash (hash l.key))) (sym (at-itself y.chains (bucket_of_hash (hash l.key)) (l.contents ∷ y.chains (bucket_of_hash (hash l.key))))) (front-chain (subst (λ (z : ℕ). z < 65536) (sym e.1) below))))
+      (λ (e : (eqb (bucket_of_hash (hash l.key)) n ≡ false) × _).
+      let c : IsChain v n (y.chains n) = r.chains n below in
+      subst (IsChain (linked_front v l) n) (sym (at-elsewhere y.chains (bucket_of_hash (hash l.key)) (l.contents ∷ y.chains (bucket_of_hash (hash l.key))) n e.0))
+      (record { linked = subst (λ (x : ℕ). Linked (linked_front v l) n x (y.chains n)) (sym (at-elsewhere v.table (bucket_of_hash (hash l.key)) l.contents n e.0)) (linked-table v (put v.table (bucket_of_hash (hash l.key)) l.contents) n (v.table n) (y.chains n) c.linked); once = c.once; few = c.few }))
+      (eqb_tells (bucket_of_hash (hash l.key)) n)
 
   each-after : (w : ℕ) (x : Loaded) → put y.at l.node (Some l) w ≡ Some x → load (linked_front v l) (rule_of (with_new y key l) w) w ≡ Ok x
   each-after w x is = ⊎_elim
-    (λ (e : (eqb l.node w ≡ true) × (l.node ≡ w)).
-    let a : ◌≡◌ {A = Option Loaded} (Some l) (Some x) = sym (at-itself y.at l.node (Some l)) ∙ ap (put y.at l.node (Some l)) e.1 ∙ is in
-    let s : l ≡ x = cc in
-    let rule_is : rule_of (with_new y key l) l.node ≡ record { state = 0; clean = false; chained = false } = ap (λ (z : ℕ). let q : Rule = record { state = z; clean = false; chained = false } in q) (at-itself y.state l.node 0) in
-    subst (λ (z : ℕ). load (linked_front v l) (rule_of (with_new y key l) z) z ≡ Ok x) e.1
-    (ap (λ (q : Rule). load (linked_front v l) q l.node) rule_is ∙ load-table v (put v.table (bucket_of_hash (hash l.key)) l.contents) (record { state = 0; clean = false; chained = false }) l.node l refl new.loads ∙ ap Ok s))
-    (λ (e : (eqb l.node w ≡ false) × _).
-    let rule_is : rule_of (with_new y key l) w ≡ rule_of y w = ap (λ (z : ℕ). let q : Rule = record { state = z; clean = false; chained = false } in q) (at-elsewhere y.state l.node 0 w e.0) in
-    ap (λ (q : Rule). load (linked_front v l) q w) rule_is ∙ load-table v (put v.table (bucket_of_hash (hash l.key)) l.contents) (rule_of y w) w x refl (r.each w x (sym (at-elsewhere y.at l.node (Some l) w e.0) ∙ is)))
-    (eqb_tells l.node w)
+      (λ (e : (eqb l.node w ≡ true) × (l.node ≡ w)).
+      let a : ◌≡◌ {A = Option Loaded} (Some l) (Some x) = sym (at-itself y.at l.node (Some l)) ∙ ap (put y.at l.node (Some l)) e.1 ∙ is in
+      let s : l ≡ x = cc in
+      let rule_is : rule_of (with_new y key l) l.node ≡ record { state = 0; clean = false; chained = false } = ap (λ (z : ℕ). let q : Rule = record { state = z; clean = false; chained = false } in q) (at-itself y.state l.node 0) in
+      subst (λ (z : ℕ). load (linked_front v l) (rule_of (with_new y key l) z) z ≡ Ok x) e.1
+      (ap (λ (q : Rule). load (linked_front v l) q l.node) rule_is ∙ load-table v (put v.table (bucket_of_hash (hash l.key)) l.contents) (record { state = 0; clean = false; chained = false }) l.node l refl new.loads ∙ ap Ok s))
+      (λ (e : (eqb l.node w ≡ false) × _).
+      let rule_is : rule_of (with_new y key l) w ≡ rule_of y w = ap (λ (z : ℕ). let q : Rule = record { state = z; clean = false; chained = false } in q) (at-elsewhere y.state l.node 0 w e.0) in
+      ap (λ (q : Rule). load (linked_front v l) q w) rule_is ∙ load-table v (put v.table (bucket_of_hash (hash l.key)) l.contents) (rule_of y w) w x refl (r.each w x (sym (at-elsewhere y.at l.node (Some l) w e.0) ∙ is)))
+      (eqb_tells l.node w)
 
   pub created-shows : Shows (linked_front v l) (with_new y key l)
   created-shows = record { no_record = r.no_record; each = each-after; chains = chains-after }
@@ -375,9 +386,9 @@ module _ (v : Stock) (y : Layout) (r : Shows v y) (key : List ℕ) (l : Loaded) 
 module _ (v : Stock) (rule : Rule) (ws : List ℕ) (given : ℕ → Option Loaded) (shown : IsShown v rule ws given) (w : ℕ) (lacks : is_among ws w ≡ false) (none : given w ≡ None) (unread : (k : Loaded) → load v rule w ≡ Ok k → ⊥) where
   older : (x : ℕ) (k : Loaded) → is_among (w ∷ ws) x ≡ true → given x ≡ Some k → is_among ws x ≡ true
   older x k there is = ⊎_elim
-    (λ (e : (eqb w x ≡ true) × (w ≡ x)). let a : given x ≡ None = ap given (sym e.1) ∙ none in absurd (let z : ◌≡◌ {A = Option Loaded} (Some k) None = sym is ∙ a in cc))
-    (λ (e : (eqb w x ≡ false) × _). rw e.0 at there)
-    (eqb_tells w x)
+      (λ (e : (eqb w x ≡ true) × (w ≡ x)). let a : given x ≡ None = ap given (sym e.1) ∙ none in absurd (let z : ◌≡◌ {A = Option Loaded} (Some k) None = sym is ∙ a in cc))
+      (λ (e : (eqb w x ≡ false) × _). rw e.0 at there)
+      (eqb_tells w x)
 
   pub shown-more : IsShown v rule (w ∷ ws) given
   shown-more = record {
@@ -386,24 +397,24 @@ module _ (v : Stock) (rule : Rule) (ws : List ℕ) (given : ℕ → Option Loade
     single = λ x l there is. shown.single x l (older x l there is) is;
     apart = λ x z k l in_x in_z other is_x is_z. shown.apart x z k l (older x k in_x is_x) (older z l in_z is_z) other is_x is_z;
     parents = λ x l name index there is role. let p : HasParentIn ws given name = shown.parents x l name index (older x l there is) is role in
-    record { at = p.at; parent = p.parent; among = or_right (w == p.at) (is_among ws p.at) p.among; is = p.is; of = p.of };
+        record { at = p.at; parent = p.parent; among = or_right (w == p.at) (is_among ws p.at) p.among; is = p.is; of = p.of };
     out = λ x l there gone ok. ⊎_elim
-    (λ (e : (eqb w x ≡ true) × (w ≡ x)). absurd (unread l (subst (λ (z : ℕ). load v rule z ≡ Ok l) (sym e.1) ok)))
-    (λ (e : (eqb w x ≡ false) × _).
-    let o : IsOrphanIn ws given l = shown.out x l (rw e.0 at there) gone ok in
-    record { name = o.name; index = o.index; part = o.part; none = λ z k at_z is. o.none z k (older z k at_z is) is })
-    (eqb_tells w x);
+        (λ (e : (eqb w x ≡ true) × (w ≡ x)). absurd (unread l (subst (λ (z : ℕ). load v rule z ≡ Ok l) (sym e.1) ok)))
+        (λ (e : (eqb w x ≡ false) × _).
+        let o : IsOrphanIn ws given l = shown.out x l (rw e.0 at there) gone ok in
+        record { name = o.name; index = o.index; part = o.part; none = λ z k at_z is. o.none z k (older z k at_z is) is })
+        (eqb_tells w x);
   }
 
 module _ (v : Stock) (m : State) (y : Layout) (r : Holds v m y) (valid : IsValidState m) (key : List ℕ) (l : Loaded) (new : IsNewEntry v y key l) (once : Distinct (order m y)) where
   pub new-lacks : is_among (order m y) l.node ≡ false
   new-lacks = ⊎_elim
-    (λ (e : is_among (order m y) l.node ≡ true).
-    let n : IsNodeOf y m.uses l.node = node-of y m.uses l.node e in let q : IsLaid m y n.item = r.lies.laid n.item n.among in
-    let a : y.at l.node ≡ Some q.loaded = ap y.at (sym n.is) ∙ q.here in
-    absurd (let z : ◌≡◌ {A = Option Loaded} (Some q.loaded) None = sym a ∙ new.nobody in cc))
-    (λ (e : is_among (order m y) l.node ≡ false). e)
-    (cases_Bool (is_among (order m y) l.node))
+      (λ (e : is_among (order m y) l.node ≡ true).
+      let n : IsNodeOf y m.uses l.node = node-of y m.uses l.node e in let q : IsLaid m y n.item = r.lies.laid n.item n.among in
+      let a : y.at l.node ≡ Some q.loaded = ap y.at (sym n.is) ∙ q.here in
+      absurd (let z : ◌≡◌ {A = Option Loaded} (Some q.loaded) None = sym a ∙ new.nobody in cc))
+      (λ (e : is_among (order m y) l.node ≡ false). e)
+      (cases_Bool (is_among (order m y) l.node))
 
   dirty-unread : (k : Loaded) → load v held l.node ≡ Ok k → ⊥
   dirty-unread k ok =

@@ -208,20 +208,20 @@ module _ (hole : ℕ → Bool) (v : Stock) (m : State) (y : Layout) (r : HoldsBu
   apart-items : (i j : Item) (k l : Loaded) → is_in items i ≡ true → is_in items j ≡ true → (y.place i == y.place j) ≡ false → y.at (y.place i) ≡ Some k → good k ≡ true → y.at (y.place j) ≡ Some l → good l ≡ true → Apart k l
   apart-items i j k l in_i in_j other is_k good_k is_l good_l = record {
     claims = clash-none (all_claims k) (all_claims l) (λ c a b.
-    let p : y.owner c ≡ Some (y.place i) = r.own (y.place i) k c is_k a in
-    let q : y.owner c ≡ Some (y.place j) = r.own (y.place j) l c is_l b in
-    let s : y.place i ≡ y.place j = cc in
-    let t : (y.place i == y.place j) ≡ true = eq-eqb _ _ s in
-    cc);
+        let p : y.owner c ≡ Some (y.place i) = r.own (y.place i) k c is_k a in
+        let q : y.owner c ≡ Some (y.place j) = r.own (y.place j) l c is_l b in
+        let s : y.place i ≡ y.place j = cc in
+        let t : (y.place i == y.place j) ≡ true = eq-eqb _ _ s in
+        cc);
     names = ⊎_elim
-    (λ (e : is_named (k ∷ []) l ≡ true).
-    let p = named-same k l e in
-    let s : item_at k ≡ item_at l = items-same k l (name-of i k in_i is_k good_k) (name-of j l in_j is_l good_l) p.0 p.1 in
-    let t : i ≡ j = sym (item-is i k in_i is_k) ∙ s ∙ item-is j l in_j is_l in
-    let u : (y.place i == y.place j) ≡ true = eq-eqb _ _ (ap y.place t) in
-    absurd (let x : true ≡ false = sym u ∙ other in cc))
-    (λ (e : is_named (k ∷ []) l ≡ false). e)
-    (cases_Bool (is_named (k ∷ []) l));
+        (λ (e : is_named (k ∷ []) l ≡ true).
+        let p = named-same k l e in
+        let s : item_at k ≡ item_at l = items-same k l (name-of i k in_i is_k good_k) (name-of j l in_j is_l good_l) p.0 p.1 in
+        let t : i ≡ j = sym (item-is i k in_i is_k) ∙ s ∙ item-is j l in_j is_l in
+        let u : (y.place i == y.place j) ≡ true = eq-eqb _ _ (ap y.place t) in
+        absurd (let x : true ≡ false = sym u ∙ other in cc))
+        (λ (e : is_named (k ∷ []) l ≡ false). e)
+        (cases_Bool (is_named (k ∷ []) l));
   }
 
   -- a part's item
@@ -284,17 +284,17 @@ module _ (hole : ℕ → Bool) (v : Stock) (m : State) (y : Layout) (r : HoldsBu
               index = q.index;
               part = q.role;
               none = λ x k there given.
-              ⊎_elim
-              (λ (of : is_parent_of q.name k ≡ true).
-              let at : IsNodeOf y items x = node-of y items x there in
-              let p = given-parts good (y.at (y.place at.item)) k (ap (given_by good y) at.is ∙ given) in
-              let main_is : at.item ≡ main key = sym (item-is at.item k at.among p.0) ∙ main-item q.name k of ∙ ap main q.of_key in
-              let in_main : is_in items (main key) ≡ true = subst (λ (z : Item). is_in items z ≡ true) main_is at.among in
-              let is_main : y.at (y.place (main key)) ≡ Some k = subst (λ (z : Item). y.at (y.place z) ≡ Some k) main_is p.0 in
-              let c : good k ≡ false = goes.part_out key n l k among here is_main bad in_main in
-              absurd (let d : true ≡ false = sym p.1 ∙ c in cc))
-              (λ (of : is_parent_of q.name k ≡ false). of)
-              (cases_Bool (is_parent_of q.name k));
+                  ⊎_elim
+                  (λ (of : is_parent_of q.name k ≡ true).
+                  let at : IsNodeOf y items x = node-of y items x there in
+                  let p = given-parts good (y.at (y.place at.item)) k (ap (given_by good y) at.is ∙ given) in
+                  let main_is : at.item ≡ main key = sym (item-is at.item k at.among p.0) ∙ main-item q.name k of ∙ ap main q.of_key in
+                  let in_main : is_in items (main key) ≡ true = subst (λ (z : Item). is_in items z ≡ true) main_is at.among in
+                  let is_main : y.at (y.place (main key)) ≡ Some k = subst (λ (z : Item). y.at (y.place z) ≡ Some k) main_is p.0 in
+                  let c : good k ≡ false = goes.part_out key n l k among here is_main bad in_main in
+                  absurd (let d : true ≡ false = sym p.1 ∙ c in cc))
+                  (λ (of : is_parent_of q.name k ≡ false). of)
+                  (cases_Bool (is_parent_of q.name k));
             }
 
   pub laid-but : IsShown v rule (nodes_of y items) (given_by good y)
@@ -302,15 +302,15 @@ module _ (hole : ℕ → Bool) (v : Stock) (m : State) (y : Layout) (r : HoldsBu
   laid-but = record {
     once = once;
     loads = λ w l there given. let a : IsNodeOf y items w = node-of y items w there in
-    subst (λ (x : ℕ). given_by good y x ≡ Some l → load v rule x ≡ Ok l) a.is (loads-with a.item l a.among) given;
+        subst (λ (x : ℕ). given_by good y x ≡ Some l → load v rule x ≡ Ok l) a.is (loads-with a.item l a.among) given;
     single = λ w l there given. repeats-tail (claims_of l.node) (record_claims l) (r.single w l (given-parts good (y.at w) l given).0);
     apart = λ w x k l at_w at_x other given_w given_x.
-    let a : IsNodeOf y items w = node-of y items w at_w in let b : IsNodeOf y items x = node-of y items x at_x in
-    apart-items a.item b.item k l a.among b.among (rw (a.is, b.is) other) (ap y.at a.is ∙ (given-parts good (y.at w) k given_w).0) (given-parts good (y.at w) k given_w).1 (ap y.at b.is ∙ (given-parts good (y.at x) l given_x).0) (given-parts good (y.at x) l given_x).1;
+        let a : IsNodeOf y items w = node-of y items w at_w in let b : IsNodeOf y items x = node-of y items x at_x in
+        apart-items a.item b.item k l a.among b.among (rw (a.is, b.is) other) (ap y.at a.is ∙ (given-parts good (y.at w) k given_w).0) (given-parts good (y.at w) k given_w).1 (ap y.at b.is ∙ (given-parts good (y.at x) l given_x).0) (given-parts good (y.at x) l given_x).1;
     parents = λ w l name index there given role. let a : IsNodeOf y items w = node-of y items w there in
-    parent-item a.item l name index a.among (ap (given_by good y) a.is ∙ given) role;
+        parent-item a.item l name index a.among (ap (given_by good y) a.is ∙ given) role;
     out = λ w l there none ok. let a : IsNodeOf y items w = node-of y items w there in
-    out-item a.item l a.among (ap (given_by good y) a.is ∙ none) (ap (load v rule) a.is ∙ ok);
+        out-item a.item l a.among (ap (given_by good y) a.is ∙ none) (ap (load v rule) a.is ∙ ok);
   }
 
 -- with no such node
@@ -358,13 +358,13 @@ module _ (m : State) (y : Layout) (lay : (i : Item) → is_listed m i ≡ true �
     clean = λ i l among is good. of_item i l among is good;
     main_out = λ key l among is bad. sym (settled-main key l among is) ∙ bad;
     part_in = λ key n l p among is above good.
-    let e : (is_in items (main key) && (p.dirty == 0)) ≡ true = sym (settled-part key n l p among is above) ∙ good in
-    let b = and_parts (is_in items (main key)) (p.dirty == 0) e in
-    (b.0, settled-main key p b.0 above ∙ b.1);
+        let e : (is_in items (main key) && (p.dirty == 0)) ≡ true = sym (settled-part key n l p among is above) ∙ good in
+        let b = and_parts (is_in items (main key)) (p.dirty == 0) e in
+        (b.0, settled-main key p b.0 above ∙ b.1);
     part_out = λ key n l p among is above bad here.
-    let e : (is_in items (main key) && (p.dirty == 0)) ≡ false = sym (settled-part key n l p among is above) ∙ bad in
-    let f : (p.dirty == 0) ≡ false = rw here at e in
-    settled-main key p here above ∙ f;
+        let e : (is_in items (main key) && (p.dirty == 0)) ≡ false = sym (settled-part key n l p among is above) ∙ bad in
+        let f : (p.dirty == 0) ≡ false = rw here at e in
+        settled-main key p here above ∙ f;
   } where
     of_item : (i : Item) (l : Loaded) → is_in items i ≡ true → y.at (y.place i) ≡ Some l → is_settled y items l ≡ true → (l.dirty == 0) ≡ true
     of_item (main key) l among is good = sym (settled-main key l among is) ∙ good

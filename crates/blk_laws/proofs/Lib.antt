@@ -26,3 +26,12 @@ pub mod ClaimLists
 pub mod Standing
 pub mod BlockBytes
 pub mod Writing
+pub mod ByteChanges
+pub mod LeavingOut
+pub mod FoundFrames
+pub mod Finished
+pub mod FrameLaw
+pub mod AtRest
+pub mod ChainLinks
+pub mod Covers
+pub mod DirtyWords

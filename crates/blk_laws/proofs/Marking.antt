@@ -97,11 +97,11 @@ module _ (v u : View) (m : State) (y : Layout) (r : Represents v m y) (valid : I
   record-clear : (c : Claim) → has_claim (record_claims l) c ≡ true → has_claim (claims_of (y.place (main o.key))) c ≡ false
   unfolding all_claims
   record-clear c h = ⊎_elim
-    (λ (e : has_claim (claims_of (y.place (main o.key))) c ≡ true).
-    let a : has_claim (record_claims l) c ≡ false = repeats-apart (claims_of l.node) (record_claims l) c (r.holds.lies.single (y.place (main o.key)) l at) (ap (λ (x : ℕ). has_claim (claims_of x) c) node ∙ e) in
-    absurd (let z : true ≡ false = sym h ∙ a in cc))
-    (λ (e : has_claim (claims_of (y.place (main o.key))) c ≡ false). e)
-    (cases_Bool (has_claim (claims_of (y.place (main o.key))) c))
+      (λ (e : has_claim (claims_of (y.place (main o.key))) c ≡ true).
+      let a : has_claim (record_claims l) c ≡ false = repeats-apart (claims_of l.node) (record_claims l) c (r.holds.lies.single (y.place (main o.key)) l at) (ap (λ (x : ℕ). has_claim (claims_of x) c) node ∙ e) in
+      absurd (let z : true ≡ false = sym h ∙ a in cc))
+      (λ (e : has_claim (claims_of (y.place (main o.key))) c ≡ false). e)
+      (cases_Bool (has_claim (claims_of (y.place (main o.key))) c))
 
   contents-clear : IsClear (has_claim (claims_of (y.place (main o.key)))) l.contents
   unfolding record_claims
@@ -113,15 +113,15 @@ module _ (v u : View) (m : State) (y : Layout) (r : Represents v m y) (valid : I
 
   pub marked : Represents u (record m { objects = set m.objects number (Some (record o { settled = b })) }) (changed_at y (y.place (main o.key)) (record l { dirty = d }) y.owner)
   marked = replaced (has_claim (claims_of (y.place (main o.key)))) v u m y r (set m.objects number (Some (record o { settled = b }))) (main o.key) l (record l { dirty = d }) y.owner same
-    (settle-one m valid number o b here live) (main-listed m valid number o b here live) at (settle-change m valid number o b here live y r.holds.lies l at d mark)
-    (record {
-      apart = λ c x own apart. ⊎_elim
-        (λ (e : has_claim (claims_of (y.place (main o.key))) c ≡ true). let p : y.owner c ≡ Some (y.place (main o.key)) = node-own c e in let q : y.owner c ≡ Some x = own in let s : y.place (main o.key) ≡ x = cc in
-        absurd (let z : true ≡ false = sym (eq-eqb (y.place (main o.key)) x s) ∙ apart in cc))
-        (λ (e : has_claim (claims_of (y.place (main o.key))) c ≡ false). e)
-        (cases_Bool (has_claim (claims_of (y.place (main o.key))) c));
-      loads = load-marked (has_claim (claims_of (y.place (main o.key)))) v.stock u.stock same.stock (rule_of y (y.place (main o.key))) (y.place (main o.key)) d l refl refl named contents-clear others-clear loads;
-      bucket = λ n. ap (λ (x : Option Core). option_map_or (λ e. e.checks && (bucket_of_hash e.hash == n)) x false) (sym (same.stock.entry l.contents contents-clear));
-      follow = sym (same.stock.follow l.contents contents-clear);
-      links = links;
-    })
+      (settle-one m valid number o b here live) (main-listed m valid number o b here live) at (settle-change m valid number o b here live y r.holds.lies l at d mark)
+      (record {
+        apart = λ c x own apart. ⊎_elim
+            (λ (e : has_claim (claims_of (y.place (main o.key))) c ≡ true). let p : y.owner c ≡ Some (y.place (main o.key)) = node-own c e in let q : y.owner c ≡ Some x = own in let s : y.place (main o.key) ≡ x = cc in
+            absurd (let z : true ≡ false = sym (eq-eqb (y.place (main o.key)) x s) ∙ apart in cc))
+            (λ (e : has_claim (claims_of (y.place (main o.key))) c ≡ false). e)
+            (cases_Bool (has_claim (claims_of (y.place (main o.key))) c));
+        loads = load-marked (has_claim (claims_of (y.place (main o.key)))) v.stock u.stock same.stock (rule_of y (y.place (main o.key))) (y.place (main o.key)) d l refl refl named contents-clear others-clear loads;
+        bucket = λ n. ap (λ (x : Option Core). option_map_or (λ e. e.checks && (bucket_of_hash e.hash == n)) x false) (sym (same.stock.entry l.contents contents-clear));
+        follow = sym (same.stock.follow l.contents contents-clear);
+        links = links;
+      })

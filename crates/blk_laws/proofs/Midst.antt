@@ -66,15 +66,15 @@ module _ (hole : ℕ → Bool) (v : Stock) (m : State) (y : Layout) (r : HoldsBu
           index = a.1;
           part = a.2;
           none = λ w g at_w given. ⊎_elim
-            (λ (of : is_parent_of a.0 g ≡ true).
-            let b : IsNodeOf y m.uses w = node-of y m.uses w at_w in
-            let parts = given-parts (is_settled y m.uses) (y.at (y.place b.item)) g (ap (given_by (is_settled y m.uses) y) b.is ∙ given) in
-            let main_is : b.item ≡ main key = sym (item-of m y r.laid b.item g b.among parts.0) ∙ parent-main a.0 g of ∙ ap main key_is in
-            let listed : is_listed m (main key) ≡ true = subst (λ (z : Item). is_listed m z ≡ true) main_is b.among in
-            let is : y.at (y.place (main key)) ≡ Some g = subst (λ (z : Item). y.at (y.place z) ≡ Some g) main_is parts.0 in
-            absurd (let c : true ≡ false = sym parts.1 ∙ bad-main g listed is in cc))
-            (λ (of : is_parent_of a.0 g ≡ false). of)
-            (cases_Bool (is_parent_of a.0 g));
+              (λ (of : is_parent_of a.0 g ≡ true).
+              let b : IsNodeOf y m.uses w = node-of y m.uses w at_w in
+              let parts = given-parts (is_settled y m.uses) (y.at (y.place b.item)) g (ap (given_by (is_settled y m.uses) y) b.is ∙ given) in
+              let main_is : b.item ≡ main key = sym (item-of m y r.laid b.item g b.among parts.0) ∙ parent-main a.0 g of ∙ ap main key_is in
+              let listed : is_listed m (main key) ≡ true = subst (λ (z : Item). is_listed m z ≡ true) main_is b.among in
+              let is : y.at (y.place (main key)) ≡ Some g = subst (λ (z : Item). y.at (y.place z) ≡ Some g) main_is parts.0 in
+              absurd (let c : true ≡ false = sym parts.1 ∙ bad-main g listed is in cc))
+              (λ (of : is_parent_of a.0 g ≡ false). of)
+              (cases_Bool (is_parent_of a.0 g));
         }
 
   pub midst-rest : map row_of (kept_among v held (order m y)) ≡ model.rest m

@@ -57,11 +57,11 @@ module _ (m : State) (y : Layout) (uses : List Item) (names : List (Option ℕ))
     normal = λ w there. r.normal w (sym (same-has y uses m.uses same w) ∙ there);
     chained = λ w l there is. r.chained w l (sym (same-has y uses m.uses same w) ∙ there) is;
     unchained = λ b c below there. let q : IsListedRecord m y c = r.unchained b c below there in
-    record { node = q.node; loaded = q.loaded; listed = same-has y uses m.uses same q.node ∙ q.listed; here = q.here; record_is = q.record_is };
+        record { node = q.node; loaded = q.loaded; listed = same-has y uses m.uses same q.node ∙ q.listed; here = q.here; record_is = q.record_is };
     own = r.own;
     single = r.single;
     doomed_objects = λ number o is dead. let d : IsDoomedAt m y number o = r.doomed_objects number o is dead in
-    record { loaded = d.loaded; here = d.here; row = d.row; mark = d.mark; unlisted = same-has y uses m.uses same (y.place_of_doomed number) ∙ d.unlisted };
+        record { loaded = d.loaded; here = d.here; row = d.row; mark = d.mark; unlisted = same-has y uses m.uses same (y.place_of_doomed number) ∙ d.unlisted };
   } where
     mark : (i : Item) (l : Loaded) → IsMarked m i l → IsMarked (record m { uses = uses; names = names }) i l
     mark (main key) l x = x
@@ -261,6 +261,6 @@ module _ (v : View) (m : State) (y : Layout) (r : Represents v m y) (valid : IsV
           within = rw steps-are (omega arith);
           with_turned = false;
           picked_rows = ap (λ (ws : List ℕ). map row_of (kept_among v.stock held ws)) e
-          ∙ picked-order v.stock m y r.holds valid (used (main key) m.uses) (used (main key) m.uses) names (used-same (main key) m.uses a) (touched-once v m y r (main key) a)
-          ∙ ap (pick m (record m { uses = used (main key) m.uses; names = names }) false) listed-after;
+              ∙ picked-order v.stock m y r.holds valid (used (main key) m.uses) (used (main key) m.uses) names (used-same (main key) m.uses a) (touched-once v m y r (main key) a)
+              ∙ ap (pick m (record m { uses = used (main key) m.uses; names = names }) false) listed-after;
         }

@@ -105,9 +105,11 @@ module _ (touched : Claim → Bool) (v u : Stock) (same : SameStock touched v u)
   linked-same : (b w : ℕ) (cs : List ℕ) → ((c : ℕ) → is_among cs c ≡ true → IsClear touched c) → Linked v b w cs → Linked u b w cs
   linked-same b w [] clear linked = linked
   linked-same b w (c ∷ cs) clear linked =
-      let here : IsClear touched c = clear c (or_left (c == c) (is_among cs c) (eq-eqb c c refl)) in
-      (linked.0, ap (λ (o : Option Core). option_map_or (λ e. e.checks && (bucket_of_hash e.hash == b)) o false) (sym (same.entry c here)) ∙ linked.1,
-      subst (λ (x : ℕ). Linked u b x cs) (same.follow c here) (linked-same b (v.follow c) cs (λ d h. clear d (or_right (c == d) (is_among cs d) h)) linked.2))
+      let here : IsClear touched c = clear c (or_left (c == c) (is_among cs c) (eq-eqb c c refl)) in (
+        linked.0,
+        ap (λ (o : Option Core). option_map_or (λ e. e.checks && (bucket_of_hash e.hash == b)) o false) (sym (same.entry c here)) ∙ linked.1,
+        subst (λ (x : ℕ). Linked u b x cs) (same.follow c here) (linked-same b (v.follow c) cs (λ d h. clear d (or_right (c == d) (is_among cs d) h)) linked.2),
+      )
 
 -- ---- the whole
 
@@ -118,7 +120,7 @@ module _ (touched : Claim → Bool) (v u : Stock) (same : SameStock touched v u)
     no_record = sym (same.entry 0 (clear-zero touched)) ∙ r.no_record;
     each = λ w l is. load-outside touched v u same (rule_of y w) w l refl (r.each w l is) (clear w l is);
     chains = λ b below. let is : IsChain v b (y.chains b) = r.chains b below in
-    record { linked = subst (λ (x : ℕ). Linked u b x (y.chains b)) (table b) (linked-same touched v u same b (v.table b) (y.chains b) (λ c there. chain_clear b c below there) is.linked); once = is.once; few = is.few };
+        record { linked = subst (λ (x : ℕ). Linked u b x (y.chains b)) (table b) (linked-same touched v u same b (v.table b) (y.chains b) (λ c there. chain_clear b c below there) is.linked); once = is.once; few = is.few };
   }
 
 module _ (touched : Claim → Bool) (m : State) (y : Layout) (free : IsFree touched y) (r : Lies m y) where
@@ -133,9 +135,10 @@ segment-same : (touched : Claim → Bool) (l k : ListView) (same : SameLinks tou
     → Segment l.checks l.next l.prev before xs behind → Segment k.checks k.next k.prev before xs behind
 segment-same touched l k same before behind [] clear s = tt
 segment-same touched l k same before behind (x ∷ xs) clear s =
-    let here : IsClear touched x = clear x (or_left (x == x) (is_among xs x) (eq-eqb x x refl)) in
-    (record { good = sym (same.checks x here) ∙ s.0.good; next_is = sym (same.next x here) ∙ s.0.next_is; prev_is = sym (same.prev x here) ∙ s.0.prev_is },
-    segment-same touched l k same x behind xs (λ w h. clear w (or_right (x == w) (is_among xs w) h)) s.1)
+    let here : IsClear touched x = clear x (or_left (x == x) (is_among xs x) (eq-eqb x x refl)) in (
+      record { good = sym (same.checks x here) ∙ s.0.good; next_is = sym (same.next x here) ∙ s.0.next_is; prev_is = sym (same.prev x here) ∙ s.0.prev_is },
+      segment-same touched l k same x behind xs (λ w h. clear w (or_right (x == w) (is_among xs w) h)) s.1,
+    )
 
 pub list-outside : (touched : Claim → Bool) (l k : ListView) (nodes : List ℕ) → SameLinks touched l k → ((w : ℕ) → is_among nodes w ≡ true → IsClear touched w) → IsList l nodes → IsList k nodes
 list-outside touched l k nodes same clear list = record {

@@ -23,15 +23,15 @@ in-filter p [] i = none (p i) where
   none true = refl
   none false = refl
 in-filter p (x ∷ xs) i = ⊎_elim
-  (λ (a : p x ≡ true). ⊎_elim
+    (λ (a : p x ≡ true). ⊎_elim
     (λ (e : same_item i x ≡ true). let y : p i ≡ true = ap p (one_item i x e) ∙ a in rw (a, e, y) refl)
     (λ (e : same_item i x ≡ false). rw (a, e) (in-filter p xs i))
     (cases_Bool (same_item i x)))
-  (λ (a : p x ≡ false). ⊎_elim
+    (λ (a : p x ≡ false). ⊎_elim
     (λ (e : same_item i x ≡ true). let y : p i ≡ false = ap p (one_item i x e) ∙ a in rw (a, e, y) (in-filter p xs i ∙ ap (λ (b : Bool). b && is_in xs i) y))
     (λ (e : same_item i x ≡ false). rw (a, e) (in-filter p xs i))
     (cases_Bool (same_item i x)))
-  (cases_Bool (p x))
+    (cases_Bool (p x))
 
 module _ (hole : ℕ → Bool) (v : Stock) (m : State) (y : Layout) (r : HoldsBut hole v m y) (valid : IsValidState m) (test : ℕ → Bool) (is : IsTest m y m.uses test) (keep : Item → Bool)
     (once : Distinct (nodes_of y (filter keep m.uses))) (sound : (i : Item) → is_listed m i ≡ true → keep i ≡ true → hole (y.place i) ≡ false) where

@@ -49,14 +49,14 @@ module _ (touched : Claim → Bool) (v u : View) (m : State) (y : Layout) (r : R
 
   each : (w : ℕ) (x : Loaded) → put y.at (y.place i) (Some k) w ≡ Some x → load u.stock (rule_of y w) w ≡ Ok x
   each w x is = by-node (λ z. z ≡ w → load u.stock (rule_of y w) w ≡ Ok x) w
-    (λ e _.
-    let a : ◌≡◌ {A = Option Loaded} (Some k) (Some x) = sym (at-itself y.at (y.place i) (Some k)) ∙ ap (put y.at (y.place i) (Some k)) e ∙ is in
-    let s : k ≡ x = cc in
-    subst (λ (z : ℕ). load u.stock (rule_of y z) z ≡ Ok x) e (new.loads ∙ ap Ok s))
-    (λ e _.
-    let at : y.at w ≡ Some x = sym (at-elsewhere y.at (y.place i) (Some k) w e) ∙ is in
-    load-outside touched v.stock u.stock same.stock (rule_of y w) w x refl (shows.each w x at) (clear-other w x e at))
-    refl
+      (λ e _.
+      let a : ◌≡◌ {A = Option Loaded} (Some k) (Some x) = sym (at-itself y.at (y.place i) (Some k)) ∙ ap (put y.at (y.place i) (Some k)) e ∙ is in
+      let s : k ≡ x = cc in
+      subst (λ (z : ℕ). load u.stock (rule_of y z) z ≡ Ok x) e (new.loads ∙ ap Ok s))
+      (λ e _.
+      let at : y.at w ≡ Some x = sym (at-elsewhere y.at (y.place i) (Some k) w e) ∙ is in
+      load-outside touched v.stock u.stock same.stock (rule_of y w) w x refl (shows.each w x at) (clear-other w x e at))
+      refl
 
   chain-same : (b c : ℕ) → b < 65536 → is_among (y.chains b) c ≡ true → (is_of_bucket u.stock b c ≡ is_of_bucket v.stock b c) × (u.stock.follow c ≡ v.stock.follow c)
   chain-same b c below there =
@@ -76,7 +76,7 @@ module _ (touched : Claim → Bool) (v u : View) (m : State) (y : Layout) (r : R
     no_record = sym (same.stock.entry 0 (clear-zero touched)) ∙ shows.no_record;
     each = each;
     chains = λ b below. let c : IsChain v.stock b (y.chains b) = shows.chains b below in
-    record { linked = subst (λ (x : ℕ). Linked u.stock b x (y.chains b)) (same.table b) (linked-facts v.stock u.stock b (v.stock.table b) (y.chains b) (λ x there. chain-same b x below there) c.linked); once = c.once; few = c.few };
+        record { linked = subst (λ (x : ℕ). Linked u.stock b x (y.chains b)) (same.table b) (linked-facts v.stock u.stock b (v.stock.table b) (y.chains b) (λ x there. chain-same b x below there) c.linked); once = c.once; few = c.few };
   }
 
   node-same : (w : ℕ) → is_among (order m y) w ≡ true → SameNodeLinks w v.list u.list

@@ -62,35 +62,35 @@ module _ (m : State) (valid : IsValidState m) (number : ℕ) (o : Object) (b : B
     go : (w : Option ℕ) → option_and_then (λ object. model.row_in object i) (option_and_then (object_at (record m { objects = set m.objects number (Some (record o { settled = b })) })) w) ≡ option_and_then (λ object. model.row_in object i) (option_and_then (object_at m) w)
     go None = refl
     go (Some k) = ⊎_elim
-      (λ (e : (eqb k number ≡ true) × (k ≡ number)). rw (e.1, at-number, here) (one i))
-      (λ (e : (eqb k number ≡ false) × (k ≢ number)). rw (at-other k e) refl)
-      (eqb_tells k number)
+        (λ (e : (eqb k number ≡ true) × (k ≡ number)). rw (e.1, at-number, here) (one i))
+        (λ (e : (eqb k number ≡ false) × (k ≢ number)). rw (at-other k e) refl)
+        (eqb_tells k number)
 
   pub settle-one : OneChanged m (set m.objects number (Some (record o { settled = b }))) (main o.key)
   settle-one = record {
     rows = λ j e. rows-same j;
     objects_of = λ key e. ap (option_and_then (object_at (record m { objects = set m.objects number (Some (record o { settled = b })) }))) (owner-same (main key)) ∙ objects key e (model.owner m (main key)) refl;
     doomed_same = λ k x is dead. ⊎_elim
-      (λ (e : (eqb k number ≡ true) × (k ≡ number)).
-      let a : object_at (record m { objects = set m.objects number (Some (record o { settled = b })) }) number ≡ Some x = subst (λ (z : ℕ). object_at (record m { objects = set m.objects number (Some (record o { settled = b })) }) z ≡ Some x) e.1 is in
-      let s : ◌≡◌ {A = Option Object} (Some (record o { settled = b })) (Some x) = sym at-number ∙ a in
-      let t : (let z : Object = record o { settled = b } in z) ≡ x = cc in
-      let d : o.live ≡ false = ap (λ (z : Object). z.live) t ∙ dead in
-      absurd (let c : true ≡ false = sym live ∙ d in cc))
-      (λ (e : (eqb k number ≡ false) × (k ≢ number)). sym (at-other k e) ∙ is)
-      (eqb_tells k number);
+        (λ (e : (eqb k number ≡ true) × (k ≡ number)).
+        let a : object_at (record m { objects = set m.objects number (Some (record o { settled = b })) }) number ≡ Some x = subst (λ (z : ℕ). object_at (record m { objects = set m.objects number (Some (record o { settled = b })) }) z ≡ Some x) e.1 is in
+        let s : ◌≡◌ {A = Option Object} (Some (record o { settled = b })) (Some x) = sym at-number ∙ a in
+        let t : (let z : Object = record o { settled = b } in z) ≡ x = cc in
+        let d : o.live ≡ false = ap (λ (z : Object). z.live) t ∙ dead in
+        absurd (let c : true ≡ false = sym live ∙ d in cc))
+        (λ (e : (eqb k number ≡ false) × (k ≢ number)). sym (at-other k e) ∙ is)
+        (eqb_tells k number);
   } where
     objects : (key : List ℕ) → bytes_eq key o.key ≡ false → (w : Option ℕ) → model.owner m (main key) ≡ w
         → option_and_then (object_at (record m { objects = set m.objects number (Some (record o { settled = b })) })) w ≡ option_and_then (object_at m) w
     objects key e None is = refl
     objects key e (Some k) is = ⊎_elim
-      (λ (x : (eqb k number ≡ true) × (k ≡ number)).
-      let p : IsOwned m (main key) k = owned m (main key) k is in
-      let same : p.object ≡ o = let q : object_at m k ≡ Some p.object = p.here in let s : object_at m k ≡ object_at m number = ap (object_at m) x.1 in let t : object_at m number ≡ Some o = here in cc in
-      let q : bytes_eq key o.key ≡ true = ap (λ (z : Object). bytes_eq key z.key) (sym same) ∙ (and_parts p.object.live (bytes_eq key p.object.key) p.has).1 in
-      absurd (let c : true ≡ false = sym q ∙ e in cc))
-      (λ (x : (eqb k number ≡ false) × (k ≢ number)). at-other k x)
-      (eqb_tells k number)
+        (λ (x : (eqb k number ≡ true) × (k ≡ number)).
+        let p : IsOwned m (main key) k = owned m (main key) k is in
+        let same : p.object ≡ o = let q : object_at m k ≡ Some p.object = p.here in let s : object_at m k ≡ object_at m number = ap (object_at m) x.1 in let t : object_at m number ≡ Some o = here in cc in
+        let q : bytes_eq key o.key ≡ true = ap (λ (z : Object). bytes_eq key z.key) (sym same) ∙ (and_parts p.object.live (bytes_eq key p.object.key) p.has).1 in
+        absurd (let c : true ≡ false = sym q ∙ e in cc))
+        (λ (x : (eqb k number ≡ false) × (k ≢ number)). at-other k x)
+        (eqb_tells k number)
 
   -- its main item is listed, and owned by it
   pub main-listed : is_listed m (main o.key) ≡ true
@@ -176,16 +176,16 @@ shows-dirty v y r w0 d l n owner at named = record {
 
   each : (w : ℕ) (x : Loaded) → put y.at w0 (Some (record l { dirty = d })) w ≡ Some x → load (record v { named = put v.named w0 (Some (record n { dirty = d })) }) (rule_of y w) w ≡ Ok x
   each w x is = ⊎_elim
-    (λ (e : (eqb w0 w ≡ true) × (w0 ≡ w)).
-    let a : put y.at w0 (Some (record l { dirty = d })) w0 ≡ Some x = ap (put y.at w0 (Some (record l { dirty = d }))) e.1 ∙ is in
-    let b : ◌≡◌ {A = Option Loaded} (Some (record l { dirty = d })) (Some x) = sym (at-itself y.at w0 (Some (record l { dirty = d }))) ∙ a in
-    let s : (let z : Loaded = record l { dirty = d } in z) ≡ x = cc in
-    subst (λ (z : ℕ). load (record v { named = put v.named w0 (Some (record n { dirty = d })) }) (rule_of y z) z ≡ Ok x) e.1
-    (load-named v (put v.named w0 (Some (record n { dirty = d }))) (rule_of y w0) w0 d l refl refl (λ k k_is _.
-    let t : n ≡ k = let p : v.named w0 ≡ Some n = named in let q : v.named w0 ≡ Some k = k_is in cc in
-    at-itself v.named w0 (Some (record n { dirty = d })) ∙ ap (λ (z : Named). Some (record z { dirty = d })) t) (r.each w0 l at) ∙ ap Ok s))
-    (λ (e : (eqb w0 w ≡ false) × _).
-    load-named v (put v.named w0 (Some (record n { dirty = d }))) (rule_of y w) w x.dirty x refl refl (λ k k_is dirty.
-    at-elsewhere v.named w0 (Some (record n { dirty = d })) w e.0 ∙ k_is ∙ ap (λ (z : ℕ). Some (record k { dirty = z })) dirty)
-    (r.each w x (sym (at-elsewhere y.at w0 (Some (record l { dirty = d })) w e.0) ∙ is)))
-    (eqb_tells w0 w)
+      (λ (e : (eqb w0 w ≡ true) × (w0 ≡ w)).
+      let a : put y.at w0 (Some (record l { dirty = d })) w0 ≡ Some x = ap (put y.at w0 (Some (record l { dirty = d }))) e.1 ∙ is in
+      let b : ◌≡◌ {A = Option Loaded} (Some (record l { dirty = d })) (Some x) = sym (at-itself y.at w0 (Some (record l { dirty = d }))) ∙ a in
+      let s : (let z : Loaded = record l { dirty = d } in z) ≡ x = cc in
+      subst (λ (z : ℕ). load (record v { named = put v.named w0 (Some (record n { dirty = d })) }) (rule_of y z) z ≡ Ok x) e.1
+      (load-named v (put v.named w0 (Some (record n { dirty = d }))) (rule_of y w0) w0 d l refl refl (λ k k_is _.
+      let t : n ≡ k = let p : v.named w0 ≡ Some n = named in let q : v.named w0 ≡ Some k = k_is in cc in
+      at-itself v.named w0 (Some (record n { dirty = d })) ∙ ap (λ (z : Named). Some (record z { dirty = d })) t) (r.each w0 l at) ∙ ap Ok s))
+      (λ (e : (eqb w0 w ≡ false) × _).
+      load-named v (put v.named w0 (Some (record n { dirty = d }))) (rule_of y w) w x.dirty x refl refl (λ k k_is dirty.
+      at-elsewhere v.named w0 (Some (record n { dirty = d })) w e.0 ∙ k_is ∙ ap (λ (z : ℕ). Some (record k { dirty = z })) dirty)
+      (r.each w x (sym (at-elsewhere y.at w0 (Some (record l { dirty = d })) w e.0) ∙ is)))
+      (eqb_tells w0 w)

@@ -228,10 +228,10 @@ module _ (v : Stock) (rule : Rule) (ws : List ℕ) (given : ℕ → Option Loade
       record {
         each = before-more kept ts l (before-less kept t ts far.each) (record { among = ap (is_among ws) at ∙ among; is = ap given at ∙ is; before = ap (is_among ts) at ∙ lacks });
         all = λ x k p here there gone yes. list_any-append p kept (l ∷ []) ∙
-        ⊎_elim
-        (λ (e : (eqb t x ≡ true) × (t ≡ x)). let same : k ≡ l = let a : given t ≡ given x = ap given e.1 in cc in or_right (list_any p kept) (p l || false) (or_left (p l) false (ap p (sym same) ∙ yes)))
-        (λ (e : (eqb t x ≡ false) × _). or_left (list_any p kept) (p l || false) (far.all x k p here there (neither (t == x) (is_among ts x) e.0 gone) yes))
-        (eqb_tells t x);
+            ⊎_elim
+            (λ (e : (eqb t x ≡ true) × (t ≡ x)). let same : k ≡ l = let a : given t ≡ given x = ap given e.1 in cc in or_right (list_any p kept) (p l || false) (or_left (p l) false (ap p (sym same) ∙ yes)))
+            (λ (e : (eqb t x ≡ false) × _). or_left (list_any p kept) (p l || false) (far.all x k p here there (neither (t == x) (is_among ts x) e.0 gone) yes))
+            (eqb_tells t x);
       }
 
   far-out : (kept : List Loaded) (t : ℕ) (ts : List ℕ) → IsSoFar kept (t ∷ ts) → given t ≡ None → IsSoFar kept ts
@@ -239,10 +239,10 @@ module _ (v : Stock) (rule : Rule) (ws : List ℕ) (given : ℕ → Option Loade
       record {
         each = before-less kept t ts far.each;
         all = λ x k p here there gone yes.
-        ⊎_elim
-        (λ (e : (eqb t x ≡ true) × (t ≡ x)). let a : given t ≡ given x = ap given e.1 in cc)
-        (λ (e : (eqb t x ≡ false) × _). far.all x k p here there (neither (t == x) (is_among ts x) e.0 gone) yes)
-        (eqb_tells t x);
+            ⊎_elim
+            (λ (e : (eqb t x ≡ true) × (t ≡ x)). let a : given t ≡ given x = ap given e.1 in cc)
+            (λ (e : (eqb t x ≡ false) × _). far.all x k p here there (neither (t == x) (is_among ts x) e.0 gone) yes)
+            (eqb_tells t x);
       }
 
   -- what a verdict tells
@@ -304,13 +304,13 @@ is_among-filter p [] w = and_false (p w) where
 is_among-filter p (x ∷ xs) w =
     ⊎_elim
     (λ (a : p x ≡ true). ⊎_elim
-      (λ (e : (eqb x w ≡ true) × (x ≡ w)). let y : p w ≡ true = ap p (sym e.1) ∙ a in rw (a, e.0, y) refl)
-      (λ (e : (eqb x w ≡ false) × _). rw (a, e.0) (is_among-filter p xs w))
-      (eqb_tells x w))
+    (λ (e : (eqb x w ≡ true) × (x ≡ w)). let y : p w ≡ true = ap p (sym e.1) ∙ a in rw (a, e.0, y) refl)
+    (λ (e : (eqb x w ≡ false) × _). rw (a, e.0) (is_among-filter p xs w))
+    (eqb_tells x w))
     (λ (a : p x ≡ false). ⊎_elim
-      (λ (e : (eqb x w ≡ true) × (x ≡ w)). let y : p w ≡ false = ap p (sym e.1) ∙ a in rw (a, e.0, y) (is_among-filter p xs w ∙ ap (λ (b : Bool). b && is_among xs w) y))
-      (λ (e : (eqb x w ≡ false) × _). rw (a, e.0) (is_among-filter p xs w))
-      (eqb_tells x w))
+    (λ (e : (eqb x w ≡ true) × (x ≡ w)). let y : p w ≡ false = ap p (sym e.1) ∙ a in rw (a, e.0, y) (is_among-filter p xs w ∙ ap (λ (b : Bool). b && is_among xs w) y))
+    (λ (e : (eqb x w ≡ false) × _). rw (a, e.0) (is_among-filter p xs w))
+    (eqb_tells x w))
     (cases_Bool (p x))
 
 Distinct-filter : (p : ℕ → Bool) (xs : List ℕ) → Distinct xs → Distinct (filter p xs)
@@ -329,12 +329,13 @@ module _ (v : Stock) (ws : List ℕ) (once : Distinct ws) where
   is_among-tried : (w : ℕ) → is_among (tried v ws) w ≡ is_among ws w
   is_among-tried w = is_among-append (filter (λ x. not (is_child v x)) ws) (filter (is_child v) ws) w
       ∙ ap₂' (is_among-filter (λ x. not (is_child v x)) ws w) (is_among-filter (is_child v) ws w) ∙ two (is_child v w) (is_among ws w) where
-    ap₂' : {a b c d : Bool} → a ≡ b → c ≡ d → (a || c) ≡ (b || d)
-    ap₂' p q = rw (p, q) refl
-    two : (b h : Bool) → ((not b && h) || (b && h)) ≡ h
-    two true h = refl
-    two false true = refl
-    two false false = refl
+        ap₂' : {a b c d : Bool} → a ≡ b → c ≡ d → (a || c) ≡ (b || d)
+        ap₂' p q = rw (p, q) refl
+
+        two : (b h : Bool) → ((not b && h) || (b && h)) ≡ h
+        two true h = refl
+        two false true = refl
+        two false false = refl
 
   Distinct-tried : Distinct (tried v ws)
   Distinct-tried = Distinct-append (filter (λ x. not (is_child v x)) ws) (filter (is_child v) ws) (Distinct-filter (λ x. not (is_child v x)) ws once) (Distinct-filter (is_child v) ws once) (apart ws (λ x h. h)) where

@@ -20,17 +20,18 @@ use Rattle.blk_volume.specs.Chains.{Chain}
 use Rattle.blk_volume.specs.Loads.{Rule, listed, Loaded, load, all_claims, record_claims, claims_of_loaded, is_part, is_part_role}
 use Rattle.blk_volume.specs.Entries.{Role, IsPlain, IsParent, IsPart}
 use Rattle.blk_volume.specs.Audit.{kept_by, kept_among}
-use Rattle.blk_volume.specs.Found.{row_of}
+use Rattle.blk_volume.specs.Found.{row_of, kept, found}
 use Rattle.blk_volume.specs.Layout.{Layout, is_listed, order, rule_of, IsMarked, IsLaid, IsListedRecord, IsDoomedAt, Lies, Represents}
 use Rattle.blk_volume.specs.Given.{given_by}
 use Rattle.blk_volume.specs.StandsFor.{IsMarkedRow, KeepsDoomed, AreDoomed, ShowsState, StandsFor, IsOwner, IsAllocated}
 use Rattle.blk_volume.specs.Sound.{EndsWhole, AreOwned, IsInOrder}
+use Rattle.blk_laws.specs.StateLaws.{FoundIsAtRest}
 use Rattle.blk_laws.proofs.ClaimLists.{claim-append, no-claim, claim-head, repeats-append, contents-claims, some-claim}
 use Rattle.blk_laws.proofs.Loads.{load-then}
 use Rattle.blk_laws.proofs.Laid.{IsNodeOf, node-of, item-of}
 use Rattle.blk_laws.proofs.Shown.{kept-given, node-is}
 use Rattle.blk_laws.proofs.Chains.{chain-is}
-use Rattle.blk_laws.proofs.Central.{all-shown, walk-order, none-dropped, rows-kept, chain-end}
+use Rattle.blk_laws.proofs.Central.{all-shown, walk-order, none-dropped, rows-kept, chain-end, found-rest}
 use Rattle.blk_laws.proofs.Settling.{main-owned}
 use Rattle.blk_model.specs.Holding as model
 
@@ -48,11 +49,11 @@ module _ (y : Layout) (own : (w : ℕ) (l : Loaded) (c : Claim) → y.at w ≡ S
         → has_claim (flat_map all_claims (cons_option o (filter_map y.at ws))) c ≡ true → (x : ℕ) × (is_among (w ∷ ws) x ≡ true) × (y.owner c ≡ Some x)
     go None is rest g = let p = rest g in (p.0, or_right (w == p.0) (is_among ws p.0) p.1, p.2)
     go (Some l) is rest g = ⊎_elim
-      (λ (e : has_claim (all_claims l) c ≡ true). (w, or_left (w == w) (is_among ws w) (eq-eqb w w refl), own w l c is e))
-      (λ (e : has_claim (all_claims l) c ≡ false).
-      let a : (has_claim (all_claims l) c || has_claim (claims_at y ws) c) ≡ true = sym (claim-append (all_claims l) (claims_at y ws) c) ∙ g in
-      let p = rest (rw e at a) in (p.0, or_right (w == p.0) (is_among ws p.0) p.1, p.2))
-      (cases_Bool (has_claim (all_claims l) c))
+        (λ (e : has_claim (all_claims l) c ≡ true). (w, or_left (w == w) (is_among ws w) (eq-eqb w w refl), own w l c is e))
+        (λ (e : has_claim (all_claims l) c ≡ false).
+        let a : (has_claim (all_claims l) c || has_claim (claims_at y ws) c) ≡ true = sym (claim-append (all_claims l) (claims_at y ws) c) ∙ g in
+        let p = rest (rw e at a) in (p.0, or_right (w == p.0) (is_among ws p.0) p.1, p.2))
+        (cases_Bool (has_claim (all_claims l) c))
 
   pub no-repeats : (ws : List ℕ) → Distinct ws → repeats (claims_at y ws) ≡ false
   unfolding repeats
@@ -61,24 +62,24 @@ module _ (y : Layout) (own : (w : ℕ) (l : Loaded) (c : Claim) → y.at w ≡ S
     go : (o : Option Loaded) → y.at w ≡ o → repeats (claims_at y ws) ≡ false → repeats (flat_map all_claims (cons_option o (filter_map y.at ws))) ≡ false
     go None is rest = rest
     go (Some l) is rest = repeats-append (all_claims l) (claims_at y ws) (single w l is) rest (λ c a b.
-      let p = claimed ws c b in
-      let q : y.owner c ≡ Some w = own w l c is a in
-      let r : y.owner c ≡ Some p.0 = p.2 in
-      let s : w ≡ p.0 = cc in
-      let t : is_among ws w ≡ true = ap (is_among ws) s ∙ p.1 in
-      let z : true ≡ false = sym t ∙ d.0 in cc)
+        let p = claimed ws c b in
+        let q : y.owner c ≡ Some w = own w l c is a in
+        let r : y.owner c ≡ Some p.0 = p.2 in
+        let s : w ≡ p.0 = cc in
+        let t : is_among ws w ≡ true = ap (is_among ws) s ∙ p.1 in
+        let z : true ≡ false = sym t ∙ d.0 in cc)
 
   pub claims-in : (ws : List ℕ) (x : ℕ) (l : Loaded) (c : Claim) → is_among ws x ≡ true → y.at x ≡ Some l → has_claim (all_claims l) c ≡ true → has_claim (claims_at y ws) c ≡ true
   claims-in [] x l c there is h = absurd (let z : false ≡ true = there in cc)
   claims-in (w ∷ ws) x l c there is h = ⊎_elim
-    (λ (e : (eqb w x ≡ true) × (w ≡ x)).
-    let at : y.at w ≡ Some l = ap y.at e.1 ∙ is in
-    ap (λ (o : Option Loaded). has_claim (flat_map all_claims (cons_option o (filter_map y.at ws))) c) at ∙ claim-append (all_claims l) (claims_at y ws) c ∙ or_left (has_claim (all_claims l) c) (has_claim (claims_at y ws) c) h)
-    (λ (e : (eqb w x ≡ false) × _). go (y.at w) (claims-in ws x l c (rw e.0 at there) is h))
-    (eqb_tells w x) where
-      go : (o : Option Loaded) → has_claim (claims_at y ws) c ≡ true → has_claim (flat_map all_claims (cons_option o (filter_map y.at ws))) c ≡ true
-      go None g = g
-      go (Some k) g = claim-append (all_claims k) (claims_at y ws) c ∙ or_right (has_claim (all_claims k) c) (has_claim (claims_at y ws) c) g
+      (λ (e : (eqb w x ≡ true) × (w ≡ x)).
+      let at : y.at w ≡ Some l = ap y.at e.1 ∙ is in
+      ap (λ (o : Option Loaded). has_claim (flat_map all_claims (cons_option o (filter_map y.at ws))) c) at ∙ claim-append (all_claims l) (claims_at y ws) c ∙ or_left (has_claim (all_claims l) c) (has_claim (claims_at y ws) c) h)
+      (λ (e : (eqb w x ≡ false) × _). go (y.at w) (claims-in ws x l c (rw e.0 at there) is h))
+      (eqb_tells w x) where
+        go : (o : Option Loaded) → has_claim (claims_at y ws) c ≡ true → has_claim (flat_map all_claims (cons_option o (filter_map y.at ws))) c ≡ true
+        go None g = g
+        go (Some k) g = claim-append (all_claims k) (claims_at y ws) c ∙ or_right (has_claim (all_claims k) c) (has_claim (claims_at y ws) c) g
 
 -- ---- the doomed objects of some numbers
 
@@ -122,9 +123,9 @@ module _ (image : Image) (m : State) (y : Layout) (r : Represents (view_of image
   kept-at = ap (kept_among (view_of image).stock listed) (walk-order (view_of image) m y r)
       ∙ kept-given (view_of image).stock listed (order m y) (given_by (λ _. true) y) (all-shown (view_of image).stock m y r.holds valid r.list.distinct)
       ∙ ap (λ (g : ℕ → Option Loaded). filter_map g (order m y)) (λ i w. same (y.at w) i) where
-    same : (o : Option Loaded) → option_and_then (λ (l : Loaded). if true then Some l else None) o ≡ o
-    same None = refl
-    same (Some l) = refl
+        same : (o : Option Loaded) → option_and_then (λ (l : Loaded). if true then Some l else None) o ≡ o
+        same None = refl
+        same (Some l) = refl
 
   all-kept-at : kept_by listed (view_of image) ++ filter_map y.at (map y.place_of_doomed numbers) ≡ filter_map y.at (order m y ++ (map y.place_of_doomed numbers))
   all-kept-at = ap (λ (ls : List Loaded). ls ++ filter_map y.at (map y.place_of_doomed numbers)) kept-at ∙ sym (filter_map-append y.at (order m y) (map y.place_of_doomed numbers))
@@ -132,14 +133,14 @@ module _ (image : Image) (m : State) (y : Layout) (r : Represents (view_of image
   -- what is claimed is what has an owner
   exactly : (c : Claim) → has_claim (claims_at y (order m y ++ (map y.place_of_doomed numbers))) c ≡ is_some (y.owner c)
   exactly c = ⊎_elim
-    (λ (e : has_claim (claims_at y (order m y ++ (map y.place_of_doomed numbers))) c ≡ true). let p = claimed y lies.own lies.single (order m y ++ (map y.place_of_doomed numbers)) c e in e ∙ rw p.2 refl)
-    (λ (e : has_claim (claims_at y (order m y ++ (map y.place_of_doomed numbers))) c ≡ false). e ∙ go (y.owner c) refl e)
-    (cases_Bool (has_claim (claims_at y (order m y ++ (map y.place_of_doomed numbers))) c)) where
-      go : (o : Option ℕ) → y.owner c ≡ o → has_claim (claims_at y (order m y ++ (map y.place_of_doomed numbers))) c ≡ false → false ≡ is_some (y.owner c)
-      go None is e = rw is refl
-      go (Some w) is e = let q : IsOwner m y (map y.place_of_doomed numbers) c w = a.exact c w is in
-        let t : has_claim (claims_at y (order m y ++ (map y.place_of_doomed numbers))) c ≡ true = claims-in y lies.own lies.single (order m y ++ (map y.place_of_doomed numbers)) w q.loaded c q.among q.here q.claims in
-        absurd (let z : true ≡ false = sym t ∙ e in cc)
+      (λ (e : has_claim (claims_at y (order m y ++ (map y.place_of_doomed numbers))) c ≡ true). let p = claimed y lies.own lies.single (order m y ++ (map y.place_of_doomed numbers)) c e in e ∙ rw p.2 refl)
+      (λ (e : has_claim (claims_at y (order m y ++ (map y.place_of_doomed numbers))) c ≡ false). e ∙ go (y.owner c) refl e)
+      (cases_Bool (has_claim (claims_at y (order m y ++ (map y.place_of_doomed numbers))) c)) where
+        go : (o : Option ℕ) → y.owner c ≡ o → has_claim (claims_at y (order m y ++ (map y.place_of_doomed numbers))) c ≡ false → false ≡ is_some (y.owner c)
+        go None is e = rw is refl
+        go (Some w) is e = let q : IsOwner m y (map y.place_of_doomed numbers) c w = a.exact c w is in
+            let t : has_claim (claims_at y (order m y ++ (map y.place_of_doomed numbers))) c ≡ true = claims-in y lies.own lies.single (order m y ++ (map y.place_of_doomed numbers)) w q.loaded c q.among q.here q.claims in
+            absurd (let z : true ≡ false = sym t ∙ e in cc)
 
   -- marks
   mark-of : (i : Item) (l : Loaded) → is_listed m i ≡ true → y.at (y.place i) ≡ Some l → IsMarkedRow m l
@@ -161,10 +162,10 @@ module _ (image : Image) (m : State) (y : Layout) (r : Represents (view_of image
         go (main key) mark item = record {
           part = λ is_it. absurd (part-item l.role refl is_it key item);
           main = λ no_part number o at live key_is.
-            let k : key ≡ o.key = (let z : main key ≡ main l.key = sym item ∙ role-item l.role refl no_part in let x : key ≡ l.key = cc in x ∙ sym key_is) in
-            let own : model.owner m (main key) ≡ Some number = subst (λ (z : List ℕ). model.owner m (main z) ≡ Some number) (sym k) (main-owned m valid number o true at live) in
-            let found : model.owner_object m (main key) ≡ Some o = rw own at in
-            rw found at mark;
+              let k : key ≡ o.key = (let z : main key ≡ main l.key = sym item ∙ role-item l.role refl no_part in let x : key ≡ l.key = cc in x ∙ sym key_is) in
+              let own : model.owner m (main key) ≡ Some number = subst (λ (z : List ℕ). model.owner m (main z) ≡ Some number) (sym k) (main-owned m valid number o true at live) in
+              let found : model.owner_object m (main key) ≡ Some o = rw own at in
+              rw found at mark;
         }
         go (part key n) mark item = record {
           part = λ _. mark;
@@ -196,19 +197,19 @@ module _ (image : Image) (m : State) (y : Layout) (r : Represents (view_of image
       } where
         some : d.loaded.contents ≡ 0 → ⊥
         some zero_is = load-then (view_of image).stock (rule_of y (y.place_of_doomed number)) (y.place_of_doomed number) d.loaded (r.holds.shows.each (y.place_of_doomed number) d.loaded d.here) (λ n e f.
-          let p : (view_of image).stock.entry 0 ≡ Some e = ap (view_of image).stock.entry (sym zero_is ∙ f.facts.contents_is) ∙ f.entry in
-          let q : (view_of image).stock.entry 0 ≡ None = r.holds.shows.no_record in
-          let z : ◌≡◌ {A = Option Core} (Some e) None = sym p ∙ q in cc)
+            let p : (view_of image).stock.entry 0 ≡ Some e = ap (view_of image).stock.entry (sym zero_is ∙ f.facts.contents_is) ∙ f.entry in
+            let q : (view_of image).stock.entry 0 ≡ None = r.holds.shows.no_record in
+            let z : ◌≡◌ {A = Option Core} (Some e) None = sym p ∙ q in cc)
 
         not_chained : (b : ℕ) → b < 65536 → (is_among (y.chains b) d.loaded.contents ≡ true) ⊎ (is_among (y.chains b) d.loaded.contents ≡ false) → is_among (y.chains b) d.loaded.contents ≡ false
         not_chained b below (inr e) = e
         not_chained b below (inl e) =
-          let q : IsListedRecord m y d.loaded.contents = lies.unchained b d.loaded.contents below e in
-          let c = some-claim d.loaded.contents some in
-          let one : y.owner c.0 ≡ Some (y.place_of_doomed number) = lies.own (y.place_of_doomed number) d.loaded c.0 d.here (contents-claims d.loaded c.0 c.1) in
-          let two : y.owner c.0 ≡ Some q.node = lies.own q.node q.loaded c.0 q.here (contents-claims q.loaded c.0 (ap (λ (x : ℕ). has_claim (claims_of x) c.0) q.record_is ∙ c.1)) in
-          let same : q.node ≡ y.place_of_doomed number = cc in
-          absurd (let z : true ≡ false = sym q.listed ∙ ap (is_among (order m y)) same ∙ d.unlisted in cc)
+            let q : IsListedRecord m y d.loaded.contents = lies.unchained b d.loaded.contents below e in
+            let c = some-claim d.loaded.contents some in
+            let one : y.owner c.0 ≡ Some (y.place_of_doomed number) = lies.own (y.place_of_doomed number) d.loaded c.0 d.here (contents-claims d.loaded c.0 c.1) in
+            let two : y.owner c.0 ≡ Some q.node = lies.own q.node q.loaded c.0 q.here (contents-claims q.loaded c.0 (ap (λ (x : ℕ). has_claim (claims_of x) c.0) q.record_is ∙ c.1)) in
+            let same : q.node ≡ y.place_of_doomed number = cc in
+            absurd (let z : true ≡ false = sym q.listed ∙ ap (is_among (order m y)) same ∙ d.unlisted in cc)
 
   -- all of them
   doomed-each : (ns : List ℕ) → AllByRecursion (λ n. IsSomeAnd (object_at m n) (λ o. o.live ≡ false)) ns → ((n : ℕ) → is_among ns n ≡ true → is_among numbers n ≡ true)
@@ -259,3 +260,8 @@ module _ (image : Image) (m : State) (y : Layout) (r : Represents (view_of image
 
   pub stands-for : IsWellFormed image → ((doomed : List (ℕ × Loaded)) → AreDoomed (view_of image) m doomed → IsInOrder image (kept_by listed (view_of image)) (map (λ (d : ℕ × Loaded). d.1) doomed)) → StandsFor image m
   stands-for well in_order = record { well_formed = well; shows = shows-state; doomed = doomed_of y numbers; are_doomed = are-doomed; owned = are-owned; in_order = in_order (doomed_of y numbers) are-doomed }
+
+-- a finished folder that represents a state holds what is at rest
+pub found-at_rest : FoundIsAtRest
+unfolding found kept
+found-at_rest image m y r valid finished = rw finished (found-rest (view_of image) m y r valid)

@@ -23,13 +23,17 @@ unlink-first v u b w c cs same linked = linked-facts v u b (v.follow c) cs same 
 -- another: the record before takes its link
 pub unlink-behind : (v u : Stock) (b w p c : ℕ) (xs cs : List ℕ) → ((x : ℕ) → is_among (xs ++ p ∷ cs) x ≡ true → is_of_bucket u b x ≡ is_of_bucket v b x) → ((x : ℕ) → is_among xs x ≡ true → u.follow x ≡ v.follow x)
     → ((x : ℕ) → is_among cs x ≡ true → u.follow x ≡ v.follow x) → u.follow p ≡ v.follow c → Linked v b w (xs ++ p ∷ c ∷ cs) → Linked u b w (xs ++ p ∷ cs)
-unlink-behind v u b w p c [] cs bucket front rest link linked =
-    (linked.0, bucket p (or_left (p == p) (is_among cs p) (eq-eqb p p refl)) ∙ linked.1,
-    subst (λ (z : ℕ). Linked u b z cs) (sym link) (linked-facts v u b (v.follow c) cs (λ x h. (bucket x (or_right (p == x) (is_among cs x) h), rest x h)) linked.2.2))
-unlink-behind v u b w p c (x ∷ xs) cs bucket front rest link linked =
-    (linked.0, bucket x (or_left (x == x) (is_among (xs ++ p ∷ cs) x) (eq-eqb x x refl)) ∙ linked.1,
-    subst (λ (z : ℕ). Linked u b z (xs ++ p ∷ cs)) (sym (front x (or_left (x == x) (is_among xs x) (eq-eqb x x refl))))
-    (unlink-behind v u b (v.follow x) p c xs cs (λ z h. bucket z (or_right (x == z) (is_among (xs ++ p ∷ cs) z) h)) (λ z h. front z (or_right (x == z) (is_among xs z) h)) rest link linked.2))
+unlink-behind v u b w p c [] cs bucket front rest link linked = (
+  linked.0,
+  bucket p (or_left (p == p) (is_among cs p) (eq-eqb p p refl)) ∙ linked.1,
+  subst (λ (z : ℕ). Linked u b z cs) (sym link) (linked-facts v u b (v.follow c) cs (λ x h. (bucket x (or_right (p == x) (is_among cs x) h), rest x h)) linked.2.2),
+)
+unlink-behind v u b w p c (x ∷ xs) cs bucket front rest link linked = (
+  linked.0,
+  bucket x (or_left (x == x) (is_among (xs ++ p ∷ cs) x) (eq-eqb x x refl)) ∙ linked.1,
+  subst (λ (z : ℕ). Linked u b z (xs ++ p ∷ cs)) (sym (front x (or_left (x == x) (is_among xs x) (eq-eqb x x refl))))
+      (unlink-behind v u b (v.follow x) p c xs cs (λ z h. bucket z (or_right (x == z) (is_among (xs ++ p ∷ cs) z) h)) (λ z h. front z (or_right (x == z) (is_among xs z) h)) rest link linked.2),
+)
 
 -- ---- a layout without some items
 
@@ -62,12 +66,12 @@ module _ (m : State) (objects : List (Option Object)) (keep : Item → Bool) (y 
   pub lies-less : Lies (without_items m objects keep) (laid_less y at chains owner)
   lies-less = record {
     laid = λ i h. let k = kept i h in let q : IsLaid m y i = r.laid i k.1 in
-      record { loaded = q.loaded; here = gone.stays i q.loaded k.0 k.1 q.here; row = less.rows i k.0 k.1 ∙ q.row; mark = mark-kept i q.loaded k.0 q.mark; parent = parent-kept i q.loaded k.0 q.parent };
+        record { loaded = q.loaded; here = gone.stays i q.loaded k.0 k.1 q.here; row = less.rows i k.0 k.1 ∙ q.row; mark = mark-kept i q.loaded k.0 q.mark; parent = parent-kept i q.loaded k.0 q.parent };
     normal = λ w h. r.normal w (node-kept w h);
     chained = λ w l h is. gone.chain_stays w l h is (r.chained w l (node-kept w h) (gone.was w l is));
     unchained = λ b c below h. gone.chain_was b c below h;
     own = λ w l c is h. gone.own w l c is h (r.own w l c (gone.was w l is) h);
     single = λ w l is. r.single w l (gone.was w l is);
     doomed_objects = λ number o is dead. let d : IsDoomedAt m y number o = r.doomed_objects number o (less.doomed_same number o is dead) dead in
-      record { loaded = d.loaded; here = gone.others (y.place_of_doomed number) d.loaded d.unlisted d.here; row = d.row; mark = d.mark; unlisted = not_kept (y.place_of_doomed number) d.unlisted };
+        record { loaded = d.loaded; here = gone.others (y.place_of_doomed number) d.loaded d.unlisted d.here; row = d.row; mark = d.mark; unlisted = not_kept (y.place_of_doomed number) d.unlisted };
   }

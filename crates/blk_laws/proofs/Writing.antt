@@ -68,7 +68,7 @@ module _ (touched : Claim → Bool) (v u : View) (m : State) (y : Layout) (r : R
     no_record = sym (same.stock.entry 0 (clear-zero touched)) ∙ shows.no_record;
     each = λ w x is apart. load-outside touched v.stock u.stock same.stock (rule_of y w) w x refl (shows.each w x is) (clear-other w x apart is);
     chains = λ b below. let c : IsChain v.stock b (y.chains b) = shows.chains b below in
-    record { linked = subst (λ (x : ℕ). Linked u.stock b x (y.chains b)) (same.table b) (linked-facts v.stock u.stock b (v.stock.table b) (y.chains b) (λ x there. chain-same b x below there) c.linked); once = c.once; few = c.few };
+        record { linked = subst (λ (x : ℕ). Linked u.stock b x (y.chains b)) (same.table b) (linked-facts v.stock u.stock b (v.stock.table b) (y.chains b) (λ x there. chain-same b x below there) c.linked); once = c.once; few = c.few };
     laid = lies.laid;
     normal = lies.normal;
     chained = λ w x there is _. lies.chained w x there is;
@@ -122,9 +122,9 @@ module _ (touched : Claim → Bool) (v u : View) (m : State) (y : Layout) (r : R
   -- no part is in the midst
   only-main : (i : Item) → is_listed m i ≡ true → (y.place (main o.key) == y.place i) ≡ true → i ≡ main o.key
   only-main i h e = ⊎_elim
-    (λ (x : (eqb (y.place (main o.key)) (y.place i) ≡ true) × (y.place (main o.key) ≡ y.place i)). sym (same-place m y lies (main o.key) i there h x.1))
-    (λ (x : (eqb (y.place (main o.key)) (y.place i) ≡ false) × _). absurd (let z : true ≡ false = sym e ∙ x.0 in cc))
-    (eqb_tells (y.place (main o.key)) (y.place i))
+      (λ (x : (eqb (y.place (main o.key)) (y.place i) ≡ true) × (y.place (main o.key) ≡ y.place i)). sym (same-place m y lies (main o.key) i there h x.1))
+      (λ (x : (eqb (y.place (main o.key)) (y.place i) ≡ false) × _). absurd (let z : true ≡ false = sym e ∙ x.0 in cc))
+      (eqb_tells (y.place (main o.key)) (y.place i))
 
   midst : IsMidst (λ w. y.place (main o.key) == w) u.stock m y o.key
   midst = record {

@@ -1,0 +1,5 @@
+pub mod ListLaws
+pub mod KeptLaws
+pub mod StateLaws
+pub mod CommandLaws
+pub mod ByteLaws
