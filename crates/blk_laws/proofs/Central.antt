@@ -90,7 +90,7 @@ module _ (v : Stock) (m : State) (y : Layout) (r : Holds v m y) (valid : IsValid
 
 -- ---- no record is unlisted
 
-flat_map-none : {X : Type 0} (f : ℕ → List X) (s n : ℕ) → ((b : ℕ) → s ≤ b → b < s + n → f b ≡ []) → flat_map f (range_with_len s n) ≡ []
+pub flat_map-none : {X : Type 0} (f : ℕ → List X) (s n : ℕ) → ((b : ℕ) → s ≤ b → b < s + n → f b ≡ []) → flat_map f (range_with_len s n) ≡ []
 flat_map-none f s zero none = refl
 flat_map-none f s (suc n) none = rw (none s (omega arith) (omega arith)) (flat_map-none f (s + 1) n (λ b low high. none b (omega arith) (omega arith)))
 

@@ -35,3 +35,7 @@ pub mod AtRest
 pub mod ChainLinks
 pub mod Covers
 pub mod DirtyWords
+pub mod Bare
+pub mod NewFolders
+pub mod DamagedViews
+pub mod SmallFolder

@@ -3,3 +3,4 @@ pub mod KeptLaws
 pub mod StateLaws
 pub mod CommandLaws
 pub mod ByteLaws
+pub mod BareLaws

@@ -60,10 +60,6 @@ abbrev pub RepresentedStatesAreStoodFor : Type 0
 RepresentedStatesAreStoodFor = (image : Image) (state : State) (layout : Layout) (numbers : List ℕ) → Represents (view_of image) state layout → IsValidState state → IsAllocated image state layout numbers → IsWellFormed image
     → ((doomed : List (ℕ × Loaded)) → AreDoomed (view_of image) state doomed → IsInOrder image (kept_by listed (view_of image)) (map (λ d. d.1) doomed)) → StandsFor image state
 
--- a folder that shows nothing represents the empty state
-abbrev pub NothingRepresentsTheEmptyState : Type 0
-NothingRepresentsTheEmptyState = (limits : Bounds) → Represents no_view (open_state [] limits) no_layout
-
 -- What a walk of some items of a layout keeps.
 
 -- items of a state

@@ -3,11 +3,12 @@
 //! They say that the definitions of `blk_volume` fit together: what is kept, what represents a state, and what changes leave.
 #![tactic(auto)]
 
+ghost use Rattle.blk_laws.specs.BareLaws.{NothingRepresentsTheEmptyState, BareFoldersHoldNothing, BareFoldersAreSound, BareFoldersRepresentTheEmptyState, BareFoldersStandForTheEmptyState, NewFoldersAreBare};
 ghost use Rattle.blk_laws.specs.ByteLaws.{CoveredChangesStayInside, BlocksAreCovered, ExternalFilesAreCovered, HeadersNeedNoCover, HiddenWordsNeedNoCover, CoversOfLess, MoreCovers, CoversOfEither};
 ghost use Rattle.blk_laws.specs.CommandLaws.{UnsettledObjectsMayChange, EachMomentIsAtRest, RemovalsKeepTheOthers, LessIsLaid, DirtyWordsSettle, WrittenDirtyWordsSettle, RestBeforeTurning, RestAfterTurning, OpensAtEachWrite, OpensEnd, CreatesAtEachWrite, CreatesEnd, CreatesLeaveTheRest, CreatesMayLeaveWhatWas};
 ghost use Rattle.blk_laws.specs.KeptLaws.{KeptAreTheGiven, NoneOfTheGivenIsDropped, LeavingOutKeepsTheSame, SameKeyIsOneChain, SameCandidatesHoldTheSame};
 ghost use Rattle.blk_laws.specs.ListLaws.{WalksAreTheLists, InsertsTurnAtTwo, InsertsEnd, RemovalsTurnAtTwo, RemovalsEnd, TouchesTurnAtTwo, TouchesEnd, CompletingAgainIsTheSame, CompletionsEnd, ChainsAreTheirRecords, RecordsAreLinkedInFront, OtherChainsStay, FirstRecordsAreUnlinked, LaterRecordsAreUnlinked};
-ghost use Rattle.blk_laws.specs.StateLaws.{WalksAreTheOrder, ListedAreTheRows, NothingListedIsDropped, RepresentedChainsEnd, KeptAreAtRest, FoundIsAtRest, RepresentedStatesAreShown, RepresentedStatesAreStoodFor, NothingRepresentsTheEmptyState, LaidIsShown, KeptArePicked, FreeFootprintsKeepStates, ChangedItemsAreLaid, ChangedItemsAreRepresented};
+ghost use Rattle.blk_laws.specs.StateLaws.{WalksAreTheOrder, ListedAreTheRows, NothingListedIsDropped, RepresentedChainsEnd, KeptAreAtRest, FoundIsAtRest, RepresentedStatesAreShown, RepresentedStatesAreStoodFor, LaidIsShown, KeptArePicked, FreeFootprintsKeepStates, ChangedItemsAreLaid, ChangedItemsAreRepresented};
 
 /// The walk of a whole list is its nodes.
 pub fn whole_lists_are_walked()
@@ -87,6 +88,19 @@ pub fn represented_states_are_stood_for()
 /// A folder that shows nothing represents the empty state.
 pub fn nothing_represents_the_empty_state()
     ensures { NothingRepresentsTheEmptyState }
+{}
+
+/// A folder with no list, no chain and no block holds nothing, is sound, and represents the empty state and stands for it.
+pub fn bare_folders_are_sound()
+    ensures held { BareFoldersHoldNothing }
+    ensures sound { BareFoldersAreSound }
+    ensures represented { BareFoldersRepresentTheEmptyState }
+    ensures stands { BareFoldersStandForTheEmptyState }
+{}
+
+/// A new folder has no list, no chain and no block.
+pub fn new_folders_are_bare()
+    ensures { NewFoldersAreBare }
 {}
 
 /// What a layout has of some items is shown to their walk, and its rows are kept.
