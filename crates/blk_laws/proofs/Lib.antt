@@ -39,3 +39,4 @@ pub mod Bare
 pub mod NewFolders
 pub mod DamagedViews
 pub mod SmallFolder
+pub mod OneEntry
