@@ -40,3 +40,4 @@ pub mod NewFolders
 pub mod DamagedViews
 pub mod SmallFolder
 pub mod OneEntry
+pub mod Premises

@@ -18,7 +18,7 @@ use Rattle.blk_volume.specs.View.{list_of}
 use Rattle.blk_laws.specs.BareLaws.{new_index_words, new_file_words, IsNew, IsBareIndex, IsBareFile, IsBare, NewFoldersAreBare}
 
 -- the new folder
-new_folder : ℕ → Image
+pub new_folder : ℕ → Image
 new_folder moment Index = Some (with_words (new_index_words moment) (zeros index_length))
 new_folder moment (Block n) = if nat_lt n 4 then Some (with_words (new_file_words n) (zeros block_header_length)) else None
 new_folder moment (External n) = None
@@ -137,3 +137,12 @@ bare moment = record {
 
 pub new-bare : NewFoldersAreBare
 new-bare moment image new = subst IsBare (sym (is-new moment image new)) (bare moment)
+
+-- and the new folder is new
+pub new-is_new : (moment : ℕ) → IsNew moment (new_folder moment)
+unfolding new_folder
+new-is_new moment = record { index = refl; blocks = λ n small. rw (lt-ltb n 4 small) refl; others = others } where
+  others : (file : File) → IsBefore (Block 3) file → new_folder moment file ≡ None
+  others Index before = absurd (⊎_elim (λ (e : 1 < 0). omega arith) (λ (e : (1 ≡ 0) × (3 < 0)). omega (arith, e.1)) before)
+  others (Block n) before = ⊎_elim (λ (e : 1 < 1). absurd (omega arith)) (λ (e : (1 ≡ 1) × (3 < n)). let large : 4 ≤ n = omega (arith, e.1) in rw (le-ltb n 4 large) refl) before
+  others (External n) before = refl
