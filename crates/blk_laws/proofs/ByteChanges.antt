@@ -37,7 +37,7 @@ pub false_unless : (b : Bool) → (b ≡ true → ⊥) → b ≡ false
 false_unless true never = absurd (never refl)
 false_unless false never = refl
 
-not_equal : (m n : ℕ) → m ≢ n → (m == n) ≡ false
+pub not_equal : (m n : ℕ) → m ≢ n → (m == n) ≡ false
 not_equal m n apart = false_unless (m == n) (λ e. apart (eqb-true m n e))
 
 -- each block of an address is claimed by it
@@ -117,7 +117,7 @@ linked-some None kind e = absurd (let z : false ≡ true = e in cc)
 linked-some (Some k) kind e = ap Some (eqb-true k kind e)
 
 module _ (image : Image) (w : ℕ) (st : stands_in image w ≡ true) where
-  stands-address : is_address w ≡ true
+  pub stands-address : is_address w ≡ true
   unfolding stands
   stands-address = (and_parts (is_address w) _ st).0
 
@@ -165,13 +165,16 @@ module _ (F : files.Footprint) (old new : Image) (touched : Claim → Bool) (sam
   external-of w address is clear =
       external-same (external_number w) (clear (ExternalOf (external_number w)) (external-claim w (λ e. let a : is_address 0 ≡ true = ap is_address (sym e) ∙ address in let c : false ≡ true = sym zero-no_address ∙ a in cc) is))
 
-  -- an address that is clear stands in both or in neither
-  pub stands-same : (w : ℕ) → IsClear touched w → stands_in new w ≡ stands_in old w
+  -- an address of blocks, and an external one that is clear, stands in both or in neither
+  pub stands-if_clear : (w : ℕ) → (kind_of w ≡ external → IsClear touched w) → stands_in new w ≡ stands_in old w
   unfolding stands stands_as_blocks
-  stands-same w clear = and_under (is_address w) _ _ (λ address. ⊎_elim
-      (λ (e : (kind_of w == external) ≡ true). rw e (ap (λ (f : Option (List ℕ)). is_some f) (external-of w address (eqb-true (kind_of w) external e) clear)))
+  stands-if_clear w clear = and_under (is_address w) _ _ (λ address. ⊎_elim
+      (λ (e : (kind_of w == external) ≡ true). rw e (ap (λ (f : Option (List ℕ)). is_some f) (external-of w address (eqb-true (kind_of w) external e) (clear (eqb-true (kind_of w) external e)))))
       (λ (e : (kind_of w == external) ≡ false). rw e (rw (linked_as-same, count-same) (ap (λ (f : ℕ → ℕ). is_linked_as (linked_as old (file_selector w)) (kind_of w) && nat_le (first_block w + block_count w) (max_entries_in old (file_selector w)) && nat_le (place w + room w) (f (file_selector w))) lengths-same)))
       (cases_Bool (kind_of w == external)))
+
+  stands-same : (w : ℕ) → IsClear touched w → stands_in new w ≡ stands_in old w
+  stands-same w clear = stands-if_clear w (λ is. clear)
 
   stands_as-same : (kind w : ℕ) → IsClear touched w → stands_as new kind w ≡ stands_as old kind w
   stands_as-same kind w clear = ap (λ (b : Bool). b && (kind_of w == kind)) (stands-same w clear)
@@ -238,7 +241,7 @@ module _ (F : files.Footprint) (old new : Image) (touched : Claim → Bool) (sam
   table-shown : (i : ℕ) → 368 ≤ i → is_shown_place i ≡ true
   table-shown i behind = or_right _ (nat_le 368 i) (le-leb 368 i behind)
 
-  list-same : SameLinks touched (list_of old) (list_of new)
+  pub list-same : SameLinks touched (list_of old) (list_of new)
   unfolding list_of checks_at next_at prev_at
   list-same = record {
     head = index-word 288 refl refl refl refl;

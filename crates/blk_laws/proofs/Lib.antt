@@ -41,3 +41,4 @@ pub mod DamagedViews
 pub mod SmallFolder
 pub mod OneEntry
 pub mod Premises
+pub mod NodeWords
