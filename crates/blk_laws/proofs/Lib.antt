@@ -42,3 +42,4 @@ pub mod SmallFolder
 pub mod OneEntry
 pub mod Premises
 pub mod NodeWords
+pub mod ListBytes

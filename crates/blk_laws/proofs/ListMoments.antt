@@ -20,7 +20,7 @@ at_moment P (w ∷ ws) l (suc k) each = at_moment P ws (with_write l w) k each.1
 IsList-pending : (l : ListView) (nodes : List ℕ) (o r : ℕ) → IsList l nodes → IsList (record l { operation = o; transaction = r }) nodes
 IsList-pending l nodes o r list = record { head_is = list.head_is; tail_is = list.tail_is; linked = list.linked; distinct = list.distinct; few = list.few; no_zero = list.no_zero }
 
-walk_outcome : (l : ListView) → walk (completed_list l) ≡ walk (outcome l)
+pub walk_outcome : (l : ListView) → walk (completed_list l) ≡ walk (outcome l)
 unfolding outcome walk
 walk_outcome l = refl
 

@@ -139,7 +139,7 @@ length-for image w st apart =
     leb-true (place w + room w) (length_of image (Block (file_selector w))) (and_parts (is_linked_as (linked_as image (file_selector w)) (kind_of w) && nat_le (first_block w + block_count w) (max_entries_in image (file_selector w))) _ c).1
 
 -- the image with a word written at a place in a node
-pub with_node_word : Image → ℕ → ℕ → ℕ → Image
+unfoldable pub with_node_word : Image → ℕ → ℕ → ℕ → Image
 with_node_word image w d v = applied (Word (Block (file_selector w)) (place w + d) (word_bytes v)) image
 
 module _ (image : Image) (w : ℕ) (st : stands_as image rankings w ≡ true) (d v : ℕ) (fits : d + 4 ≤ 36) (small : v < 2 ^ 32) where
@@ -277,7 +277,7 @@ unfolding checks_at next_at prev_at
 at-node image w st = (rw st refl, rw st refl, rw st refl)
 
 -- a node whose self hash is 0 checks
-unsealed : (n : Node) → n.self_hash ≡ 0 → node_checks n ≡ true
+pub unsealed : (n : Node) → n.self_hash ≡ 0 → node_checks n ≡ true
 unfolding node_checks
 unsealed n e = or_left (n.self_hash == 0) _ (eq-eqb n.self_hash 0 e)
 
