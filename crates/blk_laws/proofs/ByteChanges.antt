@@ -1,21 +1,19 @@
 -- A change of bytes that a footprint of blocks covers is a change of the view inside that footprint.
-use Rattle.std.proofs.Common.{◌≡◌, ℕ, zero, suc, ◌+◌, ◌-◌, ◌*◌, ◌/◌, ◌%◌, ◌<◌, ◌≤◌, ◌≢◌, List, [], ◌∷◌, map, refl, ap, ap₂, sym, ◌∙◌, subst, arith, ◌⊎◌, inl, inr, ⊎_elim, Bool, true, false, Option, Some, None}
-use Rattle.std.specs.Prelude.{if◌then◌else◌, ◌&&◌, ◌||◌, ◌==◌, nat_le, nat_lt, not, is_some}
+use Rattle.std.proofs.Common.{◌≡◌, ℕ, zero, suc, ◌+◌, ◌-◌, ◌*◌, ◌/◌, ◌<◌, ◌≤◌, ◌≢◌, List, [], map, refl, ap, sym, ◌∙◌, subst, arith, ◌⊎◌, inl, inr, ⊎_elim, Bool, true, false, Option, Some, None}
+use Rattle.std.specs.Prelude.{if◌then◌else◌, ◌&&◌, ◌==◌, nat_le, nat_lt, not, is_some}
 use Rattle.std.specs.List.{range_with_len}
 use Rattle.std.proofs.lemmas.Bool.{eqb-true, eq-eqb, cases_Bool, cases_lt, and_parts, or_left, or_right, lt-ltb, le-ltb, le-leb, leb-true}
-use Rattle.std.proofs.lemmas.Bool.Decides.{nat_tests}
 use Rattle.std.proofs.Math.Nat.{mul-le-mul_left}
-use Rattle.blk_image.specs.Bytes.{half_at, word_at, words_at}
+use Rattle.blk_image.specs.Bytes.{word_at}
 use Rattle.blk_image.specs.Image.{Index, Block, External, Image, byte, length_of, has_file}
 use Rattle.blk_image.specs.Footprint as files
-use Rattle.blk_image.proofs.Words.{SameFrom, same-word, same-range}
-use Rattle.blk_image.proofs.Footprints.{same_file_outside, same_word_outside}
-use Rattle.blk_format.specs.Address.{is_initialized, is_address, names_external, names_blocks, is_block_kind, kind_of, block_count, file_selector, first_block, external_number, place, room, block_place, block_size, external, rankings, blocks_256}
+use Rattle.blk_image.proofs.Words.{SameFrom, same-range}
+use Rattle.blk_image.proofs.Footprints.{same_file_outside}
+use Rattle.blk_format.specs.Address.{is_initialized, is_address, kind_of, block_count, file_selector, first_block, external_number, place, room, block_place, block_size, external, rankings, blocks_256}
 use Rattle.blk_format.specs.Storage.{is_storage, entry_blocks}
 use Rattle.blk_format.specs.Standing.{is_linked_as, stands, stands_as_blocks}
-use Rattle.blk_format.specs.Records.{Node, Entry, node_in, entry_in, node_checks}
-use Rattle.blk_format.specs.Headers.{bucket_of}
-use Rattle.blk_format.specs.BlockFiles.{is_among, linked, files_along, next_file_in, max_entries_in, type_among, linked_as, stands_in}
+use Rattle.blk_format.specs.Records.{Node, Entry, node_checks}
+use Rattle.blk_format.specs.BlockFiles.{linked, files_along, next_file_in, max_entries_in, type_among, linked_as, stands_in}
 use Rattle.blk_format.specs.Claims.{Claim, BlockOf, ExternalOf, same_claim, claims_of, has_claim}
 use Rattle.blk_volume.specs.View.{stands_as, block_bytes, node_at, entry_at, Named, Core, core_of, checks_at, next_at, prev_at, list_of, named_at, core_at, follow_at, key_place_at, stored_at, stock_of, view_of}
 use Rattle.blk_volume.specs.Entries.{is_key_length, longest_key}

@@ -1,29 +1,28 @@
 -- Updates of the use list in bytes: at each step the list is that after a front of their writes.
-use Rattle.std.proofs.Common.{◌≡◌, ◌≢◌, ℕ, zero, suc, ◌+◌, ◌%◌, ◌/◌, ◌^◌, ◌<◌, ◌≤◌, List, [], ◌∷◌, ◌++◌, map, length, take, refl, ap, sym, ◌∙◌, subst, arith, Bool, true, false, lit<, lit≤}
-use Rattle.std.specs.Prelude.{◌==◌, ◌||◌, ◌&&◌, if◌then◌else◌, nat_lt}
-use Rattle.std.specs.List.{AllByRecursion, flat_map}
+use Rattle.std.proofs.Common.{◌≡◌, ℕ, suc, ◌+◌, ◌^◌, ◌<◌, ◌≤◌, List, [], ◌∷◌, ◌++◌, map, length, take, refl, ap, sym, ◌∙◌, subst, arith, Bool, true, false, lit<, lit≤}
+use Rattle.std.specs.Prelude.{◌==◌, if◌then◌else◌, nat_lt}
+use Rattle.std.specs.List.{AllByRecursion}
 use Rattle.std.proofs.lemmas.Bool.{eq-eqb, and_parts, or_right, le-ltb}
 use Rattle.std.proofs.lemmas.List.{append-nil, append_assoc}
 use Rattle.std.proofs.Math.Nat.{mod-lt}
 use Rattle.blk_image.specs.Bytes.{word_bytes}
-use Rattle.blk_image.specs.Image.{Index, Block, Image, length_of, word}
+use Rattle.blk_image.specs.Image.{Index, Block, Image, length_of}
 use Rattle.blk_image.specs.Steps.{TrailStep, Word, word_step, word_steps, applied, after}
 use Rattle.blk_image.specs.Told.{Along}
 use Rattle.blk_image.proofs.Runs.{until-append, until_weaker2}
 use Rattle.blk_image.proofs.Images.{word-after_same, word-after_other, length-after_write}
 use Rattle.blk_image.proofs.Cuts as cuts
-use Rattle.blk_format.specs.Address.{kind_of, file_selector, place, rankings}
+use Rattle.blk_format.specs.Address.{file_selector, place, rankings}
 use Rattle.blk_format.specs.Standing.{stands, stands_as_blocks}
-use Rattle.blk_format.specs.BlockFiles.{next_file_in, max_entries_in, linked, stands_in}
+use Rattle.blk_format.specs.BlockFiles.{next_file_in, max_entries_in, linked}
 use Rattle.blk_format.specs.Hash.{hash, mixed}
 use Rattle.blk_format.specs.Records.{Node, node_seal_place, node_body, node_seal, node_checks, node_is_sealed}
-use Rattle.blk_volume.specs.ListView.{ListView, ListWrite, Next, Prev, Head, Tail, Transaction, Operation, with_write, after_writes}
+use Rattle.blk_volume.specs.ListView.{ListView, ListWrite, Next, Prev, with_write, after_writes}
 use Rattle.blk_volume.specs.Walk.{walk}
 use Rattle.blk_volume.specs.Completion.{insert, remove, move, completed_list}
-use Rattle.blk_volume.specs.ListPlans.{pending_writes, completion_writes, writes_of, outcome, EachMoment, TurnsAtTwo}
+use Rattle.blk_volume.specs.ListPlans.{pending_writes, writes_of, outcome, EachMoment, TurnsAtTwo}
 use Rattle.blk_volume.specs.View.{stands_as, node_at, checks_at, next_at, prev_at, list_of}
-use Rattle.blk_laws.specs.ListLaws.{IsAtRest, CanBeInserted}
-use Rattle.blk_laws.specs.ListBytes.{Link, NextLink, PrevLink, ListWord, HeadWord, TailWord, TransactionWord, OperationWord, ListUpdate, UpdateNode, UpdateWord, link_write, word_write, update_writes, all_writes, link_place, link_word, word_place, opened_node, opening_steps, update_steps, all_steps, IsReady, AreReady, ShowsFront, UpdatesShowFronts, UpdatesShowAll, CompletesTo, operation_step, transaction_step, begun, TurnsInBytes, ArePending, InsertsTurnInBytes, RemovalsTurnInBytes, MovesTurnInBytes, CompletionsStayInBytes}
+use Rattle.blk_laws.specs.ListBytes.{Link, NextLink, PrevLink, ListWord, HeadWord, TailWord, TransactionWord, OperationWord, ListUpdate, UpdateNode, UpdateWord, link_write, word_write, update_writes, all_writes, link_place, link_word, word_place, opened_node, opening_steps, update_steps, all_steps, IsReady, ShowsFront, UpdatesShowFronts, UpdatesShowAll, CompletesTo, operation_step, begun, TurnsInBytes, ArePending, InsertsTurnInBytes, RemovalsTurnInBytes, MovesTurnInBytes, CompletionsStayInBytes}
 use Rattle.blk_laws.proofs.ListWrites.{ListView-ext, checks_stay, after_writes-append, completion_keeps}
 use Rattle.blk_laws.proofs.ListMoments.{walk_outcome, insert_turns, remove_turns, move_turns}
 use Rattle.blk_laws.proofs.NodeWords.{with_node_word, stands_as-all, unsealed, seal-now, next-now, prev-now, list-sealed, list-next, list-prev}
@@ -111,7 +110,7 @@ links-show image w (NextLink v ∷ links) is small =
       along = (
         nothing-made (map (link_write w) (NextLink v ∷ links)) image,
         until_weaker2 (ShowsFront (map (link_write w) links) (list_of (with_node_word image w 16 v))) (ShowsFront (map (link_write w) (NextLink v ∷ links)) (list_of image)) (ShowsFront (map (link_write w) links) (list_of (with_node_word image w 16 v))) (ShowsFront (map (link_write w) (NextLink v ∷ links)) (list_of image)) (link_steps w links) (with_node_word image w 16 v)
-        (one-more (Next w v) (map (link_write w) links) (list_of image) (list_of (with_node_word image w 16 v)) e) (one-more (Next w v) (map (link_write w) links) (list_of image) (list_of (with_node_word image w 16 v)) e) rest.along,
+            (one-more (Next w v) (map (link_write w) links) (list_of image) (list_of (with_node_word image w 16 v)) e) (one-more (Next w v) (map (link_write w) links) (list_of image) (list_of (with_node_word image w 16 v)) e) rest.along,
       );
       ends = rest.ends ∙ ap (after_writes (map (link_write w) links)) e;
       still_open = rest.still_open;
@@ -123,7 +122,7 @@ links-show image w (PrevLink v ∷ links) is small =
       along = (
         nothing-made (map (link_write w) (PrevLink v ∷ links)) image,
         until_weaker2 (ShowsFront (map (link_write w) links) (list_of (with_node_word image w 20 v))) (ShowsFront (map (link_write w) (PrevLink v ∷ links)) (list_of image)) (ShowsFront (map (link_write w) links) (list_of (with_node_word image w 20 v))) (ShowsFront (map (link_write w) (PrevLink v ∷ links)) (list_of image)) (link_steps w links) (with_node_word image w 20 v)
-        (one-more (Prev w v) (map (link_write w) links) (list_of image) (list_of (with_node_word image w 20 v)) e) (one-more (Prev w v) (map (link_write w) links) (list_of image) (list_of (with_node_word image w 20 v)) e) rest.along,
+            (one-more (Prev w v) (map (link_write w) links) (list_of image) (list_of (with_node_word image w 20 v)) e) (one-more (Prev w v) (map (link_write w) links) (list_of image) (list_of (with_node_word image w 20 v)) e) rest.along,
       );
       ends = rest.ends ∙ ap (after_writes (map (link_write w) links)) e;
       still_open = rest.still_open;
@@ -149,14 +148,14 @@ node-shows image w links good small =
     let shown : LinksShow (with_node_word image w 32 0) w links = links-show (with_node_word image w 32 0) w links (opened image w good) small in
     let o = shown.still_open in
     let last : list_of (with_node_word (after (link_steps w links) (with_node_word image w 32 0)) w 32 (node_seal (node_at (after (link_steps w links) (with_node_word image w 32 0)) w))) ≡ list_of (after (link_steps w links) (with_node_word image w 32 0)) =
-        list-sealed (after (link_steps w links) (with_node_word image w 32 0)) w o.st o.good (node_seal (node_at (after (link_steps w links) (with_node_word image w 32 0)) w)) (seal-small (node_at (after (link_steps w links) (with_node_word image w 32 0)) w)) (seal-checks (node_at (after (link_steps w links) (with_node_word image w 32 0)) w)) in
+    list-sealed (after (link_steps w links) (with_node_word image w 32 0)) w o.st o.good (node_seal (node_at (after (link_steps w links) (with_node_word image w 32 0)) w)) (seal-small (node_at (after (link_steps w links) (with_node_word image w 32 0)) w)) (seal-checks (node_at (after (link_steps w links) (with_node_word image w 32 0)) w)) in
     let whole : list_of (after (link_steps w links) (with_node_word image w 32 0)) ≡ after_writes (map (link_write w) links) (list_of image) = shown.ends ∙ ap (after_writes (map (link_write w) links)) same in
     record {
       along = (
         nothing-made (map (link_write w) links) image,
         until-append (ShowsFront (map (link_write w) links) (list_of image)) (ShowsFront (map (link_write w) links) (list_of image)) (link_steps w links) _ (with_node_word image w 32 0)
-        (subst (λ (l : ListView). Along (ShowsFront (map (link_write w) links) l) (with_node_word image w 32 0) (link_steps w links)) same shown.along)
-        (all-made (map (link_write w) links) (list_of image) _ whole, all-made (map (link_write w) links) (list_of image) _ (last ∙ whole)),
+            (subst (λ (l : ListView). Along (ShowsFront (map (link_write w) links) l) (with_node_word image w 32 0) (link_steps w links)) same shown.along)
+            (all-made (map (link_write w) links) (list_of image) _ whole, all-made (map (link_write w) links) (list_of image) _ (last ∙ whole)),
       );
       ends = ap list_of (cuts.after-append (link_steps w links) _ (with_node_word image w 32 0)) ∙ last ∙ whole;
     }
@@ -231,10 +230,10 @@ all-show image (u ∷ updates) long ready =
     let rest : AllShow (after (update_steps u image) image) updates = all-show (after (update_steps u image) image) updates (let l = length-update u image in omega arith) (all-ready (list_of image) (list_of (after (update_steps u image) image)) updates checks ready.1) in
     record {
       along = until-append (ShowsFront (all_writes (u ∷ updates)) (list_of image)) (ShowsFront (all_writes (u ∷ updates)) (list_of image)) (update_steps u image) (all_steps updates (after (update_steps u image) image)) image
-        (until_weaker2 (ShowsFront (update_writes u) (list_of image)) (ShowsFront (all_writes (u ∷ updates)) (list_of image)) (ShowsFront (update_writes u) (list_of image)) (ShowsFront (all_writes (u ∷ updates)) (list_of image)) (update_steps u image) image
-        (in-first (update_writes u) (all_writes updates) (list_of image)) (in-first (update_writes u) (all_writes updates) (list_of image)) one.along)
-        (until_weaker2 (ShowsFront (all_writes updates) (list_of (after (update_steps u image) image))) (ShowsFront (all_writes (u ∷ updates)) (list_of image)) (ShowsFront (all_writes updates) (list_of (after (update_steps u image) image))) (ShowsFront (all_writes (u ∷ updates)) (list_of image)) (all_steps updates (after (update_steps u image) image)) (after (update_steps u image) image)
-        (in-second (update_writes u) (all_writes updates) (list_of image) (list_of (after (update_steps u image) image)) one.ends) (in-second (update_writes u) (all_writes updates) (list_of image) (list_of (after (update_steps u image) image)) one.ends) rest.along);
+          (until_weaker2 (ShowsFront (update_writes u) (list_of image)) (ShowsFront (all_writes (u ∷ updates)) (list_of image)) (ShowsFront (update_writes u) (list_of image)) (ShowsFront (all_writes (u ∷ updates)) (list_of image)) (update_steps u image) image
+          (in-first (update_writes u) (all_writes updates) (list_of image)) (in-first (update_writes u) (all_writes updates) (list_of image)) one.along)
+          (until_weaker2 (ShowsFront (all_writes updates) (list_of (after (update_steps u image) image))) (ShowsFront (all_writes (u ∷ updates)) (list_of image)) (ShowsFront (all_writes updates) (list_of (after (update_steps u image) image))) (ShowsFront (all_writes (u ∷ updates)) (list_of image)) (all_steps updates (after (update_steps u image) image)) (after (update_steps u image) image)
+          (in-second (update_writes u) (all_writes updates) (list_of image) (list_of (after (update_steps u image) image)) one.ends) (in-second (update_writes u) (all_writes updates) (list_of image) (list_of (after (update_steps u image) image)) one.ends) rest.along);
       ends = ap list_of (cuts.after-append (update_steps u image) (all_steps updates (after (update_steps u image) image)) image) ∙ rest.ends ∙ ap (after_writes (all_writes updates)) one.ends ∙ sym (after_writes-append (update_writes u) (all_writes updates) (list_of image));
     }
 
@@ -272,7 +271,7 @@ module _ (code node : ℕ) (old new : List ℕ) (image : Image) (updates : List 
   at-front i s =
       let pending : pending_writes (record (list_of image) { operation = code; transaction = node }) ≡ s.made ++ s.left = sym are.pending ∙ s.split in
       let front : after_writes (take (suc (suc (length s.made))) (writes_of code node (list_of image))) (list_of image) ≡ after_writes s.made (record (list_of image) { operation = code; transaction = node }) =
-          ap (λ (ws : List ListWrite). after_writes ws (record (list_of image) { operation = code; transaction = node })) (ap (take (length s.made)) pending ∙ take-front s.made s.left) in
+      ap (λ (ws : List ListWrite). after_writes ws (record (list_of image) { operation = code; transaction = node })) (ap (take (length s.made)) pending ∙ take-front s.made s.left) in
       let late : nat_lt (suc (suc (length s.made))) 2 ≡ false = le-ltb (suc (suc (length s.made))) 2 (omega arith) in
       ap (λ (l : ListView). walk (completed_list l)) (s.shows ∙ ap (after_writes s.made) begun-list ∙ sym front) ∙ turns (suc (suc (length s.made))) ∙ ap (λ (b : Bool). if b then old else new) late
 
@@ -281,7 +280,7 @@ module _ (code node : ℕ) (old new : List ℕ) (image : Image) (updates : List 
     before = turns 0;
     operated = ap (λ (l : ListView). walk (completed_list l)) operated-list ∙ turns 1;
     from_then = until_weaker2 (ShowsFront (all_writes updates) (list_of (begun code node image))) (CompletesTo new) (ShowsFront (all_writes updates) (list_of (begun code node image))) (CompletesTo new) (all_steps updates (begun code node image)) (begun code node image) at-front at-front
-      (updates-show_fronts (begun code node image) updates are.ready);
+        (updates-show_fronts (begun code node image) updates are.ready);
   }
 
 pub inserts-in_bytes : InsertsTurnInBytes

@@ -1,24 +1,22 @@
 -- A word written in a node, and what the use list then shows.
-use Rattle.std.proofs.Common.{◌≡◌, ◌≢◌, ◌⊎◌, inl, inr, ⊎_elim, ℕ, zero, suc, ◌+◌, ◌-◌, ◌*◌, ◌/◌, ◌%◌, ◌^◌, ◌<◌, ◌≤◌, List, [], ◌∷◌, map, refl, ap, ap₂, sym, ◌∙◌, subst, arith, Bool, true, false, Option, Some, None}
+use Rattle.std.proofs.Common.{◌≡◌, ◌≢◌, ◌⊎◌, inl, inr, ⊎_elim, ℕ, ◌+◌, ◌*◌, ◌/◌, ◌%◌, ◌^◌, ◌<◌, ◌≤◌, List, [], ◌∷◌, map, refl, ap, ap₂, sym, ◌∙◌, subst, arith, Bool, true, false}
 use Rattle.std.specs.Prelude.{if◌then◌else◌, ◌&&◌, ◌||◌, ◌==◌, nat_le, not}
 use Rattle.std.specs.List.{range_with_len}
 use Rattle.std.proofs.lemmas.Bool.{eqb-true, eq-eqb, cases_Bool, and_parts, or_left, leb-true}
-use Rattle.std.proofs.lemmas.Bool.Decides.{nat_tests}
-use Rattle.std.proofs.Math.Nat.{mul-le-mul_left}
 use Rattle.blk_image.specs.Bytes.{content, word_at, word_bytes}
-use Rattle.blk_image.specs.Image.{Index, Block, External, Image, bytes_of, byte, length_of, has_file}
+use Rattle.blk_image.specs.Image.{Block, External, Image, bytes_of, length_of, has_file}
 use Rattle.blk_image.specs.Steps.{Word, applied, with_word}
 use Rattle.blk_image.specs.Footprint as files
 use Rattle.blk_image.proofs.Footprints.{outside_write, range_within}
 use Rattle.blk_image.proofs.Images.{bytes_of-written}
 use Rattle.blk_image.proofs.Words.{word-beside, word-written}
-use Rattle.blk_format.specs.Address.{is_address, is_initialized, names_external, names_blocks, is_block_kind, kind_of, reserved_bits, block_count, file_selector, first_block, external_number, place, room, block_place, block_size, block_word, external, rankings}
+use Rattle.blk_format.specs.Address.{is_address, is_initialized, names_external, names_blocks, is_block_kind, kind_of, reserved_bits, block_count, file_selector, first_block, external_number, place, room, block_size, block_word, external, rankings}
 use Rattle.blk_format.specs.Standing.{is_linked_as, stands, stands_as_blocks}
 use Rattle.blk_format.specs.BlockFiles.{linked_as, max_entries_in, stands_in}
 use Rattle.blk_format.specs.Records.{Node, node_in, node_checks}
 use Rattle.blk_format.specs.Claims.{Claim, BlockOf, ExternalOf, same_claim, claims_of, has_claim}
 use Rattle.blk_format.proofs.Words.{block_word-of-fields}
-use Rattle.blk_volume.specs.ListView.{ListView, put}
+use Rattle.blk_volume.specs.ListView.{put}
 use Rattle.blk_volume.specs.View.{stands_as, block_bytes, node_at, checks_at, next_at, prev_at, list_of}
 use Rattle.blk_volume.specs.Footprint.{IsClear, Covers, SameLinks}
 use Rattle.blk_laws.proofs.Lists.{eqb-sym}
@@ -99,14 +97,14 @@ block-parts f g b c e = (cc, cc)
 -- two nodes share no block
 pub other-clear : (image : Image) (w x : ℕ) → IsNode image w → IsNode image x → (w == x) ≡ false → IsClear (has_claim (claims_of w)) x
 other-clear image w x node other apart c h = ⊎_elim
-  (λ (e : has_claim (claims_of w) c ≡ true).
+    (λ (e : has_claim (claims_of w) c ≡ true).
     let in_x : c ≡ BlockOf (file_selector x) (first_block x) = only-claim c _ (ap (λ (cs : List Claim). has_claim cs c) (sym (node-claims image x other)) ∙ h) in
     let in_w : c ≡ BlockOf (file_selector w) (first_block w) = only-claim c _ (ap (λ (cs : List Claim). has_claim cs c) (sym (node-claims image w node)) ∙ e) in
     let p = block-parts (file_selector w) (file_selector x) (first_block w) (first_block x) (sym in_w ∙ in_x) in
     let same : w ≡ x = sym node.is ∙ ap₂ (λ (f b : ℕ). block_word 1 f b 1) p.0 p.1 ∙ other.is in
     absurd (let z : true ≡ false = sym (eq-eqb w x same) ∙ apart in cc))
-  (λ (e : has_claim (claims_of w) c ≡ false). e)
-  (cases_Bool (has_claim (claims_of w) c))
+    (λ (e : has_claim (claims_of w) c ≡ false). e)
+    (cases_Bool (has_claim (claims_of w) c))
 
 -- ---- a word that is written
 
@@ -189,13 +187,13 @@ module _ (image : Image) (w : ℕ) (st : stands_as image rankings w ≡ true) (d
       → (checks_at (with_node_word image w d v) x ≡ checks_at image x) × (next_at (with_node_word image w d v) x ≡ next_at image x) × (prev_at (with_node_word image w d v) x ≡ prev_at image x)
   unfolding list_of checks_at next_at prev_at
   others x other = ⊎_elim
-    (λ (e : stands_as image rankings x ≡ true).
+      (λ (e : stands_as image rankings x ≡ true).
       let clear : IsClear (has_claim (claims_of w)) x = other-clear image w x node (is-node image x e) other in
       (sym (links.checks x clear), sym (links.next x clear), sym (links.prev x clear)))
-    (λ (e : stands_as image rankings x ≡ false).
+      (λ (e : stands_as image rankings x ≡ false).
       let s : stands_as (with_node_word image w d v) rankings x ≡ false = stands_as-all rankings x ∙ e in
       (rw (s, e) refl, rw (s, e) refl, rw (s, e) refl))
-    (cases_Bool (stands_as image rankings x))
+      (cases_Bool (stands_as image rankings x))
 
   -- the words of the node
   pub word-same : (j : ℕ) → (j + 4 ≤ place w + d) ⊎ (place w + d + 4 ≤ j) → word_at (block_bytes (with_node_word image w d v) w) j ≡ word_at (block_bytes image w) j
@@ -259,9 +257,9 @@ module _ (image : Image) (w : ℕ) (st : stands_as image rankings w ≡ true) (v
 -- a value at one place and elsewhere
 by-node : {A : Type 0} (f g : ℕ → A) (w : ℕ) → f w ≡ g w → ((x : ℕ) → (w == x) ≡ false → f x ≡ g x) → (x : ℕ) → f x ≡ g x
 by-node f g w here beside x = ⊎_elim
-  (λ (e : (w == x) ≡ true). subst (λ (y : ℕ). f y ≡ g y) (eqb-true w x e) here)
-  (λ (e : (w == x) ≡ false). beside x e)
-  (cases_Bool (w == x))
+    (λ (e : (w == x) ≡ true). subst (λ (y : ℕ). f y ≡ g y) (eqb-true w x e) here)
+    (λ (e : (w == x) ≡ false). beside x e)
+    (cases_Bool (w == x))
 
 put-here : (f : ℕ → ℕ) (w v : ℕ) → v ≡ put f w v w
 unfolding put

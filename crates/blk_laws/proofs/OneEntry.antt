@@ -1,29 +1,28 @@
 -- A state of one object, `a` with the stream 0 `zz`, and a view that represents it: so the laws from an image to a state speak of something.
-use Rattle.std.proofs.Common.{◌≡◌, ◌⊎◌, inl, inr, ⊎_elim, ℕ, zero, suc, ◌+◌, ◌<◌, ◌≤◌, List, [], ◌∷◌, ◌++◌, refl, ap, sym, ◌∙◌, subst, arith, Bool, true, false, Option, Some, None, Ok}
-use Rattle.std.specs.Prelude.{if◌then◌else◌, ◌==◌, ◌&&◌, ◌||◌, codes, replicate, cond}
-use Rattle.std.proofs.lemmas.Bool.{eqb-true, eq-eqb, cases_Bool}
+use Rattle.std.proofs.Common.{◌≡◌, ⊎_elim, ℕ, zero, suc, ◌<◌, List, [], ◌∷◌, refl, ap, sym, ◌∙◌, subst, arith, Bool, true, false, Some, None, Ok}
+use Rattle.std.specs.Prelude.{if◌then◌else◌, ◌==◌, ◌&&◌, ◌||◌, codes, replicate}
+use Rattle.std.proofs.lemmas.Bool.{eqb-true, cases_Bool}
 use Rattle.std.proofs.lemmas.Bool.Decides.{nat_tests}
 use Rattle.blk_model.specs.Items.{Item, main, main_row, plain, same_item, key_of}
-use Rattle.blk_model.specs.State.{Object, State, Bounds, object_at, owners, IsObject, IsValidState}
+use Rattle.blk_model.specs.State.{Object, State, object_at}
 use Rattle.blk_model.specs.Holding.{open_state, objects_in, row_of}
-use Rattle.blk_model.specs.Request.{to_open, to_create}
-use Rattle.blk_model.specs.Refusals.{refused, refusals, evicted, room_for}
+use Rattle.blk_model.specs.Request.{to_open}
+use Rattle.blk_model.specs.Refusals.{refused, refusals}
 use Rattle.blk_model.proofs.Same.{one_item}
 use Rattle.blk_format.specs.Hash.{of_one, of_bytes, mixed, hash}
 use Rattle.blk_format.specs.Address.{kind_of, block_count, file_selector, first_block, external_number}
 use Rattle.blk_format.specs.Storage.{entry_blocks}
-use Rattle.blk_format.specs.Claims.{Claim, BlockOf, claims_of, has_claim, overlap, repeats}
+use Rattle.blk_format.specs.Claims.{Claim, BlockOf, claims_of, has_claim, repeats}
 use Rattle.blk_format.specs.BlockFiles.{is_among}
-use Rattle.blk_volume.specs.ListView.{ListView, IsList}
-use Rattle.blk_volume.specs.View.{View, Stock, Named, Core}
+use Rattle.blk_volume.specs.ListView.{ListView}
+use Rattle.blk_volume.specs.View.{View, Stock, Core}
 use Rattle.blk_volume.specs.Chains.{bucket_of_hash, IsChain}
 use Rattle.blk_volume.specs.Entries.{IsPlain, is_key_length, stream_of, streams_of, role_of}
 use Rattle.blk_volume.specs.Entries as entries
-use Rattle.blk_volume.specs.Loads.{held, alone, Loaded, load, load_key, load_record, record_claims, all_claims}
-use Rattle.blk_volume.specs.Layout.{Layout, is_listed, order, IsLaid, IsListedRecord, Represents, HoldsBut, IsMidst}
-use Rattle.blk_volume.specs.Footprint.{IsClear, SameStock, SameLinks, SameBut, IsFree, IsInside}
+use Rattle.blk_volume.specs.Loads.{alone, Loaded, load, load_key, load_record, record_claims, all_claims}
+use Rattle.blk_volume.specs.Layout.{Layout, is_listed, IsLaid, IsListedRecord, Represents, HoldsBut, IsMidst}
+use Rattle.blk_volume.specs.Footprint.{IsClear, SameBut, IsFree, IsInside}
 use Rattle.blk_volume.specs.Emptiness.{no_view, no_layout}
-use Rattle.blk_volume.specs.Creation.{IsNewEntry, IsFrontOfChain}
 use Rattle.blk_volume.specs.Removal.{ListsLess, HasLess}
 use Rattle.blk_laws.specs.CommandLaws.{LiesAsLive, IsWritten}
 use Rattle.blk_laws.proofs.Empty.{empty, empty-valid}
@@ -133,8 +132,8 @@ represented dirty = record {
       chained = λ w l h is. let p = at-node dirty w l is in subst (λ (x : Loaded). is_among ((layout dirty).chains (bucket_of_hash (hash x.key))) x.contents ≡ true) p.1 (rw its-bucket refl);
       unchained = unchained;
       own = λ w l c is h. let p = at-node dirty w l is in
-        let mine : has_claim (all_claims (loaded 0)) c ≡ true = ap (λ (cs : List Claim). has_claim cs c) (sym (one-claims dirty)) ∙ ap (λ (x : Loaded). has_claim (all_claims x) c) p.1 ∙ h in
-        rw mine (ap (λ (x : ℕ). Some x) (sym p.0));
+          let mine : has_claim (all_claims (loaded 0)) c ≡ true = ap (λ (cs : List Claim). has_claim cs c) (sym (one-claims dirty)) ∙ ap (λ (x : Loaded). has_claim (all_claims x) c) p.1 ∙ h in
+          rw mine (ap (λ (x : ℕ). Some x) (sym p.0));
       single = λ w l is. ap (λ (x : Loaded). repeats (all_claims x)) (sym (at-node dirty w l is).1) ∙ once-claimed dirty;
       doomed_objects = λ number o is dead. absurd (no-doomed (dirty == 0) number o is dead);
     };
@@ -147,9 +146,9 @@ represented dirty = record {
 
   chains : (b : ℕ) → b < 65536 → IsChain (stock contents dirty) b ((layout dirty).chains b)
   chains b below = ⊎_elim
-    (λ (e : (b == bucket) ≡ true). subst (λ (x : ℕ). IsChain (stock contents dirty) x ((layout dirty).chains x)) (sym (eqb-true b bucket e)) (record { linked = (refl, refl, refl); once = (refl, tt); few = omega arith }))
-    (λ (e : (b == bucket) ≡ false). record { linked = rw e refl; once = rw e tt; few = rw e (omega arith) })
-    (cases_Bool (b == bucket))
+      (λ (e : (b == bucket) ≡ true). subst (λ (x : ℕ). IsChain (stock contents dirty) x ((layout dirty).chains x)) (sym (eqb-true b bucket e)) (record { linked = (refl, refl, refl); once = (refl, tt); few = omega arith }))
+      (λ (e : (b == bucket) ≡ false). record { linked = rw e refl; once = rw e tt; few = rw e (omega arith) })
+      (cases_Bool (b == bucket))
 
   is-a : (item : Item) → is_listed (state (dirty == 0)) item ≡ true → item ≡ main (codes "a")
   is-a item h = one_item item (main (codes "a")) (left (same_item item (main (codes "a"))) h) where
@@ -159,9 +158,9 @@ represented dirty = record {
 
   unchained : (b c : ℕ) → b < 65536 → is_among ((layout dirty).chains b) c ≡ true → IsListedRecord (state (dirty == 0)) (layout dirty) c
   unchained b c below h = ⊎_elim
-    (λ (e : (b == bucket) ≡ true). let one : is_among (contents ∷ []) c ≡ true = rw e at h in record { node = node; loaded = loaded dirty; listed = refl; here = refl; record_is = among-one contents c one })
-    (λ (e : (b == bucket) ≡ false). let none : false ≡ true = rw e at h in absurd (let z : false ≡ true = none in cc))
-    (cases_Bool (b == bucket))
+      (λ (e : (b == bucket) ≡ true). let one : is_among (contents ∷ []) c ≡ true = rw e at h in record { node = node; loaded = loaded dirty; listed = refl; here = refl; record_is = among-one contents c one })
+      (λ (e : (b == bucket) ≡ false). let none : false ≡ true = rw e at h in absurd (let z : false ≡ true = none in cc))
+      (cases_Bool (b == bucket))
 
 -- its object lies at its node
 pub lies : (dirty : ℕ) → LiesAsLive (state (dirty == 0)) (layout dirty) 0 (object (dirty == 0)) (loaded dirty)
@@ -277,9 +276,9 @@ written = record {
   -- a word that names what is written is not clear
   apart : (w x : ℕ) (c : Claim) → has_claim (claims_of x) c ≡ true → has_claim (all_claims fresh) c ≡ true → IsClear (has_claim (all_claims fresh)) w → (w == x) ≡ false
   apart w x c in_x mine clear = ⊎_elim
-    (λ (e : (w == x) ≡ true). let a : has_claim (all_claims fresh) c ≡ false = clear c (ap (λ (z : ℕ). has_claim (claims_of z) c) (eqb-true w x e) ∙ in_x) in absurd (let z : true ≡ false = sym mine ∙ a in cc))
-    (λ (e : (w == x) ≡ false). e)
-    (cases_Bool (w == x))
+      (λ (e : (w == x) ≡ true). let a : has_claim (all_claims fresh) c ≡ false = clear c (ap (λ (z : ℕ). has_claim (claims_of z) c) (eqb-true w x e) ∙ in_x) in absurd (let z : true ≡ false = sym mine ∙ a in cc))
+      (λ (e : (w == x) ≡ false). e)
+      (cases_Bool (w == x))
 
   not-node : (w : ℕ) → IsClear (has_claim (all_claims fresh)) w → (w == node) ≡ false
   not-node w clear = apart w node (BlockOf 0 0) named-0.0 named-0.1 clear

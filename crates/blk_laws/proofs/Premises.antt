@@ -1,26 +1,28 @@
 -- What meets the premises of the laws, where nothing else here does.
-use Rattle.std.proofs.Common.{◌≡◌, ◌⊎◌, inl, inr, ⊎_elim, ℕ, zero, suc, ◌+◌, ◌<◌, ◌≤◌, List, [], ◌∷◌, ◌++◌, refl, ap, sym, ◌∙◌, subst, arith, Bool, true, false, Option, Some, None, Ok, cond, get_or}
-use Rattle.std.specs.Prelude.{if◌then◌else◌, ◌==◌, ◌&&◌, ◌||◌, nat_lt, codes, replicate, IfSome, IsSome, All, count_by, sum_by}
+use Rattle.std.proofs.Common.{◌≡◌, ℕ, zero, suc, ◌+◌, ◌<◌, ◌≤◌, List, [], ◌∷◌, refl, sym, ◌∙◌, subst, arith, Bool, true, false, Option, Some, None, Ok, cond, get_or}
+use Rattle.std.specs.Prelude.{if◌then◌else◌, ◌==◌, ◌&&◌, nat_lt, codes, replicate, IfSome, IsSome, All}
 use Rattle.std.specs.List.{AllByRecursion}
 use Rattle.std.specs.Str.{bytes_eq}
-use Rattle.std.proofs.lemmas.Bool.{cases_Bool, or_right}
 use Rattle.blk_image.specs.Image.{Image}
 use Rattle.blk_image.specs.Bytes.{zeros, spliced}
-use Rattle.blk_image.specs.Steps.{with_word}
-use Rattle.blk_model.specs.Items.{Item, main, part, same_item, plain, times}
-use Rattle.blk_model.specs.State.{Object, State, object_at, named_by, is_number, is_named, slot_has_item, owners, IsObject, IsValidState}
+use Rattle.blk_image.specs.Steps.{with_word, word_step}
+use Rattle.blk_model.specs.Items.{Item, main, part, same_item, times}
+use Rattle.blk_model.specs.State.{object_at, named_by, is_named, owners, IsObject, IsValidState}
 use Rattle.blk_model.proofs.Times.{times-cons}
 use Rattle.blk_model.proofs.Slots.{owners-cons}
 use Rattle.blk_format.specs.Hash.{of_one, of_bytes, mixed, hash}
 use Rattle.blk_format.specs.Address.{is_address, is_initialized, names_external, names_blocks, kind_of, reserved_bits, block_count, file_selector, first_block, external_number, block_size, block_place, place, room}
 use Rattle.blk_format.specs.Storage.{entry_blocks}
 use Rattle.blk_format.specs.Standing.{stands, stands_as_blocks}
-use Rattle.blk_format.specs.BlockFiles.{is_among, IsWellFormed, next_file_in, max_entries_in, files_along, linked, type_among, stands_in}
+use Rattle.blk_format.specs.BlockFiles.{next_file_in, max_entries_in, files_along, linked, type_among, stands_in}
 use Rattle.blk_format.specs.Claims.{claims_of, has_claim, overlap, repeats}
-use Rattle.blk_volume.specs.ListView.{ListView, IsList}
-use Rattle.blk_volume.specs.Walk.{walk, walk_from}
-use Rattle.blk_volume.specs.View.{Core, View, view_of}
-use Rattle.blk_volume.specs.Chains.{chain_from, IsChain}
+use Rattle.blk_volume.specs.ListView.{ListView}
+use Rattle.blk_volume.specs.View.{Core, View, list_of, checks_at, next_at, prev_at, view_of}
+use Rattle.blk_volume.specs.Completion.{remove, take_out}
+use Rattle.blk_volume.specs.ListPlans.{operation_writes}
+use Rattle.blk_format.specs.Records.{node_in, node_checks}
+use Rattle.blk_laws.specs.ListBytes.{ListUpdate, UpdateNode, UpdateWord, NextLink, HeadWord, TailWord, TransactionWord, ArePending}
+use Rattle.blk_volume.specs.Chains.{chain_from}
 use Rattle.blk_volume.specs.Entries.{is_key_length, key_of, stream_of, streams_of, role_of}
 use Rattle.blk_volume.specs.Loads.{held, load, load_key, load_record, record_claims, all_claims}
 use Rattle.blk_volume.specs.Audit.{judged, is_orphan, admit, verdicts}
@@ -31,7 +33,7 @@ use Rattle.blk_laws.specs.ListLaws.{IsAtRest, CanBeInserted}
 use Rattle.blk_laws.specs.KeptLaws.{IsDroppedIfLeftOut}
 use Rattle.blk_laws.specs.BareLaws.{IsNew, IsBare}
 use Rattle.blk_laws.proofs.OneEntry as one
-use Rattle.blk_laws.proofs.DamagedViews.{Linked, Row, node, entry, shown, plain_core}
+use Rattle.blk_laws.proofs.DamagedViews.{node, entry, shown, plain_core}
 use Rattle.blk_laws.proofs.SmallFolder.{folder_with, small_records}
 use Rattle.blk_laws.proofs.NewFolders.{new_folder, new-is_new, new-bare}
 use Rattle.blk_laws.proofs.Bare.{walk-bare}
@@ -164,3 +166,31 @@ state_is_valid settled = record {
   held-by : (number : ℕ) → IfSome (object_at (one.state settled) number) (λ object. (object.live && object.settled ≡ false) → is_named (one.state settled) number ≡ true)
   held-by zero = λ unsettled. refl
   held-by (suc n) = tt
+
+-- The small folder's list is at rest, and a removal of its node by sealed updates is ready once it has begun.
+
+pub small_at_rest : IsAtRest (list_of (folder_with small_records)) (0x90000000 ∷ [])
+unfolding list_of checks_at next_at prev_at folder_with zeros with_word spliced next_file_in max_entries_in linked files_along type_among stands stands_as_blocks is_address is_initialized names_external names_blocks kind_of reserved_bits block_count file_selector first_block external_number block_size block_place place room node_in node_checks
+small_at_rest = record {
+  whole = record {
+    head_is = refl;
+    tail_is = refl;
+    linked = (record { good = refl; next_is = refl; prev_is = refl }, tt);
+    distinct = (refl, tt);
+    few = omega arith;
+    no_zero = refl;
+  };
+  idle = refl;
+}
+
+-- the updates: the head and the tail become 0, then the node's next, and at last the transaction
+pub removal_updates : List ListUpdate
+removal_updates = UpdateWord HeadWord 0 ∷ UpdateWord TailWord 0 ∷ UpdateNode 0x90000000 (NextLink 0 ∷ []) ∷ UpdateWord TransactionWord 0 ∷ []
+
+pub removal_is_pending : ArePending remove 0x90000000 (folder_with small_records) removal_updates
+unfolding removal_updates word_step operation_writes take_out list_of checks_at next_at prev_at folder_with zeros with_word spliced next_file_in max_entries_in linked files_along type_among stands stands_as_blocks is_address is_initialized names_external names_blocks kind_of reserved_bits block_count file_selector first_block external_number block_size block_place place room node_in node_checks
+removal_is_pending = record {
+  node_fits = omega arith;
+  ready = record { has_header = omega arith; each = (omega arith, (omega arith, ((refl, (omega arith, tt)), (omega arith, tt)))) };
+  pending = refl;
+}

@@ -1,7 +1,7 @@
 -- Operations on the use list in bytes: sealed updates of nodes, and words of the index; and their laws at each word.
 use Rattle.std.specs.Prelude.{◌≡◌, ℕ, ◌+◌, ◌<◌, ◌≤◌, ◌^◌, true, List, [], ◌∷◌, ◌++◌, map}
 use Rattle.std.specs.List.{flat_map, AllByRecursion}
-use Rattle.blk_image.specs.Image.{File, Index, Block, Image, length_of}
+use Rattle.blk_image.specs.Image.{Index, Block, Image, length_of}
 use Rattle.blk_image.specs.Steps.{TrailStep, word_step, word_steps, after}
 use Rattle.blk_image.specs.Told.{Along}
 use Rattle.blk_format.specs.Address.{file_selector, place}
