@@ -27,14 +27,3 @@ unfolding range_at
 gives_nothing image file place old none =
     let empty : length_of image file ≡ 0 = ap (λ (o : Option (List ℕ)). length (unwrap_or o [])) none in
     record { many = omega (arith, empty); front = refl; rest = refl }
-
--- a word that the file has, and one that it hasn't
-pub word_in-some : (image : Image) (file : File) (place : ℕ) → place + 4 ≤ length_of image file → word_in image file place ≡ Some (word image file place)
-word_in-some image file place enough =
-    let test : nat_le (place + 4) (length_of image file) ≡ true = grind (arith, nat_tests) in
-    ap (λ (t : Bool). if t then Some (word image file place) else None) test
-
-pub word_in-none : (image : Image) (file : File) (place : ℕ) → length_of image file < place + 4 → word_in image file place ≡ None
-word_in-none image file place few =
-    let test : nat_le (place + 4) (length_of image file) ≡ false = grind (arith, nat_tests) in
-    ap (λ (t : Bool). if t then Some (word image file place) else None) test
