@@ -9,3 +9,6 @@ pub mod HashExamples
 pub mod RecordLemmas
 pub mod BlockFileExamples
 pub mod MapExamples
+pub mod NameLemmas
+pub mod NameExamples
+pub mod SparseIndexExamples

@@ -5,6 +5,7 @@ pub mod Standing
 pub mod Headers
 pub mod Hash
 pub mod Records
+pub mod Names
 pub mod SparseIndex
 pub mod BlockFiles
 pub mod Maps

@@ -4,8 +4,14 @@
 #![tactic(auto)]
 
 ghost use Rattle.blk_format.specs.Headers.{UnfinishedAgrees};
+ghost use Rattle.blk_format.specs.Names.{ReadsNames};
 
 /// The test for an unfinished index agrees with what it tests.
 pub fn unfinished_agrees()
     ensures { UnfinishedAgrees }
+{}
+
+/// Bytes are read as the name of a part exactly where they are one.
+pub fn reads_names()
+    ensures { ReadsNames }
 {}

@@ -1,0 +1,84 @@
+-- Names of the parts of a sparse entry: `Range_`, the parent's key, `:`, the signature, `:`, the part, both numbers in lower-case hexadecimal.
+use Rattle.std.specs.Prelude.{◌≡◌, ℕ, ◌+◌, ◌-◌, ◌^◌, List, [], ◌∷◌, ◌++◌, length, drop, map, codes, Bool, true, ◌&&◌, nat_lt, nat_le, ◌==◌, if◌then◌else◌}
+use Rattle.std.specs.Option.{option_and_then}
+use Rattle.std.specs.Str.{bytes_eq}
+use Rattle.std.specs.Int.Digits.{digits_with_fuel, number_from_digits}
+use Rattle.std.specs.declared.option.Option.{Option}
+use Rattle.std.specs.declared.option.Option.TheVariants.{None, Some}
+
+-- the byte of a hexadecimal digit, in lower case
+abbrev pub hex_byte : ℕ → ℕ
+hex_byte digit = if nat_lt digit 10 then 48 + digit else 87 + digit
+
+-- the most digits of a number below 2 ^ 64
+abbrev pub most_digits : ℕ
+most_digits = 16
+
+-- a number below 2 ^ 64 in lower-case hexadecimal, without leading zeros; 0 is `0`
+unfoldable pub hex_text : ℕ → List ℕ
+hex_text n = if n == 0 then 48 ∷ [] else map hex_byte (digits_with_fuel 16 most_digits n)
+
+-- `Range_`
+abbrev pub name_head : List ℕ
+name_head = codes "Range_"
+
+-- `:`
+abbrev pub colon : ℕ
+colon = 58
+
+-- the name of a part: its parent's key, the signature and its number
+unfoldable pub child_name : List ℕ → ℕ → ℕ → List ℕ
+child_name key signature part = name_head ++ key ++ colon ∷ hex_text signature ++ colon ∷ hex_text part
+
+-- what a name says
+pub record Name : Type 0 where
+  pub key : List ℕ
+  pub signature : ℕ
+  pub part : ℕ
+
+-- what a name may say: a key of 1 to 32768 bytes, a signature of 0 to 2 ^ 63 - 1, a part below 65536
+abbrev pub may_be_named : Name → Bool
+may_be_named name = nat_lt 0 (length name.key) && nat_le (length name.key) 32768 && nat_lt name.signature (2 ^ 63) && nat_lt name.part 65536
+
+-- these bytes are the name that says this
+pub record IsName (bytes : List ℕ) (name : Name) : Type 0 where
+  pub fits : may_be_named name ≡ true
+  pub printed : bytes ≡ child_name name.key name.signature name.part
+
+-- A name is read from its end.
+
+-- the bytes before the last `:` and those behind it
+unfoldable pub split_last : List ℕ → Option (List ℕ × List ℕ)
+split_last [] = None
+split_last (byte ∷ bytes) = with_first byte bytes (split_last bytes) where
+  with_first : ℕ → List ℕ → Option (List ℕ × List ℕ) → Option (List ℕ × List ℕ)
+  with_first byte bytes (Some halves) = Some (byte ∷ halves.0, halves.1)
+  with_first byte bytes None = if byte == colon then Some ([], bytes) else None
+
+-- the value of a hexadecimal digit
+abbrev pub hex_digit : ℕ → ℕ
+hex_digit byte = if nat_lt byte 58 then byte - 48 else byte - 87
+
+-- the number that hexadecimal digits say
+abbrev pub hex_number : List ℕ → ℕ
+hex_number bytes = number_from_digits 16 (map hex_digit bytes)
+
+-- what the text of the part says, and the key and the signature before it
+abbrev pub said_by : List ℕ → List ℕ × List ℕ → Name
+said_by part front = record { key = drop (length name_head) front.0; signature = hex_number front.1; part = hex_number part }
+
+-- what a name says, where the bytes are printed from that
+abbrev pub where_printed : List ℕ → Name → Option Name
+where_printed bytes name = if may_be_named name && bytes_eq bytes (child_name name.key name.signature name.part) then Some name else None
+
+-- what bytes say that are cut at their last `:`
+abbrev pub name_in_halves : List ℕ → List ℕ × List ℕ → Option Name
+name_in_halves bytes halves = option_and_then (λ front. where_printed bytes (said_by halves.1 front)) (split_last halves.0)
+
+-- what the name says that the bytes are, if they are one: the last `:` begins the part, and the one before it the signature
+unfoldable pub read_name : List ℕ → Option Name
+read_name bytes = option_and_then (name_in_halves bytes) (split_last bytes)
+
+-- the bytes are read as a name exactly where they are that name
+abbrev pub ReadsNames : Type 0
+ReadsNames = (bytes : List ℕ) (name : Name) → (read_name bytes ≡ Some name → IsName bytes name) × (IsName bytes name → read_name bytes ≡ Some name)

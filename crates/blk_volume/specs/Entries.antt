@@ -1,0 +1,87 @@
+-- What a record says: its key, its streams, and what its flags make it.
+use Rattle.std.specs.Prelude.{ℕ, zero, suc, ◌+◌, ◌*◌, List, [], ◌∷◌, length, take, Bool, true, not, ◌&&◌, ◌||◌, nat_lt, nat_le, ◌==◌, if◌then◌else◌}
+use Rattle.std.specs.Option.{option_map_or, option_and_then, option_map}
+use Rattle.std.specs.List.{list_all, range_with_len}
+use Rattle.std.specs.declared.option.Option.{Option}
+use Rattle.std.specs.declared.option.Option.TheVariants.{None, Some}
+use Rattle.blk_format.specs.Address.{block_count}
+use Rattle.blk_format.specs.Storage.{entry_blocks}
+use Rattle.blk_format.specs.Records.{parent, child}
+use Rattle.blk_format.specs.Names.{Name, read_name}
+use Rattle.blk_format.specs.SparseIndex.{ParentIndex, read_parent_index, PartIndex, read_part_index}
+use Rattle.blk_volume.specs.View.{Stock, Core, size_of, address_of}
+
+-- what the flags and the streams of a record make it: a plain entry, the parent of an index, or a part with its name and index
+pub data Role : Type 0 where
+  IsPlain : Role
+  IsParent : ParentIndex → Role
+  IsPart : Name → PartIndex → Role
+
+-- the longest key of a record; a child's key is a name
+abbrev pub longest_key : Core → ℕ
+longest_key core = if core.flags == child then 32796 else 32768
+
+-- the longest key that lies in its record
+abbrev pub longest_short_key : ℕ
+longest_short_key = 927
+
+-- the most bytes of a stream
+abbrev pub most_stream_bytes : ℕ
+most_stream_bytes = 2147483647
+
+-- the length of the key is right, and so is the number of blocks of the record's address
+unfoldable pub is_key_length : ℕ → Core → Bool
+is_key_length contents core = nat_le 1 core.key_len && nat_le core.key_len (longest_key core) && (block_count contents == entry_blocks core.key_len)
+
+-- the key: in its place in the record, or stored with one zero byte behind it
+unfoldable pub key_of : Stock → ℕ → Core → Option (List ℕ)
+key_of stock contents core =
+    if nat_le core.key_len longest_short_key
+    then (if core.long_key == 0 then Some (stock.key_place contents core.key_len) else None)
+    else option_map (take core.key_len) (stock.stored (core.key_len + 1) core.long_key)
+
+-- the bytes of stream i
+unfoldable pub stream_of : Stock → Core → ℕ → Option (List ℕ)
+stream_of stock core i = if nat_le (size_of core i) most_stream_bytes then stock.stored (size_of core i) (address_of core i) else None
+
+-- the three streams, where stream 3 is 0
+unfoldable pub streams_of : Stock → Core → Option (List (List ℕ))
+streams_of stock core =
+    if not ((size_of core 3 == 0) && (address_of core 3 == 0)) then None else
+    option_and_then (λ first. option_and_then (λ second. option_map (λ third. first ∷ second ∷ third ∷ []) (stream_of stock core 2)) (stream_of stock core 1)) (stream_of stock core 0)
+
+-- stream i of some
+abbrev pub stream : ℕ → List (List ℕ) → List ℕ
+stream i [] = []
+stream zero (bytes ∷ streams) = bytes
+stream (suc i) (bytes ∷ streams) = stream i streams
+
+-- the most bytes of a part's data
+abbrev pub most_part_bytes : ℕ
+most_part_bytes = 1048576
+
+-- each byte that an index has as present lies inside data of a size
+unfoldable pub is_covered : PartIndex → ℕ → Bool
+is_covered index size =
+    list_all (λ b. not (index.present b) || nat_le (1024 * (b + 1)) size) (range_with_len 0 1024)
+    && option_map_or (λ p. nat_le (1024 * p.0 + p.1) size) index.partial true
+
+-- a parent has nothing in stream 1, and in stream 2 an index with the length of its key
+unfoldable pub parent_role : Core → List (List ℕ) → Option Role
+parent_role core streams =
+    if not (length (stream 1 streams) == 0) then None else
+    option_and_then (λ index. if index.key_len == core.key_len then Some (IsParent index) else None) (read_parent_index (stream 2 streams))
+
+-- a part has a name as its key, nothing in stream 0, at most 1048576 bytes of data in stream 1, and in stream 2 an index with the name's signature
+-- and key length, whose present bytes lie inside the data
+unfoldable pub part_role : List ℕ → List (List ℕ) → Option Role
+part_role key streams =
+    if not (length (stream 0 streams) == 0) then None else
+    if nat_lt most_part_bytes (length (stream 1 streams)) then None else
+    option_and_then (λ name. option_and_then (λ index.
+    if (index.signature == name.signature) && (index.key_len == length name.key) && is_covered index (length (stream 1 streams)) then Some (IsPart name index) else None)
+    (read_part_index (stream 2 streams))) (read_name key)
+
+-- what the flags say
+unfoldable pub role_of : Core → List ℕ → List (List ℕ) → Option Role
+role_of core key streams = if core.flags == parent then parent_role core streams else if core.flags == child then part_role key streams else Some IsPlain

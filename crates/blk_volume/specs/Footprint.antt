@@ -1,0 +1,68 @@
+-- Two views that agree outside a footprint: some blocks and external numbers.
+use Rattle.std.specs.Prelude.{◌≡◌, ℕ, Bool, true, false, nat_le, ◌==◌}
+use Rattle.std.specs.declared.option.Option.TheVariants.{Some}
+use Rattle.std.specs.declared.result.Result.TheVariants.{Ok}
+use Rattle.blk_format.specs.Claims.{Claim, claims_of, has_claim}
+use Rattle.blk_volume.specs.ListView.{ListView}
+use Rattle.blk_volume.specs.View.{View, Stock, Core}
+use Rattle.blk_volume.specs.Chains.{is_of_bucket}
+use Rattle.blk_volume.specs.Entries.{is_key_length, longest_short_key}
+use Rattle.blk_volume.specs.Loads.{Loaded, load}
+use Rattle.blk_volume.specs.Layout.{Layout, rule_of}
+
+-- what a word names is outside
+abbrev pub IsClear : (Claim → Bool) → ℕ → Type 0
+IsClear touched w = (claim : Claim) → has_claim (claims_of w) claim ≡ true → touched claim ≡ false
+
+-- what words outside name is the same
+pub record SameStock (touched : Claim → Bool) (old new : Stock) : Type 0 where
+  pub named : (w : ℕ) → IsClear touched w → old.named w ≡ new.named w
+  pub entry : (w : ℕ) → IsClear touched w → old.entry w ≡ new.entry w
+  pub follow : (w : ℕ) → IsClear touched w → old.follow w ≡ new.follow w
+  pub key_place : (w : ℕ) (core : Core) → IsClear touched w → old.entry w ≡ Some core → is_key_length w core ≡ true → nat_le core.key_len longest_short_key ≡ true → old.key_place w core.key_len ≡ new.key_place w core.key_len
+  pub stored : (size w : ℕ) → IsClear touched w → old.stored size w ≡ new.stored size w
+
+-- the links of nodes outside are the same, and so are the words of the index
+pub record SameLinks (touched : Claim → Bool) (old new : ListView) : Type 0 where
+  pub head : old.head ≡ new.head
+  pub tail : old.tail ≡ new.tail
+  pub transaction : old.transaction ≡ new.transaction
+  pub checks : (w : ℕ) → IsClear touched w → old.checks w ≡ new.checks w
+  pub next : (w : ℕ) → IsClear touched w → old.next w ≡ new.next w
+  pub prev : (w : ℕ) → IsClear touched w → old.prev w ≡ new.prev w
+
+-- a change inside a footprint
+pub record SameBut (touched : Claim → Bool) (old new : View) : Type 0 where
+  pub links : SameLinks touched old.list new.list
+  pub stock : SameStock touched old.stock new.stock
+  pub table : (bucket : ℕ) → old.stock.table bucket ≡ new.stock.table bucket
+
+-- a footprint that is nobody's
+abbrev pub IsFree : (Claim → Bool) → Layout → Type 0
+IsFree touched layout = (claim : Claim) (node : ℕ) → layout.owner claim ≡ Some node → touched claim ≡ false
+
+-- a footprint that is nobody's but one node's
+abbrev pub IsFreeBut : ℕ → (Claim → Bool) → Layout → Type 0
+IsFreeBut node touched layout = (claim : Claim) (other : ℕ) → layout.owner claim ≡ Some other → (node == other) ≡ false → touched claim ≡ false
+
+-- a node checks as before, with its links as before
+pub record SameNodeLinks (node : ℕ) (old new : ListView) : Type 0 where
+  pub checks : old.checks node ≡ new.checks node
+  pub next : old.next node ≡ new.next node
+  pub prev : old.prev node ≡ new.prev node
+
+-- a change in a footprint of one node, after which the node loads something else, with its links and its record's place in a chain as before
+pub record IsReplaced (touched : Claim → Bool) (old new : View) (layout : Layout) (node : ℕ) (was now : Loaded) : Type 0 where
+  pub apart : IsFreeBut node touched layout
+  pub loads : load new.stock (rule_of layout node) node ≡ Ok now
+  pub bucket : (bucket : ℕ) → is_of_bucket new.stock bucket was.contents ≡ is_of_bucket old.stock bucket was.contents
+  pub follow : new.stock.follow was.contents ≡ old.stock.follow was.contents
+  pub links : SameNodeLinks node old.list new.list
+
+-- a change in a footprint of one node, which leaves the node's words and its record's place in a chain
+pub record IsInside (touched : Claim → Bool) (old new : View) (layout : Layout) (node : ℕ) (loaded : Loaded) : Type 0 where
+  pub apart : IsFreeBut node touched layout
+  pub named : new.stock.named node ≡ old.stock.named node
+  pub bucket : (bucket : ℕ) → is_of_bucket new.stock bucket loaded.contents ≡ is_of_bucket old.stock bucket loaded.contents
+  pub follow : new.stock.follow loaded.contents ≡ old.stock.follow loaded.contents
+  pub links : SameNodeLinks node old.list new.list

@@ -1,0 +1,39 @@
+-- A state and a layout without some items.
+use Rattle.std.specs.Prelude.{◌≡◌, ℕ, ◌<◌, List, Bool, true, false}
+use Rattle.std.specs.List.{filter}
+use Rattle.std.specs.declared.option.Option.{Option}
+use Rattle.std.specs.declared.option.Option.TheVariants.{Some}
+use Rattle.blk_model.specs.Items.{Item, main, part}
+use Rattle.blk_model.specs.State.{State, Object, object_at}
+use Rattle.blk_model.specs.Holding as model
+use Rattle.blk_format.specs.Hash.{hash}
+use Rattle.blk_format.specs.Headers.{table_length}
+use Rattle.blk_format.specs.Claims.{Claim, has_claim}
+use Rattle.blk_format.specs.BlockFiles.{is_among}
+use Rattle.blk_volume.specs.Chains.{bucket_of_hash}
+use Rattle.blk_volume.specs.Loads.{Loaded, all_claims}
+use Rattle.blk_volume.specs.Layout.{Layout, is_listed, nodes_of, order, IsListedRecord}
+
+-- the state with other objects and without the items that are not kept
+abbrev pub without_items : State → List (Option Object) → (Item → Bool) → State
+without_items state objects keep = record state { objects = objects; uses = filter keep state.uses }
+
+-- it has the same rows for what is kept, no part is kept without its main item, and no other object is doomed
+pub record ListsLess (state : State) (objects : List (Option Object)) (keep : Item → Bool) : Type 0 where
+  pub rows : (item : Item) → keep item ≡ true → is_listed state item ≡ true → model.row_of (without_items state objects keep) item ≡ model.row_of state item
+  pub objects_of : (key : List ℕ) → keep (main key) ≡ true → model.owner_object (without_items state objects keep) (main key) ≡ model.owner_object state (main key)
+  pub closed : (key : List ℕ) (n : ℕ) → keep (part key n) ≡ true → keep (main key) ≡ true
+  pub doomed_same : (number : ℕ) (object : Object) → object_at (without_items state objects keep) number ≡ Some object → object.live ≡ false → object_at state number ≡ Some object
+
+-- the layout with other contents, chains and owners
+abbrev pub laid_less : Layout → (ℕ → Option Loaded) → (ℕ → List ℕ) → (Claim → Option ℕ) → Layout
+laid_less layout at chains owner = record layout { at = at; chains = chains; owner = owner }
+
+-- it has what is kept, in its chains, and nothing that was not there
+pub record HasLess (state : State) (objects : List (Option Object)) (keep : Item → Bool) (layout : Layout) (at : ℕ → Option Loaded) (chains : ℕ → List ℕ) (owner : Claim → Option ℕ) : Type 0 where
+  pub stays : (item : Item) (loaded : Loaded) → keep item ≡ true → is_listed state item ≡ true → layout.at (layout.place item) ≡ Some loaded → at (layout.place item) ≡ Some loaded
+  pub others : (node : ℕ) (loaded : Loaded) → is_among (order state layout) node ≡ false → layout.at node ≡ Some loaded → at node ≡ Some loaded
+  pub was : (node : ℕ) (loaded : Loaded) → at node ≡ Some loaded → layout.at node ≡ Some loaded
+  pub chain_stays : (node : ℕ) (loaded : Loaded) → is_among (nodes_of layout (filter keep state.uses)) node ≡ true → at node ≡ Some loaded → is_among (layout.chains (bucket_of_hash (hash loaded.key))) loaded.contents ≡ true → is_among (chains (bucket_of_hash (hash loaded.key))) loaded.contents ≡ true
+  pub chain_was : (bucket contents : ℕ) → bucket < table_length → is_among (chains bucket) contents ≡ true → IsListedRecord (without_items state objects keep) (laid_less layout at chains owner) contents
+  pub own : (node : ℕ) (loaded : Loaded) (claim : Claim) → at node ≡ Some loaded → has_claim (all_claims loaded) claim ≡ true → layout.owner claim ≡ Some node → owner claim ≡ Some node

@@ -1,0 +1,86 @@
+-- An image that stands for a state.
+use Rattle.std.specs.Prelude.{◌≡◌, ℕ, ◌<◌, ◌^◌, List, [], ◌++◌, map, true, false, ◌==◌, IsSomeAnd, is_some}
+use Rattle.std.specs.List.{AllByRecursion}
+use Rattle.std.specs.declared.option.Option.TheVariants.{Some}
+use Rattle.std.specs.declared.result.Result.TheVariants.{Ok}
+use Rattle.blk_model.specs.Items.{main_row}
+use Rattle.blk_model.specs.State.{Object, State, IsValidState, object_at}
+use Rattle.blk_model.specs.Holding as model
+use Rattle.blk_image.specs.Image.{External, Image, has_file}
+use Rattle.blk_format.specs.Headers.{table_length}
+use Rattle.blk_format.specs.Records as records
+use Rattle.blk_format.specs.Claims.{Claim, BlockOf, ExternalOf, has_claim}
+use Rattle.blk_format.specs.BlockFiles.{is_among, linked_as, most_blocks, IsWellFormed}
+use Rattle.blk_format.specs.Maps.{is_marked}
+use Rattle.blk_volume.specs.ListView.{Distinct}
+use Rattle.blk_volume.specs.Walk.{walk}
+use Rattle.blk_volume.specs.View.{View, view_of}
+use Rattle.blk_volume.specs.Chains.{chain}
+use Rattle.blk_volume.specs.Loads.{listed, alone, is_part, Loaded, load, all_claims, claims_of_loaded}
+use Rattle.blk_volume.specs.Audit.{kept_by, dropped_by}
+use Rattle.blk_volume.specs.Found.{row_of}
+use Rattle.blk_volume.specs.Sound.{EndsWhole, ChainsEnd, AreOwned, IsInOrder}
+use Rattle.blk_volume.specs.Layout.{Layout, order}
+
+-- the dirty word of a main item is 0 exactly where its object is settled, and that of a part is 0
+pub record IsMarkedRow (state : State) (loaded : Loaded) : Type 0 where
+  pub part : is_part loaded ≡ true → loaded.dirty ≡ 0
+  pub main : is_part loaded ≡ false → (number : ℕ) (object : Object) → object_at state number ≡ Some object → object.live ≡ true → object.key ≡ loaded.key → (loaded.dirty == 0) ≡ object.settled
+
+-- a node and a record of state 2 keep a doomed object with its key, shape and streams, neither listed nor chained
+pub record KeepsDoomed (view : View) (object : Object) (loaded : Loaded) : Type 0 where
+  pub doomed : object.live ≡ false
+  pub loads : load view.stock (alone records.doomed) loaded.node ≡ Ok loaded
+  pub row : row_of loaded ≡ main_row object.key object.shape object.streams
+  pub mark : (loaded.dirty == 0) ≡ object.settled
+  pub unlisted : is_among (walk view.list) loaded.node ≡ false
+  pub unchained : (bucket : ℕ) → bucket < table_length → is_among (chain view.stock bucket).reached loaded.contents ≡ false
+
+-- nodes and records, each by the number of a doomed object: one for each
+pub record AreDoomed (view : View) (state : State) (numbered : List (ℕ × Loaded)) : Type 0 where
+  pub each : AllByRecursion (λ doomed. IsSomeAnd (object_at state doomed.0) (λ object. KeepsDoomed view object doomed.1)) numbered
+  pub once : Distinct (map (λ doomed. doomed.0) numbered)
+  pub all : (number : ℕ) (object : Object) → object_at state number ≡ Some object → object.live ≡ false → is_among (map (λ doomed. doomed.0) numbered) number ≡ true
+
+-- what a view shows of a valid state: what is listed, dirty or not, is its items in their order, nothing is dropped, and no operation is in flight
+pub record ShowsState (view : View) (state : State) : Type 0 where
+  pub valid : IsValidState state
+  pub transaction : view.list.transaction ≡ 0
+  pub list_end : EndsWhole view.list
+  pub chain_ends : ChainsEnd view.stock
+  pub nothing_dropped : dropped_by listed view ≡ []
+  pub rows : map row_of (kept_by listed view) ≡ model.rows state
+  pub marks : AllByRecursion (IsMarkedRow state) (kept_by listed view)
+
+-- an image stands for a state
+pub record StandsFor (image : Image) (state : State) : Type 0 where
+  pub well_formed : IsWellFormed image
+  pub shows : ShowsState (view_of image) state
+  pub doomed : List (ℕ × Loaded)
+  pub are_doomed : AreDoomed (view_of image) state doomed
+  pub owned : AreOwned image (claims_of_loaded (kept_by listed (view_of image) ++ map (λ d. d.1) doomed))
+  pub in_order : IsInOrder image (kept_by listed (view_of image)) (map (λ d. d.1) doomed)
+
+-- What of a layout is asked for that.
+
+-- a node of the layout, listed or doomed, that claims
+pub record IsOwner (state : State) (layout : Layout) (doomed_nodes : List ℕ) (claim : Claim) (node : ℕ) : Type 0 where
+  pub among : is_among (order state layout ++ doomed_nodes) node ≡ true
+  pub loaded : Loaded
+  pub here : layout.at node ≡ Some loaded
+  pub claims : has_claim (all_claims loaded) claim ≡ true
+
+-- these are the numbers of the doomed objects, whose records have state 2
+pub record AreNumbers (state : State) (layout : Layout) (numbers : List ℕ) : Type 0 where
+  pub each : AllByRecursion (λ number. IsSomeAnd (object_at state number) (λ object. object.live ≡ false)) numbers
+  pub once : Distinct numbers
+  pub all : (number : ℕ) (object : Object) → object_at state number ≡ Some object → object.live ≡ false → is_among numbers number ≡ true
+  pub records : (number : ℕ) → is_among numbers number ≡ true → layout.state (layout.place_of_doomed number) ≡ records.doomed
+
+-- the blocks that are marked and the external files that are there are the owned ones, and each owner is a node of the layout, listed or of a doomed object of these numbers
+pub record IsAllocated (image : Image) (state : State) (layout : Layout) (numbers : List ℕ) : Type 0 where
+  pub blocks : (n b : ℕ) → is_some (linked_as image n) ≡ true → b < most_blocks → is_marked image n b ≡ is_some (layout.owner (BlockOf n b))
+  pub files : (n : ℕ) → n < 2 ^ 32 → has_file image (External n) ≡ is_some (layout.owner (ExternalOf n))
+  pub exact : (claim : Claim) (node : ℕ) → layout.owner claim ≡ Some node → IsOwner state layout (map layout.place_of_doomed numbers) claim node
+  pub once : Distinct (order state layout ++ map layout.place_of_doomed numbers)
+  pub doomed : AreNumbers state layout numbers
