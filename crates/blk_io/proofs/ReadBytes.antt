@@ -1,8 +1,7 @@
 -- What a read of a file gives.
-use Rattle.std.proofs.Common.{◌≡◌, ℕ, zero, suc, ◌+◌, ◌-◌, ◌<◌, ◌≤◌, nat_le, Bool, true, false, if◌then◌else◌, min, List, [], length, take, drop, Option, None, Some, unwrap_or, refl, sym, ◌∙◌, ap, arith}
-use Rattle.std.proofs.lemmas.Bool.Decides.{nat_tests}
+use Rattle.std.proofs.Common.{◌≡◌, ℕ, zero, suc, ◌-◌, min, List, [], length, take, drop, Option, None, unwrap_or, refl, sym, ◌∙◌, ap, arith}
 use Rattle.blk_image.specs.Bytes.{content, range_at}
-use Rattle.blk_image.specs.Image.{File, Image, bytes_of, length_of, word, word_in}
+use Rattle.blk_image.specs.Image.{File, Image, bytes_of, length_of}
 use Rattle.blk_image.specs.Told.{GivesBytes}
 use Rattle.blk_image.proofs.Words.{range-is}
 
