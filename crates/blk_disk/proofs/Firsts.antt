@@ -7,43 +7,10 @@ use Rattle.blk_image.specs.Image.{File, Block}
 use Rattle.blk_image.specs.Checks as checks
 use Rattle.blk_image.specs.Checks.{first_of, check_found}
 use Rattle.blk_image.specs.Bytes.{word_at}
+use Rattle.blk_image.proofs.FirstChecks.{all_none, passed}
 use Rattle.blk_format.specs.Headers.{next_file_of}
 use Rattle.blk_format.specs.BlockFiles.{file_checks, is_link}
 use Rattle.blk_disk.specs.Loading.{HasRoom, next_of}
-
-pub append_some : (xs ys : List (Option checks.Damage)) (d : checks.Damage) → first_of xs ≡ Some d → first_of (xs ++ ys) ≡ Some d
-append_some [] ys d e = absurd (clash e)
-  where
-    clash : None ≡ Some d → ⊥
-    clash c = cc
-append_some (None ∷ xs) ys d e = append_some xs ys d e
-append_some (Some x ∷ xs) ys d e = e
-
-pub append_none : (xs ys : List (Option checks.Damage)) → first_of xs ≡ None → first_of (xs ++ ys) ≡ first_of ys
-append_none [] ys e = refl
-append_none (None ∷ xs) ys e = append_none xs ys e
-append_none (Some x ∷ xs) ys e = absurd (clash e)
-  where
-    clash : Some x ≡ None → ⊥
-    clash c = cc
-
--- where no check fails, each passes
-all_none : (xs : List (Option checks.Damage)) → first_of xs ≡ None → (k : ℕ) → get_or xs k None ≡ None
-all_none [] e k = refl
-all_none (None ∷ xs) e zero = refl
-all_none (None ∷ xs) e (suc k) = all_none xs e k
-all_none (Some d ∷ xs) e k = absurd (clash e)
-  where
-    clash : Some d ≡ None → ⊥
-    clash c = cc
-
--- a check that passed
-passed : (file : File) (at found : ℕ) (holds : Bool) → check_found file at found holds ≡ None → holds ≡ true
-passed file at found true e = refl
-passed file at found false e = absurd (clash (record { file = file; at = at; found = found }) e)
-  where
-    clash : (d : checks.Damage) → Some d ≡ None → ⊥
-    clash d c = cc
 
 -- the link of a file whose checks hold
 pub link_passed : (kind : ℕ) (met : List ℕ) (left n : ℕ) (f : ℕ → ℕ) (size : ℕ) → first_of (file_checks kind met left n f size) ≡ None → is_link met left (next_file_of f) ≡ true

@@ -23,7 +23,8 @@ use Rattle.blk_io.specs.declared.fault.Fault.TheVariants.{Device, Damaged}
 use Rattle.blk_io.specs.Faults.{IfDamaged, damage_of}
 use Rattle.blk_disk.specs.Loading.{Follows, ReadsAs, IsHead, files_left, next_checks, checks_after, checks_from, links_from, next_of}
 use Rattle.blk_disk.proofs.Among.{is_among_more}
-use Rattle.blk_disk.proofs.Firsts.{append_some, append_none, link_passed}
+use Rattle.blk_image.proofs.FirstChecks.{append_some, append_none}
+use Rattle.blk_disk.proofs.Firsts.{link_passed}
 
 -- a last file has no next one
 last_link : (met : List ℕ) (next : ℕ) → is_link met 0 next ≡ true → (next == 0) ≡ true

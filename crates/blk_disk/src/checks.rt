@@ -1,23 +1,11 @@
 // Checks of the headers of block files.
-ghost use Rattle.std.specs.Prelude.{◌≡◌, ◌==◌, map};
+ghost use Rattle.std.specs.Prelude.{◌≡◌, ◌==◌};
 ghost use Rattle.std.specs.Option.{option_map};
 ghost use Rattle.blk_image.specs.Image.{Block as block};
-ghost use Rattle.blk_image.specs.Checks.{first_of, check_found};
+ghost use Rattle.blk_image.specs.Checks.{check_found};
 ghost use Rattle.blk_io.specs.Faults.{damage_of};
 
 use blk_io::{Damage, FileId};
-
-// The first of these checks that failed.
-pub(crate) fn first_failed(checks: &[Option<Damage>]) -> Option<Damage>
-    ensures { option_map damage_of result ≡ first_of (map (option_map damage_of) checks.now) }
-{
-    for check in checks {
-        if let Some(damage) = check {
-            return Some(*damage);
-        }
-    }
-    None
-}
 
 // A damage of block file n.
 pub(crate) fn damage_at(n: u8, at: u64, found: u32) -> Damage

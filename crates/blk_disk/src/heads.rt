@@ -13,10 +13,10 @@ ghost use Rattle.blk_io.specs.Faults.{IfDevice, damage_of};
 ghost use Rattle.blk_disk.specs.Tables.{all_files, files_of};
 ghost use Rattle.blk_disk.specs.Loading.{HasRoom, Judges, ReadsAs, files_left, next_of};
 
-use crate::checks::{check, check_is, damage_at, first_failed};
+use crate::checks::{check, check_is, damage_at};
 use crate::tables::{BlockFiles, MOST_FILES};
 use blk_addr::Kind;
-use blk_io::{Damage, Fault, FileId, Folder};
+use blk_io::{Damage, Fault, FileId, Folder, first_failed};
 use blk_record::BlockHead;
 
 // The bytes of the fields of a header, and of the whole header.

@@ -3,4 +3,3 @@ pub mod Searches
 pub mod Listed
 pub mod Makings
 mod Writings
-mod Carried

@@ -1,7 +1,7 @@
 -- Each definition on a small example, computed.
 use Rattle.std.proofs.Common.{◌≡◌, ℕ, List, [], ◌∷◌, None, Some, true, false, refl}
 use Rattle.blk_image.specs.Bytes.{content, half_at, word_at, long_at, word_bytes, range_at, words_at, spliced, zeros, resized}
-use Rattle.blk_image.specs.Image.{Index, Block, External, Image, same_file, empty_image, has_file, bytes_of, length_of, byte, word, word_in, with_file}
+use Rattle.blk_image.specs.Image.{Index, Block, External, Image, same_file, empty_image, has_file, bytes_of, length_of, byte, word, with_file}
 use Rattle.blk_image.specs.Steps.{TrailStep, Word, SetLength, Delete, Note, after, image_at, words, before_words, word_step, word_steps, with_word, with_words}
 use Rattle.blk_image.specs.Order.{kind_of, number_of}
 use Rattle.blk_image.specs.Notes.{notes_in}
@@ -72,9 +72,9 @@ its_byte : byte small (External 1) 2 ≡ 3
 unfolding small
 its_byte = refl
 
-its_word_past_the_end : (word small (External 1) 0 ≡ 0x30201) × (word_in small (External 1) 0 ≡ None)
+its_word_past_the_end : word small (External 1) 0 ≡ 0x30201
 unfolding small
-its_word_past_the_end = (refl, refl)
+its_word_past_the_end = refl
 
 -- seven bytes from place 2 on touch three words
 write_is_cut : words (Block 1) 2 (1 ∷ 2 ∷ 3 ∷ 4 ∷ 5 ∷ 6 ∷ 7 ∷ []) ≡ Word (Block 1) 2 (1 ∷ 2 ∷ []) ∷ Word (Block 1) 4 (3 ∷ 4 ∷ 5 ∷ 6 ∷ []) ∷ Word (Block 1) 8 (7 ∷ []) ∷ []

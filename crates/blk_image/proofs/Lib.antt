@@ -8,4 +8,5 @@ pub mod NotesLemmas
 pub mod Orders
 pub mod Footprints
 pub mod ByteSteps
+pub mod FirstChecks
 pub mod Examples

@@ -1,7 +1,7 @@
 -- What the files of a folder hold.
-use Rattle.std.specs.Prelude.{ℕ, ◌+◌, ◌<◌, ◌≤◌, List, [], Bool, true, false, length, nat_eq, nat_le, if◌then◌else◌, unwrap_or, is_some}
+use Rattle.std.specs.Prelude.{ℕ, ◌+◌, ◌<◌, ◌≤◌, List, [], Bool, true, false, length, nat_eq, if◌then◌else◌, unwrap_or, is_some}
 use Rattle.std.specs.declared.option.Option.{Option}
-use Rattle.std.specs.declared.option.Option.TheVariants.{None, Some}
+use Rattle.std.specs.declared.option.Option.TheVariants.{None}
 use Rattle.blk_image.specs.Bytes.{content, word_at}
 
 -- the index, the block file of a number, the external file of a number
@@ -44,10 +44,6 @@ byte image file = content (bytes_of image file)
 -- the word at a place, where a byte past the end counts as 0
 abbrev pub word : Image → File → ℕ → ℕ
 word image file i = word_at (byte image file) i
-
--- the word at a place, where the file has all of it
-abbrev pub word_in : Image → File → ℕ → Option ℕ
-word_in image file i = if nat_le (i + 4) (length_of image file) then Some (word image file i) else None
 
 -- the n bytes from a place on lie inside the file
 abbrev pub HasRange : Image → File → ℕ → ℕ → Type 0

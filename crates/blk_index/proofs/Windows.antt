@@ -16,7 +16,7 @@ use Rattle.blk_format.specs.Headers.{IsUnfinished, head_checks, list_checks, fir
 use Rattle.blk_io.specs.declared.fault.Fault.{Fault}
 use Rattle.blk_index.specs.declared.start.Start.{Start}
 use Rattle.blk_index.specs.Start.{LooksAs, Judges}
-use Rattle.blk_index.proofs.Firsts.{all_none, passed}
+use Rattle.blk_image.proofs.FirstChecks.{all_none, passed}
 
 -- how many bytes were given
 pub given_is : (image : Image) (new : List ℕ) (given : ℕ) → GivesBytes image Index 0 (zeros 368) new given → given ≡ min 368 (length_of image Index)

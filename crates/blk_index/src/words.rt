@@ -1,12 +1,14 @@
 // The words of the index's header, and the words of its table.
-ghost use Rattle.std.specs.Prelude.{◌≡◌, ◌+◌, ◌*◌, ◌%◌, ◌<◌, ◌≤◌, IfOk, None};
+ghost use Rattle.std.specs.Prelude.{◌≡◌, ◌+◌, ◌*◌, ◌%◌, ◌<◌, ◌≤◌, IfOk, None, OnErr, OnOk};
 ghost use Rattle.std.specs.Option.{ForSome};
+ghost use Rattle.blk_image.specs.Footprint.{SameOutside, one_word};
 ghost use Rattle.blk_image.specs.Image.{byte, word, length_of, Index as index};
-ghost use Rattle.blk_image.specs.Told.{Stays, Rises};
+ghost use Rattle.blk_image.specs.Steps.{word_step};
+ghost use Rattle.blk_image.specs.Told.{Grows, GrowsInPart, Passes, Stays, Rises};
 ghost use Rattle.blk_format.specs.Headers.{bucket_of, place_of_bucket, index_length, header_length};
 ghost use Rattle.blk_io.specs.Faults.{IfDamaged, IfDevice, IsShort};
 
-use blk_io::{Fault, FileId, Folder, read_word};
+use blk_io::{Failed, Fault, FileId, Folder, read_word, write_word};
 
 const HEADER_LEN: u64 = 368;
 
@@ -42,4 +44,38 @@ pub fn bucket<F: Folder>(f: &mut F, number: u16) -> Result<u32, Fault>
     ensures device { IfDevice result (Rises (F.faults f.old) (F.faults f.new)) }
 {
     read_word(f, FileId::Index, HEADER_LEN + 4 * u64::from(number))
+}
+
+/// Writes the word of the header at a place in bytes, by one folder call.
+pub fn set_word<F: Folder>(f: &mut F, at: u32, value: u32) -> Result<(), Failed>
+    requires aligned { at % 4 ≡ 0 }
+    requires inside { at < header_length }
+    requires complete { ForSome (F.told f.old).files (λ image. length_of image index ≡ index_length) }
+    ensures whole { OnOk result (Grows (F.told f.old) (F.told f.new) (word_step index at value)) }
+    ensures part { GrowsInPart (F.told f.old) (F.told f.new) (word_step index at value) }
+
+    // Nothing but this word has changed before and after the step.
+    ensures outside { ForSome (F.told f.old).files (λ from. Passes (F.told f.old) (F.told f.new) (SameOutside (one_word index at) from)) }
+    ensures complete { ForSome (F.told f.new).files (λ image. length_of image index ≡ index_length) }
+
+    ensures later { F.faults f.old ≤ F.faults f.new }
+    ensures failed { OnErr result (Rises (F.faults f.old) (F.faults f.new)) }
+{
+    write_word(f, FileId::Index, u64::from(at), value)
+}
+
+/// Writes the word of a bucket, by one folder call: the first address of its chain, or 0.
+pub fn set_bucket<F: Folder>(f: &mut F, number: u16, value: u32) -> Result<(), Failed>
+    requires { ForSome (F.told f.old).files (λ image. length_of image index ≡ index_length) }
+    ensures whole { OnOk result (Grows (F.told f.old) (F.told f.new) (word_step index (place_of_bucket number) value)) }
+    ensures part { GrowsInPart (F.told f.old) (F.told f.new) (word_step index (place_of_bucket number) value) }
+
+    // Nothing but this word has changed before and after the step.
+    ensures outside { ForSome (F.told f.old).files (λ from. Passes (F.told f.old) (F.told f.new) (SameOutside (one_word index (place_of_bucket number)) from)) }
+    ensures complete { ForSome (F.told f.new).files (λ image. length_of image index ≡ index_length) }
+
+    ensures later { F.faults f.old ≤ F.faults f.new }
+    ensures failed { OnErr result (Rises (F.faults f.old) (F.faults f.new)) }
+{
+    write_word(f, FileId::Index, HEADER_LEN + 4 * u64::from(number), value)
 }

@@ -6,3 +6,4 @@ pub mod WordCounts
 pub mod Splicing
 pub mod CallLists
 pub mod Writes
+pub mod Carried

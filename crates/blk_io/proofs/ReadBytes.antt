@@ -1,8 +1,7 @@
 -- What a read of a file gives.
-use Rattle.std.proofs.Common.{◌≡◌, ℕ, zero, suc, ◌+◌, ◌-◌, ◌<◌, ◌≤◌, nat_le, Bool, true, false, if◌then◌else◌, min, List, [], length, take, drop, Option, None, Some, unwrap_or, refl, sym, ◌∙◌, ap, arith}
-use Rattle.std.proofs.lemmas.Bool.Decides.{nat_tests}
+use Rattle.std.proofs.Common.{◌≡◌, ℕ, zero, suc, ◌-◌, min, List, [], length, take, drop, Option, None, unwrap_or, refl, sym, ◌∙◌, ap, arith}
 use Rattle.blk_image.specs.Bytes.{content, range_at}
-use Rattle.blk_image.specs.Image.{File, Image, bytes_of, length_of, word, word_in}
+use Rattle.blk_image.specs.Image.{File, Image, bytes_of, length_of}
 use Rattle.blk_image.specs.Told.{GivesBytes}
 use Rattle.blk_image.proofs.Words.{range-is}
 
@@ -27,14 +26,3 @@ unfolding range_at
 gives_nothing image file place old none =
     let empty : length_of image file ≡ 0 = ap (λ (o : Option (List ℕ)). length (unwrap_or o [])) none in
     record { many = omega (arith, empty); front = refl; rest = refl }
-
--- a word that the file has, and one that it hasn't
-pub word_in-some : (image : Image) (file : File) (place : ℕ) → place + 4 ≤ length_of image file → word_in image file place ≡ Some (word image file place)
-word_in-some image file place enough =
-    let test : nat_le (place + 4) (length_of image file) ≡ true = grind (arith, nat_tests) in
-    ap (λ (t : Bool). if t then Some (word image file place) else None) test
-
-pub word_in-none : (image : Image) (file : File) (place : ℕ) → length_of image file < place + 4 → word_in image file place ≡ None
-word_in-none image file place few =
-    let test : nat_le (place + 4) (length_of image file) ≡ false = grind (arith, nat_tests) in
-    ap (λ (t : Bool). if t then Some (word image file place) else None) test

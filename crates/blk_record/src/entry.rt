@@ -42,9 +42,9 @@ impl<'a> Record for EntryView<'a> {
 
     ghost window_of = { entry_window };
 
-    const SIZE: usize = 96;
+    const SIZE: usize = SIZE;
 
-    const SEAL: usize = 92;
+    const SEAL: usize = SEAL;
 
     fn bytes(&self) -> &[u8] {
         &self.window[..SIZE]
@@ -100,9 +100,9 @@ impl<'a> Record for EntryMut<'a> {
 
     ghost window_of = { entry_mut_window };
 
-    const SIZE: usize = 96;
+    const SIZE: usize = SIZE;
 
-    const SEAL: usize = 92;
+    const SEAL: usize = SEAL;
 
     fn bytes(&self) -> &[u8] {
         &self.window[..SIZE]

@@ -42,9 +42,9 @@ impl<'a> Record for NodeView<'a> {
 
     ghost window_of = { node_window };
 
-    const SIZE: usize = 36;
+    const SIZE: usize = SIZE;
 
-    const SEAL: usize = 32;
+    const SEAL: usize = SEAL;
 
     fn bytes(&self) -> &[u8] {
         &self.window[..SIZE]
@@ -100,9 +100,9 @@ impl<'a> Record for NodeMut<'a> {
 
     ghost window_of = { node_mut_window };
 
-    const SIZE: usize = 36;
+    const SIZE: usize = SIZE;
 
-    const SEAL: usize = 32;
+    const SEAL: usize = SEAL;
 
     fn bytes(&self) -> &[u8] {
         &self.window[..SIZE]

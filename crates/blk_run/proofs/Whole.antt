@@ -4,7 +4,7 @@ use Rattle.blk_image.specs.Image.{Image, Index, byte, length_of}
 use Rattle.blk_image.specs.Checks.{Damage, first_of}
 use Rattle.blk_format.specs.Headers.{head_checks, list_checks, first_index_damage}
 use Rattle.blk_format.specs.BlockFiles.{block_checks, first_block_damage, first_damage}
-use Rattle.blk_index.proofs.Firsts.{append_some, append_none}
+use Rattle.blk_image.proofs.FirstChecks.{append_some, append_none}
 
 -- where no check of the index fails, it is that of the block files
 pub damage_behind : (image : Image) → first_index_damage image ≡ None → first_damage image ≡ first_block_damage image

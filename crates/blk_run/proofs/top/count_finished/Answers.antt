@@ -6,7 +6,7 @@ use Rattle.blk_io.specs.declared.fault.Fault.{Fault}
 use Rattle.blk_disk.specs.Loading.{LoadsAs}
 use Rattle.blk_run.specs.Texts.{Prints, damage_text}
 use Rattle.blk_run.proofs.Whole.{damage_behind}
-use Rattle.blk_run.proofs.Carried.{printed, files}
+use Rattle.blk_run.proofs.PrintedDamage.{printed, files}
 use Rattle.blk_run.proofs.top.count_finished.Goals as goal
 
 some_inj : {A : Type 0} {x y : A} → Some x ≡ Some y → x ≡ y

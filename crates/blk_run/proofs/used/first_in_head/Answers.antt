@@ -4,7 +4,7 @@ use Rattle.blk_image.specs.Image.{Index, byte}
 use Rattle.blk_io.specs.declared.folder.FileId.TheVariants as names
 use Rattle.blk_io.proofs.Shorts.{untold_if}
 use Rattle.blk_run.specs.Count.{checked_place}
-use Rattle.blk_run.proofs.Carried.{carried}
+use Rattle.blk_io.proofs.Carried.{carried}
 use Rattle.blk_run.proofs.UsedWords.{from_list, head_words, head_word}
 use Rattle.blk_run.proofs.used.first_in_head.Goals as goal
 

@@ -5,7 +5,7 @@ use Rattle.blk_format.specs.Headers.{place_of_bucket}
 use Rattle.blk_io.specs.declared.folder.FileId.TheVariants as names
 use Rattle.blk_io.proofs.Shorts.{untold_if}
 use Rattle.blk_run.specs.Used.{FirstWord}
-use Rattle.blk_run.proofs.Carried.{carried}
+use Rattle.blk_io.proofs.Carried.{carried}
 use Rattle.blk_run.proofs.UsedWords.{piece_words, piece_unused, piece_used}
 use Rattle.blk_run.proofs.used.first_in_piece.Goals as goal
 
