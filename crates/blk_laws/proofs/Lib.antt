@@ -43,3 +43,4 @@ pub mod OneEntry
 pub mod Premises
 pub mod NodeWords
 pub mod ListBytes
+pub mod DamagedParts
