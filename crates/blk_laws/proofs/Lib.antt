@@ -44,3 +44,4 @@ pub mod Premises
 pub mod NodeWords
 pub mod ListBytes
 pub mod DamagedParts
+pub mod Allocations
