@@ -1,9 +1,9 @@
 -- The address words of what is kept are the allocations of their files.
-use Rattle.std.proofs.Common.{◌≡◌, ℕ, zero, suc, ◌+◌, ◌<◌, List, [], ◌∷◌, ◌++◌, length, map, take, refl, ap, sym, ◌∙◌, subst, arith, ⊎_elim, Bool, true, false, Option, Some, None, Result, Ok, Err}
+use Rattle.std.proofs.Common.{◌≡◌, ℕ, zero, suc, ◌+◌, List, [], ◌∷◌, ◌++◌, map, take, refl, ap, sym, ◌∙◌, subst, arith, ⊎_elim, Bool, true, false, Option, Some, None, Result, Ok, Err}
 use Rattle.std.specs.Prelude.{if◌then◌else◌, ◌&&◌, ◌||◌, ◌==◌, not, nat_le, is_some, All}
 use Rattle.std.specs.Option.{option_and_then, option_map}
 use Rattle.std.specs.List.{AllByRecursion, filter, filter_map, flat_map, cons_option, count_by, range_with_len}
-use Rattle.std.proofs.lemmas.Bool.{cases_Bool, eqb-true, eq-eqb, and_parts, or_left, or_right, or_parts}
+use Rattle.std.proofs.lemmas.Bool.{cases_Bool, eqb-true, eq-eqb, and_parts, or_right, or_parts}
 use Rattle.std.proofs.lemmas.List.Sums.{length-filter}
 use Rattle.std.proofs.lemmas.List.{append_assoc, append-nil}
 use Rattle.blk_image.specs.Bytes.{words_at}
@@ -19,17 +19,17 @@ use Rattle.blk_volume.specs.View.{Stock, Named, Core, stands_as, entry_at, core_
 use Rattle.blk_volume.specs.Entries.{key_of, stream_of, streams_of}
 use Rattle.blk_volume.specs.Reasons.{Reason}
 use Rattle.blk_volume.specs.Loads.{Rule, held, listed, alone, Loaded, load, all_claims, record_claims, claims_of_loaded}
-use Rattle.blk_volume.specs.Audit.{verdict, with_verdict, verdicts, verdict_on, judged, kept_of, kept_among, kept_by, admit}
-use Rattle.blk_volume.specs.Found.{kept, completed}
-use Rattle.blk_volume.specs.Sound.{words_of, AreOwned, IsSound}
-use Rattle.blk_volume.specs.StandsFor.{KeepsDoomed, StandsFor}
+use Rattle.blk_volume.specs.Audit.{verdict, with_verdict, verdicts, verdict_on, kept_of, kept_among, kept_by, admit}
+use Rattle.blk_volume.specs.Found.{kept}
+use Rattle.blk_volume.specs.Sound.{words_of, AreOwned}
+use Rattle.blk_volume.specs.StandsFor.{KeepsDoomed}
 use Rattle.blk_model.specs.State.{State, Object, object_at}
 use Rattle.std.specs.Option.{IsSomeAnd}
 use Rattle.blk_laws.specs.AllocationLaws.{SoundFilesAreAllocated, StoodForFilesAreAllocated}
 use Rattle.blk_laws.proofs.Laid.{repeats-tail}
 use Rattle.blk_laws.proofs.Marking.{repeats-apart}
 use Rattle.blk_laws.proofs.ClaimLists.{claim-append, claim-head, no-claim, neither, repeats-append}
-use Rattle.blk_laws.proofs.Loads.{bind_then, IsLoadedNode, load-then}
+use Rattle.blk_laws.proofs.Loads.{bind_then, load-then}
 use Rattle.blk_laws.proofs.FrameLaw.{admit-then}
 
 -- ---- what is kept was loaded
@@ -42,12 +42,12 @@ verdict-loads : (v : Stock) (rule : Rule) (kept : List Loaded) (ts : List ℕ) (
 unfolding verdicts
 verdict-loads v rule kept [] w l e = cc
 verdict-loads v rule kept (t ∷ ts) w l e = ⊎_elim
-  (λ (x : (t == w) ≡ true).
+    (λ (x : (t == w) ≡ true).
     let some : ◌≡◌ {A = Option (Result Loaded Reason)} (Some (verdict v rule kept t)) (Some (Ok l)) = rw x at e in
     let ok : verdict v rule kept t ≡ Ok l = cc in
     bind_then (load v rule t) (admit kept) l ok (λ m loaded ok. admit-then kept m l ok (λ same _. (rule, t, loaded ∙ ap Ok same))))
-  (λ (x : (t == w) ≡ false). verdict-loads v rule (with_verdict kept (verdict v rule kept t)) ts w l (rw x at e))
-  (cases_Bool (t == w))
+    (λ (x : (t == w) ≡ false). verdict-loads v rule (with_verdict kept (verdict v rule kept t)) ts w l (rw x at e))
+    (cases_Bool (t == w))
 
 kept-some : (o : Option (Result Loaded Reason)) (l : Loaded) → kept_of o ≡ Some l → o ≡ Some (Ok l)
 kept-some None l e = cc
@@ -74,23 +74,23 @@ StandsIf image x = (x == 0) ≡ false → stands_in image x ≡ true
 nonzero : (image : Image) (xs : List ℕ) → AllByRecursion (StandsIf image) xs → AllByRecursion (λ x. stands_in image x ≡ true) (filter (λ w. not (w == 0)) xs)
 nonzero image [] all = tt
 nonzero image (x ∷ xs) all = ⊎_elim
-  (λ (e : (x == 0) ≡ true). rw e (nonzero image xs all.1))
-  (λ (e : (x == 0) ≡ false). rw e (all.0 e, nonzero image xs all.1))
-  (cases_Bool (x == 0))
+    (λ (e : (x == 0) ≡ true). rw e (nonzero image xs all.1))
+    (λ (e : (x == 0) ≡ false). rw e (all.0 e, nonzero image xs all.1))
+    (cases_Bool (x == 0))
 
 node-stands : (image : Image) (w : ℕ) (n : Named) → named_at image w ≡ Some n → stands_in image w ≡ true
 unfolding named_at
 node-stands image w n e = ⊎_elim
-  (λ (s : stands_as image rankings w ≡ true). (and_parts (stands_in image w) (kind_of w == rankings) s).0)
-  (λ (s : stands_as image rankings w ≡ false). let none : ◌≡◌ {A = Option Named} None (Some n) = rw s at e in absurd (cc))
-  (cases_Bool (stands_as image rankings w))
+    (λ (s : stands_as image rankings w ≡ true). (and_parts (stands_in image w) (kind_of w == rankings) s).0)
+    (λ (s : stands_as image rankings w ≡ false). let none : ◌≡◌ {A = Option Named} None (Some n) = rw s at e in absurd (cc))
+    (cases_Bool (stands_as image rankings w))
 
 core-stands : (image : Image) (c : ℕ) (e : Core) → core_at image c ≡ Some e → (stands_in image c ≡ true) × (core_of (entry_at image c) ≡ e)
 unfolding core_at
 core-stands image c e is = ⊎_elim
-  (λ (s : stands_as image blocks_256 c ≡ true). let some : ◌≡◌ {A = Option Core} (Some (core_of (entry_at image c))) (Some e) = rw s at is in ((and_parts (stands_in image c) (kind_of c == blocks_256) s).0, cc))
-  (λ (s : stands_as image blocks_256 c ≡ false). let none : ◌≡◌ {A = Option Core} None (Some e) = rw s at is in absurd (cc))
-  (cases_Bool (stands_as image blocks_256 c))
+    (λ (s : stands_as image blocks_256 c ≡ true). let some : ◌≡◌ {A = Option Core} (Some (core_of (entry_at image c))) (Some e) = rw s at is in ((and_parts (stands_in image c) (kind_of c == blocks_256) s).0, cc))
+    (λ (s : stands_as image blocks_256 c ≡ false). let none : ◌≡◌ {A = Option Core} None (Some e) = rw s at is in absurd (cc))
+    (cases_Bool (stands_as image blocks_256 c))
 
 storage-of_none : (size x : ℕ) → (size == 0) ≡ true → is_storage size x ≡ true → (x == 0) ≡ true
 unfolding is_storage
@@ -154,13 +154,13 @@ addresses-stand image c s = (s.first, (s.second, (s.third, (s.fourth, tt))))
 words-stand : (image : Image) (l : Loaded) → IsLoadedBy (stock_of image) l → AllByRecursion (λ x. stands_in image x ≡ true) (words_of l)
 unfolding stock_of
 words-stand image l by = load-then (stock_of image) by.0 by.1 l by.2 (λ n e f.
-  let core = core-stands image n.contents e f.entry in
-  let node : stands_in image l.node ≡ true = subst (λ (x : ℕ). stands_in image x ≡ true) (sym f.facts.node_is) (node-stands image by.1 n f.node) in
-  let contents : stands_in image l.contents ≡ true = subst (λ (x : ℕ). stands_in image x ≡ true) (sym f.facts.contents_is) core.0 in
-  let long : StandsIf image e.long_key = long_key-stands image n.contents e l.key f.facts.keyed.key in
-  let streams : StreamsStand image e = streams-stand image e l.streams f.facts.streams in
-  let addresses : AllByRecursion (StandsIf image) e.data_addr = subst (λ (x : Core). AllByRecursion (StandsIf image) x.data_addr) core.1 (addresses-stand image n.contents (subst (StreamsStand image) (sym core.1) streams)) in
-  nonzero image (l.node ∷ l.contents ∷ l.others) ((λ _. node), ((λ _. contents), subst (AllByRecursion (StandsIf image)) (sym f.facts.others_are) (long, addresses))))
+    let core = core-stands image n.contents e f.entry in
+    let node : stands_in image l.node ≡ true = subst (λ (x : ℕ). stands_in image x ≡ true) (sym f.facts.node_is) (node-stands image by.1 n f.node) in
+    let contents : stands_in image l.contents ≡ true = subst (λ (x : ℕ). stands_in image x ≡ true) (sym f.facts.contents_is) core.0 in
+    let long : StandsIf image e.long_key = long_key-stands image n.contents e l.key f.facts.keyed.key in
+    let streams : StreamsStand image e = streams-stand image e l.streams f.facts.streams in
+    let addresses : AllByRecursion (StandsIf image) e.data_addr = subst (λ (x : Core). AllByRecursion (StandsIf image) x.data_addr) core.1 (addresses-stand image n.contents (subst (StreamsStand image) (sym core.1) streams)) in
+    nonzero image (l.node ∷ l.contents ∷ l.others) ((λ _. node), ((λ _. contents), subst (AllByRecursion (StandsIf image)) (sym f.facts.others_are) (long, addresses))))
 
 -- ---- the claims of these words
 
@@ -175,9 +175,9 @@ zero-claims x e = rw e refl
 nonzero-claims : (xs : List ℕ) → claims_of_all (filter (λ w. not (w == 0)) xs) ≡ claims_of_all xs
 nonzero-claims [] = refl
 nonzero-claims (x ∷ xs) = ⊎_elim
-  (λ (e : (x == 0) ≡ true). rw (e, zero-claims x e) (nonzero-claims xs))
-  (λ (e : (x == 0) ≡ false). rw e (ap (λ (cs : List Claim). claims_of x ++ cs) (nonzero-claims xs)))
-  (cases_Bool (x == 0))
+    (λ (e : (x == 0) ≡ true). rw (e, zero-claims x e) (nonzero-claims xs))
+    (λ (e : (x == 0) ≡ false). rw e (ap (λ (cs : List Claim). claims_of x ++ cs) (nonzero-claims xs)))
+    (cases_Bool (x == 0))
 
 words-claims : (l : Loaded) → claims_of_all (words_of l) ≡ all_claims l
 unfolding all_claims record_claims
@@ -198,23 +198,23 @@ repeats-head (x ∷ xs) ys e =
 fewer-claims : (p : ℕ → Bool) (xs : List ℕ) (c : Claim) → has_claim (claims_of_all (filter p xs)) c ≡ true → has_claim (claims_of_all xs) c ≡ true
 fewer-claims p [] c h = h
 fewer-claims p (x ∷ xs) c h = ⊎_elim
-  (λ (e : p x ≡ true).
+    (λ (e : p x ≡ true).
     let here : has_claim (claims_of x ++ claims_of_all (filter p xs)) c ≡ true = rw e at h in
     let parts : (has_claim (claims_of x) c || has_claim (claims_of_all (filter p xs)) c) ≡ true = sym (claim-append (claims_of x) (claims_of_all (filter p xs)) c) ∙ here in
     claim-append (claims_of x) (claims_of_all xs) c ∙ more (has_claim (claims_of x) c) (has_claim (claims_of_all (filter p xs)) c) (has_claim (claims_of_all xs) c) (fewer-claims p xs c) parts)
-  (λ (e : p x ≡ false). claim-append (claims_of x) (claims_of_all xs) c ∙ or_right (has_claim (claims_of x) c) (has_claim (claims_of_all xs) c) (fewer-claims p xs c (rw e at h)))
-  (cases_Bool (p x)) where
-    more : (a b d : Bool) → (b ≡ true → d ≡ true) → (a || b) ≡ true → (a || d) ≡ true
-    more true b d f e = refl
-    more false b d f e = f e
+    (λ (e : p x ≡ false). claim-append (claims_of x) (claims_of_all xs) c ∙ or_right (has_claim (claims_of x) c) (has_claim (claims_of_all xs) c) (fewer-claims p xs c (rw e at h)))
+    (cases_Bool (p x)) where
+      more : (a b d : Bool) → (b ≡ true → d ≡ true) → (a || b) ≡ true → (a || d) ≡ true
+      more true b d f e = refl
+      more false b d f e = f e
 
 fewer-repeats : (p : ℕ → Bool) (xs : List ℕ) → repeats (claims_of_all xs) ≡ false → repeats (claims_of_all (filter p xs)) ≡ false
 fewer-repeats p [] e = e
 fewer-repeats p (x ∷ xs) e = ⊎_elim
-  (λ (is : p x ≡ true). rw is (repeats-append (claims_of x) (claims_of_all (filter p xs)) (repeats-head (claims_of x) (claims_of_all xs) e) (fewer-repeats p xs (repeats-tail (claims_of x) (claims_of_all xs) e))
+    (λ (is : p x ≡ true). rw is (repeats-append (claims_of x) (claims_of_all (filter p xs)) (repeats-head (claims_of x) (claims_of_all xs) e) (fewer-repeats p xs (repeats-tail (claims_of x) (claims_of_all xs) e))
     (λ c a b. let none : has_claim (claims_of_all xs) c ≡ false = repeats-apart (claims_of x) (claims_of_all xs) c e a in let some : has_claim (claims_of_all xs) c ≡ true = fewer-claims p xs c b in let z : true ≡ false = sym some ∙ none in cc)))
-  (λ (is : p x ≡ false). rw is (fewer-repeats p xs (repeats-tail (claims_of x) (claims_of_all xs) e)))
-  (cases_Bool (p x))
+    (λ (is : p x ≡ false). rw is (fewer-repeats p xs (repeats-tail (claims_of x) (claims_of_all xs) e)))
+    (cases_Bool (p x))
 
 -- a word of another file claims no block of this one
 range-none : (f n b first count : ℕ) → (f == n) ≡ false → has_claim (map (λ x. BlockOf f x) (range_with_len first count)) (BlockOf n b) ≡ false
@@ -236,9 +236,9 @@ other-file n b x out = go (x == 0) (kind_of x == external) refl where
 same-marks : (n b : ℕ) (xs : List ℕ) → has_claim (claims_of_all (filter (is_in_file n) xs)) (BlockOf n b) ≡ has_claim (claims_of_all xs) (BlockOf n b)
 same-marks n b [] = refl
 same-marks n b (x ∷ xs) = ⊎_elim
-  (λ (e : is_in_file n x ≡ true). rw e (claim-append (claims_of x) (claims_of_all (filter (is_in_file n) xs)) (BlockOf n b) ∙ ap (λ (t : Bool). has_claim (claims_of x) (BlockOf n b) || t) (same-marks n b xs) ∙ sym (claim-append (claims_of x) (claims_of_all xs) (BlockOf n b))))
-  (λ (e : is_in_file n x ≡ false). rw e (same-marks n b xs ∙ ap (λ (t : Bool). t || has_claim (claims_of_all xs) (BlockOf n b)) (sym (other-file n b x e)) ∙ sym (claim-append (claims_of x) (claims_of_all xs) (BlockOf n b))))
-  (cases_Bool (is_in_file n x))
+    (λ (e : is_in_file n x ≡ true). rw e (claim-append (claims_of x) (claims_of_all (filter (is_in_file n) xs)) (BlockOf n b) ∙ ap (λ (t : Bool). has_claim (claims_of x) (BlockOf n b) || t) (same-marks n b xs) ∙ sym (claim-append (claims_of x) (claims_of_all xs) (BlockOf n b))))
+    (λ (e : is_in_file n x ≡ false). rw e (same-marks n b xs ∙ ap (λ (t : Bool). t || has_claim (claims_of_all xs) (BlockOf n b)) (sym (other-file n b x e)) ∙ sym (claim-append (claims_of x) (claims_of_all xs) (BlockOf n b))))
+    (cases_Bool (is_in_file n x))
 
 -- ---- the whole
 

@@ -1,6 +1,6 @@
 -- A parent and a part of it, computed on views: both are kept, and the part alone is dropped.
-use Rattle.std.proofs.Common.{◌≡◌, ℕ, List, [], ◌∷◌, ◌++◌, refl, true, false, Option, Some, None}
-use Rattle.std.specs.Prelude.{if◌then◌else◌, map, ◌==◌, ◌&&◌, codes, replicate}
+use Rattle.std.proofs.Common.{◌≡◌, ℕ, List, [], ◌∷◌, ◌++◌, refl, Some, None}
+use Rattle.std.specs.Prelude.{if◌then◌else◌, ◌==◌, ◌&&◌, codes, replicate}
 use Rattle.blk_image.specs.Bytes.{word_bytes, words_at}
 use Rattle.blk_format.specs.Hash.{of_four, of_three, of_one, of_bytes, mixed, hash}
 use Rattle.blk_format.specs.Address.{kind_of, block_count, file_selector, first_block, external_number}
@@ -13,9 +13,9 @@ use Rattle.blk_volume.specs.View.{View, Core}
 use Rattle.blk_volume.specs.Chains.{chain_from}
 use Rattle.blk_volume.specs.Entries.{is_key_length, key_of, stream_of, streams_of, role_of, parent_role, part_role, is_covered}
 use Rattle.blk_volume.specs.Reasons as reason
-use Rattle.blk_volume.specs.Loads.{held, load, load_key, load_record, record_claims, all_claims}
+use Rattle.blk_volume.specs.Loads.{load, load_key, load_record, record_claims, all_claims}
 use Rattle.blk_volume.specs.Audit.{is_named, is_orphan, admit, verdicts, kept_among, dropped_among}
-use Rattle.blk_laws.proofs.DamagedViews.{Row, Linked, node, shown, plain_core, kept_nodes, dropped_nodes}
+use Rattle.blk_laws.proofs.DamagedViews.{Row, node, shown, plain_core, kept_nodes, dropped_nodes}
 
 -- the bytes of an index before its bitmap: signature 5, the magic, a key of one byte, no partial block
 abbrev index_head : List ℕ
@@ -38,10 +38,10 @@ sparse_view bits head nodes =
         table = λ b. if b == 0xA782 then 0xA0010000 else if b == 0xD945 then 0xA0010001 else 0;
         key_place = λ w n. if w == 0xA0010000 then codes "a" else codes "Range_a:5:0";
         stored = λ size w.
-          if (size == 0) && (w == 0) then Some [] else
-          if (size == 8256) && (w == 0xC2030000) then Some (index_head ++ bits ∷ replicate 8191 0) else
-          if (size == 192) && (w == 0xA0010008) then Some (index_head ++ replicate 128 0) else
-          None;
+            if (size == 0) && (w == 0) then Some [] else
+            if (size == 8256) && (w == 0xC2030000) then Some (index_head ++ bits ∷ replicate 8191 0) else
+            if (size == 192) && (w == 0xA0010008) then Some (index_head ++ replicate 128 0) else
+            None;
       };
     }
 
