@@ -151,7 +151,7 @@ addresses-stand : (image : Image) (c : ℕ) → StreamsStand image (core_of (ent
 unfolding words_at entry_in
 addresses-stand image c s = (s.first, (s.second, (s.third, (s.fourth, tt))))
 
-words-stand : (image : Image) (l : Loaded) → IsLoadedBy (stock_of image) l → AllByRecursion (λ x. stands_in image x ≡ true) (words_of l)
+pub words-stand : (image : Image) (l : Loaded) → IsLoadedBy (stock_of image) l → AllByRecursion (λ x. stands_in image x ≡ true) (words_of l)
 unfolding stock_of
 words-stand image l by = load-then (stock_of image) by.0 by.1 l by.2 (λ n e f.
     let core = core-stands image n.contents e f.entry in
@@ -179,7 +179,7 @@ nonzero-claims (x ∷ xs) = ⊎_elim
     (λ (e : (x == 0) ≡ false). rw e (ap (λ (cs : List Claim). claims_of x ++ cs) (nonzero-claims xs)))
     (cases_Bool (x == 0))
 
-words-claims : (l : Loaded) → claims_of_all (words_of l) ≡ all_claims l
+pub words-claims : (l : Loaded) → claims_of_all (words_of l) ≡ all_claims l
 unfolding all_claims record_claims
 words-claims l = nonzero-claims (l.node ∷ l.contents ∷ l.others)
 

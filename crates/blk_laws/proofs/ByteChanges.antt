@@ -3,6 +3,7 @@ use Rattle.std.proofs.Common.{◌≡◌, ℕ, zero, suc, ◌+◌, ◌-◌, ◌*�
 use Rattle.std.specs.Prelude.{if◌then◌else◌, ◌&&◌, ◌==◌, nat_le, nat_lt, not, is_some}
 use Rattle.std.specs.List.{range_with_len}
 use Rattle.std.proofs.lemmas.Bool.{eqb-true, eq-eqb, cases_Bool, cases_lt, and_parts, or_left, or_right, lt-ltb, le-ltb, le-leb, leb-true}
+use Rattle.std.specs.Cmp.Derive.{both_true}
 use Rattle.std.proofs.Math.Nat.{mul-le-mul_left}
 use Rattle.blk_image.specs.Bytes.{word_at}
 use Rattle.blk_image.specs.Image.{Index, Block, External, Image, byte, length_of, has_file}
@@ -13,11 +14,13 @@ use Rattle.blk_format.specs.Address.{is_initialized, is_address, kind_of, block_
 use Rattle.blk_format.specs.Storage.{is_storage, entry_blocks}
 use Rattle.blk_format.specs.Standing.{is_linked_as, stands, stands_as_blocks}
 use Rattle.blk_format.specs.Records.{Node, Entry, node_checks}
-use Rattle.blk_format.specs.BlockFiles.{linked, files_along, next_file_in, max_entries_in, type_among, linked_as, stands_in}
+use Rattle.blk_format.specs.BlockFiles.{linked, files_along, next_file_in, max_entries_in, type_among, linked_as, stands_in, stands_in_blocks}
 use Rattle.blk_format.specs.Claims.{Claim, BlockOf, ExternalOf, same_claim, claims_of, has_claim}
 use Rattle.blk_volume.specs.View.{stands_as, block_bytes, node_at, entry_at, Named, Core, core_of, checks_at, next_at, prev_at, list_of, named_at, core_at, follow_at, key_place_at, stored_at, stock_of, view_of}
 use Rattle.blk_volume.specs.Entries.{is_key_length, longest_key}
 use Rattle.blk_volume.specs.Footprint.{IsClear, SameStock, SameLinks, SameBut, Covers, is_shown_place, is_extent_place}
+use Rattle.blk_volume.specs.Sound.{AreLongEnough}
+use Rattle.blk_laws.specs.ByteLaws.{is_there, AgreeBut, HaveGrown, is_past}
 use Rattle.blk_laws.proofs.Laid.{same_claim-self}
 use Rattle.blk_laws.proofs.ClaimLists.{claim-head, some-blocks}
 use Rattle.blk_laws.proofs.BlockBytes.{part_of, same-node_in, same-entry_in, same_under, same_else, room_is, storage_inside, not_false, not_same}
@@ -122,63 +125,73 @@ module _ (image : Image) (w : ℕ) (st : stands_in image w ≡ true) where
   pub stands-some : w ≢ 0
   stands-some e = let a : is_address 0 ≡ true = ap is_address (sym e) ∙ stands-address in let c : false ≡ true = sym zero-no_address ∙ a in cc
 
-  pub stands-linked : kind_of w ≢ external → linked_as image (file_selector w) ≡ Some (kind_of w)
-  unfolding stands stands_as_blocks
-  stands-linked apart =
-      let b = (and_parts (is_address w) (if kind_of w == external then has_file image (External (external_number w)) else stands_as_blocks (linked_as image) (max_entries_in image) (λ n. length_of image (Block n)) (λ n. has_file image (External n)) w) st).1 in
+  pub stands-blocks : kind_of w ≢ external → stands_in_blocks image w ≡ true
+  unfolding stands
+  stands-blocks apart =
+      let b = (and_parts (is_address w) (if kind_of w == external then has_file image (External (external_number w)) else stands_in_blocks image w) st).1 in
       let k : (kind_of w == external) ≡ false = not_equal (kind_of w) external apart in
-      let c : stands_as_blocks (linked_as image) (max_entries_in image) (λ n. length_of image (Block n)) (λ n. has_file image (External n)) w ≡ true = rw k at b in
-      linked-some (linked_as image (file_selector w)) (kind_of w) (and_parts (is_linked_as (linked_as image (file_selector w)) (kind_of w)) _ (and_parts (is_linked_as (linked_as image (file_selector w)) (kind_of w) && nat_le (first_block w + block_count w) (max_entries_in image (file_selector w))) _ c).0).0
+      rw k at b
 
-module _ (F : files.Footprint) (old new : Image) (touched : Claim → Bool) (same : files.SameOutside F old new) (covers : Covers old F touched) where
-  -- the links and the numbers of blocks
-  extent-byte : (n i : ℕ) → is_extent_place i ≡ true → byte new (Block n) i ≡ byte old (Block n) i
-  extent-byte n i e = same.bytes (Block n) i (covers.extents n i e)
+  pub stands-linked : kind_of w ≢ external → linked_as image (file_selector w) ≡ Some (kind_of w)
+  unfolding stands_as_blocks
+  stands-linked apart = linked-some (linked_as image (file_selector w)) (kind_of w) (and_parts (is_linked_as (linked_as image (file_selector w)) (kind_of w)) _ (and_parts (is_linked_as (linked_as image (file_selector w)) (kind_of w) && nat_le (first_block w + block_count w) (max_entries_in image (file_selector w))) _ (stands-blocks apart)).0).0
 
-  next-same : next_file_in new ≡ next_file_in old
-  unfolding next_file_in
-  next-same = λ k n. extent-byte n 10 refl k + 256 * extent-byte n 11 refl k
+-- where the bytes of a standing address end
+ends-at : (w : ℕ) → place w + room w ≡ block_place (kind_of w) (first_block w + block_count w)
+unfolding place block_place
+ends-at w = ap (λ (r : ℕ). 8192 + first_block w * block_size (kind_of w) + r) (room_is w (kind_of w) refl) ∙ spread (block_size (kind_of w)) (first_block w) (block_count w) (size-is (kind_of w)) where
+  spread : (size first count : ℕ) → (size ≡ 36) ⊎ (size ≡ 256) ⊎ (size ≡ 1024) ⊎ (size ≡ 4096) → 8192 + first * size + count * size ≡ 8192 + (first + count) * size
+  spread size first count (inl e) = rw e (omega arith)
+  spread size first count (inr (inl e)) = rw e (omega arith)
+  spread size first count (inr (inr (inl e))) = rw e (omega arith)
+  spread size first count (inr (inr (inr e))) = rw e (omega arith)
 
-  count-same : max_entries_in new ≡ max_entries_in old
-  unfolding max_entries_in
-  count-same = λ k n. extent-byte n 20 refl k + 256 * extent-byte n 21 refl k + 65536 * extent-byte n 22 refl k + 16777216 * extent-byte n 23 refl k
+-- places of blocks rise
+places-rise : (kind less more : ℕ) → less ≤ more → block_place kind less ≤ block_place kind more
+unfolding block_place
+places-rise kind less more rises = let p : block_size kind * less ≤ block_size kind * more = mul-le-mul_left (block_size kind) rises in omega arith
 
-  linked-same : linked new ≡ linked old
-  unfolding linked
-  linked-same = λ k kind. files_along (next-same k) 59 (kind - 1)
+-- blocks stand where their last one is there
+last-there : (image : Image) (w : ℕ) → stands_in_blocks image w ≡ is_there image (file_selector w) (kind_of w) (first_block w + block_count w - 1)
+unfolding stands_as_blocks is_there
+last-there image w =
+    let some : 0 < block_count w = some-blocks w in
+    let last : first_block w + block_count w - 1 + 1 ≡ first_block w + block_count w = omega arith in
+    rw (last, ends-at w) refl
 
-  linked_as-same : linked_as new ≡ linked_as old
-  linked_as-same = λ k n. type_among (linked-same k) n
+-- then all are
+all-there : (image : Image) (w b : ℕ) → stands_in_blocks image w ≡ true → b < first_block w + block_count w → is_there image (file_selector w) (kind_of w) b ≡ true
+unfolding stands_as_blocks is_there
+all-there image w b st below =
+    let p = and_parts (is_linked_as (linked_as image (file_selector w)) (kind_of w) && nat_le (first_block w + block_count w) (max_entries_in image (file_selector w))) _ st in
+    let q = and_parts (is_linked_as (linked_as image (file_selector w)) (kind_of w)) (nat_le (first_block w + block_count w) (max_entries_in image (file_selector w))) p.0 in
+    let most : first_block w + block_count w ≤ max_entries_in image (file_selector w) = leb-true _ _ q.1 in
+    let ends : place w + room w ≤ length_of image (Block (file_selector w)) = leb-true _ _ p.1 in
+    let rises : block_place (kind_of w) (b + 1) ≤ block_place (kind_of w) (first_block w + block_count w) = places-rise (kind_of w) (b + 1) (first_block w + block_count w) (omega arith) in
+    let ends_at : place w + room w ≡ block_place (kind_of w) (first_block w + block_count w) = ends-at w in
+    both_true (both_true q.0 (le-leb (b + 1) (max_entries_in image (file_selector w)) (omega arith))) (le-leb (block_place (kind_of w) (b + 1)) (length_of image (Block (file_selector w))) (omega arith))
 
-  lengths-same : ◌≡◌ {A = ℕ → ℕ} (λ n. length_of new (Block n)) (λ n. length_of old (Block n))
-  lengths-same = λ k n. same.lengths (Block n) (covers.lengths n) k
-
-  -- an external file that is not touched
-  external-same : (n : ℕ) → touched (ExternalOf n) ≡ false → new (External n) ≡ old (External n)
-  external-same n clear = same_file_outside F old new (External n) same
-      (λ i. false_unless (F.bytes (External n) i) (λ e. let t : touched (ExternalOf n) ≡ true = covers.external_bytes n i e in let z : true ≡ false = sym t ∙ clear in cc))
-      (false_unless (F.sizes (External n)) (λ e. let t : touched (ExternalOf n) ≡ true = covers.external_sizes n e in let z : true ≡ false = sym t ∙ clear in cc))
-
+module _ (touched : Claim → Bool) (old new : Image) (same : AgreeBut touched old new) where
   external-of : (w : ℕ) → is_address w ≡ true → kind_of w ≡ external → IsClear touched w → new (External (external_number w)) ≡ old (External (external_number w))
   external-of w address is clear =
-      external-same (external_number w) (clear (ExternalOf (external_number w)) (external-claim w (λ e. let a : is_address 0 ≡ true = ap is_address (sym e) ∙ address in let c : false ≡ true = sym zero-no_address ∙ a in cc) is))
+      same.externals (external_number w) (clear (ExternalOf (external_number w)) (external-claim w (λ e. let a : is_address 0 ≡ true = ap is_address (sym e) ∙ address in let c : false ≡ true = sym zero-no_address ∙ a in cc) is))
 
-  -- an address of blocks, and an external one that is clear, stands in both or in neither
-  pub stands-if_clear : (w : ℕ) → (kind_of w ≡ external → IsClear touched w) → stands_in new w ≡ stands_in old w
-  unfolding stands stands_as_blocks
-  stands-if_clear w clear = and_under (is_address w) _ _ (λ address. ⊎_elim
-      (λ (e : (kind_of w == external) ≡ true). rw e (ap (λ (f : Option (List ℕ)). is_some f) (external-of w address (eqb-true (kind_of w) external e) (clear (eqb-true (kind_of w) external e)))))
-      (λ (e : (kind_of w == external) ≡ false). rw e (rw (linked_as-same, count-same) (ap (λ (f : ℕ → ℕ). is_linked_as (linked_as old (file_selector w)) (kind_of w) && nat_le (first_block w + block_count w) (max_entries_in old (file_selector w)) && nat_le (place w + room w) (f (file_selector w))) lengths-same)))
-      (cases_Bool (kind_of w == external)))
-
+  -- an address that is clear stands in both or in neither
   stands-same : (w : ℕ) → IsClear touched w → stands_in new w ≡ stands_in old w
-  stands-same w clear = stands-if_clear w (λ is. clear)
+  unfolding stands
+  stands-same w clear = and_under (is_address w) _ _ (λ address. ⊎_elim
+      (λ (e : (kind_of w == external) ≡ true). rw e (ap (λ (f : Option (List ℕ)). is_some f) (external-of w address (eqb-true (kind_of w) external e) clear)))
+      (λ (e : (kind_of w == external) ≡ false). rw e (
+      let some : w ≢ 0 = λ zero. (let a : is_address 0 ≡ true = ap is_address (sym zero) ∙ address in let c : false ≡ true = sym zero-no_address ∙ a in cc) in
+      let count : 0 < block_count w = some-blocks w in
+      last-there new w ∙ same.there (file_selector w) (kind_of w) (first_block w + block_count w - 1) (clear (BlockOf (file_selector w) (first_block w + block_count w - 1)) (block-claim w (first_block w + block_count w - 1) some (not_same (kind_of w) external e) (omega arith) (omega arith))) ∙ sym (last-there old w)))
+      (cases_Bool (kind_of w == external)))
 
   stands_as-same : (kind w : ℕ) → IsClear touched w → stands_as new kind w ≡ stands_as old kind w
   stands_as-same kind w clear = ap (λ (b : Bool). b && (kind_of w == kind)) (stands-same w clear)
 
   -- the bytes of its blocks are the same
-  pub blocks-same : (w : ℕ) → stands_in old w ≡ true → kind_of w ≢ external → IsClear touched w → SameFrom (place w) (room w) (block_bytes old w) (block_bytes new w)
+  blocks-same : (w : ℕ) → stands_in old w ≡ true → kind_of w ≢ external → IsClear touched w → SameFrom (place w) (room w) (block_bytes old w) (block_bytes new w)
   unfolding place room block_place
   blocks-same w st apart clear k low high =
       let size : ℕ = block_size (kind_of w) in
@@ -186,11 +199,8 @@ module _ (F : files.Footprint) (old new : Image) (touched : Claim → Bool) (sam
       let behind : 8192 ≤ k = omega (arith, low) in
       let at = block-at (block_size (kind_of w)) k (size-is (kind_of w)) behind in
       let within = block-within (block_size (kind_of w)) k (first_block w) (block_count w) (size-is (kind_of w)) low high in
-      let free : F.bytes (Block (file_selector w)) k ≡ false = false_unless (F.bytes (Block (file_selector w)) k) (λ e.
-      let t : touched (BlockOf (file_selector w) b) ≡ true = covers.blocks (file_selector w) (kind_of w) b k (stands-linked old w st apart) at.0 at.1 e in
-      let c : touched (BlockOf (file_selector w) b) ≡ false = clear (BlockOf (file_selector w) b) (block-claim w b (stands-some old w st) apart within.0 within.1) in
-      let z : true ≡ false = sym t ∙ c in cc) in
-      sym (same.bytes (Block (file_selector w)) k free)
+      let free : touched (BlockOf (file_selector w) b) ≡ false = clear (BlockOf (file_selector w) b) (block-claim w b (stands-some old w st) apart within.0 within.1) in
+      sym (same.bytes (file_selector w) (kind_of w) b k free (all-there old w b (stands-blocks old w st apart) within.1) at.0 at.1)
 
   standing : (kind w : ℕ) → stands_as old kind w ≡ true → (stands_in old w ≡ true) × (kind_of w ≡ kind)
   standing kind w e = let p = and_parts (stands_in old w) (kind_of w == kind) e in (p.0, eqb-true (kind_of w) kind p.1)
@@ -231,7 +241,7 @@ module _ (F : files.Footprint) (old new : Image) (touched : Claim → Bool) (sam
 
   -- the words of the index that are shown
   index-byte : (i : ℕ) → is_shown_place i ≡ true → byte old Index i ≡ byte new Index i
-  index-byte i e = sym (same.bytes Index i (covers.index i e))
+  index-byte i e = sym (same.index i e)
 
   index-word : (i : ℕ) → is_shown_place i ≡ true → is_shown_place (i + 1) ≡ true → is_shown_place (i + 2) ≡ true → is_shown_place (i + 3) ≡ true → word_at (byte old Index) i ≡ word_at (byte new Index) i
   index-word i a b c d = λ k. index-byte i a k + 256 * index-byte (i + 1) b k + 65536 * index-byte (i + 2) c k + 16777216 * index-byte (i + 3) d k
@@ -239,9 +249,9 @@ module _ (F : files.Footprint) (old new : Image) (touched : Claim → Bool) (sam
   table-shown : (i : ℕ) → 368 ≤ i → is_shown_place i ≡ true
   table-shown i behind = or_right _ (nat_le 368 i) (le-leb 368 i behind)
 
-  pub list-same : SameLinks touched (list_of old) (list_of new)
+  pub agreeing-list : SameLinks touched (list_of old) (list_of new)
   unfolding list_of checks_at next_at prev_at
-  list-same = record {
+  agreeing-list = record {
     head = index-word 288 refl refl refl refl;
     tail = index-word 308 refl refl refl refl;
     transaction = index-word 328 refl refl refl refl;
@@ -283,10 +293,137 @@ module _ (F : files.Footprint) (old new : Image) (touched : Claim → Bool) (sam
     stored = stored-same;
   }
 
-  pub views-same : SameBut touched (view_of old) (view_of new)
+  pub agreeing-views : SameBut touched (view_of old) (view_of new)
   unfolding stock_of
-  views-same = record {
-    links = list-same;
+  agreeing-views = record {
+    links = agreeing-list;
     stock = stock-same;
     table = λ b. index-word (368 + 4 * b) (table-shown (368 + 4 * b) (omega arith)) (table-shown (368 + 4 * b + 1) (omega arith)) (table-shown (368 + 4 * b + 2) (omega arith)) (table-shown (368 + 4 * b + 3) (omega arith));
   }
+
+module _ (F : files.Footprint) (old new : Image) (touched : Claim → Bool) (same : files.SameOutside F old new) (covers : Covers old F touched) where
+  -- the links and the numbers of blocks
+  extent-byte : (n i : ℕ) → is_extent_place i ≡ true → byte new (Block n) i ≡ byte old (Block n) i
+  extent-byte n i e = same.bytes (Block n) i (covers.extents n i e)
+
+  next-same : next_file_in new ≡ next_file_in old
+  unfolding next_file_in
+  next-same = λ k n. extent-byte n 10 refl k + 256 * extent-byte n 11 refl k
+
+  count-same : max_entries_in new ≡ max_entries_in old
+  unfolding max_entries_in
+  count-same = λ k n. extent-byte n 20 refl k + 256 * extent-byte n 21 refl k + 65536 * extent-byte n 22 refl k + 16777216 * extent-byte n 23 refl k
+
+  linked-same : linked new ≡ linked old
+  unfolding linked
+  linked-same = λ k kind. files_along (next-same k) 59 (kind - 1)
+
+  linked_as-same : linked_as new ≡ linked_as old
+  linked_as-same = λ k n. type_among (linked-same k) n
+
+  lengths-same : ◌≡◌ {A = ℕ → ℕ} (λ n. length_of new (Block n)) (λ n. length_of old (Block n))
+  lengths-same = λ k n. same.lengths (Block n) (covers.lengths n) k
+
+  -- an external file that is not touched
+  external-same : (n : ℕ) → touched (ExternalOf n) ≡ false → new (External n) ≡ old (External n)
+  external-same n clear = same_file_outside F old new (External n) same
+      (λ i. false_unless (F.bytes (External n) i) (λ e. let t : touched (ExternalOf n) ≡ true = covers.external_bytes n i e in let z : true ≡ false = sym t ∙ clear in cc))
+      (false_unless (F.sizes (External n)) (λ e. let t : touched (ExternalOf n) ≡ true = covers.external_sizes n e in let z : true ≡ false = sym t ∙ clear in cc))
+
+  external_file-same : (w : ℕ) → is_address w ≡ true → kind_of w ≡ external → IsClear touched w → new (External (external_number w)) ≡ old (External (external_number w))
+  external_file-same w address is clear =
+      external-same (external_number w) (clear (ExternalOf (external_number w)) (external-claim w (λ e. let a : is_address 0 ≡ true = ap is_address (sym e) ∙ address in let c : false ≡ true = sym zero-no_address ∙ a in cc) is))
+
+  -- an address of blocks, and an external one that is clear, stands in both or in neither
+  pub stands-if_clear : (w : ℕ) → (kind_of w ≡ external → IsClear touched w) → stands_in new w ≡ stands_in old w
+  unfolding stands stands_as_blocks
+  stands-if_clear w clear = and_under (is_address w) _ _ (λ address. ⊎_elim
+      (λ (e : (kind_of w == external) ≡ true). rw e (ap (λ (f : Option (List ℕ)). is_some f) (external_file-same w address (eqb-true (kind_of w) external e) (clear (eqb-true (kind_of w) external e)))))
+      (λ (e : (kind_of w == external) ≡ false). rw e (rw (linked_as-same, count-same) (ap (λ (f : ℕ → ℕ). is_linked_as (linked_as old (file_selector w)) (kind_of w) && nat_le (first_block w + block_count w) (max_entries_in old (file_selector w)) && nat_le (place w + room w) (f (file_selector w))) lengths-same)))
+      (cases_Bool (kind_of w == external)))
+
+  -- the two images agree but there
+  pub covered-agrees : AgreeBut touched old new
+  unfolding is_there
+  covered-agrees = record {
+    index = λ i e. same.bytes Index i (covers.index i e);
+    there = λ n kind b _. rw (linked_as-same, count-same) (ap (λ (f : ℕ → ℕ). is_linked_as (linked_as old n) kind && nat_le (b + 1) (max_entries_in old n) && nat_le (block_place kind (b + 1)) (f n)) lengths-same);
+    bytes = λ n kind b i clear there low high. same.bytes (Block n) i (false_unless (F.bytes (Block n) i) (λ e.
+        let parts = and_parts (is_linked_as (linked_as old n) kind) _ (and_parts (is_linked_as (linked_as old n) kind && nat_le (b + 1) (max_entries_in old n)) _ there).0 in
+        let t : touched (BlockOf n b) ≡ true = covers.blocks n kind b i (linked-some (linked_as old n) kind parts.0) low high e in
+        let z : true ≡ false = sym t ∙ clear in cc));
+    externals = external-same;
+  }
+
+  pub list-same : SameLinks touched (list_of old) (list_of new)
+  list-same = agreeing-list touched old new covered-agrees
+
+  pub views-same : SameBut touched (view_of old) (view_of new)
+  views-same = agreeing-views touched old new covered-agrees
+
+-- growth
+
+is-block : (image : Image) (n b : ℕ) → is_past image (BlockOf n b) ≡ false → b < max_entries_in image n
+is-block image n b e = ⊎_elim (λ (less : b < max_entries_in image n). less) (λ (more : max_entries_in image n ≤ b). absurd (let t : nat_le (max_entries_in image n) b ≡ true = le-leb (max_entries_in image n) b more in let z : true ≡ false = sym t ∙ e in cc)) (cases_lt b (max_entries_in image n))
+
+-- a block of a file that is long enough is there
+block-there : (image : Image) (n kind b : ℕ) → AreLongEnough image → linked_as image n ≡ Some kind → b < max_entries_in image n → block_place kind (b + 1) ≤ length_of image (Block n)
+block-there image n kind b long linked below =
+    let ends : block_place kind (max_entries_in image n) ≤ length_of image (Block n) = long n kind linked in
+    let rises : block_place kind (b + 1) ≤ block_place kind (max_entries_in image n) = places-rise kind (b + 1) (max_entries_in image n) (omega arith) in
+    omega arith
+
+module _ (old new : Image) (long : AreLongEnough old) (grown : HaveGrown old new) where
+  grown-linked : linked new ≡ linked old
+  unfolding linked
+  grown-linked = λ k kind. files_along (λ n. grown.links n k) 59 (kind - 1)
+
+  grown-linked_as : linked_as new ≡ linked_as old
+  grown-linked_as = λ k n. type_among (grown-linked k) n
+
+  grown-there : (n kind b : ℕ) → is_past old (BlockOf n b) ≡ false → is_there new n kind b ≡ is_there old n kind b
+  unfolding is_there
+  grown-there n kind b clear = rw grown-linked_as (⊎_elim
+      (λ (e : is_linked_as (linked_as old n) kind ≡ true).
+        let below : b < max_entries_in old n = is-block old n b clear in
+        let rise : max_entries_in old n ≤ max_entries_in new n = grown.more n in
+        let longer : length_of old (Block n) ≤ length_of new (Block n) = grown.longer n in
+        let ends : block_place kind (b + 1) ≤ length_of old (Block n) = block-there old n kind b long (linked-some (linked_as old n) kind e) below in
+        let m0 : nat_le (b + 1) (max_entries_in old n) ≡ true = le-leb (b + 1) (max_entries_in old n) (omega arith) in
+        let m1 : nat_le (b + 1) (max_entries_in new n) ≡ true = le-leb (b + 1) (max_entries_in new n) (omega arith) in
+        let l0 : nat_le (block_place kind (b + 1)) (length_of old (Block n)) ≡ true = le-leb (block_place kind (b + 1)) (length_of old (Block n)) ends in
+        let l1 : nat_le (block_place kind (b + 1)) (length_of new (Block n)) ≡ true = le-leb (block_place kind (b + 1)) (length_of new (Block n)) (omega arith) in
+        rw (m0, m1, l0, l1) refl)
+      (λ (e : is_linked_as (linked_as old n) kind ≡ false). rw e refl)
+      (cases_Bool (is_linked_as (linked_as old n) kind)))
+
+  pub growth-past : AgreeBut (is_past old) old new
+  unfolding is_there block_place
+  growth-past = record {
+    index = grown.index;
+    there = grown-there;
+    bytes = λ n kind b i clear there low high.
+        let ends : block_place kind (b + 1) ≤ length_of old (Block n) = leb-true (block_place kind (b + 1)) (length_of old (Block n)) (and_parts (is_linked_as (linked_as old n) kind && nat_le (b + 1) (max_entries_in old n)) _ there).1 in
+        grown.bytes n i (omega arith) (omega arith);
+    externals = λ n _. grown.externals n;
+  }
+
+-- agreement
+
+pub agreement-goes_on : (touched : Claim → Bool) (old between new : Image) → AgreeBut touched old between → AgreeBut touched between new → AgreeBut touched old new
+agreement-goes_on touched old between new first then_ = record {
+    index = λ i shown. then_.index i shown ∙ first.index i shown;
+    there = λ n kind b clear. then_.there n kind b clear ∙ first.there n kind b clear;
+    bytes = λ n kind b i clear there low high. then_.bytes n kind b i clear (first.there n kind b clear ∙ there) low high ∙ first.bytes n kind b i clear there low high;
+    externals = λ n clear. then_.externals n clear ∙ first.externals n clear;
+  }
+
+pub agreement-more : (less more : Claim → Bool) (old new : Image) → ((claim : Claim) → less claim ≡ true → more claim ≡ true) → AgreeBut less old new → AgreeBut more old new
+agreement-more less more old new wider same = record {
+    index = same.index;
+    there = λ n kind b clear. same.there n kind b (untouched (BlockOf n b) clear);
+    bytes = λ n kind b i clear. same.bytes n kind b i (untouched (BlockOf n b) clear);
+    externals = λ n clear. same.externals n (untouched (ExternalOf n) clear);
+  } where
+    untouched : (claim : Claim) → more claim ≡ false → less claim ≡ false
+    untouched claim clear = false_unless (less claim) (λ e. let z : true ≡ false = sym (wider claim e) ∙ clear in cc)

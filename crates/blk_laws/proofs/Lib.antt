@@ -45,3 +45,4 @@ pub mod NodeWords
 pub mod ListBytes
 pub mod DamagedParts
 pub mod Allocations
+pub mod Growing

@@ -1,12 +1,66 @@
 -- The laws from the bytes of files to what a view shows.
-use Rattle.std.specs.Prelude.{◌≡◌, ◌≢◌, ◌⊎◌, ℕ, ◌+◌, ◌<◌, ◌≤◌, Bool, true, false}
-use Rattle.blk_image.specs.Image.{Index, Block, External, Image}
+use Rattle.std.specs.Prelude.{◌≡◌, ◌≢◌, ◌⊎◌, ℕ, List, Some, ◌+◌, ◌<◌, ◌≤◌, Bool, true, false, ◌&&◌, nat_le}
+use Rattle.blk_image.specs.Image.{Index, Block, External, Image, byte, length_of}
 use Rattle.blk_image.specs.Footprint.{Footprint, range, whole, either, IsWithin, SameOutside}
-use Rattle.blk_format.specs.Address.{kind_of, file_selector, place, room, external, header_size}
-use Rattle.blk_format.specs.BlockFiles.{stands_in}
-use Rattle.blk_format.specs.Claims.{Claim, ExternalOf, same_claim, claims_of, has_claim}
+use Rattle.blk_format.specs.Address.{kind_of, file_selector, place, room, block_place, external, header_size}
+use Rattle.blk_format.specs.Standing.{is_linked_as}
+use Rattle.blk_format.specs.BlockFiles.{linked_as, max_entries_in, next_file_in, stands_in}
+use Rattle.blk_format.specs.Claims.{Claim, BlockOf, ExternalOf, same_claim, claims_of, has_claim}
 use Rattle.blk_volume.specs.View.{view_of}
 use Rattle.blk_volume.specs.Footprint.{SameBut, Covers, is_shown_place}
+use Rattle.blk_volume.specs.Sound.{AreLongEnough}
+use Rattle.blk_volume.specs.Layout.{Layout, Represents}
+use Rattle.blk_volume.specs.StandsFor.{IsOwner}
+use Rattle.blk_model.specs.State.{State}
+
+-- a block is there as one of a type: its file is linked as that, and the block is below max_entries and ends inside the file
+unfoldable pub is_there : Image → ℕ → ℕ → ℕ → Bool
+is_there image n kind b = is_linked_as (linked_as image n) kind && nat_le (b + 1) (max_entries_in image n) && nat_le (block_place kind (b + 1)) (length_of image (Block n))
+
+-- two images agree on the index that is shown, and on each block and external file but these: it is there in both or in neither, with the same bytes
+pub record AgreeBut (touched : Claim → Bool) (old new : Image) : Type 0 where
+  pub index : (i : ℕ) → is_shown_place i ≡ true → byte new Index i ≡ byte old Index i
+  pub there : (n kind b : ℕ) → touched (BlockOf n b) ≡ false → is_there new n kind b ≡ is_there old n kind b
+  pub bytes : (n kind b i : ℕ) → touched (BlockOf n b) ≡ false → is_there old n kind b ≡ true → block_place kind b ≤ i → i < block_place kind (b + 1) → byte new (Block n) i ≡ byte old (Block n) i
+  pub externals : (n : ℕ) → touched (ExternalOf n) ≡ false → new (External n) ≡ old (External n)
+
+-- images that agree show the same
+abbrev pub AgreeingImagesShowTheSame : Type 0
+AgreeingImagesShowTheSame = (touched : Claim → Bool) (old new : Image) → AgreeBut touched old new → SameBut touched (view_of old) (view_of new)
+
+-- block files have grown at most: the bytes behind their headers stay, and no file gets shorter or has fewer blocks
+pub record HaveGrown (old new : Image) : Type 0 where
+  pub index : (i : ℕ) → is_shown_place i ≡ true → byte new Index i ≡ byte old Index i
+  pub externals : (n : ℕ) → new (External n) ≡ old (External n)
+  pub links : (n : ℕ) → next_file_in new n ≡ next_file_in old n
+  pub bytes : (n i : ℕ) → header_size ≤ i → i < length_of old (Block n) → byte new (Block n) i ≡ byte old (Block n) i
+  pub longer : (n : ℕ) → length_of old (Block n) ≤ length_of new (Block n)
+  pub more : (n : ℕ) → max_entries_in old n ≤ max_entries_in new n
+
+-- a block is past the blocks of its file
+abbrev pub is_past : Image → Claim → Bool
+is_past image (BlockOf n b) = nat_le (max_entries_in image n) b
+is_past image (ExternalOf n) = false
+
+-- where the files are long enough, their growth touches the blocks past theirs alone
+abbrev pub GrowthIsPastTheBlocks : Type 0
+GrowthIsPastTheBlocks = (old new : Image) → AreLongEnough old → HaveGrown old new → AgreeBut (is_past old) old new
+
+-- a covered change leaves images that agree but there
+abbrev pub CoveredChangesAgree : Type 0
+CoveredChangesAgree = (old new : Image) (footprint : Footprint) (touched : Claim → Bool) → SameOutside footprint old new → Covers old footprint touched → AgreeBut touched old new
+
+-- one change after another, and with more touched
+abbrev pub AgreementGoesOn : Type 0
+AgreementGoesOn = (touched : Claim → Bool) (old between new : Image) → AgreeBut touched old between → AgreeBut touched between new → AgreeBut touched old new
+
+abbrev pub AgreementButMore : Type 0
+AgreementButMore = (less more : Claim → Bool) (old new : Image) → ((claim : Claim) → less claim ≡ true → more claim ≡ true) → AgreeBut less old new → AgreeBut more old new
+
+-- growth keeps what is represented, where each owner is a node of the layout that claims
+abbrev pub GrowthKeepsStates : Type 0
+GrowthKeepsStates = (old new : Image) (state : State) (layout : Layout) (doomed_nodes : List ℕ) → AreLongEnough old → HaveGrown old new → Represents (view_of old) state layout
+    → ((claim : Claim) (node : ℕ) → layout.owner claim ≡ Some node → IsOwner state layout doomed_nodes claim node) → Represents (view_of new) state layout
 
 -- a change of bytes changes what is shown only inside the blocks and external numbers that cover it
 abbrev pub CoveredChangesStayInside : Type 0
