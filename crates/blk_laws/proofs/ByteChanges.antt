@@ -2,7 +2,7 @@
 use Rattle.std.proofs.Common.{◌≡◌, ℕ, zero, suc, ◌+◌, ◌-◌, ◌*◌, ◌/◌, ◌<◌, ◌≤◌, ◌≢◌, List, [], map, refl, ap, sym, ◌∙◌, subst, arith, ◌⊎◌, inl, inr, ⊎_elim, Bool, true, false, Option, Some, None}
 use Rattle.std.specs.Prelude.{if◌then◌else◌, ◌&&◌, ◌==◌, nat_le, nat_lt, not, is_some}
 use Rattle.std.specs.List.{range_with_len}
-use Rattle.std.proofs.lemmas.Bool.{eqb-true, eq-eqb, cases_Bool, cases_lt, and_parts, or_left, or_right, lt-ltb, le-ltb, le-leb, leb-true}
+use Rattle.std.proofs.lemmas.Bool.{eqb-true, eq-eqb, cases_Bool, cases_lt, and_parts, or_parts, or_left, or_right, lt-ltb, le-ltb, le-leb, leb-true}
 use Rattle.std.specs.Cmp.Derive.{both_true}
 use Rattle.std.proofs.Math.Nat.{mul-le-mul_left}
 use Rattle.blk_image.specs.Bytes.{word_at}
@@ -363,8 +363,14 @@ module _ (F : files.Footprint) (old new : Image) (touched : Claim → Bool) (sam
 
 -- growth
 
-is-block : (image : Image) (n b : ℕ) → is_past image (BlockOf n b) ≡ false → b < max_entries_in image n
-is-block image n b e = ⊎_elim (λ (less : b < max_entries_in image n). less) (λ (more : max_entries_in image n ≤ b). absurd (let t : nat_le (max_entries_in image n) b ≡ true = le-leb (max_entries_in image n) b more in let z : true ≡ false = sym t ∙ e in cc)) (cases_lt b (max_entries_in image n))
+-- a block that isn't past is one of a linked file
+is-block : (image : Image) (n b : ℕ) → is_past image (BlockOf n b) ≡ false → is_some (linked_as image n) ≡ true × b < max_entries_in image n
+is-block image n b e =
+    let parts = or_parts (not (is_some (linked_as image n))) (nat_le (max_entries_in image n) b) e in
+    (opposite (is_some (linked_as image n)) parts.0, ⊎_elim (λ (less : b < max_entries_in image n). less) (λ (more : max_entries_in image n ≤ b). absurd (let t : nat_le (max_entries_in image n) b ≡ true = le-leb (max_entries_in image n) b more in let z : true ≡ false = sym t ∙ parts.1 in cc)) (cases_lt b (max_entries_in image n))) where
+  opposite : (t : Bool) → not t ≡ false → t ≡ true
+  opposite true h = refl
+  opposite false h = cc
 
 -- a block of a file that is long enough is there
 block-there : (image : Image) (n kind b : ℕ) → AreLongEnough image → linked_as image n ≡ Some kind → b < max_entries_in image n → block_place kind (b + 1) ≤ length_of image (Block n)
@@ -373,29 +379,31 @@ block-there image n kind b long linked below =
     let rises : block_place kind (b + 1) ≤ block_place kind (max_entries_in image n) = places-rise kind (b + 1) (max_entries_in image n) (omega arith) in
     omega arith
 
+pub same-links : (old new : Image) → ((n : ℕ) → next_file_in new n ≡ next_file_in old n) → (n : ℕ) → linked_as new n ≡ linked_as old n
+unfolding linked
+same-links old new same n = λ k. type_among (λ kind. files_along (λ m. same m k) 59 (kind - 1)) n
+
 module _ (old new : Image) (long : AreLongEnough old) (grown : HaveGrown old new) where
-  grown-linked : linked new ≡ linked old
-  unfolding linked
-  grown-linked = λ k kind. files_along (λ n. grown.links n k) 59 (kind - 1)
-
-  grown-linked_as : linked_as new ≡ linked_as old
-  grown-linked_as = λ k n. type_among (grown-linked k) n
-
   grown-there : (n kind b : ℕ) → is_past old (BlockOf n b) ≡ false → is_there new n kind b ≡ is_there old n kind b
   unfolding is_there
-  grown-there n kind b clear = rw grown-linked_as (⊎_elim
-      (λ (e : is_linked_as (linked_as old n) kind ≡ true).
-        let below : b < max_entries_in old n = is-block old n b clear in
-        let rise : max_entries_in old n ≤ max_entries_in new n = grown.more n in
-        let longer : length_of old (Block n) ≤ length_of new (Block n) = grown.longer n in
-        let ends : block_place kind (b + 1) ≤ length_of old (Block n) = block-there old n kind b long (linked-some (linked_as old n) kind e) below in
-        let m0 : nat_le (b + 1) (max_entries_in old n) ≡ true = le-leb (b + 1) (max_entries_in old n) (omega arith) in
-        let m1 : nat_le (b + 1) (max_entries_in new n) ≡ true = le-leb (b + 1) (max_entries_in new n) (omega arith) in
-        let l0 : nat_le (block_place kind (b + 1)) (length_of old (Block n)) ≡ true = le-leb (block_place kind (b + 1)) (length_of old (Block n)) ends in
-        let l1 : nat_le (block_place kind (b + 1)) (length_of new (Block n)) ≡ true = le-leb (block_place kind (b + 1)) (length_of new (Block n)) (omega arith) in
-        rw (m0, m1, l0, l1) refl)
-      (λ (e : is_linked_as (linked_as old n) kind ≡ false). rw e refl)
-      (cases_Bool (is_linked_as (linked_as old n) kind)))
+  grown-there n kind b clear = go (linked_as old n) refl (is-block old n b clear) where
+    go : (o : Option ℕ) → linked_as old n ≡ o → is_some (linked_as old n) ≡ true × b < max_entries_in old n
+        → (is_linked_as (linked_as new n) kind && nat_le (b + 1) (max_entries_in new n) && nat_le (block_place kind (b + 1)) (length_of new (Block n))) ≡ (is_linked_as (linked_as old n) kind && nat_le (b + 1) (max_entries_in old n) && nat_le (block_place kind (b + 1)) (length_of old (Block n)))
+    go None at is = absurd (let z : false ≡ true = sym (ap (λ (o : Option ℕ). is_some o) at) ∙ is.0 in cc)
+    go (Some type) at is = rw (at, grown.linked n type at) (⊎_elim
+        (λ (e : (type == kind) ≡ true).
+          let same : type ≡ kind = eqb-true type kind e in
+          let below : b < max_entries_in old n = is.1 in
+          let rise : max_entries_in old n ≤ max_entries_in new n = grown.more n type at in
+          let longer : length_of old (Block n) ≤ length_of new (Block n) = grown.longer n type at in
+          let ends : block_place kind (b + 1) ≤ length_of old (Block n) = block-there old n kind b long (at ∙ ap Some same) below in
+          let m0 : nat_le (b + 1) (max_entries_in old n) ≡ true = le-leb (b + 1) (max_entries_in old n) (omega arith) in
+          let m1 : nat_le (b + 1) (max_entries_in new n) ≡ true = le-leb (b + 1) (max_entries_in new n) (omega arith) in
+          let l0 : nat_le (block_place kind (b + 1)) (length_of old (Block n)) ≡ true = le-leb (block_place kind (b + 1)) (length_of old (Block n)) ends in
+          let l1 : nat_le (block_place kind (b + 1)) (length_of new (Block n)) ≡ true = le-leb (block_place kind (b + 1)) (length_of new (Block n)) (omega arith) in
+          rw (m0, m1, l0, l1) refl)
+        (λ (e : (type == kind) ≡ false). rw e refl)
+        (cases_Bool (type == kind)))
 
   pub growth-past : AgreeBut (is_past old) old new
   unfolding is_there block_place
@@ -403,8 +411,9 @@ module _ (old new : Image) (long : AreLongEnough old) (grown : HaveGrown old new
     index = grown.index;
     there = grown-there;
     bytes = λ n kind b i clear there low high.
-        let ends : block_place kind (b + 1) ≤ length_of old (Block n) = leb-true (block_place kind (b + 1)) (length_of old (Block n)) (and_parts (is_linked_as (linked_as old n) kind && nat_le (b + 1) (max_entries_in old n)) _ there).1 in
-        grown.bytes n i (omega arith) (omega arith);
+        let parts = and_parts (is_linked_as (linked_as old n) kind && nat_le (b + 1) (max_entries_in old n)) _ there in
+        let ends : block_place kind (b + 1) ≤ length_of old (Block n) = leb-true (block_place kind (b + 1)) (length_of old (Block n)) parts.1 in
+        grown.bytes n kind i (linked-some (linked_as old n) kind (and_parts (is_linked_as (linked_as old n) kind) _ parts.0).0) (omega arith) (omega arith);
     externals = λ n _. grown.externals n;
   }
 

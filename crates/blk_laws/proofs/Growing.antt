@@ -14,7 +14,7 @@ use Rattle.blk_volume.specs.Loads.{all_claims}
 use Rattle.blk_volume.specs.Sound.{words_of}
 use Rattle.blk_laws.specs.ByteLaws.{is_past, GrowthKeepsStates}
 use Rattle.blk_laws.proofs.ClaimLists.{claim-append, claim-head, no-claim}
-use Rattle.blk_laws.proofs.ByteChanges.{agreeing-views, growth-past, stands-blocks, stands-some, not_equal, false_unless}
+use Rattle.blk_laws.proofs.ByteChanges.{agreeing-views, growth-past, stands-blocks, stands-linked, stands-some, not_equal, false_unless}
 use Rattle.blk_laws.proofs.BlockBytes.{not_same}
 use Rattle.blk_laws.proofs.Allocations.{words-stand, words-claims}
 use Rattle.blk_laws.proofs.Outside.{represents-outside}
@@ -30,19 +30,20 @@ claimed-block f first (suc count) n b e = go (n == f) (b == first) refl refl (cl
 
 -- a claim of a word that stands isn't past the blocks
 module _ (image : Image) (w n b : ℕ) (st : stands_in image w ≡ true) where
-  below : (file_selector w ≡ n) × (b < first_block w + block_count w) → kind_of w ≢ external → nat_le (max_entries_in image n) b ≡ false
+  below : (file_selector w ≡ n) × (b < first_block w + block_count w) → kind_of w ≢ external → is_past image (BlockOf n b) ≡ false
   unfolding stands_as_blocks
   below at apart =
       let parts = and_parts (is_linked_as (linked_as image (file_selector w)) (kind_of w) && nat_le (first_block w + block_count w) (max_entries_in image (file_selector w))) _ (stands-blocks image w st apart) in
       let most : first_block w + block_count w ≤ max_entries_in image (file_selector w) = leb-true _ _ (and_parts (is_linked_as (linked_as image (file_selector w)) (kind_of w)) _ parts.0).1 in
       let least : first_block w + block_count w ≤ max_entries_in image n = subst (λ (m : ℕ). first_block w + block_count w ≤ max_entries_in image m) at.0 most in
       let less = at.1 in
-      false_unless (nat_le (max_entries_in image n) b) (λ e. let more : max_entries_in image n ≤ b = leb-true (max_entries_in image n) b e in omega arith)
+      let linked : linked_as image n ≡ Some (kind_of w) = subst (λ (m : ℕ). linked_as image m ≡ Some (kind_of w)) at.0 (stands-linked image w st apart) in
+      rw linked (false_unless (nat_le (max_entries_in image n) b) (λ e. let more : max_entries_in image n ≤ b = leb-true (max_entries_in image n) b e in omega arith))
 
-  block-not_past : has_claim (claims_of w) (BlockOf n b) ≡ true → nat_le (max_entries_in image n) b ≡ false
+  block-not_past : has_claim (claims_of w) (BlockOf n b) ≡ true → is_past image (BlockOf n b) ≡ false
   unfolding claims_of
   block-not_past e = go (w == 0) (kind_of w == external) refl refl e where
-    go : (z k : Bool) → (w == 0) ≡ z → (kind_of w == external) ≡ k → has_claim (if z then [] else if k then ExternalOf (external_number w) ∷ [] else map (λ b. BlockOf (file_selector w) b) (range_with_len (first_block w) (block_count w))) (BlockOf n b) ≡ true → nat_le (max_entries_in image n) b ≡ false
+    go : (z k : Bool) → (w == 0) ≡ z → (kind_of w == external) ≡ k → has_claim (if z then [] else if k then ExternalOf (external_number w) ∷ [] else map (λ b. BlockOf (file_selector w) b) (range_with_len (first_block w) (block_count w))) (BlockOf n b) ≡ true → is_past image (BlockOf n b) ≡ false
     go true k zero_is kind h = absurd (stands-some image w st (eqb-true w 0 zero_is))
     go false true zero_is kind h = absurd (let none : has_claim (ExternalOf (external_number w) ∷ []) (BlockOf n b) ≡ false = claim-head (ExternalOf (external_number w)) [] (BlockOf n b) ∙ no-claim (BlockOf n b) in let z : true ≡ false = sym h ∙ none in cc)
     go false false zero_is kind h = below (claimed-block (file_selector w) (first_block w) (block_count w) n b h) (not_same (kind_of w) external kind)

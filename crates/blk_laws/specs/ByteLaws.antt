@@ -1,5 +1,5 @@
 -- The laws from the bytes of files to what a view shows.
-use Rattle.std.specs.Prelude.{◌≡◌, ◌≢◌, ◌⊎◌, ℕ, List, Some, ◌+◌, ◌<◌, ◌≤◌, Bool, true, false, ◌&&◌, nat_le}
+use Rattle.std.specs.Prelude.{◌≡◌, ◌≢◌, ◌⊎◌, ℕ, List, Some, ◌+◌, ◌<◌, ◌≤◌, Bool, true, false, not, ◌&&◌, ◌||◌, nat_le, is_some}
 use Rattle.blk_image.specs.Image.{Index, Block, External, Image, byte, length_of}
 use Rattle.blk_image.specs.Footprint.{Footprint, range, whole, either, IsWithin, SameOutside}
 use Rattle.blk_format.specs.Address.{kind_of, file_selector, place, room, block_place, external, header_size}
@@ -28,23 +28,27 @@ pub record AgreeBut (touched : Claim → Bool) (old new : Image) : Type 0 where
 abbrev pub AgreeingImagesShowTheSame : Type 0
 AgreeingImagesShowTheSame = (touched : Claim → Bool) (old new : Image) → AgreeBut touched old new → SameBut touched (view_of old) (view_of new)
 
--- block files have grown at most: the bytes behind their headers stay, and no file gets shorter or has fewer blocks
+-- block files have grown or been linked at most: a linked file stays linked as its type, keeps the bytes behind its header, and gets no shorter and no fewer blocks
 pub record HaveGrown (old new : Image) : Type 0 where
   pub index : (i : ℕ) → is_shown_place i ≡ true → byte new Index i ≡ byte old Index i
   pub externals : (n : ℕ) → new (External n) ≡ old (External n)
-  pub links : (n : ℕ) → next_file_in new n ≡ next_file_in old n
-  pub bytes : (n i : ℕ) → header_size ≤ i → i < length_of old (Block n) → byte new (Block n) i ≡ byte old (Block n) i
-  pub longer : (n : ℕ) → length_of old (Block n) ≤ length_of new (Block n)
-  pub more : (n : ℕ) → max_entries_in old n ≤ max_entries_in new n
+  pub linked : (n kind : ℕ) → linked_as old n ≡ Some kind → linked_as new n ≡ Some kind
+  pub bytes : (n kind i : ℕ) → linked_as old n ≡ Some kind → header_size ≤ i → i < length_of old (Block n) → byte new (Block n) i ≡ byte old (Block n) i
+  pub longer : (n kind : ℕ) → linked_as old n ≡ Some kind → length_of old (Block n) ≤ length_of new (Block n)
+  pub more : (n kind : ℕ) → linked_as old n ≡ Some kind → max_entries_in old n ≤ max_entries_in new n
 
--- a block is past the blocks of its file
+-- a claim is of a block that no linked file has
 abbrev pub is_past : Image → Claim → Bool
-is_past image (BlockOf n b) = nat_le (max_entries_in image n) b
+is_past image (BlockOf n b) = not (is_some (linked_as image n)) || nat_le (max_entries_in image n) b
 is_past image (ExternalOf n) = false
 
 -- where the files are long enough, their growth touches the blocks past theirs alone
 abbrev pub GrowthIsPastTheBlocks : Type 0
 GrowthIsPastTheBlocks = (old new : Image) → AreLongEnough old → HaveGrown old new → AgreeBut (is_past old) old new
+
+-- the same links link the same files
+abbrev pub SameLinksLinkTheSame : Type 0
+SameLinksLinkTheSame = (old new : Image) → ((n : ℕ) → next_file_in new n ≡ next_file_in old n) → (n : ℕ) → linked_as new n ≡ linked_as old n
 
 -- a covered change leaves images that agree but there
 abbrev pub CoveredChangesAgree : Type 0

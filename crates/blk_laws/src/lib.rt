@@ -5,7 +5,7 @@
 
 ghost use Rattle.blk_laws.specs.AllocationLaws.{SoundFilesAreAllocated, StoodForFilesAreAllocated};
 ghost use Rattle.blk_laws.specs.BareLaws.{NothingRepresentsTheEmptyState, BareFoldersHoldNothing, BareFoldersAreSound, BareFoldersRepresentTheEmptyState, BareFoldersStandForTheEmptyState, NewFoldersAreBare};
-ghost use Rattle.blk_laws.specs.ByteLaws.{CoveredChangesStayInside, BlocksAreCovered, ExternalFilesAreCovered, HeadersNeedNoCover, HiddenWordsNeedNoCover, CoversOfLess, MoreCovers, CoversOfEither, AgreeingImagesShowTheSame, CoveredChangesAgree, GrowthIsPastTheBlocks, AgreementGoesOn, AgreementButMore, GrowthKeepsStates};
+ghost use Rattle.blk_laws.specs.ByteLaws.{CoveredChangesStayInside, BlocksAreCovered, ExternalFilesAreCovered, HeadersNeedNoCover, HiddenWordsNeedNoCover, CoversOfLess, MoreCovers, CoversOfEither, AgreeingImagesShowTheSame, CoveredChangesAgree, GrowthIsPastTheBlocks, SameLinksLinkTheSame, AgreementGoesOn, AgreementButMore, GrowthKeepsStates};
 ghost use Rattle.blk_laws.specs.CommandLaws.{UnsettledObjectsMayChange, EachMomentIsAtRest, RemovalsKeepTheOthers, LessIsLaid, DirtyWordsSettle, WrittenDirtyWordsSettle, RestBeforeTurning, RestAfterTurning, OpensAtEachWrite, OpensEnd, CreatesAtEachWrite, CreatesEnd, CreatesLeaveTheRest, CreatesMayLeaveWhatWas};
 ghost use Rattle.blk_laws.specs.KeptLaws.{KeptAreTheGiven, NoneOfTheGivenIsDropped, LeavingOutKeepsTheSame, SameKeyIsOneChain, OnlyCandidatesAreKept, SameCandidatesHoldTheSame};
 ghost use Rattle.blk_laws.specs.ListBytes.{UpdatesShowFronts, UpdatesShowAll, InsertsTurnInBytes, RemovalsTurnInBytes, MovesTurnInBytes, CompletionsStayInBytes};
@@ -193,16 +193,17 @@ pub fn linked_files_are_allocated()
     ensures stood { StoodForFilesAreAllocated }
 {}
 
-/// Images that agree but on some blocks and external files show the same but there; a covered change leaves such images, and so does the growth of block files.
+/// Images that agree but on some blocks and external files show the same but there; a covered change leaves such images, and so does the growth or linking of block files.
 pub fn agreeing_images_show_the_same()
     ensures shown { AgreeingImagesShowTheSame }
     ensures covered { CoveredChangesAgree }
     ensures growth { GrowthIsPastTheBlocks }
+    ensures links { SameLinksLinkTheSame }
     ensures then_on { AgreementGoesOn }
     ensures more { AgreementButMore }
 {}
 
-/// The growth of block files keeps what is represented.
+/// The growth or linking of block files keeps what is represented.
 pub fn growth_keeps_states()
     ensures { GrowthKeepsStates }
 {}
