@@ -368,9 +368,9 @@ is-block : (image : Image) (n b : ℕ) → is_past image (BlockOf n b) ≡ false
 is-block image n b e =
     let parts = or_parts (not (is_some (linked_as image n))) (nat_le (max_entries_in image n) b) e in
     (opposite (is_some (linked_as image n)) parts.0, ⊎_elim (λ (less : b < max_entries_in image n). less) (λ (more : max_entries_in image n ≤ b). absurd (let t : nat_le (max_entries_in image n) b ≡ true = le-leb (max_entries_in image n) b more in let z : true ≡ false = sym t ∙ parts.1 in cc)) (cases_lt b (max_entries_in image n))) where
-  opposite : (t : Bool) → not t ≡ false → t ≡ true
-  opposite true h = refl
-  opposite false h = cc
+      opposite : (t : Bool) → not t ≡ false → t ≡ true
+      opposite true h = refl
+      opposite false h = cc
 
 -- a block of a file that is long enough is there
 block-there : (image : Image) (n kind b : ℕ) → AreLongEnough image → linked_as image n ≡ Some kind → b < max_entries_in image n → block_place kind (b + 1) ≤ length_of image (Block n)
@@ -392,16 +392,16 @@ module _ (old new : Image) (long : AreLongEnough old) (grown : HaveGrown old new
     go None at is = absurd (let z : false ≡ true = sym (ap (λ (o : Option ℕ). is_some o) at) ∙ is.0 in cc)
     go (Some type) at is = rw (at, grown.linked n type at) (⊎_elim
         (λ (e : (type == kind) ≡ true).
-          let same : type ≡ kind = eqb-true type kind e in
-          let below : b < max_entries_in old n = is.1 in
-          let rise : max_entries_in old n ≤ max_entries_in new n = grown.more n type at in
-          let longer : length_of old (Block n) ≤ length_of new (Block n) = grown.longer n type at in
-          let ends : block_place kind (b + 1) ≤ length_of old (Block n) = block-there old n kind b long (at ∙ ap Some same) below in
-          let m0 : nat_le (b + 1) (max_entries_in old n) ≡ true = le-leb (b + 1) (max_entries_in old n) (omega arith) in
-          let m1 : nat_le (b + 1) (max_entries_in new n) ≡ true = le-leb (b + 1) (max_entries_in new n) (omega arith) in
-          let l0 : nat_le (block_place kind (b + 1)) (length_of old (Block n)) ≡ true = le-leb (block_place kind (b + 1)) (length_of old (Block n)) ends in
-          let l1 : nat_le (block_place kind (b + 1)) (length_of new (Block n)) ≡ true = le-leb (block_place kind (b + 1)) (length_of new (Block n)) (omega arith) in
-          rw (m0, m1, l0, l1) refl)
+        let same : type ≡ kind = eqb-true type kind e in
+        let below : b < max_entries_in old n = is.1 in
+        let rise : max_entries_in old n ≤ max_entries_in new n = grown.more n type at in
+        let longer : length_of old (Block n) ≤ length_of new (Block n) = grown.longer n type at in
+        let ends : block_place kind (b + 1) ≤ length_of old (Block n) = block-there old n kind b long (at ∙ ap Some same) below in
+        let m0 : nat_le (b + 1) (max_entries_in old n) ≡ true = le-leb (b + 1) (max_entries_in old n) (omega arith) in
+        let m1 : nat_le (b + 1) (max_entries_in new n) ≡ true = le-leb (b + 1) (max_entries_in new n) (omega arith) in
+        let l0 : nat_le (block_place kind (b + 1)) (length_of old (Block n)) ≡ true = le-leb (block_place kind (b + 1)) (length_of old (Block n)) ends in
+        let l1 : nat_le (block_place kind (b + 1)) (length_of new (Block n)) ≡ true = le-leb (block_place kind (b + 1)) (length_of new (Block n)) (omega arith) in
+        rw (m0, m1, l0, l1) refl)
         (λ (e : (type == kind) ≡ false). rw e refl)
         (cases_Bool (type == kind)))
 
@@ -421,18 +421,18 @@ module _ (old new : Image) (long : AreLongEnough old) (grown : HaveGrown old new
 
 pub agreement-goes_on : (touched : Claim → Bool) (old between new : Image) → AgreeBut touched old between → AgreeBut touched between new → AgreeBut touched old new
 agreement-goes_on touched old between new first then_ = record {
-    index = λ i shown. then_.index i shown ∙ first.index i shown;
-    there = λ n kind b clear. then_.there n kind b clear ∙ first.there n kind b clear;
-    bytes = λ n kind b i clear there low high. then_.bytes n kind b i clear (first.there n kind b clear ∙ there) low high ∙ first.bytes n kind b i clear there low high;
-    externals = λ n clear. then_.externals n clear ∙ first.externals n clear;
-  }
+  index = λ i shown. then_.index i shown ∙ first.index i shown;
+  there = λ n kind b clear. then_.there n kind b clear ∙ first.there n kind b clear;
+  bytes = λ n kind b i clear there low high. then_.bytes n kind b i clear (first.there n kind b clear ∙ there) low high ∙ first.bytes n kind b i clear there low high;
+  externals = λ n clear. then_.externals n clear ∙ first.externals n clear;
+}
 
 pub agreement-more : (less more : Claim → Bool) (old new : Image) → ((claim : Claim) → less claim ≡ true → more claim ≡ true) → AgreeBut less old new → AgreeBut more old new
 agreement-more less more old new wider same = record {
-    index = same.index;
-    there = λ n kind b clear. same.there n kind b (untouched (BlockOf n b) clear);
-    bytes = λ n kind b i clear. same.bytes n kind b i (untouched (BlockOf n b) clear);
-    externals = λ n clear. same.externals n (untouched (ExternalOf n) clear);
-  } where
-    untouched : (claim : Claim) → more claim ≡ false → less claim ≡ false
-    untouched claim clear = false_unless (less claim) (λ e. let z : true ≡ false = sym (wider claim e) ∙ clear in cc)
+  index = same.index;
+  there = λ n kind b clear. same.there n kind b (untouched (BlockOf n b) clear);
+  bytes = λ n kind b i clear. same.bytes n kind b i (untouched (BlockOf n b) clear);
+  externals = λ n clear. same.externals n (untouched (ExternalOf n) clear);
+} where
+  untouched : (claim : Claim) → more claim ≡ false → less claim ≡ false
+  untouched claim clear = false_unless (less claim) (λ e. let z : true ≡ false = sym (wider claim e) ∙ clear in cc)

@@ -1,20 +1,23 @@
 -- Growth of block files touches nothing that is owned.
-use Rattle.std.proofs.Common.{◌≡◌, ℕ, zero, suc, ◌+◌, ◌<◌, ◌≤◌, ◌≢◌, List, [], ◌∷◌, map, refl, ap, sym, ◌∙◌, subst, arith, Bool, true, false, Some}
+use Rattle.std.proofs.Common.{◌≡◌, ℕ, zero, suc, ◌+◌, ◌*◌, ◌<◌, ◌≤◌, ◌≢◌, List, [], ◌∷◌, map, refl, ap, sym, ◌∙◌, subst, arith, ⊎_elim, Bool, true, false, Some}
 use Rattle.std.specs.Prelude.{if◌then◌else◌, ◌&&◌, ◌||◌, ◌==◌, nat_le}
 use Rattle.std.specs.List.{AllByRecursion, range_with_len}
 use Rattle.std.proofs.lemmas.Bool.{cases_Bool, eqb-true, and_parts, leb-true}
-use Rattle.blk_image.specs.Image.{Image, Block, length_of}
-use Rattle.blk_format.specs.Address.{kind_of, block_count, file_selector, first_block, external_number, external, place, room}
+use Rattle.blk_image.specs.Image.{Image, File, Index, Block, same_file, length_of}
+use Rattle.blk_image.specs.Steps.{SetLength, applied}
+use Rattle.blk_image.specs.Footprint.{SameOutside, size_of}
+use Rattle.blk_image.proofs.Images.{same_file-true, length-after_set_len}
+use Rattle.blk_image.proofs.Footprints.{outside_longer}
+use Rattle.blk_format.specs.Address.{kind_of, block_count, file_selector, first_block, external_number, external}
 use Rattle.blk_format.specs.Standing.{is_linked_as, stands_as_blocks}
-use Rattle.blk_format.specs.Claims.{Claim, BlockOf, ExternalOf, same_claim, claims_of, claims_of_all, has_claim}
-use Rattle.blk_format.specs.BlockFiles.{linked_as, max_entries_in, stands_in, stands_in_blocks}
-use Rattle.blk_volume.specs.View.{stock_of, view_of}
+use Rattle.blk_format.specs.Claims.{Claim, BlockOf, ExternalOf, claims_of, claims_of_all, has_claim}
+use Rattle.blk_format.specs.BlockFiles.{linked_as, next_file_in, max_entries_in, stands_in}
+use Rattle.blk_volume.specs.View.{view_of}
 use Rattle.blk_volume.specs.Layout.{rule_of}
-use Rattle.blk_volume.specs.Loads.{all_claims}
 use Rattle.blk_volume.specs.Sound.{words_of}
-use Rattle.blk_laws.specs.ByteLaws.{is_past, GrowthKeepsStates}
+use Rattle.blk_laws.specs.ByteLaws.{is_past, HaveGrown, GrowthKeepsStates}
 use Rattle.blk_laws.proofs.ClaimLists.{claim-append, claim-head, no-claim}
-use Rattle.blk_laws.proofs.ByteChanges.{agreeing-views, growth-past, stands-blocks, stands-linked, stands-some, not_equal, false_unless}
+use Rattle.blk_laws.proofs.ByteChanges.{agreeing-views, growth-past, same-links, stands-blocks, stands-linked, stands-some, false_unless}
 use Rattle.blk_laws.proofs.BlockBytes.{not_same}
 use Rattle.blk_laws.proofs.Allocations.{words-stand, words-claims}
 use Rattle.blk_laws.proofs.Outside.{represents-outside}
@@ -68,3 +71,37 @@ growth-keeps old new state layout doomed long grown represents exact =
     let loads = represents.holds.shows.each node o.loaded o.here in
     words-not_past old (words_of o.loaded) claim (words-stand old o.loaded (rule_of layout node, node, loads)) (ap (λ (cs : List Claim). has_claim cs claim) (words-claims o.loaded) ∙ o.claims))
     represents
+
+-- a longer file
+module _ (image : Image) (m length : ℕ) (longer : length_of image (Block m) ≤ length) where
+  abbrev grown : Image
+  grown = applied (SetLength (Block m) length) image
+
+  same : SameOutside (size_of (Block m)) image grown
+  same = outside_longer (Block m) length image longer
+
+  next-same : (n : ℕ) → next_file_in grown n ≡ next_file_in image n
+  unfolding next_file_in
+  next-same n = λ k. same.bytes (Block n) 10 refl k + 256 * same.bytes (Block n) 11 refl k
+
+  count-same : (n : ℕ) → max_entries_in grown n ≡ max_entries_in image n
+  unfolding max_entries_in
+  count-same n = λ k. same.bytes (Block n) 20 refl k + 256 * same.bytes (Block n) 21 refl k + 65536 * same.bytes (Block n) 22 refl k + 16777216 * same.bytes (Block n) 23 refl k
+
+  rises : (n : ℕ) → length_of image (Block n) ≤ length_of grown (Block n)
+  rises n = ⊎_elim
+      (λ (e : same_file (Block m) (Block n) ≡ true).
+      let here : ◌≡◌ {A = File} (Block m) (Block n) = same_file-true (Block m) (Block n) e in
+      subst (λ (f : File). length_of image f ≤ length_of grown f) here (let now : length_of grown (Block m) ≡ length = length-after_set_len image (Block m) length in omega arith))
+      (λ (e : same_file (Block m) (Block n) ≡ false). let now : length_of grown (Block n) ≡ length_of image (Block n) = same.lengths (Block n) e in omega arith)
+      (cases_Bool (same_file (Block m) (Block n)))
+
+  pub longer-grown : HaveGrown image grown
+  longer-grown = record {
+    index = λ i _. same.bytes Index i refl;
+    externals = λ n. refl;
+    linked = λ n kind at. same-links image grown next-same n ∙ at;
+    bytes = λ n kind i at behind below. same.bytes (Block n) i refl;
+    longer = λ n kind at. rises n;
+    more = λ n kind at. let e = count-same n in omega arith;
+  }

@@ -3,9 +3,15 @@ use Rattle.std.proofs.Common.{◌≡◌, ℕ, zero, suc, ◌+◌, ◌<◌, ◌�
 use Rattle.std.specs.Prelude.{if◌then◌else◌, ◌==◌, ◌&&◌, nat_lt, codes, replicate, IfSome, IsSome, All}
 use Rattle.std.specs.List.{AllByRecursion}
 use Rattle.std.specs.Str.{bytes_eq}
-use Rattle.blk_image.specs.Image.{Image}
+use Rattle.blk_image.specs.Image.{Image, Block, length_of}
 use Rattle.blk_image.specs.Bytes.{zeros, spliced}
-use Rattle.blk_image.specs.Steps.{with_word, word_step}
+use Rattle.blk_image.specs.Steps.{SetLength, applied, with_word, word_step}
+use Rattle.blk_model.specs.State.{Bounds}
+use Rattle.blk_model.specs.Holding.{open_state}
+use Rattle.blk_volume.specs.Layout.{Represents}
+use Rattle.blk_volume.specs.Emptiness.{no_layout}
+use Rattle.blk_laws.proofs.Growing.{growth-keeps, longer-grown}
+use Rattle.blk_laws.proofs.Bare.{bare-sound, represents-empty}
 use Rattle.blk_model.specs.Items.{Item, main, part, same_item, times}
 use Rattle.blk_model.specs.State.{object_at, named_by, is_named, owners, IsObject, IsValidState}
 use Rattle.blk_model.proofs.Times.{times-cons}
@@ -194,3 +200,9 @@ removal_is_pending = record {
   ready = record { has_header = omega arith; each = (omega arith, (omega arith, ((refl, (omega arith, tt)), (omega arith, tt)))) };
   pending = refl;
 }
+
+-- A block file of a bare folder gets longer, and the folder still represents the empty state.
+
+pub bare_grows : (image : Image) (m length : ℕ) (limits : Bounds) → IsBare image → length_of image (Block m) ≤ length → Represents (view_of (applied (SetLength (Block m) length) image)) (open_state [] limits) no_layout
+bare_grows image m length limits bare longer =
+    growth-keeps image (applied (SetLength (Block m) length) image) (open_state [] limits) no_layout [] (bare-sound image bare).in_order.long_enough (longer-grown image m length longer) (represents-empty image bare limits) (λ claim node owner. cc)

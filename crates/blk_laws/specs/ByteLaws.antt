@@ -1,6 +1,7 @@
 -- The laws from the bytes of files to what a view shows.
 use Rattle.std.specs.Prelude.{◌≡◌, ◌≢◌, ◌⊎◌, ℕ, List, Some, ◌+◌, ◌<◌, ◌≤◌, Bool, true, false, not, ◌&&◌, ◌||◌, nat_le, is_some}
 use Rattle.blk_image.specs.Image.{Index, Block, External, Image, byte, length_of}
+use Rattle.blk_image.specs.Steps.{SetLength, applied}
 use Rattle.blk_image.specs.Footprint.{Footprint, range, whole, either, IsWithin, SameOutside}
 use Rattle.blk_format.specs.Address.{kind_of, file_selector, place, room, block_place, external, header_size}
 use Rattle.blk_format.specs.Standing.{is_linked_as}
@@ -49,6 +50,10 @@ GrowthIsPastTheBlocks = (old new : Image) → AreLongEnough old → HaveGrown ol
 -- the same links link the same files
 abbrev pub SameLinksLinkTheSame : Type 0
 SameLinksLinkTheSame = (old new : Image) → ((n : ℕ) → next_file_in new n ≡ next_file_in old n) → (n : ℕ) → linked_as new n ≡ linked_as old n
+
+-- a block file that gets longer has grown, with nothing past its blocks yet
+abbrev pub LongerFilesHaveGrown : Type 0
+LongerFilesHaveGrown = (image : Image) (m length : ℕ) → length_of image (Block m) ≤ length → HaveGrown image (applied (SetLength (Block m) length) image)
 
 -- a covered change leaves images that agree but there
 abbrev pub CoveredChangesAgree : Type 0

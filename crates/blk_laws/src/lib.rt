@@ -5,7 +5,7 @@
 
 ghost use Rattle.blk_laws.specs.AllocationLaws.{SoundFilesAreAllocated, StoodForFilesAreAllocated};
 ghost use Rattle.blk_laws.specs.BareLaws.{NothingRepresentsTheEmptyState, BareFoldersHoldNothing, BareFoldersAreSound, BareFoldersRepresentTheEmptyState, BareFoldersStandForTheEmptyState, NewFoldersAreBare};
-ghost use Rattle.blk_laws.specs.ByteLaws.{CoveredChangesStayInside, BlocksAreCovered, ExternalFilesAreCovered, HeadersNeedNoCover, HiddenWordsNeedNoCover, CoversOfLess, MoreCovers, CoversOfEither, AgreeingImagesShowTheSame, CoveredChangesAgree, GrowthIsPastTheBlocks, SameLinksLinkTheSame, AgreementGoesOn, AgreementButMore, GrowthKeepsStates};
+ghost use Rattle.blk_laws.specs.ByteLaws.{CoveredChangesStayInside, BlocksAreCovered, ExternalFilesAreCovered, HeadersNeedNoCover, HiddenWordsNeedNoCover, CoversOfLess, MoreCovers, CoversOfEither, AgreeingImagesShowTheSame, CoveredChangesAgree, GrowthIsPastTheBlocks, SameLinksLinkTheSame, AgreementGoesOn, AgreementButMore, LongerFilesHaveGrown, GrowthKeepsStates};
 ghost use Rattle.blk_laws.specs.CommandLaws.{UnsettledObjectsMayChange, EachMomentIsAtRest, RemovalsKeepTheOthers, LessIsLaid, DirtyWordsSettle, WrittenDirtyWordsSettle, RestBeforeTurning, RestAfterTurning, OpensAtEachWrite, OpensEnd, CreatesAtEachWrite, CreatesEnd, CreatesLeaveTheRest, CreatesMayLeaveWhatWas};
 ghost use Rattle.blk_laws.specs.KeptLaws.{KeptAreTheGiven, NoneOfTheGivenIsDropped, LeavingOutKeepsTheSame, SameKeyIsOneChain, OnlyCandidatesAreKept, SameCandidatesHoldTheSame};
 ghost use Rattle.blk_laws.specs.ListBytes.{UpdatesShowFronts, UpdatesShowAll, InsertsTurnInBytes, RemovalsTurnInBytes, MovesTurnInBytes, CompletionsStayInBytes};
@@ -203,7 +203,8 @@ pub fn agreeing_images_show_the_same()
     ensures more { AgreementButMore }
 {}
 
-/// The growth or linking of block files keeps what is represented.
+/// A longer block file has grown, and the growth or linking of block files keeps what is represented.
 pub fn growth_keeps_states()
-    ensures { GrowthKeepsStates }
+    ensures longer { LongerFilesHaveGrown }
+    ensures kept { GrowthKeepsStates }
 {}
