@@ -6,3 +6,4 @@ pub mod Following
 pub mod Standings
 pub mod Ranges
 pub mod Agreeing
+pub mod Keeping
