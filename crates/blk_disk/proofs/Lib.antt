@@ -7,3 +7,4 @@ pub mod Standings
 pub mod Ranges
 pub mod Agreeing
 pub mod Keeping
+pub mod Raising
