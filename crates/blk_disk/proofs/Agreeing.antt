@@ -71,10 +71,10 @@ blocks_spare file w at n = record { bytes = λ m i small. before (same_file file
     before false from i below = refl
 
 -- a file of another number
-other_file : (n m : ℕ) → m ≢ n → same_file (Block n) (Block m) ≡ false
+pub other_file : (n m : ℕ) → m ≢ n → same_file (Block n) (Block m) ≡ false
 other_file n m differs = grind (arith, nat_tests)
 
-sizes_spare : (file : File) → SparesHeaders (size_of file)
+pub sizes_spare : (file : File) → SparesHeaders (size_of file)
 sizes_spare file = record { bytes = λ n i small. refl }
 
 -- a file that gets longer, where its new length is kept

@@ -8,3 +8,4 @@ pub mod Ranges
 pub mod Agreeing
 pub mod Keeping
 pub mod Raising
+pub mod Enlarging

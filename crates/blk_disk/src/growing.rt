@@ -1,5 +1,5 @@
 // A block file gets more blocks.
-ghost use Rattle.std.specs.Prelude.{◌≡◌, ◌+◌, ◌*◌, ◌<◌, ◌≤◌, IsTrue, max, OnOk, OnErr};
+ghost use Rattle.std.specs.Prelude.{◌≡◌, ◌+◌, ◌*◌, ◌<◌, ◌≤◌, IsTrue, max, None, OnOk, OnErr};
 ghost use Rattle.std.specs.Option.{ForSome};
 ghost use Rattle.blk_image.specs.Image.{HasRange, Block as block};
 ghost use Rattle.blk_image.specs.Footprint.{SameOutside};
@@ -90,6 +90,7 @@ fn raise<F: Folder>(f: &mut F, file: u8, groups: u32, blocks: u32) -> Result<(),
     requires { ForSome (F.told f.old).files (λ image. HasRange image (block file) 0 40) }
     ensures whole { OnOk result (ForSome (F.told f.old).files (λ image. Grows (F.told f.old) (F.told f.new) (raise_steps image file groups blocks))) }
     ensures part { ForSome (F.told f.old).files (λ image. GrowsInPart (F.told f.old) (F.told f.new) (raise_steps image file groups blocks)) }
+    ensures untold { (F.told f.old).files ≡ None → (F.told f.new).files ≡ None }
     ensures later { F.faults f.old ≤ F.faults f.new }
     ensures failed { OnErr result (Rises (F.faults f.old) (F.faults f.new)) }
 {
