@@ -9,3 +9,5 @@ pub mod Agreeing
 pub mod Keeping
 pub mod Raising
 pub mod Enlarging
+pub mod Numbers
+pub mod Additions

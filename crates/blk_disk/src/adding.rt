@@ -7,7 +7,7 @@ ghost use Rattle.blk_image.specs.Told.{Grows, GrowsInPart, Passes, Rises};
 ghost use Rattle.blk_format.specs.Address.{external, header_size};
 ghost use Rattle.blk_format.specs.BlockFiles.{most_files, IsWellFormed};
 ghost use Rattle.blk_addr.specs.Kind.{kind_number};
-ghost use Rattle.blk_disk.specs.Tables.{Agrees, files_of, Joins};
+ghost use Rattle.blk_disk.specs.Tables.{Agrees, all_files, files_of, Joins};
 ghost use Rattle.blk_disk.specs.Growth as growth;
 ghost use Rattle.blk_disk.specs.Growth.{IsLeastFree, add_steps, addition_of, link_steps, make_steps};
 
@@ -53,21 +53,21 @@ impl BlockFiles {
         ensures later { F.faults f.old ≤ F.faults f.new }
         ensures failed { OnErr result (Rises (F.faults f.old) (F.faults f.new)) }
     {
-        let n = self.free_number(kind);
+        let n = self.free_number();
         make_file(f, kind, n)?;
         link_file(f, self.last_file(kind), n)?;
         self.join(kind, n, 0, HEADER_LEN);
         Ok(n)
     }
 
-    // The least number from 4 that no linked file has, where there are fewer than 60 of a kind.
-    fn free_number(&self, kind: Kind) -> u8
-        requires of_blocks { kind_number kind ≢ external }
-        requires room { length (files_of self.now (kind_number kind)) < most_files }
+    // The least number from 4 that no linked file has.
+    fn free_number(&self) -> u8
         ensures number { result ≡ growth.free_number self.now }
         ensures least { IsLeastFree self.now result }
     {
-        for n in FIRST_NUMBER..=255 {
+        // One of these is free, as they are one more than the linked files.
+        let end = FIRST_NUMBER + self.total() + 1;
+        for n in FIRST_NUMBER..end {
             if !self.has(n) {
                 return n;
             }
@@ -75,15 +75,24 @@ impl BlockFiles {
         unreachable!()
     }
 
+    // The number of linked files of all kinds.
+    #[tactic(auto, unfolding(crate::specs::Tables::all_files))]
+    fn total(&self) -> u8
+        ensures total { result ≡ length (all_files self.now) }
+        ensures most { result ≤ 240 }
+    {
+        let nodes_and_small = self.len(Kind::Rankings) + self.len(Kind::B256);
+        let large = self.len(Kind::B1K) + self.len(Kind::B4K);
+        (nodes_and_small + large) as u8
+    }
+
     // The last file of a kind, or its first where none is kept.
+    #[tactic(auto, unfolding(crate::specs::Growth::last_file))]
     fn last_file(&self, kind: Kind) -> u8
         requires { kind_number kind ≢ external }
         ensures { result ≡ growth.last_file self.now (kind_number kind) }
     {
-        match self.files(kind).last() {
-            Some(file) => *file,
-            None => first_file(kind),
-        }
+        self.files(kind).last().copied().unwrap_or(first_file(kind))
     }
 }
 
