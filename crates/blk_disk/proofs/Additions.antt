@@ -3,6 +3,8 @@ use Rattle.std.proofs.Common.{◌≡◌, ℕ, ◌%◌, ◌/◌, List, [], ◌∷
 use Rattle.blk_image.specs.Image.{File, Block}
 use Rattle.blk_image.specs.Steps.{TrailStep, Word, words, before_words}
 use Rattle.blk_disk.specs.Growth.{link_steps}
+use Rattle.blk_disk.proofs.Chains.{met_in, linked_once}
+use Rattle.blk_disk.proofs.Linking.{links_added, checks_added}
 
 -- two bytes at the upper half of a word are one step
 words-half : (f : File) (a b : ℕ) → words f 10 (a ∷ b ∷ []) ≡ Word f 10 (a ∷ b ∷ []) ∷ []

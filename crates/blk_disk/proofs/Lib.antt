@@ -11,3 +11,5 @@ pub mod Raising
 pub mod Enlarging
 pub mod Numbers
 pub mod Additions
+pub mod Chains
+pub mod Linking
