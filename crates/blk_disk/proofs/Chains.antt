@@ -101,7 +101,7 @@ type_none image none (suc (suc (suc zero))) holds = let each = each_type image n
 type_none image none (suc (suc (suc (suc zero)))) holds = let each = each_type image none in each.3
 type_none image none (suc (suc (suc (suc (suc kind))))) holds = absurd (grind (arith, nat_tests))
 
-block_kind : (j : ℕ) → j < 4 → is_block_kind (suc j) ≡ true
+pub block_kind : (j : ℕ) → j < 4 → is_block_kind (suc j) ≡ true
 block_kind j small = let low : nat_le 1 (suc j) ≡ true = grind (arith, nat_tests) in let high : nat_le (suc j) 4 ≡ true = grind (arith, nat_tests) in rw (low, high) refl
 
 -- the files of all types, where no check fails

@@ -13,3 +13,4 @@ pub mod Numbers
 pub mod Additions
 pub mod Chains
 pub mod Linking
+pub mod Joined

@@ -12,7 +12,7 @@ differ : (b : Bool) → b ≡ true → b ≡ false → ⊥
 differ b e d = cc
 
 -- there is a file along the links
-some_along : (next : ℕ → ℕ) (left k : ℕ) → 0 < length (files_along next left k)
+pub some_along : (next : ℕ → ℕ) (left k : ℕ) → 0 < length (files_along next left k)
 unfolding files_along
 some_along next zero k = omega arith
 some_along next (suc left) k = omega arith
