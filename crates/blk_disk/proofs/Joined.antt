@@ -1,6 +1,7 @@
 -- A file that is added: what holds at each word, and in the end.
-use Rattle.std.proofs.Common.{◌≡◌, ◌≢◌, ℕ, zero, suc, ◌+◌, ◌-◌, ◌*◌, ◌%◌, ◌/◌, ◌<◌, ◌≤◌, Bool, true, false, ◌&&◌, ◌||◌, nat_le, nat_lt, if◌then◌else◌, List, [], ◌∷◌, ◌++◌, length, get_or, Option, None, Some, unwrap_or, refl, sym, ◌∙◌, ap, ap₂, subst, arith, ◌⊎◌, inl, inr, ⊎_elim}
+use Rattle.std.proofs.Common.{◌≡◌, ◌≢◌, ℕ, zero, suc, ◌+◌, ◌-◌, ◌*◌, ◌%◌, ◌/◌, ◌<◌, ◌≤◌, Bool, true, false, ◌&&◌, ◌||◌, nat_le, nat_lt, if◌then◌else◌, List, [], ◌∷◌, ◌++◌, length, get_or, Option, None, Some, unwrap_or, refl, sym, ◌∙◌, ap, ap₂, subst, arith, lit<, ◌⊎◌, inl, inr, ⊎_elim}
 use Rattle.std.specs.Prelude.{◌==◌}
+use Rattle.std.specs.Option.{ForSome}
 use Rattle.std.proofs.lemmas.Bool.{cases_eq, cases_lt}
 use Rattle.std.proofs.lemmas.Bool.Decides.{nat_tests}
 use Rattle.std.proofs.lemmas.List.Folds.{list_any_at}
@@ -9,19 +10,22 @@ use Rattle.blk_image.specs.Checks.{first_of}
 use Rattle.blk_image.specs.Footprint.{SameOutside, either, range, whole}
 use Rattle.blk_image.specs.Image.{File, Index, Block, Image, byte, bytes_of, length_of, same_file, with_file}
 use Rattle.blk_image.specs.Steps.{TrailStep, Word, applied, after}
-use Rattle.blk_image.specs.Told.{Along}
+use Rattle.blk_image.specs.Told.{Told, Grows, GrowsInPart, Passes, Along, Until, IsQuiet}
 use Rattle.blk_image.proofs.Cuts.{after-append}
 use Rattle.blk_image.proofs.Footprints.{outside-trans, outside_wider, outside_write, within_left, within_right}
 use Rattle.blk_image.proofs.Images.{bytes_of-written, length-after_write, other-word, with_file-same}
-use Rattle.blk_image.proofs.Runs.{until_last}
+use Rattle.blk_image.proofs.Runs.{passes_part, quiet-append, some_inj, told_whole, until-append, until_last, until_weaker2}
 use Rattle.blk_image.proofs.Splices.{content-spliced_inside}
 use Rattle.blk_image.proofs.Words.{same-word_at}
 use Rattle.blk_format.specs.Address.{is_block_kind}
 use Rattle.blk_format.specs.BlockFiles.{next_file_in, max_entries_in, files_along, linked, linked_up_to, is_among, is_block_count, checks_along, checks_of_type, first_block_damage, IsWellFormed}
+use Rattle.blk_addr.specs.declared.kinds.Kind.{Kind}
+use Rattle.blk_addr.specs.declared.kinds.Kind.TheVariants.{External, Rankings, B256, B1K, B4K}
+use Rattle.blk_addr.specs.Kind.{kind_number}
 use Rattle.blk_disk.specs.declared.tables.BlockFiles.{BlockFiles}
 use Rattle.blk_disk.specs.Tables.{Agrees, Joins, all_files, blocks_of, files_of, length_in}
 use Rattle.blk_disk.specs.Growth.{IsLeastFree, add_steps, addition_of, free_number, last_file, link_steps, make_steps}
-use Rattle.blk_disk.proofs.Additions.{IsNew, header_new, header_size_is, made_is, making_outside, new_header, new_passes, next_is}
+use Rattle.blk_disk.proofs.Additions.{IsNew, header_new, header_size_is, made_is, making_outside, making_quiet, new_header, new_passes, next_is}
 use Rattle.blk_disk.proofs.Agreeing.{other_file}
 use Rattle.blk_disk.proofs.Among.{all_files_among, is_among-append, is_among_more}
 use Rattle.blk_disk.proofs.Chains.{block_kind, fails, linked_once, met_in, or_cases, type_none}
@@ -247,6 +251,10 @@ module _ (files : BlockFiles) (image : Image) (p : ℕ) (small : p < 4) (agrees 
   new_length : length_of done (Block n) ≡ 8192
   new_length = ap (λ (o : Option (List ℕ)). length (unwrap_or o [])) new_file ∙ header_size_is (suc p) n below_256
 
+  new_blocks : max_entries_in done n ≡ 0
+  unfolding max_entries_in
+  new_blocks = new_fields.blocks
+
   new_next : next_file_in done n ≡ 0
   unfolding next_file_in
   new_next = next_is (suc p) n (byte done (Block n)) below_256 new_fields
@@ -333,3 +341,114 @@ module _ (files : BlockFiles) (image : Image) (p : ℕ) (small : p < 4) (agrees 
 
   pub done_formed : IsWellFormed image → IsWellFormed done
   done_formed formed = let same = done_outside in well_formed_still image done (λ i. same.bytes Index i refl) (same.lengths Index refl) (λ none. done_undamaged) formed
+
+  -- what is kept once the new file is taken up
+  module _ (new : BlockFiles) (joins : Joins files new (suc p) n 0 8192) where
+    joined_type : (j m : ℕ) → m ≢ n → is_among (files_of new (suc j)) m ≡ is_among (files_of files (suc j)) m
+    joined_type j m differs =
+        ⊎_elim
+        (λ same. subst (λ (i : ℕ). is_among (files_of new (suc i)) m ≡ is_among (files_of files (suc i)) m) (sym same)
+        (let apart : (n == m) ≡ false = grind (arith, nat_tests) in
+        ap (λ (l : List ℕ). is_among l m) joins.last ∙ is_among_more (files_of files (suc p)) n m ∙ ap (λ (t : Bool). is_among (files_of files (suc p)) m || t) apart ∙ or_false (is_among (files_of files (suc p)) m)))
+        (λ other. ap (λ (l : List ℕ). is_among l m) (joins.others (suc j) (λ e. other (omega (arith, e))))) (cases_eq j p)
+      where
+        or_false : (t : Bool) → (t || false) ≡ t
+        or_false true = refl
+        or_false false = refl
+
+    joined : (m : ℕ) → m ≢ n → is_among (all_files new) m ≡ true → is_among (all_files files) m ≡ true
+    joined m differs among =
+        among_types files m ∙ sym (λ i. joined_type 0 m differs i || joined_type 1 m differs i || joined_type 2 m differs i || joined_type 3 m differs i) ∙ sym (among_types new m) ∙ among
+
+    joined_links : (kind : ℕ) → is_block_kind kind ≡ true → files_of new kind ≡ linked done kind
+    joined_links zero holds = absurd (differ false holds refl)
+    joined_links (suc j) holds =
+        ⊎_elim
+        (λ same. subst (λ (i : ℕ). files_of new (suc i) ≡ linked done (suc i)) (sym same) (joins.last ∙ ap (λ (l : List ℕ). l ++ n ∷ []) (agrees.links (suc p) (block_kind p small)) ∙ sym own_chain))
+        (λ other. joins.others (suc j) (λ e. other (omega (arith, e))) ∙ agrees.links (suc j) holds ∙ sym (other_chain j (below_four j holds) other)) (cases_eq j p)
+      where
+        below_four : (j : ℕ) → is_block_kind (suc j) ≡ true → j < 4
+        below_four j held = grind (arith, nat_tests)
+
+    agrees_done : Agrees new done
+    agrees_done = record {
+      links = joined_links;
+      blocks =
+          λ m among. ⊎_elim (λ same. ap (blocks_of new) same ∙ joins.blocks_there ∙ sym new_blocks ∙ ap (max_entries_in done) (sym same))
+          (λ differs. joins.other_blocks m differs ∙ agrees.blocks m (joined m differs among) ∙ sym (done_blocks m differs)) (cases_eq m n);
+      lengths =
+          λ m among. ⊎_elim (λ same. ap (length_in new) same ∙ joins.size_there ∙ sym new_length ∙ ap (λ (k : ℕ). length_of done (Block k)) (sym same))
+          (λ differs. joins.other_lengths m differs ∙ agrees.lengths m (joined m differs among) ∙ sym (done_length m differs)) (cases_eq m n);
+      undamaged = done_undamaged;
+    }
+
+    pub agrees_joined : Agrees new (after (add_steps files (suc p)) image)
+    agrees_joined = subst (Agrees new) (sym (after-append (make_steps (suc p) n) (link_steps last n) image)) agrees_done
+
+-- an image while a file is added
+pub record IsAdding (files : BlockFiles) (kind : ℕ) (from image : Image) : Type 0 where
+  pub outside : SameOutside (addition_of files kind) from image
+  pub formed : IsWellFormed from → IsWellFormed image
+
+module _ (files : BlockFiles) (image : Image) (p : ℕ) (small : p < 4) (agrees : Agrees files image) (room : length (files_of files (suc p)) < 60) (least : IsLeastFree files (free_number files)) where
+  making_adds : (b : Image) → SameOutside (whole (Block (free_number files))) image b → IsAdding files (suc p) image b
+  making_adds b same = record {
+    outside = outside_wider (whole (Block (free_number files))) (addition_of files (suc p)) image b (within_left (whole (Block (free_number files))) (range (Block (last_file files (suc p))) 10 2)) same;
+    formed = making_formed files image p small agrees room least b same;
+  }
+
+  along_type : Along (IsAdding files (suc p) image) image (add_steps files (suc p))
+  along_type =
+      until-append (IsAdding files (suc p) image) (IsAdding files (suc p) image) (make_steps (suc p) (free_number files)) (link_steps (last_file files (suc p)) (free_number files)) image
+      (until_weaker2 (SameOutside (whole (Block (free_number files))) image) (IsAdding files (suc p) image) (SameOutside (whole (Block (free_number files))) image) (IsAdding files (suc p) image) (make_steps (suc p) (free_number files)) image making_adds making_adds (making_outside (suc p) (free_number files) image))
+      (
+        making_adds (after (make_steps (suc p) (free_number files)) image) (made_same files image p small agrees room least),
+        record { outside = done_outside files image p small agrees room least; formed = done_formed files image p small agrees room least },
+      )
+
+pub least_is : (files : BlockFiles) (n : ℕ) → n ≡ free_number files → IsLeastFree files n → IsLeastFree files (free_number files)
+least_is files n same least = subst (IsLeastFree files) same least
+
+-- each type of blocks
+pub by_kind : (P : ℕ → Type 0) → ((p : ℕ) → p < 4 → P (suc p)) → (k : Kind) → kind_number k ≢ 0 → P (kind_number k)
+by_kind P each External blocky = absurd (blocky refl)
+by_kind P each Rankings blocky = each 0 (lit< tt)
+by_kind P each B256 blocky = each 1 (lit< tt)
+by_kind P each B1K blocky = each 2 (lit< tt)
+by_kind P each B4K blocky = each 3 (lit< tt)
+
+-- a call that made the file, and then linked it
+module _ (files : BlockFiles) (k : Kind) (blocky : kind_number k ≢ 0) (a : Told) (agrees : ForSome a.files (Agrees files)) (room : length (files_of files (kind_number k)) < 60) (least : IsLeastFree files (free_number files)) where
+  abbrev kind : ℕ
+  kind = kind_number k
+
+  add_along : (image : Image) → Agrees files image → Along (IsAdding files kind image) image (add_steps files kind)
+  add_along image agree =
+      by_kind (λ (j : ℕ). length (files_of files j) < 60 → Along (IsAdding files j image) image (add_steps files j)) (λ p small few. along_type files image p small agree few least) k blocky room
+
+  add_quiet : IsQuiet (add_steps files kind)
+  add_quiet = quiet-append (make_steps kind (free_number files)) (link_steps (last_file files kind) (free_number files)) (making_quiet kind (free_number files)) tt
+
+  pub add_room : {b : Told} → Grows a b (make_steps kind (free_number files)) → ForSome b.files (λ image. 10 + 2 ≤ length_of image (Block (last_file files kind)))
+  add_room grows =
+      told_whole (λ image. 10 + 2 ≤ length_of image (Block (last_file files kind))) grows
+      (λ image there. by_kind (λ (j : ℕ). length (files_of files j) < 60 → 10 + 2 ≤ length_of (after (make_steps j (free_number files)) image) (Block (last_file files j)))
+      (λ p small few. let long = made_room files image p small (agrees image there) few least in omega (arith, long)) k blocky room)
+
+  passing : {d : Told} (P : Image → Type 0) (from : Image) → ((image : Image) → IsAdding files kind from image → P image) → a.files ≡ Some from → GrowsInPart a d (add_steps files kind) → Passes a d P
+  passing P from holds there part =
+      passes_part P P part add_quiet (λ image p. p)
+      (λ image here. subst (λ (i : Image). Until P P i (add_steps files kind)) (some_inj (sym there ∙ here))
+      (until_weaker2 (IsAdding files kind from) P (IsAdding files kind from) P (add_steps files kind) from holds holds (add_along from (agrees from there))))
+
+  pub add_outside : {d : Told} → GrowsInPart a d (add_steps files kind) → ForSome a.files (λ from. Passes a d (SameOutside (addition_of files kind) from))
+  add_outside part from there = passing (SameOutside (addition_of files kind) from) from (λ image adding. adding.outside) there part
+
+  pub add_formed : {d : Told} → GrowsInPart a d (add_steps files kind) → ForSome a.files (λ from. IsWellFormed from → Passes a d IsWellFormed)
+  add_formed part from there formed = passing IsWellFormed from (λ image adding. adding.formed formed) there part
+
+  pub add_agrees : {d : Told} (new : BlockFiles) → Grows a d (add_steps files kind) → Joins files new kind (free_number files) 0 8192 → ForSome d.files (Agrees new)
+  add_agrees new grows joins =
+      told_whole (Agrees new) grows
+      (λ image there. by_kind (λ (j : ℕ). length (files_of files j) < 60 → Joins files new j (free_number files) 0 8192 → Agrees new (after (add_steps files j) image))
+      (λ p small few joined. agrees_joined files image p small (agrees image there) few least new joined) k blocky room joins)

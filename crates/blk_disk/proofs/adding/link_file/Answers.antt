@@ -3,7 +3,6 @@ use Rattle.std.specs.Prelude.{OnOk}
 use Rattle.blk_image.specs.Image.{Block}
 use Rattle.blk_image.specs.Steps.{TrailStep}
 use Rattle.blk_image.specs.Told.{Grows, GrowsInPart}
-use Rattle.blk_disk.proofs.Joined.{done_formed}
 use Rattle.blk_disk.proofs.Additions.{link_is}
 use Rattle.blk_disk.proofs.adding.link_file.Goals as goal
 
