@@ -400,8 +400,7 @@ module _ (files : BlockFiles) (image : Image) (p : ℕ) (small : p < 4) (agrees 
   along_type : Along (IsAdding files (suc p) image) image (add_steps files (suc p))
   along_type =
       until-append (IsAdding files (suc p) image) (IsAdding files (suc p) image) (make_steps (suc p) (free_number files)) (link_steps (last_file files (suc p)) (free_number files)) image
-      (until_weaker2 (SameOutside (whole (Block (free_number files))) image) (IsAdding files (suc p) image) (SameOutside (whole (Block (free_number files))) image) (IsAdding files (suc p) image) (make_steps (suc p) (free_number files)) image making_adds making_adds (making_outside (suc p) (free_number files) image))
-      (
+      (until_weaker2 (SameOutside (whole (Block (free_number files))) image) (IsAdding files (suc p) image) (SameOutside (whole (Block (free_number files))) image) (IsAdding files (suc p) image) (make_steps (suc p) (free_number files)) image making_adds making_adds (making_outside (suc p) (free_number files) image)) (
         making_adds (after (make_steps (suc p) (free_number files)) image) (made_same files image p small agrees room least),
         record { outside = done_outside files image p small agrees room least; formed = done_formed files image p small agrees room least },
       )
