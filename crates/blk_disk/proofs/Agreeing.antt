@@ -13,6 +13,10 @@ use Rattle.blk_image.specs.Bytes.{word_at}
 use Rattle.blk_image.proofs.Words.{same-word_at}
 use Rattle.blk_format.specs.BlockFiles.{is_among, is_block_count, linked, files_along, next_file_in, max_entries_in}
 use Rattle.blk_disk.proofs.Keeping.{KeepsHead, undamaged_still}
+use Rattle.std.specs.Option.{ForSome}
+use Rattle.std.specs.Prelude.{Ok}
+use Rattle.blk_image.specs.Told.{Told}
+use Rattle.blk_disk.specs.Loading.{LoadsAs}
 use Rattle.blk_disk.specs.declared.tables.BlockFiles.{BlockFiles}
 use Rattle.blk_disk.specs.Tables.{Agrees, Resizes, all_files, length_in}
 
@@ -104,3 +108,7 @@ agrees_longer old new image n size longer resizes agrees = record {
 -- a length that stays
 pub resizes_none : (files : BlockFiles) (n size : ℕ) → length_in files n ≡ size → Resizes files files n size
 resizes_none files n size e = record { files = λ kind. refl; all = refl; blocks = λ m. refl; size_there = e; other_lengths = λ other differs. refl }
+
+-- the files that were loaded agree with the folder
+pub loaded_agrees : (files : BlockFiles) (a b : Told) → b ≡ a → ForSome a.files (LoadsAs (Ok files)) → ForSome b.files (Agrees files)
+loaded_agrees files a b stays loaded image there = let both = loaded image (ap (λ (t : Told). t.files) (sym stays) ∙ there) in both.0

@@ -344,13 +344,9 @@ fn add_to<F: Folder>(f: &mut F, kind: Kind) -> Result<Option<u8>, Fault> {
 
 #[test]
 fn the_first_new_file_is_data_4(rt: HostRuntime) -> Result<(), Fail> {
-    let alloc = rt.alloc();
-    let mut f = folder_of(alloc, &EMPTY, HEADER_LEN)?;
-
     // There is a file of that number that isn't linked.
-    let mut old = Vec::new(alloc);
-    old.resize(9000, 0xAB)?;
-    f.add_file(FileId::Block(4), &old)?;
+    let headers = [EMPTY[0], EMPTY[1], EMPTY[2], EMPTY[3], (4, 9, 4096, 77)];
+    let mut f = folder_of(rt.alloc(), &headers, 9000)?;
     assert_eq!(rt; add_to(&mut f, Kind::B256), Ok(Some(4)));
     assert_eq!(rt; word_of(&mut f, 1, 8), Some(0x0004_0001));
 
