@@ -6,3 +6,7 @@ pub mod Following
 pub mod Standings
 pub mod Ranges
 pub mod Agreeing
+pub mod RecordBytes
+pub mod SealedRecords
+pub mod SealedReads
+pub mod SealedWrites

@@ -7,6 +7,7 @@ mod growth;
 mod heads;
 mod load;
 mod names;
+mod sealed;
 mod standing;
 mod tables;
 
