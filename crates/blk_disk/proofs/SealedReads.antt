@@ -1,8 +1,7 @@
 -- A record that is read, and its seal.
-use Rattle.std.proofs.Common.{◌≡◌, ◌≢◌, ◌⊎◌, inl, inr, ℕ, ◌+◌, ◌*◌, ◌≤◌, Bool, true, false, if◌then◌else◌, List, Option, None, Some, refl, sym, ◌∙◌, ap, ap₂, arith, add-zero, ⊎_elim}
+use Rattle.std.proofs.Common.{◌≡◌, ◌≢◌, ℕ, ◌+◌, ◌*◌, ◌≤◌, Bool, true, false, if◌then◌else◌, List, Option, None, Some, refl, sym, ◌∙◌, ap, ap₂, arith, add-zero, ⊎_elim}
 use Rattle.std.specs.Prelude.{◌||◌, ◌==◌}
 use Rattle.std.specs.Option.{ForSome}
-use Rattle.std.proofs.lemmas.Bool.Decides.{nat_tests}
 use Rattle.blk_image.specs.Bytes.{content, word_at, range_at}
 use Rattle.blk_image.specs.Image.{Block, Image, byte}
 use Rattle.blk_image.specs.Told.{Told}
@@ -11,7 +10,7 @@ use Rattle.blk_format.specs.Records.{checks, seal_of}
 use Rattle.blk_format.proofs.Words.{AreFields-of}
 use Rattle.blk_io.specs.declared.fault.Damage.{Damage}
 use Rattle.blk_io.specs.declared.folder.FileId.TheVariants as names
-use Rattle.blk_disk.specs.Sealed.{BeginsWithRecord, size_by_kind, seal_by_kind, record_size, seal_place, record_at, RecordChecks, wrong_seal, IsUnsealed}
+use Rattle.blk_disk.specs.Sealed.{BeginsWithRecord, size_by_kind, record_size, seal_place, record_at, RecordChecks, wrong_seal, IsUnsealed}
 
 -- the record is in the blocks
 pub record_inside : (w : ℕ) → BeginsWithRecord w → record_size w ≤ room w

@@ -1,6 +1,6 @@
 -- A sealed record at each moment of its update.
-use Rattle.std.proofs.Common.{◌≡◌, ℕ, ◌+◌, ◌≤◌, ◌<◌, Bool, true, false, if◌then◌else◌, List, [], ◌∷◌, ◌++◌, length, take, All, refl, sym, ◌∙◌, ap, subst, arith, append_assoc, append-nil, length-append, inr}
-use Rattle.std.specs.Prelude.{◌||◌, ◌==◌}
+use Rattle.std.proofs.Common.{◌≡◌, ℕ, ◌+◌, ◌≤◌, Bool, true, false, if◌then◌else◌, List, [], ◌∷◌, ◌++◌, length, take, All, refl, sym, ◌∙◌, ap, subst, arith, append_assoc, append-nil, length-append, inr}
+use Rattle.std.specs.Prelude.{◌==◌}
 use Rattle.std.proofs.lemmas.List.{take_all, take_at}
 use Rattle.std.proofs.lemmas.List.Elements.{All-head, All-tail}
 use Rattle.blk_image.specs.Bytes.{content, word_at, word_bytes}
@@ -16,7 +16,7 @@ use Rattle.blk_format.specs.Hash.{hash}
 use Rattle.blk_format.specs.Records.{checks, seal_of}
 use Rattle.blk_record.proofs.Writes.{sealed-checks}
 use Rattle.blk_disk.specs.Sealed.{size_by_kind, seal_by_kind, record_size, seal_place, record_at, record_range, RecordChecks, placed, update_words, update_steps, new_seal, sealed_steps, IsMoment, IsUpdated}
-use Rattle.blk_disk.proofs.RecordBytes.{record-step, record-after, take-with_word, take-with_words, take-before_word, with_words-append, word-behind, same-sealed}
+use Rattle.blk_disk.proofs.RecordBytes.{record-step, record-after, take-with_word, take-with_words, take-before_word, with_words-append, same-sealed}
 
 -- the seal is the last word of a record, and at an aligned place
 pub seal_last : (kind : ℕ) → seal_by_kind kind + 4 ≡ size_by_kind kind
@@ -124,9 +124,10 @@ module _ (w : ℕ) where
         let whole : done ≡ changes = sym (append-nil done) ∙ all in
         (moment_unsealed done [] image all state, moment_last image (subst (λ (l : List (ℕ × ℕ)). Unsealed l image) whole state))
     moments_rest done (c ∷ left) image all before state =
-        let first : c.0 + 4 ≤ seal_place w = All-head (λ c. c.0 + 4 ≤ seal_place w) c left before in
-        (moment_unsealed done (c ∷ left) image all state,
-        moments_rest (done ++ c ∷ []) left (applied (step_of c.0 c.1) image) (append_assoc done (c ∷ []) left ∙ all) (All-tail (λ c. c.0 + 4 ≤ seal_place w) c left before) (unsealed_next done c image first state))
+        let first : c.0 + 4 ≤ seal_place w = All-head (λ c. c.0 + 4 ≤ seal_place w) c left before in (
+          moment_unsealed done (c ∷ left) image all state,
+          moments_rest (done ++ c ∷ []) left (applied (step_of c.0 c.1) image) (append_assoc done (c ∷ []) left ∙ all) (All-tail (λ c. c.0 + 4 ≤ seal_place w) c left before) (unsealed_next done c image first state),
+        )
 
     -- each moment of the update
     pub moments : Fits from → RecordChecks w from → All (λ c. c.0 + 4 ≤ seal_place w) changes → Along (IsMoment from w changes) from (sealed_steps from w changes)

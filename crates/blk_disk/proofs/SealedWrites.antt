@@ -1,21 +1,22 @@
 -- The words of a sealed update are written, in part or whole.
-use Rattle.std.proofs.Common.{◌≡◌, ℕ, ◌+◌, ◌*◌, ◌%◌, ◌≤◌, ◌<◌, Bool, true, false, if◌then◌else◌, List, [], ◌∷◌, ◌++◌, length, map, All, refl, sym, ◌∙◌, ap₂, subst, arith, add-zero, Some, ⊎_elim}
+use Rattle.std.proofs.Common.{◌≡◌, ℕ, ◌+◌, ◌*◌, ◌%◌, ◌≤◌, Bool, true, false, if◌then◌else◌, List, [], ◌∷◌, ◌++◌, All, refl, sym, ◌∙◌, ap₂, subst, arith, add-zero, Some, ⊎_elim}
 use Rattle.std.specs.Option.{ForSome}
 use Rattle.std.specs.Prelude.{◌==◌}
 use Rattle.std.proofs.lemmas.List.Elements.{All-cons, All-push, All-map}
 use Rattle.blk_image.specs.Image.{Block, Image, HasRange, length_of}
-use Rattle.blk_image.specs.Steps.{TrailStep, after, word_steps}
-use Rattle.blk_image.specs.Footprint.{SameOutside, range}
+use Rattle.blk_image.specs.Steps.{after, word_steps, with_words}
+use Rattle.blk_image.specs.Footprint.{range}
 use Rattle.blk_image.specs.Told.{Told, Grows, GrowsInPart, Passes, Along, Until, IsQuiet}
 use Rattle.blk_image.proofs.Runs.{passes_part, some_inj, told_part, told_whole, until_weaker2}
 use Rattle.blk_image.proofs.WordSteps.{quiet-word_steps}
-use Rattle.blk_format.specs.Address.{kind_of, file_selector, place, block_place, block_size, first_block, room}
+use Rattle.blk_format.specs.Address.{kind_of, file_selector, place, block_place, block_size, first_block}
+use Rattle.blk_format.specs.Records.{seal_of}
 use Rattle.blk_io.specs.declared.folder.FileId.{FileId}
 use Rattle.blk_io.specs.declared.folder.FileId.TheVariants as names
 use Rattle.blk_io.specs.FileNames.{file_of}
 use Rattle.blk_disk.specs.declared.tables.BlockFiles.{BlockFiles}
 use Rattle.blk_disk.specs.Tables.{Agrees, stands_among}
-use Rattle.blk_disk.specs.Sealed.{AreChanges, BeginsWithRecord, seal_by_kind, size_by_kind, record_size, seal_place, record_at, record_range, RecordChecks, placed, update_words, update_steps, new_seal, sealed_steps, IsMoment, IsUpdated}
+use Rattle.blk_disk.specs.Sealed.{AreChanges, BeginsWithRecord, seal_by_kind, record_size, seal_place, record_at, record_range, RecordChecks, placed, update_words, update_steps, new_seal, sealed_steps, IsMoment, IsUpdated}
 use Rattle.blk_disk.proofs.Agreeing.{agrees_still, SparesHeaders, blocks_spare}
 use Rattle.blk_disk.proofs.Ranges.{stands_range}
 use Rattle.blk_disk.proofs.SealedReads.{record_inside}
@@ -118,3 +119,37 @@ module _ (files : BlockFiles) (w : ℕ) (changes : List (ℕ × ℕ)) (stands : 
         told_whole (IsUpdated from w changes) grows
         (λ image here. subst (λ (i : Image). IsUpdated from w changes (after (update_steps w changes seal) i)) (some_inj (sym there ∙ here))
         (subst (λ (v : ℕ). IsUpdated from w changes (after (update_steps w changes v) from)) (sym (is from there)) (updated w from changes (fits from (agrees from there)))))
+
+-- what an update leaves, whole or in part
+pub record IsLeft (files : BlockFiles) (w : ℕ) (changes : List (ℕ × ℕ)) (a b : Told) : Type 0 where
+  pub part : ForSome a.files (λ from. GrowsInPart a b (sealed_steps from w changes))
+  pub stops : ForSome a.files (λ from. Passes a b (IsMoment from w changes))
+  pub agrees : ForSome b.files (Agrees files)
+  pub checks : ForSome b.files (RecordChecks w)
+
+-- the seal that was found is the one of the image
+new_seal_is : (image : Image) (w : ℕ) (changes : List (ℕ × ℕ)) (kind seal : ℕ) (bytes : List ℕ) → kind ≡ kind_of w → bytes ≡ record_at image w → seal ≡ seal_of (seal_by_kind kind) (with_words changes bytes) → seal ≡ new_seal image w changes
+unfolding new_seal
+new_seal_is image w changes kind seal bytes is_kind are is = is ∙ ap₂ (λ (k : ℕ) (b : List ℕ). seal_of (seal_by_kind k) (with_words changes b)) is_kind are
+
+module _ (files : BlockFiles) (w : ℕ) (changes : List (ℕ × ℕ)) (stands : stands_among files w ≡ true) (begins : BeginsWithRecord w) (are : AreChanges (seal_place w) changes)
+    (a m b : Told) (agrees : ForSome a.files (Agrees files)) (checks : ForSome a.files (RecordChecks w)) (stays : m ≡ a)
+    (kind seal : ℕ) (bytes : List ℕ) (is_kind : kind ≡ kind_of w) (read : ForSome a.files (λ image. bytes ≡ record_at image w)) (is : seal ≡ seal_of (seal_by_kind kind) (with_words changes bytes)) where
+  seal_here : ForSome a.files (λ from. seal ≡ new_seal from w changes)
+  seal_here from there = new_seal_is from w changes kind seal bytes is_kind (read from there) is
+
+  pub left_by : GrowsInPart m b (update_steps w changes seal) → IsLeft files w changes a b
+  left_by made =
+      let part : GrowsInPart a b (update_steps w changes seal) = subst (λ (t : Told). GrowsInPart t b (update_steps w changes seal)) stays made in
+      record {
+        part = part_is files w changes stands begins are a b seal agrees checks seal_here part;
+        stops = stops files w changes stands begins are a b seal agrees checks seal_here part;
+        agrees = agrees_after files w changes stands begins are a b seal agrees checks seal_here part;
+        checks = checks_after files w changes stands begins are a b seal agrees checks seal_here part;
+      }
+
+  pub whole_by : Grows m b (update_steps w changes seal) → ForSome a.files (λ from. Grows a b (sealed_steps from w changes))
+  whole_by made = whole_is files w changes stands begins are a b seal agrees checks seal_here (subst (λ (t : Told). Grows t b (update_steps w changes seal)) stays made)
+
+  pub updated_by : Grows m b (update_steps w changes seal) → ForSome a.files (λ from. ForSome b.files (IsUpdated from w changes))
+  updated_by made = updated_after files w changes stands begins are a b seal agrees checks seal_here (subst (λ (t : Told). Grows t b (update_steps w changes seal)) stays made)

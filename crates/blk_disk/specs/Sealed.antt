@@ -3,7 +3,7 @@ use Rattle.std.specs.Prelude.{Option, None, Some, ℕ, ◌≡◌, ◌≢◌, ◌
 use Rattle.std.specs.List.{IsDistinct}
 use Rattle.std.specs.Option.{ForSome}
 use Rattle.blk_image.specs.Bytes.{content, word_at, range_at}
-use Rattle.blk_image.specs.Image.{File, Block, Image, byte}
+use Rattle.blk_image.specs.Image.{Block, Image, byte}
 use Rattle.blk_image.specs.Steps.{TrailStep, word_steps, with_word, with_words}
 use Rattle.blk_image.specs.Footprint.{Footprint, SameOutside, range}
 use Rattle.blk_image.specs.Told.{Told}

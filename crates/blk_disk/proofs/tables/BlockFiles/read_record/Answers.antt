@@ -1,8 +1,5 @@
-use Rattle.std.proofs.Common.{◌≡◌, ◌+◌, ℕ, inr, length, ap, ap₂, sym, ◌∙◌, arith, refl, subst}
-use Rattle.std.specs.Option.{ForSome}
-use Rattle.blk_format.specs.Address.{place, file_selector}
-use Rattle.blk_io.specs.declared.fault.Damage.{Damage}
-use Rattle.blk_disk.specs.Sealed.{IsUnsealed, seal_by_kind, record_at, wrong_seal}
+use Rattle.std.proofs.Common.{◌+◌, ℕ, inr, length, ap, sym, ◌∙◌, arith, refl}
+use Rattle.blk_disk.specs.Sealed.{IsUnsealed, seal_by_kind, wrong_seal}
 use Rattle.blk_disk.proofs.Ranges.{stands_blocky, name_is}
 use Rattle.blk_disk.proofs.SealedReads.{record_inside, record_read, unsealed_is, untold_unsealed}
 use Rattle.blk_disk.proofs.tables.BlockFiles.read_record.Given as given
