@@ -10,3 +10,4 @@ pub mod RecordBytes
 pub mod SealedRecords
 pub mod SealedReads
 pub mod SealedWrites
+pub mod ThreeChanges

@@ -10,7 +10,7 @@ use Rattle.blk_format.specs.Records.{checks, seal_of}
 use Rattle.blk_format.proofs.Words.{AreFields-of}
 use Rattle.blk_io.specs.declared.fault.Damage.{Damage}
 use Rattle.blk_io.specs.declared.folder.FileId.TheVariants as names
-use Rattle.blk_disk.specs.Sealed.{BeginsWithRecord, size_by_kind, record_size, seal_place, record_at, RecordChecks, wrong_seal, IsUnsealed}
+use Rattle.blk_disk.specs.Sealed.{BeginsWithRecord, size_by_kind, seal_by_kind, record_size, seal_place, record_at, RecordChecks, wrong_seal, IsUnsealed}
 
 -- the record is in the blocks
 pub record_inside : (w : ℕ) → BeginsWithRecord w → record_size w ≤ room w
@@ -77,3 +77,24 @@ untold_unsealed told w damage unsealed checks = by_files told.files refl
     by_files : (files : Option Image) → told.files ≡ files → told.files ≡ None
     by_files None there = there
     by_files (Some image) there = absurd (clash (sym (checks image there) ∙ (unsealed.unsealed image there).1))
+
+-- the records of the two types
+pub node_seal : (w : ℕ) → kind_of w ≡ 1 → seal_place w ≡ 32
+unfolding seal_by_kind
+node_seal w kind = rw kind refl
+
+pub node_bytes : (w : ℕ) → kind_of w ≡ 1 → record_size w ≡ 36
+unfolding size_by_kind
+node_bytes w kind = rw kind refl
+
+pub entry_seal : (w : ℕ) → kind_of w ≡ 2 → seal_place w ≡ 92
+unfolding seal_by_kind
+entry_seal w kind = rw kind refl
+
+pub entry_bytes : (w : ℕ) → kind_of w ≡ 2 → record_size w ≡ 96
+unfolding size_by_kind
+entry_bytes w kind = rw kind refl
+
+-- a record that was read and checks
+pub read_checks : (image : Image) (w s n : ℕ) (bytes : List ℕ) → s ≡ seal_place w → n ≡ record_size w → bytes ≡ range_at (byte image (Block (file_selector w))) (place w + 0) n → checks s bytes ≡ true → RecordChecks w image
+read_checks image w s n bytes place_is size read holds = sym (ap₂ (λ (k : ℕ) (b : List ℕ). checks k b) place_is (record_read image w n bytes size read)) ∙ holds

@@ -1,6 +1,5 @@
 -- The sealed record at the front of the blocks of an address, and how its words are changed.
-use Rattle.std.specs.Prelude.{Option, None, Some, ℕ, ◌≡◌, ◌≢◌, ◌⊎◌, ◌+◌, ◌%◌, ◌<◌, ◌≤◌, ◌==◌, if◌then◌else◌, nat_eq, List, [], ◌∷◌, ◌++◌, length, map, take, All, true, false}
-use Rattle.std.specs.List.{IsDistinct}
+use Rattle.std.specs.Prelude.{Option, None, Some, ℕ, ◌≡◌, ◌≢◌, ◌⊎◌, ◌+◌, ◌%◌, ◌<◌, ◌≤◌, ◌==◌, if◌then◌else◌, List, [], ◌∷◌, ◌++◌, length, map, take, All, true, false}
 use Rattle.std.specs.Option.{ForSome}
 use Rattle.blk_image.specs.Bytes.{content, word_at, range_at}
 use Rattle.blk_image.specs.Image.{Block, Image, byte}
@@ -39,13 +38,18 @@ record_at image w = range_at (byte image (Block (file_selector w))) (place w) (r
 abbrev pub RecordChecks : ℕ → Image → Type 0
 RecordChecks w image = checks (seal_place w) (record_at image w) ≡ true
 
+-- no two changes are of one place
+abbrev pub AreDifferent : List (ℕ × ℕ) → Type 0
+AreDifferent [] = Unit {0}
+AreDifferent (change ∷ changes) = All (λ other. other.0 ≢ change.0) changes × AreDifferent changes
+
 -- one to four words are given for different fields before the seal, each with its place in the record
 pub record AreChanges (seal : ℕ) (changes : List (ℕ × ℕ)) : Type 0 where
   pub some : 0 < length changes
   pub few : length changes ≤ 4
   pub aligned : All (λ change. change.0 % 4 ≡ 0) changes
   pub before : All (λ change. change.0 < seal) changes
-  pub different : IsDistinct nat_eq (map (λ (change : ℕ × ℕ). change.0) changes)
+  pub different : AreDifferent changes
 
 -- a record with the hash of its other bytes as its seal
 abbrev pub sealed : ℕ → List ℕ → List ℕ

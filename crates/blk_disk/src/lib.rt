@@ -16,3 +16,5 @@ pub use tables::BlockFiles;
 
 #[cfg(test)]
 mod tests;
+#[cfg(test)]
+mod sealed_tests;
