@@ -11,3 +11,4 @@ pub mod SealedRecords
 pub mod SealedReads
 pub mod SealedWrites
 pub mod ThreeChanges
+pub mod SealedFields

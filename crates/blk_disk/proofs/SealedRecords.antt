@@ -1,5 +1,5 @@
 -- A sealed record at each moment of its update.
-use Rattle.std.proofs.Common.{◌≡◌, ℕ, ◌+◌, ◌≤◌, Bool, true, false, if◌then◌else◌, List, [], ◌∷◌, ◌++◌, length, take, All, refl, sym, ◌∙◌, ap, subst, arith, append_assoc, append-nil, length-append, inr}
+use Rattle.std.proofs.Common.{◌≡◌, ℕ, ◌+◌, ◌%◌, ◌≤◌, Bool, true, false, if◌then◌else◌, List, [], ◌∷◌, ◌++◌, length, take, All, refl, sym, ◌∙◌, ap, subst, arith, append_assoc, append-nil, length-append, inr}
 use Rattle.std.specs.Prelude.{◌==◌}
 use Rattle.std.proofs.lemmas.List.{take_all, take_at}
 use Rattle.std.proofs.lemmas.List.Elements.{All-head, All-tail}
@@ -24,6 +24,14 @@ unfolding seal_by_kind size_by_kind
 seal_last kind = by_test (kind == 1)
   where
     by_test : (t : Bool) → (if t then 32 else 92) + 4 ≡ (if t then 36 else 96)
+    by_test true = refl
+    by_test false = refl
+
+pub seal_aligned : (kind : ℕ) → seal_by_kind kind % 4 ≡ 0
+unfolding seal_by_kind
+seal_aligned kind = by_test (kind == 1)
+  where
+    by_test : (t : Bool) → (if t then 32 else 92) % 4 ≡ 0
     by_test true = refl
     by_test false = refl
 

@@ -20,15 +20,7 @@ use Rattle.blk_disk.specs.Sealed.{AreChanges, BeginsWithRecord, seal_by_kind, re
 use Rattle.blk_disk.proofs.Agreeing.{agrees_still, SparesHeaders, blocks_spare}
 use Rattle.blk_disk.proofs.Ranges.{stands_range}
 use Rattle.blk_disk.proofs.SealedReads.{record_inside}
-use Rattle.blk_disk.proofs.SealedRecords.{seal_last, moments, updated}
-
-seal_aligned : (kind : ℕ) → seal_by_kind kind % 4 ≡ 0
-unfolding seal_by_kind
-seal_aligned kind = by_test (kind == 1)
-  where
-    by_test : (t : Bool) → (if t then 32 else 92) % 4 ≡ 0
-    by_test true = refl
-    by_test false = refl
+use Rattle.blk_disk.proofs.SealedRecords.{seal_aligned, seal_last, moments, updated}
 
 place_aligned : (w : ℕ) → BeginsWithRecord w → place w % 4 ≡ 0
 unfolding place block_place block_size
