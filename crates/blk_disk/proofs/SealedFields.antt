@@ -6,9 +6,12 @@ use Rattle.std.proofs.lemmas.List.Elements.{All-nil, All-cons, All-head, All-tai
 use Rattle.blk_image.specs.Bytes.{content, word_at, range_at}
 use Rattle.blk_image.specs.Image.{Block, Image, byte, word}
 use Rattle.blk_image.specs.Steps.{with_word, with_words}
-use Rattle.blk_image.proofs.Words.{same-word_at, content-range, length-with_word, word-beside, word-there}
+use Rattle.blk_image.proofs.Words.{same-word_at, content-range, length-with_word, length-with_words, word-beside, word-there}
 use Rattle.blk_format.specs.Address.{file_selector, kind_of, place}
-use Rattle.blk_disk.specs.Sealed.{AreChanges, AreDifferent, record_at, record_size, seal_place, IsMoment}
+use Rattle.blk_format.specs.Hash.{hash, mixed}
+use Rattle.blk_format.specs.Records.{seal_of}
+use Rattle.blk_disk.specs.Sealed.{AreChanges, AreDifferent, record_at, record_size, seal_place, sealed, IsMoment, IsUpdated}
+use Rattle.blk_disk.proofs.RecordBytes.{take-before_word}
 use Rattle.blk_disk.proofs.SealedRecords.{length-record, seal_aligned}
 
 -- a word of a range
@@ -117,3 +120,38 @@ one_change from image w p v are small moment =
 pub one_change_others : (from image : Image) (w p v q : ℕ) → AreChanges (seal_place w) ((p, v) ∷ []) → IsMoment from w ((p, v) ∷ []) image → q % 4 ≡ 0 → q < seal_place w → p ≢ q
     → word_at (content (record_at image w)) q ≡ word_at (content (record_at from w)) q
 one_change_others from image w p v q are moment aligned before apart = field_stays from image w ((p, v) ∷ []) are moment q aligned before (All-cons (λ c. c.0 ≢ q) (p, v) [] apart (All-nil (λ c. c.0 ≢ q)))
+
+-- a hash is a word
+hash_fits : (bytes : List ℕ) → hash bytes < 2 ^ 32
+unfolding hash mixed
+hash_fits [] = omega arith
+hash_fits (b ∷ bytes) = omega arith
+
+-- the seal of a sealed record is the hash of the bytes before it
+sealed_seal : (s : ℕ) (bytes : List ℕ) → s + 4 ≤ length bytes → word_at (content (sealed s bytes)) s ≡ seal_of s (sealed s bytes)
+sealed_seal s bytes enough = word-there s (seal_of s bytes) bytes (hash_fits (take s bytes)) enough ∙ ap hash (sym (take-before_word s (seal_of s bytes) bytes))
+
+module _ (from image : Image) (w : ℕ) (changes : List (ℕ × ℕ)) (are : AreChanges (seal_place w) changes) (done : IsUpdated from w changes image) where
+  -- after an update the seal is the hash
+  pub updated_seal : word_at (content (record_at image w)) (seal_place w) ≡ seal_of (seal_place w) (record_at image w)
+  updated_seal =
+      let all : List ℕ = with_words changes (record_at from w) in
+      ap (λ (l : List ℕ). word_at (content l) (seal_place w)) done
+      ∙ sealed_seal (seal_place w) all (omega (arith, length-with_words changes (record_at from w), length-record w from))
+      ∙ ap (λ (l : List ℕ). seal_of (seal_place w) l) (sym done)
+
+  updated_word : (q : ℕ) → q % 4 ≡ 0 → q < seal_place w → word_at (content (record_at image w)) q ≡ word_at (content (with_words changes (record_at from w))) q
+  updated_word q aligned before =
+      let all : List ℕ = with_words changes (record_at from w) in
+      ap (λ (l : List ℕ). word_at (content l) q) done
+      ∙ word-beside q (seal_place w) (seal_of (seal_place w) all) all (inl (omega (arith, aligned, before, seal_aligned (kind_of w))))
+
+  -- a field that isn't changed
+  pub updated_stays : (q : ℕ) → q % 4 ≡ 0 → q < seal_place w → All (λ c. c.0 ≢ q) changes → word_at (content (record_at image w)) q ≡ word_at (content (record_at from w)) q
+  updated_stays q aligned before others = updated_word q aligned before ∙ word-kept changes q (record_at from w) aligned are.aligned others
+
+  -- one that is
+  pub updated_is_new : (i : ℕ) (d : ℕ × ℕ) → i < length changes → All (λ c. c.1 < 2 ^ 32) changes → word_at (content (record_at image w)) (get_or changes i d).0 ≡ (get_or changes i d).1
+  updated_is_new i d within small =
+      let inside : All (λ c. c.0 + 4 ≤ length (record_at from w)) changes = λ k e less. omega (arith, length-record w from, are.before k e less) in
+      updated_word (get_or changes i d).0 (are.aligned i d within) (are.before i d within) ∙ word-set changes i d (record_at from w) within are.different are.aligned inside small

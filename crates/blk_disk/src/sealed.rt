@@ -32,8 +32,9 @@ const ENTRY_SEAL: usize = 92;
 const MOST_WORDS: usize = 6;
 
 impl BlockFiles {
-    /// Changes one to four words of the sealed record at the front of an address's blocks, a node or
-    /// an entry record. Each change is a place in the record, before the seal, and its new word.
+    /// Changes one to four words of the sealed record at the front of an address's blocks: of a node,
+    /// or of an entry record. Each change is a place in bytes from the front of the record, before the
+    /// seal, and the new word; no two are of one place.
     ///
     /// The record is read by one folder call. Then its seal becomes 0, the words are written in the
     /// order given, and the seal becomes the hash: one call for each word. A record that has too few
