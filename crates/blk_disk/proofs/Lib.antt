@@ -14,3 +14,9 @@ pub mod Additions
 pub mod Chains
 pub mod Linking
 pub mod Joined
+pub mod RecordBytes
+pub mod SealedRecords
+pub mod SealedReads
+pub mod SealedWrites
+pub mod ThreeChanges
+pub mod SealedFields

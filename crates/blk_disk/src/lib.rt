@@ -9,6 +9,7 @@ mod growth;
 mod heads;
 mod load;
 mod names;
+mod sealed;
 mod standing;
 mod tables;
 
@@ -17,3 +18,5 @@ pub use tables::BlockFiles;
 
 #[cfg(test)]
 mod tests;
+#[cfg(test)]
+mod sealed_tests;

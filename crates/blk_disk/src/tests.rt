@@ -53,7 +53,7 @@ fn bytes_of(alloc: Global, header: Header, size: usize) -> Result<Vec<u8>, Fail>
 }
 
 // A folder of these files, each of so many bytes.
-fn folder_of(alloc: Global, headers: &[Header], size: usize) -> Result<MemFolder, Fail> {
+pub(crate) fn folder_of(alloc: Global, headers: &[Header], size: usize) -> Result<MemFolder, Fail> {
     let mut f = MemFolder::new(alloc);
     for header in headers {
         let bytes = bytes_of(alloc, *header, size)?;
