@@ -1,8 +1,12 @@
--- Two views that agree outside a footprint: some blocks and external numbers.
-use Rattle.std.specs.Prelude.{◌≡◌, ℕ, Bool, true, false, nat_le, ◌==◌}
+-- Two views that agree outside a footprint: some blocks and external numbers; and which bytes of files these cover.
+use Rattle.std.specs.Prelude.{◌≡◌, ℕ, ◌+◌, ◌<◌, ◌≤◌, Bool, true, false, ◌&&◌, ◌||◌, nat_le, nat_lt, ◌==◌}
 use Rattle.std.specs.declared.option.Option.TheVariants.{Some}
 use Rattle.std.specs.declared.result.Result.TheVariants.{Ok}
-use Rattle.blk_format.specs.Claims.{Claim, claims_of, has_claim}
+use Rattle.blk_image.specs.Image.{Index, Block, External, Image}
+use Rattle.blk_image.specs.Footprint.{Footprint}
+use Rattle.blk_format.specs.Address.{block_place}
+use Rattle.blk_format.specs.Claims.{Claim, BlockOf, ExternalOf, claims_of, has_claim}
+use Rattle.blk_format.specs.BlockFiles.{linked_as}
 use Rattle.blk_volume.specs.ListView.{ListView}
 use Rattle.blk_volume.specs.View.{View, Stock, Core}
 use Rattle.blk_volume.specs.Chains.{is_of_bucket}
@@ -36,6 +40,31 @@ pub record SameBut (touched : Claim → Bool) (old new : View) : Type 0 where
   pub links : SameLinks touched old.list new.list
   pub stock : SameStock touched old.stock new.stock
   pub table : (bucket : ℕ) → old.stock.table bucket ≡ new.stock.table bucket
+
+-- The bytes of files that a footprint of blocks covers.
+
+-- a place lies in the word there
+abbrev pub is_in_word : ℕ → ℕ → Bool
+is_in_word word i = nat_le word i && nat_lt i (word + 4)
+
+-- the places of the index that a view shows: the head, the tail, the transaction, and the table
+abbrev pub is_shown_place : ℕ → Bool
+is_shown_place i = is_in_word 288 i || is_in_word 308 i || is_in_word 328 i || nat_le 368 i
+
+-- the places of a block file's header that say which blocks there are: next_file and max_entries
+abbrev pub is_extent_place : ℕ → Bool
+is_extent_place i = (i == 10) || (i == 11) || is_in_word 20 i
+
+-- a change of these bytes and files touches these blocks and external numbers alone, and no word of the index that is shown
+pub record Covers (image : Image) (footprint : Footprint) (touched : Claim → Bool) : Type 0 where
+  pub index : (i : ℕ) → is_shown_place i ≡ true → footprint.bytes Index i ≡ false
+  pub extents : (n i : ℕ) → is_extent_place i ≡ true → footprint.bytes (Block n) i ≡ false
+  pub lengths : (n : ℕ) → footprint.sizes (Block n) ≡ false
+  pub blocks : (n kind b i : ℕ) → linked_as image n ≡ Some kind → block_place kind b ≤ i → i < block_place kind (b + 1) → footprint.bytes (Block n) i ≡ true → touched (BlockOf n b) ≡ true
+  pub external_bytes : (n i : ℕ) → footprint.bytes (External n) i ≡ true → touched (ExternalOf n) ≡ true
+  pub external_sizes : (n : ℕ) → footprint.sizes (External n) ≡ true → touched (ExternalOf n) ≡ true
+
+-- Footprints and layouts.
 
 -- a footprint that is nobody's
 abbrev pub IsFree : (Claim → Bool) → Layout → Type 0

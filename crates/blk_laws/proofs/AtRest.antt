@@ -1,0 +1,28 @@
+-- Operations on lists at rest.
+use Rattle.std.proofs.Common.{◌≡◌, ℕ, ◌++◌, ◌∷◌, List}
+use Rattle.blk_volume.specs.ListView.{ListView}
+use Rattle.blk_volume.specs.ListPlans.{completion_writes, outcome}
+use Rattle.blk_laws.specs.ListLaws.{IsAtRest, CanBeInserted, InsertsTurnAtTwo, InsertsEnd, RemovalsTurnAtTwo, RemovalsEnd, TouchesTurnAtTwo, TouchesEnd, CompletionsEnd}
+use Rattle.blk_laws.proofs.ListWrites.{EachMoment-last, completion_keeps}
+use Rattle.blk_laws.proofs.ListMoments.{insert_turns, insert_ends, remove_turns, remove_ends, touch_turns, touch_ends, completion_ends}
+
+pub inserts-turn : InsertsTurnAtTwo
+inserts-turn node list nodes can = insert_turns node list nodes can.rest.whole can.rest.idle can.lacks can.good can.few
+
+pub inserts-end : InsertsEnd
+inserts-end node list nodes can = let e = insert_ends node list nodes can.rest.whole can.rest.idle can.lacks can.good can.few in record { whole = e.0; idle = e.1 }
+
+pub removals-turn : RemovalsTurnAtTwo
+removals-turn node list front behind rest = remove_turns node list front behind rest.whole rest.idle
+
+pub removals-end : RemovalsEnd
+removals-end node list front behind rest = let e = remove_ends node list front behind rest.whole rest.idle in record { whole = e.0; idle = e.1 }
+
+pub touches-turn : TouchesTurnAtTwo
+touches-turn node list front behind rest = touch_turns node list front behind rest.whole rest.idle
+
+pub touches-end : TouchesEnd
+touches-end node list front behind rest = let e = touch_ends node list front behind rest.whole rest.idle in record { whole = e.0; idle = e.1 }
+
+pub completions-end : CompletionsEnd
+completions-end list = (EachMoment-last (λ u. outcome u ≡ outcome list) (completion_writes list) list (completion_keeps list), (completion_ends list).1)

@@ -1,0 +1,434 @@
+-- A new object: its record and node written, its node inserted, its record linked.
+use Rattle.std.proofs.Common.{◌≡◌, ℕ, zero, suc, ◌+◌, ◌<◌, List, [], ◌∷◌, ◌++◌, length, map, refl, ap, sym, ◌∙◌, subst, Bool, true, false, arith, cond, get_or, Option, Some, None, Ok, ⊎_elim, ◌⊎◌, inl, inr}
+use Rattle.std.specs.Prelude.{not, ◌||◌, ◌==◌, IfSome, if◌then◌else◌}
+use Rattle.std.specs.Option.{option_and_then}
+use Rattle.std.specs.List.{filter, filter_map, cons_option}
+use Rattle.std.proofs.lemmas.Bool.{cases_Bool, eq-eqb, eqb-true, or_left, or_right, or_parts}
+use Rattle.std.proofs.lemmas.Bool.Decides.{eqb_tells}
+use Rattle.std.proofs.Math.Dec.{eqb}
+use Rattle.blk_volume.specs.ListView.{put, Distinct}
+use Rattle.blk_model.specs.Items.{Item, main, part, Row, main_row, same_item}
+use Rattle.blk_model.specs.State.{State, Object, IsValidState, object_at, slot_has_item, first_with}
+use Rattle.blk_model.specs.Effects.{created, new_object}
+use Rattle.blk_model.proofs.Same.{one_item, same_item_self, bytes_eq_self}
+use Rattle.blk_model.proofs.Each.{push_at}
+use Rattle.blk_format.specs.Hash.{hash}
+use Rattle.blk_format.specs.BlockFiles.{is_among}
+use Rattle.blk_format.specs.Claims.{Claim, has_claim, repeats}
+use Rattle.blk_volume.specs.View.{Stock}
+use Rattle.blk_volume.specs.Chains.{chain, bucket_of_hash, is_of_bucket, Linked, IsChain}
+use Rattle.blk_volume.specs.Loads.{Rule, held, Loaded, load, all_claims}
+use Rattle.blk_volume.specs.Audit.{kept_among}
+use Rattle.blk_volume.specs.Entries.{key_of, stream_of, streams_of}
+use Rattle.blk_volume.specs.Found.{row_of}
+use Rattle.blk_volume.specs.Layout.{Layout, is_listed, nodes_of, order, rule_of, IsMarked, HasParentAt, IsLaid, IsDoomedAt, IsListedRecord, Shows, Lies, Holds, is_in}
+use Rattle.blk_volume.specs.Shown.{IsShown, HasParentIn, IsOrphanIn}
+use Rattle.blk_volume.specs.Given.{given_by, is_settled}
+use Rattle.blk_volume.specs.Creation.{IsNewEntry, IsFrontOfChain, with_new, linked_front}
+use Rattle.blk_laws.proofs.Loads.{load-then}
+use Rattle.blk_laws.proofs.Loading.{load-from, load-one, load-clean}
+use Rattle.blk_laws.proofs.Laid.{IsNodeOf, node-of, laid-shown, settled-goes}
+use Rattle.blk_laws.proofs.Shown.{kept-given}
+use Rattle.blk_laws.proofs.Central.{rest-found}
+use Rattle.blk_laws.proofs.Owner.{IsOwned, owned}
+use Rattle.blk_laws.proofs.Changing.{apart-sym, at-itself, at-elsewhere}
+use Rattle.blk_model.specs.Holding as model
+
+-- ---- a state with one more object
+
+push-some : (i : Item) (start j : ℕ) (slots : List (Option Object)) (slot : Option Object) → first_with i start slots ≡ Some j → first_with i start (slots ++ slot ∷ []) ≡ Some j
+push-some i start j [] slot e = cc
+push-some i start j (s ∷ slots) slot e = go (slot_has_item i s) (push-some i (start + 1) j slots slot) e where
+  go : (b : Bool) → (first_with i (start + 1) slots ≡ Some j → first_with i (start + 1) (slots ++ slot ∷ []) ≡ Some j)
+      → cond b (Some start) (first_with i (start + 1) slots) ≡ Some j → cond b (Some start) (first_with i (start + 1) (slots ++ slot ∷ [])) ≡ Some j
+  go true more e = e
+  go false more e = more e
+
+push-none : (i : Item) (start : ℕ) (slots : List (Option Object)) (slot : Option Object) → first_with i start slots ≡ None → slot_has_item i slot ≡ true → first_with i start (slots ++ slot ∷ []) ≡ Some (start + length slots)
+push-none i start [] slot e is_among = rw is_among (ap Some (omega arith))
+push-none i start (s ∷ slots) slot e is_among = go (slot_has_item i s) (push-none i (start + 1) slots slot) e where
+  go : (b : Bool) → (first_with i (start + 1) slots ≡ None → slot_has_item i slot ≡ true → first_with i (start + 1) (slots ++ slot ∷ []) ≡ Some (start + 1 + length slots))
+      → cond b (Some start) (first_with i (start + 1) slots) ≡ None → cond b (Some start) (first_with i (start + 1) (slots ++ slot ∷ [])) ≡ Some (start + suc (length slots))
+  go true more e = cc
+  go false more e = more e is_among ∙ ap Some (omega arith)
+
+pub push-here : (slots : List (Option Object)) (slot : Option Object) (k : ℕ) (o : Object) → get_or slots k None ≡ Some o → get_or (slots ++ slot ∷ []) k None ≡ Some o
+push-here [] slot k o e = cc
+push-here (s ∷ slots) slot zero o e = e
+push-here (s ∷ slots) slot (suc k) o e = push-here slots slot k o e
+
+push-back : (slots : List (Option Object)) (slot : Option Object) (k : ℕ) (o : Object) → get_or (slots ++ slot ∷ []) k None ≡ Some o → (get_or slots k None ≡ Some o) ⊎ (slot ≡ Some o)
+push-back [] slot zero o e = inr e
+push-back [] slot (suc k) o e = cc
+push-back (s ∷ slots) slot zero o e = inl e
+push-back (s ∷ slots) slot (suc k) o e = push-back slots slot k o e
+
+none-of : (a w : ℕ) (xs : List ℕ) → (a == w) ≡ false → is_among xs w ≡ false → is_among (a ∷ xs) w ≡ false
+none-of a w xs e f = rw (e, f) refl
+
+module _ (m : State) (y : Layout) (r : Lies m y) (v : Stock) (handle : ℕ) (key : List ℕ) (l : Loaded) (new : IsNewEntry v y key l) (none : model.owner m (main key) ≡ None) where
+  after : State
+  after = created handle key m
+
+  -- the key is nobody's, so its item is not listed
+  unlisted : is_listed m (main key) ≡ false
+  unfolding model.row_of
+  unlisted = ⊎_elim
+      (λ (e : is_listed m (main key) ≡ true). let q : IsLaid m y (main key) = r.laid (main key) e in let no_row : model.row_of m (main key) ≡ None = rw none refl in
+      absurd (let c : ◌≡◌ {A = Option Row} (Some (row_of q.loaded)) None = sym q.row ∙ no_row in cc))
+      (λ (e : is_listed m (main key) ≡ false). e)
+      (cases_Bool (is_listed m (main key)))
+
+  -- an item that had an owner has it still
+  owner-object : (i : Item) (j : ℕ) → model.owner m i ≡ Some j → model.owner_object (created handle key m) i ≡ model.owner_object m i
+  unfolding created
+  owner-object i j e =
+      let o : IsOwned m i j = owned m i j e in
+      let p : model.owner (created handle key m) i ≡ Some j = push-some i 0 j m.objects (Some (new_object key)) e in
+      rw (p, e, push-here m.objects (Some (new_object key)) j o.object o.here, o.here) refl
+
+  owner-of : (i : Item) (x : Row) → model.row_of m i ≡ Some x → (j : ℕ) × (model.owner m i ≡ Some j)
+  unfolding model.row_of
+  owner-of i x e = go (model.owner m i) refl where
+    go : (w : Option ℕ) → model.owner m i ≡ w → (j : ℕ) × (model.owner m i ≡ Some j)
+    go (Some j) is = (j, is)
+    go None is = let no_row : model.row_of m i ≡ None = rw is refl in absurd (let c : ◌≡◌ {A = Option Row} (Some x) None = sym e ∙ no_row in cc)
+
+  -- the new item
+  new-owner : model.owner_object (created handle key m) (main key) ≡ Some (new_object key)
+  unfolding created
+  new-owner = rw (push-none (main key) 0 m.objects (Some (new_object key)) none (bytes_eq_self key)) (at-length) where
+    at-length : get_or (m.objects ++ Some (new_object key) ∷ []) (0 + length m.objects) None ≡ Some (new_object key)
+    at-length = ap (λ (k : ℕ). get_or (m.objects ++ Some (new_object key) ∷ []) k None) (let e : 0 + length m.objects ≡ length m.objects = omega arith in e) ∙ push_at m.objects (Some (new_object key))
+
+  -- ---- places
+
+  -- nodes that keep something are other nodes
+  other-node : (w : ℕ) (x : Loaded) → y.at w ≡ Some x → (l.node == w) ≡ false
+  other-node w x is = ⊎_elim
+      (λ (e : (eqb l.node w ≡ true) × (l.node ≡ w)). let a : y.at w ≡ None = ap y.at (sym e.1) ∙ new.nobody in absurd (let c : ◌≡◌ {A = Option Loaded} (Some x) None = sym is ∙ a in cc))
+      (λ (e : (eqb l.node w ≡ false) × _). e.0)
+      (eqb_tells l.node w)
+
+  at-old : (w : ℕ) (x : Loaded) → y.at w ≡ Some x → put y.at l.node (Some l) w ≡ Some x
+  at-old w x is = at-elsewhere y.at l.node (Some l) w (other-node w x is) ∙ is
+
+  old-item : (i : Item) → is_listed m i ≡ true → same_item i (main key) ≡ false
+  old-item i there = ⊎_elim
+      (λ (e : same_item i (main key) ≡ true). let a : is_listed m (main key) ≡ true = subst (λ (j : Item). is_listed m j ≡ true) (one_item i (main key) e) there in absurd (let c : true ≡ false = sym a ∙ unlisted in cc))
+      (λ (e : same_item i (main key) ≡ false). e)
+      (cases_Bool (same_item i (main key)))
+
+  place-old : (i : Item) → is_listed m i ≡ true → (if same_item i (main key) then l.node else y.place i) ≡ y.place i
+  place-old i there = rw (old-item i there) refl
+
+  place-new : (if same_item (main key) (main key) then l.node else y.place (main key)) ≡ l.node
+  place-new = rw (same_item_self (main key)) refl
+
+  -- the use list afterwards: the new item, and the others
+  pub uses-after : (created handle key m).uses ≡ main key ∷ m.uses
+  unfolding created
+  uses-after = ap (λ (xs : List Item). main key ∷ xs) (absent m.uses unlisted) where
+    absent : (items : List Item) → is_in items (main key) ≡ false → filter (λ other. not (same_item (main key) other)) items ≡ items
+    absent [] e = refl
+    absent (i ∷ items) e = let p = or_parts (same_item (main key) i) (is_in items (main key)) e in rw p.0 (ap (λ (xs : List Item). i ∷ xs) (absent items p.1))
+
+  pub order-after : order (created handle key m) (with_new y key l) ≡ l.node ∷ order m y
+  order-after = ap (nodes_of (with_new y key l)) uses-after ∙ both place-new (rest m.uses (λ i h. h)) where
+    both : {a b : ℕ} {xs ys : List ℕ} → a ≡ b → xs ≡ ys → a ∷ xs ≡ b ∷ ys
+    both p q = λ i. p i ∷ q i
+
+    rest : (items : List Item) → ((i : Item) → is_in items i ≡ true → is_listed m i ≡ true) → nodes_of (with_new y key l) items ≡ nodes_of y items
+    rest [] sub = refl
+    rest (i ∷ items) sub = both (place-old i (sub i (or_left (same_item i i) (is_in items i) (same_item_self i)))) (rest items (λ j h. sub j (or_right (same_item j i) (is_in items j) h)))
+
+  -- what is listed afterwards is the new item or was listed
+  listed-after : (i : Item) → is_listed (created handle key m) i ≡ true → (i ≡ main key) ⊎ (is_listed m i ≡ true)
+  listed-after i h =
+      let a : (same_item i (main key) || is_listed m i) ≡ true = ap (λ (xs : List Item). is_in xs i) (sym uses-after) ∙ h in
+      ⊎_elim (λ (e : same_item i (main key) ≡ true). inl (one_item i (main key) e)) (λ (e : same_item i (main key) ≡ false). inr (rw e at a)) (cases_Bool (same_item i (main key)))
+
+  listed-still : (i : Item) → is_listed m i ≡ true → is_listed (created handle key m) i ≡ true
+  listed-still i h = ap (λ (xs : List Item). is_in xs i) uses-after ∙ or_right (same_item i (main key)) (is_listed m i) h
+
+  node-after : (w : ℕ) → is_among (order (created handle key m) (with_new y key l)) w ≡ true → (w ≡ l.node) ⊎ (is_among (order m y) w ≡ true)
+  node-after w h =
+      let a : (l.node == w || is_among (order m y) w) ≡ true = ap (λ (xs : List ℕ). is_among xs w) (sym order-after) ∙ h in
+      ⊎_elim (λ (e : (eqb l.node w ≡ true) × (l.node ≡ w)). inl (sym e.1)) (λ (e : (eqb l.node w ≡ false) × _). inr (rw e.0 at a)) (eqb_tells l.node w)
+
+  node-still : (w : ℕ) → is_among (order m y) w ≡ true → is_among (order (created handle key m) (with_new y key l)) w ≡ true
+  node-still w h = ap (λ (xs : List ℕ). is_among xs w) order-after ∙ or_right (l.node == w) (is_among (order m y) w) h
+
+  -- ---- the layout
+
+  laid-new : IsLaid (created handle key m) (with_new y key l) (main key)
+  unfolding model.row_of created
+  laid-new = record {
+    loaded = l;
+    here = ap (put y.at l.node (Some l)) place-new ∙ at-itself y.at l.node (Some l);
+    row = ap (option_and_then (λ object. model.row_in object (main key))) new-owner ∙ ap Some (sym row);
+    mark = rw new-owner new.dirty;
+    parent = tt;
+  } where
+    row : row_of l ≡ main_row key (new_object key).shape ([], [], [])
+    row = rw (new.role, new.streams, new.key_is) refl
+
+  laid-old : (i : Item) → is_listed m i ≡ true → IsLaid (created handle key m) (with_new y key l) i
+  unfolding model.row_of
+  laid-old i there =
+      let q : IsLaid m y i = r.laid i there in
+      let own = owner-of i (row_of q.loaded) q.row in
+      record {
+        loaded = q.loaded;
+        here = ap (put y.at l.node (Some l)) (place-old i there) ∙ at-old (y.place i) q.loaded q.here;
+        row = ap (option_and_then (λ object. model.row_in object i)) (owner-object i own.0 own.1) ∙ q.row;
+        mark = mark i q.loaded own.0 own.1 q.mark;
+        parent = parent i q.loaded q.parent;
+      } where
+        mark : (i : Item) (x : Loaded) (j : ℕ) → model.owner m i ≡ Some j → IsMarked m i x → IsMarked (created handle key m) i x
+        mark (main k) x j e h = subst (λ (o : Option Object). IfSome o (λ z. (x.dirty == 0) ≡ z.settled)) (sym (owner-object (main k) j e)) h
+        mark (part k n) x j e h = h
+
+        parent : (i : Item) (x : Loaded) → HasParentAt m y i x → HasParentAt (created handle key m) (with_new y key l) i x
+        parent (main k) x h = h
+        parent (part k n) x h = record {
+          name = h.name;
+          index = h.index;
+          role = h.role;
+          of_key = h.of_key;
+          listed = listed-still (main k) h.listed;
+          parent = h.parent;
+          at_parent = ap (put y.at l.node (Some l)) (place-old (main k) h.listed) ∙ at-old (y.place (main k)) h.parent h.at_parent;
+          of = h.of;
+        }
+
+  -- what is at a node afterwards is the new record, or was there
+  at-after : (P : ℕ → Loaded → Type 0) (w : ℕ) (x : Loaded) → put y.at l.node (Some l) w ≡ Some x → P l.node l → (y.at w ≡ Some x → P w x) → P w x
+  at-after P w x is f g = ⊎_elim
+      (λ (e : (eqb l.node w ≡ true) × (l.node ≡ w)).
+      let a : ◌≡◌ {A = Option Loaded} (Some l) (Some x) = sym (at-itself y.at l.node (Some l)) ∙ ap (put y.at l.node (Some l)) e.1 ∙ is in
+      let s : l ≡ x = cc in
+      subst (λ (z : ℕ). P z x) e.1 (subst (P l.node) s f))
+      (λ (e : (eqb l.node w ≡ false) × _). g (sym (at-elsewhere y.at l.node (Some l) w e.0) ∙ is))
+      (eqb_tells l.node w)
+
+  b : ℕ
+  b = bucket_of_hash (hash l.key)
+
+  -- a record of a chain afterwards
+  chain-after : (n c : ℕ) → is_among (put y.chains (bucket_of_hash (hash l.key)) (l.contents ∷ y.chains (bucket_of_hash (hash l.key))) n) c ≡ true → (c ≡ l.contents) ⊎ (is_among (y.chains n) c ≡ true)
+  chain-after n c h = ⊎_elim
+      (λ (e : (eqb (bucket_of_hash (hash l.key)) n ≡ true) × (bucket_of_hash (hash l.key) ≡ n)).
+      let a : is_among (l.contents ∷ y.chains (bucket_of_hash (hash l.key))) c ≡ true = ap (λ (xs : List ℕ). is_among xs c) (sym (at-itself y.chains (bucket_of_hash (hash l.key)) (l.contents ∷ y.chains (bucket_of_hash (hash l.key))))) ∙ ap (λ (z : ℕ). is_among (put y.chains (bucket_of_hash (hash l.key)) (l.contents ∷ y.chains (bucket_of_hash (hash l.key))) z) c) e.1 ∙ h in
+      ⊎_elim (λ (f : (eqb l.contents c ≡ true) × (l.contents ≡ c)). inl (sym f.1)) (λ (f : (eqb l.contents c ≡ false) × _). let z : is_among (y.chains (bucket_of_hash (hash l.key))) c ≡ true = rw f.0 at a in inr (ap (λ (q : ℕ). is_among (y.chains q) c) (sym e.1) ∙ z)) (eqb_tells l.contents c))
+      (λ (e : (eqb (bucket_of_hash (hash l.key)) n ≡ false) × _). inr (ap (λ (xs : List ℕ). is_among xs c) (sym (at-elsewhere y.chains (bucket_of_hash (hash l.key)) (l.contents ∷ y.chains (bucket_of_hash (hash l.key))) n e.0)) ∙ h))
+      (eqb_tells (bucket_of_hash (hash l.key)) n)
+
+  chain-still : (n c : ℕ) → is_among (y.chains n) c ≡ true → is_among (put y.chains (bucket_of_hash (hash l.key)) (l.contents ∷ y.chains (bucket_of_hash (hash l.key))) n) c ≡ true
+  chain-still n c h = ⊎_elim
+      (λ (e : (eqb (bucket_of_hash (hash l.key)) n ≡ true) × (bucket_of_hash (hash l.key) ≡ n)).
+      subst (λ (z : ℕ). is_among (put y.chains (bucket_of_hash (hash l.key)) (l.contents ∷ y.chains (bucket_of_hash (hash l.key))) z) c ≡ true) e.1
+      (ap (λ (xs : List ℕ). is_among xs c) (at-itself y.chains (bucket_of_hash (hash l.key)) (l.contents ∷ y.chains (bucket_of_hash (hash l.key)))) ∙ or_right (l.contents == c) (is_among (y.chains (bucket_of_hash (hash l.key))) c) (ap (λ (q : ℕ). is_among (y.chains q) c) e.1 ∙ h)))
+      (λ (e : (eqb (bucket_of_hash (hash l.key)) n ≡ false) × _). ap (λ (xs : List ℕ). is_among xs c) (at-elsewhere y.chains (bucket_of_hash (hash l.key)) (l.contents ∷ y.chains (bucket_of_hash (hash l.key))) n e.0) ∙ h)
+      (eqb_tells (bucket_of_hash (hash l.key)) n)
+
+  owned-after : (w : ℕ) (x : Loaded) (c : Claim) → y.at w ≡ Some x → has_claim (all_claims x) c ≡ true → (if has_claim (all_claims l) c then Some l.node else y.owner c) ≡ Some w
+  owned-after w x c is h = ⊎_elim
+      (λ (e : has_claim (all_claims l) c ≡ true). let p : y.owner c ≡ None = new.free c e in let q : y.owner c ≡ Some w = r.own w x c is h in absurd (let z : ◌≡◌ {A = Option ℕ} (Some w) None = sym q ∙ p in cc))
+      (λ (e : has_claim (all_claims l) c ≡ false). rw e (r.own w x c is h))
+      (cases_Bool (has_claim (all_claims l) c))
+
+  pub created-lies : Lies (created handle key m) (with_new y key l)
+  unfolding created
+  created-lies = record {
+    laid = λ i h. ⊎_elim (λ (e : i ≡ main key). subst (IsLaid (created handle key m) (with_new y key l)) (sym e) laid-new) (λ (there : is_listed m i ≡ true). laid-old i there) (listed-after i h);
+    normal = λ w h. ⊎_elim
+        (λ (e : w ≡ l.node). ap (put y.state l.node 0) e ∙ at-itself y.state l.node 0)
+        (λ (there : is_among (order m y) w ≡ true).
+        let n : IsNodeOf y m.uses w = node-of y m.uses w there in
+        let q : IsLaid m y n.item = r.laid n.item n.among in
+        let o : (l.node == w) ≡ false = other-node w q.loaded (ap y.at (sym n.is) ∙ q.here) in
+        at-elsewhere y.state l.node 0 w o ∙ r.normal w there)
+        (node-after w h);
+    chained = λ w x h is. at-after (λ z k. is_among (order (created handle key m) (with_new y key l)) z ≡ true → is_among (put y.chains (bucket_of_hash (hash l.key)) (l.contents ∷ y.chains (bucket_of_hash (hash l.key))) (bucket_of_hash (hash k.key))) k.contents ≡ true) w x is
+        (λ _. ap (λ (xs : List ℕ). is_among xs l.contents) (at-itself y.chains (bucket_of_hash (hash l.key)) (l.contents ∷ y.chains (bucket_of_hash (hash l.key)))) ∙ or_left (l.contents == l.contents) (is_among (y.chains (bucket_of_hash (hash l.key))) l.contents) (eq-eqb l.contents l.contents refl))
+        (λ old g. ⊎_elim
+        (λ (e : w ≡ l.node). let a : y.at w ≡ None = ap y.at e ∙ new.nobody in absurd (let z : ◌≡◌ {A = Option Loaded} (Some x) None = sym old ∙ a in cc))
+        (λ (there : is_among (order m y) w ≡ true). chain-still (bucket_of_hash (hash x.key)) x.contents (r.chained w x there old))
+        (node-after w g))
+        h;
+    unchained = λ n c below h. ⊎_elim
+        (λ (e : c ≡ l.contents). record { node = l.node; loaded = l; listed = ap (λ (xs : List ℕ). is_among xs l.node) order-after ∙ or_left (l.node == l.node) (is_among (order m y) l.node) (eq-eqb l.node l.node refl); here = at-itself y.at l.node (Some l); record_is = sym e })
+        (λ (there : is_among (y.chains n) c ≡ true). let q : IsListedRecord m y c = r.unchained n c below there in
+        record { node = q.node; loaded = q.loaded; listed = node-still q.node q.listed; here = at-old q.node q.loaded q.here; record_is = q.record_is })
+        (chain-after n c h);
+    own = λ w x c is h. at-after (λ z k. has_claim (all_claims k) c ≡ true → (if has_claim (all_claims l) c then Some l.node else y.owner c) ≡ Some z) w x is (λ g. rw g refl) (λ old g. owned-after w x c old g) h;
+    single = λ w x is. at-after (λ z k. repeats (all_claims k) ≡ false) w x is new.single (λ old. r.single w x old);
+    doomed_objects = λ number o is dead. ⊎_elim
+        (λ (old : object_at m number ≡ Some o). let d : IsDoomedAt m y number o = r.doomed_objects number o old dead in
+        record {
+          loaded = d.loaded;
+          here = at-old (y.place_of_doomed number) d.loaded d.here;
+          row = d.row;
+          mark = d.mark;
+          unlisted = ap (λ (xs : List ℕ). is_among xs (y.place_of_doomed number)) order-after ∙ none-of l.node (y.place_of_doomed number) (order m y) (other-node (y.place_of_doomed number) d.loaded d.here) d.unlisted;
+        })
+        (λ (e : Some (new_object key) ≡ Some o). let s : new_object key ≡ o = cc in absurd (let z : true ≡ false = ap (λ (q : Object). q.live) s ∙ dead in cc))
+        (push-back m.objects (Some (new_object key)) number o is);
+  }
+
+  -- what is at rest is the same before and after
+  rest-item : (i : Item) → is_listed m i ≡ true → model.settled_row (created handle key m) i ≡ model.settled_row m i
+  unfolding model.settled_row created
+  rest-item i there =
+      let q : IsLaid m y i = r.laid i there in
+      let own = owner-of i (row_of q.loaded) q.row in
+      ap (option_and_then (λ object. cond object.settled (model.row_in object i) None)) (owner-object i own.0 own.1)
+
+  rest-items : (items : List Item) → ((i : Item) → is_in items i ≡ true → is_listed m i ≡ true) → filter_map (model.settled_row (created handle key m)) items ≡ filter_map (model.settled_row m) items
+  rest-items [] sub = refl
+  rest-items (i ∷ items) sub =
+      rw (rest-item i (sub i (or_left (same_item i i) (is_in items i) (same_item_self i)))) (ap (cons_option (model.settled_row m i)) (rest-items items (λ j h. sub j (or_right (same_item j i) (is_in items j) h))))
+
+  pub created-rest : model.rest (created handle key m) ≡ model.rest m
+  unfolding model.settled_row created model.rest
+  created-rest = ap (filter_map (model.settled_row (created handle key m))) uses-after ∙ rw new-unsettled (rest-items m.uses (λ i h. h)) where
+    new-unsettled : model.settled_row (created handle key m) (main key) ≡ None
+    new-unsettled = ap (option_and_then (λ object. cond object.settled (model.row_in object (main key)) None)) new-owner
+
+-- ---- what is shown
+
+load-table : (v : Stock) (t : ℕ → ℕ) (rule : Rule) (w : ℕ) (l : Loaded) → rule.chained ≡ false → load v rule w ≡ Ok l → load (record v { table = t }) rule w ≡ Ok l
+unfolding key_of streams_of stream_of
+load-table v t rule w l free ok = load-then v rule w l ok (λ n e g.
+    let r = g.facts in let k = r.keyed in
+    load-from (record v { table = t }) rule w l n e (record {
+      node = g.node;
+      entry = g.entry;
+      checks = g.checks;
+      facts = record {
+        keyed = record {
+          state = k.state;
+          back = k.back;
+          flags = k.flags;
+          clean = k.clean;
+          key_length = k.key_length;
+          key = k.key;
+          hashed = k.hashed;
+          chained = or_left (not rule.chained) (is_among (chain (record v { table = t }) (bucket_of_hash e.hash)).reached n.contents) (ap not free);
+        };
+        streams = r.streams;
+        role = r.role;
+        node_is = r.node_is;
+        contents_is = r.contents_is;
+        dirty_is = r.dirty_is;
+        others_are = r.others_are;
+      };
+    }))
+
+pub linked-table : (v : Stock) (t : ℕ → ℕ) (b w : ℕ) (cs : List ℕ) → Linked v b w cs → Linked (record v { table = t }) b w cs
+linked-table v t b w [] h = h
+linked-table v t b w (c ∷ cs) h = (h.0, h.1, linked-table v t b (v.follow c) cs h.2)
+
+module _ (v : Stock) (y : Layout) (r : Shows v y) (key : List ℕ) (l : Loaded) (new : IsNewEntry v y key l) (front : IsFrontOfChain v y l) where
+  t : ℕ → ℕ
+  t = put v.table (bucket_of_hash (hash l.key)) l.contents
+
+  -- the record is of its bucket
+  of_bucket : is_of_bucket v (bucket_of_hash (hash l.key)) l.contents ≡ true
+  of_bucket = load-then v (record { state = 0; clean = false; chained = false }) l.node l new.loads (λ n e g.
+      let entry : v.entry l.contents ≡ Some e = ap v.entry g.facts.contents_is ∙ g.entry in
+      let h : e.hash ≡ hash l.key = eqb-true e.hash (hash l.key) g.facts.keyed.hashed in
+      rw (entry, g.checks, h, eq-eqb (bucket_of_hash (hash l.key)) (bucket_of_hash (hash l.key)) refl) refl)
+
+  front-chain : bucket_of_hash (hash l.key) < 65536 → IsChain (linked_front v l) (bucket_of_hash (hash l.key)) (l.contents ∷ y.chains (bucket_of_hash (hash l.key)))
+  front-chain below = let c : IsChain v (bucket_of_hash (hash l.key)) (y.chains (bucket_of_hash (hash l.key))) = r.chains (bucket_of_hash (hash l.key)) below in
+      record {
+        linked = (
+          at-itself v.table (bucket_of_hash (hash l.key)) l.contents,
+          of_bucket,
+          linked-table v (put v.table (bucket_of_hash (hash l.key)) l.contents) (bucket_of_hash (hash l.key)) (v.follow l.contents) (y.chains (bucket_of_hash (hash l.key))) (subst (λ (x : ℕ). Linked v (bucket_of_hash (hash l.key)) x (y.chains (bucket_of_hash (hash l.key)))) (sym front.follows) c.linked),
+        );
+        once = (front.fresh, c.once);
+        few = let f = front.few in omega arith;
+      }
+
+  chains-after : (n : ℕ) → n < 65536 → IsChain (linked_front v l) n (put y.chains (bucket_of_hash (hash l.key)) (l.contents ∷ y.chains (bucket_of_hash (hash l.key))) n)
+  chains-after n below = ⊎_elim
+      (λ (e : (eqb (bucket_of_hash (hash l.key)) n ≡ true) × (bucket_of_hash (hash l.key) ≡ n)).
+      subst (λ (z : ℕ). IsChain (linked_front v l) z (put y.chains (bucket_of_hash (hash l.key)) (l.contents ∷ y.chains (bucket_of_hash (hash l.key))) z)) e.1
+      (subst (IsChain (linked_front v l) (bucket_of_hash (hash l.key))) (sym (at-itself y.chains (bucket_of_hash (hash l.key)) (l.contents ∷ y.chains (bucket_of_hash (hash l.key))))) (front-chain (subst (λ (z : ℕ). z < 65536) (sym e.1) below))))
+      (λ (e : (eqb (bucket_of_hash (hash l.key)) n ≡ false) × _).
+      let c : IsChain v n (y.chains n) = r.chains n below in
+      subst (IsChain (linked_front v l) n) (sym (at-elsewhere y.chains (bucket_of_hash (hash l.key)) (l.contents ∷ y.chains (bucket_of_hash (hash l.key))) n e.0))
+      (record { linked = subst (λ (x : ℕ). Linked (linked_front v l) n x (y.chains n)) (sym (at-elsewhere v.table (bucket_of_hash (hash l.key)) l.contents n e.0)) (linked-table v (put v.table (bucket_of_hash (hash l.key)) l.contents) n (v.table n) (y.chains n) c.linked); once = c.once; few = c.few }))
+      (eqb_tells (bucket_of_hash (hash l.key)) n)
+
+  each-after : (w : ℕ) (x : Loaded) → put y.at l.node (Some l) w ≡ Some x → load (linked_front v l) (rule_of (with_new y key l) w) w ≡ Ok x
+  each-after w x is = ⊎_elim
+      (λ (e : (eqb l.node w ≡ true) × (l.node ≡ w)).
+      let a : ◌≡◌ {A = Option Loaded} (Some l) (Some x) = sym (at-itself y.at l.node (Some l)) ∙ ap (put y.at l.node (Some l)) e.1 ∙ is in
+      let s : l ≡ x = cc in
+      let rule_is : rule_of (with_new y key l) l.node ≡ record { state = 0; clean = false; chained = false } = ap (λ (z : ℕ). let q : Rule = record { state = z; clean = false; chained = false } in q) (at-itself y.state l.node 0) in
+      subst (λ (z : ℕ). load (linked_front v l) (rule_of (with_new y key l) z) z ≡ Ok x) e.1
+      (ap (λ (q : Rule). load (linked_front v l) q l.node) rule_is ∙ load-table v (put v.table (bucket_of_hash (hash l.key)) l.contents) (record { state = 0; clean = false; chained = false }) l.node l refl new.loads ∙ ap Ok s))
+      (λ (e : (eqb l.node w ≡ false) × _).
+      let rule_is : rule_of (with_new y key l) w ≡ rule_of y w = ap (λ (z : ℕ). let q : Rule = record { state = z; clean = false; chained = false } in q) (at-elsewhere y.state l.node 0 w e.0) in
+      ap (λ (q : Rule). load (linked_front v l) q w) rule_is ∙ load-table v (put v.table (bucket_of_hash (hash l.key)) l.contents) (rule_of y w) w x refl (r.each w x (sym (at-elsewhere y.at l.node (Some l) w e.0) ∙ is)))
+      (eqb_tells l.node w)
+
+  pub created-shows : Shows (linked_front v l) (with_new y key l)
+  created-shows = record { no_record = r.no_record; each = each-after; chains = chains-after }
+
+-- ---- with the new node in the list, before its record is linked
+
+-- one more walked node that does not load
+module _ (v : Stock) (rule : Rule) (ws : List ℕ) (given : ℕ → Option Loaded) (shown : IsShown v rule ws given) (w : ℕ) (lacks : is_among ws w ≡ false) (none : given w ≡ None) (unread : (k : Loaded) → load v rule w ≡ Ok k → ⊥) where
+  older : (x : ℕ) (k : Loaded) → is_among (w ∷ ws) x ≡ true → given x ≡ Some k → is_among ws x ≡ true
+  older x k there is = ⊎_elim
+      (λ (e : (eqb w x ≡ true) × (w ≡ x)). let a : given x ≡ None = ap given (sym e.1) ∙ none in absurd (let z : ◌≡◌ {A = Option Loaded} (Some k) None = sym is ∙ a in cc))
+      (λ (e : (eqb w x ≡ false) × _). rw e.0 at there)
+      (eqb_tells w x)
+
+  pub shown-more : IsShown v rule (w ∷ ws) given
+  shown-more = record {
+    once = (lacks, shown.once);
+    loads = λ x l there is. shown.loads x l (older x l there is) is;
+    single = λ x l there is. shown.single x l (older x l there is) is;
+    apart = λ x z k l in_x in_z other is_x is_z. shown.apart x z k l (older x k in_x is_x) (older z l in_z is_z) other is_x is_z;
+    parents = λ x l name index there is role. let p : HasParentIn ws given name = shown.parents x l name index (older x l there is) is role in
+        record { at = p.at; parent = p.parent; among = or_right (w == p.at) (is_among ws p.at) p.among; is = p.is; of = p.of };
+    out = λ x l there gone ok. ⊎_elim
+        (λ (e : (eqb w x ≡ true) × (w ≡ x)). absurd (unread l (subst (λ (z : ℕ). load v rule z ≡ Ok l) (sym e.1) ok)))
+        (λ (e : (eqb w x ≡ false) × _).
+        let o : IsOrphanIn ws given l = shown.out x l (rw e.0 at there) gone ok in
+        record { name = o.name; index = o.index; part = o.part; none = λ z k at_z is. o.none z k (older z k at_z is) is })
+        (eqb_tells w x);
+  }
+
+module _ (v : Stock) (m : State) (y : Layout) (r : Holds v m y) (valid : IsValidState m) (key : List ℕ) (l : Loaded) (new : IsNewEntry v y key l) (once : Distinct (order m y)) where
+  pub new-lacks : is_among (order m y) l.node ≡ false
+  new-lacks = ⊎_elim
+      (λ (e : is_among (order m y) l.node ≡ true).
+      let n : IsNodeOf y m.uses l.node = node-of y m.uses l.node e in let q : IsLaid m y n.item = r.lies.laid n.item n.among in
+      let a : y.at l.node ≡ Some q.loaded = ap y.at (sym n.is) ∙ q.here in
+      absurd (let z : ◌≡◌ {A = Option Loaded} (Some q.loaded) None = sym a ∙ new.nobody in cc))
+      (λ (e : is_among (order m y) l.node ≡ false). e)
+      (cases_Bool (is_among (order m y) l.node))
+
+  dirty-unread : (k : Loaded) → load v held l.node ≡ Ok k → ⊥
+  dirty-unread k ok =
+      let s : l ≡ k = load-one v (record { state = 0; clean = false; chained = false }) held l.node l k new.loads ok in
+      let a : (k.dirty == 0) ≡ true = load-clean v held l.node k ok in
+      let z : (k.dirty == 0) ≡ false = ap (λ (q : Loaded). q.dirty == 0) (sym s) ∙ new.dirty in
+      let c : true ≡ false = sym a ∙ z in cc
+
+  -- what is found while the new node is listed and dirty is what was at rest
+  pub inserted-rest : map row_of (kept_among v held (l.node ∷ order m y)) ≡ model.rest m
+  inserted-rest =
+      let goes = settled-goes m y r.lies.laid m.uses (λ i h. h) in
+      let shown : IsShown v held (order m y) (given_by (is_settled y m.uses) y) = laid-shown v m y r held m.uses (is_settled y m.uses) refl (λ i h. h) once goes in
+      let none : given_by (is_settled y m.uses) y l.node ≡ None = rw new.nobody refl in
+      let more : IsShown v held (l.node ∷ order m y) (given_by (is_settled y m.uses) y) = shown-more v held (order m y) (given_by (is_settled y m.uses) y) shown l.node new-lacks none dirty-unread in
+      ap (map row_of) (kept-given v held (l.node ∷ order m y) (given_by (is_settled y m.uses) y) more ∙ rw none refl)
+      ∙ ap (map row_of) (sym (kept-given v held (order m y) (given_by (is_settled y m.uses) y) shown)) ∙ rest-found v m y r valid once

@@ -1,0 +1,27 @@
+-- The dirty word of a main item settles and unsettles its object.
+use Rattle.std.proofs.Common.{refl}
+use Rattle.std.specs.Prelude.{◌==◌}
+use Rattle.blk_model.specs.Items.{main}
+use Rattle.blk_laws.specs.CommandLaws.{DirtyWordsSettle, WrittenDirtyWordsSettle, RestBeforeTurning, RestAfterTurning}
+use Rattle.blk_laws.proofs.Settling.{shows-dirty, settle-lies}
+use Rattle.blk_laws.proofs.Marking.{marked}
+use Rattle.blk_laws.proofs.Closing.{rest-before, rest-after}
+
+pub dirty-settles : DirtyWordsSettle
+dirty-settles v m y r valid number o l lies n d named = record {
+  holds = record {
+    shows = shows-dirty v.stock y r.holds.shows (y.place (main o.key)) d l n y.owner lies.at named;
+    lies = settle-lies m valid number o (d == 0) lies.here lies.live y r.holds.lies l lies.at d refl;
+  };
+  list = r.list;
+  idle = r.idle;
+}
+
+pub written-settles : WrittenDirtyWordsSettle
+written-settles v u m y r valid number o l lies d same named links = marked v u m y r valid number o (d == 0) lies.here lies.live l d lies.at refl same named links
+
+pub before-turning : RestBeforeTurning
+before-turning m valid number o b names here live = rest-before m valid number o b names here live
+
+pub after-turning : RestAfterTurning
+after-turning m valid number o b names here live = rest-after m valid number o b names here live

@@ -1,0 +1,5 @@
+use Rattle.blk_laws.proofs.LeavingOut.{leaving-out}
+use Rattle.blk_laws.proofs.dropped_nodes_may_be_left_out.Goals as goal
+
+pub returns : goal.returns
+returns c = leaving-out

@@ -1,0 +1,8 @@
+use Rattle.blk_laws.proofs.Shown.{kept-given, dropped-none}
+use Rattle.blk_laws.proofs.given_nodes_are_kept.Goals as goal
+
+pub returns : goal.returns
+returns c = record {
+  kept = kept-given;
+  dropped = dropped-none;
+}

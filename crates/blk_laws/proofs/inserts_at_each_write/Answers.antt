@@ -1,0 +1,8 @@
+use Rattle.blk_laws.proofs.AtRest.{inserts-turn, inserts-end}
+use Rattle.blk_laws.proofs.inserts_at_each_write.Goals as goal
+
+pub returns : goal.returns
+returns c = record {
+  turns = inserts-turn;
+  ends = inserts-end;
+}

@@ -1,0 +1,5 @@
+use Rattle.blk_laws.proofs.Empty.{empty}
+use Rattle.blk_laws.proofs.nothing_represents_the_empty_state.Goals as goal
+
+pub returns : goal.returns
+returns c = empty

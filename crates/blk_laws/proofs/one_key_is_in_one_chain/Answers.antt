@@ -1,0 +1,5 @@
+use Rattle.blk_laws.proofs.Loads.{one-chain}
+use Rattle.blk_laws.proofs.one_key_is_in_one_chain.Goals as goal
+
+pub returns : goal.returns
+returns c = one-chain

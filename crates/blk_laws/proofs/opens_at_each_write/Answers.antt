@@ -1,0 +1,8 @@
+use Rattle.blk_laws.proofs.Opening.{open-moments, open-ends}
+use Rattle.blk_laws.proofs.opens_at_each_write.Goals as goal
+
+pub returns : goal.returns
+returns c = record {
+  moments = open-moments;
+  ends = open-ends;
+}

@@ -1,0 +1,8 @@
+use Rattle.blk_laws.proofs.AtRest.{removals-turn, removals-end}
+use Rattle.blk_laws.proofs.removals_at_each_write.Goals as goal
+
+pub returns : goal.returns
+returns c = record {
+  turns = removals-turn;
+  ends = removals-end;
+}

@@ -1,0 +1,13 @@
+use Rattle.blk_laws.proofs.Central.{walk-order, rows-kept, none-dropped, chain-end, found-rest}
+use Rattle.blk_laws.proofs.Standing.{found-at_rest}
+use Rattle.blk_laws.proofs.represented_states_are_found.Goals as goal
+
+pub returns : goal.returns
+returns c = record {
+  walks = walk-order;
+  rows = rows-kept;
+  dropped = none-dropped;
+  ends = λ view state layout r valid. chain-end view.stock state layout r.holds valid;
+  kept = found-rest;
+  found = found-at_rest;
+}

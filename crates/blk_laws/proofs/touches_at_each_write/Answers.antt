@@ -1,0 +1,8 @@
+use Rattle.blk_laws.proofs.AtRest.{touches-turn, touches-end}
+use Rattle.blk_laws.proofs.touches_at_each_write.Goals as goal
+
+pub returns : goal.returns
+returns c = record {
+  turns = touches-turn;
+  ends = touches-end;
+}

@@ -1,0 +1,9 @@
+use Rattle.blk_laws.proofs.Midst.{midst-rest}
+use Rattle.blk_laws.proofs.Writing.{moment-rest}
+use Rattle.blk_laws.proofs.unsettled_objects_may_change.Goals as goal
+
+pub returns : goal.returns
+returns c = record {
+  midst = midst-rest;
+  moments = λ touched old new state layout r valid number object here live unsettled loaded at same inside. moment-rest touched old new state layout r valid number object here live unsettled loaded at same inside;
+}

@@ -1,0 +1,5 @@
+use Rattle.blk_laws.proofs.Walks.{walk_list}
+use Rattle.blk_laws.proofs.whole_lists_are_walked.Goals as goal
+
+pub returns : goal.returns
+returns c = walk_list

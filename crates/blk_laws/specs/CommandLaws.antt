@@ -1,0 +1,145 @@
+-- The laws of the changes that commands make: objects in the midst of a change, removals, the dirty word, Open and Create.
+use Rattle.std.specs.Prelude.{◌≡◌, ℕ, ◌<◌, not, ◌&&◌, ◌==◌, List, [], ◌∷◌, length, map, take, Bool, true, false}
+use Rattle.std.specs.List.{filter, filter_map}
+use Rattle.std.specs.declared.option.Option.{Option}
+use Rattle.std.specs.declared.option.Option.TheVariants.{None, Some}
+use Rattle.blk_model.specs.Items.{Item, main, key_of}
+use Rattle.blk_model.specs.State.{State, Object, IsValidState, object_at}
+use Rattle.blk_model.specs.Holding.{rest, owner}
+use Rattle.blk_model.specs.Request.{to_open, to_create}
+use Rattle.blk_model.specs.Effects.{with_slot, created}
+use Rattle.blk_model.specs.Refusals.{refused, evicted}
+use Rattle.blk_model.specs.Step.{step}
+use Rattle.blk_model.specs.Stops.{StopOutcome, pick}
+use Rattle.blk_format.specs.Claims.{Claim, claims_of, has_claim}
+use Rattle.blk_volume.specs.ListView.{Distinct, most_nodes, put, after_writes}
+use Rattle.blk_volume.specs.Completion.{insert}
+use Rattle.blk_volume.specs.ListPlans.{writes_of, touch_writes}
+use Rattle.blk_volume.specs.View.{View, Stock, Named}
+use Rattle.blk_volume.specs.Loads.{held, Loaded}
+use Rattle.blk_volume.specs.Audit.{kept_among, kept_by}
+use Rattle.blk_volume.specs.Found.{row_of, completed}
+use Rattle.blk_volume.specs.Layout.{Layout, is_listed, nodes_of, order, Lies, HoldsBut, IsMidst, Represents, changed_at}
+use Rattle.blk_volume.specs.Given.{picked_with, IsTest}
+use Rattle.blk_volume.specs.Footprint.{SameBut, IsFree, SameNodeLinks, IsInside}
+use Rattle.blk_volume.specs.Removal.{without_items, laid_less, ListsLess, HasLess}
+use Rattle.blk_volume.specs.Creation.{IsNewEntry, IsFrontOfChain, with_new, linked_front}
+
+-- In the midst of a change.
+
+-- while the records of one unsettled object are in the midst of a change, what is kept is what is at rest
+abbrev pub UnsettledObjectsMayChange : Type 0
+UnsettledObjectsMayChange = (hole : ℕ → Bool) (stock : Stock) (state : State) (layout : Layout) → HoldsBut hole stock state layout → IsValidState state → (key : List ℕ) → IsMidst hole stock state layout key → Distinct (order state layout)
+    → map row_of (kept_among stock held (order state layout)) ≡ rest state
+
+-- at any moment of a change inside the footprint of an unsettled object, what is kept is what is at rest
+abbrev pub EachMomentIsAtRest : Type 0
+EachMomentIsAtRest = (touched : Claim → Bool) (old new : View) (state : State) (layout : Layout) → Represents old state layout → IsValidState state → (number : ℕ) (object : Object) → object_at state number ≡ Some object → object.live ≡ true → object.settled ≡ false
+    → (loaded : Loaded) → layout.at (layout.place (main object.key)) ≡ Some loaded → SameBut touched old new → IsInside touched old new layout (layout.place (main object.key)) loaded → map row_of (kept_by held (completed new)) ≡ rest state
+
+-- Removals.
+
+-- while items are taken out of the list, what is kept is what stays in it with its main item
+abbrev pub RemovalsKeepTheOthers : Type 0
+RemovalsKeepTheOthers = (hole : ℕ → Bool) (stock : Stock) (state : State) (layout : Layout) → HoldsBut hole stock state layout → IsValidState state → (test : ℕ → Bool) → IsTest state layout state.uses test
+    → (keep : Item → Bool) → Distinct (nodes_of layout (filter keep state.uses)) → ((item : Item) → is_listed state item ≡ true → keep item ≡ true → hole (layout.place item) ≡ false)
+    → map row_of (kept_among stock held (nodes_of layout (filter keep state.uses))) ≡ filter_map (picked_with state test) (filter (λ item. keep item && keep (main (key_of item))) state.uses)
+
+-- a layout without some items is laid out for the state without them
+abbrev pub LessIsLaid : Type 0
+LessIsLaid = (state : State) (objects : List (Option Object)) (keep : Item → Bool) (layout : Layout) (at : ℕ → Option Loaded) (chains : ℕ → List ℕ) (owners : Claim → Option ℕ) → Lies state layout → ListsLess state objects keep
+    → HasLess state objects keep layout at chains owners → Lies (without_items state objects keep) (laid_less layout at chains owners)
+
+-- The dirty word.
+
+-- the object of a number, live, lies at its node as this
+pub record LiesAsLive (state : State) (layout : Layout) (number : ℕ) (object : Object) (loaded : Loaded) : Type 0 where
+  pub here : object_at state number ≡ Some object
+  pub live : object.live ≡ true
+  pub at : layout.at (layout.place (main object.key)) ≡ Some loaded
+
+-- the state with the object settled or not, and the layout with its dirty word
+abbrev pub marked : State → ℕ → Object → Bool → State
+marked state number object settled = with_slot number (Some (record object { settled = settled })) state
+
+abbrev pub dirtied : Layout → ℕ → Loaded → ℕ → Layout
+dirtied layout node loaded dirty = changed_at layout node (record loaded { dirty = dirty }) layout.owner
+
+-- the dirty word of a main item's node settles its object where it is 0, and unsettles it where it is not
+abbrev pub DirtyWordsSettle : Type 0
+DirtyWordsSettle = (view : View) (state : State) (layout : Layout) → Represents view state layout → IsValidState state → (number : ℕ) (object : Object) (loaded : Loaded) → LiesAsLive state layout number object loaded
+    → (named : Named) (dirty : ℕ) → view.stock.named (layout.place (main object.key)) ≡ Some named
+    → Represents (record view { stock = record view.stock { named = put view.stock.named (layout.place (main object.key)) (Some (record named { dirty = dirty })) } }) (marked state number object (dirty == 0))
+    (dirtied layout (layout.place (main object.key)) loaded dirty)
+
+-- the same from the footprint of the write
+abbrev pub WrittenDirtyWordsSettle : Type 0
+WrittenDirtyWordsSettle = (old new : View) (state : State) (layout : Layout) → Represents old state layout → IsValidState state → (number : ℕ) (object : Object) (loaded : Loaded) → LiesAsLive state layout number object loaded
+    → (dirty : ℕ) → SameBut (has_claim (claims_of (layout.place (main object.key)))) old new
+    → ((named : Named) → old.stock.named (layout.place (main object.key)) ≡ Some named → new.stock.named (layout.place (main object.key)) ≡ Some (record named { dirty = dirty }))
+    → SameNodeLinks (layout.place (main object.key)) old.list new.list
+    → Represents new (marked state number object (dirty == 0)) (dirtied layout (layout.place (main object.key)) loaded dirty)
+
+-- the state with an object settled or not, where the names may be others
+abbrev pub turned : State → ℕ → Object → Bool → List (Option ℕ) → State
+turned state number object settled names = marked (record state { names = names }) number object settled
+
+-- what is at rest before an object is settled or unsettled is picked by that
+abbrev pub RestBeforeTurning : Type 0
+RestBeforeTurning = (state : State) → IsValidState state → (number : ℕ) (object : Object) (settled : Bool) (names : List (Option ℕ)) → object_at state number ≡ Some object → object.live ≡ true
+    → rest state ≡ pick state (turned state number object settled names) (object.settled && not settled) state.uses
+
+-- and so is what is at rest after it
+abbrev pub RestAfterTurning : Type 0
+RestAfterTurning = (state : State) → IsValidState state → (number : ℕ) (object : Object) (settled : Bool) (names : List (Option ℕ)) → object_at state number ≡ Some object → object.live ≡ true
+    → rest (turned state number object settled names) ≡ pick state (turned state number object settled names) (not object.settled && settled) state.uses
+
+-- Open.
+
+-- the view with some of the writes of a touch of an item made
+abbrev pub touched_view : View → ℕ → ℕ → View
+touched_view view node count = record view { list = after_writes (take count (touch_writes node view.list)) view.list }
+
+-- at each write of the touch what is kept may be left by a stop in the Open
+abbrev pub OpensAtEachWrite : Type 0
+OpensAtEachWrite = (view : View) (state : State) (layout : Layout) → Represents view state layout → IsValidState state → (moment handle : ℕ) (key : List ℕ) → refused moment (to_open handle key) state ≡ None
+    → (count : ℕ) → StopOutcome state moment (to_open handle key) (step state moment (to_open handle key)).state (map row_of (kept_by held (completed (touched_view view (layout.place (main key)) count))))
+
+-- and in the end the new state is represented
+abbrev pub OpensEnd : Type 0
+OpensEnd = (view : View) (state : State) (layout : Layout) → Represents view state layout → IsValidState state → (moment handle : ℕ) (key : List ℕ) → refused moment (to_open handle key) state ≡ None
+    → Represents (record view { list = after_writes (touch_writes (layout.place (main key)) view.list) view.list }) (step state moment (to_open handle key)).state layout
+
+-- Create without evictions.
+
+-- the record and the node of a new object are written outside what is anybody's, and no live object has the key
+pub record IsWritten (old new : View) (state : State) (layout : Layout) (key : List ℕ) (loaded : Loaded) : Type 0 where
+  pub represents : Represents old state layout
+  pub valid : IsValidState state
+  pub touched : Claim → Bool
+  pub same : SameBut touched old new
+  pub free : IsFree touched layout
+  pub entry : IsNewEntry new.stock layout key loaded
+  pub front : IsFrontOfChain new.stock layout loaded
+  pub good : new.list.checks loaded.node ≡ true
+  pub few : length (order state layout) < most_nodes
+  pub missing : owner state (main key) ≡ None
+
+-- while its node is inserted what is kept is what is at rest
+abbrev pub CreatesAtEachWrite : Type 0
+CreatesAtEachWrite = (old new : View) (state : State) (layout : Layout) (key : List ℕ) (loaded : Loaded) → IsWritten old new state layout key loaded
+    → (count : ℕ) → map row_of (kept_by held (completed (record new { list = after_writes (take count (writes_of insert loaded.node new.list)) new.list }))) ≡ rest state
+
+-- with its record in front of its chain the new state is represented
+abbrev pub CreatesEnd : Type 0
+CreatesEnd = (old new : View) (state : State) (layout : Layout) (key : List ℕ) (loaded : Loaded) → IsWritten old new state layout key loaded → (handle : ℕ)
+    → Represents (record { list = after_writes (writes_of insert loaded.node new.list) new.list; stock = linked_front new.stock loaded }) (created handle key state) (with_new layout key loaded)
+
+-- which has the same at rest
+abbrev pub CreatesLeaveTheRest : Type 0
+CreatesLeaveTheRest = (old new : View) (state : State) (layout : Layout) (key : List ℕ) (loaded : Loaded) → IsWritten old new state layout key loaded → (handle : ℕ) → rest (created handle key state) ≡ rest state
+
+-- and what was at rest may be left by a stop in the Create
+abbrev pub CreatesMayLeaveWhatWas : Type 0
+CreatesMayLeaveWhatWas = (state : State) (handle : ℕ) (key : List ℕ) (moment : ℕ) → refused moment (to_create handle key) state ≡ None → evicted moment (to_create handle key) state ≡ []
+    → StopOutcome state moment (to_create handle key) (step state moment (to_create handle key)).state (rest state)

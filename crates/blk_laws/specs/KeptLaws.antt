@@ -1,0 +1,45 @@
+-- The laws of what is kept of a walk.
+use Rattle.std.specs.Prelude.{◌≡◌, ◌≢◌, ℕ, List, [], Bool, true, false}
+use Rattle.std.specs.List.{AllByRecursion, filter, filter_map}
+use Rattle.std.specs.Result.{is_err}
+use Rattle.std.specs.declared.option.Option.{Option}
+use Rattle.std.specs.declared.option.Option.TheVariants.{None}
+use Rattle.std.specs.declared.result.Result.{Result}
+use Rattle.std.specs.declared.result.Result.TheVariants.{Ok}
+use Rattle.blk_image.specs.Image.{Image}
+use Rattle.blk_format.specs.Hash.{hash}
+use Rattle.blk_format.specs.BlockFiles.{is_among, IsWellFormed}
+use Rattle.blk_volume.specs.View.{Stock, Core, view_of}
+use Rattle.blk_volume.specs.Chains.{chain, bucket_of_hash}
+use Rattle.blk_volume.specs.Reasons.{Reason}
+use Rattle.blk_volume.specs.Loads.{Rule, held, Loaded, load_key}
+use Rattle.blk_volume.specs.Audit.{judged, kept_among, dropped_among}
+use Rattle.blk_volume.specs.Found.{completed, found}
+use Rattle.blk_volume.specs.Shown.{IsShown}
+use Rattle.blk_volume.specs.Candidates.{candidates, SameNamed}
+
+-- what is given to a walk is kept of it, in the order of the walk
+abbrev pub KeptAreTheGiven : Type 0
+KeptAreTheGiven = (stock : Stock) (rule : Rule) (nodes : List ℕ) (given : ℕ → Option Loaded) → IsShown stock rule nodes given → kept_among stock rule nodes ≡ filter_map given nodes
+
+-- where something is given to each node, none is dropped
+abbrev pub NoneOfTheGivenIsDropped : Type 0
+NoneOfTheGivenIsDropped = (stock : Stock) (rule : Rule) (nodes : List ℕ) (given : ℕ → Option Loaded) → IsShown stock rule nodes given → ((node : ℕ) → is_among nodes node ≡ true → given node ≢ None) → dropped_among stock rule nodes ≡ []
+
+-- a node that is left out was dropped
+abbrev pub IsDroppedIfLeftOut : (ℕ → Bool) → ℕ × Result Loaded Reason → Type 0
+IsDroppedIfLeftOut keep judgement = keep judgement.0 ≡ false → is_err judgement.1 ≡ true
+
+-- a dropped node claims nothing: a walk without some or all of its dropped nodes keeps the same
+abbrev pub LeavingOutKeepsTheSame : Type 0
+LeavingOutKeepsTheSame = (stock : Stock) (rule : Rule) (keep : ℕ → Bool) (nodes : List ℕ) → AllByRecursion (IsDroppedIfLeftOut keep) (judged stock rule nodes) → kept_among stock rule (filter keep nodes) ≡ kept_among stock rule nodes
+
+-- two records with the same key, for which none of the reasons up to the chain holds, are in the chain of one bucket
+abbrev pub SameKeyIsOneChain : Type 0
+SameKeyIsOneChain = (stock : Stock) (node other contents others dirty dirt : ℕ) (one two : Core) (key : List ℕ) → load_key stock held node contents dirty one ≡ Ok key → load_key stock held other others dirt two ≡ Ok key
+    → (bucket_of_hash one.hash ≡ bucket_of_hash two.hash) × (is_among (chain stock (bucket_of_hash (hash key))).reached contents ≡ true) × (is_among (chain stock (bucket_of_hash (hash key))).reached others ≡ true)
+
+-- two well-formed images with the same candidates, which agree on what these name, hold the same
+abbrev pub SameCandidatesHoldTheSame : Type 0
+SameCandidatesHoldTheSame = (old new : Image) → IsWellFormed old → IsWellFormed new → candidates (completed (view_of old)) ≡ candidates (completed (view_of new))
+    → AllByRecursion (SameNamed (completed (view_of old)).stock (completed (view_of new)).stock) (candidates (completed (view_of old))) → found old ≡ found new

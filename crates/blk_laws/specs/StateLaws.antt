@@ -1,0 +1,94 @@
+-- The laws from an image to a state.
+use Rattle.std.specs.Prelude.{◌≡◌, ℕ, ◌<◌, List, [], ◌∷◌, map, Bool, true, false}
+use Rattle.std.specs.List.{filter_map}
+use Rattle.std.specs.declared.option.Option.{Option}
+use Rattle.std.specs.declared.option.Option.TheVariants.{None, Some}
+use Rattle.blk_model.specs.Items.{Item, main, part}
+use Rattle.blk_model.specs.State.{State, Bounds, Object, IsValidState, object_at}
+use Rattle.blk_model.specs.Holding.{rows, rest, open_state}
+use Rattle.blk_image.specs.Image.{Image}
+use Rattle.blk_format.specs.Headers.{table_length, unfinished}
+use Rattle.blk_format.specs.Claims.{Claim}
+use Rattle.blk_format.specs.BlockFiles.{IsWellFormed}
+use Rattle.blk_volume.specs.ListView.{Distinct}
+use Rattle.blk_volume.specs.Walk.{walk}
+use Rattle.blk_volume.specs.View.{View, Stock, view_of}
+use Rattle.blk_volume.specs.Chains.{chain}
+use Rattle.blk_volume.specs.Loads.{Rule, held, listed, Loaded}
+use Rattle.blk_volume.specs.Audit.{kept_among, kept_by, dropped_by}
+use Rattle.blk_volume.specs.Found.{row_of, completed, found}
+use Rattle.blk_volume.specs.Shown.{IsShown}
+use Rattle.blk_volume.specs.Layout.{Layout, is_in, is_listed, nodes_of, order, Lies, Holds, Represents, OneChanged, changed_at, IsChange}
+use Rattle.blk_volume.specs.Given.{given_by, GoesWith, picked_with, IsTest}
+use Rattle.blk_volume.specs.Footprint.{SameBut, IsFree, IsReplaced}
+use Rattle.blk_volume.specs.Sound.{ChainsEnd, IsInOrder}
+use Rattle.blk_volume.specs.StandsFor.{AreDoomed, ShowsState, StandsFor, IsAllocated}
+use Rattle.blk_volume.specs.Emptiness.{no_view, no_layout}
+
+-- What represents a valid state.
+
+-- the walk is the nodes of its items, in their order
+abbrev pub WalksAreTheOrder : Type 0
+WalksAreTheOrder = (view : View) (state : State) (layout : Layout) → Represents view state layout → walk view.list ≡ order state layout
+
+-- the rows that are kept where dirty nodes are kept too are its rows
+abbrev pub ListedAreTheRows : Type 0
+ListedAreTheRows = (view : View) (state : State) (layout : Layout) → Represents view state layout → IsValidState state → map row_of (kept_by listed view) ≡ rows state
+
+-- nothing is dropped but for dirt
+abbrev pub NothingListedIsDropped : Type 0
+NothingListedIsDropped = (view : View) (state : State) (layout : Layout) → Represents view state layout → IsValidState state → dropped_by listed view ≡ []
+
+-- each chain ends at the word 0
+abbrev pub RepresentedChainsEnd : Type 0
+RepresentedChainsEnd = (view : View) (state : State) (layout : Layout) → Represents view state layout → IsValidState state → ChainsEnd view.stock
+
+-- what is kept is what is at rest
+abbrev pub KeptAreAtRest : Type 0
+KeptAreAtRest = (view : View) (state : State) (layout : Layout) → Represents view state layout → IsValidState state → map row_of (kept_by held (completed view)) ≡ rest state
+
+-- so a finished folder holds what is at rest
+abbrev pub FoundIsAtRest : Type 0
+FoundIsAtRest = (image : Image) (state : State) (layout : Layout) → Represents (view_of image) state layout → IsValidState state → unfinished image ≡ false → found image ≡ rest state
+
+-- a view shows the state that it represents
+abbrev pub RepresentedStatesAreShown : Type 0
+RepresentedStatesAreShown = (image : Image) (state : State) (layout : Layout) (numbers : List ℕ) → Represents (view_of image) state layout → IsValidState state → IsAllocated image state layout numbers → ShowsState (view_of image) state
+
+-- and an image stands for it where it is well formed, its maps are exact, and its files, counters and seals are in order
+abbrev pub RepresentedStatesAreStoodFor : Type 0
+RepresentedStatesAreStoodFor = (image : Image) (state : State) (layout : Layout) (numbers : List ℕ) → Represents (view_of image) state layout → IsValidState state → IsAllocated image state layout numbers → IsWellFormed image
+    → ((doomed : List (ℕ × Loaded)) → AreDoomed (view_of image) state doomed → IsInOrder image (kept_by listed (view_of image)) (map (λ d. d.1) doomed)) → StandsFor image state
+
+-- What a walk of some items of a layout keeps.
+
+-- items of a state
+abbrev pub AreItemsOf : List Item → State → Type 0
+AreItemsOf items state = (item : Item) → is_in items item ≡ true → is_listed state item ≡ true
+
+-- what passes a test that goes with a rule is shown
+abbrev pub LaidIsShown : Type 0
+LaidIsShown = (stock : Stock) (state : State) (layout : Layout) → Holds stock state layout → (rule : Rule) (items : List Item) (good : Loaded → Bool) → rule.state ≡ 0
+    → AreItemsOf items state → Distinct (nodes_of layout items) → GoesWith layout items rule good → IsShown stock rule (nodes_of layout items) (given_by good layout)
+
+-- what is kept are the rows of the objects that pass a test, where no part is without its main item
+abbrev pub KeptArePicked : Type 0
+KeptArePicked = (stock : Stock) (state : State) (layout : Layout) → Holds stock state layout → (items : List Item) → AreItemsOf items state → (test : ℕ → Bool) → IsTest state layout items test
+    → Distinct (nodes_of layout items) → ((key : List ℕ) (n : ℕ) → is_in items (part key n) ≡ true → is_in items (main key) ≡ true) → map row_of (kept_among stock held (nodes_of layout items)) ≡ filter_map (picked_with state test) items
+
+-- Changes of a view.
+
+-- a change inside a footprint that is nobody's keeps what is represented
+abbrev pub FreeFootprintsKeepStates : Type 0
+FreeFootprintsKeepStates = (touched : Claim → Bool) (old new : View) (state : State) (layout : Layout) → SameBut touched old new → IsFree touched layout → Represents old state layout → Represents new state layout
+
+-- something else at the node of one item is laid out for the changed state
+abbrev pub ChangedItemsAreLaid : Type 0
+ChangedItemsAreLaid = (state : State) (objects : List (Option Object)) (layout : Layout) (item : Item) (was now : Loaded) (owner : Claim → Option ℕ) → Lies state layout → OneChanged state objects item → is_listed state item ≡ true
+    → layout.at (layout.place item) ≡ Some was → IsChange state objects layout item was now owner → Lies (record state { objects = objects }) (changed_at layout (layout.place item) now owner)
+
+-- one object changed inside its own footprint: what is represented is the changed state
+abbrev pub ChangedItemsAreRepresented : Type 0
+ChangedItemsAreRepresented = (touched : Claim → Bool) (old new : View) (state : State) (layout : Layout) → Represents old state layout → (objects : List (Option Object)) (item : Item) (was now : Loaded) (owner : Claim → Option ℕ)
+    → SameBut touched old new → OneChanged state objects item → is_listed state item ≡ true → layout.at (layout.place item) ≡ Some was → IsChange state objects layout item was now owner → IsReplaced touched old new layout (layout.place item) was now
+    → Represents new (record state { objects = objects }) (changed_at layout (layout.place item) now owner)

@@ -1,0 +1,171 @@
+//! The laws of what a cache folder holds, each the contract of a function with an empty body.
+//!
+//! They say that the definitions of `blk_volume` fit together: what is kept, what represents a state, and what changes leave.
+#![tactic(auto)]
+
+ghost use Rattle.blk_laws.specs.BareLaws.{NothingRepresentsTheEmptyState, BareFoldersHoldNothing, BareFoldersAreSound, BareFoldersRepresentTheEmptyState, BareFoldersStandForTheEmptyState, NewFoldersAreBare};
+ghost use Rattle.blk_laws.specs.ByteLaws.{CoveredChangesStayInside, BlocksAreCovered, ExternalFilesAreCovered, HeadersNeedNoCover, HiddenWordsNeedNoCover, CoversOfLess, MoreCovers, CoversOfEither};
+ghost use Rattle.blk_laws.specs.CommandLaws.{UnsettledObjectsMayChange, EachMomentIsAtRest, RemovalsKeepTheOthers, LessIsLaid, DirtyWordsSettle, WrittenDirtyWordsSettle, RestBeforeTurning, RestAfterTurning, OpensAtEachWrite, OpensEnd, CreatesAtEachWrite, CreatesEnd, CreatesLeaveTheRest, CreatesMayLeaveWhatWas};
+ghost use Rattle.blk_laws.specs.KeptLaws.{KeptAreTheGiven, NoneOfTheGivenIsDropped, LeavingOutKeepsTheSame, SameKeyIsOneChain, SameCandidatesHoldTheSame};
+ghost use Rattle.blk_laws.specs.ListLaws.{WalksAreTheLists, InsertsTurnAtTwo, InsertsEnd, RemovalsTurnAtTwo, RemovalsEnd, TouchesTurnAtTwo, TouchesEnd, CompletingAgainIsTheSame, CompletionsEnd, ChainsAreTheirRecords, RecordsAreLinkedInFront, OtherChainsStay, FirstRecordsAreUnlinked, LaterRecordsAreUnlinked};
+ghost use Rattle.blk_laws.specs.StateLaws.{WalksAreTheOrder, ListedAreTheRows, NothingListedIsDropped, RepresentedChainsEnd, KeptAreAtRest, FoundIsAtRest, RepresentedStatesAreShown, RepresentedStatesAreStoodFor, LaidIsShown, KeptArePicked, FreeFootprintsKeepStates, ChangedItemsAreLaid, ChangedItemsAreRepresented};
+
+/// The walk of a whole list is its nodes.
+pub fn whole_lists_are_walked()
+    ensures { WalksAreTheLists }
+{}
+
+/// An insert, stopped after any of its writes and completed, gives the old list before the second, and the new one from then on.
+pub fn inserts_at_each_write()
+    ensures turns { InsertsTurnAtTwo }
+    ensures ends { InsertsEnd }
+{}
+
+/// A removal, stopped after any of its writes and completed, gives the old list before the second, and the new one from then on.
+pub fn removals_at_each_write()
+    ensures turns { RemovalsTurnAtTwo }
+    ensures ends { RemovalsEnd }
+{}
+
+/// A touch, stopped after any of its writes and completed, gives the old list before the second, and the new one from then on.
+pub fn touches_at_each_write()
+    ensures turns { TouchesTurnAtTwo }
+    ensures ends { TouchesEnd }
+{}
+
+/// A completion may be stopped anywhere and begun again, on every list.
+pub fn completions_at_each_write()
+    ensures stops { CompletingAgainIsTheSame }
+    ensures ends { CompletionsEnd }
+{}
+
+/// A chain is its records, a record is linked in front of it or taken out of it, and no other chain is touched.
+pub fn chains_are_linked()
+    ensures records { ChainsAreTheirRecords }
+    ensures front { RecordsAreLinkedInFront }
+    ensures others { OtherChainsStay }
+    ensures first { FirstRecordsAreUnlinked }
+    ensures later { LaterRecordsAreUnlinked }
+{}
+
+/// What is given to a walk is kept, and where something is given to each node none is dropped.
+pub fn given_nodes_are_kept()
+    ensures kept { KeptAreTheGiven }
+    ensures dropped { NoneOfTheGivenIsDropped }
+{}
+
+/// A dropped node claims nothing, so it may be removed without changing what is kept.
+pub fn dropped_nodes_may_be_left_out()
+    ensures { LeavingOutKeepsTheSame }
+{}
+
+/// Records with one key are in one chain.
+pub fn one_key_is_in_one_chain()
+    ensures { SameKeyIsOneChain }
+{}
+
+/// A change that leaves the candidates and what they name leaves what is held.
+pub fn same_candidates_hold_the_same()
+    ensures { SameCandidatesHoldTheSame }
+{}
+
+/// What represents a state has its items as its walk and its rows as what is listed, drops nothing, ends its chains, and holds what is at rest.
+pub fn represented_states_are_found()
+    ensures walks { WalksAreTheOrder }
+    ensures rows { ListedAreTheRows }
+    ensures dropped { NothingListedIsDropped }
+    ensures ends { RepresentedChainsEnd }
+    ensures kept { KeptAreAtRest }
+    ensures found { FoundIsAtRest }
+{}
+
+/// An image that represents a state with exact maps shows it, and stands for it where all else is in order.
+pub fn represented_states_are_stood_for()
+    ensures shown { RepresentedStatesAreShown }
+    ensures stands { RepresentedStatesAreStoodFor }
+{}
+
+/// A folder that shows nothing represents the empty state.
+pub fn nothing_represents_the_empty_state()
+    ensures { NothingRepresentsTheEmptyState }
+{}
+
+/// A folder with no list, no chain and no block holds nothing, is sound, and represents the empty state and stands for it.
+pub fn bare_folders_are_sound()
+    ensures held { BareFoldersHoldNothing }
+    ensures sound { BareFoldersAreSound }
+    ensures represented { BareFoldersRepresentTheEmptyState }
+    ensures stands { BareFoldersStandForTheEmptyState }
+{}
+
+/// A new folder has no list, no chain and no block.
+pub fn new_folders_are_bare()
+    ensures { NewFoldersAreBare }
+{}
+
+/// What a layout has of some items is shown to their walk, and its rows are kept.
+pub fn laid_items_are_kept()
+    ensures shown { LaidIsShown }
+    ensures picked { KeptArePicked }
+{}
+
+/// A change inside a footprint that is nobody's keeps what is represented.
+pub fn free_footprints_keep_states()
+    ensures { FreeFootprintsKeepStates }
+{}
+
+/// Something else at the node of one item is laid out and represented for the changed state.
+pub fn changed_items_are_represented()
+    ensures laid { ChangedItemsAreLaid }
+    ensures represented { ChangedItemsAreRepresented }
+{}
+
+/// While an unsettled object is in the midst of a change, what is kept is what is at rest.
+pub fn unsettled_objects_may_change()
+    ensures midst { UnsettledObjectsMayChange }
+    ensures moments { EachMomentIsAtRest }
+{}
+
+/// While items are taken out of the list, what is kept is what stays, and the layout without them is laid out for the state without them.
+pub fn removals_keep_the_others()
+    ensures kept { RemovalsKeepTheOthers }
+    ensures laid { LessIsLaid }
+{}
+
+/// The dirty word of a main item settles and unsettles its object.
+pub fn dirty_words_settle()
+    ensures put { DirtyWordsSettle }
+    ensures written { WrittenDirtyWordsSettle }
+{}
+
+/// What is at rest before and after an object is settled or unsettled is picked by that.
+pub fn turning_objects_are_picked()
+    ensures before { RestBeforeTurning }
+    ensures after { RestAfterTurning }
+{}
+
+/// At each write of an Open what is kept may be left by a stop in it, and in the end the new state is represented.
+pub fn opens_at_each_write()
+    ensures moments { OpensAtEachWrite }
+    ensures ends { OpensEnd }
+{}
+
+/// At each write of a Create what is kept is what is at rest, in the end the new state is represented, and it has the same at rest, which may be left by a stop.
+pub fn creates_at_each_write()
+    ensures moments { CreatesAtEachWrite }
+    ensures ends { CreatesEnd }
+    ensures rests { CreatesLeaveTheRest }
+    ensures stops { CreatesMayLeaveWhatWas }
+{}
+
+/// A change of bytes changes what is shown only inside what covers it; blocks and external files are covered by their claims.
+pub fn covered_changes_stay_inside()
+    ensures shown { CoveredChangesStayInside }
+    ensures blocks { BlocksAreCovered }
+    ensures externals { ExternalFilesAreCovered }
+    ensures headers { HeadersNeedNoCover }
+    ensures hidden { HiddenWordsNeedNoCover }
+    ensures less { CoversOfLess }
+    ensures more { MoreCovers }
+    ensures either { CoversOfEither }
+{}
