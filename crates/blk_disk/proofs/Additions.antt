@@ -1,26 +1,24 @@
 -- A new file, and the link to it.
-use Rattle.std.proofs.Common.{◌≡◌, ◌≢◌, ℕ, zero, suc, ◌+◌, ◌-◌, ◌*◌, ◌%◌, ◌/◌, ◌^◌, ◌<◌, ◌≤◌, Bool, true, false, ◌&&◌, ◌||◌, nat_le, nat_lt, if◌then◌else◌, List, [], ◌∷◌, ◌++◌, length, get_or, Option, None, Some, unwrap_or, refl, sym, ◌∙◌, ap, subst, arith, ◌⊎◌, inl, inr, ⊎_elim}
+use Rattle.std.proofs.Common.{◌≡◌, ℕ, ◌%◌, ◌/◌, ◌<◌, ◌≤◌, Bool, true, false, ◌&&◌, ◌||◌, nat_le, if◌then◌else◌, List, [], ◌∷◌, length, Option, None, Some, unwrap_or, refl, ◌∙◌, ap, arith, inl, inr}
 use Rattle.std.specs.Prelude.{◌==◌}
-use Rattle.std.proofs.lemmas.Bool.{cases_eq, cases_lt}
 use Rattle.std.proofs.lemmas.Bool.Decides.{nat_tests}
-use Rattle.std.proofs.lemmas.List.Folds.{list_any_at}
-use Rattle.blk_image.specs.Bytes.{content, half_at, resized, word_at, zeros}
+use Rattle.blk_image.specs.Bytes.{content, resized, word_at, zeros}
 use Rattle.blk_image.specs.Checks.{first_of}
-use Rattle.blk_image.specs.Footprint.{SameOutside, IsWithin, either, range, touched_by_all, whole}
-use Rattle.blk_image.specs.Image.{File, Index, Block, Image, byte, bytes_of, length_of, same_file, with_file}
-use Rattle.blk_image.specs.Steps.{TrailStep, Word, SetLength, applied, after, words, before_words, word_step, word_steps, with_word, with_words}
-use Rattle.blk_image.specs.Told.{Along, Until, IsQuiet}
-use Rattle.blk_image.proofs.Cuts.{after-append, after-word_steps}
-use Rattle.blk_image.proofs.Footprints.{outside-refl, outside-trans, outside_steps, outside_wider, outside_write, within_left, within_right}
-use Rattle.blk_image.proofs.Images.{bytes_of-written, with_file-same, with_file-other, with_file-twice}
-use Rattle.blk_image.proofs.Splices.{content-spliced_inside, length-zeros, resized-empty, resized-zero}
+use Rattle.blk_image.specs.Footprint.{SameOutside, IsWithin, touched_by_all, whole}
+use Rattle.blk_image.specs.Image.{File, Block, Image, bytes_of, same_file, with_file}
+use Rattle.blk_image.specs.Steps.{Word, SetLength, applied, after, words, before_words, word_step, word_steps, with_word, with_words}
+use Rattle.blk_image.specs.Told.{Along, IsQuiet}
+use Rattle.blk_image.proofs.Cuts.{after-word_steps}
+use Rattle.blk_image.proofs.Footprints.{outside-refl, outside_steps}
+use Rattle.blk_image.proofs.Images.{with_file-same, with_file-twice}
+use Rattle.blk_image.proofs.Splices.{length-zeros, resized-empty, resized-zero}
 use Rattle.blk_image.proofs.WordSteps.{quiet-word_steps}
-use Rattle.blk_image.proofs.Words.{length-with_word, length-with_words, same-word_at, word-beside, word-there, word-zeros}
+use Rattle.blk_image.proofs.Words.{length-with_word, length-with_words, word-beside, word-there, word-zeros}
 use Rattle.blk_format.specs.Address.{block_size}
 use Rattle.blk_format.specs.Headers.{block_magic, version, magic_of, version_of, this_file_of, next_file_of, entry_size_of, max_entries_of}
-use Rattle.blk_format.specs.BlockFiles.{file_checks, is_link, is_block_count}
+use Rattle.blk_format.specs.BlockFiles.{file_checks, is_block_count}
 use Rattle.blk_disk.specs.Growth.{header_words, link_steps, make_steps}
-use Rattle.blk_disk.proofs.Keeping.{Passed, checks_none, link_zero}
+use Rattle.blk_disk.proofs.Keeping.{checks_none, link_zero}
 
 -- two bytes at the upper half of a word are one step
 words-half : (f : File) (a b : ℕ) → words f 10 (a ∷ b ∷ []) ≡ Word f 10 (a ∷ b ∷ []) ∷ []

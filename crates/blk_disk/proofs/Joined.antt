@@ -2,18 +2,18 @@
 use Rattle.std.proofs.Common.{◌≡◌, ◌≢◌, ℕ, zero, suc, ◌+◌, ◌-◌, ◌*◌, ◌%◌, ◌/◌, ◌<◌, ◌≤◌, Bool, true, false, ◌&&◌, ◌||◌, nat_le, nat_lt, if◌then◌else◌, List, [], ◌∷◌, ◌++◌, length, get_or, Option, None, Some, unwrap_or, refl, sym, ◌∙◌, ap, ap₂, subst, arith, lit<, ◌⊎◌, inl, inr, ⊎_elim}
 use Rattle.std.specs.Prelude.{◌==◌}
 use Rattle.std.specs.Option.{ForSome}
-use Rattle.std.proofs.lemmas.Bool.{cases_eq, cases_lt}
+use Rattle.std.proofs.lemmas.Bool.{cases_eq}
 use Rattle.std.proofs.lemmas.Bool.Decides.{nat_tests}
 use Rattle.std.proofs.lemmas.List.Folds.{list_any_at}
 use Rattle.blk_image.specs.Bytes.{content}
 use Rattle.blk_image.specs.Checks.{first_of}
-use Rattle.blk_image.specs.Footprint.{SameOutside, either, range, whole}
-use Rattle.blk_image.specs.Image.{File, Index, Block, Image, byte, bytes_of, length_of, same_file, with_file}
-use Rattle.blk_image.specs.Steps.{TrailStep, Word, applied, after}
+use Rattle.blk_image.specs.Footprint.{SameOutside, range, whole}
+use Rattle.blk_image.specs.Image.{Index, Block, Image, byte, bytes_of, length_of, same_file}
+use Rattle.blk_image.specs.Steps.{Word, applied, after}
 use Rattle.blk_image.specs.Told.{Told, Grows, GrowsInPart, Passes, Along, Until, IsQuiet}
 use Rattle.blk_image.proofs.Cuts.{after-append}
 use Rattle.blk_image.proofs.Footprints.{outside-trans, outside_wider, outside_write, within_left, within_right}
-use Rattle.blk_image.proofs.Images.{bytes_of-written, length-after_write, other-word, with_file-same}
+use Rattle.blk_image.proofs.Images.{bytes_of-written, other-word, with_file-same}
 use Rattle.blk_image.proofs.Runs.{passes_part, quiet-append, some_inj, told_whole, until-append, until_last, until_weaker2}
 use Rattle.blk_image.proofs.Splices.{content-spliced_inside}
 use Rattle.blk_image.proofs.Words.{same-word_at}

@@ -1,11 +1,11 @@
-use Rattle.std.proofs.Common.{◌≡◌, ◌+◌, ◌≤◌, ℕ, ◌++◌, List, sym, subst}
+use Rattle.std.proofs.Common.{◌+◌, ◌≤◌, ℕ, ◌++◌, sym, subst}
 use Rattle.std.specs.Option.{ForSome}
 use Rattle.blk_image.specs.Image.{Block, length_of}
 use Rattle.blk_image.specs.Told.{Grows, GrowsInPart}
 use Rattle.blk_image.proofs.Runs.{grows_then, part_only, part_then}
 use Rattle.blk_addr.specs.Kind.{kind_number}
 use Rattle.blk_disk.specs.Tables.{Joins}
-use Rattle.blk_disk.specs.Growth.{add_steps, free_number, last_file, link_steps, make_steps}
+use Rattle.blk_disk.specs.Growth.{free_number, last_file, link_steps, make_steps}
 use Rattle.blk_disk.proofs.Joined.{add_agrees, add_blocks, add_formed, add_outside, add_room, least_is}
 use Rattle.blk_disk.proofs.tables.BlockFiles.add_file.Goals as goal
 
