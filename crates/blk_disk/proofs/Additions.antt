@@ -1,5 +1,5 @@
 -- A new file, and the link to it.
-use Rattle.std.proofs.Common.{◌≡◌, ℕ, ◌%◌, ◌/◌, ◌<◌, ◌≤◌, Bool, true, false, ◌&&◌, ◌||◌, nat_le, if◌then◌else◌, List, [], ◌∷◌, length, Option, None, Some, unwrap_or, refl, ◌∙◌, ap, arith, inl, inr}
+use Rattle.std.proofs.Common.{◌≡◌, ℕ, ◌%◌, ◌/◌, ◌<◌, Bool, true, false, ◌&&◌, ◌||◌, nat_le, List, [], ◌∷◌, length, Option, None, Some, unwrap_or, refl, ◌∙◌, ap, arith, inl, inr}
 use Rattle.std.specs.Prelude.{◌==◌}
 use Rattle.std.proofs.lemmas.Bool.Decides.{nat_tests}
 use Rattle.blk_image.specs.Bytes.{content, resized, word_at, zeros}
@@ -18,6 +18,7 @@ use Rattle.blk_format.specs.Address.{block_size}
 use Rattle.blk_format.specs.Headers.{block_magic, version, magic_of, version_of, this_file_of, next_file_of, entry_size_of, max_entries_of}
 use Rattle.blk_format.specs.BlockFiles.{file_checks, is_block_count}
 use Rattle.blk_disk.specs.Growth.{header_words, link_steps, make_steps}
+use Rattle.blk_disk.proofs.Ranges.{size_small}
 use Rattle.blk_disk.proofs.Keeping.{checks_none, link_zero}
 
 -- two bytes at the upper half of a word are one step
@@ -40,16 +41,6 @@ pub record IsNew (kind n : ℕ) (f : ℕ → ℕ) : Type 0 where
   pub numbers : word_at f 8 ≡ n
   pub entry_size : entry_size_of f ≡ block_size kind
   pub blocks : max_entries_of f ≡ 0
-
-small_size : (kind : ℕ) → block_size kind ≤ 4096
-unfolding block_size
-small_size kind = by_test (kind == 1) (kind == 2) (kind == 3)
-  where
-    by_test : (p q r : Bool) → (if p then 36 else if q then 256 else if r then 1024 else 4096) ≤ 4096
-    by_test true q r = omega arith
-    by_test false true r = omega arith
-    by_test false false true = omega arith
-    by_test false false false = omega arith
 
 module _ (kind n : ℕ) (below : n < 256) where
   one : List ℕ
@@ -79,7 +70,7 @@ module _ (kind n : ℕ) (below : n < 256) where
     magic = word-beside 0 12 (block_size kind) three (inl (omega arith)) ∙ word-beside 0 8 n two (inl (omega arith)) ∙ word-beside 0 4 version one (inl (omega arith)) ∙ word-there 0 block_magic (zeros 8192) (omega arith) (omega (arith, length-zeros 8192));
     is_version = word-beside 4 12 (block_size kind) three (inl (omega arith)) ∙ word-beside 4 8 n two (inl (omega arith)) ∙ word-there 4 version one (omega arith) (omega (arith, one_size));
     numbers = word-beside 8 12 (block_size kind) three (inl (omega arith)) ∙ word-there 8 n two (omega arith) (omega (arith, two_size));
-    entry_size = word-there 12 (block_size kind) three (let small = small_size kind in omega (arith, small)) (omega (arith, three_size));
+    entry_size = word-there 12 (block_size kind) three (let small = size_small kind in omega (arith, small)) (omega (arith, three_size));
     blocks =
         word-beside 20 12 (block_size kind) three (inr (omega arith)) ∙ word-beside 20 8 n two (inr (omega arith)) ∙ word-beside 20 4 version one (inr (omega arith))
         ∙ word-beside 20 0 block_magic (zeros 8192) (inr (omega arith)) ∙ word-zeros 8192 20;

@@ -85,7 +85,7 @@ stands_range files image w at n agrees stands within =
     omega (arith, size, inside)
 
 -- its room
-size_small : (kind : ℕ) → block_size kind ≤ 4096
+pub size_small : (kind : ℕ) → block_size kind ≤ 4096
 unfolding block_size
 size_small kind = by_tests (kind == 1) (kind == 2) (kind == 3)
   where
