@@ -1,0 +1,28 @@
+use Rattle.std.proofs.Common.{◌+◌, ℕ, inr, length, ap, sym, ◌∙◌, arith, refl}
+use Rattle.blk_disk.specs.Sealed.{IsUnsealed, seal_by_kind, wrong_seal}
+use Rattle.blk_disk.proofs.Ranges.{stands_blocky, name_is}
+use Rattle.blk_disk.proofs.SealedReads.{record_inside, record_read, unsealed_is, untold_unsealed}
+use Rattle.blk_disk.proofs.tables.BlockFiles.read_record.Given as given
+use Rattle.blk_disk.proofs.tables.BlockFiles.read_record.Goals as goal
+
+pub read_block-requires-clause-inside : goal.read_block-requires-clause-inside
+read_block-requires-clause-inside g c = let inside = record_inside c.args.addr c.requires.begins in omega (arith, inside, c.requires.size)
+
+pub returns-in_default-clause-bytes : goal.returns-in_default-clause-bytes
+returns-in_default-clause-bytes g c image there = record_read image c.args.addr (length c.args.bytes.now) c.read_block.new.out c.requires.size (c.in_ok-read_block.ensures.bytes image there)
+
+unsealed_here : (g : given.Over) (c : goal.After-from g) → IsUnsealed (g.F.Folder.told c.args.f.now) c.args.addr (record { file = c.file_of-file.result; at = c.place_of.result + c.from.result; found = c.in-Some.found })
+unsealed_here g c =
+    unsealed_is (g.F.Folder.told c.args.f.now) c.args.addr c.from.result c.in-Some.found c.read_block.new.out _
+    (c.from.ensures ∙ c.seal_of.ensures.place ∙ ap seal_by_kind c.kind-2.ensures)
+    (ap (λ (s : ℕ). wrong_seal s c.read_block.new.out) (c.from.ensures ∙ c.seal_of.ensures.place ∙ ap seal_by_kind (c.kind-2.ensures ∙ sym c.kind.ensures)) ∙ sym c.wrong_seal.ensures ∙ c.in-Some.is)
+    (name_is c.args.addr c.file_of-file.result (stands_blocky c.args.self.now c.args.addr c.requires.stands) c.file_of-file.ensures)
+    (ap (λ (n : ℕ). n + c.from.result) c.place_of.ensures.place)
+    refl
+    (λ image there. record_read image c.args.addr (length c.args.bytes.now) c.read_block.new.out c.requires.size (c.in_ok-read_block.ensures.bytes image there))
+
+pub returns-clause-damaged : goal.returns-clause-damaged
+returns-clause-damaged g c = inr (unsealed_here g c)
+
+pub returns-clause-untold : goal.returns-clause-untold
+returns-clause-untold g c = untold_unsealed _ _ _ (unsealed_here g c) c.requires.checks

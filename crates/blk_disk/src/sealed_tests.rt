@@ -1,0 +1,189 @@
+// Sealed records in block files in memory.
+use crate::BlockFiles;
+use crate::tests::folder_of;
+use blk_addr::{Addr, Kind};
+use blk_io::{Failed, Fault, FileId, Folder, MemFolder, NoMemory};
+use blk_record::{EntryView, NodeView, Record};
+use std::alloc::Global;
+use std::test::Fail;
+
+// Every file has 36864 bytes of blocks: 1024 nodes, or 144 blocks of 256 bytes.
+const SIZE: usize = 45056;
+
+// The last node of file 0 and the last block of file 1, and where they begin.
+const LAST_NODE: u32 = 0x9000_03FF;
+
+const NODE_AT: u64 = 45020;
+
+const LAST_BLOCK: u32 = 0xA001_008F;
+
+const BLOCK_AT: u64 = 44800;
+
+// The words of a record at 16, 4 and 28, before a second update and after it.
+const OLD: [u32; 3] = [0x9000_0007, 0x1234, 1];
+
+const NEW: [u32; 3] = [0x9000_0008, 0x5678, 2];
+
+// What a stop after so many steps leaves of the three words.
+const STOPPED: [[u32; 3]; 6] = [
+    OLD,
+    OLD,
+    [NEW[0], OLD[1], OLD[2]],
+    [NEW[0], NEW[1], OLD[2]],
+    NEW,
+    NEW,
+];
+
+// The hashes of the first 32 and 92 bytes, from a program of the published function.
+const OLD_NODE_SEAL: u32 = 0x0DCE_1A21;
+
+const NEW_NODE_SEAL: u32 = 0x4D5C_E1FC;
+
+const OLD_ENTRY_SEAL: u32 = 0x40BE_F4B5;
+
+const NEW_ENTRY_SEAL: u32 = 0x0E57_49A8;
+
+// The three words of a record, its seal, and whether it checks.
+type Shown = ([u32; 3], u32, bool);
+
+// A folder in which nodes and entry records have zeros.
+fn zeros(alloc: Global) -> Result<MemFolder, Fail> {
+    let headers = [
+        (0, 0, 36, 1024),
+        (1, 0, 256, 1024),
+        (2, 0, 1024, 0),
+        (3, 0, 4096, 0),
+    ];
+    folder_of(alloc, &headers, SIZE)
+}
+
+// Updates three words of a node, where it stands and checks.
+fn update_node<F: Folder>(f: &mut F, word: u32, values: [u32; 3]) -> Result<bool, Fault> {
+    let files = BlockFiles::load(f)?;
+    let Some(addr) = Addr::from_word(word) else {
+        return Ok(false);
+    };
+    if !files.stands(addr) || addr.kind() != Kind::Rankings {
+        return Ok(false);
+    }
+    let mut window = [0; 36];
+    files.read_block(f, addr, 0, &mut window)?;
+    let Some(node) = NodeView::over(&window) else {
+        return Ok(false);
+    };
+    if !node.checks() {
+        return Ok(false);
+    }
+    let changes = [(16, values[0]), (4, values[1]), (28, values[2])];
+    files.update_sealed(f, addr, &changes)?;
+    Ok(true)
+}
+
+// Updates three words of an entry record, where it stands and checks.
+fn update_entry<F: Folder>(f: &mut F, word: u32, values: [u32; 3]) -> Result<bool, Fault> {
+    let files = BlockFiles::load(f)?;
+    let Some(addr) = Addr::from_word(word) else {
+        return Ok(false);
+    };
+    if !files.stands(addr) || addr.kind() != Kind::B256 {
+        return Ok(false);
+    }
+    let mut window = [0; 96];
+    files.read_block(f, addr, 0, &mut window)?;
+    let Some(entry) = EntryView::over(&window) else {
+        return Ok(false);
+    };
+    if !entry.checks() {
+        return Ok(false);
+    }
+    let changes = [(16, values[0]), (4, values[1]), (28, values[2])];
+    files.update_sealed(f, addr, &changes)?;
+    Ok(true)
+}
+
+// What the last node shows.
+fn show_node<F: Folder>(f: &mut F) -> Result<Option<Shown>, Failed> {
+    let mut window = [7; 36];
+    f.read_at(FileId::Block(0), NODE_AT, &mut window)?;
+    Ok(NodeView::over(&window).map(|node| {
+        (
+            [node.word(16), node.word(4), node.word(28)],
+            node.word(32),
+            node.checks(),
+        )
+    }))
+}
+
+// What the record in the last block shows.
+fn show_entry<F: Folder>(f: &mut F) -> Result<Option<Shown>, Failed> {
+    let mut window = [7; 96];
+    f.read_at(FileId::Block(1), BLOCK_AT, &mut window)?;
+    Ok(EntryView::over(&window).map(|entry| {
+        (
+            [entry.word(16), entry.word(4), entry.word(28)],
+            entry.word(92),
+            entry.checks(),
+        )
+    }))
+}
+
+// The files after so many steps, where there are so many.
+fn image_at(f: &MemFolder, steps: u64) -> Result<MemFolder, NoMemory> {
+    match f.steps() {
+        Some(n) if steps <= n => f.image(steps),
+        _ => Err(NoMemory),
+    }
+}
+
+#[test]
+fn a_node_checks_after_each_step_of_an_update(rt: HostRuntime) -> Result<(), Fail> {
+    let mut f = zeros(rt.alloc())?;
+    assert_eq!(rt; update_node(&mut f, LAST_NODE, OLD), Ok(true));
+    assert_eq!(rt; update_node(&mut f, LAST_NODE, NEW), Ok(true));
+    assert_eq!(rt; f.steps(), Some(10));
+    let seals = [OLD_NODE_SEAL, 0, 0, 0, 0, NEW_NODE_SEAL];
+    for (k, words) in STOPPED.iter().enumerate() {
+        let mut stopped = image_at(&f, 5 + k as u64)?;
+        assert_eq!(rt;
+            show_node(&mut stopped)?,
+            Some((*words, seals[k], true)),
+            "after {k} steps"
+        );
+    }
+    Ok(())
+}
+
+#[test]
+fn an_entry_record_checks_after_each_step_of_an_update(rt: HostRuntime) -> Result<(), Fail> {
+    let mut f = zeros(rt.alloc())?;
+    assert_eq!(rt; update_entry(&mut f, LAST_BLOCK, OLD), Ok(true));
+    assert_eq!(rt; update_entry(&mut f, LAST_BLOCK, NEW), Ok(true));
+    assert_eq!(rt; f.steps(), Some(10));
+    let seals = [OLD_ENTRY_SEAL, 0, 0, 0, 0, NEW_ENTRY_SEAL];
+    for (k, words) in STOPPED.iter().enumerate() {
+        let mut stopped = image_at(&f, 5 + k as u64)?;
+        assert_eq!(rt;
+            show_entry(&mut stopped)?,
+            Some((*words, seals[k], true)),
+            "after {k} steps"
+        );
+    }
+    Ok(())
+}
+
+#[test]
+fn an_update_reads_once_and_writes_each_word_once(rt: HostRuntime) -> Result<(), Fail> {
+    let mut f = zeros(rt.alloc())?;
+
+    // Eight calls load the files, and one reads the node for the condition.
+    assert_eq!(rt; update_node(&mut f, LAST_NODE, NEW), Ok(true));
+    assert_eq!(rt; f.calls(), 9 + 1 + 5);
+
+    // A call that fails is the last.
+    let mut g = zeros(rt.alloc())?;
+    g.fail_at(9 + 1 + 3, 0)?;
+    assert_eq!(rt; update_node(&mut g, LAST_NODE, NEW), Err(Fault::Device));
+    assert_eq!(rt; g.calls(), 9 + 1 + 3);
+    assert_eq!(rt; show_node(&mut g)?, Some(([NEW[0], 0, 0], 0, true)));
+    Ok(())
+}
