@@ -57,10 +57,11 @@ BareFoldersHoldNothing = (image : Image) → IsBare image → found image ≡ []
 abbrev pub BareFoldersAreSound : Type 0
 BareFoldersAreSound = (image : Image) → IsBare image → IsSound image
 
--- it represents the empty state, and stands for it
+-- it represents the empty state
 abbrev pub BareFoldersRepresentTheEmptyState : Type 0
 BareFoldersRepresentTheEmptyState = (image : Image) (limits : Bounds) → IsBare image → Represents (view_of image) (open_state [] limits) no_layout
 
+-- it stands for the empty state
 abbrev pub BareFoldersStandForTheEmptyState : Type 0
 BareFoldersStandForTheEmptyState = (image : Image) (limits : Bounds) → IsBare image → StandsFor image (open_state [] limits)
 

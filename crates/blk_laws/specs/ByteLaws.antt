@@ -59,10 +59,11 @@ LongerFilesHaveGrown = (image : Image) (m length : ℕ) → length_of image (Blo
 abbrev pub CoveredChangesAgree : Type 0
 CoveredChangesAgree = (old new : Image) (footprint : Footprint) (touched : Claim → Bool) → SameOutside footprint old new → Covers old footprint touched → AgreeBut touched old new
 
--- one change after another, and with more touched
+-- one change after another leaves images that agree
 abbrev pub AgreementGoesOn : Type 0
 AgreementGoesOn = (touched : Claim → Bool) (old between new : Image) → AgreeBut touched old between → AgreeBut touched between new → AgreeBut touched old new
 
+-- what agrees but on some claims agrees but on more
 abbrev pub AgreementButMore : Type 0
 AgreementButMore = (less more : Claim → Bool) (old new : Image) → ((claim : Claim) → less claim ≡ true → more claim ≡ true) → AgreeBut less old new → AgreeBut more old new
 
@@ -91,12 +92,14 @@ HeadersNeedNoCover = (image : Image) (n at length : ℕ) → at + length ≤ hea
 abbrev pub HiddenWordsNeedNoCover : Type 0
 HiddenWordsNeedNoCover = (image : Image) (at length : ℕ) → ((i : ℕ) → at ≤ i → i < at + length → is_shown_place i ≡ false) → Covers image (range Index at length) (λ claim. false)
 
--- what covers a footprint covers less, more covers it too, and two footprints are covered by what covers either
+-- what covers a footprint covers less
 abbrev pub CoversOfLess : Type 0
 CoversOfLess = (image : Image) (less more : Footprint) (touched : Claim → Bool) → IsWithin less more → Covers image more touched → Covers image less touched
 
+-- and more covers it too
 abbrev pub MoreCovers : Type 0
 MoreCovers = (image : Image) (footprint : Footprint) (less more : Claim → Bool) → ((claim : Claim) → less claim ≡ true → more claim ≡ true) → Covers image footprint less → Covers image footprint more
 
+-- two footprints are covered by what covers each
 abbrev pub CoversOfEither : Type 0
 CoversOfEither = (image : Image) (one other : Footprint) (touched : Claim → Bool) → Covers image one touched → Covers image other touched → Covers image (either one other) touched

@@ -58,10 +58,11 @@ pub record LiesAsLive (state : State) (layout : Layout) (number : ℕ) (object :
   pub live : object.live ≡ true
   pub at : layout.at (layout.place (main object.key)) ≡ Some loaded
 
--- the state with the object settled or not, and the layout with its dirty word
+-- the state with the object settled or not
 abbrev pub marked : State → ℕ → Object → Bool → State
 marked state number object settled = with_slot number (Some (record object { settled = settled })) state
 
+-- the layout with this dirty word at its node
 abbrev pub dirtied : Layout → ℕ → Loaded → ℕ → Layout
 dirtied layout node loaded dirty = changed_at layout node (record loaded { dirty = dirty }) layout.owner
 

@@ -31,29 +31,33 @@ pub data ListUpdate : Type 0 where
   UpdateNode : ℕ → List Link → ListUpdate
   UpdateWord : ListWord → ℕ → ListUpdate
 
--- what the list sees of it
+-- what the list sees of a link
 abbrev pub link_write : ℕ → Link → ListWrite
 link_write node (NextLink word) = Next node word
 link_write node (PrevLink word) = Prev node word
 
+-- what it sees of a word of the index
 abbrev pub word_write : ListWord → ℕ → ListWrite
 word_write HeadWord word = Head word
 word_write TailWord word = Tail word
 word_write TransactionWord word = Transaction word
 word_write OperationWord word = Operation word
 
+-- what it sees of a part of a change
 abbrev pub update_writes : ListUpdate → List ListWrite
 update_writes (UpdateNode node links) = map (link_write node) links
 update_writes (UpdateWord which word) = word_write which word ∷ []
 
+-- what it sees of all parts
 abbrev pub all_writes : List ListUpdate → List ListWrite
 all_writes updates = flat_map update_writes updates
 
--- the place of a link in its node, and its word
+-- the place of a link in its node
 abbrev pub link_place : Link → ℕ
 link_place (NextLink word) = 16
 link_place (PrevLink word) = 20
 
+-- the word of a link
 abbrev pub link_word : Link → ℕ
 link_word (NextLink word) = word
 link_word (PrevLink word) = word
@@ -65,10 +69,11 @@ word_place TailWord = 308
 word_place TransactionWord = 328
 word_place OperationWord = 332
 
--- the self hash becomes 0, and then the links are written
+-- the words of a node that is open: its self hash 0, and then its links
 abbrev pub opened_node : ℕ → List Link → List (ℕ × ℕ)
 opened_node node links = (place node + node_seal_place, 0) ∷ map (λ link. (place node + link_place link, link_word link)) links
 
+-- the steps that write them
 abbrev pub opening_steps : ℕ → List Link → List TrailStep
 opening_steps node links = word_steps (Block (file_selector node)) (opened_node node links)
 
@@ -112,10 +117,11 @@ UpdatesShowAll = (image : Image) (updates : List ListUpdate) → AreReady image 
 abbrev pub CompletesTo : List ℕ → Image → Type 0
 CompletesTo nodes image = walk (completed_list (list_of image)) ≡ nodes
 
--- the word of the operation, and then the word of the transaction
+-- the step that writes the word of the operation
 abbrev pub operation_step : ℕ → List TrailStep
 operation_step code = word_step Index (word_place OperationWord) code
 
+-- the step that writes the word of the transaction
 abbrev pub transaction_step : ℕ → List TrailStep
 transaction_step node = word_step Index (word_place TransactionWord) node
 

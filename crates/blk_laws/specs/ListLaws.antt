@@ -39,6 +39,7 @@ InsertsEnd = (node : ℕ) (list : ListView) (nodes : List ℕ) → CanBeInserted
 abbrev pub RemovalsTurnAtTwo : Type 0
 RemovalsTurnAtTwo = (node : ℕ) (list : ListView) (front behind : List ℕ) → IsAtRest list (front ++ node ∷ behind) → TurnsAtTwo list (writes_of remove node list) (front ++ node ∷ behind) (front ++ behind)
 
+-- and ends with the new list at rest
 abbrev pub RemovalsEnd : Type 0
 RemovalsEnd = (node : ℕ) (list : ListView) (front behind : List ℕ) → IsAtRest list (front ++ node ∷ behind) → IsAtRest (after_writes (writes_of remove node list) list) (front ++ behind)
 
@@ -46,6 +47,7 @@ RemovalsEnd = (node : ℕ) (list : ListView) (front behind : List ℕ) → IsAtR
 abbrev pub TouchesTurnAtTwo : Type 0
 TouchesTurnAtTwo = (node : ℕ) (list : ListView) (front behind : List ℕ) → IsAtRest list (front ++ node ∷ behind) → TurnsAtTwo list (touch_writes node list) (front ++ node ∷ behind) (node ∷ front ++ behind)
 
+-- and ends with the new list at rest
 abbrev pub TouchesEnd : Type 0
 TouchesEnd = (node : ℕ) (list : ListView) (front behind : List ℕ) → IsAtRest list (front ++ node ∷ behind) → IsAtRest (after_writes (touch_writes node list) list) (node ∷ front ++ behind)
 

@@ -40,6 +40,7 @@ is_parent_role name key IsPlain = false
 is_parent_role name key (IsParent index) = bytes_eq key name.key && (index.signature == name.signature) && index.has_part name.part
 is_parent_role name key (IsPart other index) = false
 
+-- a record is that parent
 abbrev pub is_parent_of : Name → Loaded → Bool
 is_parent_of name loaded = is_parent_role name loaded.key loaded.role
 
@@ -49,6 +50,7 @@ is_orphan_role kept IsPlain = false
 is_orphan_role kept (IsParent index) = false
 is_orphan_role kept (IsPart name index) = not (list_any (is_parent_of name) kept)
 
+-- a record is a part without its parent
 unfoldable pub is_orphan : List Loaded → Loaded → Bool
 is_orphan kept loaded = is_orphan_role kept loaded.role
 
@@ -95,12 +97,13 @@ abbrev pub verdict_on : List (ℕ × Result Loaded Reason) → ℕ → Option (R
 verdict_on [] node = None
 verdict_on (given ∷ others) node = if given.0 == node then Some given.1 else verdict_on others node
 
--- what was kept by a verdict, and what was dropped
+-- what was kept by a verdict
 abbrev pub kept_of : Option (Result Loaded Reason) → Option Loaded
 kept_of None = None
 kept_of (Some (Ok loaded)) = Some loaded
 kept_of (Some (Err reason)) = None
 
+-- what was dropped by it, and why
 abbrev pub dropped_of : ℕ → Option (Result Loaded Reason) → Option (ℕ × Reason)
 dropped_of node None = None
 dropped_of node (Some (Ok loaded)) = None

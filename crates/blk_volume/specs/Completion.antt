@@ -2,13 +2,15 @@
 use Rattle.std.specs.Prelude.{ℕ, Bool, not, ◌&&◌, ◌||◌, ◌==◌, if◌then◌else◌, List, [], ◌∷◌, ◌++◌}
 use Rattle.blk_volume.specs.ListView.{ListView, ListWrite, Next, Prev, Head, Tail, after_writes}
 
--- the operations: a node is put in front, taken out, or taken out and then put in front
+-- a node is put in front
 abbrev pub insert : ℕ
 insert = 1
 
+-- it is taken out
 abbrev pub remove : ℕ
 remove = 2
 
+-- it is taken out and then put in front
 abbrev pub move : ℕ
 move = 3
 

@@ -14,12 +14,13 @@ use Rattle.blk_volume.specs.Layout.{Layout, is_in}
 abbrev pub given_by : (Loaded → Bool) → Layout → ℕ → Option Loaded
 given_by good layout node = option_and_then (λ loaded. if good loaded then Some loaded else None) (layout.at node)
 
--- a main item whose dirty word is 0; a part whose main item is among the items and has it 0
+-- by role and dirty word: a main item whose dirty word is 0, or a part whose main item is among the items and has it 0
 abbrev pub is_settled_role : Layout → List Item → Role → ℕ → Bool
 is_settled_role layout items IsPlain dirty = dirty == 0
 is_settled_role layout items (IsParent index) dirty = dirty == 0
 is_settled_role layout items (IsPart name index) dirty = is_in items (main name.key) && option_map_or (λ parent. parent.dirty == 0) (layout.at (layout.place (main name.key))) false
 
+-- a record is such
 abbrev pub is_settled : Layout → List Item → Loaded → Bool
 is_settled layout items loaded = is_settled_role layout items loaded.role loaded.dirty
 

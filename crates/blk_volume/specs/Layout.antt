@@ -67,6 +67,7 @@ pub record IsPartAt (state : State) (layout : Layout) (key : List ℕ) (loaded :
   pub at_parent : layout.at (layout.place (main key)) ≡ Some parent
   pub of : is_parent_of name parent ≡ true
 
+-- an item that is a part has its parent
 abbrev pub HasParentAt : State → Layout → Item → Loaded → Type 0
 HasParentAt state layout (main key) loaded = Unit {0}
 HasParentAt state layout (part key n) loaded = IsPartAt state layout key loaded

@@ -77,6 +77,7 @@ is_part_role IsPlain = false
 is_part_role (IsParent index) = false
 is_part_role (IsPart name index) = true
 
+-- whether a record is a part's
 abbrev pub is_part : Loaded → Bool
 is_part loaded = is_part_role loaded.role
 

@@ -20,10 +20,11 @@ stands_as image kind w = stands_in image w && (kind_of w == kind)
 abbrev pub block_bytes : Image → ℕ → ℕ → ℕ
 block_bytes image w = byte image (Block (file_selector w))
 
--- the node, and the record, that lies at the place that a word names
+-- the node that lies at the place that a word names
 abbrev pub node_at : Image → ℕ → Node
 node_at image w = node_in (block_bytes image w) (place w)
 
+-- the record that lies there
 abbrev pub entry_at : Image → ℕ → Entry
 entry_at image w = entry_in (block_bytes image w) (place w)
 
@@ -33,10 +34,11 @@ entry_at image w = entry_in (block_bytes image w) (place w)
 unfoldable pub checks_at : Image → ℕ → Bool
 checks_at image w = stands_as image rankings w && node_checks (node_at image w)
 
--- a node's next, and its prev, or 0 where no node stands
+-- a node's next, or 0 where no node stands
 unfoldable pub next_at : Image → ℕ → ℕ
 next_at image w = if stands_as image rankings w then (node_at image w).next else 0
 
+-- its prev, or 0
 unfoldable pub prev_at : Image → ℕ → ℕ
 prev_at image w = if stands_as image rankings w then (node_at image w).prev else 0
 
@@ -75,6 +77,7 @@ pub record Core : Type 0 where
   pub data_addr : List ℕ
   pub flags : ℕ
 
+-- what is said of a record
 abbrev pub core_of : Entry → Core
 core_of e = record {
   checks = entry_checks e;
@@ -88,10 +91,11 @@ core_of e = record {
   flags = e.flags;
 }
 
--- the size, and the address, of stream i
+-- the size of stream i
 abbrev pub size_of : Core → ℕ → ℕ
 size_of core i = slice_index core.data_size i
 
+-- its address
 abbrev pub address_of : Core → ℕ → ℕ
 address_of core i = slice_index core.data_addr i
 
