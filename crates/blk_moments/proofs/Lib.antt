@@ -6,3 +6,4 @@ pub mod Updates
 pub mod Shown
 pub mod Nodes
 pub mod Adding
+pub mod Records

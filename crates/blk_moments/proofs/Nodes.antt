@@ -115,7 +115,7 @@ module _ (b : List ℕ) (x : ℕ) (long : length b ≡ 36) (small : x < 2 ^ 32) 
       }
 
 -- one change is made or not
-none-or-one : (m : ℕ) → m ≤ 1 → (m ≡ 0) ⊎ (m ≡ 1)
+pub none-or-one : (m : ℕ) → m ≤ 1 → (m ≡ 0) ⊎ (m ≡ 1)
 none-or-one m most = ⊎_elim (λ (e : m < 1). inl (omega arith)) (λ (e : 1 ≤ m). inr (omega arith)) (cases_lt m 1)
 
 module _ (from image : Image) (w : ℕ) (node : IsNode from w) (changes : List (ℕ × ℕ)) (moment : IsMoment from w changes image) where
