@@ -28,7 +28,7 @@ use Rattle.blk_laws.proofs.FoundFrames.{kept_among-same, All-to, All-both, All-f
 use Rattle.blk_volume.specs.Reasons as reason
 
 -- what was admitted is what was loaded, and is no orphan
-admit-then : {P : Type 0} (kept : List Loaded) (l k : Loaded) → admit kept l ≡ Ok k → (l ≡ k → is_orphan kept l ≡ false → P) → P
+pub admit-then : {P : Type 0} (kept : List Loaded) (l k : Loaded) → admit kept l ≡ Ok k → (l ≡ k → is_orphan kept l ≡ false → P) → P
 unfolding admit
 admit-then kept l k ok goes =
     demand_then (not (repeats (record_claims l) || overlap (flat_map all_claims kept) (all_claims l))) reason.Claimed _ k ok (λ _ ok.

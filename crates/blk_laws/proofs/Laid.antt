@@ -53,7 +53,7 @@ clash-none xs (c ∷ ys) apart =
     (λ (e : has_claim xs c ≡ false). rw e (clash-none xs ys (λ d a b. apart d a (or_right (same_claim d c) (list_any (same_claim d) ys) b))))
     (cases_Bool (has_claim xs c))
 
-repeats-tail : (xs ys : List Claim) → repeats (xs ++ ys) ≡ false → repeats ys ≡ false
+pub repeats-tail : (xs ys : List Claim) → repeats (xs ++ ys) ≡ false → repeats ys ≡ false
 unfolding repeats
 repeats-tail [] ys e = e
 repeats-tail (x ∷ xs) ys e = repeats-tail xs ys (or_parts (has_claim (xs ++ ys) x) (repeats (xs ++ ys)) e).1

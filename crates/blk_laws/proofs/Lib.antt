@@ -43,3 +43,5 @@ pub mod OneEntry
 pub mod Premises
 pub mod NodeWords
 pub mod ListBytes
+pub mod DamagedParts
+pub mod Allocations

@@ -29,7 +29,7 @@ same-eq (BlockOf f b) (ExternalOf n) e = cc
 same-eq (ExternalOf n) (BlockOf f b) e = cc
 same-eq (ExternalOf m) (ExternalOf n) e = ap ExternalOf (eqb-true m n e)
 
-repeats-apart : (xs ys : List Claim) (c : Claim) → repeats (xs ++ ys) ≡ false → has_claim xs c ≡ true → has_claim ys c ≡ false
+pub repeats-apart : (xs ys : List Claim) (c : Claim) → repeats (xs ++ ys) ≡ false → has_claim xs c ≡ true → has_claim ys c ≡ false
 unfolding repeats
 repeats-apart [] ys c e h = absurd (let z : false ≡ true = sym (no-claim c) ∙ h in cc)
 repeats-apart (x ∷ xs) ys c e h =

@@ -5,3 +5,4 @@ pub mod CommandLaws
 pub mod ByteLaws
 pub mod BareLaws
 pub mod ListBytes
+pub mod AllocationLaws

@@ -3,6 +3,7 @@
 //! They say that the definitions of `blk_volume` fit together: what is kept, what represents a state, and what changes leave.
 #![tactic(auto)]
 
+ghost use Rattle.blk_laws.specs.AllocationLaws.{SoundFilesAreAllocated, StoodForFilesAreAllocated};
 ghost use Rattle.blk_laws.specs.BareLaws.{NothingRepresentsTheEmptyState, BareFoldersHoldNothing, BareFoldersAreSound, BareFoldersRepresentTheEmptyState, BareFoldersStandForTheEmptyState, NewFoldersAreBare};
 ghost use Rattle.blk_laws.specs.ByteLaws.{CoveredChangesStayInside, BlocksAreCovered, ExternalFilesAreCovered, HeadersNeedNoCover, HiddenWordsNeedNoCover, CoversOfLess, MoreCovers, CoversOfEither};
 ghost use Rattle.blk_laws.specs.CommandLaws.{UnsettledObjectsMayChange, EachMomentIsAtRest, RemovalsKeepTheOthers, LessIsLaid, DirtyWordsSettle, WrittenDirtyWordsSettle, RestBeforeTurning, RestAfterTurning, OpensAtEachWrite, OpensEnd, CreatesAtEachWrite, CreatesEnd, CreatesLeaveTheRest, CreatesMayLeaveWhatWas};
@@ -184,4 +185,10 @@ pub fn covered_changes_stay_inside()
     ensures less { CoversOfLess }
     ensures more { MoreCovers }
     ensures either { CoversOfEither }
+{}
+
+/// The allocations of each linked file are the address words of what is kept, and of doomed objects.
+pub fn linked_files_are_allocated()
+    ensures sound { SoundFilesAreAllocated }
+    ensures stood { StoodForFilesAreAllocated }
 {}

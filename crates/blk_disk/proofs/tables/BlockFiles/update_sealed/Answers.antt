@@ -1,8 +1,11 @@
 use Rattle.std.proofs.Common.{◌∙◌, sym, subst}
+use Rattle.std.specs.Option.{ForSome}
 use Rattle.blk_image.specs.Image.{Image}
+use Rattle.blk_image.specs.Told.{Told}
 use Rattle.blk_image.proofs.Runs.{passes_none, some_inj}
 use Rattle.blk_addr.specs.Kind.{kind_number}
 use Rattle.blk_disk.specs.Sealed.{IsMoment}
+use Rattle.blk_disk.specs.Tables.{Agrees}
 use Rattle.blk_disk.proofs.SealedRecords.{moment_before}
 use Rattle.blk_disk.proofs.SealedWrites.{IsLeft, left_by, whole_by, updated_by}
 use Rattle.blk_disk.proofs.tables.BlockFiles.update_sealed.Given as given
@@ -66,3 +69,10 @@ returns-clause-agrees g c = (left_done g c).agrees
 
 pub returns-clause-checks : goal.returns-clause-checks
 returns-clause-checks g c = (left_done g c).checks
+
+-- the read leaves what the block files agree with
+pub returns-in_err-read_record-clause-agrees : goal.returns-in_err-read_record-clause-agrees
+returns-in_err-read_record-clause-agrees g c = subst (λ (t : Told). ForSome t.files (Agrees c.args.self.now)) (sym c.in_err-read_record.ensures.stays) c.requires.agrees
+
+pub write_update-requires-clause-agrees : goal.write_update-requires-clause-agrees
+write_update-requires-clause-agrees g c = subst (λ (t : Told). ForSome t.files (Agrees c.args.self.now)) (sym c.in_ok-read_record.ensures.stays) c.requires.agrees
