@@ -1,9 +1,10 @@
 -- Changes of the list one after the other.
-use Rattle.std.proofs.Common.{◌≡◌, ℕ, true, List, [], ◌∷◌, ◌++◌, refl, sym, ◌∙◌, ap}
+use Rattle.std.proofs.Common.{◌≡◌, List, [], ◌∷◌, ◌++◌, refl, sym, ◌∙◌, ap}
 use Rattle.blk_volume.specs.ListView.{ListView, ListWrite, with_write, after_writes}
 use Rattle.blk_volume.specs.View.{Stock, list_of, stock_of}
-use Rattle.blk_moments.specs.Moments.{ShowsTheSame, OnlyListChanges}
-use Rattle.blk_moments.specs.BlockMoments.{ListChangesAdd}
+use Rattle.blk_moments.specs.Moments.{ShowsTheSame}
+use Rattle.blk_moments.proofs.IndexWords.{same-shown}
+use Rattle.blk_moments.specs.BlockMoments.{ListChangesBegin, ListChangesAdd}
 
 after-both : (writes later : List ListWrite) (list : ListView) → after_writes (writes ++ later) list ≡ after_writes later (after_writes writes list)
 after-both [] later list = refl
@@ -26,3 +27,6 @@ changes-add writes later from between image one two = record {
   list = two.list ∙ ap (after_writes later) one.list ∙ sym (after-both writes later (list_of from));
   stock = shows-both (stock_of from) (stock_of between) (stock_of image) one.stock two.stock;
 }
+
+pub changes-begin : ListChangesBegin
+changes-begin image = record { list = refl; stock = same-shown (stock_of image) }

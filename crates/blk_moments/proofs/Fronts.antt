@@ -1,16 +1,16 @@
 -- Records that agree before their seals, and what their checks read.
-use Rattle.std.proofs.Common.{◌≡◌, ◌⊎◌, inl, inr, ⊎_elim, ℕ, zero, suc, ◌+◌, ◌-◌, ◌*◌, ◌%◌, ◌<◌, ◌≤◌, Bool, true, List, [], ◌∷◌, length, take, get_or, get_or-take, refl, ap, ap₂, sym, ◌∙◌, subst, arith}
+use Rattle.std.proofs.Common.{◌≡◌, ◌⊎◌, inl, inr, ⊎_elim, ℕ, zero, suc, ◌+◌, ◌-◌, ◌*◌, ◌%◌, ◌<◌, ◌≤◌, List, [], ◌∷◌, length, take, get_or-take, refl, ap, ap₂, sym, ◌∙◌, subst, arith}
 use Rattle.std.specs.Prelude.{◌==◌, ◌||◌}
 use Rattle.std.proofs.lemmas.Bool.{cases_lt}
 use Rattle.std.proofs.lemmas.List.{get_or_past, length-take}
 use Rattle.blk_image.specs.Bytes.{content, word_at, words_at, word_bytes, range_at}
 use Rattle.blk_image.specs.Steps.{with_word, with_words}
 use Rattle.blk_image.proofs.Splices.{length-spliced, content-spliced_outside, content-spliced_inside}
-use Rattle.blk_image.proofs.Words.{SameFrom, same-word, range-is, length-range, content-range, word_bytes-small}
+use Rattle.blk_image.proofs.Words.{SameFrom, same-word, range-is, length-range, content-range}
 use Rattle.blk_format.specs.Hash.{hash}
-use Rattle.blk_format.specs.Records.{Node, Entry, node_in, node_body, node_checks, node_is_sealed, entry_in, entry_body, entry_checks, entry_is_sealed, checks, seal_of}
+use Rattle.blk_format.specs.Records.{Node, Entry, node_in, node_body, node_checks, node_is_sealed, entry_in, entry_body, entry_checks, entry_is_sealed, checks}
 use Rattle.blk_format.proofs.Bodies.{node_body-in, entry_body-in}
-use Rattle.blk_laws.proofs.BlockBytes.{part_of, same-words}
+use Rattle.blk_laws.proofs.BlockBytes.{part_of}
 
 -- a node and an entry record but for the seal
 abbrev pub open_node : Node → Node

@@ -1,24 +1,23 @@
 -- What a word of the index shows.
-use Rattle.std.proofs.Common.{◌≡◌, ◌≢◌, ◌⊎◌, inl, inr, ⊎_elim, ℕ, ◌+◌, ◌*◌, ◌%◌, ◌<◌, ◌≤◌, Bool, true, false, if◌then◌else◌, List, [], ◌∷◌, ◌++◌, map, Option, None, refl, sym, ◌∙◌, ap, subst, arith}
+use Rattle.std.proofs.Common.{◌≡◌, ◌≢◌, ◌⊎◌, inl, inr, ⊎_elim, ℕ, ◌+◌, ◌*◌, ◌%◌, ◌<◌, ◌≤◌, true, false, List, [], ◌∷◌, map, Option, refl, sym, ◌∙◌, ap, subst, arith, lit≤}
 use Rattle.std.specs.Prelude.{◌==◌, ◌&&◌, ◌||◌, ◌^◌, nat_le, nat_lt, unwrap_or}
 use Rattle.std.specs.List.{AllByRecursion}
-use Rattle.std.proofs.lemmas.Bool.{cases_lt, cases_Bool, eqb-true}
+use Rattle.std.proofs.lemmas.Bool.{cases_lt}
 use Rattle.std.proofs.lemmas.Bool.Decides.{nat_tests, eqb_tells}
 use Rattle.std.proofs.Math.Dec.{eqb}
 use Rattle.blk_image.specs.Bytes.{content, word_at}
-use Rattle.blk_image.specs.Checks.{Damage, first_of, check_found, check_word}
-use Rattle.blk_image.specs.Image.{Index, Block, External, File, Image, byte, bytes_of, length_of, word}
+use Rattle.blk_image.specs.Checks.{first_of, check_found, check_word}
+use Rattle.blk_image.specs.Image.{Index, Block, External, File, Image, byte, length_of, word}
 use Rattle.blk_image.specs.Footprint.{SameOutside, one_word}
 use Rattle.blk_image.proofs.Footprints.{same_file_outside, same_word_outside}
 use Rattle.blk_format.specs.Headers.{head_checks, list_checks, zero_places, index_magic, version, index_length, table_length, place_of_bucket}
 use Rattle.blk_format.specs.Standing.{stands, stands_as_blocks}
-use Rattle.blk_format.specs.BlockFiles.{is_among, linked, type_among, next_file_in, max_entries_in, stands_in}
+use Rattle.blk_format.specs.BlockFiles.{is_among, linked, next_file_in, max_entries_in, stands_in, IsWellFormed}
 use Rattle.blk_volume.specs.ListView.{ListView, put}
-use Rattle.blk_volume.specs.View.{Stock, View, list_of, checks_at, next_at, prev_at, stock_of, named_at, core_at, follow_at, key_place_at, stored_at, view_of}
-use Rattle.blk_disk.proofs.Agreeing.{SparesHeaders}
-use Rattle.blk_moments.specs.Moments.{ShowsTheSame, OnlyListChanges}
-use Rattle.blk_moments.specs.IndexMoments.{IsIndexWord, shown_words, checked_words, HeadsAreWritten, TailsAreWritten, TransactionsAreWritten, OperationsAreWritten, OtherWordsAreNotShown, BucketsAreWritten, OtherWordsAreNotChecked, IndexWordsStandApart}
-use Rattle.blk_moments.proofs.WellFormed.{before_range, well_formed_still}
+use Rattle.blk_volume.specs.View.{Stock, list_of, checks_at, next_at, prev_at, stock_of, named_at, core_at, follow_at, key_place_at, stored_at}
+use Rattle.blk_moments.specs.Moments.{ShowsTheSame}
+use Rattle.blk_moments.specs.IndexMoments.{shown_words, checked_words, HeadsAreWritten, TailsAreWritten, TransactionsAreWritten, OperationsAreWritten, OtherWordsAreNotShown, BucketsAreWritten, OtherWordsAreNotChecked, BucketsAreNotChecked, IndexWordsStandApart}
+use Rattle.blk_moments.proofs.WellFormed.{well_formed_still}
 
 -- an image with another index
 with_index : Image → Option (List ℕ) → Image
@@ -134,18 +133,19 @@ others-hidden from image at aligned inside lacks same =
 pub buckets-written : BucketsAreWritten
 unfolding list_of stock_of put
 buckets-written from image bucket x is =
-    let s = word-still from image (place_of_bucket bucket) is.outside in
-    (list-words from image (place_of_bucket bucket) is.outside
-    ∙ (λ i. record (list_of from) { head = s 288 (inl (omega arith)) i; tail = s 308 (inl (omega arith)) i; transaction = s 328 (inl (omega arith)) i; operation = s 332 (inl (omega arith)) i }),
-    stock-words from image (place_of_bucket bucket) is.outside ∙ (λ i. record (stock_of from) { table = λ b. each b i })) where
+    let s = word-still from image (place_of_bucket bucket) is.outside in (
+      list-words from image (place_of_bucket bucket) is.outside
+          ∙ (λ i. record (list_of from) { head = s 288 (inl (omega arith)) i; tail = s 308 (inl (omega arith)) i; transaction = s 328 (inl (omega arith)) i; operation = s 332 (inl (omega arith)) i }),
+      stock-words from image (place_of_bucket bucket) is.outside ∙ (λ i. record (stock_of from) { table = λ b. each b i }),
+    ) where
       each : (b : ℕ) → word image Index (368 + 4 * b) ≡ put (stock_of from).table bucket x b
       each b = ⊎_elim
-        (λ (e : (eqb b bucket ≡ true) × (b ≡ bucket)). rw e.0 (ap (λ (c : ℕ). word image Index (368 + 4 * c)) e.1 ∙ is.there))
-        (λ (e : (eqb b bucket ≡ false) × (b ≢ bucket)). rw e.0 (word-still from image (place_of_bucket bucket) is.outside (368 + 4 * b) (by (cases_lt b bucket) e.1)))
-        (eqb_tells b bucket) where
-          by : (b < bucket) ⊎ (bucket ≤ b) → b ≢ bucket → (368 + 4 * b + 4 ≤ 368 + 4 * bucket) ⊎ (368 + 4 * bucket + 4 ≤ 368 + 4 * b)
-          by (inl below) apart = inl (omega arith)
-          by (inr above) apart = inr (omega (arith, apart))
+          (λ (e : (eqb b bucket ≡ true) × (b ≡ bucket)). rw e.0 (ap (λ (c : ℕ). word image Index (368 + 4 * c)) e.1 ∙ is.there))
+          (λ (e : (eqb b bucket ≡ false) × (b ≢ bucket)). rw e.0 (word-still from image (place_of_bucket bucket) is.outside (368 + 4 * b) (by (cases_lt b bucket) e.1)))
+          (eqb_tells b bucket) where
+            by : (b < bucket) ⊎ (bucket ≤ b) → b ≢ bucket → (368 + 4 * b + 4 ≤ 368 + 4 * bucket) ⊎ (368 + 4 * bucket + 4 ≤ 368 + 4 * b)
+            by (inl below) apart = inl (omega arith)
+            by (inr above) apart = inr (omega (arith, apart))
 
 -- checks of words that are the same
 same-zeros : (f g : ℕ → ℕ) (places : List ℕ) → AllByRecursion (λ p. word_at f p ≡ word_at g p) places → map (λ at. check_word Index f at (word_at f at == 0)) places ≡ map (λ at. check_word Index g at (word_at g at == 0)) places
@@ -163,18 +163,59 @@ same-heads f g m n size (a, (b, (c, (d, (e, rest))))) = λ i.
     ∷ check_found Index 36 (e i) (e i == 0)
     ∷ []
 
-pub others-unchecked : OtherWordsAreNotChecked
+-- a folder in which the words that a check reads are the same
+checked-still : (from image : Image) (at : ℕ) → SameOutside (one_word Index at) from image
+    → ((p : ℕ) → p % 4 ≡ 0 → p + 4 ≤ 368 → is_among checked_words p ≡ true → word image Index p ≡ word from Index p) → IsWellFormed from → IsWellFormed image
 unfolding list_checks
-others-unchecked from image at aligned lacks same =
-    let s : (p : ℕ) → p % 4 ≡ 0 → is_among checked_words p ≡ true → word image Index p ≡ word from Index p = λ p even there. word-still from image at same p (beside p at even aligned (not-among checked_words p at there lacks)) in
+checked-still from image at same s =
     well_formed_still (one_word Index at) from image (record { bytes = λ m i small. refl }) (λ m. refl) same
     (ap first_of (same-heads (byte image Index) (byte from Index) (length_of image Index) (length_of from Index) (same.lengths Index refl)
-    (s 0 refl refl, (s 4 refl refl, (s 24 refl refl, (s 28 refl refl, (s 36 refl refl, tt)))))))
-    (ap first_of (same-zeros (byte image Index) (byte from Index) zero_places
-    (s 272 refl refl, (s 276 refl refl, (s 280 refl refl, (s 284 refl refl,
-    (s 292 refl refl, (s 296 refl refl, (s 300 refl refl, (s 304 refl refl,
-    (s 312 refl refl, (s 316 refl refl, (s 320 refl refl, (s 324 refl refl,
-    (s 336 refl refl, tt)))))))))))))))
+    (s 0 refl (lit≤ tt) refl, (s 4 refl (lit≤ tt) refl, (s 24 refl (lit≤ tt) refl, (s 28 refl (lit≤ tt) refl, (s 36 refl (lit≤ tt) refl, tt)))))))
+    (ap first_of (same-zeros (byte image Index) (byte from Index) zero_places (
+      s 272 refl (lit≤ tt) refl,
+      (
+        s 276 refl (lit≤ tt) refl,
+        (
+          s 280 refl (lit≤ tt) refl,
+          (
+            s 284 refl (lit≤ tt) refl,
+            (
+              s 292 refl (lit≤ tt) refl,
+              (
+                s 296 refl (lit≤ tt) refl,
+                (
+                  s 300 refl (lit≤ tt) refl,
+                  (
+                    s 304 refl (lit≤ tt) refl,
+                    (
+                      s 312 refl (lit≤ tt) refl,
+                      (
+                        s 316 refl (lit≤ tt) refl,
+                        (
+                          s 320 refl (lit≤ tt) refl,
+                          (
+                            s 324 refl (lit≤ tt) refl,
+                            (s 336 refl (lit≤ tt) refl, tt),
+                          ),
+                        ),
+                      ),
+                    ),
+                  ),
+                ),
+              ),
+            ),
+          ),
+        ),
+      ),
+    )))
+
+pub others-unchecked : OtherWordsAreNotChecked
+others-unchecked from image at aligned lacks same =
+    checked-still from image at same (λ p even inside there. word-still from image at same p (beside p at even aligned (not-among checked_words p at there lacks)))
+
+pub buckets-unchecked : BucketsAreNotChecked
+buckets-unchecked from image bucket same =
+    checked-still from image (place_of_bucket bucket) same (λ p even inside there. word-still from image (place_of_bucket bucket) same p (inl (omega (arith, inside))))
 
 pub index-stands : IndexWordsStandApart
 index-stands from image at same u = stands-still from image at same u

@@ -1,5 +1,5 @@
 -- What a write into the blocks of an address leaves.
-use Rattle.std.proofs.Common.{◌≡◌, ◌≢◌, ◌⊎◌, inl, inr, ⊎_elim, ℕ, zero, suc, ◌+◌, ◌*◌, ◌<◌, ◌≤◌, Bool, true, false, if◌then◌else◌, List, [], ◌∷◌, map, refl, sym, ◌∙◌, ap, subst, arith}
+use Rattle.std.proofs.Common.{◌≡◌, ◌≢◌, ◌⊎◌, inl, inr, ⊎_elim, ℕ, zero, suc, ◌+◌, ◌*◌, ◌<◌, ◌≤◌, Bool, true, false, [], ◌∷◌, map, refl, sym, ◌∙◌, ap, arith}
 use Rattle.std.specs.Prelude.{◌==◌, ◌&&◌, nat_le, nat_lt}
 use Rattle.std.specs.List.{range_with_len}
 use Rattle.std.proofs.lemmas.Bool.{and_parts, cases_Bool, eqb-true, eq-eqb}
@@ -17,7 +17,7 @@ use Rattle.blk_laws.proofs.BlockBytes.{room_is}
 use Rattle.blk_laws.proofs.ByteChanges.{views-same, stands-if_clear, not_equal}
 use Rattle.blk_laws.proofs.ClaimLists.{claim-head, no-claim, neither, some-blocks}
 use Rattle.blk_laws.proofs.Covers.{blocks-covered, covers-less}
-use Rattle.blk_disk.specs.Sealed.{BeginsWithRecord, IsMoment, record_range, record_size, size_by_kind}
+use Rattle.blk_disk.specs.Sealed.{BeginsWithRecord, record_range, record_size, size_by_kind}
 use Rattle.blk_disk.proofs.Agreeing.{SparesHeaders}
 use Rattle.blk_moments.specs.Moments.{ChangesInside}
 use Rattle.blk_moments.specs.BlockMoments.{WritesStayInside, UpdatesStayInside}

@@ -7,3 +7,4 @@ pub mod Shown
 pub mod Nodes
 pub mod Adding
 pub mod Records
+pub mod Premises

@@ -1,6 +1,6 @@
 -- What an update of a node shows.
-use Rattle.std.proofs.Common.{◌≡◌, ◌≢◌, ◌⊎◌, inl, inr, ⊎_elim, ℕ, ◌+◌, ◌*◌, ◌^◌, ◌%◌, ◌<◌, ◌≤◌, Bool, true, false, if◌then◌else◌, List, [], ◌∷◌, All, length, take, get_or, Option, Some, None, refl, sym, ◌∙◌, ap, subst, arith}
-use Rattle.std.specs.Prelude.{◌==◌, ◌&&◌}
+use Rattle.std.proofs.Common.{◌≡◌, ◌≢◌, ◌⊎◌, inl, inr, ⊎_elim, ℕ, ◌+◌, ◌*◌, ◌^◌, ◌%◌, ◌<◌, ◌≤◌, true, false, if◌then◌else◌, List, [], ◌∷◌, All, length, take, get_or, Some, refl, sym, ◌∙◌, ap, subst, arith}
+use Rattle.std.specs.Prelude.{◌==◌}
 use Rattle.std.proofs.lemmas.Bool.{and_parts, cases_Bool, cases_lt, eqb-true, eq-eqb}
 use Rattle.blk_image.specs.Bytes.{content, word_at}
 use Rattle.blk_image.specs.Image.{Block, Image, byte}
@@ -20,7 +20,7 @@ use Rattle.blk_laws.proofs.NodeWords.{is-node, other-clear}
 use Rattle.blk_disk.specs.Sealed.{AreChanges, BeginsWithRecord, IsMoment, record_at, record_size, seal_place, size_by_kind}
 use Rattle.blk_disk.proofs.SealedRecords.{length-record}
 use Rattle.blk_disk.proofs.SealedFields.{record_word, field_stays}
-use Rattle.blk_moments.specs.Moments.{ShowsTheSame, OnlyListChanges, OnlyNamedChanges}
+use Rattle.blk_moments.specs.Moments.{ShowsTheSame, OnlyNamedChanges}
 use Rattle.blk_moments.specs.NodeMoments.{IsNode, NextsAreWritten, PrevsAreWritten, TimesAreNotShown, ContentsAreWritten, DirtyWordsAreWritten}
 use Rattle.blk_moments.proofs.Fronts.{open_node}
 use Rattle.blk_moments.proofs.Inside.{record-changes}
@@ -260,7 +260,7 @@ nexts-written from image w x node small moment = ⊎_elim
     let was = shown-node from w (as-node from image w node _ moment) in
     record {
       list = subst (λ (m : ℕ). list_of image ≡ after_writes (take m (Next w x ∷ [])) (list_of from)) (sym e)
-      (list-for from image w node _ moment (put (next_at from) w x) (prev_at from) (ap (λ (a : Node). a.next) n ∙ put-there (next_at from) w x) (ap (λ (a : Node). a.prev) n ∙ sym was.2) (λ u apart. put-apart (next_at from) w x u apart) (λ u apart. refl));
+          (list-for from image w node _ moment (put (next_at from) w x) (prev_at from) (ap (λ (a : Node). a.next) n ∙ put-there (next_at from) w x) (ap (λ (a : Node). a.prev) n ∙ sym was.2) (λ u apart. put-apart (next_at from) w x u apart) (λ u apart. refl));
       stock = stock-for from image w node _ moment (ap names_of n);
     })
     (made-cases from image w 16 x node moment)
@@ -280,7 +280,7 @@ prevs-written from image w x node small moment = ⊎_elim
     let was = shown-node from w (as-node from image w node _ moment) in
     record {
       list = subst (λ (m : ℕ). list_of image ≡ after_writes (take m (Prev w x ∷ [])) (list_of from)) (sym e)
-      (list-for from image w node _ moment (next_at from) (put (prev_at from) w x) (ap (λ (a : Node). a.next) n ∙ sym was.1) (ap (λ (a : Node). a.prev) n ∙ put-there (prev_at from) w x) (λ u apart. refl) (λ u apart. put-apart (prev_at from) w x u apart));
+          (list-for from image w node _ moment (next_at from) (put (prev_at from) w x) (ap (λ (a : Node). a.next) n ∙ sym was.1) (ap (λ (a : Node). a.prev) n ∙ put-there (prev_at from) w x) (λ u apart. refl) (λ u apart. put-apart (prev_at from) w x u apart));
       stock = stock-for from image w node _ moment (ap names_of n);
     })
     (made-cases from image w 20 x node moment)
@@ -310,15 +310,17 @@ contents-written from image w x node small moment named is =
     let was : names_of (node_at from w) ≡ named = named-was from image w node _ moment named is in
     ⊎_elim
     (λ (e : moment.made ≡ 0).
-    let n = node-old from image w 24 x node moment e in
-    (named-changes from image w node _ moment (ap (λ (a : Node). a.next) n) (ap (λ (a : Node). a.prev) n),
-    subst (λ (m : ℕ). (stock_of image).named w ≡ Some (if m == 0 then named else record named { contents = x })) (sym e) (named-is from image w node _ moment named (ap names_of n ∙ was))))
+    let n = node-old from image w 24 x node moment e in (
+      named-changes from image w node _ moment (ap (λ (a : Node). a.next) n) (ap (λ (a : Node). a.prev) n),
+      subst (λ (m : ℕ). (stock_of image).named w ≡ Some (if m == 0 then named else record named { contents = x })) (sym e) (named-is from image w node _ moment named (ap names_of n ∙ was)),
+    ))
     (λ (e : moment.made ≡ 1).
     let n : open_node (node_at image w) ≡ record (open_node (node_at from w)) { contents = x } =
-    node-new from image w 24 x node moment e ∙ with-contents (record_at from w) x (long from image w 24 x node moment) small ∙ ap (λ (a : Node). record a { contents = x }) (sym (node-here from w (kind-one from image w 24 x node moment))) in
-    (named-changes from image w node _ moment (ap (λ (a : Node). a.next) n) (ap (λ (a : Node). a.prev) n),
-    subst (λ (m : ℕ). (stock_of image).named w ≡ Some (if m == 0 then named else record named { contents = x })) (sym e)
-    (named-is from image w node _ moment (record named { contents = x }) (ap names_of n ∙ ap (λ (a : Named). record a { contents = x }) was))))
+    node-new from image w 24 x node moment e ∙ with-contents (record_at from w) x (long from image w 24 x node moment) small ∙ ap (λ (a : Node). record a { contents = x }) (sym (node-here from w (kind-one from image w 24 x node moment))) in (
+      named-changes from image w node _ moment (ap (λ (a : Node). a.next) n) (ap (λ (a : Node). a.prev) n),
+      subst (λ (m : ℕ). (stock_of image).named w ≡ Some (if m == 0 then named else record named { contents = x })) (sym e)
+          (named-is from image w node _ moment (record named { contents = x }) (ap names_of n ∙ ap (λ (a : Named). record a { contents = x }) was)),
+    ))
     (made-cases from image w 24 x node moment)
 
 pub dirty-written : DirtyWordsAreWritten
@@ -326,13 +328,15 @@ dirty-written from image w x node small moment named is =
     let was : names_of (node_at from w) ≡ named = named-was from image w node _ moment named is in
     ⊎_elim
     (λ (e : moment.made ≡ 0).
-    let n = node-old from image w 28 x node moment e in
-    (named-changes from image w node _ moment (ap (λ (a : Node). a.next) n) (ap (λ (a : Node). a.prev) n),
-    subst (λ (m : ℕ). (stock_of image).named w ≡ Some (if m == 0 then named else record named { dirty = x })) (sym e) (named-is from image w node _ moment named (ap names_of n ∙ was))))
+    let n = node-old from image w 28 x node moment e in (
+      named-changes from image w node _ moment (ap (λ (a : Node). a.next) n) (ap (λ (a : Node). a.prev) n),
+      subst (λ (m : ℕ). (stock_of image).named w ≡ Some (if m == 0 then named else record named { dirty = x })) (sym e) (named-is from image w node _ moment named (ap names_of n ∙ was)),
+    ))
     (λ (e : moment.made ≡ 1).
     let n : open_node (node_at image w) ≡ record (open_node (node_at from w)) { dirty = x } =
-    node-new from image w 28 x node moment e ∙ with-dirty (record_at from w) x (long from image w 28 x node moment) small ∙ ap (λ (a : Node). record a { dirty = x }) (sym (node-here from w (kind-one from image w 28 x node moment))) in
-    (named-changes from image w node _ moment (ap (λ (a : Node). a.next) n) (ap (λ (a : Node). a.prev) n),
-    subst (λ (m : ℕ). (stock_of image).named w ≡ Some (if m == 0 then named else record named { dirty = x })) (sym e)
-    (named-is from image w node _ moment (record named { dirty = x }) (ap names_of n ∙ ap (λ (a : Named). record a { dirty = x }) was))))
+    node-new from image w 28 x node moment e ∙ with-dirty (record_at from w) x (long from image w 28 x node moment) small ∙ ap (λ (a : Node). record a { dirty = x }) (sym (node-here from w (kind-one from image w 28 x node moment))) in (
+      named-changes from image w node _ moment (ap (λ (a : Node). a.next) n) (ap (λ (a : Node). a.prev) n),
+      subst (λ (m : ℕ). (stock_of image).named w ≡ Some (if m == 0 then named else record named { dirty = x })) (sym e)
+          (named-is from image w node _ moment (record named { dirty = x }) (ap names_of n ∙ ap (λ (a : Named). record a { dirty = x }) was)),
+    ))
     (made-cases from image w 28 x node moment)

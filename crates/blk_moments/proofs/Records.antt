@@ -1,14 +1,14 @@
 -- What an update of an entry record shows.
-use Rattle.std.proofs.Common.{◌≡◌, ◌≢◌, ◌⊎◌, inl, inr, ⊎_elim, ℕ, ◌+◌, ◌*◌, ◌/◌, ◌^◌, ◌%◌, ◌<◌, ◌≤◌, Bool, true, false, if◌then◌else◌, List, [], ◌∷◌, All, length, take, get_or, Option, Some, None, refl, sym, ◌∙◌, ap, ap₂, subst, arith}
+use Rattle.std.proofs.Common.{◌≡◌, ◌≢◌, ◌⊎◌, inl, inr, ⊎_elim, ℕ, ◌+◌, ◌*◌, ◌^◌, ◌<◌, ◌≤◌, Bool, true, false, if◌then◌else◌, List, [], ◌∷◌, All, length, take, get_or, Some, None, refl, sym, ◌∙◌, ap, ap₂, subst, arith}
 use Rattle.std.specs.Prelude.{◌==◌, ◌&&◌, nat_le, nat_lt}
 use Rattle.std.proofs.lemmas.Bool.{and_parts, cases_Bool, cases_eq, leb-true, ltb-true}
-use Rattle.blk_image.specs.Bytes.{content, word_at, words_at}
+use Rattle.blk_image.specs.Bytes.{content, words_at}
 use Rattle.blk_image.specs.Image.{File, Block, Image, byte, same_file}
 use Rattle.blk_image.specs.Footprint.{range}
 use Rattle.blk_image.specs.Steps.{with_word, with_words}
 use Rattle.blk_image.proofs.Images.{same_file-true}
 use Rattle.blk_image.proofs.Runs.{some_inj}
-use Rattle.blk_image.proofs.Words.{SameFrom, same-range, word-beside, word-there}
+use Rattle.blk_image.proofs.Words.{same-range, word-beside, word-there}
 use Rattle.blk_format.specs.Address.{kind_of, file_selector, first_block, place, block_place, block_size, rankings, blocks_256}
 use Rattle.blk_format.specs.Records.{Entry, entry_in, entry_checks, entry_size}
 use Rattle.blk_format.specs.BlockFiles.{stands_in}
@@ -16,11 +16,11 @@ use Rattle.blk_volume.specs.Chains.{file_and_block}
 use Rattle.blk_volume.specs.View.{Core, core_of, stands_as, block_bytes, entry_at, stock_of, core_at, follow_at, key_place_at}
 use Rattle.blk_laws.proofs.BlockBytes.{same-entry_in}
 use Rattle.blk_laws.proofs.ByteChanges.{false_unless}
-use Rattle.blk_disk.specs.Sealed.{AreChanges, BeginsWithRecord, IsMoment, record_at, record_range, record_size, seal_place, size_by_kind}
+use Rattle.blk_disk.specs.Sealed.{BeginsWithRecord, IsMoment, record_at, record_range, record_size, seal_place, size_by_kind}
 use Rattle.blk_disk.proofs.SealedRecords.{length-record}
 use Rattle.blk_disk.proofs.SealedFields.{record_word, field_stays}
-use Rattle.blk_moments.specs.Moments.{SameBesideRecord, OnlyFollowChanges, OnlyEntryChanges}
-use Rattle.blk_moments.specs.RecordMoments.{IsRecord, sealed_core, FollowsAreWritten, FieldsAreWritten}
+use Rattle.blk_moments.specs.Moments.{SameBesideRecord, OnlyFollowChanges}
+use Rattle.blk_moments.specs.RecordMoments.{IsRecord, FollowsAreWritten, FieldsAreWritten}
 use Rattle.blk_moments.proofs.Fronts.{open_entry}
 use Rattle.blk_moments.proofs.Inside.{record-changes}
 use Rattle.blk_moments.proofs.Nodes.{none-or-one}
@@ -161,9 +161,9 @@ module _ (from image : Image) (w : ℕ) (core : Core) (is : IsRecord from w core
         named = λ u. named-still from image w standing begins moment.outside no-node u;
         table = λ b. table-still from image w standing begins moment.outside b;
         key_place = λ u c where_is here long short. ⊎_elim
-        (λ clear. shown.stock.key_place u c clear here long short)
-        (λ (e : u ≡ w). subst (λ (v : ℕ). key_place_at from v c.key_len ≡ key_place_at image v c.key_len) (sym e) (key-kept c.key_len))
-        where_is;
+            (λ clear. shown.stock.key_place u c clear here long short)
+            (λ (e : u ≡ w). subst (λ (v : ℕ). key_place_at from v c.key_len ≡ key_place_at image v c.key_len) (sym e) (key-kept c.key_len))
+            where_is;
         stored = λ size u clear. shown.stock.stored size u clear;
       }
 
@@ -249,13 +249,15 @@ module _ (from image : Image) (w x : ℕ) (core : Core) (is : IsRecord from w co
   follows-is : OnlyFollowChanges w from image × ((stock_of image).follow w ≡ (if moment.made == 0 then (stock_of from).follow w else x))
   follows-is = ⊎_elim
       (λ (e : moment.made ≡ 0).
-      let n : open_entry (entry_at image w) ≡ open_entry (entry_at from w) = entry-now 0 e ∙ sym entry-was in
-      (only-follow (entry_at from w).next n,
-      subst (λ (m : ℕ). (stock_of image).follow w ≡ (if m == 0 then (stock_of from).follow w else x)) (sym e) (follow-now ∙ ap (λ (a : Entry). a.next) n ∙ sym follow-was)))
+      let n : open_entry (entry_at image w) ≡ open_entry (entry_at from w) = entry-now 0 e ∙ sym entry-was in (
+        only-follow (entry_at from w).next n,
+        subst (λ (m : ℕ). (stock_of image).follow w ≡ (if m == 0 then (stock_of from).follow w else x)) (sym e) (follow-now ∙ ap (λ (a : Entry). a.next) n ∙ sym follow-was),
+      ))
       (λ (e : moment.made ≡ 1).
-      let n : open_entry (entry_at image w) ≡ record (open_entry (entry_at from w)) { next = x } = entry-now 1 e ∙ with-follow (record_at from w) x long small ∙ ap (λ (a : Entry). record a { next = x }) (sym entry-was) in
-      (only-follow x n,
-      subst (λ (m : ℕ). (stock_of image).follow w ≡ (if m == 0 then (stock_of from).follow w else x)) (sym e) (follow-now ∙ ap (λ (a : Entry). a.next) n)))
+      let n : open_entry (entry_at image w) ≡ record (open_entry (entry_at from w)) { next = x } = entry-now 1 e ∙ with-follow (record_at from w) x long small ∙ ap (λ (a : Entry). record a { next = x }) (sym entry-was) in (
+        only-follow x n,
+        subst (λ (m : ℕ). (stock_of image).follow w ≡ (if m == 0 then (stock_of from).follow w else x)) (sym e) (follow-now ∙ ap (λ (a : Entry). a.next) n),
+      ))
       (none-or-one moment.made (let h : moment.made ≤ 1 = moment.within in h))
 
 pub follows-written : FollowsAreWritten
@@ -270,11 +272,12 @@ fields-written from image w changes core is are later moment =
     let other : All (λ change. change.0 ≢ 4) changes = λ i c within e. let h : 8 ≤ (get_or changes i c).0 = later i c within in omega (arith, h, e) in
     let fits : 4 + 4 ≤ record_size w = rw k (omega arith) in
     let link : (entry_at image w).next ≡ (entry_at from w).next = sym (record_word image w 4 fits) ∙ field_stays from image w changes are moment 4 refl (omega (arith, s)) other ∙ record_word from w 4 fits in
-    let made = entry-made from image w changes is.bytes moment k in
-    (record {
-      rest = beside from image w core is changes moment;
-      entry = λ u apart. (others from image w core is changes moment u apart).0;
-      follow = λ u. follows from image w core is changes moment link u;
-    },
-    (shown-record image w (stands-now from image w core is changes moment w ∙ as-record from image w core is changes moment)).0
-    ∙ ap (λ (c : Core). Some c) (core-by (entry_at image w) (entry_in (content (with_words (take moment.made changes) (record_at from w))) 0) true (entry_in (content (with_words (take moment.made changes) (record_at from w))) 0).next (good-now from image w core is changes moment) made))
+    let made = entry-made from image w changes is.bytes moment k in (
+      record {
+        rest = beside from image w core is changes moment;
+        entry = λ u apart. (others from image w core is changes moment u apart).0;
+        follow = λ u. follows from image w core is changes moment link u;
+      },
+      (shown-record image w (stands-now from image w core is changes moment w ∙ as-record from image w core is changes moment)).0
+          ∙ ap (λ (c : Core). Some c) (core-by (entry_at image w) (entry_in (content (with_words (take moment.made changes) (record_at from w))) 0) true (entry_in (content (with_words (take moment.made changes) (record_at from w))) 0).next (good-now from image w core is changes moment) made),
+    )

@@ -1,6 +1,6 @@
 -- What is shown after a change inside the record of an address.
-use Rattle.std.proofs.Common.{◌≡◌, ◌≢◌, ◌⊎◌, inl, inr, ⊎_elim, ℕ, ◌+◌, ◌<◌, ◌≤◌, Bool, true, false, if◌then◌else◌, List, [], Option, Some, None, refl, sym, ◌∙◌, ap, subst, arith}
-use Rattle.std.specs.Prelude.{◌==◌, ◌&&◌, ◌||◌, not, nat_le}
+use Rattle.std.proofs.Common.{◌≡◌, ◌≢◌, inl, inr, ⊎_elim, ℕ, Bool, true, false, if◌then◌else◌, [], Option, Some, None, refl, sym, ◌∙◌, ap, arith}
+use Rattle.std.specs.Prelude.{◌==◌, ◌&&◌, not, nat_le}
 use Rattle.std.proofs.lemmas.Bool.{and_parts, cases_Bool, eqb-true, eq-eqb}
 use Rattle.std.proofs.lemmas.Bool.Decides.{nat_tests}
 use Rattle.blk_image.specs.Bytes.{word_at}
@@ -9,13 +9,10 @@ use Rattle.blk_image.specs.Footprint.{SameOutside}
 use Rattle.blk_format.specs.Address.{kind_of, file_selector, external, rankings, blocks_256}
 use Rattle.blk_format.specs.Storage.{is_storage, kind_for}
 use Rattle.blk_format.specs.BlockFiles.{linked_as, stands_in}
-use Rattle.blk_format.specs.Claims.{claims_of, has_claim}
-use Rattle.blk_volume.specs.View.{Core, Named, stands_as, list_of, checks_at, next_at, prev_at, stock_of, named_at, core_at, follow_at, key_place_at, stored_at}
+use Rattle.blk_volume.specs.View.{Core, stands_as, list_of, checks_at, next_at, prev_at, stock_of, named_at, core_at, follow_at, stored_at}
 use Rattle.blk_volume.specs.Entries.{is_key_length, longest_short_key}
-use Rattle.blk_volume.specs.Footprint.{IsClear, SameBut}
 use Rattle.blk_laws.proofs.ByteChanges.{stands-linked}
 use Rattle.blk_disk.specs.Sealed.{BeginsWithRecord, record_range}
-use Rattle.blk_moments.specs.Moments.{ChangesInside}
 use Rattle.blk_moments.proofs.Inside.{IsElsewhere, elsewhere-clear, record-blocky, record-changes, record-elsewhere}
 
 pub standing-parts : (image : Image) (kind u : ℕ) → stands_as image kind u ≡ true → (stands_in image u ≡ true) × (kind_of u ≡ kind)

@@ -1,13 +1,12 @@
 -- The record of an update at one of its moments: it checks, and its bytes before the seal have a front of the changes.
-use Rattle.std.proofs.Common.{◌≡◌, ◌≢◌, ℕ, ◌+◌, ◌%◌, ◌<◌, ◌≤◌, Bool, true, List, [], ◌∷◌, length, take, refl, sym, ◌∙◌, ap, subst, arith}
-use Rattle.std.specs.Prelude.{◌==◌}
+use Rattle.std.proofs.Common.{◌≡◌, ℕ, ◌+◌, ◌≤◌, true, List, length, take, refl, sym, ◌∙◌, ap, subst, arith}
 use Rattle.blk_image.specs.Bytes.{content, word_at}
 use Rattle.blk_image.specs.Image.{Block, Image, AreBytes, byte}
 use Rattle.blk_image.specs.Steps.{with_words}
 use Rattle.blk_format.specs.Address.{kind_of, file_selector, place, rankings, blocks_256}
-use Rattle.blk_format.specs.Records.{Node, Entry, node_in, node_checks, entry_in, entry_checks, checks}
+use Rattle.blk_format.specs.Records.{node_in, node_checks, entry_in, entry_checks, checks}
 use Rattle.blk_volume.specs.View.{node_at, entry_at}
-use Rattle.blk_disk.specs.Sealed.{IsMoment, record_at, record_size, seal_place, size_by_kind, seal_by_kind}
+use Rattle.blk_disk.specs.Sealed.{IsMoment, record_at, record_size, seal_place, seal_by_kind}
 use Rattle.blk_disk.proofs.SealedRecords.{length-record, seal_aligned, seal_last}
 use Rattle.blk_disk.proofs.SealedFields.{record_word}
 use Rattle.blk_moments.proofs.Fronts.{SameWords, AreSmall, open_node, open_entry, same-node, same-entry, small-take, small-range, small-words, front-words, node_checks-front, entry_checks-front, node_checks-by, entry_checks-by}

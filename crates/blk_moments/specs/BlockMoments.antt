@@ -1,5 +1,5 @@
 -- What writes into blocks do to what is shown.
-use Rattle.std.specs.Prelude.{◌≡◌, ◌≢◌, ℕ, ◌+◌, ◌≤◌, true, List, ◌++◌}
+use Rattle.std.specs.Prelude.{◌≡◌, ◌≢◌, ℕ, ◌+◌, ◌≤◌, true, List, [], ◌++◌}
 use Rattle.blk_image.specs.Image.{Block, Image}
 use Rattle.blk_image.specs.Footprint.{SameOutside, range}
 use Rattle.blk_format.specs.Address.{kind_of, file_selector, place, room, external}
@@ -15,6 +15,10 @@ WritesStayInside = (from image : Image) (w at n : ℕ) → stands_in from w ≡ 
 -- and so does the update of the record at their front
 abbrev pub UpdatesStayInside : Type 0
 UpdatesStayInside = (from image : Image) (w : ℕ) (changes : List (ℕ × ℕ)) → stands_in from w ≡ true → BeginsWithRecord w → IsMoment from w changes image → ChangesInside w from image
+
+-- no write into the list leaves what is shown
+abbrev pub ListChangesBegin : Type 0
+ListChangesBegin = (image : Image) → OnlyListChanges [] image image
 
 -- changes of the list one after the other are one change
 abbrev pub ListChangesAdd : Type 0

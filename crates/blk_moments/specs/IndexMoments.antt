@@ -1,5 +1,5 @@
 -- What the write of a word of the index does to what is shown.
-use Rattle.std.specs.Prelude.{◌≡◌, ℕ, ◌<◌, ◌%◌, false, List, [], ◌∷◌, ◌++◌}
+use Rattle.std.specs.Prelude.{◌≡◌, ℕ, ◌<◌, ◌%◌, false, List, [], ◌∷◌}
 use Rattle.blk_image.specs.Image.{Index, Image, word}
 use Rattle.blk_image.specs.Footprint.{SameOutside, one_word}
 use Rattle.blk_format.specs.Headers.{header_length, place_of_bucket, zero_places}
@@ -49,6 +49,10 @@ checked_words = 0 ∷ 4 ∷ 24 ∷ 28 ∷ 36 ∷ zero_places
 -- the write of another word keeps a folder well formed
 abbrev pub OtherWordsAreNotChecked : Type 0
 OtherWordsAreNotChecked = (from image : Image) (at : ℕ) → at % 4 ≡ 0 → is_among checked_words at ≡ false → SameOutside (one_word Index at) from image → IsWellFormed from → IsWellFormed image
+
+-- and so does the write of the word of a bucket
+abbrev pub BucketsAreNotChecked : Type 0
+BucketsAreNotChecked = (from image : Image) (bucket : ℕ) → SameOutside (one_word Index (place_of_bucket bucket)) from image → IsWellFormed from → IsWellFormed image
 
 -- no word of the index says what stands
 abbrev pub IndexWordsStandApart : Type 0

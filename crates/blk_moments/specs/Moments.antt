@@ -1,10 +1,10 @@
 -- How what is shown changes, where little of it does.
-use Rattle.std.specs.Prelude.{◌≡◌, ◌≢◌, ◌⊎◌, ℕ, Bool, true, false, nat_le, List}
+use Rattle.std.specs.Prelude.{◌≡◌, ◌≢◌, ◌⊎◌, ℕ, true, false, nat_le, List}
 use Rattle.std.specs.declared.option.Option.TheVariants.{Some}
 use Rattle.blk_image.specs.Image.{Image}
 use Rattle.blk_format.specs.BlockFiles.{stands_in, IsWellFormed}
-use Rattle.blk_format.specs.Claims.{Claim, claims_of, has_claim}
-use Rattle.blk_volume.specs.ListView.{ListView, ListWrite, after_writes}
+use Rattle.blk_format.specs.Claims.{claims_of, has_claim}
+use Rattle.blk_volume.specs.ListView.{ListWrite, after_writes}
 use Rattle.blk_volume.specs.View.{Stock, Core, list_of, stock_of, view_of}
 use Rattle.blk_volume.specs.Chains.{file_and_block}
 use Rattle.blk_volume.specs.Entries.{is_key_length, longest_short_key}
@@ -32,7 +32,7 @@ pub record OnlyNamedChanges (w : ℕ) (from image : Image) : Type 0 where
   pub named : (u : ℕ) → u ≢ w → (stock_of from).named u ≡ (stock_of image).named u
   pub rest : ShowsTheSame (record (stock_of from) { named = (stock_of image).named }) (stock_of image)
 
--- of all but the records and their links nothing changes, but for keys and data in blocks of one record
+-- beside the record of a word nothing changes: the list, the nodes, the table, its own key, and the keys and data in other blocks than its own
 pub record SameBesideRecord (w : ℕ) (from image : Image) : Type 0 where
   pub list : list_of image ≡ list_of from
   pub named : (u : ℕ) → (stock_of from).named u ≡ (stock_of image).named u

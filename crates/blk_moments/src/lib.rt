@@ -3,8 +3,8 @@
 //! They lead from the bytes that a write changes to what is shown: the use list, what each node says, the table, the chains, the records and data.
 #![tactic(auto)]
 
-ghost use Rattle.blk_moments.specs.BlockMoments.{WritesStayInside, UpdatesStayInside, ListChangesAdd};
-ghost use Rattle.blk_moments.specs.IndexMoments.{HeadsAreWritten, TailsAreWritten, TransactionsAreWritten, OperationsAreWritten, OtherWordsAreNotShown, BucketsAreWritten, OtherWordsAreNotChecked, IndexWordsStandApart};
+ghost use Rattle.blk_moments.specs.BlockMoments.{WritesStayInside, UpdatesStayInside, ListChangesBegin, ListChangesAdd};
+ghost use Rattle.blk_moments.specs.IndexMoments.{HeadsAreWritten, TailsAreWritten, TransactionsAreWritten, OperationsAreWritten, OtherWordsAreNotShown, BucketsAreWritten, OtherWordsAreNotChecked, BucketsAreNotChecked, IndexWordsStandApart};
 ghost use Rattle.blk_moments.specs.NodeMoments.{NextsAreWritten, PrevsAreWritten, TimesAreNotShown, ContentsAreWritten, DirtyWordsAreWritten};
 ghost use Rattle.blk_moments.specs.RecordMoments.{FollowsAreWritten, FieldsAreWritten};
 
@@ -14,11 +14,12 @@ pub fn blocks_change_inside()
     ensures updates { UpdatesStayInside }
 {}
 
-/// At each moment of an update of a node's link the list has the old or the new link, and the times are not shown.
+/// At each moment of an update of a node's link the list has the old or the new link; the times are not shown; and such changes add up.
 pub fn links_are_written()
     ensures next { NextsAreWritten }
     ensures prev { PrevsAreWritten }
     ensures times { TimesAreNotShown }
+    ensures begin { ListChangesBegin }
     ensures add { ListChangesAdd }
 {}
 
@@ -34,7 +35,7 @@ pub fn records_are_written()
     ensures fields { FieldsAreWritten }
 {}
 
-/// A word of the index is a write into the use list, the word of a bucket, or not shown.
+/// A word of the index that is written is a write into the use list, the word of a bucket, or not shown; few of them are checked, and none says what stands.
 pub fn index_words_are_written()
     ensures head { HeadsAreWritten }
     ensures tail { TailsAreWritten }
@@ -43,5 +44,6 @@ pub fn index_words_are_written()
     ensures hidden { OtherWordsAreNotShown }
     ensures buckets { BucketsAreWritten }
     ensures checked { OtherWordsAreNotChecked }
+    ensures table { BucketsAreNotChecked }
     ensures stands { IndexWordsStandApart }
 {}

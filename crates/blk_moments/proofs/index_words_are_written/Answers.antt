@@ -1,4 +1,4 @@
-use Rattle.blk_moments.proofs.IndexWords.{heads-written, tails-written, transactions-written, operations-written, others-hidden, buckets-written, others-unchecked, index-stands}
+use Rattle.blk_moments.proofs.IndexWords.{heads-written, tails-written, transactions-written, operations-written, others-hidden, buckets-written, others-unchecked, buckets-unchecked, index-stands}
 use Rattle.blk_moments.proofs.index_words_are_written.Goals as goal
 
 pub returns : goal.returns
@@ -10,5 +10,6 @@ returns c = record {
   hidden = others-hidden;
   buckets = buckets-written;
   checked = others-unchecked;
+  table = buckets-unchecked;
   stands = index-stands;
 }
