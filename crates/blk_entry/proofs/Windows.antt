@@ -1,10 +1,10 @@
 -- Words of entry records, and where they lie.
-use Rattle.std.proofs.Common.{◌≡◌, ℕ, ◌+◌, ◌*◌, ◌%◌, ◌<◌, ◌≤◌, List, length, refl, sym, ◌∙◌, ap, arith}
+use Rattle.std.proofs.Common.{◌≡◌, ◌≢◌, ℕ, ◌+◌, ◌*◌, ◌%◌, ◌<◌, ◌≤◌, List, length, refl, sym, ◌∙◌, ap, arith}
 use Rattle.std.proofs.lemmas.List.{take_all}
 use Rattle.std.specs.Int.{from_le_bytes, w32}
 use Rattle.blk_image.specs.Bytes.{word_at, range_at}
 use Rattle.blk_image.proofs.Words.{length-range, word-from_bytes}
-use Rattle.blk_format.specs.Address.{kind_of, room, block_count, block_size, blocks_256}
+use Rattle.blk_format.specs.Address.{kind_of, room, block_count, block_size, blocks_256, external}
 use Rattle.blk_format.proofs.Words.{AreFields-of}
 
 -- the bytes of the blocks of an entry record
@@ -20,3 +20,10 @@ pub word_read : (bytes : List ℕ) (i : ℕ) (f : ℕ → ℕ) → bytes ≡ ran
 word_read bytes i f is =
     let size : length bytes ≡ 4 = ap length is ∙ length-range 4 i f in
     word-from_bytes bytes i f (take_all 4 bytes (omega arith) ∙ is)
+
+pub size_of_entry : (w : ℕ) → kind_of w ≡ blocks_256 → block_size (kind_of w) ≡ 256
+unfolding block_size
+size_of_entry w kind = rw kind refl
+
+pub not_external : (w : ℕ) → kind_of w ≡ blocks_256 → kind_of w ≢ external
+not_external w kind e = let z : ◌≡◌ {A = ℕ} 2 0 = sym kind ∙ e in cc
