@@ -7,22 +7,22 @@ use Rattle.std.proofs.lemmas.Bool.Decides.{nat_tests}
 use Rattle.std.specs.Option.{ForSome, option_map, option_and_then}
 use Rattle.std.proofs.Math.Seq.{drop-append_seam}
 use Rattle.blk_image.specs.Bytes.{content, word_at, range_at}
-use Rattle.blk_image.specs.Image.{File, Block, External, Image, HasRange, byte, has_file, length_of, word}
+use Rattle.blk_image.specs.Image.{Block, External, Image, byte, has_file, length_of, word}
 use Rattle.blk_image.specs.Told.{Told}
 use Rattle.blk_image.proofs.Words.{length-range}
-use Rattle.blk_format.specs.Address.{kind_of, block_count, block_size, is_address, external, external_number, file_selector, place, room, blocks_256, blocks_1k, blocks_4k}
+use Rattle.blk_format.specs.Address.{kind_of, block_count, block_size, is_address, external, external_number, file_selector, place, room, blocks_256}
 use Rattle.blk_format.specs.Hash.{hash as hash_of}
-use Rattle.blk_format.specs.Records.{entry_in, entry_size}
+use Rattle.blk_format.specs.Records.{entry_in}
 use Rattle.blk_format.specs.Storage.{entry_blocks, is_storage, kind_for, blocks_for, divided_up}
 use Rattle.blk_format.specs.Standing.{stands}
-use Rattle.blk_format.specs.BlockFiles.{stands_in, stands_in_blocks, linked_as, max_entries_in}
+use Rattle.blk_format.specs.BlockFiles.{stands_in, stands_in_blocks}
 use Rattle.blk_format.proofs.Bodies.{range-add}
 use Rattle.blk_volume.specs.View.{Core, core_at, core_of, entry_at, key_place_at, stands_as, stored_at, stock_of}
 use Rattle.blk_volume.specs.Entries.{is_key_length, key_of, longest_key}
 use Rattle.blk_disk.specs.declared.tables.BlockFiles.{BlockFiles}
 use Rattle.blk_disk.specs.Tables.{Agrees, stands_among}
-use Rattle.blk_disk.proofs.Ranges.{stands_agree, room_small}
-use Rattle.blk_disk.specs.Sealed.{record_at, record_size}
+use Rattle.blk_disk.proofs.Ranges.{stands_agree}
+use Rattle.blk_disk.specs.Sealed.{record_size}
 use Rattle.blk_disk.proofs.SealedReads.{record_read, entry_bytes}
 use Rattle.blk_disk.proofs.SealedFields.{record_word}
 use Rattle.blk_io.specs.declared.folder.FileId.TheVariants as names
@@ -97,9 +97,11 @@ storage_parts size w some e =
     let z : (size == 0) ≡ false = grind (arith, nat_tests) in
     let h : (is_address w && (kind_of w == kind_for size) && ((kind_of w == external) || (block_count w == blocks_for size))) ≡ true = rw z at e in
     let a = and_parts (is_address w && (kind_of w == kind_for size)) ((kind_of w == external) || (block_count w == blocks_for size)) h in
-    let b = and_parts (is_address w) (kind_of w == kind_for size) a.0 in
-    (b.0, eqb-true (kind_of w) (kind_for size) b.1,
-    λ blocky. let t : (kind_of w == external) ≡ false = grind (arith, nat_tests) in eqb-true (block_count w) (blocks_for size) (right_of (kind_of w == external) (block_count w == blocks_for size) t a.1))
+    let b = and_parts (is_address w) (kind_of w == kind_for size) a.0 in (
+      b.0,
+      eqb-true (kind_of w) (kind_for size) b.1,
+      λ blocky. let t : (kind_of w == external) ≡ false = grind (arith, nat_tests) in eqb-true (block_count w) (blocks_for size) (right_of (kind_of w == external) (block_count w == blocks_for size) t a.1),
+    )
 
 pub stores_is : (files : BlockFiles) (size w : ℕ) → is_address w ≡ true → 0 < size
     → stores files size w ≡ ((kind_of w == kind_for size) && ((kind_of w == external) || ((block_count w == blocks_for size) && stands_among files w)))

@@ -1,14 +1,12 @@
 -- The dirty word of a node at each moment of its change, and after it.
-use Rattle.std.proofs.Common.{◌≡◌, ◌≢◌, ◌⊎◌, inl, inr, ⊎_elim, ℕ, ◌+◌, ◌*◌, ◌%◌, ◌^◌, ◌<◌, ◌≤◌, List, [], ◌∷◌, ◌++◌, length, take, All, refl, sym, ◌∙◌, ap, ap₂, subst, arith}
+use Rattle.std.proofs.Common.{◌≡◌, ◌≢◌, inl, inr, ⊎_elim, ℕ, ◌+◌, ◌*◌, ◌%◌, ◌^◌, ◌<◌, ◌≤◌, [], take, refl, sym, ◌∙◌, ap, ap₂, subst, arith}
 use Rattle.std.proofs.lemmas.List.Elements.{All-nil, All-cons}
 use Rattle.blk_image.specs.Bytes.{content, word_at, long_at, range_at}
 use Rattle.blk_image.specs.Image.{Image, Block, AreBytes, byte, word}
-use Rattle.blk_image.proofs.Words.{range-is, content-range, length-range}
 use Rattle.blk_format.specs.Address.{kind_of, file_selector, place, rankings}
 use Rattle.blk_format.specs.Hash.{hash}
 use Rattle.blk_format.specs.Records.{Node, node_in, node_body, node_seal, sealed_node, seal_of}
-use Rattle.blk_format.proofs.Bodies.{node_body-in, range-add}
-use Rattle.blk_volume.specs.View.{node_at}
+use Rattle.blk_format.proofs.Bodies.{node_body-in}
 use Rattle.blk_disk.specs.Sealed.{AreChanges, IsMoment, IsUpdated, record_at, record_size, seal_place}
 use Rattle.blk_disk.proofs.SealedReads.{node_seal as seal_of_node, node_bytes}
 use Rattle.blk_disk.proofs.SealedFields.{record_word, one_change, one_change_others, updated_seal, updated_stays, updated_is_new}
@@ -64,7 +62,7 @@ sealed-alike : (f g : ℕ → ℕ) (i mark : ℕ) → AreAlike f g i → word_at
 unfolding node_in node_body
 sealed-alike f g i mark a dirty below seal =
     let body : hash (range_at g i 32) ≡ node_seal (record (node_in f i) { dirty = mark }) =
-      ap hash (sym (node_body-in i g below)) ∙ ap (λ (n : Node). hash (node_body n)) plain in
+    ap hash (sym (node_body-in i g below)) ∙ ap (λ (n : Node). hash (node_body n)) plain in
     ap₂ (λ (n : Node) (h : ℕ). record n { self_hash = h }) plain (seal ∙ body)
   where
     plain : record (node_in g i) { self_hash = 0 } ≡ record (node_in f i) { dirty = mark; self_hash = 0 }

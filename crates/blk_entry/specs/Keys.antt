@@ -1,6 +1,6 @@
 -- The key of an entry record: where it lies, and what a read of it gives.
-use Rattle.std.specs.Prelude.{ℕ, ◌≡◌, ◌≢◌, ◌⊎◌, ◌+◌, ◌-◌, ◌<◌, ◌≤◌, min, List, length, take, drop, Bool, false, true, not, ◌&&◌, ◌||◌, nat_le, ◌==◌, if◌then◌else◌, Option, None, Some}
-use Rattle.std.specs.Option.{ForSome, option_and_then}
+use Rattle.std.specs.Prelude.{ℕ, ◌≡◌, ◌≢◌, ◌⊎◌, ◌+◌, ◌-◌, ◌≤◌, min, List, length, take, drop, Bool, false, true, ◌&&◌, ◌||◌, nat_le, ◌==◌, if◌then◌else◌, Option, None, Some}
+use Rattle.std.specs.Option.{option_and_then}
 use Rattle.blk_image.specs.Bytes.{range_at}
 use Rattle.blk_image.specs.Image.{File, Block, External, Image, HasRange, byte}
 use Rattle.blk_image.specs.Told.{Told}
@@ -8,7 +8,7 @@ use Rattle.blk_format.specs.Address.{kind_of, block_count, external, external_nu
 use Rattle.blk_format.specs.Hash.{hash as hash_of}
 use Rattle.blk_format.specs.Records.{entry_size}
 use Rattle.blk_format.specs.Storage.{entry_blocks, is_storage}
-use Rattle.blk_volume.specs.View.{Core, core_at, entry_at, stock_of}
+use Rattle.blk_volume.specs.View.{core_at, entry_at, stock_of}
 use Rattle.blk_volume.specs.Entries.{is_key_length, key_of, longest_short_key}
 use Rattle.blk_io.specs.declared.folder.FileId.{FileId}
 use Rattle.blk_io.specs.declared.folder.FileId.TheVariants as names

@@ -17,12 +17,7 @@ use blk_io::{Fault, Folder};
 /// The word of an entry record at a place in bytes from its front, a multiple of 4 below 96.
 ///
 /// One folder call reads it. Too few bytes, which a folder that tells its files never gives, are a damage.
-pub fn field<F: Folder>(
-    f: &mut F,
-    files: &BlockFiles,
-    entry: Addr,
-    at: u32,
-) -> Result<u32, Fault>
+pub fn field<F: Folder>(f: &mut F, files: &BlockFiles, entry: Addr, at: u32) -> Result<u32, Fault>
     requires kind { kind_of entry ≡ blocks_256 }
     requires stands { IsTrue (stands_among files.now entry) }
     requires place { IsField entry_size at }

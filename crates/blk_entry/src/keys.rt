@@ -90,7 +90,11 @@ pub fn key_piece<F: Folder>(
 }
 
 // Reads the words of a record that say what key it has. The record is to check.
-pub(crate) fn read_head<F: Folder>(f: &mut F, files: &BlockFiles, entry: Addr) -> Result<Head, Fault>
+pub(crate) fn read_head<F: Folder>(
+    f: &mut F,
+    files: &BlockFiles,
+    entry: Addr,
+) -> Result<Head, Fault>
     requires kind { kind_of entry ≡ blocks_256 }
     requires stands { IsTrue (stands_among files.now entry) }
     requires agrees { ForSome (F.told f.old).files (Agrees files.now) }

@@ -11,3 +11,8 @@ pub use compare::key_equals;
 pub use fields::field;
 pub use keys::key_piece;
 pub use marks::{set_clean, set_dirty};
+
+#[cfg(test)]
+mod silent;
+#[cfg(test)]
+mod tests;

@@ -77,12 +77,7 @@ pub fn set_clean<F: Folder>(f: &mut F, files: &BlockFiles, node: Addr) -> Result
 }
 
 // Makes the dirty word of a node this one.
-fn write_mark<F: Folder>(
-    f: &mut F,
-    files: &BlockFiles,
-    node: Addr,
-    mark: u32,
-) -> Result<(), Fault>
+fn write_mark<F: Folder>(f: &mut F, files: &BlockFiles, node: Addr, mark: u32) -> Result<(), Fault>
     requires kind { kind_of node ≡ rankings }
     requires stands { IsTrue (stands_among files.now node) }
     requires agrees { ForSome (F.told f.old).files (Agrees files.now) }

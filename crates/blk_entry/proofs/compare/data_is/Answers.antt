@@ -1,11 +1,10 @@
-use Rattle.std.proofs.Common.{◌≡◌, ◌+◌, ◌≤◌, ℕ, List, length, take, drop, true, false, Some, sym, ◌∙◌, ap, subst, refl, arith}
+use Rattle.std.proofs.Common.{◌≡◌, ◌+◌, ◌≤◌, length, Some, sym, ◌∙◌, ap, subst, refl, arith}
 use Rattle.std.specs.Option.{ForSome}
-use Rattle.blk_image.specs.Image.{Image, byte}
+use Rattle.blk_image.specs.Image.{byte}
 use Rattle.blk_image.specs.Told.{Told}
 use Rattle.blk_disk.specs.Tables.{Agrees}
 use Rattle.blk_entry.specs.Keys.{data_at, data_file, data_start}
 use Rattle.blk_entry.proofs.KeyPlaces.{clash, first_same, next_same, none_same}
-use Rattle.blk_entry.proofs.compare.data_is.Given as given
 use Rattle.blk_entry.proofs.compare.data_is.Goals as goal
 
 pub piece_is-requires-clause-agrees : goal.piece_is-requires-clause-agrees
@@ -15,10 +14,10 @@ pub returns-then-not-branch-clause-same : goal.returns-then-not-branch-clause-sa
 returns-then-not-branch-clause-same g c image there = (
   λ no. absurd (clash no),
   λ all. let now : (g.F.Folder.told c.loop-rest.f).files ≡ Some image = ap (λ (t : Told). t.files) c.loop-rest.invariant.told ∙ there in
-    let rest = (c.loop-rest.invariant.same image there).1 all in
-    let fits : c.min.result ≤ length c.loop-rest.rest.now = omega (arith, c.min.ensures) in
-    let piece = first_same image c.args.addr c.loop-rest.place c.min.result c.loop-rest.rest.now c.split_at.result.0.now c.split_at.result.1.now c.split_at.ensures.front c.split_at.ensures.back fits rest in
-    sym c.if-not-branch.true ∙ (c.in_ok-piece_is.ensures.same image now).1 piece,
+      let rest = (c.loop-rest.invariant.same image there).1 all in
+      let fits : c.min.result ≤ length c.loop-rest.rest.now = omega (arith, c.min.ensures) in
+      let piece = first_same image c.args.addr c.loop-rest.place c.min.result c.loop-rest.rest.now c.split_at.result.0.now c.split_at.result.1.now c.split_at.ensures.front c.split_at.ensures.back fits rest in
+      sym c.if-not-branch.true ∙ (c.in_ok-piece_is.ensures.same image now).1 piece,
 )
 
 pub loop-rest-preserved : goal.loop-rest-preserved

@@ -1,12 +1,10 @@
-use Rattle.std.proofs.Common.{◌≡◌, ◌+◌, ◌≤◌, ◌↔◌, ℕ, List, length, true, false, Some, None, sym, ◌∙◌, ap, subst, refl, arith}
+use Rattle.std.proofs.Common.{◌≡◌, ◌↔◌, length, Some, None, sym, ◌∙◌, ap, subst, arith}
 use Rattle.std.specs.Option.{ForSome}
 use Rattle.std.specs.Prelude.{IsTrue}
-use Rattle.blk_image.specs.Image.{Image}
 use Rattle.blk_image.specs.Told.{Told}
 use Rattle.blk_disk.specs.Tables.{Agrees}
 use Rattle.blk_entry.specs.Keys.{IsEntryOf, data_at}
 use Rattle.blk_entry.proofs.KeyPlaces.{clash, damaged_any, entry_of, head_facts, ok_weaker, untold_where, whole_there}
-use Rattle.blk_entry.proofs.compare.key_equals.Given as given
 use Rattle.blk_entry.proofs.compare.key_equals.Goals as goal
 
 pub returns-in_err-place-clause-untold : goal.returns-in_err-place-clause-untold
@@ -32,7 +30,7 @@ pub returns-then-head-key-clause-equal : goal.returns-then-head-key-clause-equal
 returns-then-head-key-clause-equal g c image there = (
   λ no. absurd (clash no),
   λ of_entry. let known = head_facts c.args.files.now image c.args.entry c.in_ok-head.head c.args.key.now (c.requires.agrees image there) c.requires.kind (c.in_ok-head.ensures.head image there) of_entry.is in
-    absurd (c.if-head-key.true (sym known.len)),
+      absurd (c.if-head-key.true (sym known.len)),
 )
 
 pub returns-then-head-super_fast_hash-clause-equal : goal.returns-then-head-super_fast_hash-clause-equal
@@ -47,7 +45,7 @@ returns-clause-equal g c =
     (λ same. ForSome (g.F.Folder.told c.args.f.now).files (λ image. IsTrue same ↔ IsEntryOf c.args.key.now c.args.entry image))
     (λ same read_as image there. let now : (g.F.Folder.told c.read_head.new.f).files ≡ Some image = ap (λ (t : Told). t.files) c.in_ok-head.ensures.stays ∙ there in
     let there_is = entry_of c.args.files.now image c.args.entry c.in_ok-head.head c.args.key.now c.in_ok-place.place (c.requires.agrees image there) c.requires.kind (c.in_ok-head.ensures.head image there) (c.requires.key image there) c.in_ok-place.ensures.place
-      c.if-head-key.false (c.if-head-super_fast_hash.false ∙ c.super_fast_hash.ensures) in
+    c.if-head-key.false (c.if-head-super_fast_hash.false ∙ c.super_fast_hash.ensures) in
     let whole = read_as image now in
     (λ yes. there_is.0 (whole.0 yes), λ of_entry. whole.1 (there_is.1 of_entry)))
     c.data_is.ensures.same

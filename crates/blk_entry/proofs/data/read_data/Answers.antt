@@ -1,10 +1,9 @@
-use Rattle.std.proofs.Common.{◌≡◌, ◌≢◌, ◌+◌, ◌≤◌, ◌<◌, ◌^◌, ℕ, length, sym, ◌∙◌, arith, subst, ap}
+use Rattle.std.proofs.Common.{◌≡◌, ◌≢◌, ℕ, length, sym, ◌∙◌, ap}
 use Rattle.std.proofs.lemmas.Result.{on_ok_weaker}
 use Rattle.blk_image.specs.Bytes.{range_at}
-use Rattle.blk_image.specs.Image.{External, HasRange, byte}
+use Rattle.blk_image.specs.Image.{External, byte}
 use Rattle.blk_format.specs.Address.{kind_of, external, external_number}
-use Rattle.blk_entry.proofs.KeyPlaces.{data_of_blocks, data_of_external, damaged_weaker, few_is_cut}
-use Rattle.blk_entry.proofs.data.read_data.Given as given
+use Rattle.blk_entry.proofs.KeyPlaces.{data_of_blocks, data_of_external}
 use Rattle.blk_entry.proofs.data.read_data.Goals as goal
 
 pub returns-then-number-eq-EXTERNAL-clause-bytes : goal.returns-then-number-eq-EXTERNAL-clause-bytes

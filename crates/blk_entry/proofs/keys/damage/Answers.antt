@@ -1,5 +1,5 @@
-use Rattle.std.proofs.Common.{◌≡◌, ◌≢◌, ℕ, ◌+◌, ◌*◌, ap, sym, ◌∙◌, refl, arith}
-use Rattle.blk_format.specs.Address.{kind_of, external, place, block_size, first_block}
+use Rattle.std.proofs.Common.{◌≡◌, ◌≢◌, ℕ, ◌+◌, ◌*◌, ap, sym, ◌∙◌, refl}
+use Rattle.blk_format.specs.Address.{kind_of, external, place}
 use Rattle.blk_disk.proofs.Ranges.{name_is}
 use Rattle.blk_disk.proofs.Standings.{start_is, place_is}
 use Rattle.blk_entry.proofs.Windows.{size_of_entry, not_external}

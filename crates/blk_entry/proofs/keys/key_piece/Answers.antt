@@ -1,14 +1,11 @@
-use Rattle.std.proofs.Common.{◌≡◌, ◌+◌, ◌≤◌, ℕ, List, length, take, length-take, Err, None, Some, Result, sym, ◌∙◌, ap, ap₂, subst, refl, arith}
+use Rattle.std.proofs.Common.{◌≡◌, ◌+◌, ℕ, length, take, length-take, None, Some, sym, ◌∙◌, ap, ap₂, subst, arith}
 use Rattle.std.specs.Option.{ForSome}
-use Rattle.std.specs.Prelude.{IsOk}
 use Rattle.blk_image.specs.Bytes.{range_at}
-use Rattle.blk_image.specs.Image.{Image, byte}
+use Rattle.blk_image.specs.Image.{byte}
 use Rattle.blk_image.specs.Told.{Told}
-use Rattle.blk_format.specs.Address.{external}
 use Rattle.blk_disk.specs.Tables.{Agrees}
-use Rattle.blk_entry.specs.Keys.{HasKey, key_at, data_file, data_start, IsInFile}
+use Rattle.blk_entry.specs.Keys.{data_file, data_start}
 use Rattle.blk_entry.proofs.KeyPlaces.{clash, head_facts, untold_where, damaged_any, piece_is, key_in_place, piece_there}
-use Rattle.blk_entry.proofs.keys.key_piece.Given as given
 use Rattle.blk_entry.proofs.keys.key_piece.Goals as goal
 
 pub read_data-requires-clause-agrees : goal.read_data-requires-clause-agrees

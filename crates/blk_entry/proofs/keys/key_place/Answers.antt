@@ -1,9 +1,7 @@
-use Rattle.std.proofs.Common.{◌≡◌, ◌≤◌, ◌<◌, true, false, sym, ◌∙◌, refl, arith, ap, subst, Some, None, ℕ}
+use Rattle.std.proofs.Common.{◌≡◌, true, false, sym, ◌∙◌, refl, arith, subst, ℕ}
 use Rattle.std.proofs.lemmas.Bool.Decides.{nat_tests}
-use Rattle.blk_disk.specs.Tables.{stands_among}
-use Rattle.blk_entry.specs.Keys.{may_have, is_short, key_address, bytes_before, IsInside}
+use Rattle.blk_entry.specs.Keys.{is_short, key_address, bytes_before, IsInside}
 use Rattle.blk_entry.proofs.KeyPlaces.{may_have_parts, short_inside, long_inside, held_is}
-use Rattle.blk_entry.proofs.keys.key_place.Given as given
 use Rattle.blk_entry.proofs.keys.key_place.Goals as goal
 
 pub returns-then-head-le-MOST_IN_RECORD-clause-place : goal.returns-then-head-le-MOST_IN_RECORD-clause-place

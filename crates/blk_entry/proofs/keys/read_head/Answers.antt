@@ -1,12 +1,10 @@
-use Rattle.std.proofs.Common.{◌≡◌, ◌⊎◌, ℕ, List, inr, Err, None, Some, true, false, Bool, if◌then◌else◌, sym, ◌∙◌, ap, subst, refl, arith}
+use Rattle.std.proofs.Common.{◌≡◌, ◌⊎◌, ℕ, List, inr, None, Some, false, Bool, if◌then◌else◌, sym, ◌∙◌, ap, arith}
 use Rattle.blk_image.specs.Bytes.{content, word_at}
-use Rattle.blk_image.specs.Told.{Told}
 use Rattle.blk_format.specs.Address.{file_selector, place}
 use Rattle.blk_format.specs.Records.{entry_size, checks}
 use Rattle.blk_io.specs.declared.folder.FileId.TheVariants as FileId
-use Rattle.blk_io.specs.declared.fault.Fault.{Fault}
-use Rattle.blk_io.specs.Faults.{IfDamaged, IsShort}
-use Rattle.blk_disk.specs.Sealed.{IsUnsealed, wrong_seal}
+use Rattle.blk_io.specs.Faults.{IsShort}
+use Rattle.blk_disk.specs.Sealed.{IsUnsealed}
 use Rattle.blk_disk.proofs.SealedReads.{entry_bytes, entry_seal, record_read, unsealed_is, untold_unsealed}
 use Rattle.blk_entry.specs.declared.keys.Head.{Head}
 use Rattle.blk_entry.proofs.Windows.{entry_room_least}
@@ -41,5 +39,5 @@ returns-clause-head g c image there =
     let window : List ℕ = c.read_block.new.out in
     let same = c.in-Some.ensures.same in
     let h = head_is image c.args.entry window c.word-2.result c.word-3.result c.word-4.result c.requires.kind (c.in_ok-read_block.ensures.bytes image there)
-      (c.word-2.ensures ∙ ap (λ (l : List ℕ). word_at (content l) 0) same) (c.word-3.ensures ∙ ap (λ (l : List ℕ). word_at (content l) 32) same) (c.word-4.ensures ∙ ap (λ (l : List ℕ). word_at (content l) 36) same) in
+    (c.word-2.ensures ∙ ap (λ (l : List ℕ). word_at (content l) 0) same) (c.word-3.ensures ∙ ap (λ (l : List ℕ). word_at (content l) 32) same) (c.word-4.ensures ∙ ap (λ (l : List ℕ). word_at (content l) 36) same) in
     record { hash = h.0; key_len = h.1; long_key = h.2 }

@@ -5,7 +5,6 @@ use Rattle.blk_format.specs.Address.{kind_of, block_count, external}
 use Rattle.blk_format.specs.Storage.{kind_for, blocks_for}
 use Rattle.blk_disk.specs.Tables.{stands_among}
 use Rattle.blk_disk.proofs.Standings.{count_is}
-use Rattle.blk_entry.specs.Keys.{stores}
 use Rattle.blk_entry.proofs.KeyPlaces.{stores_is, stores_stand, stores_none}
 use Rattle.blk_entry.proofs.keys.stores.Goals as goal
 
