@@ -1,0 +1,50 @@
+use Rattle.std.proofs.Common.{◌≡◌, ◌+◌, ◌≤◌, length, Some, sym, ◌∙◌, ap, subst, refl, arith}
+use Rattle.std.specs.Option.{ForSome}
+use Rattle.blk_image.specs.Image.{byte}
+use Rattle.blk_image.specs.Told.{Told}
+use Rattle.blk_disk.specs.Tables.{Agrees}
+use Rattle.blk_entry.specs.Keys.{data_at, data_file, data_start}
+use Rattle.blk_entry.proofs.KeyPlaces.{clash, first_same, next_same, none_same}
+use Rattle.blk_entry.proofs.compare.data_is.Goals as goal
+
+pub piece_is-requires-clause-agrees : goal.piece_is-requires-clause-agrees
+piece_is-requires-clause-agrees g c = subst (λ (t : Told). ForSome t.files (Agrees c.args.files.now)) (sym c.loop-rest.invariant.told) c.requires.agrees
+
+pub returns-then-not-branch-clause-same : goal.returns-then-not-branch-clause-same
+returns-then-not-branch-clause-same g c image there = (
+  λ no. absurd (clash no),
+  λ all. let now : (g.F.Folder.told c.loop-rest.f).files ≡ Some image = ap (λ (t : Told). t.files) c.loop-rest.invariant.told ∙ there in
+      let rest = (c.loop-rest.invariant.same image there).1 all in
+      let fits : c.min.result ≤ length c.loop-rest.rest.now = omega (arith, c.min.ensures) in
+      let piece = first_same image c.args.addr c.loop-rest.place c.min.result c.loop-rest.rest.now c.split_at.result.0.now c.split_at.result.1.now c.split_at.ensures.front c.split_at.ensures.back fits rest in
+      sym c.if-not-branch.true ∙ (c.in_ok-piece_is.ensures.same image now).1 piece,
+)
+
+pub loop-rest-preserved : goal.loop-rest-preserved
+loop-rest-preserved g c = record {
+  told = c.in_ok-piece_is.ensures.stays ∙ c.loop-rest.invariant.told;
+  later = let a = c.in_ok-piece_is.ensures.later in let b = c.loop-rest.invariant.later in omega (arith, a, b);
+  inside = let i = c.loop-rest.invariant.inside in record {
+    small = let h = i.small in omega (arith, h, sizes);
+    stands = i.stands;
+    room = λ blocky. let h = i.room blocky in omega (arith, h, sizes);
+  };
+  outside = λ image there e. let h = c.loop-rest.invariant.outside image there e in omega (arith, h, sizes);
+  same =
+      λ image there. let now : (g.F.Folder.told c.loop-rest.f).files ≡ Some image = ap (λ (t : Told). t.files) c.loop-rest.invariant.told ∙ there in
+      next_same image c.args.addr c.loop-rest.place c.min.result c.loop-rest.rest.now c.split_at.result.0.now c.split_at.result.1.now c.split_at.ensures.front c.split_at.ensures.back fits
+      (c.args.bytes.now ≡ data_at image c.args.addr c.args.at (length c.args.bytes.now))
+      ((c.in_ok-piece_is.ensures.same image now).0 c.if-not-branch.false) (c.loop-rest.invariant.same image there);
+}
+  where
+    fits : c.min.result ≤ length c.loop-rest.rest.now
+    fits = omega (arith, c.min.ensures)
+
+    sizes : length c.split_at.result.0.now + length c.split_at.result.1.now ≡ length c.loop-rest.rest.now
+    sizes = omega (arith, c.split_at.ensures.front_len, c.split_at.ensures.back_len, fits)
+
+pub returns-clause-same : goal.returns-clause-same
+returns-clause-same g c image there = (
+  λ yes. (c.loop-rest.invariant.same image there).0 (none_same (byte image (data_file c.args.addr)) (data_start c.args.addr + c.loop-rest.place) c.loop-rest.rest.now (sym c.is_empty.ensures ∙ c.loop-rest-test.false)),
+  λ all. refl,
+)

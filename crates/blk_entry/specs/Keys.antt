@@ -1,0 +1,147 @@
+-- The key of an entry record: where it lies, and what a read of it gives.
+use Rattle.std.specs.Prelude.{ℕ, ◌≡◌, ◌≢◌, ◌⊎◌, ◌+◌, ◌-◌, ◌≤◌, min, List, length, take, drop, Bool, false, true, ◌&&◌, ◌||◌, nat_le, ◌==◌, if◌then◌else◌, Option, None, Some}
+use Rattle.std.specs.Option.{option_and_then}
+use Rattle.blk_image.specs.Bytes.{range_at}
+use Rattle.blk_image.specs.Image.{File, Block, External, Image, HasRange, byte}
+use Rattle.blk_image.specs.Told.{Told}
+use Rattle.blk_format.specs.Address.{kind_of, block_count, external, external_number, file_selector, place, room}
+use Rattle.blk_format.specs.Hash.{hash as hash_of}
+use Rattle.blk_format.specs.Records.{entry_size}
+use Rattle.blk_format.specs.Storage.{entry_blocks, is_storage}
+use Rattle.blk_volume.specs.View.{core_at, entry_at, stock_of}
+use Rattle.blk_volume.specs.Entries.{is_key_length, key_of, longest_short_key}
+use Rattle.blk_io.specs.declared.folder.FileId.{FileId}
+use Rattle.blk_io.specs.declared.folder.FileId.TheVariants as names
+use Rattle.blk_io.specs.declared.fault.Damage.{Damage}
+use Rattle.blk_io.specs.declared.fault.Fault.{Fault}
+use Rattle.blk_io.specs.declared.fault.Fault.TheVariants.{Damaged}
+use Rattle.blk_io.specs.Faults.{IsShort}
+use Rattle.blk_disk.specs.declared.tables.BlockFiles.{BlockFiles}
+use Rattle.blk_disk.specs.Tables.{stands_among}
+use Rattle.blk_disk.specs.Sealed.{IsUnsealed}
+use Rattle.blk_entry.specs.declared.keys.Head.{Head}
+use Rattle.blk_entry.specs.declared.keys.KeyPlace.{KeyPlace}
+
+-- the key of the record that a word names, where the length and the place of the key are right
+unfoldable pub key_at : Image → ℕ → Option (List ℕ)
+key_at image entry = option_and_then (λ core. if is_key_length entry core then key_of (stock_of image) entry core else None) (core_at image entry)
+
+-- a word names a record with a key
+pub record HasKey (entry : ℕ) (image : Image) : Type 0 where
+  pub key : List ℕ
+  pub is : key_at image entry ≡ Some key
+
+-- a word names a record with this very key, and the record has the hash of it
+pub record IsEntryOf (key : List ℕ) (entry : ℕ) (image : Image) : Type 0 where
+  pub hash : (entry_at image entry).hash ≡ hash_of key
+  pub is : key_at image entry ≡ Some key
+
+-- so many bytes of a key from a place on, as many as there are and as fit, are at the front of the new buffer; behind them it is the old
+pub record IsPiece (key : List ℕ) (place : ℕ) (old new : List ℕ) (count : ℕ) : Type 0 where
+  pub many : count ≡ min (length old) (length key - place)
+  pub front : take count new ≡ take count (drop place key)
+  pub rest : drop count new ≡ drop count old
+
+-- the file in which the data of an address lies, and where it begins there
+unfoldable pub data_file : ℕ → File
+data_file w = if kind_of w == external then External (external_number w) else Block (file_selector w)
+
+unfoldable pub data_start : ℕ → ℕ
+data_start w = if kind_of w == external then 0 else place w
+
+-- so many bytes of the data of an address, from a place in it on
+abbrev pub data_at : Image → ℕ → ℕ → ℕ → List ℕ
+data_at image w place n = range_at (byte image (data_file w)) (data_start w + place) n
+
+-- The checks of a key that is read.
+
+-- the longest key of any record: that of a child
+abbrev pub most_key : ℕ
+most_key = 32796
+
+-- whether a record of an address may have a key of so many bytes
+unfoldable pub may_have : ℕ → ℕ → Bool
+may_have entry key_len = nat_le 1 key_len && nat_le key_len most_key && (block_count entry == entry_blocks key_len)
+
+-- whether a word is the storage of data of a size, and stands where it is one of blocks
+unfoldable pub stores : BlockFiles → ℕ → ℕ → Bool
+stores files size w = is_storage size w && ((kind_of w == external) || stands_among files w)
+
+-- whether a word may be that of a long key of so many bytes, which has one zero byte behind it
+abbrev pub may_hold : BlockFiles → ℕ → ℕ → Bool
+may_hold files key_len w = stores files (key_len + 1) w
+
+-- a read gave fewer bytes than asked
+pub record IsCut (told : Told) (damage : Damage) : Type 0 where
+  pub file : FileId
+  pub place : ℕ
+  pub count : ℕ
+  pub short : IsShort told file place count damage
+
+-- the length of the key, at place 32 of the record, is one that the record can't have
+pub record IsUnfit (entry : ℕ) (damage : Damage) : Type 0 where
+  pub of_file : damage.file ≡ names.Block (file_selector entry)
+  pub at_place : damage.at ≡ place entry + 32
+  pub unfit : may_have entry damage.found ≡ false
+
+-- the word of a long key, at place 36 of the record, is no address that stands and stores the key
+pub record IsAstray (files : BlockFiles) (entry : ℕ) (damage : Damage) : Type 0 where
+  pub key_len : ℕ
+  pub of_file : damage.file ≡ names.Block (file_selector entry)
+  pub at_place : damage.at ≡ place entry + 36
+  pub astray : may_hold files key_len damage.found ≡ false
+
+-- the key's length or the word of a long key is wrong
+abbrev pub IsMisplaced : BlockFiles → ℕ → Damage → Type 0
+IsMisplaced files entry damage = IsUnfit entry damage ⊎ IsAstray files entry damage
+
+-- a damage where a key is read: too few bytes, a record that doesn't check, or a wrong length or word
+abbrev pub IsKeyDamage : BlockFiles → Told → ℕ → Damage → Type 0
+IsKeyDamage files told entry damage = IsCut told damage ⊎ (IsUnsealed told entry damage ⊎ IsMisplaced files entry damage)
+
+-- Steps of the reading.
+
+-- the words of a record that say what key it has
+pub record IsHead (image : Image) (entry : ℕ) (head : Head) : Type 0 where
+  pub hash : head.hash ≡ (entry_at image entry).hash
+  pub key_len : head.key_len ≡ (entry_at image entry).key_len
+  pub long_key : head.long_key ≡ (entry_at image entry).long_key
+
+-- the longest key that lies in its record
+abbrev pub is_short : ℕ → Bool
+is_short key_len = nat_le key_len longest_short_key
+
+-- the address at whose data a key lies, and how many bytes lie before it: in the record, or where the word of a long key says
+unfoldable pub key_address : ℕ → ℕ → ℕ → ℕ
+key_address entry key_len long_key = if is_short key_len then entry else long_key
+
+unfoldable pub bytes_before : ℕ → ℕ
+bytes_before key_len = if is_short key_len then entry_size else 0
+
+-- a place is that of a key of so many bytes of a record with this word of a long key
+pub record IsPlaceOf (entry key_len long_key : ℕ) (place : KeyPlace) : Type 0 where
+  pub addr : place.addr ≡ key_address entry key_len long_key
+  pub skip : place.skip ≡ bytes_before key_len
+  pub len : place.len ≡ key_len
+
+-- the bytes of a place are there, where it is one of blocks
+pub record IsInside (files : BlockFiles) (w before n : ℕ) : Type 0 where
+  pub small : before + n ≤ most_key + entry_size
+  pub stands : kind_of w ≢ external → stands_among files w ≡ true
+  pub room : kind_of w ≢ external → before + n ≤ room w
+
+-- the bytes of an external file are there
+abbrev pub IsInFile : ℕ → ℕ → ℕ → Image → Type 0
+IsInFile w before n image = kind_of w ≡ external → HasRange image (External (external_number w)) before n
+
+-- a fault is a damage of the word at a place of a record
+pub record IsDamageAt (entry at found : ℕ) (fault : Fault) : Type 0 where
+  pub damage : Damage
+  pub is : fault ≡ Damaged damage
+  pub of_file : damage.file ≡ names.Block (file_selector entry)
+  pub at_place : damage.at ≡ place entry + at
+  pub of_word : damage.found ≡ found
+
+-- a word that may hold a long key
+abbrev pub held : BlockFiles → ℕ → ℕ → Option ℕ
+held files key_len w = if may_hold files key_len w then Some w else None

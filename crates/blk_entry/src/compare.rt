@@ -1,0 +1,108 @@
+// Keys that are compared with those of entry records.
+ghost use Rattle.std.specs.Prelude.{◌≡◌, ◌≤◌, ◌↔◌, IfOk, IsTrue, None, length};
+ghost use Rattle.std.specs.Option.{ForSome};
+ghost use Rattle.blk_image.specs.Told.{Rises, Stays};
+ghost use Rattle.blk_format.specs.Address.{blocks_256, kind_of};
+ghost use Rattle.blk_io.specs.Faults.{IfDamaged, IfDevice};
+ghost use Rattle.blk_disk.specs.Tables.{Agrees, stands_among};
+ghost use Rattle.blk_disk.specs.Sealed.{RecordChecks};
+ghost use Rattle.blk_entry.specs.Keys.{HasKey, IsCut, IsEntryOf, IsInFile, IsInside, IsKeyDamage, data_at};
+
+use crate::data::read_data;
+use crate::keys::{key_place, read_head};
+use blk_addr::Addr;
+use blk_disk::BlockFiles;
+use blk_io::{Fault, Folder};
+use blk_record::super_fast_hash;
+
+// The bytes that are compared at a time.
+const PIECE: usize = 512;
+
+/// Whether an entry has this very key, and its hash.
+///
+/// One folder call reads the record. Where its hash and length are those of the key, the key is read in
+/// pieces up to the first that differs. A damage is one of those that `key_piece` gives.
+pub fn key_equals<F: Folder>(
+    f: &mut F,
+    files: &BlockFiles,
+    entry: Addr,
+    key: &[u8],
+) -> Result<bool, Fault>
+    requires kind { kind_of entry ≡ blocks_256 }
+    requires stands { IsTrue (stands_among files.now entry) }
+    requires agrees { ForSome (F.told f.old).files (Agrees files.now) }
+    requires checks { ForSome (F.told f.old).files (RecordChecks entry) }
+    requires key { ForSome (F.told f.old).files (HasKey entry) }
+    ensures equal { IfOk result (λ same. ForSome (F.told f.old).files (λ image. IsTrue same ↔ IsEntryOf key.now entry image)) }
+    ensures damaged { IfDamaged result (IsKeyDamage files.now (F.told f.old) entry) }
+    ensures untold { IfDamaged result (λ _. (F.told f.old).files ≡ None) }
+    ensures stays { Stays (F.told f.old) (F.told f.new) }
+    ensures later { F.faults f.old ≤ F.faults f.new }
+    ensures device { IfDevice result (Rises (F.faults f.old) (F.faults f.new)) }
+{
+    let head = read_head(f, files, entry)?;
+    if head.key_len as usize != key.len() {
+        return Ok(false);
+    }
+    if head.hash != super_fast_hash(key) {
+        return Ok(false);
+    }
+    let place = key_place(files, entry, head)?;
+    data_is(f, files, place.addr, place.skip, key)
+}
+
+// Whether these bytes are those of the data of an address, from a place in it on.
+fn data_is<F: Folder>(
+    f: &mut F,
+    files: &BlockFiles,
+    addr: Addr,
+    at: u32,
+    bytes: &[u8],
+) -> Result<bool, Fault>
+    requires inside { IsInside files.now addr at (length bytes.now) }
+    requires agrees { ForSome (F.told f.old).files (Agrees files.now) }
+    requires external { ForSome (F.told f.old).files (IsInFile addr at (length bytes.now)) }
+    ensures same { IfOk result (λ same. ForSome (F.told f.old).files (λ image. IsTrue same ↔ (bytes.now ≡ data_at image addr at (length bytes.now)))) }
+    ensures short { IfDamaged result (IsCut (F.told f.old)) }
+    ensures untold { IfDamaged result (λ _. (F.told f.old).files ≡ None) }
+    ensures stays { Stays (F.told f.old) (F.told f.new) }
+    ensures later { F.faults f.old ≤ F.faults f.new }
+    ensures device { IfDevice result (Rises (F.faults f.old) (F.faults f.new)) }
+{
+    let mut place = at;
+    let mut rest = bytes;
+    while !rest.is_empty() {
+        let (piece, more) = rest.split_at(rest.len().min(PIECE));
+        if !piece_is(f, files, addr, place, piece)? {
+            return Ok(false);
+        }
+        place += piece.len() as u32;
+        rest = more;
+    }
+    Ok(true)
+}
+
+// The same for a few bytes.
+fn piece_is<F: Folder>(
+    f: &mut F,
+    files: &BlockFiles,
+    addr: Addr,
+    at: u32,
+    bytes: &[u8],
+) -> Result<bool, Fault>
+    requires few { length bytes.now ≤ 512 }
+    requires inside { IsInside files.now addr at (length bytes.now) }
+    requires agrees { ForSome (F.told f.old).files (Agrees files.now) }
+    requires external { ForSome (F.told f.old).files (IsInFile addr at (length bytes.now)) }
+    ensures same { IfOk result (λ same. ForSome (F.told f.old).files (λ image. IsTrue same ↔ (bytes.now ≡ data_at image addr at (length bytes.now)))) }
+    ensures short { IfDamaged result (IsCut (F.told f.old)) }
+    ensures untold { IfDamaged result (λ _. (F.told f.old).files ≡ None) }
+    ensures stays { Stays (F.told f.old) (F.told f.new) }
+    ensures later { F.faults f.old ≤ F.faults f.new }
+    ensures device { IfDevice result (Rises (F.faults f.old) (F.faults f.new)) }
+{
+    let mut buffer = [0u8; PIECE];
+    let piece = &mut buffer[..bytes.len()];
+    read_data(f, files, addr, at, piece)?;
+    Ok(*bytes == *piece)
+}

@@ -1,0 +1,201 @@
+// The keys of entry records.
+ghost use Rattle.std.specs.Prelude.{◌≡◌, ◌⊎◌, ◌≤◌, ◌<◌, IfOk, IsOk, IsTrue, None, OnOk, false, true, length};
+ghost use Rattle.std.specs.Option.{ForSome};
+ghost use Rattle.blk_image.specs.Told.{Rises, Stays};
+ghost use Rattle.blk_format.specs.Address.{blocks_256, is_address, file_selector, kind_of, place};
+ghost use Rattle.blk_format.specs.Records.{entry_size};
+ghost use Rattle.blk_io.specs.declared.folder.FileId.TheVariants as FileId;
+ghost use Rattle.blk_io.specs.Faults.{IfDamaged, IfDevice, IsShort};
+ghost use Rattle.blk_disk.specs.Tables.{Agrees, stands_among};
+ghost use Rattle.blk_disk.specs.Sealed.{IsUnsealed, RecordChecks};
+ghost use Rattle.blk_entry.specs.Keys as keys;
+ghost use Rattle.blk_entry.specs.Keys.{HasKey, IsHead, IsInside, IsKeyDamage, IsMisplaced, IsPiece, IsPlaceOf, is_short, key_at, key_address, bytes_before};
+
+use crate::data::{EXTERNAL, number, read_data};
+use blk_addr::{Addr, blocks_for, entry_blocks, kind_for};
+use blk_disk::{BlockFiles, file_of};
+use blk_io::{Damage, Fault, Folder};
+use blk_record::{EntryView, Record};
+
+// The bytes of an entry record before its key, and the places of its key's length and of a long key's word.
+const RECORD: usize = 96;
+
+const BEFORE_KEY: u32 = 96;
+
+const KEY_LEN: u64 = 32;
+
+const LONG_KEY: u64 = 36;
+
+const SEAL: u64 = 92;
+
+// The longest key in a record, and the longest key of all.
+const MOST_IN_RECORD: u32 = 927;
+
+const MOST_KEY: u32 = 32796;
+
+// The byte at which the first block of a block file begins, and the bytes of a block of a record.
+const HEADER: u64 = 8192;
+
+const BLOCK: u64 = 256;
+
+// The words of a record that say what key it has.
+#[derive(Clone, Copy, Debug)]
+pub(crate) struct Head {
+    pub(crate) hash: u32,
+    pub(crate) key_len: u32,
+    pub(crate) long_key: u32,
+}
+
+// Where a key lies: its bytes in the data of an address, behind some others.
+#[derive(Clone, Copy, Debug)]
+pub(crate) struct KeyPlace {
+    pub(crate) addr: Addr,
+    pub(crate) skip: u32,
+    pub(crate) len: u32,
+}
+
+/// Copies a piece of an entry's key into the front of `out`: the bytes from a place on, as many as
+/// there are and as fit. The number of them is given, which is 0 at or past the key's end.
+///
+/// One folder call reads the record, and one the piece. A damage is a read that gave too few bytes, a
+/// record that doesn't check, a length that the key can't have, or the word of a long key that is no
+/// address which stands and stores the key. A folder that tells its files never gives one.
+pub fn key_piece<F: Folder>(
+    f: &mut F,
+    files: &BlockFiles,
+    entry: Addr,
+    at: u32,
+    out: &mut [u8],
+) -> Result<usize, Fault>
+    requires kind { kind_of entry ≡ blocks_256 }
+    requires stands { IsTrue (stands_among files.now entry) }
+    requires agrees { ForSome (F.told f.old).files (Agrees files.now) }
+    requires checks { ForSome (F.told f.old).files (RecordChecks entry) }
+    requires key { ForSome (F.told f.old).files (HasKey entry) }
+    ensures within { IfOk result (λ n. n ≤ length out.old) }
+    ensures piece { IfOk result (λ n. ForSome (F.told f.old).files (λ image. ForSome (key_at image entry) (λ key. IsPiece key at out.old out.new n))) }
+    ensures damaged { IfDamaged result (IsKeyDamage files.now (F.told f.old) entry) }
+    ensures untold { IfDamaged result (λ _. (F.told f.old).files ≡ None) }
+    ensures stays { Stays (F.told f.old) (F.told f.new) }
+    ensures later { F.faults f.old ≤ F.faults f.new }
+    ensures device { IfDevice result (Rises (F.faults f.old) (F.faults f.new)) }
+{
+    let head = read_head(f, files, entry)?;
+    let key = key_place(files, entry, head)?;
+    let at = at.min(key.len);
+    let n = ((key.len - at) as usize).min(out.len());
+    let piece = &mut out[..n];
+    read_data(f, files, key.addr, key.skip + at, piece)?;
+    Ok(n)
+}
+
+// Reads the words of a record that say what key it has. The record is to check.
+pub(crate) fn read_head<F: Folder>(
+    f: &mut F,
+    files: &BlockFiles,
+    entry: Addr,
+) -> Result<Head, Fault>
+    requires kind { kind_of entry ≡ blocks_256 }
+    requires stands { IsTrue (stands_among files.now entry) }
+    requires agrees { ForSome (F.told f.old).files (Agrees files.now) }
+    requires checks { ForSome (F.told f.old).files (RecordChecks entry) }
+    ensures head { IfOk result (λ head. ForSome (F.told f.old).files (λ image. IsHead image entry head)) }
+    ensures damaged { IfDamaged result (λ damage. IsShort (F.told f.old) (FileId.Block (file_selector entry)) (place entry) entry_size damage ⊎ IsUnsealed (F.told f.old) entry damage) }
+    ensures untold { IfDamaged result (λ _. (F.told f.old).files ≡ None) }
+    ensures stays { Stays (F.told f.old) (F.told f.new) }
+    ensures later { F.faults f.old ≤ F.faults f.new }
+    ensures device { IfDevice result (Rises (F.faults f.old) (F.faults f.new)) }
+{
+    let mut window = [0u8; RECORD];
+    files.read_block(f, entry, 0, &mut window)?;
+    let Some(record) = EntryView::over(&window) else {
+        unreachable!();
+    };
+    if !record.checks() {
+        return Err(damage(entry, SEAL, record.word(92)));
+    }
+    Ok(Head {
+        hash: record.word(0),
+        key_len: record.word(32),
+        long_key: record.word(36),
+    })
+}
+
+// The damage of a word of a record.
+fn damage(entry: Addr, at: u64, found: u32) -> Fault
+    requires kind { kind_of entry ≡ blocks_256 }
+    requires small { at < entry_size }
+    ensures { keys.IsDamageAt entry at found result }
+{
+    let at = HEADER + u64::from(entry.start()) * BLOCK + at;
+    Fault::Damaged(Damage {
+        file: file_of(entry),
+        at,
+        found,
+    })
+}
+
+// Where the key of a record lies.
+pub(crate) fn key_place(files: &BlockFiles, entry: Addr, head: Head) -> Result<KeyPlace, Fault>
+    requires kind { kind_of entry ≡ blocks_256 }
+    requires stands { IsTrue (stands_among files.now entry) }
+    ensures place { IfOk result (IsPlaceOf entry head.key_len head.long_key) }
+    ensures inside { IfOk result (λ key. IsInside files.now key.addr key.skip key.len) }
+    ensures right { keys.may_have entry head.key_len ≡ true → (is_short head.key_len ≡ false → keys.may_hold files.now head.key_len head.long_key ≡ true) → IsOk result }
+    ensures damaged { IfDamaged result (IsMisplaced files.now entry) }
+    ensures never { IfDevice result ⊥ }
+{
+    if !may_have(entry, head.key_len) {
+        return Err(damage(entry, KEY_LEN, head.key_len));
+    }
+    if head.key_len <= MOST_IN_RECORD {
+        return Ok(KeyPlace {
+            addr: entry,
+            skip: BEFORE_KEY,
+            len: head.key_len,
+        });
+    }
+    match long_key(files, head.key_len, head.long_key) {
+        Some(addr) => Ok(KeyPlace {
+            addr,
+            skip: 0,
+            len: head.key_len,
+        }),
+        None => Err(damage(entry, LONG_KEY, head.long_key)),
+    }
+}
+
+// Whether a record may have a key of so many bytes.
+#[tactic(auto, unfolding(crate::specs::Keys::may_have))]
+fn may_have(entry: Addr, key_len: u32) -> bool
+    requires { kind_of entry ≡ blocks_256 }
+    ensures { result ≡ keys.may_have entry key_len }
+{
+    1 <= key_len && key_len <= MOST_KEY && entry.blocks() == entry_blocks(key_len)
+}
+
+// The address of a long key of so many bytes, where the word is one that may hold it.
+fn long_key(files: &BlockFiles, key_len: u32, word: u32) -> Option<Addr>
+    requires { key_len ≤ keys.most_key }
+    ensures { result ≡ keys.held files.now key_len word }
+{
+    let addr = Addr::from_word(word)?;
+    if stores(files, addr, key_len + 1) {
+        Some(addr)
+    } else {
+        None
+    }
+}
+
+// Whether an address is the storage of data of a size, and stands where it is one of blocks.
+fn stores(files: &BlockFiles, addr: Addr, size: u32) -> bool
+    requires address { is_address addr ≡ true }
+    requires some { 0 < size }
+    ensures { result ≡ keys.stores files.now size addr }
+{
+    let kind = number(addr.kind());
+    if kind != number(kind_for(size)) {
+        return false;
+    }
+    kind == EXTERNAL || (addr.blocks() == blocks_for(size) && files.stands(addr))
+}

@@ -1,0 +1,18 @@
+//! Entries: their records, keys and dirty marks.
+#![tactic(auto)]
+
+mod compare;
+mod data;
+mod fields;
+mod keys;
+mod marks;
+
+pub use compare::key_equals;
+pub use fields::field;
+pub use keys::key_piece;
+pub use marks::{set_clean, set_dirty};
+
+#[cfg(test)]
+mod silent;
+#[cfg(test)]
+mod tests;
