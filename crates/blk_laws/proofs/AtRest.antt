@@ -1,8 +1,7 @@
 -- Operations on lists at rest.
-use Rattle.std.proofs.Common.{◌≡◌, ℕ, ◌++◌, ◌∷◌, List}
-use Rattle.blk_volume.specs.ListView.{ListView}
+use Rattle.std.proofs.Common.{◌≡◌}
 use Rattle.blk_volume.specs.ListPlans.{completion_writes, outcome}
-use Rattle.blk_laws.specs.ListLaws.{IsAtRest, CanBeInserted, InsertsTurnAtTwo, InsertsEnd, RemovalsTurnAtTwo, RemovalsEnd, TouchesTurnAtTwo, TouchesEnd, CompletionsEnd}
+use Rattle.blk_laws.specs.ListLaws.{InsertsTurnAtTwo, InsertsEnd, RemovalsTurnAtTwo, RemovalsEnd, TouchesTurnAtTwo, TouchesEnd, CompletionsEnd}
 use Rattle.blk_laws.proofs.ListWrites.{EachMoment-last, completion_keeps}
 use Rattle.blk_laws.proofs.ListMoments.{insert_turns, insert_ends, remove_turns, remove_ends, touch_turns, touch_ends, completion_ends}
 

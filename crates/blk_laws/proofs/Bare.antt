@@ -1,17 +1,16 @@
 -- A bare folder is sound, holds nothing, and stands for the empty state.
-use Rattle.std.proofs.Common.{◌≡◌, ℕ, zero, suc, ◌+◌, ◌*◌, ◌<◌, ◌≤◌, List, [], ◌∷◌, ◌++◌, length, map, refl, ap, sym, ◌∙◌, subst, inl, arith, Bool, true, false, Option, Some, None}
-use Rattle.std.specs.Prelude.{◌&&◌, is_some, if◌then◌else◌}
+use Rattle.std.proofs.Common.{◌≡◌, ℕ, ◌+◌, ◌<◌, List, [], ◌∷◌, map, refl, ap, sym, ◌∙◌, subst, inl, arith, Bool, true, false, Option, Some, None}
+use Rattle.std.specs.Prelude.{if◌then◌else◌}
 use Rattle.blk_model.specs.Items.{Row}
 use Rattle.blk_format.specs.Headers.{unfinished}
 use Rattle.std.specs.Option.{IsSomeAnd}
-use Rattle.std.specs.List.{flat_map}
 use Rattle.blk_model.specs.State.{Bounds, Object, object_at}
-use Rattle.blk_model.specs.Holding.{open_state, objects_in, rest}
-use Rattle.blk_image.specs.Image.{Block, External, Image, length_of}
+use Rattle.blk_model.specs.Holding.{open_state}
+use Rattle.blk_image.specs.Image.{Image}
 use Rattle.blk_format.specs.Address.{is_address, is_initialized, block_place}
 use Rattle.blk_format.specs.Standing.{stands}
 use Rattle.blk_format.specs.Claims.{has_claim, repeats}
-use Rattle.blk_format.specs.BlockFiles.{linked_as, max_entries_in}
+use Rattle.blk_format.specs.BlockFiles.{max_entries_in}
 use Rattle.blk_format.specs.Maps.{groups_with, groups_of, is_marked, EmptyAgrees}
 use Rattle.blk_volume.specs.ListView.{ListView, IsList}
 use Rattle.blk_volume.specs.Walk.{walk}
@@ -23,9 +22,9 @@ use Rattle.blk_volume.specs.Audit.{kept_among, dropped_among, kept_by, dropped_b
 use Rattle.blk_volume.specs.Found.{completed, kept, dropped, found}
 use Rattle.blk_volume.specs.Layout.{Represents}
 use Rattle.blk_volume.specs.Emptiness.{no_layout}
-use Rattle.blk_volume.specs.Sound.{ChainsEnd, AreOwned, IsInOrder, IsSound}
+use Rattle.blk_volume.specs.Sound.{AreOwned, IsInOrder, IsSound}
 use Rattle.blk_volume.specs.StandsFor.{KeepsDoomed, AreDoomed, StandsFor, IsAllocated}
-use Rattle.blk_laws.specs.BareLaws.{IsBare, IsBareFile, BareFoldersHoldNothing, BareFoldersAreSound, BareFoldersRepresentTheEmptyState, BareFoldersStandForTheEmptyState}
+use Rattle.blk_laws.specs.BareLaws.{IsBare, IsBareFile, BareFoldersHoldNothing}
 use Rattle.blk_laws.proofs.Empty.{no-object, empty-valid, empty-view}
 use Rattle.blk_laws.proofs.Chains.{chain-is}
 use Rattle.blk_laws.proofs.Central.{flat_map-none, walk-order, chain-end}
@@ -70,6 +69,10 @@ module _ (image : Image) (bare : IsBare image) where
   unfolding open_state
   walk-empty = walk-order (view_of image) (open_state [] any-limits) no_layout (represents-empty any-limits)
 
+  -- also where no operation is in flight to be completed
+  pub walk-bare : walk (completed (view_of image)).list ≡ []
+  walk-bare = ap (λ (v : View). walk v.list) idle ∙ walk-empty
+
   kept-none : (rule : Rule) → kept_by rule (view_of image) ≡ []
   unfolding kept_among
   kept-none rule = rw walk-empty refl
@@ -107,7 +110,7 @@ module _ (image : Image) (bare : IsBare image) where
     only_linked = bare.only_linked;
     long_enough = λ n kind linked. let f : IsBareFile image n = bare.blocks n (rw linked refl) in rw f.max_entries (omega (arith, f.long_enough));
     counted = λ n linked. let f : IsBareFile image n = bare.blocks n linked in
-      record { num_entries = f.allocations; empty = λ i small. f.empty i small ∙ sym (no-groups n i f.max_entries); updating = f.updating };
+        record { num_entries = f.allocations; empty = λ i small. f.empty i small ∙ sym (no-groups n i f.max_entries); updating = f.updating };
     index = record { tail = bare.index.tail; sizes = bare.index.sizes; num_entries = bare.index.num_entries; num_bytes = bare.index.num_bytes };
     sealed = tt;
   }

@@ -1,23 +1,13 @@
 -- What is read of blocks whose bytes are the same, and how data fits into its blocks.
-use Rattle.std.proofs.Common.{◌≡◌, ℕ, zero, suc, ◌+◌, ◌-◌, ◌*◌, ◌/◌, ◌<◌, ◌≤◌, ◌≢◌, List, [], ◌∷◌, length, refl, ap, ap₂, sym, ◌∙◌, subst, arith, ◌⊎◌, inl, inr, ⊎_elim, Bool, true, false, cond, Option, Some}
-use Rattle.std.specs.Prelude.{if◌then◌else◌, not, ◌==◌, nat_le, nat_lt}
-use Rattle.std.specs.List.{AllByRecursion}
+use Rattle.std.proofs.Common.{◌≡◌, ℕ, zero, suc, ◌+◌, ◌-◌, ◌*◌, ◌/◌, ◌≤◌, ◌≢◌, List, ◌∷◌, refl, ap, ap₂, ◌∙◌, arith, ◌⊎◌, inl, inr, ⊎_elim, Bool, true, false, cond}
+use Rattle.std.specs.Prelude.{if◌then◌else◌, not, ◌==◌, nat_le}
 use Rattle.std.proofs.lemmas.Bool.{eq-eqb}
-use Rattle.std.proofs.lemmas.Bool.Decides.{nat_tests, eqb_tells}
-use Rattle.std.proofs.lemmas.Bool.{cases_lt}
-use Rattle.std.proofs.Math.Dec.{eqb}
-use Rattle.std.specs.Prelude.{unwrap_or}
-use Rattle.blk_image.specs.Bytes.{content, word_at, words_at}
-use Rattle.blk_image.specs.Image.{Block, External, same_file, Image, bytes_of, length_of, byte}
-use Rattle.blk_image.specs.Steps.{Word, applied}
-use Rattle.blk_format.specs.Address.{kind_of, block_count, file_selector, external_number, place, room, external, block_size}
+use Rattle.std.proofs.lemmas.Bool.Decides.{nat_tests}
+use Rattle.blk_image.specs.Bytes.{word_at, words_at}
+use Rattle.blk_format.specs.Address.{kind_of, block_count, room, external, block_size}
 use Rattle.blk_format.specs.Storage.{is_storage, kind_for, blocks_for}
 use Rattle.blk_format.specs.Records.{node_in, entry_in}
-use Rattle.blk_format.specs.BlockFiles.{stands_in}
-use Rattle.blk_volume.specs.View.{key_place_at, stored_at}
-use Rattle.blk_image.proofs.Words.{SameFrom, same-word, same-range}
-use Rattle.blk_image.proofs.Images.{bytes_of-written, other-word}
-use Rattle.blk_image.proofs.Splices.{length-spliced, content-spliced_outside}
+use Rattle.blk_image.proofs.Words.{SameFrom, same-word}
 
 pub part_of : (i n j m : ℕ) (f g : ℕ → ℕ) → SameFrom i n f g → i ≤ j → j + m ≤ i + n → SameFrom j m f g
 part_of i n j m f g same low high = λ k a b. same k (omega arith) (omega arith)

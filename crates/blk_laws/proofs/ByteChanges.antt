@@ -1,21 +1,19 @@
 -- A change of bytes that a footprint of blocks covers is a change of the view inside that footprint.
-use Rattle.std.proofs.Common.{◌≡◌, ℕ, zero, suc, ◌+◌, ◌-◌, ◌*◌, ◌/◌, ◌%◌, ◌<◌, ◌≤◌, ◌≢◌, List, [], ◌∷◌, map, refl, ap, ap₂, sym, ◌∙◌, subst, arith, ◌⊎◌, inl, inr, ⊎_elim, Bool, true, false, Option, Some, None}
-use Rattle.std.specs.Prelude.{if◌then◌else◌, ◌&&◌, ◌||◌, ◌==◌, nat_le, nat_lt, not, is_some}
+use Rattle.std.proofs.Common.{◌≡◌, ℕ, zero, suc, ◌+◌, ◌-◌, ◌*◌, ◌/◌, ◌<◌, ◌≤◌, ◌≢◌, List, [], map, refl, ap, sym, ◌∙◌, subst, arith, ◌⊎◌, inl, inr, ⊎_elim, Bool, true, false, Option, Some, None}
+use Rattle.std.specs.Prelude.{if◌then◌else◌, ◌&&◌, ◌==◌, nat_le, nat_lt, not, is_some}
 use Rattle.std.specs.List.{range_with_len}
 use Rattle.std.proofs.lemmas.Bool.{eqb-true, eq-eqb, cases_Bool, cases_lt, and_parts, or_left, or_right, lt-ltb, le-ltb, le-leb, leb-true}
-use Rattle.std.proofs.lemmas.Bool.Decides.{nat_tests}
 use Rattle.std.proofs.Math.Nat.{mul-le-mul_left}
-use Rattle.blk_image.specs.Bytes.{half_at, word_at, words_at}
+use Rattle.blk_image.specs.Bytes.{word_at}
 use Rattle.blk_image.specs.Image.{Index, Block, External, Image, byte, length_of, has_file}
 use Rattle.blk_image.specs.Footprint as files
-use Rattle.blk_image.proofs.Words.{SameFrom, same-word, same-range}
-use Rattle.blk_image.proofs.Footprints.{same_file_outside, same_word_outside}
-use Rattle.blk_format.specs.Address.{is_initialized, is_address, names_external, names_blocks, is_block_kind, kind_of, block_count, file_selector, first_block, external_number, place, room, block_place, block_size, external, rankings, blocks_256}
+use Rattle.blk_image.proofs.Words.{SameFrom, same-range}
+use Rattle.blk_image.proofs.Footprints.{same_file_outside}
+use Rattle.blk_format.specs.Address.{is_initialized, is_address, kind_of, block_count, file_selector, first_block, external_number, place, room, block_place, block_size, external, rankings, blocks_256}
 use Rattle.blk_format.specs.Storage.{is_storage, entry_blocks}
 use Rattle.blk_format.specs.Standing.{is_linked_as, stands, stands_as_blocks}
-use Rattle.blk_format.specs.Records.{Node, Entry, node_in, entry_in, node_checks}
-use Rattle.blk_format.specs.Headers.{bucket_of}
-use Rattle.blk_format.specs.BlockFiles.{is_among, linked, files_along, next_file_in, max_entries_in, type_among, linked_as, stands_in}
+use Rattle.blk_format.specs.Records.{Node, Entry, node_checks}
+use Rattle.blk_format.specs.BlockFiles.{linked, files_along, next_file_in, max_entries_in, type_among, linked_as, stands_in}
 use Rattle.blk_format.specs.Claims.{Claim, BlockOf, ExternalOf, same_claim, claims_of, has_claim}
 use Rattle.blk_volume.specs.View.{stands_as, block_bytes, node_at, entry_at, Named, Core, core_of, checks_at, next_at, prev_at, list_of, named_at, core_at, follow_at, key_place_at, stored_at, stock_of, view_of}
 use Rattle.blk_volume.specs.Entries.{is_key_length, longest_key}
@@ -37,7 +35,7 @@ pub false_unless : (b : Bool) → (b ≡ true → ⊥) → b ≡ false
 false_unless true never = absurd (never refl)
 false_unless false never = refl
 
-not_equal : (m n : ℕ) → m ≢ n → (m == n) ≡ false
+pub not_equal : (m n : ℕ) → m ≢ n → (m == n) ≡ false
 not_equal m n apart = false_unless (m == n) (λ e. apart (eqb-true m n e))
 
 -- each block of an address is claimed by it
@@ -117,7 +115,7 @@ linked-some None kind e = absurd (let z : false ≡ true = e in cc)
 linked-some (Some k) kind e = ap Some (eqb-true k kind e)
 
 module _ (image : Image) (w : ℕ) (st : stands_in image w ≡ true) where
-  stands-address : is_address w ≡ true
+  pub stands-address : is_address w ≡ true
   unfolding stands
   stands-address = (and_parts (is_address w) _ st).0
 
@@ -165,13 +163,16 @@ module _ (F : files.Footprint) (old new : Image) (touched : Claim → Bool) (sam
   external-of w address is clear =
       external-same (external_number w) (clear (ExternalOf (external_number w)) (external-claim w (λ e. let a : is_address 0 ≡ true = ap is_address (sym e) ∙ address in let c : false ≡ true = sym zero-no_address ∙ a in cc) is))
 
-  -- an address that is clear stands in both or in neither
-  pub stands-same : (w : ℕ) → IsClear touched w → stands_in new w ≡ stands_in old w
+  -- an address of blocks, and an external one that is clear, stands in both or in neither
+  pub stands-if_clear : (w : ℕ) → (kind_of w ≡ external → IsClear touched w) → stands_in new w ≡ stands_in old w
   unfolding stands stands_as_blocks
-  stands-same w clear = and_under (is_address w) _ _ (λ address. ⊎_elim
-      (λ (e : (kind_of w == external) ≡ true). rw e (ap (λ (f : Option (List ℕ)). is_some f) (external-of w address (eqb-true (kind_of w) external e) clear)))
+  stands-if_clear w clear = and_under (is_address w) _ _ (λ address. ⊎_elim
+      (λ (e : (kind_of w == external) ≡ true). rw e (ap (λ (f : Option (List ℕ)). is_some f) (external-of w address (eqb-true (kind_of w) external e) (clear (eqb-true (kind_of w) external e)))))
       (λ (e : (kind_of w == external) ≡ false). rw e (rw (linked_as-same, count-same) (ap (λ (f : ℕ → ℕ). is_linked_as (linked_as old (file_selector w)) (kind_of w) && nat_le (first_block w + block_count w) (max_entries_in old (file_selector w)) && nat_le (place w + room w) (f (file_selector w))) lengths-same)))
       (cases_Bool (kind_of w == external)))
+
+  stands-same : (w : ℕ) → IsClear touched w → stands_in new w ≡ stands_in old w
+  stands-same w clear = stands-if_clear w (λ is. clear)
 
   stands_as-same : (kind w : ℕ) → IsClear touched w → stands_as new kind w ≡ stands_as old kind w
   stands_as-same kind w clear = ap (λ (b : Bool). b && (kind_of w == kind)) (stands-same w clear)
@@ -238,7 +239,7 @@ module _ (F : files.Footprint) (old new : Image) (touched : Claim → Bool) (sam
   table-shown : (i : ℕ) → 368 ≤ i → is_shown_place i ≡ true
   table-shown i behind = or_right _ (nat_le 368 i) (le-leb 368 i behind)
 
-  list-same : SameLinks touched (list_of old) (list_of new)
+  pub list-same : SameLinks touched (list_of old) (list_of new)
   unfolding list_of checks_at next_at prev_at
   list-same = record {
     head = index-word 288 refl refl refl refl;

@@ -1,9 +1,9 @@
 -- A record linked in front of a chain, and the chains of other buckets.
-use Rattle.std.proofs.Common.{◌≡◌, ℕ, zero, suc, ◌^◌, List, [], ◌∷◌, refl, ap, sym, ◌∙◌, subst, Bool, false, true, arith}
-use Rattle.std.specs.Prelude.{if◌then◌else◌, ◌==◌}
+use Rattle.std.proofs.Common.{◌≡◌, ℕ, zero, suc, ◌^◌, List, [], ◌∷◌, refl, ap, sym, ◌∙◌, subst, arith}
+use Rattle.std.specs.Prelude.{if◌then◌else◌}
 use Rattle.blk_volume.specs.ListView.{put}
 use Rattle.blk_volume.specs.View.{Stock}
-use Rattle.blk_volume.specs.Chains.{Chain, chain, chain_from, is_reached, file_and_block, Linked, IsChain}
+use Rattle.blk_volume.specs.Chains.{Chain, chain_from, is_reached, file_and_block, Linked}
 use Rattle.blk_laws.specs.ListLaws.{RecordsAreLinkedInFront, OtherChainsStay}
 use Rattle.blk_laws.proofs.Changing.{at-itself, at-elsewhere}
 use Rattle.blk_laws.proofs.Creating.{linked-table}

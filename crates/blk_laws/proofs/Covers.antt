@@ -1,16 +1,15 @@
 -- What covers the bytes of blocks, of external files, of headers and of the index.
-use Rattle.std.proofs.Common.{◌≡◌, ◌≢◌, ◌⊎◌, inl, inr, ⊎_elim, ℕ, ◌+◌, ◌*◌, ◌<◌, ◌≤◌, refl, ap, sym, ◌∙◌, subst, arith, Bool, true, false, Option, Some}
-use Rattle.std.specs.Prelude.{◌&&◌, ◌||◌, ◌==◌, nat_le, nat_lt, nat_eq}
-use Rattle.std.proofs.lemmas.Bool.{eqb-true, eq-eqb, cases_Bool, and_parts, or_left, or_right, leb-true, ltb-true}
+use Rattle.std.proofs.Common.{◌≡◌, ◌⊎◌, inl, inr, ⊎_elim, ℕ, ◌+◌, ◌*◌, ◌<◌, ◌≤◌, refl, ap, sym, ◌∙◌, subst, arith, Bool, true, false, Some}
+use Rattle.std.specs.Prelude.{◌&&◌, ◌||◌, nat_le, nat_lt}
+use Rattle.std.proofs.lemmas.Bool.{eq-eqb, and_parts, leb-true, ltb-true}
 use Rattle.std.proofs.lemmas.Bool.Decides.{nat_tests}
-use Rattle.std.proofs.Math.Nat.{mul-le-mul_left}
-use Rattle.blk_image.specs.Image.{Index, Block, External, Image, File, same_file}
-use Rattle.blk_image.specs.Footprint.{Footprint, range, whole, either, IsWithin}
+use Rattle.blk_image.specs.Image.{Index, Block, External, File, same_file}
+use Rattle.blk_image.specs.Footprint.{range}
 use Rattle.blk_image.proofs.Images.{same_file-true}
-use Rattle.blk_format.specs.Address.{kind_of, block_count, file_selector, first_block, place, room, block_place, block_size, external}
-use Rattle.blk_format.specs.BlockFiles.{linked_as, stands_in}
-use Rattle.blk_format.specs.Claims.{Claim, BlockOf, ExternalOf, same_claim, claims_of, has_claim}
-use Rattle.blk_volume.specs.Footprint.{Covers, is_shown_place, is_extent_place}
+use Rattle.blk_format.specs.Address.{kind_of, block_count, file_selector, first_block, place, room, block_place, block_size}
+use Rattle.blk_format.specs.BlockFiles.{linked_as}
+use Rattle.blk_format.specs.Claims.{BlockOf, ExternalOf, claims_of, has_claim}
+use Rattle.blk_volume.specs.Footprint.{is_shown_place, is_extent_place}
 use Rattle.blk_laws.specs.ByteLaws.{BlocksAreCovered, ExternalFilesAreCovered, HeadersNeedNoCover, HiddenWordsNeedNoCover, CoversOfLess, MoreCovers, CoversOfEither}
 use Rattle.blk_laws.proofs.ByteChanges.{block-claim, false_unless, stands-some, stands-linked, size-is}
 

@@ -31,7 +31,7 @@ use Rattle.blk_laws.proofs.Laid.{IsNodeOf, node-of, laid-shown, settled-goes}
 use Rattle.blk_laws.proofs.Shown.{kept-given}
 use Rattle.blk_laws.proofs.Central.{rest-found}
 use Rattle.blk_laws.proofs.Owner.{IsOwned, owned}
-use Rattle.blk_laws.proofs.Changing.{apart-sym, at-itself, at-elsewhere}
+use Rattle.blk_laws.proofs.Changing.{at-itself, at-elsewhere}
 use Rattle.blk_model.specs.Holding as model
 
 -- ---- a state with one more object

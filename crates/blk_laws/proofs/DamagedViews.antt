@@ -1,17 +1,17 @@
 -- Worked lists, chains and reasons, computed on views.
-use Rattle.std.proofs.Common.{◌≡◌, ℕ, List, [], ◌∷◌, refl, Bool, true, false, Option, Some, None, is_some}
+use Rattle.std.proofs.Common.{◌≡◌, ℕ, List, [], ◌∷◌, refl, true, false, Option, Some, None, is_some}
 use Rattle.std.specs.Prelude.{if◌then◌else◌, map, ◌==◌, ◌&&◌, codes}
 use Rattle.std.specs.Option.{option_map_or}
 use Rattle.blk_format.specs.Hash.{of_one, of_bytes, mixed, hash}
 use Rattle.blk_format.specs.Address.{kind_of, block_count, file_selector, first_block, external_number}
 use Rattle.blk_format.specs.Storage.{entry_blocks}
 use Rattle.blk_format.specs.Claims.{claims_of, has_claim, overlap, repeats}
-use Rattle.blk_format.specs.Names.{read_name, split_last, child_name, hex_text}
+use Rattle.blk_format.specs.Names.{read_name, split_last}
 use Rattle.blk_format.specs.SparseIndex.{read_parent_index}
 use Rattle.blk_volume.specs.ListView.{ListView}
 use Rattle.blk_volume.specs.Walk.{walk, walk_from}
 use Rattle.blk_volume.specs.Completion.{counts, completed_list}
-use Rattle.blk_volume.specs.View.{View, Stock, Named, Core}
+use Rattle.blk_volume.specs.View.{View, Named, Core}
 use Rattle.blk_volume.specs.Chains.{chain_from, chain}
 use Rattle.blk_volume.specs.Entries.{is_key_length, key_of, stream_of, streams_of, role_of, parent_role, part_role}
 use Rattle.blk_volume.specs.Reasons.{Reason}

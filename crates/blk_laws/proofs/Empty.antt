@@ -1,6 +1,5 @@
 -- What shows nothing represents the empty state.
-use Rattle.std.proofs.Common.{◌≡◌, ℕ, zero, suc, ◌<◌, List, [], refl, true, false, arith, Some, None}
-use Rattle.blk_model.specs.Items.{IsValidHolding}
+use Rattle.std.proofs.Common.{◌≡◌, ℕ, zero, suc, ◌<◌, [], refl, true, false, arith, Some, None}
 use Rattle.blk_model.specs.State.{Bounds, Object, IsValidState, object_at}
 use Rattle.blk_model.specs.Holding.{open_state, objects_in}
 use Rattle.blk_model.proofs.Opened.{open_valid}

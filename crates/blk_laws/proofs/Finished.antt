@@ -1,11 +1,11 @@
 -- A well-formed image is finished.
-use Rattle.std.proofs.Common.{◌≡◌, ℕ, List, [], ◌∷◌, ◌++◌, refl, Bool, true, false, Option, Some, None}
+use Rattle.std.proofs.Common.{◌≡◌, ℕ, List, [], ◌∷◌, refl, Bool, true, false, Option, Some, None}
 use Rattle.std.specs.Prelude.{◌==◌, ◌||◌, not, nat_lt, is_some, length, unwrap_or}
 use Rattle.std.proofs.lemmas.Bool.{eqb-true}
-use Rattle.blk_image.specs.Image.{Index, File, Image, byte, length_of, has_file}
+use Rattle.blk_image.specs.Image.{Index, File, Image, byte, length_of}
 use Rattle.blk_image.specs.Checks.{Damage, first_of, check_found}
-use Rattle.blk_format.specs.Headers.{head_checks, list_checks, magic_of, index_magic, index_length, unfinished}
-use Rattle.blk_format.specs.BlockFiles.{block_checks, IsWellFormed}
+use Rattle.blk_format.specs.Headers.{head_checks, magic_of, index_magic, index_length, unfinished}
+use Rattle.blk_format.specs.BlockFiles.{IsWellFormed}
 
 passed : (file : File) (at found : ℕ) (holds : Bool) (checks : List (Option Damage)) → first_of (check_found file at found holds ∷ checks) ≡ None → (holds ≡ true) × (first_of checks ≡ None)
 passed file at found true checks e = (refl, e)

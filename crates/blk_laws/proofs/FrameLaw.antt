@@ -11,7 +11,6 @@ use Rattle.blk_format.specs.SparseIndex.{ParentIndex, PartIndex, read_part_index
 use Rattle.blk_format.specs.Claims.{repeats, overlap}
 use Rattle.blk_volume.specs.View.{View, Stock, Named, Core}
 use Rattle.blk_format.specs.BlockFiles.{is_among}
-use Rattle.blk_volume.specs.Chains.{chain}
 use Rattle.blk_volume.specs.Reasons.{Reason}
 use Rattle.blk_volume.specs.Loads.{Rule, held, Loaded, load, record_claims, all_claims}
 use Rattle.blk_volume.specs.Entries.{is_key_length, key_of, Role, IsPlain, IsParent, IsPart, parent_role, part_role, role_of}

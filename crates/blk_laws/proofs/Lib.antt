@@ -39,3 +39,7 @@ pub mod Bare
 pub mod NewFolders
 pub mod DamagedViews
 pub mod SmallFolder
+pub mod OneEntry
+pub mod Premises
+pub mod NodeWords
+pub mod ListBytes

@@ -1,15 +1,14 @@
 -- At each write of an operation, completing gives the old list or the new one.
-use Rattle.std.proofs.Common.{◌≡◌, ℕ, zero, suc, ◌+◌, ◌≤◌, ◌<◌, ◌≢◌, Bool, true, false, not, ◌&&◌, ◌||◌, cond, eqb, ltb, List, [], ◌∷◌, ◌++◌, length, take, refl, sym, ap, ◌∙◌, subst, arith, ◌⊎◌, inl, inr, length-append}
-use Rattle.std.proofs.lemmas.Bool.Decides.{nat_tests}
-use Rattle.std.proofs.lemmas.Bool.{cond_above, cond_both, eq-eqb, ne_eqb, eqb-true, eqb-false, and_parts, or_parts, or_left, or_right}
-use Rattle.blk_volume.specs.ListView.{ListWrite, Next, Prev, Head, Tail, Transaction, Operation, ListView, with_write, after_writes, put, first_or, last_or, Distinct, Joined, Segment, IsList}
+use Rattle.std.proofs.Common.{◌≡◌, ℕ, zero, suc, ◌<◌, Bool, true, false, ◌&&◌, ◌||◌, cond, eqb, ltb, List, [], ◌∷◌, ◌++◌, length, take, refl, sym, ap, ◌∙◌, subst, arith, length-append}
+use Rattle.std.proofs.lemmas.Bool.{cond_above, cond_both, eq-eqb, or_parts, or_right}
+use Rattle.blk_volume.specs.ListView.{ListWrite, Transaction, Operation, ListView, with_write, after_writes, first_or, last_or, Segment, IsList}
 use Rattle.blk_volume.specs.Completion.{counts, completed_list, take_out, put_front}
 use Rattle.blk_volume.specs.ListPlans.{outcome, pending_writes, completion_writes, writes_of, touch_writes, TurnsAtTwo, EachMoment, stopped}
 use Rattle.blk_volume.specs.Walk.{walk}
 use Rattle.blk_format.specs.BlockFiles.{is_among}
-use Rattle.blk_laws.proofs.ListWrites.{rested, pending_keeps, outcome_front, remove_keeps, move_keeps, checks_out, pending_ends, completion_keeps, EachMoment-map, EachMoment-first, EachMoment-last, EachMoment-append, outcome_done}
+use Rattle.blk_laws.proofs.ListWrites.{rested, pending_keeps, outcome_front, remove_keeps, move_keeps, checks_out, pending_ends, completion_keeps, EachMoment-map, EachMoment-first, EachMoment-last, outcome_done}
 use Rattle.blk_laws.proofs.Walks.{walk_list}
-use Rattle.blk_laws.proofs.Lists.{eqb-sym, list_front, list_out, not_zero, split, last-append, has_not}
+use Rattle.blk_laws.proofs.Lists.{list_front, list_out, not_zero, split, last-append, has_not}
 
 pub at_moment : (P : ListView → Type 0) (ws : List ListWrite) (l : ListView) (k : ℕ) → EachMoment P ws l → P (after_writes (take k ws) l)
 at_moment P [] l zero each = each
@@ -20,7 +19,7 @@ at_moment P (w ∷ ws) l (suc k) each = at_moment P ws (with_write l w) k each.1
 IsList-pending : (l : ListView) (nodes : List ℕ) (o r : ℕ) → IsList l nodes → IsList (record l { operation = o; transaction = r }) nodes
 IsList-pending l nodes o r list = record { head_is = list.head_is; tail_is = list.tail_is; linked = list.linked; distinct = list.distinct; few = list.few; no_zero = list.no_zero }
 
-walk_outcome : (l : ListView) → walk (completed_list l) ≡ walk (outcome l)
+pub walk_outcome : (l : ListView) → walk (completed_list l) ≡ walk (outcome l)
 unfolding outcome walk
 walk_outcome l = refl
 

@@ -1,9 +1,9 @@
 -- Each write of a completion keeps what completing gives.
-use Rattle.std.proofs.Common.{if◌then◌else◌, ◌≡◌, ℕ, zero, suc, ◌+◌, ◌≤◌, ◌≢◌, Bool, true, false, not, ◌&&◌, ◌||◌, cond, eqb, List, [], ◌∷◌, ◌++◌, length, refl, sym, ap, ◌∙◌, subst, arith, ◌⊎◌, inl, inr}
+use Rattle.std.proofs.Common.{if◌then◌else◌, ◌≡◌, ℕ, Bool, true, false, not, ◌&&◌, ◌||◌, eqb, List, [], ◌∷◌, ◌++◌, refl, sym, ap, ◌∙◌, subst, arith, ◌⊎◌, inl, inr}
 use Rattle.std.proofs.lemmas.Bool.Decides.{nat_tests}
-use Rattle.std.proofs.lemmas.Bool.{eq-eqb, ne_eqb, eqb-true, eqb-false, and_parts, or_parts, or_left, or_right}
+use Rattle.std.proofs.lemmas.Bool.{eq-eqb, and_parts, or_right}
 use Rattle.blk_volume.specs.ListView.{ListWrite, Next, Prev, Head, Tail, Transaction, Operation, ListView, put, with_write, after_writes}
-use Rattle.blk_volume.specs.Completion.{unlinking, taking_out, putting_in_front, take_out, put_front, counts, operated, completed_list}
+use Rattle.blk_volume.specs.Completion.{taking_out, putting_in_front, take_out, put_front, counts, operated, completed_list}
 use Rattle.blk_volume.specs.ListPlans.{outcome, operation_writes, pending_writes, completion_writes, EachMoment}
 
 pub ListView-ext : (a b : ListView) → a.head ≡ b.head → a.tail ≡ b.tail → a.transaction ≡ b.transaction → a.operation ≡ b.operation → ((w : ℕ) → a.checks w ≡ b.checks w) → ((w : ℕ) → a.next w ≡ b.next w) → ((w : ℕ) → a.prev w ≡ b.prev w) → a ≡ b

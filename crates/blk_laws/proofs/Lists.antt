@@ -1,9 +1,9 @@
 -- Putting a node in front of a whole list, and taking one out of it, leaves a whole list.
-use Rattle.std.proofs.Common.{◌≡◌, ℕ, zero, suc, ◌+◌, ◌≤◌, ◌≢◌, Bool, true, false, not, ◌&&◌, ◌||◌, cond, eqb, List, [], ◌∷◌, ◌++◌, length, refl, sym, ap, ◌∙◌, subst, arith, ◌⊎◌, inl, inr, length-append}
+use Rattle.std.proofs.Common.{◌≡◌, ℕ, ◌+◌, ◌≤◌, Bool, true, false, ◌||◌, eqb, List, [], ◌∷◌, ◌++◌, length, refl, sym, ap, ◌∙◌, subst, arith, length-append}
 use Rattle.std.proofs.lemmas.Bool.Decides.{nat_tests}
-use Rattle.std.proofs.lemmas.Bool.{eq-eqb, ne_eqb, eqb-true, eqb-false, and_parts, or_parts, or_left, or_right}
+use Rattle.std.proofs.lemmas.Bool.{eq-eqb, ne_eqb, or_parts, or_left, or_right}
 use Rattle.std.proofs.lemmas.List.{append-nil}
-use Rattle.blk_volume.specs.ListView.{ListView, put, first_or, last_or, Distinct, Joined, Segment, IsList}
+use Rattle.blk_volume.specs.ListView.{ListView, put, first_or, last_or, Distinct, Segment, IsList}
 use Rattle.blk_volume.specs.Completion.{take_out, put_front}
 use Rattle.blk_format.specs.BlockFiles.{is_among}
 use Rattle.blk_laws.proofs.ListWrites.{put-here, put-else}

@@ -1,10 +1,10 @@
 -- A new folder is bare.
-use Rattle.std.proofs.Common.{◌≡◌, ◌⊎◌, inl, inr, ⊎_elim, ℕ, zero, suc, ◌+◌, ◌-◌, ◌*◌, ◌/◌, ◌%◌, ◌^◌, ◌<◌, ◌≤◌, List, [], ◌∷◌, ◌++◌, length, Bool, true, false, Option, None, Some, refl, sym, ◌∙◌, ap, subst, arith, lit<, lit≤}
+use Rattle.std.proofs.Common.{◌≡◌, ◌⊎◌, inl, inr, ⊎_elim, ℕ, zero, suc, ◌+◌, ◌*◌, ◌/◌, ◌%◌, ◌<◌, ◌≤◌, List, [], ◌∷◌, length, Option, None, Some, refl, sym, ◌∙◌, ap, subst, arith, lit≤}
 use Rattle.std.specs.Prelude.{if◌then◌else◌, nat_lt, unwrap_or, is_some, ◌==◌}
-use Rattle.std.proofs.lemmas.Bool.{cases_lt, lt-ltb, le-ltb, leb-true, ltb-true}
+use Rattle.std.proofs.lemmas.Bool.{cases_lt, lt-ltb, le-ltb, ltb-true}
 use Rattle.std.proofs.lemmas.Bool.Decides.{nat_tests}
 use Rattle.std.proofs.lemmas.Nat.Bits.{bit_at-zero}
-use Rattle.blk_image.specs.Bytes.{content, half_at, word_at, spliced, zeros}
+use Rattle.blk_image.specs.Bytes.{content, word_at, spliced, zeros}
 use Rattle.blk_image.specs.Image.{File, Index, Block, External, Image, bytes_of, byte, length_of, has_file}
 use Rattle.blk_image.specs.Steps.{with_word, with_words}
 use Rattle.blk_image.specs.Order.{IsBefore}
@@ -12,13 +12,12 @@ use Rattle.blk_image.proofs.Splices.{length-zeros, content-zeros, content-splice
 use Rattle.blk_image.proofs.Words.{word-beside, word-zeros, length-with_words}
 use Rattle.blk_format.specs.Address.{block_size}
 use Rattle.blk_format.specs.Headers.{head_checks, list_checks, index_length, block_header_length, place_of_bucket}
-use Rattle.blk_format.specs.BlockFiles.{next_file_in, max_entries_in, files_along, linked, linked_as, type_among, is_link, is_block_count, file_checks, checks_along, checks_of_type, linked_up_to, IsWellFormed, is_among, most_blocks}
-use Rattle.blk_format.specs.Maps.{is_marked}
+use Rattle.blk_format.specs.BlockFiles.{next_file_in, max_entries_in, files_along, linked, linked_as, type_among, is_link, is_block_count, file_checks, checks_along, checks_of_type, linked_up_to, IsWellFormed}
 use Rattle.blk_volume.specs.View.{list_of}
 use Rattle.blk_laws.specs.BareLaws.{new_index_words, new_file_words, IsNew, IsBareIndex, IsBareFile, IsBare, NewFoldersAreBare}
 
 -- the new folder
-new_folder : ℕ → Image
+pub new_folder : ℕ → Image
 new_folder moment Index = Some (with_words (new_index_words moment) (zeros index_length))
 new_folder moment (Block n) = if nat_lt n 4 then Some (with_words (new_file_words n) (zeros block_header_length)) else None
 new_folder moment (External n) = None
@@ -29,9 +28,9 @@ is-new moment image new = λ i file. each file i where
   each : (file : File) → image file ≡ new_folder moment file
   each Index = new.index
   each (Block n) = ⊎_elim
-    (λ (small : n < 4). new.blocks n small ∙ rw (lt-ltb n 4 small) refl)
-    (λ (large : 4 ≤ n). new.others (Block n) (inr (refl, omega arith)) ∙ rw (le-ltb n 4 large) refl)
-    (cases_lt n 4)
+      (λ (small : n < 4). new.blocks n small ∙ rw (lt-ltb n 4 small) refl)
+      (λ (large : 4 ≤ n). new.others (Block n) (inr (refl, omega arith)) ∙ rw (le-ltb n 4 large) refl)
+      (cases_lt n 4)
   each (External n) = new.others (External n) (inl (omega arith))
 
 -- the words of the index
@@ -131,9 +130,18 @@ bare moment = record {
 } where
   there : (n : ℕ) → has_file (new_folder moment) (Block n) ≡ nat_lt n 4
   there n = ⊎_elim
-    (λ (small : n < 4). ap (λ (o : Option (List ℕ)). is_some o) (file-is moment n small) ∙ sym (lt-ltb n 4 small))
-    (λ (large : 4 ≤ n). unfold new_folder in rw (le-ltb n 4 large) refl)
-    (cases_lt n 4)
+      (λ (small : n < 4). ap (λ (o : Option (List ℕ)). is_some o) (file-is moment n small) ∙ sym (lt-ltb n 4 small))
+      (λ (large : 4 ≤ n). unfold new_folder in rw (le-ltb n 4 large) refl)
+      (cases_lt n 4)
 
 pub new-bare : NewFoldersAreBare
 new-bare moment image new = subst IsBare (sym (is-new moment image new)) (bare moment)
+
+-- and the new folder is new
+pub new-is_new : (moment : ℕ) → IsNew moment (new_folder moment)
+unfolding new_folder
+new-is_new moment = record { index = refl; blocks = λ n small. rw (lt-ltb n 4 small) refl; others = others } where
+  others : (file : File) → IsBefore (Block 3) file → new_folder moment file ≡ None
+  others Index before = absurd (⊎_elim (λ (e : 1 < 0). omega arith) (λ (e : (1 ≡ 0) × (3 < 0)). omega (arith, e.1)) before)
+  others (Block n) before = ⊎_elim (λ (e : 1 < 1). absurd (omega arith)) (λ (e : (1 ≡ 1) × (3 < n)). let large : 4 ≤ n = omega (arith, e.1) in rw (le-ltb n 4 large) refl) before
+  others (External n) before = refl

@@ -1,8 +1,8 @@
 -- A small folder, computed from its bytes: one closed entry `a` whose stream 0 is `zz`.
-use Rattle.std.proofs.Common.{◌≡◌, ℕ, zero, suc, List, [], ◌∷◌, ◌++◌, refl, true, false, Option, Some, None}
-use Rattle.std.specs.Prelude.{codes, map}
+use Rattle.std.proofs.Common.{◌≡◌, ℕ, zero, suc, List, [], ◌∷◌, ◌++◌, refl, Some, None}
+use Rattle.std.specs.Prelude.{codes}
 use Rattle.blk_image.specs.Bytes.{spliced, range_at, words_at, zeros}
-use Rattle.blk_image.specs.Image.{Index, Block, External, Image}
+use Rattle.blk_image.specs.Image.{Index, Block, Image}
 use Rattle.blk_image.specs.Steps.{with_word, with_words}
 use Rattle.blk_model.specs.Items.{main_row, plain}
 use Rattle.blk_format.specs.Hash.{of_four, of_three, of_two, of_one, of_bytes, mixed, hash}
@@ -15,13 +15,13 @@ use Rattle.blk_format.specs.BlockFiles.{next_file_in, max_entries_in, files_alon
 use Rattle.blk_format.specs.Claims.{claims_of, has_claim, overlap, repeats}
 use Rattle.blk_volume.specs.Walk.{walk, walk_from}
 use Rattle.blk_volume.specs.Completion.{counts, completed_list}
-use Rattle.blk_volume.specs.View.{list_of, checks_at, next_at, prev_at, stock_of, named_at, core_at, follow_at, key_place_at, stored_at, view_of}
+use Rattle.blk_volume.specs.View.{list_of, checks_at, next_at, prev_at, stock_of, named_at, core_at, follow_at, key_place_at, stored_at}
 use Rattle.blk_volume.specs.Chains.{chain_from}
 use Rattle.blk_volume.specs.Entries.{is_key_length, key_of, stream_of, streams_of, role_of}
 use Rattle.blk_volume.specs.Reasons as reason
 use Rattle.blk_volume.specs.Loads.{held, load, load_key, load_record, record_claims, all_claims}
 use Rattle.blk_volume.specs.Audit.{is_named, is_orphan, admit, verdicts, kept_among, dropped_among}
-use Rattle.blk_volume.specs.Found.{kept, found, completed}
+use Rattle.blk_volume.specs.Found.{kept, found}
 use Rattle.blk_laws.specs.BareLaws.{new_index_words, new_file_words}
 
 -- the index of a new folder, with node 0 of data_0 as head and tail, and the record at block 0 of data_1 in the bucket of `a`

@@ -1,12 +1,11 @@
 -- What represents a state, with its maps exact, stands for it.
-use Rattle.std.proofs.Common.{◌≡◌, ℕ, zero, suc, ◌+◌, ◌<◌, arith, List, [], ◌∷◌, ◌++◌, length, map, refl, ap, sym, ◌∙◌, subst, Bool, true, false, Option, Some, None, Ok, ⊎_elim, ◌⊎◌, inl, inr}
+use Rattle.std.proofs.Common.{◌≡◌, ℕ, ◌<◌, arith, List, [], ◌∷◌, ◌++◌, length, map, refl, ap, sym, ◌∙◌, subst, Bool, true, false, Option, Some, None, Ok, ⊎_elim, ◌⊎◌, inl, inr}
 use Rattle.std.specs.Prelude.{◌||◌, ◌==◌, is_some, if◌then◌else◌}
 use Rattle.std.specs.Option.{option_and_then, option_map, IsSomeAnd}
-use Rattle.std.specs.List.{flat_map, filter_map, cons_option, range_with_len, AllByRecursion}
-use Rattle.std.proofs.lemmas.Bool.{cases_Bool, eq-eqb, or_left, or_right, or_parts}
+use Rattle.std.specs.List.{flat_map, filter_map, cons_option, AllByRecursion}
+use Rattle.std.proofs.lemmas.Bool.{cases_Bool, eq-eqb, or_left, or_right}
 use Rattle.std.proofs.lemmas.Bool.Decides.{eqb_tells}
 use Rattle.std.proofs.Math.Dec.{eqb}
-use Rattle.std.proofs.lemmas.List.Folds.{list_any-append}
 use Rattle.std.proofs.lemmas.List.Elements.{filter_map-append}
 use Rattle.blk_volume.specs.ListView.{ListView, IsList, Distinct, Segment, last_or}
 use Rattle.blk_volume.specs.Walk.{walk}
@@ -14,10 +13,10 @@ use Rattle.blk_model.specs.Items.{Item, main, part, item_of}
 use Rattle.blk_model.specs.State.{State, Object, IsValidState, object_at}
 use Rattle.blk_image.specs.Image.{Image}
 use Rattle.blk_format.specs.BlockFiles.{is_among, IsWellFormed}
-use Rattle.blk_format.specs.Claims.{Claim, BlockOf, ExternalOf, same_claim, has_claim, claims_of, repeats}
+use Rattle.blk_format.specs.Claims.{Claim, BlockOf, ExternalOf, has_claim, claims_of, repeats}
 use Rattle.blk_volume.specs.View.{View, Core, view_of}
 use Rattle.blk_volume.specs.Chains.{Chain}
-use Rattle.blk_volume.specs.Loads.{Rule, listed, Loaded, load, all_claims, record_claims, claims_of_loaded, is_part, is_part_role}
+use Rattle.blk_volume.specs.Loads.{Rule, listed, Loaded, load, all_claims, claims_of_loaded, is_part, is_part_role}
 use Rattle.blk_volume.specs.Entries.{Role, IsPlain, IsParent, IsPart}
 use Rattle.blk_volume.specs.Audit.{kept_by, kept_among}
 use Rattle.blk_volume.specs.Found.{row_of, kept, found}
@@ -26,7 +25,7 @@ use Rattle.blk_volume.specs.Given.{given_by}
 use Rattle.blk_volume.specs.StandsFor.{IsMarkedRow, KeepsDoomed, AreDoomed, ShowsState, StandsFor, IsOwner, IsAllocated}
 use Rattle.blk_volume.specs.Sound.{EndsWhole, AreOwned, IsInOrder}
 use Rattle.blk_laws.specs.StateLaws.{FoundIsAtRest}
-use Rattle.blk_laws.proofs.ClaimLists.{claim-append, no-claim, claim-head, repeats-append, contents-claims, some-claim}
+use Rattle.blk_laws.proofs.ClaimLists.{claim-append, no-claim, repeats-append, contents-claims, some-claim}
 use Rattle.blk_laws.proofs.Loads.{load-then}
 use Rattle.blk_laws.proofs.Laid.{IsNodeOf, node-of, item-of}
 use Rattle.blk_laws.proofs.Shown.{kept-given, node-is}

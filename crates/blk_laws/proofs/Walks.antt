@@ -1,8 +1,8 @@
 -- The walk of a whole list.
-use Rattle.std.proofs.Common.{◌≡◌, ℕ, zero, suc, ◌+◌, ◌≤◌, ◌≢◌, Bool, true, false, not, ◌&&◌, ◌||◌, cond, eqb, List, [], ◌∷◌, length, refl, sym, ap, ◌∙◌, arith}
+use Rattle.std.proofs.Common.{◌≡◌, ℕ, zero, suc, ◌≤◌, ◌≢◌, Bool, false, eqb, List, [], ◌∷◌, length, refl, ap, ◌∙◌, arith}
 use Rattle.std.proofs.lemmas.Bool.Decides.{nat_tests}
-use Rattle.std.proofs.lemmas.Bool.{eq-eqb, ne_eqb, eqb-true, eqb-false, or_parts, or_left, or_right}
-use Rattle.blk_volume.specs.ListView.{ListView, Segment, Joined, Distinct, first_or, last_or, IsList}
+use Rattle.std.proofs.lemmas.Bool.{or_parts}
+use Rattle.blk_volume.specs.ListView.{ListView, Segment, Joined, Distinct, last_or, IsList}
 use Rattle.blk_format.specs.BlockFiles.{is_among}
 use Rattle.blk_volume.specs.Walk.{walk, walk_from}
 

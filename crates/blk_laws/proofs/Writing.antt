@@ -1,17 +1,16 @@
 -- At any word of a change inside the footprint of an unsettled object, what is found is what is at rest.
-use Rattle.std.proofs.Common.{◌≡◌, ℕ, ◌<◌, List, [], ◌∷◌, map, refl, ap, sym, ◌∙◌, subst, Bool, true, false, Option, Some, None, Ok, ⊎_elim}
-use Rattle.std.specs.Prelude.{not, ◌&&◌, ◌||◌, ◌==◌, IfSome}
+use Rattle.std.proofs.Common.{◌≡◌, ℕ, ◌<◌, List, map, refl, ap, sym, ◌∙◌, subst, Bool, true, false, Option, Some, Ok, ⊎_elim}
+use Rattle.std.specs.Prelude.{◌&&◌, ◌==◌}
 use Rattle.std.specs.Option.{option_map_or}
-use Rattle.std.proofs.lemmas.Bool.{cases_Bool, eq-eqb}
 use Rattle.std.proofs.lemmas.Bool.Decides.{eqb_tells}
 use Rattle.std.proofs.Math.Dec.{eqb}
-use Rattle.blk_volume.specs.ListView.{ListView, IsList, first_or, last_or}
+use Rattle.blk_volume.specs.ListView.{IsList, first_or, last_or}
 use Rattle.blk_volume.specs.Walk.{walk}
 use Rattle.blk_volume.specs.Completion.{completed_list}
 use Rattle.blk_model.specs.Items.{Item, main, part, key_of}
 use Rattle.blk_model.specs.State.{State, Object, IsValidState, object_at}
 use Rattle.blk_format.specs.BlockFiles.{is_among}
-use Rattle.blk_format.specs.Claims.{Claim, has_claim}
+use Rattle.blk_format.specs.Claims.{Claim}
 use Rattle.blk_volume.specs.View.{View, Stock, Named, Core}
 use Rattle.blk_volume.specs.Chains.{is_of_bucket, bucket_of_hash, Linked, IsChain}
 use Rattle.blk_volume.specs.Loads.{held, Rule, Loaded, load}

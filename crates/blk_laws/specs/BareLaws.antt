@@ -1,5 +1,5 @@
 -- The laws of folders in which nothing is kept, such as one that was just made.
-use Rattle.std.specs.Prelude.{◌≡◌, ℕ, suc, ◌+◌, ◌/◌, ◌%◌, ◌^◌, ◌<◌, ◌≤◌, List, [], ◌∷◌, true, false, is_some}
+use Rattle.std.specs.Prelude.{◌≡◌, ℕ, suc, ◌/◌, ◌%◌, ◌^◌, ◌<◌, ◌≤◌, List, [], ◌∷◌, true, false, is_some}
 use Rattle.std.specs.declared.option.Option.TheVariants.{None, Some}
 use Rattle.blk_image.specs.Bytes.{zeros}
 use Rattle.blk_image.specs.Image.{File, Index, Block, External, Image, has_file, length_of, byte}
@@ -11,7 +11,7 @@ use Rattle.blk_format.specs.Address.{block_size}
 use Rattle.blk_format.specs.Headers.{table_length, index_length, block_header_length, index_magic, block_magic, version, num_entries_of, num_bytes_of, sizes_of, bucket_of, allocations_of, empty_of, updating_of}
 use Rattle.blk_format.specs.BlockFiles.{linked_as, max_entries_in, most_blocks, IsWellFormed}
 use Rattle.blk_format.specs.Maps.{is_marked}
-use Rattle.blk_volume.specs.View.{View, list_of, view_of}
+use Rattle.blk_volume.specs.View.{list_of, view_of}
 use Rattle.blk_volume.specs.Found.{found}
 use Rattle.blk_volume.specs.Layout.{Represents}
 use Rattle.blk_volume.specs.Emptiness.{no_view, no_layout}

@@ -1,5 +1,5 @@
 -- The laws from the bytes of files to what a view shows.
-use Rattle.std.specs.Prelude.{◌≡◌, ◌≢◌, ◌⊎◌, ℕ, ◌+◌, ◌<◌, ◌≤◌, Bool, true, false, ◌||◌}
+use Rattle.std.specs.Prelude.{◌≡◌, ◌≢◌, ◌⊎◌, ℕ, ◌+◌, ◌<◌, ◌≤◌, Bool, true, false}
 use Rattle.blk_image.specs.Image.{Index, Block, External, Image}
 use Rattle.blk_image.specs.Footprint.{Footprint, range, whole, either, IsWithin, SameOutside}
 use Rattle.blk_format.specs.Address.{kind_of, file_selector, place, room, external, header_size}

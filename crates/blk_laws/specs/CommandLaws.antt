@@ -1,5 +1,5 @@
 -- The laws of the changes that commands make: objects in the midst of a change, removals, the dirty word, Open and Create.
-use Rattle.std.specs.Prelude.{◌≡◌, ℕ, ◌<◌, not, ◌&&◌, ◌==◌, List, [], ◌∷◌, length, map, take, Bool, true, false}
+use Rattle.std.specs.Prelude.{◌≡◌, ℕ, ◌<◌, not, ◌&&◌, ◌==◌, List, [], length, map, take, Bool, true, false}
 use Rattle.std.specs.List.{filter, filter_map}
 use Rattle.std.specs.declared.option.Option.{Option}
 use Rattle.std.specs.declared.option.Option.TheVariants.{None, Some}

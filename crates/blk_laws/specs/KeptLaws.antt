@@ -9,11 +9,11 @@ use Rattle.std.specs.declared.result.Result.TheVariants.{Ok}
 use Rattle.blk_image.specs.Image.{Image}
 use Rattle.blk_format.specs.Hash.{hash}
 use Rattle.blk_format.specs.BlockFiles.{is_among, IsWellFormed}
-use Rattle.blk_volume.specs.View.{Stock, Core, view_of}
+use Rattle.blk_volume.specs.View.{View, Stock, Core, view_of}
 use Rattle.blk_volume.specs.Chains.{chain, bucket_of_hash}
 use Rattle.blk_volume.specs.Reasons.{Reason}
 use Rattle.blk_volume.specs.Loads.{Rule, held, Loaded, load_key}
-use Rattle.blk_volume.specs.Audit.{judged, kept_among, dropped_among}
+use Rattle.blk_volume.specs.Audit.{judged, kept_among, dropped_among, kept_by}
 use Rattle.blk_volume.specs.Found.{completed, found}
 use Rattle.blk_volume.specs.Shown.{IsShown}
 use Rattle.blk_volume.specs.Candidates.{candidates, SameNamed}
@@ -38,6 +38,10 @@ LeavingOutKeepsTheSame = (stock : Stock) (rule : Rule) (keep : ℕ → Bool) (no
 abbrev pub SameKeyIsOneChain : Type 0
 SameKeyIsOneChain = (stock : Stock) (node other contents others dirty dirt : ℕ) (one two : Core) (key : List ℕ) → load_key stock held node contents dirty one ≡ Ok key → load_key stock held other others dirt two ≡ Ok key
     → (bucket_of_hash one.hash ≡ bucket_of_hash two.hash) × (is_among (chain stock (bucket_of_hash (hash key))).reached contents ≡ true) × (is_among (chain stock (bucket_of_hash (hash key))).reached others ≡ true)
+
+-- no node but a candidate is kept
+abbrev pub OnlyCandidatesAreKept : Type 0
+OnlyCandidatesAreKept = (view : View) → kept_by held view ≡ kept_among view.stock held (candidates view)
 
 -- two well-formed images with the same candidates, which agree on what these name, hold the same
 abbrev pub SameCandidatesHoldTheSame : Type 0

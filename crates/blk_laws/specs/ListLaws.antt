@@ -1,6 +1,5 @@
 -- The laws of the use list and of the chains.
-use Rattle.std.specs.Prelude.{◌≡◌, ℕ, ◌+◌, ◌<◌, true, false, ◌==◌, List, [], ◌∷◌, ◌++◌, length, map}
-use Rattle.blk_format.specs.Headers.{table_length}
+use Rattle.std.specs.Prelude.{◌≡◌, ℕ, ◌+◌, ◌<◌, true, false, ◌==◌, List, ◌∷◌, ◌++◌, length, map}
 use Rattle.blk_format.specs.BlockFiles.{is_among}
 use Rattle.std.specs.declared.option.Option.TheVariants.{None}
 use Rattle.blk_volume.specs.ListView.{ListView, IsList, most_nodes, put, after_writes}

@@ -1,19 +1,18 @@
 -- The laws from an image to a state.
-use Rattle.std.specs.Prelude.{◌≡◌, ℕ, ◌<◌, List, [], ◌∷◌, map, Bool, true, false}
+use Rattle.std.specs.Prelude.{◌≡◌, ℕ, List, [], map, Bool, true, false}
 use Rattle.std.specs.List.{filter_map}
 use Rattle.std.specs.declared.option.Option.{Option}
-use Rattle.std.specs.declared.option.Option.TheVariants.{None, Some}
+use Rattle.std.specs.declared.option.Option.TheVariants.{Some}
 use Rattle.blk_model.specs.Items.{Item, main, part}
-use Rattle.blk_model.specs.State.{State, Bounds, Object, IsValidState, object_at}
-use Rattle.blk_model.specs.Holding.{rows, rest, open_state}
+use Rattle.blk_model.specs.State.{State, Object, IsValidState}
+use Rattle.blk_model.specs.Holding.{rows, rest}
 use Rattle.blk_image.specs.Image.{Image}
-use Rattle.blk_format.specs.Headers.{table_length, unfinished}
+use Rattle.blk_format.specs.Headers.{unfinished}
 use Rattle.blk_format.specs.Claims.{Claim}
 use Rattle.blk_format.specs.BlockFiles.{IsWellFormed}
 use Rattle.blk_volume.specs.ListView.{Distinct}
 use Rattle.blk_volume.specs.Walk.{walk}
 use Rattle.blk_volume.specs.View.{View, Stock, view_of}
-use Rattle.blk_volume.specs.Chains.{chain}
 use Rattle.blk_volume.specs.Loads.{Rule, held, listed, Loaded}
 use Rattle.blk_volume.specs.Audit.{kept_among, kept_by, dropped_by}
 use Rattle.blk_volume.specs.Found.{row_of, completed, found}
@@ -23,7 +22,6 @@ use Rattle.blk_volume.specs.Given.{given_by, GoesWith, picked_with, IsTest}
 use Rattle.blk_volume.specs.Footprint.{SameBut, IsFree, IsReplaced}
 use Rattle.blk_volume.specs.Sound.{ChainsEnd, IsInOrder}
 use Rattle.blk_volume.specs.StandsFor.{AreDoomed, ShowsState, StandsFor, IsAllocated}
-use Rattle.blk_volume.specs.Emptiness.{no_view, no_layout}
 
 -- What represents a valid state.
 

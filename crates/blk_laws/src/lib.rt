@@ -6,7 +6,8 @@
 ghost use Rattle.blk_laws.specs.BareLaws.{NothingRepresentsTheEmptyState, BareFoldersHoldNothing, BareFoldersAreSound, BareFoldersRepresentTheEmptyState, BareFoldersStandForTheEmptyState, NewFoldersAreBare};
 ghost use Rattle.blk_laws.specs.ByteLaws.{CoveredChangesStayInside, BlocksAreCovered, ExternalFilesAreCovered, HeadersNeedNoCover, HiddenWordsNeedNoCover, CoversOfLess, MoreCovers, CoversOfEither};
 ghost use Rattle.blk_laws.specs.CommandLaws.{UnsettledObjectsMayChange, EachMomentIsAtRest, RemovalsKeepTheOthers, LessIsLaid, DirtyWordsSettle, WrittenDirtyWordsSettle, RestBeforeTurning, RestAfterTurning, OpensAtEachWrite, OpensEnd, CreatesAtEachWrite, CreatesEnd, CreatesLeaveTheRest, CreatesMayLeaveWhatWas};
-ghost use Rattle.blk_laws.specs.KeptLaws.{KeptAreTheGiven, NoneOfTheGivenIsDropped, LeavingOutKeepsTheSame, SameKeyIsOneChain, SameCandidatesHoldTheSame};
+ghost use Rattle.blk_laws.specs.KeptLaws.{KeptAreTheGiven, NoneOfTheGivenIsDropped, LeavingOutKeepsTheSame, SameKeyIsOneChain, OnlyCandidatesAreKept, SameCandidatesHoldTheSame};
+ghost use Rattle.blk_laws.specs.ListBytes.{UpdatesShowFronts, UpdatesShowAll, InsertsTurnInBytes, RemovalsTurnInBytes, MovesTurnInBytes, CompletionsStayInBytes};
 ghost use Rattle.blk_laws.specs.ListLaws.{WalksAreTheLists, InsertsTurnAtTwo, InsertsEnd, RemovalsTurnAtTwo, RemovalsEnd, TouchesTurnAtTwo, TouchesEnd, CompletingAgainIsTheSame, CompletionsEnd, ChainsAreTheirRecords, RecordsAreLinkedInFront, OtherChainsStay, FirstRecordsAreUnlinked, LaterRecordsAreUnlinked};
 ghost use Rattle.blk_laws.specs.StateLaws.{WalksAreTheOrder, ListedAreTheRows, NothingListedIsDropped, RepresentedChainsEnd, KeptAreAtRest, FoundIsAtRest, RepresentedStatesAreShown, RepresentedStatesAreStoodFor, LaidIsShown, KeptArePicked, FreeFootprintsKeepStates, ChangedItemsAreLaid, ChangedItemsAreRepresented};
 
@@ -39,6 +40,20 @@ pub fn completions_at_each_write()
     ensures ends { CompletionsEnd }
 {}
 
+/// At each step of sealed updates and words of the index the list is that after a front of their writes, and in the end that after all.
+pub fn updates_write_the_list()
+    ensures fronts { UpdatesShowFronts }
+    ensures all { UpdatesShowAll }
+{}
+
+/// In bytes an insert, a removal and a move turn from the old list to the new one at the transaction word, and a completion may be stopped anywhere.
+pub fn operations_turn_in_bytes()
+    ensures inserts { InsertsTurnInBytes }
+    ensures removals { RemovalsTurnInBytes }
+    ensures moves { MovesTurnInBytes }
+    ensures completions { CompletionsStayInBytes }
+{}
+
 /// A chain is its records, a record is linked in front of it or taken out of it, and no other chain is touched.
 pub fn chains_are_linked()
     ensures records { ChainsAreTheirRecords }
@@ -64,9 +79,10 @@ pub fn one_key_is_in_one_chain()
     ensures { SameKeyIsOneChain }
 {}
 
-/// A change that leaves the candidates and what they name leaves what is held.
+/// No node but a candidate is kept, so a change that leaves the candidates and what they name leaves what is held.
 pub fn same_candidates_hold_the_same()
-    ensures { SameCandidatesHoldTheSame }
+    ensures only { OnlyCandidatesAreKept }
+    ensures frame { SameCandidatesHoldTheSame }
 {}
 
 /// What represents a state has its items as its walk and its rows as what is listed, drops nothing, ends its chains, and holds what is at rest.
