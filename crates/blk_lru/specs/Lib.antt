@@ -1,0 +1,4 @@
+pub mod Nodes
+pub mod Writes
+pub mod Plans
+pub mod Lists

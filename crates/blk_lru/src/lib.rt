@@ -1,0 +1,10 @@
+//! The use list of a cache folder: its nodes in the order of their last use, linked both ways.
+//!
+//! Each change is a transaction, so that a stop after any word leaves a list that can be completed.
+#![tactic(auto)]
+
+mod nodes;
+mod reading;
+mod writes;
+
+pub use reading::{after, before, first, last};
