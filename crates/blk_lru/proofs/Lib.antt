@@ -1,0 +1,4 @@
+pub mod LinkReads
+pub mod Listed
+pub mod NodeWords
+pub mod Results
