@@ -2,3 +2,4 @@ pub mod Nodes
 pub mod Writes
 pub mod Plans
 pub mod Lists
+pub mod Moments

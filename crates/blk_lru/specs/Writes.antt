@@ -1,5 +1,5 @@
 -- Writes into the use list as steps of a folder.
-use Rattle.std.specs.Prelude.{ℕ, ◌≡◌, true, List, [], ◌∷◌, ◌++◌, take}
+use Rattle.std.specs.Prelude.{ℕ, ◌≡◌, ◌≤◌, ◌<◌, ◌^◌, true, List, [], ◌∷◌, ◌++◌, length, take}
 use Rattle.blk_image.specs.Image.{Index, Image, length_of}
 use Rattle.blk_image.specs.Steps.{TrailStep, word_step, after}
 use Rattle.blk_image.specs.Footprint.{Footprint, SameOutside, nothing, one_word, either}
@@ -57,6 +57,7 @@ touched_by_writes (write ∷ writes) = either (touched_by write) (touched_by_wri
 -- data are as before, and so is every byte outside the nodes and the words of the index that are written
 pub record IsPartly (from : Image) (writes : List ListWrite) (image : Image) : Type 0 where
   pub made : ℕ
+  pub within : made ≤ length writes
   pub shown : OnlyListChanges (take made writes) from image
   pub outside : SameOutside (touched_by_writes writes) from image
   pub well_formed : IsWellFormed from → IsWellFormed image
@@ -74,3 +75,17 @@ AreOf P (Operation word ∷ writes) = AreOf P writes
 -- a node has the hash as its seal
 abbrev pub IsSealed : Image → ℕ → Type 0
 IsSealed image node = node_is_sealed (node_at image node) ≡ true
+
+-- the word that is written
+abbrev pub word_of : ListWrite → ℕ
+word_of (Next node word) = word
+word_of (Prev node word) = word
+word_of (Head word) = word
+word_of (Tail word) = word
+word_of (Transaction word) = word
+word_of (Operation word) = word
+
+-- all of them are words
+abbrev pub AreWords : List ListWrite → Type 0
+AreWords [] = Unit {0}
+AreWords (write ∷ writes) = (word_of write < 2 ^ 32) × AreWords writes

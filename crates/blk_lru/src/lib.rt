@@ -3,6 +3,7 @@
 //! Each change is a transaction, so that a stop after any word leaves a list that can be completed.
 #![tactic(auto)]
 
+mod moments;
 mod nodes;
 mod reading;
 mod writes;

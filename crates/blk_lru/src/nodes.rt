@@ -25,7 +25,7 @@ pub(crate) const NEXT: u32 = 16;
 pub(crate) const PREV: u32 = 20;
 
 // The node that a word names, if it is the address of one that stands.
-#[tactic(auto, unfolding(crate::specs::Nodes::is_node))]
+#[tactic(auto, using(crate::proofs::WriteLaws::one_write), unfolding(crate::specs::Nodes::is_node))]
 pub(crate) fn node_of(files: &BlockFiles, word: u32) -> Option<Addr>
     ensures { result ≡ nodes.node_of files.now word }
 {

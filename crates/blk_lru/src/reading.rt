@@ -21,7 +21,7 @@ use blk_io::{Damage, Fault, FileId, Folder};
 // The places of the first and the last node in the index.
 pub(crate) const HEAD: u32 = 288;
 
-const TAIL: u32 = 308;
+pub(crate) const TAIL: u32 = 308;
 
 /// The node that was used last, or `None` where the list is empty, by one folder call.
 pub fn first<F: Folder>(f: &mut F, files: &BlockFiles) -> Result<Option<Addr>, Fault>

@@ -1,0 +1,8 @@
+// What writes into the use list do to what is shown, gathered from the laws on it.
+ghost use Rattle.blk_lru.specs.Moments.{WriteMoments};
+
+// Each write into the list is one at each of its words.
+pub(crate) fn write_moments()
+    ensures { WriteMoments }
+{
+}
