@@ -1,26 +1,25 @@
 -- A new file, and the link to it.
-use Rattle.std.proofs.Common.{◌≡◌, ◌≢◌, ℕ, zero, suc, ◌+◌, ◌-◌, ◌*◌, ◌%◌, ◌/◌, ◌^◌, ◌<◌, ◌≤◌, Bool, true, false, ◌&&◌, ◌||◌, nat_le, nat_lt, if◌then◌else◌, List, [], ◌∷◌, ◌++◌, length, get_or, Option, None, Some, unwrap_or, refl, sym, ◌∙◌, ap, subst, arith, ◌⊎◌, inl, inr, ⊎_elim}
+use Rattle.std.proofs.Common.{◌≡◌, ℕ, ◌%◌, ◌/◌, ◌<◌, Bool, true, false, ◌&&◌, ◌||◌, nat_le, List, [], ◌∷◌, length, Option, None, Some, unwrap_or, refl, ◌∙◌, ap, arith, inl, inr}
 use Rattle.std.specs.Prelude.{◌==◌}
-use Rattle.std.proofs.lemmas.Bool.{cases_eq, cases_lt}
 use Rattle.std.proofs.lemmas.Bool.Decides.{nat_tests}
-use Rattle.std.proofs.lemmas.List.Folds.{list_any_at}
-use Rattle.blk_image.specs.Bytes.{content, half_at, resized, word_at, zeros}
+use Rattle.blk_image.specs.Bytes.{content, resized, word_at, zeros}
 use Rattle.blk_image.specs.Checks.{first_of}
-use Rattle.blk_image.specs.Footprint.{SameOutside, IsWithin, either, range, touched_by_all, whole}
-use Rattle.blk_image.specs.Image.{File, Index, Block, Image, byte, bytes_of, length_of, same_file, with_file}
-use Rattle.blk_image.specs.Steps.{TrailStep, Word, SetLength, applied, after, words, before_words, word_step, word_steps, with_word, with_words}
-use Rattle.blk_image.specs.Told.{Along, Until, IsQuiet}
-use Rattle.blk_image.proofs.Cuts.{after-append, after-word_steps}
-use Rattle.blk_image.proofs.Footprints.{outside-refl, outside-trans, outside_steps, outside_wider, outside_write, within_left, within_right}
-use Rattle.blk_image.proofs.Images.{bytes_of-written, with_file-same, with_file-other, with_file-twice}
-use Rattle.blk_image.proofs.Splices.{content-spliced_inside, length-zeros, resized-empty, resized-zero}
+use Rattle.blk_image.specs.Footprint.{SameOutside, IsWithin, touched_by_all, whole}
+use Rattle.blk_image.specs.Image.{File, Block, Image, bytes_of, same_file, with_file}
+use Rattle.blk_image.specs.Steps.{Word, SetLength, applied, after, words, before_words, word_step, word_steps, with_word, with_words}
+use Rattle.blk_image.specs.Told.{Along, IsQuiet}
+use Rattle.blk_image.proofs.Cuts.{after-word_steps}
+use Rattle.blk_image.proofs.Footprints.{outside-refl, outside_steps}
+use Rattle.blk_image.proofs.Images.{with_file-same, with_file-twice}
+use Rattle.blk_image.proofs.Splices.{length-zeros, resized-empty, resized-zero}
 use Rattle.blk_image.proofs.WordSteps.{quiet-word_steps}
-use Rattle.blk_image.proofs.Words.{length-with_word, length-with_words, same-word_at, word-beside, word-there, word-zeros}
+use Rattle.blk_image.proofs.Words.{length-with_word, length-with_words, word-beside, word-there, word-zeros}
 use Rattle.blk_format.specs.Address.{block_size}
 use Rattle.blk_format.specs.Headers.{block_magic, version, magic_of, version_of, this_file_of, next_file_of, entry_size_of, max_entries_of}
-use Rattle.blk_format.specs.BlockFiles.{file_checks, is_link, is_block_count}
+use Rattle.blk_format.specs.BlockFiles.{file_checks, is_block_count}
 use Rattle.blk_disk.specs.Growth.{header_words, link_steps, make_steps}
-use Rattle.blk_disk.proofs.Keeping.{Passed, checks_none, link_zero}
+use Rattle.blk_disk.proofs.Ranges.{size_small}
+use Rattle.blk_disk.proofs.Keeping.{checks_none, link_zero}
 
 -- two bytes at the upper half of a word are one step
 words-half : (f : File) (a b : ℕ) → words f 10 (a ∷ b ∷ []) ≡ Word f 10 (a ∷ b ∷ []) ∷ []
@@ -42,16 +41,6 @@ pub record IsNew (kind n : ℕ) (f : ℕ → ℕ) : Type 0 where
   pub numbers : word_at f 8 ≡ n
   pub entry_size : entry_size_of f ≡ block_size kind
   pub blocks : max_entries_of f ≡ 0
-
-small_size : (kind : ℕ) → block_size kind ≤ 4096
-unfolding block_size
-small_size kind = by_test (kind == 1) (kind == 2) (kind == 3)
-  where
-    by_test : (p q r : Bool) → (if p then 36 else if q then 256 else if r then 1024 else 4096) ≤ 4096
-    by_test true q r = omega arith
-    by_test false true r = omega arith
-    by_test false false true = omega arith
-    by_test false false false = omega arith
 
 module _ (kind n : ℕ) (below : n < 256) where
   one : List ℕ
@@ -81,7 +70,7 @@ module _ (kind n : ℕ) (below : n < 256) where
     magic = word-beside 0 12 (block_size kind) three (inl (omega arith)) ∙ word-beside 0 8 n two (inl (omega arith)) ∙ word-beside 0 4 version one (inl (omega arith)) ∙ word-there 0 block_magic (zeros 8192) (omega arith) (omega (arith, length-zeros 8192));
     is_version = word-beside 4 12 (block_size kind) three (inl (omega arith)) ∙ word-beside 4 8 n two (inl (omega arith)) ∙ word-there 4 version one (omega arith) (omega (arith, one_size));
     numbers = word-beside 8 12 (block_size kind) three (inl (omega arith)) ∙ word-there 8 n two (omega arith) (omega (arith, two_size));
-    entry_size = word-there 12 (block_size kind) three (let small = small_size kind in omega (arith, small)) (omega (arith, three_size));
+    entry_size = word-there 12 (block_size kind) three (let small = size_small kind in omega (arith, small)) (omega (arith, three_size));
     blocks =
         word-beside 20 12 (block_size kind) three (inr (omega arith)) ∙ word-beside 20 8 n two (inr (omega arith)) ∙ word-beside 20 4 version one (inr (omega arith))
         ∙ word-beside 20 0 block_magic (zeros 8192) (inr (omega arith)) ∙ word-zeros 8192 20;

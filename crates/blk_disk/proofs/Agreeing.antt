@@ -63,7 +63,7 @@ module _ (F : Footprint) (a b : Image) (spares : SparesHeaders F) (same : SameOu
   }
 
 -- the bytes of blocks lie past the headers
-past_header : (w : ℕ) → 8192 ≤ place w
+pub past_header : (w : ℕ) → 8192 ≤ place w
 unfolding place block_place
 past_header w = omega arith
 

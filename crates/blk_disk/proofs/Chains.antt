@@ -1,15 +1,13 @@
 -- What the checks of a folder without damage say of the files along the links.
-use Rattle.std.proofs.Common.{◌≡◌, ◌≢◌, ℕ, zero, suc, ◌+◌, ◌-◌, ◌<◌, ◌≤◌, Bool, true, false, not, ◌&&◌, ◌||◌, nat_le, nat_lt, if◌then◌else◌, List, [], ◌∷◌, ◌++◌, length, get_or, None, refl, sym, ◌∙◌, ap, subst, arith, ◌⊎◌, inl, inr, ⊎_elim}
+use Rattle.std.proofs.Common.{◌≡◌, ◌≢◌, ℕ, zero, suc, ◌-◌, ◌<◌, ◌≤◌, Bool, true, false, not, ◌&&◌, ◌||◌, nat_le, nat_lt, if◌then◌else◌, List, [], ◌∷◌, ◌++◌, None, refl, sym, ◌∙◌, ap, subst, arith, ◌⊎◌, inl, inr, ⊎_elim}
 use Rattle.std.specs.Prelude.{◌==◌}
-use Rattle.std.proofs.lemmas.Bool.{cases_eq, cases_lt}
+use Rattle.std.proofs.lemmas.Bool.{cases_lt}
 use Rattle.std.proofs.lemmas.Bool.Decides.{nat_tests}
 use Rattle.blk_image.specs.Image.{Block, Image, byte, length_of}
 use Rattle.blk_image.specs.Checks.{first_of}
 use Rattle.blk_format.specs.Address.{is_block_kind}
 use Rattle.blk_format.specs.BlockFiles.{next_file_in, files_along, linked, linked_up_to, is_among, is_link, file_checks, checks_along, checks_of_type, first_block_damage}
-use Rattle.blk_disk.specs.declared.tables.BlockFiles.{BlockFiles}
-use Rattle.blk_disk.specs.Tables.{Agrees, all_files, files_of}
-use Rattle.blk_disk.proofs.Among.{is_among-append, is_among_more, all_files_among}
+use Rattle.blk_disk.proofs.Among.{is_among-append, is_among_more}
 use Rattle.blk_disk.proofs.Firsts.{length_passed}
 use Rattle.blk_disk.proofs.Keeping.{none_parts, each_type, link_of}
 

@@ -1,5 +1,5 @@
 -- A file gets more blocks: what holds at each word, and in the end.
-use Rattle.std.proofs.Common.{◌≡◌, ◌≢◌, ℕ, ◌+◌, ◌-◌, ◌*◌, ◌/◌, ◌%◌, ◌^◌, ◌<◌, ◌≤◌, min, max, Bool, true, false, ◌&&◌, ◌||◌, nat_le, nat_lt, if◌then◌else◌, List, [], ◌∷◌, ◌++◌, length, None, Some, refl, sym, ◌∙◌, ap, ap₂, subst, arith, ⊎_elim}
+use Rattle.std.proofs.Common.{◌≡◌, ◌≢◌, ℕ, ◌+◌, ◌-◌, ◌*◌, ◌/◌, ◌%◌, ◌^◌, ◌<◌, ◌≤◌, min, max, Bool, true, false, ◌&&◌, ◌||◌, nat_le, nat_lt, if◌then◌else◌, List, [], ◌∷◌, ◌++◌, None, Some, refl, sym, ◌∙◌, ap, ap₂, subst, arith, ⊎_elim}
 use Rattle.std.specs.Prelude.{◌==◌}
 use Rattle.std.specs.Option.{ForSome, option_map}
 use Rattle.std.specs.declared.option.Option.{Option}
@@ -7,22 +7,24 @@ use Rattle.std.proofs.lemmas.Bool.{cases_eq, cases_lt}
 use Rattle.std.proofs.lemmas.Bool.Decides.{nat_tests}
 use Rattle.blk_image.specs.Bytes.{word_bytes}
 use Rattle.blk_image.specs.Checks.{first_of}
-use Rattle.blk_image.specs.Image.{File, Index, Block, Image, byte, length_of, word, same_file}
+use Rattle.blk_image.specs.Image.{Index, Block, Image, byte, length_of, word, same_file}
 use Rattle.blk_image.specs.Steps.{TrailStep, Word, SetLength, applied, after, word_step, word_steps}
 use Rattle.blk_image.specs.Told.{Told, Grows, GrowsInPart, Passes, Along, Until, IsQuiet}
-use Rattle.blk_image.specs.Footprint.{SameOutside, either, one_word, range, size_of}
+use Rattle.blk_image.specs.Footprint.{SameOutside, either, one_word, size_of}
 use Rattle.blk_image.proofs.Cuts.{after-append}
 use Rattle.blk_image.proofs.Footprints.{outside-refl, outside-trans, outside_wider, outside_write, outside_longer, same_word_outside, within_left, within_right}
 use Rattle.blk_image.proofs.Images.{word-after_same, word-after_other, length-after_set_len, length-after_word}
 use Rattle.blk_image.proofs.Runs.{until-append, until_last, until_weaker2, quiet-append, grows_then, part_then, passes_part, some_inj, told_whole}
 use Rattle.blk_image.proofs.WordSteps.{quiet-word_steps}
 use Rattle.blk_image.proofs.Words.{same-word_at}
+use Rattle.blk_format.specs.Address.{file_selector}
 use Rattle.blk_format.specs.Headers.{head_checks, list_checks}
 use Rattle.blk_format.specs.BlockFiles.{is_among, linked, type_among, files_along, next_file_in, max_entries_in, is_block_count, block_checks, first_block_damage, IsWellFormed}
 use Rattle.blk_disk.specs.declared.tables.BlockFiles.{BlockFiles}
 use Rattle.blk_disk.specs.Tables.{Agrees, Enlarges, all_files, blocks_of, files_of, length_in}
-use Rattle.blk_disk.specs.Growth.{grown, grown_length, growth_of, grow_steps, lengthen_steps, new_groups, raise_steps, raised, size_as}
-use Rattle.blk_disk.proofs.Agreeing.{blocks_same, sizes_spare, other_file}
+use Rattle.blk_disk.specs.Growth.{KeepsBlocks, grown, grown_length, growth_of, grow_steps, lengthen_steps, new_groups, raise_steps, raised, size_as}
+use Rattle.blk_disk.proofs.Agreeing.{blocks_same, sizes_spare, other_file, past_header}
+use Rattle.blk_disk.proofs.Ranges.{stands_more}
 use Rattle.blk_disk.proofs.Keeping.{KeepsHead, none_parts, none_both, undamaged_still}
 
 -- a folder is still well formed where its index is as it was and no check of a block file fails
@@ -37,6 +39,7 @@ pub record IsGrowing (n : ℕ) (from image : Image) : Type 0 where
   pub outside : SameOutside (growth_of n) from image
   pub longer : length_of from (Block n) ≤ length_of image (Block n)
   pub count : is_block_count (max_entries_in from n) ≡ true → is_block_count (max_entries_in image n) ≡ true
+  pub more : max_entries_in from n ≤ max_entries_in image n
 
 -- the first fields of no header are touched
 fields_spared : (n m i : ℕ) → i < 20 → (growth_of n).bytes (Block m) i ≡ false
@@ -88,6 +91,34 @@ module _ (n : ℕ) (from image : Image) (growing : IsGrowing n from image) where
   pub grows_formed : IsWellFormed from → IsWellFormed image
   grows_formed formed = let same = growing.outside in well_formed_still from image (λ i. same.bytes Index i refl) (same.lengths Index refl) grows_undamaged formed
 
+-- no byte of a block is touched
+blocks_spared : (n m i : ℕ) → 8192 ≤ i → (growth_of n).bytes (Block m) i ≡ false
+blocks_spared n m i past = by_test (same_file (Block n) (Block m))
+  where
+    by_test : (t : Bool) → (false || ((t && (nat_le 36 i && nat_lt i 40)) || (t && (nat_le 20 i && nat_lt i 24)))) ≡ false
+    by_test true = grind (arith, nat_tests)
+    by_test false = refl
+
+module _ (n : ℕ) (from image : Image) (growing : IsGrowing n from image) where
+  linked_still : linked image ≡ linked from
+  unfolding linked
+  linked_still = λ j kind. files_along (grows_next n from image growing j) 59 (kind - 1)
+
+  more_blocks : (m : ℕ) → max_entries_in from m ≤ max_entries_in image m
+  more_blocks m =
+      ⊎_elim (λ same. subst (λ (k : ℕ). max_entries_in from k ≤ max_entries_in image k) (sym same) growing.more)
+      (λ differs. let e = other_blocks n from image growing m differs in omega (arith, e)) (cases_eq m n)
+
+  -- each block still stands
+  pub grows_blocks : KeepsBlocks from image
+  grows_blocks = record {
+    stand =
+        λ w stands. let keeps = keeps_heads n from image growing (file_selector w) in
+        stands_more from image w (ap (λ (lists : ℕ → List ℕ). type_among lists (file_selector w)) linked_still) (more_blocks (file_selector w)) keeps.longer stands;
+    bytes =
+        λ w i stands low high. let same = growing.outside in same.bytes (Block (file_selector w)) i (blocks_spared n (file_selector w) i (let past = past_header w in omega (arith, past, low)));
+  }
+
 -- the number of blocks after a growth is one that a file may have
 count_grown : (b : ℕ) → b < 64896 → is_block_count b ≡ true → is_block_count (grown b) ≡ true
 unfolding is_block_count
@@ -107,7 +138,7 @@ count_grown b below holds =
 
 module _ (n : ℕ) (from : Image) where
   growing_begins : IsGrowing n from from
-  growing_begins = record { outside = outside-refl (growth_of n) from; longer = omega arith; count = λ holds. holds }
+  growing_begins = record { outside = outside-refl (growth_of n) from; longer = omega arith; count = λ holds. holds; more = omega arith }
 
   growing_longer : (a : Image) (size : ℕ) → length_of a (Block n) ≤ size → IsGrowing n from a → IsGrowing n from (applied (SetLength (Block n) size) a)
   growing_longer a size longer growing =
@@ -117,6 +148,7 @@ module _ (n : ℕ) (from : Image) where
         outside = outside-trans (growth_of n) from a _ growing.outside (outside_wider (size_of (Block n)) (growth_of n) a _ (within_left (size_of (Block n)) (either (one_word (Block n) 36) (one_word (Block n) 20))) step);
         longer = let less = growing.longer in omega (arith, less, longer, at);
         count = λ holds. ap is_block_count (blocks_same (size_of (Block n)) a (applied (SetLength (Block n) size) a) (sizes_spare (Block n)) step n) ∙ growing.count holds;
+        more = let most = growing.more in let same = blocks_same (size_of (Block n)) a (applied (SetLength (Block n) size) a) (sizes_spare (Block n)) step n in omega (arith, most, same);
       }
 
   growing_counter : (a : Image) (v : ℕ) → IsGrowing n from a → IsGrowing n from (applied (Word (Block n) 36 (word_bytes v)) a)
@@ -131,6 +163,7 @@ module _ (n : ℕ) (from : Image) where
             (outside_wider words (growth_of n) a _ (within_right (size_of (Block n)) words) (outside_wider (one_word (Block n) 36) words a _ (within_left (one_word (Block n) 36) (one_word (Block n) 20)) step));
         longer = let less = growing.longer in omega (arith, less, at);
         count = λ holds. ap is_block_count (word-after_other a (Block n) 36 (word_bytes v) 20 (omega arith) refl (omega arith)) ∙ growing.count holds;
+        more = let most = growing.more in let same = word-after_other a (Block n) 36 (word_bytes v) 20 (omega arith) refl (omega arith) in omega (arith, most, same);
       }
 
   growing_blocks : (a : Image) (b : ℕ) → b < 64896 → max_entries_in from n ≡ b → 24 ≤ length_of a (Block n) → IsGrowing n from a → IsGrowing n from (applied (Word (Block n) 20 (word_bytes (grown b))) a)
@@ -145,6 +178,7 @@ module _ (n : ℕ) (from : Image) where
             (outside_wider words (growth_of n) a _ (within_right (size_of (Block n)) words) (outside_wider (one_word (Block n) 20) words a _ (within_right (one_word (Block n) 36) (one_word (Block n) 20)) step));
         longer = let less = growing.longer in omega (arith, less, at);
         count = λ holds. ap is_block_count (word-after_same a (Block n) 20 (grown b) (omega arith) room) ∙ count_grown b below (ap is_block_count (sym is) ∙ holds);
+        more = let same = word-after_same a (Block n) 20 (grown b) (omega arith) room in omega (arith, same, is, below);
       }
 
 -- a linked file grows, where what is kept agrees
@@ -308,6 +342,9 @@ module _ (files : BlockFiles) (n : ℕ) (a b d : Told) (agrees : ForSome a.files
 
   pub grow_outside : Part → ForSome a.files (λ from. Passes a d (SameOutside (growth_of n) from))
   grow_outside part from there = passing (SameOutside (growth_of n) from) from (λ image growing. growing.outside) there part
+
+  pub grow_blocks : Part → ForSome a.files (λ from. Passes a d (KeepsBlocks from))
+  grow_blocks part from there = passing (KeepsBlocks from) from (λ image growing. grows_blocks n from image growing) there part
 
   pub grow_formed : Part → ForSome a.files (λ from. IsWellFormed from → Passes a d IsWellFormed)
   grow_formed part from there formed = passing IsWellFormed from (λ image growing. grows_formed n from image growing formed) there part

@@ -2,35 +2,36 @@
 use Rattle.std.proofs.Common.{◌≡◌, ◌≢◌, ℕ, zero, suc, ◌+◌, ◌-◌, ◌*◌, ◌%◌, ◌/◌, ◌<◌, ◌≤◌, Bool, true, false, ◌&&◌, ◌||◌, nat_le, nat_lt, if◌then◌else◌, List, [], ◌∷◌, ◌++◌, length, get_or, Option, None, Some, unwrap_or, refl, sym, ◌∙◌, ap, ap₂, subst, arith, lit<, ◌⊎◌, inl, inr, ⊎_elim}
 use Rattle.std.specs.Prelude.{◌==◌}
 use Rattle.std.specs.Option.{ForSome}
-use Rattle.std.proofs.lemmas.Bool.{cases_eq, cases_lt}
+use Rattle.std.proofs.lemmas.Bool.{cases_eq}
 use Rattle.std.proofs.lemmas.Bool.Decides.{nat_tests}
 use Rattle.std.proofs.lemmas.List.Folds.{list_any_at}
 use Rattle.blk_image.specs.Bytes.{content}
 use Rattle.blk_image.specs.Checks.{first_of}
-use Rattle.blk_image.specs.Footprint.{SameOutside, either, range, whole}
-use Rattle.blk_image.specs.Image.{File, Index, Block, Image, byte, bytes_of, length_of, same_file, with_file}
-use Rattle.blk_image.specs.Steps.{TrailStep, Word, applied, after}
+use Rattle.blk_image.specs.Footprint.{SameOutside, range, whole}
+use Rattle.blk_image.specs.Image.{Index, Block, Image, byte, bytes_of, length_of, same_file}
+use Rattle.blk_image.specs.Steps.{Word, applied, after}
 use Rattle.blk_image.specs.Told.{Told, Grows, GrowsInPart, Passes, Along, Until, IsQuiet}
 use Rattle.blk_image.proofs.Cuts.{after-append}
 use Rattle.blk_image.proofs.Footprints.{outside-trans, outside_wider, outside_write, within_left, within_right}
-use Rattle.blk_image.proofs.Images.{bytes_of-written, length-after_write, other-word, with_file-same}
+use Rattle.blk_image.proofs.Images.{bytes_of-written, other-word, with_file-same}
 use Rattle.blk_image.proofs.Runs.{passes_part, quiet-append, some_inj, told_whole, until-append, until_last, until_weaker2}
 use Rattle.blk_image.proofs.Splices.{content-spliced_inside}
 use Rattle.blk_image.proofs.Words.{same-word_at}
-use Rattle.blk_format.specs.Address.{is_block_kind}
-use Rattle.blk_format.specs.BlockFiles.{next_file_in, max_entries_in, files_along, linked, linked_up_to, is_among, is_block_count, checks_along, checks_of_type, first_block_damage, IsWellFormed}
+use Rattle.blk_format.specs.Address.{file_selector, is_block_kind}
+use Rattle.blk_format.specs.BlockFiles.{next_file_in, max_entries_in, files_along, linked, linked_as, linked_up_to, is_among, is_block_count, checks_along, checks_of_type, first_block_damage, stands_in_blocks, type_among, IsWellFormed}
 use Rattle.blk_addr.specs.declared.kinds.Kind.{Kind}
 use Rattle.blk_addr.specs.declared.kinds.Kind.TheVariants.{External, Rankings, B256, B1K, B4K}
 use Rattle.blk_addr.specs.Kind.{kind_number}
 use Rattle.blk_disk.specs.declared.tables.BlockFiles.{BlockFiles}
 use Rattle.blk_disk.specs.Tables.{Agrees, Joins, all_files, blocks_of, files_of, length_in}
-use Rattle.blk_disk.specs.Growth.{IsLeastFree, add_steps, addition_of, free_number, last_file, link_steps, make_steps}
+use Rattle.blk_disk.specs.Growth.{IsLeastFree, KeepsBlocks, add_steps, addition_of, free_number, last_file, link_steps, make_steps}
 use Rattle.blk_disk.proofs.Additions.{IsNew, header_new, header_size_is, made_is, making_outside, making_quiet, new_header, new_passes, next_is}
-use Rattle.blk_disk.proofs.Agreeing.{other_file}
+use Rattle.blk_disk.proofs.Agreeing.{other_file, past_header}
 use Rattle.blk_disk.proofs.Among.{all_files_among, is_among-append, is_among_more}
 use Rattle.blk_disk.proofs.Chains.{block_kind, fails, linked_once, met_in, or_cases, type_none}
 use Rattle.blk_disk.proofs.Enlarging.{well_formed_still}
 use Rattle.blk_disk.proofs.Keeping.{KeepsHead, all_types, along_kept, links_kept}
+use Rattle.blk_disk.proofs.Ranges.{stands_agree, stands_linked, stands_more}
 use Rattle.blk_disk.proofs.Linking.{checks_added, ends, links_added, some_along}
 
 differ : (b : Bool) → b ≡ true → b ≡ false → ⊥
@@ -87,6 +88,11 @@ keeps_from a b m size bytes =
       entry_size = same-word_at (byte b (Block m)) (byte a (Block m)) 12 (high 12 (omega arith)) (high 13 (omega arith)) (high 14 (omega arith)) (high 15 (omega arith));
       count = λ holds. ap is_block_count (same-word_at (byte b (Block m)) (byte a (Block m)) 20 (high 20 (omega arith)) (high 21 (omega arith)) (high 22 (omega arith)) (high 23 (omega arith))) ∙ holds;
     }
+
+-- the type of a file, where its membership in each list is as before
+same_type : (f g : ℕ → List ℕ) (m : ℕ) → is_among (f 1) m ≡ is_among (g 1) m → is_among (f 2) m ≡ is_among (g 2) m → is_among (f 3) m ≡ is_among (g 3) m → is_among (f 4) m ≡ is_among (g 4) m → type_among f m ≡ type_among g m
+unfolding type_among
+same_type f g m e1 e2 e3 e4 = λ i. if e1 i then Some 1 else if e2 i then Some 2 else if e3 i then Some 3 else if e4 i then Some 4 else None
 
 less_one : (n : ℕ) → suc n - 1 ≡ n
 less_one n = omega arith
@@ -156,6 +162,30 @@ module _ (files : BlockFiles) (image : Image) (p : ℕ) (small : p < 4) (agrees 
         along_kept image b (In j) (λ m among. heads m (not_new j m below among)) (suc j) nexts 59 (suc j - 1) (linked_up_to image (suc j - 1)) (linked_up_to b (suc j - 1)) same (λ m among. among)
         (type_none image agrees.undamaged (suc j) (block_kind j below))
 
+  -- an image in which each file but the new one is linked as before, and has its blocks
+  keeps_blocks : (b : Image) → ((j m : ℕ) → j < 4 → m ≢ n → is_among (linked b (suc j)) m ≡ is_among (linked image (suc j)) m) → ((m : ℕ) → m ≢ n → max_entries_in b m ≡ max_entries_in image m) → ((m : ℕ) → m ≢ n → length_of b (Block m) ≡ length_of image (Block m))
+      → ((m : ℕ) → m ≢ n → (i : ℕ) → 12 ≤ i → byte b (Block m) i ≡ byte image (Block m) i) → KeepsBlocks image b
+  keeps_blocks b among blocks lengths bytes = record {
+    stand =
+        λ w stands. let m : ℕ = file_selector w in
+        let differs = standing_old w stands in
+        let more = blocks m differs in
+        let longer = lengths m differs in
+        stands_more image b w (type_same_of m differs) (omega (arith, more)) (omega (arith, longer)) stands;
+    bytes = λ w i stands low high. bytes (file_selector w) (standing_old w stands) i (let past = past_header w in omega (arith, past, low));
+  }
+    where
+      standing_old : (w : ℕ) → stands_in_blocks image w ≡ true → file_selector w ≢ n
+      standing_old w stands same =
+          differ (is_among (all_files files) n)
+          (ap (is_among (all_files files)) (sym same) ∙ stands_linked files w (stands_agree files image w agrees ∙ stands)) least.free
+
+      type_same_of : (m : ℕ) → m ≢ n → linked_as b m ≡ linked_as image m
+      type_same_of m differs = by_lists m (among 0 m (omega arith) differs) (among 1 m (omega arith) differs) (among 2 m (omega arith) differs) (among 3 m (omega arith) differs)
+        where
+          by_lists : (m : ℕ) → is_among (linked b 1) m ≡ is_among (linked image 1) m → is_among (linked b 2) m ≡ is_among (linked image 2) m → is_among (linked b 3) m ≡ is_among (linked image 3) m → is_among (linked b 4) m ≡ is_among (linked image 4) m → linked_as b m ≡ linked_as image m
+          by_lists m e1 e2 e3 e4 = same_type (linked b) (linked image) m e1 e2 e3 e4
+
   -- an image while the new file is made
   module _ (b : Image) (same : SameOutside (whole (Block n)) image b) where
     making_bytes : (m : ℕ) → m ≢ n → (i : ℕ) → byte b (Block m) i ≡ byte image (Block m) i
@@ -178,6 +208,15 @@ module _ (files : BlockFiles) (image : Image) (p : ℕ) (small : p < 4) (agrees 
 
     making_undamaged : first_block_damage b ≡ None
     making_undamaged = all_types b (making_type 0 (omega arith)) (making_type 1 (omega arith)) (making_type 2 (omega arith)) (making_type 3 (omega arith))
+
+    making_blocks_same : (m : ℕ) → m ≢ n → max_entries_in b m ≡ max_entries_in image m
+    unfolding max_entries_in
+    making_blocks_same m differs = same-word_at (byte b (Block m)) (byte image (Block m)) 20 (making_bytes m differs 20) (making_bytes m differs 21) (making_bytes m differs 22) (making_bytes m differs 23)
+
+    pub making_blocks : KeepsBlocks image b
+    making_blocks =
+        keeps_blocks b (λ j m below differs. ap (λ (l : List ℕ). is_among l m) (chain_same b making_heads j below (making_nexts j below))) making_blocks_same
+        (λ m differs. same.lengths (Block m) (other_file n m differs)) (λ m differs i past. making_bytes m differs i)
 
     pub making_formed : IsWellFormed image → IsWellFormed b
     making_formed formed = well_formed_still image b (λ i. same.bytes Index i refl) (same.lengths Index refl) (λ none. making_undamaged) formed
@@ -339,6 +378,9 @@ module _ (files : BlockFiles) (image : Image) (p : ℕ) (small : p < 4) (agrees 
   done_undamaged : first_block_damage done ≡ None
   done_undamaged = all_types done (done_type 0 (omega arith)) (done_type 1 (omega arith)) (done_type 2 (omega arith)) (done_type 3 (omega arith))
 
+  pub done_keeps : KeepsBlocks image done
+  done_keeps = keeps_blocks done (λ j m below differs. among_type j m below differs) done_blocks done_length (λ m differs i past. done_bytes m differs i (inr past))
+
   pub done_formed : IsWellFormed image → IsWellFormed done
   done_formed formed = let same = done_outside in well_formed_still image done (λ i. same.bytes Index i refl) (same.lengths Index refl) (λ none. done_undamaged) formed
 
@@ -388,12 +430,14 @@ module _ (files : BlockFiles) (image : Image) (p : ℕ) (small : p < 4) (agrees 
 -- an image while a file is added
 pub record IsAdding (files : BlockFiles) (kind : ℕ) (from image : Image) : Type 0 where
   pub outside : SameOutside (addition_of files kind) from image
+  pub blocks : KeepsBlocks from image
   pub formed : IsWellFormed from → IsWellFormed image
 
 module _ (files : BlockFiles) (image : Image) (p : ℕ) (small : p < 4) (agrees : Agrees files image) (room : length (files_of files (suc p)) < 60) (least : IsLeastFree files (free_number files)) where
   making_adds : (b : Image) → SameOutside (whole (Block (free_number files))) image b → IsAdding files (suc p) image b
   making_adds b same = record {
     outside = outside_wider (whole (Block (free_number files))) (addition_of files (suc p)) image b (within_left (whole (Block (free_number files))) (range (Block (last_file files (suc p))) 10 2)) same;
+    blocks = making_blocks files image p small agrees room least b same;
     formed = making_formed files image p small agrees room least b same;
   }
 
@@ -402,7 +446,7 @@ module _ (files : BlockFiles) (image : Image) (p : ℕ) (small : p < 4) (agrees 
       until-append (IsAdding files (suc p) image) (IsAdding files (suc p) image) (make_steps (suc p) (free_number files)) (link_steps (last_file files (suc p)) (free_number files)) image
       (until_weaker2 (SameOutside (whole (Block (free_number files))) image) (IsAdding files (suc p) image) (SameOutside (whole (Block (free_number files))) image) (IsAdding files (suc p) image) (make_steps (suc p) (free_number files)) image making_adds making_adds (making_outside (suc p) (free_number files) image)) (
         making_adds (after (make_steps (suc p) (free_number files)) image) (made_same files image p small agrees room least),
-        record { outside = done_outside files image p small agrees room least; formed = done_formed files image p small agrees room least },
+        record { outside = done_outside files image p small agrees room least; blocks = done_keeps files image p small agrees room least; formed = done_formed files image p small agrees room least },
       )
 
 pub least_is : (files : BlockFiles) (n : ℕ) → n ≡ free_number files → IsLeastFree files n → IsLeastFree files (free_number files)
@@ -442,6 +486,9 @@ module _ (files : BlockFiles) (k : Kind) (blocky : kind_number k ≢ 0) (a : Tol
 
   pub add_outside : {d : Told} → GrowsInPart a d (add_steps files kind) → ForSome a.files (λ from. Passes a d (SameOutside (addition_of files kind) from))
   add_outside part from there = passing (SameOutside (addition_of files kind) from) from (λ image adding. adding.outside) there part
+
+  pub add_blocks : {d : Told} → GrowsInPart a d (add_steps files kind) → ForSome a.files (λ from. Passes a d (KeepsBlocks from))
+  add_blocks part from there = passing (KeepsBlocks from) from (λ image adding. adding.blocks) there part
 
   pub add_formed : {d : Told} → GrowsInPart a d (add_steps files kind) → ForSome a.files (λ from. IsWellFormed from → Passes a d IsWellFormed)
   add_formed part from there formed = passing IsWellFormed from (λ image adding. adding.formed formed) there part

@@ -1,5 +1,5 @@
 -- Checks of block files that go on holding.
-use Rattle.std.proofs.Common.{◌≡◌, ◌≢◌, ℕ, zero, suc, ◌+◌, ◌-◌, ◌<◌, ◌≤◌, ◌%◌, ◌^◌, Bool, true, false, not, ◌&&◌, ◌||◌, if◌then◌else◌, List, [], ◌∷◌, ◌++◌, length, None, Some, refl, sym, ◌∙◌, ap, subst, arith, ◌⊎◌, inl, inr, ⊎_elim}
+use Rattle.std.proofs.Common.{◌≡◌, ℕ, zero, suc, ◌-◌, ◌≤◌, ◌%◌, ◌^◌, Bool, true, false, not, ◌&&◌, ◌||◌, if◌then◌else◌, List, [], ◌∷◌, ◌++◌, None, Some, refl, sym, ◌∙◌, ap, subst, arith}
 use Rattle.std.specs.Prelude.{◌==◌, nat_le, nat_lt}
 use Rattle.std.specs.declared.option.Option.{Option}
 use Rattle.std.proofs.lemmas.Bool.Decides.{nat_tests}
@@ -9,7 +9,7 @@ use Rattle.blk_image.specs.Checks as checks
 use Rattle.blk_image.specs.Checks.{first_of, check_found}
 use Rattle.blk_format.specs.Address.{block_size}
 use Rattle.blk_format.specs.Headers.{block_magic, version, magic_of, version_of, this_file_of, next_file_of, entry_size_of, max_entries_of}
-use Rattle.blk_format.specs.BlockFiles.{next_file_in, max_entries_in, files_along, linked, linked_up_to, is_among, is_link, is_block_count, file_checks, checks_along, checks_of_type, block_checks, first_block_damage}
+use Rattle.blk_format.specs.BlockFiles.{next_file_in, max_entries_in, files_along, linked, linked_up_to, is_among, is_link, is_block_count, file_checks, checks_along, checks_of_type, first_block_damage}
 use Rattle.blk_disk.proofs.Among.{is_among_more}
 use Rattle.blk_image.proofs.FirstChecks.{append_none, all_none, passed}
 use Rattle.blk_disk.proofs.Following.{last_link}

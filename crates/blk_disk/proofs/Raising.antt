@@ -1,5 +1,5 @@
 -- The counter of empty groups, as it is read and raised.
-use Rattle.std.proofs.Common.{◌≡◌, ℕ, ◌+◌, ◌*◌, ◌%◌, ◌^◌, ◌<◌, ◌≤◌, List, [], ◌∷◌, length, refl, sym, ◌∙◌, ap, subst, arith, get_or-take}
+use Rattle.std.proofs.Common.{◌≡◌, ℕ, ◌+◌, ◌*◌, ◌%◌, ◌<◌, ◌≤◌, List, refl, sym, ◌∙◌, ap, arith, get_or-take}
 use Rattle.blk_image.specs.Bytes.{content, zeros, word_at}
 use Rattle.blk_image.specs.Image.{Block, Image, byte, length_of}
 use Rattle.blk_image.specs.Told.{GivesBytes}

@@ -6,7 +6,7 @@ use Rattle.std.proofs.lemmas.Bool.Decides.{nat_tests}
 use Rattle.std.proofs.Math.Nat.{mul-le-mul}
 use Rattle.blk_image.specs.Image.{Block, Image, HasRange, length_of}
 use Rattle.blk_format.specs.Address.{kind_of, file_selector, external_number, external, first_block, block_count, block_size, place, room}
-use Rattle.blk_format.specs.BlockFiles.{type_among, is_among, linked, max_entries_in, stands_in_blocks}
+use Rattle.blk_format.specs.BlockFiles.{type_among, is_among, linked, linked_as, max_entries_in, stands_in_blocks}
 use Rattle.blk_format.specs.Standing.{is_linked_as, stands_as_blocks}
 use Rattle.blk_format.proofs.Words.{AreFields-of}
 use Rattle.blk_addr.specs.FileId.{file_of_word}
@@ -85,7 +85,7 @@ stands_range files image w at n agrees stands within =
     omega (arith, size, inside)
 
 -- its room
-size_small : (kind : ℕ) → block_size kind ≤ 4096
+pub size_small : (kind : ℕ) → block_size kind ≤ 4096
 unfolding block_size
 size_small kind = by_tests (kind == 1) (kind == 2) (kind == 3)
   where
@@ -128,3 +128,20 @@ stands_agree files image w agrees =
     by_test true b e blocks lengths = ap (λ (x : Bool). x && nat_le (first_block w + block_count w) (blocks_of files (file_selector w)) && nat_le (place w + room w) (length_in files (file_selector w))) e
         ∙ ap₂ (λ (x y : ℕ). b && nat_le (first_block w + block_count w) x && nat_le (place w + room w) y) (blocks refl) (lengths refl)
     by_test false b e blocks lengths = ap (λ (x : Bool). x && nat_le (first_block w + block_count w) (max_entries_in image (file_selector w)) && nat_le (place w + room w) (length_of image (Block (file_selector w)))) e
+
+-- an address stands where its file is linked as before, and has as many blocks and bytes or more
+pub stands_more : (a b : Image) (w : ℕ) → linked_as b (file_selector w) ≡ linked_as a (file_selector w) → max_entries_in a (file_selector w) ≤ max_entries_in b (file_selector w) → length_of a (Block (file_selector w)) ≤ length_of b (Block (file_selector w)) → stands_in_blocks a w ≡ true → stands_in_blocks b w ≡ true
+unfolding stands_as_blocks
+stands_more a b w linked blocks longer stands =
+    let n : ℕ = file_selector w in
+    let two = first_of_two (is_linked_as (linked_as a n) (kind_of w) && nat_le (first_block w + block_count w) (max_entries_in a n)) (nat_le (place w + room w) (length_of a (Block n))) stands in
+    let inside = second_of_two (is_linked_as (linked_as a n) (kind_of w) && nat_le (first_block w + block_count w) (max_entries_in a n)) (nat_le (place w + room w) (length_of a (Block n))) stands in
+    let is = first_of_two (is_linked_as (linked_as a n) (kind_of w)) (nat_le (first_block w + block_count w) (max_entries_in a n)) two in
+    let below = second_of_two (is_linked_as (linked_as a n) (kind_of w)) (nat_le (first_block w + block_count w) (max_entries_in a n)) two in
+    all_three (ap (λ (o : Option ℕ). is_linked_as o (kind_of w)) linked ∙ is) (more (first_block w + block_count w) (max_entries_in a n) (max_entries_in b n) blocks below) (more (place w + room w) (length_of a (Block n)) (length_of b (Block n)) longer inside)
+  where
+    all_three : {p q r : Bool} → p ≡ true → q ≡ true → r ≡ true → (p && q && r) ≡ true
+    all_three e e2 e3 = rw (e, e2, e3) refl
+
+    more : (k m n : ℕ) → m ≤ n → nat_le k m ≡ true → nat_le k n ≡ true
+    more k m n less test = grind (arith, nat_tests)

@@ -1,7 +1,6 @@
 -- The words of a sealed update are written, in part or whole.
-use Rattle.std.proofs.Common.{◌≡◌, ℕ, ◌+◌, ◌*◌, ◌%◌, ◌≤◌, Bool, true, false, if◌then◌else◌, List, [], ◌∷◌, ◌++◌, All, refl, sym, ◌∙◌, ap₂, subst, arith, add-zero, Some, ⊎_elim}
+use Rattle.std.proofs.Common.{◌≡◌, ℕ, ◌+◌, ◌*◌, ◌%◌, ◌≤◌, true, List, [], ◌∷◌, ◌++◌, All, refl, sym, ◌∙◌, ap₂, subst, arith, add-zero, Some, ⊎_elim}
 use Rattle.std.specs.Option.{ForSome}
-use Rattle.std.specs.Prelude.{◌==◌}
 use Rattle.std.proofs.lemmas.List.Elements.{All-cons, All-push, All-map}
 use Rattle.blk_image.specs.Image.{Block, Image, HasRange, length_of}
 use Rattle.blk_image.specs.Steps.{after, word_steps, with_words}

@@ -5,9 +5,9 @@ use Rattle.std.specs.declared.option.Option.{Option}
 use Rattle.blk_image.specs.Image.{Image, Block, byte}
 use Rattle.blk_image.specs.Steps.{TrailStep, Word, SetLength, word_steps}
 use Rattle.blk_image.specs.Footprint.{Footprint, either, one_word, range, size_of, whole}
-use Rattle.blk_format.specs.Address.{block_size, header_size}
+use Rattle.blk_format.specs.Address.{block_size, file_selector, header_size, place, room}
 use Rattle.blk_format.specs.Headers.{block_magic, version, empty_of}
-use Rattle.blk_format.specs.BlockFiles.{type_among, is_among, blocks_a_growth, most_blocks}
+use Rattle.blk_format.specs.BlockFiles.{type_among, is_among, blocks_a_growth, most_blocks, stands_in_blocks}
 use Rattle.blk_disk.specs.declared.tables.BlockFiles.{BlockFiles}
 use Rattle.blk_disk.specs.Tables.{files_of, all_files, blocks_of, length_in}
 
@@ -23,6 +23,11 @@ whole_length files n = header_size + blocks_of files n * size_as (type_among (fi
 -- a file that is shorter than all its blocks gets as long as they are
 abbrev pub fit_steps : BlockFiles → ℕ → List TrailStep
 fit_steps files n = if nat_lt (length_in files n) (whole_length files n) then SetLength (Block n) (whole_length files n) ∷ [] else []
+
+-- each block that stood still stands, with the bytes that it had
+pub record KeepsBlocks (from image : Image) : Type 0 where
+  pub stand : (w : ℕ) → stands_in_blocks from w ≡ true → stands_in_blocks image w ≡ true
+  pub bytes : (w i : ℕ) → stands_in_blocks from w ≡ true → place w ≤ i → i < place w + room w → byte image (Block (file_selector w)) i ≡ byte from (Block (file_selector w)) i
 
 -- A file grows.
 

@@ -15,7 +15,7 @@ use Rattle.blk_io.specs.declared.fault.Damage.{Damage}
 abbrev pub BeginsWithRecord : ℕ → Type 0
 BeginsWithRecord w = (kind_of w ≡ rankings) ⊎ (kind_of w ≡ blocks_256)
 
--- the bytes of the record of an address of this type
+-- the number of the bytes of a record at an address of this type
 unfoldable pub size_by_kind : ℕ → ℕ
 size_by_kind kind = if kind == rankings then node_size else entry_size
 
@@ -23,18 +23,19 @@ size_by_kind kind = if kind == rankings then node_size else entry_size
 unfoldable pub seal_by_kind : ℕ → ℕ
 seal_by_kind kind = if kind == rankings then node_seal_place else entry_seal_place
 
--- the number of the bytes of an address's record, and the place of its seal in it
+-- the number of the bytes of the record of an address
 abbrev pub record_size : ℕ → ℕ
 record_size w = size_by_kind (kind_of w)
 
+-- the place of its seal in it
 abbrev pub seal_place : ℕ → ℕ
 seal_place w = seal_by_kind (kind_of w)
 
--- the record's bytes
+-- the bytes of the record of an address
 unfoldable pub record_at : Image → ℕ → List ℕ
 record_at image w = range_at (byte image (Block (file_selector w))) (place w) (record_size w)
 
--- its seal is 0 or the hash of the bytes before it
+-- the record of an address checks: its seal is 0 or the hash of the bytes before it
 abbrev pub RecordChecks : ℕ → Image → Type 0
 RecordChecks w image = checks (seal_place w) (record_at image w) ≡ true
 
@@ -51,7 +52,7 @@ pub record AreChanges (seal : ℕ) (changes : List (ℕ × ℕ)) : Type 0 where
   pub before : All (λ change. change.0 < seal) changes
   pub different : AreDifferent changes
 
--- a record with the hash of its other bytes as its seal
+-- a record with the hash of the bytes before its seal as its seal
 abbrev pub sealed : ℕ → List ℕ → List ℕ
 sealed seal bytes = with_word seal (seal_of seal bytes) bytes
 

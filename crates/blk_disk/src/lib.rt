@@ -17,6 +17,6 @@ pub use names::file_of;
 pub use tables::BlockFiles;
 
 #[cfg(test)]
-mod tests;
-#[cfg(test)]
 mod sealed_tests;
+#[cfg(test)]
+mod tests;

@@ -182,14 +182,8 @@ fn an_update_reads_once_and_writes_each_word_once(rt: HostRuntime) -> Result<(),
     // A call that fails is the last.
     let mut g = zeros(rt.alloc())?;
     g.fail_at(9 + 1 + 3, 0)?;
-    assert_eq!(rt;
-        update_node(&mut g, LAST_NODE, NEW),
-        Err(Fault::Device)
-    );
+    assert_eq!(rt; update_node(&mut g, LAST_NODE, NEW), Err(Fault::Device));
     assert_eq!(rt; g.calls(), 9 + 1 + 3);
-    assert_eq!(rt;
-        show_node(&mut g)?,
-        Some(([NEW[0], 0, 0], 0, true))
-    );
+    assert_eq!(rt; show_node(&mut g)?, Some(([NEW[0], 0, 0], 0, true)));
     Ok(())
 }

@@ -1,6 +1,5 @@
-use Rattle.std.proofs.Common.{◌≡◌, ◌%◌, ◌/◌, ℕ, List, [], ◌∷◌, ap, subst, ◌∙◌}
+use Rattle.std.proofs.Common.{List, subst}
 use Rattle.std.specs.Prelude.{OnOk}
-use Rattle.blk_image.specs.Image.{Block}
 use Rattle.blk_image.specs.Steps.{TrailStep}
 use Rattle.blk_image.specs.Told.{Grows, GrowsInPart}
 use Rattle.blk_disk.proofs.Additions.{link_is}

@@ -1,12 +1,12 @@
-use Rattle.std.proofs.Common.{◌≡◌, ◌<◌, ◌+◌, ◌≤◌, ℕ, List, [], ◌∷◌, get_or, refl, sym, subst, ◌∙◌}
-use Rattle.blk_image.specs.Image.{Image, Block, length_of}
-use Rattle.blk_image.specs.Steps.{SetLength, word_steps}
+use Rattle.std.proofs.Common.{◌≡◌, ◌<◌, ◌+◌, ◌≤◌, ℕ, List, [], ◌∷◌, get_or, refl, sym, subst}
+use Rattle.blk_image.specs.Image.{Block, length_of}
+use Rattle.blk_image.specs.Steps.{word_steps}
 use Rattle.blk_image.specs.Told.{GrowsInPart}
 use Rattle.blk_image.proofs.Images.{length-after_set_len}
 use Rattle.blk_image.proofs.Runs.{grows_then, part_then, told_whole}
 use Rattle.blk_image.proofs.WordSteps.{all_fit}
 use Rattle.blk_addr.specs.Kind.{kind_number}
-use Rattle.blk_disk.specs.Growth.{header_words, make_steps}
+use Rattle.blk_disk.specs.Growth.{header_words}
 use Rattle.blk_disk.proofs.adding.make_file.Goals as goal
 
 pub write_words-requires-clause-inside : goal.write_words-requires-clause-inside

@@ -1,8 +1,8 @@
-use Rattle.std.proofs.Common.{◌≡◌, ◌+◌, ◌%◌, ℕ, List, [], ◌∷◌, ap, subst, sym, ◌∙◌}
-use Rattle.std.specs.Option.{ForSome, option_map}
+use Rattle.std.proofs.Common.{ℕ, [], ◌∷◌, ap, subst, ◌∙◌}
+use Rattle.std.specs.Option.{option_map}
 use Rattle.std.proofs.lemmas.Result.{on_ok_weaker}
 use Rattle.blk_image.specs.Bytes.{zeros}
-use Rattle.blk_image.specs.Image.{Image, Block}
+use Rattle.blk_image.specs.Image.{Block}
 use Rattle.blk_image.specs.Steps.{after, word_steps}
 use Rattle.blk_image.specs.Told.{Told, Grows, GrowsInPart, GivesBytes}
 use Rattle.blk_disk.specs.Growth.{raised}

@@ -1,4 +1,4 @@
-use Rattle.std.proofs.Common.{◌≡◌, ◌≤◌, ◌<◌, ◌+◌, length, sym, arith}
+use Rattle.std.proofs.Common.{sym, arith}
 use Rattle.blk_disk.specs.Tables.{all_files}
 use Rattle.blk_disk.proofs.Numbers.{free_is, one_free}
 use Rattle.blk_disk.proofs.tables.BlockFiles.free_number.Goals as goal

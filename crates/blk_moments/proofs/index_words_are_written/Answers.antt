@@ -1,0 +1,14 @@
+use Rattle.blk_moments.proofs.IndexWords.{heads-written, tails-written, transactions-written, operations-written, others-hidden, buckets-written, others-unchecked, index-stands}
+use Rattle.blk_moments.proofs.index_words_are_written.Goals as goal
+
+pub returns : goal.returns
+returns c = record {
+  head = heads-written;
+  tail = tails-written;
+  transaction = transactions-written;
+  operation = operations-written;
+  hidden = others-hidden;
+  buckets = buckets-written;
+  checked = others-unchecked;
+  stands = index-stands;
+}
