@@ -1,13 +1,18 @@
 -- How a run of calls goes on through a list of writes.
-use Rattle.std.proofs.Common.{◌≡◌, ℕ, ◌+◌, ◌<◌, length, take, get_or, drop, map, List, [], ◌∷◌, ◌++◌, Option, None, Some, Result, Ok, Err, refl, sym, ap, ◌∙◌, subst, append_assoc, true}
+use Rattle.std.proofs.Common.{zero, suc, arith, Bool, false, ◌≡◌, ℕ, ◌+◌, ◌<◌, ◌≤◌, length, take, get_or, drop, map, List, [], ◌∷◌, ◌++◌, Option, None, Some, Result, Ok, Err, refl, sym, ap, ◌∙◌, subst, append_assoc, true}
 use Rattle.std.specs.Prelude.{OnOk}
 use Rattle.std.specs.Option.{option_map, ForSome}
-use Rattle.std.proofs.lemmas.List.{append-nil, drop_more}
-use Rattle.blk_image.specs.Image.{Image, AreBytes}
+use Rattle.std.proofs.lemmas.List.{append-nil, drop_more, drop_all}
+use Rattle.std.specs.Prelude.{◌||◌}
+use Rattle.blk_image.specs.Image.{File, Index, Block, Image, AreBytes}
+use Rattle.blk_image.specs.Footprint.{Footprint, range}
+use Rattle.blk_format.specs.Address.{file_selector, place}
+use Rattle.blk_disk.specs.Sealed.{record_range, record_size}
+use Rattle.blk_disk.proofs.Agreeing.{SparesHeaders, agrees_still, blocks_spare}
 use Rattle.blk_image.specs.Steps.{TrailStep, after}
 use Rattle.blk_image.specs.Told.{Told, Grows, GrowsInPart, Passes, Until, Along}
 use Rattle.blk_image.proofs.Cuts.{after-append}
-use Rattle.blk_image.proofs.Runs.{grows_none, grows_then, part_then, part_only, part_whole, passes_part, some_inj, told_part}
+use Rattle.blk_image.proofs.Runs.{grows_none, grows_then, part_then, part_only, part_whole, passes_part, passes_end, some_inj}
 use Rattle.blk_volume.specs.ListView.{ListWrite, Next, Prev, Head, Tail, Transaction, Operation, after_writes}
 use Rattle.blk_volume.specs.View.{list_of}
 use Rattle.blk_disk.specs.declared.tables.BlockFiles.{BlockFiles}
@@ -15,7 +20,7 @@ use Rattle.blk_disk.specs.Tables.{Agrees}
 use Rattle.blk_moments.specs.Moments.{OnlyListChanges}
 use Rattle.blk_lru.specs.Moments.{WriteMoments}
 use Rattle.blk_lru.specs.Nodes.{is_node}
-use Rattle.blk_lru.specs.Writes.{HasWholeIndex, write_steps, steps_of, IsPartly, AreOf, AreWords, meant}
+use Rattle.blk_lru.specs.Writes.{HasWholeIndex, write_steps, steps_of, touched_by, touched_by_writes, IsPartly, AreOf, AreWords, meant}
 use Rattle.blk_lru.specs.declared.writes.Write.{Write}
 use Rattle.blk_lru.proofs.WriteLaws.{IsReady, MayWrite, WritesShow, writes_show, rest_may, first_may, one_write, quiet_writes}
 
@@ -63,6 +68,42 @@ nothing old now writes same = record {
   split = refl;
   wrote = record { grows = λ from there. grows_none same; silent = λ none. ap (λ (t : Told). t.files) same ∙ none };
 }
+
+-- the writes touch no header and no length
+or_none : (a b : Bool) → a ≡ false → b ≡ false → (a || b) ≡ false
+or_none a b p q = rw (p, q) refl
+
+spare_record : (w n i : ℕ) → i < 8192 → (record_range w).bytes (Block n) i ≡ false
+spare_record w n i small = (subst (λ (at : ℕ). SparesHeaders (range (Block (file_selector w)) at (record_size w))) (let e : place w + 0 ≡ place w = omega arith in e) (blocks_spare (Block (file_selector w)) w 0 (record_size w))).bytes n i small
+
+spare_write : (write : ListWrite) (n i : ℕ) → i < 8192 → (touched_by write).bytes (Block n) i ≡ false
+unfolding touched_by
+spare_write (Next w x) n i small = spare_record w n i small
+spare_write (Prev w x) n i small = spare_record w n i small
+spare_write (Head x) n i small = refl
+spare_write (Tail x) n i small = refl
+spare_write (Transaction x) n i small = refl
+spare_write (Operation x) n i small = refl
+
+spares_bytes : (writes : List ListWrite) (n i : ℕ) → i < 8192 → (touched_by_writes writes).bytes (Block n) i ≡ false
+spares_bytes [] n i small = refl
+spares_bytes (write ∷ writes) n i small = or_none _ _ (spare_write write n i small) (spares_bytes writes n i small)
+
+pub spares_headers : (writes : List ListWrite) → SparesHeaders (touched_by_writes writes)
+spares_headers writes = record { bytes = spares_bytes writes }
+
+spare_size : (write : ListWrite) (file : File) → (touched_by write).sizes file ≡ false
+unfolding touched_by
+spare_size (Next w x) file = refl
+spare_size (Prev w x) file = refl
+spare_size (Head x) file = refl
+spare_size (Tail x) file = refl
+spare_size (Transaction x) file = refl
+spare_size (Operation x) file = refl
+
+pub spares_sizes : (writes : List ListWrite) (file : File) → (touched_by_writes writes).sizes file ≡ false
+spares_sizes [] file = refl
+spares_sizes (write ∷ writes) file = or_none _ _ (spare_size write file) (spares_sizes writes file)
 
 module _ (laws : WriteMoments) (files : BlockFiles) (old : Told) (writes : List ListWrite)
     (ready : ForSome old.files (IsReady files)) (may : ForSome old.files (λ image. MayWrite files image writes)) where
@@ -134,3 +175,74 @@ module _ (laws : WriteMoments) (files : BlockFiles) (old : Told) (writes : List 
         let P : Image → Type 0 = IsPartly from writes in
         passes_part P P (part from there) (quiet_writes laws files writes from) (λ image p. p)
         (λ image here. subst (λ (i : Image). Until P P i (steps_of writes from)) (some_inj (sym there ∙ here)) (shows from there).along)
+
+    -- and its files and its index are as they were
+    pub part_ready : (old.files ≡ None → now.files ≡ None) → ForSome now.files (λ image. Agrees files image × HasWholeIndex image)
+    part_ready silent image here = by_files old.files refl
+      where
+        by_files : (o : Option Image) → old.files ≡ o → Agrees files image × HasWholeIndex image
+        by_files None none = absurd (no_some image (sym (silent none) ∙ here))
+        by_files (Some from) there =
+            let p : IsPartly from writes image = passes_end (passes from there) image here in
+            let F : Footprint = touched_by_writes writes in
+            (agrees_still F from image (spares_headers writes) p.outside files (λ n. spares_sizes writes (Block n)) (ready from there).agrees, p.outside.lengths Index (spares_sizes writes Index) ∙ (ready from there).index)
+
+-- ---- what is known before the writes
+
+pub told_ready : (files : BlockFiles) (told : Told) → ForSome told.files (Agrees files) → ForSome told.files HasWholeIndex → ForSome told.files AreBytes → ForSome told.files (IsReady files)
+told_ready files told agrees index bytes image there = record { agrees = agrees image there; index = index image there; bytes = bytes image there }
+
+pub told_may : (files : BlockFiles) (told : Told) (writes : List ListWrite) → AreOf (λ n. is_node files n ≡ true) writes → AreWords writes → ForSome told.files (λ image. AreOf (λ n. (list_of image).checks n ≡ true) writes) → ForSome told.files (λ image. MayWrite files image writes)
+told_may files told writes stand words check image there = (stand, (check image there, words))
+
+-- all of the writes are a part of them
+pub wrote_part : {old now : Told} {writes : List ListWrite} → Wrote old now writes → ForSome old.files (λ from. GrowsInPart old now (steps_of writes from))
+wrote_part wrote from there = part_whole (wrote.grows from there)
+
+-- the write of this number, and those behind it
+pub at_item : (ws : List Write) (i : ℕ) (d item : Write) → i < length ws → get_or ws i d ≡ item → map meant (drop i ws) ≡ meant item ∷ map meant (drop (i + 1) ws)
+at_item ws i d item lt is = ap (map meant) (drop_more ws i d lt) ∙ ap (λ (v : Write). meant v ∷ map meant (drop (i + 1) ws)) is
+
+first_is : (P : ℕ → Type 0) (x : ListWrite) (xs : List ListWrite) → AreOf P (x ∷ xs) → AreOf P (x ∷ [])
+first_is P (Next n w) xs h = (h.0, tt)
+first_is P (Prev n w) xs h = (h.0, tt)
+first_is P (Head w) xs h = tt
+first_is P (Tail w) xs h = tt
+first_is P (Transaction w) xs h = tt
+first_is P (Operation w) xs h = tt
+
+pub first_checks : (checks : ℕ → Bool) (x : Write) (xs : List ListWrite) → AreOf (λ n. checks n ≡ true) (meant x ∷ xs) → AreOf (λ n. checks n ≡ true) (meant x ∷ [])
+first_checks checks x xs h = first_is (λ n. checks n ≡ true) (meant x) xs h
+
+rest_is : (P : ℕ → Type 0) (x : ListWrite) (xs : List ListWrite) → AreOf P (x ∷ xs) → AreOf P xs
+rest_is P (Next n w) xs h = h.1
+rest_is P (Prev n w) xs h = h.1
+rest_is P (Head w) xs h = h
+rest_is P (Tail w) xs h = h
+rest_is P (Transaction w) xs h = h
+rest_is P (Operation w) xs h = h
+
+pub item_is : (P : ℕ → Type 0) (ws : List Write) (i : ℕ) (d item : Write) → i < length ws → get_or ws i d ≡ item → AreOf P (map meant ws) → AreOf P (meant item ∷ [])
+item_is P [] i d item lt is h = absurd (omega arith)
+item_is P (w ∷ ws) zero d item lt is h = subst (λ (v : Write). AreOf P (meant v ∷ [])) is (first_is P (meant w) (map meant ws) h)
+item_is P (w ∷ ws) (suc i) d item lt is h = item_is P ws i d item (omega arith) is (rest_is P (meant w) (map meant ws) h)
+
+pub all_done : (ws : List Write) (i : ℕ) → length ws ≤ i → map meant (drop i ws) ≡ []
+all_done ws i past = ap (map meant) (drop_all i ws past)
+
+-- a folder that tells nothing in the midst of the writes told nothing before them
+pub back_untold : {old now : Told} {writes : List ListWrite} → Wrote old now writes → now.files ≡ None → old.files ≡ None
+back_untold {old} {now} {writes} wrote none = by_files old.files refl
+  where
+    by_files : (o : Option Image) → old.files ≡ o → old.files ≡ None
+    by_files None there = there
+    by_files (Some from) there = absurd (no_some _ (sym none ∙ (wrote.grows from there).files ∙ ap (option_map (after (steps_of writes from))) there))
+
+-- what a part of the writes leaves
+module _ (laws : WriteMoments) (files : BlockFiles) (old now : Told) (writes : List ListWrite)
+    (ready : ForSome old.files (IsReady files)) (may : ForSome old.files (λ image. MayWrite files image writes)) where
+  pub told_made : Wrote old now writes → ForSome old.files (λ from. ForSome now.files (OnlyListChanges writes from))
+  told_made wrote = at_now (λ from image. OnlyListChanges writes from image) wrote (λ from there. (writes_show laws files writes from (ready from there) (may from there)).ends)
+
+  pub told_after : Wrote old now writes → ForSome now.files (IsReady files)
+  told_after wrote = now_has (IsReady files) wrote (λ from there. (writes_show laws files writes from (ready from there) (may from there)).ready)

@@ -19,7 +19,7 @@ use Rattle.blk_volume.specs.Footprint.{SameStock}
 use Rattle.blk_laws.proofs.ListWrites.{checks_stay}
 use Rattle.blk_disk.specs.declared.tables.BlockFiles.{BlockFiles}
 use Rattle.blk_disk.specs.Tables.{Agrees}
-use Rattle.blk_disk.specs.Sealed.{AreChanges, RecordChecks, IsMoment, IsUpdated, seal_place, record_size, record_at, record_range, sealed_steps, update_steps}
+use Rattle.blk_disk.specs.Sealed.{AreChanges, RecordChecks, IsMoment, IsUpdated, seal_place, record_size, record_at, record_range, sealed_steps, update_steps, update_words, placed, new_seal}
 use Rattle.blk_disk.proofs.Agreeing.{SparesHeaders, agrees_still, blocks_spare}
 use Rattle.blk_disk.proofs.RecordBytes.{take-before_word}
 use Rattle.blk_disk.proofs.Ranges.{stands_range}
@@ -138,7 +138,7 @@ module _ (laws : WriteMoments) (files : BlockFiles) where
         (law new full, record {
           agrees = agrees_still (record_range w) from new spare last.outside files (λ n. refl) ready.agrees;
           index = last.outside.lengths Index refl ∙ ready.index;
-          bytes = are_bytes-word_steps (Block (file_selector w)) _ from ready.bytes;
+          bytes = are_bytes-word_steps (Block (file_selector w)) (placed (place w) (update_words (seal_place w) changes (new_seal from w changes))) from ready.bytes;
         }),
       )
     where
@@ -253,12 +253,12 @@ module _ (laws : WriteMoments) (files : BlockFiles) where
   -- no step is a note
   pub quiet_write : (write : ListWrite) (image : Image) → IsQuiet (write_steps write image)
   unfolding write_steps update_steps
-  quiet_write (Next w x) image = quiet-word_steps _ _
-  quiet_write (Prev w x) image = quiet-word_steps _ _
-  quiet_write (Head x) image = quiet-word_step _ _ _
-  quiet_write (Tail x) image = quiet-word_step _ _ _
-  quiet_write (Transaction x) image = quiet-word_step _ _ _
-  quiet_write (Operation x) image = quiet-word_step _ _ _
+  quiet_write (Next w x) image = quiet-word_steps (Block (file_selector w)) (placed (place w) (update_words (seal_place w) ((16, x) ∷ []) (new_seal image w ((16, x) ∷ []))))
+  quiet_write (Prev w x) image = quiet-word_steps (Block (file_selector w)) (placed (place w) (update_words (seal_place w) ((20, x) ∷ []) (new_seal image w ((20, x) ∷ []))))
+  quiet_write (Head x) image = quiet-word_step Index 288 x
+  quiet_write (Tail x) image = quiet-word_step Index 308 x
+  quiet_write (Transaction x) image = quiet-word_step Index 328 x
+  quiet_write (Operation x) image = quiet-word_step Index 332 x
 
   pub quiet_writes : (writes : List ListWrite) (image : Image) → IsQuiet (steps_of writes image)
   quiet_writes [] image = tt
