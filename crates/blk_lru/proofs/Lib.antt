@@ -4,5 +4,6 @@ pub mod Listed
 pub mod NodeRecords
 pub mod NodeWords
 pub mod Performing
+pub mod PlanWords
 pub mod Results
 pub mod WriteLaws

@@ -3,9 +3,12 @@
 //! Each change is a transaction, so that a stop after any word leaves a list that can be completed.
 #![tactic(auto)]
 
+mod changing;
 mod moments;
 mod nodes;
+mod plans;
 mod reading;
 mod writes;
 
+pub use changing::{insert_front, remove};
 pub use reading::{after, before, first, last};

@@ -121,3 +121,10 @@ fn set_index<F: Folder>(f: &mut F, at: u32, word: u32) -> Result<(), Fault>
     set_word(f, at, word)?;
     Ok(())
 }
+
+impl Default for Write {
+    // Fills the room of plans.
+    fn default() -> Write {
+        Write::Operation(0)
+    }
+}
