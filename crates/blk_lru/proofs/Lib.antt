@@ -1,9 +1,12 @@
+pub mod Conditions
 pub mod FailedChecks
 pub mod LinkReads
 pub mod Listed
 pub mod NodeRecords
 pub mod NodeWords
+pub mod Operating
 pub mod Performing
+pub mod PlanNodes
 pub mod PlanWords
 pub mod Results
 pub mod WriteLaws

@@ -64,7 +64,7 @@ same_stock image = record {
 unchanged : (image : Image) → OnlyListChanges [] image image
 unchanged image = record { list = refl; stock = same_stock image }
 
-nothing_made : (writes : List ListWrite) (image : Image) → IsPartly image writes image
+pub nothing_made : (writes : List ListWrite) (image : Image) → IsPartly image writes image
 nothing_made writes image = record { made = 0; within = omega arith; shown = subst (λ (ws : List ListWrite). OnlyListChanges ws image image) (sym (take_none writes)) (unchanged image); outside = outside-refl (touched_by_writes writes) image; well_formed = λ well. well }
   where
     take_none : (writes : List ListWrite) → take 0 writes ≡ []

@@ -12,6 +12,7 @@ ghost use Rattle.blk_lru.specs.Nodes.{is_node, IsFailedCheck};
 ghost use Rattle.blk_lru.specs.Writes.{HasWholeIndex, IsPartly, steps_of};
 ghost use Rattle.blk_lru.specs.Lists.{IsListed, IsRested, Turns, walked};
 
+use crate::moments::write_moments;
 use crate::nodes::{NEXT, PREV, link};
 use crate::plans::{Operation, plan_of};
 use crate::reading::first;
@@ -49,6 +50,7 @@ pub fn insert_front<F: Folder>(f: &mut F, files: &BlockFiles, node: Addr) -> Res
     ensures later { F.faults f.old ≤ F.faults f.new }
     ensures device { IfDevice result (Rises (F.faults f.old) (F.faults f.new)) }
 {
+    write_moments();
     blk_laws::inserts_at_each_write();
     let head = first(f, files)?;
     let plan = plan_of(Operation::Insert, node, None, node, head);
@@ -84,6 +86,7 @@ pub fn remove<F: Folder>(f: &mut F, files: &BlockFiles, node: Addr) -> Result<()
     ensures later { F.faults f.old ≤ F.faults f.new }
     ensures device { IfDevice result (Rises (F.faults f.old) (F.faults f.new)) }
 {
+    write_moments();
     blk_laws::removals_at_each_write();
     let next = link(f, files, node, NEXT)?;
     let prev = link(f, files, node, PREV)?;
