@@ -1,16 +1,17 @@
 // Changes of the use list, each a transaction.
-ghost use Rattle.std.specs.Prelude.{◌≡◌, ◌++◌, ◌∷◌, ◌≤◌, ℕ, List, IsTrue, None, OnOk};
+ghost use Rattle.std.specs.Prelude.{◌≡◌, ◌==◌, ◌++◌, ◌∷◌, ◌≤◌, ℕ, List, IfSome, IsTrue, None, OnOk};
+ghost use Rattle.blk_lru.specs.Plans.{word_or_zero};
 ghost use Rattle.std.specs.Option.{ForSome};
 ghost use Rattle.blk_image.specs.Told.{Grows, GrowsInPart, Passes, Rises};
-ghost use Rattle.blk_volume.specs.Completion.{insert, remove as removal};
-ghost use Rattle.blk_volume.specs.ListPlans.{writes_of};
+ghost use Rattle.blk_volume.specs.Completion.{insert, move, remove as removal};
+ghost use Rattle.blk_volume.specs.ListPlans.{touch_writes, writes_of};
 ghost use Rattle.blk_volume.specs.View.{list_of};
 ghost use Rattle.blk_laws.specs.ListLaws.{CanBeInserted, IsAtRest};
 ghost use Rattle.blk_io.specs.Faults.{IfDamaged, IfDevice};
 ghost use Rattle.blk_disk.specs.Tables.{Agrees};
 ghost use Rattle.blk_lru.specs.Nodes.{is_node, IsFailedCheck};
 ghost use Rattle.blk_lru.specs.Writes.{HasWholeIndex, IsPartly, steps_of};
-ghost use Rattle.blk_lru.specs.Lists.{IsListed, IsRested, Turns, walked};
+ghost use Rattle.blk_lru.specs.Lists.{IsListed, Turns, first_of, walked};
 
 use crate::moments::write_moments;
 use crate::nodes::{NEXT, PREV, link};
@@ -92,4 +93,63 @@ pub fn remove<F: Folder>(f: &mut F, files: &BlockFiles, node: Addr) -> Result<()
     let prev = link(f, files, node, PREV)?;
     let plan = plan_of(Operation::Remove, node, Some(next), prev, None);
     perform(f, files, &plan)
+}
+
+// Moves a listed node to the front of the list, where it isn't there already.
+fn move_front<F: Folder>(f: &mut F, files: &BlockFiles, node: Addr) -> Result<(), Fault>
+    requires stands { IsTrue (is_node files.now node) }
+    requires complete { ForSome (F.told f.old).files HasWholeIndex }
+    requires agrees { ForSome (F.told f.old).files (Agrees files.now) }
+    requires listed { ForSome (F.told f.old).files (IsListed node) }
+    ensures whole { OnOk result (ForSome (F.told f.old).files (λ from. Grows (F.told f.old) (F.told f.new) (steps_of (touch_writes node (list_of from)) from))) }
+    ensures part { ForSome (F.told f.old).files (λ from. GrowsInPart (F.told f.old) (F.told f.new) (steps_of (touch_writes node (list_of from)) from)) }
+    ensures stops { ForSome (F.told f.old).files (λ from. Passes (F.told f.old) (F.told f.new) (IsPartly from (touch_writes node (list_of from)))) }
+    ensures complete { ForSome (F.told f.new).files HasWholeIndex }
+    ensures agrees { ForSome (F.told f.new).files (Agrees files.now) }
+    ensures damaged { IfDamaged result (IsFailedCheck files.now) }
+    ensures untold { IfDamaged result (λ _. (F.told f.old).files ≡ None) }
+    ensures silent { (F.told f.old).files ≡ None → (F.told f.new).files ≡ None }
+    ensures later { F.faults f.old ≤ F.faults f.new }
+    ensures device { IfDevice result (Rises (F.faults f.old) (F.faults f.new)) }
+{
+    let head = first(f, files)?;
+    if is_same(&head, node) {
+        return Ok(());
+    }
+    move_behind(f, files, node, head)
+}
+
+// Moves a listed node to the front of the list, where another node is the first one.
+fn move_behind<F: Folder>(f: &mut F, files: &BlockFiles, node: Addr, head: Option<Addr>) -> Result<(), Fault>
+    requires stands { IsTrue (is_node files.now node) }
+    requires first { IfSome head (λ n. IsTrue (is_node files.now n)) }
+    requires complete { ForSome (F.told f.old).files HasWholeIndex }
+    requires agrees { ForSome (F.told f.old).files (Agrees files.now) }
+    requires listed { ForSome (F.told f.old).files (IsListed node) }
+    requires head { ForSome (F.told f.old).files (λ image. head ≡ first_of (walked image)) }
+    ensures whole { OnOk result (ForSome (F.told f.old).files (λ from. Grows (F.told f.old) (F.told f.new) (steps_of (writes_of move node (list_of from)) from))) }
+    ensures part { ForSome (F.told f.old).files (λ from. GrowsInPart (F.told f.old) (F.told f.new) (steps_of (writes_of move node (list_of from)) from)) }
+    ensures stops { ForSome (F.told f.old).files (λ from. Passes (F.told f.old) (F.told f.new) (IsPartly from (writes_of move node (list_of from)))) }
+    ensures complete { ForSome (F.told f.new).files HasWholeIndex }
+    ensures agrees { ForSome (F.told f.new).files (Agrees files.now) }
+    ensures damaged { IfDamaged result (IsFailedCheck files.now) }
+    ensures untold { IfDamaged result (λ _. (F.told f.old).files ≡ None) }
+    ensures silent { (F.told f.old).files ≡ None → (F.told f.new).files ≡ None }
+    ensures later { F.faults f.old ≤ F.faults f.new }
+    ensures device { IfDevice result (Rises (F.faults f.old) (F.faults f.new)) }
+{
+    let next = link(f, files, node, NEXT)?;
+    let prev = link(f, files, node, PREV)?;
+    let plan = plan_of(Operation::Move, node, Some(next), prev, head);
+    perform(f, files, &plan)
+}
+
+// Whether a node that may be there is this one.
+fn is_same(found: &Option<Addr>, node: Addr) -> bool
+    ensures { result ≡ (word_or_zero found.now == node) }
+{
+    match found {
+        Some(other) => other.word() == node.word(),
+        None => 0 == node.word(),
+    }
 }
