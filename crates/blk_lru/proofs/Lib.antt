@@ -9,4 +9,5 @@ pub mod Performing
 pub mod PlanNodes
 pub mod PlanWords
 pub mod Results
+pub mod Touching
 pub mod WriteLaws

@@ -21,14 +21,14 @@ use Rattle.blk_lru.specs.Writes.{IsPartly, steps_of, write_steps}
 use Rattle.blk_lru.proofs.WriteLaws.{IsReady, MayWrite, nothing_made, one_write, first_may, rest_may, writes_show, quiet_writes}
 
 -- the steps from the first on are turned at the same step
-turns_front : (count : ℕ) (P Q : Image → Type 0) (s t : List TrailStep) (image : Image) → TurnsAt count P Q image (s ++ t) → TurnsAt count P Q image s
+pub turns_front : (count : ℕ) (P Q : Image → Type 0) (s t : List TrailStep) (image : Image) → TurnsAt count P Q image (s ++ t) → TurnsAt count P Q image s
 turns_front zero P Q s t image all = until_front Q Q s t image (λ i q. q) all
 turns_front (suc count) P Q [] [] image all = all
 turns_front (suc count) P Q [] (x ∷ t) image all = all.0
 turns_front (suc count) P Q (x ∷ s) t image all = (all.0, turns_front count P Q s t (applied x image) all.1)
 
 -- a front of quiet steps is quiet
-quiet_front : (s t : List TrailStep) → IsQuiet (s ++ t) → IsQuiet s
+pub quiet_front : (s t : List TrailStep) → IsQuiet (s ++ t) → IsQuiet s
 quiet_front [] t quiet = tt
 quiet_front (Word f at bs ∷ s) t quiet = quiet_front s t quiet
 quiet_front (SetLength f n ∷ s) t quiet = quiet_front s t quiet
@@ -49,7 +49,7 @@ stops_none old now from writes there stays = passes_none (IsPartly from writes) 
 
 module _ (laws : WriteMoments) (files : BlockFiles) (from : Image) (ready : IsReady files from) where
   -- an operation turns with its second write
-  turns_whole : (code node : ℕ) (rest : List ListWrite) (before later : List ℕ) → MayWrite files from (Operation code ∷ Transaction node ∷ rest) → TurnsAtTwo (list_of from) (Operation code ∷ Transaction node ∷ rest) before later
+  pub turns_whole : (code node : ℕ) (rest : List ListWrite) (before later : List ℕ) → MayWrite files from (Operation code ∷ Transaction node ∷ rest) → TurnsAtTwo (list_of from) (Operation code ∷ Transaction node ∷ rest) before later
       → TurnsAt 2 (λ i. completed_walk i ≡ before) (λ i. completed_walk i ≡ later) from (steps_of (Operation code ∷ Transaction node ∷ rest) from)
   unfolding write_steps word_step
   turns_whole code node rest before later may turn =

@@ -1,5 +1,5 @@
 -- Writes into the use list as steps of a folder.
-use Rattle.std.specs.Prelude.{ℕ, ◌≡◌, ◌≤◌, ◌<◌, ◌^◌, true, List, [], ◌∷◌, ◌++◌, length, take}
+use Rattle.std.specs.Prelude.{ℕ, ◌≡◌, ◌≤◌, ◌<◌, ◌^◌, ◌/◌, ◌%◌, true, List, [], ◌∷◌, ◌++◌, length, take}
 use Rattle.blk_image.specs.Image.{Index, Image, length_of}
 use Rattle.blk_image.specs.Steps.{TrailStep, word_step, after}
 use Rattle.blk_image.specs.Footprint.{Footprint, SameOutside, nothing, one_word, either}
@@ -89,3 +89,20 @@ word_of (Operation word) = word
 abbrev pub AreWords : List ListWrite → Type 0
 AreWords [] = Unit {0}
 AreWords (write ∷ writes) = (word_of write < 2 ^ 32) × AreWords writes
+
+-- the four words of a node's two times, which both become a moment
+abbrev pub times_of : ℕ → List (ℕ × ℕ)
+times_of moment = (0, moment % 2 ^ 32) ∷ (4, moment / 2 ^ 32) ∷ (8, moment % 2 ^ 32) ∷ (12, moment / 2 ^ 32) ∷ []
+
+-- the steps of writes, and then those of a node's times
+abbrev pub touch_steps : ℕ → ℕ → List ListWrite → Image → List TrailStep
+touch_steps node moment writes image = steps_of writes image ++ sealed_steps (after (steps_of writes image) image) node (times_of moment)
+
+-- at a moment of a touch a front of its writes is made; nothing else is shown to change, and every byte is as before outside the words of the index
+-- and the nodes that are written and the node itself
+pub record IsTouched (from : Image) (node : ℕ) (writes : List ListWrite) (image : Image) : Type 0 where
+  pub made : ℕ
+  pub within : made ≤ length writes
+  pub shown : OnlyListChanges (take made writes) from image
+  pub outside : SameOutside (either (touched_by_writes writes) (record_range node)) from image
+  pub well_formed : IsWellFormed from → IsWellFormed image

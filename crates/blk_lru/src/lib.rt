@@ -10,5 +10,5 @@ mod plans;
 mod reading;
 mod writes;
 
-pub use changing::{insert_front, remove};
+pub use changing::{insert_front, remove, touch};
 pub use reading::{after, before, first, last};
