@@ -1,9 +1,10 @@
 -- What the conditions of the operations say of the words that are read.
-use Rattle.std.proofs.Common.{inl, inr, ⊎_elim, ◌≡◌, ◌⊎◌, ℕ, ◌<◌, ◌^◌, true, false, List, [], ◌∷◌, ◌++◌, Option, None, Some, map, refl, sym, ap, ◌∙◌, subst, arith}
+use Rattle.std.proofs.Common.{inl, inr, ⊎_elim, ◌≡◌, ◌⊎◌, ℕ, ◌<◌, ◌^◌, Bool, if◌then◌else◌, true, false, List, [], ◌∷◌, ◌++◌, Option, None, Some, map, refl, sym, ap, ◌∙◌, subst, arith}
 use Rattle.std.specs.Prelude.{◌==◌, IfSome}
 use Rattle.std.specs.Option.{ForSome}
 use Rattle.blk_image.specs.Image.{Image}
 use Rattle.blk_image.specs.Told.{Told}
+use Rattle.blk_image.proofs.Runs.{some_inj}
 use Rattle.blk_volume.specs.ListView.{ListView, ListWrite, first_or, IsList}
 use Rattle.blk_volume.specs.View.{list_of}
 use Rattle.blk_disk.specs.declared.tables.BlockFiles.{BlockFiles}
@@ -18,7 +19,9 @@ use Rattle.blk_lru.specs.Lists.{IsListed, first_of, walked}
 use Rattle.blk_lru.specs.Nodes.{is_node, link_at}
 use Rattle.blk_lru.specs.Plans.{planned, whole_plan, word_or_zero}
 use Rattle.blk_lru.specs.Writes.{AreOf, AreWords}
-use Rattle.blk_lru.proofs.Listed.{head_checks, linked, splits}
+use Rattle.blk_lru.proofs.Listed.{Linked, head_checks, linked, splits}
+use Rattle.blk_lru.proofs.PlanWords.{whole_is}
+use Rattle.blk_volume.specs.ListPlans.{touch_writes, writes_of}
 use Rattle.blk_lru.proofs.NodeWords.{checked_names, stands_as_node, next_link, prev_link}
 use Rattle.blk_lru.proofs.PlanNodes.{Each, Good, each_nodes, each_words, node_small, weaker, whole_good}
 use Rattle.blk_lru.proofs.WriteLaws.{MayWrite}
@@ -90,3 +93,52 @@ rested_walk list nodes rest = walk_outcome list ∙ ap walk (outcome_done list r
   where
     same : IsList list nodes → IsList (rested list) nodes
     same is = record { head_is = is.head_is; tail_is = is.tail_is; linked = is.linked; distinct = is.distinct; few = is.few; no_zero = is.no_zero }
+
+-- the writes of a touch may be made
+pub touch_may : (files : BlockFiles) (from : Image) (node : ℕ) → Agrees files from → is_node files node ≡ true → IsListed node from → MayWrite files from (touch_writes node (list_of from))
+touch_may files from node agrees stands is = go (list.head == node)
+  where
+    list : ListView
+    list = list_of from
+
+    links : Linked list (splits (walked from) node is.listed).front node (splits (walked from) node is.listed).behind
+    links =
+        let s = splits (walked from) node is.listed in
+        linked list s.front node s.behind (subst (IsList list) s.is is.rest.whole)
+
+    checked : (w : ℕ) → list.checks w ≡ true → Checked files from w
+    checked w good = (checked_names files from agrees w good, good)
+
+    moves : MayWrite files from (writes_of 3 node list)
+    moves =
+        subst (MayWrite files from) (whole_is 3 node (list.next node) (list.prev node) list.head list refl refl refl)
+        (may_write files from (whole_plan 3 node (list.next node) (list.prev node) list.head)
+        (whole_good (Checked files from) (checked_small files from) node (checked node links.good) 3 (list.next node) (list.prev node) list.head (omega arith)
+        (λ one nz. (checked (list.next node) links.next_good, checked (list.prev node) links.prev_good))
+        (λ two nz. checked list.head (unless_zero (λ w. list.checks w ≡ true) list.head (head_checks list (walked from) is.rest.whole) nz))))
+
+    go : (t : Bool) → MayWrite files from (if t then [] else writes_of 3 node list)
+    go true = (tt, (tt, tt))
+    go false = moves
+
+-- a listed node checks
+pub listed_checks : (from : Image) (node : ℕ) → IsListed node from → (list_of from).checks node ≡ true
+listed_checks from node is =
+    let s = splits (walked from) node is.listed in
+    (linked (list_of from) s.front node s.behind (subst (IsList (list_of from)) s.is is.rest.whole)).good
+
+-- what is there after a call that a folder with files ends with these files
+pub from_before : (before now : Option Image) (P : Image → Type 0) → (before ≡ None → now ≡ None) → ((from : Image) → before ≡ Some from → (next : Image) × ((now ≡ Some next) × P next)) → (image : Image) → now ≡ Some image → P image
+from_before None now P silent all image here = absurd (no_some image (sym (silent refl) ∙ here))
+  where
+    no_some : (image : Image) → None ≡ Some image → ⊥
+    no_some image e = cc
+from_before (Some from) now P silent all image here = let s = all from refl in subst P (some_inj (sym s.1.0 ∙ here)) s.1.1
+
+-- a folder that tells nothing after a call told nothing before it
+pub told_none : (before now : Option Image) → ((from : Image) → before ≡ Some from → (image : Image) × (now ≡ Some image)) → now ≡ None → before ≡ None
+told_none None now some none = refl
+told_none (Some from) now some none = let s = some from refl in absurd (no_some s.0 (sym none ∙ s.1))
+  where
+    no_some : (image : Image) → None ≡ Some image → ⊥
+    no_some image e = cc

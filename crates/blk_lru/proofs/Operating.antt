@@ -66,7 +66,7 @@ module _ (laws : WriteMoments) (files : BlockFiles) (from : Image) (ready : IsRe
       let done : ListView → List ℕ = λ l. walk (completed_list l) in
       let Q : Image → Type 0 = λ i. completed_walk i ≡ later in
       let each : (i : Image) → IsPartly i2 rest i → Q i = λ i part.
-          ap done (part.shown.list ∙ ap (after_writes (take part.made rest)) l2) ∙ turn (suc (suc part.made)) ∙ ap (λ (t : Bool). if t then before else later) (le-ltb (suc (suc part.made)) 2 (omega arith)) in
+      ap done (part.shown.list ∙ ap (after_writes (take part.made rest)) l2) ∙ turn (suc (suc part.made)) ∙ ap (λ (t : Bool). if t then before else later) (le-ltb (suc (suc part.made)) 2 (omega arith)) in
       (turn 0, (ap done l1 ∙ turn 1, until_weaker2 (IsPartly i2 rest) Q (IsPartly i2 rest) Q (steps_of rest i2) i2 each each shows.along))
 
   -- and so does a part of it

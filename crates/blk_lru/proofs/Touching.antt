@@ -10,6 +10,7 @@ use Rattle.blk_image.specs.Steps.{TrailStep, applied, after, word_step}
 use Rattle.blk_image.specs.Footprint.{Footprint, SameOutside, either}
 use Rattle.blk_image.specs.Told.{Told, Grows, GrowsInPart, Passes, Along, Until, IsQuiet}
 use Rattle.blk_image.proofs.Runs.{passes_part, some_inj, until-append, until_weaker2, until_last, quiet-append, part_only, part_then, grows_then}
+use Rattle.blk_image.proofs.Cuts.{after-append}
 use Rattle.blk_image.proofs.WordSteps.{quiet-word_steps}
 use Rattle.blk_image.proofs.Footprints.{outside-trans, outside_wider, within_left, within_right}
 use Rattle.blk_format.specs.Address.{kind_of, rankings, file_selector, place}
@@ -97,15 +98,17 @@ module _ (laws : WriteMoments) (files : BlockFiles) (from : Image) (ready : IsRe
       let M : Image → Type 0 = IsMoment i node changes in
       let R : Image → Type 0 = λ image. (list_of image ≡ after_writes ws (list_of from)) × IsTouched from node ws image in
       let step : (image : Image) → M image → R image = λ image m.
-          let none : OnlyListChanges [] i image = laws.times i image node changes (record { good = still; bytes = shows.ready.bytes }) are early m in
-          let sum : OnlyListChanges ws from image = subst (λ (w : List ListWrite). OnlyListChanges w from image) (append-nil ws) (laws.add ws [] from i image shows.ends none) in
-          (sum.list, record {
-            made = length ws;
-            within = omega arith;
-            shown = subst (λ (w : List ListWrite). OnlyListChanges w from image) (sym (take_all (length ws) ws (omega arith))) sum;
-            outside = outside-trans (either F G) from i image (outside_wider F (either F G) from i (within_left F G) here.outside) (outside_wider G (either F G) i image (within_right F G) m.outside);
-            well_formed = λ well. (laws.inside i image node changes begins (inl kind) m).well_formed (here.well_formed well);
-          }) in
+      let none : OnlyListChanges [] i image = laws.times i image node changes (record { good = still; bytes = shows.ready.bytes }) are early m in
+      let sum : OnlyListChanges ws from image = subst (λ (w : List ListWrite). OnlyListChanges w from image) (append-nil ws) (laws.add ws [] from i image shows.ends none) in (
+        sum.list,
+        record {
+          made = length ws;
+          within = omega arith;
+          shown = subst (λ (w : List ListWrite). OnlyListChanges w from image) (sym (take_all (length ws) ws (omega arith))) sum;
+          outside = outside-trans (either F G) from i image (outside_wider F (either F G) from i (within_left F G) here.outside) (outside_wider G (either F G) i image (within_right F G) m.outside);
+          well_formed = λ well. (laws.inside i image node changes begins (inl kind) m).well_formed (here.well_formed well);
+        },
+      ) in
       until_weaker2 M R M R (sealed_steps i node changes) i step step (moments node i changes fits checks all)
 
   pub touch_along : Along (IsTouched from node ws) from (touch_steps node moment ws from)
@@ -141,7 +144,7 @@ module _ (laws : WriteMoments) (files : BlockFiles) (from : Image) (ready : IsRe
       let Q : Image → Type 0 = λ i. completed_walk i ≡ later in
       let n : ℕ = suc (suc (length ws)) in
       let is : walk (completed_list (after_writes ws (list_of from))) ≡ later =
-          ap (λ (w : List ListWrite). walk (completed_list (after_writes w (list_of from)))) (sym (take_all n ws (omega arith))) ∙ turn n ∙ ap (λ (t : Bool). if t then before else later) (le-ltb n 2 (omega arith)) in
+      ap (λ (w : List ListWrite). walk (completed_list (after_writes w (list_of from)))) (sym (take_all n ws (omega arith))) ∙ turn n ∙ ap (λ (t : Bool). if t then before else later) (le-ltb n 2 (omega arith)) in
       let step : (image : Image) → R image → Q image = λ image r. ap (λ (l : ListView). walk (completed_list l)) r.0 ∙ is in
       until_weaker2 R Q R Q (sealed_steps (after (steps_of ws from) from) node (times_of moment)) (after (steps_of ws from) from) step step times_show
 
@@ -177,3 +180,34 @@ module _ (laws : WriteMoments) (files : BlockFiles) (from : Image) (ready : IsRe
       let some : touch_writes node (list_of from) ≡ writes_of 3 node (list_of from) = rw (← e, t) refl in
       subst (λ (w : List ListWrite). MayWrite files from w → TurnsAtTwo (list_of from) w before later → TurnsAt 2 (λ i. completed_walk i ≡ before) (λ i. completed_walk i ≡ later) from (touch_steps node moment w from)) (sym some)
       (turns_some 3 (pending_writes (record (list_of from) { operation = 3; transaction = node }))) may turn
+
+-- what a part of a touch leaves
+module _ (laws : WriteMoments) (files : BlockFiles) (old now : Told) (from : Image) (there : old.files ≡ Some from) (ready : IsReady files from) (node moment : ℕ) (is : is_node files node ≡ true) (good : (list_of from).checks node ≡ true)
+    (may : MayWrite files from (touch_writes node (list_of from))) (part : GrowsInPart old now (touch_steps node moment (touch_writes node (list_of from)) from)) where
+  pub touch_stops : Passes old now (IsTouched from node (touch_writes node (list_of from)))
+  touch_stops =
+      let ws : List ListWrite = touch_writes node (list_of from) in
+      let T : Image → Type 0 = IsTouched from node ws in
+      passes_part T T part (touch_quiet laws files from ready node moment is good ws may) (λ image t. t)
+      (λ image here. subst (λ (i : Image). Until T T i (touch_steps node moment ws from)) (some_inj (sym there ∙ here)) (touch_along laws files from ready node moment is good ws may))
+
+  pub touch_turns : (before later : List ℕ) → TurnsAtTwo (list_of from) (touch_writes node (list_of from)) before later → Turns old now before later
+  touch_turns before later turn =
+      let ws : List ListWrite = touch_writes node (list_of from) in
+      let P : Image → Type 0 = λ i. completed_walk i ≡ before in
+      let Q : Image → Type 0 = λ i. completed_walk i ≡ later in
+      let whole = touch_turns_by laws files from ready node moment is good before later (list_of from) refl ((list_of from).head == node) refl may turn in
+      record {
+        steps = part.made;
+        grows = part.grows;
+        quiet = quiet_front part.made part.left (subst IsQuiet part.split (touch_quiet laws files from ready node moment is good ws may));
+        turns = λ image here. subst (λ (i : Image). TurnsAt 2 P Q i part.made) (some_inj (sym there ∙ here)) (turns_front 2 P Q part.made part.left from (subst (TurnsAt 2 P Q from) part.split whole));
+      }
+
+-- what a whole touch leaves
+pub touch_done : (laws : WriteMoments) (files : BlockFiles) (old now : Told) (from image : Image) → old.files ≡ Some from → now.files ≡ Some image → IsReady files from → (node moment : ℕ) → is_node files node ≡ true → (list_of from).checks node ≡ true
+    → (ws : List ListWrite) → MayWrite files from ws → Grows old now (touch_steps node moment ws from) → list_of image ≡ after_writes ws (list_of from)
+touch_done laws files old now from image there here ready node moment is good ws may grows =
+    let last : Image = after (touch_steps node moment ws from) from in
+    let same : last ≡ image = some_inj (sym (grows.files ∙ ap (option_map (after (touch_steps node moment ws from))) there) ∙ here) in
+    ap list_of (sym same) ∙ ap list_of (after-append (steps_of ws from) (sealed_steps (after (steps_of ws from) from) node (times_of moment)) from) ∙ touch_ends laws files from ready node moment is good ws may

@@ -89,14 +89,16 @@ module _ (laws : WriteMoments) (files : BlockFiles) where
         outside = subst (λ (F : Footprint). SameOutside (either F nothing) from new) (sym touched) (outside_wider (one_word Index at) (either (one_word Index at) nothing) from new (within_left (one_word Index at) nothing) out);
         well_formed = laws.unchecked from new at aligned free out;
       } in
-      let spare : SparesHeaders (one_word Index at) = record { bytes = λ n i before. refl } in
-      (
+      let spare : SparesHeaders (one_word Index at) = record { bytes = λ n i before. refl } in (
         (nothing_made (write ∷ []) from, last),
-        (shown, record {
-          agrees = agrees_still (one_word Index at) from new spare out files (λ n. refl) ready.agrees;
-          index = length-after_write from Index Index at (word_bytes x) ∙ ready.index;
-          bytes = are_bytes-word Index at x from ready.bytes;
-        }),
+        (
+          shown,
+          record {
+            agrees = agrees_still (one_word Index at) from new spare out files (λ n. refl) ready.agrees;
+            index = length-after_write from Index Index at (word_bytes x) ∙ ready.index;
+            bytes = are_bytes-word Index at x from ready.bytes;
+          },
+        ),
       )
 
   link_word : (w p x : ℕ) (write : ListWrite) (from : Image) → IsReady files from → is_node files w ≡ true → (list_of from).checks w ≡ true → p % 4 ≡ 0 → p + 4 ≤ 32
@@ -108,7 +110,7 @@ module _ (laws : WriteMoments) (files : BlockFiles) where
       let seal = node_seal w kind in
       let stands = node_stands files w is in
       let fits : place w + record_size w ≤ length_of from (Block (file_selector w)) =
-          (let range = stands_range files from w 0 (record_size w) ready.agrees stands (omega (arith, record_inside w (inl kind))) in omega (arith, range)) in
+      (let range = stands_range files from w 0 (record_size w) ready.agrees stands (omega (arith, record_inside w (inl kind))) in omega (arith, range)) in
       let checks : RecordChecks w from = record_checks from w ready.bytes kind good in
       let changes : List (ℕ × ℕ) = (p, x) ∷ [] in
       let steps : List TrailStep = sealed_steps from w changes in
@@ -132,14 +134,16 @@ module _ (laws : WriteMoments) (files : BlockFiles) where
         checks = last.checks;
         outside = last.outside;
       } in
-      let spare : SparesHeaders (record_range w) = spares w in
-      (
+      let spare : SparesHeaders (record_range w) = spares w in (
         until_weaker2 (IsMoment from w changes) (IsPartly from (write ∷ [])) (IsMoment from w changes) (IsPartly from (write ∷ [])) steps from part part each,
-        (law new full, record {
-          agrees = agrees_still (record_range w) from new spare last.outside files (λ n. refl) ready.agrees;
-          index = last.outside.lengths Index refl ∙ ready.index;
-          bytes = are_bytes-word_steps (Block (file_selector w)) (placed (place w) (update_words (seal_place w) changes (new_seal from w changes))) from ready.bytes;
-        }),
+        (
+          law new full,
+          record {
+            agrees = agrees_still (record_range w) from new spare last.outside files (λ n. refl) ready.agrees;
+            index = last.outside.lengths Index refl ∙ ready.index;
+            bytes = are_bytes-word_steps (Block (file_selector w)) (placed (place w) (update_words (seal_place w) changes (new_seal from w changes))) from ready.bytes;
+          },
+        ),
       )
     where
       spares : (w : ℕ) → SparesHeaders (record_range w)

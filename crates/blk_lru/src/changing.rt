@@ -174,7 +174,12 @@ fn move_front<F: Folder>(f: &mut F, files: &BlockFiles, node: Addr) -> Result<()
 }
 
 // Moves a listed node to the front of the list, where another node is the first one.
-fn move_behind<F: Folder>(f: &mut F, files: &BlockFiles, node: Addr, head: Option<Addr>) -> Result<(), Fault>
+fn move_behind<F: Folder>(
+    f: &mut F,
+    files: &BlockFiles,
+    node: Addr,
+    head: Option<Addr>,
+) -> Result<(), Fault>
     requires stands { IsTrue (is_node files.now node) }
     requires first { IfSome head (λ n. IsTrue (is_node files.now n)) }
     requires complete { ForSome (F.told f.old).files HasWholeIndex }

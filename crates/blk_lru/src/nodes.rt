@@ -40,7 +40,12 @@ pub(crate) fn node_of(files: &BlockFiles, word: u32) -> Option<Addr>
 }
 
 // The node that a link of a node names, by one folder call.
-pub(crate) fn link<F: Folder>(f: &mut F, files: &BlockFiles, node: Addr, at: u32) -> Result<Addr, Fault>
+pub(crate) fn link<F: Folder>(
+    f: &mut F,
+    files: &BlockFiles,
+    node: Addr,
+    at: u32,
+) -> Result<Addr, Fault>
     requires stands { IsTrue (is_node files.now node) }
     requires place { IsLinkPlace at }
     requires agrees { ForSome (F.told f.old).files (Agrees files.now) }

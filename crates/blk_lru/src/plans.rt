@@ -51,7 +51,13 @@ pub(crate) fn plan_of(
     ensures { map meant result.items ≡ whole_plan (code_of operation) node (word_or_zero next) prev (word_or_zero head) }
 {
     let mut plan = ArrayVec::new();
-    add(&mut plan, &[Write::Operation(operation.code()), Write::Transaction(node.word())]);
+    add(
+        &mut plan,
+        &[
+            Write::Operation(operation.code()),
+            Write::Transaction(node.word()),
+        ],
+    );
     add_pending(&mut plan, operation, node, next, prev, head);
     plan
 }
@@ -115,11 +121,27 @@ fn put_front(plan: &mut Plan, node: Addr, head: Option<Addr>)
 {
     let word = node.word();
     let Some(head) = head else {
-        add(plan, &[Write::Next(node, word), Write::Prev(node, word), Write::Tail(word), Write::Head(word)]);
+        add(
+            plan,
+            &[
+                Write::Next(node, word),
+                Write::Prev(node, word),
+                Write::Tail(word),
+                Write::Head(word),
+            ],
+        );
         return;
     };
     if head.word() != word {
-        add(plan, &[Write::Next(node, head.word()), Write::Prev(node, word), Write::Prev(head, word), Write::Head(word)]);
+        add(
+            plan,
+            &[
+                Write::Next(node, head.word()),
+                Write::Prev(node, word),
+                Write::Prev(head, word),
+                Write::Head(word),
+            ],
+        );
     }
 }
 
@@ -146,12 +168,25 @@ fn unlink(plan: &mut Plan, node: Addr, next: Addr, prev: Addr)
         if next_word == word {
             add(plan, &[Write::Head(0), Write::Tail(0), out]);
         } else {
-            add(plan, &[Write::Prev(next, next_word), Write::Head(next_word), out]);
+            add(
+                plan,
+                &[Write::Prev(next, next_word), Write::Head(next_word), out],
+            );
         }
     } else if next_word == word {
-        add(plan, &[Write::Next(prev, prev_word), Write::Tail(prev_word), out]);
+        add(
+            plan,
+            &[Write::Next(prev, prev_word), Write::Tail(prev_word), out],
+        );
     } else {
-        add(plan, &[Write::Next(prev, next_word), Write::Prev(next, prev_word), out]);
+        add(
+            plan,
+            &[
+                Write::Next(prev, next_word),
+                Write::Prev(next, prev_word),
+                out,
+            ],
+        );
     }
 }
 

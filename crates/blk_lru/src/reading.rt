@@ -113,7 +113,11 @@ fn unless_same(node: Addr, other: Addr) -> Option<Addr>
 }
 
 // The node that a word of the index names, or none where the word is 0.
-pub(crate) fn end_of_list<F: Folder>(f: &mut F, files: &BlockFiles, at: u32) -> Result<Option<Addr>, Fault>
+pub(crate) fn end_of_list<F: Folder>(
+    f: &mut F,
+    files: &BlockFiles,
+    at: u32,
+) -> Result<Option<Addr>, Fault>
     requires aligned { at % 4 ≡ 0 }
     requires inside { at < header_length }
     requires complete { ForSome (F.told f.old).files HasWholeIndex }

@@ -39,7 +39,11 @@ pub(crate) enum Write {
 }
 
 // Makes writes in turn, whose nodes stand and check.
-pub(crate) fn perform<F: Folder>(f: &mut F, files: &BlockFiles, writes: &[Write]) -> Result<(), Fault>
+pub(crate) fn perform<F: Folder>(
+    f: &mut F,
+    files: &BlockFiles,
+    writes: &[Write],
+) -> Result<(), Fault>
     requires stand { AreOf (λ n. is_node files.now n ≡ true) (map meant writes.now) }
     requires words { AreWords (map meant writes.now) }
     requires complete { ForSome (F.told f.old).files HasWholeIndex }
@@ -90,7 +94,13 @@ fn write_one<F: Folder>(f: &mut F, files: &BlockFiles, write: Write) -> Result<(
 }
 
 // Writes a link of a node, and seals the node again.
-fn set_link<F: Folder>(f: &mut F, files: &BlockFiles, node: Addr, at: u32, word: u32) -> Result<(), Fault>
+fn set_link<F: Folder>(
+    f: &mut F,
+    files: &BlockFiles,
+    node: Addr,
+    at: u32,
+    word: u32,
+) -> Result<(), Fault>
     requires place { IsLinkPlace at }
     requires stands { is_node files.now node ≡ true }
     requires agrees { ForSome (F.told f.old).files (Agrees files.now) }

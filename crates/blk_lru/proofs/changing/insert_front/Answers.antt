@@ -63,8 +63,10 @@ may_here g c from there =
     may_write files from (map meant c.deref.result.now)
     (subst (Each (Good (Checked files from))) (sym (words_are g c))
     (whole_good (Checked files from) (checked_small files from) c.args.node (c.requires.stands, can.good) 1 0 c.args.node (word_or_zero c.in_ok-head.head) (omega arith) (λ ne. absurd (one_is_one ne))
-    (λ two nz. (some_holds (λ n. is_node files n ≡ true) c.in_ok-head.head c.in_ok-head.ensures.stands nz,
-    subst (λ (w : ℕ). list.checks w ≡ true) head (unless_zero (λ w. list.checks w ≡ true) list.head (head_checks list (walked from) can.rest.whole) (ap (λ (w : ℕ). w == 0) head ∙ nz))))))
+    (λ two nz. (
+      some_holds (λ n. is_node files n ≡ true) c.in_ok-head.head c.in_ok-head.ensures.stands nz,
+      subst (λ (w : ℕ). list.checks w ≡ true) head (unless_zero (λ w. list.checks w ≡ true) list.head (head_checks list (walked from) can.rest.whole) (ap (λ (w : ℕ). w == 0) head ∙ nz)),
+    ))))
 
 pub perform-requires-clause-stand : goal.perform-requires-clause-stand
 perform-requires-clause-stand g c = each_nodes (λ n. is_node c.args.files.now n ≡ true) (map meant c.deref.result.now) (good_here g c)

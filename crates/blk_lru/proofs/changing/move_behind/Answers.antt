@@ -87,8 +87,10 @@ may_here g c from there =
     (subst (Each (Good (Checked files from))) (sym (words_are g c))
     (whole_good (Checked files from) (checked_small files from) c.args.node (c.requires.stands, l.good) 3 c.in_ok-next.next c.in_ok-prev.prev (word_or_zero c.args.head) (omega arith)
     (λ one nz. ((c.in_ok-next.ensures.stands, subst (λ (w : ℕ). list.checks w ≡ true) (next_is g c from there) l.next_good), (c.in_ok-prev.ensures.stands, subst (λ (w : ℕ). list.checks w ≡ true) (prev_is g c from there) l.prev_good)))
-    (λ two nz. (some_holds (λ n. is_node files n ≡ true) c.args.head c.requires.first nz,
-    subst (λ (w : ℕ). list.checks w ≡ true) head (unless_zero (λ w. list.checks w ≡ true) list.head (head_checks list (walked from) listed.rest.whole) (ap (λ (w : ℕ). w == 0) head ∙ nz))))))
+    (λ two nz. (
+      some_holds (λ n. is_node files n ≡ true) c.args.head c.requires.first nz,
+      subst (λ (w : ℕ). list.checks w ≡ true) head (unless_zero (λ w. list.checks w ≡ true) list.head (head_checks list (walked from) listed.rest.whole) (ap (λ (w : ℕ). w == 0) head ∙ nz)),
+    ))))
 
 pub perform-requires-clause-stand : goal.perform-requires-clause-stand
 perform-requires-clause-stand g c = each_nodes (λ n. is_node c.args.files.now n ≡ true) (map meant c.deref.result.now) (good_here g c)

@@ -30,11 +30,11 @@ returns c =
     let head = word_or_zero c.args.head in
     let old : List ListWrite = map meant c.args.plan.now.items in
     let middle : map meant c.match-operation.plan.items ≡ old ++ planned (code_of c.args.operation) node next prev head =
-        elim c.match-operation.branch [
-          in-Insert w ↦ (λ i. map meant (w.plan-is i).items) ∙ w.put_front.ensures.writes ∙ ap (λ (ws : List ListWrite). old ++ ws) (insert_is c.args.operation node next prev head w.in-Insert.is)
-          | in-Remove w ↦ (λ i. map meant (w.plan-is i).items) ∙ w.take_out.ensures.writes ∙ ap (λ (ws : List ListWrite). old ++ ws) (remove_is c.args.operation node next prev head w.in-Remove.is)
-          | in-Move w ↦ (λ i. map meant (w.plan-is i).items) ∙ w.move_front.ensures.writes ∙ ap (λ (ws : List ListWrite). old ++ ws) (move_is c.args.operation node next prev head w.in-Move.is)
-        ] in
+    elim c.match-operation.branch [
+      | in-Insert w ↦ (λ i. map meant (w.plan-is i).items) ∙ w.put_front.ensures.writes ∙ ap (λ (ws : List ListWrite). old ++ ws) (insert_is c.args.operation node next prev head w.in-Insert.is)
+      | in-Remove w ↦ (λ i. map meant (w.plan-is i).items) ∙ w.take_out.ensures.writes ∙ ap (λ (ws : List ListWrite). old ++ ws) (remove_is c.args.operation node next prev head w.in-Remove.is)
+      | in-Move w ↦ (λ i. map meant (w.plan-is i).items) ∙ w.move_front.ensures.writes ∙ ap (λ (ws : List ListWrite). old ++ ws) (move_is c.args.operation node next prev head w.in-Move.is)
+    ] in
     added c.match-operation.plan.items c.add.new.plan.items _ (Transaction 0 ∷ []) c.add.ensures.items refl
     ∙ ap (λ (ws : List ListWrite). ws ++ Transaction 0 ∷ []) middle
     ∙ append_assoc old (planned (code_of c.args.operation) node next prev head) (Transaction 0 ∷ [])
