@@ -1,5 +1,5 @@
 -- What the conditions of the operations say of the words that are read.
-use Rattle.std.proofs.Common.{inl, inr, ⊎_elim, ◌≡◌, ◌⊎◌, ℕ, ◌<◌, ◌^◌, Bool, if◌then◌else◌, true, false, List, [], ◌∷◌, ◌++◌, Option, None, Some, map, refl, sym, ap, ◌∙◌, subst, arith}
+use Rattle.std.proofs.Common.{inl, inr, ◌≡◌, ◌⊎◌, ℕ, ◌<◌, ◌^◌, Bool, if◌then◌else◌, true, false, List, [], ◌∷◌, ◌++◌, Option, None, Some, refl, sym, ap, ◌∙◌, subst, arith}
 use Rattle.std.specs.Prelude.{◌==◌, IfSome}
 use Rattle.std.specs.Option.{ForSome}
 use Rattle.blk_image.specs.Image.{Image}
@@ -18,7 +18,6 @@ use Rattle.blk_laws.proofs.Walks.{walk_list}
 use Rattle.blk_lru.specs.Lists.{IsListed, first_of, walked}
 use Rattle.blk_lru.specs.Nodes.{is_node, link_at}
 use Rattle.blk_lru.specs.Plans.{planned, whole_plan, word_or_zero}
-use Rattle.blk_lru.specs.Writes.{AreOf, AreWords}
 use Rattle.blk_lru.proofs.Listed.{Linked, head_checks, linked, splits}
 use Rattle.blk_lru.proofs.PlanWords.{whole_is}
 use Rattle.blk_volume.specs.ListPlans.{touch_writes, writes_of}

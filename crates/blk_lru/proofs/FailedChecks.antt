@@ -9,7 +9,7 @@ use Rattle.blk_io.specs.declared.fault.Fault.TheVariants.{Device, Damaged}
 use Rattle.blk_io.specs.Faults.{IfDamaged, IsShort}
 use Rattle.blk_disk.specs.declared.tables.BlockFiles.{BlockFiles}
 use Rattle.blk_disk.specs.Sealed.{IsUnsealed, seal_place}
-use Rattle.blk_lru.specs.Nodes.{IsFailedCheck, IsAstray, IsTooShort, IsBroken}
+use Rattle.blk_lru.specs.Nodes.{IsFailedCheck, IsAstray}
 
 -- what holds of a damage may be weaker
 pub if_damaged_weaker : {A : Type 0} {P Q : Damage → Type 0} (r : Result A Fault) → ((d : Damage) → P d → Q d) → IfDamaged r P → IfDamaged r Q

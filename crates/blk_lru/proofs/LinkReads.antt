@@ -1,5 +1,5 @@
 -- A word that was read and names no node.
-use Rattle.std.proofs.Common.{w32, length, arith, ◌≡◌, ℕ, ◌+◌, List, Option, None, Some, refl, ap, sym, ◌∙◌}
+use Rattle.std.proofs.Common.{w32, length, arith, ◌≡◌, ℕ, ◌+◌, List, Option, None, Some, refl, ap, ◌∙◌}
 use Rattle.std.specs.Option.{ForSome}
 use Rattle.blk_image.specs.Bytes.{range_at}
 use Rattle.blk_image.specs.Image.{Block, Image, byte}

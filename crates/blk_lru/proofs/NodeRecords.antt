@@ -1,9 +1,9 @@
 -- A node that checks, as a record of bytes.
-use Rattle.std.proofs.Common.{◌≡◌, ◌≢◌, ◌%◌, ℕ, ◌+◌, ◌≤◌, ◌<◌, true, List, [], ◌∷◌, ◌++◌, take, length, ap, ap₂, sym, ◌∙◌, subst, arith, refl, Option, unwrap_or}
-use Rattle.std.specs.Prelude.{◌==◌, ◌||◌, All}
+use Rattle.std.proofs.Common.{◌≡◌, ◌≢◌, ◌%◌, ℕ, ◌+◌, ◌≤◌, ◌<◌, true, List, [], ◌∷◌, take, ap, sym, ◌∙◌, subst, arith}
+use Rattle.std.specs.Prelude.{◌==◌, ◌||◌}
 use Rattle.std.proofs.lemmas.List.{take_at}
-use Rattle.blk_image.specs.Bytes.{content, word_at, range_at, word_bytes, spliced}
-use Rattle.blk_image.specs.Image.{File, Block, Image, AreBytes, byte, bytes_of, word}
+use Rattle.blk_image.specs.Bytes.{content, word_at, range_at, word_bytes}
+use Rattle.blk_image.specs.Image.{File, Block, Image, AreBytes, byte, bytes_of}
 use Rattle.blk_image.specs.Steps.{Word, applied, after, written, word_steps, word_step}
 use Rattle.blk_image.proofs.Images.{bytes-written}
 use Rattle.blk_image.proofs.Words.{length-range, word_bytes-small}
@@ -14,7 +14,7 @@ use Rattle.blk_format.specs.Records.{checks, node_in, node_body, node_is_sealed,
 use Rattle.blk_format.proofs.Bodies.{range-add, node_body-in}
 use Rattle.blk_volume.specs.View.{stands_as, checks_at, list_of, node_at}
 use Rattle.std.proofs.lemmas.List.Elements.{All-nil, All-cons}
-use Rattle.blk_disk.specs.Sealed.{AreChanges, record_at, record_size, size_by_kind, seal_place, RecordChecks}
+use Rattle.blk_disk.specs.Sealed.{AreChanges, record_at, record_size, seal_place, RecordChecks}
 use Rattle.blk_disk.proofs.SealedFields.{record_word}
 use Rattle.blk_disk.proofs.SealedReads.{node_seal, node_bytes}
 use Rattle.std.proofs.lemmas.Bool.{and_parts}

@@ -1,13 +1,12 @@
 -- Words that name nodes in an image, and the links of nodes.
-use Rattle.std.proofs.Common.{inl, inr, ⊎_elim, ◌≡◌, ℕ, ◌+◌, ◌*◌, ◌≤◌, Bool, true, false, ◌&&◌, List, Option, None, Some, if◌then◌else◌, refl, sym, ap, ◌∙◌, subst, arith}
+use Rattle.std.proofs.Common.{inl, inr, ⊎_elim, ◌≡◌, ℕ, ◌+◌, ◌*◌, ◌≤◌, Bool, true, false, ◌&&◌, if◌then◌else◌, refl, sym, ap, ◌∙◌, arith}
 use Rattle.std.specs.Prelude.{◌==◌, ◌⊎◌}
-use Rattle.std.proofs.lemmas.Bool.{eq-eqb, eqb-true, and_parts}
-use Rattle.std.specs.Option.{ForSome}
-use Rattle.blk_image.specs.Image.{Block, External, Image, has_file, length_of}
-use Rattle.blk_format.specs.Address.{is_address, kind_of, external, rankings, block_count, block_size, room, place, block_place, first_block, file_selector, external_number}
-use Rattle.blk_format.specs.Standing.{stands, stands_as_blocks}
+use Rattle.std.proofs.lemmas.Bool.{eqb-true, and_parts}
+use Rattle.blk_image.specs.Image.{External, Image, has_file}
+use Rattle.blk_format.specs.Address.{is_address, kind_of, external, rankings, block_count, block_size, room, place, block_place, first_block, external_number}
+use Rattle.blk_format.specs.Standing.{stands}
 use Rattle.blk_format.specs.Records.{node_in, node_checks}
-use Rattle.blk_format.specs.BlockFiles.{stands_in, stands_in_blocks, linked_as, max_entries_in}
+use Rattle.blk_format.specs.BlockFiles.{stands_in, stands_in_blocks}
 use Rattle.blk_volume.specs.View.{stands_as, checks_at, next_at, prev_at, list_of, node_at}
 use Rattle.blk_disk.specs.declared.tables.BlockFiles.{BlockFiles}
 use Rattle.blk_disk.specs.Tables.{Agrees, stands_among}

@@ -1,13 +1,13 @@
 -- What a whole operation leaves, and what a part of it does.
-use Rattle.std.proofs.Common.{◌≡◌, ℕ, zero, suc, ◌<◌, ◌≤◌, Bool, true, false, List, [], ◌∷◌, ◌++◌, take, Option, None, Some, Result, if◌then◌else◌, refl, sym, ap, ◌∙◌, subst, arith}
-use Rattle.std.specs.Prelude.{OnOk, nat_lt}
+use Rattle.std.proofs.Common.{◌≡◌, ℕ, zero, suc, Bool, List, [], ◌∷◌, ◌++◌, take, Some, Result, if◌then◌else◌, sym, ap, ◌∙◌, subst, arith}
+use Rattle.std.specs.Prelude.{OnOk}
 use Rattle.std.specs.Option.{ForSome}
 use Rattle.std.proofs.lemmas.Result.{on_ok_weaker}
 use Rattle.std.proofs.lemmas.Bool.{le-ltb}
 use Rattle.blk_image.specs.Image.{Image}
 use Rattle.blk_image.specs.Steps.{TrailStep, Word, SetLength, Delete, Note, applied, after, word_step}
-use Rattle.blk_image.specs.Told.{Told, Grows, GrowsInPart, Passes, Along, Until, IsQuiet}
-use Rattle.blk_image.proofs.Runs.{passes_none, passes_part, grows_none, some_inj, until_front, until_weaker2}
+use Rattle.blk_image.specs.Told.{Told, Grows, GrowsInPart, Passes, IsQuiet}
+use Rattle.blk_image.proofs.Runs.{passes_none, grows_none, some_inj, until_front, until_weaker2}
 use Rattle.blk_volume.specs.ListView.{ListView, ListWrite, Operation, Transaction, after_writes}
 use Rattle.blk_volume.specs.Walk.{walk}
 use Rattle.blk_volume.specs.Completion.{completed_list}

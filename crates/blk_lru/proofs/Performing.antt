@@ -1,6 +1,5 @@
 -- How a run of calls goes on through a list of writes.
-use Rattle.std.proofs.Common.{zero, suc, arith, Bool, false, ◌≡◌, ℕ, ◌+◌, ◌<◌, ◌≤◌, length, take, get_or, drop, map, List, [], ◌∷◌, ◌++◌, Option, None, Some, Result, Ok, Err, refl, sym, ap, ◌∙◌, subst, append_assoc, true}
-use Rattle.std.specs.Prelude.{OnOk}
+use Rattle.std.proofs.Common.{zero, suc, arith, Bool, false, ◌≡◌, ℕ, ◌+◌, ◌<◌, ◌≤◌, length, get_or, drop, map, List, [], ◌∷◌, ◌++◌, Option, None, Some, refl, sym, ap, ◌∙◌, subst, append_assoc, true}
 use Rattle.std.specs.Option.{option_map, ForSome}
 use Rattle.std.proofs.lemmas.List.{append-nil, drop_more, drop_all}
 use Rattle.std.specs.Prelude.{◌||◌}
@@ -10,10 +9,10 @@ use Rattle.blk_format.specs.Address.{file_selector, place}
 use Rattle.blk_disk.specs.Sealed.{record_range, record_size}
 use Rattle.blk_disk.proofs.Agreeing.{SparesHeaders, agrees_still, blocks_spare}
 use Rattle.blk_image.specs.Steps.{TrailStep, after}
-use Rattle.blk_image.specs.Told.{Told, Grows, GrowsInPart, Passes, Until, Along}
+use Rattle.blk_image.specs.Told.{Told, Grows, GrowsInPart, Passes, Until}
 use Rattle.blk_image.proofs.Cuts.{after-append}
 use Rattle.blk_image.proofs.Runs.{grows_none, grows_then, part_then, part_only, part_whole, passes_part, passes_end, some_inj}
-use Rattle.blk_volume.specs.ListView.{ListWrite, Next, Prev, Head, Tail, Transaction, Operation, after_writes}
+use Rattle.blk_volume.specs.ListView.{ListWrite, Next, Prev, Head, Tail, Transaction, Operation}
 use Rattle.blk_volume.specs.View.{list_of}
 use Rattle.blk_disk.specs.declared.tables.BlockFiles.{BlockFiles}
 use Rattle.blk_disk.specs.Tables.{Agrees}

@@ -1,5 +1,5 @@
 -- The nodes that an operation writes.
-use Rattle.std.proofs.Common.{inl, inr, ⊎_elim, ◌≡◌, ◌⊎◌, ℕ, ◌+◌, ◌^◌, ◌<◌, Bool, true, false, List, [], ◌∷◌, ◌++◌, if◌then◌else◌, refl, sym, ap, ◌∙◌, subst, arith}
+use Rattle.std.proofs.Common.{◌≡◌, ℕ, ◌^◌, ◌<◌, Bool, true, false, List, [], ◌∷◌, ◌++◌, if◌then◌else◌, refl, arith}
 use Rattle.std.specs.Prelude.{◌==◌, ◌&&◌, ◌/◌, ◌||◌}
 use Rattle.std.proofs.lemmas.Bool.{and_parts, eqb-true}
 use Rattle.blk_format.specs.Address.{is_address, is_initialized, names_external, names_blocks, kind_of, rankings}
@@ -9,7 +9,7 @@ use Rattle.blk_disk.specs.declared.tables.BlockFiles.{BlockFiles}
 use Rattle.blk_disk.specs.Tables.{stands_among}
 use Rattle.blk_lru.specs.Nodes.{is_node}
 use Rattle.blk_lru.specs.Plans.{head_without, moving, planned, pending, whole_plan}
-use Rattle.blk_lru.specs.Writes.{AreOf, AreWords, word_of}
+use Rattle.blk_lru.specs.Writes.{AreOf, AreWords}
 
 -- a node that is written has P, and a word is written
 abbrev pub Good : (ℕ → Type 0) → ListWrite → Type 0

@@ -1,14 +1,14 @@
 -- What an operation writes, by the words that it finds.
-use Rattle.std.proofs.Common.{◌≡◌, ◌≢◌, ℕ, Bool, true, false, not, List, [], ◌∷◌, ◌++◌, Option, None, Some, if◌then◌else◌, map, refl, sym, ap, ap₂, ◌∙◌, subst}
+use Rattle.std.proofs.Common.{◌≡◌, ◌≢◌, ℕ, Bool, true, false, List, [], ◌∷◌, ◌++◌, Option, None, Some, if◌then◌else◌, map, refl, sym, ap, ◌∙◌}
 use Rattle.std.specs.Prelude.{◌==◌}
 use Rattle.std.proofs.lemmas.Bool.{eq-eqb, ne_eqb}
 use Rattle.std.proofs.lemmas.List.{map-append}
 use Rattle.blk_format.specs.Address.{is_address, is_initialized}
 use Rattle.blk_volume.specs.ListView.{ListView, after_writes, ListWrite, Next, Prev, Head, Tail, Transaction, Operation}
-use Rattle.blk_volume.specs.Completion.{taking_out, putting_in_front, unlinking, take_out}
-use Rattle.blk_volume.specs.ListPlans.{operation_writes, pending_writes, writes_of, touch_writes}
+use Rattle.blk_volume.specs.Completion.{taking_out, putting_in_front, take_out}
+use Rattle.blk_volume.specs.ListPlans.{operation_writes, writes_of}
 use Rattle.blk_lru.specs.declared.writes.Write.{Write}
-use Rattle.blk_lru.specs.Plans.{head_without, moving, planned, pending, whole_plan, word_or_zero}
+use Rattle.blk_lru.specs.Plans.{head_without, planned, whole_plan, word_or_zero}
 use Rattle.blk_lru.specs.Writes.{meant}
 
 -- the word 0 is no address

@@ -1,15 +1,15 @@
 -- A touch at each of its words: the writes of the list, and then the times of the node.
-use Rattle.std.proofs.Common.{inl, ⊎_elim, ◌≡◌, ◌≢◌, ◌⊎◌, ℕ, zero, suc, ◌+◌, ◌%◌, ◌/◌, ◌^◌, ◌<◌, ◌≤◌, Bool, true, false, List, [], ◌∷◌, ◌++◌, length, take, All, Option, None, Some, if◌then◌else◌, refl, sym, ap, ◌∙◌, subst, arith}
+use Rattle.std.proofs.Common.{inl, ◌≡◌, ◌≢◌, ℕ, zero, suc, ◌+◌, ◌%◌, ◌/◌, ◌^◌, ◌<◌, ◌≤◌, Bool, true, false, List, [], ◌∷◌, ◌++◌, length, All, Some, if◌then◌else◌, refl, sym, ap, ◌∙◌, subst, arith}
 use Rattle.std.specs.Prelude.{◌==◌}
-use Rattle.std.specs.Option.{ForSome, option_map}
+use Rattle.std.specs.Option.{option_map}
 use Rattle.std.proofs.lemmas.List.{append-nil, take_all}
 use Rattle.std.proofs.lemmas.List.Elements.{All-nil, All-cons}
 use Rattle.std.proofs.lemmas.Bool.{le-ltb, and_parts}
 use Rattle.blk_image.specs.Image.{Image, Block, length_of}
 use Rattle.blk_image.specs.Steps.{TrailStep, applied, after, word_step}
-use Rattle.blk_image.specs.Footprint.{Footprint, SameOutside, either}
+use Rattle.blk_image.specs.Footprint.{Footprint, either}
 use Rattle.blk_image.specs.Told.{Told, Grows, GrowsInPart, Passes, Along, Until, IsQuiet}
-use Rattle.blk_image.proofs.Runs.{passes_part, some_inj, until-append, until_weaker2, until_last, quiet-append, part_only, part_then, grows_then}
+use Rattle.blk_image.proofs.Runs.{passes_part, some_inj, until-append, until_weaker2, until_last, quiet-append}
 use Rattle.blk_image.proofs.Cuts.{after-append}
 use Rattle.blk_image.proofs.WordSteps.{quiet-word_steps}
 use Rattle.blk_image.proofs.Footprints.{outside-trans, outside_wider, within_left, within_right}

@@ -1,42 +1,39 @@
 -- One write into the list, and writes one after another, at each of their words.
-use Rattle.std.proofs.Common.{inl, inr, ⊎_elim, ◌≡◌, ◌≢◌, ℕ, zero, suc, ◌+◌, ◌%◌, ◌^◌, ◌<◌, ◌≤◌, true, false, Bool, List, [], ◌∷◌, ◌++◌, length, take, All, refl, ap, sym, ◌∙◌, subst, arith}
+use Rattle.std.proofs.Common.{inl, ◌≡◌, ℕ, zero, suc, ◌+◌, ◌%◌, ◌^◌, ◌<◌, ◌≤◌, true, false, Bool, List, [], ◌∷◌, take, All, refl, ap, sym, ◌∙◌, subst, arith}
 use Rattle.std.proofs.lemmas.List.Elements.{All-nil, All-cons}
 use Rattle.blk_image.specs.Bytes.{word_bytes}
-use Rattle.blk_image.specs.Image.{File, Index, Block, Image, AreBytes, HasRange, length_of, word}
-use Rattle.blk_image.specs.Steps.{TrailStep, Word, after, applied, word_step, word_steps, with_words}
+use Rattle.blk_image.specs.Image.{Index, Block, Image, AreBytes, length_of, word}
+use Rattle.blk_image.specs.Steps.{TrailStep, Word, after, applied, word_step, with_words}
 use Rattle.blk_image.specs.Footprint.{Footprint, IsWithin, SameOutside, nothing, one_word, either, range}
-use Rattle.blk_image.specs.Told.{Along, Until, IsQuiet}
+use Rattle.blk_image.specs.Told.{Along, IsQuiet}
 use Rattle.blk_image.proofs.Runs.{until-append, until_weaker2, until_last, quiet-append}
 use Rattle.blk_image.proofs.Cuts.{after-append}
-use Rattle.blk_image.proofs.WordSteps.{quiet-word_step, quiet-word_steps, until_word}
+use Rattle.blk_image.proofs.WordSteps.{quiet-word_step, quiet-word_steps}
 use Rattle.blk_image.proofs.Images.{word-after_same, length-after_write}
 use Rattle.blk_image.proofs.Footprints.{outside-refl, outside-trans, outside_wider, outside_write, within_left, within_right, within_both}
-use Rattle.blk_format.specs.Address.{kind_of, rankings, file_selector, place, external}
-use Rattle.blk_format.specs.BlockFiles.{stands_in, IsWellFormed}
-use Rattle.blk_volume.specs.ListView.{ListView, ListWrite, Next, Prev, Head, Tail, Transaction, Operation, after_writes}
-use Rattle.blk_volume.specs.View.{stands_as, list_of, stock_of}
-use Rattle.blk_volume.specs.Footprint.{SameStock}
+use Rattle.blk_format.specs.Address.{kind_of, rankings, file_selector, place}
+use Rattle.blk_format.specs.BlockFiles.{stands_in}
+use Rattle.blk_volume.specs.ListView.{ListView, ListWrite, Next, Prev, Head, Tail, Transaction, Operation}
+use Rattle.blk_volume.specs.View.{list_of, stock_of}
 use Rattle.blk_laws.proofs.ListWrites.{checks_stay}
 use Rattle.blk_disk.specs.declared.tables.BlockFiles.{BlockFiles}
 use Rattle.blk_disk.specs.Tables.{Agrees}
-use Rattle.blk_disk.specs.Sealed.{AreChanges, RecordChecks, IsMoment, IsUpdated, seal_place, record_size, record_at, record_range, sealed_steps, update_steps, update_words, placed, new_seal}
+use Rattle.blk_disk.specs.Sealed.{RecordChecks, IsMoment, IsUpdated, seal_place, record_size, record_at, record_range, sealed_steps, update_steps, update_words, placed, new_seal}
 use Rattle.blk_disk.proofs.Agreeing.{SparesHeaders, agrees_still, blocks_spare}
 use Rattle.blk_disk.proofs.RecordBytes.{take-before_word}
 use Rattle.blk_disk.proofs.Ranges.{stands_range}
-use Rattle.blk_disk.proofs.SealedReads.{node_seal, node_bytes, record_inside}
+use Rattle.blk_disk.proofs.SealedReads.{node_seal, record_inside}
 use Rattle.blk_disk.proofs.SealedRecords.{moments, updated}
-use Rattle.blk_moments.specs.Moments.{ShowsTheSame, OnlyListChanges, ChangesInside}
-use Rattle.blk_moments.specs.NodeMoments.{IsNode, NextsAreWritten, PrevsAreWritten}
-use Rattle.blk_moments.specs.IndexMoments.{IsIndexWord, HeadsAreWritten, TailsAreWritten, TransactionsAreWritten, OperationsAreWritten, OtherWordsAreNotChecked, checked_words}
-use Rattle.blk_moments.specs.BlockMoments.{UpdatesStayInside, ListChangesAdd}
+use Rattle.blk_moments.specs.Moments.{ShowsTheSame, OnlyListChanges}
+use Rattle.blk_moments.specs.IndexMoments.{IsIndexWord, checked_words}
 use Rattle.blk_format.specs.BlockFiles.{is_among}
 use Rattle.blk_lru.specs.Moments.{WriteMoments}
 use Rattle.blk_lru.specs.Nodes.{is_node}
-use Rattle.blk_lru.specs.Writes.{HasWholeIndex, write_steps, steps_of, touched_by, touched_by_writes, IsPartly, AreOf, AreWords, word_of}
+use Rattle.blk_lru.specs.Writes.{HasWholeIndex, write_steps, steps_of, touched_by, touched_by_writes, IsPartly, AreOf, AreWords}
 use Rattle.blk_lru.proofs.NodeWords.{node_kind, node_stands, stands_as_node}
 use Rattle.blk_lru.proofs.NodeRecords.{record_checks, are_bytes-word, are_bytes-word_steps}
 use Rattle.std.proofs.lemmas.Bool.{and_parts}
-use Rattle.std.specs.Prelude.{◌==◌, ◌⊎◌}
+use Rattle.std.specs.Prelude.{◌==◌}
 
 -- an image with its block files, its index and bytes alone
 pub record IsReady (files : BlockFiles) (image : Image) : Type 0 where

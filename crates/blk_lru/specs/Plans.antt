@@ -1,6 +1,6 @@
 -- What an operation on the use list writes, by the words that it finds.
-use Rattle.std.specs.Prelude.{ℕ, ◌==◌, if◌then◌else◌, Bool, true, false, Option, None, Some, List, [], ◌∷◌, ◌++◌}
-use Rattle.blk_volume.specs.ListView.{ListWrite, Next, Prev, Head, Tail, Operation, Transaction}
+use Rattle.std.specs.Prelude.{ℕ, ◌==◌, if◌then◌else◌, Option, None, Some, List, [], ◌∷◌, ◌++◌}
+use Rattle.blk_volume.specs.ListView.{ListWrite, Operation, Transaction}
 use Rattle.blk_volume.specs.Completion.{insert, remove, move, taking_out, putting_in_front}
 use Rattle.blk_lru.specs.declared.plans.Operation as code
 use Rattle.blk_lru.specs.declared.plans.Operation.TheVariants as operations

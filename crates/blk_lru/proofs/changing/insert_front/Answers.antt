@@ -1,28 +1,25 @@
-use Rattle.std.proofs.Common.{inl, inr, ◌≡◌, ◌<◌, ℕ, List, [], ◌∷◌, ◌++◌, Option, None, Some, map, refl, sym, ap, ◌∙◌, subst, true, false, arith}
-use Rattle.std.specs.Prelude.{◌==◌, OnOk}
+use Rattle.std.proofs.Common.{◌≡◌, ℕ, ◌∷◌, Some, map, refl, sym, ap, ◌∙◌, subst, true, arith}
+use Rattle.std.specs.Prelude.{◌==◌}
 use Rattle.std.specs.Option.{ForSome}
 use Rattle.std.proofs.lemmas.Result.{on_ok_weaker}
 use Rattle.blk_image.specs.Image.{Image}
-use Rattle.blk_image.specs.Told.{Told, GrowsInPart}
-use Rattle.blk_volume.specs.ListView.{ListView, ListWrite, IsList}
+use Rattle.blk_image.specs.Told.{GrowsInPart}
+use Rattle.blk_volume.specs.ListView.{ListView}
 use Rattle.blk_volume.specs.ListPlans.{writes_of, pending_writes}
 use Rattle.blk_volume.specs.View.{list_of}
 use Rattle.blk_laws.specs.ListLaws.{IsAtRest}
 use Rattle.blk_disk.specs.Tables.{Agrees}
-use Rattle.blk_io.proofs.Carried.{carried}
 use Rattle.blk_lru.specs.Lists.{walked}
 use Rattle.blk_lru.specs.Nodes.{is_node}
 use Rattle.blk_lru.specs.Plans.{whole_plan, word_or_zero}
-use Rattle.blk_lru.specs.Writes.{AreOf, AreWords, HasWholeIndex, meant, steps_of}
-use Rattle.blk_lru.proofs.Conditions.{Checked, checked_small, head_read, insert_any, remove_any, may_write, one_is_one, some_holds, told_before, told_stays, unless_zero}
-use Rattle.blk_lru.proofs.FailedChecks.{if_damaged_weaker, short_or_astray}
-use Rattle.blk_lru.proofs.Listed.{head_checks, linked, splits}
-use Rattle.blk_lru.proofs.NodeWords.{checked_names, stands_as_node, next_link, prev_link}
+use Rattle.blk_lru.specs.Writes.{meant, steps_of}
+use Rattle.blk_lru.proofs.Conditions.{Checked, checked_small, head_read, insert_any, may_write, one_is_one, some_holds, told_before, told_stays, unless_zero}
+use Rattle.blk_lru.proofs.Listed.{head_checks}
 use Rattle.blk_lru.proofs.Operating.{made_as, part_as, stops_as, stops_none, turns_none, turns_part, whole_as}
 use Rattle.blk_lru.proofs.Performing.{told_ready}
 use Rattle.blk_lru.proofs.PlanNodes.{Each, Good, each_nodes, each_words, node_small, whole_good}
 use Rattle.blk_lru.proofs.PlanWords.{whole_is}
-use Rattle.blk_lru.proofs.WriteLaws.{IsReady, MayWrite}
+use Rattle.blk_lru.proofs.WriteLaws.{MayWrite}
 use Rattle.blk_lru.proofs.changing.insert_front.Given as given
 use Rattle.blk_lru.proofs.changing.insert_front.Goals as goal
 

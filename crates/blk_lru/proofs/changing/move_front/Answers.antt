@@ -1,6 +1,5 @@
-use Rattle.std.proofs.Common.{◌≡◌, ◌∙◌, ℕ, List, true, false, ap, sym, subst, refl, if◌then◌else◌, []}
-use Rattle.std.specs.Prelude.{◌==◌, OnOk}
-use Rattle.std.specs.Option.{ForSome}
+use Rattle.std.proofs.Common.{◌≡◌, ◌∙◌, ℕ, List, false, ap, sym, subst, refl}
+use Rattle.std.specs.Prelude.{◌==◌}
 use Rattle.std.proofs.lemmas.Result.{on_ok_weaker}
 use Rattle.blk_image.specs.Told.{Told, Grows}
 use Rattle.blk_volume.specs.ListPlans.{touch_writes, writes_of}
@@ -9,7 +8,7 @@ use Rattle.blk_volume.specs.View.{list_of}
 use Rattle.blk_disk.specs.Tables.{Agrees}
 use Rattle.blk_lru.specs.Lists.{walked}
 use Rattle.blk_lru.specs.Writes.{steps_of}
-use Rattle.blk_lru.proofs.Conditions.{head_read, told_before, told_stays}
+use Rattle.blk_lru.proofs.Conditions.{head_read, told_stays}
 use Rattle.blk_lru.proofs.Operating.{stops_none}
 use Rattle.blk_lru.proofs.changing.move_front.Goals as goal
 

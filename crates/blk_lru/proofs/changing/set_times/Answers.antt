@@ -1,10 +1,9 @@
-use Rattle.std.proofs.Common.{inl, ◌≡◌, ◌%◌, ◌/◌, ◌^◌, ◌∷◌, [], ℕ, List, ap, ap₂, arith, sym, ◌∙◌, refl, subst}
-use Rattle.std.specs.Prelude.{OnOk}
+use Rattle.std.proofs.Common.{inl, arith}
 use Rattle.blk_disk.proofs.SealedReads.{node_seal, node_bytes}
 use Rattle.blk_lru.proofs.FailedChecks.{short_or_unsealed}
 use Rattle.blk_lru.proofs.NodeRecords.{record_checks}
 use Rattle.blk_lru.proofs.NodeWords.{node_kind, node_stands}
-use Rattle.blk_lru.proofs.Touching.{times_are, touch_along, touch_ends, touch_quiet}
+use Rattle.blk_lru.proofs.Touching.{times_are}
 use Rattle.blk_lru.proofs.changing.set_times.Goals as goal
 
 pub update_sealed-requires-clause-stands : goal.update_sealed-requires-clause-stands

@@ -1,23 +1,21 @@
-use Rattle.std.proofs.Common.{◌≡◌, Bool, ℕ, List, [], ◌∷◌, ◌++◌, Option, None, Some, ap, sym, ◌∙◌, subst, true, arith, refl}
-use Rattle.std.specs.Prelude.{OnOk}
+use Rattle.std.proofs.Common.{◌≡◌, Bool, ℕ, List, ◌∷◌, ◌++◌, Some, ap, sym, ◌∙◌, subst, true}
 use Rattle.std.specs.Option.{ForSome, option_map}
 use Rattle.std.proofs.lemmas.Result.{on_ok_weaker}
 use Rattle.blk_image.specs.Image.{Image}
 use Rattle.blk_image.specs.Steps.{after}
-use Rattle.blk_image.specs.Told.{Told, Grows, GrowsInPart}
+use Rattle.blk_image.specs.Told.{GrowsInPart}
 use Rattle.blk_image.proofs.Runs.{grows_then, part_only, part_then}
 use Rattle.blk_volume.specs.ListPlans.{TurnsAtTwo, touch_writes}
 use Rattle.blk_volume.specs.ListView.{ListView, ListWrite}
 use Rattle.blk_volume.specs.View.{list_of}
 use Rattle.blk_laws.specs.ListLaws.{IsAtRest}
 use Rattle.blk_laws.proofs.ListWrites.{checks_stay}
-use Rattle.blk_disk.specs.Sealed.{sealed_steps}
 use Rattle.blk_lru.specs.Lists.{walked}
-use Rattle.blk_lru.specs.Writes.{steps_of, times_of, touch_steps}
+use Rattle.blk_lru.specs.Writes.{steps_of, touch_steps}
 use Rattle.blk_lru.proofs.Conditions.{listed_checks, touch_may}
 use Rattle.blk_lru.proofs.FailedChecks.{if_damaged_weaker}
 use Rattle.blk_lru.proofs.Conditions.{from_before, told_none}
-use Rattle.blk_lru.proofs.Performing.{Wrote, back_untold, now_has, told_ready}
+use Rattle.blk_lru.proofs.Performing.{told_ready}
 use Rattle.blk_lru.proofs.Touching.{touch_done, touch_stops, touch_turns}
 use Rattle.blk_lru.proofs.WriteLaws.{writes_show}
 use Rattle.blk_lru.proofs.changing.touch.Given as given

@@ -1,4 +1,4 @@
-use Rattle.std.proofs.Common.{rules, inl, inr, ⊎_elim, ◌≡◌, ◌+◌, ◌*◌, ◌≤◌, ◌∙◌, sym, ap, ap₂, arith, ℕ, None, Some, true, false, refl, length}
+use Rattle.std.proofs.Common.{rules, inr, ⊎_elim, ◌≡◌, ◌+◌, ◌*◌, ◌≤◌, ◌∙◌, sym, ap, ap₂, arith, ℕ, true, false}
 use Rattle.blk_format.specs.Address.{place, room}
 use Rattle.blk_lru.specs.Nodes.{is_node, link_at, IsAstray}
 use Rattle.blk_disk.proofs.Ranges.{name_is, stands_blocky}

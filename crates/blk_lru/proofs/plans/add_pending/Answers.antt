@@ -1,8 +1,7 @@
-use Rattle.std.proofs.Common.{◌≡◌, ℕ, List, [], ◌∷◌, ◌++◌, map, ap, sym, ◌∙◌, refl, append_assoc}
+use Rattle.std.proofs.Common.{◌≡◌, ℕ, List, [], ◌∷◌, ◌++◌, map, ap, ◌∙◌, refl, append_assoc}
 use Rattle.blk_volume.specs.ListView.{ListWrite, Transaction}
 use Rattle.blk_volume.specs.Completion.{taking_out, putting_in_front}
-use Rattle.blk_lru.specs.Plans.{code_of, moving, planned, pending, word_or_zero}
-use Rattle.blk_lru.specs.Plans as plans
+use Rattle.blk_lru.specs.Plans.{code_of, moving, planned, word_or_zero}
 use Rattle.blk_lru.specs.Writes.{meant}
 use Rattle.blk_lru.specs.declared.plans.Operation as code
 use Rattle.blk_lru.specs.declared.plans.Operation.TheVariants as operations

@@ -1,6 +1,6 @@
 use Rattle.std.proofs.Common.{◌≡◌, ℕ, List, [], ◌∷◌, ◌++◌, map, ap, sym, ◌∙◌, refl, append_assoc}
 use Rattle.blk_volume.specs.ListView.{ListWrite, Operation}
-use Rattle.blk_volume.specs.Completion.{putting_in_front, taking_out}
+use Rattle.blk_volume.specs.Completion.{putting_in_front}
 use Rattle.blk_lru.specs.Plans.{head_without, moving, word_or_zero}
 use Rattle.blk_lru.specs.Writes.{meant}
 use Rattle.blk_lru.proofs.PlanWords.{added, none_word}

@@ -1,4 +1,4 @@
-use Rattle.std.proofs.Common.{◌≡◌, ◌≢◌, ℕ, List, ◌++◌, map, ap, sym, ◌∙◌, subst, true}
+use Rattle.std.proofs.Common.{◌≡◌, ℕ, ◌++◌, map, ap, sym, ◌∙◌, subst, true}
 use Rattle.blk_format.specs.Address.{is_address}
 use Rattle.blk_volume.specs.Completion.{putting_in_front}
 use Rattle.blk_lru.specs.Plans.{word_or_zero}

@@ -1,7 +1,7 @@
-use Rattle.std.proofs.Common.{◌≡◌, ◌≢◌, ℕ, List, [], ◌∷◌, ◌++◌, map, ap, ap₂, sym, ◌∙◌, subst, true, refl}
+use Rattle.std.proofs.Common.{◌≡◌, ℕ, [], ◌∷◌, ap, ap₂, sym, ◌∙◌, subst, true}
 use Rattle.blk_format.specs.Address.{is_address}
 use Rattle.blk_volume.specs.Completion.{taking_out}
-use Rattle.blk_volume.specs.ListView.{ListWrite, Next, Prev, Head, Tail}
+use Rattle.blk_volume.specs.ListView.{Next, Prev, Head, Tail}
 use Rattle.blk_lru.proofs.PlanWords.{added, out_only, out_first, out_last, out_middle}
 use Rattle.blk_lru.proofs.plans.unlink.Goals as goal
 

@@ -1,4 +1,4 @@
-use Rattle.std.proofs.Common.{rules, ⊎_elim, ◌≡◌, ◌≢◌, ◌∙◌, sym, ap, true, false}
+use Rattle.std.proofs.Common.{rules, ⊎_elim, ◌≡◌, ◌∙◌, sym, ap, true, false}
 use Rattle.blk_image.specs.Image.{Index, word}
 use Rattle.blk_lru.specs.Nodes.{is_node, NamesNode}
 use Rattle.blk_lru.proofs.LinkReads.{astray_untold}

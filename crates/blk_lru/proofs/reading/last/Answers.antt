@@ -1,5 +1,4 @@
-use Rattle.std.proofs.Common.{◌≡◌, ◌∙◌, sym, ap}
-use Rattle.std.specs.Option.{ForSome}
+use Rattle.std.proofs.Common.{◌∙◌}
 use Rattle.blk_volume.specs.View.{list_of}
 use Rattle.blk_lru.proofs.Listed.{tail_names, tail_checks}
 use Rattle.blk_lru.proofs.NodeWords.{names_or_zero}

@@ -1,7 +1,5 @@
-use Rattle.std.proofs.Common.{◌≡◌, ◌∷◌, ◌<◌, ◌+◌, ◌≤◌, [], ℕ, List, None, get_or, length, drop, map, ap, sym, ◌∙◌, subst, true, refl, arith}
-use Rattle.std.specs.Option.{ForSome}
+use Rattle.std.proofs.Common.{◌≡◌, ◌∷◌, ◌+◌, List, None, drop, map, sym, subst, true, refl, arith}
 use Rattle.blk_volume.specs.ListView.{ListWrite}
-use Rattle.blk_image.specs.Told.{Told}
 use Rattle.blk_volume.specs.View.{list_of}
 use Rattle.blk_lru.specs.Nodes.{is_node}
 use Rattle.blk_lru.specs.Writes.{meant}

@@ -1,5 +1,4 @@
-use Rattle.std.proofs.Common.{inl, inr, ⊎_elim, ◌≡◌, arith, true, refl, ◌<◌, ◌%◌, ℕ}
-use Rattle.blk_disk.specs.Sealed.{AreChanges, seal_place}
+use Rattle.std.proofs.Common.{inl, ⊎_elim, ◌≡◌, arith, refl, ◌<◌, ◌%◌}
 use Rattle.blk_disk.proofs.SealedReads.{node_seal, node_bytes}
 use Rattle.blk_lru.proofs.FailedChecks.{short_or_unsealed}
 use Rattle.blk_lru.proofs.NodeRecords.{record_checks, one_change}

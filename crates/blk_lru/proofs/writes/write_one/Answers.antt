@@ -1,7 +1,7 @@
-use Rattle.std.proofs.Common.{◌≡◌, ◌∷◌, [], sym, subst, true, ℕ}
+use Rattle.std.proofs.Common.{◌≡◌, ◌∷◌, [], sym, subst, true}
 use Rattle.std.specs.Prelude.{OnOk}
 use Rattle.std.specs.Option.{ForSome}
-use Rattle.blk_image.specs.Told.{Grows, GrowsInPart}
+use Rattle.blk_image.specs.Told.{Grows}
 use Rattle.blk_volume.specs.View.{list_of}
 use Rattle.blk_lru.specs.declared.writes.Write.{Write}
 use Rattle.blk_lru.specs.Writes.{AreOf, meant, write_steps}
