@@ -12,3 +12,8 @@ mod writes;
 
 pub use changing::{insert_front, remove, touch};
 pub use reading::{after, before, first, last};
+
+#[cfg(test)]
+mod silent;
+#[cfg(test)]
+mod tests;
