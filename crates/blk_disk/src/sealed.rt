@@ -59,6 +59,9 @@ impl BlockFiles {
         ensures agrees { ForSome (F.told f.new).files (Agrees self.now) }
         ensures checks { ForSome (F.told f.new).files (RecordChecks addr) }
 
+        // A folder that tells no files goes on telling none.
+        ensures silent { (F.told f.old).files ≡ None → (F.told f.new).files ≡ None }
+
         // A damage is a short read or a record that doesn't check. A folder that tells its files never gives one.
         ensures damaged { IfDamaged result (λ damage. IsShort (F.told f.old) (FileId.Block (file_selector addr)) (place addr) (record_size addr) damage ⊎ IsUnsealed (F.told f.old) addr damage) }
         ensures untold { IfDamaged result (λ _. (F.told f.old).files ≡ None) }

@@ -1,0 +1,13 @@
+pub mod Conditions
+pub mod FailedChecks
+pub mod LinkReads
+pub mod Listed
+pub mod NodeRecords
+pub mod NodeWords
+pub mod Operating
+pub mod Performing
+pub mod PlanNodes
+pub mod PlanWords
+pub mod Results
+pub mod Touching
+pub mod WriteLaws

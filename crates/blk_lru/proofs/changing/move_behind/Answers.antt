@@ -1,0 +1,115 @@
+use Rattle.std.proofs.Common.{◌≡◌, ℕ, ◌∷◌, ◌++◌, Some, map, sym, ap, ◌∙◌, subst, true, arith}
+use Rattle.std.specs.Prelude.{◌==◌}
+use Rattle.std.specs.Option.{ForSome}
+use Rattle.blk_image.specs.Image.{Image}
+use Rattle.blk_image.specs.Told.{Told, GrowsInPart}
+use Rattle.blk_volume.specs.ListView.{ListView, IsList}
+use Rattle.blk_volume.specs.ListPlans.{writes_of}
+use Rattle.blk_volume.specs.View.{list_of}
+use Rattle.blk_disk.specs.Tables.{Agrees}
+use Rattle.blk_lru.specs.Lists.{walked}
+use Rattle.blk_lru.specs.Nodes.{is_node}
+use Rattle.blk_lru.specs.Plans.{whole_plan, word_or_zero}
+use Rattle.blk_lru.specs.Writes.{meant, steps_of}
+use Rattle.blk_lru.proofs.Conditions.{Checked, checked_small, head_read, may_write, some_holds, next_names, prev_names, told_before, told_stays, unless_zero}
+use Rattle.blk_lru.proofs.Listed.{head_checks, linked, splits}
+use Rattle.blk_lru.proofs.NodeWords.{stands_as_node, next_link, prev_link}
+use Rattle.blk_lru.proofs.Operating.{part_as, stops_as, stops_none, whole_as}
+use Rattle.blk_lru.proofs.PlanNodes.{Each, Good, each_nodes, each_words, node_small, whole_good}
+use Rattle.blk_lru.proofs.PlanWords.{whole_is}
+use Rattle.blk_lru.proofs.WriteLaws.{MayWrite}
+use Rattle.blk_lru.proofs.changing.move_behind.Given as given
+use Rattle.blk_lru.proofs.changing.move_behind.Goals as goal
+
+pub link-requires-clause-named : goal.link-requires-clause-named
+link-requires-clause-named g c image there = next_names c.args.files.now image c.args.node (c.requires.agrees image there) c.requires.stands (c.requires.listed image there)
+
+pub link-requires-2-clause-agrees : goal.link-requires-2-clause-agrees
+link-requires-2-clause-agrees g c = told_stays (Agrees c.args.files.now) c.in_ok-next.ensures.stays c.requires.agrees
+
+pub link-requires-2-clause-named : goal.link-requires-2-clause-named
+link-requires-2-clause-named g c image there = let here = told_before image c.in_ok-next.ensures.stays there in prev_names c.args.files.now image c.args.node (c.requires.agrees image here) c.requires.stands (c.requires.listed image here)
+
+pub returns-in_err-next-clause-stops : goal.returns-in_err-next-clause-stops
+returns-in_err-next-clause-stops g c from there = stops_none (g.F.Folder.told c.args.f.now) (g.F.Folder.told c.link.new.f) from (writes_of 3 c.args.node (list_of from)) there c.in_err-next.ensures.stays
+
+pub returns-in_err-next-clause-agrees : goal.returns-in_err-next-clause-agrees
+returns-in_err-next-clause-agrees g c = told_stays (Agrees c.args.files.now) c.in_err-next.ensures.stays c.requires.agrees
+
+pub returns-in_err-prev-clause-stops : goal.returns-in_err-prev-clause-stops
+returns-in_err-prev-clause-stops g c from there = stops_none (g.F.Folder.told c.args.f.now) (g.F.Folder.told c.link-2.new.f) from (writes_of 3 c.args.node (list_of from)) there (c.in_err-prev.ensures.stays ∙ c.in_ok-next.ensures.stays)
+
+pub returns-in_err-prev-clause-agrees : goal.returns-in_err-prev-clause-agrees
+returns-in_err-prev-clause-agrees g c = told_stays (Agrees c.args.files.now) (c.in_err-prev.ensures.stays ∙ c.in_ok-next.ensures.stays) c.requires.agrees
+
+-- the plan
+words_are : (g : given.Over) (c : goal.After-deref g) → map meant c.deref.result.now ≡ whole_plan 3 c.args.node c.in_ok-next.next c.in_ok-prev.prev (word_or_zero c.args.head)
+words_are g c = ap (map meant) c.deref.ensures.0 ∙ c.plan_of-plan.ensures
+
+stays_here : (g : given.Over) (c : goal.After-deref g) → g.F.Folder.told c.link-2.new.f ≡ g.F.Folder.told c.args.f.now
+stays_here g c = c.in_ok-prev.ensures.stays ∙ c.in_ok-next.ensures.stays
+
+next_is : (g : given.Over) (c : goal.After-deref g) (from : Image) → (g.F.Folder.told c.args.f.now).files ≡ Some from → (list_of from).next c.args.node ≡ c.in_ok-next.next
+next_is g c from there = next_link from c.args.node (stands_as_node c.args.files.now from (c.requires.agrees from there) c.args.node c.requires.stands) ∙ sym (c.in_ok-next.ensures.word from there)
+
+prev_is : (g : given.Over) (c : goal.After-deref g) (from : Image) → (g.F.Folder.told c.args.f.now).files ≡ Some from → (list_of from).prev c.args.node ≡ c.in_ok-prev.prev
+prev_is g c from there =
+    prev_link from c.args.node (stands_as_node c.args.files.now from (c.requires.agrees from there) c.args.node c.requires.stands)
+    ∙ sym (c.in_ok-prev.ensures.word from (ap (λ (t : Told). t.files) c.in_ok-next.ensures.stays ∙ there))
+
+plan_is : (g : given.Over) (c : goal.After-deref g) → ForSome (g.F.Folder.told c.args.f.now).files (λ from. map meant c.deref.result.now ≡ writes_of 3 c.args.node (list_of from))
+plan_is g c from there =
+    words_are g c
+    ∙ whole_is 3 c.args.node c.in_ok-next.next c.in_ok-prev.prev (word_or_zero c.args.head) (list_of from) (next_is g c from there) (prev_is g c from there)
+    (head_read (list_of from) (walked from) c.args.head (c.requires.listed from there).rest.whole (c.requires.head from there))
+
+good_here : (g : given.Over) (c : goal.After-deref g) → Each (Good (λ n. is_node c.args.files.now n ≡ true)) (map meant c.deref.result.now)
+good_here g c =
+    subst (Each (Good (λ n. is_node c.args.files.now n ≡ true))) (sym (words_are g c))
+    (whole_good (λ n. is_node c.args.files.now n ≡ true) (node_small c.args.files.now) c.args.node c.requires.stands 3 c.in_ok-next.next c.in_ok-prev.prev (word_or_zero c.args.head) (omega arith) (λ one nz. (c.in_ok-next.ensures.stands, c.in_ok-prev.ensures.stands))
+    (λ two. some_holds (λ n. is_node c.args.files.now n ≡ true) c.args.head c.requires.first))
+
+may_here : (g : given.Over) (c : goal.After-deref g) (from : Image) → (g.F.Folder.told c.args.f.now).files ≡ Some from → MayWrite c.args.files.now from (map meant c.deref.result.now)
+may_here g c from there =
+    let files = c.args.files.now in
+    let listed = c.requires.listed from there in
+    let list : ListView = list_of from in
+    let head : list.head ≡ word_or_zero c.args.head = head_read list (walked from) c.args.head listed.rest.whole (c.requires.head from there) in
+    let s = splits (walked from) c.args.node listed.listed in
+    let whole : IsList list (s.front ++ c.args.node ∷ s.behind) = subst (IsList list) s.is listed.rest.whole in
+    let l = linked list s.front c.args.node s.behind whole in
+    may_write files from (map meant c.deref.result.now)
+    (subst (Each (Good (Checked files from))) (sym (words_are g c))
+    (whole_good (Checked files from) (checked_small files from) c.args.node (c.requires.stands, l.good) 3 c.in_ok-next.next c.in_ok-prev.prev (word_or_zero c.args.head) (omega arith)
+    (λ one nz. ((c.in_ok-next.ensures.stands, subst (λ (w : ℕ). list.checks w ≡ true) (next_is g c from there) l.next_good), (c.in_ok-prev.ensures.stands, subst (λ (w : ℕ). list.checks w ≡ true) (prev_is g c from there) l.prev_good)))
+    (λ two nz. (
+      some_holds (λ n. is_node files n ≡ true) c.args.head c.requires.first nz,
+      subst (λ (w : ℕ). list.checks w ≡ true) head (unless_zero (λ w. list.checks w ≡ true) list.head (head_checks list (walked from) listed.rest.whole) (ap (λ (w : ℕ). w == 0) head ∙ nz)),
+    ))))
+
+pub perform-requires-clause-stand : goal.perform-requires-clause-stand
+perform-requires-clause-stand g c = each_nodes (λ n. is_node c.args.files.now n ≡ true) (map meant c.deref.result.now) (good_here g c)
+
+pub perform-requires-clause-words : goal.perform-requires-clause-words
+perform-requires-clause-words g c = each_words (λ n. is_node c.args.files.now n ≡ true) (map meant c.deref.result.now) (good_here g c)
+
+pub perform-requires-clause-agrees : goal.perform-requires-clause-agrees
+perform-requires-clause-agrees g c = told_stays (Agrees c.args.files.now) (c.in_ok-prev.ensures.stays ∙ c.in_ok-next.ensures.stays) c.requires.agrees
+
+pub perform-requires-clause-check : goal.perform-requires-clause-check
+perform-requires-clause-check g c image there = (may_here g c image (told_before image (c.in_ok-prev.ensures.stays ∙ c.in_ok-next.ensures.stays) there)).1.0
+
+whole_here : (g : given.Over) (c : goal.After-perform g) → (from : Image) → (g.F.Folder.told c.args.f.now).files ≡ Some from → MayWrite c.args.files.now from (writes_of 3 c.args.node (list_of from))
+whole_here g c from there = subst (MayWrite c.args.files.now from) (plan_is g c.before from there) (may_here g c.before from there)
+
+pub returns-clause-whole : goal.returns-clause-whole
+returns-clause-whole g c = whole_as (g.F.Folder.told c.args.f.now) (g.F.Folder.told c.link-2.new.f) (g.F.Folder.told c.perform.new.f) (c.in_ok-prev.ensures.stays ∙ c.in_ok-next.ensures.stays) (map meant c.deref.result.now) (λ from. writes_of 3 c.args.node (list_of from)) (plan_is g c.before) c.perform.result c.perform.ensures.whole
+
+part_here : (g : given.Over) (c : goal.After-perform g) → ForSome (g.F.Folder.told c.args.f.now).files (λ from. GrowsInPart (g.F.Folder.told c.args.f.now) (g.F.Folder.told c.perform.new.f) (steps_of (writes_of 3 c.args.node (list_of from)) from))
+part_here g c = part_as (g.F.Folder.told c.args.f.now) (g.F.Folder.told c.link-2.new.f) (g.F.Folder.told c.perform.new.f) (c.in_ok-prev.ensures.stays ∙ c.in_ok-next.ensures.stays) (map meant c.deref.result.now) (λ from. writes_of 3 c.args.node (list_of from)) (plan_is g c.before) c.perform.ensures.part
+
+pub returns-clause-part : goal.returns-clause-part
+returns-clause-part g c = part_here g c
+
+pub returns-clause-stops : goal.returns-clause-stops
+returns-clause-stops g c = stops_as (g.F.Folder.told c.args.f.now) (g.F.Folder.told c.link-2.new.f) (g.F.Folder.told c.perform.new.f) (c.in_ok-prev.ensures.stays ∙ c.in_ok-next.ensures.stays) (map meant c.deref.result.now) (λ from. writes_of 3 c.args.node (list_of from)) (plan_is g c.before) c.perform.ensures.stops

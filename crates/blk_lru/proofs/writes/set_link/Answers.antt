@@ -1,0 +1,28 @@
+use Rattle.std.proofs.Common.{inl, ⊎_elim, ◌≡◌, arith, refl, ◌<◌, ◌%◌}
+use Rattle.blk_disk.proofs.SealedReads.{node_seal, node_bytes}
+use Rattle.blk_lru.proofs.FailedChecks.{short_or_unsealed}
+use Rattle.blk_lru.proofs.NodeRecords.{record_checks, one_change}
+use Rattle.blk_lru.proofs.NodeWords.{node_kind, node_stands}
+use Rattle.blk_lru.proofs.writes.set_link.Goals as goal
+
+pub update_sealed-requires-clause-stands : goal.update_sealed-requires-clause-stands
+update_sealed-requires-clause-stands g c = node_stands c.args.files.now c.args.node c.requires.stands
+
+pub update_sealed-requires-clause-begins : goal.update_sealed-requires-clause-begins
+update_sealed-requires-clause-begins g c = inl (node_kind c.args.files.now c.args.node c.requires.stands)
+
+pub update_sealed-requires-clause-changes : goal.update_sealed-requires-clause-changes
+update_sealed-requires-clause-changes g c =
+    let kind = node_kind c.args.files.now c.args.node c.requires.stands in
+    let aligned : c.args.at % 4 ≡ 0 = ⊎_elim (λ (e : c.args.at ≡ 16). let h : c.args.at % 4 ≡ 0 = rw e refl in h) (λ (e : c.args.at ≡ 20). let h : c.args.at % 4 ≡ 0 = rw e refl in h) c.requires.place in
+    let before : c.args.at < 32 = ⊎_elim (λ (e : c.args.at ≡ 16). let h : c.args.at < 32 = omega (arith, e) in h) (λ (e : c.args.at ≡ 20). let h : c.args.at < 32 = omega (arith, e) in h) c.requires.place in
+    one_change c.args.node c.args.at c.args.word kind aligned before
+
+pub update_sealed-requires-clause-checks : goal.update_sealed-requires-clause-checks
+update_sealed-requires-clause-checks g c image there =
+    record_checks image c.args.node (g.met.F.Folder.are_bytes c.args.f.now image there) (node_kind c.args.files.now c.args.node c.requires.stands) (c.requires.check image there)
+
+pub returns-clause-damaged : goal.returns-clause-damaged
+returns-clause-damaged g c =
+    let kind = node_kind c.args.files.now c.args.node c.requires.stands in
+    short_or_unsealed c.update_sealed.result c.args.files.now _ _ _ c.args.node _ (omega (arith, node_bytes c.args.node kind)) (node_seal c.args.node kind) c.update_sealed.ensures.damaged

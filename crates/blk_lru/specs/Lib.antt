@@ -1,0 +1,6 @@
+pub mod Nodes
+pub mod Writes
+pub mod Plans
+pub mod Lists
+pub mod Moments
+pub mod Untold

@@ -1,0 +1,214 @@
+// Changes of the use list, each a transaction.
+ghost use Rattle.std.specs.Prelude.{◌≡◌, ◌==◌, ◌++◌, ◌∷◌, ◌≤◌, ℕ, List, IfSome, IsTrue, None, OnOk, true};
+ghost use Rattle.blk_lru.specs.Plans.{word_or_zero};
+ghost use Rattle.std.specs.Option.{ForSome};
+ghost use Rattle.blk_image.specs.Told.{Grows, GrowsInPart, Passes, Rises};
+ghost use Rattle.blk_volume.specs.Completion.{insert, move, remove as removal};
+ghost use Rattle.blk_volume.specs.ListPlans.{touch_writes, writes_of};
+ghost use Rattle.blk_volume.specs.View.{list_of};
+ghost use Rattle.blk_laws.specs.ListLaws.{CanBeInserted, IsAtRest};
+ghost use Rattle.blk_io.specs.Faults.{IfDamaged, IfDevice};
+ghost use Rattle.blk_disk.specs.Sealed.{sealed_steps};
+ghost use Rattle.blk_disk.specs.Tables.{Agrees};
+ghost use Rattle.blk_lru.specs.Nodes.{is_node, IsFailedCheck};
+ghost use Rattle.blk_lru.specs.Writes.{HasWholeIndex, IsPartly, IsTouched, steps_of, times_of, touch_steps};
+ghost use Rattle.blk_lru.specs.Lists.{IsListed, Turns, first_of, walked};
+
+use crate::moments::write_moments;
+use crate::nodes::{NEXT, PREV, link};
+use crate::plans::{Operation, plan_of};
+use crate::reading::first;
+use crate::writes::perform;
+use blk_addr::Addr;
+use blk_disk::BlockFiles;
+use blk_io::{Fault, Folder};
+
+/// Puts a node in front of the list. It is not in the list, and fewer than 131072 nodes are.
+///
+/// The operation word and the transaction word are written, then the node's links, the link of the
+/// node that was first, or the last node where there was none, and the first node; at last the
+/// transaction ends. Of a node that is written the seal is 0 first and the hash again in the end.
+/// This takes at most 17 folder calls.
+pub fn insert_front<F: Folder>(f: &mut F, files: &BlockFiles, node: Addr) -> Result<(), Fault>
+    requires stands { IsTrue (is_node files.now node) }
+    requires complete { ForSome (F.told f.old).files HasWholeIndex }
+    requires agrees { ForSome (F.told f.old).files (Agrees files.now) }
+    requires apart { ForSome (F.told f.old).files (λ image. CanBeInserted (list_of image) (walked image) node) }
+    ensures whole { OnOk result (ForSome (F.told f.old).files (λ from. Grows (F.told f.old) (F.told f.new) (steps_of (writes_of insert node (list_of from)) from))) }
+    ensures part { ForSome (F.told f.old).files (λ from. GrowsInPart (F.told f.old) (F.told f.new) (steps_of (writes_of insert node (list_of from)) from)) }
+    ensures inserted { OnOk result (ForSome (F.told f.old).files (λ from. ForSome (F.told f.new).files (λ image. IsAtRest (list_of image) (node ∷ walked from)))) }
+
+    // At each word completing gives the old list, or from the transaction word on the new one; nothing but the list changes.
+    ensures turns { ForSome (F.told f.old).files (λ from. Turns (F.told f.old) (F.told f.new) (walked from) (node ∷ walked from)) }
+    ensures stops { ForSome (F.told f.old).files (λ from. Passes (F.told f.old) (F.told f.new) (IsPartly from (writes_of insert node (list_of from)))) }
+    ensures complete { ForSome (F.told f.new).files HasWholeIndex }
+    ensures agrees { ForSome (F.told f.new).files (Agrees files.now) }
+
+    // A folder that tells its files never gives a damage.
+    ensures damaged { IfDamaged result (IsFailedCheck files.now) }
+    ensures untold { IfDamaged result (λ _. (F.told f.old).files ≡ None) }
+    ensures silent { (F.told f.old).files ≡ None → (F.told f.new).files ≡ None }
+
+    ensures later { F.faults f.old ≤ F.faults f.new }
+    ensures device { IfDevice result (Rises (F.faults f.old) (F.faults f.new)) }
+{
+    write_moments();
+    blk_laws::inserts_at_each_write();
+    let head = first(f, files)?;
+    let plan = plan_of(Operation::Insert, node, None, node, head);
+    perform(f, files, &plan)
+}
+
+/// Takes a node out of the list.
+///
+/// The operation word and the transaction word are written, then the links of the nodes beside it,
+/// or the first or the last node, and at last its own next becomes 0 and the transaction ends. Of a
+/// node that is written the seal is 0 first and the hash again in the end. This takes at most 17
+/// folder calls.
+pub fn remove<F: Folder>(f: &mut F, files: &BlockFiles, node: Addr) -> Result<(), Fault>
+    requires stands { IsTrue (is_node files.now node) }
+    requires complete { ForSome (F.told f.old).files HasWholeIndex }
+    requires agrees { ForSome (F.told f.old).files (Agrees files.now) }
+    requires listed { ForSome (F.told f.old).files (IsListed node) }
+    ensures whole { OnOk result (ForSome (F.told f.old).files (λ from. Grows (F.told f.old) (F.told f.new) (steps_of (writes_of removal node (list_of from)) from))) }
+    ensures part { ForSome (F.told f.old).files (λ from. GrowsInPart (F.told f.old) (F.told f.new) (steps_of (writes_of removal node (list_of from)) from)) }
+    ensures removed { OnOk result (ForSome (F.told f.old).files (λ from. ForSome (F.told f.new).files (λ image. (front behind : List ℕ) → walked from ≡ front ++ node ∷ behind → IsAtRest (list_of image) (front ++ behind)))) }
+
+    // At each word completing gives the old list, or from the transaction word on the new one; nothing but the list changes.
+    ensures turns { ForSome (F.told f.old).files (λ from. (front behind : List ℕ) → walked from ≡ front ++ node ∷ behind → Turns (F.told f.old) (F.told f.new) (walked from) (front ++ behind)) }
+    ensures stops { ForSome (F.told f.old).files (λ from. Passes (F.told f.old) (F.told f.new) (IsPartly from (writes_of removal node (list_of from)))) }
+    ensures complete { ForSome (F.told f.new).files HasWholeIndex }
+    ensures agrees { ForSome (F.told f.new).files (Agrees files.now) }
+
+    // A folder that tells its files never gives a damage.
+    ensures damaged { IfDamaged result (IsFailedCheck files.now) }
+    ensures untold { IfDamaged result (λ _. (F.told f.old).files ≡ None) }
+    ensures silent { (F.told f.old).files ≡ None → (F.told f.new).files ≡ None }
+
+    ensures later { F.faults f.old ≤ F.faults f.new }
+    ensures device { IfDevice result (Rises (F.faults f.old) (F.faults f.new)) }
+{
+    write_moments();
+    blk_laws::removals_at_each_write();
+    let next = link(f, files, node, NEXT)?;
+    let prev = link(f, files, node, PREV)?;
+    let plan = plan_of(Operation::Remove, node, Some(next), prev, None);
+    perform(f, files, &plan)
+}
+
+/// Moves a listed node to the front of the list, and sets its two times to a moment.
+///
+/// The operation word and the transaction word are written, the node is taken out, the operation
+/// word becomes that of an insert, and the node is put in front; then the transaction ends. Where the
+/// node is the first one already no transaction is started. At last the times are written. This takes
+/// at most 39 folder calls.
+pub fn touch<F: Folder>(f: &mut F, files: &BlockFiles, node: Addr, moment: u64) -> Result<(), Fault>
+    requires stands { IsTrue (is_node files.now node) }
+    requires complete { ForSome (F.told f.old).files HasWholeIndex }
+    requires agrees { ForSome (F.told f.old).files (Agrees files.now) }
+    requires listed { ForSome (F.told f.old).files (IsListed node) }
+    ensures whole { OnOk result (ForSome (F.told f.old).files (λ from. Grows (F.told f.old) (F.told f.new) (touch_steps node moment (touch_writes node (list_of from)) from))) }
+    ensures part { ForSome (F.told f.old).files (λ from. GrowsInPart (F.told f.old) (F.told f.new) (touch_steps node moment (touch_writes node (list_of from)) from)) }
+    ensures touched { OnOk result (ForSome (F.told f.old).files (λ from. ForSome (F.told f.new).files (λ image. (front behind : List ℕ) → walked from ≡ front ++ node ∷ behind → IsAtRest (list_of image) (node ∷ front ++ behind)))) }
+
+    // At each word completing gives the old list, or from the transaction word on the new one; nothing but the list and the times changes.
+    ensures turns { ForSome (F.told f.old).files (λ from. (front behind : List ℕ) → walked from ≡ front ++ node ∷ behind → Turns (F.told f.old) (F.told f.new) (walked from) (node ∷ front ++ behind)) }
+    ensures stops { ForSome (F.told f.old).files (λ from. Passes (F.told f.old) (F.told f.new) (IsTouched from node (touch_writes node (list_of from)))) }
+    ensures agrees { ForSome (F.told f.new).files (Agrees files.now) }
+
+    // A folder that tells its files never gives a damage.
+    ensures damaged { IfDamaged result (IsFailedCheck files.now) }
+    ensures untold { IfDamaged result (λ _. (F.told f.old).files ≡ None) }
+    ensures silent { (F.told f.old).files ≡ None → (F.told f.new).files ≡ None }
+
+    ensures later { F.faults f.old ≤ F.faults f.new }
+    ensures device { IfDevice result (Rises (F.faults f.old) (F.faults f.new)) }
+{
+    write_moments();
+    blk_laws::touches_at_each_write();
+    move_front(f, files, node)?;
+    set_times(f, files, node, moment)
+}
+
+// Sets the two times of a node to a moment.
+fn set_times<F: Folder>(f: &mut F, files: &BlockFiles, node: Addr, moment: u64) -> Result<(), Fault>
+    requires stands { is_node files.now node ≡ true }
+    requires agrees { ForSome (F.told f.old).files (Agrees files.now) }
+    requires check { ForSome (F.told f.old).files (λ image. (list_of image).checks node ≡ true) }
+    ensures whole { OnOk result (ForSome (F.told f.old).files (λ from. Grows (F.told f.old) (F.told f.new) (sealed_steps from node (times_of moment)))) }
+    ensures part { ForSome (F.told f.old).files (λ from. GrowsInPart (F.told f.old) (F.told f.new) (sealed_steps from node (times_of moment))) }
+    ensures agrees { ForSome (F.told f.new).files (Agrees files.now) }
+    ensures damaged { IfDamaged result (IsFailedCheck files.now) }
+    ensures untold { IfDamaged result (λ _. (F.told f.old).files ≡ None) }
+    ensures silent { (F.told f.old).files ≡ None → (F.told f.new).files ≡ None }
+    ensures later { F.faults f.old ≤ F.faults f.new }
+    ensures device { IfDevice result (Rises (F.faults f.old) (F.faults f.new)) }
+{
+    let low = (moment % 0x1_0000_0000) as u32;
+    let high = (moment / 0x1_0000_0000) as u32;
+    files.update_sealed(f, node, &[(0, low), (4, high), (8, low), (12, high)])
+}
+
+// Moves a listed node to the front of the list, where it isn't there already.
+fn move_front<F: Folder>(f: &mut F, files: &BlockFiles, node: Addr) -> Result<(), Fault>
+    requires stands { IsTrue (is_node files.now node) }
+    requires complete { ForSome (F.told f.old).files HasWholeIndex }
+    requires agrees { ForSome (F.told f.old).files (Agrees files.now) }
+    requires listed { ForSome (F.told f.old).files (IsListed node) }
+    ensures whole { OnOk result (ForSome (F.told f.old).files (λ from. Grows (F.told f.old) (F.told f.new) (steps_of (touch_writes node (list_of from)) from))) }
+    ensures part { ForSome (F.told f.old).files (λ from. GrowsInPart (F.told f.old) (F.told f.new) (steps_of (touch_writes node (list_of from)) from)) }
+    ensures stops { ForSome (F.told f.old).files (λ from. Passes (F.told f.old) (F.told f.new) (IsPartly from (touch_writes node (list_of from)))) }
+    ensures complete { ForSome (F.told f.new).files HasWholeIndex }
+    ensures agrees { ForSome (F.told f.new).files (Agrees files.now) }
+    ensures damaged { IfDamaged result (IsFailedCheck files.now) }
+    ensures untold { IfDamaged result (λ _. (F.told f.old).files ≡ None) }
+    ensures silent { (F.told f.old).files ≡ None → (F.told f.new).files ≡ None }
+    ensures later { F.faults f.old ≤ F.faults f.new }
+    ensures device { IfDevice result (Rises (F.faults f.old) (F.faults f.new)) }
+{
+    let head = first(f, files)?;
+    if is_same(&head, node) {
+        return Ok(());
+    }
+    move_behind(f, files, node, head)
+}
+
+// Moves a listed node to the front of the list, where another node is the first one.
+fn move_behind<F: Folder>(
+    f: &mut F,
+    files: &BlockFiles,
+    node: Addr,
+    head: Option<Addr>,
+) -> Result<(), Fault>
+    requires stands { IsTrue (is_node files.now node) }
+    requires first { IfSome head (λ n. IsTrue (is_node files.now n)) }
+    requires complete { ForSome (F.told f.old).files HasWholeIndex }
+    requires agrees { ForSome (F.told f.old).files (Agrees files.now) }
+    requires listed { ForSome (F.told f.old).files (IsListed node) }
+    requires head { ForSome (F.told f.old).files (λ image. head ≡ first_of (walked image)) }
+    ensures whole { OnOk result (ForSome (F.told f.old).files (λ from. Grows (F.told f.old) (F.told f.new) (steps_of (writes_of move node (list_of from)) from))) }
+    ensures part { ForSome (F.told f.old).files (λ from. GrowsInPart (F.told f.old) (F.told f.new) (steps_of (writes_of move node (list_of from)) from)) }
+    ensures stops { ForSome (F.told f.old).files (λ from. Passes (F.told f.old) (F.told f.new) (IsPartly from (writes_of move node (list_of from)))) }
+    ensures complete { ForSome (F.told f.new).files HasWholeIndex }
+    ensures agrees { ForSome (F.told f.new).files (Agrees files.now) }
+    ensures damaged { IfDamaged result (IsFailedCheck files.now) }
+    ensures untold { IfDamaged result (λ _. (F.told f.old).files ≡ None) }
+    ensures silent { (F.told f.old).files ≡ None → (F.told f.new).files ≡ None }
+    ensures later { F.faults f.old ≤ F.faults f.new }
+    ensures device { IfDevice result (Rises (F.faults f.old) (F.faults f.new)) }
+{
+    let next = link(f, files, node, NEXT)?;
+    let prev = link(f, files, node, PREV)?;
+    let plan = plan_of(Operation::Move, node, Some(next), prev, head);
+    perform(f, files, &plan)
+}
+
+// Whether a node that may be there is this one.
+fn is_same(found: &Option<Addr>, node: Addr) -> bool
+    ensures { result ≡ (word_or_zero found.now == node) }
+{
+    match found {
+        Some(other) => other.word() == node.word(),
+        None => 0 == node.word(),
+    }
+}

@@ -1,0 +1,19 @@
+//! The use list of a cache folder: its nodes in the order of their last use, linked both ways.
+//!
+//! Each change is a transaction, so that a stop after any word leaves a list that can be completed.
+#![tactic(auto)]
+
+mod changing;
+mod moments;
+mod nodes;
+mod plans;
+mod reading;
+mod writes;
+
+pub use changing::{insert_front, remove, touch};
+pub use reading::{after, before, first, last};
+
+#[cfg(test)]
+mod silent;
+#[cfg(test)]
+mod tests;

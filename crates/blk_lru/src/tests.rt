@@ -1,0 +1,115 @@
+// The use list of three nodes in a folder in memory that tells nothing.
+ghost use Rattle.std.specs.Prelude.{IfSome, IsTrue};
+ghost use Rattle.blk_lru.specs.Nodes.{is_node};
+
+use crate::silent::Silent;
+use crate::{after, before, first, insert_front, last, nodes, remove, touch};
+use blk_addr::Addr;
+use blk_disk::BlockFiles;
+use blk_io::{Failed, Fault, FileId, Folder, MemFolder, read_word};
+use std::alloc::Global;
+use std::test::Fail;
+
+const MAGIC: u32 = 0xC104_CAC3;
+
+const INDEX_LEN: u64 = 262512;
+
+const NODES_LEN: u64 = 45056;
+
+const SIZES: [u32; 4] = [36, 256, 1024, 4096];
+
+const NODES: [u32; 3] = [0x9000_0000, 0x9000_0001, 0x9000_0002];
+
+// A folder with an index of zeros and four block files, of which the first has room for nodes.
+fn folder(alloc: Global) -> Result<Silent, Failed> {
+    let mut f = Silent::new(MemFolder::new(alloc));
+    f.set_len(FileId::Index, INDEX_LEN)?;
+    for (n, size) in SIZES.iter().enumerate() {
+        let file = FileId::Block(n as u8);
+        f.set_len(file, NODES_LEN)?;
+        let blocks = if n == 0 { 1024 } else { 0 };
+        let words = [MAGIC, 0x20000, n as u32, *size, 0, blocks];
+        for (i, word) in words.iter().enumerate() {
+            f.write_at(file, 4 * i as u64, &word.to_le_bytes())?;
+        }
+    }
+    Ok(f)
+}
+
+// The head, the tail, the transaction and the operation, and the next and the prev of each node.
+fn shown<F: Folder>(f: &mut F) -> Result<([u32; 4], [u32; 3], [u32; 3]), Fault> {
+    let mut words = [0; 4];
+    for (slot, at) in words.iter_mut().zip([288, 308, 328, 332]) {
+        *slot = read_word(f, FileId::Index, at)?;
+    }
+    let mut nexts = [0; 3];
+    let mut prevs = [0; 3];
+    for (k, slot) in nexts.iter_mut().enumerate() {
+        *slot = read_word(f, FileId::Block(0), 8192 + 36 * k as u64 + 16)?;
+    }
+    for (k, slot) in prevs.iter_mut().enumerate() {
+        *slot = read_word(f, FileId::Block(0), 8192 + 36 * k as u64 + 20)?;
+    }
+    Ok((words, nexts, prevs))
+}
+
+// The nodes of three words, where all stand.
+fn three(files: &BlockFiles) -> Option<(Addr, Addr, Addr)>
+    ensures first { IfSome result (λ nodes. IsTrue (is_node files.now nodes.0)) }
+    ensures second { IfSome result (λ nodes. IsTrue (is_node files.now nodes.1)) }
+    ensures third { IfSome result (λ nodes. IsTrue (is_node files.now nodes.2)) }
+{
+    let one = nodes::node_of(files, NODES[0])?;
+    let two = nodes::node_of(files, NODES[1])?;
+    let three = nodes::node_of(files, NODES[2])?;
+    Some((one, two, three))
+}
+
+#[test]
+fn three_nodes_are_inserted_one_is_touched_and_one_removed(rt: HostRuntime) -> Result<(), Fail> {
+    let mut f = folder(rt.alloc())?;
+    let Ok(files) = BlockFiles::load(&mut f) else {
+        panic!(rt; "the files are whole");
+    };
+    let Some((one, two, three)) = three(&files) else {
+        panic!(rt; "the nodes stand");
+    };
+    assert_eq!(rt; insert_front(&mut f, &files, one), Ok(()));
+    assert_eq!(rt; insert_front(&mut f, &files, two), Ok(()));
+    let before_third = f.calls();
+    assert_eq!(rt; insert_front(&mut f, &files, three), Ok(()));
+    assert!(rt; f.calls().wrapping_sub(before_third) <= 22, "an insert");
+    let before_touch = f.calls();
+    assert_eq!(rt; touch(&mut f, &files, two, 0x0123_4567_89AB_CDEF), Ok(()));
+    assert!(rt; f.calls().wrapping_sub(before_touch) <= 44, "a touch");
+    let touched = (
+        [NODES[1], NODES[0], 0, 1],
+        [NODES[0], NODES[2], NODES[0]],
+        [NODES[2], NODES[1], NODES[1]],
+    );
+    assert_eq!(rt; shown(&mut f), Ok(touched));
+    assert_eq!(rt;
+        read_word(&mut f, FileId::Block(0), 8192 + 36),
+        Ok(0x89AB_CDEF)
+    );
+    assert_eq!(rt;
+        read_word(&mut f, FileId::Block(0), 8192 + 36 + 12),
+        Ok(0x0123_4567)
+    );
+    let before_removal = f.calls();
+    assert_eq!(rt; remove(&mut f, &files, three), Ok(()));
+    assert!(rt; f.calls().wrapping_sub(before_removal) <= 22, "a removal");
+    let removed = (
+        [NODES[1], NODES[0], 0, 2],
+        [NODES[0], NODES[0], 0],
+        [NODES[1], NODES[1], NODES[1]],
+    );
+    assert_eq!(rt; shown(&mut f), Ok(removed));
+    assert_eq!(rt; first(&mut f, &files), Ok(Some(two)));
+    assert_eq!(rt; last(&mut f, &files), Ok(Some(one)));
+    assert_eq!(rt; before(&mut f, &files, two), Ok(None));
+    let before_link = f.calls();
+    assert_eq!(rt; after(&mut f, &files, two), Ok(Some(one)));
+    assert_eq!(rt; f.calls().wrapping_sub(before_link), 1);
+    Ok(())
+}

@@ -1,0 +1,140 @@
+// Writes into the use list.
+ghost use Rattle.std.specs.Prelude.{◌≡◌, ◌<◌, ◌≤◌, ◌^◌, ◌%◌, [], ◌∷◌, None, OnOk, map, true};
+ghost use Rattle.std.specs.Option.{ForSome};
+ghost use Rattle.blk_image.specs.Image.{Index as index};
+ghost use Rattle.blk_image.specs.Steps.{word_step};
+ghost use Rattle.blk_image.specs.Told.{Grows, GrowsInPart, Passes, Rises};
+ghost use Rattle.blk_volume.specs.View.{list_of};
+ghost use Rattle.blk_io.specs.Faults.{IfDamaged, IfDevice};
+ghost use Rattle.blk_format.specs.Headers.{header_length};
+ghost use Rattle.blk_disk.specs.Sealed.{sealed_steps};
+ghost use Rattle.blk_disk.specs.Tables.{Agrees};
+ghost use Rattle.blk_moments.specs.Moments.{OnlyListChanges};
+ghost use Rattle.blk_lru.specs.Nodes.{is_node, IsFailedCheck, IsLinkPlace};
+ghost use Rattle.blk_lru.specs.Writes.{AreOf, AreWords, HasWholeIndex, IsPartly, meant, steps_of, write_steps};
+
+use crate::moments::write_moments;
+use crate::nodes::{NEXT, PREV};
+use crate::reading::{HEAD, TAIL};
+use blk_addr::Addr;
+use blk_disk::BlockFiles;
+use blk_index::set_word;
+use blk_io::{Fault, Folder};
+
+// The places of the operation in flight and of its node in the index.
+pub(crate) const TRANSACTION: u32 = 328;
+
+pub(crate) const OPERATION: u32 = 332;
+
+// A word of a node or of the index becomes another one: a node's link to the next or the previous
+// node, the first or the last node, or the operation in flight and its node.
+#[derive(Clone, Copy, Debug)]
+pub(crate) enum Write {
+    Next(Addr, u32),
+    Prev(Addr, u32),
+    Head(u32),
+    Tail(u32),
+    Transaction(u32),
+    Operation(u32),
+}
+
+// Makes writes in turn, whose nodes stand and check.
+pub(crate) fn perform<F: Folder>(
+    f: &mut F,
+    files: &BlockFiles,
+    writes: &[Write],
+) -> Result<(), Fault>
+    requires stand { AreOf (λ n. is_node files.now n ≡ true) (map meant writes.now) }
+    requires words { AreWords (map meant writes.now) }
+    requires complete { ForSome (F.told f.old).files HasWholeIndex }
+    requires agrees { ForSome (F.told f.old).files (Agrees files.now) }
+    requires check { ForSome (F.told f.old).files (λ image. AreOf (λ n. (list_of image).checks n ≡ true) (map meant writes.now)) }
+    ensures whole { OnOk result (ForSome (F.told f.old).files (λ from. Grows (F.told f.old) (F.told f.new) (steps_of (map meant writes.now) from))) }
+    ensures part { ForSome (F.told f.old).files (λ from. GrowsInPart (F.told f.old) (F.told f.new) (steps_of (map meant writes.now) from)) }
+    ensures stops { ForSome (F.told f.old).files (λ from. Passes (F.told f.old) (F.told f.new) (IsPartly from (map meant writes.now))) }
+    ensures made { OnOk result (ForSome (F.told f.old).files (λ from. ForSome (F.told f.new).files (OnlyListChanges (map meant writes.now) from))) }
+    ensures complete { ForSome (F.told f.new).files HasWholeIndex }
+    ensures agrees { ForSome (F.told f.new).files (Agrees files.now) }
+    ensures silent { (F.told f.old).files ≡ None → (F.told f.new).files ≡ None }
+    ensures damaged { IfDamaged result (IsFailedCheck files.now) }
+    ensures untold { IfDamaged result (λ _. (F.told f.old).files ≡ None) }
+    ensures later { F.faults f.old ≤ F.faults f.new }
+    ensures device { IfDevice result (Rises (F.faults f.old) (F.faults f.new)) }
+{
+    write_moments();
+    for write in writes {
+        write_one(f, files, *write)?;
+    }
+    Ok(())
+}
+
+// Makes a write, by one folder call for a word of the index and four for a link.
+#[tactic(auto, unfolding(crate::specs::Writes::write_steps))]
+fn write_one<F: Folder>(f: &mut F, files: &BlockFiles, write: Write) -> Result<(), Fault>
+    requires stand { AreOf (λ n. is_node files.now n ≡ true) (meant write ∷ []) }
+    requires complete { ForSome (F.told f.old).files HasWholeIndex }
+    requires agrees { ForSome (F.told f.old).files (Agrees files.now) }
+    requires check { ForSome (F.told f.old).files (λ image. AreOf (λ n. (list_of image).checks n ≡ true) (meant write ∷ [])) }
+    ensures whole { OnOk result (ForSome (F.told f.old).files (λ from. Grows (F.told f.old) (F.told f.new) (write_steps (meant write) from))) }
+    ensures part { ForSome (F.told f.old).files (λ from. GrowsInPart (F.told f.old) (F.told f.new) (write_steps (meant write) from)) }
+    ensures silent { (F.told f.old).files ≡ None → (F.told f.new).files ≡ None }
+    ensures damaged { IfDamaged result (IsFailedCheck files.now) }
+    ensures untold { IfDamaged result (λ _. (F.told f.old).files ≡ None) }
+    ensures later { F.faults f.old ≤ F.faults f.new }
+    ensures device { IfDevice result (Rises (F.faults f.old) (F.faults f.new)) }
+{
+    match write {
+        Write::Next(node, word) => set_link(f, files, node, NEXT, word),
+        Write::Prev(node, word) => set_link(f, files, node, PREV, word),
+        Write::Head(word) => set_index(f, HEAD, word),
+        Write::Tail(word) => set_index(f, TAIL, word),
+        Write::Transaction(word) => set_index(f, TRANSACTION, word),
+        Write::Operation(word) => set_index(f, OPERATION, word),
+    }
+}
+
+// Writes a link of a node, and seals the node again.
+fn set_link<F: Folder>(
+    f: &mut F,
+    files: &BlockFiles,
+    node: Addr,
+    at: u32,
+    word: u32,
+) -> Result<(), Fault>
+    requires place { IsLinkPlace at }
+    requires stands { is_node files.now node ≡ true }
+    requires agrees { ForSome (F.told f.old).files (Agrees files.now) }
+    requires check { ForSome (F.told f.old).files (λ image. (list_of image).checks node ≡ true) }
+    ensures whole { OnOk result (ForSome (F.told f.old).files (λ from. Grows (F.told f.old) (F.told f.new) (sealed_steps from node ((at, word) ∷ [])))) }
+    ensures part { ForSome (F.told f.old).files (λ from. GrowsInPart (F.told f.old) (F.told f.new) (sealed_steps from node ((at, word) ∷ []))) }
+    ensures silent { (F.told f.old).files ≡ None → (F.told f.new).files ≡ None }
+    ensures damaged { IfDamaged result (IsFailedCheck files.now) }
+    ensures untold { IfDamaged result (λ _. (F.told f.old).files ≡ None) }
+    ensures later { F.faults f.old ≤ F.faults f.new }
+    ensures device { IfDevice result (Rises (F.faults f.old) (F.faults f.new)) }
+{
+    files.update_sealed(f, node, &[(at, word)])
+}
+
+// Writes a word of the index.
+fn set_index<F: Folder>(f: &mut F, at: u32, word: u32) -> Result<(), Fault>
+    requires aligned { at % 4 ≡ 0 }
+    requires inside { at < header_length }
+    requires complete { ForSome (F.told f.old).files HasWholeIndex }
+    ensures whole { OnOk result (Grows (F.told f.old) (F.told f.new) (word_step index at word)) }
+    ensures part { GrowsInPart (F.told f.old) (F.told f.new) (word_step index at word) }
+    ensures silent { (F.told f.old).files ≡ None → (F.told f.new).files ≡ None }
+    ensures damaged { IfDamaged result (λ _. ⊥) }
+    ensures later { F.faults f.old ≤ F.faults f.new }
+    ensures device { IfDevice result (Rises (F.faults f.old) (F.faults f.new)) }
+{
+    set_word(f, at, word)?;
+    Ok(())
+}
+
+impl Default for Write {
+    // Fills the room of plans.
+    fn default() -> Write {
+        Write::Operation(0)
+    }
+}
