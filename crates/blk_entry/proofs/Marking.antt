@@ -1,0 +1,120 @@
+-- The dirty word of a node at each moment of its change, and after it.
+use Rattle.std.proofs.Common.{◌≡◌, ◌≢◌, ◌⊎◌, inl, inr, ⊎_elim, ℕ, ◌+◌, ◌*◌, ◌%◌, ◌^◌, ◌<◌, ◌≤◌, List, [], ◌∷◌, ◌++◌, length, take, All, refl, sym, ◌∙◌, ap, ap₂, subst, arith}
+use Rattle.std.proofs.lemmas.List.Elements.{All-nil, All-cons}
+use Rattle.blk_image.specs.Bytes.{content, word_at, long_at, range_at}
+use Rattle.blk_image.specs.Image.{Image, Block, AreBytes, byte, word}
+use Rattle.blk_image.proofs.Words.{range-is, content-range, length-range}
+use Rattle.blk_format.specs.Address.{kind_of, file_selector, place, rankings}
+use Rattle.blk_format.specs.Hash.{hash}
+use Rattle.blk_format.specs.Records.{Node, node_in, node_body, node_seal, sealed_node, seal_of}
+use Rattle.blk_format.proofs.Bodies.{node_body-in, range-add}
+use Rattle.blk_volume.specs.View.{node_at}
+use Rattle.blk_disk.specs.Sealed.{AreChanges, IsMoment, IsUpdated, record_at, record_size, seal_place}
+use Rattle.blk_disk.proofs.SealedReads.{node_seal as seal_of_node, node_bytes}
+use Rattle.blk_disk.proofs.SealedFields.{record_word, one_change, one_change_others, updated_seal, updated_stays, updated_is_new}
+use Rattle.blk_entry.specs.Marks.{dirty_change, plain_node, IsMarking, IsMarked}
+
+-- one word before the seal of a node is changed
+pub mark_changes : (w mark : ℕ) → kind_of w ≡ rankings → AreChanges (seal_place w) (dirty_change mark)
+mark_changes w mark kind = record {
+  some = omega arith;
+  few = omega arith;
+  aligned = All-cons (λ change. change.0 % 4 ≡ 0) (28, mark) [] refl (All-nil (λ change. change.0 % 4 ≡ 0));
+  before = All-cons (λ change. change.0 < seal_place w) (28, mark) [] (let s : seal_place w ≡ 32 = seal_of_node w kind in omega (arith, s)) (All-nil (λ change. change.0 < seal_place w));
+  different = (All-nil (λ other. other.0 ≢ 28), tt);
+}
+
+-- the words of two nodes that agree at these places
+record AreAlike (f g : ℕ → ℕ) (i : ℕ) : Type 0 where
+  last_used : long_at g i ≡ long_at f i
+  last_modified : long_at g (i + 8) ≡ long_at f (i + 8)
+  next : word_at g (i + 16) ≡ word_at f (i + 16)
+  prev : word_at g (i + 20) ≡ word_at f (i + 20)
+  contents : word_at g (i + 24) ≡ word_at f (i + 24)
+
+alike : (f g : ℕ → ℕ) (i : ℕ) → ((q j : ℕ) → j ≡ i + q → q % 4 ≡ 0 → q < 28 → word_at g j ≡ word_at f j) → AreAlike f g i
+alike f g i same = record {
+  last_used = ap₂ (λ (a b : ℕ). a + 4294967296 * b) (same 0 i (omega arith) refl (omega arith)) (same 4 (i + 4) refl refl (omega arith));
+  last_modified = ap₂ (λ (a b : ℕ). a + 4294967296 * b) (same 8 (i + 8) refl refl (omega arith)) (same 12 (i + 8 + 4) (omega arith) refl (omega arith));
+  next = same 16 (i + 16) refl refl (omega arith);
+  prev = same 20 (i + 20) refl refl (omega arith);
+  contents = same 24 (i + 24) refl refl (omega arith);
+}
+
+-- nodes that are alike are one but for the dirty word and the seal
+plain-alike : (f g : ℕ → ℕ) (i : ℕ) → AreAlike f g i → plain_node (node_in g i) ≡ plain_node (node_in f i)
+unfolding node_in
+plain-alike f g i a = λ k. record {
+  last_used = a.last_used k;
+  last_modified = a.last_modified k;
+  next = a.next k;
+  prev = a.prev k;
+  contents = a.contents k;
+  dirty = 0;
+  self_hash = 0;
+}
+
+-- the front of a record as a range
+front_of_range : (f : ℕ → ℕ) (i : ℕ) → take 32 (range_at f i 36) ≡ range_at f i 32
+unfolding range_at
+front_of_range f i = refl
+
+-- a node that is alike but for its dirty word, and whose seal is the hash of its bytes
+sealed-alike : (f g : ℕ → ℕ) (i mark : ℕ) → AreAlike f g i → word_at g (i + 28) ≡ mark → ((k : ℕ) → g k < 256) → word_at g (i + 32) ≡ hash (range_at g i 32) → node_in g i ≡ sealed_node (record (node_in f i) { dirty = mark })
+unfolding node_in node_body
+sealed-alike f g i mark a dirty below seal =
+    let body : hash (range_at g i 32) ≡ node_seal (record (node_in f i) { dirty = mark }) =
+      ap hash (sym (node_body-in i g below)) ∙ ap (λ (n : Node). hash (node_body n)) plain in
+    ap₂ (λ (n : Node) (h : ℕ). record n { self_hash = h }) plain (seal ∙ body)
+  where
+    plain : record (node_in g i) { self_hash = 0 } ≡ record (node_in f i) { dirty = mark; self_hash = 0 }
+    plain = λ k. record {
+      last_used = a.last_used k;
+      last_modified = a.last_modified k;
+      next = a.next k;
+      prev = a.prev k;
+      contents = a.contents k;
+      dirty = dirty k;
+      self_hash = 0;
+    }
+
+module _ (from image : Image) (w mark : ℕ) (kind : kind_of w ≡ rankings) (small : mark < 2 ^ 32) where
+  file_word : (q j : ℕ) → j ≡ place w + q → q < 36 → q % 4 ≡ 0 → word_at (content (record_at image w)) q ≡ word_at (content (record_at from w)) q → word image (Block (file_selector w)) j ≡ word from (Block (file_selector w)) j
+  file_word q j e low aligned same =
+      let size : record_size w ≡ 36 = node_bytes w kind in
+      let inside : q + 4 ≤ record_size w = omega (arith, size, low, aligned) in
+      subst (λ (n : ℕ). word image (Block (file_selector w)) n ≡ word from (Block (file_selector w)) n) (sym e) (sym (record_word image w q inside) ∙ same ∙ record_word from w q inside)
+
+  here : (i : Image) (q : ℕ) → q + 4 ≤ 36 → word_at (content (record_at i w)) q ≡ word i (Block (file_selector w)) (place w + q)
+  here i q inside = let size : record_size w ≡ 36 = node_bytes w kind in record_word i w q (omega (arith, size, inside))
+
+  -- a moment of a sealed update of the dirty word
+  pub marking_at : IsMoment from w (dirty_change mark) image → IsMarking from w mark image
+  unfolding node_in
+  marking_at moment = record {
+    checks = moment.checks;
+    dirty =
+        ⊎_elim (λ (old : word_at (content (record_at image w)) 28 ≡ word_at (content (record_at from w)) 28). inl (sym (here image 28 (omega arith)) ∙ old ∙ here from 28 (omega arith)))
+        (λ (new : word_at (content (record_at image w)) 28 ≡ mark). inr (sym (here image 28 (omega arith)) ∙ new)) (one_change from image w 28 mark (mark_changes w mark kind) small moment);
+    others =
+        plain-alike (byte from (Block (file_selector w))) (byte image (Block (file_selector w))) (place w)
+        (alike (byte from (Block (file_selector w))) (byte image (Block (file_selector w))) (place w)
+        (λ q j e aligned low. file_word q j e (omega (arith, low)) aligned (one_change_others from image w 28 mark q (mark_changes w mark kind) moment aligned (let s : seal_place w ≡ 32 = seal_of_node w kind in omega (arith, s, low)) (λ same. omega (arith, same, low)))));
+    outside = moment.outside;
+  }
+
+  -- all of it
+  pub marked_at : IsUpdated from w (dirty_change mark) image → AreBytes image → IsMarked from w mark image
+  unfolding record_at
+  marked_at done below =
+      let s : seal_place w ≡ 32 = seal_of_node w kind in
+      let size : record_size w ≡ 36 = node_bytes w kind in
+      let are = mark_changes w mark kind in
+      let f : ℕ → ℕ = byte from (Block (file_selector w)) in
+      let g : ℕ → ℕ = byte image (Block (file_selector w)) in
+      let dirty : word_at (content (record_at image w)) 28 ≡ mark = updated_is_new from image w (dirty_change mark) are done 0 (28, mark) (omega arith) (All-cons (λ c. c.1 < 2 ^ 32) (28, mark) [] small (All-nil (λ c. c.1 < 2 ^ 32))) in
+      let seal : word_at (content (record_at image w)) 32 ≡ seal_of 32 (record_at image w) = subst (λ (n : ℕ). word_at (content (record_at image w)) n ≡ seal_of n (record_at image w)) s (updated_seal from image w (dirty_change mark) are done) in
+      let front : take 32 (record_at image w) ≡ range_at g (place w) 32 = ap (λ (n : ℕ). take 32 (range_at g (place w) n)) size ∙ front_of_range g (place w) in
+      sealed-alike f g (place w) mark
+      (alike f g (place w) (λ q j e aligned low. file_word q j e (omega (arith, low)) aligned (updated_stays from image w (dirty_change mark) are done q aligned (omega (arith, s, low)) (All-cons (λ c. c.0 ≢ q) (28, mark) [] (λ same. omega (arith, same, low)) (All-nil (λ c. c.0 ≢ q))))))
+      (sym (here image 28 (omega arith)) ∙ dirty) (below (Block (file_selector w))) (sym (here image 32 (omega arith)) ∙ seal ∙ ap hash front)

@@ -1,0 +1,22 @@
+-- Words of entry records, and where they lie.
+use Rattle.std.proofs.Common.{◌≡◌, ℕ, ◌+◌, ◌*◌, ◌%◌, ◌<◌, ◌≤◌, List, length, refl, sym, ◌∙◌, ap, arith}
+use Rattle.std.proofs.lemmas.List.{take_all}
+use Rattle.std.specs.Int.{from_le_bytes, w32}
+use Rattle.blk_image.specs.Bytes.{word_at, range_at}
+use Rattle.blk_image.proofs.Words.{length-range, word-from_bytes}
+use Rattle.blk_format.specs.Address.{kind_of, room, block_count, block_size, blocks_256}
+use Rattle.blk_format.proofs.Words.{AreFields-of}
+
+-- the bytes of the blocks of an entry record
+pub entry_room : (w : ℕ) → kind_of w ≡ blocks_256 → room w ≡ 256 * block_count w
+unfolding room block_size
+entry_room w kind = rw kind (let h : block_count w * 256 ≡ 256 * block_count w = omega arith in h)
+
+pub entry_room_least : (w : ℕ) → kind_of w ≡ blocks_256 → 256 ≤ room w
+entry_room_least w kind = let some = (AreFields-of w).some in omega (arith, entry_room w kind, some)
+
+-- the word of four bytes that were read
+pub word_read : (bytes : List ℕ) (i : ℕ) (f : ℕ → ℕ) → bytes ≡ range_at f i 4 → from_le_bytes w32 bytes ≡ word_at f i
+word_read bytes i f is =
+    let size : length bytes ≡ 4 = ap length is ∙ length-range 4 i f in
+    word-from_bytes bytes i f (take_all 4 bytes (omega arith) ∙ is)
