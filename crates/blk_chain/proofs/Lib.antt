@@ -1,3 +1,6 @@
 pub mod Words
 pub mod Names
 pub mod Links
+pub mod Apart
+pub mod Follows
+pub mod Unlinks

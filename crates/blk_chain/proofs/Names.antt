@@ -52,6 +52,10 @@ module _ (image : Image) (u w : ℕ) (one other : Core) (first : (stock_of image
   pub same-core : one ≡ other
   same-core = sym (shown-core image u one first) ∙ ap₂ (λ (f i : ℕ). core_of (entry_in (byte image (Block f)) i)) file at ∙ shown-core image w other second
 
+  pub same-follow : (stock_of image).follow u ≡ (stock_of image).follow w
+  same-follow =
+      shown-follow image u one first ∙ ap₂ (λ (f i : ℕ). (entry_in (byte image (Block f)) i).next) file at ∙ sym (shown-follow image w other second)
+
   same-key_place : (n : ℕ) → (stock_of image).key_place u n ≡ (stock_of image).key_place w n
   unfolding stock_of key_place_at
   same-key_place n = ap₂ (λ (f i : ℕ). range_at (byte image (Block f)) (i + entry_size) n) file at

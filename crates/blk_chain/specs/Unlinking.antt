@@ -1,0 +1,66 @@
+-- A record is taken out of its chain.
+use Rattle.std.specs.Prelude.{◌≡◌, ◌⊎◌, ℕ, List, [], ◌∷◌, ◌++◌, Bool, true, false, ◌==◌}
+use Rattle.std.specs.declared.option.Option.{Option}
+use Rattle.std.specs.declared.option.Option.TheVariants.{None, Some}
+use Rattle.blk_image.specs.Image.{Image, Index}
+use Rattle.blk_image.specs.Steps.{TrailStep, word_step}
+use Rattle.blk_image.specs.Footprint.{Footprint, SameOutside, one_word}
+use Rattle.blk_format.specs.BlockFiles.{IsWellFormed}
+use Rattle.blk_volume.specs.View.{Core, entry_at, list_of, stock_of}
+use Rattle.blk_volume.specs.Chains.{chain, IsChain}
+use Rattle.blk_disk.specs.Sealed.{record_range, sealed_steps}
+use Rattle.blk_chain.specs.Naming.{IsWhole}
+use Rattle.blk_chain.specs.Linking.{bucket_at, chained_with, place_of_front}
+
+-- words have this one, with the word before it, if there is one, so many before that, and these behind
+abbrev pub StandsBehind : List ℕ → ℕ → Option ℕ → List ℕ → List ℕ → Type 0
+StandsBehind words w None front behind = (front ≡ []) × (words ≡ w ∷ behind)
+StandsBehind words w (Some before) front behind = words ≡ front ++ before ∷ w ∷ behind
+
+-- those words without this one
+abbrev pub without : Option ℕ → List ℕ → List ℕ → List ℕ
+without None front behind = behind
+without (Some before) front behind = front ++ before ∷ behind
+
+-- a record of a whole chain can be taken out, with the record before it in the chain
+pub record CanBeUnlinked (entry : ℕ) (before : Option ℕ) (image : Image) : Type 0 where
+  pub whole : IsWhole (stock_of image) (bucket_at image entry)
+  pub front : List ℕ
+  pub behind : List ℕ
+  pub stands : StandsBehind (chained_with image entry) entry before front behind
+
+-- a record's next
+abbrev pub next_of : Image → ℕ → ℕ
+next_of image w = (entry_at image w).next
+
+-- the steps: the word of the bucket becomes the record's next, or that of the record before does, by a sealed update
+abbrev pub unlink_steps : Image → ℕ → Option ℕ → List TrailStep
+unlink_steps image entry None = word_step Index (place_of_front image entry) (next_of image entry)
+unlink_steps image entry (Some before) = sealed_steps image before ((4, next_of image entry) ∷ [])
+
+-- what they touch: the bucket's word, or the record before
+abbrev pub unlink_range : Image → ℕ → Option ℕ → Footprint
+unlink_range image entry None = one_word Index (place_of_front image entry)
+unlink_range image entry (Some before) = record_range before
+
+-- all records are as they were but for the links, each checks as before, and nothing else changes than these bytes
+pub record KeepsRecords (from : Image) (footprint : Footprint) (image : Image) : Type 0 where
+  pub list : list_of image ≡ list_of from
+  pub records : (w : ℕ) → (stock_of image).entry w ≡ (stock_of from).entry w
+  pub well_formed : IsWellFormed from → IsWellFormed image
+  pub outside : SameOutside footprint from image
+
+-- all chains are as they were
+pub record IsStillLinked (from : Image) (entry : ℕ) (before : Option ℕ) (image : Image) : Type 0 where
+  pub keeps : KeepsRecords from (unlink_range from entry before) image
+  pub chains : (bucket : ℕ) → chain (stock_of image) bucket ≡ chain (stock_of from) bucket
+
+-- a record is unlinked: its chain is whole without it, and the other chains are as they were
+pub record IsUnlinked (from : Image) (entry : ℕ) (before : Option ℕ) (image : Image) : Type 0 where
+  pub keeps : KeepsRecords from (unlink_range from entry before) image
+  pub chain_now : (front behind : List ℕ) → StandsBehind (chained_with from entry) entry before front behind → IsChain (stock_of image) (bucket_at from entry) (without before front behind)
+  pub others : (other : ℕ) → (bucket_at from entry == other) ≡ false → chain (stock_of image) other ≡ chain (stock_of from) other
+
+-- a moment of unlinking: the chains are as they were, or the record is unlinked
+abbrev pub IsUnlinking : Image → ℕ → Option ℕ → Image → Type 0
+IsUnlinking from entry before image = IsStillLinked from entry before image ⊎ IsUnlinked from entry before image
