@@ -4,3 +4,4 @@ pub mod Links
 pub mod Apart
 pub mod Follows
 pub mod Unlinks
+pub mod Firsts

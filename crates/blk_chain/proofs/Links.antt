@@ -85,7 +85,7 @@ bucket_read image entry hash n read is =
     is ∙ ap (λ (h : ℕ). h % 65536) (read ∙ ap (λ (i : ℕ). word image (Block (file_selector entry)) i) at)
 
 -- the bucket's word lies in the index
-front_inside : (from : Image) (entry : ℕ) → length_of from Index ≡ 262512 → place_of_front from entry + 4 ≤ length_of from Index
+pub front_inside : (from : Image) (entry : ℕ) → length_of from Index ≡ 262512 → place_of_front from entry + 4 ≤ length_of from Index
 front_inside from entry complete = omega (arith, complete)
 
 -- a word of the index leaves what the block files agree with

@@ -5,7 +5,7 @@ use Rattle.std.specs.Option.{ForSome, option_map_or}
 use Rattle.std.proofs.lemmas.Bool.{cases_Bool, cases_eq, eq-eqb, and_parts}
 use Rattle.std.proofs.lemmas.List.Elements.{All-nil, All-cons}
 use Rattle.blk_image.specs.Bytes.{content, word_at}
-use Rattle.blk_image.specs.Image.{AreBytes, Index, Block, Image, byte, word}
+use Rattle.blk_image.specs.Image.{AreBytes, Index, Block, Image, byte, length_of, word}
 use Rattle.blk_image.specs.Footprint.{SameOutside}
 use Rattle.blk_image.specs.Told.{Told, TellsBytes, Passes}
 use Rattle.blk_image.proofs.Runs.{passes_none, passes_weaker, passes_end, some_inj}
@@ -197,3 +197,7 @@ module _ (a b : Told) (tells : TellsBytes a) (entry before : ℕ) (can : ForSome
   pub unlinked_then : ForSome a.files (λ from. Passes a b (IsMoment from before (with_next (next_of from entry)))) → ForSome a.files (λ from. ForSome b.files (IsUpdated from before (with_next (next_of from entry))))
       → ForSome a.files (λ from. ForSome b.files (IsUnlinked from entry (Some before)))
   unlinked_then stops updated from there image now = unlinked_at from (tells from there) entry before (can from there) image (passes_end (stops from there) image now) (updated from there image now)
+
+  -- no length changes
+  pub still_complete : ForSome a.files (λ image. length_of image Index ≡ 262512) → ForSome a.files (λ from. Passes a b (IsMoment from before (with_next (next_of from entry)))) → ForSome a.files (λ from. ForSome b.files (λ image. length_of image Index ≡ 262512))
+  still_complete complete stops from there image now = let moment = passes_end (stops from there) image now in moment.outside.lengths Index refl ∙ complete from there

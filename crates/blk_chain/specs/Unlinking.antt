@@ -1,14 +1,19 @@
 -- A record is taken out of its chain.
-use Rattle.std.specs.Prelude.{◌≡◌, ◌⊎◌, ℕ, List, [], ◌∷◌, ◌++◌, Bool, true, false, ◌==◌}
+use Rattle.std.specs.Prelude.{◌≡◌, ◌⊎◌, ℕ, ◌+◌, List, [], ◌∷◌, ◌++◌, Bool, true, false, ◌==◌}
 use Rattle.std.specs.declared.option.Option.{Option}
 use Rattle.std.specs.declared.option.Option.TheVariants.{None, Some}
 use Rattle.blk_image.specs.Image.{Image, Index}
 use Rattle.blk_image.specs.Steps.{TrailStep, word_step}
 use Rattle.blk_image.specs.Footprint.{Footprint, SameOutside, one_word}
+use Rattle.blk_image.specs.Told.{Told}
+use Rattle.blk_format.specs.Address.{file_selector, place}
 use Rattle.blk_format.specs.BlockFiles.{IsWellFormed}
+use Rattle.blk_io.specs.declared.folder.FileId.TheVariants as names
+use Rattle.blk_io.specs.declared.fault.Damage.{Damage}
+use Rattle.blk_io.specs.Faults.{IsShort}
 use Rattle.blk_volume.specs.View.{Core, entry_at, list_of, stock_of}
 use Rattle.blk_volume.specs.Chains.{chain, IsChain}
-use Rattle.blk_disk.specs.Sealed.{record_range, sealed_steps}
+use Rattle.blk_disk.specs.Sealed.{IsUnsealed, record_range, record_size, sealed_steps}
 use Rattle.blk_chain.specs.Naming.{IsWhole}
 use Rattle.blk_chain.specs.Linking.{bucket_at, chained_with, place_of_front}
 
@@ -64,3 +69,9 @@ pub record IsUnlinked (from : Image) (entry : ℕ) (before : Option ℕ) (image 
 -- a moment of unlinking: the chains are as they were, or the record is unlinked
 abbrev pub IsUnlinking : Image → ℕ → Option ℕ → Image → Type 0
 IsUnlinking from entry before image = IsStillLinked from entry before image ⊎ IsUnlinked from entry before image
+
+-- the damages of unlinking: too few bytes at the record's next; then at its hash, or at the record before, which may also fail to check
+abbrev pub IsUnlinkDamage : Told → ℕ → Option ℕ → Damage → Type 0
+IsUnlinkDamage told entry None damage = IsShort told (names.Block (file_selector entry)) (place entry + 4) 4 damage ⊎ IsShort told (names.Block (file_selector entry)) (place entry) 4 damage
+IsUnlinkDamage told entry (Some before) damage =
+    IsShort told (names.Block (file_selector entry)) (place entry + 4) 4 damage ⊎ (IsShort told (names.Block (file_selector before)) (place before) (record_size before) damage ⊎ IsUnsealed told before damage)

@@ -7,4 +7,4 @@ mod unlinking;
 
 pub use found::Found;
 pub use linking::link_front;
-
+pub use unlinking::unlink;

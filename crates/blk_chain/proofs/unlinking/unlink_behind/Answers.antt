@@ -7,7 +7,7 @@ use Rattle.blk_format.specs.Address.{file_selector, place}
 use Rattle.blk_disk.specs.Sealed.{IsMoment, IsUpdated, RecordChecks, sealed_steps}
 use Rattle.blk_disk.specs.Tables.{Agrees}
 use Rattle.blk_chain.specs.Unlinking.{next_of}
-use Rattle.blk_chain.proofs.Unlinks.{next_changes, before_checks, moved, with_next, not_yet, unlinking_stops, unlinked_then}
+use Rattle.blk_chain.proofs.Unlinks.{next_changes, before_checks, moved, with_next, not_yet, unlinking_stops, unlinked_then, still_complete}
 use Rattle.blk_chain.proofs.unlinking.unlink_behind.Given as given
 use Rattle.blk_chain.proofs.unlinking.unlink_behind.Goals as goal
 use Rattle.blk_chain.proofs.unlinking.unlink_behind.Goals.{After-update_sealed}
@@ -54,3 +54,7 @@ returns-clause-unlinked g c =
     on_ok_weaker c.update_sealed.result
     (λ updated. unlinked_then (g.F.Folder.told c.args.f.now) (g.F.Folder.told c.update_sealed.new.f) (g.met.F.Folder.are_bytes c.args.f.now) c.args.entry c.args.before c.requires.linked (moments g c)
     (said g c (λ (t : Told) (from : Image) (n : ℕ). ForSome (g.F.Folder.told c.update_sealed.new.f).files (IsUpdated from c.args.before (with_next n))) updated)) c.update_sealed.ensures.updated
+
+pub returns-clause-complete : goal.returns-clause-complete
+returns-clause-complete g c =
+    still_complete (g.F.Folder.told c.args.f.now) (g.F.Folder.told c.update_sealed.new.f) (g.met.F.Folder.are_bytes c.args.f.now) c.args.entry c.args.before c.requires.linked c.requires.complete (moments g c)
