@@ -5,3 +5,4 @@ pub mod Apart
 pub mod Follows
 pub mod Unlinks
 pub mod Firsts
+pub mod Keys

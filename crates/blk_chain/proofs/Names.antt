@@ -22,7 +22,7 @@ same-first : (u w : ℕ) → file_and_block u ≡ file_and_block w → first_blo
 unfolding first_block
 same-first u w e = omega arith
 
-record-at : (w : ℕ) → kind_of w ≡ blocks_256 → place w ≡ 8192 + first_block w * 256
+pub record-at : (w : ℕ) → kind_of w ≡ blocks_256 → place w ≡ 8192 + first_block w * 256
 unfolding place block_place block_size
 record-at w kind = rw kind refl
 
