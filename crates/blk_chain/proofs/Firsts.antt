@@ -14,7 +14,7 @@ use Rattle.blk_format.specs.Address.{file_selector, place}
 use Rattle.blk_format.specs.Records.{entry_in}
 use Rattle.blk_format.specs.Headers.{place_of_bucket}
 use Rattle.blk_volume.specs.ListView.{put}
-use Rattle.blk_volume.specs.View.{Stock, entry_at, list_of, stock_of}
+use Rattle.blk_volume.specs.View.{Stock, Core, entry_at, list_of, stock_of}
 use Rattle.blk_volume.specs.Chains.{chain, IsChain, Linked}
 use Rattle.blk_laws.proofs.ChainLinks.{others-stay}
 use Rattle.blk_laws.proofs.Changing.{at-itself}
@@ -23,16 +23,26 @@ use Rattle.blk_moments.specs.IndexMoments.{IsIndexWord}
 use Rattle.blk_moments.proofs.IndexWords.{buckets-written, buckets-unchecked}
 use Rattle.blk_disk.specs.declared.tables.BlockFiles.{BlockFiles}
 use Rattle.blk_disk.specs.Tables.{Agrees}
+use Rattle.blk_volume.specs.Entries.{key_of}
+use Rattle.blk_chain.specs.Naming.{HasName}
 use Rattle.blk_chain.specs.Linking.{bucket_at, chained_with, place_of_front}
 use Rattle.blk_chain.specs.Unlinking.{CanBeUnlinked, IsStillLinked, IsUnlinked, IsUnlinking, KeepsRecords, next_of, unlink_range, unlink_steps}
 use Rattle.blk_chain.proofs.Links.{bucket_read, front_inside, index_agrees, index_word}
 use Rattle.blk_chain.proofs.Names.{IsShownOf, shown-of, shown-follow}
 use Rattle.blk_chain.proofs.Unlinks.{next_read}
 
+-- no key is read in the table
+key-still : (stock : Stock) (table : ℕ → ℕ) (w : ℕ) (core : Core) → key_of (record stock { table = table }) w core ≡ key_of stock w core
+unfolding key_of
+key-still stock table w core = refl
+
+named-still : (stock : Stock) (table : ℕ → ℕ) (name : List ℕ) (is_child : Bool) (w : ℕ) → HasName stock name is_child w → HasName (record stock { table = table }) name is_child w
+named-still stock table name is_child w named = record { core = named.core; here = named.here; hashed = named.hashed; key = key-still stock table w named.core ∙ named.key; flag = named.flag }
+
 -- nothing has changed
 pub unchanged : (from : Image) (entry : ℕ) (before : Option ℕ) → IsStillLinked from entry before from
 unchanged from entry before = record {
-  keeps = record { list = refl; records = λ w. refl; well_formed = λ h. h; outside = outside-refl (unlink_range from entry before) from };
+  keeps = record { list = refl; records = λ w. refl; names = λ w name is_child apart named. named; well_formed = λ h. h; outside = outside-refl (unlink_range from entry before) from };
   chains = λ bucket. refl;
 }
 
@@ -58,7 +68,7 @@ module _ (from : Image) (entry : ℕ) (can : CanBeUnlinked entry None from) wher
       let b : ℕ = bucket_at from entry in
       let w = buckets-written from image b (next_of from entry) is in
       record {
-        keeps = record { list = w.0; records = λ u. ap (λ (s : Stock). s.entry u) w.1; well_formed = buckets-unchecked from image b is.outside; outside = is.outside };
+        keeps = record { list = w.0; records = λ u. ap (λ (s : Stock). s.entry u) w.1; names = λ u name is_child apart named. subst (λ (s : Stock). HasName s name is_child u) (sym w.1) (named-still (stock_of from) (put (stock_of from).table b (next_of from entry)) name is_child u named); well_formed = buckets-unchecked from image b is.outside; outside = is.outside };
         chain_now = λ front behind stands. subst (λ (s : Stock). IsChain s b behind) (sym w.1) (chain-behind behind stands.1);
         others = λ other e. ap (λ (s : Stock). chain s other) w.1 ∙ others-stay (stock_of from) b other (next_of from entry) e;
       }

@@ -1,7 +1,7 @@
 -- A record taken out of its chain, in bytes.
 use Rattle.std.proofs.Common.{◌≡◌, ◌≢◌, ◌⊎◌, inl, inr, ⊎_elim, ℕ, ◌+◌, ◌*◌, ◌%◌, ◌^◌, ◌<◌, ◌≤◌, Bool, true, false, List, [], ◌∷◌, ◌++◌, All, length, take, map, Option, Some, None, refl, sym, ◌∙◌, ap, subst, arith}
-use Rattle.std.specs.Prelude.{◌==◌, ◌&&◌, if◌then◌else◌}
-use Rattle.std.specs.Option.{ForSome, option_map_or}
+use Rattle.std.specs.Prelude.{◌==◌, ◌&&◌, nat_le, if◌then◌else◌}
+use Rattle.std.specs.Option.{ForSome, option_map, option_map_or}
 use Rattle.std.proofs.lemmas.Bool.{cases_Bool, cases_eq, eq-eqb, and_parts}
 use Rattle.std.proofs.lemmas.List.Elements.{All-nil, All-cons}
 use Rattle.blk_image.specs.Bytes.{content, word_at}
@@ -15,6 +15,8 @@ use Rattle.blk_format.specs.BlockFiles.{is_among, IsWellFormed, stands_in}
 use Rattle.blk_format.specs.Records.{entry_in, entry_checks, checks}
 use Rattle.blk_volume.specs.View.{Stock, Core, core_of, entry_at, list_of, stock_of}
 use Rattle.blk_volume.specs.Chains.{bucket_of_hash, chain, file_and_block, is_of_bucket, IsChain, Linked}
+use Rattle.blk_format.specs.Claims.{claims_of, has_claim}
+use Rattle.blk_volume.specs.Entries.{key_of}
 use Rattle.blk_laws.proofs.Unlinking.{unlink-behind}
 use Rattle.blk_moments.specs.Moments.{OnlyFollowChanges}
 use Rattle.blk_moments.specs.RecordMoments.{IsRecord}
@@ -28,9 +30,10 @@ use Rattle.blk_disk.proofs.SealedRecords.{length-record, seal_last, moment_befor
 use Rattle.blk_disk.specs.Sealed.{RecordChecks, AreChanges, IsMoment, IsUpdated, record_at, record_range, record_size, seal_place, size_by_kind, seal_by_kind}
 use Rattle.blk_disk.proofs.SealedFields.{record_word, updated_is_new}
 use Rattle.blk_chain.specs.Linking.{bucket_at, chained_with}
-use Rattle.blk_chain.specs.Unlinking.{CanBeUnlinked, IsStillLinked, IsUnlinked, IsUnlinking, KeepsRecords, next_of, unlink_range, unlink_steps}
+use Rattle.blk_chain.specs.Unlinking.{CanBeUnlinked, first_claim, IsApart, NamesStay, IsStillLinked, IsUnlinked, IsUnlinking, KeepsRecords, next_of, unlink_range, unlink_steps}
 use Rattle.blk_chain.proofs.Names.{IsShownOf, shown-of, shown-core, shown-kind, shown-follow, same-core, same-follow}
 use Rattle.blk_chain.proofs.Words.{linked-good}
+use Rattle.blk_chain.proofs.Keys.{first_word, first-clear, first-record, first-moment}
 use Rattle.blk_chain.proofs.Apart.{middle-there, behind-there, front-apart, rest-apart, once-without, length-without}
 use Rattle.blk_chain.proofs.Follows.{of-bucket-same, chain-same}
 
@@ -71,7 +74,7 @@ module _ (from : Image) (bytes : AreBytes from) (entry before : ℕ) (can : CanB
   unfolding entry_in
   next-small = word-fits (byte from (Block (file_selector entry))) (bytes (Block (file_selector entry))) (place entry + 4)
 
-  module _ (image : Image) (only : OnlyFollowChanges before from image) (outside : SameOutside (record_range before) from image) where
+  module _ (image : Image) (only : OnlyFollowChanges before from image) (outside : SameOutside (record_range before) from image) (names : NamesStay from (Some before) image) where
     records : (w : ℕ) → (stock_of image).entry w ≡ (stock_of from).entry w
     records w = sym (only.entry w)
 
@@ -81,10 +84,11 @@ module _ (from : Image) (bytes : AreBytes from) (entry before : ℕ) (can : CanB
     standing : stands_in from before ≡ true
     standing = (standing-parts from blocks_256 before (core-standing from before shown-before.core shown-before.here)).0
 
-    keeps : KeepsRecords from (record_range before) image
+    keeps : KeepsRecords from (Some before) (record_range before) image
     keeps = record {
       list = only.rest.list;
       records = records;
+      names = names;
       well_formed = (record-changes from image before standing (inr (shown-kind from before shown-before.core shown-before.here)) outside).well_formed;
       outside = outside;
     }
@@ -133,11 +137,39 @@ module _ (from : Image) (bytes : AreBytes from) (entry before : ℕ) (can : CanB
     written : OnlyFollowChanges before from image × ((stock_of image).follow before ≡ (if moment.made == 0 then (stock_of from).follow before else next_of from entry))
     written = follows-written from image before (next_of from entry) shown-before.core is-record next-small moment
 
+    -- the update as one of the first block alone
+    of-first : OnlyFollowChanges (first_word before) from image
+    of-first =
+        let kind : kind_of before ≡ 2 = shown-kind from before shown-before.core shown-before.here in
+        (follows-written from image (first_word before) (next_of from entry) shown-before.core (record { here = first-record from before shown-before.core shown-before.here; good = shown-before.good; bytes = bytes }) next-small
+        (first-moment from image before (next_of from entry) kind moment)).0
+
+    key-same : (w : ℕ) (apart : IsApart before (stock_of from) w) → key_of (stock_of from) w apart.core ≡ key_of (stock_of image) w apart.core
+    unfolding key_of
+    key-same w apart = ⊎_elim
+        (λ (e : nat_le apart.core.key_len 927 ≡ true).
+        let place : (stock_of from).key_place w apart.core.key_len ≡ (stock_of image).key_place w apart.core.key_len =
+        ⊎_elim (λ (s : w ≡ before). written.0.rest.key_place w apart.core (inr s) apart.here apart.lengths e)
+        (λ (s : has_claim (claims_of w) (first_claim before) ≡ false). of-first.rest.key_place w apart.core (inl (first-clear before w s)) apart.here apart.lengths e) apart.record_apart in
+        rw e (ap (λ (l : List ℕ). if apart.core.long_key == 0 then Some l else None) place))
+        (λ (e : nat_le apart.core.key_len 927 ≡ false).
+        rw e (ap (λ (o : Option (List ℕ)). option_map (take apart.core.key_len) o) (of-first.rest.stored (apart.core.key_len + 1) apart.core.long_key (first-clear before apart.core.long_key (apart.key_apart e)))))
+        (cases_Bool (nat_le apart.core.key_len 927))
+
+    names-stay : NamesStay from (Some before) image
+    names-stay w name is_child apart named = record {
+      core = named.core;
+      here = sym (written.0.entry w) ∙ named.here;
+      hashed = named.hashed;
+      key = subst (λ (c : Core). key_of (stock_of image) w c ≡ key_of (stock_of from) w c) (some_inj (sym apart.here ∙ named.here)) (sym (key-same w apart)) ∙ named.key;
+      flag = named.flag;
+    }
+
     -- at each moment of the update the chains are as they were, or the record is unlinked
     pub unlinking_at : IsUnlinking from entry (Some before) image
     unlinking_at = ⊎_elim
-        (λ (e : moment.made ≡ 0). inl (still-linked image written.0 moment.outside (subst (λ (m : ℕ). (stock_of image).follow before ≡ (if m == 0 then (stock_of from).follow before else next_of from entry)) e written.1)))
-        (λ (e : moment.made ≡ 1). inr (now-unlinked image written.0 moment.outside (subst (λ (m : ℕ). (stock_of image).follow before ≡ (if m == 0 then (stock_of from).follow before else next_of from entry)) e written.1)))
+        (λ (e : moment.made ≡ 0). inl (still-linked image written.0 moment.outside names-stay (subst (λ (m : ℕ). (stock_of image).follow before ≡ (if m == 0 then (stock_of from).follow before else next_of from entry)) e written.1)))
+        (λ (e : moment.made ≡ 1). inr (now-unlinked image written.0 moment.outside names-stay (subst (λ (m : ℕ). (stock_of image).follow before ≡ (if m == 0 then (stock_of from).follow before else next_of from entry)) e written.1)))
         (none-or-one moment.made (let h : moment.made ≤ 1 = moment.within in h))
 
     -- after it the record is
@@ -149,7 +181,7 @@ module _ (from : Image) (bytes : AreBytes from) (entry before : ℕ) (can : CanB
         updated_is_new from image before ((4, next_of from entry) ∷ []) (next_changes before (next_of from entry) kind) done 0 (4, next_of from entry) (omega arith) (All-cons (λ c. c.1 < 2 ^ 32) (4, next_of from entry) [] next-small (All-nil (λ c. c.1 < 2 ^ 32))) in
         let inside : 4 + 4 ≤ record_size before = rw kind (omega arith) in
         let there : (entry_at image before).next ≡ word_at (content (record_at image before)) 4 = sym (record_word image before 4 inside) in
-        now-unlinked image written.0 moment.outside (shown-follow image before shown-before.core (sym (written.0.entry before) ∙ shown-before.here) ∙ there ∙ new)
+        now-unlinked image written.0 moment.outside names-stay (shown-follow image before shown-before.core (sym (written.0.entry before) ∙ shown-before.here) ∙ there ∙ new)
 
 -- a record that is shown to check does so in its bytes
 pub record_checks : (image : Image) (w : ℕ) → AreBytes image → kind_of w ≡ blocks_256 → entry_checks (entry_at image w) ≡ true → RecordChecks w image

@@ -1,4 +1,3 @@
-use Rattle.blk_chain.proofs.Keys.{first-clear}
 use Rattle.std.proofs.Common.{ℕ, Option, None, Some, sym, subst}
 use Rattle.std.specs.Option.{ForSome}
 use Rattle.std.specs.Prelude.{OnOk}
