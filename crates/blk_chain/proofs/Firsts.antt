@@ -1,10 +1,8 @@
 -- The first record of a chain taken out, in bytes.
-use Rattle.std.proofs.Common.{◌≡◌, ◌⊎◌, inl, inr, ℕ, ◌+◌, ◌*◌, ◌%◌, ◌^◌, ◌<◌, Bool, true, false, List, [], ◌∷◌, ◌++◌, length, map, Option, Some, None, refl, sym, ◌∙◌, ap, ap₂, subst, arith}
-use Rattle.std.specs.Prelude.{◌==◌}
+use Rattle.std.proofs.Common.{◌≡◌, inl, inr, ℕ, ◌+◌, ◌%◌, ◌^◌, ◌<◌, Bool, List, ◌∷◌, Option, Some, None, refl, sym, ◌∙◌, ap, ap₂, subst, arith}
 use Rattle.std.specs.Option.{ForSome}
 use Rattle.blk_image.specs.Image.{AreBytes, Index, Block, Image, byte, length_of, word}
-use Rattle.blk_image.specs.Footprint.{SameOutside}
-use Rattle.blk_image.specs.Steps.{TrailStep, after, word_step}
+use Rattle.blk_image.specs.Steps.{after, word_step}
 use Rattle.blk_image.specs.Told.{Told, TellsBytes, Grows, GrowsInPart, Passes, Until}
 use Rattle.blk_image.proofs.Footprints.{outside-refl}
 use Rattle.blk_image.proofs.Runs.{passes_none, passes_part, some_inj, told_whole}
@@ -14,7 +12,7 @@ use Rattle.blk_format.specs.Address.{file_selector, place}
 use Rattle.blk_format.specs.Records.{entry_in}
 use Rattle.blk_format.specs.Headers.{place_of_bucket}
 use Rattle.blk_volume.specs.ListView.{put}
-use Rattle.blk_volume.specs.View.{Stock, Core, entry_at, list_of, stock_of}
+use Rattle.blk_volume.specs.View.{Stock, Core, stock_of}
 use Rattle.blk_volume.specs.Chains.{chain, IsChain, Linked}
 use Rattle.blk_laws.proofs.ChainLinks.{others-stay}
 use Rattle.blk_laws.proofs.Changing.{at-itself}
@@ -26,7 +24,7 @@ use Rattle.blk_disk.specs.Tables.{Agrees}
 use Rattle.blk_volume.specs.Entries.{key_of}
 use Rattle.blk_chain.specs.Naming.{HasName}
 use Rattle.blk_chain.specs.Linking.{bucket_at, chained_with, place_of_front}
-use Rattle.blk_chain.specs.Unlinking.{CanBeUnlinked, IsStillLinked, IsUnlinked, IsUnlinking, KeepsRecords, next_of, unlink_range, unlink_steps}
+use Rattle.blk_chain.specs.Unlinking.{CanBeUnlinked, IsStillLinked, IsUnlinked, IsUnlinking, next_of, unlink_range, unlink_steps}
 use Rattle.blk_chain.proofs.Links.{bucket_read, front_inside, index_agrees, index_word}
 use Rattle.blk_chain.proofs.Names.{IsShownOf, shown-of, shown-follow}
 use Rattle.blk_chain.proofs.Unlinks.{next_read}

@@ -1,25 +1,21 @@
 -- Keys apart from the first block of a record that is changed.
-use Rattle.std.proofs.Common.{◌≡◌, ◌≢◌, ◌⊎◌, inl, inr, ⊎_elim, ℕ, ◌+◌, ◌-◌, ◌*◌, ◌%◌, ◌^◌, ◌<◌, ◌≤◌, Bool, true, false, List, [], ◌∷◌, take, map, Option, Some, None, refl, sym, ◌∙◌, ap, ap₂, subst, arith}
-use Rattle.std.specs.Prelude.{◌==◌, ◌&&◌, ◌||◌, nat_le, if◌then◌else◌}
-use Rattle.std.specs.Option.{option_map}
-use Rattle.std.specs.List.{list_any, range_with_len}
-use Rattle.std.proofs.lemmas.Bool.{and_parts, cases_Bool, eq-eqb, eqb-true}
+use Rattle.std.proofs.Common.{◌≡◌, ◌≢◌, ⊎_elim, ℕ, ◌+◌, ◌*◌, ◌≤◌, Bool, true, false, List, [], ◌∷◌, take, Some, refl, sym, ◌∙◌, ap, ap₂, subst, arith}
+use Rattle.std.specs.Prelude.{◌==◌, ◌&&◌, ◌||◌, nat_le}
+use Rattle.std.proofs.lemmas.Bool.{and_parts, cases_Bool, eqb-true}
 use Rattle.std.proofs.lemmas.Bool.Decides.{nat_tests}
 use Rattle.blk_image.specs.Bytes.{range_at}
-use Rattle.blk_image.specs.Image.{AreBytes, Block, Image, byte, length_of}
+use Rattle.blk_image.specs.Image.{Block, Image, byte, length_of}
 use Rattle.blk_image.specs.Footprint.{Footprint, SameOutside, range}
 use Rattle.blk_image.specs.Steps.{with_words}
-use Rattle.blk_image.proofs.Runs.{some_inj}
-use Rattle.blk_format.specs.Address.{kind_of, block_count, block_size, block_word, file_selector, first_block, is_address, names_blocks, external, blocks_256, place, room}
+use Rattle.blk_format.specs.Address.{kind_of, block_count, block_size, block_word, file_selector, first_block, is_address, blocks_256, place, room}
 use Rattle.blk_format.specs.Claims.{Claim, BlockOf, ExternalOf, same_claim, claims_of, has_claim}
 use Rattle.blk_format.specs.Standing.{is_linked_as, stands, stands_as_blocks}
 use Rattle.blk_format.specs.BlockFiles.{linked_as, max_entries_in, stands_in}
 use Rattle.blk_format.specs.Records.{entry_in, checks}
 use Rattle.blk_format.proofs.Words.{AreFields, AreFields-of, kind_of-block_word, block_count-block_word, file_selector-block_word, first_block-block_word, is_address-block_word}
-use Rattle.blk_volume.specs.Entries.{is_key_length, key_of}
 use Rattle.blk_volume.specs.Footprint.{IsClear}
-use Rattle.blk_volume.specs.View.{Stock, Core, core_of, core_at, entry_at, stands_as, stock_of}
-use Rattle.blk_disk.specs.Sealed.{IsMoment, record_at, record_range, record_size, seal_place, size_by_kind, seal_by_kind}
+use Rattle.blk_volume.specs.View.{Core, core_of, core_at, entry_at, stands_as, stock_of}
+use Rattle.blk_disk.specs.Sealed.{IsMoment, record_at, record_size, seal_place, size_by_kind, seal_by_kind}
 use Rattle.blk_moments.proofs.Shown.{core-standing, standing-parts}
 use Rattle.blk_chain.proofs.Names.{record-at, shown-core, shown-kind}
 

@@ -1,14 +1,14 @@
 -- A record linked in front of its chain, in bytes.
-use Rattle.std.proofs.Common.{◌≡◌, ◌⊎◌, inl, inr, ⊎_elim, ℕ, ◌+◌, ◌*◌, ◌%◌, ◌^◌, ◌<◌, ◌≤◌, Bool, true, false, List, [], ◌∷◌, map, Option, Some, None, refl, sym, ◌∙◌, ap, subst, arith}
-use Rattle.std.specs.Prelude.{◌==◌, ◌&&◌, ◌||◌, ◌/◌, length}
-use Rattle.std.specs.Option.{ForSome, option_map_or}
+use Rattle.std.proofs.Common.{◌≡◌, inl, inr, ⊎_elim, ℕ, ◌+◌, ◌%◌, ◌^◌, ◌<◌, ◌≤◌, true, false, ◌∷◌, map, Some, refl, sym, ◌∙◌, ap, subst, arith}
+use Rattle.std.specs.Prelude.{◌==◌, ◌||◌, ◌/◌}
+use Rattle.std.specs.Option.{ForSome}
 use Rattle.std.proofs.lemmas.Bool.{and_parts, cases_Bool, eq-eqb, eqb-true}
 use Rattle.blk_image.specs.Bytes.{content, word_at, word_bytes}
 use Rattle.blk_image.specs.Image.{Index, Block, Image, bytes_of, length_of, word, word as word_of}
-use Rattle.blk_image.specs.Footprint.{SameOutside, one_word}
-use Rattle.blk_image.specs.Steps.{TrailStep, after, word_step}
+use Rattle.blk_image.specs.Footprint.{one_word}
+use Rattle.blk_image.specs.Steps.{after, word_step}
 use Rattle.blk_image.specs.Told.{Told, Grows, GrowsInPart, Passes, Until}
-use Rattle.blk_image.proofs.Footprints.{outside-refl, outside_write}
+use Rattle.blk_image.proofs.Footprints.{outside_write}
 use Rattle.blk_image.proofs.Images.{bytes_of-written}
 use Rattle.blk_image.proofs.Runs.{passes_part, some_inj, told_part, told_whole}
 use Rattle.blk_image.proofs.Words.{word-written}
@@ -17,8 +17,7 @@ use Rattle.blk_format.specs.Address.{file_selector, is_address, is_initialized, 
 use Rattle.blk_format.specs.Records.{entry_in}
 use Rattle.blk_format.specs.Headers.{place_of_bucket}
 use Rattle.blk_format.specs.BlockFiles.{is_among}
-use Rattle.blk_volume.specs.ListView.{put}
-use Rattle.blk_volume.specs.View.{Stock, Core, entry_at, list_of, stock_of}
+use Rattle.blk_volume.specs.View.{Stock, Core, stock_of}
 use Rattle.blk_volume.specs.Chains.{bucket_of_hash, chain, file_and_block, is_of_bucket, IsChain}
 use Rattle.blk_laws.proofs.ChainLinks.{linked-front, others-stay}
 use Rattle.blk_moments.specs.IndexMoments.{IsIndexWord}
@@ -26,7 +25,6 @@ use Rattle.blk_moments.proofs.IndexWords.{buckets-written, buckets-unchecked}
 use Rattle.blk_disk.specs.declared.tables.BlockFiles.{BlockFiles}
 use Rattle.blk_disk.specs.Tables.{Agrees}
 use Rattle.blk_disk.proofs.Agreeing.{SparesHeaders, agrees_still}
-use Rattle.blk_chain.specs.Naming.{HasName}
 use Rattle.blk_chain.specs.Linking.{bucket_at, chained_with, place_of_front, CanBeLinked, link_steps, IsLinked, IsLinking}
 use Rattle.blk_chain.proofs.Names.{shown-core, same-name, shown-of}
 use Rattle.blk_chain.proofs.Words.{linked-good, WithFirstBlock, with_first_block}

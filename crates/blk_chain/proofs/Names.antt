@@ -1,5 +1,5 @@
 -- Records of one first block have one name.
-use Rattle.std.proofs.Common.{◌≡◌, ⊎_elim, ℕ, ◌+◌, ◌*◌, Bool, true, false, List, take, Option, Some, None, refl, sym, ◌∙◌, ap, ap₂, subst, arith}
+use Rattle.std.proofs.Common.{◌≡◌, ℕ, ◌+◌, ◌*◌, Bool, true, false, List, take, Option, Some, None, refl, sym, ◌∙◌, ap, ap₂, subst, arith}
 use Rattle.std.specs.Prelude.{◌==◌, ◌&&◌, nat_le, if◌then◌else◌}
 use Rattle.std.specs.Option.{option_map, option_map_or}
 use Rattle.std.proofs.lemmas.Bool.{and_parts, eqb-true}
@@ -7,7 +7,7 @@ use Rattle.blk_image.specs.Bytes.{range_at}
 use Rattle.blk_image.specs.Image.{Block, Image, byte}
 use Rattle.blk_image.proofs.Runs.{some_inj}
 use Rattle.blk_format.specs.Address.{kind_of, file_selector, first_block, place, block_place, block_size, blocks_256}
-use Rattle.blk_format.specs.Records.{Entry, entry_in, entry_size}
+use Rattle.blk_format.specs.Records.{entry_in, entry_size}
 use Rattle.blk_volume.specs.Chains.{bucket_of_hash, file_and_block, is_of_bucket}
 use Rattle.blk_volume.specs.Entries.{key_of}
 use Rattle.blk_volume.specs.View.{Stock, Core, core_of, core_at, entry_at, follow_at, key_place_at, stands_as, stock_of}

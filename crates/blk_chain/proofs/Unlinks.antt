@@ -1,8 +1,8 @@
 -- A record taken out of its chain, in bytes.
-use Rattle.std.proofs.Common.{◌≡◌, ◌≢◌, ◌⊎◌, inl, inr, ⊎_elim, ℕ, ◌+◌, ◌*◌, ◌%◌, ◌^◌, ◌<◌, ◌≤◌, Bool, true, false, List, [], ◌∷◌, ◌++◌, All, length, take, map, Option, Some, None, refl, sym, ◌∙◌, ap, subst, arith}
+use Rattle.std.proofs.Common.{◌≡◌, ◌≢◌, inl, inr, ⊎_elim, ℕ, ◌+◌, ◌%◌, ◌^◌, ◌<◌, ◌≤◌, true, false, List, [], ◌∷◌, ◌++◌, take, Option, Some, None, refl, sym, ◌∙◌, ap, subst, arith}
 use Rattle.std.specs.Prelude.{◌==◌, ◌&&◌, nat_le, if◌then◌else◌}
 use Rattle.std.specs.Option.{ForSome, option_map, option_map_or}
-use Rattle.std.proofs.lemmas.Bool.{cases_Bool, cases_eq, eq-eqb, and_parts}
+use Rattle.std.proofs.lemmas.Bool.{cases_Bool, cases_eq, eq-eqb}
 use Rattle.std.proofs.lemmas.List.Elements.{All-nil, All-cons}
 use Rattle.blk_image.specs.Bytes.{content, word_at}
 use Rattle.blk_image.specs.Image.{AreBytes, Index, Block, Image, byte, length_of, word}
@@ -11,10 +11,10 @@ use Rattle.blk_image.specs.Told.{Told, TellsBytes, Passes}
 use Rattle.blk_image.proofs.Runs.{passes_none, passes_weaker, passes_end, some_inj}
 use Rattle.blk_image.proofs.Words.{word-fits}
 use Rattle.blk_format.specs.Address.{kind_of, file_selector, place, blocks_256}
-use Rattle.blk_format.specs.BlockFiles.{is_among, IsWellFormed, stands_in}
+use Rattle.blk_format.specs.BlockFiles.{is_among, stands_in}
 use Rattle.blk_format.specs.Records.{entry_in, entry_checks, checks}
-use Rattle.blk_volume.specs.View.{Stock, Core, core_of, entry_at, list_of, stock_of}
-use Rattle.blk_volume.specs.Chains.{bucket_of_hash, chain, file_and_block, is_of_bucket, IsChain, Linked}
+use Rattle.blk_volume.specs.View.{Core, entry_at, stock_of}
+use Rattle.blk_volume.specs.Chains.{bucket_of_hash, file_and_block, IsChain, Linked}
 use Rattle.blk_format.specs.Claims.{claims_of, has_claim}
 use Rattle.blk_volume.specs.Entries.{key_of}
 use Rattle.blk_laws.proofs.Unlinking.{unlink-behind}
@@ -29,13 +29,13 @@ use Rattle.blk_moments.proofs.Updates.{entry-seal, entry-here}
 use Rattle.blk_disk.proofs.SealedRecords.{length-record, seal_last, moment_before}
 use Rattle.blk_disk.specs.Sealed.{RecordChecks, AreChanges, IsMoment, IsUpdated, record_at, record_range, record_size, seal_place, size_by_kind, seal_by_kind}
 use Rattle.blk_disk.proofs.SealedFields.{record_word, updated_is_new}
-use Rattle.blk_chain.specs.Linking.{bucket_at, chained_with}
-use Rattle.blk_chain.specs.Unlinking.{CanBeUnlinked, first_claim, IsApart, NamesStay, IsStillLinked, IsUnlinked, IsUnlinking, KeepsRecords, next_of, unlink_range, unlink_steps}
+use Rattle.blk_chain.specs.Linking.{bucket_at}
+use Rattle.blk_chain.specs.Unlinking.{CanBeUnlinked, first_claim, IsApart, NamesStay, IsStillLinked, IsUnlinked, IsUnlinking, KeepsRecords, next_of}
 use Rattle.blk_chain.proofs.Names.{IsShownOf, shown-of, shown-core, shown-kind, shown-follow, same-core, same-follow}
 use Rattle.blk_chain.proofs.Words.{linked-good}
 use Rattle.blk_chain.proofs.Keys.{first_word, first-clear, first-record, first-moment}
 use Rattle.blk_chain.proofs.Apart.{middle-there, behind-there, front-apart, rest-apart, once-without, length-without}
-use Rattle.blk_chain.proofs.Follows.{of-bucket-same, chain-same}
+use Rattle.blk_chain.proofs.Follows.{chain-same}
 
 -- the change of a record's next
 pub next_changes : (w next : ℕ) → kind_of w ≡ blocks_256 → AreChanges (seal_place w) ((4, next) ∷ [])

@@ -1,5 +1,5 @@
 -- A record is linked in front of its chain.
-use Rattle.std.specs.Prelude.{◌≡◌, ◌⊎◌, ℕ, ◌+◌, ◌<◌, List, ◌∷◌, length, Bool, true, false, ◌==◌}
+use Rattle.std.specs.Prelude.{◌≡◌, ◌⊎◌, ℕ, ◌+◌, ◌<◌, List, ◌∷◌, length, true, false, ◌==◌}
 use Rattle.std.specs.declared.option.Option.TheVariants.{Some}
 use Rattle.blk_image.specs.Image.{Image, Index}
 use Rattle.blk_image.specs.Steps.{TrailStep, word_step}

@@ -1,9 +1,8 @@
-use Rattle.std.proofs.Common.{◌≡◌, ℕ, ◌+◌, sym, subst}
+use Rattle.std.proofs.Common.{ℕ, sym, subst}
 use Rattle.std.specs.Option.{ForSome}
 use Rattle.std.proofs.lemmas.Result.{on_ok_weaker}
-use Rattle.blk_image.specs.Image.{Image, Block, word}
+use Rattle.blk_image.specs.Image.{Image}
 use Rattle.blk_image.specs.Told.{Told, Grows, GrowsInPart, Passes}
-use Rattle.blk_format.specs.Address.{file_selector, place}
 use Rattle.blk_disk.specs.Sealed.{IsMoment, IsUpdated, RecordChecks, sealed_steps}
 use Rattle.blk_disk.specs.Tables.{Agrees}
 use Rattle.blk_chain.specs.Unlinking.{next_of}
