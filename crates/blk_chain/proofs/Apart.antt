@@ -1,0 +1,72 @@
+-- Lists of words of different first blocks.
+use Rattle.std.proofs.Common.{◌≡◌, ◌≢◌, ⊎_elim, ℕ, suc, Bool, true, false, List, [], ◌∷◌, ◌++◌, length, map, refl, sym, ◌∙◌, ap}
+use Rattle.std.specs.Prelude.{◌==◌}
+use Rattle.std.proofs.lemmas.Bool.{or_cases, or_parts, or_left, or_right, eq-eqb, eqb-true}
+use Rattle.blk_format.specs.BlockFiles.{is_among}
+use Rattle.blk_volume.specs.ListView.{Distinct}
+use Rattle.blk_volume.specs.Chains.{file_and_block}
+
+-- a word's first block is among those of the words
+pub among-blocks : (words : List ℕ) (x : ℕ) → is_among words x ≡ true → is_among (map file_and_block words) (file_and_block x) ≡ true
+among-blocks [] x h = cc
+among-blocks (w ∷ words) x h =
+    ⊎_elim
+    (λ (e : (w == x) ≡ true). or_left (file_and_block w == file_and_block x) (is_among (map file_and_block words) (file_and_block x)) (eq-eqb (file_and_block w) (file_and_block x) (ap file_and_block (eqb-true w x e))))
+    (λ (e : is_among words x ≡ true). or_right (file_and_block w == file_and_block x) (is_among (map file_and_block words) (file_and_block x)) (among-blocks words x e))
+    (or_cases (w == x) (is_among words x) h)
+
+-- the middle one is there
+among-middle : (front : List ℕ) (p : ℕ) (rest : List ℕ) → is_among (front ++ p ∷ rest) p ≡ true
+among-middle [] p rest = or_left (p == p) (is_among rest p) (eq-eqb p p refl)
+among-middle (y ∷ front) p rest = or_right (y == p) (is_among (front ++ p ∷ rest) p) (among-middle front p rest)
+
+pub middle-there : (front : List ℕ) (p : ℕ) (rest : List ℕ) → is_among (front ++ p ∷ rest) p ≡ true
+middle-there front p rest = among-middle front p rest
+
+pub behind-there : (front : List ℕ) (p c : ℕ) (rest : List ℕ) → is_among (front ++ p ∷ c ∷ rest) c ≡ true
+behind-there [] p c rest = or_right (p == c) (is_among (c ∷ rest) c) (or_left (c == c) (is_among rest c) (eq-eqb c c refl))
+behind-there (y ∷ front) p c rest = or_right (y == c) (is_among (front ++ p ∷ c ∷ rest) c) (behind-there front p c rest)
+
+no-both : (b : Bool) → b ≡ true → b ≡ false → ⊥
+no-both true t f = cc
+no-both false t f = cc
+
+-- the others have other first blocks than the middle one
+pub front-apart : (front : List ℕ) (p : ℕ) (rest : List ℕ) → Distinct (map file_and_block (front ++ p ∷ rest)) → (x : ℕ) → is_among front x ≡ true → file_and_block x ≢ file_and_block p
+front-apart [] p rest d x h e = cc
+front-apart (y ∷ front) p rest d x h e =
+    ⊎_elim
+    (λ (s : (y == x) ≡ true). no-both (is_among (map file_and_block (front ++ p ∷ rest)) (file_and_block y))
+    (ap (is_among (map file_and_block (front ++ p ∷ rest))) (ap file_and_block (eqb-true y x s) ∙ e) ∙ among-blocks (front ++ p ∷ rest) p (among-middle front p rest)) d.0)
+    (λ (s : is_among front x ≡ true). front-apart front p rest d.1 x s e)
+    (or_cases (y == x) (is_among front x) h)
+
+pub rest-apart : (front : List ℕ) (p : ℕ) (rest : List ℕ) → Distinct (map file_and_block (front ++ p ∷ rest)) → (x : ℕ) → is_among rest x ≡ true → file_and_block x ≢ file_and_block p
+rest-apart [] p rest d x h e = no-both (is_among (map file_and_block rest) (file_and_block p)) (ap (is_among (map file_and_block rest)) (sym e) ∙ among-blocks rest x h) d.0
+rest-apart (y ∷ front) p rest d x h e = rest-apart front p rest d.1 x h e
+
+-- a list without the word behind the middle one
+less : (block : ℕ) (front : List ℕ) (p c : ℕ) (rest : List ℕ) → is_among (map file_and_block (front ++ p ∷ c ∷ rest)) block ≡ false → is_among (map file_and_block (front ++ p ∷ rest)) block ≡ false
+less block [] p c rest h =
+    let one = or_parts (file_and_block p == block) (is_among (map file_and_block (c ∷ rest)) block) h in
+    let two = or_parts (file_and_block c == block) (is_among (map file_and_block rest) block) one.1 in
+    rw (one.0, two.1) refl
+less block (y ∷ front) p c rest h =
+    let one = or_parts (file_and_block y == block) (is_among (map file_and_block (front ++ p ∷ c ∷ rest)) block) h in
+    rw (one.0, less block front p c rest one.1) refl
+
+pub once-without : (front : List ℕ) (p c : ℕ) (rest : List ℕ) → Distinct (map file_and_block (front ++ p ∷ c ∷ rest)) → Distinct (map file_and_block (front ++ p ∷ rest))
+once-without [] p c rest d = ((or_parts (file_and_block c == file_and_block p) (is_among (map file_and_block rest) (file_and_block p)) d.0).1, d.1.1)
+once-without (y ∷ front) p c rest d = (less (file_and_block y) front p c rest d.0, once-without front p c rest d.1)
+
+pub length-without : (front : List ℕ) (p c : ℕ) (rest : List ℕ) → length (front ++ p ∷ c ∷ rest) ≡ suc (length (front ++ p ∷ rest))
+length-without [] p c rest = refl
+length-without (y ∷ front) p c rest = ap suc (length-without front p c rest)
+
+-- each word of the shorter list is one of the longer
+pub still-there : (front : List ℕ) (p c : ℕ) (rest : List ℕ) (x : ℕ) → is_among (front ++ p ∷ rest) x ≡ true → is_among (front ++ p ∷ c ∷ rest) x ≡ true
+still-there [] p c rest x h =
+    ⊎_elim (λ (e : (p == x) ≡ true). or_left (p == x) (is_among (c ∷ rest) x) e) (λ (e : is_among rest x ≡ true). or_right (p == x) (is_among (c ∷ rest) x) (or_right (c == x) (is_among rest x) e)) (or_cases (p == x) (is_among rest x) h)
+still-there (y ∷ front) p c rest x h =
+    ⊎_elim (λ (e : (y == x) ≡ true). or_left (y == x) (is_among (front ++ p ∷ c ∷ rest) x) e)
+    (λ (e : is_among (front ++ p ∷ rest) x ≡ true). or_right (y == x) (is_among (front ++ p ∷ c ∷ rest) x) (still-there front p c rest x e)) (or_cases (y == x) (is_among (front ++ p ∷ rest) x) h)

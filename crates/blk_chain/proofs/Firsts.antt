@@ -1,0 +1,118 @@
+-- The first record of a chain taken out, in bytes.
+use Rattle.std.proofs.Common.{◌≡◌, inl, inr, ℕ, ◌+◌, ◌%◌, ◌^◌, ◌<◌, Bool, List, ◌∷◌, Option, Some, None, refl, sym, ◌∙◌, ap, ap₂, subst, arith}
+use Rattle.std.specs.Option.{ForSome}
+use Rattle.blk_image.specs.Image.{AreBytes, Index, Block, Image, byte, length_of, word}
+use Rattle.blk_image.specs.Steps.{after, word_step}
+use Rattle.blk_image.specs.Told.{Told, TellsBytes, Grows, GrowsInPart, Passes, Until}
+use Rattle.blk_image.proofs.Footprints.{outside-refl}
+use Rattle.blk_image.proofs.Runs.{passes_none, passes_part, some_inj, told_whole}
+use Rattle.blk_image.proofs.Words.{word-fits}
+use Rattle.blk_image.proofs.WordSteps.{quiet-word_step, until_word}
+use Rattle.blk_format.specs.Address.{file_selector, place}
+use Rattle.blk_format.specs.Records.{entry_in}
+use Rattle.blk_format.specs.Headers.{place_of_bucket}
+use Rattle.blk_volume.specs.ListView.{put}
+use Rattle.blk_volume.specs.View.{Stock, Core, stock_of}
+use Rattle.blk_volume.specs.Chains.{chain, IsChain, Linked}
+use Rattle.blk_laws.proofs.ChainLinks.{others-stay}
+use Rattle.blk_laws.proofs.Changing.{at-itself}
+use Rattle.blk_laws.proofs.Creating.{linked-table}
+use Rattle.blk_moments.specs.IndexMoments.{IsIndexWord}
+use Rattle.blk_moments.proofs.IndexWords.{buckets-written, buckets-unchecked}
+use Rattle.blk_disk.specs.declared.tables.BlockFiles.{BlockFiles}
+use Rattle.blk_disk.specs.Tables.{Agrees}
+use Rattle.blk_volume.specs.Entries.{key_of}
+use Rattle.blk_chain.specs.Naming.{HasName}
+use Rattle.blk_chain.specs.Linking.{bucket_at, chained_with, place_of_front}
+use Rattle.blk_chain.specs.Unlinking.{CanBeUnlinked, IsStillLinked, IsUnlinked, IsUnlinking, next_of, unlink_range, unlink_steps}
+use Rattle.blk_chain.proofs.Links.{bucket_read, front_inside, index_agrees, index_word}
+use Rattle.blk_chain.proofs.Names.{IsShownOf, shown-of, shown-follow}
+use Rattle.blk_chain.proofs.Unlinks.{next_read}
+
+-- no key is read in the table
+key-still : (stock : Stock) (table : ℕ → ℕ) (w : ℕ) (core : Core) → key_of (record stock { table = table }) w core ≡ key_of stock w core
+unfolding key_of
+key-still stock table w core = refl
+
+named-still : (stock : Stock) (table : ℕ → ℕ) (name : List ℕ) (is_child : Bool) (w : ℕ) → HasName stock name is_child w → HasName (record stock { table = table }) name is_child w
+named-still stock table name is_child w named = record { core = named.core; here = named.here; hashed = named.hashed; key = key-still stock table w named.core ∙ named.key; flag = named.flag }
+
+-- nothing has changed
+pub unchanged : (from : Image) (entry : ℕ) (before : Option ℕ) → IsStillLinked from entry before from
+unchanged from entry before = record {
+  keeps = record { list = refl; records = λ w. refl; names = λ w name is_child apart named. named; well_formed = λ h. h; outside = outside-refl (unlink_range from entry before) from };
+  chains = λ bucket. refl;
+}
+
+module _ (from : Image) (entry : ℕ) (can : CanBeUnlinked entry None from) where
+  -- the chain without its first record
+  chain-behind : (behind : List ℕ) → chained_with from entry ≡ entry ∷ behind → IsChain (record (stock_of from) { table = put (stock_of from).table (bucket_at from entry) (next_of from entry) }) (bucket_at from entry) behind
+  chain-behind behind is =
+      let v = stock_of from in
+      let b : ℕ = bucket_at from entry in
+      let was : IsChain v b (entry ∷ behind) = subst (λ (ws : List ℕ). IsChain v b ws) is can.whole in
+      let shown : IsShownOf v b entry = shown-of v b entry was.linked.1 in
+      record {
+        linked =
+            subst (λ (y : ℕ). Linked (record v { table = put v.table b (next_of from entry) }) b y behind) (shown-follow from entry shown.core shown.here ∙ sym (at-itself v.table b (next_of from entry)))
+            (linked-table v (put v.table b (next_of from entry)) b (v.follow entry) behind was.linked.2);
+        once = was.once.1;
+        few = omega (arith, was.few);
+      }
+
+  -- the word of the bucket is its next
+  pub first_unlinked : (image : Image) → IsIndexWord (place_of_front from entry) (next_of from entry) from image → IsUnlinked from entry None image
+  first_unlinked image is =
+      let b : ℕ = bucket_at from entry in
+      let w = buckets-written from image b (next_of from entry) is in
+      record {
+        keeps = record { list = w.0; records = λ u. ap (λ (s : Stock). s.entry u) w.1; names = λ u name is_child apart named. subst (λ (s : Stock). HasName s name is_child u) (sym w.1) (named-still (stock_of from) (put (stock_of from).table b (next_of from entry)) name is_child u named); well_formed = buckets-unchecked from image b is.outside; outside = is.outside };
+        chain_now = λ front behind stands. subst (λ (s : Stock). IsChain s b behind) (sym w.1) (chain-behind behind stands.1);
+        others = λ other e. ap (λ (s : Stock). chain s other) w.1 ∙ others-stay (stock_of from) b other (next_of from entry) e;
+      }
+
+next_small : (from : Image) (entry : ℕ) → AreBytes from → next_of from entry < 2 ^ 32
+unfolding entry_in
+next_small from entry bytes = word-fits (byte from (Block (file_selector entry))) (bytes (Block (file_selector entry))) (place entry + 4)
+
+-- what the write of the bucket's word leaves, made or not
+pub record IsTaken (files : BlockFiles) (entry : ℕ) (a b : Told) : Type 0 where
+  pub part : ForSome a.files (λ from. GrowsInPart a b (unlink_steps from entry None))
+  pub stops : ForSome a.files (λ from. Passes a b (IsUnlinking from entry None))
+  pub agrees : ForSome b.files (Agrees files)
+
+-- before the write
+pub first_not_yet : (a b : Told) (entry : ℕ) → b ≡ a → ForSome a.files (λ from. Passes a b (IsUnlinking from entry None))
+first_not_yet a b entry stays from there =
+    passes_none (IsUnlinking from entry None) stays (λ image here. subst (λ (i : Image). IsUnlinking from entry None i) (some_inj (sym there ∙ here)) (inl (unchanged from entry None)))
+
+module _ (files : BlockFiles) (a b : Told) (entry hash next : ℕ) (tells : TellsBytes a) (agrees : ForSome a.files (Agrees files)) (complete : ForSome a.files (λ image. length_of image Index ≡ 262512)) (can : ForSome a.files (CanBeUnlinked entry None))
+    (read : ForSome a.files (λ image. next ≡ word image (Block (file_selector entry)) (place entry + 4)))
+    (first : Told) (once : first ≡ a) (reads : ForSome first.files (λ image. hash ≡ word image (Block (file_selector entry)) (place entry + 0))) (second : Told) (twice : second ≡ first) where
+  steps-are : (from : Image) → a.files ≡ Some from → word_step Index (place_of_bucket (hash % 65536)) next ≡ unlink_steps from entry None
+  steps-are from there =
+      let bucket : hash % 65536 ≡ bucket_at from entry = bucket_read from entry hash (hash % 65536) (subst (λ (t : Told). ForSome t.files (λ image. hash ≡ word image (Block (file_selector entry)) (place entry + 0))) once reads from there) refl in
+      ap₂ (λ (n x : ℕ). word_step Index (place_of_bucket n) x) bucket (next_read from entry next (read from there))
+
+  after-first : (from : Image) → a.files ≡ Some from → IsUnlinked from entry None (after (unlink_steps from entry None) from)
+  after-first from there = first_unlinked from entry (can from there) (after (unlink_steps from entry None) from) (index_word from (place_of_front from entry) (next_of from entry) (next_small from entry (tells from there)) (front_inside from entry (complete from there)))
+
+  pub first_left : GrowsInPart second b (word_step Index (place_of_bucket (hash % 65536)) next) → IsTaken files entry a b
+  first_left made =
+      let here : GrowsInPart a b (word_step Index (place_of_bucket (hash % 65536)) next) = subst (λ (t : Told). GrowsInPart t b (word_step Index (place_of_bucket (hash % 65536)) next)) (twice ∙ once) made in
+      let mine : ForSome a.files (λ from. GrowsInPart a b (unlink_steps from entry None)) = (λ from there. subst (GrowsInPart a b) (steps-are from there) here) in
+      record {
+        part = mine;
+        stops = λ from there.
+            passes_part (IsUnlinking from entry None) (IsUnlinking from entry None) (mine from there) (quiet-word_step Index (place_of_front from entry) (next_of from entry)) (λ image h. h)
+            (λ image now. subst (λ (i : Image). Until (IsUnlinking from entry None) (IsUnlinking from entry None) i (unlink_steps from entry None)) (some_inj (sym there ∙ now))
+            (until_word (IsUnlinking from entry None) (IsUnlinking from entry None) Index (place_of_front from entry) (next_of from entry) from (inl (unchanged from entry None)) (inr (after-first from there))));
+        agrees = index_agrees files a b (place_of_bucket (hash % 65536)) next here agrees;
+      }
+
+  pub first_whole : Grows second b (word_step Index (place_of_bucket (hash % 65536)) next) → ForSome a.files (λ from. Grows a b (unlink_steps from entry None))
+  first_whole made from there = subst (Grows a b) (steps-are from there) (subst (λ (t : Told). Grows t b (word_step Index (place_of_bucket (hash % 65536)) next)) (twice ∙ once) made)
+
+  pub first_done : Grows second b (word_step Index (place_of_bucket (hash % 65536)) next) → ForSome a.files (λ from. ForSome b.files (IsUnlinked from entry None))
+  first_done made from there =
+      told_whole (IsUnlinked from entry None) (first_whole made from there) (λ image now. subst (λ (i : Image). IsUnlinked from entry None (after (unlink_steps from entry None) i)) (some_inj (sym there ∙ now)) (after-first from there))

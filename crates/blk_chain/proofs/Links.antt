@@ -1,0 +1,156 @@
+-- A record linked in front of its chain, in bytes.
+use Rattle.std.proofs.Common.{◌≡◌, inl, inr, ⊎_elim, ℕ, ◌+◌, ◌%◌, ◌^◌, ◌<◌, ◌≤◌, true, false, ◌∷◌, map, Some, refl, sym, ◌∙◌, ap, subst, arith}
+use Rattle.std.specs.Prelude.{◌==◌, ◌||◌, ◌/◌}
+use Rattle.std.specs.Option.{ForSome}
+use Rattle.std.proofs.lemmas.Bool.{and_parts, cases_Bool, eq-eqb, eqb-true}
+use Rattle.blk_image.specs.Bytes.{content, word_at, word_bytes}
+use Rattle.blk_image.specs.Image.{Index, Block, Image, bytes_of, length_of, word, word as word_of}
+use Rattle.blk_image.specs.Footprint.{one_word}
+use Rattle.blk_image.specs.Steps.{after, word_step}
+use Rattle.blk_image.specs.Told.{Told, Grows, GrowsInPart, Passes, Until}
+use Rattle.blk_image.proofs.Footprints.{outside_write}
+use Rattle.blk_image.proofs.Images.{bytes_of-written}
+use Rattle.blk_image.proofs.Runs.{passes_part, some_inj, told_part, told_whole}
+use Rattle.blk_image.proofs.Words.{word-written}
+use Rattle.blk_image.proofs.WordSteps.{quiet-word_step, until_word}
+use Rattle.blk_format.specs.Address.{file_selector, is_address, is_initialized, names_blocks, names_external, place}
+use Rattle.blk_format.specs.Records.{entry_in}
+use Rattle.blk_format.specs.Headers.{place_of_bucket}
+use Rattle.blk_format.specs.BlockFiles.{is_among}
+use Rattle.blk_volume.specs.View.{Stock, Core, stock_of}
+use Rattle.blk_volume.specs.Chains.{bucket_of_hash, chain, file_and_block, is_of_bucket, IsChain}
+use Rattle.blk_laws.proofs.ChainLinks.{linked-front, others-stay}
+use Rattle.blk_moments.specs.IndexMoments.{IsIndexWord}
+use Rattle.blk_moments.proofs.IndexWords.{buckets-written, buckets-unchecked}
+use Rattle.blk_disk.specs.declared.tables.BlockFiles.{BlockFiles}
+use Rattle.blk_disk.specs.Tables.{Agrees}
+use Rattle.blk_disk.proofs.Agreeing.{SparesHeaders, agrees_still}
+use Rattle.blk_chain.specs.Linking.{bucket_at, chained_with, place_of_front, CanBeLinked, link_steps, IsLinked, IsLinking}
+use Rattle.blk_chain.proofs.Names.{shown-core, same-name, shown-of}
+use Rattle.blk_chain.proofs.Words.{linked-good, WithFirstBlock, with_first_block}
+
+-- one word of the index is written
+pub index_word : (from : Image) (at x : ℕ) → x < 2 ^ 32 → at + 4 ≤ length_of from Index → IsIndexWord at x from (after (word_step Index at x) from)
+unfolding word_step
+index_word from at x small inside = record {
+  there = ap (λ b. word_at (content b) at) (bytes_of-written from Index at (word_bytes x)) ∙ word-written at x (bytes_of from Index) small inside;
+  outside = outside_write Index at (word_bytes x) from;
+}
+
+-- no header of a block file has a word of the index
+pub index_spares : (at : ℕ) → SparesHeaders (one_word Index at)
+index_spares at = record { bytes = λ n i small. refl }
+
+-- a core of the bucket
+core-of-bucket : (stock : Stock) (b w : ℕ) (core : Core) → stock.entry w ≡ Some core → core.checks ≡ true → bucket_of_hash core.hash ≡ b → is_of_bucket stock b w ≡ true
+core-of-bucket stock b w core here good is = rw (here, good) (eq-eqb (bucket_of_hash core.hash) b is)
+
+module _ (from : Image) (entry : ℕ) (can : CanBeLinked entry from) where
+  in_bucket : is_of_bucket (stock_of from) (bucket_at from entry) entry ≡ true
+  in_bucket = core-of-bucket (stock_of from) (bucket_at from entry) entry can.core can.here can.good (ap (λ (c : Core). bucket_of_hash c.hash) (sym (shown-core from entry can.core can.here)))
+
+  -- no record of the chain has its first block, since it would have its name
+  apart : is_among (map file_and_block (chained_with from entry)) (file_and_block entry) ≡ false
+  apart =
+      ⊎_elim
+      (λ (e : is_among (map file_and_block (chained_with from entry)) (file_and_block entry) ≡ true). absurd (never (with_first_block (chained_with from entry) (file_and_block entry) e)))
+      (λ (e : is_among (map file_and_block (chained_with from entry)) (file_and_block entry) ≡ false). e)
+      (cases_Bool (is_among (map file_and_block (chained_with from entry)) (file_and_block entry)))
+    where
+      never : WithFirstBlock (chained_with from entry) (file_and_block entry) → ⊥
+      never other =
+          let shown = shown-of (stock_of from) (bucket_at from entry) other.word (linked-good (stock_of from) (bucket_at from entry) ((stock_of from).table (bucket_at from entry)) (chained_with from entry) other.word can.whole.linked other.among) in
+          can.fresh other.word other.among (same-name from entry other.word can.core shown.core can.here shown.here (sym other.has) can.key (can.core.flags == 2) can.named)
+
+  pub linked_at : (image : Image) → IsIndexWord (place_of_front from entry) entry from image → IsLinked from entry image
+  linked_at image is =
+      let b : ℕ = bucket_at from entry in
+      let w = buckets-written from image b entry is in
+      record {
+        list = w.0;
+        stock = w.1;
+        chain_now = subst (λ (s : Stock). IsChain s b (entry ∷ chained_with from entry)) (sym w.1) (linked-front (stock_of from) b entry (chained_with from entry) can.whole in_bucket can.next apart can.few);
+        others = λ other e. ap (λ (s : Stock). chain s other) w.1 ∙ others-stay (stock_of from) b other entry e;
+        well_formed = buckets-unchecked from image b is.outside;
+        outside = is.outside;
+      }
+
+-- the bucket of a record by the hash that was read
+pub bucket_read : (image : Image) (entry hash n : ℕ) → hash ≡ word image (Block (file_selector entry)) (place entry + 0) → n ≡ hash % 65536 → n ≡ bucket_at image entry
+unfolding entry_in
+bucket_read image entry hash n read is =
+    let at : place entry + 0 ≡ place entry = omega arith in
+    is ∙ ap (λ (h : ℕ). h % 65536) (read ∙ ap (λ (i : ℕ). word image (Block (file_selector entry)) i) at)
+
+-- the bucket's word lies in the index
+pub front_inside : (from : Image) (entry : ℕ) → length_of from Index ≡ 262512 → place_of_front from entry + 4 ≤ length_of from Index
+front_inside from entry complete = omega (arith, complete)
+
+-- a word of the index leaves what the block files agree with
+pub index_agrees : (files : BlockFiles) (a b : Told) (at x : ℕ) → GrowsInPart a b (word_step Index at x) → ForSome a.files (Agrees files) → ForSome b.files (Agrees files)
+unfolding word_step
+index_agrees files a b at x part agrees =
+    told_part (Agrees files) part
+    (λ image there. (agrees image there, agrees_still (one_word Index at) image (after (word_step Index at x) image) (index_spares at) (outside_write Index at (word_bytes x) image) files (λ n. refl) (agrees image there)))
+
+-- the write of the word of the bucket that was read
+module _ (a b : Told) (entry n : ℕ) (read : ForSome a.files (λ from. n ≡ bucket_at from entry)) where
+  pub link_part : GrowsInPart a b (word_step Index (place_of_bucket n) entry) → ForSome a.files (λ from. GrowsInPart a b (link_steps from entry))
+  link_part part from there = subst (λ (m : ℕ). GrowsInPart a b (word_step Index (place_of_bucket m) entry)) (read from there) part
+
+  pub link_whole : Grows a b (word_step Index (place_of_bucket n) entry) → ForSome a.files (λ from. Grows a b (link_steps from entry))
+  link_whole whole from there = subst (λ (m : ℕ). Grows a b (word_step Index (place_of_bucket m) entry)) (read from there) whole
+
+  module _ (small : entry < 2 ^ 32) (complete : ForSome a.files (λ image. length_of image Index ≡ 262512)) (can : ForSome a.files (CanBeLinked entry)) where
+    after_link : (from : Image) → a.files ≡ Some from → IsLinked from entry (after (link_steps from entry) from)
+    after_link from there = linked_at from entry (can from there) (after (link_steps from entry) from) (index_word from (place_of_front from entry) entry small (front_inside from entry (complete from there)))
+
+    pub link_stops : GrowsInPart a b (word_step Index (place_of_bucket n) entry) → ForSome a.files (λ from. Passes a b (IsLinking from entry))
+    link_stops part from there =
+        let P : Image → Type 0 = IsLinking from entry in
+        passes_part P P (link_part part from there) (quiet-word_step Index (place_of_front from entry) entry) (λ image h. h)
+        (λ image here. subst (λ (i : Image). Until P P i (link_steps from entry)) (some_inj (sym there ∙ here))
+        (until_word P P Index (place_of_front from entry) entry from (inl refl) (inr (after_link from there))))
+
+    pub link_done : Grows a b (word_step Index (place_of_bucket n) entry) → ForSome a.files (λ from. ForSome b.files (IsLinked from entry))
+    link_done whole from there =
+        told_whole (IsLinked from entry) (link_whole whole from there)
+        (λ image here. subst (λ (i : Image). IsLinked from entry (after (link_steps from entry) i)) (some_inj (sym there ∙ here)) (after_link from there))
+
+-- an address is a word
+pub address_small : (w : ℕ) → is_address w ≡ true → w < 2 ^ 32
+unfolding is_address is_initialized
+address_small w address =
+    let first : w / 2147483648 ≡ 1 = eqb-true (w / 2147483648) 1 (and_parts (w / 2147483648 == 1) (names_external w || names_blocks w) address).0 in
+    omega (arith, first)
+
+-- what the write of the bucket's word leaves, made or not
+pub record IsPut (files : BlockFiles) (entry : ℕ) (a b : Told) : Type 0 where
+  pub part : ForSome a.files (λ from. GrowsInPart a b (link_steps from entry))
+  pub stops : ForSome a.files (λ from. Passes a b (IsLinking from entry))
+  pub agrees : ForSome b.files (Agrees files)
+
+module _ (files : BlockFiles) (a b : Told) (entry hash word : ℕ) (is : word ≡ entry) (address : is_address word ≡ true) (agrees : ForSome a.files (Agrees files)) (complete : ForSome a.files (λ image. length_of image Index ≡ 262512)) (can : ForSome a.files (CanBeLinked entry))
+    (read : ForSome a.files (λ image. hash ≡ word_of image (Block (file_selector entry)) (place entry + 0))) (between : Told) (stays : between ≡ a) where
+  bucket_is : ForSome a.files (λ from. hash % 65536 ≡ bucket_at from entry)
+  bucket_is from there = bucket_read from entry hash (hash % 65536) (read from there) refl
+
+  pub put_by : GrowsInPart between b (word_step Index (place_of_bucket (hash % 65536)) word) → IsPut files entry a b
+  put_by part =
+      let here : GrowsInPart a b (word_step Index (place_of_bucket (hash % 65536)) entry) =
+      subst (λ (t : Told). GrowsInPart t b (word_step Index (place_of_bucket (hash % 65536)) entry)) stays (subst (λ (v : ℕ). GrowsInPart between b (word_step Index (place_of_bucket (hash % 65536)) v)) is part) in
+      record {
+        part = link_part a b entry (hash % 65536) bucket_is here;
+        stops = link_stops a b entry (hash % 65536) bucket_is (address_small entry (subst (λ (v : ℕ). is_address v ≡ true) is address)) complete can here;
+        agrees = index_agrees files a b (place_of_bucket (hash % 65536)) entry here agrees;
+      }
+
+  whole_here : Grows between b (word_step Index (place_of_bucket (hash % 65536)) word) → Grows a b (word_step Index (place_of_bucket (hash % 65536)) entry)
+  whole_here whole =
+      subst (λ (t : Told). Grows t b (word_step Index (place_of_bucket (hash % 65536)) entry)) stays (subst (λ (v : ℕ). Grows between b (word_step Index (place_of_bucket (hash % 65536)) v)) is whole)
+
+  pub whole_by : Grows between b (word_step Index (place_of_bucket (hash % 65536)) word) → ForSome a.files (λ from. Grows a b (link_steps from entry))
+  whole_by whole = link_whole a b entry (hash % 65536) bucket_is (whole_here whole)
+
+  pub linked_by : Grows between b (word_step Index (place_of_bucket (hash % 65536)) word) → ForSome a.files (λ from. ForSome b.files (IsLinked from entry))
+  linked_by whole = link_done a b entry (hash % 65536) bucket_is (address_small entry (subst (λ (v : ℕ). is_address v ≡ true) is address)) complete can (whole_here whole)

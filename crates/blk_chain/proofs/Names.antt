@@ -1,0 +1,92 @@
+-- Records of one first block have one name.
+use Rattle.std.proofs.Common.{◌≡◌, ℕ, ◌+◌, ◌*◌, Bool, true, false, List, take, Option, Some, None, refl, sym, ◌∙◌, ap, ap₂, subst, arith}
+use Rattle.std.specs.Prelude.{◌==◌, ◌&&◌, nat_le, if◌then◌else◌}
+use Rattle.std.specs.Option.{option_map, option_map_or}
+use Rattle.std.proofs.lemmas.Bool.{and_parts, eqb-true}
+use Rattle.blk_image.specs.Bytes.{range_at}
+use Rattle.blk_image.specs.Image.{Block, Image, byte}
+use Rattle.blk_image.proofs.Runs.{some_inj}
+use Rattle.blk_format.specs.Address.{kind_of, file_selector, first_block, place, block_place, block_size, blocks_256}
+use Rattle.blk_format.specs.Records.{entry_in, entry_size}
+use Rattle.blk_volume.specs.Chains.{bucket_of_hash, file_and_block, is_of_bucket}
+use Rattle.blk_volume.specs.Entries.{key_of}
+use Rattle.blk_volume.specs.View.{Stock, Core, core_of, core_at, entry_at, follow_at, key_place_at, stands_as, stock_of}
+use Rattle.blk_moments.proofs.Shown.{standing-parts, core-standing}
+use Rattle.blk_chain.specs.Naming.{HasName}
+
+pub same-file : (u w : ℕ) → file_and_block u ≡ file_and_block w → file_selector u ≡ file_selector w
+unfolding file_selector
+same-file u w e = omega arith
+
+same-first : (u w : ℕ) → file_and_block u ≡ file_and_block w → first_block u ≡ first_block w
+unfolding first_block
+same-first u w e = omega arith
+
+pub record-at : (w : ℕ) → kind_of w ≡ blocks_256 → place w ≡ 8192 + first_block w * 256
+unfolding place block_place block_size
+record-at w kind = rw kind refl
+
+pub same-place : (u w : ℕ) → kind_of u ≡ blocks_256 → kind_of w ≡ blocks_256 → file_and_block u ≡ file_and_block w → place u ≡ place w
+same-place u w one other same = record-at u one ∙ ap (λ (b : ℕ). 8192 + b * 256) (same-first u w same) ∙ sym (record-at w other)
+
+-- what a word shows that names a record
+pub shown-core : (image : Image) (w : ℕ) (core : Core) → (stock_of image).entry w ≡ Some core → core_of (entry_at image w) ≡ core
+unfolding stock_of core_at
+shown-core image w core here = some_inj (sym (let s : stands_as image blocks_256 w ≡ true = core-standing image w core here in rw s refl) ∙ here)
+
+pub shown-kind : (image : Image) (w : ℕ) (core : Core) → (stock_of image).entry w ≡ Some core → kind_of w ≡ blocks_256
+shown-kind image w core here = (standing-parts image blocks_256 w (core-standing image w core here)).1
+
+pub shown-follow : (image : Image) (w : ℕ) (core : Core) → (stock_of image).entry w ≡ Some core → (stock_of image).follow w ≡ (entry_at image w).next
+unfolding stock_of follow_at
+shown-follow image w core here = let s : stands_as image blocks_256 w ≡ true = core-standing image w core here in rw s refl
+
+-- two words of one first block
+module _ (image : Image) (u w : ℕ) (one other : Core) (first : (stock_of image).entry u ≡ Some one) (second : (stock_of image).entry w ≡ Some other) (same : file_and_block u ≡ file_and_block w) where
+  file : file_selector u ≡ file_selector w
+  file = same-file u w same
+
+  at : place u ≡ place w
+  at = same-place u w (shown-kind image u one first) (shown-kind image w other second) same
+
+  pub same-core : one ≡ other
+  same-core = sym (shown-core image u one first) ∙ ap₂ (λ (f i : ℕ). core_of (entry_in (byte image (Block f)) i)) file at ∙ shown-core image w other second
+
+  pub same-follow : (stock_of image).follow u ≡ (stock_of image).follow w
+  same-follow =
+      shown-follow image u one first ∙ ap₂ (λ (f i : ℕ). (entry_in (byte image (Block f)) i).next) file at ∙ sym (shown-follow image w other second)
+
+  same-key_place : (n : ℕ) → (stock_of image).key_place u n ≡ (stock_of image).key_place w n
+  unfolding stock_of key_place_at
+  same-key_place n = ap₂ (λ (f i : ℕ). range_at (byte image (Block f)) (i + entry_size) n) file at
+
+  pub same-key : key_of (stock_of image) u one ≡ key_of (stock_of image) w other
+  unfolding key_of
+  same-key =
+      let key : List ℕ → Option (List ℕ) = (λ short. if nat_le one.key_len 927 then (if one.long_key == 0 then Some short else None) else option_map (take one.key_len) ((stock_of image).stored (one.key_len + 1) one.long_key)) in
+      subst (λ (c : Core). key_of (stock_of image) u one ≡ key_of (stock_of image) w c) same-core (ap key (same-key_place one.key_len))
+
+  pub same-name : (key : List ℕ) (is_child : Bool) → HasName (stock_of image) key is_child u → HasName (stock_of image) key is_child w
+  same-name key is_child named =
+      let core : one ≡ named.core = some_inj (sym first ∙ named.here) in
+      let all : other ≡ named.core = sym same-core ∙ core in
+      record {
+        core = other;
+        here = second;
+        hashed = ap (λ (c : Core). c.hash) all ∙ named.hashed;
+        key = sym same-key ∙ ap (λ (c : Core). key_of (stock_of image) u c) core ∙ named.key;
+        flag = ap (λ (c : Core). c.flags == 2) all ∙ named.flag;
+      }
+
+-- a word of a bucket names a record that checks
+pub record IsShownOf (stock : Stock) (bucket w : ℕ) : Type 0 where
+  pub core : Core
+  pub here : stock.entry w ≡ Some core
+  pub good : core.checks ≡ true
+  pub in_bucket : bucket_of_hash core.hash ≡ bucket
+
+pub shown-of : (stock : Stock) (bucket w : ℕ) → is_of_bucket stock bucket w ≡ true → IsShownOf stock bucket w
+shown-of stock bucket w holds = by (stock.entry w) refl holds where
+  by : (o : Option Core) → stock.entry w ≡ o → option_map_or (λ core. core.checks && (bucket_of_hash core.hash == bucket)) o false ≡ true → IsShownOf stock bucket w
+  by None e h = cc
+  by (Some core) e h = let p = and_parts core.checks (bucket_of_hash core.hash == bucket) h in record { core = core; here = e; good = p.0; in_bucket = eqb-true (bucket_of_hash core.hash) bucket p.1 }

@@ -1,0 +1,235 @@
+-- A record taken out of its chain, in bytes.
+use Rattle.std.proofs.Common.{◌≡◌, ◌≢◌, inl, inr, ⊎_elim, ℕ, ◌+◌, ◌%◌, ◌^◌, ◌<◌, ◌≤◌, true, false, List, [], ◌∷◌, ◌++◌, take, Option, Some, None, refl, sym, ◌∙◌, ap, subst, arith}
+use Rattle.std.specs.Prelude.{◌==◌, ◌&&◌, nat_le, if◌then◌else◌}
+use Rattle.std.specs.Option.{ForSome, option_map, option_map_or}
+use Rattle.std.proofs.lemmas.Bool.{cases_Bool, cases_eq, eq-eqb}
+use Rattle.std.proofs.lemmas.List.Elements.{All-nil, All-cons}
+use Rattle.blk_image.specs.Bytes.{content, word_at}
+use Rattle.blk_image.specs.Image.{AreBytes, Index, Block, Image, byte, length_of, word}
+use Rattle.blk_image.specs.Footprint.{SameOutside}
+use Rattle.blk_image.specs.Told.{Told, TellsBytes, Passes}
+use Rattle.blk_image.proofs.Runs.{passes_none, passes_weaker, passes_end, some_inj}
+use Rattle.blk_image.proofs.Words.{word-fits}
+use Rattle.blk_format.specs.Address.{kind_of, file_selector, place, blocks_256}
+use Rattle.blk_format.specs.BlockFiles.{is_among, stands_in}
+use Rattle.blk_format.specs.Records.{entry_in, entry_checks, checks}
+use Rattle.blk_volume.specs.View.{Core, entry_at, stock_of}
+use Rattle.blk_volume.specs.Chains.{bucket_of_hash, file_and_block, IsChain, Linked}
+use Rattle.blk_format.specs.Claims.{claims_of, has_claim}
+use Rattle.blk_volume.specs.Entries.{key_of}
+use Rattle.blk_laws.proofs.Unlinking.{unlink-behind}
+use Rattle.blk_moments.specs.Moments.{OnlyFollowChanges}
+use Rattle.blk_moments.specs.RecordMoments.{IsRecord}
+use Rattle.blk_moments.proofs.Inside.{record-changes}
+use Rattle.blk_moments.proofs.Records.{follows-written}
+use Rattle.blk_moments.proofs.Nodes.{none-or-one}
+use Rattle.blk_moments.proofs.Shown.{core-standing, standing-parts}
+use Rattle.blk_moments.proofs.Fronts.{AreSmall, small-take, small-range, entry_checks-front, entry_checks-by}
+use Rattle.blk_moments.proofs.Updates.{entry-seal, entry-here}
+use Rattle.blk_disk.proofs.SealedRecords.{length-record, seal_last, moment_before}
+use Rattle.blk_disk.specs.Sealed.{RecordChecks, AreChanges, IsMoment, IsUpdated, record_at, record_range, record_size, seal_place, size_by_kind, seal_by_kind}
+use Rattle.blk_disk.proofs.SealedFields.{record_word, updated_is_new}
+use Rattle.blk_chain.specs.Linking.{bucket_at}
+use Rattle.blk_chain.specs.Unlinking.{CanBeUnlinked, first_claim, IsApart, NamesStay, IsStillLinked, IsUnlinked, IsUnlinking, KeepsRecords, next_of}
+use Rattle.blk_chain.proofs.Names.{IsShownOf, shown-of, shown-core, shown-kind, shown-follow, same-core, same-follow}
+use Rattle.blk_chain.proofs.Words.{linked-good}
+use Rattle.blk_chain.proofs.Keys.{first_word, first-clear, first-record, first-moment}
+use Rattle.blk_chain.proofs.Apart.{middle-there, behind-there, front-apart, rest-apart, once-without, length-without}
+use Rattle.blk_chain.proofs.Follows.{chain-same}
+
+-- the change of a record's next
+pub next_changes : (w next : ℕ) → kind_of w ≡ blocks_256 → AreChanges (seal_place w) ((4, next) ∷ [])
+unfolding seal_by_kind
+next_changes w next kind = record {
+  some = omega arith;
+  few = omega arith;
+  aligned = All-cons (λ change. change.0 % 4 ≡ 0) (4, next) [] refl (All-nil (λ change. change.0 % 4 ≡ 0));
+  before = All-cons (λ change. change.0 < seal_place w) (4, next) [] (rw kind (omega arith)) (All-nil (λ change. change.0 < seal_place w));
+  different = (All-nil (λ other. other.0 ≢ 4), tt);
+}
+
+module _ (from : Image) (bytes : AreBytes from) (entry before : ℕ) (can : CanBeUnlinked entry (Some before) from) where
+  b : ℕ
+  b = bucket_at from entry
+
+  words : List ℕ
+  words = can.front ++ before ∷ entry ∷ can.behind
+
+  chain-was : IsChain (stock_of from) (bucket_at from entry) (can.front ++ before ∷ entry ∷ can.behind)
+  chain-was = subst (λ (ws : List ℕ). IsChain (stock_of from) (bucket_at from entry) ws) can.stands can.whole
+
+  good : (w : ℕ) → is_among (can.front ++ before ∷ entry ∷ can.behind) w ≡ true → IsShownOf (stock_of from) (bucket_at from entry) w
+  good w among = shown-of (stock_of from) (bucket_at from entry) w (linked-good (stock_of from) (bucket_at from entry) ((stock_of from).table (bucket_at from entry)) (can.front ++ before ∷ entry ∷ can.behind) w chain-was.linked among)
+
+  pub shown-before : IsShownOf (stock_of from) (bucket_at from entry) before
+  shown-before = good before (middle-there can.front before (entry ∷ can.behind))
+
+  pub shown-entry : IsShownOf (stock_of from) (bucket_at from entry) entry
+  shown-entry = good entry (behind-there can.front before entry can.behind)
+
+  pub is-record : IsRecord from before shown-before.core
+  is-record = record { here = shown-before.here; good = shown-before.good; bytes = bytes }
+
+  next-small : next_of from entry < 2 ^ 32
+  unfolding entry_in
+  next-small = word-fits (byte from (Block (file_selector entry))) (bytes (Block (file_selector entry))) (place entry + 4)
+
+  module _ (image : Image) (only : OnlyFollowChanges before from image) (outside : SameOutside (record_range before) from image) (names : NamesStay from (Some before) image) where
+    records : (w : ℕ) → (stock_of image).entry w ≡ (stock_of from).entry w
+    records w = sym (only.entry w)
+
+    here-now : (stock_of image).entry before ≡ Some shown-before.core
+    here-now = records before ∙ shown-before.here
+
+    standing : stands_in from before ≡ true
+    standing = (standing-parts from blocks_256 before (core-standing from before shown-before.core shown-before.here)).0
+
+    keeps : KeepsRecords from (Some before) (record_range before) image
+    keeps = record {
+      list = only.rest.list;
+      records = records;
+      names = names;
+      well_formed = (record-changes from image before standing (inr (shown-kind from before shown-before.core shown-before.here)) outside).well_formed;
+      outside = outside;
+    }
+
+    -- where the link of the record before is as it was, so is that of each record
+    still-linked : (stock_of image).follow before ≡ (stock_of from).follow before → IsStillLinked from entry (Some before) image
+    still-linked same = record {
+      keeps = keeps;
+      chains = λ bucket. chain-same (stock_of from) (stock_of image) bucket records (λ w of. follow-same w (shown-of (stock_of from) bucket w of)) (sym (only.rest.table bucket));
+    } where
+      follow-same : {bucket : ℕ} (w : ℕ) → IsShownOf (stock_of from) bucket w → (stock_of image).follow w ≡ (stock_of from).follow w
+      follow-same w shown = ⊎_elim
+          (λ (e : file_and_block w ≡ file_and_block before).
+          same-follow image w before shown.core shown-before.core (records w ∙ shown.here) here-now e ∙ same ∙ sym (same-follow from w before shown.core shown-before.core shown.here shown-before.here e))
+          (λ (e : file_and_block w ≢ file_and_block before). sym (only.follow w e))
+          (cases_eq (file_and_block w) (file_and_block before))
+
+    -- where it is the next of the record behind, that one is unlinked
+    now-unlinked : (stock_of image).follow before ≡ next_of from entry → IsUnlinked from entry (Some before) image
+    now-unlinked link = record {
+      keeps = keeps;
+      chain_now = λ front behind stands. chain-without front behind (subst (λ (ws : List ℕ). IsChain (stock_of from) (bucket_at from entry) ws) stands can.whole);
+      others = λ other apart. chain-same (stock_of from) (stock_of image) other records (λ w of. elsewhere other apart w (shown-of (stock_of from) other w of)) (sym (only.rest.table other));
+    } where
+      elsewhere : (other : ℕ) → (bucket_at from entry == other) ≡ false → (w : ℕ) → IsShownOf (stock_of from) other w → (stock_of image).follow w ≡ (stock_of from).follow w
+      elsewhere other apart w shown = sym (only.follow w (λ e.
+          let core : shown.core ≡ shown-before.core = same-core from w before shown.core shown-before.core shown.here shown-before.here e in
+          let bucket : bucket_at from entry ≡ other = sym shown-before.in_bucket ∙ ap (λ (c : Core). bucket_of_hash c.hash) (sym core) ∙ shown.in_bucket in
+          let no : true ≡ false = sym (eq-eqb (bucket_at from entry) other bucket) ∙ apart in cc))
+
+      chain-without : (front behind : List ℕ) → IsChain (stock_of from) (bucket_at from entry) (front ++ before ∷ entry ∷ behind) → IsChain (stock_of image) (bucket_at from entry) (front ++ before ∷ behind)
+      chain-without front behind was = record {
+        linked =
+            subst (λ (x : ℕ). Linked (stock_of image) (bucket_at from entry) x (front ++ before ∷ behind)) (only.rest.table (bucket_at from entry))
+            (unlink-behind (stock_of from) (stock_of image) (bucket_at from entry) ((stock_of from).table (bucket_at from entry)) before entry front behind
+            (λ x among. ap (λ (o : Option Core). option_map_or (λ core. core.checks && (bucket_of_hash core.hash == bucket_at from entry)) o false) (records x))
+            (λ x among. sym (only.follow x (front-apart front before (entry ∷ behind) was.once x among)))
+            (λ x among. sym (only.follow x (rest-apart front before behind (once-without front before entry behind was.once) x among)))
+            (link ∙ sym (shown-follow from entry shown-entry.core shown-entry.here))
+            was.linked);
+        once = once-without front before entry behind was.once;
+        few = let l = length-without front before entry behind in omega (arith, was.few, l);
+      }
+
+  module _ (image : Image) (moment : IsMoment from before ((4, next_of from entry) ∷ []) image) where
+    written : OnlyFollowChanges before from image × ((stock_of image).follow before ≡ (if moment.made == 0 then (stock_of from).follow before else next_of from entry))
+    written = follows-written from image before (next_of from entry) shown-before.core is-record next-small moment
+
+    -- the update as one of the first block alone
+    of-first : OnlyFollowChanges (first_word before) from image
+    of-first =
+        let kind : kind_of before ≡ 2 = shown-kind from before shown-before.core shown-before.here in
+        (follows-written from image (first_word before) (next_of from entry) shown-before.core (record { here = first-record from before shown-before.core shown-before.here; good = shown-before.good; bytes = bytes }) next-small
+        (first-moment from image before (next_of from entry) kind moment)).0
+
+    key-same : (w : ℕ) (apart : IsApart before (stock_of from) w) → key_of (stock_of from) w apart.core ≡ key_of (stock_of image) w apart.core
+    unfolding key_of
+    key-same w apart = ⊎_elim
+        (λ (e : nat_le apart.core.key_len 927 ≡ true).
+        let place : (stock_of from).key_place w apart.core.key_len ≡ (stock_of image).key_place w apart.core.key_len =
+        ⊎_elim (λ (s : w ≡ before). written.0.rest.key_place w apart.core (inr s) apart.here apart.lengths e)
+        (λ (s : has_claim (claims_of w) (first_claim before) ≡ false). of-first.rest.key_place w apart.core (inl (first-clear before w s)) apart.here apart.lengths e) apart.record_apart in
+        rw e (ap (λ (l : List ℕ). if apart.core.long_key == 0 then Some l else None) place))
+        (λ (e : nat_le apart.core.key_len 927 ≡ false).
+        rw e (ap (λ (o : Option (List ℕ)). option_map (take apart.core.key_len) o) (of-first.rest.stored (apart.core.key_len + 1) apart.core.long_key (first-clear before apart.core.long_key (apart.key_apart e)))))
+        (cases_Bool (nat_le apart.core.key_len 927))
+
+    names-stay : NamesStay from (Some before) image
+    names-stay w name is_child apart named = record {
+      core = named.core;
+      here = sym (written.0.entry w) ∙ named.here;
+      hashed = named.hashed;
+      key = subst (λ (c : Core). key_of (stock_of image) w c ≡ key_of (stock_of from) w c) (some_inj (sym apart.here ∙ named.here)) (sym (key-same w apart)) ∙ named.key;
+      flag = named.flag;
+    }
+
+    -- at each moment of the update the chains are as they were, or the record is unlinked
+    pub unlinking_at : IsUnlinking from entry (Some before) image
+    unlinking_at = ⊎_elim
+        (λ (e : moment.made ≡ 0). inl (still-linked image written.0 moment.outside names-stay (subst (λ (m : ℕ). (stock_of image).follow before ≡ (if m == 0 then (stock_of from).follow before else next_of from entry)) e written.1)))
+        (λ (e : moment.made ≡ 1). inr (now-unlinked image written.0 moment.outside names-stay (subst (λ (m : ℕ). (stock_of image).follow before ≡ (if m == 0 then (stock_of from).follow before else next_of from entry)) e written.1)))
+        (none-or-one moment.made (let h : moment.made ≤ 1 = moment.within in h))
+
+    -- after it the record is
+    pub unlinked_at : IsUpdated from before ((4, next_of from entry) ∷ []) image → IsUnlinked from entry (Some before) image
+    unfolding entry_in size_by_kind
+    unlinked_at done =
+        let kind : kind_of before ≡ blocks_256 = shown-kind from before shown-before.core shown-before.here in
+        let new : word_at (content (record_at image before)) 4 ≡ next_of from entry =
+        updated_is_new from image before ((4, next_of from entry) ∷ []) (next_changes before (next_of from entry) kind) done 0 (4, next_of from entry) (omega arith) (All-cons (λ c. c.1 < 2 ^ 32) (4, next_of from entry) [] next-small (All-nil (λ c. c.1 < 2 ^ 32))) in
+        let inside : 4 + 4 ≤ record_size before = rw kind (omega arith) in
+        let there : (entry_at image before).next ≡ word_at (content (record_at image before)) 4 = sym (record_word image before 4 inside) in
+        now-unlinked image written.0 moment.outside names-stay (shown-follow image before shown-before.core (sym (written.0.entry before) ∙ shown-before.here) ∙ there ∙ new)
+
+-- a record that is shown to check does so in its bytes
+pub record_checks : (image : Image) (w : ℕ) → AreBytes image → kind_of w ≡ blocks_256 → entry_checks (entry_at image w) ≡ true → RecordChecks w image
+unfolding entry_in record_at
+record_checks image w bytes kind good =
+    let s : seal_place w ≡ 92 = entry-seal w kind in
+    let small : AreSmall (take 92 (record_at image w)) = small-take 92 (record_at image w) (small-range (record_size w) (place w) (byte image (Block (file_selector w))) (bytes (Block (file_selector w)))) in
+    let seal : word_at (byte image (Block (file_selector w))) (place w + 92) ≡ word_at (content (record_at image w)) 92 = sym (record_word image w 92 (omega (arith, s, seal_last (kind_of w)))) in
+    let same : checks 92 (record_at image w) ≡ true =
+    sym (entry_checks-front (record_at image w) small (omega (arith, s, length-record w image))) ∙ sym (entry_checks-by (entry_at image w) (entry_in (content (record_at image w)) 0) seal (entry-here image w kind)) ∙ good in
+    subst (λ (n : ℕ). checks n (record_at image w) ≡ true) (sym s) same
+
+-- the record before checks in its bytes
+pub before_checks : (from : Image) (bytes : AreBytes from) (entry before : ℕ) → CanBeUnlinked entry (Some before) from → RecordChecks before from
+before_checks from bytes entry before can =
+    let shown = shown-before from bytes entry before can in
+    record_checks from before bytes (shown-kind from before shown.core shown.here) (ap (λ (c : Core). c.checks) (shown-core from before shown.core shown.here) ∙ shown.good)
+
+-- the next that was read
+pub next_read : (image : Image) (entry next : ℕ) → next ≡ word image (Block (file_selector entry)) (place entry + 4) → next ≡ next_of image entry
+unfolding entry_in
+next_read image entry next read = read
+
+-- what is said of the next that was read, after a read
+pub moved : (a m : Told) (entry next : ℕ) (P : Told → Image → ℕ → Type 0) → ForSome a.files (λ image. next ≡ word image (Block (file_selector entry)) (place entry + 4)) → m ≡ a
+    → ForSome m.files (λ from. P m from next) → ForSome a.files (λ from. P a from (next_of from entry))
+moved a m entry next P read stays holds from there = subst (λ (n : ℕ). P a from n) (next_read from entry next (read from there)) (subst (λ (t : Told). ForSome t.files (λ from. P t from next)) stays holds from there)
+
+-- a list of changes with this next
+abbrev pub with_next : ℕ → List (ℕ × ℕ)
+with_next next = (4, next) ∷ []
+
+module _ (a b : Told) (tells : TellsBytes a) (entry before : ℕ) (can : ForSome a.files (CanBeUnlinked entry (Some before))) where
+  -- before the update
+  pub not_yet : b ≡ a → ForSome a.files (λ from. Passes a b (IsUnlinking from entry (Some before)))
+  not_yet stays from there =
+      passes_none (IsUnlinking from entry (Some before)) stays
+      (λ image here. subst (λ (i : Image). IsUnlinking from entry (Some before) i) (some_inj (sym there ∙ here))
+      (unlinking_at from (tells from there) entry before (can from there) from (moment_before before from (with_next (next_of from entry)) (before_checks from (tells from there) entry before (can from there)))))
+
+  pub unlinking_stops : ForSome a.files (λ from. Passes a b (IsMoment from before (with_next (next_of from entry)))) → ForSome a.files (λ from. Passes a b (IsUnlinking from entry (Some before)))
+  unlinking_stops stops from there =
+      passes_weaker (stops from there) (λ image moment. unlinking_at from (tells from there) entry before (can from there) image moment) (λ image moment. unlinking_at from (tells from there) entry before (can from there) image moment)
+
+  pub unlinked_then : ForSome a.files (λ from. Passes a b (IsMoment from before (with_next (next_of from entry)))) → ForSome a.files (λ from. ForSome b.files (IsUpdated from before (with_next (next_of from entry))))
+      → ForSome a.files (λ from. ForSome b.files (IsUnlinked from entry (Some before)))
+  unlinked_then stops updated from there image now = unlinked_at from (tells from there) entry before (can from there) image (passes_end (stops from there) image now) (updated from there image now)
+
+  -- no length changes
+  pub still_complete : ForSome a.files (λ image. length_of image Index ≡ 262512) → ForSome a.files (λ from. Passes a b (IsMoment from before (with_next (next_of from entry)))) → ForSome a.files (λ from. ForSome b.files (λ image. length_of image Index ≡ 262512))
+  still_complete complete stops from there image now = let moment = passes_end (stops from there) image now in moment.outside.lengths Index refl ∙ complete from there

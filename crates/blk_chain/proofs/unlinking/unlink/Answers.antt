@@ -1,0 +1,32 @@
+use Rattle.std.proofs.Common.{ℕ, Option, sym, subst}
+use Rattle.std.specs.Option.{ForSome}
+use Rattle.std.specs.Prelude.{OnOk}
+use Rattle.blk_image.specs.Told.{Grows}
+use Rattle.blk_chain.specs.Unlinking.{CanBeUnlinked, IsUnlinked, unlink_steps}
+use Rattle.blk_chain.proofs.unlinking.unlink.Goals as goal
+
+pub unlink_first-requires-clause-linked : goal.unlink_first-requires-clause-linked
+unlink_first-requires-clause-linked g c from there = subst (λ (o : Option ℕ). CanBeUnlinked c.args.found.now.entry o from) c.in-None.is (c.requires.linked from there)
+
+pub unlink_behind-requires-clause-linked : goal.unlink_behind-requires-clause-linked
+unlink_behind-requires-clause-linked g c from there = subst (λ (o : Option ℕ). CanBeUnlinked c.args.found.now.entry o from) c.in-Some.is (c.requires.linked from there)
+
+pub returns-in-None-clause-whole : goal.returns-in-None-clause-whole
+returns-in-None-clause-whole g c =
+    subst (λ (o : Option ℕ). OnOk c.unlink_first.result (ForSome (g.F.Folder.told c.args.f.now).files (λ from. Grows (g.F.Folder.told c.args.f.now) (g.F.Folder.told c.unlink_first.new.f) (unlink_steps from c.args.found.now.entry o))))
+    (sym c.in-None.is) c.unlink_first.ensures.whole
+
+pub returns-in-None-clause-unlinked : goal.returns-in-None-clause-unlinked
+returns-in-None-clause-unlinked g c =
+    subst (λ (o : Option ℕ). OnOk c.unlink_first.result (ForSome (g.F.Folder.told c.args.f.now).files (λ from. ForSome (g.F.Folder.told c.unlink_first.new.f).files (IsUnlinked from c.args.found.now.entry o))))
+    (sym c.in-None.is) c.unlink_first.ensures.unlinked
+
+pub returns-in-Some-clause-whole : goal.returns-in-Some-clause-whole
+returns-in-Some-clause-whole g c =
+    subst (λ (o : Option ℕ). OnOk c.unlink_behind.result (ForSome (g.F.Folder.told c.args.f.now).files (λ from. Grows (g.F.Folder.told c.args.f.now) (g.F.Folder.told c.unlink_behind.new.f) (unlink_steps from c.args.found.now.entry o))))
+    (sym c.in-Some.is) c.unlink_behind.ensures.whole
+
+pub returns-in-Some-clause-unlinked : goal.returns-in-Some-clause-unlinked
+returns-in-Some-clause-unlinked g c =
+    subst (λ (o : Option ℕ). OnOk c.unlink_behind.result (ForSome (g.F.Folder.told c.args.f.now).files (λ from. ForSome (g.F.Folder.told c.unlink_behind.new.f).files (IsUnlinked from c.args.found.now.entry o))))
+    (sym c.in-Some.is) c.unlink_behind.ensures.unlinked

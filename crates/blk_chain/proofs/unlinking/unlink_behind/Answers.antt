@@ -1,0 +1,59 @@
+use Rattle.std.proofs.Common.{ℕ, sym, subst}
+use Rattle.std.specs.Option.{ForSome}
+use Rattle.std.proofs.lemmas.Result.{on_ok_weaker}
+use Rattle.blk_image.specs.Image.{Image}
+use Rattle.blk_image.specs.Told.{Told, Grows, GrowsInPart, Passes}
+use Rattle.blk_disk.specs.Sealed.{IsMoment, IsUpdated, RecordChecks, sealed_steps}
+use Rattle.blk_disk.specs.Tables.{Agrees}
+use Rattle.blk_chain.specs.Unlinking.{next_of}
+use Rattle.blk_chain.proofs.Unlinks.{next_changes, before_checks, moved, with_next, not_yet, unlinking_stops, unlinked_then, still_complete}
+use Rattle.blk_chain.proofs.unlinking.unlink_behind.Given as given
+use Rattle.blk_chain.proofs.unlinking.unlink_behind.Goals as goal
+use Rattle.blk_chain.proofs.unlinking.unlink_behind.Goals.{After-update_sealed}
+
+pub returns-in_err-next-clause-agrees : goal.returns-in_err-next-clause-agrees
+returns-in_err-next-clause-agrees g c = subst (λ (t : Told). ForSome t.files (Agrees c.args.files.now)) (sym c.in_err-next.ensures.stays) c.requires.agrees
+
+pub returns-in_err-next-clause-stops : goal.returns-in_err-next-clause-stops
+returns-in_err-next-clause-stops g c =
+    not_yet (g.F.Folder.told c.args.f.now) (g.F.Folder.told c.field.new.f) (g.met.F.Folder.are_bytes c.args.f.now) c.args.entry c.args.before c.requires.linked c.in_err-next.ensures.stays
+
+pub update_sealed-requires-clause-agrees : goal.update_sealed-requires-clause-agrees
+update_sealed-requires-clause-agrees g c = subst (λ (t : Told). ForSome t.files (Agrees c.args.files.now)) (sym c.in_ok-next.ensures.stays) c.requires.agrees
+
+pub update_sealed-requires-clause-changes : goal.update_sealed-requires-clause-changes
+update_sealed-requires-clause-changes g c = next_changes c.args.before c.in_ok-next.next c.requires.kind_before
+
+pub update_sealed-requires-clause-checks : goal.update_sealed-requires-clause-checks
+update_sealed-requires-clause-checks g c =
+    subst (λ (t : Told). ForSome t.files (RecordChecks c.args.before)) (sym c.in_ok-next.ensures.stays)
+    (λ from there. before_checks from (g.met.F.Folder.are_bytes c.args.f.now from there) c.args.entry c.args.before (c.requires.linked from there))
+
+-- what a call says of the next that was read
+said : (g : given.Over) (c : goal.After-update_sealed g) (P : Told → Image → ℕ → Type 0) → ForSome (g.F.Folder.told c.field.new.f).files (λ from. P (g.F.Folder.told c.field.new.f) from c.in_ok-next.next)
+    → ForSome (g.F.Folder.told c.args.f.now).files (λ from. P (g.F.Folder.told c.args.f.now) from (next_of from c.args.entry))
+said g c P = moved (g.F.Folder.told c.args.f.now) (g.F.Folder.told c.field.new.f) c.args.entry c.in_ok-next.next P c.in_ok-next.ensures.value c.in_ok-next.ensures.stays
+
+pub returns-clause-whole : goal.returns-clause-whole
+returns-clause-whole g c =
+    on_ok_weaker c.update_sealed.result (λ whole. said g c (λ (t : Told) (from : Image) (n : ℕ). Grows t (g.F.Folder.told c.update_sealed.new.f) (sealed_steps from c.args.before (with_next n))) whole) c.update_sealed.ensures.whole
+
+pub returns-clause-part : goal.returns-clause-part
+returns-clause-part g c = said g c (λ (t : Told) (from : Image) (n : ℕ). GrowsInPart t (g.F.Folder.told c.update_sealed.new.f) (sealed_steps from c.args.before (with_next n))) c.update_sealed.ensures.part
+
+moments : (g : given.Over) (c : goal.After-update_sealed g) → ForSome (g.F.Folder.told c.args.f.now).files (λ from. Passes (g.F.Folder.told c.args.f.now) (g.F.Folder.told c.update_sealed.new.f) (IsMoment from c.args.before (with_next (next_of from c.args.entry))))
+moments g c = said g c (λ (t : Told) (from : Image) (n : ℕ). Passes t (g.F.Folder.told c.update_sealed.new.f) (IsMoment from c.args.before (with_next n))) c.update_sealed.ensures.stops
+
+pub returns-clause-stops : goal.returns-clause-stops
+returns-clause-stops g c =
+    unlinking_stops (g.F.Folder.told c.args.f.now) (g.F.Folder.told c.update_sealed.new.f) (g.met.F.Folder.are_bytes c.args.f.now) c.args.entry c.args.before c.requires.linked (moments g c)
+
+pub returns-clause-unlinked : goal.returns-clause-unlinked
+returns-clause-unlinked g c =
+    on_ok_weaker c.update_sealed.result
+    (λ updated. unlinked_then (g.F.Folder.told c.args.f.now) (g.F.Folder.told c.update_sealed.new.f) (g.met.F.Folder.are_bytes c.args.f.now) c.args.entry c.args.before c.requires.linked (moments g c)
+    (said g c (λ (t : Told) (from : Image) (n : ℕ). ForSome (g.F.Folder.told c.update_sealed.new.f).files (IsUpdated from c.args.before (with_next n))) updated)) c.update_sealed.ensures.updated
+
+pub returns-clause-complete : goal.returns-clause-complete
+returns-clause-complete g c =
+    still_complete (g.F.Folder.told c.args.f.now) (g.F.Folder.told c.update_sealed.new.f) (g.met.F.Folder.are_bytes c.args.f.now) c.args.entry c.args.before c.requires.linked c.requires.complete (moments g c)

@@ -1,0 +1,54 @@
+-- A record is linked in front of its chain.
+use Rattle.std.specs.Prelude.{◌≡◌, ◌⊎◌, ℕ, ◌+◌, ◌<◌, List, ◌∷◌, length, true, false, ◌==◌}
+use Rattle.std.specs.declared.option.Option.TheVariants.{Some}
+use Rattle.blk_image.specs.Image.{Image, Index}
+use Rattle.blk_image.specs.Steps.{TrailStep, word_step}
+use Rattle.blk_image.specs.Footprint.{SameOutside, one_word}
+use Rattle.blk_format.specs.Headers.{place_of_bucket}
+use Rattle.blk_format.specs.BlockFiles.{is_among, IsWellFormed}
+use Rattle.blk_format.specs.Records.{child}
+use Rattle.blk_volume.specs.ListView.{put}
+use Rattle.blk_volume.specs.View.{Core, entry_at, list_of, stock_of}
+use Rattle.blk_volume.specs.Chains.{bucket_of_hash, chain, IsChain, most_records}
+use Rattle.blk_chain.specs.Naming.{HasName, IsWhole}
+
+-- the bucket of the record that a word names
+abbrev pub bucket_at : Image → ℕ → ℕ
+bucket_at image w = bucket_of_hash (entry_at image w).hash
+
+-- the records of its chain
+abbrev pub chained_with : Image → ℕ → List ℕ
+chained_with image w = (chain (stock_of image) (bucket_at image w)).reached
+
+-- the place of the bucket's word in the index
+abbrev pub place_of_front : Image → ℕ → ℕ
+place_of_front image w = place_of_bucket (bucket_at image w)
+
+-- a record that checks can be linked: its next is the word of its bucket, its hash is that of its key, the chain is whole, and none of the chain's records has its key and child flag
+pub record CanBeLinked (entry : ℕ) (image : Image) : Type 0 where
+  pub core : Core
+  pub here : (stock_of image).entry entry ≡ Some core
+  pub good : core.checks ≡ true
+  pub next : (stock_of image).follow entry ≡ (stock_of image).table (bucket_at image entry)
+  pub key : List ℕ
+  pub named : HasName (stock_of image) key (core.flags == child) entry
+  pub whole : IsWhole (stock_of image) (bucket_at image entry)
+  pub few : length (chained_with image entry) + 1 < most_records
+  pub fresh : (w : ℕ) → is_among (chained_with image entry) w ≡ true → HasName (stock_of image) key (core.flags == child) w → ⊥
+
+-- the one step: the word of the bucket becomes the record
+abbrev pub link_steps : Image → ℕ → List TrailStep
+link_steps image entry = word_step Index (place_of_front image entry) entry
+
+-- a record is linked: the word of its bucket is all that has changed, the record is in front of the old chain, and the other chains are as before
+pub record IsLinked (from : Image) (entry : ℕ) (image : Image) : Type 0 where
+  pub list : list_of image ≡ list_of from
+  pub stock : stock_of image ≡ record (stock_of from) { table = put (stock_of from).table (bucket_at from entry) entry }
+  pub chain_now : IsChain (stock_of image) (bucket_at from entry) (entry ∷ chained_with from entry)
+  pub others : (other : ℕ) → (bucket_at from entry == other) ≡ false → chain (stock_of image) other ≡ chain (stock_of from) other
+  pub well_formed : IsWellFormed from → IsWellFormed image
+  pub outside : SameOutside (one_word Index (place_of_front from entry)) from image
+
+-- a moment of linking: all is as before, or the record is linked
+abbrev pub IsLinking : Image → ℕ → Image → Type 0
+IsLinking from entry image = (image ≡ from) ⊎ IsLinked from entry image

@@ -1,0 +1,101 @@
+-- A record is taken out of its chain.
+use Rattle.std.specs.Prelude.{◌≡◌, ◌⊎◌, ℕ, ◌+◌, List, [], ◌∷◌, ◌++◌, Bool, true, false, nat_le, ◌==◌}
+use Rattle.std.specs.declared.option.Option.{Option}
+use Rattle.std.specs.declared.option.Option.TheVariants.{None, Some}
+use Rattle.blk_image.specs.Image.{Image, Index}
+use Rattle.blk_image.specs.Steps.{TrailStep, word_step}
+use Rattle.blk_image.specs.Footprint.{Footprint, SameOutside, one_word}
+use Rattle.blk_image.specs.Told.{Told}
+use Rattle.blk_format.specs.Address.{file_selector, first_block, place}
+use Rattle.blk_format.specs.Claims.{Claim, BlockOf, claims_of, has_claim}
+use Rattle.blk_format.specs.BlockFiles.{IsWellFormed}
+use Rattle.blk_io.specs.declared.folder.FileId.TheVariants as names
+use Rattle.blk_io.specs.declared.fault.Damage.{Damage}
+use Rattle.blk_io.specs.Faults.{IsShort}
+use Rattle.blk_volume.specs.View.{Core, Stock, entry_at, list_of, stock_of}
+use Rattle.blk_volume.specs.Entries.{is_key_length, longest_short_key}
+use Rattle.blk_volume.specs.Chains.{chain, IsChain}
+use Rattle.blk_disk.specs.Sealed.{IsUnsealed, record_range, record_size, sealed_steps}
+use Rattle.blk_chain.specs.Naming.{HasName, IsWhole}
+use Rattle.blk_chain.specs.Linking.{bucket_at, chained_with, place_of_front}
+
+-- words have this one, with the word before it, if there is one, so many before that, and these behind
+abbrev pub StandsBehind : List ℕ → ℕ → Option ℕ → List ℕ → List ℕ → Type 0
+StandsBehind words w None front behind = (front ≡ []) × (words ≡ w ∷ behind)
+StandsBehind words w (Some before) front behind = words ≡ front ++ before ∷ w ∷ behind
+
+-- those words without this one
+abbrev pub without : Option ℕ → List ℕ → List ℕ → List ℕ
+without None front behind = behind
+without (Some before) front behind = front ++ before ∷ behind
+
+-- a record of a whole chain can be taken out, with the record before it in the chain
+pub record CanBeUnlinked (entry : ℕ) (before : Option ℕ) (image : Image) : Type 0 where
+  pub whole : IsWhole (stock_of image) (bucket_at image entry)
+  pub front : List ℕ
+  pub behind : List ℕ
+  pub stands : StandsBehind (chained_with image entry) entry before front behind
+
+-- a record's next
+abbrev pub next_of : Image → ℕ → ℕ
+next_of image w = (entry_at image w).next
+
+-- the steps: the word of the bucket becomes the record's next, or that of the record before does, by a sealed update
+abbrev pub unlink_steps : Image → ℕ → Option ℕ → List TrailStep
+unlink_steps image entry None = word_step Index (place_of_front image entry) (next_of image entry)
+unlink_steps image entry (Some before) = sealed_steps image before ((4, next_of image entry) ∷ [])
+
+-- what they touch: the bucket's word, or the record before
+abbrev pub unlink_range : Image → ℕ → Option ℕ → Footprint
+unlink_range image entry None = one_word Index (place_of_front image entry)
+unlink_range image entry (Some before) = record_range before
+
+-- the first block of a record
+abbrev pub first_claim : ℕ → Claim
+first_claim w = BlockOf (file_selector w) (first_block w)
+
+-- a record whose key has a right length is another one or this one, and the first block of this one is none of its blocks, nor of its long key's
+pub record IsApart (before : ℕ) (stock : Stock) (w : ℕ) : Type 0 where
+  pub core : Core
+  pub here : stock.entry w ≡ Some core
+  pub lengths : is_key_length w core ≡ true
+  pub record_apart : (w ≡ before) ⊎ (has_claim (claims_of w) (first_claim before) ≡ false)
+  pub key_apart : nat_le core.key_len longest_short_key ≡ false → has_claim (claims_of core.long_key) (first_claim before) ≡ false
+
+-- a record's key lies apart from what is changed: from the record before, or from the table
+abbrev pub KeyIsApart : Option ℕ → Stock → ℕ → Type 0
+KeyIsApart None stock w = Unit {0}
+KeyIsApart (Some before) stock w = IsApart before stock w
+
+-- each record whose key lies apart from the change keeps its key and its child flag
+abbrev pub NamesStay : Image → Option ℕ → Image → Type 0
+NamesStay from before image = (w : ℕ) (name : List ℕ) (is_child : Bool) → KeyIsApart before (stock_of from) w → HasName (stock_of from) name is_child w → HasName (stock_of image) name is_child w
+
+-- all records are as they were but for the links, each checks as before, and nothing else changes than these bytes
+pub record KeepsRecords (from : Image) (before : Option ℕ) (footprint : Footprint) (image : Image) : Type 0 where
+  pub list : list_of image ≡ list_of from
+  pub records : (w : ℕ) → (stock_of image).entry w ≡ (stock_of from).entry w
+  pub names : NamesStay from before image
+  pub well_formed : IsWellFormed from → IsWellFormed image
+  pub outside : SameOutside footprint from image
+
+-- all chains are as they were
+pub record IsStillLinked (from : Image) (entry : ℕ) (before : Option ℕ) (image : Image) : Type 0 where
+  pub keeps : KeepsRecords from before (unlink_range from entry before) image
+  pub chains : (bucket : ℕ) → chain (stock_of image) bucket ≡ chain (stock_of from) bucket
+
+-- a record is unlinked: its chain is whole without it, and the other chains are as they were
+pub record IsUnlinked (from : Image) (entry : ℕ) (before : Option ℕ) (image : Image) : Type 0 where
+  pub keeps : KeepsRecords from before (unlink_range from entry before) image
+  pub chain_now : (front behind : List ℕ) → StandsBehind (chained_with from entry) entry before front behind → IsChain (stock_of image) (bucket_at from entry) (without before front behind)
+  pub others : (other : ℕ) → (bucket_at from entry == other) ≡ false → chain (stock_of image) other ≡ chain (stock_of from) other
+
+-- a moment of unlinking: the chains are as they were, or the record is unlinked
+abbrev pub IsUnlinking : Image → ℕ → Option ℕ → Image → Type 0
+IsUnlinking from entry before image = IsStillLinked from entry before image ⊎ IsUnlinked from entry before image
+
+-- the damages of unlinking: too few bytes at the record's next; then at its hash, or at the record before, which may also fail to check
+abbrev pub IsUnlinkDamage : Told → ℕ → Option ℕ → Damage → Type 0
+IsUnlinkDamage told entry None damage = IsShort told (names.Block (file_selector entry)) (place entry + 4) 4 damage ⊎ IsShort told (names.Block (file_selector entry)) (place entry) 4 damage
+IsUnlinkDamage told entry (Some before) damage =
+    IsShort told (names.Block (file_selector entry)) (place entry + 4) 4 damage ⊎ (IsShort told (names.Block (file_selector before)) (place before) (record_size before) damage ⊎ IsUnsealed told before damage)

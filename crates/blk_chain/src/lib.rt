@@ -1,0 +1,10 @@
+//! The chains of the table: a map from keys and child flags to records.
+#![tactic(auto)]
+
+mod found;
+mod linking;
+mod unlinking;
+
+pub use found::Found;
+pub use linking::link_front;
+pub use unlinking::unlink;

@@ -1,0 +1,53 @@
+// Records that are linked in front of a chain.
+ghost use Rattle.std.specs.Prelude.{◌≡◌, ◌≤◌, IsTrue, None, OnOk};
+ghost use Rattle.std.specs.Option.{ForSome};
+ghost use Rattle.blk_image.specs.Image.{Index as index, length_of};
+ghost use Rattle.blk_image.specs.Told.{Grows, GrowsInPart, Passes, Rises};
+ghost use Rattle.blk_format.specs.Address.{blocks_256, file_selector, kind_of, place};
+ghost use Rattle.blk_format.specs.Headers.{index_length};
+ghost use Rattle.blk_io.specs.declared.folder.FileId.TheVariants as FileId;
+ghost use Rattle.blk_io.specs.Faults.{IfDamaged, IfDevice, IsShort};
+ghost use Rattle.blk_disk.specs.Tables.{Agrees, stands_among};
+ghost use Rattle.blk_chain.specs.Linking.{CanBeLinked, IsLinked, IsLinking, link_steps};
+
+use blk_addr::Addr;
+use blk_disk::BlockFiles;
+use blk_entry::field;
+use blk_index::set_bucket;
+use blk_io::{Fault, Folder};
+
+// The place of the hash in a record, and the number of the buckets.
+const HASH: u32 = 0;
+
+const BUCKETS: u32 = 65536;
+
+/// Links a record in front of the chain of its bucket: the word of the bucket names it from then on.
+///
+/// The record is complete, and its next is the word of the bucket. One folder call reads its hash,
+/// and one writes the word. Too few bytes are a damage, and nothing is written.
+pub fn link_front<F: Folder>(f: &mut F, files: &BlockFiles, entry: Addr) -> Result<(), Fault>
+    requires kind { kind_of entry ≡ blocks_256 }
+    requires stands { IsTrue (stands_among files.now entry) }
+    requires complete { ForSome (F.told f.old).files (λ image. length_of image index ≡ index_length) }
+    requires agrees { ForSome (F.told f.old).files (Agrees files.now) }
+    requires linkable { ForSome (F.told f.old).files (CanBeLinked entry) }
+    ensures whole { OnOk result (ForSome (F.told f.old).files (λ from. Grows (F.told f.old) (F.told f.new) (link_steps from entry))) }
+    ensures part { ForSome (F.told f.old).files (λ from. GrowsInPart (F.told f.old) (F.told f.new) (link_steps from entry)) }
+    ensures linked { OnOk result (ForSome (F.told f.old).files (λ from. ForSome (F.told f.new).files (IsLinked from entry))) }
+
+    // At each word the folder is the old one, or the record is linked and nothing else has changed.
+    ensures stops { ForSome (F.told f.old).files (λ from. Passes (F.told f.old) (F.told f.new) (IsLinking from entry)) }
+    ensures complete { ForSome (F.told f.new).files (λ image. length_of image index ≡ index_length) }
+    ensures agrees { ForSome (F.told f.new).files (Agrees files.now) }
+
+    // Too few bytes, which a folder that tells its files never gives.
+    ensures short { IfDamaged result (IsShort (F.told f.old) (FileId.Block (file_selector entry)) (place entry) 4) }
+    ensures untold { IfDamaged result (λ _. (F.told f.old).files ≡ None) }
+
+    ensures later { F.faults f.old ≤ F.faults f.new }
+    ensures device { IfDevice result (Rises (F.faults f.old) (F.faults f.new)) }
+{
+    let hash = field(f, files, entry, HASH)?;
+    set_bucket(f, (hash % BUCKETS) as u16, entry.word())?;
+    Ok(())
+}

@@ -1,0 +1,115 @@
+// Records that are taken out of a chain.
+ghost use Rattle.std.specs.Prelude.{◌≡◌, ◌+◌, ◌≤◌, ◌⊎◌, IfSome, IsTrue, None, OnOk, Some};
+ghost use Rattle.std.specs.Option.{ForSome};
+ghost use Rattle.blk_image.specs.Image.{Index as index, length_of};
+ghost use Rattle.blk_image.specs.Told.{Grows, GrowsInPart, Passes, Rises};
+ghost use Rattle.blk_format.specs.Address.{blocks_256, file_selector, kind_of, place};
+ghost use Rattle.blk_format.specs.Headers.{index_length};
+ghost use Rattle.blk_io.specs.declared.folder.FileId.TheVariants as FileId;
+ghost use Rattle.blk_io.specs.Faults.{IfDamaged, IfDevice, IsShort};
+ghost use Rattle.blk_disk.specs.Sealed.{IsUnsealed, record_size};
+ghost use Rattle.blk_disk.specs.Tables.{Agrees, stands_among};
+ghost use Rattle.blk_chain.specs.Unlinking.{CanBeUnlinked, IsUnlinkDamage, IsUnlinked, IsUnlinking, unlink_steps};
+
+use crate::found::Found;
+use blk_addr::Addr;
+use blk_disk::BlockFiles;
+use blk_entry::field;
+use blk_index::set_bucket;
+use blk_io::{Fault, Folder};
+
+// The places of the hash and of the next in a record, and the number of the buckets.
+const HASH: u32 = 0;
+
+const NEXT: u32 = 4;
+
+const BUCKETS: u32 = 65536;
+
+// Takes the record out of its chain that stands behind this one: its next becomes that record's.
+fn unlink_behind<F: Folder>(
+    f: &mut F,
+    files: &BlockFiles,
+    entry: Addr,
+    before: Addr,
+) -> Result<(), Fault>
+    requires kind { kind_of entry ≡ blocks_256 }
+    requires stands { IsTrue (stands_among files.now entry) }
+    requires kind_before { kind_of before ≡ blocks_256 }
+    requires stands_before { IsTrue (stands_among files.now before) }
+    requires complete { ForSome (F.told f.old).files (λ image. length_of image index ≡ index_length) }
+    requires agrees { ForSome (F.told f.old).files (Agrees files.now) }
+    requires linked { ForSome (F.told f.old).files (CanBeUnlinked entry (Some before)) }
+    ensures whole { OnOk result (ForSome (F.told f.old).files (λ from. Grows (F.told f.old) (F.told f.new) (unlink_steps from entry (Some before)))) }
+    ensures part { ForSome (F.told f.old).files (λ from. GrowsInPart (F.told f.old) (F.told f.new) (unlink_steps from entry (Some before))) }
+    ensures unlinked { OnOk result (ForSome (F.told f.old).files (λ from. ForSome (F.told f.new).files (IsUnlinked from entry (Some before)))) }
+    ensures stops { ForSome (F.told f.old).files (λ from. Passes (F.told f.old) (F.told f.new) (IsUnlinking from entry (Some before))) }
+    ensures complete { ForSome (F.told f.old).files (λ _. ForSome (F.told f.new).files (λ image. length_of image index ≡ index_length)) }
+    ensures agrees { ForSome (F.told f.new).files (Agrees files.now) }
+    ensures damaged { IfDamaged result (IsUnlinkDamage (F.told f.old) entry (Some before)) }
+    ensures untold { IfDamaged result (λ _. (F.told f.old).files ≡ None) }
+    ensures later { F.faults f.old ≤ F.faults f.new }
+    ensures device { IfDevice result (Rises (F.faults f.old) (F.faults f.new)) }
+{
+    let next = field(f, files, entry, NEXT)?;
+    files.update_sealed(f, before, &[(NEXT, next)])
+}
+
+// Takes the first record of a chain out: the word of its bucket becomes its next.
+fn unlink_first<F: Folder>(f: &mut F, files: &BlockFiles, entry: Addr) -> Result<(), Fault>
+    requires kind { kind_of entry ≡ blocks_256 }
+    requires stands { IsTrue (stands_among files.now entry) }
+    requires complete { ForSome (F.told f.old).files (λ image. length_of image index ≡ index_length) }
+    requires agrees { ForSome (F.told f.old).files (Agrees files.now) }
+    requires linked { ForSome (F.told f.old).files (CanBeUnlinked entry None) }
+    ensures whole { OnOk result (ForSome (F.told f.old).files (λ from. Grows (F.told f.old) (F.told f.new) (unlink_steps from entry None))) }
+    ensures part { ForSome (F.told f.old).files (λ from. GrowsInPart (F.told f.old) (F.told f.new) (unlink_steps from entry None)) }
+    ensures unlinked { OnOk result (ForSome (F.told f.old).files (λ from. ForSome (F.told f.new).files (IsUnlinked from entry None))) }
+    ensures stops { ForSome (F.told f.old).files (λ from. Passes (F.told f.old) (F.told f.new) (IsUnlinking from entry None)) }
+    ensures complete { ForSome (F.told f.old).files (λ _. ForSome (F.told f.new).files (λ image. length_of image index ≡ index_length)) }
+    ensures agrees { ForSome (F.told f.new).files (Agrees files.now) }
+    ensures damaged { IfDamaged result (IsUnlinkDamage (F.told f.old) entry None) }
+    ensures untold { IfDamaged result (λ _. (F.told f.old).files ≡ None) }
+    ensures later { F.faults f.old ≤ F.faults f.new }
+    ensures device { IfDevice result (Rises (F.faults f.old) (F.faults f.new)) }
+{
+    let next = field(f, files, entry, NEXT)?;
+    let hash = field(f, files, entry, HASH)?;
+    set_bucket(f, (hash % BUCKETS) as u16, next)?;
+    Ok(())
+}
+
+/// Takes a record out of its chain: what named it, the word of its bucket or the next of the record
+/// before it, takes its next.
+///
+/// One folder call reads the next. At the front of a chain one reads the hash and one writes the word;
+/// else the record before is read and changed by a sealed update. Too few bytes, or a record before
+/// that doesn't check, are a damage, and nothing is written.
+pub fn unlink<F: Folder>(f: &mut F, files: &BlockFiles, found: &Found) -> Result<(), Fault>
+    requires kind { kind_of found.now.entry ≡ blocks_256 }
+    requires stands { IsTrue (stands_among files.now found.now.entry) }
+    requires kind_before { IfSome found.now.before (λ before. kind_of before ≡ blocks_256) }
+    requires stands_before { IfSome found.now.before (λ before. IsTrue (stands_among files.now before)) }
+    requires complete { ForSome (F.told f.old).files (λ image. length_of image index ≡ index_length) }
+    requires agrees { ForSome (F.told f.old).files (Agrees files.now) }
+    requires linked { ForSome (F.told f.old).files (CanBeUnlinked found.now.entry found.now.before) }
+    ensures whole { OnOk result (ForSome (F.told f.old).files (λ from. Grows (F.told f.old) (F.told f.new) (unlink_steps from found.now.entry found.now.before))) }
+    ensures part { ForSome (F.told f.old).files (λ from. GrowsInPart (F.told f.old) (F.told f.new) (unlink_steps from found.now.entry found.now.before)) }
+    ensures unlinked { OnOk result (ForSome (F.told f.old).files (λ from. ForSome (F.told f.new).files (IsUnlinked from found.now.entry found.now.before))) }
+
+    // At each word the chains are the old ones or the record is unlinked, and each record checks as before.
+    ensures stops { ForSome (F.told f.old).files (λ from. Passes (F.told f.old) (F.told f.new) (IsUnlinking from found.now.entry found.now.before)) }
+    ensures complete { ForSome (F.told f.old).files (λ _. ForSome (F.told f.new).files (λ image. length_of image index ≡ index_length)) }
+    ensures agrees { ForSome (F.told f.new).files (Agrees files.now) }
+
+    // A damage is a short read or a record before that doesn't check. A folder that tells its files never gives one.
+    ensures damaged { IfDamaged result (IsUnlinkDamage (F.told f.old) found.now.entry found.now.before) }
+    ensures untold { IfDamaged result (λ _. (F.told f.old).files ≡ None) }
+
+    ensures later { F.faults f.old ≤ F.faults f.new }
+    ensures device { IfDevice result (Rises (F.faults f.old) (F.faults f.new)) }
+{
+    match found.before {
+        None => unlink_first(f, files, found.entry),
+        Some(before) => unlink_behind(f, files, found.entry, before),
+    }
+}
