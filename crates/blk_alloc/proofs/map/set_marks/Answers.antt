@@ -1,0 +1,12 @@
+use Rattle.std.proofs.Common.{◌≡◌, ℕ, ◌∙◌, Bool, refl, false, arith}
+use Rattle.std.specs.Prelude.{if◌then◌else◌}
+use Rattle.blk_addr.specs.Bits.{has_bit, is_between}
+use Rattle.std.proofs.lemmas.Bool.Decides.{nat_tests}
+use Rattle.blk_alloc.proofs.Marking.{more_bits}
+use Rattle.blk_alloc.proofs.map.set_marks.Goals as goal
+
+pub loop-m-preserved : goal.loop-m-preserved
+loop-m-preserved c = record {
+  marks = more_bits (has_bit c.set_mark.new.bytes) (has_bit c.loop-m.bytes) (has_bit c.args.bytes.now) c.args.b c.loop-m.m c.args.used (c.loop-m.auto.m) c.loop-m.invariant.marks c.set_mark.ensures.marks;
+  room = c.set_mark.ensures.length ∙ c.loop-m.invariant.room;
+}

@@ -1,0 +1,7 @@
+//! Blocks that nobody owns: they are given, freed, and the maps that say which they are made anew.
+#![tactic(auto)]
+
+mod change;
+mod counters;
+mod map;
+mod plan;
