@@ -1,5 +1,5 @@
 -- What is kept of the block files goes on agreeing with them, where no header and no length changes.
-use Rattle.std.proofs.Common.{◌≡◌, ◌≢◌, ℕ, ◌+◌, ◌-◌, ◌*◌, ◌<◌, ◌≤◌, Bool, true, false, ◌&&◌, List, refl, sym, ⊎_elim, ◌∙◌, ap, arith}
+use Rattle.std.proofs.Common.{◌≡◌, ◌≢◌, ℕ, ◌+◌, ◌-◌, ◌*◌, ◌<◌, ◌≤◌, Bool, true, false, ◌&&◌, List, refl, sym, ⊎_elim, ◌∙◌, ap, subst, arith}
 use Rattle.std.specs.Prelude.{nat_le, nat_lt}
 use Rattle.std.proofs.lemmas.Bool.Decides.{nat_tests}
 use Rattle.blk_image.specs.Image.{File, Block, Image, byte, length_of, same_file}
@@ -9,7 +9,10 @@ use Rattle.blk_image.proofs.Images.{length-after_set_len}
 use Rattle.blk_image.proofs.Footprints.{outside_longer}
 use Rattle.std.proofs.lemmas.Bool.{cases_eq}
 use Rattle.blk_format.specs.Address.{place, block_place}
-use Rattle.blk_format.specs.BlockFiles.{is_among, linked, files_along, next_file_in, max_entries_in}
+use Rattle.blk_image.specs.Bytes.{word_at}
+use Rattle.blk_image.proofs.Words.{same-word_at}
+use Rattle.blk_format.specs.BlockFiles.{is_among, is_block_count, linked, files_along, next_file_in, max_entries_in}
+use Rattle.blk_disk.proofs.Keeping.{KeepsHead, undamaged_still}
 use Rattle.blk_disk.specs.declared.tables.BlockFiles.{BlockFiles}
 use Rattle.blk_disk.specs.Tables.{Agrees, Resizes, all_files, length_in}
 
@@ -33,11 +36,26 @@ module _ (F : Footprint) (a b : Image) (spares : SparesHeaders F) (same : SameOu
   unfolding linked
   linked_same kind = ap (λ (next : ℕ → ℕ). files_along next 59 (kind - 1)) next_same
 
+  word_still : (n i : ℕ) → i + 3 < 8192 → word_at (byte b (Block n)) i ≡ word_at (byte a (Block n)) i
+  word_still n i small =
+      same-word_at (byte b (Block n)) (byte a (Block n)) i (byte_same n i (omega arith)) (byte_same n (i + 1) (omega arith)) (byte_same n (i + 2) (omega arith)) (byte_same n (i + 3) small)
+
+  pub heads_still : ((m : ℕ) → length_of a (Block m) ≤ length_of b (Block m)) → (m : ℕ) → KeepsHead a b m
+  heads_still longer m = record {
+    longer = longer m;
+    magic = word_still m 0 (omega arith);
+    is_version = word_still m 4 (omega arith);
+    this_file = λ j. byte_same m 8 (omega arith) j + 256 * byte_same m 9 (omega arith) j;
+    entry_size = word_still m 12 (omega arith);
+    count = λ holds. ap is_block_count (blocks_same m) ∙ holds;
+  }
+
   pub agrees_still : (files : BlockFiles) → ((n : ℕ) → F.sizes (Block n) ≡ false) → Agrees files a → Agrees files b
   agrees_still files sizes agrees = record {
     links = λ kind holds. agrees.links kind holds ∙ sym (linked_same kind);
     blocks = λ n among. agrees.blocks n among ∙ sym (blocks_same n);
     lengths = λ n among. agrees.lengths n among ∙ sym (same.lengths (Block n) (sizes n));
+    undamaged = undamaged_still a b next_same (heads_still (λ m. let e = same.lengths (Block m) (sizes m) in omega (arith, e))) agrees.undamaged;
   }
 
 -- the bytes of blocks lie past the headers
@@ -53,10 +71,10 @@ blocks_spare file w at n = record { bytes = λ m i small. before (same_file file
     before false from i below = refl
 
 -- a file of another number
-other_file : (n m : ℕ) → m ≢ n → same_file (Block n) (Block m) ≡ false
+pub other_file : (n m : ℕ) → m ≢ n → same_file (Block n) (Block m) ≡ false
 other_file n m differs = grind (arith, nat_tests)
 
-sizes_spare : (file : File) → SparesHeaders (size_of file)
+pub sizes_spare : (file : File) → SparesHeaders (size_of file)
 sizes_spare file = record { bytes = λ n i small. refl }
 
 -- a file that gets longer, where its new length is kept
@@ -67,10 +85,18 @@ agrees_longer old new image n size longer resizes agrees = record {
   lengths =
       λ m among. ⊎_elim (λ e. ap (length_in new) e ∙ resizes.size_there ∙ sym (length-after_set_len image (Block n) size) ∙ ap (λ (k : ℕ). length_of (applied (SetLength (Block n) size) image) (Block k)) (sym e))
       (λ differs. resizes.other_lengths m differs ∙ agrees.lengths m (before m among) ∙ sym (same.lengths (Block m) (other_file n m differs))) (cases_eq m n);
+  undamaged =
+      undamaged_still image (applied (SetLength (Block n) size) image) (next_same (size_of (Block n)) image (applied (SetLength (Block n) size) image) (sizes_spare (Block n)) same)
+      (heads_still (size_of (Block n)) image (applied (SetLength (Block n) size) image) (sizes_spare (Block n)) same long) agrees.undamaged;
 }
   where
     same : SameOutside (size_of (Block n)) image (applied (SetLength (Block n) size) image)
     same = outside_longer (Block n) size image longer
+
+    long : (m : ℕ) → length_of image (Block m) ≤ length_of (applied (SetLength (Block n) size) image) (Block m)
+    long m =
+        ⊎_elim (λ e. let at = length-after_set_len image (Block n) size in subst (λ (k : ℕ). length_of image (Block k) ≤ length_of (applied (SetLength (Block n) size) image) (Block k)) (sym e) (omega (arith, longer, at)))
+        (λ differs. let e = same.lengths (Block m) (other_file n m differs) in omega (arith, e)) (cases_eq m n)
 
     before : (m : ℕ) → is_among (all_files new) m ≡ true → is_among (all_files old) m ≡ true
     before m among = ap (λ (l : List ℕ). is_among l m) (sym resizes.all) ∙ among

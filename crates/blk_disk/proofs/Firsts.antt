@@ -28,7 +28,7 @@ append_none (Some x ∷ xs) ys e = absurd (clash e)
     clash c = cc
 
 -- where no check fails, each passes
-all_none : (xs : List (Option checks.Damage)) → first_of xs ≡ None → (k : ℕ) → get_or xs k None ≡ None
+pub all_none : (xs : List (Option checks.Damage)) → first_of xs ≡ None → (k : ℕ) → get_or xs k None ≡ None
 all_none [] e k = refl
 all_none (None ∷ xs) e zero = refl
 all_none (None ∷ xs) e (suc k) = all_none xs e k
@@ -38,7 +38,7 @@ all_none (Some d ∷ xs) e k = absurd (clash e)
     clash c = cc
 
 -- a check that passed
-passed : (file : File) (at found : ℕ) (holds : Bool) → check_found file at found holds ≡ None → holds ≡ true
+pub passed : (file : File) (at found : ℕ) (holds : Bool) → check_found file at found holds ≡ None → holds ≡ true
 passed file at found true e = refl
 passed file at found false e = absurd (clash (record { file = file; at = at; found = found }) e)
   where

@@ -26,7 +26,7 @@ use Rattle.blk_disk.proofs.Among.{is_among_more}
 use Rattle.blk_disk.proofs.Firsts.{append_some, append_none, link_passed}
 
 -- a last file has no next one
-last_link : (met : List ℕ) (next : ℕ) → is_link met 0 next ≡ true → (next == 0) ≡ true
+pub last_link : (met : List ℕ) (next : ℕ) → is_link met 0 next ≡ true → (next == 0) ≡ true
 unfolding is_link
 last_link met next holds = grind (arith, nat_tests)
 
@@ -234,7 +234,7 @@ most_kind kind holds = grind (arith, nat_tests)
 
 -- all types are done
 pub follows_all : (files : BlockFiles) (image : Image) → Follows files image 4 None → Agrees files image × (first_block_damage image ≡ None)
-follows_all files image follows = (record { links = links; blocks = follows.blocks; lengths = follows.lengths }, follows.undamaged)
+follows_all files image follows = (record { links = links; blocks = follows.blocks; lengths = follows.lengths; undamaged = follows.undamaged }, follows.undamaged)
   where
     last : (kind : ℕ) → kind ≤ 4 → 4 ≤ kind → files_of files kind ≡ linked image kind
     last kind most above =

@@ -6,3 +6,8 @@ pub mod Following
 pub mod Standings
 pub mod Ranges
 pub mod Agreeing
+pub mod Keeping
+pub mod Raising
+pub mod Enlarging
+pub mod Numbers
+pub mod Additions

@@ -1,8 +1,8 @@
 -- What is kept of the block files: the linked files of each type, and the blocks and the length of each.
-use Rattle.std.specs.Prelude.{ℕ, ◌≡◌, ◌≢◌, List, [], ◌∷◌, ◌++◌, Bool, false, true, slice_index, ◌==◌, if◌then◌else◌}
+use Rattle.std.specs.Prelude.{ℕ, ◌≡◌, ◌≢◌, List, [], ◌∷◌, ◌++◌, Bool, false, true, slice_index, ◌==◌, if◌then◌else◌, None}
 use Rattle.blk_image.specs.Image.{Block, Image, length_of}
 use Rattle.blk_format.specs.Address.{rankings, blocks_256, blocks_1k, blocks_4k, is_block_kind}
-use Rattle.blk_format.specs.BlockFiles.{linked, max_entries_in, is_among, type_among}
+use Rattle.blk_format.specs.BlockFiles.{linked, max_entries_in, is_among, type_among, first_block_damage}
 use Rattle.blk_format.specs.Standing.{stands_as_blocks}
 use Rattle.blk_disk.specs.declared.tables.BlockFiles.{BlockFiles}
 
@@ -27,11 +27,12 @@ blocks_of files n = slice_index files.blocks n
 unfoldable pub length_in : BlockFiles → ℕ → ℕ
 length_in files n = slice_index files.lengths n
 
--- what is kept agrees with the headers and the lengths of the files
+-- what is kept agrees with the headers and the lengths of the files, and no check of a header fails
 pub record Agrees (files : BlockFiles) (image : Image) : Type 0 where
   pub links : (kind : ℕ) → is_block_kind kind ≡ true → files_of files kind ≡ linked image kind
   pub blocks : (n : ℕ) → is_among (all_files files) n ≡ true → blocks_of files n ≡ max_entries_in image n
   pub lengths : (n : ℕ) → is_among (all_files files) n ≡ true → length_in files n ≡ length_of image (Block n)
+  pub undamaged : first_block_damage image ≡ None
 
 -- no file is kept
 pub record HoldsNone (files : BlockFiles) : Type 0 where
@@ -57,4 +58,13 @@ pub record Resizes (old new : BlockFiles) (n size : ℕ) : Type 0 where
   pub all : all_files new ≡ all_files old
   pub blocks : (m : ℕ) → blocks_of new m ≡ blocks_of old m
   pub size_there : length_in new n ≡ size
+  pub other_lengths : (other : ℕ) → other ≢ n → length_in new other ≡ length_in old other
+
+-- a file has so many blocks and so many bytes now, and all else is as before
+pub record Enlarges (old new : BlockFiles) (n blocks size : ℕ) : Type 0 where
+  pub files : (kind : ℕ) → files_of new kind ≡ files_of old kind
+  pub all : all_files new ≡ all_files old
+  pub blocks_there : blocks_of new n ≡ blocks
+  pub size_there : length_in new n ≡ size
+  pub other_blocks : (other : ℕ) → other ≢ n → blocks_of new other ≡ blocks_of old other
   pub other_lengths : (other : ℕ) → other ≢ n → length_in new other ≡ length_in old other

@@ -1,8 +1,10 @@
 //! The block files of a cache folder: their headers checked at the start, and their blocks.
 #![tactic(auto)]
 
+mod adding;
 mod blocks;
 mod checks;
+mod growing;
 mod growth;
 mod heads;
 mod load;

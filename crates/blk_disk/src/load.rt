@@ -72,7 +72,7 @@ impl BlockFiles {
 }
 
 // The first file of a kind.
-fn first_file(kind: Kind) -> u8
+pub(crate) fn first_file(kind: Kind) -> u8
     requires { kind_number kind ≢ external }
     ensures { result ≡ kind_number kind - 1 }
 {

@@ -30,7 +30,7 @@ pub struct BlockFiles {
 }
 
 impl BlockFiles {
-    ghost use Rattle.blk_disk.specs.Tables.{all_files, blocks_of, files_of, length_in, HoldsNone, Joins, Resizes};
+    ghost use Rattle.blk_disk.specs.Tables.{all_files, blocks_of, files_of, length_in, Enlarges, HoldsNone, Joins, Resizes};
 
     // No files.
     pub(crate) fn none() -> BlockFiles
@@ -100,6 +100,14 @@ impl BlockFiles {
     pub(crate) fn set_length(&mut self, file: u8, size: u64)
         ensures { Resizes self.old self.new file size }
     {
+        self.lengths[usize::from(file)] = size;
+    }
+
+    // Keeps that a file has so many blocks and bytes.
+    pub(crate) fn enlarge(&mut self, file: u8, blocks: u32, size: u64)
+        ensures { Enlarges self.old self.new file blocks size }
+    {
+        self.blocks[usize::from(file)] = blocks;
         self.lengths[usize::from(file)] = size;
     }
 

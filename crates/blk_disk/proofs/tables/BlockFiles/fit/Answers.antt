@@ -1,9 +1,13 @@
-use Rattle.std.proofs.Common.{◌≡◌, ◌≤◌, arith}
+use Rattle.std.proofs.Common.{◌≡◌, ◌≤◌, ◌∙◌, ap, sym, arith}
 use Rattle.blk_image.specs.Image.{Block, length_of}
+use Rattle.blk_image.specs.Told.{Told}
 use Rattle.blk_image.proofs.Runs.{told_whole}
 use Rattle.blk_disk.specs.Tables.{Agrees, length_in}
 use Rattle.blk_disk.proofs.Agreeing.{agrees_longer}
 use Rattle.blk_disk.proofs.tables.BlockFiles.fit.Goals as goal
+
+pub returns-in_err-set_len-clause-agrees : goal.returns-in_err-set_len-clause-agrees
+returns-in_err-set_len-clause-agrees g c image there = c.requires.agrees image (ap (λ (t : Told). t.files) (sym c.in_err-set_len.ensures.undone) ∙ there)
 
 pub returns-clause-agrees : goal.returns-clause-agrees
 returns-clause-agrees g c =

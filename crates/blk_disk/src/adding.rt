@@ -1,0 +1,128 @@
+// A block file is added.
+ghost use Rattle.std.specs.Prelude.{◌≡◌, ◌≢◌, ◌+◌, ◌<◌, ◌≤◌, length, IfOk, OnOk, OnErr};
+ghost use Rattle.std.specs.Option.{ForSome};
+ghost use Rattle.blk_image.specs.Image.{HasRange, Block as block};
+ghost use Rattle.blk_image.specs.Footprint.{SameOutside};
+ghost use Rattle.blk_image.specs.Told.{Grows, GrowsInPart, Passes, Rises};
+ghost use Rattle.blk_format.specs.Address.{external, header_size};
+ghost use Rattle.blk_format.specs.BlockFiles.{most_files, IsWellFormed};
+ghost use Rattle.blk_addr.specs.Kind.{kind_number};
+ghost use Rattle.blk_disk.specs.Tables.{Agrees, all_files, files_of, Joins};
+ghost use Rattle.blk_disk.specs.Growth as growth;
+ghost use Rattle.blk_disk.specs.Growth.{IsLeastFree, add_steps, addition_of, link_steps, make_steps};
+
+use crate::heads::block_size;
+use crate::load::first_file;
+use crate::tables::BlockFiles;
+use blk_addr::Kind;
+use blk_io::{Failed, FileId, Folder, write_words};
+
+const MAGIC: u32 = 0xC104_CAC3;
+
+const VERSION: u32 = 0x20000;
+
+const HEADER_LEN: u64 = 8192;
+
+// The first number that new files may have.
+const FIRST_NUMBER: u8 = 4;
+
+// The place of next_file in a header.
+const NEXT_FILE: u64 = 10;
+
+impl BlockFiles {
+    /// Adds a file with no blocks as the last one of a kind that has fewer than 60, and gives its number.
+    ///
+    /// The number is the least from 4 that no linked file has. The file gets the length 0, then
+    /// 8192 and its header, and then the `next_file` of the last file of the kind names it.
+    pub fn add_file<F: Folder>(&mut self, f: &mut F, kind: Kind) -> Result<u8, Failed>
+        requires of_blocks { kind_number kind ≢ external }
+        requires room { length (files_of self.old (kind_number kind)) < most_files }
+        requires agrees { ForSome (F.told f.old).files (Agrees self.old) }
+        ensures number { IfOk result (λ n. n ≡ growth.free_number self.old) }
+        ensures least { IfOk result (IsLeastFree self.old) }
+        ensures whole { OnOk result (Grows (F.told f.old) (F.told f.new) (add_steps self.old (kind_number kind))) }
+        ensures part { GrowsInPart (F.told f.old) (F.told f.new) (add_steps self.old (kind_number kind)) }
+        ensures kept { IfOk result (λ n. Joins self.old self.new (kind_number kind) n 0 header_size) }
+        ensures same { OnErr result (self.new ≡ self.old) }
+        ensures agrees { OnOk result (ForSome (F.told f.new).files (Agrees self.new)) }
+
+        // At each word nothing else has changed, and a well-formed folder is still well formed.
+        ensures outside { ForSome (F.told f.old).files (λ from. Passes (F.told f.old) (F.told f.new) (SameOutside (addition_of self.old (kind_number kind)) from)) }
+        ensures well_formed { ForSome (F.told f.old).files (λ from. IsWellFormed from → Passes (F.told f.old) (F.told f.new) IsWellFormed) }
+
+        ensures later { F.faults f.old ≤ F.faults f.new }
+        ensures failed { OnErr result (Rises (F.faults f.old) (F.faults f.new)) }
+    {
+        let n = self.free_number();
+        make_file(f, kind, n)?;
+        link_file(f, self.last_file(kind), n)?;
+        self.join(kind, n, 0, HEADER_LEN);
+        Ok(n)
+    }
+
+    // The least number from 4 that no linked file has.
+    fn free_number(&self) -> u8
+        ensures number { result ≡ growth.free_number self.now }
+        ensures least { IsLeastFree self.now result }
+    {
+        // One of these is free, as they are one more than the linked files.
+        let end = FIRST_NUMBER + self.total() + 1;
+        for n in FIRST_NUMBER..end {
+            if !self.has(n) {
+                return n;
+            }
+        }
+        unreachable!()
+    }
+
+    // The number of linked files of all kinds.
+    #[tactic(auto, unfolding(crate::specs::Tables::all_files))]
+    fn total(&self) -> u8
+        ensures total { result ≡ length (all_files self.now) }
+        ensures most { result ≤ 240 }
+    {
+        let nodes_and_small = self.len(Kind::Rankings) + self.len(Kind::B256);
+        let large = self.len(Kind::B1K) + self.len(Kind::B4K);
+        (nodes_and_small + large) as u8
+    }
+
+    // The last file of a kind, or its first where none is kept.
+    #[tactic(auto, unfolding(crate::specs::Growth::last_file))]
+    fn last_file(&self, kind: Kind) -> u8
+        requires { kind_number kind ≢ external }
+        ensures { result ≡ growth.last_file self.now (kind_number kind) }
+    {
+        self.files(kind).last().copied().unwrap_or(first_file(kind))
+    }
+}
+
+// Makes a file with a header and no blocks.
+fn make_file<F: Folder>(f: &mut F, kind: Kind, n: u8) -> Result<(), Failed>
+    requires { kind_number kind ≢ external }
+    ensures whole { OnOk result (Grows (F.told f.old) (F.told f.new) (make_steps (kind_number kind) n)) }
+    ensures part { GrowsInPart (F.told f.old) (F.told f.new) (make_steps (kind_number kind) n) }
+    ensures later { F.faults f.old ≤ F.faults f.new }
+    ensures failed { OnErr result (Rises (F.faults f.old) (F.faults f.new)) }
+{
+    let file = FileId::Block(n);
+    f.set_len(file, 0)?;
+    f.set_len(file, HEADER_LEN)?;
+    let words = [
+        (0, MAGIC),
+        (4, VERSION),
+        (8, u32::from(n)),
+        (12, block_size(kind)),
+    ];
+    write_words(f, file, &words)
+}
+
+// Writes the number of a file as the next one of another.
+fn link_file<F: Folder>(f: &mut F, last: u8, n: u8) -> Result<(), Failed>
+    requires { ForSome (F.told f.old).files (λ image. HasRange image (block last) 10 2) }
+    ensures whole { OnOk result (Grows (F.told f.old) (F.told f.new) (link_steps last n)) }
+    ensures part { GrowsInPart (F.told f.old) (F.told f.new) (link_steps last n) }
+    ensures later { F.faults f.old ≤ F.faults f.new }
+    ensures failed { OnErr result (Rises (F.faults f.old) (F.faults f.new)) }
+{
+    f.write_at(FileId::Block(last), NEXT_FILE, &u16::from(n).to_le_bytes())
+}

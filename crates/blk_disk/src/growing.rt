@@ -1,0 +1,101 @@
+// A block file gets more blocks.
+ghost use Rattle.std.specs.Prelude.{◌≡◌, ◌+◌, ◌*◌, ◌<◌, ◌≤◌, IsTrue, max, None, OnOk, OnErr};
+ghost use Rattle.std.specs.Option.{ForSome};
+ghost use Rattle.blk_image.specs.Image.{HasRange, Block as block};
+ghost use Rattle.blk_image.specs.Footprint.{SameOutside};
+ghost use Rattle.blk_image.specs.Told.{Grows, GrowsInPart, Passes, Rises, Stays};
+ghost use Rattle.blk_format.specs.Address.{header_size};
+ghost use Rattle.blk_format.specs.BlockFiles.{is_among, most_blocks, type_among, IsWellFormed};
+ghost use Rattle.blk_disk.specs.Tables.{Agrees, Enlarges, all_files, blocks_of, files_of, length_in};
+ghost use Rattle.blk_disk.specs.Growth as growth;
+ghost use Rattle.blk_disk.specs.Growth.{grow_steps, growth_of, lengthen_steps, raise_steps, size_as};
+
+use crate::heads::block_size;
+use crate::tables::BlockFiles;
+use blk_io::{Failed, FileId, Folder, write_words};
+
+const HEADER_LEN: u64 = 8192;
+
+// A file grows by so many blocks, but for the last time.
+const GROWTH: u32 = 1024;
+
+const MOST_BLOCKS: u32 = 64896;
+
+// The blocks of a group.
+const GROUP: u32 = 4;
+
+impl BlockFiles {
+    /// Gives a linked file of fewer than 64896 blocks 1024 more, or 384 for the last time.
+    ///
+    /// First the file gets as long as they need, where it is shorter. Then the counter of groups
+    /// that are wholly empty is raised by the number of new ones, modulo 2^32, and at last the number of
+    /// blocks is written.
+    pub fn grow<F: Folder>(&mut self, f: &mut F, file: u8) -> Result<(), Failed>
+        requires linked { IsTrue (is_among (all_files self.old) file) }
+        requires below { blocks_of self.old file < most_blocks }
+        requires agrees { ForSome (F.told f.old).files (Agrees self.old) }
+        ensures whole { OnOk result (ForSome (F.told f.old).files (λ image. Grows (F.told f.old) (F.told f.new) (grow_steps self.old file image))) }
+        ensures part { ForSome (F.told f.old).files (λ image. GrowsInPart (F.told f.old) (F.told f.new) (grow_steps self.old file image)) }
+        ensures kept { OnOk result (Enlarges self.old self.new file (growth.grown (blocks_of self.old file)) (max (length_in self.old file) (growth.grown_length self.old file))) }
+        ensures same { OnErr result (self.new ≡ self.old) }
+        ensures agrees { OnOk result (ForSome (F.told f.new).files (Agrees self.new)) }
+
+        // At each word nothing else has changed, and a well-formed folder is still well formed.
+        ensures outside { ForSome (F.told f.old).files (λ from. Passes (F.told f.old) (F.told f.new) (SameOutside (growth_of file) from)) }
+        ensures well_formed { ForSome (F.told f.old).files (λ from. IsWellFormed from → Passes (F.told f.old) (F.told f.new) IsWellFormed) }
+
+        ensures later { F.faults f.old ≤ F.faults f.new }
+        ensures failed { OnErr result (Rises (F.faults f.old) (F.faults f.new)) }
+    {
+        let old = self.blocks(file);
+        let blocks = (old + GROWTH).min(MOST_BLOCKS);
+        let size = self.length_with(file, blocks);
+        self.lengthen(f, file, size)?;
+        raise(f, file, (blocks - old) / GROUP, blocks)?;
+        let size = self.length(file).max(size);
+        self.enlarge(file, blocks, size);
+        Ok(())
+    }
+
+    // The length of a file with so many blocks.
+    fn length_with(&self, file: u8, blocks: u32) -> u64
+        requires { blocks ≤ most_blocks }
+        ensures { result ≡ header_size + blocks * size_as (type_among (files_of self.now) file) }
+    {
+        let size = match self.linked_as(file) {
+            Some(kind) => block_size(kind),
+            None => 0,
+        };
+        HEADER_LEN + u64::from(blocks) * u64::from(size)
+    }
+
+    // Makes a file as long as this, where it is shorter.
+    fn lengthen<F: Folder>(&self, f: &mut F, file: u8, size: u64) -> Result<(), Failed>
+        ensures whole { OnOk result (Grows (F.told f.old) (F.told f.new) (lengthen_steps self.now file size)) }
+        ensures undone { OnErr result (Stays (F.told f.old) (F.told f.new)) }
+        ensures later { F.faults f.old ≤ F.faults f.new }
+        ensures failed { OnErr result (Rises (F.faults f.old) (F.faults f.new)) }
+    {
+        if self.length(file) < size {
+            f.set_len(FileId::Block(file), size)?;
+        }
+        Ok(())
+    }
+}
+
+// Raises the counter of empty groups of a file, and then writes its number of blocks.
+//
+// Bytes of the counter that the folder doesn't give count as 0.
+fn raise<F: Folder>(f: &mut F, file: u8, groups: u32, blocks: u32) -> Result<(), Failed>
+    requires { ForSome (F.told f.old).files (λ image. HasRange image (block file) 0 40) }
+    ensures whole { OnOk result (ForSome (F.told f.old).files (λ image. Grows (F.told f.old) (F.told f.new) (raise_steps image file groups blocks))) }
+    ensures part { ForSome (F.told f.old).files (λ image. GrowsInPart (F.told f.old) (F.told f.new) (raise_steps image file groups blocks)) }
+    ensures untold { (F.told f.old).files ≡ None → (F.told f.new).files ≡ None }
+    ensures later { F.faults f.old ≤ F.faults f.new }
+    ensures failed { OnErr result (Rises (F.faults f.old) (F.faults f.new)) }
+{
+    let mut empty = [0u8; 4];
+    f.read_at(FileId::Block(file), 36, &mut empty)?;
+    let raised = u32::from_le_bytes(empty).wrapping_add(groups);
+    write_words(f, FileId::Block(file), &[(36, raised), (20, blocks)])
+}
