@@ -6,6 +6,7 @@ ghost use Rattle.blk_format.specs.BlockFiles.{most_blocks};
 ghost use Rattle.blk_format.specs.Maps.{group_size};
 ghost use Rattle.blk_io.specs.Faults.{IfDamaged, IfDevice};
 ghost use Rattle.blk_alloc.specs.Changes.{IsReady, IsMidst, IsChanged};
+ghost use Rattle.blk_alloc.specs.Owning.{IsCause};
 
 use crate::plan::Plan;
 use blk_io::{Fault, Folder};
@@ -18,6 +19,7 @@ pub(crate) fn change<F: Folder>(f: &mut F, file: u8, start: u32, count: u32, use
     requires ready { ForSome (F.told f.old).files (λ image. IsReady image file start count used) }
     ensures done { OnOk result (ForSome (F.told f.old).files (λ from. ForSome (F.told f.new).files (IsChanged from file start count used))) }
     ensures stops { ForSome (F.told f.old).files (λ from. PassesTo (F.told f.old) (F.told f.new) (IsMidst file from) (λ image. IsMidst file from image ⊎ IsChanged from file start count used image)) }
+    ensures cause { IfDamaged result (IsCause (F.told f.old) file) }
     ensures untold { IfDamaged result (λ _. (F.told f.old).files ≡ None) }
     ensures later { F.faults f.old ≤ F.faults f.new }
     ensures device { IfDevice result (Rises (F.faults f.old) (F.faults f.new)) }

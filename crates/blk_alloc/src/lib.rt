@@ -3,5 +3,8 @@
 
 mod change;
 mod counters;
+mod freeing;
 mod map;
 mod plan;
+
+pub use freeing::free;

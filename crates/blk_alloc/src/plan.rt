@@ -30,6 +30,7 @@ pub(crate) struct Plan {
 
 impl Plan {
     ghost use Rattle.blk_alloc.specs.Changes.{IsPlan, IsReady, plan_words};
+    ghost use Rattle.blk_alloc.specs.Owning.{IsCause};
 
     // The plan by which so many blocks from one on, which lie in one group, are all marked or all freed.
     pub(crate) fn read<F: Folder>(f: &mut F, file: u8, start: u32, count: u32, used: bool) -> Result<Plan, Fault>
@@ -39,6 +40,7 @@ impl Plan {
         ensures plan { IfOk result (λ plan. ForSome (F.told f.old).files (λ image. IsPlan image file start count used plan)) }
         ensures place { IfOk result (λ plan. (plan.at % 4 ≡ 0) × (plan.at + 4 ≤ 8192)) }
         ensures fits { IfOk result (λ plan. plan.counters.allocations < 2 ^ 32) }
+        ensures cause { IfDamaged result (IsCause (F.told f.old) file) }
         ensures untold { IfDamaged result (λ _. ForSome (F.told f.old).files (λ image. IsReady image file start count used) → (F.told f.old).files ≡ None) }
         ensures stays { Stays (F.told f.old) (F.told f.new) }
         ensures later { F.faults f.old ≤ F.faults f.new }

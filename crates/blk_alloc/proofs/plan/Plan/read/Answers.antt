@@ -1,4 +1,4 @@
-use Rattle.std.proofs.Common.{rules, ◌≡◌, ℕ, ◌+◌, ◌*◌, ◌/◌, ◌%◌, ◌<◌, ◌≤◌, length, Bool, sym, ◌∙◌, ap, subst, arith, Option, None}
+use Rattle.std.proofs.Common.{rules, ◌≡◌, ℕ, ◌+◌, ◌*◌, ◌/◌, ◌%◌, ◌<◌, ◌≤◌, length, Bool, sym, ◌∙◌, ap, subst, arith, Option, None, inl, inr, ◌⊎◌}
 use Rattle.std.specs.Option.{ForSome}
 use Rattle.blk_image.specs.Bytes.{range_at}
 use Rattle.blk_image.specs.Image.{Image, Block, byte}
@@ -7,6 +7,9 @@ use Rattle.blk_io.specs.declared.fault.Damage.{Damage}
 use Rattle.blk_io.specs.declared.folder.FileId.TheVariants as names
 use Rattle.blk_io.proofs.Shorts.{untold_if}
 use Rattle.blk_alloc.proofs.Carried.{carried, untold_where, if_damaged, if_damaged_weaker}
+use Rattle.blk_io.specs.Faults.{IfDamaged, IsShort}
+use Rattle.blk_alloc.specs.Counting.{IsAtEnd}
+use Rattle.blk_alloc.specs.Owning.{IsCause}
 use Rattle.blk_alloc.specs.Changes.{IsReady}
 use Rattle.blk_alloc.proofs.Plans.{may_move, plan_is, run_before}
 use Rattle.blk_alloc.proofs.plan.Plan.read.Goals as goal
@@ -51,3 +54,21 @@ returns-clause-plan g c image there =
 
 pub returns-clause-place : goal.returns-clause-place
 returns-clause-place g c = let place = c.from.ensures in (omega arith, omega (arith, place, c.requires.small))
+
+pub returns-in_err-counters-clause-cause : goal.returns-in_err-counters-clause-cause
+returns-in_err-counters-clause-cause g c =
+    carried c.read.result c.from_residual.result c.in_err-counters.field-0.0 _ c.in_err-counters.was c.from_residual.ensures.1
+    (if_damaged_weaker c.read.result (IsShort (g.F.Folder.told c.args.f.now) (names.Block c.args.file) 0 80) (IsCause (g.F.Folder.told c.args.f.now) c.args.file) (λ damage short. inl (record { place = 0; count = 80; short = short })) c.read.ensures.short)
+
+pub returns-in_err-read_exact-clause-cause : goal.returns-in_err-read_exact-clause-cause
+returns-in_err-read_exact-clause-cause g c =
+    carried c.read_exact.result c.from_residual-in_err-read_exact.result c.in_err-read_exact.field-0.0 _ c.in_err-read_exact.was c.from_residual-in_err-read_exact.ensures.1
+    (subst (λ (t : Told). IfDamaged c.read_exact.result (IsCause t c.args.file)) c.in_ok-counters.ensures.stays
+    (if_damaged_weaker c.read_exact.result (IsShort (g.F.Folder.told c.read.new.f) (names.Block c.args.file) (80 + 4 * c.from.result) 4) (IsCause (g.F.Folder.told c.read.new.f) c.args.file)
+    (λ damage short. inl (record { place = 80 + 4 * c.from.result; count = 4; short = short })) c.read_exact.ensures.short))
+
+pub returns-in_err-counters-2-clause-cause : goal.returns-in_err-counters-2-clause-cause
+returns-in_err-counters-2-clause-cause g c =
+    carried c.moved.result c.from_residual-in_err-counters-2.result c.in_err-counters-2.field-0.0 _ c.in_err-counters-2.was c.from_residual-in_err-counters-2.ensures.1
+    (if_damaged_weaker c.moved.result (IsAtEnd c.in_ok-counters.counters c.args.file) (IsCause (g.F.Folder.told c.args.f.now) c.args.file)
+    (λ damage end. inr (record { counters = c.in_ok-counters.counters; are = c.in_ok-counters.ensures.counters; at_end = end })) c.moved.ensures.end)
