@@ -5,3 +5,8 @@ pub mod Headers
 pub mod Plans
 pub mod Changing
 pub mod Changed
+pub mod Lists
+pub mod Addresses
+pub mod Formed
+pub mod Standing
+pub mod Freed

@@ -1,8 +1,7 @@
 // The marks of blocks in one group of a file change, and the counters with them.
-ghost use Rattle.std.specs.Prelude.{◌≡◌, ◌⊎◌, ◌≤◌, ◌<◌, ◌+◌, ◌%◌, None, OnOk};
+ghost use Rattle.std.specs.Prelude.{◌≡◌, ◌⊎◌, ◌≤◌, ◌<◌, ◌+◌, ◌%◌, ◌^◌, None, OnOk};
 ghost use Rattle.std.specs.Option.{ForSome};
 ghost use Rattle.blk_image.specs.Told.{PassesTo, Rises};
-ghost use Rattle.blk_format.specs.BlockFiles.{most_blocks};
 ghost use Rattle.blk_format.specs.Maps.{group_size};
 ghost use Rattle.blk_io.specs.Faults.{IfDamaged, IfDevice};
 ghost use Rattle.blk_alloc.specs.Changes.{IsReady, IsMidst, IsChanged};
@@ -15,7 +14,7 @@ use blk_io::{Fault, Folder};
 pub(crate) fn change<F: Folder>(f: &mut F, file: u8, start: u32, count: u32, used: bool) -> Result<(), Fault>
     requires some { 0 < count }
     requires group { start % 4 + count ≤ group_size }
-    requires small { start + count ≤ most_blocks }
+    requires small { start + count < 2 ^ 32 }
     requires ready { ForSome (F.told f.old).files (λ image. IsReady image file start count used) }
     ensures done { OnOk result (ForSome (F.told f.old).files (λ from. ForSome (F.told f.new).files (IsChanged from file start count used))) }
     ensures stops { ForSome (F.told f.old).files (λ from. PassesTo (F.told f.old) (F.told f.new) (IsMidst file from) (λ image. IsMidst file from image ⊎ IsChanged from file start count used image)) }

@@ -10,8 +10,9 @@ ghost use Rattle.blk_disk.specs.Tables.{Agrees, stands_among};
 ghost use Rattle.blk_alloc.specs.Changes.{IsMidst};
 ghost use Rattle.blk_alloc.specs.Owning.{IsAllocated, IsFreed, IsCause};
 
+use crate::blocks::blocks_of;
 use crate::change::change;
-use blk_addr::{Addr, FileId};
+use blk_addr::Addr;
 use blk_disk::BlockFiles;
 use blk_io::{Fault, Folder};
 
@@ -30,7 +31,7 @@ pub fn free<F: Folder>(f: &mut F, files: &BlockFiles, addr: Addr) -> Result<(), 
 
     // At each word only map, counters and updating of the file have changed, and updating is 1 until all of it is done.
     ensures stops { ForSome (F.told f.old).files (λ from. PassesTo (F.told f.old) (F.told f.new) (IsMidst (file_selector addr) from) (λ image. IsMidst (file_selector addr) from image ⊎ IsFreed from addr image)) }
-    ensures formed { Passes (F.told f.old) (F.told f.new) IsWellFormed }
+    ensures formed { ForSome (F.told f.old).files (λ _. Passes (F.told f.old) (F.told f.new) IsWellFormed) }
     ensures agrees { ForSome (F.told f.new).files (Agrees files.now) }
 
     ensures cause { IfDamaged result (IsCause (F.told f.old) (file_selector addr)) }
@@ -38,8 +39,6 @@ pub fn free<F: Folder>(f: &mut F, files: &BlockFiles, addr: Addr) -> Result<(), 
     ensures later { F.faults f.old ≤ F.faults f.new }
     ensures device { IfDevice result (Rises (F.faults f.old) (F.faults f.new)) }
 {
-    let FileId::Block(file) = addr.file() else {
-        unreachable!();
-    };
-    change(f, file, addr.start(), addr.blocks(), false)
+    let blocks = blocks_of(addr);
+    change(f, blocks.file, blocks.start, blocks.count, false)
 }

@@ -1,6 +1,7 @@
 //! Blocks that nobody owns: they are given, freed, and the maps that say which they are made anew.
 #![tactic(auto)]
 
+mod blocks;
 mod change;
 mod counters;
 mod freeing;

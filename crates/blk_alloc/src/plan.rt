@@ -4,7 +4,6 @@ ghost use Rattle.std.specs.Option.{ForSome};
 ghost use Rattle.blk_image.specs.Image.{Block as block, length_of};
 ghost use Rattle.blk_image.specs.Steps.{word_steps};
 ghost use Rattle.blk_image.specs.Told.{Grows, GrowsInPart, Stays, Rises};
-ghost use Rattle.blk_format.specs.BlockFiles.{most_blocks};
 ghost use Rattle.blk_format.specs.Maps.{group_size};
 ghost use Rattle.blk_io.specs.Faults.{IfDamaged, IfDevice};
 
@@ -36,9 +35,9 @@ impl Plan {
     pub(crate) fn read<F: Folder>(f: &mut F, file: u8, start: u32, count: u32, used: bool) -> Result<Plan, Fault>
         requires some { 0 < count }
         requires group { start % 4 + count ≤ group_size }
-        requires small { start + count ≤ most_blocks }
+        requires small { start + count < 2 ^ 32 }
         ensures plan { IfOk result (λ plan. ForSome (F.told f.old).files (λ image. IsPlan image file start count used plan)) }
-        ensures place { IfOk result (λ plan. (plan.at % 4 ≡ 0) × (plan.at + 4 ≤ 8192)) }
+        ensures aligned { IfOk result (λ plan. plan.at % 4 ≡ 0) }
         ensures fits { IfOk result (λ plan. plan.counters.allocations < 2 ^ 32) }
         ensures cause { IfDamaged result (IsCause (F.told f.old) file) }
         ensures untold { IfDamaged result (λ _. ForSome (F.told f.old).files (λ image. IsReady image file start count used) → (F.told f.old).files ≡ None) }
@@ -61,7 +60,8 @@ impl Plan {
 
     // Writes the words of the plan.
     pub(crate) fn write<F: Folder>(&self, f: &mut F, file: u8) -> Result<(), Failed>
-        requires place { (self.now.at % 4 ≡ 0) × (self.now.at + 4 ≤ 8192) }
+        requires aligned { self.now.at % 4 ≡ 0 }
+        requires inside { ForSome (F.told f.old).files (λ image. self.now.at + 4 ≤ 8192) }
         requires header { ForSome (F.told f.old).files (λ image. 8192 ≤ length_of image (block file)) }
         ensures whole { OnOk result (Grows (F.told f.old) (F.told f.new) (word_steps (block file) (plan_words self.now))) }
         ensures part { GrowsInPart (F.told f.old) (F.told f.new) (word_steps (block file) (plan_words self.now)) }

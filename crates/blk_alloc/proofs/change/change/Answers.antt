@@ -4,7 +4,7 @@ use Rattle.blk_image.specs.Told.{Told}
 use Rattle.blk_image.proofs.Runs.{passes_none, passes_stayed, passes_to, part_whole, some_inj}
 use Rattle.blk_alloc.specs.Changes.{IsMidst, IsChanged}
 use Rattle.blk_alloc.proofs.Changing.{midst_begin}
-use Rattle.blk_alloc.proofs.Changed.{change_stops, change_done}
+use Rattle.blk_alloc.proofs.Changed.{change_stops, change_done, high}
 use Rattle.blk_alloc.proofs.change.change.Goals as goal
 
 pub write-requires-clause-header : goal.write-requires-clause-header
@@ -31,3 +31,8 @@ returns-clause-stops g c from there =
     passes_stayed c.in_ok-plan.ensures.stays
     (change_stops from c.args.file c.args.start c.args.count c.args.used c.in_ok-plan.plan (c.requires.ready from there) c.requires.some c.requires.group (c.in_ok-plan.ensures.plan from there) c.in_ok-plan.ensures.fits
     (ap (λ (t : Told). t.files) c.in_ok-plan.ensures.stays ∙ there) (part_whole c.in_ok-write.ensures.whole))
+
+pub write-requires-clause-inside : goal.write-requires-clause-inside
+write-requires-clause-inside g c image there =
+    let from = ap (λ (t : Told). t.files) (sym c.in_ok-plan.ensures.stays) ∙ there in
+    high image c.args.file c.args.start c.args.count c.args.used c.in_ok-plan.plan (c.requires.ready image from) c.requires.some c.requires.group (c.in_ok-plan.ensures.plan image from) c.in_ok-plan.ensures.fits

@@ -26,7 +26,7 @@ returns-in_err-read_exact-clause-untold g c =
     (if_damaged c.read_exact.result (ForSome (g.F.Folder.told c.args.f.now).files (λ image. IsReady image c.args.file c.args.start c.args.count c.args.used)) (λ _. (g.F.Folder.told c.args.f.now).files ≡ None)
     (λ ready. let stays = c.in_ok-counters.ensures.stays in
     let none = untold_if c.read_exact.result (g.F.Folder.told c.read.new.f) (names.Block c.args.file) (80 + 4 * c.from.result) 4 c.read_exact.ensures.short
-    (λ image there. let long = (ready image (ap (λ (t : Told). t.files) (sym stays) ∙ there)).header in let place = c.from.ensures in omega (arith, long, place, c.requires.small)) in
+    (λ image there. let is = ready image (ap (λ (t : Told). t.files) (sym stays) ∙ there) in let long = is.header in let below = is.below in let most = is.most in let place = c.from.ensures in omega (arith, long, place, below, most, c.requires.some)) in
     if_damaged_weaker c.read_exact.result (λ _. (g.F.Folder.told c.read.new.f).files ≡ None) (λ _. (g.F.Folder.told c.args.f.now).files ≡ None) (λ damage e. ap (λ (t : Told). t.files) (sym stays) ∙ e) none))
 
 pub returns-in_err-counters-2-clause-untold : goal.returns-in_err-counters-2-clause-untold
@@ -52,8 +52,8 @@ returns-clause-plan g c image there =
     c.longest_run-before.result c.longest_run-later.result c.in_ok-counters.counters c.in_ok-counters-2.counters (80 + 4 * c.from.result) c.word_of-word.result place
     c.word_of-word.ensures (c.in_ok-counters.ensures.counters image there) c.in_ok-counters-2.ensures.moves c.longest_run-before.ensures.run c.longest_run-later.ensures.run
 
-pub returns-clause-place : goal.returns-clause-place
-returns-clause-place g c = let place = c.from.ensures in (omega arith, omega (arith, place, c.requires.small))
+pub returns-clause-aligned : goal.returns-clause-aligned
+returns-clause-aligned g c = omega arith
 
 pub returns-in_err-counters-clause-cause : goal.returns-in_err-counters-clause-cause
 returns-in_err-counters-clause-cause g c =

@@ -15,4 +15,4 @@ each_inside at w a0 a1 a2 a3 a4 size fits long (suc (suc (suc (suc (suc (suc (su
 each_inside at w a0 a1 a2 a3 a4 size fits long (suc (suc (suc (suc (suc (suc (suc (suc k)))))))) d small = absurd (omega arith)
 
 pub write_words-requires-clause-inside : goal.write_words-requires-clause-inside
-write_words-requires-clause-inside g c image there = each_inside c.args.self.now.at c.args.self.now.word _ _ _ _ _ (length_of image (Block c.args.file)) c.requires.place.1 (c.requires.header image there)
+write_words-requires-clause-inside g c image there = each_inside c.args.self.now.at c.args.self.now.word _ _ _ _ _ (length_of image (Block c.args.file)) (c.requires.inside image there) (c.requires.header image there)
