@@ -92,7 +92,7 @@ kept_file a b m kind met met2 left left2 keeps link none =
     longer_whole x y less whole = grind (arith, nat_tests)
 
 -- links that are allowed
-link_zero : (met : List ℕ) (left next : ℕ) → (next == 0) ≡ true → is_link met left next ≡ true
+pub link_zero : (met : List ℕ) (left next : ℕ) → (next == 0) ≡ true → is_link met left next ≡ true
 unfolding is_link
 link_zero met left next e = rw e refl
 
@@ -119,54 +119,75 @@ pub link_of : (image : Image) (kind : ℕ) (met : List ℕ) (left k : ℕ) → f
 unfolding next_file_in
 link_of image kind met left k none = let old = checks_hold kind met left k (byte image (Block k)) (length_of image (Block k)) none in old.link
 
-module _ (a b : Image) (Old : ℕ → Bool) (heads : (m : ℕ) → Old m ≡ true → KeepsHead a b m) (nexts : (m : ℕ) → Old m ≡ true → next_file_in b m ≡ next_file_in a m) (kind : ℕ) where
-  abbrev Same : List ℕ → List ℕ → Type 0
+module _ (a b : Image) (Old : ℕ → Bool) (heads : (m : ℕ) → Old m ≡ true → KeepsHead a b m) (kind : ℕ) where
+  abbrev pub Same : List ℕ → List ℕ → Type 0
   Same met met2 = (m : ℕ) → Old m ≡ true → is_among met2 m ≡ is_among met m
 
-  same_more : (met met2 : List ℕ) (k : ℕ) → Same met met2 → Same (met ++ k ∷ []) (met2 ++ k ∷ [])
+  pub same_more : (met met2 : List ℕ) (k : ℕ) → Same met met2 → Same (met ++ k ∷ []) (met2 ++ k ∷ [])
   same_more met met2 k same m old = is_among_more met2 k m ∙ ap (λ (t : Bool). t || (k == m)) (same m old) ∙ sym (is_among_more met k m)
 
-  abbrev Inside : ℕ → ℕ → Type 0
+  abbrev pub Inside : ℕ → ℕ → Type 0
   Inside left k = (m : ℕ) → is_among (files_along (next_file_in a) left k) m ≡ true → Old m ≡ true
 
   -- the checks of one file and its link
-  one_kept : (left k : ℕ) (met met2 : List ℕ) → Same met met2 → Old k ≡ true → ((next_file_in a k == 0) ≡ false → Old (next_file_in a k) ≡ true)
+  pub one_kept : (left k : ℕ) (met met2 : List ℕ) → Same met met2 → Old k ≡ true → next_file_in b k ≡ next_file_in a k → ((next_file_in a k == 0) ≡ false → Old (next_file_in a k) ≡ true)
       → first_of (file_checks kind (met ++ k ∷ []) left k (byte a (Block k)) (length_of a (Block k))) ≡ None → first_of (file_checks kind (met2 ++ k ∷ []) left k (byte b (Block k)) (length_of b (Block k))) ≡ None
-  one_kept left k met met2 same here following none =
+  one_kept left k met met2 same here next following none =
       kept_file a b k kind (met ++ k ∷ []) (met2 ++ k ∷ []) left left (heads k here)
-      (subst (λ (next : ℕ). is_link (met2 ++ k ∷ []) left next ≡ true) (sym (nexts k here)) (by_test (next_file_in a k == 0) refl)) none
+      (subst (λ (next : ℕ). is_link (met2 ++ k ∷ []) left next ≡ true) (sym next) (by_test (next_file_in a k == 0) refl)) none
     where
       by_test : (t : Bool) → (next_file_in a k == 0) ≡ t → is_link (met2 ++ k ∷ []) left (next_file_in a k) ≡ true
       by_test true e = link_zero (met2 ++ k ∷ []) left (next_file_in a k) e
       by_test false e = link_kept (met ++ k ∷ []) (met2 ++ k ∷ []) left (next_file_in a k) (same_more met met2 k same (next_file_in a k) (following e)) (link_of a kind (met ++ k ∷ []) left k none)
 
-  step_kept : (left k : ℕ) (met met2 : List ℕ) → Same met met2 → Inside (suc left) k
-      → (Inside left (next_file_in a k) → first_of (checks_along a kind (met ++ k ∷ []) left (next_file_in a k)) ≡ None → first_of (checks_along b kind (met2 ++ k ∷ []) left (next_file_in a k)) ≡ None)
+  -- one file and those behind it, where its link is as it was
+  pub step_kept : (left k : ℕ) (met met2 : List ℕ) → Same met met2 → Inside (suc left) k → next_file_in b k ≡ next_file_in a k
+      → (Inside left (next_file_in a k) → (next_file_in a k == 0) ≡ false → first_of (checks_along a kind (met ++ k ∷ []) left (next_file_in a k)) ≡ None → first_of (checks_along b kind (met2 ++ k ∷ []) left (next_file_in a k)) ≡ None)
       → first_of (checks_along a kind met (suc left) k) ≡ None → first_of (checks_along b kind met2 (suc left) k) ≡ None
   unfolding checks_along
-  step_kept left k met met2 same inside more none =
+  step_kept left k met met2 same inside next more none =
       let here : Old k ≡ true = inside k (first_along (next_file_in a) (suc left) k) in
       let parts = none_parts (file_checks kind (met ++ k ∷ []) (suc left) k (byte a (Block k)) (length_of a (Block k))) (if next_file_in a k == 0 then [] else checks_along a kind (met ++ k ∷ []) left (next_file_in a k)) none in
-      let own = one_kept (suc left) k met met2 same here (λ some. inside (next_file_in a k) (later_along (next_file_in a) left k (next_file_in a k) some (first_along (next_file_in a) left (next_file_in a k)))) parts.0 in
+      let own = one_kept (suc left) k met met2 same here next (λ some. inside (next_file_in a k) (later_along (next_file_in a) left k (next_file_in a k) some (first_along (next_file_in a) left (next_file_in a k)))) parts.0 in
       none_both (file_checks kind (met2 ++ k ∷ []) (suc left) k (byte b (Block k)) (length_of b (Block k))) _ own
-      (subst (λ (next : ℕ). first_of (if next == 0 then [] else checks_along b kind (met2 ++ k ∷ []) left next) ≡ None) (sym (nexts k here)) (by_test (next_file_in a k == 0) refl parts.1))
+      (subst (λ (next : ℕ). first_of (if next == 0 then [] else checks_along b kind (met2 ++ k ∷ []) left next) ≡ None) (sym next) (by_test (next_file_in a k == 0) refl parts.1))
     where
       by_test : (t : Bool) → (next_file_in a k == 0) ≡ t → first_of (if t then [] else checks_along a kind (met ++ k ∷ []) left (next_file_in a k)) ≡ None
           → first_of (if t then [] else checks_along b kind (met2 ++ k ∷ []) left (next_file_in a k)) ≡ None
       by_test true e rest = refl
-      by_test false e rest = more (λ m among. inside m (later_along (next_file_in a) left k m e among)) rest
+      by_test false e rest = more (λ m among. inside m (later_along (next_file_in a) left k m e among)) e rest
 
-  -- the checks along the links, where other files are met and none of these is among them
-  pub along_kept : (left k : ℕ) (met met2 : List ℕ) → Same met met2 → Inside left k → first_of (checks_along a kind met left k) ≡ None → first_of (checks_along b kind met2 left k) ≡ None
-  unfolding checks_along
-  along_kept zero k met met2 same inside none =
-      one_kept 0 k met met2 same (inside k (first_along (next_file_in a) 0 k))
-      (λ some. absurd (differ (next_file_in a k == 0) (last_link (met ++ k ∷ []) (next_file_in a k) (link_of a kind (met ++ k ∷ []) 0 k none)) some)) none
-    where
-      differ : (t : Bool) → t ≡ true → t ≡ false → ⊥
-      differ t e d = cc
-  along_kept (suc left) k met met2 same inside none =
-      step_kept left k met met2 same inside (along_kept left (next_file_in a k) (met ++ k ∷ []) (met2 ++ k ∷ []) (same_more met met2 k same)) none
+  module _ (nexts : (m : ℕ) → Old m ≡ true → next_file_in b m ≡ next_file_in a m) where
+    -- the checks along the links, where other files are met and none of these is among them
+    pub along_kept : (left k : ℕ) (met met2 : List ℕ) → Same met met2 → Inside left k → first_of (checks_along a kind met left k) ≡ None → first_of (checks_along b kind met2 left k) ≡ None
+    unfolding checks_along
+    along_kept zero k met met2 same inside none =
+        let here : Old k ≡ true = inside k (first_along (next_file_in a) 0 k) in
+        one_kept 0 k met met2 same here (nexts k here)
+        (λ some. absurd (differ (next_file_in a k == 0) (last_link (met ++ k ∷ []) (next_file_in a k) (link_of a kind (met ++ k ∷ []) 0 k none)) some)) none
+      where
+        differ : (t : Bool) → t ≡ true → t ≡ false → ⊥
+        differ t e d = cc
+    along_kept (suc left) k met met2 same inside none =
+        step_kept left k met met2 same inside (nexts k (inside k (first_along (next_file_in a) (suc left) k)))
+        (λ behind some. along_kept left (next_file_in a k) (met ++ k ∷ []) (met2 ++ k ∷ []) (same_more met met2 k same) behind) none
+
+    links_behind : (left k : ℕ) → Inside (suc left) k → (Inside left (next_file_in a k) → files_along (next_file_in b) left (next_file_in a k) ≡ files_along (next_file_in a) left (next_file_in a k))
+        → (if next_file_in a k == 0 then [] else files_along (next_file_in b) left (next_file_in a k)) ≡ (if next_file_in a k == 0 then [] else files_along (next_file_in a) left (next_file_in a k))
+    links_behind left k inside more = by_test (next_file_in a k == 0) refl
+      where
+        by_test : (t : Bool) → (next_file_in a k == 0) ≡ t → (if t then [] else files_along (next_file_in b) left (next_file_in a k)) ≡ (if t then [] else files_along (next_file_in a) left (next_file_in a k))
+        by_test true e = refl
+        by_test false e = more (λ m among. inside m (later_along (next_file_in a) left k m e among))
+
+    -- the links themselves
+    pub links_kept : (left k : ℕ) → Inside left k → files_along (next_file_in b) left k ≡ files_along (next_file_in a) left k
+    unfolding files_along
+    links_kept zero k inside = refl
+    links_kept (suc left) k inside =
+        let next = nexts k (inside k (first_along (next_file_in a) (suc left) k)) in
+        ap (λ (m : ℕ). k ∷ (if m == 0 then [] else files_along (next_file_in b) left m)) next
+        ∙ ap (λ (l : List ℕ). k ∷ l) (links_behind left k inside (links_kept left (next_file_in a k)))
 
 -- what a list of checks of all four types says of each
 pub each_type : (image : Image) → first_block_damage image ≡ None → (first_of (checks_of_type image 1) ≡ None) × (first_of (checks_of_type image 2) ≡ None) × (first_of (checks_of_type image 3) ≡ None) × (first_of (checks_of_type image 4) ≡ None)
@@ -189,7 +210,7 @@ met_still a b same (suc k) = λ i. met_still a b same k i ++ files_along (same i
 type_still : (a b : Image) → next_file_in b ≡ next_file_in a → ((m : ℕ) → KeepsHead a b m) → (kind : ℕ) → first_of (checks_of_type a kind) ≡ None → first_of (checks_of_type b kind) ≡ None
 unfolding checks_of_type
 type_still a b same keeps kind held =
-    along_kept a b (λ m. true) (λ m old. keeps m) (λ m old. ap (λ (next : ℕ → ℕ). next m) same) kind 59 (kind - 1) (linked_up_to a (kind - 1)) (linked_up_to b (kind - 1))
+    along_kept a b (λ m. true) (λ m old. keeps m) kind (λ m old. ap (λ (next : ℕ → ℕ). next m) same) 59 (kind - 1) (linked_up_to a (kind - 1)) (linked_up_to b (kind - 1))
     (λ m old. ap (λ (l : List ℕ). is_among l m) (met_still a b same (kind - 1))) (λ m among. refl) held
 
 -- no check fails where all links are as before and each header keeps what its checks ask

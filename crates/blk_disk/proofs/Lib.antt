@@ -11,3 +11,6 @@ pub mod Raising
 pub mod Enlarging
 pub mod Numbers
 pub mod Additions
+pub mod Chains
+pub mod Linking
+pub mod Joined

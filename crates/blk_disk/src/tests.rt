@@ -6,7 +6,7 @@ ghost use Rattle.blk_disk.specs.Tables.{Agrees};
 use crate::standing::room_of;
 use crate::{BlockFiles, file_of};
 use blk_addr::{Addr, Kind};
-use blk_io::{Failed, Fault, FileId, Folder, MemFolder};
+use blk_io::{Failed, Fault, FileId, Folder, MemFolder, StopFolder, read_word};
 use std::alloc::Global;
 use std::test::Fail;
 
@@ -233,5 +233,182 @@ fn a_short_file_is_fitted_to_its_blocks(rt: HostRuntime) -> Result<(), Fail> {
     assert_eq!(rt; fit_file(&mut f, 1), Ok(true));
     assert_eq!(rt; fit_file(&mut f, 4), Ok(false));
     assert_eq!(rt; f.steps(), Some(1));
+    Ok(())
+}
+
+// The first four files, with no blocks.
+const EMPTY: [Header; 4] = [
+    (0, 0, 36, 0),
+    (1, 0, 256, 0),
+    (2, 0, 1024, 0),
+    (3, 0, 4096, 0),
+];
+
+// Loads the block files and grows one of them, where it is linked and may grow.
+fn grow_file<F: Folder>(f: &mut F, file: u8) -> Result<bool, Fault> {
+    let mut files = BlockFiles::load(f)?;
+    if !files.has(file) || files.blocks(file) >= 64896 {
+        return Ok(false);
+    }
+    files.grow(f, file)?;
+    Ok(files.max_entries(file).is_some())
+}
+
+// A word of a block file, where the file has it.
+fn word_of(f: &mut MemFolder, file: u8, at: u64) -> Option<u32> {
+    read_word(f, FileId::Block(file), at).ok()
+}
+
+// A folder in which data_1 has so many blocks and this counter of empty groups.
+fn with_counter(alloc: Global, blocks: u32, empty: u32) -> Result<MemFolder, Fail> {
+    let mut f = MemFolder::new(alloc);
+    for header in [(0, 0, 36, 0), (1, 0, 256, blocks), EMPTY[2], EMPTY[3]] {
+        let mut bytes = bytes_of(alloc, header, HEADER_LEN)?;
+        if header.0 == 1 {
+            put_word(&mut bytes, 36, empty);
+        }
+        f.add_file(FileId::Block(header.0), &bytes)?;
+    }
+    Ok(f)
+}
+
+#[test]
+fn a_file_grows_by_1024_blocks(rt: HostRuntime) -> Result<(), Fail> {
+    let mut f = folder_of(rt.alloc(), &EMPTY, HEADER_LEN)?;
+    assert_eq!(rt; grow_file(&mut f, 1), Ok(true));
+    assert_eq!(rt; f.length(FileId::Block(1)), Ok(Some(270_336)));
+    assert_eq!(rt; word_of(&mut f, 1, 20), Some(1024));
+    for at in [24, 28, 32] {
+        assert_eq!(rt; word_of(&mut f, 1, at), Some(0), "{at}");
+    }
+    assert_eq!(rt; word_of(&mut f, 1, 36), Some(256));
+    assert_eq!(rt; f.steps(), Some(3));
+
+    // A file that isn't linked doesn't grow.
+    assert_eq!(rt; grow_file(&mut f, 4), Ok(false));
+    Ok(())
+}
+
+#[test]
+fn a_file_grows_to_64896_blocks(rt: HostRuntime) -> Result<(), Fail> {
+    let mut f = with_counter(rt.alloc(), 63488, 0xFFFF_FFFF)?;
+    assert_eq!(rt; grow_file(&mut f, 1), Ok(true));
+    assert_eq!(rt; word_of(&mut f, 1, 20), Some(64512));
+
+    // The counter is raised modulo 2^32.
+    assert_eq!(rt; word_of(&mut f, 1, 36), Some(255));
+
+    // The last growth is of 384 blocks, which are 96 groups.
+    assert_eq!(rt; grow_file(&mut f, 1), Ok(true));
+    assert_eq!(rt; f.length(FileId::Block(1)), Ok(Some(16_621_568)));
+    assert_eq!(rt; word_of(&mut f, 1, 20), Some(64896));
+    assert_eq!(rt; word_of(&mut f, 1, 36), Some(351));
+    assert_eq!(rt; grow_file(&mut f, 1), Ok(false));
+    Ok(())
+}
+
+#[test]
+fn a_stopped_growth_leaves_a_good_header(rt: HostRuntime) -> Result<(), Fail> {
+    let lengths = [8192, 270_336, 270_336, 270_336];
+    let counters = [7, 7, 263, 263];
+    let blocks = [0, 0, 0, 1024];
+    for steps in 0..4usize {
+        let f = with_counter(rt.alloc(), 0, 7)?;
+        let mut stopped = StopFolder::new(f, steps as u64);
+        assert_eq!(rt; grow_file(&mut stopped, 1).is_ok(), steps == 3, "{steps}");
+        let mut f = stopped.into_inner();
+        assert!(rt; BlockFiles::load(&mut f).is_ok(), "{steps}");
+        assert_eq!(rt;
+            f.length(FileId::Block(1)),
+            Ok(Some(lengths[steps])),
+            "{steps}"
+        );
+        assert_eq!(rt; word_of(&mut f, 1, 36), Some(counters[steps]), "{steps}");
+        assert_eq!(rt; word_of(&mut f, 1, 20), Some(blocks[steps]), "{steps}");
+
+        // The growth is done where it is tried again.
+        assert_eq!(rt; grow_file(&mut f, 1).is_ok(), true, "{steps}");
+    }
+    Ok(())
+}
+
+// Loads the block files and adds one of a kind, where it may have one more.
+fn add_to<F: Folder>(f: &mut F, kind: Kind) -> Result<Option<u8>, Fault> {
+    let mut files = BlockFiles::load(f)?;
+    if kind == Kind::External || files.len(kind) >= 60 {
+        return Ok(None);
+    }
+    let n = files.add_file(f, kind)?;
+    Ok(Some(n))
+}
+
+#[test]
+fn the_first_new_file_is_data_4(rt: HostRuntime) -> Result<(), Fail> {
+    let alloc = rt.alloc();
+    let mut f = folder_of(alloc, &EMPTY, HEADER_LEN)?;
+
+    // There is a file of that number that isn't linked.
+    let mut old = Vec::new(alloc);
+    old.resize(9000, 0xAB)?;
+    f.add_file(FileId::Block(4), &old)?;
+    assert_eq!(rt; add_to(&mut f, Kind::B256), Ok(Some(4)));
+    assert_eq!(rt; word_of(&mut f, 1, 8), Some(0x0004_0001));
+
+    // The new file has its header alone.
+    assert_eq!(rt; f.length(FileId::Block(4)), Ok(Some(8192)));
+    for (at, word) in [
+        (0, MAGIC),
+        (4, 0x20000),
+        (8, 4),
+        (12, 256),
+        (16, 0),
+        (20, 0),
+        (36, 0),
+        (80, 0),
+    ] {
+        assert_eq!(rt; word_of(&mut f, 4, at), Some(word), "{at}");
+    }
+
+    // The next one is linked behind it.
+    assert_eq!(rt; add_to(&mut f, Kind::B256), Ok(Some(5)));
+    assert_eq!(rt; word_of(&mut f, 4, 8), Some(0x0005_0004));
+    assert_eq!(rt; add_to(&mut f, Kind::External), Ok(None));
+    Ok(())
+}
+
+#[test]
+fn a_new_file_takes_the_least_number(rt: HostRuntime) -> Result<(), Fail> {
+    let mut f = folder_of(rt.alloc(), &FILES, HEADER_LEN)?;
+    assert_eq!(rt; add_to(&mut f, Kind::B1K), Ok(Some(5)));
+    assert_eq!(rt; word_of(&mut f, 4, 8), Some(0x0005_0004));
+    let Ok(files) = BlockFiles::load(&mut f) else {
+        panic!(rt; "the files are whole");
+    };
+    assert_eq!(rt; files.count(Kind::B1K), 4);
+    assert_eq!(rt; files.file_at(Kind::B1K, 3), Some(5));
+    assert_eq!(rt; files.max_entries(5), Some(0));
+    Ok(())
+}
+
+#[test]
+fn a_stopped_addition_leaves_a_good_folder(rt: HostRuntime) -> Result<(), Fail> {
+    for steps in 0..8u64 {
+        let f = folder_of(rt.alloc(), &FILES, HEADER_LEN)?;
+        let mut stopped = StopFolder::new(f, steps);
+        assert_eq!(rt;
+            add_to(&mut stopped, Kind::B256).is_ok(),
+            steps == 7,
+            "{steps}"
+        );
+        let mut f = stopped.into_inner();
+        match BlockFiles::load(&mut f) {
+            Ok(files) => assert_eq!(rt;
+                files.count(Kind::B256),
+                if steps == 7 { 2 } else { 1 },
+                "{steps}"
+            ),
+            Err(_) => panic!(rt; "the files are whole"),
+        }
+    }
     Ok(())
 }
