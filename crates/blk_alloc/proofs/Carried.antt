@@ -1,6 +1,8 @@
 -- A fault that `?` hands on, and what only a folder that tells nothing does.
-use Rattle.std.proofs.Common.{◌≡◌, Option, None, Some, Result, Ok, Err, refl, sym, subst}
-use Rattle.std.specs.Option.{ForSome}
+use Rattle.std.proofs.Common.{◌≡◌, Option, None, Some, Result, Ok, Err, refl, sym, ◌∙◌, ap, subst, List}
+use Rattle.std.specs.Option.{ForSome, option_map}
+use Rattle.blk_image.specs.Steps.{TrailStep, after}
+use Rattle.blk_image.specs.Told.{Told, GrowsInPart}
 use Rattle.blk_image.specs.Image.{Image}
 use Rattle.std.specs.Prelude.{IsErrAnd}
 use Rattle.blk_io.specs.declared.fault.Damage.{Damage}
@@ -34,3 +36,15 @@ pub if_damaged_weaker : {A : Type 0} (r : Result A Fault) (P Q : Damage → Type
 if_damaged_weaker {A} (Ok a) P Q weaker holds = tt
 if_damaged_weaker {A} (Err Device) P Q weaker holds = tt
 if_damaged_weaker {A} (Err (Damaged damage)) P Q weaker holds = weaker damage holds
+
+-- what holds of the files at the end, where they are told at the start, and where a folder that tells nothing goes on so
+pub told_at_end : (old new : Option Image) (P : Image → Type 0) → (old ≡ None → new ≡ None) → ForSome old (λ from. ForSome new P) → ForSome new P
+told_at_end None new P silent holds image there = absurd (clash (sym (silent refl) ∙ there))
+  where
+    clash : None ≡ Some image → ⊥
+    clash e = cc
+told_at_end (Some from) new P silent holds image there = holds from refl image there
+
+-- a part of some steps tells nothing where nothing was told
+pub silent_part : {a b : Told} {s : List TrailStep} → GrowsInPart a b s → a.files ≡ None → b.files ≡ None
+silent_part {a} {b} {s} part none = part.grows.files ∙ ap (option_map (after part.made)) none

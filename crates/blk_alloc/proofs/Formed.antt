@@ -63,6 +63,7 @@ module _ (n : ℕ) (from image : Image) (same : SameOutside (map_of n) from imag
     links = λ kind holds. agrees.links kind holds ∙ sym (linked_kept kind);
     blocks = λ m among. agrees.blocks m among ∙ sym (blocks_kept m);
     lengths = λ m among. agrees.lengths m among ∙ sym (same.lengths (Block m) refl);
+    undamaged = undamaged_still from image next_kept heads_kept agrees.undamaged;
   }
 
   pub stands_kept : stands_in image ≡ stands_in from
@@ -125,21 +126,20 @@ along_checked image kind (suc left) k met m among none =
     by_test true there none rest = absurd (clash there)
     by_test false there none rest = rest there none
 
--- a linked file of a well-formed folder has its header, and a number of blocks that is allowed
-pub linked_checked : (image : Image) (kind m : ℕ) → IsWellFormed image → is_block_kind kind ≡ true → is_among (linked image kind) m ≡ true → HasHead image m
+-- a linked file of a folder whose block files are undamaged has its header, and a number of blocks that is allowed
+pub linked_checked : (image : Image) (kind m : ℕ) → first_block_damage image ≡ None → is_block_kind kind ≡ true → is_among (linked image kind) m ≡ true → HasHead image m
 unfolding linked checks_of_type
-linked_checked image kind m formed blocky among =
-    let parts = none_parts (head_checks (byte image Index) (length_of image Index) ++ list_checks (byte image Index)) (block_checks image) formed in
-    let each = each_type image parts.1 in
+linked_checked image kind m undamaged blocky among =
+    let each = each_type image undamaged in
     by_kind kind (grind (arith, nat_tests)) (grind (arith, nat_tests)) among each
   where
     by_kind : (k : ℕ) → 1 ≤ k → k ≤ 4 → is_among (files_along (next_file_in image) 59 (k - 1)) m ≡ true
         → ((first_of (checks_of_type image 1) ≡ None) × (first_of (checks_of_type image 2) ≡ None) × (first_of (checks_of_type image 3) ≡ None) × (first_of (checks_of_type image 4) ≡ None)) → HasHead image m
     by_kind zero low high there each = absurd (omega arith)
     by_kind (suc zero) low high there each = along_checked image 1 59 0 (linked_up_to image 0) m there each.0
-    by_kind (suc (suc zero)) low high there each = along_checked image 2 59 1 (linked_up_to image 1) m there each.1.0
-    by_kind (suc (suc (suc zero))) low high there each = along_checked image 3 59 2 (linked_up_to image 2) m there each.1.1.0
-    by_kind (suc (suc (suc (suc zero)))) low high there each = along_checked image 4 59 3 (linked_up_to image 3) m there each.1.1.1
+    by_kind (suc (suc zero)) low high there each = along_checked image 2 59 1 (linked_up_to image 1) m there each.1
+    by_kind (suc (suc (suc zero))) low high there each = along_checked image 3 59 2 (linked_up_to image 2) m there each.2
+    by_kind (suc (suc (suc (suc zero)))) low high there each = along_checked image 4 59 3 (linked_up_to image 3) m there each.3
     by_kind (suc (suc (suc (suc (suc k))))) low high there each = absurd (omega arith)
 
 -- whole groups, and no more than a file has

@@ -1,5 +1,5 @@
 -- Blocks that are freed.
-use Rattle.std.proofs.Common.{◌≡◌, ◌≢◌, ℕ, zero, suc, ◌+◌, ◌-◌, ◌<◌, ◌≤◌, ◌⊎◌, inl, inr, List, [], ◌∷◌, length, Bool, true, false, ◌&&◌, ◌||◌, not, if◌then◌else◌, Option, unwrap_or, refl, sym, ◌∙◌, ap, ap₂, subst, arith, ⊎_elim}
+use Rattle.std.proofs.Common.{◌≡◌, ◌≢◌, ℕ, zero, suc, ◌+◌, ◌-◌, ◌<◌, ◌≤◌, ◌⊎◌, inl, inr, List, [], ◌∷◌, length, Bool, true, false, ◌&&◌, ◌||◌, not, if◌then◌else◌, Option, None, unwrap_or, refl, sym, ◌∙◌, ap, ap₂, subst, arith, ⊎_elim}
 use Rattle.std.specs.Prelude.{◌==◌}
 use Rattle.std.specs.List.{All}
 use Rattle.std.proofs.lemmas.List.Elements.{All-filter}
@@ -9,7 +9,7 @@ use Rattle.blk_image.specs.Image.{Image, Block, byte}
 use Rattle.blk_format.specs.Address.{kind_of, external, file_selector, first_block, block_count}
 use Rattle.blk_format.specs.Claims.{BlockOf, claims_of, claims_of_all, has_claim, is_in_file}
 use Rattle.blk_format.specs.Headers.{allocations_of}
-use Rattle.blk_format.specs.BlockFiles.{is_among, stands_in, most_blocks, IsWellFormed}
+use Rattle.blk_format.specs.BlockFiles.{is_among, stands_in, most_blocks, first_block_damage}
 use Rattle.blk_format.specs.Maps.{is_marked, AreAllocations, EmptyAgrees}
 use Rattle.blk_addr.specs.Bits.{is_between}
 use Rattle.blk_alloc.specs.Changes.{with_marks, IsReady, IsChanged}
@@ -26,10 +26,10 @@ some_there [] w among = absurd (clash among)
 some_there (x ∷ words) w among = omega arith
 
 -- an allocation may be freed
-pub free_ready : (image : Image) (w : ℕ) → kind_of w ≢ external → IsWellFormed image → IsAllocated image w → EmptyAgrees image (file_selector w) → IsReady image (file_selector w) (first_block w) (block_count w) false
-free_ready image w blocky formed allocated empty =
+pub free_ready : (image : Image) (w : ℕ) → kind_of w ≢ external → first_block_damage image ≡ None → IsAllocated image w → EmptyAgrees image (file_selector w) → IsReady image (file_selector w) (first_block w) (block_count w) false
+free_ready image w blocky undamaged allocated empty =
     let here : StandsHere image w = stands_here image w blocky (all_among (λ x. stands_in image x ≡ true) allocated.words w allocated.are.stand allocated.there) in
-    let head : HasHead image (file_selector w) = linked_checked image (kind_of w) (file_selector w) formed here.blocky here.linked in
+    let head : HasHead image (file_selector w) = linked_checked image (kind_of w) (file_selector w) undamaged here.blocky here.linked in
     let count = count_whole _ head.count in
     record {
       header = head.header;

@@ -17,10 +17,10 @@ all_among P [] w all among = absurd (clash among)
   where
     clash : false ≡ true → ⊥
     clash e = cc
-all_among P (x ∷ words) w all among = by_test (x == w) refl (λ there. all_among P words w (All-tail all) there)
+all_among P (x ∷ words) w all among = by_test (x == w) refl (λ there. all_among P words w (All-tail P x words all) there)
   where
     by_test : (t : Bool) → (x == w) ≡ t → (is_among words w ≡ true → P w) → P w
-    by_test true e rest = let same : x ≡ w = grind (arith, nat_tests) in subst P same (All-head all)
+    by_test true e rest = let same : x ≡ w = grind (arith, nat_tests) in subst P same (All-head P x words all)
     by_test false e rest = rest (ap (λ (t : Bool). t || is_among words w) (sym e) ∙ among)
 
 first_of_two : (a b : Bool) → (a && b) ≡ true → a ≡ true

@@ -18,6 +18,7 @@ pub(crate) fn change<F: Folder>(f: &mut F, file: u8, start: u32, count: u32, use
     requires ready { ForSome (F.told f.old).files (λ image. IsReady image file start count used) }
     ensures done { OnOk result (ForSome (F.told f.old).files (λ from. ForSome (F.told f.new).files (IsChanged from file start count used))) }
     ensures stops { ForSome (F.told f.old).files (λ from. PassesTo (F.told f.old) (F.told f.new) (IsMidst file from) (λ image. IsMidst file from image ⊎ IsChanged from file start count used image)) }
+    ensures silent { (F.told f.old).files ≡ None → (F.told f.new).files ≡ None }
     ensures cause { IfDamaged result (IsCause (F.told f.old) file) }
     ensures untold { IfDamaged result (λ _. (F.told f.old).files ≡ None) }
     ensures later { F.faults f.old ≤ F.faults f.new }

@@ -24,14 +24,13 @@ use blk_io::{Fault, Folder};
 pub fn free<F: Folder>(f: &mut F, files: &BlockFiles, addr: Addr) -> Result<(), Fault>
     requires stands { IsTrue (stands_among files.now addr) }
     requires agrees { ForSome (F.told f.old).files (Agrees files.now) }
-    requires formed { ForSome (F.told f.old).files IsWellFormed }
     requires allocated { ForSome (F.told f.old).files (λ image. IsAllocated image addr) }
     requires empty { ForSome (F.told f.old).files (λ image. EmptyAgrees image (file_selector addr)) }
     ensures freed { OnOk result (ForSome (F.told f.old).files (λ from. ForSome (F.told f.new).files (IsFreed from addr))) }
 
     // At each word only map, counters and updating of the file have changed, and updating is 1 until all of it is done.
     ensures stops { ForSome (F.told f.old).files (λ from. PassesTo (F.told f.old) (F.told f.new) (IsMidst (file_selector addr) from) (λ image. IsMidst (file_selector addr) from image ⊎ IsFreed from addr image)) }
-    ensures formed { ForSome (F.told f.old).files (λ _. Passes (F.told f.old) (F.told f.new) IsWellFormed) }
+    ensures formed { ForSome (F.told f.old).files (λ from. IsWellFormed from → Passes (F.told f.old) (F.told f.new) IsWellFormed) }
     ensures agrees { ForSome (F.told f.new).files (Agrees files.now) }
 
     ensures cause { IfDamaged result (IsCause (F.told f.old) (file_selector addr)) }

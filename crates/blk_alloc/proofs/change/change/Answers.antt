@@ -3,6 +3,7 @@ use Rattle.blk_image.specs.Image.{Image}
 use Rattle.blk_image.specs.Told.{Told}
 use Rattle.blk_image.proofs.Runs.{passes_none, passes_stayed, passes_to, part_whole, some_inj}
 use Rattle.blk_alloc.specs.Changes.{IsMidst, IsChanged}
+use Rattle.blk_alloc.proofs.Carried.{silent_part}
 use Rattle.blk_alloc.proofs.Changing.{midst_begin}
 use Rattle.blk_alloc.proofs.Changed.{change_stops, change_done, high}
 use Rattle.blk_alloc.proofs.change.change.Goals as goal
@@ -36,3 +37,9 @@ pub write-requires-clause-inside : goal.write-requires-clause-inside
 write-requires-clause-inside g c image there =
     let from = ap (λ (t : Told). t.files) (sym c.in_ok-plan.ensures.stays) ∙ there in
     high image c.args.file c.args.start c.args.count c.args.used c.in_ok-plan.plan (c.requires.ready image from) c.requires.some c.requires.group (c.in_ok-plan.ensures.plan image from) c.in_ok-plan.ensures.fits
+
+pub returns-in_err-write-clause-silent : goal.returns-in_err-write-clause-silent
+returns-in_err-write-clause-silent g c none = silent_part c.in_err-write.ensures.part (ap (λ (t : Told). t.files) c.in_ok-plan.ensures.stays ∙ none)
+
+pub returns-clause-silent : goal.returns-clause-silent
+returns-clause-silent g c none = silent_part c.in_ok-write.ensures.part (ap (λ (t : Told). t.files) c.in_ok-plan.ensures.stays ∙ none)

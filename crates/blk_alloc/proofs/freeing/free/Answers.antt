@@ -12,6 +12,7 @@ use Rattle.blk_disk.proofs.Ranges.{stands_blocky}
 use Rattle.blk_io.specs.Faults.{IfDamaged}
 use Rattle.blk_alloc.specs.Changes.{IsMidst, IsReady, IsChanged}
 use Rattle.blk_alloc.specs.Owning.{IsFreed, IsCause}
+use Rattle.blk_alloc.proofs.Carried.{told_at_end}
 use Rattle.blk_alloc.proofs.Formed.{formed_kept, agrees_kept}
 use Rattle.blk_alloc.proofs.Lists.{IsBlocks}
 use Rattle.blk_alloc.proofs.Freed.{free_ready, freed_is, allocated_blocks}
@@ -32,7 +33,7 @@ pub change-requires-clause-ready : goal.change-requires-clause-ready
 change-requires-clause-ready g c image there =
     let b = c.blocks_of-blocks in
     moved (λ n s k. IsReady image n s k false) c.args.addr b.result.file b.result.start b.result.count b.ensures.file b.ensures.start b.ensures.count
-    (free_ready image c.args.addr (stands_blocky c.args.files.now c.args.addr c.requires.stands) (c.requires.formed image there) (c.requires.allocated image there) (c.requires.empty image there))
+    (free_ready image c.args.addr (stands_blocky c.args.files.now c.args.addr c.requires.stands) (c.requires.agrees image there).undamaged (c.requires.allocated image there) (c.requires.empty image there))
 
 pub returns-clause-freed : goal.returns-clause-freed
 returns-clause-freed g c =
@@ -50,10 +51,12 @@ returns-clause-stops g c from there =
     passes_to stops (λ image. ⊎_elim (λ midst. inl midst) (λ changed. inr (freed_is from image c.args.addr (allocated_blocks from c.args.addr (stands_blocky c.args.files.now c.args.addr c.requires.stands) (c.requires.allocated from there)) changed)))
 
 pub returns-clause-formed : goal.returns-clause-formed
-returns-clause-formed g c from there =
-    let keeps : (image : Image) → IsMidst c.blocks_of-blocks.result.file from image → IsWellFormed image = λ image midst. formed_kept c.blocks_of-blocks.result.file from image midst.same (c.requires.formed from there) in
-    passes_weaker (c.change.ensures.stops from there) keeps (λ image. ⊎_elim (keeps image) (λ changed. formed_kept c.blocks_of-blocks.result.file from image changed.same (c.requires.formed from there)))
+returns-clause-formed g c from there formed =
+    let keeps : (image : Image) → IsMidst c.blocks_of-blocks.result.file from image → IsWellFormed image = λ image midst. formed_kept c.blocks_of-blocks.result.file from image midst.same formed in
+    passes_weaker (c.change.ensures.stops from there) keeps (λ image. ⊎_elim (keeps image) (λ changed. formed_kept c.blocks_of-blocks.result.file from image changed.same formed))
 
 pub returns-clause-agrees : goal.returns-clause-agrees
 returns-clause-agrees g c =
-    told_end (g.F.Folder.told c.args.f.now) (g.F.Folder.told c.change.new.f) c.args.files.now c.blocks_of-blocks.result.file ? c.requires.agrees
+    told_at_end (g.F.Folder.told c.args.f.now).files (g.F.Folder.told c.change.new.f).files (Agrees c.args.files.now) c.change.ensures.silent
+    (λ from there. let keeps : (i : Image) → IsMidst c.blocks_of-blocks.result.file from i → Agrees c.args.files.now i = λ i midst. agrees_kept c.blocks_of-blocks.result.file from i midst.same c.args.files.now (c.requires.agrees from there) in
+    passes_end (passes_weaker (c.change.ensures.stops from there) keeps (λ i. ⊎_elim (keeps i) (λ changed. agrees_kept c.blocks_of-blocks.result.file from i changed.same c.args.files.now (c.requires.agrees from there)))))
