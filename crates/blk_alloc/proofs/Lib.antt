@@ -10,3 +10,4 @@ pub mod Addresses
 pub mod Formed
 pub mod Standing
 pub mod Freed
+pub mod Pieces

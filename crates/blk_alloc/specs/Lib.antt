@@ -2,3 +2,4 @@ pub mod Places
 pub mod Counting
 pub mod Changes
 pub mod Owning
+pub mod Fitting

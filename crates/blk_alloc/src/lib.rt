@@ -4,6 +4,7 @@
 mod blocks;
 mod change;
 mod counters;
+mod fitting;
 mod freeing;
 mod map;
 mod plan;
