@@ -11,3 +11,4 @@ pub mod Formed
 pub mod Standing
 pub mod Freed
 pub mod Pieces
+pub mod Members

@@ -53,3 +53,26 @@ module _ (image : Image) (n first blocks count len : ℕ) (bytes : List ℕ) (wh
 -- one piece after another
 pub no_places-append : (marked : ℕ → Bool) (count low middle end : ℕ) → AreNoPlaces marked count low middle → AreNoPlaces marked count middle end → AreNoPlaces marked count low end
 no_places-append marked count low middle end one other b from upto = ⊎_elim (λ below. one b from below) (λ behind. other b behind upto) (cases_lt b middle)
+
+-- a place lies in one group
+pub place_group : (marked : ℕ → Bool) (count b : ℕ) → is_place marked count b ≡ true → b % 4 + count ≤ 4
+unfolding is_place
+place_group marked count b is = by_test (nat_le (b % 4 + count) 4) refl is
+  where
+    by_test : (t : Bool) → nat_le (b % 4 + count) 4 ≡ t → (t && are_free marked b count) ≡ true → b % 4 + count ≤ 4
+    by_test true e h = grind (arith, nat_tests)
+    by_test false e h = absurd (clash h)
+      where
+        clash : false ≡ true → ⊥
+        clash c = cc
+
+pub place_free : (marked : ℕ → Bool) (count b : ℕ) → is_place marked count b ≡ true → are_free marked b count ≡ true
+unfolding is_place
+place_free marked count b is = by_test (nat_le (b % 4 + count) 4) is
+  where
+    by_test : (t : Bool) → (t && are_free marked b count) ≡ true → are_free marked b count ≡ true
+    by_test true h = h
+    by_test false h = absurd (clash h)
+      where
+        clash : false ≡ true → ⊥
+        clash c = cc

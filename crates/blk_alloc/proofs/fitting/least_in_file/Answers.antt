@@ -32,3 +32,11 @@ pub returns-clause-least : goal.returns-clause-least
 returns-clause-least g c image there b low upto =
     let ends : c.div_ceil-piece-end.result ≡ c.args.end / 8192 + min 1 (c.args.end % 8192) = c.div_ceil-piece-end.ensures in
     c.loop-piece.invariant.none image there b low (omega (arith, ends, c.loop-piece-test.false, upto))
+
+pub returns-in-Some-clause-inside : goal.returns-in-Some-clause-inside
+returns-in-Some-clause-inside g c b is =
+    let found = c.in_ok-b.ensures.inside b (c.in-Some.is ∙ is) in
+    let ends : c.div_ceil-piece-end.result ≡ c.args.end / 8192 + min 1 (c.args.end % 8192) = c.div_ceil-piece-end.ensures in
+    let blocks : c.min-blocks.result ≡ min (c.args.end - c.loop-piece.piece * 8192) 8192 = c.min-blocks.ensures in
+    let below = found.1 in
+    (found.0, omega (arith, below, blocks, ends, c.loop-piece-test.true))

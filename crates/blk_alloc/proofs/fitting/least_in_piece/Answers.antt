@@ -2,12 +2,13 @@ use Rattle.std.proofs.Common.{◌≡◌, ℕ, ◌+◌, ◌*◌, ◌/◌, ◌%◌
 use Rattle.std.specs.Option.{ForSome}
 use Rattle.blk_image.specs.Bytes.{range_at}
 use Rattle.blk_image.specs.Image.{Block, byte, length_of}
+use Rattle.blk_image.proofs.Runs.{some_inj}
 use Rattle.blk_addr.specs.Bits.{has_bit}
 use Rattle.blk_io.specs.declared.folder.FileId.TheVariants as names
 use Rattle.blk_io.proofs.Shorts.{untold_if}
 use Rattle.blk_alloc.specs.Places.{IsLeastPlace}
 use Rattle.blk_alloc.proofs.Carried.{carried, if_damaged}
-use Rattle.blk_alloc.proofs.Pieces.{least_none, least_some}
+use Rattle.blk_alloc.proofs.Pieces.{least_none, least_some, place_group}
 use Rattle.blk_alloc.proofs.fitting.least_in_piece.Goals as goal
 
 pub returns-in_err-read_exact-clause-untold : goal.returns-in_err-read_exact-clause-untold
@@ -30,3 +31,11 @@ returns-in-None-clause-least g c image there =
     least_none image c.args.file c.args.first c.args.blocks c.args.count (length c.args.piece.now) c.read_exact.new.out c.requires.whole c.requires.fits
     (c.in_ok-read_exact.ensures.bytes image there ∙ ap (λ (k : ℕ). range_at (byte image (Block c.args.file)) k (length c.args.piece.now)) place)
     (subst (IsLeastPlace (has_bit c.read_exact.new.out) c.args.count c.args.blocks) c.in-None.is c.least_place.ensures)
+
+pub returns-in-Some-clause-inside : goal.returns-in-Some-clause-inside
+returns-in-Some-clause-inside g c x is =
+    let least = subst (IsLeastPlace (has_bit c.read_exact.new.out) c.args.count c.args.blocks) c.in-Some.is c.least_place.ensures in
+    let group = place_group (has_bit c.read_exact.new.out) c.args.count c.in-Some.b least.1 in
+    let below = least.0 in
+    let same : c.args.first + c.in-Some.b ≡ x = some_inj is in
+    (omega (arith, group, same, c.requires.whole), omega (arith, below, same))
