@@ -12,3 +12,4 @@ pub mod Standing
 pub mod Freed
 pub mod Pieces
 pub mod Members
+pub mod Widening

@@ -3,3 +3,4 @@ pub mod Counting
 pub mod Changes
 pub mod Owning
 pub mod Fitting
+pub mod Taking

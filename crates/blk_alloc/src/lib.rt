@@ -8,5 +8,6 @@ mod fitting;
 mod freeing;
 mod map;
 mod plan;
+mod taking;
 
 pub use freeing::free;
