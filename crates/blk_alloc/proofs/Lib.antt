@@ -13,3 +13,5 @@ pub mod Freed
 pub mod Pieces
 pub mod Members
 pub mod Widening
+pub mod Taken
+pub mod TakenBlocks

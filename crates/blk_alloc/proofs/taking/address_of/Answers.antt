@@ -36,9 +36,9 @@ unreachable-requires c =
     clash : (x : ℕ) → Some x ≡ None → ⊥
     clash x e = cc
 
-pub returns-clause-word : goal.returns-clause-word
-returns-clause-word c =
+pub returns : goal.returns
+returns c =
     let is = word_is (kind_number c.args.kind) c.args.file c.args.start c.args.count c.number_of.result c.from.result c.number_of.ensures c.from.ensures in
     let f = fields c.args.kind c.args.file c.args.start c.args.count (omega (arith, c.ranges.file)) c.requires.small c.requires.some c.requires.group in
     let address = is_address-block_word (kind_number c.args.kind) c.args.file c.args.start c.args.count f (kind_blocky c.args.kind c.requires.blocky) c.requires.group c.requires.node in
-    some_inj (sym c.in-Some.is ∙ given _ _ c.from_word.result c.from_word.ensures is address)
+    record { word = some_inj (sym c.in-Some.is ∙ given _ _ c.from_word.result c.from_word.ensures is address) }
