@@ -15,3 +15,4 @@ pub mod Members
 pub mod Widening
 pub mod Taken
 pub mod TakenBlocks
+pub mod TakenAfter

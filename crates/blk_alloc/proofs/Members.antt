@@ -23,6 +23,13 @@ kind_blocky B256 some = refl
 kind_blocky B1K some = refl
 kind_blocky B4K some = refl
 
+pub kind_small : (k : Kind) → kind_number k < 8
+kind_small External = omega arith
+kind_small Rankings = omega arith
+kind_small B256 = omega arith
+kind_small B1K = omega arith
+kind_small B4K = omega arith
+
 or_right : (a b : Bool) → b ≡ true → (a || b) ≡ true
 or_right true b e = refl
 or_right false b e = e

@@ -12,6 +12,7 @@ use Rattle.blk_image.specs.Steps.{TrailStep, SetLength, applied, after}
 use Rattle.blk_image.specs.Footprint.{SameOutside, size_of, one_word, either}
 use Rattle.blk_image.specs.Told.{Told, Grows, PassesTo, Until, IsQuiet}
 use Rattle.blk_image.proofs.Footprints.{outside-refl, outside-trans, outside_wider, outside_longer, within_left, within_right}
+use Rattle.blk_image.proofs.Images.{length-after_set_len}
 use Rattle.blk_image.proofs.Runs.{passes_part, part_whole, some_inj, told_whole}
 use Rattle.blk_format.specs.Address.{kind_of, external, file_selector, first_block, block_count, block_word, block_size, is_address, place, room, block_place}
 use Rattle.blk_format.specs.Claims.{Claim, BlockOf, ExternalOf, claims_of, claims_of_all, has_claim, is_in_file, repeats}
@@ -81,11 +82,11 @@ module _ (files : BlockFiles) (n : ℕ) (from : Image) (agrees : Agrees files fr
   longer : nat_lt (length_in files n) (whole_length files n) ≡ true → length_of from (Block n) ≤ whole_length files n
   longer test = let same = agrees.lengths n among in grind (arith, nat_tests)
 
-  fit_along : (P : Image → Type 0) → P from → ((mid : Image) → SameOutside (size_of (Block n)) from mid → P mid) → Until P P from (fit_steps files n)
+  fit_along : (P : Image → Type 0) → P from → ((mid : Image) → SameOutside (size_of (Block n)) from mid → length_of from (Block n) ≤ length_of mid (Block n) → P mid) → Until P P from (fit_steps files n)
   fit_along P here there = by_test (nat_lt (length_in files n) (whole_length files n)) refl
     where
       by_test : (t : Bool) → nat_lt (length_in files n) (whole_length files n) ≡ t → Until P P from (if t then SetLength (Block n) (whole_length files n) ∷ [] else [])
-      by_test true e = (here, there _ (outside_longer (Block n) (whole_length files n) from (longer e)))
+      by_test true e = (here, there (applied (SetLength (Block n) (whole_length files n)) from) (outside_longer (Block n) (whole_length files n) from (longer e)) (let at = length-after_set_len from (Block n) (whole_length files n) in omega (arith, at, longer e)))
       by_test false e = here
 
   fit_quiet : IsQuiet (fit_steps files n)
@@ -95,10 +96,10 @@ module _ (files : BlockFiles) (n : ℕ) (from : Image) (agrees : Agrees files fr
       by_test true = tt
       by_test false = tt
 
-  pub fit_passes : {a b : Told} (P : Image → Type 0) → a.files ≡ Some from → Grows a b (fit_steps files n) → ((mid : Image) → SameOutside (size_of (Block n)) from mid → P mid) → PassesTo a b P P
+  pub fit_passes : {a b : Told} (P : Image → Type 0) → a.files ≡ Some from → Grows a b (fit_steps files n) → ((mid : Image) → SameOutside (size_of (Block n)) from mid → length_of from (Block n) ≤ length_of mid (Block n) → P mid) → PassesTo a b P P
   fit_passes {a} {b} P there grows all =
       passes_part P P (part_whole grows) fit_quiet (λ i p. p)
-      (λ i is. subst (λ (j : Image). Until P P j (fit_steps files n)) (some_inj (sym there ∙ is)) (fit_along P (all from (outside-refl (size_of (Block n)) from)) all))
+      (λ i is. subst (λ (j : Image). Until P P j (fit_steps files n)) (some_inj (sym there ∙ is)) (fit_along P (all from (outside-refl (size_of (Block n)) from) (omega arith)) all))
 
 -- a header that is as it was is ready as it was
 pub ready_kept : (from mid : Image) (n start count : ℕ) (used : Bool) → SameOutside (size_of (Block n)) from mid → length_of from (Block n) ≤ length_of mid (Block n) → IsReady from n start count used → IsReady mid n start count used

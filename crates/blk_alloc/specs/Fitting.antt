@@ -38,6 +38,7 @@ IsFitting image files count (Some place) = IsFirstFit image files count place
 -- blocks in a file of a type, so many and in one group
 pub record IsPlace (files : BlockFiles) (kind count : ℕ) (place : Blocks) : Type 0 where
   pub linked : is_among (files_of files kind) place.file ≡ true
+  pub number : place.file < 256
   pub small : place.start < most_blocks
   pub group : place.start % 4 + count ≤ group_size
   pub counted : place.count ≡ count

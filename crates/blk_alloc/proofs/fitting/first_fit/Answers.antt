@@ -62,6 +62,7 @@ returns-in-Some-2-clause-place g c place is =
     subst (IsPlace c.args.files.now (kind_number c.args.kind) c.args.count) (some_inj is)
     (record {
       linked = member_at files c.loop-i.i c.in-Some.file (sym c.file_at.ensures ∙ c.in-Some.is);
+      number = c.blocks_in-end.ensures.number;
       small = let below = inside.1 in let most = c.blocks_in-end.ensures.most in omega (arith, below, most);
       group = inside.0;
       counted = refl;

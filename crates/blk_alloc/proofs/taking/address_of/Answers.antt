@@ -5,15 +5,8 @@ use Rattle.blk_format.proofs.Words.{AreFields, is_address-block_word, kind_of-bl
 use Rattle.blk_addr.specs.Kind.{kind_number}
 use Rattle.blk_addr.specs.declared.kinds.Kind.{Kind}
 use Rattle.blk_addr.specs.declared.kinds.Kind.TheVariants.{External, Rankings, B256, B1K, B4K}
-use Rattle.blk_alloc.proofs.Members.{kind_blocky}
+use Rattle.blk_alloc.proofs.Members.{kind_blocky, kind_small}
 use Rattle.blk_alloc.proofs.taking.address_of.Goals as goal
-
-kind_small : (k : Kind) → kind_number k < 8
-kind_small External = omega arith
-kind_small Rankings = omega arith
-kind_small B256 = omega arith
-kind_small B1K = omega arith
-kind_small B4K = omega arith
 
 fields : (k : Kind) (f s n : ℕ) → f < 256 → s < 65536 → 0 < n → s % 4 + n ≤ 4 → AreFields (kind_number k) f s n
 fields k f s n file start some group = record { kind = kind_small k; file = file; start = start; some = some; most = omega (arith, group) }
