@@ -16,3 +16,4 @@ pub mod Widening
 pub mod Taken
 pub mod TakenBlocks
 pub mod TakenAfter
+pub mod Causes

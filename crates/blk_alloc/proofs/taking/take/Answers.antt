@@ -16,6 +16,10 @@ use Rattle.blk_alloc.proofs.Taken.{fit_passes, ready_kept, taking_fit, taking_mi
 use Rattle.blk_image.proofs.Footprints.{outside-refl}
 use Rattle.blk_disk.specs.Tables.{stands_among}
 use Rattle.blk_alloc.proofs.TakenAfter.{ready_after, agrees_after, stops_after, taken_after, stands_after, formed_after}
+use Rattle.blk_image.specs.Steps.{after}
+use Rattle.blk_alloc.specs.Owning.{IsCause}
+use Rattle.blk_alloc.proofs.Carried.{carried}
+use Rattle.blk_alloc.proofs.Causes.{cause_before, none_before, if_damaged_both}
 use Rattle.blk_alloc.proofs.taking.take.Goals as goal
 
 pub fit-requires-clause-linked : goal.fit-requires-clause-linked
@@ -67,3 +71,10 @@ returns-clause-stands g c from there =
     subst (λ (w : ℕ). stands_among c.fit.new.self w ≡ true) (sym c.address_of.ensures.word)
     (stands_after (g.F.Folder.told c.args.f.now) (g.F.Folder.told c.fit.new.f) c.args.files.now c.fit.new.self c.args.place c.requires.agrees (member_all c.args.files.now c.args.kind c.args.place.file c.requires.blocky c.requires.place.linked)
     c.in_ok-fit.ensures.fitted c.in_ok-fit.ensures.kept c.in_ok-fit.ensures.agrees c.args.kind c.requires.blocky c.requires.some c.requires.node c.requires.place c.requires.takeable from there)
+
+pub returns-in_err-change-clause-cause : goal.returns-in_err-change-clause-cause
+returns-in_err-change-clause-cause g c =
+    carried c.change.result c.from_residual-in_err-change.result c.in_err-change.field-0.0 _ c.in_err-change.was c.from_residual-in_err-change.ensures.1
+    (if_damaged_both c.change.result (IsCause (g.F.Folder.told c.fit.new.f) c.args.place.file) (λ _. (g.F.Folder.told c.fit.new.f).files ≡ None) (IsCause (g.F.Folder.told c.args.f.now) c.args.place.file)
+    (λ damage cause none. cause_before (g.F.Folder.told c.fit.new.f) (g.F.Folder.told c.args.f.now) c.args.place.file damage (none_before (after (fit_steps c.args.files.now c.args.place.file)) (g.F.Folder.told c.args.f.now).files (g.F.Folder.told c.fit.new.f).files c.in_ok-fit.ensures.fitted.files none) cause)
+    c.change.ensures.cause c.change.ensures.untold)
