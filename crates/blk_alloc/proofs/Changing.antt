@@ -134,11 +134,19 @@ module _ (n : ℕ) (plan : Plan) (low : 80 ≤ plan.at) (high : plan.at + 4 ≤ 
   stays : StaysOver Marked (inner_words plan)
   stays = (
     (λ bytes holds. word-beside 56 plan.at plan.word bytes (inl (omega arith)) ∙ holds),
-    ((λ bytes holds. word-beside 56 16 plan.counters.allocations bytes (inr (omega arith)) ∙ holds),
-    ((λ bytes holds. word-beside 56 24 (slice_index plan.counters.empty 0) bytes (inr (omega arith)) ∙ holds),
-    ((λ bytes holds. word-beside 56 28 (slice_index plan.counters.empty 1) bytes (inr (omega arith)) ∙ holds),
-    ((λ bytes holds. word-beside 56 32 (slice_index plan.counters.empty 2) bytes (inr (omega arith)) ∙ holds),
-    ((λ bytes holds. word-beside 56 36 (slice_index plan.counters.empty 3) bytes (inr (omega arith)) ∙ holds), tt)))))
+    (
+      (λ bytes holds. word-beside 56 16 plan.counters.allocations bytes (inr (omega arith)) ∙ holds),
+      (
+        (λ bytes holds. word-beside 56 24 (slice_index plan.counters.empty 0) bytes (inr (omega arith)) ∙ holds),
+        (
+          (λ bytes holds. word-beside 56 28 (slice_index plan.counters.empty 1) bytes (inr (omega arith)) ∙ holds),
+          (
+            (λ bytes holds. word-beside 56 32 (slice_index plan.counters.empty 2) bytes (inr (omega arith)) ∙ holds),
+            ((λ bytes holds. word-beside 56 36 (slice_index plan.counters.empty 3) bytes (inr (omega arith)) ∙ holds), tt),
+          ),
+        ),
+      ),
+    ),
   )
 
   marked_begun : (from : Image) → 8192 ≤ length_of from file → Marked (bytes_of (begun from) file)
@@ -157,10 +165,11 @@ module _ (n : ℕ) (plan : Plan) (low : 80 ≤ plan.at) (high : plan.at + 4 ≤ 
   -- the steps of the plan
   pub plan_until : (from : Image) (Q : Image → Type 0) → 8192 ≤ length_of from file → Q (ended from) → Until (IsMidst n from) Q from (word_steps file (plan_words plan))
   unfolding word_step
-  plan_until from Q long last =
-      (midst_begin n from,
-      until-append (IsMidst n from) Q (word_steps file (inner_words plan)) (Word file 56 (word_bytes 0) ∷ []) (begun from) (midst_along from long)
-      (until_last (IsMidst n from) (IsMidst n from) (word_steps file (inner_words plan)) (begun from) (midst_along from long), last))
+  plan_until from Q long last = (
+    midst_begin n from,
+    until-append (IsMidst n from) Q (word_steps file (inner_words plan)) (Word file 56 (word_bytes 0) ∷ []) (begun from) (midst_along from long)
+        (until_last (IsMidst n from) (IsMidst n from) (word_steps file (inner_words plan)) (begun from) (midst_along from long), last),
+  )
 
   pub ended_is : (from : Image) → after (word_steps file (plan_words plan)) from ≡ ended from
   unfolding word_step

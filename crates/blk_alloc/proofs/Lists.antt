@@ -51,10 +51,12 @@ unfolding repeats has_claim
 once_parts [] b once = (once, λ c inside also. clash (sym inside))
 once_parts (x ∷ a) b once =
     let parts = or_parts (has_claim (a ++ b) x) (repeats (a ++ b)) once in
-    let rest = once_parts a b parts.1 in
-    (rest.0, λ c inside also. ⊎_elim
-    (λ (here : same_claim c x ≡ true). clash (sym (has_claim-append a b x ∙ or_right (has_claim a x) (has_claim b x) (ap (has_claim b) (sym (same_claim-true c x here)) ∙ also)) ∙ parts.0))
-    (λ there. rest.1 c there also) (or_true (same_claim c x) (list_any (same_claim c) a) inside))
+    let rest = once_parts a b parts.1 in (
+      rest.0,
+      λ c inside also. ⊎_elim
+          (λ (here : same_claim c x ≡ true). clash (sym (has_claim-append a b x ∙ or_right (has_claim a x) (has_claim b x) (ap (has_claim b) (sym (same_claim-true c x here)) ∙ also)) ∙ parts.0))
+          (λ there. rest.1 c there also) (or_true (same_claim c x) (list_any (same_claim c) a) inside),
+    )
 
 -- an address of blocks
 pub record IsBlocks (w : ℕ) : Type 0 where

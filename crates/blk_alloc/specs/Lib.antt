@@ -4,3 +4,4 @@ pub mod Changes
 pub mod Owning
 pub mod Fitting
 pub mod Taking
+pub mod Untold

@@ -11,7 +11,13 @@ use crate::plan::Plan;
 use blk_io::{Fault, Folder};
 
 // Marks so many blocks from one on, which lie in one group, or frees them.
-pub(crate) fn change<F: Folder>(f: &mut F, file: u8, start: u32, count: u32, used: bool) -> Result<(), Fault>
+pub(crate) fn change<F: Folder>(
+    f: &mut F,
+    file: u8,
+    start: u32,
+    count: u32,
+    used: bool,
+) -> Result<(), Fault>
     requires some { 0 < count }
     requires group { start % 4 + count ≤ group_size }
     requires small { start + count < 2 ^ 32 }

@@ -48,7 +48,13 @@ impl Counters {
     }
 
     // The counters after a group with one longest free run got another, with an allocation more or less.
-    pub(crate) fn moved(self, file: u8, before: u32, later: u32, used: bool) -> Result<Counters, Fault>
+    pub(crate) fn moved(
+        self,
+        file: u8,
+        before: u32,
+        later: u32,
+        used: bool,
+    ) -> Result<Counters, Fault>
         requires before { before ≤ group_size }
         requires later { later ≤ group_size }
         ensures moves { IfOk result (λ counters. Moves self counters before later used) }
@@ -73,7 +79,11 @@ impl Counters {
     {
         let old = self.allocations;
         let empty = self.empty;
-        let new = if used { old.checked_add(1) } else { old.checked_sub(1) };
+        let new = if used {
+            old.checked_add(1)
+        } else {
+            old.checked_sub(1)
+        };
         match new {
             Some(allocations) => Ok(Counters { allocations, empty }),
             None => Err(at_end(file, ALLOCATIONS, old)),

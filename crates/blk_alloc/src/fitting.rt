@@ -28,7 +28,14 @@ const PIECE_LEN: usize = 1024;
 const PIECE: u32 = 8192;
 
 // The least place among so many blocks of a file, from one on, whose bytes of the map are read into a piece.
-fn least_in_piece<F: Folder>(f: &mut F, file: u8, first: u32, blocks: u32, count: u32, piece: &mut [u8]) -> Result<Option<u32>, Fault>
+fn least_in_piece<F: Folder>(
+    f: &mut F,
+    file: u8,
+    first: u32,
+    blocks: u32,
+    count: u32,
+    piece: &mut [u8],
+) -> Result<Option<u32>, Fault>
     requires few { count ≤ group_size }
     requires whole { first % 8 ≡ 0 }
     requires small { first + blocks ≤ most_blocks }
@@ -87,7 +94,12 @@ fn blocks_in(files: &BlockFiles, file: u8) -> u32
 
 // The first place of the files of a kind where `count` free blocks lie inside one group: in the order of
 // the links, and in a file the least.
-pub(crate) fn first_fit<F: Folder>(f: &mut F, files: &BlockFiles, kind: Kind, count: u32) -> Result<Option<Blocks>, Fault>
+pub(crate) fn first_fit<F: Folder>(
+    f: &mut F,
+    files: &BlockFiles,
+    kind: Kind,
+    count: u32,
+) -> Result<Option<Blocks>, Fault>
     requires few { count ≤ group_size }
     requires blocky { kind_number kind ≢ external }
     requires agrees { ForSome (F.told f.old).files (Agrees files.now) }

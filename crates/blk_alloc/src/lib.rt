@@ -11,3 +11,6 @@ mod plan;
 mod taking;
 
 pub use freeing::free;
+
+#[cfg(test)]
+mod tests;

@@ -32,7 +32,13 @@ impl Plan {
     ghost use Rattle.blk_alloc.specs.Owning.{IsCause};
 
     // The plan by which so many blocks from one on, which lie in one group, are all marked or all freed.
-    pub(crate) fn read<F: Folder>(f: &mut F, file: u8, start: u32, count: u32, used: bool) -> Result<Plan, Fault>
+    pub(crate) fn read<F: Folder>(
+        f: &mut F,
+        file: u8,
+        start: u32,
+        count: u32,
+        used: bool,
+    ) -> Result<Plan, Fault>
         requires some { 0 < count }
         requires group { start % 4 + count ≤ group_size }
         requires small { start + count < 2 ^ 32 }

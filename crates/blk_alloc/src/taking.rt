@@ -61,7 +61,12 @@ pub(crate) fn address_of(kind: Kind, file: u8, start: u32, count: u32) -> Addr
 }
 
 // Takes blocks of a file: lengthens the file to all its blocks, where it is shorter, and marks them.
-pub(crate) fn take<F: Folder>(f: &mut F, files: &mut BlockFiles, kind: Kind, place: Blocks) -> Result<Addr, Fault>
+pub(crate) fn take<F: Folder>(
+    f: &mut F,
+    files: &mut BlockFiles,
+    kind: Kind,
+    place: Blocks,
+) -> Result<Addr, Fault>
     requires blocky { kind_number kind ≢ external }
     requires some { 0 < place.count }
     requires node { kind_number kind ≡ rankings → place.count ≡ 1 }
