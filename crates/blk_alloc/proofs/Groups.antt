@@ -48,7 +48,7 @@ longest_run-same p q g h same =
 abbrev pub one : Bool → ℕ
 one t = if t then 1 else 0
 
-first_counted : (p : ℕ → Bool) (s n : ℕ) → count_by p (range_with_len s (suc n)) ≡ one (p s) + count_by p (range_with_len (s + 1) n)
+pub first_counted : (p : ℕ → Bool) (s n : ℕ) → count_by p (range_with_len s (suc n)) ≡ one (p s) + count_by p (range_with_len (s + 1) n)
 first_counted p s n = grind (arith, common_steps)
 
 -- a count where nothing changes
