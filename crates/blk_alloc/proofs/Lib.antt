@@ -17,3 +17,5 @@ pub mod Taken
 pub mod TakenBlocks
 pub mod TakenAfter
 pub mod Causes
+pub mod Growing
+pub mod Grown

@@ -5,3 +5,4 @@ pub mod Owning
 pub mod Fitting
 pub mod Taking
 pub mod Untold
+pub mod Making

@@ -81,7 +81,7 @@ fn least_in_file<F: Folder>(f: &mut F, file: u8, end: u32, count: u32) -> Result
 }
 
 // The number of blocks of a file, which a map has room for.
-fn blocks_in(files: &BlockFiles, file: u8) -> u32
+pub(crate) fn blocks_in(files: &BlockFiles, file: u8) -> u32
     ensures number { file < 256 }
     ensures most { result ≤ most_blocks }
     ensures blocks { is_among (all_files files.now) file ≡ true → result ≡ min (blocks_of files.now file) most_blocks }

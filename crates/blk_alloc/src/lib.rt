@@ -6,6 +6,7 @@ mod change;
 mod counters;
 mod fitting;
 mod freeing;
+mod making;
 mod map;
 mod plan;
 mod taking;

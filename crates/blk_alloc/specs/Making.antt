@@ -1,0 +1,21 @@
+-- Files get room for blocks.
+use Rattle.std.specs.Prelude.{◌≡◌, ℕ, ◌<◌, List, true}
+use Rattle.blk_image.specs.Image.{Block, Image, byte}
+use Rattle.blk_format.specs.Headers.{allocations_of}
+use Rattle.blk_format.specs.BlockFiles.{is_among}
+use Rattle.blk_format.specs.Maps.{AreAllocations, EmptyAgrees}
+use Rattle.blk_disk.specs.declared.tables.BlockFiles.{BlockFiles}
+use Rattle.blk_disk.specs.Tables.{all_files}
+use Rattle.blk_alloc.specs.Counting.{largest}
+use Rattle.blk_alloc.specs.Owning.{KeepsFile}
+
+-- the counters of a file are true: there is a list of its allocations, `empty` agrees with the map, and one allocation more can be counted
+pub record HasCounters (image : Image) (n : ℕ) : Type 0 where
+  pub words : List ℕ
+  pub are : AreAllocations image n words
+  pub empty : EmptyAgrees image n
+  pub room : allocations_of (byte image (Block n)) < largest
+
+-- each file that is kept has its allocations as before, and its counters are as true as they were
+abbrev pub KeepsFiles : BlockFiles → Image → Image → Type 0
+KeepsFiles files from image = (n : ℕ) → is_among (all_files files) n ≡ true → KeepsFile from image n
