@@ -1,5 +1,5 @@
 -- Why a header is damaged, in a folder that tells nothing.
-use Rattle.std.proofs.Common.{◌≡◌, ℕ, ◌⊎◌, inl, inr, Option, None, Some, Result, Ok, Err, refl, sym, ◌∙◌, ⊎_elim}
+use Rattle.std.proofs.Common.{◌≡◌, ℕ, inl, inr, Option, None, Some, Result, Ok, Err, refl, sym, ◌∙◌, ⊎_elim}
 use Rattle.std.specs.Option.{option_map}
 use Rattle.blk_image.specs.Image.{Image}
 use Rattle.blk_image.specs.Told.{Told}

@@ -1,28 +1,20 @@
 -- What the words of a plan do to the files.
-use Rattle.std.proofs.Common.{◌≡◌, ◌≢◌, ℕ, zero, suc, ◌+◌, ◌-◌, ◌*◌, ◌/◌, ◌%◌, ◌^◌, ◌<◌, ◌≤◌, ◌⊎◌, inl, inr, List, [], ◌∷◌, ◌++◌, length, Bool, true, false, ◌&&◌, ◌||◌, if◌then◌else◌, nat_le, nat_lt, refl, sym, ◌∙◌, ap, ap₂, subst, arith, ⊎_elim, lit<}
-use Rattle.std.specs.Prelude.{◌==◌, slice_index}
-use Rattle.std.specs.Int.{bit_at}
-use Rattle.std.proofs.lemmas.Bool.{cases_eq, cases_lt}
-use Rattle.std.proofs.lemmas.Bool.Decides.{nat_tests}
-use Rattle.blk_image.specs.Bytes.{content, word_at, word_bytes, spliced}
-use Rattle.blk_image.specs.Image.{Image, File, Block, byte, bytes_of, length_of}
-use Rattle.blk_image.specs.Steps.{TrailStep, Word, applied, after, word_step, word_steps, with_word, with_words}
-use Rattle.blk_image.specs.Told.{Until, IsQuiet}
+use Rattle.std.proofs.Common.{◌≡◌, ℕ, ◌+◌, ◌<◌, ◌≤◌, ◌⊎◌, inl, inr, List, [], ◌∷◌, length, true, false, refl, sym, ◌∙◌, ap, subst, arith, lit<}
+use Rattle.std.specs.Prelude.{slice_index}
+use Rattle.blk_image.specs.Bytes.{content, word_at, word_bytes}
+use Rattle.blk_image.specs.Image.{Image, File, Block, bytes_of, length_of}
+use Rattle.blk_image.specs.Steps.{Word, applied, after, word_step, word_steps, with_word, with_words}
+use Rattle.blk_image.specs.Told.{Until}
 use Rattle.blk_image.specs.Footprint.{Footprint, SameOutside, IsWithin, either, nothing, one_word, range, touched_by_all}
-use Rattle.blk_image.proofs.Splices.{length-spliced, content-spliced_inside, content-spliced_outside}
-use Rattle.blk_image.proofs.Words.{word-beside, word-there, length-with_word}
+use Rattle.blk_image.proofs.Splices.{content-spliced_inside, content-spliced_outside}
+use Rattle.blk_image.proofs.Words.{word-beside, word-there}
 use Rattle.blk_image.proofs.Images.{bytes_of-written}
-use Rattle.blk_image.proofs.Footprints.{outside-refl, outside-trans, outside_wider, outside_steps, outside_write, within_left, within_right, within_both, within_first, within_second, range_within}
+use Rattle.blk_image.proofs.Footprints.{outside-refl, outside-trans, outside_wider, outside_steps, outside_write, within_left, within_right, within_both, range_within}
 use Rattle.blk_image.proofs.Runs.{until_both, until_weaker2, until-append, until_last}
 use Rattle.blk_image.proofs.WordSteps.{along_over, StaysOver}
-use Rattle.blk_format.specs.Headers.{allocations_of, empty_of, updating_of}
-use Rattle.blk_format.specs.Maps.{is_marked, longest_run, groups_with, groups_of, EmptyAgrees}
-use Rattle.blk_format.specs.BlockFiles.{max_entries_in, most_blocks}
-use Rattle.blk_addr.specs.Bits.{has_bit, is_between}
 use Rattle.blk_alloc.specs.declared.plan.Plan.{Plan}
-use Rattle.blk_alloc.specs.Changes.{map_of, plan_words, with_marks, IsPlan, IsReady, IsMidst, IsChanged}
-use Rattle.blk_alloc.proofs.Groups.{longest_run-same, count-changed, one}
-use Rattle.blk_alloc.proofs.Plans.{group_there}
+use Rattle.blk_alloc.specs.Changes.{map_of, plan_words, IsMidst}
+use Rattle.blk_alloc.proofs.Groups.{one}
 
 within-trans : (F G H : Footprint) → IsWithin F G → IsWithin G H → IsWithin F H
 within-trans F G H one other = record { bytes = λ file i e. other.bytes file i (one.bytes file i e); sizes = λ file e. other.sizes file (one.sizes file e) }

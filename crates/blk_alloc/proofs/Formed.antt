@@ -1,19 +1,18 @@
 -- What a change of the map of a file leaves as it was.
-use Rattle.std.proofs.Common.{◌≡◌, ◌≢◌, ℕ, zero, suc, ◌+◌, ◌-◌, ◌*◌, ◌<◌, ◌≤◌, ◌⊎◌, inl, inr, List, [], ◌∷◌, ◌++◌, Bool, true, false, ◌&&◌, ◌||◌, if◌then◌else◌, nat_le, nat_lt, Option, None, Some, unwrap_or, refl, sym, ◌∙◌, ap, ap₂, subst, arith, ⊎_elim}
+use Rattle.std.proofs.Common.{◌≡◌, ◌≢◌, ℕ, zero, suc, ◌+◌, ◌-◌, ◌*◌, ◌<◌, ◌≤◌, ◌⊎◌, inl, inr, List, [], ◌∷◌, ◌++◌, Bool, true, false, ◌&&◌, ◌||◌, if◌then◌else◌, nat_le, nat_lt, Option, None, unwrap_or, refl, sym, ◌∙◌, ap, subst, arith, ⊎_elim}
 use Rattle.std.specs.Prelude.{◌==◌, ◌%◌}
 use Rattle.std.specs.List.{All}
 use Rattle.std.proofs.lemmas.Bool.Decides.{nat_tests}
 use Rattle.blk_image.specs.Bytes.{content}
-use Rattle.blk_image.specs.Image.{Image, File, Index, Block, External, same_file, byte, length_of}
+use Rattle.blk_image.specs.Image.{Image, Index, Block, External, same_file, byte, length_of}
 use Rattle.blk_image.specs.Checks.{first_of}
 use Rattle.blk_image.specs.Footprint.{SameOutside}
 use Rattle.blk_image.proofs.Footprints.{same_file_outside}
 use Rattle.blk_format.specs.Address.{is_block_kind}
-use Rattle.blk_format.specs.Headers.{empty_of, allocations_of}
+use Rattle.blk_format.specs.Headers.{allocations_of}
 use Rattle.blk_format.specs.Standing.{stands}
-use Rattle.blk_format.specs.BlockFiles.{is_among, linked, type_among, files_along, next_file_in, max_entries_in, is_block_count, file_checks, checks_along, checks_of_type, linked_up_to, block_checks, first_block_damage, stands_in, IsWellFormed, most_blocks}
-use Rattle.blk_format.specs.Headers.{head_checks, list_checks}
-use Rattle.blk_format.specs.Maps.{is_marked, groups_with, groups_of, AreAllocations, EmptyAgrees}
+use Rattle.blk_format.specs.BlockFiles.{is_among, linked, type_among, files_along, next_file_in, max_entries_in, is_block_count, file_checks, checks_along, checks_of_type, linked_up_to, first_block_damage, stands_in, IsWellFormed, most_blocks}
+use Rattle.blk_format.specs.Maps.{is_marked, EmptyAgrees}
 use Rattle.blk_disk.specs.declared.tables.BlockFiles.{BlockFiles}
 use Rattle.blk_disk.specs.Tables.{Agrees}
 use Rattle.blk_disk.proofs.Agreeing.{other_file}

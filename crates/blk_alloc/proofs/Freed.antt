@@ -1,19 +1,18 @@
 -- Blocks that are freed.
-use Rattle.std.proofs.Common.{◌≡◌, ◌≢◌, ℕ, zero, suc, ◌+◌, ◌-◌, ◌<◌, ◌≤◌, ◌⊎◌, inl, inr, List, [], ◌∷◌, length, Bool, true, false, ◌&&◌, ◌||◌, not, if◌then◌else◌, Option, None, unwrap_or, refl, sym, ◌∙◌, ap, ap₂, subst, arith, ⊎_elim}
+use Rattle.std.proofs.Common.{◌≡◌, ◌≢◌, ℕ, ◌+◌, ◌<◌, List, [], ◌∷◌, length, Bool, true, false, ◌&&◌, not, if◌then◌else◌, Option, None, sym, ◌∙◌, ap, ap₂, subst, arith, ⊎_elim}
 use Rattle.std.specs.Prelude.{◌==◌}
 use Rattle.std.specs.List.{All}
 use Rattle.std.proofs.lemmas.List.Elements.{All-filter}
 use Rattle.std.proofs.lemmas.Bool.{cases_eq}
 use Rattle.std.proofs.lemmas.Bool.Decides.{nat_tests}
-use Rattle.blk_image.specs.Image.{Image, Block, byte}
+use Rattle.blk_image.specs.Image.{Image}
 use Rattle.blk_format.specs.Address.{kind_of, external, file_selector, first_block, block_count}
-use Rattle.blk_format.specs.Claims.{BlockOf, claims_of, claims_of_all, has_claim, is_in_file}
-use Rattle.blk_format.specs.Headers.{allocations_of}
+use Rattle.blk_format.specs.Claims.{BlockOf, is_in_file}
 use Rattle.blk_format.specs.BlockFiles.{is_among, stands_in, most_blocks, first_block_damage}
 use Rattle.blk_format.specs.Maps.{is_marked, AreAllocations, EmptyAgrees}
 use Rattle.blk_addr.specs.Bits.{is_between}
 use Rattle.blk_alloc.specs.Changes.{with_marks, IsReady, IsChanged}
-use Rattle.blk_alloc.specs.Owning.{is_of, others, IsAllocated, IsFreed, KeepsFile}
+use Rattle.blk_alloc.specs.Owning.{is_of, others, IsAllocated, IsFreed}
 use Rattle.blk_alloc.proofs.Lists.{IsBlocks, LeavesOut, leaves_out, claims_blocks}
 use Rattle.blk_alloc.proofs.Formed.{HasHead, linked_checked, count_whole, stands_kept, other_kept, file_kept}
 use Rattle.blk_alloc.proofs.Standing.{StandsHere, stands_here, all_among}

@@ -1,32 +1,25 @@
 -- A file that grows: its new groups are free, and its counters go on being true.
-use Rattle.std.proofs.Common.{◌≡◌, ◌≢◌, ℕ, zero, suc, ◌+◌, ◌-◌, ◌*◌, ◌/◌, ◌%◌, ◌^◌, ◌<◌, ◌≤◌, ◌⊎◌, inl, inr, List, [], ◌∷◌, ◌++◌, length, max, min, Bool, true, false, ◌&&◌, ◌||◌, not, if◌then◌else◌, nat_le, nat_lt, Option, None, Some, get_or, refl, sym, ◌∙◌, ap, ap₂, subst, arith, ⊎_elim}
+use Rattle.std.proofs.Common.{◌≡◌, ◌≢◌, ℕ, zero, suc, ◌+◌, ◌*◌, ◌/◌, ◌%◌, ◌<◌, ◌≤◌, ◌⊎◌, inl, inr, List, [], ◌∷◌, max, Bool, true, false, ◌&&◌, ◌||◌, nat_le, nat_lt, refl, sym, ◌∙◌, ap, ap₂, subst, arith, ⊎_elim}
 use Rattle.std.specs.Prelude.{◌==◌}
 use Rattle.std.specs.List.{All, count_by, range_with_len}
 use Rattle.std.proofs.lemmas.Bool.{cases_eq, cases_lt}
 use Rattle.std.proofs.lemmas.Bool.Decides.{nat_tests}
-use Rattle.std.proofs.lemmas.Grind.{common_steps}
-use Rattle.blk_image.specs.Bytes.{content, word_at, word_bytes}
-use Rattle.blk_image.specs.Image.{Image, Block, External, same_file, byte, bytes_of, length_of, word}
-use Rattle.blk_image.specs.Steps.{after, word_steps, with_words, with_word}
+use Rattle.blk_image.specs.Image.{Image, Block, External, same_file, byte}
 use Rattle.blk_image.specs.Footprint.{SameOutside}
-use Rattle.blk_image.proofs.Cuts.{after-append}
 use Rattle.blk_image.proofs.Footprints.{same_word_outside}
-use Rattle.blk_image.proofs.Words.{word-beside, word-there, length-with_word}
 use Rattle.blk_format.specs.Address.{file_selector, first_block, block_count, kind_of, external}
 use Rattle.blk_format.specs.Claims.{BlockOf, claims_of, claims_of_all, has_claim, is_in_file}
-use Rattle.blk_format.specs.Headers.{empty_of, allocations_of}
+use Rattle.blk_format.specs.Headers.{empty_of}
 use Rattle.blk_format.specs.BlockFiles.{is_among, type_among, max_entries_in, stands_in, most_blocks}
 use Rattle.blk_format.specs.Maps.{is_marked, are_free, has_run, longest_run, groups_with, groups_of, AreAllocations, EmptyAgrees}
 use Rattle.blk_disk.specs.declared.tables.BlockFiles.{BlockFiles}
-use Rattle.blk_disk.specs.Tables.{Agrees, Enlarges, files_of, all_files, blocks_of, length_in}
-use Rattle.blk_disk.specs.Growth.{grown, new_groups, grown_length, growth_of, grow_steps, lengthen_steps, raised}
-use Rattle.blk_disk.proofs.Agreeing.{other_file}
+use Rattle.blk_disk.specs.Tables.{Agrees, Enlarges, all_files, blocks_of, length_in}
+use Rattle.blk_disk.specs.Growth.{grown, new_groups, grown_length, growth_of, raised}
 use Rattle.blk_addr.proofs.ClaimLemmas.{has_claim-append}
 use Rattle.std.proofs.lemmas.List.Elements.{All-head, All-tail}
 use Rattle.blk_alloc.specs.Owning.{is_of}
-use Rattle.blk_alloc.proofs.Changing.{bytes_after}
 use Rattle.blk_alloc.proofs.Groups.{longest_run-same, count-same, counted_most, first_counted, one}
-use Rattle.blk_alloc.proofs.Lists.{IsBlocks, claims_blocks}
+use Rattle.blk_alloc.proofs.Lists.{claims_blocks}
 use Rattle.blk_alloc.proofs.Standing.{StandsHere, stands_here}
 use Rattle.blk_alloc.proofs.Widening.{Widens, mark_kept}
 

@@ -1,33 +1,28 @@
 -- Room that a growth gives.
-use Rattle.std.proofs.Common.{◌≡◌, ◌≢◌, ℕ, zero, suc, ◌+◌, ◌-◌, ◌*◌, ◌/◌, ◌%◌, ◌^◌, ◌<◌, ◌≤◌, ◌⊎◌, inl, inr, List, [], ◌∷◌, ◌++◌, max, min, Bool, true, false, ◌&&◌, ◌||◌, not, if◌then◌else◌, nat_le, nat_lt, Option, None, Some, refl, sym, ◌∙◌, ap, ap₂, subst, arith, ⊎_elim, unwrap_or}
+use Rattle.std.proofs.Common.{◌≡◌, ℕ, zero, suc, ◌+◌, ◌%◌, ◌<◌, ◌≤◌, inr, List, [], ◌∷◌, max, Bool, true, false, ◌&&◌, ◌||◌, not, Option, refl, sym, ◌∙◌, ap, ap₂, subst, arith, ⊎_elim}
 use Rattle.std.specs.List.{list_all, range_with_len}
-use Rattle.std.specs.Option.{ForSome, option_map}
 use Rattle.std.proofs.lemmas.Bool.{cases_eq}
 use Rattle.blk_image.specs.Bytes.{content, word_at}
 use Rattle.blk_image.specs.Image.{Image, Block, same_file, byte, bytes_of, length_of}
-use Rattle.blk_image.specs.Steps.{after, word_steps, with_word, with_words}
+use Rattle.blk_image.specs.Steps.{after, word_steps, with_word}
 use Rattle.blk_image.specs.Footprint.{SameOutside}
-use Rattle.blk_image.specs.Told.{Told, Grows}
 use Rattle.blk_image.proofs.Cuts.{after-append}
 use Rattle.blk_image.proofs.Footprints.{same_file_outside}
-use Rattle.blk_image.proofs.Words.{word-beside, word-there, length-with_word}
-use Rattle.blk_image.proofs.Runs.{some_inj}
-use Rattle.blk_format.specs.Address.{external}
-use Rattle.blk_format.specs.Headers.{empty_of, allocations_of}
+use Rattle.blk_image.proofs.Words.{word-beside, word-there}
+use Rattle.blk_format.specs.Headers.{empty_of}
 use Rattle.blk_format.specs.BlockFiles.{is_among, max_entries_in, most_blocks}
 use Rattle.blk_format.specs.Maps.{is_marked, are_free, EmptyAgrees}
 use Rattle.blk_disk.specs.declared.tables.BlockFiles.{BlockFiles}
 use Rattle.blk_disk.specs.Tables.{Agrees, Enlarges, all_files, blocks_of, length_in}
-use Rattle.blk_disk.specs.Growth.{grown, new_groups, grown_length, growth_of, grow_steps, lengthen_steps, raise_steps, raised}
+use Rattle.blk_disk.specs.Growth.{grown, new_groups, grown_length, growth_of, grow_steps, lengthen_steps, raised}
 use Rattle.blk_disk.proofs.Agreeing.{other_file}
 use Rattle.blk_disk.proofs.Enlarging.{long_room}
 use Rattle.blk_alloc.specs.Making.{HasCounters, KeepsFiles}
-use Rattle.blk_alloc.specs.Owning.{KeepsFile}
 use Rattle.blk_alloc.specs.Changes.{IsReady}
 use Rattle.blk_alloc.proofs.Changing.{bytes_after}
 use Rattle.blk_alloc.proofs.Formed.{HasHead, count_whole}
 use Rattle.blk_alloc.proofs.Growing.{grow_widens, grown_empty, new_free}
-use Rattle.blk_alloc.proofs.Widening.{Widens, allocations_more}
+use Rattle.blk_alloc.proofs.Widening.{allocations_more}
 
 -- blocks of which none is marked are free
 pub free_all : (p : ℕ → Bool) (s count : ℕ) → ((b : ℕ) → s ≤ b → b < s + count → p b ≡ false) → are_free p s count ≡ true

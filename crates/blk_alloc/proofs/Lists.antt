@@ -1,12 +1,11 @@
 -- Lists of allocations that lose or gain one.
-use Rattle.std.proofs.Common.{◌≡◌, ◌≢◌, ℕ, zero, suc, ◌+◌, ◌-◌, ◌<◌, ◌≤◌, ◌⊎◌, inl, inr, List, [], ◌∷◌, ◌++◌, length, Bool, true, false, ◌&&◌, ◌||◌, if◌then◌else◌, IsTrue, refl, sym, ◌∙◌, ap, ap₂, subst, arith, ⊎_elim}
-use Rattle.std.specs.Prelude.{◌==◌, not, nat_le, nat_lt, filter, map}
-use Rattle.std.specs.List.{All, list_any, range_with_len}
-use Rattle.std.proofs.lemmas.List.Elements.{All-head, All-tail, All-filter}
+use Rattle.std.proofs.Common.{◌≡◌, ◌≢◌, ℕ, ◌+◌, ◌⊎◌, inl, inr, List, [], ◌∷◌, ◌++◌, length, Bool, true, false, ◌&&◌, ◌||◌, if◌then◌else◌, refl, sym, ◌∙◌, ap, ap₂, arith, ⊎_elim}
+use Rattle.std.specs.Prelude.{◌==◌, not, filter}
+use Rattle.std.specs.List.{list_any}
 use Rattle.std.proofs.lemmas.Grind.{common_steps}
 use Rattle.std.proofs.lemmas.Bool.Decides.{nat_tests}
-use Rattle.blk_format.specs.Address.{kind_of, external, file_selector, first_block, block_count, is_address}
-use Rattle.blk_format.specs.Claims.{Claim, BlockOf, ExternalOf, same_claim, claims_of, claims_of_all, has_claim, is_in_file, repeats}
+use Rattle.blk_format.specs.Address.{kind_of, external, file_selector, first_block, block_count}
+use Rattle.blk_format.specs.Claims.{Claim, BlockOf, ExternalOf, same_claim, claims_of, claims_of_all, has_claim, repeats}
 use Rattle.blk_format.specs.BlockFiles.{is_among}
 use Rattle.blk_addr.specs.Bits.{is_between}
 use Rattle.blk_addr.proofs.ClaimLemmas.{has_claim-append, has_claim-blocks, has_claim-no-external, claims_of-blocks, repeats-append, repeats-claims_of}

@@ -1,22 +1,14 @@
 -- The plan of a change of marks.
-use Rattle.std.proofs.Common.{◌≡◌, ◌≢◌, ℕ, ◌+◌, ◌-◌, ◌*◌, ◌/◌, ◌%◌, ◌^◌, ◌<◌, ◌≤◌, List, length, Bool, true, false, if◌then◌else◌, Option, None, Some, Result, Ok, Err, refl, sym, ◌∙◌, ap, ap₂, arith, ⊎_elim, get_or, w32}
-use Rattle.std.specs.Prelude.{◌==◌, slice_index, nat_le, nat_lt, ◌&&◌}
-use Rattle.std.specs.Option.{ForSome}
-use Rattle.std.proofs.lemmas.Bool.{cases_eq}
+use Rattle.std.proofs.Common.{◌≡◌, ℕ, ◌+◌, ◌*◌, ◌/◌, ◌%◌, ◌<◌, ◌≤◌, List, Bool, true, false, if◌then◌else◌, sym, ◌∙◌, ap, ap₂, arith}
+use Rattle.std.specs.Prelude.{◌==◌, slice_index}
 use Rattle.std.proofs.lemmas.Bool.Decides.{nat_tests}
 use Rattle.blk_image.specs.Bytes.{range_at, word_bytes}
 use Rattle.blk_image.specs.Image.{Image, Block, byte}
-use Rattle.blk_format.specs.Headers.{allocations_of, empty_of}
 use Rattle.blk_format.specs.BlockFiles.{max_entries_in}
 use Rattle.blk_format.specs.Maps.{is_marked, longest_run, groups_with, groups_of, EmptyAgrees}
 use Rattle.blk_addr.specs.Bits.{has_bit, is_between}
-use Rattle.blk_io.specs.declared.fault.Damage.{Damage}
-use Rattle.blk_io.specs.declared.fault.Fault.{Fault}
-use Rattle.blk_io.specs.declared.fault.Fault.TheVariants.{Device, Damaged}
-use Rattle.blk_io.specs.Faults.{IfDamaged}
 use Rattle.blk_alloc.specs.declared.counters.Counters.{Counters}
-use Rattle.blk_alloc.specs.declared.plan.Plan.{Plan}
-use Rattle.blk_alloc.specs.Counting.{AreCounters, counted, largest, IsCounted, Moves, MayMove}
+use Rattle.blk_alloc.specs.Counting.{AreCounters, counted, Moves, MayMove}
 use Rattle.blk_alloc.specs.Changes.{IsPlan, IsReady, with_marks}
 use Rattle.blk_alloc.proofs.Groups.{longest_run-same, counted_there, counted_most, one}
 use Rattle.blk_alloc.proofs.Headers.{bit_read}

@@ -1,42 +1,29 @@
 -- Blocks that are taken.
-use Rattle.std.proofs.Common.{◌≡◌, ◌≢◌, ℕ, zero, suc, ◌+◌, ◌-◌, ◌*◌, ◌/◌, ◌%◌, ◌<◌, ◌≤◌, ◌⊎◌, inl, inr, List, [], ◌∷◌, length, max, Bool, true, false, ◌&&◌, ◌||◌, not, if◌then◌else◌, nat_le, nat_lt, Option, None, Some, refl, sym, ◌∙◌, ap, ap₂, subst, arith, ⊎_elim}
-use Rattle.std.specs.Prelude.{◌==◌}
-use Rattle.std.specs.List.{All, list_all, range_with_len}
-use Rattle.std.specs.Option.{ForSome}
-use Rattle.std.proofs.lemmas.List.Elements.{All-cons}
+use Rattle.std.proofs.Common.{◌≡◌, ◌≢◌, ℕ, zero, suc, ◌+◌, ◌-◌, ◌%◌, ◌<◌, ◌≤◌, inl, inr, List, [], ◌∷◌, Bool, true, false, ◌&&◌, not, if◌then◌else◌, nat_lt, None, Some, refl, sym, ◌∙◌, ap, subst, arith, ⊎_elim}
+use Rattle.std.specs.List.{list_all, range_with_len}
 use Rattle.std.proofs.lemmas.Bool.{cases_eq}
 use Rattle.std.proofs.lemmas.Bool.Decides.{nat_tests}
-use Rattle.std.proofs.Math.Nat.{mul-le-mul}
 use Rattle.blk_image.specs.Image.{Image, Block, byte, length_of}
-use Rattle.blk_image.specs.Steps.{TrailStep, SetLength, applied, after}
+use Rattle.blk_image.specs.Steps.{SetLength, applied}
 use Rattle.blk_image.specs.Footprint.{SameOutside, size_of, one_word, either}
 use Rattle.blk_image.specs.Told.{Told, Grows, PassesTo, Until, IsQuiet}
 use Rattle.blk_image.proofs.Footprints.{outside-refl, outside-trans, outside_wider, outside_longer, within_left, within_right}
 use Rattle.blk_image.proofs.Images.{length-after_set_len}
-use Rattle.blk_image.proofs.Runs.{passes_part, part_whole, some_inj, told_whole}
-use Rattle.blk_format.specs.Address.{kind_of, external, file_selector, first_block, block_count, block_word, block_size, is_address, place, room, block_place}
-use Rattle.blk_format.specs.Claims.{Claim, BlockOf, ExternalOf, claims_of, claims_of_all, has_claim, is_in_file, repeats}
+use Rattle.blk_image.proofs.Runs.{passes_part, part_whole, some_inj}
+use Rattle.blk_format.specs.Address.{external}
 use Rattle.blk_format.specs.Headers.{empty_of, max_entries_of, allocations_of}
-use Rattle.blk_format.specs.Standing.{is_linked_as, stands, stands_as_blocks}
-use Rattle.blk_format.specs.BlockFiles.{is_among, type_among, linked, max_entries_in, stands_in, stands_in_blocks, most_blocks}
-use Rattle.blk_format.specs.Maps.{is_marked, is_marked_at, are_free, groups_with, groups_of, AreAllocations, EmptyAgrees}
-use Rattle.blk_addr.specs.Bits.{is_between}
+use Rattle.blk_format.specs.BlockFiles.{is_among, type_among, linked, max_entries_in, most_blocks}
+use Rattle.blk_format.specs.Maps.{is_marked_at, are_free, groups_with, groups_of, EmptyAgrees}
 use Rattle.blk_addr.specs.declared.kinds.Kind.{Kind}
 use Rattle.blk_addr.specs.declared.kinds.Kind.TheVariants.{External, Rankings, B256, B1K, B4K}
 use Rattle.blk_addr.specs.Kind.{kind_number}
-use Rattle.blk_addr.proofs.ClaimLemmas.{has_claim-append}
 use Rattle.blk_disk.specs.declared.tables.BlockFiles.{BlockFiles}
-use Rattle.blk_disk.specs.Tables.{Agrees, Resizes, files_of, all_files, blocks_of, length_in, stands_among}
-use Rattle.blk_disk.specs.Growth.{fit_steps, whole_length, size_as}
+use Rattle.blk_disk.specs.Tables.{Agrees, files_of, all_files, length_in}
+use Rattle.blk_disk.specs.Growth.{fit_steps, whole_length}
 use Rattle.blk_disk.proofs.Chains.{linked_once}
-use Rattle.blk_disk.proofs.Ranges.{stands_agree}
-use Rattle.blk_alloc.specs.Changes.{map_of, with_marks, IsReady, IsMidst, IsChanged}
-use Rattle.blk_alloc.specs.Owning.{is_of}
-use Rattle.blk_alloc.specs.Taking.{taking_of, IsTaking, IsTaken}
-use Rattle.blk_alloc.proofs.Formed.{stands_kept, other_kept, file_kept}
-use Rattle.blk_alloc.proofs.Lists.{IsBlocks, claims_blocks, claims_no_external, one_more_once}
-use Rattle.blk_alloc.proofs.Members.{kind_blocky, member_all}
-use Rattle.blk_alloc.proofs.Widening.{Widens, fit_widens, allocations_more, stands_more, mark_kept}
+use Rattle.blk_alloc.specs.Changes.{map_of, IsReady, IsMidst}
+use Rattle.blk_alloc.specs.Taking.{taking_of, IsTaking}
+use Rattle.blk_alloc.proofs.Members.{kind_blocky}
 
 clash : true ≡ false → ⊥
 clash e = cc

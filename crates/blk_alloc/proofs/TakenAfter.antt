@@ -1,5 +1,5 @@
 -- Blocks that are taken, in two calls: the file is lengthened, and then the marks change.
-use Rattle.std.proofs.Common.{◌≡◌, ◌≢◌, ◌⊎◌, inl, inr, ℕ, List, ◌+◌, ◌<◌, ◌≤◌, ◌%◌, true, false, Option, None, Some, refl, sym, ◌∙◌, ap, subst, arith, ⊎_elim, max}
+use Rattle.std.proofs.Common.{◌≡◌, ◌≢◌, ◌⊎◌, inl, inr, ℕ, List, ◌+◌, ◌<◌, ◌≤◌, true, Option, None, Some, refl, sym, ◌∙◌, ap, subst, arith, ⊎_elim, max}
 use Rattle.std.specs.Option.{ForSome, option_map}
 use Rattle.blk_image.specs.Image.{Image, Index, Block, length_of}
 use Rattle.blk_image.specs.Steps.{after}
@@ -27,7 +27,7 @@ use Rattle.blk_alloc.specs.Taking.{IsTakeable, IsTaking, IsTaken}
 use Rattle.blk_alloc.proofs.Carried.{told_at_end}
 use Rattle.blk_alloc.proofs.Formed.{agrees_kept, formed_kept}
 use Rattle.blk_alloc.proofs.Lists.{IsBlocks}
-use Rattle.blk_alloc.proofs.Members.{kind_blocky, kind_small, member_all}
+use Rattle.blk_alloc.proofs.Members.{kind_blocky, kind_small}
 use Rattle.blk_alloc.proofs.Taken.{fit_passes, ready_kept, taking_fit, taking_midst}
 use Rattle.blk_alloc.proofs.TakenBlocks.{taken_is, taken_stands}
 

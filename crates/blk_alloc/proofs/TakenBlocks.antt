@@ -1,5 +1,5 @@
 -- What blocks that are taken leave.
-use Rattle.std.proofs.Common.{◌≡◌, ◌≢◌, ℕ, zero, suc, ◌+◌, ◌-◌, ◌*◌, ◌/◌, ◌%◌, ◌<◌, ◌≤◌, ◌⊎◌, inl, inr, List, [], ◌∷◌, length, max, Bool, true, false, ◌&&◌, ◌||◌, not, if◌then◌else◌, nat_le, nat_lt, Option, None, Some, refl, sym, ◌∙◌, ap, ap₂, subst, arith, ⊎_elim}
+use Rattle.std.proofs.Common.{◌≡◌, ◌≢◌, ℕ, ◌+◌, ◌*◌, ◌/◌, ◌%◌, ◌<◌, ◌≤◌, List, max, Bool, true, false, ◌&&◌, ◌||◌, if◌then◌else◌, nat_le, Option, Some, refl, sym, ◌∙◌, ap, ap₂, subst, arith, ⊎_elim}
 use Rattle.std.specs.Prelude.{◌==◌}
 use Rattle.std.specs.List.{All}
 use Rattle.std.specs.Int.{bit_at}
@@ -7,11 +7,11 @@ use Rattle.std.proofs.lemmas.List.Elements.{All-cons}
 use Rattle.std.proofs.lemmas.Bool.{cases_eq}
 use Rattle.std.proofs.lemmas.Bool.Decides.{nat_tests}
 use Rattle.std.proofs.Math.Nat.{mul-le-mul}
-use Rattle.blk_image.specs.Image.{Image, Block, External, has_file, byte, length_of}
+use Rattle.blk_image.specs.Image.{Image, Block, External, has_file, byte}
 use Rattle.blk_image.specs.Footprint.{SameOutside, size_of}
 use Rattle.blk_image.proofs.Footprints.{outside-trans, outside_wider, within_right}
-use Rattle.blk_format.specs.Address.{kind_of, external, external_number, file_selector, first_block, block_count, block_word, block_size, is_address, place, room, block_place}
-use Rattle.blk_format.specs.Claims.{Claim, BlockOf, ExternalOf, claims_of, claims_of_all, has_claim, is_in_file, repeats}
+use Rattle.blk_format.specs.Address.{kind_of, external, external_number, file_selector, first_block, block_count, block_size, is_address, place, room, block_place}
+use Rattle.blk_format.specs.Claims.{Claim, BlockOf, ExternalOf, claims_of, claims_of_all, has_claim, is_in_file}
 use Rattle.blk_format.specs.Headers.{empty_of, max_entries_of}
 use Rattle.blk_format.specs.Standing.{is_linked_as, stands, stands_as_blocks}
 use Rattle.blk_format.specs.BlockFiles.{is_among, type_among, max_entries_in, stands_in, stands_in_blocks, most_blocks}
@@ -24,12 +24,12 @@ use Rattle.blk_disk.specs.declared.tables.BlockFiles.{BlockFiles}
 use Rattle.blk_disk.specs.Tables.{Agrees, Resizes, files_of, all_files, blocks_of, length_in, stands_among}
 use Rattle.blk_disk.specs.Growth.{whole_length, size_as}
 use Rattle.blk_disk.proofs.Ranges.{stands_agree}
-use Rattle.blk_alloc.specs.Changes.{map_of, with_marks, IsReady, IsChanged}
+use Rattle.blk_alloc.specs.Changes.{map_of, with_marks, IsChanged}
 use Rattle.blk_alloc.specs.Owning.{is_of}
 use Rattle.blk_alloc.specs.Taking.{taking_of, IsTaken}
 use Rattle.blk_alloc.proofs.Formed.{stands_kept, other_kept, file_kept}
 use Rattle.blk_alloc.proofs.Lists.{IsBlocks, claims_blocks, claims_no_external, one_more_once}
-use Rattle.blk_alloc.proofs.Members.{kind_blocky, member_all}
+use Rattle.blk_alloc.proofs.Members.{member_all}
 use Rattle.blk_alloc.proofs.Widening.{Widens, fit_widens, allocations_more}
 use Rattle.blk_alloc.proofs.Taken.{type_is, taking_fit, free_at}
 

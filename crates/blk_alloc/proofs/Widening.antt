@@ -1,16 +1,15 @@
 -- Block files that get longer, or more: what was there stays.
-use Rattle.std.proofs.Common.{◌≡◌, ◌≢◌, ℕ, zero, suc, ◌+◌, ◌*◌, ◌/◌, ◌%◌, ◌<◌, ◌≤◌, ◌⊎◌, inl, inr, List, [], ◌∷◌, ◌++◌, max, Bool, true, false, ◌&&◌, if◌then◌else◌, nat_le, Option, None, Some, get_or, refl, sym, ◌∙◌, ap, ap₂, subst, arith, ⊎_elim}
+use Rattle.std.proofs.Common.{◌≡◌, ℕ, ◌+◌, ◌*◌, ◌/◌, ◌%◌, ◌≤◌, List, max, Bool, true, false, ◌&&◌, if◌then◌else◌, nat_le, Option, get_or, refl, sym, ◌∙◌, ap, ap₂, arith, ⊎_elim}
 use Rattle.std.specs.Prelude.{◌==◌}
-use Rattle.std.specs.List.{All}
 use Rattle.std.specs.Int.{bit_at}
 use Rattle.std.proofs.lemmas.Bool.{cases_eq}
 use Rattle.std.proofs.lemmas.Bool.Decides.{nat_tests}
-use Rattle.blk_image.specs.Image.{Image, Block, External, has_file, byte, length_of}
+use Rattle.blk_image.specs.Image.{Image, Block, External, has_file, byte}
 use Rattle.blk_image.specs.Footprint.{SameOutside, size_of}
 use Rattle.blk_format.specs.Address.{kind_of, external, external_number, file_selector, first_block, block_count, is_address, place, room}
 use Rattle.blk_format.specs.Headers.{allocations_of}
 use Rattle.blk_format.specs.Standing.{is_linked_as, stands, stands_as_blocks}
-use Rattle.blk_format.specs.BlockFiles.{is_among, type_among, stands_in, stands_in_blocks, most_blocks}
+use Rattle.blk_format.specs.BlockFiles.{is_among, type_among, stands_in, stands_in_blocks}
 use Rattle.blk_format.specs.Maps.{is_marked, AreAllocations}
 use Rattle.blk_disk.specs.declared.tables.BlockFiles.{BlockFiles}
 use Rattle.blk_disk.specs.Tables.{Agrees, Resizes, files_of, all_files, blocks_of, length_in, stands_among}

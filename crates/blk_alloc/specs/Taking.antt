@@ -1,5 +1,5 @@
 -- Blocks of a file are taken: the file is lengthened to its blocks, and the blocks are marked.
-use Rattle.std.specs.Prelude.{◌≡◌, ◌≢◌, ◌⊎◌, ℕ, ◌+◌, ◌<◌, List, ◌∷◌, Bool, true, false, if◌then◌else◌}
+use Rattle.std.specs.Prelude.{◌≡◌, ◌≢◌, ◌⊎◌, ℕ, ◌<◌, List, ◌∷◌, true, false, if◌then◌else◌}
 use Rattle.blk_image.specs.Image.{Block, Image, byte}
 use Rattle.blk_image.specs.Footprint.{Footprint, SameOutside, either, one_word, size_of}
 use Rattle.blk_format.specs.Address.{file_selector}

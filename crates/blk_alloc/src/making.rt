@@ -19,7 +19,13 @@ use blk_disk::BlockFiles;
 use blk_io::{Failed, Folder};
 
 // Gives a file more blocks, of which the first ones are the place.
-pub(crate) fn grow_room<F: Folder>(f: &mut F, files: &mut BlockFiles, kind: Kind, file: u8, count: u32) -> Result<Blocks, Failed>
+pub(crate) fn grow_room<F: Folder>(
+    f: &mut F,
+    files: &mut BlockFiles,
+    kind: Kind,
+    file: u8,
+    count: u32,
+) -> Result<Blocks, Failed>
     requires few { count ≤ group_size }
     requires blocky { kind_number kind ≢ external }
     requires linked { IsTrue (is_among (files_of files.old (kind_number kind)) file) }
@@ -37,7 +43,6 @@ pub(crate) fn grow_room<F: Folder>(f: &mut F, files: &mut BlockFiles, kind: Kind
     ensures failed { OnErr result (Rises (F.faults f.old) (F.faults f.new)) }
 {
     let start = blocks_in(files, file);
-    let _kind = kind;
     files.grow(f, file)?;
     Ok(Blocks { file, start, count })
 }

@@ -77,7 +77,10 @@ impl Folder for Untold {
     }
 
     fn write_at(&mut self, file: FileId, at: u64, bytes: &[u8]) -> Result<(), Failed> {
-        counted(write_inside(&mut self.inner, file, at, bytes), &mut self.faults)
+        counted(
+            write_inside(&mut self.inner, file, at, bytes),
+            &mut self.faults,
+        )
     }
 
     fn set_len(&mut self, file: FileId, length: u64) -> Result<(), Failed> {

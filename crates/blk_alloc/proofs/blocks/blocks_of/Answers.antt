@@ -1,4 +1,4 @@
-use Rattle.std.proofs.Common.{◌≡◌, ◌≢◌, ◌≤◌, ◌<◌, ◌+◌, ◌%◌, ℕ, true, refl, sym, ◌∙◌, ap, arith}
+use Rattle.std.proofs.Common.{◌≡◌, ℕ, sym, ◌∙◌, ap, arith}
 use Rattle.blk_format.specs.Address.{file_selector, is_address}
 use Rattle.blk_format.proofs.Words.{AreFields-of}
 use Rattle.blk_addr.specs.declared.file_id.FileId.TheVariants.{Block}

@@ -1,8 +1,7 @@
-use Rattle.std.proofs.Common.{◌≡◌, ◌⊎◌, inl, inr, sym, ◌∙◌, ap, subst}
-use Rattle.blk_image.specs.Image.{Image}
+use Rattle.std.proofs.Common.{inl, sym, ◌∙◌, ap, subst}
 use Rattle.blk_image.specs.Told.{Told}
 use Rattle.blk_image.proofs.Runs.{passes_none, passes_stayed, passes_to, part_whole, some_inj}
-use Rattle.blk_alloc.specs.Changes.{IsMidst, IsChanged}
+use Rattle.blk_alloc.specs.Changes.{IsMidst}
 use Rattle.blk_alloc.proofs.Carried.{silent_part}
 use Rattle.blk_alloc.proofs.Changing.{midst_begin}
 use Rattle.blk_alloc.proofs.Changed.{change_stops, change_done, high}

@@ -1,21 +1,17 @@
-use Rattle.std.proofs.Common.{◌≡◌, ℕ, ◌+◌, ◌<◌, ◌≤◌, min, take, drop, length, List, Option, None, Some, true, refl, sym, ◌∙◌, ap, subst, arith}
+use Rattle.std.proofs.Common.{◌≡◌, ℕ, ◌+◌, take, drop, length, Option, None, true, refl, sym, ◌∙◌, ap, subst, arith}
 use Rattle.std.specs.List.{All}
-use Rattle.std.specs.Option.{ForSome}
 use Rattle.std.proofs.lemmas.List.{take_all}
 use Rattle.std.proofs.lemmas.List.Elements.{All-more}
-use Rattle.blk_image.specs.Image.{Image}
 use Rattle.blk_image.specs.Told.{Told}
 use Rattle.blk_image.proofs.Runs.{some_inj}
-use Rattle.blk_format.specs.BlockFiles.{is_among, max_entries_in, most_blocks}
+use Rattle.blk_format.specs.BlockFiles.{is_among, max_entries_in}
 use Rattle.blk_addr.specs.Kind.{kind_number}
-use Rattle.blk_disk.specs.Tables.{files_of, blocks_of}
-use Rattle.blk_io.specs.declared.fault.Damage.{Damage}
-use Rattle.blk_alloc.specs.declared.blocks.Blocks.{Blocks}
+use Rattle.blk_disk.specs.Tables.{files_of}
 use Rattle.blk_alloc.specs.Owning.{IsShortHeader}
 use Rattle.blk_alloc.specs.Fitting.{HasNoRoom, IsLeastFrom, IsPlace, IsShortOf}
 use Rattle.blk_alloc.proofs.Carried.{carried, if_damaged_weaker}
 use Rattle.blk_alloc.proofs.Formed.{count_whole}
-use Rattle.blk_alloc.proofs.Members.{kind_blocky, member_all, member_head, member_at, split_at, at_place}
+use Rattle.blk_alloc.proofs.Members.{member_all, member_head, member_at, split_at, at_place}
 use Rattle.blk_alloc.proofs.fitting.first_fit.Goals as goal
 
 pub returns-in_err-start-clause-cause : goal.returns-in_err-start-clause-cause

@@ -1,7 +1,7 @@
-use Rattle.std.proofs.Common.{◌≡◌, ℕ, ◌+◌, ◌*◌, ◌/◌, ◌%◌, ◌<◌, ◌≤◌, ◌-◌, min, Option, None, Some, refl, sym, ◌∙◌, ap, subst, arith}
+use Rattle.std.proofs.Common.{◌≡◌, ℕ, ◌+◌, ◌*◌, ◌/◌, ◌%◌, ◌-◌, min, Option, None, Some, refl, sym, ◌∙◌, ap, subst, arith}
 use Rattle.blk_image.specs.Told.{Told}
 use Rattle.blk_format.specs.Maps.{is_marked}
-use Rattle.blk_alloc.specs.Places.{is_place, AreNoPlaces}
+use Rattle.blk_alloc.specs.Places.{AreNoPlaces}
 use Rattle.blk_alloc.specs.Fitting.{IsLeastFrom}
 use Rattle.blk_alloc.proofs.Pieces.{no_places-append}
 use Rattle.blk_alloc.proofs.fitting.least_in_file.Goals as goal

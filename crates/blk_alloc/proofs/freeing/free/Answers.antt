@@ -1,20 +1,15 @@
-use Rattle.std.proofs.Common.{◌≡◌, ◌≢◌, ◌⊎◌, inl, inr, ℕ, true, false, Some, sym, ◌∙◌, ap, subst, ⊎_elim}
-use Rattle.std.specs.Prelude.{OnOk}
-use Rattle.std.specs.Option.{ForSome}
+use Rattle.std.proofs.Common.{◌≡◌, ◌⊎◌, inl, inr, ℕ, false, sym, subst, ⊎_elim}
 use Rattle.std.proofs.lemmas.Result.{on_ok_weaker}
 use Rattle.blk_image.specs.Image.{Image}
-use Rattle.blk_image.specs.Told.{Told, PassesTo}
-use Rattle.blk_image.proofs.Runs.{passes_to, passes_weaker, passes_end, some_inj}
-use Rattle.blk_format.specs.Address.{file_selector, first_block, block_count, kind_of, external}
+use Rattle.blk_image.specs.Told.{PassesTo}
+use Rattle.blk_image.proofs.Runs.{passes_to, passes_weaker, passes_end}
+use Rattle.blk_format.specs.Address.{file_selector, first_block, block_count}
 use Rattle.blk_format.specs.BlockFiles.{IsWellFormed}
 use Rattle.blk_disk.specs.Tables.{Agrees}
 use Rattle.blk_disk.proofs.Ranges.{stands_blocky}
-use Rattle.blk_io.specs.Faults.{IfDamaged}
 use Rattle.blk_alloc.specs.Changes.{IsMidst, IsReady, IsChanged}
-use Rattle.blk_alloc.specs.Owning.{IsFreed, IsCause}
 use Rattle.blk_alloc.proofs.Carried.{told_at_end}
 use Rattle.blk_alloc.proofs.Formed.{formed_kept, agrees_kept}
-use Rattle.blk_alloc.proofs.Lists.{IsBlocks}
 use Rattle.blk_alloc.proofs.Freed.{free_ready, freed_is, allocated_blocks}
 use Rattle.blk_alloc.proofs.freeing.free.Goals as goal
 

@@ -1,14 +1,11 @@
-use Rattle.std.proofs.Common.{◌≡◌, ◌≢◌, ℕ, ◌+◌, ◌<◌, ◌≤◌, min, true, Option, Some, refl, sym, ◌∙◌, ap, subst, arith}
-use Rattle.std.specs.Option.{ForSome, option_map}
-use Rattle.blk_image.specs.Image.{Image, Block}
+use Rattle.std.proofs.Common.{◌≡◌, ℕ, ◌<◌, min, true, refl, sym, ◌∙◌, ap, subst, arith}
+use Rattle.std.specs.Option.{option_map}
 use Rattle.blk_image.specs.Steps.{after}
 use Rattle.blk_image.specs.Footprint.{SameOutside}
-use Rattle.blk_image.specs.Told.{Told}
 use Rattle.blk_image.proofs.Runs.{passes_end, some_inj}
 use Rattle.blk_format.specs.Maps.{is_marked, are_free}
 use Rattle.blk_disk.specs.Tables.{blocks_of}
 use Rattle.blk_disk.specs.Growth.{growth_of, grow_steps}
-use Rattle.blk_alloc.specs.declared.blocks.Blocks.{Blocks}
 use Rattle.blk_alloc.specs.Changes.{IsReady}
 use Rattle.blk_alloc.proofs.Members.{member_all, member_head}
 use Rattle.blk_alloc.proofs.Grown.{grown_ready, grown_free, grown_keeps}

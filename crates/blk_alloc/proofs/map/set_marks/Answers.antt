@@ -1,7 +1,5 @@
-use Rattle.std.proofs.Common.{◌≡◌, ℕ, ◌∙◌, Bool, refl, false, arith}
-use Rattle.std.specs.Prelude.{if◌then◌else◌}
-use Rattle.blk_addr.specs.Bits.{has_bit, is_between}
-use Rattle.std.proofs.lemmas.Bool.Decides.{nat_tests}
+use Rattle.std.proofs.Common.{◌∙◌}
+use Rattle.blk_addr.specs.Bits.{has_bit}
 use Rattle.blk_alloc.proofs.Marking.{more_bits}
 use Rattle.blk_alloc.proofs.map.set_marks.Goals as goal
 

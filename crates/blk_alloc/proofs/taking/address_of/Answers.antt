@@ -1,10 +1,9 @@
-use Rattle.std.proofs.Common.{◌≡◌, ◌≢◌, ℕ, ◌+◌, ◌-◌, ◌*◌, ◌%◌, ◌^◌, ◌<◌, ◌≤◌, Bool, true, false, if◌then◌else◌, Option, None, Some, refl, sym, ◌∙◌, ap, arith}
+use Rattle.std.proofs.Common.{◌≡◌, ℕ, ◌+◌, ◌-◌, ◌*◌, ◌%◌, ◌<◌, ◌≤◌, Bool, true, if◌then◌else◌, Option, None, Some, sym, ◌∙◌, ap, arith}
 use Rattle.blk_image.proofs.Runs.{some_inj}
-use Rattle.blk_format.specs.Address.{block_word, is_address, is_block_kind, rankings, kind_of, file_selector, first_block, block_count, external}
-use Rattle.blk_format.proofs.Words.{AreFields, is_address-block_word, kind_of-block_word, file_selector-block_word, first_block-block_word, block_count-block_word}
+use Rattle.blk_format.specs.Address.{block_word, is_address}
+use Rattle.blk_format.proofs.Words.{AreFields, is_address-block_word}
 use Rattle.blk_addr.specs.Kind.{kind_number}
 use Rattle.blk_addr.specs.declared.kinds.Kind.{Kind}
-use Rattle.blk_addr.specs.declared.kinds.Kind.TheVariants.{External, Rankings, B256, B1K, B4K}
 use Rattle.blk_alloc.proofs.Members.{kind_blocky, kind_small}
 use Rattle.blk_alloc.proofs.taking.address_of.Goals as goal
 

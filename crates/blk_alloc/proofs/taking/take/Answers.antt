@@ -1,18 +1,11 @@
-use Rattle.std.proofs.Common.{◌≡◌, ◌≢◌, ◌⊎◌, inl, inr, ℕ, ◌+◌, ◌<◌, ◌≤◌, ◌%◌, true, false, Option, None, Some, refl, sym, ◌∙◌, ap, subst, arith, ⊎_elim, max}
-use Rattle.std.specs.Option.{ForSome}
-use Rattle.blk_image.specs.Image.{Image, Block, length_of}
-use Rattle.blk_image.specs.Footprint.{SameOutside, size_of}
-use Rattle.blk_image.specs.Told.{Told, PassesTo, Grows}
-use Rattle.blk_image.proofs.Runs.{passes_to, passes_weaker, passes_then, passes_none, passes_stayed, passes_end, some_inj}
-use Rattle.blk_format.specs.Address.{block_word, file_selector, first_block, block_count, kind_of, external, is_address, rankings}
-use Rattle.blk_format.specs.BlockFiles.{IsWellFormed, is_among, max_entries_in}
-use Rattle.blk_addr.specs.Kind.{kind_number}
-use Rattle.blk_disk.specs.Tables.{Agrees, all_files, files_of, length_in}
-use Rattle.blk_disk.specs.Growth.{fit_steps, whole_length}
-use Rattle.blk_alloc.specs.Changes.{IsMidst, IsReady, IsChanged}
+use Rattle.std.proofs.Common.{◌≡◌, inl, ℕ, true, None, sym, ◌∙◌, subst}
+use Rattle.blk_image.specs.Image.{Block}
+use Rattle.blk_image.specs.Footprint.{size_of}
+use Rattle.blk_image.proofs.Runs.{passes_to, passes_none, some_inj}
+use Rattle.blk_disk.specs.Growth.{fit_steps}
 use Rattle.blk_alloc.specs.Taking.{IsTaking, IsTaken}
 use Rattle.blk_alloc.proofs.Members.{member_all}
-use Rattle.blk_alloc.proofs.Taken.{fit_passes, ready_kept, taking_fit, taking_midst}
+use Rattle.blk_alloc.proofs.Taken.{taking_fit}
 use Rattle.blk_image.proofs.Footprints.{outside-refl}
 use Rattle.blk_disk.specs.Tables.{stands_among}
 use Rattle.blk_alloc.proofs.TakenAfter.{ready_after, agrees_after, stops_after, taken_after, stands_after, formed_after}
