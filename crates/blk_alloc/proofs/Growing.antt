@@ -47,7 +47,7 @@ module _ (old new : BlockFiles) (from mid : Image) (n : ℕ) (enlarges : Enlarge
       ap_less : (f m : ℕ) → f ≡ m → blocks_of old m < 64896 → blocks_of old f < 64896
       ap_less f m e h = subst (λ (k : ℕ). blocks_of old k < 64896) (sym e) h
 
-in_file : (w n : ℕ) → is_in_file n w ≡ true → (kind_of w ≢ external) × (file_selector w ≡ n)
+pub in_file : (w n : ℕ) → is_in_file n w ≡ true → (kind_of w ≢ external) × (file_selector w ≡ n)
 unfolding is_in_file
 in_file w n is = (grind (arith, nat_tests), grind (arith, nat_tests))
 
@@ -86,11 +86,11 @@ count-append p s (suc n) m =
     omega (arith, rest, a, b, e, d)
 
 -- where all of some pass, all are counted
-count-all : (p : ℕ → Bool) (s n : ℕ) → ((i : ℕ) → s ≤ i → i < s + n → p i ≡ true) → count_by p (range_with_len s n) ≡ n
+pub count-all : (p : ℕ → Bool) (s n : ℕ) → ((i : ℕ) → s ≤ i → i < s + n → p i ≡ true) → count_by p (range_with_len s n) ≡ n
 count-all p s zero all = refl
 count-all p s (suc n) all = let rest = count-all p (s + 1) n (λ i low high. all i (omega arith) (omega arith)) in let a = first_counted p s n in let e : one (p s) ≡ 1 = ap one (all s (omega arith) (omega arith)) in omega (arith, rest, a, e)
 
-count-none : (p : ℕ → Bool) (s n : ℕ) → ((i : ℕ) → s ≤ i → i < s + n → p i ≡ false) → count_by p (range_with_len s n) ≡ 0
+pub count-none : (p : ℕ → Bool) (s n : ℕ) → ((i : ℕ) → s ≤ i → i < s + n → p i ≡ false) → count_by p (range_with_len s n) ≡ 0
 count-none p s zero none = refl
 count-none p s (suc n) none = let rest = count-none p (s + 1) n (λ i low high. none i (omega arith) (omega arith)) in let a = first_counted p s n in let e : one (p s) ≡ 0 = ap one (none s (omega arith) (omega arith)) in omega (arith, rest, a, e)
 

@@ -19,3 +19,4 @@ pub mod TakenAfter
 pub mod Causes
 pub mod Growing
 pub mod Grown
+pub mod Fullness
