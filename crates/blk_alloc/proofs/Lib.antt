@@ -20,3 +20,4 @@ pub mod Causes
 pub mod Growing
 pub mod Grown
 pub mod Fullness
+pub mod Adding
