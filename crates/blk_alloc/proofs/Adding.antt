@@ -19,7 +19,14 @@ use Rattle.blk_format.specs.BlockFiles.{is_among, type_among, max_entries_in, st
 use Rattle.blk_format.specs.Maps.{is_marked, is_marked_at, groups_with, groups_of, AreAllocations, EmptyAgrees}
 use Rattle.blk_disk.specs.declared.tables.BlockFiles.{BlockFiles}
 use Rattle.blk_disk.specs.Tables.{Agrees, Joins, files_of, all_files, blocks_of, length_in}
-use Rattle.blk_disk.proofs.Additions.{new_header}
+use Rattle.blk_image.specs.Steps.{after}
+use Rattle.blk_image.proofs.Cuts.{after-append}
+use Rattle.blk_image.proofs.Images.{other-word, with_file-same}
+use Rattle.blk_addr.specs.declared.kinds.Kind.{Kind}
+use Rattle.blk_addr.specs.Kind.{kind_number}
+use Rattle.blk_disk.specs.Growth.{IsLeastFree, free_number, last_file, add_steps, make_steps, link_steps}
+use Rattle.blk_disk.proofs.Joined.{among_types, by_kind, last_apart}
+use Rattle.blk_disk.proofs.Additions.{new_header, made_is}
 use Rattle.blk_disk.proofs.Agreeing.{other_file}
 use Rattle.blk_disk.proofs.Among.{is_among_more}
 use Rattle.blk_alloc.specs.Making.{HasCounters, KeepsFiles}
@@ -133,3 +140,30 @@ module _ (old new : BlockFiles) (from mid : Image) (kind n last : ℕ) (free : i
     allocations = allocations_more old new from mid before later join_widens f there;
     empty = λ was i small. empty_kept f there i ∙ was i small ∙ (λ j. groups_with (λ b. sym (join_widens.marks f b there) j) (groups_of (sym (blocks_kept f there) j)) (i + 1));
   }
+
+  -- it is among all files as it was
+  pub all_kept : (f : ℕ) → is_among (all_files old) f ≡ true → is_among (all_files new) f ≡ true
+  all_kept f there =
+      among_types new f ∙ (λ j. types_kept f 1 (apart f there) j || types_kept f 2 (apart f there) j || types_kept f 3 (apart f there) j || types_kept f 4 (apart f there) j) ∙ sym (among_types old f) ∙ there
+
+  -- the new file is among those of its type
+  pub new_among : is_among (files_of new kind) n ≡ true
+  new_among = ap (λ (l : List ℕ). is_among l n) joins.last ∙ is_among_more (files_of old kind) n n ∙ last_true (is_among (files_of old kind) n) (n == n) (grind (arith, nat_tests))
+    where
+      last_true : (a b : Bool) → b ≡ true → (a || b) ≡ true
+      last_true true b e = refl
+      last_true false b e = e
+
+-- the file after it was added
+pub added_file : (files : BlockFiles) (image : Image) (k : Kind) → kind_number k ≢ 0 → Agrees files image → length (files_of files (kind_number k)) < 60 → IsLeastFree files (free_number files)
+    → after (add_steps files (kind_number k)) image (Block (free_number files)) ≡ Some (new_header (kind_number k) (free_number files))
+added_file files image k blocky agrees few least =
+    by_kind (λ (j : ℕ). length (files_of files j) < 60 → after (add_steps files j) image (Block (free_number files)) ≡ Some (new_header j (free_number files))) each k blocky few
+  where
+    each : (p : ℕ) → p < 4 → length (files_of files (suc p)) < 60 → after (add_steps files (suc p)) image (Block (free_number files)) ≡ Some (new_header (suc p) (free_number files))
+    each p small room =
+        let n : ℕ = free_number files in
+        let made : Image = after (make_steps (suc p) n) image in
+        ap (λ (i : Image). i (Block n)) (after-append (make_steps (suc p) n) (link_steps (last_file files (suc p)) n) image)
+        ∙ other-word made (Block (last_file files (suc p))) (Block n) 10 (n % 256 ∷ n / 256 % 256 ∷ []) (other_file (last_file files (suc p)) n (λ e. last_apart files image p small agrees room least (sym e)))
+        ∙ ap (λ (i : Image). i (Block n)) (made_is (suc p) n image) ∙ with_file-same image (Block n) (Some (new_header (suc p) n))

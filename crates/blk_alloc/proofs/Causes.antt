@@ -3,6 +3,7 @@ use Rattle.std.proofs.Common.{◌≡◌, ℕ, inl, inr, Option, None, Some, Resu
 use Rattle.std.specs.Option.{option_map}
 use Rattle.blk_image.specs.Image.{Image}
 use Rattle.blk_image.specs.Told.{Told}
+use Rattle.blk_image.proofs.Runs.{some_inj}
 use Rattle.blk_io.specs.declared.fault.Damage.{Damage}
 use Rattle.blk_io.specs.declared.fault.Fault.{Fault}
 use Rattle.blk_io.specs.declared.fault.Fault.TheVariants.{Device, Damaged}
@@ -28,3 +29,8 @@ pub if_damaged_both : {A : Type 0} (r : Result A Fault) (P Q R : Damage → Type
 if_damaged_both {A} (Ok a) P Q R both one other = tt
 if_damaged_both {A} (Err Device) P Q R both one other = tt
 if_damaged_both {A} (Err (Damaged damage)) P Q R both one other = both damage one other
+
+-- files that are told after some steps were told before
+pub told_before : (f : Image → Image) (a b : Option Image) (mid : Image) → b ≡ option_map f a → b ≡ Some mid → (from : Image) × (a ≡ Some from) × (mid ≡ f from)
+told_before f None b mid is now = absurd (none_some (sym is ∙ now))
+told_before f (Some from) b mid is now = (from, refl, some_inj (sym now ∙ is))

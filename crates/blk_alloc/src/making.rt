@@ -1,14 +1,14 @@
 // Files get room for blocks.
-ghost use Rattle.std.specs.Prelude.{◌≡◌, ◌≢◌, ◌+◌, ◌≤◌, ◌<◌, None, IfOk, OnOk, OnErr, IsTrue};
+ghost use Rattle.std.specs.Prelude.{◌≡◌, ◌≢◌, ◌+◌, ◌≤◌, ◌<◌, None, length, IfOk, OnOk, OnErr, IsTrue};
 ghost use Rattle.std.specs.Option.{ForSome};
-ghost use Rattle.blk_image.specs.Footprint.{SameOutside};
+ghost use Rattle.blk_image.specs.Footprint.{SameOutside, either};
 ghost use Rattle.blk_image.specs.Told.{Passes, Rises};
-ghost use Rattle.blk_format.specs.BlockFiles.{is_among, most_blocks, IsWellFormed};
+ghost use Rattle.blk_format.specs.BlockFiles.{is_among, most_blocks, most_files, IsWellFormed};
 ghost use Rattle.blk_format.specs.Address.{external};
 ghost use Rattle.blk_addr.specs.Kind.{kind_number};
 ghost use Rattle.blk_format.specs.Maps.{group_size};
 ghost use Rattle.blk_disk.specs.Tables.{Agrees, blocks_of, files_of};
-ghost use Rattle.blk_disk.specs.Growth.{growth_of};
+ghost use Rattle.blk_disk.specs.Growth.{IsLeastFree, addition_of, free_number, growth_of};
 ghost use Rattle.blk_alloc.specs.Making.{HasCounters, KeepsFiles};
 ghost use Rattle.blk_alloc.specs.Taking.{IsTakeable};
 
@@ -45,4 +45,25 @@ pub(crate) fn grow_room<F: Folder>(
     let start = blocks_in(files, file);
     files.grow(f, file)?;
     Ok(Blocks { file, start, count })
+}
+
+// Adds a file of a kind, and gives it blocks, of which the first ones are the place.
+pub(crate) fn add_room<F: Folder>(f: &mut F, files: &mut BlockFiles, kind: Kind, count: u32) -> Result<Blocks, Failed>
+    requires few { count ≤ group_size }
+    requires blocky { kind_number kind ≢ external }
+    requires room { length (files_of files.old (kind_number kind)) < most_files }
+    requires agrees { ForSome (F.told f.old).files (Agrees files.old) }
+    ensures place { IfOk result (λ place. (place.file ≡ free_number files.old) × (place.start ≡ 0) × (place.count ≡ count)) }
+    ensures least { OnOk result (IsLeastFree files.old (free_number files.old)) }
+    ensures takeable { IfOk result (λ place. ForSome (F.told f.old).files (λ from. ForSome (F.told f.new).files (λ image. IsTakeable image place))) }
+    ensures keeps { OnOk result (ForSome (F.told f.old).files (λ from. ForSome (F.told f.new).files (KeepsFiles files.old from))) }
+    ensures agrees { OnOk result (ForSome (F.told f.new).files (Agrees files.new)) }
+    ensures outside { ForSome (F.told f.old).files (λ from. Passes (F.told f.old) (F.told f.new) (SameOutside (either (addition_of files.old (kind_number kind)) (growth_of (free_number files.old))) from)) }
+    ensures formed { ForSome (F.told f.old).files (λ from. IsWellFormed from → Passes (F.told f.old) (F.told f.new) IsWellFormed) }
+    ensures later { F.faults f.old ≤ F.faults f.new }
+    ensures failed { OnErr result (Rises (F.faults f.old) (F.faults f.new)) }
+{
+    let file = files.add_file(f, kind)?;
+    let place = grow_room(f, files, kind, file, count)?;
+    Ok(place)
 }
