@@ -1,8 +1,7 @@
 -- A file that is added: it has no blocks and no allocations, and all others are as they were.
-use Rattle.std.proofs.Common.{◌≡◌, ◌≢◌, ℕ, zero, suc, ◌+◌, ◌*◌, ◌/◌, ◌%◌, ◌<◌, ◌≤◌, ◌⊎◌, inl, inr, List, [], ◌∷◌, ◌++◌, length, Bool, true, false, ◌&&◌, ◌||◌, if◌then◌else◌, nat_le, nat_lt, Option, None, Some, unwrap_or, refl, sym, ◌∙◌, ap, ap₂, subst, arith, ⊎_elim}
+use Rattle.std.proofs.Common.{◌≡◌, ◌≢◌, ℕ, suc, ◌+◌, ◌*◌, ◌/◌, ◌%◌, ◌<◌, ◌≤◌, inr, List, [], ◌∷◌, length, Bool, true, false, ◌&&◌, ◌||◌, if◌then◌else◌, nat_le, nat_lt, Option, None, Some, unwrap_or, refl, sym, ◌∙◌, ap, arith, ⊎_elim}
 use Rattle.std.specs.Prelude.{◌==◌}
 use Rattle.std.specs.Int.{bit_at}
-use Rattle.std.specs.List.{count_by, range_with_len}
 use Rattle.std.proofs.lemmas.Bool.{cases_eq}
 use Rattle.std.proofs.lemmas.Bool.Decides.{nat_tests}
 use Rattle.std.proofs.lemmas.Nat.Bits.{bit_at-zero}
@@ -14,11 +13,11 @@ use Rattle.blk_image.specs.Footprint.{SameOutside, either, range, whole}
 use Rattle.blk_image.proofs.Splices.{content-zeros}
 use Rattle.blk_format.specs.Address.{block_size}
 use Rattle.blk_format.specs.Headers.{empty_of, allocations_of, max_entries_of, block_magic, version}
-use Rattle.blk_format.specs.Claims.{BlockOf, claims_of_all, has_claim, is_in_file, repeats}
+use Rattle.blk_format.specs.Claims.{has_claim, is_in_file, repeats}
 use Rattle.blk_format.specs.BlockFiles.{is_among, type_among, max_entries_in, stands_in}
-use Rattle.blk_format.specs.Maps.{is_marked, is_marked_at, groups_with, groups_of, AreAllocations, EmptyAgrees}
+use Rattle.blk_format.specs.Maps.{is_marked, groups_with, groups_of, AreAllocations, EmptyAgrees}
 use Rattle.blk_disk.specs.declared.tables.BlockFiles.{BlockFiles}
-use Rattle.blk_disk.specs.Tables.{Agrees, Joins, files_of, all_files, blocks_of, length_in}
+use Rattle.blk_disk.specs.Tables.{Agrees, Joins, files_of, all_files}
 use Rattle.blk_image.specs.Steps.{after}
 use Rattle.blk_image.proofs.Cuts.{after-append}
 use Rattle.blk_image.proofs.Images.{other-word, with_file-same}
@@ -30,7 +29,6 @@ use Rattle.blk_disk.proofs.Additions.{new_header, made_is}
 use Rattle.blk_disk.proofs.Agreeing.{other_file}
 use Rattle.blk_disk.proofs.Among.{is_among_more}
 use Rattle.blk_alloc.specs.Making.{HasCounters, KeepsFiles}
-use Rattle.blk_alloc.specs.Owning.{KeepsFile}
 use Rattle.blk_alloc.proofs.Changing.{byte_beside}
 use Rattle.blk_alloc.proofs.Widening.{Widens, allocations_more, mark_kept}
 

@@ -1,5 +1,5 @@
 -- Files that have no room hold many allocations: each of their groups has one of its own.
-use Rattle.std.proofs.Common.{◌≡◌, ◌≢◌, ℕ, zero, suc, ◌+◌, ◌-◌, ◌*◌, ◌/◌, ◌%◌, ◌<◌, ◌≤◌, ◌⊎◌, inl, inr, List, [], ◌∷◌, length, Bool, true, false, ◌&&◌, ◌||◌, not, nat_le, nat_lt, refl, sym, ◌∙◌, ap, ap₂, subst, arith, ⊎_elim}
+use Rattle.std.proofs.Common.{◌≡◌, ◌≢◌, ℕ, zero, suc, ◌+◌, ◌*◌, ◌/◌, ◌%◌, ◌<◌, ◌≤◌, ◌⊎◌, inl, inr, List, [], ◌∷◌, length, Bool, true, false, ◌&&◌, ◌||◌, not, nat_le, refl, sym, ◌∙◌, ap, subst, arith, ⊎_elim}
 use Rattle.std.specs.Prelude.{◌==◌}
 use Rattle.std.specs.List.{All, list_all, list_any, count_by, sum_by, range_with_len}
 use Rattle.std.proofs.lemmas.Grind.{common_steps}
@@ -7,12 +7,11 @@ use Rattle.std.proofs.lemmas.Bool.{cases_eq}
 use Rattle.std.proofs.lemmas.Bool.Decides.{nat_tests}
 use Rattle.std.proofs.lemmas.List.Elements.{All-head, All-tail}
 use Rattle.blk_image.specs.Image.{Image, byte, Block}
-use Rattle.blk_format.specs.Address.{kind_of, external, file_selector, first_block, block_count}
+use Rattle.blk_format.specs.Address.{first_block, block_count}
 use Rattle.blk_format.specs.Claims.{BlockOf, claims_of, claims_of_all, has_claim, is_in_file}
 use Rattle.blk_format.specs.Headers.{allocations_of}
 use Rattle.blk_format.specs.BlockFiles.{max_entries_in, stands_in, most_blocks}
 use Rattle.blk_format.specs.Maps.{is_marked, are_free, groups_of, AreAllocations}
-use Rattle.blk_addr.specs.Bits.{is_between}
 use Rattle.blk_addr.proofs.ClaimLemmas.{has_claim-append}
 use Rattle.blk_alloc.specs.Fitting.{HasNoRoom}
 use Rattle.blk_alloc.specs.Owning.{is_of}

@@ -48,7 +48,12 @@ pub(crate) fn grow_room<F: Folder>(
 }
 
 // Adds a file of a kind, and gives it blocks, of which the first ones are the place.
-pub(crate) fn add_room<F: Folder>(f: &mut F, files: &mut BlockFiles, kind: Kind, count: u32) -> Result<Blocks, Failed>
+pub(crate) fn add_room<F: Folder>(
+    f: &mut F,
+    files: &mut BlockFiles,
+    kind: Kind,
+    count: u32,
+) -> Result<Blocks, Failed>
     requires few { count ≤ group_size }
     requires blocky { kind_number kind ≢ external }
     requires room { length (files_of files.old (kind_number kind)) < most_files }

@@ -1,17 +1,14 @@
-use Rattle.std.proofs.Common.{◌≡◌, ◌≢◌, ℕ, true, Option, Some, refl, sym, ◌∙◌, ap, subst}
+use Rattle.std.proofs.Common.{ℕ, sym, ◌∙◌, ap, subst}
 use Rattle.std.specs.Option.{option_map}
 use Rattle.blk_image.specs.Image.{Image, Block}
 use Rattle.blk_image.specs.Steps.{after}
 use Rattle.blk_image.specs.Footprint.{SameOutside, either}
-use Rattle.blk_image.specs.Told.{PassesTo}
 use Rattle.blk_image.proofs.Footprints.{outside-trans, outside_wider, within_left, within_right}
-use Rattle.blk_image.proofs.Runs.{passes_end, passes_then, passes_weaker, some_inj}
-use Rattle.blk_format.specs.BlockFiles.{IsWellFormed}
+use Rattle.blk_image.proofs.Runs.{passes_end, passes_then, passes_weaker}
 use Rattle.blk_addr.specs.Kind.{kind_number}
 use Rattle.blk_disk.specs.Tables.{Joins}
 use Rattle.blk_disk.specs.Growth.{IsLeastFree, addition_of, free_number, growth_of, add_steps, last_file}
-use Rattle.blk_disk.proofs.Additions.{new_header}
-use Rattle.blk_alloc.specs.Making.{HasCounters, KeepsFiles}
+use Rattle.blk_alloc.specs.Making.{HasCounters}
 use Rattle.blk_alloc.proofs.Adding.{added_file, new_counters, join_keeps, all_kept}
 use Rattle.blk_alloc.proofs.Causes.{told_before}
 use Rattle.blk_alloc.proofs.making.add_room.Goals as goal
