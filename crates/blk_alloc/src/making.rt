@@ -9,7 +9,7 @@ ghost use Rattle.blk_addr.specs.Kind.{kind_number};
 ghost use Rattle.blk_format.specs.Maps.{group_size};
 ghost use Rattle.blk_disk.specs.Tables.{Agrees, blocks_of, files_of};
 ghost use Rattle.blk_disk.specs.Growth.{IsLeastFree, addition_of, free_number, growth_of};
-ghost use Rattle.blk_alloc.specs.Making.{HasCounters, KeepsFiles};
+ghost use Rattle.blk_alloc.specs.Making.{HasCounters, IsGrowing, KeepsFiles};
 ghost use Rattle.blk_alloc.specs.Taking.{IsTakeable};
 
 use crate::blocks::Blocks;
@@ -17,6 +17,8 @@ use crate::fitting::blocks_in;
 use blk_addr::Kind;
 use blk_disk::BlockFiles;
 use blk_io::{Failed, Folder};
+
+const MOST_BLOCKS: u32 = 64896;
 
 // Gives a file more blocks, of which the first ones are the place.
 pub(crate) fn grow_room<F: Folder>(
@@ -71,4 +73,20 @@ pub(crate) fn add_room<F: Folder>(
     let file = files.add_file(f, kind)?;
     let place = grow_room(f, files, kind, file, count)?;
     Ok(place)
+}
+
+// The first file of a kind that has fewer than 64896 blocks.
+pub(crate) fn growing_file(files: &BlockFiles, kind: Kind) -> Option<u8>
+    requires { kind_number kind ≢ external }
+    ensures { IsGrowing files.now (files_of files.now (kind_number kind)) result }
+{
+    for i in 0..files.count(kind) {
+        let Some(file) = files.file_at(kind, i) else {
+            unreachable!();
+        };
+        if blocks_in(files, file) < MOST_BLOCKS {
+            return Some(file);
+        }
+    }
+    None
 }
