@@ -54,7 +54,7 @@ module _ (mid : Image) (kind n : ℕ) (file : mid (Block n) ≡ Some (new_header
       ∙ ap (λ (x : ℕ). bit_at x (b % 8) == 1) (zero_past kind n (80 + b / 8) (omega arith)) ∙ ap (λ (x : ℕ). x == 1) (bit_at-zero (b % 8))
 
   -- a new file has no allocations
-  new_allocations : AreAllocations mid n []
+  pub new_allocations : AreAllocations mid n []
   unfolding has_claim repeats
   new_allocations = record {
     stand = All-nil (λ w. stands_in mid w ≡ true);

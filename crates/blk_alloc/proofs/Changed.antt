@@ -6,14 +6,14 @@ use Rattle.std.specs.Int.{bit_at}
 use Rattle.std.proofs.lemmas.Bool.{cases_eq, cases_lt}
 use Rattle.std.proofs.lemmas.Bool.Decides.{nat_tests}
 use Rattle.blk_image.specs.Bytes.{content, word_bytes}
-use Rattle.blk_image.specs.Image.{Image, File, Block, byte, bytes_of}
+use Rattle.blk_image.specs.Image.{length_of, Image, File, Block, byte, bytes_of}
 use Rattle.blk_image.specs.Steps.{after, word_steps, with_word, with_words}
 use Rattle.blk_image.specs.Footprint.{SameOutside}
 use Rattle.blk_image.proofs.Words.{word-beside, word-there, length-with_word}
 use Rattle.blk_image.proofs.Footprints.{same_word_outside}
 use Rattle.std.specs.Option.{ForSome}
 use Rattle.blk_image.specs.Told.{Told, Grows, GrowsInPart, PassesTo, Until}
-use Rattle.blk_image.proofs.Runs.{passes_part, some_inj, told_whole}
+use Rattle.blk_image.proofs.Runs.{passes_weaker, passes_part, some_inj, told_whole}
 use Rattle.blk_image.proofs.WordSteps.{quiet-word_steps}
 use Rattle.blk_format.specs.Headers.{allocations_of, empty_of, updating_of}
 use Rattle.blk_format.specs.Maps.{is_marked, longest_run, groups_with, groups_of, EmptyAgrees}
@@ -242,3 +242,11 @@ module _ (from : Image) (n start count : ℕ) (used : Bool) (plan : Plan) (ready
   change_done {a} {b} there grows =
       told_whole (IsChanged from n start count used) grows
       (λ i is_. subst (λ (j : Image). IsChanged from n start count used (after (word_steps f (plan_words plan)) j)) (some_inj (sym there ∙ is_)) (subst (IsChanged from n start count used) (sym (ended_is n plan low high from)) changed_is))
+
+-- at each moment of the plan only map and counters differ
+pub change_outside : (from : Image) (n : ℕ) (plan : Plan) → 80 ≤ plan.at → plan.at + 4 ≤ 8192 → 8192 ≤ length_of from (Block n) → {a b : Told} → a.files ≡ Some from → GrowsInPart a b (word_steps (Block n) (plan_words plan)) → PassesTo a b (SameOutside (map_of n) from) (SameOutside (map_of n) from)
+change_outside from n plan low high long {a} {b} there part =
+    passes_weaker
+    (passes_part (IsMidst n from) (SameOutside (map_of n) from) part (quiet-word_steps (Block n) (plan_words plan)) (λ i midst. midst.same)
+    (λ i is. subst (λ (j : Image). Until (IsMidst n from) (SameOutside (map_of n) from) j (word_steps (Block n) (plan_words plan))) (some_inj (sym there ∙ is)) (plan_until n plan low high from (SameOutside (map_of n) from) long (ended_same n plan low high from long))))
+    (λ i midst. midst.same) (λ i same. same)

@@ -21,3 +21,4 @@ pub mod Growing
 pub mod Grown
 pub mod Fullness
 pub mod Adding
+pub mod Rooms

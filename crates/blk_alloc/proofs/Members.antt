@@ -1,5 +1,5 @@
 -- The files of a type that are kept, and those that are linked.
-use Rattle.std.proofs.Common.{◌≡◌, ◌≢◌, ℕ, ◌+◌, ◌<◌, ◌≤◌, ◌⊎◌, inl, inr, List, ◌∷◌, ◌++◌, length, Bool, true, false, ◌||◌, None, Some, refl, sym, ◌∙◌, ap, subst, arith, take, drop, get_or}
+use Rattle.std.proofs.Common.{◌≡◌, ◌≢◌, ℕ, ◌+◌, ◌<◌, ◌≤◌, ◌⊎◌, inl, inr, List, [], ◌∷◌, ◌++◌, length, Bool, true, false, ◌||◌, None, Some, refl, sym, ◌∙◌, ap, subst, arith, take, drop, get_or}
 use Rattle.std.specs.Prelude.{◌==◌, slice_get}
 use Rattle.std.proofs.lemmas.Option.{get_or_from_slice_get, slice_get_cases}
 use Rattle.std.proofs.lemmas.List.{drop_more, take-append-drop}
@@ -75,3 +75,11 @@ pub split_at : (xs : List ℕ) (i x : ℕ) → slice_get xs i ≡ Some x → xs 
 split_at xs i x is =
     let there = at_place xs i x is in
     sym (take-append-drop i xs) ∙ ap (λ (l : List ℕ). take i xs ++ l) (drop_more xs i 0 there.0 ∙ ap (λ (y : ℕ). y ∷ drop (i + 1) xs) (there.1 0))
+
+member_middle : (before : List ℕ) (x : ℕ) (behind : List ℕ) → is_among (before ++ x ∷ behind) x ≡ true
+member_middle [] x behind = or_left (x == x) (is_among behind x) (grind (arith, nat_tests))
+member_middle (b ∷ before) x behind = or_right (b == x) (is_among (before ++ x ∷ behind) x) (member_middle before x behind)
+
+-- one between two parts of a list
+pub member_split : (xs before : List ℕ) (x : ℕ) (behind : List ℕ) → xs ≡ before ++ x ∷ behind → is_among xs x ≡ true
+member_split xs before x behind split = ap (λ (l : List ℕ). is_among l x) split ∙ member_middle before x behind

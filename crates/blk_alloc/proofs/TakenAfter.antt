@@ -31,14 +31,6 @@ use Rattle.blk_alloc.proofs.Members.{kind_blocky, kind_small}
 use Rattle.blk_alloc.proofs.Taken.{fit_passes, ready_kept, taking_fit, taking_midst}
 use Rattle.blk_alloc.proofs.TakenBlocks.{taken_is, taken_stands}
 
--- the marks change, and what is kept agrees
-pub agrees_after : (b c : Told) (new : BlockFiles) (place : Blocks) → ForSome b.files (Agrees new) → (b.files ≡ None → c.files ≡ None)
-    → ForSome b.files (λ mid. PassesTo b c (IsMidst place.file mid) (λ image. IsMidst place.file mid image ⊎ IsChanged mid place.file place.start place.count true image)) → ForSome c.files (Agrees new)
-agrees_after b c new place agrees silent stops =
-    told_at_end b.files c.files (Agrees new) silent
-    (λ mid there. let keeps : (i : Image) → IsMidst place.file mid i → Agrees new i = λ i midst. agrees_kept place.file mid i midst.same new (agrees mid there) in
-    passes_end (passes_weaker (stops mid there) keeps (λ i. ⊎_elim (keeps i) (λ changed. agrees_kept place.file mid i changed.same new (agrees mid there)))))
-
 module _ (a b : Told) (old new : BlockFiles) (place : Blocks) (agrees : ForSome a.files (Agrees old)) (all : is_among (all_files old) place.file ≡ true)
     (fitted : Grows a b (fit_steps old place.file)) (kept : Resizes old new place.file (max (length_in old place.file) (whole_length old place.file))) (agrees_new : ForSome b.files (Agrees new)) where
   abbrev n : ℕ

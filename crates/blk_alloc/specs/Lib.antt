@@ -6,3 +6,4 @@ pub mod Fitting
 pub mod Taking
 pub mod Untold
 pub mod Making
+pub mod Giving

@@ -4,7 +4,7 @@ use Rattle.std.specs.List.{All}
 use Rattle.blk_image.specs.Image.{Block, Image, byte}
 use Rattle.blk_format.specs.Headers.{allocations_of}
 use Rattle.blk_format.specs.BlockFiles.{is_among, most_blocks}
-use Rattle.blk_format.specs.Maps.{AreAllocations, EmptyAgrees}
+use Rattle.blk_format.specs.Maps.{is_marked, AreAllocations, EmptyAgrees}
 use Rattle.blk_disk.specs.declared.tables.BlockFiles.{BlockFiles}
 use Rattle.blk_disk.specs.Tables.{all_files, blocks_of}
 use Rattle.blk_alloc.specs.Counting.{largest}
@@ -20,6 +20,14 @@ pub record HasCounters (image : Image) (n : ℕ) : Type 0 where
 -- each file that is kept has its allocations as before, and its counters are as true as they were
 abbrev pub KeepsFiles : BlockFiles → Image → Image → Type 0
 KeepsFiles files from image = (n : ℕ) → is_among (all_files files) n ≡ true → KeepsFile from image n
+
+-- each file that is kept has its marks as before
+abbrev pub KeepsMarks : BlockFiles → Image → Image → Type 0
+KeepsMarks files from image = (n b : ℕ) → is_among (all_files files) n ≡ true → is_marked image n b ≡ is_marked from n b
+
+-- each file that is kept is kept still
+abbrev pub KeepsAll : BlockFiles → BlockFiles → Type 0
+KeepsAll old new = (n : ℕ) → is_among (all_files old) n ≡ true → is_among (all_files new) n ≡ true
 
 -- a file has as many blocks as a file can have
 abbrev pub HasMostBlocks : BlockFiles → ℕ → Type 0

@@ -6,12 +6,14 @@ mod change;
 mod counters;
 mod fitting;
 mod freeing;
+mod giving;
 mod making;
 mod map;
 mod plan;
 mod taking;
 
 pub use freeing::free;
+pub use giving::allocate;
 
 #[cfg(test)]
 mod tests;

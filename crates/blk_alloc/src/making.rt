@@ -1,15 +1,16 @@
 // Files get room for blocks.
-ghost use Rattle.std.specs.Prelude.{◌≡◌, ◌≢◌, ◌+◌, ◌≤◌, ◌<◌, None, length, IfOk, OnOk, OnErr, IsTrue};
+ghost use Rattle.std.specs.Prelude.{◌≡◌, ◌≢◌, ◌+◌, ◌*◌, ◌/◌, ◌≤◌, ◌<◌, [], None, length, IfOk, OnOk, OnErr, IsTrue};
 ghost use Rattle.std.specs.Option.{ForSome};
 ghost use Rattle.blk_image.specs.Footprint.{SameOutside, either};
 ghost use Rattle.blk_image.specs.Told.{Passes, Rises};
 ghost use Rattle.blk_format.specs.BlockFiles.{is_among, most_blocks, most_files, IsWellFormed};
 ghost use Rattle.blk_format.specs.Address.{external};
 ghost use Rattle.blk_addr.specs.Kind.{kind_number};
-ghost use Rattle.blk_format.specs.Maps.{group_size};
+ghost use Rattle.blk_format.specs.Maps.{group_size, AreAllocations};
 ghost use Rattle.blk_disk.specs.Tables.{Agrees, blocks_of, files_of};
 ghost use Rattle.blk_disk.specs.Growth.{IsLeastFree, addition_of, free_number, growth_of};
-ghost use Rattle.blk_alloc.specs.Making.{HasCounters, IsGrowing, KeepsFiles};
+ghost use Rattle.blk_alloc.specs.Fitting.{IsPlace};
+ghost use Rattle.blk_alloc.specs.Making.{HasCounters, IsGrowing, KeepsAll, KeepsFiles, KeepsMarks};
 ghost use Rattle.blk_alloc.specs.Taking.{IsTakeable};
 
 use crate::blocks::Blocks;
@@ -19,6 +20,8 @@ use blk_disk::BlockFiles;
 use blk_io::{Failed, Folder};
 
 const MOST_BLOCKS: u32 = 64896;
+
+const GROUP: u32 = 4;
 
 // Gives a file more blocks, of which the first ones are the place.
 pub(crate) fn grow_room<F: Folder>(
@@ -34,7 +37,10 @@ pub(crate) fn grow_room<F: Folder>(
     requires below { blocks_of files.old file < most_blocks }
     requires agrees { ForSome (F.told f.old).files (Agrees files.old) }
     requires counters { ForSome (F.told f.old).files (λ image. HasCounters image file) }
-    ensures place { IfOk result (λ place. (place.file ≡ file) × (place.start ≡ blocks_of files.old file) × (place.count ≡ count)) }
+    ensures place { IfOk result (λ place. (place.file ≡ file) × (place.start ≡ blocks_of files.old file / 4 * 4) × (place.count ≡ count)) }
+    ensures fits { IfOk result (IsPlace files.new (kind_number kind) count) }
+    ensures all { OnOk result (KeepsAll files.old files.new) }
+    ensures marks { OnOk result (ForSome (F.told f.old).files (λ from. ForSome (F.told f.new).files (KeepsMarks files.old from))) }
     ensures takeable { IfOk result (λ place. ForSome (F.told f.old).files (λ from. ForSome (F.told f.new).files (λ image. IsTakeable image place))) }
     ensures keeps { OnOk result (ForSome (F.told f.old).files (λ from. ForSome (F.told f.new).files (KeepsFiles files.old from))) }
     ensures agrees { OnOk result (ForSome (F.told f.new).files (Agrees files.new)) }
@@ -44,8 +50,9 @@ pub(crate) fn grow_room<F: Folder>(
     ensures later { F.faults f.old ≤ F.faults f.new }
     ensures failed { OnErr result (Rises (F.faults f.old) (F.faults f.new)) }
 {
-    let start = blocks_in(files, file);
+    let groups = blocks_in(files, file) / GROUP;
     files.grow(f, file)?;
+    let start = groups * GROUP;
     Ok(Blocks { file, start, count })
 }
 
@@ -61,6 +68,10 @@ pub(crate) fn add_room<F: Folder>(
     requires room { length (files_of files.old (kind_number kind)) < most_files }
     requires agrees { ForSome (F.told f.old).files (Agrees files.old) }
     ensures place { IfOk result (λ place. (place.file ≡ free_number files.old) × (place.start ≡ 0) × (place.count ≡ count)) }
+    ensures fits { IfOk result (IsPlace files.new (kind_number kind) count) }
+    ensures all { OnOk result (KeepsAll files.old files.new) }
+    ensures marks { OnOk result (ForSome (F.told f.old).files (λ from. ForSome (F.told f.new).files (KeepsMarks files.old from))) }
+    ensures fresh { OnOk result (ForSome (F.told f.old).files (λ from. ForSome (F.told f.new).files (λ image. AreAllocations image (free_number files.old) []))) }
     ensures least { OnOk result (IsLeastFree files.old (free_number files.old)) }
     ensures takeable { IfOk result (λ place. ForSome (F.told f.old).files (λ from. ForSome (F.told f.new).files (λ image. IsTakeable image place))) }
     ensures keeps { OnOk result (ForSome (F.told f.old).files (λ from. ForSome (F.told f.new).files (KeepsFiles files.old from))) }

@@ -1,7 +1,7 @@
 // Blocks of a file are taken.
 ghost use Rattle.std.specs.Prelude.{◌≡◌, ◌≢◌, ◌⊎◌, ◌≤◌, ◌<◌, ◌+◌, ◌%◌, true, None, IfOk, OnOk, IsTrue};
 ghost use Rattle.std.specs.Option.{ForSome};
-ghost use Rattle.blk_image.specs.Told.{Passes, PassesTo, Rises};
+ghost use Rattle.blk_image.specs.Told.{Passes, PassesTo, Rises, Told};
 ghost use Rattle.blk_format.specs.Address as address;
 ghost use Rattle.blk_format.specs.Address.{external, rankings};
 ghost use Rattle.blk_format.specs.BlockFiles.{is_among, IsWellFormed};
@@ -72,19 +72,18 @@ pub(crate) fn take<F: Folder>(
     requires node { kind_number kind ≡ rankings → place.count ≡ 1 }
     requires place { IsPlace files.old (kind_number kind) place.count place }
     requires agrees { ForSome (F.told f.old).files (Agrees files.old) }
-    requires takeable { ForSome (F.told f.old).files (λ image. IsTakeable image place) }
     ensures word { IfOk result (λ addr. addr ≡ address.block_word (kind_number kind) place.file place.start place.count) }
-    ensures stands { IfOk result (λ addr. ForSome (F.told f.old).files (λ _. IsTrue (stands_among files.new addr))) }
-    ensures taken { IfOk result (λ addr. ForSome (F.told f.old).files (λ from. ForSome (F.told f.new).files (IsTaken files.old from addr))) }
+    ensures stands { IfOk result (λ addr. ForSome (F.told f.old).files (λ from. IsTakeable from place → IsTrue (stands_among files.new addr))) }
+    ensures taken { IfOk result (λ addr. ForSome (F.told f.old).files (λ from. IsTakeable from place → ForSome (F.told f.new).files (IsTaken files.old from addr))) }
     ensures agrees { ForSome (F.told f.new).files (Agrees files.new) }
 
     // At each word only the length, the map and the counters of the file have changed, and updating is 1 until the map and the counters are done.
-    ensures stops { ForSome (F.told f.old).files (λ from. PassesTo (F.told f.old) (F.told f.new) (IsTaking place.file from) (λ image. IsTaking place.file from image ⊎ IsTaken files.old from (address.block_word (kind_number kind) place.file place.start place.count) image)) }
-    ensures formed { ForSome (F.told f.old).files (λ from. IsWellFormed from → Passes (F.told f.old) (F.told f.new) IsWellFormed) }
+    ensures stops { ForSome (F.told f.old).files (λ from. IsTakeable from place → PassesTo (F.told f.old) (F.told f.new) (IsTaking place.file from) (λ image. IsTaking place.file from image ⊎ IsTaken files.old from (address.block_word (kind_number kind) place.file place.start place.count) image)) }
+    ensures formed { ForSome (F.told f.old).files (λ from. IsTakeable from place → IsWellFormed from → Passes (F.told f.old) (F.told f.new) IsWellFormed) }
     ensures silent { (F.told f.old).files ≡ None → (F.told f.new).files ≡ None }
 
-    ensures cause { IfDamaged result (IsCause (F.told f.old) place.file) }
-    ensures untold { IfDamaged result (λ _. (F.told f.old).files ≡ None) }
+    ensures cause { IfDamaged result (λ damage. (told : Told) → told.files ≡ None → IsCause told place.file damage) }
+    ensures untold { IfDamaged result (λ _. ForSome (F.told f.old).files (λ image. IsTakeable image place) → (F.told f.old).files ≡ None) }
     ensures later { F.faults f.old ≤ F.faults f.new }
     ensures device { IfDevice result (Rises (F.faults f.old) (F.faults f.new)) }
 {
