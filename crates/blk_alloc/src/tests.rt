@@ -1,12 +1,12 @@
-// Blocks are freed in a folder in memory that tells nothing.
-ghost use Rattle.std.specs.Prelude.{◌≡◌, ◌≤◌, Ok, OnErr, IfOk};
+// Blocks are given and freed in a folder in memory that tells nothing.
+ghost use Rattle.std.specs.Prelude.{◌≡◌, ◌≤◌, ◌<◌, Ok, OnErr, IfOk};
 ghost use Rattle.std.specs.Option.{ForSome};
 ghost use Rattle.blk_image.specs.Image.{length_of};
 ghost use Rattle.blk_image.specs.Told.{Rises};
 ghost use Rattle.blk_io.specs.FileNames.{file_of};
 
-use crate::free;
-use blk_addr::Addr;
+use crate::{allocate, free};
+use blk_addr::{Addr, Kind};
 use blk_disk::BlockFiles;
 use blk_io::{Damage, Failed, Fault, FileId, Folder, MemFolder};
 use std::alloc::Global;
@@ -21,6 +21,7 @@ const HEADER_LEN: usize = 8192;
 struct Untold {
     inner: MemFolder,
     faults: u64,
+    calls: u64,
 }
 
 // An answer, with its failure counted.
@@ -69,14 +70,17 @@ impl Folder for Untold {
     ghost are_bytes = { λ folder. untold_bytes };
 
     fn length(&mut self, file: FileId) -> Result<Option<u64>, Failed> {
+        self.calls = self.calls.saturating_add(1);
         counted(self.inner.length(file), &mut self.faults)
     }
 
     fn read_at(&mut self, file: FileId, at: u64, out: &mut [u8]) -> Result<usize, Failed> {
+        self.calls = self.calls.saturating_add(1);
         counted(self.inner.read_at(file, at, out), &mut self.faults)
     }
 
     fn write_at(&mut self, file: FileId, at: u64, bytes: &[u8]) -> Result<(), Failed> {
+        self.calls = self.calls.saturating_add(1);
         counted(
             write_inside(&mut self.inner, file, at, bytes),
             &mut self.faults,
@@ -84,18 +88,22 @@ impl Folder for Untold {
     }
 
     fn set_len(&mut self, file: FileId, length: u64) -> Result<(), Failed> {
+        self.calls = self.calls.saturating_add(1);
         counted(self.inner.set_len(file, length), &mut self.faults)
     }
 
     fn delete(&mut self, file: FileId) -> Result<(), Failed> {
+        self.calls = self.calls.saturating_add(1);
         counted(self.inner.delete(file), &mut self.faults)
     }
 
     fn list(&mut self, after: Option<FileId>) -> Result<Option<FileId>, Failed> {
+        self.calls = self.calls.saturating_add(1);
         counted(self.inner.list(after), &mut self.faults)
     }
 
     fn note(&mut self, answered: u64) -> Result<(), Failed> {
+        self.calls = self.calls.saturating_add(1);
         counted(self.inner.note(answered), &mut self.faults)
     }
 }
@@ -146,7 +154,11 @@ fn folder_with(alloc: Global, entries: u32, empty: [u32; 4], map: u32) -> Result
     inner.add_file(FileId::Block(2), &third)?;
     let fourth = file_with(alloc, HEADER_LEN, &fields(3, 4096))?;
     inner.add_file(FileId::Block(3), &fourth)?;
-    Ok(Untold { inner, faults: 0 })
+    Ok(Untold {
+        inner,
+        faults: 0,
+        calls: 0,
+    })
 }
 
 // Frees the blocks of a word, where it is an address that stands.
@@ -163,11 +175,132 @@ fn free_word<F: Folder>(f: &mut F, files: &BlockFiles, word: u32) -> Result<bool
     Ok(true)
 }
 
+// The word of a block file at a place.
+fn word_in(f: &mut Untold, file: u8, at: u64) -> Result<u32, Failed> {
+    let mut word = [0; 4];
+    f.read_at(FileId::Block(file), at, &mut word)?;
+    Ok(u32::from_le_bytes(word))
+}
+
 // The word of `data_1` at a place.
 fn word_at(f: &mut Untold, at: u64) -> Result<u32, Failed> {
-    let mut word = [0; 4];
-    f.read_at(FileId::Block(1), at, &mut word)?;
-    Ok(u32::from_le_bytes(word))
+    word_in(f, 1, at)
+}
+
+// A folder just made, but for the counters and the map of `data_1`, whose map has this byte all over.
+fn made_folder(alloc: Global, blocks: u32, entries: u32, map: u8) -> Result<Untold, Fail> {
+    let mut inner = MemFolder::new(alloc);
+    let first = file_with(alloc, HEADER_LEN, &fields(0, 36))?;
+    inner.add_file(FileId::Block(0), &first)?;
+    let words = [
+        (0, MAGIC),
+        (4, 0x20000),
+        (8, 1),
+        (12, 256),
+        (16, entries),
+        (20, blocks),
+    ];
+    let mut second = file_with(alloc, HEADER_LEN, &words)?;
+    for byte in second.iter_mut().skip(80) {
+        *byte = map;
+    }
+    inner.add_file(FileId::Block(1), &second)?;
+    let third = file_with(alloc, HEADER_LEN, &fields(2, 1024))?;
+    inner.add_file(FileId::Block(2), &third)?;
+    let fourth = file_with(alloc, HEADER_LEN, &fields(3, 4096))?;
+    inner.add_file(FileId::Block(3), &fourth)?;
+    Ok(Untold {
+        inner,
+        faults: 0,
+        calls: 0,
+    })
+}
+
+// The word of so many blocks of 256 bytes that are given.
+fn give<F: Folder>(f: &mut F, files: &mut BlockFiles, blocks: u32) -> Result<u32, Fault>
+    requires some { 0 < blocks }
+    requires few { blocks ≤ 4 }
+    requires untold { ForSome (F.told f.old).files (λ _. ⊥) }
+{
+    let addr = allocate(f, files, Kind::B256, blocks)?;
+    Ok(addr.word())
+}
+
+#[test]
+fn blocks_are_given_at_the_first_place_inside_a_group(rt: HostRuntime) -> Result<(), Fail> {
+    let mut f = made_folder(rt.alloc(), 0, 0, 0)?;
+    let Ok(files) = BlockFiles::load(&mut f) else {
+        panic!(rt; "the files are whole");
+    };
+    let mut files = files;
+    assert_eq!(rt; give(&mut f, &mut files, 4), Ok(0xA301_0000));
+    assert_eq!(rt; give(&mut f, &mut files, 1), Ok(0xA001_0004));
+    assert_eq!(rt; give(&mut f, &mut files, 3), Ok(0xA201_0005));
+    assert_eq!(rt; f.length(FileId::Block(1)), Ok(Some(270_336)));
+    let expected = [
+        (16, 3),
+        (20, 1024),
+        (24, 0),
+        (28, 0),
+        (32, 0),
+        (36, 254),
+        (56, 0),
+        (80, 0xFF),
+    ];
+    for (at, word) in expected {
+        assert_eq!(rt; word_at(&mut f, at), Ok(word), "{at}");
+    }
+    assert_eq!(rt; free_word(&mut f, &files, 0xA001_0004), Ok(true));
+    let freed = [(16, 2), (24, 1), (28, 0), (32, 0), (36, 254)];
+    for (at, word) in freed {
+        assert_eq!(rt; word_at(&mut f, at), Ok(word), "{at}");
+    }
+    Ok(())
+}
+
+#[test]
+fn a_file_is_added_where_the_only_one_is_full(rt: HostRuntime) -> Result<(), Fail> {
+    let mut f = made_folder(rt.alloc(), 64_896, 16_224, 0xFF)?;
+    let Ok(files) = BlockFiles::load(&mut f) else {
+        panic!(rt; "the files are whole");
+    };
+    let mut files = files;
+    f.calls = 0;
+    assert_eq!(rt; give(&mut f, &mut files, 1), Ok(0xA004_0000));
+    assert!(rt; f.calls <= 40);
+    assert_eq!(rt; word_at(&mut f, 8), Ok(0x4_0001));
+    let expected = [
+        (16, 1),
+        (20, 1024),
+        (24, 0),
+        (28, 0),
+        (32, 1),
+        (36, 255),
+        (80, 1),
+    ];
+    for (at, word) in expected {
+        assert_eq!(rt; word_in(&mut f, 4, at), Ok(word), "{at}");
+    }
+    assert_eq!(rt; give(&mut f, &mut files, 4), Ok(0xA304_0004));
+    Ok(())
+}
+
+#[test]
+fn a_file_grows_where_none_has_room(rt: HostRuntime) -> Result<(), Fail> {
+    let mut f = made_folder(rt.alloc(), 1024, 256, 0)?;
+    for at in 0..32 {
+        f.write_at(FileId::Block(1), 80 + 4 * at, &[0xFF; 4])?;
+    }
+    let Ok(files) = BlockFiles::load(&mut f) else {
+        panic!(rt; "the files are whole");
+    };
+    let mut files = files;
+    assert_eq!(rt; give(&mut f, &mut files, 2), Ok(0xA101_0400));
+    let expected = [(16, 257), (20, 2048), (28, 1), (36, 255)];
+    for (at, word) in expected {
+        assert_eq!(rt; word_at(&mut f, at), Ok(word), "{at}");
+    }
+    Ok(())
 }
 
 #[test]
