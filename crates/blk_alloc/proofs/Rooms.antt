@@ -1,5 +1,5 @@
 -- Room for blocks: files that are counted never lack it, and what is given in a file that was made ready.
-use Rattle.std.proofs.Common.{◌≡◌, ◌≢◌, ◌⊎◌, inl, inr, ℕ, ◌+◌, ◌*◌, ◌/◌, ◌%◌, ◌<◌, ◌≤◌, List, [], ◌∷◌, length, Bool, true, false, ◌&&◌, ◌||◌, nat_le, if◌then◌else◌, Option, None, Some, Result, Ok, Err, refl, sym, ◌∙◌, ap, subst, arith, ⊎_elim, get_or}
+use Rattle.std.proofs.Common.{◌≡◌, ◌≢◌, ◌⊎◌, inl, inr, ℕ, ◌+◌, ◌*◌, ◌%◌, ◌<◌, ◌≤◌, List, [], ◌∷◌, length, Bool, true, false, ◌&&◌, ◌||◌, nat_le, if◌then◌else◌, Option, None, Some, Result, Ok, Err, refl, sym, ◌∙◌, ap, subst, arith, ⊎_elim, get_or}
 use Rattle.std.specs.Prelude.{◌==◌, IfOk}
 use Rattle.std.specs.List.{All, sum_by}
 use Rattle.std.specs.Option.{ForSome, option_map}
@@ -13,21 +13,20 @@ use Rattle.blk_image.specs.Footprint.{SameOutside, IsWithin, either}
 use Rattle.blk_image.proofs.Footprints.{outside-trans, outside_wider, within_left, within_right, within_both}
 use Rattle.blk_format.specs.Address.{external, file_selector, block_word}
 use Rattle.blk_format.specs.Headers.{allocations_of}
-use Rattle.blk_format.specs.BlockFiles.{is_among, max_entries_in, most_blocks}
+use Rattle.blk_format.specs.BlockFiles.{is_among, max_entries_in}
 use Rattle.blk_format.specs.Maps.{is_marked, are_free, AreAllocations}
 use Rattle.blk_format.proofs.Words.{file_selector-block_word}
 use Rattle.blk_addr.specs.declared.kinds.Kind.{Kind}
 use Rattle.blk_addr.specs.Kind.{kind_number}
-use Rattle.blk_io.specs.declared.fault.Damage.{Damage}
 use Rattle.blk_io.specs.declared.fault.Fault.{Fault}
 use Rattle.blk_io.specs.declared.fault.Fault.TheVariants.{Device, Damaged}
 use Rattle.blk_io.specs.Faults.{IfDamaged}
 use Rattle.blk_disk.specs.declared.tables.BlockFiles.{BlockFiles}
-use Rattle.blk_disk.specs.Tables.{Agrees, all_files, blocks_of, files_of}
+use Rattle.blk_disk.specs.Tables.{Agrees, all_files, files_of}
 use Rattle.blk_disk.specs.Growth.{addition_of, free_number, growth_of}
 use Rattle.blk_alloc.specs.declared.blocks.Blocks.{Blocks}
 use Rattle.blk_alloc.specs.Fitting.{HasNoRoom, IsFirstFit, IsPlace}
-use Rattle.blk_alloc.specs.Owning.{is_of, KeepsFile}
+use Rattle.blk_alloc.specs.Owning.{is_of}
 use Rattle.blk_alloc.specs.Places.{is_place}
 use Rattle.blk_alloc.specs.Making.{HasCounters, HasMostBlocks, IsFirstGrowing, KeepsAll}
 use Rattle.blk_alloc.specs.Taking.{IsTakeable, IsTaken, taking_of}

@@ -24,8 +24,7 @@ use Rattle.blk_alloc.specs.declared.blocks.Blocks.{Blocks}
 use Rattle.blk_alloc.specs.Changes.{IsMidst, IsReady, IsChanged}
 use Rattle.blk_alloc.specs.Fitting.{IsPlace}
 use Rattle.blk_alloc.specs.Taking.{IsTakeable, IsTaking, IsTaken}
-use Rattle.blk_alloc.proofs.Carried.{told_at_end}
-use Rattle.blk_alloc.proofs.Formed.{agrees_kept, formed_kept}
+use Rattle.blk_alloc.proofs.Formed.{formed_kept}
 use Rattle.blk_alloc.proofs.Lists.{IsBlocks}
 use Rattle.blk_alloc.proofs.Members.{kind_blocky, kind_small}
 use Rattle.blk_alloc.proofs.Taken.{fit_passes, ready_kept, taking_fit, taking_midst}

@@ -1,8 +1,7 @@
-use Rattle.std.proofs.Common.{◌≡◌, ◌⊎◌, inl, inr, ℕ, ◌<◌, List, true, Option, None, Some, sym, ◌∙◌, ap, subst, ⊎_elim}
+use Rattle.std.proofs.Common.{◌≡◌, inl, inr, ℕ, ◌<◌, true, Option, None, Some, sym, ◌∙◌, ap, subst, ⊎_elim}
 use Rattle.std.specs.Option.{ForSome}
 use Rattle.blk_image.specs.Image.{Image}
 use Rattle.blk_image.specs.Told.{Told}
-use Rattle.blk_image.specs.Footprint.{SameOutside}
 use Rattle.blk_image.proofs.Runs.{passes_none, passes_to, passes_weaker, passes_stayed, some_inj}
 use Rattle.blk_addr.specs.Kind.{kind_number}
 use Rattle.blk_disk.specs.Tables.{Agrees, files_of, stands_among}

@@ -1,13 +1,10 @@
-use Rattle.std.proofs.lemmas.Bool.Decides.{nat_tests}
-use Rattle.std.proofs.Common.{◌≡◌, ◌≢◌, ◌≤◌, ◌<◌, ◌⊎◌, inl, inr, ℕ, ◌+◌, ◌*◌, ◌/◌, ◌%◌, List, [], length, Bool, true, false, None, refl, sym, ◌∙◌, ap, subst, arith}
+use Rattle.std.proofs.Common.{◌≡◌, ◌≤◌, ◌<◌, inl, inr, ℕ, ◌*◌, ◌/◌, ◌%◌, [], length, true, false, None, sym, ◌∙◌, ap, subst, arith}
 use Rattle.blk_image.specs.Image.{Image}
 use Rattle.blk_image.specs.Footprint.{SameOutside, either}
-use Rattle.blk_image.proofs.Footprints.{outside-refl}
 use Rattle.blk_image.proofs.Runs.{passes_end, passes_weaker}
 use Rattle.blk_addr.specs.Kind.{kind_number}
 use Rattle.blk_format.specs.BlockFiles.{is_among}
 use Rattle.blk_format.specs.Maps.{AreAllocations}
-use Rattle.blk_disk.specs.declared.tables.BlockFiles.{BlockFiles}
 use Rattle.blk_disk.specs.Tables.{all_files, files_of, blocks_of}
 use Rattle.blk_disk.specs.Growth.{IsLeastFree, addition_of, free_number, growth_of}
 use Rattle.blk_alloc.specs.Making.{IsFirstGrowing}

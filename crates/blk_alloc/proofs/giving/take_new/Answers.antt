@@ -1,20 +1,17 @@
-use Rattle.std.proofs.Common.{◌≡◌, ◌<◌, inl, inr, ℕ, Option, None, Some, refl, true, ap, sym, ◌∙◌, subst, ⊎_elim}
+use Rattle.std.proofs.Common.{◌≡◌, inl, inr, ℕ, Option, None, Some, refl, true, ap, ◌∙◌, subst, ⊎_elim}
 use Rattle.std.specs.Option.{ForSome}
 use Rattle.std.proofs.lemmas.Result.{IfOk-weaker}
-use Rattle.std.specs.Prelude.{◌⊎◌}
 use Rattle.blk_image.specs.Image.{Image}
 use Rattle.blk_image.specs.Told.{Told, PassesTo}
 use Rattle.blk_image.specs.Footprint.{SameOutside}
-use Rattle.blk_image.proofs.Runs.{passes_end, passes_then, passes_weaker, some_inj}
+use Rattle.blk_image.proofs.Runs.{passes_end, passes_then, passes_weaker}
 use Rattle.blk_format.specs.Address.{block_word, file_selector}
-use Rattle.blk_format.specs.BlockFiles.{IsWellFormed}
 use Rattle.blk_addr.specs.Kind.{kind_number}
-use Rattle.blk_io.specs.declared.fault.Damage.{Damage}
-use Rattle.blk_disk.specs.Tables.{files_of, stands_among}
+use Rattle.blk_disk.specs.Tables.{stands_among}
 use Rattle.blk_alloc.specs.Owning.{IsCause}
 use Rattle.blk_alloc.specs.Taking.{IsTakeable, IsTaken, IsTaking, taking_of}
-use Rattle.blk_alloc.specs.Giving.{IsChosen, IsGiven, IsMaking, IsMakingIn, IsRefusal}
-use Rattle.blk_alloc.proofs.Causes.{cause_before, if_damaged_both}
+use Rattle.blk_alloc.specs.Giving.{IsChosen, IsGiven, IsMaking, IsRefusal}
+use Rattle.blk_alloc.proofs.Causes.{if_damaged_both}
 use Rattle.blk_alloc.proofs.Carried.{if_damaged_weaker}
 use Rattle.blk_alloc.proofs.Rooms.{given_made, if_ok_both, making_taken, told_later, untold_before, word_file}
 use Rattle.blk_alloc.proofs.giving.take_new.Goals as goal

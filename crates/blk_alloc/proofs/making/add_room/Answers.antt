@@ -1,6 +1,6 @@
-use Rattle.std.proofs.Common.{ℕ, List, [], Option, None, sym, ◌∙◌, ap, subst}
+use Rattle.std.proofs.Common.{ℕ, [], None, sym, ◌∙◌, ap, subst}
 use Rattle.std.specs.Option.{option_map}
-use Rattle.blk_image.specs.Image.{Image, File, Block}
+use Rattle.blk_image.specs.Image.{Image, Block}
 use Rattle.blk_image.specs.Steps.{after}
 use Rattle.blk_image.specs.Footprint.{SameOutside, either}
 use Rattle.blk_image.proofs.Footprints.{outside-refl, outside-trans, outside_wider, within_left, within_right}
