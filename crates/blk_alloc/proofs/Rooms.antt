@@ -1,0 +1,224 @@
+-- Room for blocks: files that are counted never lack it, and what is given in a file that was made ready.
+use Rattle.std.proofs.Common.{◌≡◌, ◌≢◌, ◌⊎◌, inl, inr, ℕ, ◌+◌, ◌*◌, ◌%◌, ◌<◌, ◌≤◌, List, [], ◌∷◌, length, Bool, true, false, ◌&&◌, ◌||◌, nat_le, if◌then◌else◌, Option, None, Some, Result, Ok, Err, refl, sym, ◌∙◌, ap, subst, arith, ⊎_elim, get_or}
+use Rattle.std.specs.Prelude.{◌==◌, IfOk}
+use Rattle.std.specs.List.{All, sum_by}
+use Rattle.std.specs.Option.{ForSome, option_map}
+use Rattle.std.proofs.lemmas.Bool.Decides.{nat_tests}
+use Rattle.std.proofs.lemmas.List.Folds.{list_any_at}
+use Rattle.std.proofs.lemmas.List.Sums.{sum_by-cons}
+use Rattle.blk_image.specs.Image.{Image, Block, byte}
+use Rattle.blk_image.specs.Steps.{after}
+use Rattle.blk_image.specs.Told.{Told, PassesTo}
+use Rattle.blk_image.specs.Footprint.{SameOutside, IsWithin, either}
+use Rattle.blk_image.proofs.Footprints.{outside-trans, outside_wider, within_left, within_right, within_both}
+use Rattle.blk_format.specs.Address.{external, file_selector, block_word}
+use Rattle.blk_format.specs.Headers.{allocations_of}
+use Rattle.blk_format.specs.BlockFiles.{is_among, max_entries_in}
+use Rattle.blk_format.specs.Maps.{is_marked, are_free, AreAllocations}
+use Rattle.blk_format.proofs.Words.{file_selector-block_word}
+use Rattle.blk_addr.specs.declared.kinds.Kind.{Kind}
+use Rattle.blk_addr.specs.Kind.{kind_number}
+use Rattle.blk_io.specs.declared.fault.Fault.{Fault}
+use Rattle.blk_io.specs.declared.fault.Fault.TheVariants.{Device, Damaged}
+use Rattle.blk_io.specs.Faults.{IfDamaged}
+use Rattle.blk_disk.specs.declared.tables.BlockFiles.{BlockFiles}
+use Rattle.blk_disk.specs.Tables.{Agrees, all_files, files_of}
+use Rattle.blk_disk.specs.Growth.{addition_of, free_number, growth_of}
+use Rattle.blk_alloc.specs.declared.blocks.Blocks.{Blocks}
+use Rattle.blk_alloc.specs.Fitting.{HasNoRoom, IsFirstFit, IsPlace}
+use Rattle.blk_alloc.specs.Owning.{is_of}
+use Rattle.blk_alloc.specs.Places.{is_place}
+use Rattle.blk_alloc.specs.Making.{HasCounters, HasMostBlocks, IsFirstGrowing, KeepsAll}
+use Rattle.blk_alloc.specs.Taking.{IsTakeable, IsTaken, taking_of}
+use Rattle.blk_alloc.specs.Giving.{AreCounted, HaveNoRoom, IsGiven, IsMade, IsMakingIn, added_of, grown_of}
+use Rattle.blk_alloc.proofs.Formed.{count_whole}
+use Rattle.blk_alloc.proofs.Fullness.{full_counts, many_full}
+use Rattle.blk_alloc.proofs.Members.{kind_small, member_all, member_head}
+
+or_true : (a b : Bool) → (a || b) ≡ true → (a ≡ true) ⊎ (b ≡ true)
+or_true true b e = inl refl
+or_true false b e = inr e
+
+clash : false ≡ true → ⊥
+clash e = cc
+
+-- one of a list is no more than all of it together
+pub sum_member : (f : ℕ → ℕ) (n : ℕ) (files : List ℕ) → is_among files n ≡ true → f n ≤ sum_by f files
+sum_member f n [] among = absurd (clash among)
+sum_member f n (k ∷ files) among =
+    let sum = sum_by-cons f k files in
+    ⊎_elim
+    (λ here. let e : k ≡ n = grind (arith, nat_tests) in let same : f k ≡ f n = ap f e in omega (arith, sum, same))
+    (λ there. let rest = sum_member f n files there in omega (arith, sum, rest))
+    (or_true (k == n) (is_among files n) among)
+
+-- a file of a counted type has true counters
+pub has_counters : (files : BlockFiles) (image : Image) (kind n : ℕ) → AreCounted files kind image → is_among (files_of files kind) n ≡ true → HasCounters image n
+has_counters files image kind n counted among =
+    let has = counted.each n among in
+    let one : allocations_of (byte image (Block n)) ≤ sum_by (λ m. allocations_of (byte image (Block m))) (files_of files kind) = sum_member (λ m. allocations_of (byte image (Block m))) n (files_of files kind) among in
+    let most = counted.most in
+    record { words = has.words; are = has.are; empty = has.empty; room = omega (arith, one, most) }
+
+at_member : (xs : List ℕ) (k d : ℕ) → k < length xs → is_among xs (get_or xs k d) ≡ true
+at_member xs k d small = list_any_at (λ m. m == get_or xs k d) xs k d small (same (get_or xs k d))
+  where
+    same : (x : ℕ) → (x == x) ≡ true
+    same x = grind (arith, nat_tests)
+
+-- 60 full files of a type would hold more allocations than there are
+pub never_full : (files : BlockFiles) (image : Image) (k : Kind) (count : ℕ) → kind_number k ≢ external → count ≤ 4 → Agrees files image → AreCounted files (kind_number k) image
+    → HaveNoRoom files (kind_number k) count image → All (HasMostBlocks files) (files_of files (kind_number k)) → 60 ≤ length (files_of files (kind_number k)) → ⊥
+never_full files image k count blocky few agrees counted none full sixty =
+    let list : List ℕ = files_of files (kind_number k) in
+    let f : ℕ → ℕ = λ n. allocations_of (byte image (Block n)) in
+    let each : All (λ n. 16224 ≤ f n) list = (λ i d small. holds (get_or list i d) (at_member list i d small) (none i d small) (full i d small)) in
+    let many : length list * 16224 ≤ sum_by f list = many_full f 16224 list each in
+    let most : sum_by f list ≤ 655362 = counted.most in
+    omega (arith, many, most, sixty)
+  where
+    holds : (n : ℕ) → is_among (files_of files (kind_number k)) n ≡ true → HasNoRoom image count n → HasMostBlocks files n → 16224 ≤ allocations_of (byte image (Block n))
+    holds n among refuses big =
+        let has = counted.each n among in
+        let head = member_head files image k n blocky agrees among in
+        let whole = count_whole _ head.count in
+        let is = agrees.blocks n (member_all files k n blocky among) in
+        let groups = full_counts image n count has.words few whole.0 whole.1 has.are refuses in
+        omega (arith, groups, is, big)
+
+-- room that is made by a growth
+pub making_grown : (files : BlockFiles) (kind n : ℕ) (from image : Image) → IsFirstGrowing files (files_of files kind) n → SameOutside (growth_of n) from image → IsMakingIn files kind from n image
+making_grown files kind n from image first same = inl (first, outside_wider (growth_of n) (grown_of n) from image (within_left (growth_of n) (taking_of n)) same)
+
+taking_within : (files : BlockFiles) (kind : ℕ) → IsWithin (taking_of (free_number files)) (added_of files kind)
+taking_within files kind = record {
+  bytes = λ file i e. (within_right (addition_of files kind) (grown_of (free_number files))).bytes file i ((within_right (growth_of (free_number files)) (taking_of (free_number files))).bytes file i e);
+  sizes = λ file e. (within_right (addition_of files kind) (grown_of (free_number files))).sizes file ((within_right (growth_of (free_number files)) (taking_of (free_number files))).sizes file e);
+}
+
+growth_within : (files : BlockFiles) (kind : ℕ) → IsWithin (growth_of (free_number files)) (added_of files kind)
+growth_within files kind = record {
+  bytes = λ file i e. (within_right (addition_of files kind) (grown_of (free_number files))).bytes file i ((within_left (growth_of (free_number files)) (taking_of (free_number files))).bytes file i e);
+  sizes = λ file e. (within_right (addition_of files kind) (grown_of (free_number files))).sizes file ((within_left (growth_of (free_number files)) (taking_of (free_number files))).sizes file e);
+}
+
+-- room that is made in a new file
+pub making_added : (files : BlockFiles) (kind : ℕ) (from image : Image) → All (HasMostBlocks files) (files_of files kind) → SameOutside (either (addition_of files kind) (growth_of (free_number files))) from image → IsMakingIn files kind from (free_number files) image
+making_added files kind from image full same =
+    inr (
+      full,
+      refl,
+      outside_wider (either (addition_of files kind) (growth_of (free_number files))) (added_of files kind) from image
+          (within_both (addition_of files kind) (growth_of (free_number files)) (added_of files kind) (within_left (addition_of files kind) (grown_of (free_number files))) (growth_within files kind)) same,
+    )
+
+-- room that was made is taken
+pub making_taken : (files : BlockFiles) (kind n : ℕ) (from mid image : Image) → IsMakingIn files kind from n mid → SameOutside (taking_of n) mid image → IsMakingIn files kind from n image
+making_taken files kind n from mid image making same =
+    ⊎_elim
+    (λ grows. inl (grows.0, outside-trans (grown_of n) from mid image grows.1 (outside_wider (taking_of n) (grown_of n) mid image (within_right (growth_of n) (taking_of n)) same)))
+    (λ adds. inr (
+      adds.0,
+      adds.1,
+      outside-trans (added_of files kind) from mid image adds.2
+          (outside_wider (taking_of (free_number files)) (added_of files kind) mid image (taking_within files kind) (subst (λ (m : ℕ). SameOutside (taking_of m) mid image) adds.1 same)),
+    ))
+    making
+
+-- the file of the word of a place
+pub word_file : (files : BlockFiles) (k : Kind) (count : ℕ) (place : Blocks) → 0 < count → IsPlace files (kind_number k) count place → file_selector (block_word (kind_number k) place.file place.start place.count) ≡ place.file
+word_file files k count place some is =
+    let small = is.small in
+    let group = is.group in
+    let counted = is.counted in
+    file_selector-block_word (kind_number k) place.file place.start place.count (record { kind = kind_small k; file = is.number; start = omega (arith, small); some = omega (arith, some, counted); most = omega (arith, group, counted) })
+
+-- blocks that are taken where room was made are given
+pub given_made : (old new : BlockFiles) (from mid image : Image) (place : Blocks) (w : ℕ) → file_selector w ≡ place.file → KeepsAll old new → IsMade old from place mid → IsTaken new mid w image → IsGiven old from w image
+given_made old new from mid image place w file all made taken = record {
+  free = λ among b of. sym (made.marks (file_selector w) b among) ∙ taken.free b of;
+  marks = λ n b among small. taken.marks n b small ∙ ap (λ (t : Bool). if is_of w n b then true else t) (made.marks n b among);
+  allocations = λ among words are. taken.allocations words ((made.keeps (file_selector w) among).allocations words are);
+  fresh = λ none. taken.allocations [] (subst (λ (n : ℕ). AreAllocations mid n []) (sym file) (made.fresh (ap (is_among (all_files old)) (sym file) ∙ none)));
+  elsewhere = λ n among differs. record {
+    allocations = λ words are. taken.elsewhere n (all n among) differs words ((made.keeps n among).allocations words are);
+    empty = λ was. taken.empty_elsewhere n differs ((made.keeps n among).empty was);
+  };
+  empty = taken.empty;
+  updating = taken.updating;
+}
+
+-- blocks that are taken of a file that was there are given
+pub given_fit : (files : BlockFiles) (from image : Image) (w : ℕ) → is_among (all_files files) (file_selector w) ≡ true → IsTaken files from w image → IsGiven files from w image
+given_fit files from image w among taken = record {
+  free = λ there b of. taken.free b of;
+  marks = λ n b there small. taken.marks n b small;
+  allocations = λ there words are. taken.allocations words are;
+  fresh = λ none. absurd (clash (sym none ∙ among));
+  elsewhere = λ n there differs. record { allocations = λ words are. taken.elsewhere n there differs words are; empty = λ was. taken.empty_elsewhere n differs was };
+  empty = taken.empty;
+  updating = taken.updating;
+}
+
+-- what two facts say of a value they say together
+pub if_ok_both : {A E : Type 0} (r : Result A E) (P Q R : A → Type 0) → ((a : A) → P a → Q a → R a) → IfOk r P → IfOk r Q → IfOk r R
+if_ok_both {A} {E} (Ok a) P Q R both one other = both a one other
+if_ok_both {A} {E} (Err e) P Q R both one other = tt
+
+none_some : {image : Image} → None ≡ Some image → ⊥
+none_some {image} e = cc
+
+-- a folder that tells nothing after a call told nothing before it
+pub untold_before : {a b : Told} (P : Image → Image → Type 0) → ForSome a.files (λ from. PassesTo a b (P from) (P from)) → b.files ≡ None → a.files ≡ None
+untold_before {a} {b} P stops none = by_files a.files refl
+  where
+    by_files : (o : Option Image) → a.files ≡ o → a.files ≡ None
+    by_files None is = is
+    by_files (Some from) is = absurd (none_some (sym none ∙ (stops from is).grows.files ∙ ap (option_map (after (stops from is).steps)) is))
+
+-- what holds whatever the damage is
+pub if_damaged_any : {A : Type 0} (r : Result A Fault) (X : Type 0) → X → IfDamaged r (λ _. X)
+if_damaged_any {A} (Ok a) X holds = tt
+if_damaged_any {A} (Err Device) X holds = tt
+if_damaged_any {A} (Err (Damaged damage)) X holds = holds
+
+-- files that were told before some steps are told after them
+pub told_later : {a b : Told} {P Q : Image → Type 0} {from : Image} → PassesTo a b P Q → a.files ≡ Some from → (mid : Image) × (b.files ≡ Some mid)
+told_later {a} {b} {P} {Q} {from} passes there = (after passes.steps from, passes.grows.files ∙ ap (option_map (after passes.steps)) there)
+
+first_of_two : (a b : Bool) → (a && b) ≡ true → a ≡ true
+first_of_two true b e = refl
+first_of_two false b e = e
+
+second_of_two : (a b : Bool) → (a && b) ≡ true → b ≡ true
+second_of_two true b e = e
+second_of_two false b e = absurd (clash e)
+
+-- the first fit may be taken
+pub fit_takeable : (files : BlockFiles) (image : Image) (k : Kind) (count : ℕ) (place : Blocks) → kind_number k ≢ external → count ≤ 4 → Agrees files image → AreCounted files (kind_number k) image
+    → IsPlace files (kind_number k) count place → IsFirstFit image (files_of files (kind_number k)) count place → IsTakeable image place
+unfolding is_place
+fit_takeable files image k count place blocky few agrees counted is fit =
+    let has = has_counters files image (kind_number k) place.file counted is.linked in
+    let head = member_head files image k place.file blocky agrees is.linked in
+    let whole = count_whole _ head.count in
+    let free = second_of_two (nat_le (place.start % 4 + count) 4) (are_free (is_marked image place.file) place.start count) fit.least.1 in
+    let below = fit.least.0 in
+    let group = is.group in
+    let room = has.room in
+    let at = is.counted in
+    record {
+      ready = record {
+        header = head.header;
+        whole = whole.0;
+        most = whole.1;
+        below = in_group place.start place.count count (max_entries_in image place.file) below whole.0 group at;
+        empty = has.empty;
+        more = λ e. room;
+        less = λ e. absurd (clash (sym e));
+      };
+      free = subst (λ (m : ℕ). are_free (is_marked image place.file) place.start m ≡ true) (sym at) free;
+    }
+  where
+    in_group : (start n count max : ℕ) → start < max → max % 4 ≡ 0 → start % 4 + count ≤ 4 → n ≡ count → start + n ≤ max
+    in_group start n count max below whole group at = omega (arith, below, whole, group, at)

@@ -1,0 +1,141 @@
+-- Blocks that are taken.
+use Rattle.std.proofs.Common.{◌≡◌, ◌≢◌, ℕ, zero, suc, ◌+◌, ◌-◌, ◌%◌, ◌<◌, ◌≤◌, inl, inr, List, [], ◌∷◌, Bool, true, false, ◌&&◌, not, if◌then◌else◌, nat_lt, None, Some, refl, sym, ◌∙◌, ap, subst, arith, ⊎_elim}
+use Rattle.std.specs.List.{list_all, range_with_len}
+use Rattle.std.proofs.lemmas.Bool.{cases_eq}
+use Rattle.std.proofs.lemmas.Bool.Decides.{nat_tests}
+use Rattle.blk_image.specs.Image.{Image, Block, byte, length_of}
+use Rattle.blk_image.specs.Steps.{SetLength, applied}
+use Rattle.blk_image.specs.Footprint.{SameOutside, size_of, one_word, either}
+use Rattle.blk_image.specs.Told.{Told, Grows, PassesTo, Until, IsQuiet}
+use Rattle.blk_image.proofs.Footprints.{outside-refl, outside-trans, outside_wider, outside_longer, within_left, within_right}
+use Rattle.blk_image.proofs.Images.{length-after_set_len}
+use Rattle.blk_image.proofs.Runs.{passes_part, part_whole, some_inj}
+use Rattle.blk_format.specs.Address.{external}
+use Rattle.blk_format.specs.Headers.{empty_of, max_entries_of, allocations_of}
+use Rattle.blk_format.specs.BlockFiles.{is_among, type_among, linked, max_entries_in, most_blocks}
+use Rattle.blk_format.specs.Maps.{is_marked_at, are_free, groups_with, groups_of, EmptyAgrees}
+use Rattle.blk_addr.specs.declared.kinds.Kind.{Kind}
+use Rattle.blk_addr.specs.declared.kinds.Kind.TheVariants.{External, Rankings, B256, B1K, B4K}
+use Rattle.blk_addr.specs.Kind.{kind_number}
+use Rattle.blk_disk.specs.declared.tables.BlockFiles.{BlockFiles}
+use Rattle.blk_disk.specs.Tables.{Agrees, files_of, all_files, length_in}
+use Rattle.blk_disk.specs.Growth.{fit_steps, whole_length}
+use Rattle.blk_disk.proofs.Chains.{linked_once}
+use Rattle.blk_alloc.specs.Changes.{map_of, IsReady, IsMidst}
+use Rattle.blk_alloc.specs.Taking.{taking_of, IsTaking}
+use Rattle.blk_alloc.proofs.Members.{kind_blocky}
+
+clash : true ≡ false → ⊥
+clash e = cc
+
+not_true : (t : Bool) → (t ≡ true → ⊥) → t ≡ false
+not_true true never = absurd (never refl)
+not_true false never = refl
+
+-- a file of a type has that type
+pub type_is : (files : BlockFiles) (image : Image) (k : Kind) (n : ℕ) → kind_number k ≢ external → Agrees files image → is_among (files_of files (kind_number k)) n ≡ true → type_among (files_of files) n ≡ Some (kind_number k)
+unfolding type_among
+type_is files image k n some agrees among = by_kind k some among
+  where
+    in_image : (j : Kind) → kind_number j ≢ external → is_among (files_of files (kind_number j)) n ≡ true → is_among (linked image (kind_number j)) n ≡ true
+    in_image j blocky there = subst (λ (l : List ℕ). is_among l n ≡ true) (agrees.links (kind_number j) (kind_blocky j blocky)) there
+
+    apart : (a b : ℕ) → a ≢ b → a < 4 → b < 4 → is_among (linked image (suc a)) n ≡ true → is_among (linked image (suc b)) n ≡ true → ⊥
+    apart a b differs small small2 one other = linked_once image agrees.undamaged a b n differs small small2 one other
+
+    no_one : (t : ℕ) → t ≡ 0 → t ≢ 0 → ⊥
+    no_one t e d = d e
+
+    by_kind : (j : Kind) → kind_number j ≢ external → is_among (files_of files (kind_number j)) n ≡ true
+        → (if is_among (files_of files 1) n then Some 1 else if is_among (files_of files 2) n then Some 2 else if is_among (files_of files 3) n then Some 3 else if is_among (files_of files 4) n then Some 4 else None) ≡ Some (kind_number j)
+    by_kind External blocky there = absurd (blocky refl)
+    by_kind Rankings blocky there = rw there refl
+    by_kind B256 blocky there =
+        let a : is_among (files_of files 1) n ≡ false = not_true (is_among (files_of files 1) n) (λ h. apart 0 1 (omega arith) (omega arith) (omega arith) (in_image Rankings (omega arith) h) (in_image B256 blocky there)) in
+        rw (a, there) refl
+    by_kind B1K blocky there =
+        let a : is_among (files_of files 1) n ≡ false = not_true (is_among (files_of files 1) n) (λ h. apart 0 2 (omega arith) (omega arith) (omega arith) (in_image Rankings (omega arith) h) (in_image B1K blocky there)) in
+        let b : is_among (files_of files 2) n ≡ false = not_true (is_among (files_of files 2) n) (λ h. apart 1 2 (omega arith) (omega arith) (omega arith) (in_image B256 (omega arith) h) (in_image B1K blocky there)) in
+        rw (a, b, there) refl
+    by_kind B4K blocky there =
+        let a : is_among (files_of files 1) n ≡ false = not_true (is_among (files_of files 1) n) (λ h. apart 0 3 (omega arith) (omega arith) (omega arith) (in_image Rankings (omega arith) h) (in_image B4K blocky there)) in
+        let b : is_among (files_of files 2) n ≡ false = not_true (is_among (files_of files 2) n) (λ h. apart 1 3 (omega arith) (omega arith) (omega arith) (in_image B256 (omega arith) h) (in_image B4K blocky there)) in
+        let d : is_among (files_of files 3) n ≡ false = not_true (is_among (files_of files 3) n) (λ h. apart 2 3 (omega arith) (omega arith) (omega arith) (in_image B1K (omega arith) h) (in_image B4K blocky there)) in
+        rw (a, b, d, there) refl
+
+-- The file is lengthened to its blocks.
+
+module _ (files : BlockFiles) (n : ℕ) (from : Image) (agrees : Agrees files from) (among : is_among (all_files files) n ≡ true) where
+  longer : nat_lt (length_in files n) (whole_length files n) ≡ true → length_of from (Block n) ≤ whole_length files n
+  longer test = let same = agrees.lengths n among in grind (arith, nat_tests)
+
+  fit_along : (P : Image → Type 0) → P from → ((mid : Image) → SameOutside (size_of (Block n)) from mid → length_of from (Block n) ≤ length_of mid (Block n) → P mid) → Until P P from (fit_steps files n)
+  fit_along P here there = by_test (nat_lt (length_in files n) (whole_length files n)) refl
+    where
+      by_test : (t : Bool) → nat_lt (length_in files n) (whole_length files n) ≡ t → Until P P from (if t then SetLength (Block n) (whole_length files n) ∷ [] else [])
+      by_test true e = (here, there (applied (SetLength (Block n) (whole_length files n)) from) (outside_longer (Block n) (whole_length files n) from (longer e)) (let at = length-after_set_len from (Block n) (whole_length files n) in omega (arith, at, longer e)))
+      by_test false e = here
+
+  fit_quiet : IsQuiet (fit_steps files n)
+  fit_quiet = by_test (nat_lt (length_in files n) (whole_length files n))
+    where
+      by_test : (t : Bool) → IsQuiet (if t then SetLength (Block n) (whole_length files n) ∷ [] else [])
+      by_test true = tt
+      by_test false = tt
+
+  pub fit_passes : {a b : Told} (P : Image → Type 0) → a.files ≡ Some from → Grows a b (fit_steps files n) → ((mid : Image) → SameOutside (size_of (Block n)) from mid → length_of from (Block n) ≤ length_of mid (Block n) → P mid) → PassesTo a b P P
+  fit_passes {a} {b} P there grows all =
+      passes_part P P (part_whole grows) fit_quiet (λ i p. p)
+      (λ i is. subst (λ (j : Image). Until P P j (fit_steps files n)) (some_inj (sym there ∙ is)) (fit_along P (all from (outside-refl (size_of (Block n)) from) (omega arith)) all))
+
+-- a header that is as it was is ready as it was
+pub ready_kept : (from mid : Image) (n start count : ℕ) (used : Bool) → SameOutside (size_of (Block n)) from mid → length_of from (Block n) ≤ length_of mid (Block n) → IsReady from n start count used → IsReady mid n start count used
+unfolding EmptyAgrees max_entries_in
+ready_kept from mid n start count used same longer ready =
+    let bytes : byte from (Block n) ≡ byte mid (Block n) = (λ j i. sym (same.bytes (Block n) i refl) j) in
+    record {
+      header = let long = ready.header in omega (arith, long, longer);
+      whole = subst (λ (f : ℕ → ℕ). max_entries_of f % 4 ≡ 0) bytes ready.whole;
+      most = subst (λ (f : ℕ → ℕ). max_entries_of f ≤ most_blocks) bytes ready.most;
+      below = subst (λ (f : ℕ → ℕ). start + count ≤ max_entries_of f) bytes ready.below;
+      empty = subst (λ (f : ℕ → ℕ). (i : ℕ) → i < 4 → empty_of f i ≡ groups_with (is_marked_at f) (groups_of (max_entries_of f)) (i + 1)) bytes ready.empty;
+      more = subst (λ (f : ℕ → ℕ). used ≡ true → allocations_of f < 4294967295) bytes ready.more;
+      less = subst (λ (f : ℕ → ℕ). used ≡ false → 0 < allocations_of f) bytes ready.less;
+    }
+
+-- a moment after the file was lengthened
+pub taking_fit : (n : ℕ) (from mid : Image) → SameOutside (size_of (Block n)) from mid → IsTaking n from mid
+taking_fit n from mid same = record {
+  same = outside_wider (size_of (Block n)) (taking_of n) from mid (within_left (size_of (Block n)) (map_of n)) same;
+  updating = inr (outside_wider (size_of (Block n)) (either (size_of (Block n)) (one_word (Block n) 56)) from mid (within_left (size_of (Block n)) (one_word (Block n) 56)) same);
+}
+
+pub taking_midst : (n : ℕ) (from mid image : Image) → SameOutside (size_of (Block n)) from mid → IsMidst n mid image → IsTaking n from image
+taking_midst n from mid image same midst =
+    let first = taking_fit n from mid same in
+    record {
+      same = outside-trans (taking_of n) from mid image first.same (outside_wider (map_of n) (taking_of n) mid image (within_right (size_of (Block n)) (map_of n)) midst.same);
+      updating = ⊎_elim (λ one. inl one)
+          (λ word. inr (outside-trans (either (size_of (Block n)) (one_word (Block n) 56)) from mid image
+          (outside_wider (size_of (Block n)) (either (size_of (Block n)) (one_word (Block n) 56)) from mid (within_left (size_of (Block n)) (one_word (Block n) 56)) same)
+          (outside_wider (one_word (Block n) 56) (either (size_of (Block n)) (one_word (Block n) 56)) mid image (within_right (size_of (Block n)) (one_word (Block n) 56)) word))) midst.updating;
+    }
+
+-- free blocks are not marked
+pub free_at : (p : ℕ → Bool) (s count b : ℕ) → are_free p s count ≡ true → s ≤ b → b < s + count → p b ≡ false
+unfolding are_free
+free_at p s count b free low high = not_true (p b) (λ marked. clash (sym (at_index 0 count (b - s) (omega arith) (omega arith) free) ∙ ap not (ap p {x = s + (b - s)} {y = b} (omega arith) ∙ marked)))
+  where
+    at_index : (a n i : ℕ) → a ≤ i → i < a + n → list_all (λ j. not (p (s + j))) (range_with_len a n) ≡ true → not (p (s + i)) ≡ true
+    at_index a zero i low high all = absurd (omega arith)
+    at_index a (suc n) i low high all =
+        ⊎_elim (λ (here : i ≡ a). ap (λ (j : ℕ). not (p (s + j))) here ∙ first (not (p (s + a))) (list_all (λ j. not (p (s + j))) (range_with_len (a + 1) n)) all)
+        (λ (apart : i ≢ a). at_index (a + 1) n i (omega arith) (omega arith) (second (not (p (s + a))) (list_all (λ j. not (p (s + j))) (range_with_len (a + 1) n)) all)) (cases_eq i a)
+      where
+        first : (x y : Bool) → (x && y) ≡ true → x ≡ true
+        first true y e = refl
+        first false y e = e
+
+        second : (x y : Bool) → (x && y) ≡ true → y ≡ true
+        second true y e = e
+        second false y e = absurd (clash (sym e))

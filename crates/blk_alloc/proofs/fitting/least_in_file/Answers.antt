@@ -1,0 +1,42 @@
+use Rattle.std.proofs.Common.{◌≡◌, ℕ, ◌+◌, ◌*◌, ◌/◌, ◌%◌, ◌-◌, min, Option, None, Some, refl, sym, ◌∙◌, ap, subst, arith}
+use Rattle.blk_image.specs.Told.{Told}
+use Rattle.blk_format.specs.Maps.{is_marked}
+use Rattle.blk_alloc.specs.Places.{AreNoPlaces}
+use Rattle.blk_alloc.specs.Fitting.{IsLeastFrom}
+use Rattle.blk_alloc.proofs.Pieces.{no_places-append}
+use Rattle.blk_alloc.proofs.fitting.least_in_file.Goals as goal
+
+none_of : (o : Option ℕ) → ((n : ℕ) → o ≡ Some n → ⊥) → o ≡ None
+none_of None none = refl
+none_of (Some n) none = absurd (none n refl)
+
+pub loop-piece-preserved : goal.loop-piece-preserved
+loop-piece-preserved g c = record {
+  none = λ image there.
+      let ends : c.div_ceil-piece-end.result ≡ c.args.end / 8192 + min 1 (c.args.end % 8192) = c.div_ceil-piece-end.ensures in
+      let first : ℕ = c.loop-piece.piece * 8192 in
+      let blocks : c.min-blocks.result ≡ min (c.args.end - first) 8192 = c.min-blocks.ensures in
+      let before : first ≡ min c.args.end first = omega (arith, ends, c.loop-piece-test.true) in
+      let behind : first + c.min-blocks.result ≡ min c.args.end ((c.loop-piece.piece + 1) * 8192) = omega (arith, ends, blocks, c.loop-piece-test.true) in
+      let marked = is_marked image c.args.file in
+      no_places-append marked c.args.count 0 first (min c.args.end ((c.loop-piece.piece + 1) * 8192))
+      (subst (AreNoPlaces marked c.args.count 0) (sym before) (c.loop-piece.invariant.none image there))
+      (subst (AreNoPlaces marked c.args.count first) behind
+      (subst (IsLeastFrom image c.args.file c.args.count first (first + c.min-blocks.result)) (none_of c.in_ok-b.field-0 c.in_default.not-Some)
+      (c.in_ok-b.ensures.least image (ap (λ (t : Told). t.files) c.loop-piece.invariant.stays ∙ there))));
+  stays = c.in_ok-b.ensures.stays ∙ c.loop-piece.invariant.stays;
+  later = let one = c.loop-piece.invariant.later in let other = c.in_ok-b.ensures.later in omega (arith, one, other);
+}
+
+pub returns-clause-least : goal.returns-clause-least
+returns-clause-least g c image there b low upto =
+    let ends : c.div_ceil-piece-end.result ≡ c.args.end / 8192 + min 1 (c.args.end % 8192) = c.div_ceil-piece-end.ensures in
+    c.loop-piece.invariant.none image there b low (omega (arith, ends, c.loop-piece-test.false, upto))
+
+pub returns-in-Some-clause-inside : goal.returns-in-Some-clause-inside
+returns-in-Some-clause-inside g c b is =
+    let found = c.in_ok-b.ensures.inside b (c.in-Some.is ∙ is) in
+    let ends : c.div_ceil-piece-end.result ≡ c.args.end / 8192 + min 1 (c.args.end % 8192) = c.div_ceil-piece-end.ensures in
+    let blocks : c.min-blocks.result ≡ min (c.args.end - c.loop-piece.piece * 8192) 8192 = c.min-blocks.ensures in
+    let below = found.1 in
+    (found.0, omega (arith, below, blocks, ends, c.loop-piece-test.true))

@@ -1,0 +1,89 @@
+use Rattle.std.proofs.Common.{◌≡◌, inl, inr, ℕ, Option, None, Some, refl, true, ap, ◌∙◌, subst, ⊎_elim}
+use Rattle.std.specs.Option.{ForSome}
+use Rattle.std.proofs.lemmas.Result.{IfOk-weaker}
+use Rattle.blk_image.specs.Image.{Image}
+use Rattle.blk_image.specs.Told.{Told, PassesTo}
+use Rattle.blk_image.specs.Footprint.{SameOutside}
+use Rattle.blk_image.proofs.Runs.{passes_end, passes_then, passes_weaker}
+use Rattle.blk_format.specs.Address.{block_word, file_selector}
+use Rattle.blk_addr.specs.Kind.{kind_number}
+use Rattle.blk_disk.specs.Tables.{stands_among}
+use Rattle.blk_alloc.specs.Owning.{IsCause}
+use Rattle.blk_alloc.specs.Taking.{IsTakeable, IsTaken, IsTaking, taking_of}
+use Rattle.blk_alloc.specs.Giving.{IsChosen, IsGiven, IsMaking, IsRefusal}
+use Rattle.blk_alloc.proofs.Causes.{if_damaged_both}
+use Rattle.blk_alloc.proofs.Carried.{if_damaged_weaker}
+use Rattle.blk_alloc.proofs.Rooms.{given_made, if_ok_both, making_taken, told_later, untold_before, word_file}
+use Rattle.blk_alloc.proofs.giving.take_new.Goals as goal
+
+pub returns-clause-chosen : goal.returns-clause-chosen
+returns-clause-chosen g c =
+    IfOk-weaker c.take.result (λ addr. addr ≡ block_word (kind_number c.args.kind) c.in_ok-place.place.file c.in_ok-place.place.start c.in_ok-place.place.count)
+    (λ addr. ForSome (g.F.Folder.told c.args.f.now).files (λ from. IsChosen c.args.files.now from (kind_number c.args.kind) c.args.count addr))
+    (λ addr word from there. record {
+      place = c.in_ok-place.place;
+      word = subst (λ (k : ℕ). addr ≡ block_word (kind_number c.args.kind) c.in_ok-place.place.file c.in_ok-place.place.start k) c.in_ok-place.ensures.fits.counted word;
+      chosen = inr (c.requires.full from there, c.in_ok-place.ensures.place from there);
+    }) c.take.ensures.word
+
+pub returns-clause-stands : goal.returns-clause-stands
+returns-clause-stands g c =
+    IfOk-weaker c.take.result (λ addr. ForSome (g.F.Folder.told c.new_room.new.f).files (λ mid. IsTakeable mid c.in_ok-place.place → stands_among c.take.new.files addr ≡ true))
+    (λ addr. ForSome (g.F.Folder.told c.args.f.now).files (λ _. stands_among c.take.new.files addr ≡ true))
+    (λ addr stands from there. let mid = told_later (c.in_ok-place.ensures.stops from there) there in stands mid.0 mid.1 (c.in_ok-place.ensures.made from there mid.0 mid.1).takeable) c.take.ensures.stands
+
+pub returns-clause-given : goal.returns-clause-given
+returns-clause-given g c =
+    if_ok_both c.take.result (λ addr. addr ≡ block_word (kind_number c.args.kind) c.in_ok-place.place.file c.in_ok-place.place.start c.in_ok-place.place.count)
+    (λ addr. ForSome (g.F.Folder.told c.new_room.new.f).files (λ mid. IsTakeable mid c.in_ok-place.place → ForSome (g.F.Folder.told c.take.new.f).files (IsTaken c.new_room.new.files mid addr)))
+    (λ addr. ForSome (g.F.Folder.told c.args.f.now).files (λ from. ForSome (g.F.Folder.told c.take.new.f).files (IsGiven c.args.files.now from addr)))
+    (λ addr word taken from there image now.
+    let mid = told_later (c.in_ok-place.ensures.stops from there) there in
+    let file = ap file_selector word ∙ word_file c.new_room.new.files c.args.kind c.args.count c.in_ok-place.place c.requires.some c.in_ok-place.ensures.fits in
+    given_made c.args.files.now c.new_room.new.files from mid.0 image c.in_ok-place.place addr file c.in_ok-place.ensures.all (c.in_ok-place.ensures.made from there mid.0 mid.1) (taken mid.0 mid.1 (c.in_ok-place.ensures.made from there mid.0 mid.1).takeable image now))
+    c.take.ensures.word c.take.ensures.taken
+
+pub returns-clause-stops : goal.returns-clause-stops
+returns-clause-stops g c from there =
+    let kind : ℕ = kind_number c.args.kind in
+    let n : ℕ = c.in_ok-place.place.file in
+    let mid = told_later (c.in_ok-place.ensures.stops from there) there in
+    let made = c.in_ok-place.ensures.making from there mid.0 mid.1 in
+    let file = word_file c.new_room.new.files c.args.kind c.args.count c.in_ok-place.place c.requires.some c.in_ok-place.ensures.fits in
+    let w : ℕ = block_word kind n c.in_ok-place.place.start c.in_ok-place.place.count in
+    let keeps : (i : Image) → IsTaking n mid.0 i → IsMaking c.args.files.now kind from i = λ i taking. record { file = n; making = making_taken c.args.files.now kind n from mid.0 i made taking.same } in
+    let ends : (i : Image) → IsTaken c.new_room.new.files mid.0 w i → IsMaking c.args.files.now kind from i =
+    (λ i taken. record { file = n; making = making_taken c.args.files.now kind n from mid.0 i made (subst (λ (m : ℕ). SameOutside (taking_of m) mid.0 i) file taken.same) }) in
+    passes_then (c.in_ok-place.ensures.stops from there) (passes_weaker (c.take.ensures.stops mid.0 mid.1 (c.in_ok-place.ensures.made from there mid.0 mid.1).takeable) keeps (λ i. ⊎_elim (keeps i) (ends i)))
+
+pub returns-clause-formed : goal.returns-clause-formed
+returns-clause-formed g c from there formed =
+    let first = c.in_ok-place.ensures.formed from there formed in
+    let mid = told_later first there in
+    passes_then first (c.take.ensures.formed mid.0 mid.1 (c.in_ok-place.ensures.made from there mid.0 mid.1).takeable (passes_end first mid.0 mid.1))
+
+-- a damage needs a folder that told nothing at the start
+silent_start : {old mid : Told} (P : Image → Image → Type 0) (T : Image → Type 0) → ForSome old.files (λ from. PassesTo old mid (P from) (P from)) → ForSome old.files (λ from. ForSome mid.files T) → (ForSome mid.files T → mid.files ≡ None) → old.files ≡ None
+silent_start {old} {mid} P T stops made none = by_files old.files refl
+  where
+    by_files : (o : Option Image) → old.files ≡ o → old.files ≡ None
+    by_files None is = is
+    by_files (Some from) is = untold_before P stops (none (made from is))
+
+pub returns-clause-cause : goal.returns-clause-cause
+returns-clause-cause g c =
+    let kind : ℕ = kind_number c.args.kind in
+    let start : (ForSome (g.F.Folder.told c.new_room.new.f).files (λ mid. IsTakeable mid c.in_ok-place.place) → (g.F.Folder.told c.new_room.new.f).files ≡ None) → (g.F.Folder.told c.args.f.now).files ≡ None =
+    silent_start (IsMaking c.args.files.now kind) (λ mid. IsTakeable mid c.in_ok-place.place) c.in_ok-place.ensures.stops (λ from there mid now. (c.in_ok-place.ensures.made from there mid now).takeable) in
+    if_damaged_both c.take.result (λ damage. (told : Told) → told.files ≡ None → IsCause told c.in_ok-place.place.file damage)
+    (λ _. ForSome (g.F.Folder.told c.new_room.new.f).files (λ mid. IsTakeable mid c.in_ok-place.place) → (g.F.Folder.told c.new_room.new.f).files ≡ None) (IsRefusal c.args.files.now kind (g.F.Folder.told c.args.f.now))
+    (λ damage cause none. inl (record { file = c.in_ok-place.place.file; cause = cause (g.F.Folder.told c.args.f.now) (start none) }))
+    c.take.ensures.cause c.take.ensures.untold
+
+pub returns-clause-untold : goal.returns-clause-untold
+returns-clause-untold g c =
+    let kind : ℕ = kind_number c.args.kind in
+    let start : (ForSome (g.F.Folder.told c.new_room.new.f).files (λ mid. IsTakeable mid c.in_ok-place.place) → (g.F.Folder.told c.new_room.new.f).files ≡ None) → (g.F.Folder.told c.args.f.now).files ≡ None =
+    silent_start (IsMaking c.args.files.now kind) (λ mid. IsTakeable mid c.in_ok-place.place) c.in_ok-place.ensures.stops (λ from there mid now. (c.in_ok-place.ensures.made from there mid now).takeable) in
+    if_damaged_weaker c.take.result (λ _. ForSome (g.F.Folder.told c.new_room.new.f).files (λ mid. IsTakeable mid c.in_ok-place.place) → (g.F.Folder.told c.new_room.new.f).files ≡ None) (λ _. (g.F.Folder.told c.args.f.now).files ≡ None)
+    (λ damage none. start none) c.take.ensures.untold

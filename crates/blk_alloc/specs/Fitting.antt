@@ -1,0 +1,50 @@
+-- The first place where blocks fit: the files of a type in the order of their links, and in a file the least place.
+use Rattle.std.specs.Prelude.{◌≡◌, ℕ, ◌+◌, ◌%◌, ◌<◌, ◌≤◌, List, ◌∷◌, ◌++◌, true, Option, None, Some}
+use Rattle.std.specs.List.{All}
+use Rattle.blk_image.specs.Image.{Image}
+use Rattle.blk_image.specs.Told.{Told}
+use Rattle.blk_format.specs.BlockFiles.{is_among, max_entries_in, most_blocks}
+use Rattle.blk_format.specs.Maps.{is_marked, group_size}
+use Rattle.blk_io.specs.declared.fault.Damage.{Damage}
+use Rattle.blk_disk.specs.declared.tables.BlockFiles.{BlockFiles}
+use Rattle.blk_disk.specs.Tables.{files_of}
+use Rattle.blk_alloc.specs.Owning.{IsShortHeader}
+use Rattle.blk_alloc.specs.declared.blocks.Blocks.{Blocks}
+use Rattle.blk_alloc.specs.Places.{is_place, AreNoPlaces, IsLeastPlace}
+
+-- a file has no place for so many blocks
+abbrev pub HasNoRoom : Image → ℕ → ℕ → Type 0
+HasNoRoom image count n = AreNoPlaces (is_marked image n) count 0 (max_entries_in image n)
+
+-- the least place among the blocks from `low` on and below `end`, or none
+abbrev pub IsLeastFrom : Image → ℕ → ℕ → ℕ → ℕ → Option ℕ → Type 0
+IsLeastFrom image n count low end None = AreNoPlaces (is_marked image n) count low end
+IsLeastFrom image n count low end (Some b) = (low ≤ b) × (b < end) × (is_place (is_marked image n) count b ≡ true) × AreNoPlaces (is_marked image n) count low b
+
+-- the first file of a list that has room gives its least place
+pub record IsFirstFit (image : Image) (files : List ℕ) (count : ℕ) (place : Blocks) : Type 0 where
+  pub before : List ℕ
+  pub behind : List ℕ
+  pub split : files ≡ before ++ place.file ∷ behind
+  pub full : All (HasNoRoom image count) before
+  pub least : IsLeastPlace (is_marked image place.file) count (max_entries_in image place.file) (Some place.start)
+  pub counted : place.count ≡ count
+
+-- the first fit, or none where no file of the list has room
+abbrev pub IsFitting : Image → List ℕ → ℕ → Option Blocks → Type 0
+IsFitting image files count None = All (HasNoRoom image count) files
+IsFitting image files count (Some place) = IsFirstFit image files count place
+
+-- blocks in a file of a type, so many and in one group
+pub record IsPlace (files : BlockFiles) (kind count : ℕ) (place : Blocks) : Type 0 where
+  pub linked : is_among (files_of files kind) place.file ≡ true
+  pub number : place.file < 256
+  pub small : place.start < most_blocks
+  pub group : place.start % 4 + count ≤ group_size
+  pub counted : place.count ≡ count
+
+-- a read of the header of one of some files gave too few bytes
+pub record IsShortOf (told : Told) (files : List ℕ) (damage : Damage) : Type 0 where
+  pub file : ℕ
+  pub linked : is_among files file ≡ true
+  pub short : IsShortHeader told file damage

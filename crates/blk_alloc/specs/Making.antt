@@ -1,0 +1,47 @@
+-- Files get room for blocks.
+use Rattle.std.specs.Prelude.{◌≡◌, ℕ, ◌<◌, List, true, ◌≤◌, ◌++◌, ◌∷◌, Option, None, Some}
+use Rattle.std.specs.List.{All}
+use Rattle.blk_image.specs.Image.{Block, Image, byte}
+use Rattle.blk_format.specs.Headers.{allocations_of}
+use Rattle.blk_format.specs.BlockFiles.{is_among, most_blocks}
+use Rattle.blk_format.specs.Maps.{is_marked, AreAllocations, EmptyAgrees}
+use Rattle.blk_disk.specs.declared.tables.BlockFiles.{BlockFiles}
+use Rattle.blk_disk.specs.Tables.{all_files, blocks_of}
+use Rattle.blk_alloc.specs.Counting.{largest}
+use Rattle.blk_alloc.specs.Owning.{KeepsFile}
+
+-- the counters of a file are true: there is a list of its allocations, `empty` agrees with the map, and one allocation more can be counted
+pub record HasCounters (image : Image) (n : ℕ) : Type 0 where
+  pub words : List ℕ
+  pub are : AreAllocations image n words
+  pub empty : EmptyAgrees image n
+  pub room : allocations_of (byte image (Block n)) < largest
+
+-- each file that is kept has its allocations as before, and its counters are as true as they were
+abbrev pub KeepsFiles : BlockFiles → Image → Image → Type 0
+KeepsFiles files from image = (n : ℕ) → is_among (all_files files) n ≡ true → KeepsFile from image n
+
+-- each file that is kept has its marks as before
+abbrev pub KeepsMarks : BlockFiles → Image → Image → Type 0
+KeepsMarks files from image = (n b : ℕ) → is_among (all_files files) n ≡ true → is_marked image n b ≡ is_marked from n b
+
+-- each file that is kept is kept still
+abbrev pub KeepsAll : BlockFiles → BlockFiles → Type 0
+KeepsAll old new = (n : ℕ) → is_among (all_files old) n ≡ true → is_among (all_files new) n ≡ true
+
+-- a file has as many blocks as a file can have
+abbrev pub HasMostBlocks : BlockFiles → ℕ → Type 0
+HasMostBlocks files n = most_blocks ≤ blocks_of files n
+
+-- the first file of a list that may grow
+pub record IsFirstGrowing (files : BlockFiles) (list : List ℕ) (n : ℕ) : Type 0 where
+  pub before : List ℕ
+  pub behind : List ℕ
+  pub split : list ≡ before ++ n ∷ behind
+  pub full : All (HasMostBlocks files) before
+  pub below : blocks_of files n < most_blocks
+
+-- the first file of a list that may grow, or none where each has the most blocks
+abbrev pub IsGrowing : BlockFiles → List ℕ → Option ℕ → Type 0
+IsGrowing files list None = All (HasMostBlocks files) list
+IsGrowing files list (Some n) = IsFirstGrowing files list n

@@ -1,0 +1,61 @@
+-- Allocations of block files that come and go.
+use Rattle.std.specs.Prelude.{◌≡◌, ◌≢◌, ◌⊎◌, ℕ, ◌+◌, ◌<◌, List, filter, Bool, true, false, not, ◌&&◌, ◌==◌, if◌then◌else◌}
+use Rattle.std.specs.Option.{ForSome}
+use Rattle.blk_image.specs.Image.{Block, Image, byte}
+use Rattle.blk_image.specs.Told.{Told}
+use Rattle.blk_image.specs.Footprint.{SameOutside}
+use Rattle.blk_format.specs.Address.{file_selector, first_block, block_count}
+use Rattle.blk_format.specs.Headers.{updating_of}
+use Rattle.blk_format.specs.BlockFiles.{is_among, most_blocks}
+use Rattle.blk_format.specs.Maps.{is_marked, AreAllocations, EmptyAgrees}
+use Rattle.blk_addr.specs.Bits.{is_between}
+use Rattle.blk_io.specs.declared.folder.FileId.TheVariants as names
+use Rattle.blk_io.specs.declared.fault.Damage.{Damage}
+use Rattle.blk_io.specs.Faults.{IsShort}
+use Rattle.blk_alloc.specs.declared.counters.Counters.{Counters}
+use Rattle.blk_alloc.specs.Counting.{AreCounters, IsAtEnd}
+use Rattle.blk_alloc.specs.Changes.{map_of}
+
+-- whether a block of a file is one of an address
+unfoldable pub is_of : ℕ → ℕ → ℕ → Bool
+is_of w n b = (file_selector w == n) && is_between (first_block w) (first_block w + block_count w) b
+
+-- an address is one of the allocations of its file
+pub record IsAllocated (image : Image) (w : ℕ) : Type 0 where
+  pub words : List ℕ
+  pub are : AreAllocations image (file_selector w) words
+  pub there : is_among words w ≡ true
+
+-- the address words of a list but for one
+abbrev pub others : ℕ → List ℕ → List ℕ
+others w words = filter (λ x. not (x == w)) words
+
+-- the allocations of a file are as before, and so is what `empty` says of it
+pub record KeepsFile (from image : Image) (n : ℕ) : Type 0 where
+  pub allocations : (words : List ℕ) → AreAllocations from n words → AreAllocations image n words
+  pub empty : EmptyAgrees from n → EmptyAgrees image n
+
+-- the blocks of an address are freed: their marks are cleared and no other, the counters of its file are true, updating is 0, and all other files are as before
+pub record IsFreed (from : Image) (w : ℕ) (image : Image) : Type 0 where
+  pub same : SameOutside (map_of (file_selector w)) from image
+  pub marks : (n b : ℕ) → b < most_blocks → is_marked image n b ≡ (if is_of w n b then false else is_marked from n b)
+  pub allocations : (words : List ℕ) → AreAllocations from (file_selector w) words → is_among words w ≡ true → AreAllocations image (file_selector w) (others w words)
+  pub empty : EmptyAgrees image (file_selector w)
+  pub updating : updating_of (byte image (Block (file_selector w))) ≡ 0
+  pub elsewhere : (n : ℕ) → n ≢ file_selector w → KeepsFile from image n
+
+-- a counter of a file would leave its range, by the header that was read
+pub record IsCount (told : Told) (n : ℕ) (damage : Damage) : Type 0 where
+  pub counters : Counters
+  pub are : ForSome told.files (λ image. AreCounters (byte image (Block n)) counters)
+  pub at_end : IsAtEnd counters n damage
+
+-- a read of the header of a file gave too few bytes
+pub record IsShortHeader (told : Told) (n : ℕ) (damage : Damage) : Type 0 where
+  pub place : ℕ
+  pub count : ℕ
+  pub short : IsShort told (names.Block n) place count damage
+
+-- why the header of a file is damaged: a read of it gave too few bytes, or a counter would leave its range
+abbrev pub IsCause : Told → ℕ → Damage → Type 0
+IsCause told n damage = IsShortHeader told n damage ⊎ IsCount told n damage

@@ -1,0 +1,153 @@
+// The counters of a block file's header.
+ghost use Rattle.std.specs.Prelude.{◌≡◌, ◌≤◌, ◌<◌, ◌+◌, ◌-◌, ◌*◌, ◌^◌, ◌≢◌, ℕ, Bool, length, slice_index, IfOk};
+ghost use Rattle.std.specs.Option.{ForSome};
+ghost use Rattle.blk_image.specs.Image.{Block as block, byte};
+ghost use Rattle.blk_image.specs.Told.{Stays, Rises};
+ghost use Rattle.blk_format.specs.Maps.{group_size};
+ghost use Rattle.blk_io.specs.Faults.{IfDamaged, IfDevice, IsShort};
+
+use blk_io::{Damage, Fault, FileId, Folder, read_exact};
+use blk_record::BlockHead;
+
+const FIELDS_LEN: usize = 80;
+
+const ALLOCATIONS: u64 = 16;
+
+const EMPTY: u64 = 24;
+
+// The number of allocations, and for each run of 1 to 4 blocks how many groups have it as their
+// longest free run.
+#[derive(Clone, Copy)]
+pub(crate) struct Counters {
+    pub allocations: u32,
+    pub empty: [u32; 4],
+    ghost four: { length empty ≡ 4 },
+}
+
+impl Counters {
+    ghost use Rattle.blk_alloc.specs.Counting.{AreCounters, counted, largest, IsCounted, Moves, MayMove, IsAtEnd};
+
+    // The counters that the header of a file has.
+    pub(crate) fn read<F: Folder>(f: &mut F, file: u8) -> Result<Counters, Fault>
+        ensures counters { IfOk result (λ counters. ForSome (F.told f.old).files (λ image. AreCounters (byte image (block file)) counters)) }
+        ensures short { IfDamaged result (IsShort (F.told f.old) (FileId.Block file) 0 80) }
+        ensures stays { Stays (F.told f.old) (F.told f.new) }
+        ensures later { F.faults f.old ≤ F.faults f.new }
+        ensures device { IfDevice result (Rises (F.faults f.old) (F.faults f.new)) }
+    {
+        let mut bytes = [0u8; FIELDS_LEN];
+        read_exact(f, FileId::Block(file), 0, &mut bytes)?;
+        let Some(head) = BlockHead::over(&bytes) else {
+            unreachable!();
+        };
+        let empty = [head.empty(0), head.empty(1), head.empty(2), head.empty(3)];
+        Ok(Counters {
+            allocations: head.num_entries(),
+            empty,
+        })
+    }
+
+    // The counters after a group with one longest free run got another, with an allocation more or less.
+    pub(crate) fn moved(
+        self,
+        file: u8,
+        before: u32,
+        later: u32,
+        used: bool,
+    ) -> Result<Counters, Fault>
+        requires before { before ≤ group_size }
+        requires later { later ≤ group_size }
+        ensures moves { IfOk result (λ counters. Moves self counters before later used) }
+        ensures end { IfDamaged result (IsAtEnd self file) }
+        ensures never { IfDamaged result (λ _. MayMove self before later used → ⊥) }
+        ensures no_device { IfDevice result ⊥ }
+    {
+        let counters = self.counting(file, used)?;
+        if before == later {
+            return Ok(counters);
+        }
+        counters.lowered(file, before)?.raised(file, later)
+    }
+
+    // The counters with one allocation more or less.
+    fn counting(self, file: u8, used: bool) -> Result<Counters, Fault>
+        ensures allocations { IfOk result (λ counters. IsCounted used self.allocations counters.allocations) }
+        ensures same { IfOk result (λ counters. counters.empty ≡ self.empty) }
+        ensures end { IfDamaged result (IsAtEnd self file) }
+        ensures never { IfDamaged result (λ _. (before later : ℕ) → MayMove self before later used → ⊥) }
+        ensures no_device { IfDevice result ⊥ }
+    {
+        let old = self.allocations;
+        let empty = self.empty;
+        let new = if used {
+            old.checked_add(1)
+        } else {
+            old.checked_sub(1)
+        };
+        match new {
+            Some(allocations) => Ok(Counters { allocations, empty }),
+            None => Err(at_end(file, ALLOCATIONS, old)),
+        }
+    }
+
+    // The counters with one group less that has a longest free run.
+    fn lowered(self, file: u8, run: u32) -> Result<Counters, Fault>
+        requires { run ≤ group_size }
+        ensures allocations { IfOk result (λ counters. counters.allocations ≡ self.allocations) }
+        ensures empty { IfOk result (λ counters. (i : ℕ) → i < 4 → slice_index counters.empty i + counted run i ≡ slice_index self.empty i) }
+        ensures end { IfDamaged result (IsAtEnd self file) }
+        ensures place { IfDamaged result (λ damage. (run ≢ 0) × (damage.at ≡ 20 + 4 * run) × (damage.found ≡ slice_index self.empty (run - 1)) × (damage.found ≡ 0)) }
+        ensures no_device { IfDevice result ⊥ }
+    {
+        if run == 0 {
+            return Ok(self);
+        }
+        let i = (run - 1) as usize;
+        let mut empty = self.empty;
+        let old = empty[i];
+        if old == 0 {
+            return Err(at_end(file, EMPTY + 4 * i as u64, old));
+        }
+        empty[i] = old - 1;
+        Ok(Counters {
+            allocations: self.allocations,
+            empty,
+        })
+    }
+
+    // The counters with one group more that has a longest free run.
+    fn raised(self, file: u8, run: u32) -> Result<Counters, Fault>
+        requires { run ≤ group_size }
+        ensures allocations { IfOk result (λ counters. counters.allocations ≡ self.allocations) }
+        ensures empty { IfOk result (λ counters. (i : ℕ) → i < 4 → slice_index counters.empty i ≡ slice_index self.empty i + counted run i) }
+        ensures end { IfDamaged result (IsAtEnd self file) }
+        ensures place { IfDamaged result (λ damage. (run ≢ 0) × (damage.at ≡ 20 + 4 * run) × (damage.found ≡ slice_index self.empty (run - 1)) × (damage.found ≡ largest)) }
+        ensures no_device { IfDevice result ⊥ }
+    {
+        if run == 0 {
+            return Ok(self);
+        }
+        let i = (run - 1) as usize;
+        let mut empty = self.empty;
+        let old = empty[i];
+        if old == u32::MAX {
+            return Err(at_end(file, EMPTY + 4 * i as u64, old));
+        }
+        empty[i] = old + 1;
+        Ok(Counters {
+            allocations: self.allocations,
+            empty,
+        })
+    }
+}
+
+// A counter would leave its range.
+fn at_end(file: u8, at: u64, found: u32) -> Fault
+    ensures { result ≡ Fault.Damaged (record { file = FileId.Block file; at = at; found = found }) }
+{
+    Fault::Damaged(Damage {
+        file: FileId::Block(file),
+        at,
+        found,
+    })
+}

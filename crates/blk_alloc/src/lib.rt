@@ -1,0 +1,19 @@
+//! Blocks that nobody owns: they are given, freed, and the maps that say which they are made anew.
+#![tactic(auto)]
+
+mod blocks;
+mod change;
+mod counters;
+mod fitting;
+mod freeing;
+mod giving;
+mod making;
+mod map;
+mod plan;
+mod taking;
+
+pub use freeing::free;
+pub use giving::allocate;
+
+#[cfg(test)]
+mod tests;

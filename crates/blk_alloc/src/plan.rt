@@ -1,0 +1,91 @@
+// The plan of a change of marks: what is read of a header, and what is to be written.
+ghost use Rattle.std.specs.Prelude.{◌≡◌, ◌⊎◌, ◌≤◌, ◌<◌, ◌+◌, ◌*◌, ◌%◌, ◌^◌, None, IfOk, OnOk, OnErr};
+ghost use Rattle.std.specs.Option.{ForSome};
+ghost use Rattle.blk_image.specs.Image.{Block as block, length_of};
+ghost use Rattle.blk_image.specs.Steps.{word_steps};
+ghost use Rattle.blk_image.specs.Told.{Grows, GrowsInPart, Stays, Rises};
+ghost use Rattle.blk_format.specs.Maps.{group_size};
+ghost use Rattle.blk_io.specs.Faults.{IfDamaged, IfDevice};
+
+use crate::counters::Counters;
+use crate::map::{longest_run, set_marks, word_of};
+use blk_io::{Failed, Fault, FileId, Folder, read_exact, write_words};
+
+const MAP: u64 = 80;
+
+const UPDATING: u64 = 56;
+
+const BITS_OF_WORD: u32 = 32;
+
+const GROUP: u32 = 4;
+
+// A word of a map with its place, and the counters of the header.
+#[derive(Clone, Copy)]
+pub(crate) struct Plan {
+    pub at: u64,
+    pub word: u32,
+    pub counters: Counters,
+}
+
+impl Plan {
+    ghost use Rattle.blk_alloc.specs.Changes.{IsPlan, IsReady, plan_words};
+    ghost use Rattle.blk_alloc.specs.Owning.{IsCause};
+
+    // The plan by which so many blocks from one on, which lie in one group, are all marked or all freed.
+    pub(crate) fn read<F: Folder>(
+        f: &mut F,
+        file: u8,
+        start: u32,
+        count: u32,
+        used: bool,
+    ) -> Result<Plan, Fault>
+        requires some { 0 < count }
+        requires group { start % 4 + count ≤ group_size }
+        requires small { start + count < 2 ^ 32 }
+        ensures plan { IfOk result (λ plan. ForSome (F.told f.old).files (λ image. IsPlan image file start count used plan)) }
+        ensures aligned { IfOk result (λ plan. plan.at % 4 ≡ 0) }
+        ensures fits { IfOk result (λ plan. plan.counters.allocations < 2 ^ 32) }
+        ensures cause { IfDamaged result (IsCause (F.told f.old) file) }
+        ensures untold { IfDamaged result (λ _. ForSome (F.told f.old).files (λ image. IsReady image file start count used) → (F.told f.old).files ≡ None) }
+        ensures stays { Stays (F.told f.old) (F.told f.new) }
+        ensures later { F.faults f.old ≤ F.faults f.new }
+        ensures device { IfDevice result (Rises (F.faults f.old) (F.faults f.new)) }
+    {
+        let counters = Counters::read(f, file)?;
+        let at = MAP + 4 * u64::from(start / BITS_OF_WORD);
+        let mut bytes = [0u8; 4];
+        read_exact(f, FileId::Block(file), at, &mut bytes)?;
+        let first = start % BITS_OF_WORD;
+        let before = longest_run(&bytes, first / GROUP);
+        set_marks(&mut bytes, first, count, used);
+        let later = longest_run(&bytes, first / GROUP);
+        let counters = counters.moved(file, before, later, used)?;
+        let word = word_of(&bytes);
+        Ok(Plan { at, word, counters })
+    }
+
+    // Writes the words of the plan.
+    pub(crate) fn write<F: Folder>(&self, f: &mut F, file: u8) -> Result<(), Failed>
+        requires aligned { self.now.at % 4 ≡ 0 }
+        requires inside { ForSome (F.told f.old).files (λ image. self.now.at + 4 ≤ 8192) }
+        requires header { ForSome (F.told f.old).files (λ image. 8192 ≤ length_of image (block file)) }
+        ensures whole { OnOk result (Grows (F.told f.old) (F.told f.new) (word_steps (block file) (plan_words self.now))) }
+        ensures part { GrowsInPart (F.told f.old) (F.told f.new) (word_steps (block file) (plan_words self.now)) }
+        ensures later { F.faults f.old ≤ F.faults f.new }
+        ensures failed { OnErr result (Rises (F.faults f.old) (F.faults f.new)) }
+    {
+        let allocations = self.counters.allocations;
+        let empty = self.counters.empty;
+        let words = [
+            (UPDATING, 1),
+            (self.at, self.word),
+            (16, allocations),
+            (24, empty[0]),
+            (28, empty[1]),
+            (32, empty[2]),
+            (36, empty[3]),
+            (UPDATING, 0),
+        ];
+        write_words(f, FileId::Block(file), &words)
+    }
+}

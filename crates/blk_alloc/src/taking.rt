@@ -1,0 +1,93 @@
+// Blocks of a file are taken.
+ghost use Rattle.std.specs.Prelude.{◌≡◌, ◌≢◌, ◌⊎◌, ◌≤◌, ◌<◌, ◌+◌, ◌%◌, true, None, IfOk, OnOk, IsTrue};
+ghost use Rattle.std.specs.Option.{ForSome};
+ghost use Rattle.blk_image.specs.Told.{Passes, PassesTo, Rises, Told};
+ghost use Rattle.blk_format.specs.Address as address;
+ghost use Rattle.blk_format.specs.Address.{external, rankings};
+ghost use Rattle.blk_format.specs.BlockFiles.{is_among, IsWellFormed};
+ghost use Rattle.blk_format.specs.Maps.{group_size};
+ghost use Rattle.blk_addr.specs.Kind.{kind_number};
+ghost use Rattle.blk_io.specs.Faults.{IfDamaged, IfDevice};
+ghost use Rattle.blk_disk.specs.Tables.{Agrees, all_files, stands_among};
+ghost use Rattle.blk_alloc.specs.Fitting.{IsPlace};
+ghost use Rattle.blk_alloc.specs.Owning.{IsCause};
+ghost use Rattle.blk_alloc.specs.Taking.{IsTakeable, IsTaking, IsTaken};
+
+use crate::blocks::Blocks;
+use crate::change::change;
+use blk_addr::{Addr, Kind};
+use blk_disk::BlockFiles;
+use blk_io::{Fault, Folder};
+
+const INITIALIZED: u32 = 0x8000_0000;
+
+const ONE_KIND: u32 = 0x1000_0000;
+
+const ONE_BLOCK: u32 = 0x100_0000;
+
+const ONE_FILE: u32 = 0x1_0000;
+
+// The number of a type.
+fn number_of(kind: Kind) -> u32
+    ensures { result ≡ kind_number kind }
+{
+    match kind {
+        Kind::External => 0,
+        Kind::Rankings => 1,
+        Kind::B256 => 2,
+        Kind::B1K => 3,
+        Kind::B4K => 4,
+    }
+}
+
+// The address of blocks of a type.
+pub(crate) fn address_of(kind: Kind, file: u8, start: u32, count: u32) -> Addr
+    requires blocky { kind_number kind ≢ external }
+    requires some { 0 < count }
+    requires group { start % 4 + count ≤ group_size }
+    requires small { start < 65536 }
+    requires node { kind_number kind ≡ rankings → count ≡ 1 }
+    ensures word { result ≡ address.block_word (kind_number kind) file start count }
+{
+    let word = INITIALIZED
+        + number_of(kind) * ONE_KIND
+        + (count - 1) * ONE_BLOCK
+        + u32::from(file) * ONE_FILE
+        + start;
+    match Addr::from_word(word) {
+        Some(addr) => addr,
+        None => unreachable!(),
+    }
+}
+
+// Takes blocks of a file: lengthens the file to all its blocks, where it is shorter, and marks them.
+pub(crate) fn take<F: Folder>(
+    f: &mut F,
+    files: &mut BlockFiles,
+    kind: Kind,
+    place: Blocks,
+) -> Result<Addr, Fault>
+    requires blocky { kind_number kind ≢ external }
+    requires some { 0 < place.count }
+    requires node { kind_number kind ≡ rankings → place.count ≡ 1 }
+    requires place { IsPlace files.old (kind_number kind) place.count place }
+    requires agrees { ForSome (F.told f.old).files (Agrees files.old) }
+    ensures word { IfOk result (λ addr. addr ≡ address.block_word (kind_number kind) place.file place.start place.count) }
+    ensures stands { IfOk result (λ addr. ForSome (F.told f.old).files (λ from. IsTakeable from place → IsTrue (stands_among files.new addr))) }
+    ensures taken { IfOk result (λ addr. ForSome (F.told f.old).files (λ from. IsTakeable from place → ForSome (F.told f.new).files (IsTaken files.old from addr))) }
+    ensures agrees { ForSome (F.told f.new).files (Agrees files.new) }
+
+    // At each word only the length, the map and the counters of the file have changed, and updating is 1 until the map and the counters are done.
+    ensures stops { ForSome (F.told f.old).files (λ from. IsTakeable from place → PassesTo (F.told f.old) (F.told f.new) (IsTaking place.file from) (λ image. IsTaking place.file from image ⊎ IsTaken files.old from (address.block_word (kind_number kind) place.file place.start place.count) image)) }
+    ensures formed { ForSome (F.told f.old).files (λ from. IsTakeable from place → IsWellFormed from → Passes (F.told f.old) (F.told f.new) IsWellFormed) }
+    ensures silent { (F.told f.old).files ≡ None → (F.told f.new).files ≡ None }
+
+    ensures cause { IfDamaged result (λ damage. (told : Told) → told.files ≡ None → IsCause told place.file damage) }
+    ensures untold { IfDamaged result (λ _. ForSome (F.told f.old).files (λ image. IsTakeable image place) → (F.told f.old).files ≡ None) }
+    ensures later { F.faults f.old ≤ F.faults f.new }
+    ensures device { IfDevice result (Rises (F.faults f.old) (F.faults f.new)) }
+{
+    files.fit(f, place.file)?;
+    change(f, place.file, place.start, place.count, true)?;
+    Ok(address_of(kind, place.file, place.start, place.count))
+}

@@ -1,0 +1,368 @@
+// Blocks are given and freed in a folder in memory that tells nothing.
+ghost use Rattle.std.specs.Prelude.{◌≡◌, ◌≤◌, ◌<◌, Ok, OnErr, IfOk};
+ghost use Rattle.std.specs.Option.{ForSome};
+ghost use Rattle.blk_image.specs.Image.{length_of};
+ghost use Rattle.blk_image.specs.Told.{Rises};
+ghost use Rattle.blk_io.specs.FileNames.{file_of};
+
+use crate::{allocate, free};
+use blk_addr::{Addr, Kind};
+use blk_disk::BlockFiles;
+use blk_io::{Damage, Failed, Fault, FileId, Folder, MemFolder};
+use std::alloc::Global;
+use std::test::Fail;
+
+const MAGIC: u32 = 0xC104_CAC3;
+
+const HEADER_LEN: usize = 8192;
+
+// A folder in memory that tells nothing.
+#[derive(Drop)]
+struct Untold {
+    inner: MemFolder,
+    faults: u64,
+    calls: u64,
+}
+
+// An answer, with its failure counted.
+fn counted<T>(answer: Result<T, Failed>, faults: &mut u64) -> Result<T, Failed>
+    ensures answer { IfOk result (λ value. answer ≡ Ok value) }
+    ensures later { faults.old ≤ faults.new }
+    ensures failed { OnErr result (Rises faults.old faults.new) }
+{
+    match answer {
+        Ok(value) => Ok(value),
+        Err(_) => {
+            *faults = faults.saturating_add(1);
+            Err(Failed)
+        }
+    }
+}
+
+// The length of a file.
+fn length<F: Folder>(f: &mut F, file: FileId) -> Result<u64, Failed>
+    ensures { IfOk result (λ n. ForSome (F.told f.new).files (λ image. length_of image (file_of file) ≡ n)) }
+{
+    match f.length(file)? {
+        Some(n) => Ok(n),
+        None => Ok(0),
+    }
+}
+
+// Writes bytes of a file, where it has them.
+fn write_inside<F: Folder>(f: &mut F, file: FileId, at: u64, bytes: &[u8]) -> Result<(), Failed> {
+    let n = length(f, file)?;
+    if at > n || bytes.len() as u64 > n - at {
+        return Err(Failed);
+    }
+    f.write_at(file, at, bytes)
+}
+
+impl Folder for Untold {
+    ghost use Rattle.blk_alloc.specs.Untold.{untold, untold_agrees, untold_bytes};
+
+    ghost told = { λ _. untold };
+
+    ghost faults = { λ folder. folder.faults };
+
+    ghost agrees = { λ folder. untold_agrees };
+
+    ghost are_bytes = { λ folder. untold_bytes };
+
+    fn length(&mut self, file: FileId) -> Result<Option<u64>, Failed> {
+        self.calls = self.calls.saturating_add(1);
+        counted(self.inner.length(file), &mut self.faults)
+    }
+
+    fn read_at(&mut self, file: FileId, at: u64, out: &mut [u8]) -> Result<usize, Failed> {
+        self.calls = self.calls.saturating_add(1);
+        counted(self.inner.read_at(file, at, out), &mut self.faults)
+    }
+
+    fn write_at(&mut self, file: FileId, at: u64, bytes: &[u8]) -> Result<(), Failed> {
+        self.calls = self.calls.saturating_add(1);
+        counted(
+            write_inside(&mut self.inner, file, at, bytes),
+            &mut self.faults,
+        )
+    }
+
+    fn set_len(&mut self, file: FileId, length: u64) -> Result<(), Failed> {
+        self.calls = self.calls.saturating_add(1);
+        counted(self.inner.set_len(file, length), &mut self.faults)
+    }
+
+    fn delete(&mut self, file: FileId) -> Result<(), Failed> {
+        self.calls = self.calls.saturating_add(1);
+        counted(self.inner.delete(file), &mut self.faults)
+    }
+
+    fn list(&mut self, after: Option<FileId>) -> Result<Option<FileId>, Failed> {
+        self.calls = self.calls.saturating_add(1);
+        counted(self.inner.list(after), &mut self.faults)
+    }
+
+    fn note(&mut self, answered: u64) -> Result<(), Failed> {
+        self.calls = self.calls.saturating_add(1);
+        counted(self.inner.note(answered), &mut self.faults)
+    }
+}
+
+// Writes a word over bytes, where they have it.
+fn put_word(bytes: &mut [u8], at: usize, word: u32) {
+    for (slot, byte) in bytes.iter_mut().skip(at).zip(word.to_le_bytes()) {
+        *slot = byte;
+    }
+}
+
+// A block file with these words, each at its place.
+fn file_with(alloc: Global, size: usize, words: &[(usize, u32)]) -> Result<Vec<u8>, Fail> {
+    let mut bytes = Vec::new(alloc);
+    bytes.resize(size, 0)?;
+    for (at, word) in words {
+        put_word(&mut bytes, *at, *word);
+    }
+    Ok(bytes)
+}
+
+// The words of a header that aren't 0 in a file without blocks.
+fn fields(number: u32, entry_size: u32) -> [(usize, u32); 4] {
+    [(0, MAGIC), (4, 0x20000), (8, number), (12, entry_size)]
+}
+
+// A folder whose `data_1` has 1024 blocks and these counters and first word of the map.
+fn folder_with(alloc: Global, entries: u32, empty: [u32; 4], map: u32) -> Result<Untold, Fail> {
+    let mut inner = MemFolder::new(alloc);
+    let first = file_with(alloc, HEADER_LEN, &fields(0, 36))?;
+    inner.add_file(FileId::Block(0), &first)?;
+    let words = [
+        (0, MAGIC),
+        (4, 0x20000),
+        (8, 1),
+        (12, 256),
+        (16, entries),
+        (20, 1024),
+        (24, empty[0]),
+        (28, empty[1]),
+        (32, empty[2]),
+        (36, empty[3]),
+        (80, map),
+    ];
+    let second = file_with(alloc, HEADER_LEN + 1024 * 256, &words)?;
+    inner.add_file(FileId::Block(1), &second)?;
+    let third = file_with(alloc, HEADER_LEN, &fields(2, 1024))?;
+    inner.add_file(FileId::Block(2), &third)?;
+    let fourth = file_with(alloc, HEADER_LEN, &fields(3, 4096))?;
+    inner.add_file(FileId::Block(3), &fourth)?;
+    Ok(Untold {
+        inner,
+        faults: 0,
+        calls: 0,
+    })
+}
+
+// Frees the blocks of a word, where it is an address that stands.
+fn free_word<F: Folder>(f: &mut F, files: &BlockFiles, word: u32) -> Result<bool, Fault>
+    requires { ForSome (F.told f.old).files (λ _. ⊥) }
+{
+    let Some(addr) = Addr::from_word(word) else {
+        return Ok(false);
+    };
+    if !files.stands(addr) {
+        return Ok(false);
+    }
+    free(f, files, addr)?;
+    Ok(true)
+}
+
+// The word of a block file at a place.
+fn word_in(f: &mut Untold, file: u8, at: u64) -> Result<u32, Failed> {
+    let mut word = [0; 4];
+    f.read_at(FileId::Block(file), at, &mut word)?;
+    Ok(u32::from_le_bytes(word))
+}
+
+// The word of `data_1` at a place.
+fn word_at(f: &mut Untold, at: u64) -> Result<u32, Failed> {
+    word_in(f, 1, at)
+}
+
+// A folder just made, but for the counters and the map of `data_1`, whose map has this byte all over.
+fn made_folder(alloc: Global, blocks: u32, entries: u32, map: u8) -> Result<Untold, Fail> {
+    let mut inner = MemFolder::new(alloc);
+    let first = file_with(alloc, HEADER_LEN, &fields(0, 36))?;
+    inner.add_file(FileId::Block(0), &first)?;
+    let words = [
+        (0, MAGIC),
+        (4, 0x20000),
+        (8, 1),
+        (12, 256),
+        (16, entries),
+        (20, blocks),
+    ];
+    let mut second = file_with(alloc, HEADER_LEN, &words)?;
+    for byte in second.iter_mut().skip(80) {
+        *byte = map;
+    }
+    inner.add_file(FileId::Block(1), &second)?;
+    let third = file_with(alloc, HEADER_LEN, &fields(2, 1024))?;
+    inner.add_file(FileId::Block(2), &third)?;
+    let fourth = file_with(alloc, HEADER_LEN, &fields(3, 4096))?;
+    inner.add_file(FileId::Block(3), &fourth)?;
+    Ok(Untold {
+        inner,
+        faults: 0,
+        calls: 0,
+    })
+}
+
+// The word of so many blocks of 256 bytes that are given.
+fn give<F: Folder>(f: &mut F, files: &mut BlockFiles, blocks: u32) -> Result<u32, Fault>
+    requires some { 0 < blocks }
+    requires few { blocks ≤ 4 }
+    requires untold { ForSome (F.told f.old).files (λ _. ⊥) }
+{
+    let addr = allocate(f, files, Kind::B256, blocks)?;
+    Ok(addr.word())
+}
+
+#[test]
+fn blocks_are_given_at_the_first_place_inside_a_group(rt: HostRuntime) -> Result<(), Fail> {
+    let mut f = made_folder(rt.alloc(), 0, 0, 0)?;
+    let Ok(files) = BlockFiles::load(&mut f) else {
+        panic!(rt; "the files are whole");
+    };
+    let mut files = files;
+    assert_eq!(rt; give(&mut f, &mut files, 4), Ok(0xA301_0000));
+    assert_eq!(rt; give(&mut f, &mut files, 1), Ok(0xA001_0004));
+    assert_eq!(rt; give(&mut f, &mut files, 3), Ok(0xA201_0005));
+    assert_eq!(rt; f.length(FileId::Block(1)), Ok(Some(270_336)));
+    let expected = [
+        (16, 3),
+        (20, 1024),
+        (24, 0),
+        (28, 0),
+        (32, 0),
+        (36, 254),
+        (56, 0),
+        (80, 0xFF),
+    ];
+    for (at, word) in expected {
+        assert_eq!(rt; word_at(&mut f, at), Ok(word), "{at}");
+    }
+    assert_eq!(rt; free_word(&mut f, &files, 0xA001_0004), Ok(true));
+    let freed = [(16, 2), (24, 1), (28, 0), (32, 0), (36, 254)];
+    for (at, word) in freed {
+        assert_eq!(rt; word_at(&mut f, at), Ok(word), "{at}");
+    }
+    Ok(())
+}
+
+#[test]
+fn a_file_is_added_where_the_only_one_is_full(rt: HostRuntime) -> Result<(), Fail> {
+    let mut f = made_folder(rt.alloc(), 64_896, 16_224, 0xFF)?;
+    let Ok(files) = BlockFiles::load(&mut f) else {
+        panic!(rt; "the files are whole");
+    };
+    let mut files = files;
+    f.calls = 0;
+    assert_eq!(rt; give(&mut f, &mut files, 1), Ok(0xA004_0000));
+    assert!(rt; f.calls <= 40);
+    assert_eq!(rt; word_at(&mut f, 8), Ok(0x4_0001));
+    let expected = [
+        (16, 1),
+        (20, 1024),
+        (24, 0),
+        (28, 0),
+        (32, 1),
+        (36, 255),
+        (80, 1),
+    ];
+    for (at, word) in expected {
+        assert_eq!(rt; word_in(&mut f, 4, at), Ok(word), "{at}");
+    }
+    assert_eq!(rt; give(&mut f, &mut files, 4), Ok(0xA304_0004));
+    Ok(())
+}
+
+#[test]
+fn a_file_grows_where_none_has_room(rt: HostRuntime) -> Result<(), Fail> {
+    let mut f = made_folder(rt.alloc(), 1024, 256, 0)?;
+    for at in 0..32 {
+        f.write_at(FileId::Block(1), 80 + 4 * at, &[0xFF; 4])?;
+    }
+    let Ok(files) = BlockFiles::load(&mut f) else {
+        panic!(rt; "the files are whole");
+    };
+    let mut files = files;
+    assert_eq!(rt; give(&mut f, &mut files, 2), Ok(0xA101_0400));
+    let expected = [(16, 257), (20, 2048), (28, 1), (36, 255)];
+    for (at, word) in expected {
+        assert_eq!(rt; word_at(&mut f, at), Ok(word), "{at}");
+    }
+    Ok(())
+}
+
+#[test]
+fn a_freed_block_is_counted_by_the_run_that_it_leaves(rt: HostRuntime) -> Result<(), Fail> {
+    let mut f = folder_with(rt.alloc(), 3, [0, 0, 0, 254], 0xFF)?;
+    let Ok(files) = BlockFiles::load(&mut f) else {
+        panic!(rt; "the files are whole");
+    };
+    assert_eq!(rt; free_word(&mut f, &files, 0xA001_0004), Ok(true));
+    let expected = [
+        (16, 2),
+        (24, 1),
+        (28, 0),
+        (32, 0),
+        (36, 254),
+        (40, 0),
+        (56, 0),
+        (80, 0xEF),
+    ];
+    for (at, word) in expected {
+        assert_eq!(rt; word_at(&mut f, at), Ok(word), "{at}");
+    }
+
+    // The word that is no address, and an address in a file without blocks.
+    assert_eq!(rt; free_word(&mut f, &files, 0xA101_0003), Ok(false));
+    assert_eq!(rt; free_word(&mut f, &files, 0xB002_0000), Ok(false));
+    Ok(())
+}
+
+#[test]
+fn two_runs_that_lie_apart_are_not_one(rt: HostRuntime) -> Result<(), Fail> {
+    // Blocks 1 and 2 of the group are in use; its blocks 0 and 3 are free.
+    let mut f = folder_with(rt.alloc(), 2, [1, 0, 0, 255], 0x06)?;
+    let Ok(files) = BlockFiles::load(&mut f) else {
+        panic!(rt; "the files are whole");
+    };
+    assert_eq!(rt; free_word(&mut f, &files, 0xA001_0002), Ok(true));
+    assert_eq!(rt; word_at(&mut f, 24), Ok(0));
+    assert_eq!(rt; word_at(&mut f, 28), Ok(1));
+    assert_eq!(rt; word_at(&mut f, 80), Ok(0x02));
+    assert_eq!(rt; free_word(&mut f, &files, 0xA001_0001), Ok(true));
+    assert_eq!(rt; word_at(&mut f, 28), Ok(0));
+    assert_eq!(rt; word_at(&mut f, 36), Ok(256));
+    assert_eq!(rt; word_at(&mut f, 16), Ok(0));
+    Ok(())
+}
+
+#[test]
+fn a_counter_that_would_sink_below_0_is_a_damage(rt: HostRuntime) -> Result<(), Fail> {
+    let mut f = folder_with(rt.alloc(), 0, [0, 0, 0, 255], 0x0F)?;
+    let Ok(files) = BlockFiles::load(&mut f) else {
+        panic!(rt; "the files are whole");
+    };
+    let damage = Damage {
+        file: FileId::Block(1),
+        at: 16,
+        found: 0,
+    };
+    assert_eq!(rt;
+        free_word(&mut f, &files, 0xA301_0000),
+        Err(Fault::Damaged(damage))
+    );
+    assert_eq!(rt; word_at(&mut f, 80), Ok(0x0F));
+    Ok(())
+}
