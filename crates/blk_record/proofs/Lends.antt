@@ -1,9 +1,9 @@
 -- Four bytes of the slice that a view holds are lent, and the view follows. Assumes `Logic`.
 use mathlib.Core.Path.{◌≡◌, refl, sym, ap, subst, ◌∙◌}
-use Prim.Native.Nat.{ℕ, ◌+◌, ◌*◌, ◌^◌, ◌<◌, ◌≤◌}
+use Prim.Native.Nat.{ℕ, ◌+◌, ◌≤◌}
 use native.Mathlib.Omega.{arith}
 use mathlib.Core.List.{List, [], ◌∷◌, ◌++◌}
-use lib.ListN.{length, take, drop as drop_list, take-append-drop, length-drop, length-append}
+use lib.ListN.{length, take, drop as drop_list, take-append-drop, length-drop}
 use seplogic.Ra.Ura.{Ura}
 use mir.Syntax.{Sym, Lifetime}
 use mir.Val.{Val, vstruct, of_list}
@@ -12,8 +12,8 @@ use base.Logic.{SProp, ent, sep, ex, guard}
 use base.Stored.{coded_list}
 use base.Fml.{Lft, Incl, GName, Share, Fml, fsep, fobs, fbor, flft}
 use types.Logic.{Logic, sem}
-use types.Kit.{‵, check, use1, use2, use3, ◌⊛◌, some, later, await, ◌$◌, ◌∵◌, !, qed, by, move, keep, drop, split, split3, join, group, pick, show, rewrite, given, learn, fsplit, fsplit3, fjoin, fjoin3, fpick, fpack, feq_i, feq_l, updating, now as at_once, done}
-use types.SemTy.{SemTy, Body, Arr, cells}
+use types.Kit.{‵, check, use1, use2, use3, ◌⊛◌, some, later, await, ◌$◌, ◌∵◌, !, qed, move, keep, drop, split, split3, join, group, pick, show, rewrite, fsplit, fsplit3, fjoin, fjoin3, fpick, fpack, feq_i, feq_l, updating, now as at_once, done}
+use types.SemTy.{Body, Arr, cells}
 use types.Through.{hands_through}
 use types.Follow.{takes_part}
 use types.Mut.{open_ref}
@@ -34,7 +34,6 @@ use Rattle.std.proofs.Common.{append-nil}
 use Rattle.std.proofs.lemmas.List.{drop_all, drop-drop}
 use Rattle.blk_image.specs.Bytes.{spliced}
 use Rattle.blk_image.proofs.Splices.{length-spliced, spliced-is}
-use Rattle.blk_record.specs.Fields.{field_bytes}
 
 -- new bytes over all of the old ones
 spliced-all : (new old : List ℕ) → length new ≡ length old → spliced 0 new old ≡ new

@@ -1,5 +1,5 @@
 -- What the views of records show.
-use Rattle.std.specs.Prelude.{ℕ, ◌≤◌, List, length}
+use Rattle.std.specs.Prelude.{ℕ, ◌≤◌, List}
 use Rattle.std.specs.Borrow.{GName}
 use Rattle.std.proofs.Common.{subst, sym}
 use Rattle.blk_image.specs.Bytes.{spliced}

@@ -1,15 +1,14 @@
 -- Four bytes of the window are lent, and the view follows. Assumes `Logic`.
-use mathlib.Core.Path.{◌≡◌, refl, sym, ap, ◌∙◌}
-use Prim.Native.Nat.{ℕ, ◌+◌, ◌-◌, ◌^◌, ◌<◌, ◌≤◌}
+use mathlib.Core.Path.{◌≡◌, refl, sym, ap}
+use Prim.Native.Nat.{◌+◌, ◌-◌, ◌^◌, ◌<◌, ◌≤◌}
 use native.Mathlib.Omega.{arith}
 use mathlib.Core.List.{List, [], ◌∷◌}
 use lib.ListN.{length}
 use base.Fraction.{full_share}
 use base.Fml.{GName, ftrue, fat, flft}
 use mir.Syntax.{named, erased, w64}
-use mir.Val.{Val, vint, vptr}
+use mir.Val.{Val, vint}
 use contract.Running.{tables}
-use types.Logic.{sem}
 use types.Kit.{‵, check, ◌⊛◌, given, some, later, ◌$◌, ◌∵◌, !, qed, done, move, keep, drop, use1, use3, split, split3, join, fsplit, fsplit3, fjoin, learn, pick, await, rewrite, suffices, frame}
 use types.Part.{whole, sub, look_in, agg}
 use types.Run.{stop, fld, hop, of_opd, load, addr, bin, lit, and_then, no_more, enter, returns}
@@ -22,7 +21,7 @@ use denote.Laws.{shows}
 use denote.Memory.{cell_at}
 use denote.Plain.{uint_vals, uint_Tells}
 use denote.RattleType.{owns}
-use denote.Ref.{MutBor, MutRef, mut_vals, mut_Tells}
+use denote.Ref.{MutRef, mut_vals, mut_Tells}
 use denote.Signature.{plain, named_lft}
 use denote.Slice.{MutSlice, slice_val}
 use denote.Steps.{nothing, opens, closes, peeks}
