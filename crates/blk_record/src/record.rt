@@ -73,7 +73,7 @@ pub trait RecordMut: Record {
         ensures value { result.now ≡ field_bytes at (Self.window_of self.old) }
         ensures four { length result.now ≡ 4 };
 
-    // They lie in its window, and it writes by the same reference.
+    // The bytes lie in its window, and it writes by the same reference.
     ghost window_with: { (view : Self) (at : ℕ) (bytes : List ℕ) → Self.window_of (with_bytes view at bytes) ≡ spliced at bytes (Self.window_of view) };
 
     ghost reference_with: { (view : Self) (at : ℕ) (bytes : List ℕ) → reference (with_bytes view at bytes) ≡ reference view };

@@ -1,4 +1,4 @@
-use Rattle.std.proofs.Common.{◌≡◌, ℕ, ◌+◌, ◌≤◌, List, length, take, drop, ap, ◌∙◌, arith, length-take, length-drop}
+use Rattle.std.proofs.Common.{◌≡◌, ℕ, ◌+◌, ◌≤◌, List, length, drop, ap, ◌∙◌, arith, length-take, length-drop}
 use Rattle.blk_image.specs.Bytes.{content, spliced, word_at}
 use Rattle.blk_record.proofs.record_tests.fill.Goals as goal
 
