@@ -3,13 +3,13 @@ use Rattle.std.proofs.Common.{◌≡◌, ℕ, ◌+◌, ◌-◌, ◌<◌, ◌≤�
 use Rattle.std.proofs.lemmas.Bool.{cases_lt}
 use Rattle.std.proofs.lemmas.List.{take_all, drop_all, drop-drop, take-append-le, length-take-le}
 use Rattle.std.specs.Prelude.{◌||◌, ◌==◌}
-use Rattle.blk_image.specs.Bytes.{content, word_at, word_bytes}
+use Rattle.blk_image.specs.Bytes.{content, spliced, word_at, word_bytes}
 use Rattle.blk_image.specs.Steps.{with_word}
-use Rattle.blk_image.proofs.Splices.{spliced-is}
-use Rattle.blk_image.proofs.Words.{word-there, word-beside}
+use Rattle.blk_image.proofs.Splices.{spliced-is, content-spliced_inside}
+use Rattle.blk_image.proofs.Words.{word-there, word-beside, word-other}
 use Rattle.blk_format.specs.Hash.{hash, mixed}
 use Rattle.blk_format.specs.Records.{checks, seal_of}
-use Rattle.blk_record.specs.Fields.{OtherFieldsStay}
+use Rattle.blk_record.specs.Fields.{OtherFieldsStay, WrittenWordsAreRead, WrittenFieldsLeaveOthers}
 
 -- a window with a word is its front, the four bytes of the word, and the rest
 with_word-is : (place value : ℕ) (window : List ℕ) → place + 4 ≤ length window → with_word place value window ≡ take place window ++ (word_bytes value ++ drop (place + 4) window)
@@ -67,3 +67,15 @@ sealed-checks place old new is enough =
     let there : word_at (content new) place ≡ seal_of place old = set-reads place (seal_of place old) old new is (hash-fits (take place old)) enough in
     let front : seal_of place new ≡ seal_of place old = ap hash (ap (take place) is ∙ take-with_word place (seal_of place old) old enough) in
     ap₂ (λ (x y : ℕ). (x == 0) || (x == y)) there front ∙ either-true (seal_of place old)
+
+-- a place over which four bytes were written has their word
+pub written-read : WrittenWordsAreRead
+written-read place bytes window inside four =
+    let there : (k j : ℕ) → j ≡ place + k → k < 4 → content (spliced place bytes window) j ≡ content bytes k =
+    λ k j e h. content-spliced_inside place bytes window k j e (omega (arith, four)) (omega arith) in
+    omega (arith, there 0 place (omega arith) (omega arith), there 1 (place + 1) refl (omega arith), there 2 (place + 2) refl (omega arith), there 3 (place + 3) refl (omega arith))
+
+-- and all other fields stay
+pub written-others : WrittenFieldsLeaveOthers
+written-others size place bytes window at_field four other field apart =
+    word-other place bytes window other (omega (arith, four, at_field.aligned)) field.aligned (λ e. apart (omega (arith, field.aligned, at_field.aligned)))

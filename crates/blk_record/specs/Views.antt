@@ -1,6 +1,10 @@
 -- What the views of records show.
-use Rattle.std.specs.Prelude.{ℕ, List}
+use Rattle.std.specs.Prelude.{ℕ, ◌≤◌, List}
 use Rattle.std.specs.Borrow.{GName}
+use Rattle.std.proofs.Common.{subst, sym}
+use Rattle.blk_image.specs.Bytes.{spliced}
+use Rattle.blk_image.proofs.Splices.{length-spliced}
+use Rattle.blk_format.specs.Records.{entry_size, node_size}
 use Rattle.blk_record.specs.declared.entry.EntryView.{EntryView}
 use Rattle.blk_record.specs.declared.entry.EntryMut.{EntryMut}
 use Rattle.blk_record.specs.declared.node.NodeView.{NodeView}
@@ -25,3 +29,16 @@ entry_mut_reference view = view.window.ghost_name
 
 abbrev pub node_mut_reference : NodeMut → GName
 node_mut_reference view = view.window.ghost_name
+
+-- a view with these bytes over those of its window from a place on, by the same reference
+abbrev pub entry_mut_with : EntryMut → ℕ → List ℕ → EntryMut
+entry_mut_with view place bytes = record view {
+  window = record view.window { now = spliced place bytes view.window.now };
+  enough = subst (λ (n : ℕ). entry_size ≤ n) (sym (length-spliced place bytes view.window.now)) view.enough;
+}
+
+abbrev pub node_mut_with : NodeMut → ℕ → List ℕ → NodeMut
+node_mut_with view place bytes = record view {
+  window = record view.window { now = spliced place bytes view.window.now };
+  enough = subst (λ (n : ℕ). node_size ≤ n) (sym (length-spliced place bytes view.window.now)) view.enough;
+}

@@ -118,9 +118,12 @@ impl<'a> Record for EntryMut<'a> {
 }
 
 impl<'a> RecordMut for EntryMut<'a> {
-    ghost use Rattle.blk_record.specs.Views.{entry_mut_reference};
+    ghost use Rattle.std.proofs.Common.{refl};
+    ghost use Rattle.blk_record.specs.Views.{entry_mut_reference, entry_mut_with};
 
     ghost reference = { entry_mut_reference };
+
+    ghost with_bytes = { entry_mut_with };
 
     fn set_word(&mut self, at: usize, value: u32) {
         put_word(self.window, at, value);
@@ -133,4 +136,12 @@ impl<'a> RecordMut for EntryMut<'a> {
     fn seal(&mut self) {
         put_seal(self.window, SEAL);
     }
+
+    fn field_mut(&mut self, at: usize) -> &mut [u8] {
+        &mut self.window[at..at + 4]
+    }
+
+    ghost window_with = { λ view at bytes. refl };
+
+    ghost reference_with = { λ view at bytes. refl };
 }

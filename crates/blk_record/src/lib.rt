@@ -20,7 +20,7 @@ pub use flags::EntryFlags;
 pub use hash::super_fast_hash;
 pub use index_head::IndexHead;
 pub use node::{NodeMut, NodeView};
-pub use record::{Record, RecordMut};
+pub use record::{Record, RecordMut, lent_fields_are_set};
 pub use sparse_head::SparseHead;
 
 #[cfg(test)]

@@ -1,10 +1,10 @@
 // Sealed records over windows of bytes.
 ghost use Rattle.std.specs.Prelude.{◌≡◌, ℕ, ◌≤◌, List, length, take, true};
-ghost use Rattle.std.specs.Borrow.{GName};
-ghost use Rattle.blk_image.specs.Bytes.{content, word_at};
+ghost use Rattle.std.specs.Borrow.{Array, GName, Lends, sem, u8 as byte};
+ghost use Rattle.blk_image.specs.Bytes.{content, spliced, word_at};
 ghost use Rattle.blk_image.specs.Steps.{with_word};
 ghost use Rattle.blk_format.specs.Records.{checks, seal_of};
-ghost use Rattle.blk_record.specs.Fields.{IsField, OtherFieldsStay};
+ghost use Rattle.blk_record.specs.Fields.{IsField, OtherFieldsStay, WrittenFieldsLeaveOthers, WrittenWordsAreRead, field_bytes};
 
 /// A record of little endian words with a seal, which is 0 or the hash of the bytes before it.
 ///
@@ -41,6 +41,9 @@ pub trait Record {
 pub trait RecordMut: Record {
     ghost reference: { Self → GName };
 
+    // The view with these bytes over those of its window from a place on.
+    ghost with_bytes: { Self → ℕ → List ℕ → Self };
+
     /// Writes a word at a place.
     fn set_word(&mut self, at: usize, value: u32)
         requires { IsField Self.size at }
@@ -62,4 +65,22 @@ pub trait RecordMut: Record {
         ensures checks { checks Self.seal_place (Self.window_of self.new) ≡ true }
         ensures others { OtherFieldsStay Self.size Self.seal_place (Self.window_of self.old) (Self.window_of self.new) }
         ensures same_reference { reference self.new ≡ reference self.old };
+
+    /// Lends the four bytes at a place. Once the loan ends, the window has there what was left in them.
+    fn field_mut(&mut self, at: usize) -> &mut [u8]
+        requires { IsField Self.size at }
+        ensures* lends { sem 𝓛 (Lends Self.row (Array byte 0) self.entry result (with_bytes self.old at)) }
+        ensures value { result.now ≡ field_bytes at (Self.window_of self.old) }
+        ensures four { length result.now ≡ 4 };
+
+    // The bytes lie in its window, and it writes by the same reference.
+    ghost window_with: { (view : Self) (at : ℕ) (bytes : List ℕ) → Self.window_of (with_bytes view at bytes) ≡ spliced at bytes (Self.window_of view) };
+
+    ghost reference_with: { (view : Self) (at : ℕ) (bytes : List ℕ) → reference (with_bytes view at bytes) ≡ reference view };
 }
+
+/// A field that was lent has the word of the four bytes that were left in it, and all other fields stay.
+pub fn lent_fields_are_set()
+    ensures set { WrittenWordsAreRead }
+    ensures others { WrittenFieldsLeaveOthers }
+{}

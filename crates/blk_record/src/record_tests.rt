@@ -1,11 +1,13 @@
 // Hashes that a C program of the published function gave, and records written by hand.
 ghost use Rattle.std.specs.Prelude.{◌≡◌, ◌≤◌, length};
+ghost use Rattle.blk_image.specs.Bytes.{content, spliced, word_at};
 ghost use Rattle.blk_image.specs.Steps.{with_word};
 ghost use Rattle.blk_format.specs.Records.{entry_size};
+ghost use Rattle.blk_record.specs.Fields.{IsField, OtherFieldsStay};
 
 use crate::{
     EntryFlags, EntryMut, EntryView, NodeMut, NodeView, Record, RecordMut, SparseHead,
-    super_fast_hash,
+    lent_fields_are_set, super_fast_hash,
 };
 use bitflags::Flags;
 use std::test::Fail;
@@ -103,6 +105,49 @@ fn a_node_is_sealed_and_read(rt: HostRuntime) -> Result<(), Fail> {
         (0xA0010003, 0xE3B2DD76)
     );
     assert!(rt; NodeView::over(&[0; 35]).is_none());
+    Ok(())
+}
+
+// What a loan of a field leaves: its word is that of the bytes, and all other fields stay.
+fn fill<R: RecordMut>(view: &mut R, at: usize, bytes: &[u8])
+    requires field { IsField R.size at }
+    requires four { length bytes.now ≡ 4 }
+    ensures window { R.window_of view.new ≡ spliced at bytes.now (R.window_of view.old) }
+    ensures set { word_at (content (R.window_of view.new)) at ≡ word_at (content bytes.now) 0 }
+    ensures others { OtherFieldsStay R.size at (R.window_of view.old) (R.window_of view.new) }
+    ensures same_reference { R.reference view.new ≡ R.reference view.old }
+{
+    lent_fields_are_set();
+    view.field_mut(at).copy_from_slice(bytes);
+}
+
+#[test]
+fn a_field_is_lent(rt: HostRuntime) -> Result<(), Fail> {
+    let mut bytes = [0x55; 97];
+    let mut entry = EntryMut::over(&mut bytes).ok_or("too short")?;
+    fill(&mut entry, 8, &[1, 2, 3, 0x90]);
+    assert_eq!(rt;
+        [entry.word(4), entry.word(8), entry.word(12)],
+        [0x55555555, 0x90030201, 0x55555555]
+    );
+    let field = entry.field_mut(92);
+    assert_eq!(rt; (field.len(), field[3]), (4, 0x55));
+    field[3] = 0xFF;
+    assert_eq!(rt; (entry.word(88), entry.word(92)), (0x55555555, 0xFF555555));
+    assert_eq!(rt; (bytes[8], bytes[95], bytes[96]), (1, 0xFF, 0x55));
+    Ok(())
+}
+
+#[test]
+fn a_field_of_a_node_is_lent(rt: HostRuntime) -> Result<(), Fail> {
+    let mut bytes = [0; 36];
+    let mut node = NodeMut::over(&mut bytes).ok_or("too short")?;
+    fill(&mut node, 32, &[4, 3, 2, 1]);
+    node.field_mut(0)[0] = 9;
+    assert_eq!(rt;
+        [node.word(0), node.word(4), node.word(28), node.word(32)],
+        [9, 0, 0, 0x01020304]
+    );
     Ok(())
 }
 
