@@ -28,3 +28,5 @@ pub mod Written
 pub mod Counted
 pub mod Remade
 pub mod Fitted
+pub mod Owned
+pub mod Rebuilt

@@ -14,11 +14,11 @@ use Rattle.blk_image.proofs.Footprints.{outside-refl, outside-trans, outside_wid
 use Rattle.blk_image.proofs.Runs.{passes_part, passes_weaker, passes_then, some_inj}
 use Rattle.blk_image.proofs.WordSteps.{quiet-word_step, until_word}
 use Rattle.blk_format.specs.Headers.{allocations_of, updating_of}
-use Rattle.blk_format.specs.BlockFiles.{is_among, most_blocks}
+use Rattle.blk_format.specs.BlockFiles.{is_among, max_entries_in, most_blocks}
 use Rattle.blk_format.specs.Maps.{is_marked, EmptyAgrees}
 use Rattle.blk_addr.specs.declared.claim_set.Claims.{Claims}
 use Rattle.blk_alloc.specs.Changes.{map_of}
-use Rattle.blk_alloc.specs.Rebuilding.{counts_of, is_block_file, rebuilding_of, IsInHand, IsRebuilding, IsRebuilt, KeepsBytes}
+use Rattle.blk_alloc.specs.Rebuilding.{counts_of, is_block_file, is_counted_place, is_updating_place, rebuilding_of, IsInHand, IsRebuilding, IsRebuilt, KeepsBytes}
 use Rattle.blk_alloc.proofs.Counted.{counts_within, updating_kept}
 use Rattle.blk_alloc.proofs.Sparing.{SparesFields}
 
@@ -26,6 +26,7 @@ use Rattle.blk_alloc.proofs.Sparing.{SparesFields}
 
 -- a file that is as it was is rebuilt as it was
 pub rebuilt_same : (claims : Claims) (a b : Image) (n : ℕ) → b (Block n) ≡ a (Block n) → IsRebuilt claims a n → IsRebuilt claims b n
+unfolding EmptyAgrees max_entries_in
 rebuilt_same claims a b n same rebuilt = record {
   marks = λ k small. ap (λ (o : Option (List ℕ)). is_marked (λ file. o) n k) same ∙ rebuilt.marks k small;
   allocations = ap (λ (o : Option (List ℕ)). allocations_of (content (unwrap_or o []))) same ∙ rebuilt.allocations;
@@ -111,30 +112,30 @@ not_only n m differs = grind (arith, nat_tests)
 -- what is touched of a file is touched of some files that it is one of
 module _ (numbers : List ℕ) (n : ℕ) (there : is_among numbers n ≡ true) where
   pub size_within : IsWithin (size_of (Block n)) (rebuilding_of numbers)
+  unfolding is_block_file
   size_within = record { bytes = λ file i e. absurd (clash e); sizes = λ file e. in_file file e }
     where
       clash : false ≡ true → ⊥
       clash c = cc
 
       in_file : (file : File) → same_file (Block n) file ≡ true → is_block_file numbers file ≡ true
-      unfolding is_block_file
       in_file Index e = absurd (clash e)
       in_file (Block m) e = let same : n ≡ m = grind (arith, nat_tests) in ap (is_among numbers) (sym same) ∙ there
       in_file (External m) e = absurd (clash e)
 
   pub map_within : IsWithin (map_of n) (rebuilding_of numbers)
+  unfolding is_block_file
   map_within = record { bytes = λ file i e. in_file file i e; sizes = λ file e. absurd (clash e) }
     where
       clash : false ≡ true → ⊥
       clash c = cc
 
       at_place : (i : ℕ) (t : Bool) → ((t && (nat_le 16 i && nat_lt i 20)) || ((t && (nat_le 24 i && nat_lt i 40)) || ((t && (nat_le 56 i && nat_lt i 60)) || (t && (nat_le 80 i && nat_lt i 8192))))) ≡ true
-          → (t ≡ true) × ((((nat_le 16 i && nat_lt i 20) || ((nat_le 24 i && nat_lt i 40) || (nat_le 80 i && nat_lt i 8192))) || (nat_le 56 i && nat_lt i 60)) ≡ true)
+          → (t ≡ true) × ((is_counted_place i || is_updating_place i) ≡ true)
       at_place i true e = (refl, grind (arith, nat_tests))
       at_place i false e = absurd (clash e)
 
       in_file : (file : File) (i : ℕ) → (map_of n).bytes file i ≡ true → (rebuilding_of numbers).bytes file i ≡ true
-      unfolding is_block_file
       in_file Index i e = absurd (clash e)
       in_file (Block m) i e =
           let parts = at_place i (same_file (Block n) (Block m)) e in
@@ -144,13 +145,13 @@ module _ (numbers : List ℕ) (n : ℕ) (there : is_among numbers n ≡ true) wh
       in_file (External m) i e = absurd (clash e)
 
   pub one_within : IsWithin (rebuilding_of (n ∷ [])) (rebuilding_of numbers)
+  unfolding is_block_file
   one_within = record { bytes = λ file i e. in_bytes file i e; sizes = λ file e. in_file file e }
     where
       clash : false ≡ true → ⊥
       clash c = cc
 
       in_file : (file : File) → is_block_file (n ∷ []) file ≡ true → is_block_file numbers file ≡ true
-      unfolding is_block_file
       in_file Index e = absurd (clash e)
       in_file (Block m) e = ap (is_among numbers) (only_one n m e) ∙ there
       in_file (External m) e = absurd (clash e)
@@ -160,28 +161,29 @@ module _ (numbers : List ℕ) (n : ℕ) (there : is_among numbers n ≡ true) wh
 
 -- headers stay, but for maps, counters and updating
 pub rebuilding_spares : (numbers : List ℕ) → SparesFields (rebuilding_of numbers)
+unfolding is_block_file
 rebuilding_spares numbers = record {
   fields = λ m i field. beside (is_block_file numbers (Block m)) i (field_of i field);
   blocks = λ m i past. beside (is_block_file numbers (Block m)) i (past_of i past);
-  index = λ i. unfold is_block_file in refl;
-  index_size = unfold is_block_file in refl;
+  index = λ i. refl;
+  index_size = refl;
 }
   where
-    beside : (t : Bool) (i : ℕ) → (((nat_le 16 i && nat_lt i 20) || ((nat_le 24 i && nat_lt i 40) || (nat_le 80 i && nat_lt i 8192))) || (nat_le 56 i && nat_lt i 60)) ≡ false
-        → (t && (((nat_le 16 i && nat_lt i 20) || ((nat_le 24 i && nat_lt i 40) || (nat_le 80 i && nat_lt i 8192))) || (nat_le 56 i && nat_lt i 60))) ≡ false
+    beside : (t : Bool) (i : ℕ) → (is_counted_place i || is_updating_place i) ≡ false
+        → (t && (is_counted_place i || is_updating_place i)) ≡ false
     beside true i e = e
     beside false i e = refl
 
-    field_of : (i : ℕ) → (i < 16) ⊎ ((20 ≤ i) × (i < 24)) → (((nat_le 16 i && nat_lt i 20) || ((nat_le 24 i && nat_lt i 40) || (nat_le 80 i && nat_lt i 8192))) || (nat_le 56 i && nat_lt i 60)) ≡ false
+    field_of : (i : ℕ) → (i < 16) ⊎ ((20 ≤ i) × (i < 24)) → (is_counted_place i || is_updating_place i) ≡ false
     field_of i field = grind (arith, nat_tests)
 
-    past_of : (i : ℕ) → 8192 ≤ i → (((nat_le 16 i && nat_lt i 20) || ((nat_le 24 i && nat_lt i 40) || (nat_le 80 i && nat_lt i 8192))) || (nat_le 56 i && nat_lt i 60)) ≡ false
+    past_of : (i : ℕ) → 8192 ≤ i → (is_counted_place i || is_updating_place i) ≡ false
     past_of i past = grind (arith, nat_tests)
 
 -- a file that is no one of some is as before
 pub other_file_kept : (numbers : List ℕ) (m : ℕ) (a b : Image) → is_among numbers m ≡ false → SameOutside (rebuilding_of numbers) a b → b (Block m) ≡ a (Block m)
 unfolding is_block_file
-other_file_kept numbers m a b apart same = same_file_outside (rebuilding_of numbers) a b (Block m) same (λ i. ap (λ (t : Bool). t && _) apart) apart
+other_file_kept numbers m a b apart same = same_file_outside (rebuilding_of numbers) a b (Block m) same (λ i. ap (λ (t : Bool). t && (is_counted_place i || is_updating_place i)) apart) apart
 
 -- nothing is done yet
 pub rebuilding_begin : (claims : Claims) (numbers : List ℕ) (from : Image) → IsRebuilding claims numbers from from
@@ -202,7 +204,7 @@ module _ (claims : Claims) (n : ℕ) (from mid : Image) (lengthened : SameOutsid
   }
 
   -- and its map and counters are under way
-  pub remade_is : (image : Image) → IsRemade claims n mid image → IsRebuilding claims (n ∷ []) from image
+  pub remade_is : (image : Image) → SameOutside (map_of n) mid image × IsInHand claims n mid image → IsRebuilding claims (n ∷ []) from image
   remade_is image remade = record {
     same = outside-trans (rebuilding_of (n ∷ [])) from mid image lengthened_is.same (outside_wider (map_of n) (rebuilding_of (n ∷ [])) mid image (map_within (n ∷ []) n (is_only n)) remade.0);
     longer = λ m. let first = all_longer m in let then_ = remade.0.lengths (Block m) refl in omega (arith, first, then_);

@@ -44,7 +44,7 @@ AreItsAllocations claims numbers from image =
 pub record AreFitted (old new : BlockFiles) : Type 0 where
   pub files : (kind : ℕ) → files_of new kind ≡ files_of old kind
   pub blocks : (n : ℕ) → blocks_of new n ≡ blocks_of old n
-  pub lengths : (n : ℕ) → is_among (all_files old) n ≡ true → length_in new n ≡ max (length_in old n) (whole_length old n)
+  pub lengths : (n : ℕ) → n < 256 → is_among (all_files old) n ≡ true → length_in new n ≡ max (length_in old n) (whole_length old n)
 
 -- What is touched.
 

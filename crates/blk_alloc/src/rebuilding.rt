@@ -34,6 +34,9 @@ const PIECE: u32 = 4992;
 
 const PIECE_GROUPS: u32 = 1248;
 
+// The numbers of block files.
+const NUMBERS: u16 = 256;
+
 // Writes a piece of the map of a file, from a block on, with the marks of the claimed blocks.
 fn write_piece<F: Folder>(
     f: &mut F,
@@ -175,7 +178,8 @@ pub fn rebuild<F: Folder>(
     ensures later { F.faults f.old ≤ F.faults f.new }
     ensures device { IfDevice result (Rises (F.faults f.old) (F.faults f.new)) }
 {
-    for file in 0..=u8::MAX {
+    for number in 0..NUMBERS {
+        let file = number as u8;
         if files.max_entries(file).is_some() {
             rebuild_file(f, files, claims, file)?;
         }

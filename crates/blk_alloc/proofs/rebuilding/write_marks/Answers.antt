@@ -34,7 +34,7 @@ returns-clause-done g c =
     let e = found.2.lengths (Block c.args.file) refl in
     let long = c.requires.header from there in
     finish_done c.args.claims.now c.args.file c.args.groups c.allocations.result _ _ _ _ from found.0 (wider c.args.file from found.0 found.2) (omega (arith, e, long)) c.requires.few (c.requires.groups from there)
-    (c.in_ok-empty.ensures.marks found.0 found.1) c.allocations.ensures.count (omega (arith, c.allocations.auto)) (counts 0 (omega arith)) (counts 1 (omega arith)) (counts 2 (omega arith)) (counts 3 (omega arith)) found.1 whole)) c.write_words.ensures.whole
+    (c.in_ok-empty.ensures.marks found.0 found.1) c.allocations.ensures.count (omega arith) (counts 0 (omega arith)) (counts 1 (omega arith)) (counts 2 (omega arith)) (counts 3 (omega arith)) found.1 whole)) c.write_words.ensures.whole
 
 pub returns-clause-stops : goal.returns-clause-stops
 returns-clause-stops g c from there =
@@ -44,4 +44,4 @@ returns-clause-stops g c from there =
     let long = c.requires.header from there in
     passes_then (passes_weaker (c.write_map.ensures.outside from there) (wider c.args.file from) (wider c.args.file from))
     (finish_stops c.args.claims.now c.args.file c.args.groups c.allocations.result _ _ _ _ from found.0 (wider c.args.file from found.0 found.2) (omega (arith, e, long)) c.requires.few (c.requires.groups from there)
-    (c.in_ok-empty.ensures.marks found.0 found.1) c.allocations.ensures.count (omega (arith, c.allocations.auto)) (counts 0 (omega arith)) (counts 1 (omega arith)) (counts 2 (omega arith)) (counts 3 (omega arith)) found.1 c.write_words.ensures.part)
+    (c.in_ok-empty.ensures.marks found.0 found.1) c.allocations.ensures.count (omega arith) (counts 0 (omega arith)) (counts 1 (omega arith)) (counts 2 (omega arith)) (counts 3 (omega arith)) found.1 c.write_words.ensures.part)
