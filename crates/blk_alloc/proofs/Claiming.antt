@@ -1,11 +1,10 @@
 -- Marks of claimed blocks, and the groups that they leave.
-use Rattle.std.proofs.Common.{◌≡◌, ◌≢◌, ℕ, zero, suc, ◌+◌, ◌-◌, ◌*◌, ◌/◌, ◌%◌, ◌<◌, ◌≤◌, List, [], ◌∷◌, Bool, true, false, ◌||◌, if◌then◌else◌, min, refl, sym, ◌∙◌, ap, ap₂, arith, ⊎_elim}
+use Rattle.std.proofs.Common.{◌≡◌, ◌≢◌, ℕ, zero, suc, ◌+◌, ◌-◌, ◌*◌, ◌<◌, ◌≤◌, Bool, true, false, if◌then◌else◌, min, refl, sym, ◌∙◌, ap, ap₂, arith}
 use Rattle.std.specs.Prelude.{◌==◌, map}
 use Rattle.std.specs.List.{list_any, count_by, range_with_len}
-use Rattle.std.proofs.lemmas.Bool.{cases_eq, cases_lt}
 use Rattle.std.proofs.lemmas.Bool.Decides.{nat_tests}
-use Rattle.blk_format.specs.Address.{block_word, kind_of, external, file_selector, first_block, block_count}
-use Rattle.blk_format.specs.Claims.{Claim, BlockOf, claims_of}
+use Rattle.blk_format.specs.Address.{block_word, kind_of, external, file_selector}
+use Rattle.blk_format.specs.Claims.{BlockOf, claims_of}
 use Rattle.blk_format.specs.Maps.{longest_run, groups_with}
 use Rattle.blk_format.proofs.Words.{AreFields, is_address-block_word, kind_of-block_word, file_selector-block_word, first_block-block_word, block_count-block_word}
 use Rattle.blk_addr.specs.Claims.{contains_claim, is_claimed}

@@ -1,16 +1,16 @@
 -- The counters of a file that are written behind its map.
-use Rattle.std.proofs.Common.{◌≡◌, ℕ, zero, suc, ◌+◌, ◌*◌, ◌<◌, ◌≤◌, ◌⊎◌, inl, inr, ◌^◌, List, [], ◌∷◌, length, get_or, Bool, true, false, ◌&&◌, ◌||◌, nat_le, nat_lt, Some, refl, sym, ◌∙◌, ap, subst, arith, lit<}
+use Rattle.std.proofs.Common.{◌≡◌, ℕ, zero, suc, ◌+◌, ◌<◌, ◌≤◌, ◌⊎◌, inl, inr, ◌^◌, List, [], ◌∷◌, length, get_or, Bool, true, false, ◌&&◌, ◌||◌, nat_le, nat_lt, Some, refl, sym, ◌∙◌, ap, subst, arith, lit<}
 use Rattle.std.specs.Prelude.{◌==◌, ◌/◌, ◌%◌}
 use Rattle.std.specs.Int.{bit_at}
 use Rattle.std.specs.Option.{ForSome}
 use Rattle.std.proofs.lemmas.Bool.Decides.{nat_tests}
 use Rattle.blk_image.specs.Bytes.{content, word_bytes}
 use Rattle.blk_image.specs.Image.{Image, File, Block, byte, bytes_of, length_of, same_file}
-use Rattle.blk_image.specs.Steps.{Word, applied, after, word_step, word_steps, with_word, with_words}
+use Rattle.blk_image.specs.Steps.{Word, after, word_step, word_steps, with_word, with_words}
 use Rattle.blk_image.specs.Footprint.{Footprint, SameOutside, IsWithin, either, nothing, one_word, range, touched_by_all}
 use Rattle.blk_image.specs.Told.{Told, Grows, GrowsInPart, PassesTo, Until}
 use Rattle.blk_image.proofs.Words.{word-beside, word-there, length-with_word}
-use Rattle.blk_image.proofs.Footprints.{outside-refl, outside-trans, outside_wider, outside_steps, outside_write, within_left, within_right, within_both, range_within, same_word_outside}
+use Rattle.blk_image.proofs.Footprints.{outside-trans, outside_wider, outside_steps, outside_write, within_left, within_right, within_both, range_within, same_word_outside}
 use Rattle.blk_image.proofs.Runs.{passes_part, until-append, until_last, told_whole, some_inj}
 use Rattle.blk_image.proofs.WordSteps.{quiet-word_steps}
 use Rattle.blk_format.specs.Headers.{allocations_of, empty_of, updating_of}

@@ -1,12 +1,11 @@
 -- Files that are lengthened to their blocks, one after another.
-use Rattle.std.proofs.Common.{◌≡◌, ◌≢◌, ℕ, ◌+◌, ◌*◌, ◌<◌, ◌≤◌, List, ◌++◌, true, false, max, Option, refl, sym, ◌∙◌, ap, ap₂, subst, arith, ⊎_elim}
+use Rattle.std.proofs.Common.{◌≡◌, ◌≢◌, ℕ, ◌+◌, ◌*◌, ◌<◌, ◌≤◌, List, true, false, max, refl, sym, ◌∙◌, ap, ap₂, subst, arith, ⊎_elim}
 use Rattle.std.proofs.lemmas.Bool.{cases_eq}
 use Rattle.blk_format.specs.Address.{header_size}
 use Rattle.blk_format.specs.BlockFiles.{is_among, type_among}
 use Rattle.blk_disk.specs.declared.tables.BlockFiles.{BlockFiles}
 use Rattle.blk_disk.specs.Tables.{files_of, all_files, blocks_of, length_in, Resizes}
 use Rattle.blk_disk.specs.Growth.{size_as, whole_length}
-use Rattle.blk_alloc.specs.Rebuilding.{AreFitted}
 
 -- the files whose numbers are below one are as long as they are to be, and all others as before
 pub record HasFitted (old new : BlockFiles) (count : ℕ) : Type 0 where

@@ -30,3 +30,4 @@ pub mod Remade
 pub mod Fitted
 pub mod Owned
 pub mod Rebuilt
+pub mod Externals

@@ -1,17 +1,16 @@
 -- The addresses of a file, of all that were added to claims, are its allocations.
-use Rattle.std.proofs.Common.{◌≡◌, ◌≢◌, ℕ, ◌+◌, ◌<◌, ◌≤◌, ◌⊎◌, inl, inr, List, [], ◌∷◌, ◌++◌, length, get_or, Bool, true, false, ◌&&◌, ◌||◌, not, if◌then◌else◌, refl, sym, ◌∙◌, ap, ap₂, arith, ⊎_elim}
+use Rattle.std.proofs.Common.{◌≡◌, ◌≢◌, ℕ, ◌+◌, ◌⊎◌, inl, inr, List, [], ◌∷◌, get_or, Bool, true, false, ◌&&◌, ◌||◌, if◌then◌else◌, refl, sym, ◌∙◌, ap, ap₂, arith, ⊎_elim}
 use Rattle.std.specs.Prelude.{◌==◌, filter}
-use Rattle.std.specs.List.{All, count_by}
+use Rattle.std.specs.List.{All}
 use Rattle.std.proofs.lemmas.Bool.{cases_eq}
 use Rattle.std.proofs.lemmas.Bool.Decides.{nat_tests}
 use Rattle.std.proofs.lemmas.List.Elements.{filter_passes}
 use Rattle.std.proofs.lemmas.List.Sums.{length-filter}
 use Rattle.blk_image.specs.Image.{Image, External, has_file}
-use Rattle.blk_image.specs.Footprint.{SameOutside}
 use Rattle.blk_format.specs.Address.{kind_of, external, external_number, file_selector, first_block, block_count, is_address}
 use Rattle.blk_format.specs.Claims.{Claim, BlockOf, ExternalOf, claims_of, claims_of_all, has_claim, repeats, is_in_file}
-use Rattle.blk_format.specs.BlockFiles.{is_among, most_blocks, stands_in, stands_in_blocks}
-use Rattle.blk_format.specs.Maps.{is_marked, AreAllocations}
+use Rattle.blk_format.specs.BlockFiles.{stands_in, stands_in_blocks}
+use Rattle.blk_format.specs.Maps.{AreAllocations}
 use Rattle.blk_format.specs.Standing.{stands}
 use Rattle.blk_addr.specs.Bits.{is_between}
 use Rattle.blk_addr.specs.Claims.{IsClaimsOf}
@@ -20,7 +19,7 @@ use Rattle.blk_addr.proofs.ClaimLemmas.{claims_of-external, has_claim-append, re
 use Rattle.blk_disk.specs.Growth.{KeepsBlocks}
 use Rattle.blk_alloc.specs.Owning.{is_of}
 use Rattle.blk_alloc.specs.Rebuilding.{words_in, IsRebuilt}
-use Rattle.blk_alloc.proofs.Lists.{IsBlocks, claims_blocks, filter_cons, once_parts, first_once, apart_all}
+use Rattle.blk_alloc.proofs.Lists.{claims_blocks, filter_cons, once_parts, first_once, apart_all}
 
 or_true : (a b : Bool) → (a || b) ≡ true → (a ≡ true) ⊎ (b ≡ true)
 or_true true b e = inl refl

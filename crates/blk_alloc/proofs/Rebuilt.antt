@@ -1,9 +1,9 @@
 -- Files that are rebuilt one after another, in the order of their numbers.
-use Rattle.std.proofs.Common.{◌≡◌, ◌≢◌, ℕ, ◌+◌, ◌<◌, ◌≤◌, List, [], ◌∷◌, true, false, max, None, Some, refl, sym, ◌∙◌, ap, subst, arith, ⊎_elim}
+use Rattle.std.proofs.Common.{◌≡◌, ◌≢◌, ℕ, ◌+◌, ◌<◌, ◌≤◌, List, [], ◌∷◌, true, false, max, None, refl, sym, ◌∙◌, ap, subst, arith, ⊎_elim}
 use Rattle.std.specs.Option.{ForSome}
 use Rattle.std.proofs.lemmas.Bool.{cases_eq}
 use Rattle.blk_image.specs.Image.{Image, Block, External}
-use Rattle.blk_image.specs.Told.{Told, Passes, PassesTo}
+use Rattle.blk_image.specs.Told.{Told, Passes}
 use Rattle.blk_image.proofs.Runs.{passes_end, passes_none, passes_weaker, some_inj}
 use Rattle.blk_format.specs.BlockFiles.{is_among, IsWellFormed}
 use Rattle.blk_addr.specs.declared.claim_set.Claims.{Claims}

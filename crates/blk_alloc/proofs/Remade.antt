@@ -1,20 +1,18 @@
 -- Maps and counters that are made anew: one file, and one file after another.
-use Rattle.std.proofs.Common.{◌≡◌, ◌≢◌, ℕ, ◌+◌, ◌<◌, ◌≤◌, ◌⊎◌, inl, inr, List, [], ◌∷◌, Bool, true, false, ◌&&◌, ◌||◌, nat_le, nat_lt, max, Option, None, Some, refl, sym, ◌∙◌, ap, ap₂, subst, arith, lit<, ⊎_elim, unwrap_or}
-use Rattle.std.specs.Prelude.{◌==◌, ◌++◌}
-use Rattle.std.specs.Option.{ForSome, option_map}
-use Rattle.std.proofs.lemmas.Bool.{cases_eq, cases_lt}
+use Rattle.std.proofs.Common.{◌≡◌, ◌≢◌, ℕ, ◌<◌, ◌≤◌, ◌⊎◌, inl, inr, List, [], ◌∷◌, Bool, true, false, ◌&&◌, ◌||◌, nat_le, nat_lt, Option, Some, refl, sym, ◌∙◌, ap, ap₂, subst, arith, lit<, ⊎_elim, unwrap_or}
+use Rattle.std.proofs.lemmas.Bool.{cases_eq}
 use Rattle.std.proofs.lemmas.Bool.Decides.{nat_tests}
 use Rattle.blk_image.specs.Bytes.{content, word_bytes}
 use Rattle.blk_image.specs.Image.{Image, File, Index, Block, External, byte, length_of, same_file}
-use Rattle.blk_image.specs.Steps.{Word, applied, after, word_step}
-use Rattle.blk_image.specs.Footprint.{Footprint, SameOutside, IsWithin, one_word, range, size_of}
-use Rattle.blk_image.specs.Told.{Told, Grows, GrowsInPart, PassesTo, Until}
+use Rattle.blk_image.specs.Steps.{after, word_step}
+use Rattle.blk_image.specs.Footprint.{SameOutside, IsWithin, range, size_of}
+use Rattle.blk_image.specs.Told.{Told, GrowsInPart, PassesTo, Until}
 use Rattle.blk_image.proofs.Images.{word-after_same}
 use Rattle.blk_image.proofs.Footprints.{outside-refl, outside-trans, outside_wider, outside_write, same_file_outside}
-use Rattle.blk_image.proofs.Runs.{passes_part, passes_weaker, passes_then, some_inj}
+use Rattle.blk_image.proofs.Runs.{passes_part, passes_weaker, some_inj}
 use Rattle.blk_image.proofs.WordSteps.{quiet-word_step, until_word}
 use Rattle.blk_format.specs.Headers.{allocations_of, updating_of}
-use Rattle.blk_format.specs.BlockFiles.{is_among, max_entries_in, most_blocks}
+use Rattle.blk_format.specs.BlockFiles.{is_among, max_entries_in}
 use Rattle.blk_format.specs.Maps.{is_marked, EmptyAgrees}
 use Rattle.blk_addr.specs.declared.claim_set.Claims.{Claims}
 use Rattle.blk_alloc.specs.Changes.{map_of}

@@ -1,9 +1,9 @@
 -- Changes that spare the fields of headers that say what is linked, and all blocks.
-use Rattle.std.proofs.Common.{◌≡◌, ℕ, ◌+◌, ◌-◌, ◌*◌, ◌<◌, ◌≤◌, ◌⊎◌, inl, inr, List, Bool, true, false, ◌&&◌, ◌||◌, nat_le, nat_lt, refl, sym, ◌∙◌, ap, arith}
+use Rattle.std.proofs.Common.{◌≡◌, ℕ, ◌+◌, ◌-◌, ◌*◌, ◌<◌, ◌≤◌, ◌⊎◌, inl, inr, List, Bool, true, false, ◌&&◌, ◌||◌, nat_le, nat_lt, refl, ◌∙◌, ap, arith}
 use Rattle.std.proofs.lemmas.Bool.Decides.{nat_tests}
 use Rattle.blk_image.specs.Image.{Image, Index, Block, byte, length_of, same_file}
 use Rattle.blk_image.specs.Footprint.{Footprint, SameOutside, size_of}
-use Rattle.blk_format.specs.Address.{file_selector, place, room}
+use Rattle.blk_format.specs.Address.{file_selector}
 use Rattle.blk_format.specs.BlockFiles.{linked, type_among, files_along, next_file_in, max_entries_in, is_block_count, IsWellFormed}
 use Rattle.blk_disk.specs.Growth.{KeepsBlocks}
 use Rattle.blk_disk.proofs.Agreeing.{past_header}

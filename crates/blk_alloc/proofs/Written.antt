@@ -1,12 +1,12 @@
 -- Bytes that are written over a map.
-use Rattle.std.proofs.Common.{◌≡◌, ℕ, ◌+◌, ◌-◌, ◌*◌, ◌/◌, ◌%◌, ◌<◌, ◌≤◌, List, length, Option, Some, refl, sym, ◌∙◌, ap, ap₂, subst, arith, ⊎_elim, inl, inr}
+use Rattle.std.proofs.Common.{◌≡◌, ℕ, ◌+◌, ◌-◌, ◌*◌, ◌/◌, ◌%◌, ◌<◌, ◌≤◌, List, length, Option, Some, sym, ◌∙◌, ap, ap₂, subst, arith, ⊎_elim}
 use Rattle.std.specs.Prelude.{◌==◌}
 use Rattle.std.specs.Int.{bit_at}
 use Rattle.std.specs.Option.{ForSome, option_map}
 use Rattle.std.proofs.lemmas.Bool.{cases_lt}
 use Rattle.std.proofs.lemmas.Bool.Decides.{nat_tests}
-use Rattle.blk_image.specs.Bytes.{content, spliced}
-use Rattle.blk_image.specs.Image.{Image, File, Block, byte, bytes_of, length_of, HasRange}
+use Rattle.blk_image.specs.Bytes.{content}
+use Rattle.blk_image.specs.Image.{Image, File, Block, byte, bytes_of, length_of}
 use Rattle.blk_image.specs.Steps.{after, words, written}
 use Rattle.blk_image.specs.Footprint.{SameOutside, range}
 use Rattle.blk_image.specs.Told.{Told, Grows, GrowsInPart, PassesTo, Until}
@@ -16,7 +16,6 @@ use Rattle.blk_image.proofs.Splices.{content-spliced_inside}
 use Rattle.blk_image.proofs.Footprints.{words_inside, outside-trans, outside_wider, range_within}
 use Rattle.blk_image.proofs.WordSteps.{quiet-words}
 use Rattle.blk_image.proofs.Runs.{passes_part, passes_then, passes_end, passes_weaker, told_whole, some_inj}
-use Rattle.blk_format.specs.Maps.{is_marked}
 use Rattle.blk_addr.specs.Bits.{has_bit}
 use Rattle.blk_addr.specs.declared.claim_set.Claims.{Claims}
 use Rattle.blk_alloc.specs.Rebuilding.{is_block_claimed, AreMarked}

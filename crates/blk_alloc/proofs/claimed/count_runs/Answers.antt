@@ -1,6 +1,6 @@
-use Rattle.std.proofs.Common.{◌≡◌, ℕ, ◌+◌, ◌<◌, refl, sym, ◌∙◌, ap, arith}
+use Rattle.std.proofs.Common.{◌≡◌, ℕ, ◌+◌, sym, ap, arith}
 use Rattle.std.specs.Prelude.{◌==◌}
-use Rattle.blk_format.specs.Maps.{groups_with, longest_run}
+use Rattle.blk_format.specs.Maps.{longest_run}
 use Rattle.blk_addr.specs.Bits.{has_bit}
 use Rattle.blk_alloc.proofs.Claiming.{groups_more, groups_most, no_groups}
 use Rattle.blk_alloc.proofs.Groups.{one}

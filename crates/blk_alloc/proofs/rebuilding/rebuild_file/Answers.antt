@@ -1,5 +1,5 @@
-use Rattle.std.proofs.Common.{◌≡◌, ℕ, ◌*◌, ◌/◌, ◌≤◌, List, [], ◌∷◌, min, sym, ◌∙◌, ap, subst, arith}
-use Rattle.blk_image.specs.Image.{Image, Block, length_of}
+use Rattle.std.proofs.Common.{◌≡◌, ℕ, ◌/◌, List, [], ◌∷◌, sym, ◌∙◌, ap, subst, arith}
+use Rattle.blk_image.specs.Image.{Image}
 use Rattle.blk_image.specs.Footprint.{SameOutside}
 use Rattle.blk_image.proofs.Runs.{passes_none, passes_then, passes_weaker, passes_end, some_inj}
 use Rattle.blk_format.specs.BlockFiles.{is_among, max_entries_in}

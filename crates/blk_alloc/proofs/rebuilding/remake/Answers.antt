@@ -1,14 +1,13 @@
-use Rattle.std.proofs.Common.{◌≡◌, ℕ, ◌≤◌, None, refl, sym, ◌∙◌, ap, arith}
-use Rattle.std.specs.Option.{ForSome, option_map}
-use Rattle.blk_image.specs.Image.{Image, Block, length_of}
+use Rattle.std.proofs.Common.{◌≡◌, ◌≤◌, refl, sym, ◌∙◌, ap, arith}
+use Rattle.std.specs.Option.{option_map}
+use Rattle.blk_image.specs.Image.{Block, length_of}
 use Rattle.blk_image.specs.Steps.{after, word_step}
-use Rattle.blk_image.specs.Told.{PassesTo}
 use Rattle.blk_image.proofs.Runs.{part_whole, passes_then, passes_end}
 use Rattle.blk_format.specs.BlockFiles.{max_entries_in}
 use Rattle.blk_format.specs.Maps.{groups_of}
 use Rattle.blk_alloc.specs.Changes.{map_of}
 use Rattle.blk_alloc.proofs.Carried.{told_at_end, silent_part}
-use Rattle.blk_alloc.proofs.Remade.{IsRemade, begin_passes, begun, then_passes}
+use Rattle.blk_alloc.proofs.Remade.{begin_passes, begun, then_passes}
 use Rattle.blk_alloc.proofs.Sparing.{blocks_spared, map_spares}
 use Rattle.blk_alloc.proofs.rebuilding.remake.Goals as goal
 

@@ -1,6 +1,6 @@
-use Rattle.std.proofs.Common.{◌≡◌, ℕ, zero, suc, ◌+◌, ◌-◌, ◌*◌, ◌/◌, ◌<◌, ◌≤◌, List, [], ◌∷◌, length, min, refl, sym, ◌∙◌, ap, subst, arith}
+use Rattle.std.proofs.Common.{◌≡◌, ℕ, zero, suc, ◌+◌, ◌-◌, ◌*◌, ◌/◌, ◌<◌, ◌≤◌, [], ◌∷◌, length, min, refl, sym, ◌∙◌, ap, subst, arith}
 use Rattle.std.specs.Prelude.{slice_index}
-use Rattle.blk_image.specs.Image.{Image, Block, length_of}
+use Rattle.blk_image.specs.Image.{Block, length_of}
 use Rattle.blk_image.specs.Footprint.{SameOutside, range}
 use Rattle.blk_image.proofs.Footprints.{outside-refl}
 use Rattle.blk_image.proofs.Runs.{passes_none, passes_end, some_inj}
