@@ -20,17 +20,8 @@ use Rattle.blk_addr.specs.Claims.{allocations_in}
 use Rattle.blk_addr.specs.declared.claim_set.Claims.{Claims}
 use Rattle.blk_alloc.specs.Changes.{map_of}
 use Rattle.blk_alloc.specs.Rebuilding.{counts_of, is_block_claimed, AreMarked, IsRebuilt}
-use Rattle.blk_alloc.proofs.Changing.{bytes_after, byte_beside}
+use Rattle.blk_alloc.proofs.Changing.{at_updating, bytes_after, byte_beside, nothing_within, within-trans}
 use Rattle.blk_alloc.proofs.Claiming.{groups_same, groups_most}
-
-within-trans : (F G H : Footprint) → IsWithin F G → IsWithin G H → IsWithin F H
-within-trans F G H one other = record { bytes = λ file i e. other.bytes file i (one.bytes file i e); sizes = λ file e. other.sizes file (one.sizes file e) }
-
-nothing_within : (F : Footprint) → IsWithin nothing F
-nothing_within F = record { bytes = λ g i e. absurd (clash e); sizes = λ g e. absurd (clash e) }
-  where
-    clash : false ≡ true → ⊥
-    clash c = cc
 
 module _ (n : ℕ) where
   abbrev emptied : Footprint
@@ -113,18 +104,7 @@ module _ (n a e0 e1 e2 e3 : ℕ) where
   finished_same from mid same =
       let counted : Image = after (word_steps f counter_words) mid in
       let before : SameOutside (counts_of n) from counted = until_last (SameOutside (counts_of n) from) (SameOutside (counts_of n) from) (word_steps f counter_words) mid (counters_along from mid same) in
-      outside-trans (map_of n) from counted _ (outside_wider (counts_of n) (map_of n) from counted (counts_within n) before) (outside_wider (range f 56 4) (map_of n) counted _ at_updating (outside_write f 56 (word_bytes 0) counted))
-    where
-      at_updating : IsWithin (range f 56 4) (map_of n)
-      at_updating = record { bytes = λ file i e. by_test (same_file f file) i e; sizes = λ file e. e }
-        where
-          by_test : (t : Bool) (i : ℕ) → (t && (nat_le 56 i && nat_lt i 60)) ≡ true
-              → ((t && (nat_le 16 i && nat_lt i 20)) || ((t && (nat_le 24 i && nat_lt i 40)) || ((t && (nat_le 56 i && nat_lt i 60)) || (t && (nat_le 80 i && nat_lt i 8192))))) ≡ true
-          by_test true i e = grind (arith, nat_tests)
-          by_test false i e = absurd (clash e)
-            where
-              clash : false ≡ true → ⊥
-              clash c = cc
+      outside-trans (map_of n) from counted _ (outside_wider (counts_of n) (map_of n) from counted (counts_within n) before) (outside_wider (range f 56 4) (map_of n) counted _ (at_updating n) (outside_write f 56 (word_bytes 0) counted))
 
   finish_until : (from mid : Image) (Q : Image → Type 0) → SameOutside (counts_of n) from mid → Q (finished mid) → Until (SameOutside (counts_of n) from) Q mid (word_steps f last_words)
   unfolding word_step

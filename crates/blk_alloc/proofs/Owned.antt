@@ -1,5 +1,5 @@
 -- The addresses of a file, of all that were added to claims, are its allocations.
-use Rattle.std.proofs.Common.{◌≡◌, ◌≢◌, ℕ, ◌+◌, ◌⊎◌, inl, inr, List, [], ◌∷◌, get_or, Bool, true, false, ◌&&◌, ◌||◌, if◌then◌else◌, refl, sym, ◌∙◌, ap, ap₂, arith, ⊎_elim}
+use Rattle.std.proofs.Common.{◌≡◌, ◌≢◌, ℕ, ◌+◌, List, [], ◌∷◌, get_or, Bool, true, false, ◌&&◌, ◌||◌, if◌then◌else◌, refl, sym, ◌∙◌, ap, ap₂, arith, ⊎_elim}
 use Rattle.std.specs.Prelude.{◌==◌, filter}
 use Rattle.std.specs.List.{All}
 use Rattle.std.proofs.lemmas.Bool.{cases_eq}
@@ -19,22 +19,7 @@ use Rattle.blk_addr.proofs.ClaimLemmas.{claims_of-external, has_claim-append, re
 use Rattle.blk_disk.specs.Growth.{KeepsBlocks}
 use Rattle.blk_alloc.specs.Owning.{is_of}
 use Rattle.blk_alloc.specs.Rebuilding.{words_in, IsRebuilt}
-use Rattle.blk_alloc.proofs.Lists.{claims_blocks, filter_cons, once_parts, first_once, apart_all}
-
-or_true : (a b : Bool) → (a || b) ≡ true → (a ≡ true) ⊎ (b ≡ true)
-or_true true b e = inl refl
-or_true false b e = inr e
-
-or_right : (a b : Bool) → b ≡ true → (a || b) ≡ true
-or_right true b e = refl
-or_right false b e = e
-
-or_left : (a b : Bool) → a ≡ true → (a || b) ≡ true
-or_left true b e = refl
-or_left false b e = absurd (clash e)
-  where
-    clash : false ≡ true → ⊥
-    clash c = cc
+use Rattle.blk_alloc.proofs.Lists.{claims_blocks, filter_cons, once_parts, first_once, apart_all, or_true, or_left, or_right}
 
 -- what some of the addresses claim all of them claim
 claims_fewer : (p : ℕ → Bool) (words : List ℕ) (c : Claim) → has_claim (claims_of_all (filter p words)) c ≡ true → has_claim (claims_of_all words) c ≡ true

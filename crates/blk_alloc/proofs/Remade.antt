@@ -17,6 +17,7 @@ use Rattle.blk_format.specs.Maps.{is_marked, EmptyAgrees}
 use Rattle.blk_addr.specs.declared.claim_set.Claims.{Claims}
 use Rattle.blk_alloc.specs.Changes.{map_of}
 use Rattle.blk_alloc.specs.Rebuilding.{counts_of, is_block_file, is_counted_place, is_updating_place, rebuilding_of, IsInHand, IsRebuilding, IsRebuilt, KeepsBytes}
+use Rattle.blk_alloc.proofs.Changing.{at_updating}
 use Rattle.blk_alloc.proofs.Counted.{counts_within, updating_kept}
 use Rattle.blk_alloc.proofs.Sparing.{SparesFields}
 
@@ -57,15 +58,7 @@ module _ (claims : Claims) (n : ℕ) (from : Image) (long : 8192 ≤ length_of f
 
   begun_same : SameOutside (map_of n) from begun
   unfolding word_step
-  begun_same = outside_wider (range (Block n) 56 4) (map_of n) from begun (record { bytes = λ file i e. by_test (same_file (Block n) file) i e; sizes = λ file e. e }) (outside_write (Block n) 56 (word_bytes 1) from)
-    where
-      clash : false ≡ true → ⊥
-      clash c = cc
-
-      by_test : (t : Bool) (i : ℕ) → (t && (nat_le 56 i && nat_lt i 60)) ≡ true
-          → ((t && (nat_le 16 i && nat_lt i 20)) || ((t && (nat_le 24 i && nat_lt i 40)) || ((t && (nat_le 56 i && nat_lt i 60)) || (t && (nat_le 80 i && nat_lt i 8192))))) ≡ true
-      by_test true i e = grind (arith, nat_tests)
-      by_test false i e = absurd (clash e)
+  begun_same = outside_wider (range (Block n) 56 4) (map_of n) from begun (at_updating n) (outside_write (Block n) 56 (word_bytes 1) from)
 
   begun_one : updating_of (byte begun (Block n)) ≡ 1
   unfolding word_step

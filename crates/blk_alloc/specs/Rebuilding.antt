@@ -40,7 +40,7 @@ abbrev pub AreItsAllocations : Claims → List ℕ → Image → Image → Type 
 AreItsAllocations claims numbers from image =
     (words : List ℕ) → IsClaimsOf claims words → (n : ℕ) → is_among numbers n ≡ true → All (λ w. stands_in from w ≡ true) (words_in n words) → AreAllocations image n (words_in n words)
 
--- each file that is kept is no shorter than its header and blocks, and no longer where it was as long; all else that is kept is as before
+-- each file that is kept has its length, or that of its header and all its blocks where this is greater; all else that is kept is as before
 pub record AreFitted (old new : BlockFiles) : Type 0 where
   pub files : (kind : ℕ) → files_of new kind ≡ files_of old kind
   pub blocks : (n : ℕ) → blocks_of new n ≡ blocks_of old n

@@ -88,12 +88,7 @@ fn write_map<F: Folder>(
 }
 
 // Writes the map and the counters of a file, and then that they are no longer under way.
-fn write_marks<F: Folder>(
-    f: &mut F,
-    claims: &Claims,
-    file: u8,
-    groups: u32,
-) -> Result<(), Failed>
+fn write_marks<F: Folder>(f: &mut F, claims: &Claims, file: u8, groups: u32) -> Result<(), Failed>
     requires few { groups ≤ 16224 }
     requires header { ForSome (F.told f.old).files (λ image. 8192 ≤ length_of image (block file)) }
     requires groups { ForSome (F.told f.old).files (λ image. groups ≡ groups_of (max_entries_in image file)) }
@@ -156,11 +151,7 @@ fn rebuild_file<F: Folder>(
 /// Makes the maps and the counters of all linked block files those of claims, and `updating` 0. Hints stay.
 ///
 /// Before that, a file that is shorter than its header and blocks is lengthened to them. There is no damage.
-pub fn rebuild<F: Folder>(
-    f: &mut F,
-    files: &mut BlockFiles,
-    claims: &Claims,
-) -> Result<(), Fault>
+pub fn rebuild<F: Folder>(f: &mut F, files: &mut BlockFiles, claims: &Claims) -> Result<(), Fault>
     requires agrees { ForSome (F.told f.old).files (Agrees files.old) }
     ensures rebuilt { OnOk result (ForSome (F.told f.new).files (λ image. (n : ℕ) → is_among (all_files files.old) n ≡ true → IsRebuilt claims.now image n)) }
     ensures allocations { OnOk result (ForSome (F.told f.old).files (λ from. ForSome (F.told f.new).files (AreItsAllocations claims.now (all_files files.old) from))) }

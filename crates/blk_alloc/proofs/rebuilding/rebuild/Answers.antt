@@ -29,26 +29,26 @@ returns-in_err-rebuild_file-clause-formed g c = all_formed (g.F.Folder.told c.ar
 
 pub loop-number-preserved : goal.loop-number-preserved
 loop-number-preserved g c = elim c.if-is_some.branch [
-    | then-is_some+in_ok-rebuild_file w ↦
-        record {
-          has =
-              subst (λ (t : Told). HasRebuilt (g.F.Folder.told c.args.f.now) t c.args.files.now c.if-is_some.files c.args.claims.now (c.loop-number.number + 1)) (ap g.F.Folder.told (sym w.f-is))
-              (subst (λ (files : BlockFiles). HasRebuilt (g.F.Folder.told c.args.f.now) (g.F.Folder.told w.rebuild_file.new.f) c.args.files.now files c.args.claims.now (c.loop-number.number + 1)) (sym w.files-is)
-              (next_rebuilt (g.F.Folder.told c.args.f.now) (g.F.Folder.told c.loop-number.f) c.args.files.now c.loop-number.files c.args.claims.now c.loop-number.number c.loop-number.invariant.has (g.F.Folder.told w.rebuild_file.new.f)
-              (sym (linked_is (is_among (all_files c.loop-number.files) c.loop-number.number) _ c.max_entries.result c.is_some.result c.max_entries.ensures c.is_some.ensures) ∙ w.if-is_some.true) w.rebuild_file.ensures.stops
-              w.rebuild_file.new.files w.rebuild_file.ensures.silent w.in_ok-rebuild_file.ensures.done w.in_ok-rebuild_file.ensures.fitted w.rebuild_file.ensures.agrees));
-          later = let one = c.loop-number.invariant.later in let other = w.rebuild_file.ensures.later in subst (λ f. g.F.Folder.faults c.args.f.now ≤ g.F.Folder.faults f) (sym w.f-is) (omega (arith, one, other));
-        }
-    | else-is_some w ↦
-        record {
-          has =
-              subst (λ (t : Told). HasRebuilt (g.F.Folder.told c.args.f.now) t c.args.files.now c.if-is_some.files c.args.claims.now (c.loop-number.number + 1)) (ap g.F.Folder.told (sym w.f-is))
-              (subst (λ (files : BlockFiles). HasRebuilt (g.F.Folder.told c.args.f.now) (g.F.Folder.told c.loop-number.f) c.args.files.now files c.args.claims.now (c.loop-number.number + 1)) (sym w.files-is)
-              (next_none (g.F.Folder.told c.args.f.now) (g.F.Folder.told c.loop-number.f) c.args.files.now c.loop-number.files c.args.claims.now c.loop-number.number c.loop-number.invariant.has
-              (sym (linked_is (is_among (all_files c.loop-number.files) c.loop-number.number) _ c.max_entries.result c.is_some.result c.max_entries.ensures c.is_some.ensures) ∙ w.if-is_some.false)));
-          later = let one = c.loop-number.invariant.later in subst (λ f. g.F.Folder.faults c.args.f.now ≤ g.F.Folder.faults f) (sym w.f-is) one;
-        }
-  ]
+  | then-is_some+in_ok-rebuild_file w ↦
+      record {
+        has =
+            subst (λ (t : Told). HasRebuilt (g.F.Folder.told c.args.f.now) t c.args.files.now c.if-is_some.files c.args.claims.now (c.loop-number.number + 1)) (ap g.F.Folder.told (sym w.f-is))
+            (subst (λ (files : BlockFiles). HasRebuilt (g.F.Folder.told c.args.f.now) (g.F.Folder.told w.rebuild_file.new.f) c.args.files.now files c.args.claims.now (c.loop-number.number + 1)) (sym w.files-is)
+            (next_rebuilt (g.F.Folder.told c.args.f.now) (g.F.Folder.told c.loop-number.f) c.args.files.now c.loop-number.files c.args.claims.now c.loop-number.number c.loop-number.invariant.has (g.F.Folder.told w.rebuild_file.new.f)
+            (sym (linked_is (is_among (all_files c.loop-number.files) c.loop-number.number) _ c.max_entries.result c.is_some.result c.max_entries.ensures c.is_some.ensures) ∙ w.if-is_some.true) w.rebuild_file.ensures.stops
+            w.rebuild_file.new.files w.rebuild_file.ensures.silent w.in_ok-rebuild_file.ensures.done w.in_ok-rebuild_file.ensures.fitted w.rebuild_file.ensures.agrees));
+        later = let one = c.loop-number.invariant.later in let other = w.rebuild_file.ensures.later in subst (λ f. g.F.Folder.faults c.args.f.now ≤ g.F.Folder.faults f) (sym w.f-is) (omega (arith, one, other));
+      }
+  | else-is_some w ↦
+      record {
+        has =
+            subst (λ (t : Told). HasRebuilt (g.F.Folder.told c.args.f.now) t c.args.files.now c.if-is_some.files c.args.claims.now (c.loop-number.number + 1)) (ap g.F.Folder.told (sym w.f-is))
+            (subst (λ (files : BlockFiles). HasRebuilt (g.F.Folder.told c.args.f.now) (g.F.Folder.told c.loop-number.f) c.args.files.now files c.args.claims.now (c.loop-number.number + 1)) (sym w.files-is)
+            (next_none (g.F.Folder.told c.args.f.now) (g.F.Folder.told c.loop-number.f) c.args.files.now c.loop-number.files c.args.claims.now c.loop-number.number c.loop-number.invariant.has
+            (sym (linked_is (is_among (all_files c.loop-number.files) c.loop-number.number) _ c.max_entries.result c.is_some.result c.max_entries.ensures c.is_some.ensures) ∙ w.if-is_some.false)));
+        later = let one = c.loop-number.invariant.later in subst (λ f. g.F.Folder.faults c.args.f.now ≤ g.F.Folder.faults f) (sym w.f-is) one;
+      }
+]
 
 pub returns-clause-rebuilt : goal.returns-clause-rebuilt
 returns-clause-rebuilt g c = all_rebuilt (g.F.Folder.told c.args.f.now) (g.F.Folder.told c.loop-number.f) c.args.files.now c.loop-number.files c.args.claims.now c.loop-number.number c.loop-number-test.false c.requires.agrees c.loop-number.invariant.has
