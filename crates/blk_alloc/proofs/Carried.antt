@@ -1,24 +1,13 @@
--- A fault that `?` hands on, and what only a folder that tells nothing does.
-use Rattle.std.proofs.Common.{◌≡◌, Option, None, Some, Result, Ok, Err, refl, sym, ◌∙◌, ap, subst, List}
+-- What a damage says, and what only a folder that tells nothing does.
+use Rattle.std.proofs.Common.{◌≡◌, Option, None, Some, Result, Ok, Err, refl, sym, ◌∙◌, ap, List}
 use Rattle.std.specs.Option.{ForSome, option_map}
 use Rattle.blk_image.specs.Steps.{TrailStep, after}
 use Rattle.blk_image.specs.Told.{Told, GrowsInPart}
 use Rattle.blk_image.specs.Image.{Image}
-use Rattle.std.specs.Prelude.{IsErrAnd}
 use Rattle.blk_io.specs.declared.fault.Damage.{Damage}
 use Rattle.blk_io.specs.declared.fault.Fault.{Fault}
 use Rattle.blk_io.specs.declared.fault.Fault.TheVariants.{Device, Damaged}
 use Rattle.blk_io.specs.Faults.{IfDamaged}
-
-pub carried : {A B : Type 0} (r : Result A Fault) (q : Result B Fault) (e : Fault) (P : Damage → Type 0) → r ≡ Err e → IsErrAnd q (λ (x : Fault). x ≡ e) → IfDamaged r P → IfDamaged q P
-carried {A} {B} r (Ok b) e P is same holds = tt
-carried {A} {B} r (Err x) e P is same holds =
-    let at : IfDamaged {A = A} (Err e) P = subst (λ (s : Result A Fault). IfDamaged s P) is holds in
-    subst (λ (y : Fault). IfDamaged {A = B} (Err y) P) (sym same) (of_fault e at)
-  where
-    of_fault : (e : Fault) → IfDamaged {A = A} (Err e) P → IfDamaged {A = B} (Err e) P
-    of_fault Device at = tt
-    of_fault (Damaged damage) at = at
 
 -- only a folder that tells nothing does what is impossible for one that tells
 pub untold_where : (files : Option Image) → ForSome files (λ image. ⊥) → files ≡ None

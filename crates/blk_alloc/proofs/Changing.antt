@@ -16,10 +16,11 @@ use Rattle.blk_alloc.specs.declared.plan.Plan.{Plan}
 use Rattle.blk_alloc.specs.Changes.{map_of, plan_words, IsMidst}
 use Rattle.blk_alloc.proofs.Groups.{one}
 
-within-trans : (F G H : Footprint) → IsWithin F G → IsWithin G H → IsWithin F H
+-- one within another within a third
+pub within-trans : (F G H : Footprint) → IsWithin F G → IsWithin G H → IsWithin F H
 within-trans F G H one other = record { bytes = λ file i e. other.bytes file i (one.bytes file i e); sizes = λ file e. other.sizes file (one.sizes file e) }
 
-nothing_within : (F : Footprint) → IsWithin nothing F
+pub nothing_within : (F : Footprint) → IsWithin nothing F
 nothing_within F = record { bytes = λ g i e. absurd (clash e); sizes = λ g e. absurd (clash e) }
   where
     clash : false ≡ true → ⊥

@@ -22,3 +22,12 @@ pub mod Grown
 pub mod Fullness
 pub mod Adding
 pub mod Rooms
+pub mod Sparing
+pub mod Claiming
+pub mod Written
+pub mod Counted
+pub mod Remade
+pub mod Fitted
+pub mod Owned
+pub mod Rebuilt
+pub mod Externals

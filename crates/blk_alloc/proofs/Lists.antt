@@ -19,15 +19,15 @@ or_parts : (a b : Bool) → (a || b) ≡ false → (a ≡ false) × (b ≡ false
 or_parts true b e = absurd (clash e)
 or_parts false b e = (refl, e)
 
-or_true : (a b : Bool) → (a || b) ≡ true → (a ≡ true) ⊎ (b ≡ true)
+pub or_true : (a b : Bool) → (a || b) ≡ true → (a ≡ true) ⊎ (b ≡ true)
 or_true true b e = inl refl
 or_true false b e = inr e
 
-or_right : (a b : Bool) → b ≡ true → (a || b) ≡ true
+pub or_right : (a b : Bool) → b ≡ true → (a || b) ≡ true
 or_right true b e = refl
 or_right false b e = e
 
-or_left : (a b : Bool) → a ≡ true → (a || b) ≡ true
+pub or_left : (a b : Bool) → a ≡ true → (a || b) ≡ true
 or_left true b e = refl
 or_left false b e = absurd (clash (sym e))
 
@@ -45,7 +45,7 @@ same_claim-refl (BlockOf f b) = grind (arith, nat_tests)
 same_claim-refl (ExternalOf n) = grind (arith, nat_tests)
 
 -- claims that stand once in a list of two parts
-once_parts : (a b : List Claim) → repeats (a ++ b) ≡ false → (repeats b ≡ false) × ((c : Claim) → has_claim a c ≡ true → has_claim b c ≡ true → ⊥)
+pub once_parts : (a b : List Claim) → repeats (a ++ b) ≡ false → (repeats b ≡ false) × ((c : Claim) → has_claim a c ≡ true → has_claim b c ≡ true → ⊥)
 unfolding repeats has_claim
 once_parts [] b once = (once, λ c inside also. clash (sym inside))
 once_parts (x ∷ a) b once =
@@ -89,7 +89,7 @@ pub record LeavesOut (words : List ℕ) (w : ℕ) : Type 0 where
   pub once : repeats (claims_of_all (others w words)) ≡ false
   pub claims : (c : Claim) → has_claim (claims_of_all (others w words)) c ≡ (if has_claim (claims_of w) c then false else has_claim (claims_of_all words) c)
 
-filter_cons : (p : ℕ → Bool) (x : ℕ) (xs : List ℕ) → filter p (x ∷ xs) ≡ (if p x then x ∷ filter p xs else filter p xs)
+pub filter_cons : (p : ℕ → Bool) (x : ℕ) (xs : List ℕ) → filter p (x ∷ xs) ≡ (if p x then x ∷ filter p xs else filter p xs)
 filter_cons p x xs = grind (arith, common_steps)
 
 kept_first : (x w : ℕ) (words : List ℕ) → (x == w) ≡ false → others w (x ∷ words) ≡ x ∷ others w words
@@ -110,7 +110,7 @@ not_true true never = absurd (never refl)
 not_true false never = refl
 
 -- the first of two parts stands once
-first_once : (a b : List Claim) → repeats (a ++ b) ≡ false → repeats a ≡ false
+pub first_once : (a b : List Claim) → repeats (a ++ b) ≡ false → repeats a ≡ false
 unfolding repeats has_claim
 first_once [] b once = refl
 first_once (x ∷ a) b once =

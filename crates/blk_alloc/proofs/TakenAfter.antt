@@ -41,7 +41,7 @@ module _ (a b : Told) (old new : BlockFiles) (place : Blocks) (agrees : ForSome 
     pub same : SameOutside (size_of (Block n)) from mid
     pub longer : length_of from (Block n) ≤ length_of mid (Block n)
 
-  mid_of : (from : Image) → a.files ≡ Some from → (mid : Image) × IsMid from mid
+  pub mid_of : (from : Image) → a.files ≡ Some from → (mid : Image) × IsMid from mid
   mid_of from there =
       let mid : Image = after (fit_steps old n) from in
       let now : b.files ≡ Some mid = fitted.files ∙ ap (option_map (after (fit_steps old n))) there in
@@ -51,7 +51,7 @@ module _ (a b : Told) (old new : BlockFiles) (place : Blocks) (agrees : ForSome 
       let size = kept.size_there in
       (mid, record { now = now; same = same; longer = omega (arith, was, is, size) })
 
-  from_of : (mid : Image) → b.files ≡ Some mid → (from : Image) × (a.files ≡ Some from) × IsMid from mid
+  pub from_of : (mid : Image) → b.files ≡ Some mid → (from : Image) × (a.files ≡ Some from) × IsMid from mid
   from_of mid now = by_files a.files refl
     where
       by_files : (o : Option Image) → a.files ≡ o → (from : Image) × (a.files ≡ Some from) × IsMid from mid

@@ -129,11 +129,12 @@ pub record IsFull (files : BlockFiles) (kind : ℕ) (told : Told) (damage : Dama
   pub at : damage.at ≡ last_place
   pub found : ForSome told.files (λ image. damage.found ≡ word image (Block file) last_place)
 
--- the header of a file is damaged: a read of it gave too few bytes, or a counter would leave its range
-pub record IsCauseOf (told : Told) (damage : Damage) : Type 0 where
+-- the header of one of the files of a type is damaged: a read of it gave too few bytes, or a counter would leave its range
+pub record IsCauseOf (files : BlockFiles) (kind : ℕ) (told : Told) (damage : Damage) : Type 0 where
   pub file : ℕ
+  pub linked : is_among (files_of files kind) file ≡ true
   pub cause : IsCause told file damage
 
--- why no blocks are given
-abbrev pub IsRefusal : BlockFiles → ℕ → Told → Damage → Type 0
-IsRefusal files kind told damage = IsCauseOf told damage ⊎ IsFull files kind told damage
+-- why no blocks are given: a damaged header, which may be that of a file that was added, or files that were full
+abbrev pub IsRefusal : BlockFiles → BlockFiles → ℕ → Told → Damage → Type 0
+IsRefusal old new kind told damage = IsCauseOf new kind told damage ⊎ IsFull old kind told damage

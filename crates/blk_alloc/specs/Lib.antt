@@ -7,3 +7,4 @@ pub mod Taking
 pub mod Untold
 pub mod Making
 pub mod Giving
+pub mod Rebuilding

@@ -1,7 +1,7 @@
 -- Allocations of block files that come and go.
 use Rattle.std.specs.Prelude.{◌≡◌, ◌≢◌, ◌⊎◌, ℕ, ◌+◌, ◌<◌, List, filter, Bool, true, false, not, ◌&&◌, ◌==◌, if◌then◌else◌}
 use Rattle.std.specs.Option.{ForSome}
-use Rattle.blk_image.specs.Image.{Block, Image, byte}
+use Rattle.blk_image.specs.Image.{Block, External, Image, byte}
 use Rattle.blk_image.specs.Told.{Told}
 use Rattle.blk_image.specs.Footprint.{SameOutside}
 use Rattle.blk_format.specs.Address.{file_selector, first_block, block_count}
@@ -34,6 +34,10 @@ others w words = filter (λ x. not (x == w)) words
 pub record KeepsFile (from image : Image) (n : ℕ) : Type 0 where
   pub allocations : (words : List ℕ) → AreAllocations from n words → AreAllocations image n words
   pub empty : EmptyAgrees from n → EmptyAgrees image n
+
+-- each external file is as before
+abbrev pub KeepsExternals : Image → Image → Type 0
+KeepsExternals from image = (m : ℕ) → image (External m) ≡ from (External m)
 
 -- the blocks of an address are freed: their marks are cleared and no other, the counters of its file are true, updating is 0, and all other files are as before
 pub record IsFreed (from : Image) (w : ℕ) (image : Image) : Type 0 where

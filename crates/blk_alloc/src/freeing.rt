@@ -6,6 +6,7 @@ ghost use Rattle.blk_format.specs.Address.{file_selector};
 ghost use Rattle.blk_format.specs.BlockFiles.{IsWellFormed};
 ghost use Rattle.blk_format.specs.Maps.{EmptyAgrees};
 ghost use Rattle.blk_io.specs.Faults.{IfDamaged, IfDevice};
+ghost use Rattle.blk_disk.specs.Growth.{KeepsBlocks};
 ghost use Rattle.blk_disk.specs.Tables.{Agrees, stands_among};
 ghost use Rattle.blk_alloc.specs.Changes.{IsMidst};
 ghost use Rattle.blk_alloc.specs.Owning.{IsAllocated, IsFreed, IsCause};
@@ -30,6 +31,9 @@ pub fn free<F: Folder>(f: &mut F, files: &BlockFiles, addr: Addr) -> Result<(), 
 
     // At each word only map, counters and updating of the file have changed, and updating is 1 until all of it is done.
     ensures stops { ForSome (F.told f.old).files (λ from. PassesTo (F.told f.old) (F.told f.new) (IsMidst (file_selector addr) from) (λ image. IsMidst (file_selector addr) from image ⊎ IsFreed from addr image)) }
+
+    // Each block that stood still stands with its bytes, and a well-formed folder is still well formed.
+    ensures blocks { ForSome (F.told f.old).files (λ from. Passes (F.told f.old) (F.told f.new) (KeepsBlocks from)) }
     ensures formed { ForSome (F.told f.old).files (λ from. IsWellFormed from → Passes (F.told f.old) (F.told f.new) IsWellFormed) }
     ensures agrees { ForSome (F.told f.new).files (Agrees files.now) }
 

@@ -9,7 +9,9 @@ ghost use Rattle.blk_format.specs.BlockFiles.{most_files, IsWellFormed};
 ghost use Rattle.blk_format.specs.Maps.{group_size};
 ghost use Rattle.blk_addr.specs.Kind.{kind_number};
 ghost use Rattle.blk_io.specs.Faults.{IfDamaged, IfDevice};
+ghost use Rattle.blk_disk.specs.Growth.{KeepsBlocks};
 ghost use Rattle.blk_disk.specs.Tables.{Agrees, files_of, stands_among};
+ghost use Rattle.blk_alloc.specs.Owning.{KeepsExternals};
 ghost use Rattle.blk_alloc.specs.Fitting.{IsPlace};
 ghost use Rattle.blk_alloc.specs.Making.{HasMostBlocks, KeepsAll};
 ghost use Rattle.blk_alloc.specs.Giving.{AreCounted, HaveNoRoom, IsAddedPlace, IsCauseOf, IsChosen, IsFitTaken, IsFull, IsGiven, IsGiving, IsGrownPlace, IsMade, IsMaking, IsMakingIn, IsRefusal};
@@ -34,7 +36,7 @@ fn full_damage<F: Folder>(f: &mut F, files: &BlockFiles, kind: Kind) -> Result<D
     requires number { most_files ≤ length (files_of files.now (kind_number kind)) }
     requires full { All (HasMostBlocks files.now) (files_of files.now (kind_number kind)) }
     ensures full { IfOk result (IsFull files.now (kind_number kind) (F.told f.old)) }
-    ensures cause { IfDamaged result (IsCauseOf (F.told f.old)) }
+    ensures cause { IfDamaged result (IsCauseOf files.now (kind_number kind) (F.told f.old)) }
     ensures stays { Stays (F.told f.old) (F.told f.new) }
     ensures later { F.faults f.old ≤ F.faults f.new }
     ensures device { IfDevice result (Rises (F.faults f.old) (F.faults f.new)) }
@@ -71,8 +73,9 @@ fn new_room<F: Folder>(
     ensures all { OnOk result (KeepsAll files.old files.new) }
     ensures agrees { OnOk result (ForSome (F.told f.new).files (Agrees files.new)) }
     ensures stops { ForSome (F.told f.old).files (λ from. Passes (F.told f.old) (F.told f.new) (IsMaking files.old (kind_number kind) from)) }
+    ensures blocks { ForSome (F.told f.old).files (λ from. Passes (F.told f.old) (F.told f.new) (KeepsBlocks from)) }
     ensures formed { ForSome (F.told f.old).files (λ from. IsWellFormed from → Passes (F.told f.old) (F.told f.new) IsWellFormed) }
-    ensures cause { IfDamaged result (IsRefusal files.old (kind_number kind) (F.told f.old)) }
+    ensures cause { IfDamaged result (IsRefusal files.old files.new (kind_number kind) (F.told f.old)) }
     ensures untold { IfDamaged result (λ _. (F.told f.old).files ≡ None) }
     ensures later { F.faults f.old ≤ F.faults f.new }
     ensures device { IfDevice result (Rises (F.faults f.old) (F.faults f.new)) }
@@ -108,8 +111,9 @@ fn take_new<F: Folder>(
     ensures given { IfOk result (λ addr. ForSome (F.told f.old).files (λ from. ForSome (F.told f.new).files (IsGiven files.old from addr))) }
     ensures agrees { OnOk result (ForSome (F.told f.new).files (Agrees files.new)) }
     ensures stops { ForSome (F.told f.old).files (λ from. Passes (F.told f.old) (F.told f.new) (IsMaking files.old (kind_number kind) from)) }
+    ensures blocks { ForSome (F.told f.old).files (λ from. Passes (F.told f.old) (F.told f.new) (KeepsBlocks from)) }
     ensures formed { ForSome (F.told f.old).files (λ from. IsWellFormed from → Passes (F.told f.old) (F.told f.new) IsWellFormed) }
-    ensures cause { IfDamaged result (IsRefusal files.old (kind_number kind) (F.told f.old)) }
+    ensures cause { IfDamaged result (IsRefusal files.old files.new (kind_number kind) (F.told f.old)) }
     ensures untold { IfDamaged result (λ _. (F.told f.old).files ≡ None) }
     ensures later { F.faults f.old ≤ F.faults f.new }
     ensures device { IfDevice result (Rises (F.faults f.old) (F.faults f.new)) }
@@ -148,9 +152,13 @@ pub fn allocate<F: Folder>(
 
     // At each word only one file of the kind differs, in its length, map and counters, and where it grows or is added in what these touch; where none does, updating is 1 until map and counters are done.
     ensures stops { ForSome (F.told f.old).files (λ from. PassesTo (F.told f.old) (F.told f.new) (IsGiving files.old (kind_number kind) blocks from) (λ image. IsGiving files.old (kind_number kind) blocks from image ⊎ IsFitTaken files.old (kind_number kind) blocks from image)) }
+
+    // Each block that stood still stands with its bytes, each external file is as before, and a well-formed folder is still well formed.
+    ensures blocks { ForSome (F.told f.old).files (λ from. Passes (F.told f.old) (F.told f.new) (KeepsBlocks from)) }
+    ensures externals { ForSome (F.told f.old).files (λ from. Passes (F.told f.old) (F.told f.new) (KeepsExternals from)) }
     ensures formed { ForSome (F.told f.old).files (λ from. IsWellFormed from → Passes (F.told f.old) (F.told f.new) IsWellFormed) }
 
-    ensures cause { IfDamaged result (IsRefusal files.old (kind_number kind) (F.told f.old)) }
+    ensures cause { IfDamaged result (IsRefusal files.old files.new (kind_number kind) (F.told f.old)) }
     ensures untold { IfDamaged result (λ _. (F.told f.old).files ≡ None) }
     ensures later { F.faults f.old ≤ F.faults f.new }
     ensures device { IfDevice result (Rises (F.faults f.old) (F.faults f.new)) }

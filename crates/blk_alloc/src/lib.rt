@@ -3,6 +3,7 @@
 
 mod blocks;
 mod change;
+mod claimed;
 mod counters;
 mod fitting;
 mod freeing;
@@ -10,10 +11,12 @@ mod giving;
 mod making;
 mod map;
 mod plan;
+mod rebuilding;
 mod taking;
 
 pub use freeing::free;
 pub use giving::allocate;
+pub use rebuilding::rebuild;
 
 #[cfg(test)]
 mod tests;

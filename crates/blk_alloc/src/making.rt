@@ -8,7 +8,7 @@ ghost use Rattle.blk_format.specs.Address.{external};
 ghost use Rattle.blk_addr.specs.Kind.{kind_number};
 ghost use Rattle.blk_format.specs.Maps.{group_size, AreAllocations};
 ghost use Rattle.blk_disk.specs.Tables.{Agrees, blocks_of, files_of};
-ghost use Rattle.blk_disk.specs.Growth.{IsLeastFree, addition_of, free_number, growth_of};
+ghost use Rattle.blk_disk.specs.Growth.{IsLeastFree, KeepsBlocks, addition_of, free_number, growth_of};
 ghost use Rattle.blk_alloc.specs.Fitting.{IsPlace};
 ghost use Rattle.blk_alloc.specs.Making.{HasCounters, IsGrowing, KeepsAll, KeepsFiles, KeepsMarks};
 ghost use Rattle.blk_alloc.specs.Taking.{IsTakeable};
@@ -46,6 +46,7 @@ pub(crate) fn grow_room<F: Folder>(
     ensures agrees { OnOk result (ForSome (F.told f.new).files (Agrees files.new)) }
     ensures same { OnErr result (files.new ≡ files.old) }
     ensures outside { ForSome (F.told f.old).files (λ from. Passes (F.told f.old) (F.told f.new) (SameOutside (growth_of file) from)) }
+    ensures blocks { ForSome (F.told f.old).files (λ from. Passes (F.told f.old) (F.told f.new) (KeepsBlocks from)) }
     ensures formed { ForSome (F.told f.old).files (λ from. IsWellFormed from → Passes (F.told f.old) (F.told f.new) IsWellFormed) }
     ensures later { F.faults f.old ≤ F.faults f.new }
     ensures failed { OnErr result (Rises (F.faults f.old) (F.faults f.new)) }
@@ -77,6 +78,7 @@ pub(crate) fn add_room<F: Folder>(
     ensures keeps { OnOk result (ForSome (F.told f.old).files (λ from. ForSome (F.told f.new).files (KeepsFiles files.old from))) }
     ensures agrees { OnOk result (ForSome (F.told f.new).files (Agrees files.new)) }
     ensures outside { ForSome (F.told f.old).files (λ from. Passes (F.told f.old) (F.told f.new) (SameOutside (either (addition_of files.old (kind_number kind)) (growth_of (free_number files.old))) from)) }
+    ensures blocks { ForSome (F.told f.old).files (λ from. Passes (F.told f.old) (F.told f.new) (KeepsBlocks from)) }
     ensures formed { ForSome (F.told f.old).files (λ from. IsWellFormed from → Passes (F.told f.old) (F.told f.new) IsWellFormed) }
     ensures later { F.faults f.old ≤ F.faults f.new }
     ensures failed { OnErr result (Rises (F.faults f.old) (F.faults f.new)) }

@@ -87,7 +87,7 @@ pub(crate) fn least_place(bytes: &[u8], end: u32, count: u32) -> Option<u32>
 }
 
 // Marks a block, or clears its mark.
-fn set_mark(bytes: &mut [u8], b: u32, used: bool)
+pub(crate) fn set_mark(bytes: &mut [u8], b: u32, used: bool)
     requires { b < 8 * length bytes.old }
     ensures marks { (m : ℕ) → has_bit bytes.new m ≡ (if m == b then used else has_bit bytes.old m) }
     ensures length { length bytes.new ≡ length bytes.old }

@@ -8,7 +8,8 @@ ghost use Rattle.blk_format.specs.BlockFiles.{is_among, IsWellFormed};
 ghost use Rattle.blk_format.specs.Maps.{group_size};
 ghost use Rattle.blk_addr.specs.Kind.{kind_number};
 ghost use Rattle.blk_io.specs.Faults.{IfDamaged, IfDevice};
-ghost use Rattle.blk_disk.specs.Tables.{Agrees, all_files, stands_among};
+ghost use Rattle.blk_disk.specs.Growth.{KeepsBlocks};
+ghost use Rattle.blk_disk.specs.Tables.{Agrees, all_files, files_of, stands_among};
 ghost use Rattle.blk_alloc.specs.Fitting.{IsPlace};
 ghost use Rattle.blk_alloc.specs.Owning.{IsCause};
 ghost use Rattle.blk_alloc.specs.Taking.{IsTakeable, IsTaking, IsTaken};
@@ -80,7 +81,9 @@ pub(crate) fn take<F: Folder>(
     // At each word only the length, the map and the counters of the file have changed, and updating is 1 until the map and the counters are done.
     ensures stops { ForSome (F.told f.old).files (λ from. IsTakeable from place → PassesTo (F.told f.old) (F.told f.new) (IsTaking place.file from) (λ image. IsTaking place.file from image ⊎ IsTaken files.old from (address.block_word (kind_number kind) place.file place.start place.count) image)) }
     ensures formed { ForSome (F.told f.old).files (λ from. IsTakeable from place → IsWellFormed from → Passes (F.told f.old) (F.told f.new) IsWellFormed) }
+    ensures blocks { ForSome (F.told f.old).files (λ from. Passes (F.told f.old) (F.told f.new) (KeepsBlocks from)) }
     ensures silent { (F.told f.old).files ≡ None → (F.told f.new).files ≡ None }
+    ensures linked { IsTrue (is_among (files_of files.new (kind_number kind)) place.file) }
 
     ensures cause { IfDamaged result (λ damage. (told : Told) → told.files ≡ None → IsCause told place.file damage) }
     ensures untold { IfDamaged result (λ _. ForSome (F.told f.old).files (λ image. IsTakeable image place) → (F.told f.old).files ≡ None) }

@@ -5,8 +5,8 @@ ghost use Rattle.blk_image.specs.Image.{length_of};
 ghost use Rattle.blk_image.specs.Told.{Rises};
 ghost use Rattle.blk_io.specs.FileNames.{file_of};
 
-use crate::{allocate, free};
-use blk_addr::{Addr, Kind};
+use crate::{allocate, free, rebuild};
+use blk_addr::{Addr, Claims, Kind};
 use blk_disk::BlockFiles;
 use blk_io::{Damage, Failed, Fault, FileId, Folder, MemFolder};
 use std::alloc::Global;
@@ -364,5 +364,97 @@ fn a_counter_that_would_sink_below_0_is_a_damage(rt: HostRuntime) -> Result<(), 
         Err(Fault::Damaged(damage))
     );
     assert_eq!(rt; word_at(&mut f, 80), Ok(0x0F));
+    Ok(())
+}
+
+// A folder whose `data_1` has 1024 blocks, too few bytes for the last of them, and a header that is wrong
+// but for its hints and its number of blocks.
+fn wrong_folder(alloc: Global) -> Result<Untold, Fail> {
+    let mut inner = MemFolder::new(alloc);
+    let first = file_with(alloc, HEADER_LEN, &fields(0, 36))?;
+    inner.add_file(FileId::Block(0), &first)?;
+    let words = [
+        (0, MAGIC),
+        (4, 0x20000),
+        (8, 1),
+        (12, 256),
+        (16, 77),
+        (20, 1024),
+        (24, 9),
+        (36, 9),
+        (40, 5),
+        (52, 7),
+        (80, 0xFFFF_FFFF),
+        (112, 0x30),
+        (8188, 0xFF00_0000),
+    ];
+    let second = file_with(alloc, HEADER_LEN + 1000 * 256, &words)?;
+    inner.add_file(FileId::Block(1), &second)?;
+    let third = file_with(alloc, HEADER_LEN, &fields(2, 1024))?;
+    inner.add_file(FileId::Block(2), &third)?;
+    let fourth = file_with(alloc, HEADER_LEN, &fields(3, 4096))?;
+    inner.add_file(FileId::Block(3), &fourth)?;
+    Ok(Untold {
+        inner,
+        faults: 0,
+        calls: 0,
+    })
+}
+
+// Whether each of some words is an address that joins the claims.
+fn add_words(claims: &mut Claims, words: &[u32]) -> bool {
+    for word in words {
+        let Some(addr) = Addr::from_word(*word) else {
+            return false;
+        };
+        let Ok(true) = claims.add(addr) else {
+            return false;
+        };
+    }
+    true
+}
+
+// Makes the maps of a folder that tells nothing those of claims.
+fn rebuild_all<F: Folder>(f: &mut F, files: &mut BlockFiles, claims: &Claims) -> Result<(), Fault>
+    requires { ForSome (F.told f.old).files (λ _. ⊥) }
+{
+    rebuild(f, files, claims)
+}
+
+#[test]
+fn a_wrong_map_is_made_that_of_the_claims(rt: HostRuntime) -> Result<(), Fail> {
+    let mut f = wrong_folder(rt.alloc())?;
+    let Ok(files) = BlockFiles::load(&mut f) else {
+        panic!(rt; "the files are whole");
+    };
+    let mut files = files;
+
+    // A whole group, a block that leaves runs of 1 and 2, two blocks that leave a run of 2, and an external file.
+    let mut claims = Claims::new(rt.alloc());
+    let words = [0xA301_0000, 0xA001_0005, 0xA101_0102, 0x8000_0001];
+    assert!(rt; add_words(&mut claims, &words));
+    f.calls = 0;
+    assert_eq!(rt; rebuild_all(&mut f, &mut files, &claims), Ok(()));
+    assert_eq!(rt; f.calls, 81);
+    assert_eq!(rt; f.length(FileId::Block(1)), Ok(Some(270_336)));
+    let expected = [
+        (0, MAGIC),
+        (4, 0x20000),
+        (8, 1),
+        (12, 256),
+        (16, 3),
+        (20, 1024),
+        (28, 2),
+        (36, 253),
+        (40, 5),
+        (52, 7),
+        (80, 0x2F),
+        (112, 0x0C),
+    ];
+    let header = file_with(rt.alloc(), HEADER_LEN, &expected)?;
+    let mut found = Vec::new(rt.alloc());
+    found.resize(HEADER_LEN, 0)?;
+    f.read_at(FileId::Block(1), 0, &mut found)?;
+    assert!(rt; found == header);
     Ok(())
 }

@@ -5,6 +5,7 @@ use Rattle.blk_image.specs.Told.{PassesTo}
 use Rattle.blk_image.proofs.Runs.{passes_to, passes_weaker, passes_end}
 use Rattle.blk_format.specs.Address.{file_selector, first_block, block_count}
 use Rattle.blk_format.specs.BlockFiles.{IsWellFormed}
+use Rattle.blk_disk.specs.Growth.{KeepsBlocks}
 use Rattle.blk_disk.specs.Tables.{Agrees}
 use Rattle.blk_disk.proofs.Ranges.{stands_blocky}
 use Rattle.blk_alloc.specs.Changes.{IsMidst, IsReady, IsChanged, map_of}
@@ -14,6 +15,7 @@ use Rattle.blk_format.specs.BlockFiles.{max_entries_in}
 use Rattle.blk_alloc.proofs.Carried.{if_damaged_weaker, told_at_end}
 use Rattle.blk_alloc.proofs.Formed.{formed_kept, agrees_kept}
 use Rattle.blk_alloc.proofs.Freed.{free_ready, freed_is, allocated_blocks}
+use Rattle.blk_alloc.proofs.Externals.{map_blocks}
 use Rattle.blk_alloc.proofs.freeing.free.Goals as goal
 
 pub blocks_of-blocks-requires : goal.blocks_of-blocks-requires
@@ -79,3 +81,8 @@ returns-clause-untold g c =
     if_damaged_weaker c.change.result (λ _. ForSome (g.F.Folder.told c.args.f.now).files (λ image. IsReady image b.result.file b.result.start b.result.count false) → (g.F.Folder.told c.args.f.now).files ≡ None) (λ _. (g.F.Folder.told c.args.f.now).files ≡ None)
     (λ damage none. none (λ from there. (moved (λ n s k. IsReady from n s k false) c.args.addr b.result.file b.result.start b.result.count b.ensures.file b.ensures.start b.ensures.count
     (free_ready from c.args.addr (stands_blocky c.args.files.now c.args.addr c.requires.stands) (c.requires.agrees from there).undamaged (c.requires.allocated from there) (c.requires.empty from there))))) c.change.ensures.untold
+
+pub returns-clause-blocks : goal.returns-clause-blocks
+returns-clause-blocks g c from there =
+    let keeps : (i : Image) → SameOutside (map_of c.blocks_of-blocks.result.file) from i → KeepsBlocks from i = λ i same. map_blocks c.blocks_of-blocks.result.file from i same in
+    passes_weaker (c.change.ensures.outside from there) keeps keeps

@@ -4,6 +4,7 @@ use Rattle.blk_image.specs.Image.{Image}
 use Rattle.blk_image.specs.Told.{Told}
 use Rattle.blk_image.proofs.Runs.{passes_none, passes_to, passes_weaker, passes_stayed, some_inj}
 use Rattle.blk_addr.specs.Kind.{kind_number}
+use Rattle.blk_disk.specs.Growth.{KeepsBlocks}
 use Rattle.blk_disk.specs.Tables.{Agrees, files_of, stands_among}
 use Rattle.blk_alloc.specs.Fitting.{IsFitting, IsFirstFit, IsPlace}
 use Rattle.blk_alloc.specs.Giving.{AreCounted, HaveNoRoom, IsFitTaken, IsGiven, IsGiving, IsMaking, IsRefusal}
@@ -18,6 +19,8 @@ use Rattle.blk_alloc.proofs.Carried.{if_damaged_weaker}
 use Rattle.blk_alloc.proofs.Causes.{if_damaged_both}
 use Rattle.blk_alloc.proofs.Members.{member_all}
 use Rattle.blk_alloc.proofs.Rooms.{fit_takeable, given_fit, if_ok_both, word_file}
+use Rattle.blk_alloc.proofs.Externals.{giving_externals}
+use Rattle.blk_alloc.proofs.Sparing.{blocks_same}
 use Rattle.blk_alloc.proofs.giving.allocate.Goals as goal
 
 pub returns-in_err-place-clause-stops : goal.returns-in_err-place-clause-stops
@@ -131,6 +134,24 @@ returns-in-Some-clause-cause g c =
     let takeable : (i : Image) → (g.F.Folder.told c.args.f.now).files ≡ Some i → IsTakeable i c.in-Some.place =
     (λ i told. fit_takeable c.args.files.now i c.args.kind c.args.blocks c.in-Some.place c.requires.blocky c.requires.few (c.requires.agrees i told) (c.requires.counted i told) place (fits i told)) in
     if_damaged_both c.take.result (λ damage. (told : Told) → told.files ≡ None → IsCause told c.in-Some.place.file damage)
-    (λ _. ForSome (g.F.Folder.told c.first_fit.new.f).files (λ image. IsTakeable image c.in-Some.place) → (g.F.Folder.told c.first_fit.new.f).files ≡ None) (IsRefusal c.args.files.now (kind_number c.args.kind) (g.F.Folder.told c.args.f.now))
-    (λ damage cause none. inl (record { file = c.in-Some.place.file; cause = cause (g.F.Folder.told c.args.f.now) (ap (λ (t : Told). t.files) (sym c.in_ok-place.ensures.stays) ∙ none (λ i now. takeable i (ap (λ (t : Told). t.files) (sym c.in_ok-place.ensures.stays) ∙ now))) }))
+    (λ _. ForSome (g.F.Folder.told c.first_fit.new.f).files (λ image. IsTakeable image c.in-Some.place) → (g.F.Folder.told c.first_fit.new.f).files ≡ None) (IsRefusal c.args.files.now c.take.new.files (kind_number c.args.kind) (g.F.Folder.told c.args.f.now))
+    (λ damage cause none. inl (record { file = c.in-Some.place.file; linked = c.take.ensures.linked; cause = cause (g.F.Folder.told c.args.f.now) (ap (λ (t : Told). t.files) (sym c.in_ok-place.ensures.stays) ∙ none (λ i now. takeable i (ap (λ (t : Told). t.files) (sym c.in_ok-place.ensures.stays) ∙ now))) }))
     c.take.ensures.cause c.take.ensures.untold
+
+pub returns-in_err-place-clause-blocks : goal.returns-in_err-place-clause-blocks
+returns-in_err-place-clause-blocks g c from there = passes_none (KeepsBlocks from) c.in_err-place.ensures.stays (λ image is. subst (KeepsBlocks from) (some_inj (sym there ∙ is)) (blocks_same from))
+
+pub returns-in-Some-clause-blocks : goal.returns-in-Some-clause-blocks
+returns-in-Some-clause-blocks g c from there = passes_stayed c.in_ok-place.ensures.stays (c.take.ensures.blocks from (ap (λ (t : Told). t.files) c.in_ok-place.ensures.stays ∙ there))
+
+pub returns-in-None-clause-blocks : goal.returns-in-None-clause-blocks
+returns-in-None-clause-blocks g c from there = passes_stayed c.in_ok-place.ensures.stays (c.take_new.ensures.blocks from (ap (λ (t : Told). t.files) c.in_ok-place.ensures.stays ∙ there))
+
+pub returns-in_err-place-clause-externals : goal.returns-in_err-place-clause-externals
+returns-in_err-place-clause-externals g c from there = giving_externals c.args.files.now (kind_number c.args.kind) c.args.blocks from (returns-in_err-place-clause-stops g c from there)
+
+pub returns-in-Some-clause-externals : goal.returns-in-Some-clause-externals
+returns-in-Some-clause-externals g c from there = giving_externals c.args.files.now (kind_number c.args.kind) c.args.blocks from (returns-in-Some-clause-stops g c from there)
+
+pub returns-in-None-clause-externals : goal.returns-in-None-clause-externals
+returns-in-None-clause-externals g c from there = giving_externals c.args.files.now (kind_number c.args.kind) c.args.blocks from (returns-in-None-clause-stops g c from there)

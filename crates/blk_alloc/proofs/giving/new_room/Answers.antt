@@ -133,3 +133,11 @@ returns-clause-stops g c from there =
     let kind : ℕ = kind_number c.args.kind in
     let keeps : (i : Image) → SameOutside (either (addition_of c.args.files.now kind) (growth_of (free_number c.args.files.now))) from i → IsMaking c.args.files.now kind from i = λ i same. record { file = free_number c.args.files.now; making = making_added c.args.files.now kind from i c.in_default.ensures same } in
     passes_weaker (c.in_ok-place-2.ensures.outside from there) keeps keeps
+
+pub returns-in_err-damage-clause-blocks : goal.returns-in_err-damage-clause-blocks
+returns-in_err-damage-clause-blocks g c from there =
+    absurd (never_full c.args.files.now from c.args.kind c.args.count c.requires.blocky c.requires.few (c.requires.agrees from there) (c.requires.counted from there) (c.requires.full from there) c.in_default.ensures (many_files c.count.result (length (files_of c.args.files.now (kind_number c.args.kind))) c.count.ensures c.if-count-ge-MOST_FILES.true))
+
+pub returns-then-count-ge-MOST_FILES-clause-blocks : goal.returns-then-count-ge-MOST_FILES-clause-blocks
+returns-then-count-ge-MOST_FILES-clause-blocks g c from there =
+    absurd (never_full c.args.files.now from c.args.kind c.args.count c.requires.blocky c.requires.few (c.requires.agrees from there) (c.requires.counted from there) (c.requires.full from there) c.in_default.ensures (many_files c.count.result (length (files_of c.args.files.now (kind_number c.args.kind))) c.count.ensures c.if-count-ge-MOST_FILES.true))

@@ -7,6 +7,7 @@ use Rattle.blk_image.specs.Footprint.{SameOutside}
 use Rattle.blk_image.proofs.Runs.{passes_end, passes_then, passes_weaker}
 use Rattle.blk_format.specs.Address.{block_word, file_selector}
 use Rattle.blk_addr.specs.Kind.{kind_number}
+use Rattle.blk_disk.specs.Growth.{KeepsBlocks}
 use Rattle.blk_disk.specs.Tables.{stands_among}
 use Rattle.blk_alloc.specs.Owning.{IsCause}
 use Rattle.blk_alloc.specs.Taking.{IsTakeable, IsTaken, IsTaking, taking_of}
@@ -14,6 +15,8 @@ use Rattle.blk_alloc.specs.Giving.{IsChosen, IsGiven, IsMaking, IsRefusal}
 use Rattle.blk_alloc.proofs.Causes.{if_damaged_both}
 use Rattle.blk_alloc.proofs.Carried.{if_damaged_weaker}
 use Rattle.blk_alloc.proofs.Rooms.{given_made, if_ok_both, making_taken, told_later, untold_before, word_file}
+use Rattle.blk_alloc.proofs.Sparing.{blocks_then}
+use Rattle.blk_alloc.proofs.Written.{passes_on}
 use Rattle.blk_alloc.proofs.giving.take_new.Goals as goal
 
 pub returns-clause-chosen : goal.returns-clause-chosen
@@ -76,8 +79,8 @@ returns-clause-cause g c =
     let start : (ForSome (g.F.Folder.told c.new_room.new.f).files (λ mid. IsTakeable mid c.in_ok-place.place) → (g.F.Folder.told c.new_room.new.f).files ≡ None) → (g.F.Folder.told c.args.f.now).files ≡ None =
     silent_start (IsMaking c.args.files.now kind) (λ mid. IsTakeable mid c.in_ok-place.place) c.in_ok-place.ensures.stops (λ from there mid now. (c.in_ok-place.ensures.made from there mid now).takeable) in
     if_damaged_both c.take.result (λ damage. (told : Told) → told.files ≡ None → IsCause told c.in_ok-place.place.file damage)
-    (λ _. ForSome (g.F.Folder.told c.new_room.new.f).files (λ mid. IsTakeable mid c.in_ok-place.place) → (g.F.Folder.told c.new_room.new.f).files ≡ None) (IsRefusal c.args.files.now kind (g.F.Folder.told c.args.f.now))
-    (λ damage cause none. inl (record { file = c.in_ok-place.place.file; cause = cause (g.F.Folder.told c.args.f.now) (start none) }))
+    (λ _. ForSome (g.F.Folder.told c.new_room.new.f).files (λ mid. IsTakeable mid c.in_ok-place.place) → (g.F.Folder.told c.new_room.new.f).files ≡ None) (IsRefusal c.args.files.now c.take.new.files kind (g.F.Folder.told c.args.f.now))
+    (λ damage cause none. inl (record { file = c.in_ok-place.place.file; linked = c.take.ensures.linked; cause = cause (g.F.Folder.told c.args.f.now) (start none) }))
     c.take.ensures.cause c.take.ensures.untold
 
 pub returns-clause-untold : goal.returns-clause-untold
@@ -87,3 +90,9 @@ returns-clause-untold g c =
     silent_start (IsMaking c.args.files.now kind) (λ mid. IsTakeable mid c.in_ok-place.place) c.in_ok-place.ensures.stops (λ from there mid now. (c.in_ok-place.ensures.made from there mid now).takeable) in
     if_damaged_weaker c.take.result (λ _. ForSome (g.F.Folder.told c.new_room.new.f).files (λ mid. IsTakeable mid c.in_ok-place.place) → (g.F.Folder.told c.new_room.new.f).files ≡ None) (λ _. (g.F.Folder.told c.args.f.now).files ≡ None)
     (λ damage none. start none) c.take.ensures.untold
+
+pub returns-clause-blocks : goal.returns-clause-blocks
+returns-clause-blocks g c from there =
+    passes_on from there (c.in_ok-place.ensures.blocks from there)
+    (λ mid now keeps. let later : (i : Image) → KeepsBlocks mid i → KeepsBlocks from i = λ i more. blocks_then from mid i keeps more in
+    passes_weaker (c.take.ensures.blocks mid now) later later)

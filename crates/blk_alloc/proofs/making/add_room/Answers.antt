@@ -7,11 +7,13 @@ use Rattle.blk_image.proofs.Footprints.{outside-refl, outside-trans, outside_wid
 use Rattle.blk_image.proofs.Runs.{passes_end, passes_then, passes_weaker}
 use Rattle.blk_addr.specs.Kind.{kind_number}
 use Rattle.blk_disk.specs.Tables.{Joins}
-use Rattle.blk_disk.specs.Growth.{IsLeastFree, addition_of, free_number, growth_of, add_steps, last_file}
+use Rattle.blk_disk.specs.Growth.{IsLeastFree, KeepsBlocks, addition_of, free_number, growth_of, add_steps, last_file}
 use Rattle.blk_alloc.specs.Making.{HasCounters}
 use Rattle.blk_alloc.proofs.Adding.{added_file, new_allocations, new_counters, new_among, join_keeps, join_widens, all_kept}
 use Rattle.blk_alloc.proofs.Members.{member_all}
 use Rattle.blk_alloc.proofs.Causes.{told_before}
+use Rattle.blk_alloc.proofs.Sparing.{blocks_then}
+use Rattle.blk_alloc.proofs.Written.{passes_on}
 use Rattle.blk_alloc.proofs.making.add_room.Goals as goal
 
 -- no files
@@ -119,3 +121,15 @@ returns-clause-fresh g c from there image last =
     let file = added_file c.args.files.now from c.args.kind c.requires.blocky (c.requires.agrees from there) c.requires.room least in
     let linked = member_all c.add_file.new.self c.args.kind n c.requires.blocky (new_among c.args.files.now c.add_file.new.self from mid kind n (last_file c.args.files.now kind) least.free joins same) in
     (c.in_ok-place.ensures.keeps mid now image last n linked).allocations [] (new_allocations mid kind n file)
+
+pub returns-in_err-place-clause-blocks : goal.returns-in_err-place-clause-blocks
+returns-in_err-place-clause-blocks g c from there =
+    passes_on from there (c.in_ok-file.ensures.blocks from there)
+    (λ mid now keeps. let later : (i : Image) → KeepsBlocks mid i → KeepsBlocks from i = λ i more. blocks_then from mid i keeps more in
+    passes_weaker (c.in_err-place.ensures.blocks mid now) later later)
+
+pub returns-clause-blocks : goal.returns-clause-blocks
+returns-clause-blocks g c from there =
+    passes_on from there (c.in_ok-file.ensures.blocks from there)
+    (λ mid now keeps. let later : (i : Image) → KeepsBlocks mid i → KeepsBlocks from i = λ i more. blocks_then from mid i keeps more in
+    passes_weaker (c.in_ok-place.ensures.blocks mid now) later later)

@@ -6,19 +6,23 @@ use Rattle.blk_addr.specs.Kind.{kind_number}
 use Rattle.blk_image.specs.Image.{Image, Block}
 use Rattle.blk_image.specs.Footprint.{SameOutside, size_of}
 use Rattle.blk_image.proofs.Runs.{passes_to, passes_none, passes_end, passes_weaker, some_inj}
-use Rattle.blk_disk.specs.Growth.{fit_steps}
+use Rattle.blk_disk.specs.Growth.{KeepsBlocks, fit_steps}
+use Rattle.blk_disk.specs.declared.tables.BlockFiles.{BlockFiles}
 use Rattle.blk_alloc.specs.Taking.{IsTakeable, IsTaking, IsTaken}
 use Rattle.blk_alloc.specs.Changes.{IsReady, map_of}
 use Rattle.blk_alloc.proofs.Formed.{agrees_kept}
 use Rattle.blk_alloc.proofs.Members.{member_all, member_head}
 use Rattle.blk_alloc.proofs.Taken.{taking_fit}
 use Rattle.blk_image.proofs.Footprints.{outside-refl}
-use Rattle.blk_disk.specs.Tables.{Agrees, stands_among}
+use Rattle.blk_disk.specs.Tables.{Agrees, files_of, stands_among}
 use Rattle.blk_alloc.proofs.TakenAfter.{ready_after, stops_after, taken_after, stands_after, formed_after}
 use Rattle.blk_image.specs.Steps.{after}
 use Rattle.blk_alloc.specs.Owning.{IsCause}
-use Rattle.blk_alloc.proofs.Carried.{carried, if_damaged_weaker, told_at_end}
+use Rattle.blk_io.proofs.Carried.{carried}
+use Rattle.blk_alloc.proofs.Carried.{if_damaged_weaker, told_at_end}
 use Rattle.blk_alloc.proofs.Causes.{cause_before, none_before}
+use Rattle.blk_alloc.proofs.Externals.{fit_then_blocks}
+use Rattle.blk_alloc.proofs.Sparing.{blocks_same}
 use Rattle.blk_alloc.proofs.taking.take.Goals as goal
 
 pub fit-requires-clause-linked : goal.fit-requires-clause-linked
@@ -114,3 +118,23 @@ returns-in_err-change-clause-untold g c =
     (λ damage none tk. none_before (after (fit_steps c.args.files.now c.args.place.file)) (g.F.Folder.told c.args.f.now).files (g.F.Folder.told c.fit.new.f).files c.in_ok-fit.ensures.fitted.files
     (none (ready_after (g.F.Folder.told c.args.f.now) (g.F.Folder.told c.fit.new.f) c.args.files.now c.fit.new.self c.args.place c.requires.agrees (member_all c.args.files.now c.args.kind c.args.place.file c.requires.blocky c.requires.place.linked)
     c.in_ok-fit.ensures.fitted c.in_ok-fit.ensures.kept c.in_ok-fit.ensures.agrees tk))) c.change.ensures.untold)
+
+pub returns-in_err-fit-clause-blocks : goal.returns-in_err-fit-clause-blocks
+returns-in_err-fit-clause-blocks g c from there = passes_none (KeepsBlocks from) c.in_err-fit.ensures.undone (λ image is. subst (KeepsBlocks from) (some_inj (sym there ∙ is)) (blocks_same from))
+
+pub returns-in_err-change-clause-blocks : goal.returns-in_err-change-clause-blocks
+returns-in_err-change-clause-blocks g c from there =
+    fit_then_blocks c.args.files.now c.args.place.file from (c.requires.agrees from there) (member_all c.args.files.now c.args.kind c.args.place.file c.requires.blocky c.requires.place.linked) there c.in_ok-fit.ensures.fitted c.in_err-change.ensures.outside
+
+pub returns-clause-blocks : goal.returns-clause-blocks
+returns-clause-blocks g c from there =
+    fit_then_blocks c.args.files.now c.args.place.file from (c.requires.agrees from there) (member_all c.args.files.now c.args.kind c.args.place.file c.requires.blocky c.requires.place.linked) there c.in_ok-fit.ensures.fitted c.in_ok-change.ensures.outside
+
+pub returns-in_err-fit-clause-linked : goal.returns-in_err-fit-clause-linked
+returns-in_err-fit-clause-linked g c = ap (λ (files : BlockFiles). is_among (files_of files (kind_number c.args.kind)) c.args.place.file) c.in_err-fit.ensures.same ∙ c.requires.place.linked
+
+pub returns-in_err-change-clause-linked : goal.returns-in_err-change-clause-linked
+returns-in_err-change-clause-linked g c = ap (λ (l : List ℕ). is_among l c.args.place.file) (c.in_ok-fit.ensures.kept.files (kind_number c.args.kind)) ∙ c.requires.place.linked
+
+pub returns-clause-linked : goal.returns-clause-linked
+returns-clause-linked g c = ap (λ (l : List ℕ). is_among l c.args.place.file) (c.in_ok-fit.ensures.kept.files (kind_number c.args.kind)) ∙ c.requires.place.linked

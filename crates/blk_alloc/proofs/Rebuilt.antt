@@ -1,0 +1,115 @@
+-- Files that are rebuilt one after another, in the order of their numbers.
+use Rattle.std.proofs.Common.{◌≡◌, ◌≢◌, ℕ, ◌+◌, ◌<◌, ◌≤◌, List, [], ◌∷◌, true, false, max, None, refl, sym, ◌∙◌, ap, subst, arith, ⊎_elim}
+use Rattle.std.specs.Option.{ForSome}
+use Rattle.std.proofs.lemmas.Bool.{cases_eq}
+use Rattle.blk_image.specs.Image.{Image, Block, External}
+use Rattle.blk_image.specs.Told.{Told, Passes}
+use Rattle.blk_image.proofs.Runs.{passes_end, passes_none, passes_weaker, some_inj}
+use Rattle.blk_format.specs.BlockFiles.{is_among, IsWellFormed}
+use Rattle.blk_addr.specs.declared.claim_set.Claims.{Claims}
+use Rattle.blk_disk.specs.declared.tables.BlockFiles.{BlockFiles}
+use Rattle.blk_disk.specs.Tables.{Agrees, Resizes, all_files, length_in}
+use Rattle.blk_disk.specs.Growth.{KeepsBlocks, whole_length}
+use Rattle.blk_alloc.specs.Rebuilding.{is_block_file, rebuilding_of, AreItsAllocations, IsRebuilding, IsRebuilt}
+use Rattle.blk_alloc.proofs.Carried.{told_at_end}
+use Rattle.blk_alloc.proofs.Fitted.{HasFitted, none_fitted, none_more, one_fitted}
+use Rattle.blk_alloc.proofs.Members.{all_head}
+use Rattle.blk_alloc.proofs.Owned.{allocations_are, stands_still}
+use Rattle.blk_alloc.proofs.Remade.{one_more, others_kept, rebuilding_begin, rebuilding_spares, rebuilt_same}
+use Rattle.blk_alloc.proofs.Sparing.{formed_spared, keeps_blocks}
+use Rattle.blk_alloc.proofs.Written.{passes_on}
+
+-- the linked files whose numbers are below one are rebuilt, and all others are as before
+pub record HasRebuilt (a b : Told) (old now : BlockFiles) (claims : Claims) (count : ℕ) : Type 0 where
+  pub rebuilt : ForSome b.files (λ image. (n : ℕ) → n < count → is_among (all_files old) n ≡ true → IsRebuilt claims image n)
+  pub untouched : ForSome a.files (λ from. ForSome b.files (λ image. (n : ℕ) → count ≤ n → image (Block n) ≡ from (Block n)))
+  pub fitted : HasFitted old now count
+  pub agrees : ForSome b.files (Agrees now)
+  pub stops : ForSome a.files (λ from. Passes a b (IsRebuilding claims (all_files old) from))
+  pub silent : a.files ≡ None → b.files ≡ None
+
+pub none_rebuilt : (a : Told) (files : BlockFiles) (claims : Claims) → ForSome a.files (Agrees files) → HasRebuilt a a files files claims 0
+none_rebuilt a files claims agrees = record {
+  rebuilt = λ image there n below among. absurd (omega (arith, below));
+  untouched = λ from there image now n high. ap (λ (i : Image). i (Block n)) (some_inj (sym now ∙ there));
+  fitted = none_fitted files;
+  agrees = agrees;
+  stops = λ from there. passes_none (IsRebuilding claims (all_files files) from) refl (λ image is. subst (IsRebuilding claims (all_files files) from) (some_inj (sym there ∙ is)) (rebuilding_begin claims (all_files files) from));
+  silent = λ none. none;
+}
+
+module _ (a b : Told) (old mid : BlockFiles) (claims : Claims) (n : ℕ) (before : HasRebuilt a b old mid claims n) where
+  -- a file that isn't linked is passed over
+  pub next_none : is_among (all_files mid) n ≡ false → HasRebuilt a b old mid claims (n + 1)
+  next_none apart = record {
+    rebuilt = λ image now m below among. ⊎_elim (λ (e : m ≡ n). absurd (clash (sym (sym (ap (is_among (all_files old)) e) ∙ among) ∙ ap (λ (l : List ℕ). is_among l n) (sym before.fitted.all) ∙ apart))) (λ (differs : m ≢ n). before.rebuilt image now m (omega (arith, below, differs)) among) (cases_eq m n);
+    untouched = λ from there image now m high. before.untouched from there image now m (omega (arith, high));
+    fitted = none_more old mid n apart before.fitted;
+    agrees = before.agrees;
+    stops = before.stops;
+    silent = before.silent;
+  }
+    where
+      clash : true ≡ false → ⊥
+      clash e = cc
+
+  module _ (c : Told) (linked : is_among (all_files mid) n ≡ true) (stops : ForSome b.files (λ from. Passes b c (IsRebuilding claims (n ∷ []) from))) where
+    among : is_among (all_files old) n ≡ true
+    among = ap (λ (l : List ℕ). is_among l n) (sym before.fitted.all) ∙ linked
+
+    -- a linked file is under way
+    pub next_stops : ForSome a.files (λ from. Passes a c (IsRebuilding claims (all_files old) from))
+    next_stops from there =
+        passes_on from there (before.stops from there)
+        (λ image now so_far.
+        let keeps : (i : Image) → IsRebuilding claims (n ∷ []) image i → IsRebuilding claims (all_files old) from i = λ i more. one_more claims (all_files old) n among from image so_far (before.untouched from there image now n (omega arith)) i more in
+        passes_weaker (stops image now) keeps keeps)
+
+    -- and is rebuilt
+    pub next_rebuilt : (new : BlockFiles) → (b.files ≡ None → c.files ≡ None) → ForSome c.files (λ image. IsRebuilt claims image n) → Resizes mid new n (max (length_in mid n) (whole_length mid n)) → ForSome c.files (Agrees new) → HasRebuilt a c old new claims (n + 1)
+    next_rebuilt new silent done resizes agrees = record {
+      rebuilt =
+          told_at_end b.files c.files (λ image. (m : ℕ) → m < n + 1 → is_among (all_files old) m ≡ true → IsRebuilt claims image m) silent
+          (λ image now later is m below there.
+          ⊎_elim (λ (e : m ≡ n). subst (IsRebuilt claims later) (sym e) (done later is))
+          (λ (differs : m ≢ n). rebuilt_same claims image later m (others_kept claims n m image later differs (passes_end (stops image now) later is)) (before.rebuilt image now m (omega (arith, below, differs)) there)) (cases_eq m n));
+      untouched = λ from there.
+          told_at_end b.files c.files (λ image. (m : ℕ) → n + 1 ≤ m → image (Block m) ≡ from (Block m)) silent
+          (λ image now later is m high. others_kept claims n m image later (above m high) (passes_end (stops image now) later is) ∙ before.untouched from there image now m (omega (arith, high)));
+      fitted = one_fitted old mid new n before.fitted resizes;
+      agrees = agrees;
+      stops = next_stops;
+      silent = λ none. silent (before.silent none);
+    }
+      where
+        above : (m : ℕ) → n + 1 ≤ m → m ≢ n
+        above m high e = absurd (omega (arith, high, e))
+
+-- All files.
+
+module _ (a b : Told) (old : BlockFiles) (claims : Claims) (stops : ForSome a.files (λ from. Passes a b (IsRebuilding claims (all_files old) from))) where
+  -- each block that stood still stands at each moment
+  pub all_blocks : ForSome a.files (λ from. Passes a b (KeepsBlocks from))
+  all_blocks from there =
+      let keeps : (i : Image) → IsRebuilding claims (all_files old) from i → KeepsBlocks from i = λ i rebuilding. keeps_blocks (rebuilding_of (all_files old)) from i (rebuilding_spares (all_files old)) rebuilding.same rebuilding.longer in
+      passes_weaker (stops from there) keeps keeps
+
+  -- and a well-formed folder is still so
+  pub all_formed : ForSome a.files (λ from. IsWellFormed from → Passes a b IsWellFormed)
+  all_formed from there formed =
+      let keeps : (i : Image) → IsRebuilding claims (all_files old) from i → IsWellFormed i = λ i rebuilding. formed_spared (rebuilding_of (all_files old)) from i (rebuilding_spares (all_files old)) rebuilding.same rebuilding.longer formed in
+      passes_weaker (stops from there) keeps keeps
+
+module _ (a b : Told) (old now : BlockFiles) (claims : Claims) (count : ℕ) (all : 256 ≤ count) (agrees : ForSome a.files (Agrees old)) (has : HasRebuilt a b old now claims count) where
+  -- all linked files are rebuilt
+  pub all_rebuilt : ForSome b.files (λ image. (n : ℕ) → is_among (all_files old) n ≡ true → IsRebuilt claims image n)
+  all_rebuilt =
+      told_at_end a.files b.files (λ image. (n : ℕ) → is_among (all_files old) n ≡ true → IsRebuilt claims image n) has.silent
+      (λ from there image is n among. let small = (all_head old from n (agrees from there) among).number in has.rebuilt image is n (omega (arith, small, all)) among)
+
+  -- the addresses of each that were added are its allocations
+  pub all_allocations : ForSome a.files (λ from. ForSome b.files (AreItsAllocations claims (all_files old) from))
+  all_allocations from there image is words of n among stand =
+      let rebuilding = passes_end (has.stops from there) image is in
+      let keeps = keeps_blocks (rebuilding_of (all_files old)) from image (rebuilding_spares (all_files old)) rebuilding.same rebuilding.longer in
+      allocations_are claims words n from image of (all_rebuilt image is n among) (λ w. stands_still from image w keeps (λ m. rebuilding.same.files (External m) (unfold is_block_file in refl))) stand

@@ -1,0 +1,91 @@
+-- Changes that spare the fields of headers that say what is linked, and all blocks.
+use Rattle.std.proofs.Common.{◌≡◌, ℕ, ◌+◌, ◌-◌, ◌*◌, ◌<◌, ◌≤◌, ◌⊎◌, inl, inr, List, Bool, true, false, ◌&&◌, ◌||◌, nat_le, nat_lt, refl, ◌∙◌, ap, arith}
+use Rattle.std.proofs.lemmas.Bool.Decides.{nat_tests}
+use Rattle.blk_image.specs.Image.{Image, Index, Block, byte, length_of, same_file}
+use Rattle.blk_image.specs.Footprint.{Footprint, SameOutside, size_of}
+use Rattle.blk_format.specs.Address.{file_selector}
+use Rattle.blk_format.specs.BlockFiles.{linked, type_among, files_along, next_file_in, max_entries_in, is_block_count, IsWellFormed}
+use Rattle.blk_disk.specs.Growth.{KeepsBlocks}
+use Rattle.blk_disk.proofs.Agreeing.{past_header}
+use Rattle.blk_disk.proofs.Keeping.{KeepsHead, undamaged_still}
+use Rattle.blk_disk.proofs.Enlarging.{well_formed_still}
+use Rattle.blk_disk.proofs.Ranges.{stands_more}
+use Rattle.blk_alloc.specs.Changes.{map_of}
+
+-- of a header only num_entries and what lies behind max_entries is touched, of blocks nothing, and of the index nothing
+pub record SparesFields (F : Footprint) : Type 0 where
+  pub fields : (m i : ℕ) → (i < 16) ⊎ ((20 ≤ i) × (i < 24)) → F.bytes (Block m) i ≡ false
+  pub blocks : (m i : ℕ) → 8192 ≤ i → F.bytes (Block m) i ≡ false
+  pub index : (i : ℕ) → F.bytes Index i ≡ false
+  pub index_size : F.sizes Index ≡ false
+
+pub map_spares : (n : ℕ) → SparesFields (map_of n)
+map_spares n = record {
+  fields = λ m i field. fields_of i field (same_file (Block n) (Block m));
+  blocks = λ m i past. blocks_of i past (same_file (Block n) (Block m));
+  index = λ i. refl;
+  index_size = refl;
+}
+  where
+    fields_of : (i : ℕ) → (i < 16) ⊎ ((20 ≤ i) × (i < 24)) → (t : Bool)
+        → ((t && (nat_le 16 i && nat_lt i 20)) || ((t && (nat_le 24 i && nat_lt i 40)) || ((t && (nat_le 56 i && nat_lt i 60)) || (t && (nat_le 80 i && nat_lt i 8192))))) ≡ false
+    fields_of i field true = grind (arith, nat_tests)
+    fields_of i field false = refl
+
+    blocks_of : (i : ℕ) → 8192 ≤ i → (t : Bool)
+        → ((t && (nat_le 16 i && nat_lt i 20)) || ((t && (nat_le 24 i && nat_lt i 40)) || ((t && (nat_le 56 i && nat_lt i 60)) || (t && (nat_le 80 i && nat_lt i 8192))))) ≡ false
+    blocks_of i past true = grind (arith, nat_tests)
+    blocks_of i past false = refl
+
+pub size_spares : (n : ℕ) → SparesFields (size_of (Block n))
+size_spares n = record { fields = λ m i field. refl; blocks = λ m i past. refl; index = λ i. refl; index_size = refl }
+
+module _ (F : Footprint) (from image : Image) (spares : SparesFields F) (same : SameOutside F from image) (longer : (m : ℕ) → length_of from (Block m) ≤ length_of image (Block m)) where
+  kept : (m i : ℕ) → (i < 16) ⊎ ((20 ≤ i) × (i < 24)) → byte image (Block m) i ≡ byte from (Block m) i
+  kept m i field = same.bytes (Block m) i (spares.fields m i field)
+
+  pub next_spared : next_file_in image ≡ next_file_in from
+  unfolding next_file_in
+  next_spared = λ j m. kept m 10 (inl (omega arith)) j + 256 * kept m 11 (inl (omega arith)) j
+
+  pub blocks_spared : (m : ℕ) → max_entries_in image m ≡ max_entries_in from m
+  unfolding max_entries_in
+  blocks_spared m = λ j. kept m 20 (inr (omega arith, omega arith)) j + 256 * kept m 21 (inr (omega arith, omega arith)) j + 65536 * kept m 22 (inr (omega arith, omega arith)) j + 16777216 * kept m 23 (inr (omega arith, omega arith)) j
+
+  pub linked_spared : linked image ≡ linked from
+  unfolding linked
+  linked_spared = λ j kind. files_along (next_spared j) 59 (kind - 1)
+
+  heads_spared : (m : ℕ) → KeepsHead from image m
+  heads_spared m = record {
+    longer = longer m;
+    magic = λ j. kept m 0 (inl (omega arith)) j + 256 * kept m 1 (inl (omega arith)) j + 65536 * kept m 2 (inl (omega arith)) j + 16777216 * kept m 3 (inl (omega arith)) j;
+    is_version = λ j. kept m 4 (inl (omega arith)) j + 256 * kept m 5 (inl (omega arith)) j + 65536 * kept m 6 (inl (omega arith)) j + 16777216 * kept m 7 (inl (omega arith)) j;
+    this_file = λ j. kept m 8 (inl (omega arith)) j + 256 * kept m 9 (inl (omega arith)) j;
+    entry_size = λ j. kept m 12 (inl (omega arith)) j + 256 * kept m 13 (inl (omega arith)) j + 65536 * kept m 14 (inl (omega arith)) j + 16777216 * kept m 15 (inl (omega arith)) j;
+    count = λ is. ap is_block_count (blocks_spared m) ∙ is;
+  }
+
+  -- a well-formed folder is still so
+  pub formed_spared : IsWellFormed from → IsWellFormed image
+  formed_spared formed = well_formed_still from image (λ i. same.bytes Index i (spares.index i)) (same.lengths Index spares.index_size) (undamaged_still from image next_spared heads_spared) formed
+
+  -- each block still stands, with its bytes
+  pub keeps_blocks : KeepsBlocks from image
+  keeps_blocks = record {
+    stand = λ w stands.
+        let blocks = blocks_spared (file_selector w) in
+        stands_more from image w (ap (λ (lists : ℕ → List ℕ). type_among lists (file_selector w)) linked_spared) (omega (arith, blocks)) (longer (file_selector w)) stands;
+    bytes = λ w i stands low high. same.bytes (Block (file_selector w)) i (spares.blocks (file_selector w) i (let past = past_header w in omega (arith, past, low)));
+  }
+
+-- no change
+pub blocks_same : (image : Image) → KeepsBlocks image image
+blocks_same image = record { stand = λ w stands. stands; bytes = λ w i stands low high. refl }
+
+-- one change after another
+pub blocks_then : (a b c : Image) → KeepsBlocks a b → KeepsBlocks b c → KeepsBlocks a c
+blocks_then a b c one other = record {
+  stand = λ w stands. other.stand w (one.stand w stands);
+  bytes = λ w i stands low high. other.bytes w i (one.stand w stands) low high ∙ one.bytes w i stands low high;
+}

@@ -1,0 +1,63 @@
+use Rattle.std.proofs.Common.{◌≡◌, ◌≤◌, ℕ, ◌+◌, Bool, true, false, if◌then◌else◌, Option, None, Some, sym, ◌∙◌, ap, subst, arith}
+use Rattle.std.specs.Option.{is_some}
+use Rattle.blk_image.specs.Told.{Told}
+use Rattle.blk_format.specs.BlockFiles.{is_among}
+use Rattle.blk_disk.specs.declared.tables.BlockFiles.{BlockFiles}
+use Rattle.blk_disk.specs.Tables.{all_files}
+use Rattle.blk_alloc.proofs.Rebuilt.{HasRebuilt, none_rebuilt, next_none, next_rebuilt, next_stops, all_allocations, all_blocks, all_formed, all_rebuilt}
+use Rattle.blk_alloc.proofs.rebuilding.rebuild.Goals as goal
+use Rattle.blk_alloc.proofs.rebuilding.rebuild.Goals.{then-is_some+in_ok-rebuild_file, else-is_some}
+
+-- whether a file is linked, by what is kept of it
+linked_is : (t : Bool) (blocks : ℕ) (o : Option ℕ) (b : Bool) → o ≡ (if t then Some blocks else None) → b ≡ is_some o → b ≡ t
+linked_is true blocks o b is test = test ∙ ap is_some is
+linked_is false blocks o b is test = test ∙ ap is_some is
+
+pub loop-number-init : goal.loop-number-init
+loop-number-init g c = record { has = none_rebuilt (g.F.Folder.told c.args.f.now) c.args.files.now c.args.claims.now c.requires.agrees; later = omega arith }
+
+pub returns-in_err-rebuild_file-clause-stops : goal.returns-in_err-rebuild_file-clause-stops
+returns-in_err-rebuild_file-clause-stops g c =
+    next_stops (g.F.Folder.told c.args.f.now) (g.F.Folder.told c.loop-number.f) c.args.files.now c.loop-number.files c.args.claims.now c.loop-number.number c.loop-number.invariant.has (g.F.Folder.told c.rebuild_file.new.f)
+    (sym (linked_is (is_among (all_files c.loop-number.files) c.loop-number.number) _ c.max_entries.result c.is_some.result c.max_entries.ensures c.is_some.ensures) ∙ c.if-is_some.true) c.rebuild_file.ensures.stops
+
+pub returns-in_err-rebuild_file-clause-blocks : goal.returns-in_err-rebuild_file-clause-blocks
+returns-in_err-rebuild_file-clause-blocks g c = all_blocks (g.F.Folder.told c.args.f.now) (g.F.Folder.told c.rebuild_file.new.f) c.args.files.now c.args.claims.now (returns-in_err-rebuild_file-clause-stops g c)
+
+pub returns-in_err-rebuild_file-clause-formed : goal.returns-in_err-rebuild_file-clause-formed
+returns-in_err-rebuild_file-clause-formed g c = all_formed (g.F.Folder.told c.args.f.now) (g.F.Folder.told c.rebuild_file.new.f) c.args.files.now c.args.claims.now (returns-in_err-rebuild_file-clause-stops g c)
+
+pub loop-number-preserved : goal.loop-number-preserved
+loop-number-preserved g c = elim c.if-is_some.branch [
+  | then-is_some+in_ok-rebuild_file w ↦
+      record {
+        has =
+            subst (λ (t : Told). HasRebuilt (g.F.Folder.told c.args.f.now) t c.args.files.now c.if-is_some.files c.args.claims.now (c.loop-number.number + 1)) (ap g.F.Folder.told (sym w.f-is))
+            (subst (λ (files : BlockFiles). HasRebuilt (g.F.Folder.told c.args.f.now) (g.F.Folder.told w.rebuild_file.new.f) c.args.files.now files c.args.claims.now (c.loop-number.number + 1)) (sym w.files-is)
+            (next_rebuilt (g.F.Folder.told c.args.f.now) (g.F.Folder.told c.loop-number.f) c.args.files.now c.loop-number.files c.args.claims.now c.loop-number.number c.loop-number.invariant.has (g.F.Folder.told w.rebuild_file.new.f)
+            (sym (linked_is (is_among (all_files c.loop-number.files) c.loop-number.number) _ c.max_entries.result c.is_some.result c.max_entries.ensures c.is_some.ensures) ∙ w.if-is_some.true) w.rebuild_file.ensures.stops
+            w.rebuild_file.new.files w.rebuild_file.ensures.silent w.in_ok-rebuild_file.ensures.done w.in_ok-rebuild_file.ensures.fitted w.rebuild_file.ensures.agrees));
+        later = let one = c.loop-number.invariant.later in let other = w.rebuild_file.ensures.later in subst (λ f. g.F.Folder.faults c.args.f.now ≤ g.F.Folder.faults f) (sym w.f-is) (omega (arith, one, other));
+      }
+  | else-is_some w ↦
+      record {
+        has =
+            subst (λ (t : Told). HasRebuilt (g.F.Folder.told c.args.f.now) t c.args.files.now c.if-is_some.files c.args.claims.now (c.loop-number.number + 1)) (ap g.F.Folder.told (sym w.f-is))
+            (subst (λ (files : BlockFiles). HasRebuilt (g.F.Folder.told c.args.f.now) (g.F.Folder.told c.loop-number.f) c.args.files.now files c.args.claims.now (c.loop-number.number + 1)) (sym w.files-is)
+            (next_none (g.F.Folder.told c.args.f.now) (g.F.Folder.told c.loop-number.f) c.args.files.now c.loop-number.files c.args.claims.now c.loop-number.number c.loop-number.invariant.has
+            (sym (linked_is (is_among (all_files c.loop-number.files) c.loop-number.number) _ c.max_entries.result c.is_some.result c.max_entries.ensures c.is_some.ensures) ∙ w.if-is_some.false)));
+        later = let one = c.loop-number.invariant.later in subst (λ f. g.F.Folder.faults c.args.f.now ≤ g.F.Folder.faults f) (sym w.f-is) one;
+      }
+]
+
+pub returns-clause-rebuilt : goal.returns-clause-rebuilt
+returns-clause-rebuilt g c = all_rebuilt (g.F.Folder.told c.args.f.now) (g.F.Folder.told c.loop-number.f) c.args.files.now c.loop-number.files c.args.claims.now c.loop-number.number c.loop-number-test.false c.requires.agrees c.loop-number.invariant.has
+
+pub returns-clause-allocations : goal.returns-clause-allocations
+returns-clause-allocations g c = all_allocations (g.F.Folder.told c.args.f.now) (g.F.Folder.told c.loop-number.f) c.args.files.now c.loop-number.files c.args.claims.now c.loop-number.number c.loop-number-test.false c.requires.agrees c.loop-number.invariant.has
+
+pub returns-clause-blocks : goal.returns-clause-blocks
+returns-clause-blocks g c = all_blocks (g.F.Folder.told c.args.f.now) (g.F.Folder.told c.loop-number.f) c.args.files.now c.args.claims.now c.loop-number.invariant.has.stops
+
+pub returns-clause-formed : goal.returns-clause-formed
+returns-clause-formed g c = all_formed (g.F.Folder.told c.args.f.now) (g.F.Folder.told c.loop-number.f) c.args.files.now c.args.claims.now c.loop-number.invariant.has.stops

@@ -1,0 +1,50 @@
+use Rattle.std.proofs.Common.{◌≡◌, ℕ, ◌/◌, List, [], ◌∷◌, sym, ◌∙◌, ap, subst, arith}
+use Rattle.blk_image.specs.Image.{Image}
+use Rattle.blk_image.specs.Footprint.{SameOutside}
+use Rattle.blk_image.proofs.Runs.{passes_none, passes_then, passes_weaker, passes_end, some_inj}
+use Rattle.blk_format.specs.BlockFiles.{is_among, max_entries_in}
+use Rattle.blk_disk.specs.Tables.{Agrees}
+use Rattle.blk_alloc.specs.Changes.{map_of}
+use Rattle.blk_alloc.specs.Rebuilding.{IsInHand, IsRebuilding}
+use Rattle.blk_alloc.specs.declared.blocks.Blocks.{Blocks}
+use Rattle.blk_alloc.proofs.Carried.{told_at_end}
+use Rattle.blk_alloc.proofs.Formed.{agrees_kept, count_whole}
+use Rattle.blk_alloc.proofs.Members.{all_head}
+use Rattle.blk_alloc.proofs.Remade.{lengthened_is, rebuilding_begin, remade_is}
+use Rattle.blk_alloc.proofs.Taken.{fit_passes}
+use Rattle.blk_alloc.proofs.TakenAfter.{mid_of}
+use Rattle.blk_alloc.proofs.rebuilding.rebuild_file.Goals as goal
+
+pub returns-in_err-fit-clause-stops : goal.returns-in_err-fit-clause-stops
+returns-in_err-fit-clause-stops g c from there =
+    passes_none (IsRebuilding c.args.claims.now (c.args.file ∷ []) from) c.in_err-fit.ensures.undone (λ image is. subst (IsRebuilding c.args.claims.now (c.args.file ∷ []) from) (some_inj (sym there ∙ is)) (rebuilding_begin c.args.claims.now (c.args.file ∷ []) from))
+
+pub remake-requires-clause-header : goal.remake-requires-clause-header
+remake-requires-clause-header g c mid now =
+    (all_head c.fit.new.self mid c.args.file (c.in_ok-fit.ensures.agrees mid now) (ap (λ (l : List ℕ). is_among l c.args.file) c.in_ok-fit.ensures.kept.all ∙ c.requires.linked)).header
+
+pub remake-requires-clause-groups : goal.remake-requires-clause-groups
+remake-requires-clause-groups g c mid now =
+    let agrees = c.in_ok-fit.ensures.agrees mid now in
+    let there : is_among _ c.args.file ≡ _ = ap (λ (l : List ℕ). is_among l c.args.file) c.in_ok-fit.ensures.kept.all ∙ c.requires.linked in
+    let most = (count_whole _ (all_head c.fit.new.self mid c.args.file agrees there).count).1 in
+    let same = agrees.blocks c.args.file there in
+    let blocks = c.blocks_in-groups.ensures.blocks there in
+    ap (λ (k : ℕ). k / 4) {x = c.blocks_in-groups.result} {y = max_entries_in mid c.args.file} (omega (arith, most, same, blocks))
+
+pub returns-clause-agrees : goal.returns-clause-agrees
+returns-clause-agrees g c =
+    told_at_end (g.F.Folder.told c.fit.new.f).files (g.F.Folder.told c.remake.new.f).files (Agrees c.fit.new.self) c.remake.ensures.silent
+    (λ mid now. let keeps : (i : Image) → SameOutside (map_of c.args.file) mid i × IsInHand c.args.claims.now c.args.file mid i → Agrees c.fit.new.self i = λ i remade. agrees_kept c.args.file mid i remade.0 c.fit.new.self (c.in_ok-fit.ensures.agrees mid now) in
+    passes_end (passes_weaker (c.remake.ensures.stops mid now) keeps keeps))
+
+pub returns-clause-stops : goal.returns-clause-stops
+returns-clause-stops g c from there =
+    let place : Blocks = record { file = c.args.file; start = 0; count = 0 } in
+    let found = mid_of (g.F.Folder.told c.args.f.now) (g.F.Folder.told c.fit.new.f) c.args.files.now c.fit.new.self place c.requires.agrees c.requires.linked c.in_ok-fit.ensures.fitted c.in_ok-fit.ensures.kept c.in_ok-fit.ensures.agrees from there in
+    let keeps : (i : Image) → SameOutside (map_of c.args.file) found.0 i × IsInHand c.args.claims.now c.args.file found.0 i → IsRebuilding c.args.claims.now (c.args.file ∷ []) from i =
+    λ i remade. remade_is c.args.claims.now c.args.file from found.0 found.1.same found.1.longer i remade in
+    passes_then
+    (fit_passes c.args.files.now c.args.file from (c.requires.agrees from there) c.requires.linked (IsRebuilding c.args.claims.now (c.args.file ∷ []) from) there c.in_ok-fit.ensures.fitted
+    (λ i same longer. lengthened_is c.args.claims.now c.args.file from i same longer))
+    (passes_weaker (c.remake.ensures.stops found.0 found.1.now) keeps keeps)

@@ -1,0 +1,86 @@
+-- Maps and counters are made anew, and are then those of claims.
+use Rattle.std.specs.Prelude.{◌≡◌, ◌⊎◌, ℕ, ◌<◌, ◌≤◌, List, filter, max, Bool, false, true, ◌&&◌, ◌||◌}
+use Rattle.std.specs.List.{All}
+use Rattle.blk_image.specs.Image.{File, Block, Image, byte, length_of}
+use Rattle.blk_image.specs.Footprint.{Footprint, SameOutside, either, one_word, range}
+use Rattle.blk_format.specs.Claims.{BlockOf, is_in_file}
+use Rattle.blk_format.specs.Headers.{allocations_of, updating_of}
+use Rattle.blk_format.specs.BlockFiles.{is_among, most_blocks, stands_in}
+use Rattle.blk_format.specs.Maps.{is_marked, map_place, AreAllocations, EmptyAgrees}
+use Rattle.blk_addr.specs.Bits.{is_between}
+use Rattle.blk_addr.specs.Claims.{contains_claim, allocations_in, IsClaimsOf}
+use Rattle.blk_addr.specs.declared.claim_set.Claims.{Claims}
+use Rattle.blk_disk.specs.declared.tables.BlockFiles.{BlockFiles}
+use Rattle.blk_disk.specs.Tables.{files_of, all_files, blocks_of, length_in}
+use Rattle.blk_disk.specs.Growth.{whole_length}
+use Rattle.blk_alloc.specs.Counting.{allocations_place, empty_place}
+use Rattle.blk_alloc.specs.Changes.{map_length}
+
+-- whether a block of a file is claimed
+abbrev pub is_block_claimed : Claims → ℕ → ℕ → Bool
+is_block_claimed claims n b = contains_claim claims (BlockOf n b)
+
+-- of the blocks from `low` on and below `end` exactly the claimed ones are marked
+abbrev pub AreMarked : Claims → Image → ℕ → ℕ → ℕ → Type 0
+AreMarked claims image n low end = (b : ℕ) → low ≤ b → b < end → is_marked image n b ≡ is_block_claimed claims n b
+
+-- the map and the counters of a file are those of claims: exactly the claimed blocks are marked, num_entries is the number of the addresses of the file that were added, `empty` agrees with the map, and updating is 0
+pub record IsRebuilt (claims : Claims) (image : Image) (n : ℕ) : Type 0 where
+  pub marks : (b : ℕ) → b < most_blocks → is_marked image n b ≡ is_block_claimed claims n b
+  pub allocations : allocations_of (byte image (Block n)) ≡ allocations_in claims n
+  pub empty : EmptyAgrees image n
+  pub updating : updating_of (byte image (Block n)) ≡ 0
+
+-- the added addresses of blocks of a file
+abbrev pub words_in : ℕ → List ℕ → List ℕ
+words_in n words = filter (is_in_file n) words
+
+-- the added addresses of each file, where they stood, are its allocations
+abbrev pub AreItsAllocations : Claims → List ℕ → Image → Image → Type 0
+AreItsAllocations claims numbers from image =
+    (words : List ℕ) → IsClaimsOf claims words → (n : ℕ) → is_among numbers n ≡ true → All (λ w. stands_in from w ≡ true) (words_in n words) → AreAllocations image n (words_in n words)
+
+-- each file that is kept has its length, or that of its header and all its blocks where this is greater; all else that is kept is as before
+pub record AreFitted (old new : BlockFiles) : Type 0 where
+  pub files : (kind : ℕ) → files_of new kind ≡ files_of old kind
+  pub blocks : (n : ℕ) → blocks_of new n ≡ blocks_of old n
+  pub lengths : (n : ℕ) → n < 256 → is_among (all_files old) n ≡ true → length_in new n ≡ max (length_in old n) (whole_length old n)
+
+-- What is touched.
+
+-- num_entries, empty and the map of a file
+abbrev pub counts_of : ℕ → Footprint
+counts_of n = either (one_word (Block n) allocations_place) (either (range (Block n) (empty_place 0) 16) (range (Block n) map_place map_length))
+
+-- the places of num_entries, empty and the map in a header
+abbrev pub is_counted_place : ℕ → Bool
+is_counted_place i = is_between 16 20 i || is_between 24 40 i || is_between 80 8192 i
+
+-- the places of updating
+abbrev pub is_updating_place : ℕ → Bool
+is_updating_place i = is_between 56 60 i
+
+-- whether a file is one of some block files
+unfoldable pub is_block_file : List ℕ → File → Bool
+is_block_file numbers (Block n) = is_among numbers n
+is_block_file numbers _ = false
+
+-- the lengths, the maps, the counters and updating of some block files
+abbrev pub rebuilding_of : List ℕ → Footprint
+rebuilding_of numbers = record { bytes = λ file i. is_block_file numbers file && (is_counted_place i || is_updating_place i); sizes = is_block_file numbers }
+
+-- The moments of it.
+
+-- each byte of a file but those of updating is as before
+abbrev pub KeepsBytes : ℕ → Image → Image → Type 0
+KeepsBytes n from image = (i : ℕ) → is_updating_place i ≡ false → byte image (Block n) i ≡ byte from (Block n) i
+
+-- a file has its map and its counters as before, or updating is 1, or they are those of claims
+abbrev pub IsInHand : Claims → ℕ → Image → Image → Type 0
+IsInHand claims n from image = KeepsBytes n from image ⊎ ((updating_of (byte image (Block n)) ≡ 1) ⊎ IsRebuilt claims image n)
+
+-- a moment: some block files are in hand, none is shorter than before, and nothing else differs
+pub record IsRebuilding (claims : Claims) (numbers : List ℕ) (from image : Image) : Type 0 where
+  pub same : SameOutside (rebuilding_of numbers) from image
+  pub longer : (n : ℕ) → length_of from (Block n) ≤ length_of image (Block n)
+  pub each : (n : ℕ) → is_among numbers n ≡ true → IsInHand claims n from image

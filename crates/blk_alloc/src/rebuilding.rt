@@ -1,0 +1,179 @@
+// Maps and counters are made anew, from claims.
+ghost use Rattle.std.specs.Prelude.{◌≡◌, ℕ, ◌⊎◌, ◌+◌, ◌*◌, ◌/◌, ◌%◌, ◌<◌, ◌≤◌, [], ◌∷◌, true, None, length, max, slice_index, IfOk, OnOk, OnErr, IsTrue};
+ghost use Rattle.std.specs.Option.{ForSome};
+ghost use Rattle.blk_image.specs.Image.{Block as block, length_of};
+ghost use Rattle.blk_image.specs.Footprint.{SameOutside, range};
+ghost use Rattle.blk_image.specs.Told.{Passes, PassesTo, Rises};
+ghost use Rattle.blk_format.specs.BlockFiles.{is_among, max_entries_in, most_blocks, IsWellFormed};
+ghost use Rattle.blk_format.specs.Maps.{groups_of, groups_with, map_place};
+ghost use Rattle.blk_addr.specs.Bits.{has_bit};
+ghost use Rattle.blk_io.specs.Faults.{IfDamaged, IfDevice};
+ghost use Rattle.blk_disk.specs.Growth.{KeepsBlocks, whole_length};
+ghost use Rattle.blk_disk.specs.Tables.{Agrees, Resizes, all_files, length_in};
+ghost use Rattle.blk_alloc.specs.Changes.{map_length, map_of};
+ghost use Rattle.blk_alloc.specs.Rebuilding.{AreFitted, AreItsAllocations, AreMarked, IsInHand, IsRebuilding, IsRebuilt, counts_of, is_block_claimed};
+
+use crate::claimed::{count_runs, mark_claimed};
+use crate::fitting::blocks_in;
+use blk_addr::Claims;
+use blk_disk::BlockFiles;
+use blk_io::{Failed, Fault, FileId, Folder, write_word, write_words};
+
+const MAP: u64 = 80;
+
+const UPDATING: u64 = 56;
+
+const GROUP: u32 = 4;
+
+// A map has 13 pieces of so many bytes, which have so many blocks and groups.
+const PIECES: u32 = 13;
+
+const PIECE_LEN: usize = 624;
+
+const PIECE: u32 = 4992;
+
+const PIECE_GROUPS: u32 = 1248;
+
+// The numbers of block files.
+const NUMBERS: u16 = 256;
+
+// Writes a piece of the map of a file, from a block on, with the marks of the claimed blocks.
+fn write_piece<F: Folder>(
+    f: &mut F,
+    claims: &Claims,
+    file: u8,
+    first: u32,
+    bytes: &mut [u8],
+) -> Result<(), Failed>
+    requires whole { first % 8 ≡ 0 }
+    requires inside { first + 8 * length bytes.old ≤ most_blocks }
+    requires header { ForSome (F.told f.old).files (λ image. 8192 ≤ length_of image (block file)) }
+    ensures bits { (m : ℕ) → m < 8 * length bytes.old → has_bit bytes.new m ≡ is_block_claimed claims.now file (first + m) }
+    ensures length { length bytes.new ≡ length bytes.old }
+    ensures marks { OnOk result (ForSome (F.told f.new).files (λ image. AreMarked claims.now image file first (first + 8 * length bytes.old))) }
+    ensures outside { ForSome (F.told f.old).files (λ from. Passes (F.told f.old) (F.told f.new) (SameOutside (range (block file) (map_place + first / 8) (length bytes.old)) from)) }
+    ensures silent { (F.told f.old).files ≡ None → (F.told f.new).files ≡ None }
+    ensures later { F.faults f.old ≤ F.faults f.new }
+    ensures failed { OnErr result (Rises (F.faults f.old) (F.faults f.new)) }
+{
+    mark_claimed(claims, file, first, bytes);
+    f.write_at(FileId::Block(file), MAP + u64::from(first / 8), bytes)
+}
+
+// Writes the map of a file, with the marks of the claimed blocks, in pieces. Gives how many of its
+// first groups have a longest free run of 1 to 4 blocks.
+fn write_map<F: Folder>(
+    f: &mut F,
+    claims: &Claims,
+    file: u8,
+    groups: u32,
+) -> Result<[u32; 4], Failed>
+    requires few { groups ≤ 16224 }
+    requires header { ForSome (F.told f.old).files (λ image. 8192 ≤ length_of image (block file)) }
+    ensures counts { IfOk result (λ empty. (i : ℕ) → i < 4 → slice_index empty i ≡ groups_with (is_block_claimed claims.now file) groups (i + 1)) }
+    ensures marks { OnOk result (ForSome (F.told f.new).files (λ image. AreMarked claims.now image file 0 most_blocks)) }
+    ensures outside { ForSome (F.told f.old).files (λ from. Passes (F.told f.old) (F.told f.new) (SameOutside (range (block file) map_place map_length) from)) }
+    ensures silent { (F.told f.old).files ≡ None → (F.told f.new).files ≡ None }
+    ensures later { F.faults f.old ≤ F.faults f.new }
+    ensures failed { OnErr result (Rises (F.faults f.old) (F.faults f.new)) }
+{
+    let mut empty = [0u32; 4];
+    let mut bytes = [0u8; PIECE_LEN];
+    for piece in 0..PIECES {
+        write_piece(f, claims, file, piece * PIECE, &mut bytes)?;
+        let left = groups.saturating_sub(piece * PIECE_GROUPS);
+        count_runs(&bytes, left.min(PIECE_GROUPS), &mut empty);
+    }
+    Ok(empty)
+}
+
+// Writes the map and the counters of a file, and then that they are no longer under way.
+fn write_marks<F: Folder>(f: &mut F, claims: &Claims, file: u8, groups: u32) -> Result<(), Failed>
+    requires few { groups ≤ 16224 }
+    requires header { ForSome (F.told f.old).files (λ image. 8192 ≤ length_of image (block file)) }
+    requires groups { ForSome (F.told f.old).files (λ image. groups ≡ groups_of (max_entries_in image file)) }
+    ensures done { OnOk result (ForSome (F.told f.new).files (λ image. IsRebuilt claims.now image file)) }
+    ensures stops { ForSome (F.told f.old).files (λ from. PassesTo (F.told f.old) (F.told f.new) (SameOutside (counts_of file) from) (λ image. SameOutside (counts_of file) from image ⊎ (SameOutside (map_of file) from image × IsRebuilt claims.now image file))) }
+    ensures silent { (F.told f.old).files ≡ None → (F.told f.new).files ≡ None }
+    ensures later { F.faults f.old ≤ F.faults f.new }
+    ensures failed { OnErr result (Rises (F.faults f.old) (F.faults f.new)) }
+{
+    let empty = write_map(f, claims, file, groups)?;
+    let words = [
+        (16, claims.allocations(file)),
+        (24, empty[0]),
+        (28, empty[1]),
+        (32, empty[2]),
+        (36, empty[3]),
+        (UPDATING, 0),
+    ];
+    write_words(f, FileId::Block(file), &words)
+}
+
+// Makes the map and the counters of a file anew, and says so until they are done.
+fn remake<F: Folder>(f: &mut F, claims: &Claims, file: u8, groups: u32) -> Result<(), Failed>
+    requires few { groups ≤ 16224 }
+    requires header { ForSome (F.told f.old).files (λ image. 8192 ≤ length_of image (block file)) }
+    requires groups { ForSome (F.told f.old).files (λ image. groups ≡ groups_of (max_entries_in image file)) }
+    ensures done { OnOk result (ForSome (F.told f.new).files (λ image. IsRebuilt claims.now image file)) }
+    ensures stops { ForSome (F.told f.old).files (λ from. Passes (F.told f.old) (F.told f.new) (λ image. SameOutside (map_of file) from image × IsInHand claims.now file from image)) }
+    ensures silent { (F.told f.old).files ≡ None → (F.told f.new).files ≡ None }
+    ensures later { F.faults f.old ≤ F.faults f.new }
+    ensures failed { OnErr result (Rises (F.faults f.old) (F.faults f.new)) }
+{
+    write_word(f, FileId::Block(file), UPDATING, 1)?;
+    write_marks(f, claims, file, groups)
+}
+
+// Lengthens a file to all its blocks, where it is shorter, and makes its map and counters anew.
+fn rebuild_file<F: Folder>(
+    f: &mut F,
+    files: &mut BlockFiles,
+    claims: &Claims,
+    file: u8,
+) -> Result<(), Failed>
+    requires linked { IsTrue (is_among (all_files files.old) file) }
+    requires agrees { ForSome (F.told f.old).files (Agrees files.old) }
+    ensures done { OnOk result (ForSome (F.told f.new).files (λ image. IsRebuilt claims.now image file)) }
+    ensures fitted { OnOk result (Resizes files.old files.new file (max (length_in files.old file) (whole_length files.old file))) }
+    ensures agrees { ForSome (F.told f.new).files (Agrees files.new) }
+    ensures all { all_files files.new ≡ all_files files.old }
+    ensures stops { ForSome (F.told f.old).files (λ from. Passes (F.told f.old) (F.told f.new) (IsRebuilding claims.now (file ∷ []) from)) }
+    ensures silent { (F.told f.old).files ≡ None → (F.told f.new).files ≡ None }
+    ensures later { F.faults f.old ≤ F.faults f.new }
+    ensures failed { OnErr result (Rises (F.faults f.old) (F.faults f.new)) }
+{
+    files.fit(f, file)?;
+    let groups = blocks_in(files, file) / GROUP;
+    remake(f, claims, file, groups)
+}
+
+/// Makes the maps and the counters of all linked block files those of claims, and `updating` 0. Hints stay.
+///
+/// Before that, a file that is shorter than its header and blocks is lengthened to them. There is no damage.
+pub fn rebuild<F: Folder>(f: &mut F, files: &mut BlockFiles, claims: &Claims) -> Result<(), Fault>
+    requires agrees { ForSome (F.told f.old).files (Agrees files.old) }
+    ensures rebuilt { OnOk result (ForSome (F.told f.new).files (λ image. (n : ℕ) → is_among (all_files files.old) n ≡ true → IsRebuilt claims.now image n)) }
+    ensures allocations { OnOk result (ForSome (F.told f.old).files (λ from. ForSome (F.told f.new).files (AreItsAllocations claims.now (all_files files.old) from))) }
+    ensures fitted { OnOk result (AreFitted files.old files.new) }
+    ensures agrees { ForSome (F.told f.new).files (Agrees files.new) }
+
+    // At each word only lengths, maps, counters and updating differ, and in each file updating is 1 until map and counters are done.
+    ensures stops { ForSome (F.told f.old).files (λ from. Passes (F.told f.old) (F.told f.new) (IsRebuilding claims.now (all_files files.old) from)) }
+
+    // At each word each block that stood still stands with its bytes, and a well-formed folder is still well formed.
+    ensures blocks { ForSome (F.told f.old).files (λ from. Passes (F.told f.old) (F.told f.new) (KeepsBlocks from)) }
+    ensures formed { ForSome (F.told f.old).files (λ from. IsWellFormed from → Passes (F.told f.old) (F.told f.new) IsWellFormed) }
+
+    ensures never { IfDamaged result (λ _. ⊥) }
+    ensures later { F.faults f.old ≤ F.faults f.new }
+    ensures device { IfDevice result (Rises (F.faults f.old) (F.faults f.new)) }
+{
+    for number in 0..NUMBERS {
+        let file = number as u8;
+        if files.max_entries(file).is_some() {
+            rebuild_file(f, files, claims, file)?;
+        }
+    }
+    Ok(())
+}
