@@ -1,4 +1,3 @@
-pub mod Carried
 pub mod Marking
 pub mod Groups
 pub mod Headers

@@ -11,7 +11,7 @@ use Rattle.blk_disk.specs.declared.tables.BlockFiles.{BlockFiles}
 use Rattle.blk_disk.specs.Tables.{Agrees, Resizes, all_files, length_in}
 use Rattle.blk_disk.specs.Growth.{KeepsBlocks, whole_length}
 use Rattle.blk_alloc.specs.Rebuilding.{is_block_file, rebuilding_of, AreItsAllocations, IsRebuilding, IsRebuilt}
-use Rattle.blk_alloc.proofs.Carried.{told_at_end}
+use Rattle.blk_io.proofs.Carried.{told_at_end}
 use Rattle.blk_alloc.proofs.Fitted.{HasFitted, none_fitted, none_more, one_fitted}
 use Rattle.blk_alloc.proofs.Members.{all_head}
 use Rattle.blk_alloc.proofs.Owned.{allocations_are, stands_still}

@@ -4,7 +4,6 @@ pub mod Changes
 pub mod Owning
 pub mod Fitting
 pub mod Taking
-pub mod Untold
 pub mod Making
 pub mod Giving
 pub mod Rebuilding

@@ -1,112 +1,16 @@
 // Blocks are given and freed in a folder in memory that tells nothing.
-ghost use Rattle.std.specs.Prelude.{◌≡◌, ◌≤◌, ◌<◌, Ok, OnErr, IfOk};
 ghost use Rattle.std.specs.Option.{ForSome};
-ghost use Rattle.blk_image.specs.Image.{length_of};
-ghost use Rattle.blk_image.specs.Told.{Rises};
-ghost use Rattle.blk_io.specs.FileNames.{file_of};
 
 use crate::{allocate, free, rebuild};
 use blk_addr::{Addr, Claims, Kind};
 use blk_disk::BlockFiles;
-use blk_io::{Damage, Failed, Fault, FileId, Folder, MemFolder};
+use blk_io::{Damage, Failed, Fault, FileId, Folder, MemFolder, SilentFolder};
 use std::alloc::Global;
 use std::test::Fail;
 
 const MAGIC: u32 = 0xC104_CAC3;
 
 const HEADER_LEN: usize = 8192;
-
-// A folder in memory that tells nothing.
-#[derive(Drop)]
-struct Untold {
-    inner: MemFolder,
-    faults: u64,
-    calls: u64,
-}
-
-// An answer, with its failure counted.
-fn counted<T>(answer: Result<T, Failed>, faults: &mut u64) -> Result<T, Failed>
-    ensures answer { IfOk result (λ value. answer ≡ Ok value) }
-    ensures later { faults.old ≤ faults.new }
-    ensures failed { OnErr result (Rises faults.old faults.new) }
-{
-    match answer {
-        Ok(value) => Ok(value),
-        Err(_) => {
-            *faults = faults.saturating_add(1);
-            Err(Failed)
-        }
-    }
-}
-
-// The length of a file.
-fn length<F: Folder>(f: &mut F, file: FileId) -> Result<u64, Failed>
-    ensures { IfOk result (λ n. ForSome (F.told f.new).files (λ image. length_of image (file_of file) ≡ n)) }
-{
-    match f.length(file)? {
-        Some(n) => Ok(n),
-        None => Ok(0),
-    }
-}
-
-// Writes bytes of a file, where it has them.
-fn write_inside<F: Folder>(f: &mut F, file: FileId, at: u64, bytes: &[u8]) -> Result<(), Failed> {
-    let n = length(f, file)?;
-    if at > n || bytes.len() as u64 > n - at {
-        return Err(Failed);
-    }
-    f.write_at(file, at, bytes)
-}
-
-impl Folder for Untold {
-    ghost use Rattle.blk_alloc.specs.Untold.{untold, untold_agrees, untold_bytes};
-
-    ghost told = { λ _. untold };
-
-    ghost faults = { λ folder. folder.faults };
-
-    ghost agrees = { λ folder. untold_agrees };
-
-    ghost are_bytes = { λ folder. untold_bytes };
-
-    fn length(&mut self, file: FileId) -> Result<Option<u64>, Failed> {
-        self.calls = self.calls.saturating_add(1);
-        counted(self.inner.length(file), &mut self.faults)
-    }
-
-    fn read_at(&mut self, file: FileId, at: u64, out: &mut [u8]) -> Result<usize, Failed> {
-        self.calls = self.calls.saturating_add(1);
-        counted(self.inner.read_at(file, at, out), &mut self.faults)
-    }
-
-    fn write_at(&mut self, file: FileId, at: u64, bytes: &[u8]) -> Result<(), Failed> {
-        self.calls = self.calls.saturating_add(1);
-        counted(
-            write_inside(&mut self.inner, file, at, bytes),
-            &mut self.faults,
-        )
-    }
-
-    fn set_len(&mut self, file: FileId, length: u64) -> Result<(), Failed> {
-        self.calls = self.calls.saturating_add(1);
-        counted(self.inner.set_len(file, length), &mut self.faults)
-    }
-
-    fn delete(&mut self, file: FileId) -> Result<(), Failed> {
-        self.calls = self.calls.saturating_add(1);
-        counted(self.inner.delete(file), &mut self.faults)
-    }
-
-    fn list(&mut self, after: Option<FileId>) -> Result<Option<FileId>, Failed> {
-        self.calls = self.calls.saturating_add(1);
-        counted(self.inner.list(after), &mut self.faults)
-    }
-
-    fn note(&mut self, answered: u64) -> Result<(), Failed> {
-        self.calls = self.calls.saturating_add(1);
-        counted(self.inner.note(answered), &mut self.faults)
-    }
-}
 
 // Writes a word over bytes, where they have it.
 fn put_word(bytes: &mut [u8], at: usize, word: u32) {
@@ -131,7 +35,7 @@ fn fields(number: u32, entry_size: u32) -> [(usize, u32); 4] {
 }
 
 // A folder whose `data_1` has 1024 blocks and these counters and first word of the map.
-fn folder_with(alloc: Global, entries: u32, empty: [u32; 4], map: u32) -> Result<Untold, Fail> {
+fn folder_with(alloc: Global, entries: u32, empty: [u32; 4], map: u32) -> Result<SilentFolder<MemFolder>, Fail> {
     let mut inner = MemFolder::new(alloc);
     let first = file_with(alloc, HEADER_LEN, &fields(0, 36))?;
     inner.add_file(FileId::Block(0), &first)?;
@@ -154,11 +58,7 @@ fn folder_with(alloc: Global, entries: u32, empty: [u32; 4], map: u32) -> Result
     inner.add_file(FileId::Block(2), &third)?;
     let fourth = file_with(alloc, HEADER_LEN, &fields(3, 4096))?;
     inner.add_file(FileId::Block(3), &fourth)?;
-    Ok(Untold {
-        inner,
-        faults: 0,
-        calls: 0,
-    })
+    Ok(SilentFolder::new(inner))
 }
 
 // Frees the blocks of a word, where it is an address that stands.
@@ -176,19 +76,19 @@ fn free_word<F: Folder>(f: &mut F, files: &BlockFiles, word: u32) -> Result<bool
 }
 
 // The word of a block file at a place.
-fn word_in(f: &mut Untold, file: u8, at: u64) -> Result<u32, Failed> {
+fn word_in(f: &mut SilentFolder<MemFolder>, file: u8, at: u64) -> Result<u32, Failed> {
     let mut word = [0; 4];
     f.read_at(FileId::Block(file), at, &mut word)?;
     Ok(u32::from_le_bytes(word))
 }
 
 // The word of `data_1` at a place.
-fn word_at(f: &mut Untold, at: u64) -> Result<u32, Failed> {
+fn word_at(f: &mut SilentFolder<MemFolder>, at: u64) -> Result<u32, Failed> {
     word_in(f, 1, at)
 }
 
 // A folder just made, but for the counters and the map of `data_1`, whose map has this byte all over.
-fn made_folder(alloc: Global, blocks: u32, entries: u32, map: u8) -> Result<Untold, Fail> {
+fn made_folder(alloc: Global, blocks: u32, entries: u32, map: u8) -> Result<SilentFolder<MemFolder>, Fail> {
     let mut inner = MemFolder::new(alloc);
     let first = file_with(alloc, HEADER_LEN, &fields(0, 36))?;
     inner.add_file(FileId::Block(0), &first)?;
@@ -209,11 +109,7 @@ fn made_folder(alloc: Global, blocks: u32, entries: u32, map: u8) -> Result<Unto
     inner.add_file(FileId::Block(2), &third)?;
     let fourth = file_with(alloc, HEADER_LEN, &fields(3, 4096))?;
     inner.add_file(FileId::Block(3), &fourth)?;
-    Ok(Untold {
-        inner,
-        faults: 0,
-        calls: 0,
-    })
+    Ok(SilentFolder::new(inner))
 }
 
 // The word of so many blocks of 256 bytes that are given.
@@ -265,9 +161,9 @@ fn a_file_is_added_where_the_only_one_is_full(rt: HostRuntime) -> Result<(), Fai
         panic!(rt; "the files are whole");
     };
     let mut files = files;
-    f.calls = 0;
+    let before = f.calls();
     assert_eq!(rt; give(&mut f, &mut files, 1), Ok(0xA004_0000));
-    assert!(rt; f.calls <= 40);
+    assert!(rt; f.calls().wrapping_sub(before) <= 40);
     assert_eq!(rt; word_at(&mut f, 8), Ok(0x4_0001));
     let expected = [
         (16, 1),
@@ -369,7 +265,7 @@ fn a_counter_that_would_sink_below_0_is_a_damage(rt: HostRuntime) -> Result<(), 
 
 // A folder whose `data_1` has 1024 blocks, too few bytes for the last of them, and a header that is wrong
 // but for its hints and its number of blocks.
-fn wrong_folder(alloc: Global) -> Result<Untold, Fail> {
+fn wrong_folder(alloc: Global) -> Result<SilentFolder<MemFolder>, Fail> {
     let mut inner = MemFolder::new(alloc);
     let first = file_with(alloc, HEADER_LEN, &fields(0, 36))?;
     inner.add_file(FileId::Block(0), &first)?;
@@ -394,11 +290,7 @@ fn wrong_folder(alloc: Global) -> Result<Untold, Fail> {
     inner.add_file(FileId::Block(2), &third)?;
     let fourth = file_with(alloc, HEADER_LEN, &fields(3, 4096))?;
     inner.add_file(FileId::Block(3), &fourth)?;
-    Ok(Untold {
-        inner,
-        faults: 0,
-        calls: 0,
-    })
+    Ok(SilentFolder::new(inner))
 }
 
 // Whether each of some words is an address that joins the claims.
@@ -433,9 +325,9 @@ fn a_wrong_map_is_made_that_of_the_claims(rt: HostRuntime) -> Result<(), Fail> {
     let mut claims = Claims::new(rt.alloc());
     let words = [0xA301_0000, 0xA001_0005, 0xA101_0102, 0x8000_0001];
     assert!(rt; add_words(&mut claims, &words));
-    f.calls = 0;
+    let before = f.calls();
     assert_eq!(rt; rebuild_all(&mut f, &mut files, &claims), Ok(()));
-    assert_eq!(rt; f.calls, 81);
+    assert_eq!(rt; f.calls().wrapping_sub(before), 81);
     assert_eq!(rt; f.length(FileId::Block(1)), Ok(Some(270_336)));
     let expected = [
         (0, MAGIC),

@@ -4,7 +4,7 @@ use Rattle.blk_image.proofs.Footprints.{outside-refl}
 use Rattle.blk_image.specs.Told.{Told}
 use Rattle.blk_image.proofs.Runs.{passes_none, passes_stayed, passes_to, part_whole, some_inj}
 use Rattle.blk_alloc.specs.Changes.{IsMidst, map_of}
-use Rattle.blk_alloc.proofs.Carried.{silent_part}
+use Rattle.blk_io.proofs.Carried.{silent_part}
 use Rattle.blk_alloc.proofs.Changing.{midst_begin}
 use Rattle.blk_alloc.proofs.Changed.{change_stops, change_done, change_outside}
 use Rattle.blk_alloc.proofs.change.change.Goals as goal

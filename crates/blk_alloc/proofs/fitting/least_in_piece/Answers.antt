@@ -7,8 +7,7 @@ use Rattle.blk_addr.specs.Bits.{has_bit}
 use Rattle.blk_io.specs.declared.folder.FileId.TheVariants as names
 use Rattle.blk_io.proofs.Shorts.{untold_if}
 use Rattle.blk_alloc.specs.Places.{IsLeastPlace}
-use Rattle.blk_io.proofs.Carried.{carried}
-use Rattle.blk_alloc.proofs.Carried.{if_damaged}
+use Rattle.blk_io.proofs.Carried.{carried, if_damaged}
 use Rattle.blk_alloc.proofs.Pieces.{least_none, least_some, place_group}
 use Rattle.blk_alloc.proofs.fitting.least_in_piece.Goals as goal
 

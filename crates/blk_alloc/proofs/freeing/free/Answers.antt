@@ -12,7 +12,7 @@ use Rattle.blk_alloc.specs.Changes.{IsMidst, IsReady, IsChanged, map_of}
 use Rattle.std.specs.Option.{ForSome}
 use Rattle.blk_image.specs.Footprint.{SameOutside}
 use Rattle.blk_format.specs.BlockFiles.{max_entries_in}
-use Rattle.blk_alloc.proofs.Carried.{if_damaged_weaker, told_at_end}
+use Rattle.blk_io.proofs.Carried.{if_damaged_weaker, told_at_end}
 use Rattle.blk_alloc.proofs.Formed.{formed_kept, agrees_kept}
 use Rattle.blk_alloc.proofs.Freed.{free_ready, freed_is, allocated_blocks}
 use Rattle.blk_alloc.proofs.Externals.{map_blocks}

@@ -15,7 +15,7 @@ use Rattle.blk_alloc.specs.declared.blocks.Blocks.{Blocks}
 use Rattle.blk_alloc.specs.Taking.{IsTakeable, IsTaken, IsTaking}
 use Rattle.std.proofs.lemmas.Result.{IfOk-weaker}
 use Rattle.blk_alloc.specs.Owning.{IsCause}
-use Rattle.blk_alloc.proofs.Carried.{if_damaged_weaker}
+use Rattle.blk_io.proofs.Carried.{if_damaged_weaker}
 use Rattle.blk_alloc.proofs.Causes.{if_damaged_both}
 use Rattle.blk_alloc.proofs.Members.{member_all}
 use Rattle.blk_alloc.proofs.Rooms.{fit_takeable, given_fit, if_ok_both, word_file}

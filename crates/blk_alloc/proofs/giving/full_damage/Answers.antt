@@ -1,9 +1,8 @@
 use Rattle.std.proofs.Common.{inl, sym, ◌∙◌, refl}
 use Rattle.blk_io.specs.declared.folder.FileId.TheVariants as names
 use Rattle.blk_io.specs.Faults.{IsShort}
-use Rattle.blk_io.proofs.Carried.{carried}
+use Rattle.blk_io.proofs.Carried.{carried, if_damaged_weaker}
 use Rattle.blk_alloc.specs.Giving.{IsCauseOf}
-use Rattle.blk_alloc.proofs.Carried.{if_damaged_weaker}
 use Rattle.blk_alloc.proofs.Members.{member_at}
 use Rattle.blk_addr.specs.Kind.{kind_number}
 use Rattle.blk_disk.specs.Tables.{files_of}

@@ -9,7 +9,7 @@ use Rattle.blk_disk.specs.Tables.{all_files, files_of, blocks_of}
 use Rattle.blk_disk.specs.Growth.{IsLeastFree, addition_of, free_number, growth_of}
 use Rattle.blk_alloc.specs.Making.{IsFirstGrowing}
 use Rattle.blk_alloc.specs.Giving.{IsMaking, IsMakingIn}
-use Rattle.blk_alloc.proofs.Carried.{untold_where}
+use Rattle.blk_io.proofs.Carried.{untold_where}
 use Rattle.blk_alloc.proofs.Formed.{count_whole}
 use Rattle.blk_alloc.proofs.Members.{member_all, member_head, member_split}
 use Rattle.blk_alloc.proofs.Rooms.{has_counters, if_damaged_any, making_added, making_grown, never_full}

@@ -13,7 +13,7 @@ use Rattle.blk_alloc.specs.Owning.{IsCause}
 use Rattle.blk_alloc.specs.Taking.{IsTakeable, IsTaken, IsTaking, taking_of}
 use Rattle.blk_alloc.specs.Giving.{IsChosen, IsGiven, IsMaking, IsRefusal}
 use Rattle.blk_alloc.proofs.Causes.{if_damaged_both}
-use Rattle.blk_alloc.proofs.Carried.{if_damaged_weaker}
+use Rattle.blk_io.proofs.Carried.{if_damaged_weaker}
 use Rattle.blk_alloc.proofs.Rooms.{given_made, if_ok_both, making_taken, told_later, untold_before, word_file}
 use Rattle.blk_alloc.proofs.Sparing.{blocks_then}
 use Rattle.blk_alloc.proofs.Written.{passes_on}

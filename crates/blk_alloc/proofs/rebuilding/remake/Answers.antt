@@ -6,7 +6,7 @@ use Rattle.blk_image.proofs.Runs.{part_whole, passes_then, passes_end}
 use Rattle.blk_format.specs.BlockFiles.{max_entries_in}
 use Rattle.blk_format.specs.Maps.{groups_of}
 use Rattle.blk_alloc.specs.Changes.{map_of}
-use Rattle.blk_alloc.proofs.Carried.{told_at_end, silent_part}
+use Rattle.blk_io.proofs.Carried.{told_at_end, silent_part}
 use Rattle.blk_alloc.proofs.Remade.{begin_passes, begun, then_passes}
 use Rattle.blk_alloc.proofs.Sparing.{blocks_spared, map_spares}
 use Rattle.blk_alloc.proofs.rebuilding.remake.Goals as goal

@@ -7,7 +7,7 @@ use Rattle.blk_image.proofs.Runs.{passes_none, passes_end, some_inj}
 use Rattle.blk_format.specs.Maps.{groups_with}
 use Rattle.blk_addr.specs.Bits.{has_bit}
 use Rattle.blk_alloc.specs.Rebuilding.{is_block_claimed, AreMarked}
-use Rattle.blk_alloc.proofs.Carried.{told_at_end}
+use Rattle.blk_io.proofs.Carried.{told_at_end}
 use Rattle.blk_alloc.proofs.Claiming.{groups_most, no_groups, piece_groups}
 use Rattle.blk_alloc.proofs.Written.{marks_before, marks_then, piece_more}
 use Rattle.blk_alloc.proofs.rebuilding.write_map.Goals as goal

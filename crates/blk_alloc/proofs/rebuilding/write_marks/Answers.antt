@@ -5,7 +5,7 @@ use Rattle.blk_image.specs.Footprint.{SameOutside, range}
 use Rattle.blk_image.proofs.Footprints.{outside_wider}
 use Rattle.blk_image.proofs.Runs.{passes_weaker, passes_then, passes_end}
 use Rattle.blk_alloc.specs.Rebuilding.{counts_of, IsRebuilt}
-use Rattle.blk_alloc.proofs.Carried.{told_at_end, silent_part}
+use Rattle.blk_io.proofs.Carried.{told_at_end, silent_part}
 use Rattle.blk_alloc.proofs.Counted.{at_map, each_inside, finish_stops, finish_done}
 use Rattle.blk_alloc.proofs.Written.{mid_after}
 use Rattle.blk_alloc.proofs.rebuilding.write_marks.Goals as goal

@@ -18,8 +18,7 @@ use Rattle.blk_disk.specs.Tables.{Agrees, files_of, stands_among}
 use Rattle.blk_alloc.proofs.TakenAfter.{ready_after, stops_after, taken_after, stands_after, formed_after}
 use Rattle.blk_image.specs.Steps.{after}
 use Rattle.blk_alloc.specs.Owning.{IsCause}
-use Rattle.blk_io.proofs.Carried.{carried}
-use Rattle.blk_alloc.proofs.Carried.{if_damaged_weaker, told_at_end}
+use Rattle.blk_io.proofs.Carried.{carried, if_damaged_weaker, told_at_end}
 use Rattle.blk_alloc.proofs.Causes.{cause_before, none_before}
 use Rattle.blk_alloc.proofs.Externals.{fit_then_blocks}
 use Rattle.blk_alloc.proofs.Sparing.{blocks_same}

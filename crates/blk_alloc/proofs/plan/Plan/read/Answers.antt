@@ -5,8 +5,7 @@ use Rattle.blk_image.specs.Image.{Block, byte}
 use Rattle.blk_image.specs.Told.{Told}
 use Rattle.blk_io.specs.declared.folder.FileId.TheVariants as names
 use Rattle.blk_io.proofs.Shorts.{untold_if}
-use Rattle.blk_io.proofs.Carried.{carried}
-use Rattle.blk_alloc.proofs.Carried.{untold_where, if_damaged, if_damaged_weaker}
+use Rattle.blk_io.proofs.Carried.{carried, untold_where, if_damaged, if_damaged_weaker}
 use Rattle.blk_io.specs.Faults.{IfDamaged, IsShort}
 use Rattle.blk_alloc.specs.Counting.{IsAtEnd}
 use Rattle.blk_alloc.specs.Owning.{IsCause}
