@@ -46,3 +46,4 @@ pub mod ListBytes
 pub mod DamagedParts
 pub mod Allocations
 pub mod Growing
+pub mod ExampleChanges
