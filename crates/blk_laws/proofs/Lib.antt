@@ -47,3 +47,4 @@ pub mod DamagedParts
 pub mod Allocations
 pub mod Growing
 pub mod ExampleChanges
+pub mod ExampleItems
