@@ -48,3 +48,5 @@ pub mod Allocations
 pub mod Growing
 pub mod ExampleChanges
 pub mod ExampleItems
+pub mod WholeFolder
+pub mod WholeMarks
