@@ -52,10 +52,10 @@ use Rattle.blk_laws.proofs.Created.{creates-moments, creates-end, creates-rest, 
 -- What is kept of the one entry.
 
 -- a node passes where its dirty word is 0
-abbrev is_clean : Loaded → Bool
+abbrev pub is_clean : Loaded → Bool
 is_clean l = l.dirty == 0
 
-goes-with : GoesWith (layout 0) (main (codes "a") ∷ []) held is_clean
+pub goes-with : GoesWith (layout 0) (main (codes "a") ∷ []) held is_clean
 goes-with = record {
   clean = λ item l h at passes. passes;
   main_out = λ key l h at fails. fails;

@@ -50,3 +50,4 @@ pub mod ExampleChanges
 pub mod ExampleItems
 pub mod WholeFolder
 pub mod WholeMarks
+pub mod ExampleFolders

@@ -114,7 +114,7 @@ pub its-bucket : hash (codes "a") ≡ 0x115EA782
 unfolding hash mixed of_bytes of_one
 its-bucket = refl
 
-no-doomed : (settled : Bool) (number : ℕ) (o : Object) → object_at (state settled) number ≡ Some o → o.live ≡ false → ⊥
+pub no-doomed : (settled : Bool) (number : ℕ) (o : Object) → object_at (state settled) number ≡ Some o → o.live ≡ false → ⊥
 no-doomed settled zero o e dead = let s : object settled ≡ o = cc in let c : true ≡ false = ap (λ (z : Object). z.live) s ∙ dead in cc
 no-doomed settled (suc n) o e dead = cc
 
