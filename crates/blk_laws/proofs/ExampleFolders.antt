@@ -64,7 +64,7 @@ linked-below n = ap is_some (whole-linked n) ∙ go (nat_lt n 4) where
   go true = refl
   go false = refl
 
-below : (n : ℕ) → is_some (linked_as whole_folder n) ≡ true → n < 4
+pub below : (n : ℕ) → is_some (linked_as whole_folder n) ≡ true → n < 4
 below n is = ltb-true n 4 (sym (linked-below n) ∙ is)
 
 no-externals : (n : ℕ) → has_file whole_folder (External n) ≡ false
@@ -97,13 +97,13 @@ whole-only n small = there n ∙ sym (linked-below n) where
   there (suc (suc (suc zero))) = refl
   there (suc (suc (suc (suc n)))) = grind (arith, nat_tests)
 
-its-type : (n kind : ℕ) → linked_as whole_folder n ≡ Some kind → n + 1 ≡ kind
+pub its-type : (n kind : ℕ) → linked_as whole_folder n ≡ Some kind → n + 1 ≡ kind
 its-type n kind is = go (nat_lt n 4) (sym (whole-linked n) ∙ is) where
   go : (t : Bool) → (if t then Some (n + 1) else None) ≡ Some kind → n + 1 ≡ kind
   go true e = cc
   go false e = cc
 
-whole-long : AreLongEnough whole_folder
+pub whole-long : AreLongEnough whole_folder
 unfolding whole_folder zeros with_word spliced max_entries_in block_place block_size
 whole-long n kind is = subst (λ (k : ℕ). block_place k (max_entries_in whole_folder n) ≤ length_of whole_folder (Block n)) (its-type n kind is) (go n (below n (ap is_some is))) where
   go : (n : ℕ) → n < 4 → block_place (n + 1) (max_entries_in whole_folder n) ≤ length_of whole_folder (Block n)

@@ -51,3 +51,4 @@ pub mod ExampleItems
 pub mod WholeFolder
 pub mod WholeMarks
 pub mod ExampleFolders
+pub mod ExampleGrowth

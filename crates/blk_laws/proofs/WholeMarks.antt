@@ -25,11 +25,11 @@ marks-are f m b first later below = ⊎_elim
     (cases_lt b 8)
 
 -- bytes of the header past these words
-abbrev Outside : ℕ → List (ℕ × ℕ) → Type 0
+abbrev pub Outside : ℕ → List (ℕ × ℕ) → Type 0
 Outside k [] = Unit {0}
 Outside k (w ∷ ws) = ((k < w.0) ⊎ (w.0 + 4 ≤ k)) × Outside k ws
 
-byte-outside : (ws : List (ℕ × ℕ)) (bytes : List ℕ) (k : ℕ) → Outside k ws → content (with_words ws bytes) k ≡ content bytes k
+pub byte-outside : (ws : List (ℕ × ℕ)) (bytes : List ℕ) (k : ℕ) → Outside k ws → content (with_words ws bytes) k ≡ content bytes k
 byte-outside [] bytes k out = refl
 byte-outside (w ∷ ws) bytes k out = byte-outside ws (with_word w.0 w.1 bytes) k out.1 ∙ unfold with_word in content-spliced_outside w.0 _ bytes k out.0
 
@@ -114,14 +114,14 @@ whole-marks (suc (suc (suc (suc n)))) b small below = absurd (omega arith)
 -- ---- the groups of a map
 
 -- a content with a word over it
-abbrev over : ℕ × ℕ → (ℕ → ℕ) → ℕ → ℕ
+abbrev pub over : ℕ × ℕ → (ℕ → ℕ) → ℕ → ℕ
 over w f k = if nat_le w.0 k && nat_lt k (w.0 + 4) then content (word_bytes w.1) (k - w.0) else f k
 
-abbrev over_all : List (ℕ × ℕ) → (ℕ → ℕ) → ℕ → ℕ
+abbrev pub over_all : List (ℕ × ℕ) → (ℕ → ℕ) → ℕ → ℕ
 over_all [] f = f
 over_all (w ∷ ws) f = over_all ws (over w f)
 
-abbrev AreInside : ℕ → List (ℕ × ℕ) → Type 0
+abbrev pub AreInside : ℕ → List (ℕ × ℕ) → Type 0
 AreInside n [] = Unit {0}
 AreInside n (w ∷ ws) = (w.0 + 4 ≤ n) × AreInside n ws
 
@@ -137,7 +137,7 @@ content-word w bytes room = λ i k. at k i where
       (cases_lt k (w.0 + 4)))
       (cases_lt k w.0)
 
-content-words : (ws : List (ℕ × ℕ)) (bytes : List ℕ) (n : ℕ) → length bytes ≡ n → AreInside n ws → content (with_words ws bytes) ≡ over_all ws (content bytes)
+pub content-words : (ws : List (ℕ × ℕ)) (bytes : List ℕ) (n : ℕ) → length bytes ≡ n → AreInside n ws → content (with_words ws bytes) ≡ over_all ws (content bytes)
 content-words [] bytes n size inside = refl
 content-words (w ∷ ws) bytes n size inside =
     content-words ws (with_word w.0 w.1 bytes) n (length-with_word w.0 w.1 bytes ∙ size) inside.1
