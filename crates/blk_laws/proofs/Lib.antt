@@ -52,3 +52,4 @@ pub mod WholeFolder
 pub mod WholeMarks
 pub mod ExampleFolders
 pub mod ExampleGrowth
+pub mod ExampleCovers
