@@ -53,3 +53,4 @@ pub mod WholeMarks
 pub mod ExampleFolders
 pub mod ExampleGrowth
 pub mod ExampleCovers
+pub mod ExampleChains
