@@ -54,3 +54,4 @@ pub mod ExampleFolders
 pub mod ExampleGrowth
 pub mod ExampleCovers
 pub mod ExampleChains
+pub mod ExampleLists
