@@ -8,7 +8,7 @@ use Rattle.blk_image.specs.Told.{Along}
 use Rattle.blk_format.specs.Hash.{of_four, of_bytes, mixed, hash}
 use Rattle.blk_format.specs.Address.{is_address, is_initialized, names_external, names_blocks, kind_of, reserved_bits, block_count, file_selector, first_block, external_number, block_size, block_place, place, room}
 use Rattle.blk_format.specs.Standing.{stands, stands_as_blocks}
-use Rattle.blk_format.specs.Headers.{index_length}
+use Rattle.blk_format.specs.Headers.{header_length}
 use Rattle.blk_format.specs.Records.{node_in, node_checks}
 use Rattle.blk_format.specs.BlockFiles.{next_file_in, max_entries_in, files_along, linked, type_among}
 use Rattle.blk_volume.specs.ListView.{ListView, after_writes}
@@ -58,9 +58,9 @@ insert-is_completed = let e = completions-end begun_insert in (completing_walk b
 abbrev pair_nodes : List ℕ
 pair_nodes = with_words (new_file_words 0 ++ (20, 1024) ∷ (8208, 0x90000000) ∷ (8212, 0x90000001) ∷ (8244, 0x90000000) ∷ (8248, 0x90000001) ∷ []) (zeros 8300)
 
--- the folder of these, with these words in its index too
+-- the folder of these, with these words in its index too, of which only the header is there
 unfoldable pub pair_folder : List (ℕ × ℕ) → Image
-pair_folder more Index = Some (with_words (new_index_words 50 ++ (288, 0x90000001) ∷ (308, 0x90000000) ∷ more) (zeros index_length))
+pair_folder more Index = Some (with_words (new_index_words 50 ++ (288, 0x90000001) ∷ (308, 0x90000000) ∷ more) (zeros header_length))
 pair_folder more (Block zero) = Some pair_nodes
 pair_folder more (Block (suc zero)) = Some (with_words (new_file_words 1) (zeros 8192))
 pair_folder more (Block (suc (suc zero))) = Some (with_words (new_file_words 2) (zeros 8192))
