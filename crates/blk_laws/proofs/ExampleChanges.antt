@@ -12,7 +12,8 @@ use Rattle.blk_format.specs.Hash.{of_one, of_bytes, mixed, hash}
 use Rattle.blk_format.specs.Address.{kind_of, block_count, file_selector, first_block, external_number}
 use Rattle.blk_format.specs.Storage.{entry_blocks}
 use Rattle.blk_format.specs.Claims.{Claim, BlockOf, ExternalOf, same_claim, claims_of, has_claim, repeats}
-use Rattle.blk_volume.specs.View.{View, Stock, Core, Named}
+use Rattle.blk_volume.specs.ListView.{put}
+use Rattle.blk_volume.specs.View.{View, Named}
 use Rattle.blk_volume.specs.Entries.{is_key_length, stream_of, streams_of, role_of}
 use Rattle.blk_volume.specs.Entries as entries
 use Rattle.blk_volume.specs.Loads.{alone, held, Loaded, load, load_key, load_record, record_claims, all_claims}
@@ -242,3 +243,7 @@ dirtied-is_represented =
 pub turned-is_picked : (rest (state true) ≡ pick (state true) (turned (state true) 0 (object true) false (state true).names) true (state true).uses)
     × (rest (turned (state true) 0 (object true) false (state true).names) ≡ pick (state true) (turned (state true) 0 (object true) false (state true).names) false (state true).uses)
 turned-is_picked = (before-turning (state true) (state_is_valid true) 0 (object true) false (state true).names refl refl, after-turning (state true) (state_is_valid true) 0 (object true) false (state true).names refl refl)
+
+-- and so it does where the word alone is another
+pub marked-is_represented : Represents (record (view 0) { stock = record (view 0).stock { named = put (view 0).stock.named node (Some (record { contents = contents; dirty = 5 })) } }) (marked (state true) 0 (object true) false) (dirtied (layout 0) node (loaded 0) 5)
+marked-is_represented = dirty-settles (view 0) (state true) (layout 0) (represented 0) (state_is_valid true) 0 (object true) (loaded 0) (lies 0) (record { contents = contents; dirty = 0 }) 5 refl

@@ -7,7 +7,7 @@ use Rattle.std.proofs.lemmas.Bool.{eqb-true, eq-eqb, cases_Bool}
 use Rattle.std.proofs.lemmas.Bool.Decides.{nat_tests}
 use Rattle.blk_model.specs.Items.{Item, main, part, main_row, plain, key_of, IsKey}
 use Rattle.blk_model.specs.State.{Object, State, IsValidState, object_at}
-use Rattle.blk_model.specs.Holding.{row_of, owner_object, rest}
+use Rattle.blk_model.specs.Holding.{rows, row_of, owner_object, settled_row, rest}
 use Rattle.blk_model.specs.Effects.{created, effect}
 use Rattle.blk_model.specs.Room.{charge, pinned_of, room}
 use Rattle.blk_model.specs.Request.{to_open, to_create}
@@ -27,8 +27,10 @@ use Rattle.blk_volume.specs.ListPlans.{writes_of, touch_writes}
 use Rattle.blk_volume.specs.Chains.{IsChain}
 use Rattle.blk_volume.specs.Entries.{IsPlain, is_key_length, stream_of, streams_of, role_of}
 use Rattle.blk_volume.specs.Entries as entries
-use Rattle.blk_volume.specs.Loads.{alone, held, Loaded, load, load_key, load_record, record_claims, all_claims}
-use Rattle.blk_volume.specs.Audit.{kept_among, dropped_among, kept_by}
+use Rattle.blk_volume.specs.Loads.{alone, held, listed, Loaded, load, load_key, load_record, record_claims, all_claims}
+use Rattle.blk_volume.specs.Audit.{kept_among, dropped_among, kept_by, dropped_by}
+use Rattle.blk_volume.specs.Walk.{walk}
+use Rattle.blk_volume.specs.Sound.{ChainsEnd}
 use Rattle.blk_volume.specs.Found as volume
 use Rattle.blk_volume.specs.Shown.{IsShown}
 use Rattle.blk_volume.specs.Layout.{Layout, is_listed, IsListedRecord, Lies, HoldsBut, Represents}
@@ -42,7 +44,7 @@ use Rattle.blk_laws.proofs.Premises.{bytes-small, state_is_valid}
 use Rattle.blk_laws.proofs.ExampleChanges.{not-clear}
 use Rattle.blk_laws.proofs.Shown.{kept-given, dropped-none}
 use Rattle.blk_laws.proofs.Laid.{laid-shown, found-picked}
-use Rattle.blk_laws.proofs.Central.{settled-is_test}
+use Rattle.blk_laws.proofs.Central.{settled-is_test, walk-order, rows-kept, none-dropped, chain-end, found-rest}
 use Rattle.blk_laws.proofs.Opening.{open-moments, open-ends}
 use Rattle.blk_laws.proofs.Replacing.{linked-facts}
 use Rattle.blk_laws.proofs.Removing.{removed-rows}
@@ -338,3 +340,28 @@ has-less = record {
 -- the layout without `b` is laid out for the state without it
 pub less-is_laid : Lies (without_items both without_second is_not_second) (laid_less both_layout (layout 0).at (layout 0).chains (layout 0).owner)
 less-is_laid = lies-less both without_second is_not_second both_layout (layout 0).at (layout 0).chains (layout 0).owner both-are_represented.holds.lies lists-less has-less
+
+-- ---- what represents the state of both
+
+-- the walk is both nodes
+pub both-are_walked : walk both_view.list ≡ second_node ∷ node ∷ []
+unfolding created
+both-are_walked = walk-order both_view both both_layout both-are_represented
+
+-- what is listed are both rows
+pub both-are_listed : map volume.row_of (kept_by listed both_view) ≡ main_row (codes "b") plain ([], [], []) ∷ main_row (codes "a") plain (codes "zz", [], []) ∷ []
+unfolding created rows row_of
+both-are_listed = rows-kept both_view both both_layout both-are_represented both-are_valid
+
+-- nothing is dropped but for dirt
+pub both-are_not_dropped : dropped_by listed both_view ≡ []
+both-are_not_dropped = none-dropped both_view both both_layout both-are_represented both-are_valid
+
+-- each chain ends
+pub both-chains_end : ChainsEnd both_view.stock
+both-chains_end = chain-end both_view.stock both both_layout both-are_represented.holds both-are_valid
+
+-- and what is kept is `a` alone, which is settled
+pub both-keep_the_first : map volume.row_of (kept_by held (volume.completed both_view)) ≡ main_row (codes "a") plain (codes "zz", [], []) ∷ []
+unfolding created rest settled_row
+both-keep_the_first = found-rest both_view both both_layout both-are_represented both-are_valid

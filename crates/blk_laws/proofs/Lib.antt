@@ -55,3 +55,4 @@ pub mod ExampleGrowth
 pub mod ExampleCovers
 pub mod ExampleChains
 pub mod ExampleLists
+pub mod ExampleKept
