@@ -1,11 +1,10 @@
 -- The laws of chains at a chain of three records: it is linked from the table, one more goes in front, and the first and the second go out.
-use Rattle.std.proofs.Common.{◌≡◌, ℕ, ◌+◌, ◌<◌, List, [], ◌∷◌, refl, sym, ◌∙◌, subst, arith, Bool, true, false}
+use Rattle.std.proofs.Common.{◌≡◌, ℕ, [], ◌∷◌, refl, sym, subst, arith, true, false}
 use Rattle.std.specs.Prelude.{◌==◌, ◌||◌}
 use Rattle.std.proofs.lemmas.Bool.Decides.{nat_tests}
-use Rattle.blk_format.specs.BlockFiles.{is_among}
 use Rattle.blk_volume.specs.ListView.{put}
 use Rattle.blk_volume.specs.View.{Stock}
-use Rattle.blk_volume.specs.Chains.{Chain, chain, Linked, IsChain}
+use Rattle.blk_volume.specs.Chains.{chain, Linked, IsChain}
 use Rattle.blk_laws.proofs.DamagedViews.{entry, shown}
 use Rattle.blk_laws.proofs.Chains.{chain-is}
 use Rattle.blk_laws.proofs.ChainLinks.{linked-front, others-stay}

@@ -1,6 +1,6 @@
 -- The laws on changes of what is represented, each at the state of one object: its stream is written anew, its dirty word, and blocks that are nobody's.
 use Rattle.std.proofs.Common.{◌≡◌, ⊎_elim, ℕ, zero, suc, List, [], ◌∷◌, refl, ap, sym, ◌∙◌, subst, arith, ◌<◌, Bool, true, false, Option, Some, None, Ok}
-use Rattle.std.specs.Prelude.{if◌then◌else◌, ◌==◌, ◌&&◌, ◌||◌, codes, map}
+use Rattle.std.specs.Prelude.{if◌then◌else◌, ◌==◌, ◌&&◌, codes, map}
 use Rattle.std.specs.Str.{bytes_eq}
 use Rattle.std.proofs.lemmas.Bool.{eqb-true, eq-eqb, cases_Bool}
 use Rattle.std.proofs.lemmas.Bool.Decides.{nat_tests}
@@ -20,8 +20,8 @@ use Rattle.blk_volume.specs.Loads.{alone, held, Loaded, load, load_key, load_rec
 use Rattle.blk_volume.specs.Chains.{IsChain}
 use Rattle.blk_volume.specs.Audit.{kept_among, kept_by}
 use Rattle.blk_volume.specs.Found as volume
-use Rattle.blk_volume.specs.Layout.{Layout, Lies, HoldsBut, IsMidst, Represents, OneChanged, changed_at, IsChange}
-use Rattle.blk_volume.specs.Footprint.{IsClear, SameBut, IsFree, IsFreeBut, IsReplaced, IsInside}
+use Rattle.blk_volume.specs.Layout.{Lies, HoldsBut, IsMidst, Represents, OneChanged, changed_at, IsChange}
+use Rattle.blk_volume.specs.Footprint.{IsClear, SameBut, IsFree, IsFreeBut, IsReplaced}
 use Rattle.blk_laws.specs.CommandLaws.{marked, dirtied, turned}
 use Rattle.blk_laws.proofs.OneEntry.{object, state, node, contents, bucket, loaded, layout, core, stock, view, choice, at-node, claims, represented, lies, midst}
 use Rattle.blk_laws.proofs.Premises.{state_is_valid}

@@ -1,20 +1,19 @@
 -- The laws of covered changes at the whole folder: bytes of its stream, a field of a header and hidden words of the index are written.
-use Rattle.std.proofs.Common.{◌≡◌, inl, inr, ℕ, ◌+◌, ◌*◌, ◌<◌, ◌≤◌, List, [], ◌∷◌, refl, ap, sym, ◌∙◌, subst, arith, lit≤, Bool, true, false}
-use Rattle.std.specs.Prelude.{◌||◌, ◌&&◌, nat_le, nat_lt}
+use Rattle.std.proofs.Common.{◌≡◌, inl, inr, ℕ, ◌+◌, ◌*◌, [], ◌∷◌, refl, sym, ◌∙◌, arith, lit≤, Bool, true, false}
+use Rattle.std.specs.Prelude.{◌||◌, ◌&&◌}
 use Rattle.std.proofs.lemmas.Bool.Decides.{nat_tests}
 use Rattle.blk_image.specs.Bytes.{spliced, zeros}
-use Rattle.blk_image.specs.Image.{Index, Block, External, Image, same_file, byte}
+use Rattle.blk_image.specs.Image.{Index, Block, External, Image, same_file}
 use Rattle.blk_image.specs.Steps.{Word, applied, with_word}
 use Rattle.blk_image.specs.Footprint.{range, whole, either, SameOutside}
 use Rattle.blk_image.proofs.Footprints.{outside_write, range_within}
 use Rattle.blk_format.specs.Address.{is_address, is_initialized, names_external, names_blocks, kind_of, reserved_bits, block_count, file_selector, first_block, external_number, external, block_size, block_place, place, room}
 use Rattle.blk_format.specs.Standing.{stands, stands_as_blocks}
-use Rattle.blk_format.specs.Claims.{Claim, BlockOf, ExternalOf, same_claim, claims_of, has_claim}
+use Rattle.blk_format.specs.Claims.{BlockOf, ExternalOf, same_claim, claims_of, has_claim}
 use Rattle.blk_format.specs.BlockFiles.{next_file_in, max_entries_in, files_along, linked, linked_as, type_among, stands_in}
 use Rattle.blk_volume.specs.View.{view_of}
-use Rattle.blk_volume.specs.Footprint.{Covers, SameBut, is_shown_place}
+use Rattle.blk_volume.specs.Footprint.{Covers, SameBut}
 use Rattle.blk_laws.specs.ByteLaws.{AgreeBut}
-use Rattle.blk_laws.proofs.BlockBytes.{not_same}
 use Rattle.blk_laws.proofs.ByteChanges.{covered-agrees, views-same, same-links, agreement-goes_on, agreement-more}
 use Rattle.blk_laws.proofs.Covers.{blocks-covered, externals-covered, headers-covered, hidden-covered, covers-less, covers-more, covers-either}
 use Rattle.blk_laws.proofs.WholeFolder.{whole_folder}

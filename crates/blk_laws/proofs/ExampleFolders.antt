@@ -1,39 +1,38 @@
 -- The laws of folders at the whole folder: it shows its state, stands for it and is sound, and its allocations are its node, its record and its stream.
-use Rattle.std.proofs.Common.{◌≡◌, ⊎_elim, inr, ℕ, zero, suc, ◌+◌, ◌<◌, ◌≤◌, List, [], ◌∷◌, ◌++◌, map, refl, ap, sym, ◌∙◌, subst, arith, lit≤, Bool, true, false, Option, Some, None}
-use Rattle.std.specs.Prelude.{if◌then◌else◌, ◌==◌, ◌&&◌, ◌||◌, nat_lt, is_some}
+use Rattle.std.proofs.Common.{◌≡◌, ℕ, zero, suc, ◌+◌, ◌<◌, ◌≤◌, List, [], ◌∷◌, ◌++◌, map, refl, ap, sym, ◌∙◌, subst, arith, lit≤, Bool, true, false, Option, Some, None}
+use Rattle.std.specs.Prelude.{if◌then◌else◌, ◌==◌, ◌||◌, nat_lt, is_some}
 use Rattle.std.specs.Option.{IsSomeAnd}
 use Rattle.std.specs.List.{flat_map, filter}
-use Rattle.std.proofs.lemmas.Bool.{cases_Bool, ltb-true}
+use Rattle.std.proofs.lemmas.Bool.{ltb-true}
 use Rattle.std.proofs.lemmas.Bool.Decides.{nat_tests}
-use Rattle.std.proofs.lemmas.List.{append-nil}
 use Rattle.blk_image.specs.Bytes.{spliced, words_at, zeros}
-use Rattle.blk_image.specs.Image.{Index, Block, External, Image, byte, has_file, length_of}
+use Rattle.blk_image.specs.Image.{Block, External, has_file, length_of}
 use Rattle.blk_image.specs.Steps.{with_word}
-use Rattle.blk_model.specs.State.{Object, object_at}
+use Rattle.blk_model.specs.State.{Object, Bounds, object_at}
+use Rattle.blk_model.specs.Holding.{open_state}
 use Rattle.blk_format.specs.Hash.{of_four, of_bytes, mixed, hash}
-use Rattle.blk_format.specs.Address.{kind_of, block_count, file_selector, first_block, external_number, block_size, block_place, place}
-use Rattle.blk_format.specs.Headers.{num_entries_of, num_bytes_of, sizes_of, allocations_of, updating_of}
+use Rattle.blk_format.specs.Address.{kind_of, file_selector, first_block, block_size, block_place, place}
 use Rattle.blk_format.specs.Records.{node_is_sealed, node_in, node_body, entry_is_sealed, entry_in, entry_body}
 use Rattle.blk_format.specs.Claims.{Claim, BlockOf, ExternalOf, has_claim, is_in_file}
-use Rattle.blk_format.specs.BlockFiles.{linked_as, max_entries_in, most_blocks}
-use Rattle.blk_format.specs.Maps.{is_marked, AreAllocations}
+use Rattle.blk_format.specs.BlockFiles.{linked_as, max_entries_in}
+use Rattle.blk_format.specs.Maps.{AreAllocations}
 use Rattle.blk_volume.specs.View.{View, list_of, stock_of, view_of}
-use Rattle.blk_volume.specs.Walk.{walk}
-use Rattle.blk_volume.specs.Completion.{completed_list}
-use Rattle.blk_volume.specs.Loads.{Rule, held, listed, Loaded, all_claims, claims_of_loaded}
-use Rattle.blk_volume.specs.Audit.{kept_among, dropped_among, kept_by, dropped_by}
-use Rattle.blk_volume.specs.Found.{completed, kept, dropped, charge_of}
-use Rattle.blk_volume.specs.Layout.{order}
+use Rattle.blk_volume.specs.Loads.{held, listed, Loaded, all_claims, claims_of_loaded}
+use Rattle.blk_volume.specs.Audit.{kept_among, kept_by, dropped_by}
+use Rattle.blk_volume.specs.Found.{completed, kept, dropped, found}
+use Rattle.blk_volume.specs.Layout.{Represents}
+use Rattle.blk_volume.specs.Emptiness.{no_layout}
 use Rattle.blk_volume.specs.Given.{given_by}
 use Rattle.blk_volume.specs.Shown.{IsShown}
 use Rattle.blk_volume.specs.Sound.{OnlyLinked, AreLongEnough, words_of, AreOwned, IsCounted, AreSealed, IsIndexCounted, IsInOrder, IsSound}
 use Rattle.blk_volume.specs.StandsFor.{KeepsDoomed, AreDoomed, ShowsState, StandsFor, IsOwner, IsAllocated}
 use Rattle.blk_laws.proofs.OneEntry as one
 use Rattle.blk_laws.proofs.Premises.{state_is_valid}
-use Rattle.blk_laws.proofs.Bare.{idle-list}
+use Rattle.blk_laws.proofs.Bare.{idle-list, represents-empty, bare-sound, bare-found, bare-stands}
+use Rattle.blk_laws.proofs.NewFolders.{new_folder, new-bare, new-is_new}
 use Rattle.blk_laws.proofs.Shown.{kept-given, dropped-none}
 use Rattle.blk_laws.proofs.Laid.{laid-shown}
-use Rattle.blk_laws.proofs.Central.{walk-order, none-unlisted, all-shown, all-kept}
+use Rattle.blk_laws.proofs.Central.{walk-order, none-unlisted, all-shown}
 use Rattle.blk_laws.proofs.Standing.{shows-state, stands-for}
 use Rattle.blk_laws.proofs.Allocations.{sound-allocated, stood-allocated}
 use Rattle.blk_laws.proofs.ExampleItems.{is_clean, goes-with}
@@ -216,3 +215,20 @@ its-nodes =
     subst (λ (ls : List Loaded). AreAllocations whole_folder 0 (filter (is_in_file 0) (flat_map words_of (ls ++ [])))) kept-listed
     (subst (λ (ds : List (ℕ × Loaded)). AreAllocations whole_folder 0 (filter (is_in_file 0) (flat_map words_of (kept_by listed (view_of whole_folder) ++ map (λ (d : ℕ × Loaded). d.1) ds)))) (none-doomed whole-stands.doomed whole-stands.are_doomed)
     (stood-allocated whole_folder (one.state true) whole-stands 0 (linked-below 0)))
+
+-- A new folder is bare: it holds nothing, is sound, and represents the empty state and stands for it.
+
+abbrev some_limits : Bounds
+some_limits = record { max_bytes = 1000; max_items = 10 }
+
+pub new-is_empty : found (new_folder 50) ≡ []
+new-is_empty = bare-found (new_folder 50) (new-bare 50 (new_folder 50) (new-is_new 50))
+
+pub new-is_sound : IsSound (new_folder 50)
+new-is_sound = bare-sound (new_folder 50) (new-bare 50 (new_folder 50) (new-is_new 50))
+
+pub new-is_represented : Represents (view_of (new_folder 50)) (open_state [] some_limits) no_layout
+new-is_represented = represents-empty (new_folder 50) (new-bare 50 (new_folder 50) (new-is_new 50)) some_limits
+
+pub new-stands : StandsFor (new_folder 50) (open_state [] some_limits)
+new-stands = bare-stands (new_folder 50) (new-bare 50 (new_folder 50) (new-is_new 50)) some_limits

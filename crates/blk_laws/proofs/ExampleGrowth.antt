@@ -1,9 +1,8 @@
 -- The laws of growth at the whole folder: data_1 has 2048 blocks in place of 1024, and data_4 is linked behind it.
-use Rattle.std.proofs.Common.{◌≡◌, inl, inr, ℕ, zero, suc, ◌+◌, ◌<◌, ◌≤◌, List, [], ◌∷◌, refl, ap, sym, ◌∙◌, subst, arith, lit≤, Bool, true, false, Some, None}
-use Rattle.std.specs.Prelude.{if◌then◌else◌, ◌==◌, is_some}
-use Rattle.std.proofs.lemmas.Bool.Decides.{nat_tests}
+use Rattle.std.proofs.Common.{◌≡◌, inr, ℕ, zero, suc, ◌+◌, ◌<◌, ◌≤◌, List, [], ◌∷◌, refl, ap, sym, ◌∙◌, subst, arith, lit≤, true, false, Some, None}
+use Rattle.std.specs.Prelude.{◌==◌, is_some}
 use Rattle.blk_image.specs.Bytes.{content, spliced, resized, zeros}
-use Rattle.blk_image.specs.Image.{Index, Block, External, Image, byte, length_of}
+use Rattle.blk_image.specs.Image.{Index, Block, Image, byte, length_of}
 use Rattle.blk_image.specs.Steps.{SetLength, applied, with_word, with_words}
 use Rattle.blk_image.proofs.Splices.{length-resized, content-resized}
 use Rattle.blk_image.proofs.Words.{length-with_words}

@@ -1,9 +1,8 @@
 -- The laws on the items of a state, at a state of one object and of two: what is kept, a Create, an Open, and a removal.
-use Rattle.std.proofs.Common.{◌≡◌, ⊎_elim, ℕ, zero, suc, ◌+◌, ◌<◌, List, [], ◌∷◌, refl, ap, sym, ◌∙◌, subst, arith, Bool, true, false, Option, Some, None, Ok}
-use Rattle.std.specs.Prelude.{if◌then◌else◌, ◌==◌, ◌&&◌, ◌||◌, not, codes, map, cond, take}
-use Rattle.std.specs.List.{filter}
+use Rattle.std.proofs.Common.{◌≡◌, ⊎_elim, ℕ, zero, suc, ◌<◌, List, [], ◌∷◌, refl, ap, sym, ◌∙◌, subst, arith, Bool, true, false, Option, Some, None, Ok}
+use Rattle.std.specs.Prelude.{if◌then◌else◌, ◌==◌, ◌||◌, not, codes, map, take}
 use Rattle.std.specs.Str.{bytes_eq}
-use Rattle.std.proofs.lemmas.Bool.{eqb-true, eq-eqb, cases_Bool}
+use Rattle.std.proofs.lemmas.Bool.{cases_Bool}
 use Rattle.std.proofs.lemmas.Bool.Decides.{nat_tests}
 use Rattle.blk_model.specs.Items.{Item, main, part, main_row, plain, key_of, IsKey}
 use Rattle.blk_model.specs.State.{Object, State, IsValidState, object_at}
@@ -20,7 +19,7 @@ use Rattle.blk_format.specs.Address.{kind_of, block_count, file_selector, first_
 use Rattle.blk_format.specs.Storage.{entry_blocks}
 use Rattle.blk_format.specs.BlockFiles.{is_among}
 use Rattle.blk_format.specs.Claims.{Claim, BlockOf, ExternalOf, claims_of, has_claim, repeats}
-use Rattle.blk_volume.specs.View.{View, Stock, Core}
+use Rattle.blk_volume.specs.View.{View, Stock}
 use Rattle.blk_volume.specs.ListView.{put, after_writes}
 use Rattle.blk_volume.specs.Completion.{insert}
 use Rattle.blk_volume.specs.ListPlans.{writes_of, touch_writes}
@@ -36,7 +35,7 @@ use Rattle.blk_volume.specs.Shown.{IsShown}
 use Rattle.blk_volume.specs.Layout.{Layout, is_listed, IsListedRecord, Lies, HoldsBut, Represents}
 use Rattle.blk_volume.specs.Removal.{without_items, laid_less, ListsLess, HasLess}
 use Rattle.blk_volume.specs.Given.{given_by, GoesWith, IsTest}
-use Rattle.blk_volume.specs.Footprint.{IsClear, SameBut, IsFree}
+use Rattle.blk_volume.specs.Footprint.{IsClear, SameBut}
 use Rattle.blk_volume.specs.Creation.{with_new, linked_front}
 use Rattle.blk_laws.specs.CommandLaws.{IsWritten, touched_view}
 use Rattle.blk_laws.proofs.OneEntry.{object, state, node, contents, loaded, layout, core, list, stock, view, choice, at-node, claims, represented}

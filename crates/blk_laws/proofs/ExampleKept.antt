@@ -1,17 +1,16 @@
 -- The laws of what is kept: at two records of one key, at two folders that differ in a dirty node, and at new folders.
-use Rattle.std.proofs.Common.{◌≡◌, ℕ, zero, suc, ◌+◌, ◌<◌, List, [], ◌∷◌, ◌++◌, refl, ap, sym, ◌∙◌, subst, Bool, true, false, Option, Some, None}
-use Rattle.std.specs.Prelude.{if◌then◌else◌, ◌==◌, codes}
-use Rattle.std.specs.List.{AllByRecursion, filter}
+use Rattle.std.proofs.Common.{◌≡◌, ℕ, zero, suc, List, [], ◌∷◌, ◌++◌, refl, ap, sym, ◌∙◌, subst, true, Option, Some, None}
+use Rattle.std.specs.Prelude.{◌==◌, codes}
+use Rattle.std.specs.List.{AllByRecursion}
 use Rattle.blk_image.specs.Bytes.{spliced, range_at, words_at, zeros}
 use Rattle.blk_image.specs.Image.{Index, Block, Image}
 use Rattle.blk_image.specs.Steps.{with_word, with_words}
-use Rattle.blk_model.specs.Holding.{open_state}
-use Rattle.blk_format.specs.Hash.{of_four, of_three, of_two, of_one, of_bytes, mixed, hash}
+use Rattle.blk_format.specs.Hash.{hash}
 use Rattle.blk_format.specs.Address.{is_address, is_initialized, names_external, names_blocks, kind_of, reserved_bits, block_count, file_selector, first_block, external_number, block_size, block_place, place, room}
 use Rattle.blk_format.specs.Storage.{kind_for, blocks_for, entry_blocks, is_storage}
 use Rattle.blk_format.specs.Standing.{stands, stands_as_blocks}
 use Rattle.blk_format.specs.Records.{node_checks, entry_checks, node_in, entry_in}
-use Rattle.blk_format.specs.Headers.{head_checks, list_checks, index_length}
+use Rattle.blk_format.specs.Headers.{head_checks, list_checks}
 use Rattle.blk_format.specs.BlockFiles.{next_file_in, max_entries_in, files_along, linked, linked_up_to, type_among, is_link, is_block_count, file_checks, checks_along, checks_of_type, is_among, IsWellFormed}
 use Rattle.blk_volume.specs.Walk.{walk, walk_from}
 use Rattle.blk_volume.specs.Completion.{counts, completed_list}
@@ -21,8 +20,8 @@ use Rattle.blk_volume.specs.Entries.{is_key_length, key_of, stream_of, streams_o
 use Rattle.blk_volume.specs.Loads.{held}
 use Rattle.blk_volume.specs.Audit.{kept_among, kept_by}
 use Rattle.blk_volume.specs.Found.{completed, found}
-use Rattle.blk_volume.specs.Candidates.{is_candidate, candidates, SameData, SameRecord, SameNamed}
-use Rattle.blk_laws.specs.BareLaws.{new_index_words, new_file_words}
+use Rattle.blk_volume.specs.Candidates.{is_candidate, candidates, SameData, SameNamed}
+use Rattle.blk_laws.specs.BareLaws.{new_file_words}
 use Rattle.blk_laws.proofs.OneEntry as one
 use Rattle.blk_laws.proofs.LeavingOut.{leaving-out}
 use Rattle.blk_laws.proofs.Loads.{one-chain}

@@ -1,11 +1,9 @@
 -- The laws of the use list: at a list of three nodes in a view, and at one of two nodes in bytes.
-use Rattle.std.proofs.Common.{◌≡◌, ℕ, zero, suc, ◌+◌, ◌<◌, List, [], ◌∷◌, ◌++◌, refl, arith, Some, None, Bool, true, false}
-use Rattle.std.specs.Prelude.{if◌then◌else◌, ◌==◌}
+use Rattle.std.proofs.Common.{◌≡◌, ℕ, zero, suc, List, [], ◌∷◌, ◌++◌, refl, arith, Some, None}
 use Rattle.blk_image.specs.Bytes.{spliced, zeros}
-use Rattle.blk_image.specs.Image.{Index, Block, External, Image}
+use Rattle.blk_image.specs.Image.{Index, Block, Image}
 use Rattle.blk_image.specs.Steps.{with_word, with_words, word_step, after}
 use Rattle.blk_image.specs.Told.{Along}
-use Rattle.blk_format.specs.Hash.{of_four, of_bytes, mixed, hash}
 use Rattle.blk_format.specs.Address.{is_address, is_initialized, names_external, names_blocks, kind_of, reserved_bits, block_count, file_selector, first_block, external_number, block_size, block_place, place, room}
 use Rattle.blk_format.specs.Standing.{stands, stands_as_blocks}
 use Rattle.blk_format.specs.Headers.{header_length}

@@ -1,9 +1,9 @@
 -- A whole folder, computed from its bytes, with one closed entry `a` whose stream 0 is `zz`: counters, maps and seals are in order, and it represents the state of that entry.
-use Rattle.std.proofs.Common.{◌≡◌, ◌≢◌, ◌⊎◌, inl, inr, ⊎_elim, ℕ, zero, suc, ◌+◌, ◌*◌, ◌/◌, ◌%◌, ◌<◌, ◌≤◌, List, [], ◌∷◌, ◌++◌, refl, ap, sym, ◌∙◌, subst, arith, lit≤, Some, None, Bool, true, false, Ok}
-use Rattle.std.specs.Prelude.{if◌then◌else◌, ◌==◌, nat_lt, codes}
+use Rattle.std.proofs.Common.{◌≡◌, ◌≢◌, ◌⊎◌, inl, inr, ⊎_elim, ℕ, zero, suc, ◌+◌, ◌*◌, ◌<◌, ◌≤◌, List, [], ◌∷◌, ◌++◌, refl, ap, sym, ◌∙◌, subst, arith, lit≤, Some, None, true, false, Ok}
+use Rattle.std.specs.Prelude.{if◌then◌else◌, ◌==◌, nat_lt}
 use Rattle.std.proofs.lemmas.Bool.Decides.{nat_tests}
-use Rattle.std.proofs.lemmas.Bool.{eqb-true, eq-eqb, cases_Bool, cases_lt, lt-ltb, le-ltb}
-use Rattle.blk_image.specs.Bytes.{content, spliced, range_at, words_at, zeros}
+use Rattle.std.proofs.lemmas.Bool.{eqb-true, eq-eqb, cases_Bool, cases_lt}
+use Rattle.blk_image.specs.Bytes.{spliced, range_at, words_at, zeros}
 use Rattle.blk_image.specs.Image.{Index, Block, Image, byte}
 use Rattle.blk_image.specs.Steps.{with_word, with_words}
 use Rattle.blk_image.proofs.Words.{word-zeros}
@@ -83,8 +83,37 @@ other-bucket b apart = words_beside (place_of_bucket b) index_words (zeros index
   behind place low = inr (omega arith)
 
   beside : Beside (place_of_bucket b) index_words
-  beside = (behind 4 (lit≤ tt), (behind 28 (lit≤ tt), (behind 40 (lit≤ tt), (behind 44 (lit≤ tt), (behind 0 (lit≤ tt), (behind 8 (lit≤ tt), (behind 12 (lit≤ tt), (behind 268 (lit≤ tt), (behind 288 (lit≤ tt), (behind 308 (lit≤ tt),
-      (⊎_elim (λ (below : b < 42882). inl (omega arith)) (λ (over : 42882 ≤ b). let more : 42882 < b = let n : b ≢ 42882 = λ e. (let c : true ≡ false = sym (eq-eqb b one.bucket e) ∙ apart in cc) in omega arith in inr (omega arith)) (cases_lt b 42882), tt)))))))))))
+  beside = (
+    behind 4 (lit≤ tt),
+    (
+      behind 28 (lit≤ tt),
+      (
+        behind 40 (lit≤ tt),
+        (
+          behind 44 (lit≤ tt),
+          (
+            behind 0 (lit≤ tt),
+            (
+              behind 8 (lit≤ tt),
+              (
+                behind 12 (lit≤ tt),
+                (
+                  behind 268 (lit≤ tt),
+                  (
+                    behind 288 (lit≤ tt),
+                    (
+                      behind 308 (lit≤ tt),
+                      (⊎_elim (λ (below : b < 42882). inl (omega arith)) (λ (over : 42882 ≤ b). let more : 42882 < b = let n : b ≢ 42882 = λ e. (let c : true ≡ false = sym (eq-eqb b one.bucket e) ∙ apart in cc) in omega arith in inr (omega arith)) (cases_lt b 42882), tt),
+                    ),
+                  ),
+                ),
+              ),
+            ),
+          ),
+        ),
+      ),
+    ),
+  )
 
 its-bucket-word : (bucket_of (byte whole_folder Index) one.bucket ≡ one.contents) × (is_of_bucket (stock_of whole_folder) one.bucket one.contents ≡ true) × ((stock_of whole_folder).follow one.contents ≡ 0)
 unfolding whole_folder zeros with_word spliced next_file_in max_entries_in linked files_along type_among stock_of core_at follow_at stands stands_as_blocks is_address is_initialized names_external names_blocks kind_of reserved_bits block_count file_selector first_block external_number block_size block_place place room entry_checks entry_is_sealed entry_in entry_body words_at hash mixed of_bytes of_four

@@ -1,12 +1,12 @@
 -- The maps, counters and seals of the whole folder: it is sound, and stands for the state of its entry.
-use Rattle.std.proofs.Common.{◌≡◌, ◌⊎◌, inl, inr, ⊎_elim, ℕ, zero, suc, ◌+◌, ◌-◌, ◌*◌, ◌/◌, ◌%◌, ◌<◌, ◌≤◌, List, [], ◌∷◌, ◌++◌, length, refl, ap, sym, ◌∙◌, subst, arith, lit≤, Some, None, Bool, true, false}
-use Rattle.std.specs.Prelude.{if◌then◌else◌, ◌==◌, ◌&&◌, nat_lt, nat_le, is_some}
+use Rattle.std.proofs.Common.{◌≡◌, ◌⊎◌, inl, inr, ⊎_elim, ℕ, zero, suc, ◌+◌, ◌-◌, ◌/◌, ◌%◌, ◌<◌, ◌≤◌, List, [], ◌∷◌, ◌++◌, length, refl, ap, sym, ◌∙◌, arith, Bool, true, false}
+use Rattle.std.specs.Prelude.{if◌then◌else◌, ◌==◌, ◌&&◌, nat_lt, nat_le}
 use Rattle.std.specs.Int.{bit_at}
 use Rattle.std.proofs.lemmas.Nat.Bits.{bit_at-zero}
 use Rattle.std.proofs.lemmas.Bool.Decides.{nat_tests}
-use Rattle.std.proofs.lemmas.Bool.{cases_lt, lt-ltb, le-ltb, ltb-true}
+use Rattle.std.proofs.lemmas.Bool.{cases_lt, lt-ltb, le-ltb}
 use Rattle.blk_image.specs.Bytes.{content, spliced, zeros, word_bytes}
-use Rattle.blk_image.specs.Image.{Index, Block, External, Image, byte}
+use Rattle.blk_image.specs.Image.{Block, byte}
 use Rattle.blk_image.specs.Steps.{with_word, with_words}
 use Rattle.blk_image.proofs.Splices.{length-zeros, content-spliced_inside, content-spliced_outside, content-zeros}
 use Rattle.blk_image.proofs.Words.{length-with_word}
@@ -67,8 +67,34 @@ records-later k low high = ⊎_elim (λ (few : k < 84). near k low few) (λ (far
   near k low few = ⊎_elim (λ (a : k < 82). let e : k ≡ 81 = omega arith in rw e word-bytes.3) (λ (a : 82 ≤ k). ⊎_elim (λ (b : k < 83). let e : k ≡ 82 = omega arith in rw e word-bytes.4) (λ (b : 83 ≤ k). let e : k ≡ 83 = omega arith in rw e word-bytes.5) (cases_lt k 83)) (cases_lt k 82)
 
   out : 84 ≤ k → Outside k records_words
-  out far = (inr (omega arith), (inr (omega arith), (inr (omega arith), (inr (omega arith), (inr (omega arith), (inr (omega arith), (inr (omega arith), (inr (omega arith), (inr (omega arith),
-      (inl (omega arith), (inl (omega arith), (inl (omega arith), (inl (omega arith), (inl (omega arith), (inl (omega arith), (inl (omega arith), (inl (omega arith), tt)))))))))))))))))
+  out far = (
+    inr (omega arith),
+    (
+      inr (omega arith),
+      (
+        inr (omega arith),
+        (
+          inr (omega arith),
+          (
+            inr (omega arith),
+            (
+              inr (omega arith),
+              (
+                inr (omega arith),
+                (
+                  inr (omega arith),
+                  (
+                    inr (omega arith),
+                    (inl (omega arith), (inl (omega arith), (inl (omega arith), (inl (omega arith), (inl (omega arith), (inl (omega arith), (inl (omega arith), (inl (omega arith), tt)))))))),
+                  ),
+                ),
+              ),
+            ),
+          ),
+        ),
+      ),
+    ),
+  )
 
 -- data_2 and data_3 have no mark
 bare-later : (n k : ℕ) → 80 ≤ k → content (with_words (new_file_words n) (zeros 8192)) k ≡ 0
