@@ -56,3 +56,4 @@ pub mod ExampleCovers
 pub mod ExampleChains
 pub mod ExampleLists
 pub mod ExampleKept
+pub mod ExampleFamily
