@@ -8,7 +8,7 @@ use Rattle.std.proofs.lemmas.Bool.Decides.{nat_tests}
 use Rattle.blk_image.specs.Bytes.{content, words_at}
 use Rattle.blk_model.specs.Items.{Item, main, part, main_row, part_row, sparse, same_item, PartValue}
 use Rattle.blk_model.specs.State.{Object, State, object_at}
-use Rattle.blk_model.specs.Holding.{row_of}
+use Rattle.blk_model.specs.Holding.{owner, row_of}
 use Rattle.blk_model.proofs.Same.{one_item}
 use Rattle.blk_format.specs.Hash.{of_four, of_three, of_one, of_bytes, mixed, hash}
 use Rattle.blk_format.specs.Address.{kind_of, block_count, file_selector, first_block, external_number}
@@ -22,6 +22,13 @@ use Rattle.blk_volume.specs.Entries.{IsParent, IsPart, is_key_length, key_of, st
 use Rattle.blk_volume.specs.Loads.{alone, held, Loaded, load, load_key, load_record, record_claims, all_claims}
 use Rattle.blk_volume.specs.Chains.{bucket_of_hash, IsChain}
 use Rattle.blk_volume.specs.Layout.{Layout, is_listed, IsLaid, IsListedRecord, Holds}
+use Rattle.blk_volume.specs.Audit.{kept_among}
+use Rattle.blk_volume.specs.Found as volume
+use Rattle.blk_volume.specs.Shown.{IsShown}
+use Rattle.blk_volume.specs.Given.{given_by, GoesWith, IsTest}
+use Rattle.blk_laws.proofs.Shown.{kept-given}
+use Rattle.blk_laws.proofs.Laid.{laid-shown, found-picked}
+use Rattle.blk_laws.proofs.ExampleItems.{is_clean}
 use Rattle.blk_laws.proofs.DamagedParts.{index_head, sparse_view, both_nodes}
 
 -- what the two nodes name
@@ -211,3 +218,42 @@ family-holds = record {
   none-doomed : (number : ℕ) (o : Object) → object_at family_state number ≡ Some o → o.live ≡ false → ⊥
   none-doomed zero o is dead = let s : family ≡ o = cc in let c : true ≡ false = ap (λ (z : Object). z.live) s ∙ dead in cc
   none-doomed (suc n) o is dead = cc
+
+-- ---- what is kept
+
+-- a part of the state is part 0 of `a`, whose main item is listed
+its-main : (key : List ℕ) (n : ℕ) → is_listed family_state (part key n) ≡ true → (key ≡ codes "a") × (n ≡ 0)
+its-main key n h = ⊎_elim
+    (λ (e : part key n ≡ part (codes "a") 0). (cc, cc))
+    (λ (e : part key n ≡ main (codes "a")). absurd (cc))
+    (which-item (part key n) h)
+
+main-listed : (key : List ℕ) (n : ℕ) → is_listed family_state (part key n) ≡ true → is_listed family_state (main key) ≡ true
+main-listed key n h = subst (λ (k : List ℕ). is_listed family_state (main k) ≡ true) (sym (its-main key n h).0) refl
+
+goes-with : GoesWith family_layout family_state.uses held is_clean
+goes-with = record {
+  clean = λ item l h at passes. passes;
+  main_out = λ key l h at fails. fails;
+  part_in = λ key n l parent h at above passes. (main-listed key n h, let s : the_parent ≡ parent = cc in ap is_clean (sym s));
+  part_out = λ key n l parent h at above fails main_in. absurd (let s : the_part ≡ l = (let e : ◌≡◌ {A = Option Loaded} (Some the_part) (Some l) = at in cc) in let c : true ≡ false = ap is_clean s ∙ fails in cc);
+}
+
+-- the part and its parent are shown to their walk
+pub family-is_shown : IsShown family_stock held (part_node ∷ parent_node ∷ []) (given_by is_clean family_layout)
+family-is_shown = laid-shown family_stock family_state family_layout family-holds held family_state.uses is_clean refl (λ item h. h) (refl, (refl, tt)) goes-with
+
+-- so both are kept
+pub family-is_kept : kept_among family_stock held (part_node ∷ parent_node ∷ []) ≡ the_part ∷ the_parent ∷ []
+family-is_kept = kept-given family_stock held (part_node ∷ parent_node ∷ []) (given_by is_clean family_layout) family-is_shown
+
+is-test : IsTest family_state family_layout family_state.uses (λ number. true)
+is-test = record {
+  owners = λ key n h. let k = its-main key n h in subst (λ (i : ℕ). owner family_state (part key i) ≡ owner family_state (main key)) (sym k.1) (subst (λ (x : List ℕ). owner family_state (part x 0) ≡ owner family_state (main x)) (sym k.0) refl);
+  main_test = λ key l number h at own. let s : the_parent ≡ l = cc in ap is_clean (sym s);
+}
+
+-- and their rows are picked
+pub family-is_picked : map volume.row_of (kept_among family_stock held (part_node ∷ parent_node ∷ [])) ≡ part_row (codes "a") 0 part_value ∷ main_row (codes "a") (sparse 5) ([], [], []) ∷ []
+unfolding row_of
+family-is_picked = found-picked family_state family_layout family-holds.lies.laid family_state.uses (λ item h. h) (λ number. true) is-test family_stock family-holds (refl, (refl, tt)) main-listed
