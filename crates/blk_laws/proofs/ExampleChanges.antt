@@ -103,7 +103,7 @@ now-once = refl
 
 one-changed : OneChanged (state false) (Some written_object ∷ []) (main (codes "a"))
 unfolding row_of
-one-changed = record { rows = rows; objects_of = λ key other. rw other refl; doomed_same = doomed-same } where
+one-changed = record { rows = rows; settled = λ key other. rw other refl; doomed_same = doomed-same } where
   rows : (other : Item) → same_item other (main (codes "a")) ≡ false → row_of (record (state false) { objects = Some written_object ∷ [] }) other ≡ row_of (state false) other
   rows (main key) other = rw other refl
   rows (part key n) other = rw (and-false (bytes_eq key (codes "a"))) refl

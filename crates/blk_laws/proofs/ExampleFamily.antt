@@ -1,8 +1,7 @@
 -- The laws on items at a sparse object with one part, whose node is in front of its parent's: the part goes with its parent.
-use Rattle.std.proofs.Common.{◌≡◌, ◌⊎◌, inl, inr, ⊎_elim, ℕ, zero, suc, ◌+◌, ◌<◌, List, [], ◌∷◌, ◌++◌, map, refl, ap, sym, ◌∙◌, subst, arith, Bool, true, false, Option, Some, None, Ok}
+use Rattle.std.proofs.Common.{◌≡◌, ◌⊎◌, inl, inr, ⊎_elim, ℕ, zero, suc, ◌<◌, List, [], ◌∷◌, ◌++◌, map, refl, ap, sym, ◌∙◌, subst, arith, Bool, true, false, Option, Some, None, Ok}
 use Rattle.std.specs.Prelude.{if◌then◌else◌, ◌==◌, ◌&&◌, ◌||◌, nat_lt, codes, replicate}
 use Rattle.std.specs.List.{range_with_len}
-use Rattle.std.specs.FinMap.{find}
 use Rattle.std.proofs.lemmas.Bool.{eqb-true, cases_Bool}
 use Rattle.std.proofs.lemmas.Bool.Decides.{nat_tests}
 use Rattle.blk_image.specs.Bytes.{content, words_at}
@@ -17,7 +16,7 @@ use Rattle.blk_format.specs.BlockFiles.{is_among}
 use Rattle.blk_format.specs.Claims.{Claim, BlockOf, ExternalOf, claims_of, has_claim, repeats}
 use Rattle.blk_format.specs.Names.{Name, read_name, split_last, child_name, hex_text}
 use Rattle.blk_format.specs.SparseIndex.{ParentIndex, PartIndex, map_bit, read_parent_index, read_part_index}
-use Rattle.blk_volume.specs.View.{View, Stock}
+use Rattle.blk_volume.specs.View.{Stock}
 use Rattle.blk_volume.specs.Entries.{IsParent, IsPart, is_key_length, key_of, stream_of, streams_of, role_of, parent_role, part_role, is_covered}
 use Rattle.blk_volume.specs.Loads.{alone, held, Loaded, load, load_key, load_record, record_claims, all_claims}
 use Rattle.blk_volume.specs.Chains.{bucket_of_hash, IsChain}
@@ -33,37 +32,37 @@ use Rattle.blk_laws.proofs.DamagedParts.{index_head, sparse_view, both_nodes}
 
 -- what the two nodes name
 
-abbrev parent_bytes : List ℕ
+abbrev pub parent_bytes : List ℕ
 parent_bytes = index_head ++ 1 ∷ replicate 8191 0
 
-abbrev parent_index : ParentIndex
+abbrev pub parent_index : ParentIndex
 parent_index = record { signature = 5; key_len = 1; has_part = λ n. nat_lt n 65536 && map_bit (content parent_bytes) 64 n }
 
-abbrev part_bytes : List ℕ
+abbrev pub part_bytes : List ℕ
 part_bytes = index_head ++ replicate 128 0
 
-abbrev part_index : PartIndex
+abbrev pub part_index : PartIndex
 part_index = record { signature = 5; key_len = 1; present = λ b. nat_lt b 1024 && map_bit (content part_bytes) 64 b; partial = None }
 
-abbrev part_name : Name
+abbrev pub part_name : Name
 part_name = record { key = codes "a"; signature = 5; part = 0 }
 
-abbrev parent_node : ℕ
+abbrev pub parent_node : ℕ
 parent_node = 0x90000000
 
-abbrev part_node : ℕ
+abbrev pub part_node : ℕ
 part_node = 0x90000001
 
-abbrev the_parent : Loaded
+abbrev pub the_parent : Loaded
 the_parent = record { node = parent_node; contents = 0xA0010000; dirty = 0; key = codes "a"; role = IsParent parent_index; streams = [] ∷ [] ∷ parent_bytes ∷ []; others = 0 ∷ 0 ∷ 0 ∷ 0xC2030000 ∷ 0 ∷ [] }
 
-abbrev the_part : Loaded
+abbrev pub the_part : Loaded
 the_part = record { node = part_node; contents = 0xA0010001; dirty = 0; key = codes "Range_a:5:0"; role = IsPart part_name part_index; streams = [] ∷ [] ∷ part_bytes ∷ []; others = 0 ∷ 0 ∷ 0 ∷ 0xA0010008 ∷ 0 ∷ [] }
 
 abbrev pub family_stock : Stock
 family_stock = (sparse_view 1 part_node both_nodes).stock
 
-parent-loads : load family_stock (alone 0) parent_node ≡ Ok the_parent
+pub parent-loads : load family_stock (alone 0) parent_node ≡ Ok the_parent
 unfolding load load_record load_key is_key_length key_of stream_of streams_of role_of parent_role read_parent_index words_at block_count entry_blocks hash mixed of_bytes of_one
 parent-loads = refl
 
@@ -73,16 +72,16 @@ part-loads = refl
 
 -- the state and its layout
 
-abbrev part_value : PartValue
+abbrev pub part_value : PartValue
 part_value = record { bytes = []; presence = record { blocks = map part_index.present (range_with_len 0 1024); partial = None } }
 
-abbrev family : Object
+abbrev pub family : Object
 family = record { key = codes "a"; shape = sparse 5; streams = ([], [], []); parts = (0, part_value) ∷ []; live = true; settled = true }
 
 abbrev pub family_state : State
 family_state = record { objects = Some family ∷ []; uses = part (codes "a") 0 ∷ main (codes "a") ∷ []; names = replicate 4096 None; limits = record { max_bytes = 1000; max_items = 10 } }
 
-abbrev place_of : Item → ℕ
+abbrev pub place_of : Item → ℕ
 place_of (main key) = parent_node
 place_of (part key n) = part_node
 
@@ -96,7 +95,7 @@ family_layout = record {
   owner = λ claim. if has_claim (all_claims the_parent) claim then Some parent_node else if has_claim (all_claims the_part) claim then Some part_node else None;
 }
 
-parent-row : row_of family_state (main (codes "a")) ≡ Some (main_row (codes "a") (sparse 5) ([], [], []))
+pub parent-row : row_of family_state (main (codes "a")) ≡ Some (main_row (codes "a") (sparse 5) ([], [], []))
 unfolding row_of
 parent-row = refl
 
@@ -106,7 +105,7 @@ part-row = refl
 
 -- ---- claims
 
-parent-claims : all_claims the_parent ≡ BlockOf 0 0 ∷ BlockOf 1 0 ∷ BlockOf 3 0 ∷ BlockOf 3 1 ∷ BlockOf 3 2 ∷ []
+pub parent-claims : all_claims the_parent ≡ BlockOf 0 0 ∷ BlockOf 1 0 ∷ BlockOf 3 0 ∷ BlockOf 3 1 ∷ BlockOf 3 2 ∷ []
 unfolding all_claims record_claims claims_of kind_of block_count file_selector first_block external_number
 parent-claims = refl
 
@@ -133,7 +132,7 @@ not-parent's claim one = ap (λ (cs : List Claim). has_claim cs claim) parent-cl
 -- ---- what lies and is shown
 
 -- what lies at a node is the parent or the part
-at-either : (w : ℕ) (l : Loaded) → family_layout.at w ≡ Some l → ((w ≡ parent_node) × (the_parent ≡ l)) ⊎ ((w ≡ part_node) × (the_part ≡ l))
+pub at-either : (w : ℕ) (l : Loaded) → family_layout.at w ≡ Some l → ((w ≡ parent_node) × (the_parent ≡ l)) ⊎ ((w ≡ part_node) × (the_part ≡ l))
 at-either w l is = go (w == parent_node) (w == part_node) refl refl is where
   go : (a b : Bool) → (w == parent_node) ≡ a → (w == part_node) ≡ b → (if a then Some the_parent else if b then Some the_part else None) ≡ Some l → ((w ≡ parent_node) × (the_parent ≡ l)) ⊎ ((w ≡ part_node) × (the_part ≡ l))
   go true b one two e = inl (eqb-true w parent_node one, cc)
@@ -141,14 +140,14 @@ at-either w l is = go (w == parent_node) (w == part_node) refl refl is where
   go false false one two e = cc
 
 -- each item of the state is the part or its parent
-which-item : (item : Item) → is_listed family_state item ≡ true → (item ≡ part (codes "a") 0) ⊎ (item ≡ main (codes "a"))
+pub which-item : (item : Item) → is_listed family_state item ≡ true → (item ≡ part (codes "a") 0) ⊎ (item ≡ main (codes "a"))
 which-item item h = go (same_item item (part (codes "a") 0)) (same_item item (main (codes "a"))) refl refl h where
   go : (a b : Bool) → same_item item (part (codes "a") 0) ≡ a → same_item item (main (codes "a")) ≡ b → (a || (b || false)) ≡ true → (item ≡ part (codes "a") 0) ⊎ (item ≡ main (codes "a"))
   go true b one two e = inl (one_item item (part (codes "a") 0) one)
   go false true one two e = inr (one_item item (main (codes "a")) two)
   go false false one two e = cc
 
-part-laid : IsLaid family_state family_layout (part (codes "a") 0)
+pub part-laid : IsLaid family_state family_layout (part (codes "a") 0)
 part-laid = record {
   loaded = the_part;
   here = refl;
@@ -157,10 +156,10 @@ part-laid = record {
   parent = record { name = part_name; index = part_index; role = refl; of_key = refl; listed = refl; parent = the_parent; at_parent = refl; of = refl };
 }
 
-parent-laid : IsLaid family_state family_layout (main (codes "a"))
+pub parent-laid : IsLaid family_state family_layout (main (codes "a"))
 parent-laid = record { loaded = the_parent; here = refl; row = parent-row; mark = refl; parent = tt }
 
-family-chains : (b : ℕ) → b < 65536 → IsChain family_stock b (family_layout.chains b)
+pub family-chains : (b : ℕ) → b < 65536 → IsChain family_stock b (family_layout.chains b)
 family-chains b below = ⊎_elim
     (λ (e : (b == 0xA782) ≡ true). subst (λ (x : ℕ). IsChain family_stock x (family_layout.chains x)) (sym (eqb-true b 0xA782 e)) (record { linked = (refl, refl, refl); once = (refl, tt); few = omega arith }))
     (λ (e : (b == 0xA782) ≡ false). ⊎_elim
@@ -169,7 +168,7 @@ family-chains b below = ⊎_elim
     (cases_Bool (b == 0xD945)))
     (cases_Bool (b == 0xA782))
 
-among-one : (x w : ℕ) → is_among (x ∷ []) w ≡ true → x ≡ w
+pub among-one : (x w : ℕ) → is_among (x ∷ []) w ≡ true → x ≡ w
 among-one x w e = grind (arith, nat_tests)
 
 in-its_chain : (is_among (family_layout.chains (bucket_of_hash (hash the_parent.key))) the_parent.contents ≡ true) × (is_among (family_layout.chains (bucket_of_hash (hash the_part.key))) the_part.contents ≡ true)
@@ -222,13 +221,13 @@ family-holds = record {
 -- ---- what is kept
 
 -- a part of the state is part 0 of `a`, whose main item is listed
-its-main : (key : List ℕ) (n : ℕ) → is_listed family_state (part key n) ≡ true → (key ≡ codes "a") × (n ≡ 0)
+pub its-main : (key : List ℕ) (n : ℕ) → is_listed family_state (part key n) ≡ true → (key ≡ codes "a") × (n ≡ 0)
 its-main key n h = ⊎_elim
     (λ (e : part key n ≡ part (codes "a") 0). (cc, cc))
     (λ (e : part key n ≡ main (codes "a")). absurd (cc))
     (which-item (part key n) h)
 
-main-listed : (key : List ℕ) (n : ℕ) → is_listed family_state (part key n) ≡ true → is_listed family_state (main key) ≡ true
+pub main-listed : (key : List ℕ) (n : ℕ) → is_listed family_state (part key n) ≡ true → is_listed family_state (main key) ≡ true
 main-listed key n h = subst (λ (k : List ℕ). is_listed family_state (main k) ≡ true) (sym (its-main key n h).0) refl
 
 goes-with : GoesWith family_layout family_state.uses held is_clean

@@ -1,6 +1,7 @@
 -- The laws on the items of a state, at a state of one object and of two: what is kept, a Create, an Open, and a removal.
 use Rattle.std.proofs.Common.{◌≡◌, ⊎_elim, ℕ, zero, suc, ◌<◌, List, [], ◌∷◌, refl, ap, sym, ◌∙◌, subst, arith, Bool, true, false, Option, Some, None, Ok}
 use Rattle.std.specs.Prelude.{if◌then◌else◌, ◌==◌, ◌||◌, not, codes, map, take}
+use Rattle.std.specs.Option.{option_map}
 use Rattle.std.specs.Str.{bytes_eq}
 use Rattle.std.proofs.lemmas.Bool.{cases_Bool}
 use Rattle.std.proofs.lemmas.Bool.Decides.{nat_tests}
@@ -297,7 +298,7 @@ without_second = Some (object true) ∷ None ∷ []
 
 lists-less : ListsLess both without_second is_not_second
 unfolding row_of created
-lists-less = record { rows = rows; objects_of = objects-of; closed = λ key n stays. stays; doomed_same = doomed-same } where
+lists-less = record { rows = rows; settled = λ key stays. ap (option_map (λ (z : Object). z.settled)) (objects-of key stays); closed = λ key n stays. stays; doomed_same = doomed-same } where
   rows : (item : Item) → is_not_second item ≡ true → is_listed both item ≡ true → row_of (without_items both without_second is_not_second) item ≡ row_of both item
   rows (main key) stays h = let n : bytes_eq key (codes "b") ≡ false = not_second (bytes_eq key (codes "b")) stays in
       ⊎_elim (λ (e : bytes_eq key (codes "a") ≡ true). rw e refl) (λ (e : bytes_eq key (codes "a") ≡ false). rw (e, n) refl) (cases_Bool (bytes_eq key (codes "a")))

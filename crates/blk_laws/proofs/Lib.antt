@@ -57,3 +57,4 @@ pub mod ExampleChains
 pub mod ExampleLists
 pub mod ExampleKept
 pub mod ExampleFamily
+pub mod ExampleParts

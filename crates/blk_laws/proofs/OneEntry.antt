@@ -288,7 +288,7 @@ written = record {
 
 -- without nothing
 pub lists-less : ListsLess (state true) (state true).objects (λ item. true)
-lists-less = record { rows = λ item keep h. refl; objects_of = λ key keep. refl; closed = λ key n keep. refl; doomed_same = λ number o is dead. is }
+lists-less = record { rows = λ item keep h. refl; settled = λ key keep. refl; closed = λ key n keep. refl; doomed_same = λ number o is dead. is }
 
 pub has-less : HasLess (state true) (state true).objects (λ item. true) (layout 0) (layout 0).at (layout 0).chains (layout 0).owner
 has-less = record {

@@ -119,7 +119,7 @@ small_stands = (refl, refl)
 
 -- The state of one object is valid.
 
-none-at : (m n : ℕ) → ◌≡◌ {A = Option ℕ} (get_or (replicate m None) n None) None
+pub none-at : (m n : ℕ) → ◌≡◌ {A = Option ℕ} (get_or (replicate m None) n None) None
 none-at zero n = refl
 none-at (suc m) zero = refl
 none-at (suc m) (suc n) = none-at m n
