@@ -39,12 +39,12 @@ not-clear touched w x c in_x mine clear = ⊎_elim
     (λ (e : (w == x) ≡ false). e)
     (cases_Bool (w == x))
 
-and-false : (b : Bool) → (b && false) ≡ false
+pub and-false : (b : Bool) → (b && false) ≡ false
 and-false true = refl
 and-false false = refl
 
 -- the words name their blocks
-named-blocks : (has_claim (claims_of contents) (BlockOf 1 0) ≡ true) × (has_claim (claims_of 0xA0010001) (BlockOf 1 1) ≡ true) × (has_claim (claims_of 0xA0010002) (BlockOf 1 2) ≡ true) × (has_claim (claims_of node) (BlockOf 0 0) ≡ true)
+pub named-blocks : (has_claim (claims_of contents) (BlockOf 1 0) ≡ true) × (has_claim (claims_of 0xA0010001) (BlockOf 1 1) ≡ true) × (has_claim (claims_of 0xA0010002) (BlockOf 1 2) ≡ true) × (has_claim (claims_of node) (BlockOf 0 0) ≡ true)
 unfolding has_claim claims_of kind_of block_count file_selector first_block external_number
 named-blocks = (refl, refl, refl, refl)
 
@@ -183,7 +183,7 @@ midst-is_at_rest = midst-rest (λ w. w == node) (with_data None).stock (state fa
 
 -- Data is written at block 2 of data_1, which is nobody's.
 
-abbrev new_block : Claim → Bool
+abbrev pub new_block : Claim → Bool
 new_block claim = same_claim claim (BlockOf 1 2)
 
 abbrev with_more : View
@@ -206,7 +206,7 @@ same-but_more = record {
   table = λ b. refl;
 }
 
-block-is_free : IsFree new_block (layout 0)
+pub block-is_free : IsFree new_block (layout 0)
 unfolding has_claim
 block-is_free claim w owned = go claim (subst (λ (cs : List Claim). has_claim cs claim ≡ true) claims (choice (has_claim (all_claims (loaded 0)) claim) node w owned).0) where
   go : (c : Claim) → has_claim (BlockOf 0 0 ∷ BlockOf 1 0 ∷ BlockOf 1 1 ∷ []) c ≡ true → same_claim c (BlockOf 1 2) ≡ false

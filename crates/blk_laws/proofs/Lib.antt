@@ -58,3 +58,4 @@ pub mod ExampleLists
 pub mod ExampleKept
 pub mod ExampleFamily
 pub mod ExampleParts
+pub mod ExampleDoomed
