@@ -41,6 +41,7 @@ first-goes_out =
 abbrev without_second : Stock
 without_second = record four_records { follow = put four_records.follow 0xA0010000 0xA0010002 }
 
+-- the records before and behind it are linked
 pub second-goes_out : Linked without_second bucket 0xA0010000 (0xA0010000 ∷ 0xA0010002 ∷ [])
 unfolding put
 second-goes_out =

@@ -39,6 +39,7 @@ not-clear touched w x c in_x mine clear = ⊎_elim
     (λ (e : (w == x) ≡ false). e)
     (cases_Bool (w == x))
 
+-- nothing and anything is nothing
 pub and-false : (b : Bool) → (b && false) ≡ false
 and-false true = refl
 and-false false = refl
@@ -178,11 +179,13 @@ torn-midst : IsMidst (λ w. w == node) (with_data None).stock (state false) (lay
 unfolding load load_record load_key
 torn-midst = record { of_key = midst.of_key; unsettled = midst.unsettled; dirty = λ l ok. cc; parts = λ n was now h is at ok. absurd (let z : false ≡ true = h in cc); names = midst.names }
 
+-- what is at rest is kept
 pub midst-is_at_rest : map volume.row_of (kept_among (with_data None).stock held (node ∷ [])) ≡ rest (state false)
 midst-is_at_rest = midst-rest (λ w. w == node) (with_data None).stock (state false) (layout 5) torn-holds (state_is_valid false) (codes "a") torn-midst (refl, tt)
 
 -- Data is written at block 2 of data_1, which is nobody's.
 
+-- block 2 of data_1
 abbrev pub new_block : Claim → Bool
 new_block claim = same_claim claim (BlockOf 1 2)
 
@@ -206,6 +209,7 @@ same-but_more = record {
   table = λ b. refl;
 }
 
+-- it is nobody's
 pub block-is_free : IsFree new_block (layout 0)
 unfolding has_claim
 block-is_free claim w owned = go claim (subst (λ (cs : List Claim). has_claim cs claim ≡ true) claims (choice (has_claim (all_claims (loaded 0)) claim) node w owned).0) where

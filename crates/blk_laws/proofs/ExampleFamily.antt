@@ -32,59 +32,76 @@ use Rattle.blk_laws.proofs.DamagedParts.{index_head, sparse_view, both_nodes}
 
 -- what the two nodes name
 
+-- the parent's index, with part 0
 abbrev pub parent_bytes : List ℕ
 parent_bytes = index_head ++ 1 ∷ replicate 8191 0
 
+-- what it says
 abbrev pub parent_index : ParentIndex
 parent_index = record { signature = 5; key_len = 1; has_part = λ n. nat_lt n 65536 && map_bit (content parent_bytes) 64 n }
 
+-- the part's index, with no block
 abbrev pub part_bytes : List ℕ
 part_bytes = index_head ++ replicate 128 0
 
+-- what it says
 abbrev pub part_index : PartIndex
 part_index = record { signature = 5; key_len = 1; present = λ b. nat_lt b 1024 && map_bit (content part_bytes) 64 b; partial = None }
 
+-- the name that is the part's key
 abbrev pub part_name : Name
 part_name = record { key = codes "a"; signature = 5; part = 0 }
 
+-- the node of the parent
 abbrev pub parent_node : ℕ
 parent_node = 0x90000000
 
+-- the node of the part
 abbrev pub part_node : ℕ
 part_node = 0x90000001
 
+-- the parent is loaded as this
 abbrev pub the_parent : Loaded
 the_parent = record { node = parent_node; contents = 0xA0010000; dirty = 0; key = codes "a"; role = IsParent parent_index; streams = [] ∷ [] ∷ parent_bytes ∷ []; others = 0 ∷ 0 ∷ 0 ∷ 0xC2030000 ∷ 0 ∷ [] }
 
+-- and the part as this
 abbrev pub the_part : Loaded
 the_part = record { node = part_node; contents = 0xA0010001; dirty = 0; key = codes "Range_a:5:0"; role = IsPart part_name part_index; streams = [] ∷ [] ∷ part_bytes ∷ []; others = 0 ∷ 0 ∷ 0 ∷ 0xA0010008 ∷ 0 ∷ [] }
 
+-- what is shown of both, but for the list
 abbrev pub family_stock : Stock
 family_stock = (sparse_view 1 part_node both_nodes).stock
 
+-- the parent's node loads
 pub parent-loads : load family_stock (alone 0) parent_node ≡ Ok the_parent
 unfolding load load_record load_key is_key_length key_of stream_of streams_of role_of parent_role read_parent_index words_at block_count entry_blocks hash mixed of_bytes of_one
 parent-loads = refl
 
+-- and the part's
 part-loads : load family_stock (alone 0) part_node ≡ Ok the_part
 unfolding load load_record load_key is_key_length key_of stream_of streams_of role_of part_role is_covered read_part_index read_name split_last child_name hex_text words_at block_count entry_blocks hash mixed of_bytes of_four of_three
 part-loads = refl
 
 -- the state and its layout
 
+-- the part has no bytes
 abbrev pub part_value : PartValue
 part_value = record { bytes = []; presence = record { blocks = map part_index.present (range_with_len 0 1024); partial = None } }
 
+-- the object with its part
 abbrev pub family : Object
 family = record { key = codes "a"; shape = sparse 5; streams = ([], [], []); parts = (0, part_value) ∷ []; live = true; settled = true }
 
+-- the state of it alone, in which the part was used last
 abbrev pub family_state : State
 family_state = record { objects = Some family ∷ []; uses = part (codes "a") 0 ∷ main (codes "a") ∷ []; names = replicate 4096 None; limits = record { max_bytes = 1000; max_items = 10 } }
 
+-- the node of an item
 abbrev pub place_of : Item → ℕ
 place_of (main key) = parent_node
 place_of (part key n) = part_node
 
+-- where all lies
 abbrev pub family_layout : Layout
 family_layout = record {
   place = place_of;
@@ -95,20 +112,24 @@ family_layout = record {
   owner = λ claim. if has_claim (all_claims the_parent) claim then Some parent_node else if has_claim (all_claims the_part) claim then Some part_node else None;
 }
 
+-- the row of the parent
 pub parent-row : row_of family_state (main (codes "a")) ≡ Some (main_row (codes "a") (sparse 5) ([], [], []))
 unfolding row_of
 parent-row = refl
 
+-- the row of the part
 part-row : row_of family_state (part (codes "a") 0) ≡ Some (part_row (codes "a") 0 part_value)
 unfolding row_of
 part-row = refl
 
 -- ---- claims
 
+-- what the parent claims
 pub parent-claims : all_claims the_parent ≡ BlockOf 0 0 ∷ BlockOf 1 0 ∷ BlockOf 3 0 ∷ BlockOf 3 1 ∷ BlockOf 3 2 ∷ []
 unfolding all_claims record_claims claims_of kind_of block_count file_selector first_block external_number
 parent-claims = refl
 
+-- what the part claims
 part-claims : all_claims the_part ≡ BlockOf 0 1 ∷ BlockOf 1 1 ∷ BlockOf 1 8 ∷ []
 unfolding all_claims record_claims claims_of kind_of block_count file_selector first_block external_number
 part-claims = refl
@@ -147,6 +168,7 @@ which-item item h = go (same_item item (part (codes "a") 0)) (same_item item (ma
   go false true one two e = inr (one_item item (main (codes "a")) two)
   go false false one two e = cc
 
+-- the part lies at its node
 pub part-laid : IsLaid family_state family_layout (part (codes "a") 0)
 part-laid = record {
   loaded = the_part;
@@ -156,9 +178,11 @@ part-laid = record {
   parent = record { name = part_name; index = part_index; role = refl; of_key = refl; listed = refl; parent = the_parent; at_parent = refl; of = refl };
 }
 
+-- and the parent
 pub parent-laid : IsLaid family_state family_layout (main (codes "a"))
 parent-laid = record { loaded = the_parent; here = refl; row = parent-row; mark = refl; parent = tt }
 
+-- the parent and the part are each alone in a chain
 pub family-chains : (b : ℕ) → b < 65536 → IsChain family_stock b (family_layout.chains b)
 family-chains b below = ⊎_elim
     (λ (e : (b == 0xA782) ≡ true). subst (λ (x : ℕ). IsChain family_stock x (family_layout.chains x)) (sym (eqb-true b 0xA782 e)) (record { linked = (refl, refl, refl); once = (refl, tt); few = omega arith }))
@@ -168,6 +192,7 @@ family-chains b below = ⊎_elim
     (cases_Bool (b == 0xD945)))
     (cases_Bool (b == 0xA782))
 
+-- among one word is that word
 pub among-one : (x w : ℕ) → is_among (x ∷ []) w ≡ true → x ≡ w
 among-one x w e = grind (arith, nat_tests)
 
@@ -182,6 +207,7 @@ of-a_chain b c below h = go (b == 0xA782) (b == 0xD945) h where
   go false true e = record { node = part_node; loaded = the_part; listed = refl; here = refl; record_is = among-one 0xA0010001 c e }
   go false false e = absurd (let z : false ≡ true = e in cc)
 
+-- the stock shows the layout, which is that of the state
 pub family-holds : Holds family_stock family_state family_layout
 family-holds = record {
   shows = record {
@@ -227,9 +253,11 @@ its-main key n h = ⊎_elim
     (λ (e : part key n ≡ main (codes "a")). absurd (cc))
     (which-item (part key n) h)
 
+-- so the part goes with its main item
 pub main-listed : (key : List ℕ) (n : ℕ) → is_listed family_state (part key n) ≡ true → is_listed family_state (main key) ≡ true
 main-listed key n h = subst (λ (k : List ℕ). is_listed family_state (main k) ≡ true) (sym (its-main key n h).0) refl
 
+-- a part that passes goes with its parent
 goes-with : GoesWith family_layout family_state.uses held is_clean
 goes-with = record {
   clean = λ item l h at passes. passes;
@@ -246,6 +274,7 @@ family-is_shown = laid-shown family_stock family_state family_layout family-hold
 pub family-is_kept : kept_among family_stock held (part_node ∷ parent_node ∷ []) ≡ the_part ∷ the_parent ∷ []
 family-is_kept = kept-given family_stock held (part_node ∷ parent_node ∷ []) (given_by is_clean family_layout) family-is_shown
 
+-- both are of one object, which passes
 is-test : IsTest family_state family_layout family_state.uses (λ number. true)
 is-test = record {
   owners = λ key n h. let k = its-main key n h in subst (λ (i : ℕ). owner family_state (part key i) ≡ owner family_state (main key)) (sym k.1) (subst (λ (x : List ℕ). owner family_state (part x 0) ≡ owner family_state (main x)) (sym k.0) refl);

@@ -63,6 +63,7 @@ linked-below n = ap is_some (whole-linked n) ∙ go (nat_lt n 4) where
   go true = refl
   go false = refl
 
+-- a linked file is one of the first four
 pub below : (n : ℕ) → is_some (linked_as whole_folder n) ≡ true → n < 4
 below n is = ltb-true n 4 (sym (linked-below n) ∙ is)
 
@@ -74,6 +75,7 @@ no-external : (n : ℕ) → has_claim (BlockOf 0 0 ∷ BlockOf 1 0 ∷ BlockOf 1
 unfolding has_claim
 no-external n = refl
 
+-- the marked blocks are those of the entry
 pub whole-is_allocated : IsAllocated whole_folder (one.state true) (one.layout 0) []
 whole-is_allocated = record {
   blocks = λ n b is small. whole-marks n b (below n is) small ∙ sym (whole-owner (BlockOf n b) ∙ has-blocks n b (below n is));
@@ -96,12 +98,14 @@ whole-only n small = there n ∙ sym (linked-below n) where
   there (suc (suc (suc zero))) = refl
   there (suc (suc (suc (suc n)))) = grind (arith, nat_tests)
 
+-- a linked file is one of its type
 pub its-type : (n kind : ℕ) → linked_as whole_folder n ≡ Some kind → n + 1 ≡ kind
 its-type n kind is = go (nat_lt n 4) (sym (whole-linked n) ∙ is) where
   go : (t : Bool) → (if t then Some (n + 1) else None) ≡ Some kind → n + 1 ≡ kind
   go true e = cc
   go false e = cc
 
+-- each file has all its blocks
 pub whole-long : AreLongEnough whole_folder
 unfolding whole_folder zeros with_word spliced max_entries_in block_place block_size
 whole-long n kind is = subst (λ (k : ℕ). block_place k (max_entries_in whole_folder n) ≤ length_of whole_folder (Block n)) (its-type n kind is) (go n (below n (ap is_some is))) where
@@ -149,6 +153,7 @@ idle = λ i. let v : View = record { list = idle-list (list_of whole_folder) who
 entry-is_shown : IsShown (view_of whole_folder).stock held (one.node ∷ []) (given_by is_clean (one.layout 0))
 entry-is_shown = laid-shown (view_of whole_folder).stock (one.state true) (one.layout 0) whole-is_represented.holds held (one.state true).uses is_clean refl (λ item h. h) (refl, tt) goes-with
 
+-- what is kept is the entry
 pub whole-is_kept : kept whole_folder ≡ one.loaded 0 ∷ []
 unfolding kept
 whole-is_kept =
@@ -221,14 +226,18 @@ its-nodes =
 abbrev some_limits : Bounds
 some_limits = record { max_bytes = 1000; max_items = 10 }
 
+-- it holds nothing
 pub new-is_empty : found (new_folder 50) ≡ []
 new-is_empty = bare-found (new_folder 50) (new-bare 50 (new_folder 50) (new-is_new 50))
 
+-- it is sound
 pub new-is_sound : IsSound (new_folder 50)
 new-is_sound = bare-sound (new_folder 50) (new-bare 50 (new_folder 50) (new-is_new 50))
 
+-- it represents the empty state
 pub new-is_represented : Represents (view_of (new_folder 50)) (open_state [] some_limits) no_layout
 new-is_represented = represents-empty (new_folder 50) (new-bare 50 (new_folder 50) (new-is_new 50)) some_limits
 
+-- and stands for it
 pub new-stands : StandsFor (new_folder 50) (open_state [] some_limits)
 new-stands = bare-stands (new_folder 50) (new-bare 50 (new_folder 50) (new-is_new 50)) some_limits

@@ -57,6 +57,7 @@ use Rattle.blk_laws.proofs.Created.{creates-moments, creates-end, creates-rest, 
 abbrev pub is_clean : Loaded → Bool
 is_clean l = l.dirty == 0
 
+-- that goes with the rule of what is held
 pub goes-with : GoesWith (layout 0) (main (codes "a") ∷ []) held is_clean
 goes-with = record {
   clean = λ item l h at passes. passes;
@@ -79,6 +80,7 @@ entry-is_not_dropped = dropped-none (stock contents 0) held (node ∷ []) (given
   go : (w : ℕ) → ((node == w) || false) ≡ true → given_by is_clean (layout 0) w ≡ None → ⊥
   go w among none = let is : w ≡ node = grind (arith, nat_tests) in let c : ◌≡◌ {A = Option Loaded} (Some (loaded 0)) None = ap (given_by is_clean (layout 0)) (sym is) ∙ none in cc
 
+-- the one object passes
 entry-is_test : IsTest (state true) (layout 0) (main (codes "a") ∷ []) (λ number. true)
 entry-is_test = record {
   owners = λ key n h. absurd (let z : false ≡ true = h in cc);
@@ -94,9 +96,11 @@ entry-is_picked =
 
 -- A second entry, `b`, is written beside the first.
 
+-- the node of the second
 abbrev pub second_node : ℕ
 second_node = 0x90000001
 
+-- its record
 abbrev pub second_contents : ℕ
 second_contents = 0xA0010002
 
@@ -104,6 +108,7 @@ second_contents = 0xA0010002
 abbrev pub second : Loaded
 second = record { node = second_node; contents = second_contents; dirty = 5; key = codes "b"; role = IsPlain; streams = [] ∷ [] ∷ [] ∷ []; others = 0 ∷ 0 ∷ 0 ∷ 0 ∷ 0 ∷ [] }
 
+-- the view once it is written
 abbrev pub with_second : View
 with_second = record {
   list = record list { checks = λ w. (w == node) || (w == second_node) };
@@ -166,6 +171,7 @@ second-same = record {
   or-false true = refl
   or-false false = refl
 
+-- the record and the node are written outside what is anybody's
 second-is_written : IsWritten (view 0) with_second (state true) (layout 0) (codes "b") second
 unfolding hash mixed of_bytes of_one
 second-is_written = record {
@@ -198,9 +204,11 @@ second-is_created_at = creates-moments (view 0) with_second (state true) (layout
 abbrev pub both : State
 both = created 1 (codes "b") (state true)
 
+-- where both lie
 abbrev pub both_layout : Layout
 both_layout = with_new (layout 0) (codes "b") second
 
+-- the view of both
 abbrev pub both_view : View
 both_view = record { list = after_writes (writes_of insert second_node with_second.list) with_second.list; stock = linked_front with_second.stock second }
 
@@ -217,6 +225,7 @@ create-is_not_refused : (refused 7 (to_create 1 (codes "b")) (state true) ≡ No
 unfolding refusals evicted room_for effect created room charge pinned_of
 create-is_not_refused = (refl, refl)
 
+-- and what was at rest is an outcome of a stop
 pub create-may_be_stopped : StopOutcome (state true) 7 (to_create 1 (codes "b")) (step (state true) 7 (to_create 1 (codes "b"))).state (rest (state true))
 create-may_be_stopped = create-stops (state true) 1 (codes "b") 7 create-is_not_refused.0 create-is_not_refused.1
 
@@ -224,6 +233,7 @@ create-may_be_stopped = create-stops (state true) 1 (codes "b") 7 create-is_not_
 key-is_good : IsKey (codes "b")
 key-is_good = record { some = omega arith; short = omega arith; bytes = bytes-small (codes "b") (omega arith, tt) }
 
+-- it is one that a cache may have
 pub both-are_valid : IsValidState both
 both-are_valid = state_created (state true) (state_is_valid true) 1 (codes "b") key-is_good (omega arith) refl refl
 

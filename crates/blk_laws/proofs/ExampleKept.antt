@@ -43,6 +43,7 @@ abbrev dirty_nodes : List ℕ
 dirty_nodes =
     with_words (new_file_words 0 ++ (20, 1024) ∷ (8208, 0x90000000) ∷ (8212, 0x90000001) ∷ (8216, 0xA0010000) ∷ (8244, 0x90000000) ∷ (8248, 0x90000001) ∷ (8252, 0xA0010002) ∷ (8256, 5) ∷ []) (zeros 8264)
 
+-- the folder of these
 unfoldable pub dirty_folder : Image
 dirty_folder Index = Some (with_words ((288, 0x90000001) ∷ []) small_index)
 dirty_folder (Block zero) = Some dirty_nodes

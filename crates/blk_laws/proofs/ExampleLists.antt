@@ -45,6 +45,7 @@ third-is_touched = (touches-turn 1 three (3 ∷ 2 ∷ []) [] three_at_rest, touc
 abbrev begun_insert : ListView
 begun_insert = record three { transaction = 4; operation = insert }
 
+-- completing it again gives the same list, and ends it
 pub insert-is_completed : (walk (completed_list (stopped (2 ∷ 3 ∷ 1 ∷ []) begun_insert)) ≡ walk (completed_list begun_insert))
     × (outcome (after_writes (completion_writes begun_insert) begun_insert) ≡ outcome begun_insert)
     × ((after_writes (completion_writes begun_insert) begun_insert).transaction ≡ 0)
@@ -120,6 +121,7 @@ removal-is_pending = record {
   pending = refl;
 }
 
+-- it turns from the old list to the new one
 pub removal-turns : TurnsInBytes remove last (first ∷ last ∷ []) (first ∷ []) (pair_folder []) removal_updates
 removal-turns = removals-in_bytes (pair_folder []) last (first ∷ []) [] removal_updates pair-at_rest removal-is_pending
 
@@ -140,6 +142,7 @@ move-is_pending = record {
   pending = refl;
 }
 
+-- it turns from the old list to the new one
 pub move-turns : TurnsInBytes move last (first ∷ last ∷ []) (last ∷ first ∷ []) (pair_folder []) move_updates
 move-turns = moves-in_bytes (pair_folder []) last first [] [] move_updates pair-at_rest move-is_pending
 

@@ -80,6 +80,7 @@ one-owner (main key) = ⊎_elim (λ (e : bytes_eq key (codes "a") ≡ true). rw 
 one-owner (part key zero) = ⊎_elim (λ (e : bytes_eq key (codes "a") ≡ true). rw e (refl, omega arith)) (λ (e : bytes_eq key (codes "a") ≡ false). rw e (refl, omega arith)) (cases_Bool (bytes_eq key (codes "a")))
 one-owner (part key (suc n)) = let z : (suc n == 0) ≡ false = grind (arith, nat_tests) in ⊎_elim (λ (e : bytes_eq key (codes "a") ≡ true). rw (e, no-other n part_value, z) (refl, omega arith)) (λ (e : bytes_eq key (codes "a") ≡ false). rw e (refl, omega arith)) (cases_Bool (bytes_eq key (codes "a")))
 
+-- it is one that a cache may have
 pub family-is_valid : IsValidState family_state
 family-is_valid = record {
   objects = objects;

@@ -43,6 +43,7 @@ whole_records =
     with_words (new_file_words 1 ++ (16, 2) ∷ (20, 1024) ∷ (28, 1) ∷ (36, 255) ∷ (80, 3) ∷ (8192, 0x115EA782) ∷ (8200, 0x90000000) ∷ (8224, 1) ∷ (8232, 2) ∷ (8248, 0xA0010001) ∷ (8284, 0x2c6f24c8) ∷ (8288, 97) ∷ (8448, 0x7A7A) ∷ [])
     (zeros 270336)
 
+-- the folder of these
 unfoldable pub whole_folder : Image
 whole_folder Index = Some whole_index
 whole_folder (Block zero) = Some whole_nodes

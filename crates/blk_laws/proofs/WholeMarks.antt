@@ -29,6 +29,7 @@ abbrev pub Outside : ℕ → List (ℕ × ℕ) → Type 0
 Outside k [] = Unit {0}
 Outside k (w ∷ ws) = ((k < w.0) ⊎ (w.0 + 4 ≤ k)) × Outside k ws
 
+-- such a byte stays as it was
 pub byte-outside : (ws : List (ℕ × ℕ)) (bytes : List ℕ) (k : ℕ) → Outside k ws → content (with_words ws bytes) k ≡ content bytes k
 byte-outside [] bytes k out = refl
 byte-outside (w ∷ ws) bytes k out = byte-outside ws (with_word w.0 w.1 bytes) k out.1 ∙ unfold with_word in content-spliced_outside w.0 _ bytes k out.0
@@ -143,10 +144,12 @@ whole-marks (suc (suc (suc (suc n)))) b small below = absurd (omega arith)
 abbrev pub over : ℕ × ℕ → (ℕ → ℕ) → ℕ → ℕ
 over w f k = if nat_le w.0 k && nat_lt k (w.0 + 4) then content (word_bytes w.1) (k - w.0) else f k
 
+-- a content with words over it
 abbrev pub over_all : List (ℕ × ℕ) → (ℕ → ℕ) → ℕ → ℕ
 over_all [] f = f
 over_all (w ∷ ws) f = over_all ws (over w f)
 
+-- each word lies inside so many bytes
 abbrev pub AreInside : ℕ → List (ℕ × ℕ) → Type 0
 AreInside n [] = Unit {0}
 AreInside n (w ∷ ws) = (w.0 + 4 ≤ n) × AreInside n ws
@@ -163,6 +166,7 @@ content-word w bytes room = λ i k. at k i where
       (cases_lt k (w.0 + 4)))
       (cases_lt k w.0)
 
+-- words over bytes are words over their content
 pub content-words : (ws : List (ℕ × ℕ)) (bytes : List ℕ) (n : ℕ) → length bytes ≡ n → AreInside n ws → content (with_words ws bytes) ≡ over_all ws (content bytes)
 content-words [] bytes n size inside = refl
 content-words (w ∷ ws) bytes n size inside =
@@ -228,6 +232,7 @@ no-words-3 = (refl, each) where
   each (suc (suc (suc zero))) small = refl
   each (suc (suc (suc (suc i)))) small = absurd (omega arith)
 
+-- the counts of each file agree with its map
 pub whole-empty : (n : ℕ) → n < 4 → EmptyAgrees whole_folder n
 whole-empty zero small = empty-agrees 0 (over_all nodes_words (λ k. 0)) nodes-content counts-0.0 each where
   each : (i : ℕ) → i < 4 → empty_of (byte whole_folder (Block 0)) i ≡ groups_with (is_marked_at (over_all nodes_words (λ k. 0))) 256 (i + 1)
