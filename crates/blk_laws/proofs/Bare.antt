@@ -31,20 +31,20 @@ use Rattle.blk_laws.proofs.Central.{flat_map-none, walk-order, chain-end}
 use Rattle.blk_laws.proofs.Standing.{stands-for}
 
 -- the word 0 names no node and no record
-no-node : (image : Image) → checks_at image 0 ≡ false
+pub no-node : (image : Image) → checks_at image 0 ≡ false
 unfolding checks_at stands is_address is_initialized
 no-node image = refl
 
-no-record : (image : Image) → (stock_of image).entry 0 ≡ None
+pub no-record : (image : Image) → (stock_of image).entry 0 ≡ None
 unfolding stock_of core_at stands is_address is_initialized
 no-record image = refl
 
 -- with no operation in flight nothing is completed
-not-counting : (l : ListView) → l.transaction ≡ 0 → counts l ≡ false
+pub not-counting : (l : ListView) → l.transaction ≡ 0 → counts l ≡ false
 unfolding counts
 not-counting l e = rw e refl
 
-idle-list : (l : ListView) → l.transaction ≡ 0 → completed_list l ≡ l
+pub idle-list : (l : ListView) → l.transaction ≡ 0 → completed_list l ≡ l
 unfolding completed_list
 idle-list l e =
     ap (λ (b : Bool). let done : ListView = record (if b then operated l else l) { transaction = 0 } in done) (not-counting l e)

@@ -117,7 +117,7 @@ module _ (v : View) (m : State) (y : Layout) (r : Represents v m y) where
       let walked : is_among (walk v.list) q.node ≡ true = ap (λ (ws : List ℕ). is_among ws q.node) walk-order ∙ q.listed in
       rw (entry, back, walked, f.node, eq-eqb n.contents c contents) refl)
 
-  none-unlisted : unlisted v ≡ []
+  pub none-unlisted : unlisted v ≡ []
   unfolding unlisted
   none-unlisted = flat_map-none (unlisted_in v) 0 65536 (λ b low high.
       let c : chain v.stock b ≡ record { reached = y.chains b; end = 0 } = chain-is v.stock b (y.chains b) r.holds.shows.no_record (r.holds.shows.chains b high) in

@@ -1,11 +1,13 @@
 -- A change of one object, at its node.
 use Rattle.std.proofs.Common.{◌≡◌, ℕ, zero, suc, ◌+◌, List, [], ◌∷◌, refl, ap, sym, ◌∙◌, subst, Bool, true, false, cond, set, get_or, Option, Some, None, ⊎_elim}
 use Rattle.std.specs.Prelude.{◌==◌, IfSome}
+use Rattle.std.specs.Option.{option_map}
 use Rattle.std.proofs.lemmas.Bool.{cases_Bool, eq-eqb}
 use Rattle.std.proofs.lemmas.Bool.Decides.{eqb_tells}
 use Rattle.std.proofs.Math.Dec.{eqb}
 use Rattle.blk_volume.specs.ListView.{put}
 use Rattle.blk_model.specs.Items.{Item, main, part, same_item, item_of}
+use Rattle.blk_model.specs.Holding.{owner_object}
 use Rattle.blk_model.specs.State.{State, Object, slot_has_item, first_with}
 use Rattle.blk_model.proofs.Same.{one_item, same_item_self}
 use Rattle.blk_format.specs.Hash.{hash}
@@ -35,6 +37,12 @@ same-place m y r i j here there e =
     let a : IsLaid m y i = r.laid i here in let b : IsLaid m y j = r.laid j there in
     let same : a.loaded ≡ b.loaded = let p : y.at (y.place i) ≡ Some a.loaded = a.here in let q : y.at (y.place j) ≡ Some b.loaded = b.here in let s : y.at (y.place i) ≡ y.at (y.place j) = ap y.at e in cc in
     sym (item-row m i (row_of a.loaded) a.row) ∙ ap (λ (x : Loaded). item_of (row_of x)) same ∙ item-row m j (row_of b.loaded) b.row
+
+-- a dirty word goes with the object of a state where it goes with that of another, which is settled just so
+pub mark-same : (n o : Option Object) (clean : Bool) → option_map (λ (z : Object). z.settled) n ≡ option_map (λ (z : Object). z.settled) o → IfSome o (λ z. clean ≡ z.settled) → IfSome n (λ z. clean ≡ z.settled)
+mark-same None o clean e p = tt
+mark-same (Some x) None clean e p = cc
+mark-same (Some x) (Some z) clean e p = let s : x.settled ≡ z.settled = cc in p ∙ sym s
 
 module _ (m : State) (objects : List (Option Object)) (y : Layout) (i : Item) (l k : Loaded) (owner : Claim → Option ℕ) (r : Lies m y) (one : OneChanged m objects i)
     (listed : is_listed m i ≡ true) (here : y.at (y.place i) ≡ Some l) (ch : IsChange m objects y i l k owner) where
@@ -69,7 +77,7 @@ module _ (m : State) (objects : List (Option Object)) (y : Layout) (i : Item) (l
   parent-next (part key n) x p = part-next key x p
 
   mark-next : (j : Item) (x : Loaded) → same_item j i ≡ false → IsMarked m j x → IsMarked (record m { objects = objects }) j x
-  mark-next (main key) x e p = subst (λ (o : Option Object). IfSome o (λ z. (x.dirty == 0) ≡ z.settled)) (sym (one.objects_of key e)) p
+  mark-next (main key) x e p = mark-same (owner_object (record m { objects = objects }) (main key)) (owner_object m (main key)) (x.dirty == 0) (one.settled key e) p
   mark-next (part key n) x e p = p
 
   laid-next : (j : Item) → is_listed m j ≡ true → IsLaid (record m { objects = objects }) (changed_at y (y.place i) k owner) j

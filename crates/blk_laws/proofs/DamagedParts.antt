@@ -18,19 +18,19 @@ use Rattle.blk_volume.specs.Audit.{is_named, is_orphan, admit, verdicts, kept_am
 use Rattle.blk_laws.proofs.DamagedViews.{Row, node, shown, plain_core, kept_nodes, dropped_nodes}
 
 -- the bytes of an index before its bitmap: signature 5, the magic, a key of one byte, no partial block
-abbrev index_head : List ℕ
+abbrev pub index_head : List ℕ
 index_head = word_bytes 5 ++ word_bytes 0 ++ word_bytes 0xC103CAC3 ++ word_bytes 1 ++ word_bytes 0xFFFFFFFF ++ word_bytes 0 ++ replicate 40 0
 
 -- the parent `a` has its index, with part 0, in stream 2
-abbrev parent_core : Core
+abbrev pub parent_core : Core
 parent_core = record (plain_core 0x90000000) { data_size = 0 ∷ 0 ∷ 8256 ∷ 0 ∷ []; data_addr = 0 ∷ 0 ∷ 0xC2030000 ∷ 0 ∷ []; flags = 1 }
 
 -- the part has the name of part 0 as its key, no data, and its index in stream 2
-abbrev part_core : Core
+abbrev pub part_core : Core
 part_core = record (plain_core 0x90000001) { hash = 0x148D945; key_len = 11; data_size = 0 ∷ 0 ∷ 192 ∷ 0 ∷ []; data_addr = 0 ∷ 0 ∷ 0xA0010008 ∷ 0 ∷ []; flags = 2 }
 
 -- a view of these records, where each is the first of its bucket; the bit of part 0 is in this first byte of the parent's bitmap
-abbrev sparse_view : ℕ → ℕ → List (ℕ × Row) → View
+abbrev pub sparse_view : ℕ → ℕ → List (ℕ × Row) → View
 sparse_view bits head nodes =
     let plain : View = shown head 0xA0010000 nodes ((0xA0010000, record { follow = 0; core = parent_core }) ∷ (0xA0010001, record { follow = 0; core = part_core }) ∷ []) in
     record plain {
@@ -46,7 +46,7 @@ sparse_view bits head nodes =
     }
 
 -- the part in front of its parent
-abbrev both_nodes : List (ℕ × Row)
+abbrev pub both_nodes : List (ℕ × Row)
 both_nodes = (0x90000001, node 0x90000000 0x90000001 0xA0010001) ∷ (0x90000000, node 0x90000000 0x90000001 0xA0010000) ∷ []
 
 -- both are kept, in the order of the walk

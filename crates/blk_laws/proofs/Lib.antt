@@ -46,3 +46,16 @@ pub mod ListBytes
 pub mod DamagedParts
 pub mod Allocations
 pub mod Growing
+pub mod ExampleChanges
+pub mod ExampleItems
+pub mod WholeFolder
+pub mod WholeMarks
+pub mod ExampleFolders
+pub mod ExampleGrowth
+pub mod ExampleCovers
+pub mod ExampleChains
+pub mod ExampleLists
+pub mod ExampleKept
+pub mod ExampleFamily
+pub mod ExampleParts
+pub mod ExampleDoomed

@@ -34,11 +34,11 @@ is-new moment image new = λ i file. each file i where
   each (External n) = new.others (External n) (inl (omega arith))
 
 -- the words of the index
-abbrev Beside : ℕ → List (ℕ × ℕ) → Type 0
+abbrev pub Beside : ℕ → List (ℕ × ℕ) → Type 0
 Beside place [] = Unit {0}
 Beside place (w ∷ ws) = ((place + 4 ≤ w.0) ⊎ (w.0 + 4 ≤ place)) × Beside place ws
 
-words_beside : (place : ℕ) (ws : List (ℕ × ℕ)) (bytes : List ℕ) → Beside place ws → word_at (content (with_words ws bytes)) place ≡ word_at (content bytes) place
+pub words_beside : (place : ℕ) (ws : List (ℕ × ℕ)) (bytes : List ℕ) → Beside place ws → word_at (content (with_words ws bytes)) place ≡ word_at (content bytes) place
 words_beside place [] bytes beside = refl
 words_beside place (w ∷ ws) bytes beside = words_beside place ws (with_word w.0 w.1 bytes) beside.1 ∙ word-beside place w.0 w.1 bytes beside.0
 
@@ -85,12 +85,12 @@ bytes-are : (moment n : ℕ) → n < 4 → bytes_of (new_folder moment) (Block n
 bytes-are moment n small = ap (λ (o : Option (List ℕ)). unwrap_or o []) (file-is moment n small)
 
 -- a place is behind each of these words
-abbrev Behind : ℕ → List (ℕ × ℕ) → Type 0
+abbrev pub Behind : ℕ → List (ℕ × ℕ) → Type 0
 Behind k [] = Unit {0}
 Behind k (w ∷ ws) = (w.0 + 4 ≤ k) × Behind k ws
 
 -- a byte behind the words is 0
-byte-later : (ws : List (ℕ × ℕ)) (bytes : List ℕ) (k : ℕ) → Behind k ws → content (with_words ws bytes) k ≡ content bytes k
+pub byte-later : (ws : List (ℕ × ℕ)) (bytes : List ℕ) (k : ℕ) → Behind k ws → content (with_words ws bytes) k ≡ content bytes k
 byte-later [] bytes k behind = refl
 byte-later (w ∷ ws) bytes k behind = byte-later ws (with_word w.0 w.1 bytes) k behind.1 ∙ unfold with_word in content-spliced_outside w.0 _ bytes k (inr behind.0)
 

@@ -81,44 +81,44 @@ abbrev pub view : ℕ → View
 view dirty = record { list = list; stock = stock contents dirty }
 
 -- what a test of places gives
-choice : {A : Type 0} (b : Bool) (x y : A) → (if b then Some x else None) ≡ Some y → (b ≡ true) × (x ≡ y)
+pub choice : {A : Type 0} (b : Bool) (x y : A) → (if b then Some x else None) ≡ Some y → (b ≡ true) × (x ≡ y)
 choice true x y e = (refl, cc)
 choice false x y e = cc
 
-at-node : (dirty w : ℕ) (l : Loaded) → (layout dirty).at w ≡ Some l → (w ≡ node) × (loaded dirty ≡ l)
+pub at-node : (dirty w : ℕ) (l : Loaded) → (layout dirty).at w ≡ Some l → (w ≡ node) × (loaded dirty ≡ l)
 at-node dirty w l e = let c = choice (w == node) (loaded dirty) l e in (eqb-true w node c.0, c.1)
 
 -- the node loads by itself
-loads : (first dirty : ℕ) → load (stock first dirty) (alone 0) node ≡ Ok (loaded dirty)
+pub loads : (first dirty : ℕ) → load (stock first dirty) (alone 0) node ≡ Ok (loaded dirty)
 unfolding load load_record load_key is_key_length entries.key_of stream_of streams_of role_of block_count entry_blocks hash mixed of_bytes of_one
 loads first dirty = refl
 
 -- its claims
-claims : all_claims (loaded 0) ≡ BlockOf 0 0 ∷ BlockOf 1 0 ∷ BlockOf 1 1 ∷ []
+pub claims : all_claims (loaded 0) ≡ BlockOf 0 0 ∷ BlockOf 1 0 ∷ BlockOf 1 1 ∷ []
 unfolding all_claims record_claims claims_of kind_of block_count file_selector first_block external_number
 claims = refl
 
-one-claims : (dirty : ℕ) → all_claims (loaded dirty) ≡ all_claims (loaded 0)
+pub one-claims : (dirty : ℕ) → all_claims (loaded dirty) ≡ all_claims (loaded 0)
 unfolding all_claims record_claims
 one-claims dirty = refl
 
-once-claimed : (dirty : ℕ) → repeats (all_claims (loaded dirty)) ≡ false
+pub once-claimed : (dirty : ℕ) → repeats (all_claims (loaded dirty)) ≡ false
 unfolding repeats has_claim all_claims record_claims claims_of kind_of block_count file_selector first_block external_number
 once-claimed dirty = refl
 
-row-of : (settled : Bool) → row_of (state settled) (main (codes "a")) ≡ Some (main_row (codes "a") plain (codes "zz", [], []))
+pub row-of : (settled : Bool) → row_of (state settled) (main (codes "a")) ≡ Some (main_row (codes "a") plain (codes "zz", [], []))
 unfolding row_of
 row-of settled = refl
 
-its-bucket : hash (codes "a") ≡ 0x115EA782
+pub its-bucket : hash (codes "a") ≡ 0x115EA782
 unfolding hash mixed of_bytes of_one
 its-bucket = refl
 
-no-doomed : (settled : Bool) (number : ℕ) (o : Object) → object_at (state settled) number ≡ Some o → o.live ≡ false → ⊥
+pub no-doomed : (settled : Bool) (number : ℕ) (o : Object) → object_at (state settled) number ≡ Some o → o.live ≡ false → ⊥
 no-doomed settled zero o e dead = let s : object settled ≡ o = cc in let c : true ≡ false = ap (λ (z : Object). z.live) s ∙ dead in cc
 no-doomed settled (suc n) o e dead = cc
 
-among-one : (x w : ℕ) → is_among (x ∷ []) w ≡ true → x ≡ w
+pub among-one : (x w : ℕ) → is_among (x ∷ []) w ≡ true → x ≡ w
 among-one x w e = grind (arith, nat_tests)
 
 -- the view represents the state
@@ -288,7 +288,7 @@ written = record {
 
 -- without nothing
 pub lists-less : ListsLess (state true) (state true).objects (λ item. true)
-lists-less = record { rows = λ item keep h. refl; objects_of = λ key keep. refl; closed = λ key n keep. refl; doomed_same = λ number o is dead. is }
+lists-less = record { rows = λ item keep h. refl; settled = λ key keep. refl; closed = λ key n keep. refl; doomed_same = λ number o is dead. is }
 
 pub has-less : HasLess (state true) (state true).objects (λ item. true) (layout 0) (layout 0).at (layout 0).chains (layout 0).owner
 has-less = record {

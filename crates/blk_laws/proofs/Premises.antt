@@ -119,12 +119,12 @@ small_stands = (refl, refl)
 
 -- The state of one object is valid.
 
-none-at : (m n : ℕ) → ◌≡◌ {A = Option ℕ} (get_or (replicate m None) n None) None
+pub none-at : (m n : ℕ) → ◌≡◌ {A = Option ℕ} (get_or (replicate m None) n None) None
 none-at zero n = refl
 none-at (suc m) zero = refl
 none-at (suc m) (suc n) = none-at m n
 
-bytes-small : (xs : List ℕ) → AllByRecursion (λ b. b < 256) xs → All (λ b. b < 256) xs
+pub bytes-small : (xs : List ℕ) → AllByRecursion (λ b. b < 256) xs → All (λ b. b < 256) xs
 bytes-small [] h i d less = absurd (omega arith)
 bytes-small (x ∷ xs) h zero d less = h.0
 bytes-small (x ∷ xs) h (suc i) d less = bytes-small xs h.1 i d (omega arith)

@@ -1,7 +1,7 @@
 -- The dirty word of a main item's node settles and unsettles its object.
 use Rattle.std.proofs.Common.{◌≡◌, ℕ, ◌<◌, List, [], ◌∷◌, refl, ap, sym, ◌∙◌, subst, Bool, true, false, arith, set, get_or, get_or-set_same, get_or-set_other, ◌≢◌, Option, Some, None, Ok, ⊎_elim}
 use Rattle.std.specs.Prelude.{not, ◌==◌, length}
-use Rattle.std.specs.Option.{option_and_then}
+use Rattle.std.specs.Option.{option_and_then, option_map}
 use Rattle.std.specs.Str.{bytes_eq}
 use Rattle.std.proofs.lemmas.Bool.{and_parts, and_from, or_left}
 use Rattle.std.proofs.lemmas.Bool.Decides.{eqb_tells}
@@ -69,7 +69,8 @@ module _ (m : State) (valid : IsValidState m) (number : ℕ) (o : Object) (b : B
   pub settle-one : OneChanged m (set m.objects number (Some (record o { settled = b }))) (main o.key)
   settle-one = record {
     rows = λ j e. rows-same j;
-    objects_of = λ key e. ap (option_and_then (object_at (record m { objects = set m.objects number (Some (record o { settled = b })) }))) (owner-same (main key)) ∙ objects key e (model.owner m (main key)) refl;
+    settled = λ key e. ap (option_map (λ (z : Object). z.settled))
+        (ap (option_and_then (object_at (record m { objects = set m.objects number (Some (record o { settled = b })) }))) (owner-same (main key)) ∙ objects key e (model.owner m (main key)) refl);
     doomed_same = λ k x is dead. ⊎_elim
         (λ (e : (eqb k number ≡ true) × (k ≡ number)).
         let a : object_at (record m { objects = set m.objects number (Some (record o { settled = b })) }) number ≡ Some x = subst (λ (z : ℕ). object_at (record m { objects = set m.objects number (Some (record o { settled = b })) }) z ≡ Some x) e.1 is in

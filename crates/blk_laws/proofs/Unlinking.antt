@@ -1,9 +1,10 @@
 -- A record taken out of its chain, and a layout without some items.
 use Rattle.std.proofs.Common.{◌≡◌, ℕ, List, [], ◌∷◌, ◌++◌, refl, sym, ◌∙◌, subst, Bool, true, false, Option, ⊎_elim}
-use Rattle.std.specs.Prelude.{◌&&◌, ◌==◌, IfSome}
+use Rattle.std.specs.Prelude.{◌&&◌, ◌==◌}
 use Rattle.std.specs.List.{filter}
 use Rattle.std.proofs.lemmas.Bool.{cases_Bool, or_left, or_right, and_parts, eq-eqb}
 use Rattle.blk_model.specs.Items.{Item, main, part}
+use Rattle.blk_model.specs.Holding.{owner_object}
 use Rattle.blk_model.specs.State.{State, Object}
 use Rattle.blk_format.specs.BlockFiles.{is_among}
 use Rattle.blk_format.specs.Claims.{Claim}
@@ -13,6 +14,7 @@ use Rattle.blk_volume.specs.Loads.{Loaded}
 use Rattle.blk_volume.specs.Layout.{Layout, is_listed, nodes_of, order, IsMarked, HasParentAt, IsLaid, IsDoomedAt, Lies, is_in}
 use Rattle.blk_volume.specs.Removal.{without_items, laid_less, ListsLess, HasLess}
 use Rattle.blk_laws.proofs.Laid.{IsNodeOf, node-of, is_among-node}
+use Rattle.blk_laws.proofs.Changing.{mark-same}
 use Rattle.blk_laws.proofs.Removing.{in-filter}
 use Rattle.blk_laws.proofs.Replacing.{linked-facts}
 
@@ -60,7 +62,7 @@ module _ (m : State) (objects : List (Option Object)) (keep : Item → Bool) (y 
       record { name = p.name; index = p.index; role = p.role; of_key = p.of_key; listed = still (main key) with_main p.listed; parent = p.parent; at_parent = gone.stays (main key) p.parent with_main p.listed p.at_parent; of = p.of }
 
   mark-kept : (i : Item) (l : Loaded) → keep i ≡ true → IsMarked m i l → IsMarked (without_items m objects keep) i l
-  mark-kept (main key) l k p = subst (λ (o : Option Object). IfSome o (λ z. (l.dirty == 0) ≡ z.settled)) (sym (less.objects_of key k)) p
+  mark-kept (main key) l k p = mark-same (owner_object (without_items m objects keep) (main key)) (owner_object m (main key)) (l.dirty == 0) (less.settled key k) p
   mark-kept (part key n) l k p = p
 
   pub lies-less : Lies (without_items m objects keep) (laid_less y at chains owner)

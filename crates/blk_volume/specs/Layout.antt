@@ -1,5 +1,6 @@
 -- Where the items and the doomed objects of a state lie, and what then holds of what an image shows.
 use Rattle.std.specs.Prelude.{◌≡◌, ℕ, ◌<◌, List, map, Bool, true, false, ◌==◌, IfSome}
+use Rattle.std.specs.Option.{option_map}
 use Rattle.std.specs.List.{list_any}
 use Rattle.std.specs.declared.option.Option.{Option}
 use Rattle.std.specs.declared.option.Option.TheVariants.{None, Some}
@@ -50,6 +51,10 @@ order state layout = nodes_of layout state.uses
 -- the rule for the record of a node by itself
 abbrev pub rule_of : Layout → ℕ → Rule
 rule_of layout node = alone (layout.state node)
+
+-- whether the live object with a key is settled, if there is one
+abbrev pub settled_with : State → List ℕ → Option Bool
+settled_with state key = option_map (λ object. object.settled) (model.owner_object state (main key))
 
 -- the dirty word of a main item is 0 exactly where its object is settled, and that of a part is 0
 abbrev pub IsMarked : State → Item → Loaded → Type 0
@@ -146,10 +151,10 @@ pub record IsMidst (hole : ℕ → Bool) (stock : Stock) (state : State) (layout
 
 -- One object changed.
 
--- two states differ in the object of one item, and list the same
+-- two states differ in the value of one item, and list the same
 pub record OneChanged (state : State) (objects : List (Option Object)) (item : Item) : Type 0 where
   pub rows : (other : Item) → same_item other item ≡ false → model.row_of (record state { objects = objects }) other ≡ model.row_of state other
-  pub objects_of : (key : List ℕ) → same_item (main key) item ≡ false → model.owner_object (record state { objects = objects }) (main key) ≡ model.owner_object state (main key)
+  pub settled : (key : List ℕ) → same_item (main key) item ≡ false → settled_with (record state { objects = objects }) key ≡ settled_with state key
   pub doomed_same : (number : ℕ) (object : Object) → object_at (record state { objects = objects }) number ≡ Some object → object.live ≡ false → object_at state number ≡ Some object
 
 -- the layout with something else at one node, and other owners

@@ -12,7 +12,7 @@ use Rattle.blk_format.specs.Claims.{Claim, has_claim}
 use Rattle.blk_format.specs.BlockFiles.{is_among}
 use Rattle.blk_volume.specs.Chains.{bucket_of_hash}
 use Rattle.blk_volume.specs.Loads.{Loaded, all_claims}
-use Rattle.blk_volume.specs.Layout.{Layout, is_listed, nodes_of, order, IsListedRecord}
+use Rattle.blk_volume.specs.Layout.{Layout, settled_with, is_listed, nodes_of, order, IsListedRecord}
 
 -- the state with other objects and without the items that are not kept
 abbrev pub without_items : State → List (Option Object) → (Item → Bool) → State
@@ -21,7 +21,7 @@ without_items state objects keep = record state { objects = objects; uses = filt
 -- it has the same rows for what is kept, no part is kept without its main item, and no other object is doomed
 pub record ListsLess (state : State) (objects : List (Option Object)) (keep : Item → Bool) : Type 0 where
   pub rows : (item : Item) → keep item ≡ true → is_listed state item ≡ true → model.row_of (without_items state objects keep) item ≡ model.row_of state item
-  pub objects_of : (key : List ℕ) → keep (main key) ≡ true → model.owner_object (without_items state objects keep) (main key) ≡ model.owner_object state (main key)
+  pub settled : (key : List ℕ) → keep (main key) ≡ true → settled_with (without_items state objects keep) key ≡ settled_with state key
   pub closed : (key : List ℕ) (n : ℕ) → keep (part key n) ≡ true → keep (main key) ≡ true
   pub doomed_same : (number : ℕ) (object : Object) → object_at (without_items state objects keep) number ≡ Some object → object.live ≡ false → object_at state number ≡ Some object
 

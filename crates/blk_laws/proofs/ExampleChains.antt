@@ -1,0 +1,51 @@
+-- The laws of chains at a chain of three records: it is linked from the table, one more goes in front, and the first and the second go out.
+use Rattle.std.proofs.Common.{◌≡◌, ℕ, [], ◌∷◌, refl, sym, subst, arith, true, false}
+use Rattle.std.specs.Prelude.{◌==◌, ◌||◌}
+use Rattle.std.proofs.lemmas.Bool.Decides.{nat_tests}
+use Rattle.blk_volume.specs.ListView.{put}
+use Rattle.blk_volume.specs.View.{Stock}
+use Rattle.blk_volume.specs.Chains.{chain, Linked, IsChain}
+use Rattle.blk_laws.proofs.DamagedViews.{entry, shown}
+use Rattle.blk_laws.proofs.Chains.{chain-is}
+use Rattle.blk_laws.proofs.ChainLinks.{linked-front, others-stay}
+use Rattle.blk_laws.proofs.Unlinking.{unlink-first, unlink-behind}
+
+abbrev bucket : ℕ
+bucket = 0xA782
+
+-- three records in a chain, and a fourth whose next is the first of them
+abbrev four_records : Stock
+four_records = (shown 0 0xA0010000 [] ((0xA0010000, entry 0xA0010001 0) ∷ (0xA0010001, entry 0xA0010002 0) ∷ (0xA0010002, entry 0 0) ∷ (0xA0010003, entry 0xA0010000 0) ∷ [])).stock
+
+three-are_chained : IsChain four_records bucket (0xA0010000 ∷ 0xA0010001 ∷ 0xA0010002 ∷ [])
+three-are_chained = record { linked = (refl, refl, (refl, refl, (refl, refl, refl))); once = (refl, (refl, (refl, tt))); few = omega arith }
+
+-- the chain is the three records
+pub chain-is_three : chain four_records bucket ≡ record { reached = 0xA0010000 ∷ 0xA0010001 ∷ 0xA0010002 ∷ []; end = 0 }
+chain-is_three = chain-is four_records bucket (0xA0010000 ∷ 0xA0010001 ∷ 0xA0010002 ∷ []) refl three-are_chained
+
+-- the fourth goes in front
+pub four-are_chained : IsChain (record four_records { table = put four_records.table bucket 0xA0010003 }) bucket (0xA0010003 ∷ 0xA0010000 ∷ 0xA0010001 ∷ 0xA0010002 ∷ [])
+four-are_chained = linked-front four_records bucket 0xA0010003 (0xA0010000 ∷ 0xA0010001 ∷ 0xA0010002 ∷ []) three-are_chained refl refl refl (omega arith)
+
+-- and another chain stays
+pub other-stays : chain (record four_records { table = put four_records.table bucket 0xA0010003 }) 5 ≡ chain four_records 5
+other-stays = others-stay four_records bucket 5 0xA0010003 refl
+
+-- the first goes out: the table names the second
+pub first-goes_out : Linked (record four_records { table = put four_records.table bucket 0xA0010001 }) bucket 0xA0010001 (0xA0010001 ∷ 0xA0010002 ∷ [])
+first-goes_out =
+    unlink-first four_records (record four_records { table = put four_records.table bucket 0xA0010001 }) bucket 0xA0010000 0xA0010000 (0xA0010001 ∷ 0xA0010002 ∷ []) (λ w among. (refl, refl)) three-are_chained.linked
+
+-- the second goes out: the first has its next
+abbrev without_second : Stock
+without_second = record four_records { follow = put four_records.follow 0xA0010000 0xA0010002 }
+
+-- the records before and behind it are linked
+pub second-goes_out : Linked without_second bucket 0xA0010000 (0xA0010000 ∷ 0xA0010002 ∷ [])
+unfolding put
+second-goes_out =
+    unlink-behind four_records without_second bucket 0xA0010000 0xA0010000 0xA0010001 [] (0xA0010002 ∷ []) (λ w among. refl) (λ w among. absurd (let z : false ≡ true = among in cc))
+    (λ w among. let is : w ≡ 0xA0010002 = only w among in subst (λ (x : ℕ). without_second.follow x ≡ four_records.follow x) (sym is) refl) refl three-are_chained.linked where
+      only : (w : ℕ) → ((0xA0010002 == w) || false) ≡ true → w ≡ 0xA0010002
+      only w among = grind (arith, nat_tests)
