@@ -1,4 +1,5 @@
 // Blocks are given and freed in a folder in memory that tells nothing.
+ghost use Rattle.std.specs.Prelude.{◌≤◌, ◌<◌};
 ghost use Rattle.std.specs.Option.{ForSome};
 
 use crate::{allocate, free, rebuild};
