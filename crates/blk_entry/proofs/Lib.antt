@@ -1,3 +1,6 @@
 pub mod Marking
 pub mod Windows
 pub mod KeyPlaces
+pub mod DataSteps
+pub mod NewRecords
+pub mod NewPlaces

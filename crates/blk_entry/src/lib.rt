@@ -6,11 +6,13 @@ mod data;
 mod fields;
 mod keys;
 mod marks;
+mod writing;
 
 pub use compare::key_equals;
 pub use fields::field;
 pub use keys::key_piece;
 pub use marks::{set_clean, set_dirty};
+pub use writing::{NewEntry, write_entry};
 
 #[cfg(test)]
 mod silent;
