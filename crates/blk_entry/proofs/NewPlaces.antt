@@ -1,5 +1,5 @@
 -- The three places of a new entry, and what holds at each moment of its writes.
-use Rattle.std.proofs.Common.{◌≡◌, ◌≢◌, ◌⊎◌, inl, inr, ⊎_elim, ℕ, zero, suc, ◌+◌, ◌*◌, ◌<◌, ◌≤◌, Bool, true, false, ◌&&◌, ◌||◌, if◌then◌else◌, List, [], ◌∷◌, ◌++◌, length, Option, None, Some, refl, sym, ◌∙◌, ap, subst, arith}
+use Rattle.std.proofs.Common.{◌≡◌, ◌≢◌, ◌⊎◌, inl, inr, ⊎_elim, ℕ, zero, suc, ◌+◌, ◌*◌, ◌<◌, ◌≤◌, Bool, true, false, ◌&&◌, ◌||◌, if◌then◌else◌, List, [], ◌∷◌, ◌++◌, length, length-append, add-zero, Option, None, Some, refl, sym, ◌∙◌, ap, subst, arith}
 use Rattle.std.specs.Prelude.{◌==◌, nat_le, nat_lt}
 use Rattle.std.proofs.lemmas.Bool.{and_parts, cases_Bool, cases_lt}
 use Rattle.std.proofs.lemmas.Bool.Decides.{nat_tests}
@@ -13,8 +13,7 @@ use Rattle.blk_image.proofs.Runs.{quiet-append, passes_part, passes_weaker, some
 use Rattle.blk_image.proofs.WordSteps.{quiet-words}
 use Rattle.blk_format.specs.Address.{kind_of, block_count, external, external_number, file_selector, place, room, rankings, blocks_256}
 use Rattle.blk_format.specs.Storage.{entry_blocks}
-use Rattle.blk_format.specs.Records.{entry_body, node_body}
-use Rattle.blk_image.specs.Bytes.{zeros}
+use Rattle.blk_image.proofs.Splices.{length-zeros}
 use Rattle.blk_format.specs.Standing.{is_linked_as, stands_as_blocks}
 use Rattle.blk_format.specs.BlockFiles.{type_among, IsWellFormed}
 use Rattle.blk_volume.specs.Entries.{longest_short_key}
@@ -30,6 +29,7 @@ use Rattle.blk_entry.specs.Keys.{IsInside, IsInFile, data_file, data_start, is_s
 use Rattle.blk_entry.specs.Steps.{data_steps, ended_steps}
 use Rattle.blk_entry.specs.Writing.{FitsKey, HasItsLength, IsLongPlace, ShareNoBlock, address_of_key, before_key, empty_key_place, entry_bytes, entry_steps, key_steps, long_range, longest_of, new_node, new_record, node_bytes, node_steps, places_of, record_steps}
 use Rattle.blk_entry.proofs.KeyPlaces.{storage_room, short_room}
+use Rattle.blk_entry.proofs.NewSteps.{node_length, record_length}
 use Rattle.blk_entry.proofs.Windows.{entry_room, entry_room_least, not_external}
 
 -- where data lies
@@ -119,34 +119,31 @@ module _ (files : BlockFiles) (new : NewEntry) (key : List ℕ) (moment : ℕ) (
   key_place = range (data_file (address_of_key new.entry new.long_key)) (data_start (address_of_key new.entry new.long_key) + before_key new.long_key) (length key + 1)
 
   in_key : IsWithin key_place (places_of new (length key))
-  unfolding key_place
+  unfolding key_place record_place
   in_key = by_place new.long_key (key_is_inside files new key fits) in_long
     where
       by_place : (o : Option ℕ) → IsInside files (address_of_key new.entry o) (before_key o) (length key + 1) → IsWithin (long_range o (length key)) (places_of new (length key))
           → IsWithin (range (data_file (address_of_key new.entry o)) (data_start (address_of_key new.entry o) + before_key o) (length key + 1)) (places_of new (length key))
-      unfolding record_place
       by_place None inside long =
           let blocky = not_external new.entry fits.entry_kind in
           let room = inside.room blocky in
           let at_file = file_of_blocks new.entry blocky in
           let at_start = start_of_blocks new.entry blocky in
           rw (at_file, at_start) (within_trans (range (Block (file_selector new.entry)) (place new.entry + 96) (length key + 1)) record_place (places_of new (length key)) (range_within (Block (file_selector new.entry)) (place new.entry + 96) (length key + 1) (place new.entry) _ (omega arith) (omega (arith, room))) in_record)
-      by_place (Some w) inside long = long
+      by_place (Some w) inside long = subst (λ (i : ℕ). IsWithin (range (data_file w) i (length key + 1)) (places_of new (length key))) (sym (add-zero (data_start w))) long
 
-  record_length : length (entry_bytes (new_record new key moment) ++ empty_key_place new.long_key) ≤ 256
-  record_length = by_place new.long_key
+  record_most : length (entry_bytes (new_record new key moment) ++ empty_key_place new.long_key) ≤ 256
+  record_most = by_place new.long_key
     where
       by_place : (o : Option ℕ) → length (entry_bytes (new_record new key moment) ++ empty_key_place o) ≤ 256
-      unfolding entry_bytes entry_body new_record zeros
-      by_place None = omega arith
-      by_place (Some w) = omega arith
+      by_place None = omega (arith, length-append (entry_bytes (new_record new key moment)) (empty_key_place None), record_length new key moment)
+      by_place (Some w) = omega (arith, length-append (entry_bytes (new_record new key moment)) (empty_key_place (Some w)), record_length new key moment, length-zeros 160)
 
   record_fits : length (entry_bytes (new_record new key moment) ++ empty_key_place new.long_key) ≤ room new.entry
-  record_fits = let least = entry_room_least new.entry fits.entry_kind in omega (arith, record_length, least)
+  record_fits = let least = entry_room_least new.entry fits.entry_kind in omega (arith, record_most, least)
 
   node_fits : length (node_bytes (new_node new moment)) ≡ record_size new.node
-  unfolding node_bytes node_body new_node
-  node_fits = sym (node_size_is new.node fits.node_kind)
+  node_fits = node_length new moment ∙ sym (node_size_is new.node fits.node_kind)
 
   pub steps_within : IsWithin (touched_by_all (entry_steps new key moment)) (places_of new (length key))
   unfolding entry_steps key_steps ended_steps data_steps record_steps node_steps record_place key_place
@@ -164,9 +161,14 @@ module _ (files : BlockFiles) (new : NewEntry) (key : List ℕ) (moment : ℕ) (
   steps_quiet : IsQuiet (entry_steps new key moment)
   unfolding entry_steps key_steps ended_steps data_steps record_steps node_steps
   steps_quiet =
-      quiet-append (key_steps new key) (record_steps new key moment ++ node_steps new moment)
-      (quiet-append _ _ (quiet-words _ _ key) (quiet-words _ _ (0 ∷ [])))
-      (quiet-append (record_steps new key moment) (node_steps new moment) (quiet-words _ _ _) (quiet-words _ _ _))
+      let w : ℕ = address_of_key new.entry new.long_key in
+      let one : List TrailStep = words (data_file w) (data_start w + before_key new.long_key) key in
+      let two : List TrailStep = words (data_file w) (data_start w + (before_key new.long_key + length key)) (0 ∷ []) in
+      quiet-append (one ++ two) (record_steps new key moment ++ node_steps new moment)
+      (quiet-append one two (quiet-words (data_file w) (data_start w + before_key new.long_key) key) (quiet-words (data_file w) (data_start w + (before_key new.long_key + length key)) (0 ∷ [])))
+      (quiet-append (record_steps new key moment) (node_steps new moment)
+      (quiet-words (Block (file_selector new.entry)) (place new.entry) (entry_bytes (new_record new key moment) ++ empty_key_place new.long_key))
+      (quiet-words (Block (file_selector new.node)) (place new.node) (node_bytes (new_node new moment))))
 
   along : (from : Image) → Along (SameOutside (places_of new (length key)) from) from (entry_steps new key moment)
   along from = outside_steps (places_of new (length key)) (entry_steps new key moment) from from steps_within (outside-refl (places_of new (length key)) from)
@@ -191,7 +193,6 @@ module _ (files : BlockFiles) (new : NewEntry) (key : List ℕ) (moment : ℕ) (
           (cases_Bool (kind_of w == external))
 
       by_parts : (n i : ℕ) → i < 8192 → (places_of new (length key)).bytes (Block n) i ≡ false
-      unfolding places_of
       by_parts n i small =
           let one = behind (same_file (Block (file_selector new.entry)) (Block n)) (place new.entry) (room new.entry) i (let past = past_header new.entry in omega (arith, small, past)) in
           let two = behind (same_file (Block (file_selector new.node)) (Block n)) (place new.node) (record_size new.node) i (let past = past_header new.node in omega (arith, small, past)) in

@@ -1,7 +1,7 @@
 -- The bytes of a record and a node that are made of words, and what is read of them.
-use Rattle.std.proofs.Common.{◌≡◌, ℕ, ◌+◌, ◌*◌, ◌/◌, ◌%◌, ◌^◌, ◌<◌, ◌≤◌, Bool, true, false, ◌||◌, List, [], ◌∷◌, ◌++◌, take, drop, get_or-take, refl, sym, ◌∙◌, ap, ap₂, arith}
+use Rattle.std.proofs.Common.{◌≡◌, ℕ, ◌+◌, ◌*◌, ◌/◌, ◌%◌, ◌^◌, ◌<◌, ◌≤◌, Bool, true, false, ◌||◌, List, [], ◌∷◌, ◌++◌, take, drop, length, get_or, get_or-take, refl, sym, ◌∙◌, ap, ap₂, arith}
 use Rattle.std.specs.Prelude.{◌==◌}
-use Rattle.std.proofs.lemmas.List.{get_or-drop}
+use Rattle.std.proofs.lemmas.List.{get_or-drop, take_more}
 use Rattle.std.proofs.lemmas.Bool.{or_right, eq-eqb}
 use Rattle.blk_image.specs.Bytes.{content, word_at, word_bytes, long_at, words_at, range_at, spliced, zeros}
 use Rattle.blk_image.specs.Steps.{with_word, with_words}
@@ -9,6 +9,7 @@ use Rattle.blk_image.proofs.Words.{content-range}
 use Rattle.blk_format.specs.Hash.{hash, mixed}
 use Rattle.blk_format.specs.Records.{Entry, Node, entry_in, entry_body, sealed_entry, node_in, node_body, sealed_node, checks}
 use Rattle.blk_disk.specs.Sealed.{sealed}
+use Rattle.blk_disk.proofs.RecordBytes.{with_words-append}
 use Rattle.blk_entry.specs.Writing.{entry_bytes, node_bytes}
 
 -- a hash is a word
@@ -34,11 +35,15 @@ word_there f i n bytes is q j v inside at small four =
     here : (k m : ℕ) → k < 4 → m ≡ i + (q + k) → f m ≡ content (word_bytes v) k
     here k m less e = sym (content-range n i f (q + k) m (omega (arith, inside, less)) e) ∙ ap (λ (l : List ℕ). content l (q + k)) is ∙ byte_of_four bytes q k (word_bytes v) less four
 
+-- words that are written one after another
+pub with_words-more : (ws : List (ℕ × ℕ)) (i : ℕ) (d : ℕ × ℕ) (bytes : List ℕ) → i < length ws → with_words (take (i + 1) ws) bytes ≡ with_word (get_or ws i d).0 (get_or ws i d).1 (with_words (take i ws) bytes)
+with_words-more ws i d bytes within = ap (λ (l : List (ℕ × ℕ)). with_words l bytes) (take_more ws i d within) ∙ with_words-append (take i ws) (get_or ws i d ∷ []) bytes
+
 -- An entry record without streams.
 
 module _ (h next node moment key_len long_key flags : ℕ) where
   -- before it is sealed
-  pub plain_record : Entry
+  unfoldable pub plain_record : Entry
   plain_record = record {
     hash = h;
     next = next;
@@ -57,7 +62,7 @@ module _ (h next node moment key_len long_key flags : ℕ) where
   }
 
   -- the words that make it
-  pub record_words : List (ℕ × ℕ)
+  unfoldable pub record_words : List (ℕ × ℕ)
   record_words = (0, h) ∷ (4, next) ∷ (8, node) ∷ (24, moment % 4294967296) ∷ (28, moment / 4294967296) ∷ (32, key_len) ∷ (36, long_key) ∷ (72, flags) ∷ []
 
   pub filled_record : sealed 92 (with_words record_words (zeros 256)) ≡ entry_bytes (sealed_entry plain_record) ++ zeros 160
@@ -113,10 +118,10 @@ module _ (h next node moment key_len long_key flags : ℕ) where
 -- A node that is in no list.
 
 module _ (moment contents dirty : ℕ) where
-  pub plain_node : Node
+  unfoldable pub plain_node : Node
   plain_node = record { last_used = moment; last_modified = moment; next = 0; prev = 0; contents = contents; dirty = dirty; self_hash = 0 }
 
-  pub node_words : List (ℕ × ℕ)
+  unfoldable pub node_words : List (ℕ × ℕ)
   node_words = (0, moment % 4294967296) ∷ (4, moment / 4294967296) ∷ (8, moment % 4294967296) ∷ (12, moment / 4294967296) ∷ (24, contents) ∷ (28, dirty) ∷ []
 
   pub filled_node : sealed 32 (with_words node_words (zeros 36)) ≡ node_bytes (sealed_node plain_node)

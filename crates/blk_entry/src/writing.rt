@@ -1,5 +1,5 @@
 // New entries: the key, the record and the node are written.
-ghost use Rattle.std.specs.Prelude.{◌≡◌, ◌≤◌, ◌++◌, length, OnErr, OnOk, Ok, IsTrue, false};
+ghost use Rattle.std.specs.Prelude.{◌≡◌, ◌≤◌, ◌++◌, length, OnErr, OnOk, Ok, IsTrue, false, if◌then◌else◌, unwrap_or};
 ghost use Rattle.std.specs.Option.{ForSome};
 ghost use Rattle.std.specs.List.{All};
 ghost use Rattle.blk_image.specs.Bytes.{zeros};
@@ -167,9 +167,10 @@ fn write_record<F: Folder>(
     ensures failed { OnErr result (Rises (F.faults f.old) (F.faults f.new)) }
 {
     let bytes = record_of(new, key, moment);
+    let front = &bytes[..RECORD];
     match &new.long_key {
         Some(_) => files.write_block(f, new.entry, 0, &bytes),
-        None => files.write_block(f, new.entry, 0, &bytes[..RECORD]),
+        None => files.write_block(f, new.entry, 0, front),
     }
 }
 
@@ -195,12 +196,9 @@ fn write_node<F: Folder>(
 // The bytes of the record, and zeros behind them to the end of a block.
 fn record_of(new: &NewEntry, key: &[u8], moment: u64) -> [u8; BLOCK]
     requires { length key.now ≤ 32796 }
-    ensures { result ≡ entry_bytes (new_record new.now key.now moment) ++ zeros 160 }
+    ensures bytes { result ≡ entry_bytes (new_record new.now key.now moment) ++ zeros 160 }
+    ensures size { length result ≡ 256 }
 {
-    let long_key = match &new.long_key {
-        Some(addr) => addr.word(),
-        None => 0,
-    };
     let words = [
         (0, super_fast_hash(key)),
         (4, new.next),
@@ -208,12 +206,27 @@ fn record_of(new: &NewEntry, key: &[u8], moment: u64) -> [u8; BLOCK]
         (24, (moment % WORD) as u32),
         (28, (moment / WORD) as u32),
         (32, key.len() as u32),
-        (36, long_key),
-        (72, if new.child { CHILD } else { 0 }),
+        (36, word_of(&new.long_key)),
+        (72, flags_of(new.child)),
     ];
-    let mut bytes = [0; BLOCK];
-    fill(&mut EntryMut::new(&mut bytes), &words);
-    bytes
+    filled_record(&words)
+}
+
+// The word of an address, or 0 of none.
+fn word_of(addr: &Option<Addr>) -> u32
+    ensures { result ≡ unwrap_or addr.now 0 }
+{
+    match addr {
+        Some(addr) => addr.word(),
+        None => 0,
+    }
+}
+
+// The flags of a record.
+fn flags_of(child: bool) -> u32
+    ensures { result ≡ (if child then records.child else records.plain) }
+{
+    if child { CHILD } else { 0 }
 }
 
 // The bytes of the node.
@@ -230,19 +243,37 @@ fn node_of(new: &NewEntry, moment: u64) -> [u8; NODE]
         (24, new.entry.word()),
         (28, new.dirty),
     ];
+    filled_node(&words)
+}
+
+// A record of these words, each at its place, and zeros else, with its seal.
+fn filled_record(words: &[(usize, u32)]) -> [u8; BLOCK]
+    requires fields { All (λ word. IsField records.entry_size word.0) words.now }
+    ensures { result ≡ sealed.sealed records.entry_seal_place (with_words words.now (zeros 256)) }
+{
+    let mut bytes = [0; BLOCK];
+    fill(&mut EntryMut::new(&mut bytes), words);
+    bytes
+}
+
+// A node, in the same way.
+fn filled_node(words: &[(usize, u32)]) -> [u8; NODE]
+    requires fields { All (λ word. IsField records.node_size word.0) words.now }
+    ensures { result ≡ sealed.sealed records.node_seal_place (with_words words.now (zeros 36)) }
+{
     let mut bytes = [0; NODE];
-    fill(&mut NodeMut::new(&mut bytes), &words);
+    fill(&mut NodeMut::new(&mut bytes), words);
     bytes
 }
 
 // Writes words into a record, each at its place, and seals it.
-fn fill<R: RecordMut>(record: &mut R, words: &[(usize, u32)])
+fn fill<R: RecordMut>(view: &mut R, words: &[(usize, u32)])
     requires fields { All (λ word. IsField R.size word.0) words.now }
-    ensures window { R.window_of record.new ≡ sealed.sealed R.seal_place (with_words words.now (R.window_of record.old)) }
-    ensures same_reference { R.reference record.new ≡ R.reference record.old }
+    ensures window { R.window_of view.new ≡ sealed.sealed R.seal_place (with_words words.now (R.window_of view.old)) }
+    ensures same_reference { R.reference view.new ≡ R.reference view.old }
 {
     for (at, value) in words {
-        record.set_word(*at, *value);
+        view.set_word(*at, *value);
     }
-    record.seal();
+    view.seal();
 }
