@@ -5,3 +5,5 @@ pub mod DataSteps
 pub mod NewRecords
 pub mod NewSteps
 pub mod NewPlaces
+pub mod NewImages
+pub mod NewShown

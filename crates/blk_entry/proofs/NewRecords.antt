@@ -1,16 +1,18 @@
 -- The bytes of a record and a node that are made of words, and what is read of them.
-use Rattle.std.proofs.Common.{◌≡◌, ℕ, ◌+◌, ◌*◌, ◌/◌, ◌%◌, ◌^◌, ◌<◌, ◌≤◌, Bool, true, false, ◌||◌, List, [], ◌∷◌, ◌++◌, take, drop, length, get_or, get_or-take, refl, sym, ◌∙◌, ap, ap₂, arith}
+use Rattle.std.proofs.Common.{◌≡◌, ℕ, ◌+◌, ◌*◌, ◌/◌, ◌%◌, ◌^◌, ◌<◌, ◌≤◌, Bool, true, false, ◌||◌, if◌then◌else◌, unwrap_or, List, [], ◌∷◌, ◌++◌, take, drop, length, get_or, get_or-take, refl, sym, ◌∙◌, ap, ap₂, arith}
 use Rattle.std.specs.Prelude.{◌==◌}
 use Rattle.std.proofs.lemmas.List.{get_or-drop, take_more}
-use Rattle.std.proofs.lemmas.Bool.{or_right, eq-eqb}
+use Rattle.std.proofs.lemmas.Bool.{and_parts, or_right, eq-eqb, eqb-true}
 use Rattle.blk_image.specs.Bytes.{content, word_at, word_bytes, long_at, words_at, range_at, spliced, zeros}
 use Rattle.blk_image.specs.Steps.{with_word, with_words}
 use Rattle.blk_image.proofs.Words.{content-range}
 use Rattle.blk_format.specs.Hash.{hash, mixed}
-use Rattle.blk_format.specs.Records.{Entry, Node, entry_in, entry_body, sealed_entry, node_in, node_body, sealed_node, checks}
+use Rattle.blk_format.specs.Records.{Entry, Node, entry_in, entry_body, sealed_entry, node_in, node_body, sealed_node, checks, child, plain}
 use Rattle.blk_disk.specs.Sealed.{sealed}
 use Rattle.blk_disk.proofs.RecordBytes.{with_words-append}
-use Rattle.blk_entry.specs.Writing.{entry_bytes, node_bytes}
+use Rattle.blk_format.specs.Address.{is_address, is_initialized}
+use Rattle.blk_entry.specs.declared.writing.NewEntry.{NewEntry}
+use Rattle.blk_entry.specs.Writing.{AreWords, entry_bytes, new_node, new_record, node_bytes}
 
 -- a hash is a word
 pub hash_small : (bytes : List ℕ) → hash bytes < 2 ^ 32
@@ -108,9 +110,9 @@ module _ (h next node moment key_len long_key flags : ℕ) where
     }
 
   -- its bytes check
-  pub record_checks : (f : ℕ → ℕ) (i : ℕ) (bytes : List ℕ) → bytes ≡ entry_bytes (sealed_entry plain_record) → checks 92 bytes ≡ true
+  pub record_checks : (bytes : List ℕ) → bytes ≡ entry_bytes (sealed_entry plain_record) → checks 92 bytes ≡ true
   unfolding plain_record entry_bytes entry_body
-  record_checks f i bytes is = ap (checks 92) is ∙ or_right _ _ (eq-eqb _ _ (sealed_word (hash (entry_body plain_record)) (hash_small (entry_body plain_record))))
+  record_checks bytes is = ap (checks 92) is ∙ or_right _ _ (eq-eqb _ _ (sealed_word (hash (entry_body plain_record)) (hash_small (entry_body plain_record))))
     where
       sealed_word : (seal : ℕ) → seal < 2 ^ 32 → word_at (content (entry_bytes (record plain_record { self_hash = seal }))) 92 ≡ seal
       sealed_word seal small = word_of_four (content (entry_bytes (record plain_record { self_hash = seal }))) 92 seal small refl refl refl refl
@@ -157,3 +159,33 @@ module _ (moment contents dirty : ℕ) where
     where
       sealed_word : (seal : ℕ) → seal < 2 ^ 32 → word_at (content (node_bytes (record plain_node { self_hash = seal }))) 32 ≡ seal
       sealed_word seal small = word_of_four (content (node_bytes (record plain_node { self_hash = seal }))) 32 seal small refl refl refl refl
+
+-- What lies at the places of a new entry.
+
+module _ (new : NewEntry) (key : List ℕ) (moment : ℕ) (are : AreWords new) (small : moment < 2 ^ 64) (few : length key < 2 ^ 32) (long : unwrap_or new.long_key 0 < 2 ^ 32) where
+  address_small : (w : ℕ) → is_address w ≡ true → w < 2 ^ 32
+  unfolding is_address is_initialized
+  address_small w e = let q : w / 2147483648 ≡ 1 = eqb-true _ _ (and_parts _ _ e).0 in omega (arith, q)
+
+  flags_small : (b : Bool) → (if b then child else plain) < 2 ^ 32
+  flags_small true = omega arith
+  flags_small false = omega arith
+
+  pub entry_of_bytes : (f : ℕ → ℕ) (i : ℕ) → range_at f i 96 ≡ entry_bytes (new_record new key moment) → entry_in f i ≡ new_record new key moment
+  unfolding new_record plain_record
+  entry_of_bytes f i is =
+      record_there (hash key) new.next new.node moment (length key) (unwrap_or new.long_key 0) (if new.child then child else plain) f i
+      (hash (entry_body (plain_record (hash key) new.next new.node moment (length key) (unwrap_or new.long_key 0) (if new.child then child else plain)))) is
+      (hash_small key) are.next (address_small new.node are.node) small few long (flags_small new.child) (hash_small _)
+
+  pub entry_bytes_check : (bytes : List ℕ) → bytes ≡ entry_bytes (new_record new key moment) → checks 92 bytes ≡ true
+  unfolding new_record plain_record
+  entry_bytes_check bytes is = record_checks (hash key) new.next new.node moment (length key) (unwrap_or new.long_key 0) (if new.child then child else plain) bytes is
+
+  pub node_of_bytes : (f : ℕ → ℕ) (i : ℕ) → range_at f i 36 ≡ node_bytes (new_node new moment) → node_in f i ≡ new_node new moment
+  unfolding new_node plain_node
+  node_of_bytes f i is = node_there moment new.entry new.dirty f i (hash (node_body (plain_node moment new.entry new.dirty))) is small (address_small new.entry are.entry) are.dirty (hash_small _)
+
+  pub node_bytes_check : (bytes : List ℕ) → bytes ≡ node_bytes (new_node new moment) → checks 32 bytes ≡ true
+  unfolding new_node plain_node
+  node_bytes_check bytes is = node_is_checked moment new.entry new.dirty bytes is

@@ -1,10 +1,10 @@
 -- A new entry: the places where it is written, its record, its node, and the steps that write them.
-use Rattle.std.specs.Prelude.{ℕ, ◌≡◌, ◌≢◌, ◌⊎◌, ◌+◌, ◌≤◌, List, [], ◌∷◌, ◌++◌, length, Bool, true, false, if◌then◌else◌, Option, None, Some, unwrap_or}
+use Rattle.std.specs.Prelude.{ℕ, ◌≡◌, ◌≢◌, ◌⊎◌, ◌+◌, ◌^◌, ◌<◌, ◌≤◌, List, [], ◌∷◌, ◌++◌, length, Bool, true, false, if◌then◌else◌, Option, None, Some, unwrap_or}
 use Rattle.blk_image.specs.Bytes.{word_bytes, zeros}
 use Rattle.blk_image.specs.Image.{Block, External, Image, byte, length_of}
 use Rattle.blk_image.specs.Steps.{TrailStep, words}
 use Rattle.blk_image.specs.Footprint.{Footprint, either, nothing, range}
-use Rattle.blk_format.specs.Address.{kind_of, block_count, first_block, external, rankings, blocks_256, external_number, file_selector, place, room}
+use Rattle.blk_format.specs.Address.{is_address, kind_of, block_count, first_block, external, rankings, blocks_256, external_number, file_selector, place, room}
 use Rattle.blk_format.specs.Hash.{hash as hash_of}
 use Rattle.blk_format.specs.Records.{Entry, Node, entry_body, entry_size, sealed_entry, node_body, sealed_node, normal, plain, child}
 use Rattle.blk_format.specs.Storage.{entry_blocks}
@@ -43,6 +43,13 @@ pub record FitsKey (files : BlockFiles) (new : NewEntry) (key : List ℕ) : Type
   pub most : length key ≤ longest_of new.child
   pub blocks : block_count new.entry ≡ entry_blocks (length key)
   pub long : IsLongPlace files new.entry (length key) new.long_key
+
+-- the numbers of a new entry are words, and its places are addresses
+pub record AreWords (new : NewEntry) : Type 0 where
+  pub next : new.next < 2 ^ 32
+  pub dirty : new.dirty < 2 ^ 32
+  pub entry : is_address new.entry ≡ true
+  pub node : is_address new.node ≡ true
 
 -- an external file that holds a long key of so many bytes is there, and one byte longer
 abbrev pub HasItsLength : Option ℕ → ℕ → Image → Type 0

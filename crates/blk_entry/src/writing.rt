@@ -15,7 +15,7 @@ ghost use Rattle.blk_record.specs.Fields.{IsField};
 ghost use Rattle.blk_io.specs.Faults.{IfDamaged, IfDevice};
 ghost use Rattle.blk_disk.specs.Sealed as sealed;
 ghost use Rattle.blk_disk.specs.Tables.{Agrees, stands_among};
-ghost use Rattle.blk_entry.specs.Writing.{FitsKey, HasItsLength, IsShownNew, IsWritten, entry_bytes, entry_steps, key_steps, loaded_new, new_node, new_record, node_bytes, node_steps, places_of, record_steps};
+ghost use Rattle.blk_entry.specs.Writing.{AreWords, FitsKey, HasItsLength, IsShownNew, IsWritten, entry_bytes, entry_steps, key_steps, loaded_new, new_node, new_record, node_bytes, node_steps, places_of, record_steps};
 
 use crate::data::write_ended;
 use blk_addr::Addr;
@@ -85,7 +85,7 @@ pub fn write_entry<F: Folder>(
     ensures later { F.faults f.old ≤ F.faults f.new }
     ensures device { IfDevice result (Rises (F.faults f.old) (F.faults f.new)) }
 {
-    write_places(f, files, new, key, moment)?;
+    write_places(f, files, *new, key, moment)?;
     Ok(())
 }
 
@@ -93,20 +93,21 @@ pub fn write_entry<F: Folder>(
 fn write_places<F: Folder>(
     f: &mut F,
     files: &BlockFiles,
-    new: &NewEntry,
+    new: NewEntry,
     key: &[u8],
     moment: u64,
 ) -> Result<(), Failed>
-    requires fits { FitsKey files.now new.now key.now }
+    requires fits { FitsKey files.now new key.now }
     requires agrees { ForSome (F.told f.old).files (Agrees files.now) }
-    requires external { ForSome (F.told f.old).files (HasItsLength new.now.long_key (length key.now)) }
-    ensures whole { OnOk result (Grows (F.told f.old) (F.told f.new) (entry_steps new.now key.now moment)) }
-    ensures part { GrowsInPart (F.told f.old) (F.told f.new) (entry_steps new.now key.now moment) }
+    requires external { ForSome (F.told f.old).files (HasItsLength new.long_key (length key.now)) }
+    ensures whole { OnOk result (Grows (F.told f.old) (F.told f.new) (entry_steps new key.now moment)) }
+    ensures part { GrowsInPart (F.told f.old) (F.told f.new) (entry_steps new key.now moment) }
+    ensures words { AreWords new }
     ensures later { F.faults f.old ≤ F.faults f.new }
     ensures failed { OnErr result (Rises (F.faults f.old) (F.faults f.new)) }
 {
-    write_key(f, files, new, key)?;
-    write_records(f, files, new, key, moment)
+    write_key(f, files, &new, key)?;
+    write_records(f, files, &new, key, moment)
 }
 
 // Writes a key at its place, and one zero byte behind it.

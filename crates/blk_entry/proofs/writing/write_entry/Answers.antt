@@ -1,6 +1,7 @@
-use Rattle.std.proofs.Common.{◌≡◌}
+use Rattle.std.proofs.Common.{◌≡◌, ◌<◌, ◌^◌, arith}
 use Rattle.blk_image.proofs.Runs.{part_whole}
 use Rattle.blk_entry.proofs.NewPlaces.{stops, formed, agrees_after}
+use Rattle.blk_entry.proofs.NewImages.{written_there}
 use Rattle.blk_entry.proofs.writing.write_entry.Goals as goal
 
 pub returns-in_err-write_places-clause-stops : goal.returns-in_err-write_places-clause-stops
@@ -26,3 +27,7 @@ returns-clause-formed g c =
 pub returns-clause-agrees : goal.returns-clause-agrees
 returns-clause-agrees g c =
     agrees_after c.args.files.now c.args.new.now c.args.key.now c.args.moment c.requires.fits (g.F.Folder.told c.args.f.now) (g.F.Folder.told c.write_places.new.f) (part_whole c.in_ok-write_places.ensures.whole) c.requires.agrees
+
+pub returns-clause-written : goal.returns-clause-written
+returns-clause-written g c =
+    written_there c.args.files.now c.args.new.now c.args.key.now c.args.moment c.requires.fits (g.F.Folder.told c.args.f.now) (g.F.Folder.told c.write_places.new.f) c.in_ok-write_places.ensures.words (omega (arith, c.ranges.moment.fits)) c.requires.agrees c.requires.external c.in_ok-write_places.ensures.whole

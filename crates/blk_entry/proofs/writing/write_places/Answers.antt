@@ -6,7 +6,7 @@ use Rattle.blk_entry.proofs.writing.write_places.Goals as goal
 
 pub returns-in_err-write_key-clause-part : goal.returns-in_err-write_key-clause-part
 unfolding entry_steps
-returns-in_err-write_key-clause-part g c = part_only (record_steps c.args.new.now c.args.key.now c.args.moment ++ node_steps c.args.new.now c.args.moment) c.in_err-write_key.ensures.part
+returns-in_err-write_key-clause-part g c = part_only (record_steps c.args.new c.args.key.now c.args.moment ++ node_steps c.args.new c.args.moment) c.in_err-write_key.ensures.part
 
 pub returns-clause-whole : goal.returns-clause-whole
 unfolding entry_steps
