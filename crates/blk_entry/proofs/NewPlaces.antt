@@ -9,7 +9,7 @@ use Rattle.blk_image.specs.Steps.{TrailStep, after, words}
 use Rattle.blk_image.specs.Footprint.{Footprint, SameOutside, IsWithin, either, nothing, range, touched_by, touched_by_all}
 use Rattle.blk_image.specs.Told.{Told, Along, Until, IsQuiet, GrowsInPart, Passes, PassesTo}
 use Rattle.blk_image.proofs.Footprints.{outside-refl, outside_steps, within_left, within_right, within_both, within_first, within_second, range_within, words_within}
-use Rattle.blk_image.proofs.Runs.{quiet-append, passes_part, passes_weaker, some_inj, until_weaker2, told_part}
+use Rattle.blk_image.proofs.Runs.{quiet-append, passes_part, passes_weaker, some_inj, until_last, until_weaker2, told_part}
 use Rattle.blk_image.proofs.WordSteps.{quiet-words}
 use Rattle.blk_format.specs.Address.{kind_of, block_count, external, external_number, file_selector, place, room, rankings, blocks_256}
 use Rattle.blk_format.specs.Storage.{entry_blocks}
@@ -173,6 +173,19 @@ module _ (files : BlockFiles) (new : NewEntry) (key : List ℕ) (moment : ℕ) (
   along : (from : Image) → Along (SameOutside (places_of new (length key)) from) from (entry_steps new key moment)
   along from = outside_steps (places_of new (length key)) (entry_steps new key moment) from from steps_within (outside-refl (places_of new (length key)) from)
 
+  no_sizes : (file : File) → (places_of new (length key)).sizes file ≡ false
+  unfolding places_of
+  no_sizes file = of_long new.long_key
+    where
+      of_long : (o : Option ℕ) → (long_range o (length key)).sizes file ≡ false
+      of_long None = refl
+      of_long (Some w) = refl
+
+  -- each file is as long as before
+  pub length_kept : (from : Image) (file : File) → length_of (after (entry_steps new key moment) from) file ≡ length_of from file
+  length_kept from file =
+      (until_last (SameOutside (places_of new (length key)) from) (SameOutside (places_of new (length key)) from) (entry_steps new key moment) from (along from)).lengths file (no_sizes file)
+
   -- no header is touched, and nothing of the index
   spared : SparesHeaders (places_of new (length key))
   unfolding places_of
@@ -211,14 +224,6 @@ module _ (files : BlockFiles) (new : NewEntry) (key : List ℕ) (moment : ℕ) (
           let blocky : kind_of w ≢ external = (λ same. let z : (kind_of w == external) ≡ true = grind (arith, nat_tests) in let y : true ≡ false = sym z ∙ e in cc) in
           rw (file_of_blocks w blocky) refl)
           (cases_Bool (kind_of w == external))
-
-  no_sizes : (file : File) → (places_of new (length key)).sizes file ≡ false
-  unfolding places_of
-  no_sizes file = of_long new.long_key
-    where
-      of_long : (o : Option ℕ) → (long_range o (length key)).sizes file ≡ false
-      of_long None = refl
-      of_long (Some w) = refl
 
   module _ (from image : Image) (same : SameOutside (places_of new (length key)) from image) where
     pub agrees_kept : Agrees files from → Agrees files image
