@@ -1,11 +1,11 @@
 -- The steps that write data, whether it lies in blocks or in an external file.
-use Rattle.std.proofs.Common.{◌≡◌, ◌≢◌, ℕ, ◌+◌, ◌≤◌, List, length, false, sym, ◌∙◌, ap, ap₂, arith, refl}
+use Rattle.std.proofs.Common.{◌≡◌, ◌≢◌, ℕ, ◌+◌, List, length, false, ap, arith, refl}
 use Rattle.std.specs.Prelude.{◌==◌}
 use Rattle.std.proofs.lemmas.Bool.Decides.{nat_tests}
 use Rattle.std.specs.Option.{ForSome}
-use Rattle.blk_image.specs.Image.{File, Block, External, Image, length_of}
+use Rattle.blk_image.specs.Image.{Block, External, Image, length_of}
 use Rattle.blk_image.specs.Footprint.{SameOutside, range}
-use Rattle.blk_image.specs.Steps.{TrailStep, after, words}
+use Rattle.blk_image.specs.Steps.{after, words}
 use Rattle.blk_image.specs.Told.{Told, Grows, GrowsInPart}
 use Rattle.blk_image.proofs.Footprints.{words_inside}
 use Rattle.blk_image.proofs.Runs.{told_part, told_whole, until_last, until_weaker2}

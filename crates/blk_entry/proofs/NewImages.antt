@@ -1,5 +1,5 @@
 -- What a folder holds when a new entry is written.
-use Rattle.std.proofs.Common.{◌≡◌, ◌≢◌, ◌⊎◌, inl, inr, ⊎_elim, ℕ, ◌+◌, ◌*◌, ◌/◌, ◌^◌, ◌<◌, ◌≤◌, Bool, true, false, ◌&&◌, if◌then◌else◌, List, [], ◌∷◌, ◌++◌, length, length-take, length-append, take, drop, Option, None, Some, unwrap_or, refl, sym, ◌∙◌, ap, ap₂, subst, arith, add-zero}
+use Rattle.std.proofs.Common.{◌≡◌, ◌≢◌, ◌⊎◌, inl, inr, ⊎_elim, ℕ, ◌+◌, ◌*◌, ◌/◌, ◌^◌, ◌<◌, ◌≤◌, Bool, true, false, ◌&&◌, if◌then◌else◌, List, [], ◌∷◌, ◌++◌, length, length-take, length-append, take, drop, Option, None, Some, unwrap_or, refl, sym, ◌∙◌, ap, subst, arith, add-zero}
 use Rattle.std.specs.Prelude.{◌==◌, nat_le, nat_lt}
 use Rattle.std.proofs.Math.Seq.{drop-append_seam}
 use Rattle.std.proofs.lemmas.List.{take_all, take-append-le}
@@ -7,7 +7,7 @@ use Rattle.std.proofs.lemmas.Bool.{and_parts, cases_Bool, cases_eq, eqb-true}
 use Rattle.std.proofs.lemmas.Bool.Decides.{nat_tests}
 use Rattle.std.specs.Option.{ForSome}
 use Rattle.blk_image.specs.Bytes.{content, range_at, spliced}
-use Rattle.blk_image.specs.Image.{File, Block, External, Image, HasRange, byte, bytes_of, length_of, same_file}
+use Rattle.blk_image.specs.Image.{File, Block, Image, HasRange, byte, bytes_of, same_file}
 use Rattle.blk_image.specs.Steps.{TrailStep, after, words, written}
 use Rattle.blk_image.specs.Footprint.{Footprint, SameOutside, range}
 use Rattle.blk_image.specs.Told.{Told, Grows}
@@ -30,7 +30,7 @@ use Rattle.blk_disk.proofs.SealedReads.{entry_bytes as entry_size_is, entry_seal
 use Rattle.blk_entry.specs.declared.writing.NewEntry.{NewEntry}
 use Rattle.blk_entry.specs.Keys.{IsInside, IsInFile, data_file, data_start, may_hold, stores}
 use Rattle.blk_entry.specs.Steps.{data_steps, ended_steps}
-use Rattle.blk_entry.specs.Writing.{AreWords, FitsKey, HasItsLength, IsLongPlace, IsWritten, address_of_key, before_key, empty_key_place, entry_bytes, entry_steps, key_steps, longest_of, new_node, new_record, node_bytes, node_steps, record_steps}
+use Rattle.blk_entry.specs.Writing.{AreWords, FitsKey, HasItsLength, IsLongPlace, IsWritten, ShareNoBlock, address_of_key, before_key, empty_key_place, entry_bytes, entry_steps, key_steps, longest_of, new_node, new_record, node_bytes, node_steps, record_steps}
 use Rattle.blk_entry.proofs.KeyPlaces.{data_of_blocks, drop-range, storage_parts, take-range}
 use Rattle.blk_entry.proofs.NewPlaces.{file_of_blocks, file_of_external, key_is_inside, key_is_there, start_of_blocks, start_of_external}
 use Rattle.blk_entry.proofs.NewRecords.{entry_bytes_check, entry_of_bytes, node_bytes_check, node_of_bytes}
@@ -97,6 +97,10 @@ same_kind files u w su sw e = some_inj (sym (linked_kind files u su) ∙ ap (typ
 
 two_files : (files : BlockFiles) (u w : ℕ) → stands_among files u ≡ true → stands_among files w ≡ true → kind_of u ≢ kind_of w → same_file (Block (file_selector u)) (Block (file_selector w)) ≡ false
 two_files files u w su sw differ = other_file (file_selector u) (file_selector w) (λ e. differ (same_kind files u w su sw (sym e)))
+
+-- two addresses of two types share no block
+pub apart_by_type : (files : BlockFiles) (u w : ℕ) → stands_among files u ≡ true → stands_among files w ≡ true → kind_of u ≢ kind_of w → ShareNoBlock u w
+apart_by_type files u w su sw differ e = absurd (differ (same_kind files u w su sw e))
 
 -- no data is stored in nodes
 no_node : (size : ℕ) → kind_for size ≢ rankings

@@ -1,24 +1,22 @@
 -- The three places of a new entry, and what holds at each moment of its writes.
-use Rattle.std.proofs.Common.{◌≡◌, ◌≢◌, ◌⊎◌, inl, inr, ⊎_elim, ℕ, zero, suc, ◌+◌, ◌*◌, ◌<◌, ◌≤◌, Bool, true, false, ◌&&◌, ◌||◌, if◌then◌else◌, List, [], ◌∷◌, ◌++◌, length, length-append, add-zero, Option, None, Some, refl, sym, ◌∙◌, ap, subst, arith}
+use Rattle.std.proofs.Common.{◌≡◌, ◌≢◌, ⊎_elim, ℕ, ◌+◌, ◌<◌, ◌≤◌, Bool, true, false, ◌&&◌, List, [], ◌∷◌, ◌++◌, length, length-append, add-zero, Option, None, Some, refl, sym, ◌∙◌, subst, arith}
 use Rattle.std.specs.Prelude.{◌==◌, nat_le, nat_lt}
-use Rattle.std.proofs.lemmas.Bool.{and_parts, cases_Bool, cases_lt}
+use Rattle.std.proofs.lemmas.Bool.{and_parts, cases_Bool}
 use Rattle.std.proofs.lemmas.Bool.Decides.{nat_tests}
 use Rattle.std.specs.Option.{ForSome}
-use Rattle.blk_image.specs.Image.{File, Index, Block, External, Image, byte, length_of, same_file}
+use Rattle.blk_image.specs.Image.{File, Index, Block, External, Image, length_of, same_file}
 use Rattle.blk_image.specs.Steps.{TrailStep, after, words}
-use Rattle.blk_image.specs.Footprint.{Footprint, SameOutside, IsWithin, either, nothing, range, touched_by, touched_by_all}
-use Rattle.blk_image.specs.Told.{Told, Along, Until, IsQuiet, GrowsInPart, Passes, PassesTo}
+use Rattle.blk_image.specs.Footprint.{Footprint, SameOutside, IsWithin, either, range, touched_by, touched_by_all}
+use Rattle.blk_image.specs.Told.{Told, Along, Until, IsQuiet, GrowsInPart, Passes}
 use Rattle.blk_image.proofs.Footprints.{outside-refl, outside_steps, within_left, within_right, within_both, within_first, within_second, range_within, words_within}
 use Rattle.blk_image.proofs.Runs.{quiet-append, passes_part, passes_weaker, some_inj, until_last, until_weaker2, told_part}
 use Rattle.blk_image.proofs.WordSteps.{quiet-words}
-use Rattle.blk_format.specs.Address.{kind_of, block_count, external, external_number, file_selector, place, room, rankings, blocks_256}
+use Rattle.blk_format.specs.Address.{kind_of, block_count, external, external_number, file_selector, place, room, blocks_256}
 use Rattle.blk_format.specs.Storage.{entry_blocks}
 use Rattle.blk_image.proofs.Splices.{length-zeros}
-use Rattle.blk_format.specs.Standing.{is_linked_as, stands_as_blocks}
-use Rattle.blk_format.specs.BlockFiles.{type_among, IsWellFormed}
-use Rattle.blk_volume.specs.Entries.{longest_short_key}
+use Rattle.blk_format.specs.BlockFiles.{IsWellFormed}
 use Rattle.blk_disk.specs.declared.tables.BlockFiles.{BlockFiles}
-use Rattle.blk_disk.specs.Tables.{Agrees, files_of, stands_among}
+use Rattle.blk_disk.specs.Tables.{Agrees, stands_among}
 use Rattle.blk_disk.specs.Sealed.{record_range, record_size}
 use Rattle.blk_disk.proofs.Agreeing.{SparesHeaders, agrees_still, heads_still, next_same, past_header}
 use Rattle.blk_disk.proofs.Enlarging.{well_formed_still}
@@ -27,10 +25,10 @@ use Rattle.blk_disk.proofs.SealedReads.{node_bytes as node_size_is}
 use Rattle.blk_entry.specs.declared.writing.NewEntry.{NewEntry}
 use Rattle.blk_entry.specs.Keys.{IsInside, IsInFile, data_file, data_start, is_short, may_hold, stores}
 use Rattle.blk_entry.specs.Steps.{data_steps, ended_steps}
-use Rattle.blk_entry.specs.Writing.{FitsKey, HasItsLength, IsLongPlace, ShareNoBlock, address_of_key, before_key, empty_key_place, entry_bytes, entry_steps, key_steps, long_range, longest_of, new_node, new_record, node_bytes, node_steps, places_of, record_steps}
+use Rattle.blk_entry.specs.Writing.{FitsKey, HasItsLength, IsLongPlace, address_of_key, before_key, empty_key_place, entry_bytes, entry_steps, key_steps, long_range, longest_of, new_node, new_record, node_bytes, node_steps, places_of, record_steps}
 use Rattle.blk_entry.proofs.KeyPlaces.{storage_room, short_room}
 use Rattle.blk_entry.proofs.NewSteps.{node_length, record_length}
-use Rattle.blk_entry.proofs.Windows.{entry_room, entry_room_least, not_external}
+use Rattle.blk_entry.proofs.Windows.{entry_room_least, not_external}
 
 -- where data lies
 pub file_of_blocks : (w : ℕ) → kind_of w ≢ external → data_file w ≡ Block (file_selector w)

@@ -1,19 +1,19 @@
 -- What a folder shows of a new entry.
-use Rattle.std.proofs.Common.{◌≡◌, ◌≢◌, ⊎_elim, ℕ, ◌+◌, ◌<◌, ◌≤◌, Bool, true, false, ◌&&◌, ◌||◌, if◌then◌else◌, List, [], ◌∷◌, length, take, Option, None, Some, is_some, unwrap_or, refl, sym, ◌∙◌, ap, ap₂, subst, arith, add-zero}
-use Rattle.std.specs.Prelude.{◌==◌, nat_le, not, Ok, Result}
+use Rattle.std.proofs.Common.{◌≡◌, ◌≢◌, ⊎_elim, ℕ, ◌+◌, ◌<◌, ◌≤◌, Bool, true, false, ◌&&◌, ◌||◌, if◌then◌else◌, List, [], ◌∷◌, length, take, Option, None, Some, is_some, unwrap_or, refl, sym, ◌∙◌, ap, ap₂, arith, add-zero}
+use Rattle.std.specs.Prelude.{◌==◌, nat_le, Ok, Result}
 use Rattle.std.specs.Option.{ForSome, option_and_then, option_map}
 use Rattle.std.proofs.lemmas.Bool.{and_parts, cases_Bool, or_right, eq-eqb, eqb-true}
 use Rattle.std.proofs.lemmas.Bool.Decides.{nat_tests}
 use Rattle.blk_image.specs.Bytes.{range_at}
-use Rattle.blk_image.specs.Image.{Block, External, Image, byte, bytes_of, has_file, length_of}
+use Rattle.blk_image.specs.Image.{Block, External, Image, byte, has_file, length_of}
 use Rattle.blk_format.specs.Address.{is_address, kind_of, block_count, blocks_256, external, external_number, file_selector, place, rankings}
 use Rattle.blk_format.specs.Hash.{hash}
-use Rattle.blk_format.specs.Records.{Entry, Node, entry_checks, entry_is_sealed, node_checks, node_is_sealed, child, plain, parent, normal}
+use Rattle.blk_format.specs.Records.{entry_checks, entry_is_sealed, node_checks, node_is_sealed, child, plain, parent, normal}
 use Rattle.blk_format.specs.Storage.{entry_blocks, is_storage}
 use Rattle.blk_format.specs.Standing.{stands}
 use Rattle.blk_format.specs.BlockFiles.{stands_in, stands_in_blocks}
-use Rattle.blk_volume.specs.View.{Core, Named, Stock, checks_at, core_at, core_of, entry_at, follow_at, key_place_at, list_of, named_at, next_at, node_at, stands_as, stock_of, stored_at}
-use Rattle.blk_volume.specs.Entries.{IsPlain, is_key_length, key_of, longest_key, role_of, stream_of, streams_of}
+use Rattle.blk_volume.specs.View.{Core, Stock, checks_at, core_at, core_of, follow_at, key_place_at, list_of, named_at, next_at, stands_as, stock_of, stored_at}
+use Rattle.blk_volume.specs.Entries.{IsPlain, is_key_length, key_of, role_of, stream_of, streams_of}
 use Rattle.blk_volume.specs.Loads.{Loaded, alone, load, load_key, load_record}
 use Rattle.blk_volume.specs.Reasons.{Reason, ◌>>=◌, demand}
 use Rattle.blk_volume.specs.Reasons as reason
@@ -21,7 +21,7 @@ use Rattle.blk_disk.specs.declared.tables.BlockFiles.{BlockFiles}
 use Rattle.blk_disk.specs.Tables.{Agrees, stands_among}
 use Rattle.blk_disk.proofs.Ranges.{stands_agree}
 use Rattle.blk_entry.specs.declared.writing.NewEntry.{NewEntry}
-use Rattle.blk_entry.specs.Keys.{data_at, data_file, data_start, is_short, key_at, may_hold, stores}
+use Rattle.blk_entry.specs.Keys.{data_at, data_file, data_start, key_at, stores}
 use Rattle.blk_entry.specs.Writing.{AreWords, FitsKey, HasItsLength, IsLongPlace, IsShownNew, IsWritten, entry_steps, address_of_key, before_key, loaded_new, longest_of, new_node, new_record}
 use Rattle.blk_entry.proofs.KeyPlaces.{data_of_blocks, data_of_external, storage_parts, take-range}
 use Rattle.blk_image.specs.Steps.{after}

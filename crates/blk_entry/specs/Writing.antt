@@ -1,14 +1,14 @@
 -- A new entry: the places where it is written, its record, its node, and the steps that write them.
 use Rattle.std.specs.Prelude.{ℕ, ◌≡◌, ◌≢◌, ◌⊎◌, ◌+◌, ◌^◌, ◌<◌, ◌≤◌, List, [], ◌∷◌, ◌++◌, length, Bool, true, false, if◌then◌else◌, Option, None, Some, unwrap_or}
 use Rattle.blk_image.specs.Bytes.{word_bytes, zeros}
-use Rattle.blk_image.specs.Image.{Block, External, Image, byte, length_of}
+use Rattle.blk_image.specs.Image.{Block, External, Image, length_of}
 use Rattle.blk_image.specs.Steps.{TrailStep, words}
 use Rattle.blk_image.specs.Footprint.{Footprint, either, nothing, range}
 use Rattle.blk_format.specs.Address.{is_address, kind_of, block_count, first_block, external, rankings, blocks_256, external_number, file_selector, place, room}
 use Rattle.blk_format.specs.Hash.{hash as hash_of}
 use Rattle.blk_format.specs.Records.{Entry, Node, entry_body, entry_size, sealed_entry, node_body, sealed_node, normal, plain, child}
 use Rattle.blk_format.specs.Storage.{entry_blocks}
-use Rattle.blk_volume.specs.View.{entry_at, node_at, core_of, list_of, stock_of, Named}
+use Rattle.blk_volume.specs.View.{entry_at, node_at, core_of, list_of, stock_of}
 use Rattle.blk_volume.specs.Entries.{IsPlain, streams_of}
 use Rattle.blk_volume.specs.Loads.{Loaded}
 use Rattle.blk_disk.specs.declared.tables.BlockFiles.{BlockFiles}

@@ -1,8 +1,9 @@
 // Entries in a folder in memory that tells nothing.
-ghost use Rattle.std.specs.Prelude.{◌≡◌, IfSome, IsTrue};
-ghost use Rattle.blk_format.specs.Address.{blocks_256, kind_of, rankings};
+ghost use Rattle.std.specs.Prelude.{◌≡◌, ◌≢◌, ◌≤◌, IfSome, IsTrue};
+ghost use Rattle.blk_format.specs.Address.{blocks_256, external, kind_of, rankings};
 ghost use Rattle.blk_disk.specs.Tables.{stands_among};
-ghost use Rattle.blk_entry.specs.Writing.{FitsKey, IsLongPlace};
+ghost use Rattle.blk_entry.specs.Keys.{may_hold, most_key};
+ghost use Rattle.blk_entry.specs.Writing.{FitsKey, ShareNoBlock};
 
 use crate::data::number;
 use crate::keys::{long_key, may_have};
@@ -291,22 +292,26 @@ fn a_wrong_record_is_a_damage(rt: HostRuntime) -> Result<(), Fail> {
 }
 
 // The storage of a long key, where it is one and shares no block with the record.
-fn long_place(files: &BlockFiles, entry: Addr, word: u32, key_len: u32) -> Option<Addr> {
+fn long_place(files: &BlockFiles, entry: Addr, word: u32, key_len: u32) -> Option<Addr>
+    requires few { key_len ≤ most_key }
+    requires kind { kind_of entry ≡ blocks_256 }
+    requires stands { IsTrue (stands_among files.now entry) }
+    ensures holds { IfSome result (λ addr. IsTrue (may_hold files.now key_len addr)) }
+    ensures apart { IfSome result (λ addr. kind_of addr ≢ external → ShareNoBlock entry addr) }
+{
     let addr = long_key(files, key_len, word)?;
-    if number(addr.kind()) != 2 || entry.start() + entry.blocks() <= addr.start() {
-        Some(addr)
-    } else {
-        None
+    if number(addr.kind()) != 2 {
+        return Some(addr);
     }
+    let end = u64::from(entry.start()) + u64::from(entry.blocks());
+    if u64::from(addr.start()) < end {
+        return None;
+    }
+    Some(addr)
 }
 
 // A new entry with the first node, where its places fit a key.
-fn new_entry(
-    files: &BlockFiles,
-    words: (u32, u32),
-    child: bool,
-    key: &[u8],
-) -> Option<NewEntry>
+fn new_entry(files: &BlockFiles, words: (u32, u32), child: bool, key: &[u8]) -> Option<NewEntry>
     ensures { IfSome result (λ new. FitsKey files.now new key.now) }
 {
     let entry = entry_of(files, words.0)?;
@@ -433,12 +438,7 @@ fn wanted_node(entry: u32) -> [u8; 36] {
 }
 
 // Whether record and node have all their words.
-fn has_records(
-    f: &mut Silent,
-    words: (u32, u32),
-    child: bool,
-    key: &[u8],
-) -> Result<bool, Failed> {
+fn has_records(f: &mut Silent, words: (u32, u32), child: bool, key: &[u8]) -> Result<bool, Failed> {
     let mut record = [0; 96];
     f.read_at(FileId::Block(1), 8192, &mut record)?;
     let mut node = [0; 36];
@@ -459,13 +459,30 @@ fn spares_the_rest(
     let record = if long_key == 0 { 96 + size } else { 256 };
     let (file, at) = place_of_key(long_key);
     let key = (at as usize, size);
-    let others = if file == FileId::Block(1) { key } else { (0, 0) };
+    let others = if file == FileId::Block(1) {
+        key
+    } else {
+        (0, 0)
+    };
     let nodes = same_but(alloc, (f, &mut g), FileId::Block(0), &[(8192, 36)])?;
-    let records = same_but(alloc, (f, &mut g), FileId::Block(1), &[(8192, record), others])?;
+    let records = same_but(
+        alloc,
+        (f, &mut g),
+        FileId::Block(1),
+        &[(8192, record), others],
+    )?;
     let middle = same_but(alloc, (f, &mut g), FileId::Block(2), &[])?;
-    let high = if file == FileId::Block(3) { key } else { (0, 0) };
+    let high = if file == FileId::Block(3) {
+        key
+    } else {
+        (0, 0)
+    };
     let large = same_but(alloc, (f, &mut g), FileId::Block(3), &[high])?;
-    let outside = if file == FileId::External(1) { key } else { (0, 0) };
+    let outside = if file == FileId::External(1) {
+        key
+    } else {
+        (0, 0)
+    };
     let external = same_but(alloc, (f, &mut g), FileId::External(1), &[outside])?;
     Ok(nodes && records && middle && large && external)
 }
@@ -481,10 +498,17 @@ fn new_entries_are_written_and_read(rt: HostRuntime) -> Result<(), Fail> {
         assert_eq!(rt; put_entry(&mut f, (entry, long_key), child, &key), Ok(()));
 
         // Eight calls load the files, and four write, each beside the look for the length.
-        assert_eq!(rt; f.inner.calls().wrapping_sub(before), 8 + 8, "{key_len} bytes");
+        assert_eq!(rt;
+            f.inner.calls().wrapping_sub(before),
+            8 + 8,
+            "{key_len} bytes"
+        );
         assert!(rt; has_records(&mut f, (entry, long_key), child, &key)?);
         assert!(rt; has_key(rt.alloc(), &mut f, long_key, &key)?);
-        assert!(rt; spares_the_rest(rt.alloc(), &mut f, long_key, key_len)?, "{key_len} bytes");
+        assert!(rt;
+            spares_the_rest(rt.alloc(), &mut f, long_key, key_len)?,
+            "{key_len} bytes"
+        );
 
         // The key is read in two pieces, and compared with itself, its front and a key of another last byte.
         let half = key.len() / 2;
@@ -495,7 +519,10 @@ fn new_entries_are_written_and_read(rt: HostRuntime) -> Result<(), Fail> {
         assert_eq!(rt; piece(&mut f, entry, key_len / 2, end), Ok(end.len()));
         assert!(rt; read == key);
         assert_eq!(rt; equals(&mut f, entry, &key), Ok(true));
-        assert_eq!(rt; equals(&mut f, entry, &key[..key.len().saturating_sub(1)]), Ok(false));
+        assert_eq!(rt;
+            equals(&mut f, entry, &key[..key.len().saturating_sub(1)]),
+            Ok(false)
+        );
         if let Some(byte) = key.last_mut() {
             *byte ^= 1;
         }

@@ -1,4 +1,4 @@
-use Rattle.std.proofs.Common.{◌≡◌, ℕ, ◌+◌, ◌∷◌, [], length, sym, ap, subst, arith}
+use Rattle.std.proofs.Common.{◌+◌, ◌∷◌, [], length}
 use Rattle.std.proofs.lemmas.Result.{on_ok_weaker}
 use Rattle.blk_image.proofs.Runs.{grows_then, part_then, part_only}
 use Rattle.blk_entry.specs.Steps.{data_steps, ended_steps}

@@ -1,4 +1,4 @@
-use Rattle.std.proofs.Common.{◌≡◌, ℕ, ◌∙◌, ap}
+use Rattle.std.proofs.Common.{ℕ, ◌∙◌, ap}
 use Rattle.blk_image.specs.Bytes.{zeros}
 use Rattle.blk_image.specs.Steps.{with_words}
 use Rattle.blk_disk.specs.Sealed.{sealed}

@@ -1,4 +1,4 @@
-use Rattle.std.proofs.Common.{◌≡◌, ◌<◌, ◌^◌, arith}
+use Rattle.std.proofs.Common.{arith}
 use Rattle.blk_image.proofs.Runs.{part_whole}
 use Rattle.blk_entry.proofs.NewPlaces.{stops, formed, agrees_after}
 use Rattle.blk_entry.proofs.NewImages.{written_there}

@@ -1,4 +1,4 @@
-use Rattle.std.proofs.Common.{◌≡◌, ◌≤◌, List, length, length-take, take, ◌∙◌, ap, subst, arith}
+use Rattle.std.proofs.Common.{List, length-take, subst, arith}
 use Rattle.std.proofs.lemmas.Result.{on_ok_weaker}
 use Rattle.blk_image.specs.Steps.{TrailStep}
 use Rattle.blk_image.specs.Told.{Grows, GrowsInPart}

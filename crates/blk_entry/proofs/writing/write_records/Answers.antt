@@ -1,4 +1,3 @@
-use Rattle.std.proofs.Common.{◌≡◌}
 use Rattle.std.proofs.lemmas.Result.{on_ok_weaker}
 use Rattle.blk_image.proofs.Runs.{grows_then, part_then, part_only}
 use Rattle.blk_entry.specs.Writing.{node_steps}
