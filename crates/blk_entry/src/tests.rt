@@ -511,9 +511,9 @@ fn new_entries_are_written_and_read(rt: HostRuntime) -> Result<(), Fail> {
         );
 
         // The key is read in two pieces, and compared with itself, its front and a key of another last byte.
-        let half = key.len() / 2;
         let mut read = key_of(rt.alloc(), key_len as usize)?;
         read.fill(0);
+        let half = read.len() / 2;
         let (front, end) = read.split_at_mut(half);
         assert_eq!(rt; piece(&mut f, entry, 0, front), Ok(front.len()));
         assert_eq!(rt; piece(&mut f, entry, key_len / 2, end), Ok(end.len()));
