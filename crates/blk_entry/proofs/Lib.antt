@@ -7,3 +7,4 @@ pub mod NewSteps
 pub mod NewPlaces
 pub mod NewImages
 pub mod NewShown
+pub mod NewClaims

@@ -130,7 +130,7 @@ module _ (files : BlockFiles) (new : NewEntry) (key : List ℕ) (moment : ℕ) (
       by_child false less = omega (arith, less)
 
   -- what is known of a long key
-  long_storage : (w : ℕ) → may_hold files (length key) w ≡ true → (is_address w ≡ true) × (kind_of w ≢ rankings)
+  pub long_storage : (w : ℕ) → may_hold files (length key) w ≡ true → (is_address w ≡ true) × (kind_of w ≢ rankings)
   unfolding stores
   long_storage w holds =
       let p = storage_parts (length key + 1) w (omega arith) (and_parts _ _ holds).0 in (p.0, λ e. no_node (length key + 1) (sym p.1 ∙ e))

@@ -40,7 +40,7 @@ unfolding node_checks node_is_sealed new_node
 node_is_good new moment = or_right ((new_node new moment).self_hash == 0) _ (eq-eqb (new_node new moment).self_hash _ refl)
 
 -- an address of blocks that are there stands
-stands_here : (files : BlockFiles) (image : Image) (w : ℕ) → Agrees files image → is_address w ≡ true → kind_of w ≢ external → stands_among files w ≡ true → stands_in image w ≡ true
+pub stands_here : (files : BlockFiles) (image : Image) (w : ℕ) → Agrees files image → is_address w ≡ true → kind_of w ≢ external → stands_among files w ≡ true → stands_in image w ≡ true
 unfolding stands
 stands_here files image w agrees address blocky st =
     let t : (kind_of w == external) ≡ false = grind (arith, nat_tests) in
