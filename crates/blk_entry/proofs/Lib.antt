@@ -8,3 +8,4 @@ pub mod NewPlaces
 pub mod NewImages
 pub mod NewShown
 pub mod NewClaims
+pub mod NewSingle

@@ -92,7 +92,7 @@ linked_kind files w st = some_kind (type_among (files_of files) (file_selector w
     some_kind None e = absurd (clash e)
     some_kind (Some k) e = ap Some (eqb-true k (kind_of w) e)
 
-same_kind : (files : BlockFiles) (u w : ℕ) → stands_among files u ≡ true → stands_among files w ≡ true → file_selector u ≡ file_selector w → kind_of u ≡ kind_of w
+pub same_kind : (files : BlockFiles) (u w : ℕ) → stands_among files u ≡ true → stands_among files w ≡ true → file_selector u ≡ file_selector w → kind_of u ≡ kind_of w
 same_kind files u w su sw e = some_inj (sym (linked_kind files u su) ∙ ap (type_among (files_of files)) e ∙ linked_kind files w sw)
 
 two_files : (files : BlockFiles) (u w : ℕ) → stands_among files u ≡ true → stands_among files w ≡ true → kind_of u ≢ kind_of w → same_file (Block (file_selector u)) (Block (file_selector w)) ≡ false
