@@ -78,6 +78,13 @@ short_blocks k short =
         clash : false ≡ true → ⊥
         clash h = cc
 
+-- a key in its record, and a zero byte behind it
+pub short_room : (w k : ℕ) → kind_of w ≡ blocks_256 → block_count w ≡ entry_blocks k → k ≤ 927 → 96 + k < room w
+short_room w k kind blocks short =
+    let room_is : room w ≡ 256 * entry_blocks k = entry_room w kind ∙ ap (λ (n : ℕ). 256 * n) blocks in
+    let h = short_blocks k short in
+    omega (arith, h, room_is)
+
 pub short_inside : (files : BlockFiles) (w k : ℕ) → kind_of w ≡ blocks_256 → stands_among files w ≡ true → may_have w k ≡ true → k ≤ 927 → IsInside files w 96 k
 short_inside files w k kind stands has short =
     let parts = may_have_parts w k has in

@@ -1,3 +1,11 @@
 pub mod Marking
 pub mod Windows
 pub mod KeyPlaces
+pub mod DataSteps
+pub mod NewRecords
+pub mod NewSteps
+pub mod NewPlaces
+pub mod NewImages
+pub mod NewShown
+pub mod NewClaims
+pub mod NewSingle

@@ -26,6 +26,10 @@ use Rattle.blk_entry.specs.declared.keys.KeyPlace.{KeyPlace}
 unfoldable pub key_at : Image → ℕ → Option (List ℕ)
 key_at image entry = option_and_then (λ core. if is_key_length entry core then key_of (stock_of image) entry core else None) (core_at image entry)
 
+-- the bytes of the key's place in a record of one block
+abbrev pub key_place_bytes : ℕ
+key_place_bytes = 160
+
 -- a word names a record with a key
 pub record HasKey (entry : ℕ) (image : Image) : Type 0 where
   pub key : List ℕ

@@ -1,3 +1,6 @@
 pub mod Marks
 pub mod Keys
 pub mod Untold
+pub mod Steps
+pub mod Writing
+pub mod Covering

@@ -1,15 +1,16 @@
 // The bytes of data, which lie in blocks or in an external file.
-ghost use Rattle.std.specs.Prelude.{◌≡◌, ◌≤◌, None, OnOk, length};
+ghost use Rattle.std.specs.Prelude.{◌≡◌, ◌+◌, ◌≤◌, None, OnErr, OnOk, length};
 ghost use Rattle.std.specs.Option.{ForSome};
-ghost use Rattle.blk_image.specs.Told.{Rises, Stays};
+ghost use Rattle.blk_image.specs.Told.{Grows, GrowsInPart, Rises, Stays};
 ghost use Rattle.blk_addr.specs.Kind.{kind_number};
 ghost use Rattle.blk_io.specs.Faults.{IfDamaged, IfDevice};
 ghost use Rattle.blk_disk.specs.Tables.{Agrees};
 ghost use Rattle.blk_entry.specs.Keys.{IsCut, IsInFile, IsInside, data_at};
+ghost use Rattle.blk_entry.specs.Steps.{data_steps, ended_steps};
 
 use blk_addr::{Addr, Kind};
 use blk_disk::BlockFiles;
-use blk_io::{Fault, Folder};
+use blk_io::{Failed, Fault, Folder};
 
 // The number of external files among the kinds.
 pub(crate) const EXTERNAL: u32 = 0;
@@ -36,6 +37,51 @@ pub(crate) fn read_data<F: Folder>(
         blk_external::read(f, addr, u64::from(at), out)
     } else {
         files.read_block(f, addr, at, out)
+    }
+}
+
+// Writes bytes of the data of an address, and one zero byte behind them.
+pub(crate) fn write_ended<F: Folder>(
+    f: &mut F,
+    files: &BlockFiles,
+    addr: Addr,
+    at: u32,
+    bytes: &[u8],
+) -> Result<(), Failed>
+    requires inside { IsInside files.now addr at (length bytes.now + 1) }
+    requires agrees { ForSome (F.told f.old).files (Agrees files.now) }
+    requires external { ForSome (F.told f.old).files (IsInFile addr at (length bytes.now + 1)) }
+    ensures whole { OnOk result (Grows (F.told f.old) (F.told f.new) (ended_steps addr at bytes.now)) }
+    ensures part { GrowsInPart (F.told f.old) (F.told f.new) (ended_steps addr at bytes.now) }
+    ensures agrees { ForSome (F.told f.new).files (Agrees files.now) }
+    ensures later { F.faults f.old ≤ F.faults f.new }
+    ensures failed { OnErr result (Rises (F.faults f.old) (F.faults f.new)) }
+{
+    write_data(f, files, addr, at, bytes)?;
+    write_data(f, files, addr, at + bytes.len() as u32, &[0])
+}
+
+// Writes bytes of the data of an address, from a place in it on.
+fn write_data<F: Folder>(
+    f: &mut F,
+    files: &BlockFiles,
+    addr: Addr,
+    at: u32,
+    bytes: &[u8],
+) -> Result<(), Failed>
+    requires inside { IsInside files.now addr at (length bytes.now) }
+    requires agrees { ForSome (F.told f.old).files (Agrees files.now) }
+    requires external { ForSome (F.told f.old).files (IsInFile addr at (length bytes.now)) }
+    ensures whole { OnOk result (Grows (F.told f.old) (F.told f.new) (data_steps addr at bytes.now)) }
+    ensures part { GrowsInPart (F.told f.old) (F.told f.new) (data_steps addr at bytes.now) }
+    ensures agrees { ForSome (F.told f.new).files (Agrees files.now) }
+    ensures later { F.faults f.old ≤ F.faults f.new }
+    ensures failed { OnErr result (Rises (F.faults f.old) (F.faults f.new)) }
+{
+    if number(addr.kind()) == EXTERNAL {
+        blk_external::write(f, addr, u64::from(at), bytes)
+    } else {
+        files.write_block(f, addr, at, bytes)
     }
 }
 

@@ -167,7 +167,7 @@ pub(crate) fn key_place(files: &BlockFiles, entry: Addr, head: Head) -> Result<K
 
 // Whether a record may have a key of so many bytes.
 #[tactic(auto, unfolding(crate::specs::Keys::may_have))]
-fn may_have(entry: Addr, key_len: u32) -> bool
+pub(crate) fn may_have(entry: Addr, key_len: u32) -> bool
     requires { kind_of entry ≡ blocks_256 }
     ensures { result ≡ keys.may_have entry key_len }
 {
@@ -175,7 +175,7 @@ fn may_have(entry: Addr, key_len: u32) -> bool
 }
 
 // The address of a long key of so many bytes, where the word is one that may hold it.
-fn long_key(files: &BlockFiles, key_len: u32, word: u32) -> Option<Addr>
+pub(crate) fn long_key(files: &BlockFiles, key_len: u32, word: u32) -> Option<Addr>
     requires { key_len ≤ keys.most_key }
     ensures { result ≡ keys.held files.now key_len word }
 {

@@ -1,15 +1,18 @@
 // Entries in a folder in memory that tells nothing.
-ghost use Rattle.std.specs.Prelude.{◌≡◌, IfSome, IsTrue};
-ghost use Rattle.blk_format.specs.Address.{blocks_256, kind_of, rankings};
+ghost use Rattle.std.specs.Prelude.{◌≡◌, ◌≢◌, ◌≤◌, IfSome, IsTrue};
+ghost use Rattle.blk_format.specs.Address.{blocks_256, external, kind_of, rankings};
 ghost use Rattle.blk_disk.specs.Tables.{stands_among};
+ghost use Rattle.blk_entry.specs.Keys.{may_hold, most_key};
+ghost use Rattle.blk_entry.specs.Writing.{FitsKey, ShareNoBlock};
 
 use crate::data::number;
+use crate::keys::{long_key, may_have};
 use crate::silent::Silent;
-use crate::{field, key_equals, key_piece, set_clean, set_dirty};
+use crate::{NewEntry, field, key_equals, key_piece, set_clean, set_dirty, write_entry};
 use blk_addr::Addr;
 use blk_disk::BlockFiles;
 use blk_io::{Failed, Fault, FileId, Folder, MemFolder};
-use blk_record::{EntryMut, RecordMut, super_fast_hash};
+use blk_record::{EntryMut, NodeMut, RecordMut, super_fast_hash};
 use std::alloc::Global;
 use std::test::Fail;
 
@@ -45,6 +48,16 @@ const ENTRIES: [(u32, u32, u32); 12] = [
     (16384, 0xA001_0000, 0x8000_0001),
     (32768, 0xA001_0000, 0x8000_0001),
 ];
+
+// What a new entry is written with.
+const MARK: u32 = 7;
+
+const NEXT: u32 = 0xA001_0009;
+
+const MOMENT: u64 = 0x0102_0304_0506_0708;
+
+// The byte with which all blocks are filled before.
+const FILL: u8 = 0xEE;
 
 // A folder with the four block files, which have blocks and no allocation.
 fn folder(alloc: Global) -> Result<Silent, Failed> {
@@ -275,5 +288,245 @@ fn a_wrong_record_is_a_damage(rt: HostRuntime) -> Result<(), Fail> {
         found(piece(&mut f, 0xA001_0000, 0, &mut out)),
         Some((8192 + 92, 5))
     );
+    Ok(())
+}
+
+// The storage of a long key, where it is one and shares no block with the record.
+fn long_place(files: &BlockFiles, entry: Addr, word: u32, key_len: u32) -> Option<Addr>
+    requires few { key_len ≤ most_key }
+    requires kind { kind_of entry ≡ blocks_256 }
+    requires stands { IsTrue (stands_among files.now entry) }
+    ensures holds { IfSome result (λ addr. IsTrue (may_hold files.now key_len addr)) }
+    ensures apart { IfSome result (λ addr. kind_of addr ≢ external → ShareNoBlock entry addr) }
+{
+    let addr = long_key(files, key_len, word)?;
+    if number(addr.kind()) != 2 {
+        return Some(addr);
+    }
+    let end = u64::from(entry.start()) + u64::from(entry.blocks());
+    if u64::from(addr.start()) < end {
+        return None;
+    }
+    Some(addr)
+}
+
+// A new entry with the first node, where its places fit a key.
+fn new_entry(files: &BlockFiles, words: (u32, u32), child: bool, key: &[u8]) -> Option<NewEntry>
+    ensures { IfSome result (λ new. FitsKey files.now new key.now) }
+{
+    let entry = entry_of(files, words.0)?;
+    let node = node_of(files, NODE)?;
+    if key.len() > 32768 || !may_have(entry, key.len() as u32) {
+        return None;
+    }
+    let long_key = if key.len() <= 927 {
+        None
+    } else {
+        Some(long_place(files, entry, words.1, key.len() as u32)?)
+    };
+    Some(NewEntry {
+        entry,
+        node,
+        long_key,
+        child,
+        dirty: MARK,
+        next: NEXT,
+    })
+}
+
+// Writes a new entry, where its places fit the key.
+fn put_entry(f: &mut Silent, words: (u32, u32), child: bool, key: &[u8]) -> Result<(), Fault> {
+    let files = BlockFiles::load(f)?;
+    match new_entry(&files, words, child, key) {
+        Some(new) => write_entry(f, &files, &new, key, MOMENT),
+        None => Err(Fault::Device),
+    }
+}
+
+// Fills all blocks, and makes the external file of a key.
+fn fill(f: &mut Silent, key_len: u32) -> Result<(), Failed> {
+    for n in 0..4 {
+        f.write_at(FileId::Block(n), 8192, &[FILL; 36864])?;
+    }
+    f.set_len(FileId::External(1), u64::from(key_len) + 1)?;
+    f.write_at(FileId::External(1), u64::from(key_len), &[FILL])
+}
+
+// The bytes of a file.
+fn bytes_of(alloc: Global, f: &mut Silent, file: FileId) -> Result<Vec<u8>, Fail> {
+    let mut bytes = Vec::new(alloc);
+    bytes.resize(f.length(file)?.unwrap_or(0) as usize, 0)?;
+    f.read_at(file, 0, &mut bytes)?;
+    Ok(bytes)
+}
+
+// Makes bytes of a range zeros.
+fn blank(bytes: &mut [u8], from: usize, count: usize) {
+    for byte in bytes.iter_mut().skip(from).take(count) {
+        *byte = 0;
+    }
+}
+
+// Whether a file of two folders is the same outside of some ranges, each a place and a number of bytes.
+fn same_but(
+    alloc: Global,
+    folders: (&mut Silent, &mut Silent),
+    file: FileId,
+    ranges: &[(usize, usize)],
+) -> Result<bool, Fail> {
+    let mut one = bytes_of(alloc, folders.0, file)?;
+    let mut other = bytes_of(alloc, folders.1, file)?;
+    for (from, count) in ranges {
+        blank(&mut one, *from, *count);
+        blank(&mut other, *from, *count);
+    }
+    Ok(one == other)
+}
+
+// The file in which a key lies, and where it begins there.
+fn place_of_key(long_key: u32) -> (FileId, u64) {
+    match long_key {
+        0 => (FileId::Block(1), 8192 + 96),
+        0xA301_0004 => (FileId::Block(1), 8192 + 1024),
+        0xC303_0000 => (FileId::Block(3), 8192),
+        _ => (FileId::External(1), 0),
+    }
+}
+
+// Whether a key lies at its place, with one zero byte behind it, and with zeros in the record where it lies elsewhere.
+fn has_key(alloc: Global, f: &mut Silent, long_key: u32, key: &[u8]) -> Result<bool, Fail> {
+    let (file, at) = place_of_key(long_key);
+    let mut there = key_of(alloc, key.len())?;
+    f.read_at(file, at, &mut there)?;
+    let mut behind = [1];
+    f.read_at(file, at.saturating_add(key.len() as u64), &mut behind)?;
+    let mut place = [0; 160];
+    if long_key != 0 {
+        f.read_at(FileId::Block(1), 8192 + 96, &mut place)?;
+    }
+    Ok(there.as_slice() == key && behind == [0] && place == [0; 160])
+}
+
+// The words of a record that is the first of its file, with the seal that its bytes have.
+fn wanted_record(long_key: u32, child: bool, key: &[u8]) -> [u8; 96] {
+    let mut bytes = [0; 96];
+    let mut record = EntryMut::new(&mut bytes);
+    record.set_word(0, super_fast_hash(key));
+    record.set_word(4, NEXT);
+    record.set_word(8, NODE);
+    record.set_word(24, 0x0506_0708);
+    record.set_word(28, 0x0102_0304);
+    record.set_word(32, (key.len() % 0x1_0000_0000) as u32);
+    record.set_word(36, long_key);
+    record.set_word(72, if child { 2 } else { 0 });
+    record.seal();
+    bytes
+}
+
+// The words of its node.
+fn wanted_node(entry: u32) -> [u8; 36] {
+    let mut bytes = [0; 36];
+    let mut node = NodeMut::new(&mut bytes);
+    node.set_word(0, 0x0506_0708);
+    node.set_word(4, 0x0102_0304);
+    node.set_word(8, 0x0506_0708);
+    node.set_word(12, 0x0102_0304);
+    node.set_word(24, entry);
+    node.set_word(28, MARK);
+    node.seal();
+    bytes
+}
+
+// Whether record and node have all their words.
+fn has_records(f: &mut Silent, words: (u32, u32), child: bool, key: &[u8]) -> Result<bool, Failed> {
+    let mut record = [0; 96];
+    f.read_at(FileId::Block(1), 8192, &mut record)?;
+    let mut node = [0; 36];
+    f.read_at(FileId::Block(0), NODE_AT, &mut node)?;
+    Ok(record == wanted_record(words.1, child, key) && node == wanted_node(words.0))
+}
+
+// Whether all other bytes of the files are as before.
+fn spares_the_rest(
+    alloc: Global,
+    f: &mut Silent,
+    long_key: u32,
+    key_len: u32,
+) -> Result<bool, Fail> {
+    let size = key_len as usize + 1;
+    let mut g = folder(alloc)?;
+    fill(&mut g, key_len)?;
+    let record = if long_key == 0 { 96 + size } else { 256 };
+    let (file, at) = place_of_key(long_key);
+    let key = (at as usize, size);
+    let others = if file == FileId::Block(1) {
+        key
+    } else {
+        (0, 0)
+    };
+    let nodes = same_but(alloc, (f, &mut g), FileId::Block(0), &[(8192, 36)])?;
+    let records = same_but(
+        alloc,
+        (f, &mut g),
+        FileId::Block(1),
+        &[(8192, record), others],
+    )?;
+    let middle = same_but(alloc, (f, &mut g), FileId::Block(2), &[])?;
+    let high = if file == FileId::Block(3) {
+        key
+    } else {
+        (0, 0)
+    };
+    let large = same_but(alloc, (f, &mut g), FileId::Block(3), &[high])?;
+    let outside = if file == FileId::External(1) {
+        key
+    } else {
+        (0, 0)
+    };
+    let external = same_but(alloc, (f, &mut g), FileId::External(1), &[outside])?;
+    Ok(nodes && records && middle && large && external)
+}
+
+#[test]
+fn new_entries_are_written_and_read(rt: HostRuntime) -> Result<(), Fail> {
+    for (key_len, entry, long_key) in ENTRIES {
+        let child = key_len % 2 == 1;
+        let mut f = folder(rt.alloc())?;
+        fill(&mut f, key_len)?;
+        let mut key = key_of(rt.alloc(), key_len as usize)?;
+        let before = f.inner.calls();
+        assert_eq!(rt; put_entry(&mut f, (entry, long_key), child, &key), Ok(()));
+
+        // Eight calls load the files, and four write, each beside the look for the length.
+        assert_eq!(rt;
+            f.inner.calls().wrapping_sub(before),
+            8 + 8,
+            "{key_len} bytes"
+        );
+        assert!(rt; has_records(&mut f, (entry, long_key), child, &key)?);
+        assert!(rt; has_key(rt.alloc(), &mut f, long_key, &key)?);
+        assert!(rt;
+            spares_the_rest(rt.alloc(), &mut f, long_key, key_len)?,
+            "{key_len} bytes"
+        );
+
+        // The key is read in two pieces, and compared with itself, its front and a key of another last byte.
+        let mut read = key_of(rt.alloc(), key_len as usize)?;
+        read.fill(0);
+        let half = read.len() / 2;
+        let (front, end) = read.split_at_mut(half);
+        assert_eq!(rt; piece(&mut f, entry, 0, front), Ok(front.len()));
+        assert_eq!(rt; piece(&mut f, entry, key_len / 2, end), Ok(end.len()));
+        assert!(rt; read == key);
+        assert_eq!(rt; equals(&mut f, entry, &key), Ok(true));
+        assert_eq!(rt;
+            equals(&mut f, entry, &key[..key.len().saturating_sub(1)]),
+            Ok(false)
+        );
+        if let Some(byte) = key.last_mut() {
+            *byte ^= 1;
+        }
+        assert_eq!(rt; equals(&mut f, entry, &key), Ok(false));
+    }
     Ok(())
 }

@@ -1,0 +1,8 @@
+use Rattle.std.proofs.Common.{rules}
+use Rattle.blk_image.specs.Bytes.{spliced, zeros}
+use Rattle.blk_image.specs.Steps.{with_word}
+use Rattle.blk_entry.proofs.writing.filled_node.Goals as goal
+
+pub returns : goal.returns
+unfolding zeros with_word spliced
+returns c = search rules

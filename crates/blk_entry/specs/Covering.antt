@@ -1,0 +1,24 @@
+-- What the places of a new entry claim.
+use Rattle.std.specs.Prelude.{◌≡◌, List, length, ℕ, false}
+use Rattle.blk_image.specs.Image.{Image}
+use Rattle.blk_format.specs.Claims.{has_claim, repeats}
+use Rattle.blk_volume.specs.Footprint.{Covers, SameBut}
+use Rattle.blk_volume.specs.View.{view_of}
+use Rattle.blk_volume.specs.Loads.{all_claims}
+use Rattle.blk_image.specs.Footprint.{SameOutside}
+use Rattle.blk_disk.specs.declared.tables.BlockFiles.{BlockFiles}
+use Rattle.blk_disk.specs.Tables.{Agrees}
+use Rattle.blk_entry.specs.declared.writing.NewEntry.{NewEntry}
+use Rattle.blk_entry.specs.Writing.{AreWords, FitsKey, loaded_new, places_of}
+
+-- the three places of a new entry are covered by the claims of its node, its record and its long key
+abbrev pub NewPlacesAreCovered : Type 0
+NewPlacesAreCovered = (files : BlockFiles) (new : NewEntry) (key : List ℕ) (image : Image) → FitsKey files new key → AreWords new → Agrees files image → Covers image (places_of new (length key)) (has_claim (all_claims (loaded_new new key)))
+
+-- so a change inside the three places is shown only there
+abbrev pub NewPlacesAreShownApart : Type 0
+NewPlacesAreShownApart = (files : BlockFiles) (new : NewEntry) (key : List ℕ) (from image : Image) → FitsKey files new key → AreWords new → Agrees files from → SameOutside (places_of new (length key)) from image → SameBut (has_claim (all_claims (loaded_new new key))) (view_of from) (view_of image)
+
+-- no two of these claims are one
+abbrev pub NewClaimsAreSingle : Type 0
+NewClaimsAreSingle = (files : BlockFiles) (new : NewEntry) (key : List ℕ) → FitsKey files new key → AreWords new → repeats (all_claims (loaded_new new key)) ≡ false

@@ -1,0 +1,172 @@
+-- A new entry: the places where it is written, its record, its node, and the steps that write them.
+use Rattle.std.specs.Prelude.{ℕ, ◌≡◌, ◌≢◌, ◌⊎◌, ◌+◌, ◌^◌, ◌<◌, ◌≤◌, List, [], ◌∷◌, ◌++◌, length, Bool, true, false, if◌then◌else◌, Option, None, Some, unwrap_or}
+use Rattle.blk_image.specs.Bytes.{word_bytes, zeros}
+use Rattle.blk_image.specs.Image.{Block, External, Image, length_of}
+use Rattle.blk_image.specs.Steps.{TrailStep, words}
+use Rattle.blk_image.specs.Footprint.{Footprint, either, nothing, range}
+use Rattle.blk_format.specs.Address.{is_address, kind_of, block_count, first_block, external, rankings, blocks_256, external_number, file_selector, place, room}
+use Rattle.blk_format.specs.Hash.{hash as hash_of}
+use Rattle.blk_format.specs.Records.{Entry, Node, entry_body, entry_size, sealed_entry, node_body, sealed_node, normal, plain, child}
+use Rattle.blk_format.specs.Storage.{entry_blocks}
+use Rattle.blk_volume.specs.View.{entry_at, node_at, core_of, list_of, stock_of}
+use Rattle.blk_volume.specs.Entries.{IsPlain, streams_of}
+use Rattle.blk_volume.specs.Loads.{Loaded}
+use Rattle.blk_disk.specs.declared.tables.BlockFiles.{BlockFiles}
+use Rattle.blk_disk.specs.Tables.{stands_among}
+use Rattle.blk_disk.specs.Sealed.{RecordChecks, record_range}
+use Rattle.blk_entry.specs.declared.writing.NewEntry.{NewEntry}
+use Rattle.blk_entry.specs.Keys.{data_at, data_file, data_start, is_short, key_at, key_place_bytes, may_hold}
+use Rattle.blk_entry.specs.Steps.{ended_steps}
+
+-- The three places.
+
+-- two addresses of blocks share none: the files are two, or the blocks of one lie behind those of the other
+abbrev pub ShareNoBlock : ℕ → ℕ → Type 0
+ShareNoBlock one other = file_selector one ≡ file_selector other → (first_block one + block_count one ≤ first_block other) ⊎ (first_block other + block_count other ≤ first_block one)
+
+-- the place of a long key: there is none where the key lies in its record; else it stands, stores the key with one zero byte, and shares no block with the record
+abbrev pub IsLongPlace : BlockFiles → ℕ → ℕ → Option ℕ → Type 0
+IsLongPlace files entry key_len None = is_short key_len ≡ true
+IsLongPlace files entry key_len (Some w) = (is_short key_len ≡ false) × ((may_hold files key_len w ≡ true) × (kind_of w ≢ external → ShareNoBlock entry w))
+
+-- the longest key of a child, which is a name, and of another entry
+abbrev pub longest_of : Bool → ℕ
+longest_of is_child = if is_child then 32796 else 32768
+
+-- the three places of a new entry fit a key: they stand, and the record has so many blocks as its key asks
+pub record FitsKey (files : BlockFiles) (new : NewEntry) (key : List ℕ) : Type 0 where
+  pub entry_kind : kind_of new.entry ≡ blocks_256
+  pub entry_stands : stands_among files new.entry ≡ true
+  pub node_kind : kind_of new.node ≡ rankings
+  pub node_stands : stands_among files new.node ≡ true
+  pub some : 1 ≤ length key
+  pub most : length key ≤ longest_of new.child
+  pub blocks : block_count new.entry ≡ entry_blocks (length key)
+  pub long : IsLongPlace files new.entry (length key) new.long_key
+
+-- the numbers of a new entry are words, and its places are addresses
+pub record AreWords (new : NewEntry) : Type 0 where
+  pub next : new.next < 2 ^ 32
+  pub dirty : new.dirty < 2 ^ 32
+  pub entry : is_address new.entry ≡ true
+  pub node : is_address new.node ≡ true
+
+-- an external file that holds a long key of so many bytes is there, and one byte longer
+abbrev pub HasItsLength : Option ℕ → ℕ → Image → Type 0
+HasItsLength None key_len image = Unit {0}
+HasItsLength (Some w) key_len image = kind_of w ≡ external → length_of image (External (external_number w)) ≡ key_len + 1
+
+-- the bytes of a long key and its zero byte
+abbrev pub long_range : Option ℕ → ℕ → Footprint
+long_range None key_len = nothing
+long_range (Some w) key_len = range (data_file w) (data_start w) (key_len + 1)
+
+-- the three places: the blocks of the record, the node, and the long key with its zero byte
+unfoldable pub places_of : NewEntry → ℕ → Footprint
+places_of new key_len = either (range (Block (file_selector new.entry)) (place new.entry) (room new.entry)) (either (record_range new.node) (long_range new.long_key key_len))
+
+-- What is written there.
+
+-- the record of a new entry with a key: normal, without streams, made at a moment, and sealed
+unfoldable pub new_record : NewEntry → List ℕ → ℕ → Entry
+new_record new key moment = sealed_entry (record {
+  hash = hash_of key;
+  next = new.next;
+  rankings_node = new.node;
+  reuse_count = 0;
+  refetch_count = 0;
+  state = normal;
+  creation_time = moment;
+  key_len = length key;
+  long_key = unwrap_or new.long_key 0;
+  data_size = 0 ∷ 0 ∷ 0 ∷ 0 ∷ [];
+  data_addr = 0 ∷ 0 ∷ 0 ∷ 0 ∷ [];
+  flags = if new.child then child else plain;
+  pad = 0 ∷ 0 ∷ 0 ∷ 0 ∷ [];
+  self_hash = 0;
+})
+
+-- its node: in no list, with a dirty word, used and changed at the moment, and sealed
+unfoldable pub new_node : NewEntry → ℕ → Node
+new_node new moment = sealed_node (record {
+  last_used = moment;
+  last_modified = moment;
+  next = 0;
+  prev = 0;
+  contents = new.entry;
+  dirty = new.dirty;
+  self_hash = 0;
+})
+
+-- the bytes of a record before its key, and of a node
+unfoldable pub entry_bytes : Entry → List ℕ
+entry_bytes e = entry_body e ++ word_bytes e.self_hash
+
+unfoldable pub node_bytes : Node → List ℕ
+node_bytes n = node_body n ++ word_bytes n.self_hash
+
+-- what lies in the key's place of a record whose key lies elsewhere
+abbrev pub empty_key_place : Option ℕ → List ℕ
+empty_key_place None = []
+empty_key_place (Some w) = zeros key_place_bytes
+
+-- the address at whose data the key lies, and how many bytes lie before it
+abbrev pub address_of_key : ℕ → Option ℕ → ℕ
+address_of_key entry None = entry
+address_of_key entry (Some w) = w
+
+abbrev pub before_key : Option ℕ → ℕ
+before_key None = entry_size
+before_key (Some w) = 0
+
+-- The steps.
+
+-- the writes of the key, and then of its zero byte
+unfoldable pub key_steps : NewEntry → List ℕ → List TrailStep
+key_steps new key = ended_steps (address_of_key new.entry new.long_key) (before_key new.long_key) key
+
+-- the writes of the record
+unfoldable pub record_steps : NewEntry → List ℕ → ℕ → List TrailStep
+record_steps new key moment = words (Block (file_selector new.entry)) (place new.entry) (entry_bytes (new_record new key moment) ++ empty_key_place new.long_key)
+
+-- the writes of the node
+unfoldable pub node_steps : NewEntry → ℕ → List TrailStep
+node_steps new moment = words (Block (file_selector new.node)) (place new.node) (node_bytes (new_node new moment))
+
+-- all of them: the key, the record, the node
+unfoldable pub entry_steps : NewEntry → List ℕ → ℕ → List TrailStep
+entry_steps new key moment = key_steps new key ++ (record_steps new key moment ++ node_steps new moment)
+
+-- What stands there in the end.
+
+-- the bytes of a new entry: its record, its node, the key, and a zero byte behind it; the key's place in the record is zeros where the key lies elsewhere
+pub record IsWritten (new : NewEntry) (key : List ℕ) (moment : ℕ) (image : Image) : Type 0 where
+  pub entry : entry_at image new.entry ≡ new_record new key moment
+  pub node : node_at image new.node ≡ new_node new moment
+  pub key_there : data_at image (address_of_key new.entry new.long_key) (before_key new.long_key) (length key) ≡ key
+  pub zero_behind : data_at image (address_of_key new.entry new.long_key) (before_key new.long_key + length key) 1 ≡ 0 ∷ []
+  pub empty_place : data_at image new.entry entry_size (length (empty_key_place new.long_key)) ≡ empty_key_place new.long_key
+  pub entry_checks : RecordChecks new.entry image
+  pub node_checks : RecordChecks new.node image
+
+-- what a plain new entry loads
+abbrev pub loaded_new : NewEntry → List ℕ → Loaded
+loaded_new new key = record {
+  node = new.node;
+  contents = new.entry;
+  dirty = new.dirty;
+  key = key;
+  role = IsPlain;
+  streams = [] ∷ [] ∷ [] ∷ [];
+  others = unwrap_or new.long_key 0 ∷ 0 ∷ 0 ∷ 0 ∷ 0 ∷ [];
+}
+
+-- what is shown of a new entry: a node that checks and is in no list, what it says, its record with the link, the key, and three empty streams
+pub record IsShownNew (new : NewEntry) (key : List ℕ) (moment : ℕ) (image : Image) : Type 0 where
+  pub checks : (list_of image).checks new.node ≡ true
+  pub next : (list_of image).next new.node ≡ 0
+  pub named : (stock_of image).named new.node ≡ Some (record { contents = new.entry; dirty = new.dirty })
+  pub core : (stock_of image).entry new.entry ≡ Some (core_of (new_record new key moment))
+  pub follow : (stock_of image).follow new.entry ≡ new.next
+  pub key_is : key_at image new.entry ≡ Some key
+  pub streams : streams_of (stock_of image) (core_of (new_record new key moment)) ≡ Some ([] ∷ [] ∷ [] ∷ [])

@@ -1,0 +1,283 @@
+// New entries: the key, the record and the node are written.
+ghost use Rattle.std.specs.Prelude.{◌≡◌, ◌≤◌, ◌++◌, length, OnErr, OnOk, Ok, IsTrue, false, if◌then◌else◌, unwrap_or};
+ghost use Rattle.std.specs.Option.{ForSome};
+ghost use Rattle.std.specs.List.{All};
+ghost use Rattle.blk_image.specs.Bytes.{zeros};
+ghost use Rattle.blk_image.specs.Footprint.{SameOutside};
+ghost use Rattle.blk_image.specs.Steps.{with_words};
+ghost use Rattle.blk_image.specs.Told.{Grows, GrowsInPart, Passes, Rises};
+ghost use Rattle.blk_format.specs.Address.{kind_of, rankings};
+ghost use Rattle.blk_format.specs.BlockFiles.{IsWellFormed};
+ghost use Rattle.blk_format.specs.Records as records;
+ghost use Rattle.blk_volume.specs.Loads.{alone, load};
+ghost use Rattle.blk_volume.specs.View.{stock_of};
+ghost use Rattle.blk_record.specs.Fields.{IsField};
+ghost use Rattle.blk_io.specs.Faults.{IfDamaged, IfDevice};
+ghost use Rattle.blk_disk.specs.Sealed as sealed;
+ghost use Rattle.blk_disk.specs.Tables.{Agrees, stands_among};
+ghost use Rattle.blk_entry.specs.Writing.{AreWords, FitsKey, HasItsLength, IsShownNew, IsWritten, entry_bytes, entry_steps, key_steps, loaded_new, new_node, new_record, node_bytes, node_steps, places_of, record_steps};
+
+use crate::data::write_ended;
+use blk_addr::Addr;
+use blk_disk::BlockFiles;
+use blk_io::{Failed, Fault, Folder};
+use blk_record::{EntryMut, NodeMut, RecordMut, super_fast_hash};
+
+// The bytes of a record before its key, of a block of records, and of a node.
+const RECORD: usize = 96;
+
+const BLOCK: usize = 256;
+
+const NODE: usize = 36;
+
+// The flag of a part of a sparse entry.
+const CHILD: u32 = 2;
+
+// The numbers of a word.
+const WORD: u64 = 0x1_0000_0000;
+
+/// What a new entry has beside its key, and the places where it is written.
+#[derive(Clone, Copy, Debug)]
+pub struct NewEntry {
+    /// The blocks of the record, and of a key of at most 927 bytes.
+    pub entry: Addr,
+    /// The rankings node.
+    pub node: Addr,
+    /// The storage of a longer key, for one byte more than it has.
+    pub long_key: Option<Addr>,
+    /// Whether the entry is a part of a sparse one.
+    pub child: bool,
+    /// The dirty mark of the node, or 0.
+    pub dirty: u32,
+    /// The word of the next record in the chain, or 0.
+    pub next: u32,
+}
+
+/// Writes a new entry: the key with one zero byte behind it, then the record, then the node.
+///
+/// The record has no streams, and the moment is its time and both times of the node. Record and node are
+/// sealed. Four folder calls write the key, the zero byte, the record and the node, each once. Nothing is
+/// read, so no damage is found. The external file of a long key has its length already.
+pub fn write_entry<F: Folder>(
+    f: &mut F,
+    files: &BlockFiles,
+    new: &NewEntry,
+    key: &[u8],
+    moment: u64,
+) -> Result<(), Fault>
+    requires fits { FitsKey files.now new.now key.now }
+    requires agrees { ForSome (F.told f.old).files (Agrees files.now) }
+    requires external { ForSome (F.told f.old).files (HasItsLength new.now.long_key (length key.now)) }
+    ensures whole { OnOk result (Grows (F.told f.old) (F.told f.new) (entry_steps new.now key.now moment)) }
+    ensures part { GrowsInPart (F.told f.old) (F.told f.new) (entry_steps new.now key.now moment) }
+    ensures written { OnOk result (ForSome (F.told f.new).files (IsWritten new.now key.now moment)) }
+    ensures shown { OnOk result (ForSome (F.told f.new).files (IsShownNew new.now key.now moment)) }
+
+    // A plain entry loads by itself. A part has no index yet.
+    ensures loads { OnOk result (new.now.child ≡ false → ForSome (F.told f.new).files (λ image. load (stock_of image) (alone records.normal) new.now.node ≡ Ok (loaded_new new.now key.now))) }
+
+    // At each word no byte outside the three places has changed, and a well formed folder stays so.
+    ensures stops { ForSome (F.told f.old).files (λ from. Passes (F.told f.old) (F.told f.new) (SameOutside (places_of new.now (length key.now)) from)) }
+    ensures formed { ForSome (F.told f.old).files (λ from. IsWellFormed from → Passes (F.told f.old) (F.told f.new) IsWellFormed) }
+    ensures agrees { ForSome (F.told f.new).files (Agrees files.now) }
+
+    // The fields are words, and the places addresses, whatever the answer.
+    ensures words { AreWords new.now }
+
+    ensures never { IfDamaged result (λ _. ⊥) }
+    ensures later { F.faults f.old ≤ F.faults f.new }
+    ensures device { IfDevice result (Rises (F.faults f.old) (F.faults f.new)) }
+{
+    write_places(f, files, *new, key, moment)?;
+    Ok(())
+}
+
+// Writes the key and its zero byte, then the record and the node.
+fn write_places<F: Folder>(
+    f: &mut F,
+    files: &BlockFiles,
+    new: NewEntry,
+    key: &[u8],
+    moment: u64,
+) -> Result<(), Failed>
+    requires fits { FitsKey files.now new key.now }
+    requires agrees { ForSome (F.told f.old).files (Agrees files.now) }
+    requires external { ForSome (F.told f.old).files (HasItsLength new.long_key (length key.now)) }
+    ensures whole { OnOk result (Grows (F.told f.old) (F.told f.new) (entry_steps new key.now moment)) }
+    ensures part { GrowsInPart (F.told f.old) (F.told f.new) (entry_steps new key.now moment) }
+    ensures words { AreWords new }
+    ensures later { F.faults f.old ≤ F.faults f.new }
+    ensures failed { OnErr result (Rises (F.faults f.old) (F.faults f.new)) }
+{
+    write_key(f, files, &new, key)?;
+    write_records(f, files, &new, key, moment)
+}
+
+// Writes a key at its place, and one zero byte behind it.
+fn write_key<F: Folder>(
+    f: &mut F,
+    files: &BlockFiles,
+    new: &NewEntry,
+    key: &[u8],
+) -> Result<(), Failed>
+    requires fits { FitsKey files.now new.now key.now }
+    requires agrees { ForSome (F.told f.old).files (Agrees files.now) }
+    requires external { ForSome (F.told f.old).files (HasItsLength new.now.long_key (length key.now)) }
+    ensures whole { OnOk result (Grows (F.told f.old) (F.told f.new) (key_steps new.now key.now)) }
+    ensures part { GrowsInPart (F.told f.old) (F.told f.new) (key_steps new.now key.now) }
+    ensures agrees { ForSome (F.told f.new).files (Agrees files.now) }
+    ensures later { F.faults f.old ≤ F.faults f.new }
+    ensures failed { OnErr result (Rises (F.faults f.old) (F.faults f.new)) }
+{
+    match &new.long_key {
+        Some(addr) => write_ended(f, files, *addr, 0, key),
+        None => write_ended(f, files, new.entry, RECORD as u32, key),
+    }
+}
+
+// Writes the record and the node.
+fn write_records<F: Folder>(
+    f: &mut F,
+    files: &BlockFiles,
+    new: &NewEntry,
+    key: &[u8],
+    moment: u64,
+) -> Result<(), Failed>
+    requires fits { FitsKey files.now new.now key.now }
+    requires agrees { ForSome (F.told f.old).files (Agrees files.now) }
+    ensures whole { OnOk result (Grows (F.told f.old) (F.told f.new) (record_steps new.now key.now moment ++ node_steps new.now moment)) }
+    ensures part { GrowsInPart (F.told f.old) (F.told f.new) (record_steps new.now key.now moment ++ node_steps new.now moment) }
+    ensures later { F.faults f.old ≤ F.faults f.new }
+    ensures failed { OnErr result (Rises (F.faults f.old) (F.faults f.new)) }
+{
+    write_record(f, files, new, key, moment)?;
+    write_node(f, files, new, moment)
+}
+
+// Writes the record, and zeros in the place of a key that lies elsewhere.
+fn write_record<F: Folder>(
+    f: &mut F,
+    files: &BlockFiles,
+    new: &NewEntry,
+    key: &[u8],
+    moment: u64,
+) -> Result<(), Failed>
+    requires fits { FitsKey files.now new.now key.now }
+    requires agrees { ForSome (F.told f.old).files (Agrees files.now) }
+    ensures whole { OnOk result (Grows (F.told f.old) (F.told f.new) (record_steps new.now key.now moment)) }
+    ensures part { GrowsInPart (F.told f.old) (F.told f.new) (record_steps new.now key.now moment) }
+    ensures agrees { ForSome (F.told f.new).files (Agrees files.now) }
+    ensures later { F.faults f.old ≤ F.faults f.new }
+    ensures failed { OnErr result (Rises (F.faults f.old) (F.faults f.new)) }
+{
+    let bytes = record_of(new, key, moment);
+    let front = &bytes[..RECORD];
+    match &new.long_key {
+        Some(_) => files.write_block(f, new.entry, 0, &bytes),
+        None => files.write_block(f, new.entry, 0, front),
+    }
+}
+
+// Writes the node.
+fn write_node<F: Folder>(
+    f: &mut F,
+    files: &BlockFiles,
+    new: &NewEntry,
+    moment: u64,
+) -> Result<(), Failed>
+    requires kind { kind_of new.now.node ≡ rankings }
+    requires stands { IsTrue (stands_among files.now new.now.node) }
+    requires agrees { ForSome (F.told f.old).files (Agrees files.now) }
+    ensures whole { OnOk result (Grows (F.told f.old) (F.told f.new) (node_steps new.now moment)) }
+    ensures part { GrowsInPart (F.told f.old) (F.told f.new) (node_steps new.now moment) }
+    ensures later { F.faults f.old ≤ F.faults f.new }
+    ensures failed { OnErr result (Rises (F.faults f.old) (F.faults f.new)) }
+{
+    let bytes = node_of(new, moment);
+    files.write_block(f, new.node, 0, &bytes)
+}
+
+// The bytes of the record, and zeros behind them to the end of a block.
+fn record_of(new: &NewEntry, key: &[u8], moment: u64) -> [u8; BLOCK]
+    requires { length key.now ≤ 32796 }
+    ensures bytes { result ≡ entry_bytes (new_record new.now key.now moment) ++ zeros 160 }
+    ensures size { length result ≡ 256 }
+{
+    let words = [
+        (0, super_fast_hash(key)),
+        (4, new.next),
+        (8, new.node.word()),
+        (24, (moment % WORD) as u32),
+        (28, (moment / WORD) as u32),
+        (32, key.len() as u32),
+        (36, word_of(&new.long_key)),
+        (72, flags_of(new.child)),
+    ];
+    filled_record(&words)
+}
+
+// The word of an address, or 0 of none.
+fn word_of(addr: &Option<Addr>) -> u32
+    ensures { result ≡ unwrap_or addr.now 0 }
+{
+    match addr {
+        Some(addr) => addr.word(),
+        None => 0,
+    }
+}
+
+// The flags of a record.
+fn flags_of(child: bool) -> u32
+    ensures { result ≡ (if child then records.child else records.plain) }
+{
+    if child { CHILD } else { 0 }
+}
+
+// The bytes of the node.
+fn node_of(new: &NewEntry, moment: u64) -> [u8; NODE]
+    ensures { result ≡ node_bytes (new_node new.now moment) }
+{
+    let low = (moment % WORD) as u32;
+    let high = (moment / WORD) as u32;
+    let words = [
+        (0, low),
+        (4, high),
+        (8, low),
+        (12, high),
+        (24, new.entry.word()),
+        (28, new.dirty),
+    ];
+    filled_node(&words)
+}
+
+// A record of these words, each at its place, and zeros else, with its seal.
+fn filled_record(words: &[(usize, u32)]) -> [u8; BLOCK]
+    requires fields { All (λ word. IsField records.entry_size word.0) words.now }
+    ensures { result ≡ sealed.sealed records.entry_seal_place (with_words words.now (zeros 256)) }
+{
+    let mut bytes = [0; BLOCK];
+    fill(&mut EntryMut::new(&mut bytes), words);
+    bytes
+}
+
+// A node, in the same way.
+fn filled_node(words: &[(usize, u32)]) -> [u8; NODE]
+    requires fields { All (λ word. IsField records.node_size word.0) words.now }
+    ensures { result ≡ sealed.sealed records.node_seal_place (with_words words.now (zeros 36)) }
+{
+    let mut bytes = [0; NODE];
+    fill(&mut NodeMut::new(&mut bytes), words);
+    bytes
+}
+
+// Writes words into a record, each at its place, and seals it.
+fn fill<R: RecordMut>(view: &mut R, words: &[(usize, u32)])
+    requires fields { All (λ word. IsField R.size word.0) words.now }
+    ensures window { R.window_of view.new ≡ sealed.sealed R.seal_place (with_words words.now (R.window_of view.old)) }
+    ensures same_reference { R.reference view.new ≡ R.reference view.old }
+{
+    for (at, value) in words {
+        view.set_word(*at, *value);
+    }
+    view.seal();
+}
