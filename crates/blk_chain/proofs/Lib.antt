@@ -6,3 +6,5 @@ pub mod Follows
 pub mod Unlinks
 pub mod Firsts
 pub mod Keys
+pub mod Searches
+pub mod Heads

@@ -1,3 +1,4 @@
 pub mod Naming
 pub mod Linking
 pub mod Unlinking
+pub mod Finding
