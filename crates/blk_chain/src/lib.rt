@@ -11,3 +11,8 @@ pub use finding::find;
 pub use found::Found;
 pub use linking::link_front;
 pub use unlinking::unlink;
+
+#[cfg(test)]
+mod silent;
+#[cfg(test)]
+mod tests;
