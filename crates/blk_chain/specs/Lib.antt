@@ -2,4 +2,3 @@ pub mod Naming
 pub mod Linking
 pub mod Unlinking
 pub mod Finding
-pub mod Untold

@@ -13,6 +13,4 @@ pub use linking::link_front;
 pub use unlinking::unlink;
 
 #[cfg(test)]
-mod silent;
-#[cfg(test)]
 mod tests;

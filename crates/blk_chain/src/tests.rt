@@ -3,14 +3,16 @@ ghost use Rattle.std.specs.Prelude.{◌≡◌, ◌<◌, ◌^◌, IfSome, IsTrue}
 ghost use Rattle.blk_format.specs.Address.{blocks_256, kind_of};
 ghost use Rattle.blk_disk.specs.Tables.{stands_among};
 
-use crate::silent::Silent;
 use crate::{Found, find, link_front, unlink};
 use blk_addr::{Addr, Kind};
 use blk_disk::BlockFiles;
 use blk_index::bucket;
-use blk_io::{Damage, Failed, Fault, FileId, Folder, MemFolder};
+use blk_io::{Damage, Failed, Fault, FileId, Folder, MemFolder, SilentFolder, StopFolder};
 use blk_record::{EntryMut, RecordMut, super_fast_hash};
 use std::alloc::Global;
+
+// A folder in memory that tells nothing.
+type Silent = SilentFolder<MemFolder>;
 
 const INDEX_LEN: u64 = 262512;
 
@@ -36,7 +38,7 @@ const CHILD: u32 = 2;
 
 // A folder with an index that names nothing, and four block files that have blocks and no allocation.
 fn folder(alloc: Global) -> Result<Silent, Failed> {
-    let mut f = Silent::new(MemFolder::new(alloc));
+    let mut f = SilentFolder::new(MemFolder::new(alloc));
     f.set_len(FileId::Index, INDEX_LEN)?;
     for (n, size) in BLOCKS.iter().enumerate() {
         let file = FileId::Block(n as u8);
@@ -83,7 +85,7 @@ fn record_of(files: &BlockFiles, word: u32) -> Option<Addr>
 }
 
 // Links the record of a word.
-fn link(f: &mut Silent, word: u32) -> Result<(), Fault> {
+fn link<F: Folder>(f: &mut SilentFolder<F>, word: u32) -> Result<(), Fault> {
     let files = BlockFiles::load(f)?;
     match record_of(&files, word) {
         Some(entry) => link_front(f, &files, entry),
@@ -116,7 +118,7 @@ fn words(f: &mut Silent, key: &[u8], child: bool) -> Result<Option<(u32, u32)>, 
 }
 
 // Unlinks the record of a key that is no child's, and says whether there was one.
-fn take(f: &mut Silent, key: &[u8]) -> Result<bool, Fault> {
+fn take<F: Folder>(f: &mut SilentFolder<F>, key: &[u8]) -> Result<bool, Fault> {
     let files = BlockFiles::load(f)?;
     match find(f, &files, key, false) {
         Ok(Some(found)) => {
@@ -296,41 +298,35 @@ fn a_record_that_does_not_check_is_a_damage(rt: HostRuntime) {
     assert_eq!(rt; unsealed(rt.alloc()), Err(damage(92, 5)));
 }
 
-// Whether one key is unlinked where a call fails, and all of the old map or all of the new is left.
-fn stops_well(alloc: Global, key: usize, call: u64) -> Result<bool, Fault>
+// What is found of the three keys when one is unlinked and so many words last, and whether it was unlinked.
+fn stopped_taking(alloc: Global, key: usize, steps: u64) -> Result<(bool, Three), Fault>
     requires { key < 3 }
 {
-    let mut f = three(alloc)?;
-    if f.fail_at(call).is_err() {
-        return Ok(false);
-    }
-    if take(&mut f, KEYS[key]) != Err(Fault::Device) {
-        return Ok(false);
-    }
-    let left = all(&mut f)?;
-    Ok(left == WHOLE || left == WITHOUT[key])
-}
-
-// The calls that were made before a key is unlinked, and after that.
-fn calls_of_taking(alloc: Global, key: usize) -> Result<(u64, u64), Fault>
-    requires { key < 3 }
-{
-    let mut f = three(alloc)?;
-    let first = f.calls();
-    let _there = take(&mut f, KEYS[key])?;
-    Ok((first, f.calls()))
+    let f = three(alloc)?;
+    let mut stopped = SilentFolder::new(StopFolder::new(f.into_inner(), steps));
+    let done = take(&mut stopped, KEYS[key]).is_ok();
+    let mut f = SilentFolder::new(stopped.into_inner().into_inner());
+    Ok((done, all(&mut f)?))
 }
 
 #[test]
-fn a_stopped_unlinking_leaves_the_old_map_or_the_new(rt: HostRuntime) {
-    for key in 0..3usize {
-        let Ok((first, last)) = calls_of_taking(rt.alloc(), key) else {
-            panic!(rt; "the record is unlinked");
-        };
-        for call in first..last {
-            let stopped = stops_well(rt.alloc(), key, call.saturating_add(1));
-            assert_eq!(rt; stopped, Ok(true), "{key} {call}");
-        }
+fn unlinking_takes_effect_at_one_word(rt: HostRuntime) {
+    // The word of the bucket.
+    assert_eq!(rt; stopped_taking(rt.alloc(), 2, 0), Ok((false, WHOLE)));
+    assert_eq!(rt; stopped_taking(rt.alloc(), 2, 1), Ok((true, WITHOUT[2])));
+
+    // The seal of the record before, its next, and the seal.
+    for key in 0..2usize {
+        assert_eq!(rt; stopped_taking(rt.alloc(), key, 0), Ok((false, WHOLE)));
+        assert_eq!(rt; stopped_taking(rt.alloc(), key, 1), Ok((false, WHOLE)));
+        assert_eq!(rt;
+            stopped_taking(rt.alloc(), key, 2),
+            Ok((false, WITHOUT[key]))
+        );
+        assert_eq!(rt;
+            stopped_taking(rt.alloc(), key, 3),
+            Ok((true, WITHOUT[key]))
+        );
     }
 }
 
@@ -343,22 +339,17 @@ fn with_third(alloc: Global) -> Result<Silent, Fault> {
     Ok(f)
 }
 
-// What is found of the three keys when the third is linked and one of the calls fails, or none.
-fn linked(alloc: Global, call: u64) -> Result<(bool, Three), Fault> {
-    let mut f = with_third(alloc)?;
-    let now = f.calls();
-    if f.fail_at(now.saturating_add(call)).is_err() {
-        return Err(Fault::Device);
-    }
-    let done = link(&mut f, WORDS[2]).is_ok();
+// What is found of the three keys when the third is linked and so many words last, and whether it was linked.
+fn stopped_linking(alloc: Global, steps: u64) -> Result<(bool, Three), Fault> {
+    let f = with_third(alloc)?;
+    let mut stopped = SilentFolder::new(StopFolder::new(f.into_inner(), steps));
+    let done = link(&mut stopped, WORDS[2]).is_ok();
+    let mut f = SilentFolder::new(stopped.into_inner().into_inner());
     Ok((done, all(&mut f)?))
 }
 
 #[test]
-fn a_stopped_linking_leaves_the_old_map(rt: HostRuntime) {
-    // Eight calls load the files, one reads the hash, and two look for the length of the index and write the word.
-    for call in 1..=11u64 {
-        assert_eq!(rt; linked(rt.alloc(), call), Ok((false, WITHOUT[2])), "{call}");
-    }
-    assert_eq!(rt; linked(rt.alloc(), 0), Ok((true, WHOLE)));
+fn linking_takes_effect_at_one_word(rt: HostRuntime) {
+    assert_eq!(rt; stopped_linking(rt.alloc(), 0), Ok((false, WITHOUT[2])));
+    assert_eq!(rt; stopped_linking(rt.alloc(), 1), Ok((true, WHOLE)));
 }
