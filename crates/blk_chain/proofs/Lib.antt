@@ -8,3 +8,4 @@ pub mod Firsts
 pub mod Keys
 pub mod Searches
 pub mod Heads
+pub mod Pairs

@@ -2,3 +2,4 @@ pub mod Naming
 pub mod Linking
 pub mod Unlinking
 pub mod Finding
+pub mod Mapping
