@@ -83,10 +83,10 @@ pub record IsAstray (files : BlockFiles) (bucket : ℕ) (damage : Damage) : Type
   pub some : damage.found ≢ 0
   pub astray : names_record files damage.found ≡ false
 
--- a chain goes on behind the last record that is passed
+-- a chain goes on behind the last record that a search passes
 pub record IsLong (bucket : ℕ) (damage : Damage) : Type 0 where
-  pub before : Option ℕ
-  pub link : IsOfLink bucket before damage
+  pub last : ℕ
+  pub link : IsOfLink bucket (Some last) damage
   pub some : damage.found ≢ 0
 
 -- a record that stands doesn't check, or the length or the place of its key is wrong

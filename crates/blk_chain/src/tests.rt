@@ -223,20 +223,25 @@ fn records_of_other_hashes_are_passed_by_one_call_each(rt: HostRuntime) {
     assert_eq!(rt; calls_of_finding(rt.alloc()), Ok(8 + 1 + 2 + 3));
 }
 
-// What is found of a key: of a child where there is none, of a child, and of one that is none.
-fn with_child(alloc: Global) -> Result<Three, Fault> {
+// What is found of a key: of a child where there is none, of a child, and of one that is none, with the
+// folder calls that the last takes.
+fn with_child(alloc: Global) -> Result<(Three, u64), Fault> {
     let mut f = folder(alloc)?;
     add(&mut f, WORDS[0], KEYS[0], PLAIN)?;
     let none = words(&mut f, KEYS[0], true)?;
     add(&mut f, WORDS[1], KEYS[0], CHILD)?;
     let child = words(&mut f, KEYS[0], true)?;
-    Ok([none, child, words(&mut f, KEYS[0], false)?])
+    let before = f.calls();
+    let plain = words(&mut f, KEYS[0], false)?;
+    Ok(([none, child, plain], f.calls().wrapping_sub(before)))
 }
 
 #[test]
 fn a_child_has_another_name(rt: HostRuntime) {
     let found = [None, Some((WORDS[1], 0)), Some((WORDS[0], WORDS[1]))];
-    assert_eq!(rt; with_child(rt.alloc()), Ok(found));
+
+    // The child is passed by one call.
+    assert_eq!(rt; with_child(rt.alloc()), Ok((found, 8 + 1 + 1 + 3)));
 }
 
 // The place of the word of the bucket of the three keys.
