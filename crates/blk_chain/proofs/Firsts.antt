@@ -1,5 +1,6 @@
 -- The first record of a chain taken out, in bytes.
 use Rattle.std.proofs.Common.{◌≡◌, inl, inr, ℕ, ◌+◌, ◌%◌, ◌^◌, ◌<◌, Bool, List, ◌∷◌, Option, Some, None, refl, sym, ◌∙◌, ap, ap₂, subst, arith}
+use Rattle.std.specs.Prelude.{◌↔◌}
 use Rattle.std.specs.Option.{ForSome}
 use Rattle.blk_image.specs.Image.{AreBytes, Index, Block, Image, byte, length_of, word}
 use Rattle.blk_image.specs.Steps.{after, word_step}
@@ -34,13 +35,16 @@ key-still : (stock : Stock) (table : ℕ → ℕ) (w : ℕ) (core : Core) → ke
 unfolding key_of
 key-still stock table w core = refl
 
-named-still : (stock : Stock) (table : ℕ → ℕ) (name : List ℕ) (is_child : Bool) (w : ℕ) → HasName stock name is_child w → HasName (record stock { table = table }) name is_child w
-named-still stock table name is_child w named = record { core = named.core; here = named.here; hashed = named.hashed; key = key-still stock table w named.core ∙ named.key; flag = named.flag }
+pub named-table : (stock : Stock) (table : ℕ → ℕ) (name : List ℕ) (is_child : Bool) (w : ℕ) → HasName stock name is_child w ↔ HasName (record stock { table = table }) name is_child w
+named-table stock table name is_child w = (
+  λ named. record { core = named.core; here = named.here; hashed = named.hashed; key = key-still stock table w named.core ∙ named.key; flag = named.flag },
+  λ named. record { core = named.core; here = named.here; hashed = named.hashed; key = sym (key-still stock table w named.core) ∙ named.key; flag = named.flag },
+)
 
 -- nothing has changed
 pub unchanged : (from : Image) (entry : ℕ) (before : Option ℕ) → IsStillLinked from entry before from
 unchanged from entry before = record {
-  keeps = record { list = refl; records = λ w. refl; names = λ w name is_child apart named. named; well_formed = λ h. h; outside = outside-refl (unlink_range from entry before) from };
+  keeps = record { list = refl; records = λ w. refl; names = λ w name is_child apart. (λ named. named, λ named. named); well_formed = λ h. h; outside = outside-refl (unlink_range from entry before) from };
   chains = λ bucket. refl;
 }
 
@@ -66,7 +70,7 @@ module _ (from : Image) (entry : ℕ) (can : CanBeUnlinked entry None from) wher
       let b : ℕ = bucket_at from entry in
       let w = buckets-written from image b (next_of from entry) is in
       record {
-        keeps = record { list = w.0; records = λ u. ap (λ (s : Stock). s.entry u) w.1; names = λ u name is_child apart named. subst (λ (s : Stock). HasName s name is_child u) (sym w.1) (named-still (stock_of from) (put (stock_of from).table b (next_of from entry)) name is_child u named); well_formed = buckets-unchecked from image b is.outside; outside = is.outside };
+        keeps = record { list = w.0; records = λ u. ap (λ (s : Stock). s.entry u) w.1; names = λ u name is_child apart. subst (λ (s : Stock). HasName (stock_of from) name is_child u ↔ HasName s name is_child u) (sym w.1) (named-table (stock_of from) (put (stock_of from).table b (next_of from entry)) name is_child u); well_formed = buckets-unchecked from image b is.outside; outside = is.outside };
         chain_now = λ front behind stands. subst (λ (s : Stock). IsChain s b behind) (sym w.1) (chain-behind behind stands.1);
         others = λ other e. ap (λ (s : Stock). chain s other) w.1 ∙ others-stay (stock_of from) b other (next_of from entry) e;
       }

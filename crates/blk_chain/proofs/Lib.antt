@@ -6,3 +6,6 @@ pub mod Follows
 pub mod Unlinks
 pub mod Firsts
 pub mod Keys
+pub mod Searches
+pub mod Heads
+pub mod Pairs

@@ -157,13 +157,22 @@ module _ (from : Image) (bytes : AreBytes from) (entry before : ℕ) (can : CanB
         (cases_Bool (nat_le apart.core.key_len 927))
 
     names-stay : NamesStay from (Some before) image
-    names-stay w name is_child apart named = record {
-      core = named.core;
-      here = sym (written.0.entry w) ∙ named.here;
-      hashed = named.hashed;
-      key = subst (λ (c : Core). key_of (stock_of image) w c ≡ key_of (stock_of from) w c) (some_inj (sym apart.here ∙ named.here)) (sym (key-same w apart)) ∙ named.key;
-      flag = named.flag;
-    }
+    names-stay w name is_child apart = (
+      λ named. record {
+        core = named.core;
+        here = sym (written.0.entry w) ∙ named.here;
+        hashed = named.hashed;
+        key = subst (λ (c : Core). key_of (stock_of image) w c ≡ key_of (stock_of from) w c) (some_inj (sym apart.here ∙ named.here)) (sym (key-same w apart)) ∙ named.key;
+        flag = named.flag;
+      },
+      λ named. record {
+        core = named.core;
+        here = written.0.entry w ∙ named.here;
+        hashed = named.hashed;
+        key = subst (λ (c : Core). key_of (stock_of from) w c ≡ key_of (stock_of image) w c) (some_inj (sym apart.here ∙ written.0.entry w ∙ named.here)) (key-same w apart) ∙ named.key;
+        flag = named.flag;
+      },
+    )
 
     -- at each moment of the update the chains are as they were, or the record is unlinked
     pub unlinking_at : IsUnlinking from entry (Some before) image

@@ -1,3 +1,5 @@
 pub mod Naming
 pub mod Linking
 pub mod Unlinking
+pub mod Finding
+pub mod Mapping

@@ -1,5 +1,5 @@
 -- A record is taken out of its chain.
-use Rattle.std.specs.Prelude.{◌≡◌, ◌⊎◌, ℕ, ◌+◌, List, [], ◌∷◌, ◌++◌, Bool, true, false, nat_le, ◌==◌}
+use Rattle.std.specs.Prelude.{◌≡◌, ◌↔◌, ◌⊎◌, ℕ, ◌+◌, List, [], ◌∷◌, ◌++◌, Bool, true, false, nat_le, ◌==◌}
 use Rattle.std.specs.declared.option.Option.{Option}
 use Rattle.std.specs.declared.option.Option.TheVariants.{None, Some}
 use Rattle.blk_image.specs.Image.{Image, Index}
@@ -67,9 +67,9 @@ abbrev pub KeyIsApart : Option ℕ → Stock → ℕ → Type 0
 KeyIsApart None stock w = Unit {0}
 KeyIsApart (Some before) stock w = IsApart before stock w
 
--- each record whose key lies apart from the change keeps its key and its child flag
+-- each record whose key lies apart from the change has the key and the child flag that it had
 abbrev pub NamesStay : Image → Option ℕ → Image → Type 0
-NamesStay from before image = (w : ℕ) (name : List ℕ) (is_child : Bool) → KeyIsApart before (stock_of from) w → HasName (stock_of from) name is_child w → HasName (stock_of image) name is_child w
+NamesStay from before image = (w : ℕ) (name : List ℕ) (is_child : Bool) → KeyIsApart before (stock_of from) w → HasName (stock_of from) name is_child w ↔ HasName (stock_of image) name is_child w
 
 -- all records are as they were but for the links, each checks as before, and nothing else changes than these bytes
 pub record KeepsRecords (from : Image) (before : Option ℕ) (footprint : Footprint) (image : Image) : Type 0 where

@@ -1,10 +1,16 @@
 //! The chains of the table: a map from keys and child flags to records.
 #![tactic(auto)]
 
+mod finding;
 mod found;
 mod linking;
+mod reading;
 mod unlinking;
 
+pub use finding::find;
 pub use found::Found;
 pub use linking::link_front;
 pub use unlinking::unlink;
+
+#[cfg(test)]
+mod tests;

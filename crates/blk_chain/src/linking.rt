@@ -9,6 +9,7 @@ ghost use Rattle.blk_io.specs.declared.folder.FileId.TheVariants as FileId;
 ghost use Rattle.blk_io.specs.Faults.{IfDamaged, IfDevice, IsShort};
 ghost use Rattle.blk_disk.specs.Tables.{Agrees, stands_among};
 ghost use Rattle.blk_chain.specs.Linking.{CanBeLinked, IsLinked, IsLinking, link_steps};
+ghost use Rattle.blk_chain.specs.Mapping.{GainsOne};
 
 use blk_addr::Addr;
 use blk_disk::BlockFiles;
@@ -34,6 +35,9 @@ pub fn link_front<F: Folder>(f: &mut F, files: &BlockFiles, entry: Addr) -> Resu
     ensures whole { OnOk result (ForSome (F.told f.old).files (λ from. Grows (F.told f.old) (F.told f.new) (link_steps from entry))) }
     ensures part { ForSome (F.told f.old).files (λ from. GrowsInPart (F.told f.old) (F.told f.new) (link_steps from entry)) }
     ensures linked { OnOk result (ForSome (F.told f.old).files (λ from. ForSome (F.told f.new).files (IsLinked from entry))) }
+
+    // The chains, a map from keys and child flags to records, have one record more.
+    ensures gains { OnOk result (ForSome (F.told f.old).files (λ from. ForSome (F.told f.new).files (GainsOne from entry))) }
 
     // At each word the folder is the old one, or the record is linked and nothing else has changed.
     ensures stops { ForSome (F.told f.old).files (λ from. Passes (F.told f.old) (F.told f.new) (IsLinking from entry)) }

@@ -9,6 +9,7 @@ ghost use Rattle.blk_io.specs.declared.folder.FileId.TheVariants as FileId;
 ghost use Rattle.blk_io.specs.Faults.{IfDamaged, IfDevice, IsShort};
 ghost use Rattle.blk_disk.specs.Sealed.{IsUnsealed, record_size};
 ghost use Rattle.blk_disk.specs.Tables.{Agrees, stands_among};
+ghost use Rattle.blk_chain.specs.Mapping.{LosesOne};
 ghost use Rattle.blk_chain.specs.Unlinking.{CanBeUnlinked, IsUnlinkDamage, IsUnlinked, IsUnlinking, unlink_steps};
 
 use crate::found::Found;
@@ -95,6 +96,9 @@ pub fn unlink<F: Folder>(f: &mut F, files: &BlockFiles, found: &Found) -> Result
     ensures whole { OnOk result (ForSome (F.told f.old).files (λ from. Grows (F.told f.old) (F.told f.new) (unlink_steps from found.now.entry found.now.before))) }
     ensures part { ForSome (F.told f.old).files (λ from. GrowsInPart (F.told f.old) (F.told f.new) (unlink_steps from found.now.entry found.now.before)) }
     ensures unlinked { OnOk result (ForSome (F.told f.old).files (λ from. ForSome (F.told f.new).files (IsUnlinked from found.now.entry found.now.before))) }
+
+    // The chains, a map from keys and child flags to records, have one record less.
+    ensures loses { OnOk result (ForSome (F.told f.old).files (λ from. ForSome (F.told f.new).files (LosesOne from found.now.entry found.now.before))) }
 
     // At each word the chains are the old ones or the record is unlinked, and each record checks as before.
     ensures stops { ForSome (F.told f.old).files (λ from. Passes (F.told f.old) (F.told f.new) (IsUnlinking from found.now.entry found.now.before)) }

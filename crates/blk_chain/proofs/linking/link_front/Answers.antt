@@ -5,6 +5,7 @@ use Rattle.blk_image.proofs.Runs.{part_whole}
 use Rattle.blk_disk.specs.Tables.{Agrees}
 use Rattle.blk_chain.proofs.Links.{IsPut, put_by, whole_by, linked_by}
 use Rattle.blk_chain.proofs.linking.link_front.Given as given
+use Rattle.blk_chain.proofs.Pairs.{gains-one}
 use Rattle.blk_chain.proofs.linking.link_front.Goals as goal
 
 pub returns-in_err-hash-clause-agrees : goal.returns-in_err-hash-clause-agrees
@@ -49,3 +50,6 @@ returns-clause-stops g c = (left_done g c).stops
 
 pub returns-clause-agrees : goal.returns-clause-agrees
 returns-clause-agrees g c = (left_done g c).agrees
+
+pub returns-clause-gains : goal.returns-clause-gains
+returns-clause-gains g c from there image now = gains-one from image c.args.entry (c.requires.linkable from there) (returns-clause-linked g c from there image now)

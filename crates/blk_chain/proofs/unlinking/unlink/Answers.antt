@@ -3,6 +3,8 @@ use Rattle.std.specs.Option.{ForSome}
 use Rattle.std.specs.Prelude.{OnOk}
 use Rattle.blk_image.specs.Told.{Grows}
 use Rattle.blk_chain.specs.Unlinking.{CanBeUnlinked, IsUnlinked, unlink_steps}
+use Rattle.std.proofs.lemmas.Result.{on_ok_weaker}
+use Rattle.blk_chain.proofs.Pairs.{loses-one}
 use Rattle.blk_chain.proofs.unlinking.unlink.Goals as goal
 
 pub unlink_first-requires-clause-linked : goal.unlink_first-requires-clause-linked
@@ -30,3 +32,13 @@ pub returns-in-Some-clause-unlinked : goal.returns-in-Some-clause-unlinked
 returns-in-Some-clause-unlinked g c =
     subst (λ (o : Option ℕ). OnOk c.unlink_behind.result (ForSome (g.F.Folder.told c.args.f.now).files (λ from. ForSome (g.F.Folder.told c.unlink_behind.new.f).files (IsUnlinked from c.args.found.now.entry o))))
     (sym c.in-Some.is) c.unlink_behind.ensures.unlinked
+
+pub returns-in-None-clause-loses : goal.returns-in-None-clause-loses
+returns-in-None-clause-loses g c =
+    on_ok_weaker c.unlink_first.result (λ unlinked from there image now. loses-one from image c.args.found.now.entry c.args.found.now.before (c.requires.linked from there) (unlinked from there image now))
+    (returns-in-None-clause-unlinked g c)
+
+pub returns-in-Some-clause-loses : goal.returns-in-Some-clause-loses
+returns-in-Some-clause-loses g c =
+    on_ok_weaker c.unlink_behind.result (λ unlinked from there image now. loses-one from image c.args.found.now.entry c.args.found.now.before (c.requires.linked from there) (unlinked from there image now))
+    (returns-in-Some-clause-unlinked g c)

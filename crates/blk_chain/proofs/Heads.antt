@@ -1,0 +1,131 @@
+-- The words of records that a search reads, and the names that they have.
+use Rattle.std.proofs.Common.{◌≡◌, ℕ, ◌+◌, Bool, true, false, List, length, Option, Some, None, refl, sym, ◌∙◌, ap, subst, arith, add-zero}
+use Rattle.std.specs.Prelude.{◌==◌, ◌&&◌, not, if◌then◌else◌}
+use Rattle.std.proofs.Math.Bool.{beq}
+use Rattle.std.specs.Option.{option_and_then}
+use Rattle.std.proofs.lemmas.Bool.{and_parts, eqb-true}
+use Rattle.blk_image.specs.Bytes.{content, word_at, range_at}
+use Rattle.blk_image.specs.Image.{AreBytes, Block, External, Image, byte, has_file, word}
+use Rattle.blk_image.proofs.Runs.{some_inj}
+use Rattle.blk_format.specs.Address.{kind_of, is_address, external, external_number, file_selector, place, blocks_256}
+use Rattle.blk_format.specs.BlockFiles.{stands_in_blocks}
+use Rattle.blk_format.specs.Records.{entry_in}
+use Rattle.blk_format.specs.Standing.{stands}
+use Rattle.blk_volume.specs.Entries.{is_key_length, key_of}
+use Rattle.blk_volume.specs.View.{Core, core_at, core_of, entry_at, stock_of}
+use Rattle.blk_disk.specs.declared.tables.BlockFiles.{BlockFiles}
+use Rattle.blk_disk.specs.Sealed.{RecordChecks}
+use Rattle.blk_disk.specs.Tables.{Agrees, stands_among}
+use Rattle.blk_disk.proofs.Ranges.{stands_agree}
+use Rattle.blk_entry.specs.Keys.{HasKey, IsEntryOf, key_at}
+use Rattle.blk_entry.proofs.KeyPlaces.{head_word, key_facts}
+use Rattle.blk_moments.proofs.Shown.{core-standing, standing-parts}
+use Rattle.blk_chain.specs.Naming.{HasName}
+use Rattle.blk_chain.specs.Finding.{names_record, IsKeyed}
+use Rattle.blk_chain.proofs.Names.{shown-core, shown-kind}
+use Rattle.blk_chain.proofs.Unlinks.{record_checks}
+
+both : (a b : Bool) → a ≡ true → b ≡ true → (a && b) ≡ true
+both a b e f = rw (e, f) refl
+
+-- a word that names a record that stands
+pub names-parts : (files : BlockFiles) (w : ℕ) → names_record files w ≡ true → (is_address w ≡ true) × ((kind_of w ≡ blocks_256) × (stands_among files w ≡ true))
+unfolding names_record
+names-parts files w e =
+    let a = and_parts (is_address w) ((kind_of w == 2) && stands_among files w) e in
+    let b = and_parts (kind_of w == 2) (stands_among files w) a.1 in
+    (a.0, (eqb-true (kind_of w) 2 b.0, b.1))
+
+-- a record that is shown stands
+pub shown-names : (files : BlockFiles) (image : Image) (w : ℕ) (core : Core) → Agrees files image → (stock_of image).entry w ≡ Some core → names_record files w ≡ true
+unfolding names_record stands
+shown-names files image w core agrees here =
+    let parts = standing-parts image blocks_256 w (core-standing image w core here) in
+    let of = and_parts (is_address w) (if kind_of w == external then has_file image (External (external_number w)) else stands_in_blocks image w) parts.0 in
+    let inside : stands_in_blocks image w ≡ true = by_kind (kind_of w) parts.1 of.1 in
+    let kind : (kind_of w == 2) ≡ true = is_two (kind_of w) parts.1 in
+    both (is_address w) ((kind_of w == 2) && stands_among files w) of.0 (both (kind_of w == 2) (stands_among files w) kind (stands_agree files image w agrees ∙ inside))
+  where
+    by_kind : (k : ℕ) → k ≡ 2 → (if k == 0 then has_file image (External (external_number w)) else stands_in_blocks image w) ≡ true → stands_in_blocks image w ≡ true
+    by_kind k e h = rw e at h
+
+    is_two : (k : ℕ) → k ≡ 2 → (k == 2) ≡ true
+    is_two k e = rw e refl
+
+-- a record that a search meets checks in its bytes
+pub keyed-checks : (image : Image) (w : ℕ) → AreBytes image → IsKeyed w image → RecordChecks w image
+keyed-checks image w bytes keyed =
+    record_checks image w bytes (shown-kind image w keyed.core keyed.here) (ap (λ (c : Core). c.checks) (shown-core image w keyed.core keyed.here) ∙ keyed.good)
+
+-- the words that were read
+pub head-is : (image : Image) (w : ℕ) (window : List ℕ) (h n k f : ℕ) → kind_of w ≡ blocks_256 → window ≡ range_at (byte image (Block (file_selector w))) (place w + 0) 96
+    → h ≡ word_at (content window) 0 → n ≡ word_at (content window) 4 → k ≡ word_at (content window) 32 → f ≡ word_at (content window) 72
+    → (h ≡ (entry_at image w).hash) × ((n ≡ (entry_at image w).next) × ((k ≡ (entry_at image w).key_len) × (f ≡ (entry_at image w).flags)))
+unfolding entry_in
+head-is image w window h n k f kind read eh en ek ef = (
+  eh ∙ head_word image w 0 window kind (omega arith) read ∙ ap (word image (Block (file_selector w))) (add-zero (place w)),
+  (
+    en ∙ head_word image w 4 window kind (omega arith) read,
+    (
+      ek ∙ head_word image w 32 window kind (omega arith) read,
+      ef ∙ head_word image w 72 window kind (omega arith) read,
+    ),
+  ),
+)
+
+-- the key of a record that has one
+key-is : (image : Image) (w : ℕ) (core : Core) → (stock_of image).entry w ≡ Some core → HasKey w image → key_at image w ≡ key_of (stock_of image) w core
+unfolding key_at stock_of
+key-is image w core here has = by_core (core_at image w) here has.is
+  where
+    by_length : (t : Bool) → (if t then key_of (stock_of image) w core else None) ≡ Some has.key → (if t then key_of (stock_of image) w core else None) ≡ key_of (stock_of image) w core
+    by_length true e = refl
+    by_length false e = absurd (never e)
+      where
+        never : None ≡ Some has.key → ⊥
+        never c = cc
+
+    by_core : (o : Option Core) → o ≡ Some core → option_and_then (λ c. if is_key_length w c then key_of (stock_of image) w c else None) o ≡ Some has.key
+        → option_and_then (λ c. if is_key_length w c then key_of (stock_of image) w c else None) o ≡ key_of (stock_of image) w core
+    by_core o e h = rw e (by_length (is_key_length w core) (rw e at h))
+
+module _ (image : Image) (w : ℕ) (keyed : IsKeyed w image) (key : List ℕ) (is_child : Bool) where
+  here-core : core_of (entry_at image w) ≡ keyed.core
+  here-core = shown-core image w keyed.core keyed.here
+
+  -- a record with the key and the flag has the name
+  pub to-name : IsEntryOf key w image → ((entry_at image w).flags == 2) ≡ is_child → HasName (stock_of image) key is_child w
+  to-name of flag = record {
+    core = keyed.core;
+    here = keyed.here;
+    hashed = sym (ap (λ (c : Core). c.hash) here-core) ∙ of.hash;
+    key = sym (key-is image w keyed.core keyed.here keyed.key) ∙ of.is;
+    flag = ap (λ (c : Core). c.flags == 2) (sym here-core) ∙ flag;
+  }
+
+  -- and one with the name has the key and the flag
+  pub of-name : HasName (stock_of image) key is_child w → IsEntryOf key w image
+  of-name named = record {
+    hash = ap (λ (c : Core). c.hash) (here-core ∙ some_inj (sym keyed.here ∙ named.here)) ∙ named.hashed;
+    is = key-is image w named.core named.here keyed.key ∙ named.key;
+  }
+
+  pub flag-of-name : HasName (stock_of image) key is_child w → ((entry_at image w).flags == 2) ≡ is_child
+  flag-of-name named = ap (λ (c : Core). c.flags == 2) (here-core ∙ some_inj (sym keyed.here ∙ named.here)) ∙ named.flag
+
+  pub length-of-name : (files : BlockFiles) → Agrees files image → HasName (stock_of image) key is_child w → length key ≡ (entry_at image w).key_len
+  length-of-name files agrees named = (key_facts files image w key agrees (shown-kind image w keyed.core keyed.here) (of-name named).is).len
+
+-- two truths that are told apart, and two that are not
+pub differs : (a b : Bool) → not (beq a b) ≡ true → a ≡ b → ⊥
+differs a b apart same = by b (subst (λ (x : Bool). not (beq x b) ≡ true) same apart)
+  where
+    by : (x : Bool) → not (beq x x) ≡ true → ⊥
+    by true e = cc
+    by false e = cc
+
+pub agrees-by : (a b : Bool) → not (beq a b) ≡ false → a ≡ b
+agrees-by true true e = refl
+agrees-by true false e = absurd (cc)
+agrees-by false true e = absurd (cc)
+agrees-by false false e = refl

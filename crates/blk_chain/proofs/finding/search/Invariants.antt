@@ -1,0 +1,20 @@
+use Rattle.std.specs.Prelude.{◌≡◌, ◌+◌, ◌≤◌, IfSome, IsTrue, None}
+use Rattle.std.specs.Option.{ForSome}
+use Rattle.blk_image.specs.Told.{Stays}
+use Rattle.blk_format.specs.Address.{blocks_256, kind_of}
+use Rattle.blk_disk.specs.Tables.{stands_among}
+use Rattle.blk_chain.specs.Finding.{IsOnTheWay, most_searched}
+use Rattle.blk_chain.proofs.finding.search.Given as goal
+
+abbrev pub invariant-loop-link : goal.invariant-loop-link
+invariant-loop-link g l = record {
+  told : Stays (g.F.Folder.told l.initial.f) (g.F.Folder.told l.f);
+  later : g.F.Folder.faults l.initial.f ≤ g.F.Folder.faults l.f;
+  kind_before : IfSome l.link.before (λ before. kind_of before ≡ blocks_256);
+  stands_before : IfSome l.link.before (λ before. IsTrue (stands_among l.files before));
+  begun : l.link.before ≡ None → l.left ≡ most_searched + 1;
+  way : ForSome (g.F.Folder.told l.initial.f).files (IsOnTheWay l.key l.sought.child l.link.word l.link.before l.left);
+}
+
+abbrev pub decreases-loop-link : goal.decreases-loop-link
+decreases-loop-link g l = l.left

@@ -1,0 +1,45 @@
+use Rattle.std.proofs.Common.{◌≡◌, ◌⊎◌, ℕ, List, inr, None, Some, false, Bool, if◌then◌else◌, sym, ◌∙◌, ap, arith}
+use Rattle.blk_image.specs.Bytes.{content, word_at}
+use Rattle.blk_format.specs.Address.{file_selector, place}
+use Rattle.blk_format.specs.Records.{entry_size, checks}
+use Rattle.blk_io.specs.declared.folder.FileId.TheVariants as FileId
+use Rattle.blk_io.specs.Faults.{IsShort}
+use Rattle.blk_disk.specs.Sealed.{IsUnsealed}
+use Rattle.blk_disk.proofs.SealedReads.{entry_bytes, entry_seal, record_read, unsealed_is, untold_unsealed}
+use Rattle.blk_chain.specs.declared.reading.Head.{Head}
+use Rattle.blk_entry.proofs.Windows.{entry_room_least}
+use Rattle.blk_entry.proofs.KeyPlaces.{err_damaged}
+use Rattle.blk_chain.proofs.Heads.{head-is}
+use Rattle.blk_chain.proofs.reading.read_head.Given as given
+use Rattle.blk_chain.proofs.reading.read_head.Goals as goal
+
+pub read_block-requires-clause-inside : goal.read_block-requires-clause-inside
+read_block-requires-clause-inside g c = let least = entry_room_least c.args.entry c.requires.kind in omega (arith, least)
+
+unsealed_here : (g : given.Over) (c : goal.After-damage g) → IsUnsealed (g.F.Folder.told c.args.f.now) c.args.entry c.damage.ensures.damage
+unsealed_here g c =
+    let window : List ℕ = c.read_block.new.out in
+    let fails : checks 92 window ≡ false = ap (checks 92) (sym c.in-Some.ensures.same) ∙ sym c.checks.ensures ∙ c.if-not-checks.true in
+    let found : c.word.result ≡ word_at (content window) 92 = c.word.ensures ∙ ap (λ (l : List ℕ). word_at (content l) 92) c.in-Some.ensures.same in
+    unsealed_is (g.F.Folder.told c.args.f.now) c.args.entry 92 c.word.result window c.damage.ensures.damage (sym (entry_seal c.args.entry c.requires.kind))
+    (ap (λ (b : Bool). if b then None else Some (word_at (content window) 92)) fails ∙ ap Some (sym found)) c.damage.ensures.of_file c.damage.ensures.at_place c.damage.ensures.of_word
+    (λ image there. record_read image c.args.entry 96 window (sym (entry_bytes c.args.entry c.requires.kind)) (c.in_ok-read_block.ensures.bytes image there))
+
+pub returns-then-not-checks-clause-damaged : goal.returns-then-not-checks-clause-damaged
+returns-then-not-checks-clause-damaged g c =
+    err_damaged Head c.damage.result c.damage.ensures.damage (λ damage. IsShort (g.F.Folder.told c.args.f.now) (FileId.Block (file_selector c.args.entry)) (place c.args.entry) entry_size damage ⊎ IsUnsealed (g.F.Folder.told c.args.f.now) c.args.entry damage)
+    c.damage.ensures.is (inr (unsealed_here g c))
+
+pub returns-then-not-checks-clause-untold : goal.returns-then-not-checks-clause-untold
+returns-then-not-checks-clause-untold g c =
+    err_damaged Head c.damage.result c.damage.ensures.damage (λ _. (g.F.Folder.told c.args.f.now).files ≡ None) c.damage.ensures.is
+    (untold_unsealed (g.F.Folder.told c.args.f.now) c.args.entry c.damage.ensures.damage (unsealed_here g c) c.requires.checks)
+
+pub returns-clause-head : goal.returns-clause-head
+returns-clause-head g c image there =
+    let window : List ℕ = c.read_block.new.out in
+    let same = c.in-Some.ensures.same in
+    let h = head-is image c.args.entry window c.word-2.result c.word-3.result c.word-4.result c.word-5.result c.requires.kind (c.in_ok-read_block.ensures.bytes image there)
+    (c.word-2.ensures ∙ ap (λ (l : List ℕ). word_at (content l) 0) same) (c.word-3.ensures ∙ ap (λ (l : List ℕ). word_at (content l) 4) same)
+    (c.word-4.ensures ∙ ap (λ (l : List ℕ). word_at (content l) 32) same) (c.word-5.ensures ∙ ap (λ (l : List ℕ). word_at (content l) 72) same) in
+    record { hash = h.0; next = h.1.0; key_len = h.1.1.0; flags = h.1.1.1 }

@@ -1,0 +1,148 @@
+-- A record is found by its key and its child flag, in the chain of the key's bucket.
+use Rattle.std.specs.Prelude.{◌≡◌, ◌≢◌, ◌⊎◌, ℕ, ◌+◌, ◌<◌, ◌≤◌, List, [], ◌∷◌, ◌++◌, length, Bool, true, false, ◌&&◌, ◌==◌}
+use Rattle.std.specs.declared.option.Option.{Option}
+use Rattle.std.specs.declared.option.Option.TheVariants.{None, Some}
+use Rattle.blk_image.specs.Image.{Image}
+use Rattle.blk_image.specs.Told.{Told}
+use Rattle.blk_format.specs.Address.{is_address, kind_of, file_selector, place, blocks_256}
+use Rattle.blk_format.specs.BlockFiles.{is_among}
+use Rattle.blk_format.specs.Hash.{hash as hash_of}
+use Rattle.blk_format.specs.Headers.{place_of_bucket}
+use Rattle.blk_io.specs.declared.folder.FileId.TheVariants as names
+use Rattle.blk_io.specs.declared.fault.Damage.{Damage}
+use Rattle.blk_io.specs.declared.fault.Fault.{Fault}
+use Rattle.blk_io.specs.declared.fault.Fault.TheVariants.{Damaged}
+use Rattle.blk_volume.specs.View.{Core, entry_at, stock_of}
+use Rattle.blk_volume.specs.Chains.{bucket_of_hash, chain, Linked}
+use Rattle.blk_disk.specs.declared.tables.BlockFiles.{BlockFiles}
+use Rattle.blk_disk.specs.Sealed.{IsUnsealed}
+use Rattle.blk_disk.specs.Tables.{stands_among}
+use Rattle.blk_entry.specs.Keys.{HasKey, IsCut, IsMisplaced}
+use Rattle.blk_chain.specs.declared.found.Found.{Found}
+use Rattle.blk_chain.specs.declared.finding.Step.{Step}
+use Rattle.blk_chain.specs.declared.finding.Step.TheVariants.{Here, On}
+use Rattle.blk_chain.specs.declared.reading.Head.{Head}
+use Rattle.blk_chain.specs.Naming.{HasName, IsWhole}
+use Rattle.blk_chain.specs.Unlinking.{StandsBehind}
+
+-- the bucket of a key
+abbrev pub bucket_of_key : List ℕ → ℕ
+bucket_of_key key = bucket_of_hash (hash_of key)
+
+-- the records of its chain
+abbrev pub chained_for : Image → List ℕ → List ℕ
+chained_for image key = (chain (stock_of image) (bucket_of_key key)).reached
+
+-- the most records of a chain that is searched
+abbrev pub most_searched : ℕ
+most_searched = 131072
+
+-- the chain of a key's bucket can be searched: it ends at the word 0, it isn't too long, and each of its records has a key
+pub record CanBeSearched (key : List ℕ) (image : Image) : Type 0 where
+  pub whole : IsWhole (stock_of image) (bucket_of_key key)
+  pub few : length (chained_for image key) ≤ most_searched
+  pub keys : (w : ℕ) → is_among (chained_for image key) w ≡ true → HasKey w image
+
+-- none of these words names a record with this key and child flag
+abbrev pub NoneHasName : List ℕ → List ℕ → Bool → Image → Type 0
+NoneHasName words key is_child image = (w : ℕ) → is_among words w ≡ true → HasName (stock_of image) key is_child w → ⊥
+
+-- words up to one, if there is one
+abbrev pub up_to : List ℕ → Option ℕ → List ℕ
+up_to front None = front
+up_to front (Some before) = front ++ before ∷ []
+
+-- a record has this key and child flag, it stands in the chain behind this one, and it is the first there that has
+pub record IsFound (key : List ℕ) (is_child : Bool) (entry : ℕ) (before : Option ℕ) (image : Image) : Type 0 where
+  pub named : HasName (stock_of image) key is_child entry
+  pub front : List ℕ
+  pub behind : List ℕ
+  pub stands : StandsBehind (chained_for image key) entry before front behind
+  pub first : NoneHasName (up_to front before) key is_child image
+
+-- what a search gives: a record that is found, or nothing where no record of the chain has the key and the child flag
+abbrev pub IsAnswer : List ℕ → Bool → Option Found → Image → Type 0
+IsAnswer key is_child None image = NoneHasName (chained_for image key) key is_child image
+IsAnswer key is_child (Some found) image = IsFound key is_child found.entry found.before image
+
+-- The damages of a search.
+
+-- whether a word names a record that stands
+unfoldable pub names_record : BlockFiles → ℕ → Bool
+names_record files w = is_address w && ((kind_of w == blocks_256) && stands_among files w)
+
+-- a damage is that of the word of a bucket, or of the next of a record
+abbrev pub IsOfLink : ℕ → Option ℕ → Damage → Type 0
+IsOfLink bucket None damage = (damage.file ≡ names.Index) × (damage.at ≡ place_of_bucket bucket)
+IsOfLink bucket (Some before) damage = (damage.file ≡ names.Block (file_selector before)) × (damage.at ≡ place before + 4)
+
+-- a word at which a chain goes on names no record that stands
+pub record IsAstray (files : BlockFiles) (bucket : ℕ) (damage : Damage) : Type 0 where
+  pub before : Option ℕ
+  pub link : IsOfLink bucket before damage
+  pub some : damage.found ≢ 0
+  pub astray : names_record files damage.found ≡ false
+
+-- a chain goes on behind the last record that a search passes
+pub record IsLong (bucket : ℕ) (damage : Damage) : Type 0 where
+  pub last : ℕ
+  pub link : IsOfLink bucket (Some last) damage
+  pub some : damage.found ≢ 0
+
+-- a record that stands doesn't check, or the length or the place of its key is wrong
+pub record IsWrongRecord (files : BlockFiles) (told : Told) (damage : Damage) : Type 0 where
+  pub entry : ℕ
+  pub stands : names_record files entry ≡ true
+  pub wrong : IsUnsealed told entry damage ⊎ IsMisplaced files entry damage
+
+-- a damage of a search: too few bytes, a word that names no record, a wrong record, or a chain that is too long
+abbrev pub IsSearchDamage : BlockFiles → Told → ℕ → Damage → Type 0
+IsSearchDamage files told bucket damage = IsCut told damage ⊎ (IsAstray files bucket damage ⊎ (IsWrongRecord files told damage ⊎ IsLong bucket damage))
+
+-- Steps of a search.
+
+-- a word names a record that checks and has a key
+pub record IsKeyed (w : ℕ) (image : Image) : Type 0 where
+  pub core : Core
+  pub here : (stock_of image).entry w ≡ Some core
+  pub good : core.checks ≡ true
+  pub key : HasKey w image
+
+-- the words of a record that a search reads
+pub record IsHead (entry : ℕ) (head : Head) (image : Image) : Type 0 where
+  pub hash : head.hash ≡ (entry_at image entry).hash
+  pub next : head.next ≡ (entry_at image entry).next
+  pub key_len : head.key_len ≡ (entry_at image entry).key_len
+  pub flags : head.flags ≡ (entry_at image entry).flags
+
+-- a fault is a damage of the word of a link
+pub record IsLinkDamage (bucket : ℕ) (before : Option ℕ) (found : ℕ) (fault : Fault) : Type 0 where
+  pub damage : Damage
+  pub is : fault ≡ Damaged damage
+  pub link : IsOfLink bucket before damage
+  pub of_word : damage.found ≡ found
+
+-- what a step finds at a word: a record that stands, and the next record's word where it isn't the one
+abbrev pub StandsAt : BlockFiles → ℕ → Step → Type 0
+StandsAt files w (Here entry) = (entry ≡ w) × (names_record files w ≡ true)
+StandsAt files w (On link) = (link.before ≡ Some w) × (names_record files w ≡ true)
+
+-- the record has the key and the child flag, or it hasn't and the search goes on at its next
+abbrev pub IsStep : List ℕ → Bool → ℕ → Step → Image → Type 0
+IsStep key is_child w (Here entry) image = HasName (stock_of image) key is_child w
+IsStep key is_child w (On link) image = (link.word ≡ (stock_of image).follow w) × (HasName (stock_of image) key is_child w → ⊥)
+
+-- words end with this one, or there is none
+abbrev pub EndsWith : List ℕ → Option ℕ → Type 0
+EndsWith words None = words ≡ []
+EndsWith words (Some w) = (front : List ℕ) × (words ≡ front ++ w ∷ [])
+
+-- a search has passed some records, none of which is the one, and fewer than so many are linked from its word on
+pub record IsOnTheWay (key : List ℕ) (is_child : Bool) (word : ℕ) (before : Option ℕ) (left : ℕ) (image : Image) : Type 0 where
+  pub passed : List ℕ
+  pub rest : List ℕ
+  pub all : chained_for image key ≡ passed ++ rest
+  pub last : EndsWith passed before
+  pub others : NoneHasName passed key is_child image
+  pub linked : Linked (stock_of image) (bucket_of_key key) word rest
+  pub few : length rest < left

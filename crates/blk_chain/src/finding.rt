@@ -1,0 +1,261 @@
+// Records that are found by their keys.
+ghost use Rattle.std.specs.Prelude.{◌≡◌, ◌≢◌, ◌↔◌, ◌+◌, ◌≤◌, IfOk, IfSome, IsOk, IsTrue, None, Some, true, if◌then◌else◌};
+ghost use Rattle.std.specs.Option.{ForSome};
+ghost use Rattle.blk_image.specs.Image.{Index as index, length_of};
+ghost use Rattle.blk_image.specs.Told.{Rises, Stays};
+ghost use Rattle.blk_format.specs.Address.{blocks_256, kind_of};
+ghost use Rattle.blk_format.specs.Hash.{hash as hash_of};
+ghost use Rattle.blk_format.specs.Headers.{index_length};
+ghost use Rattle.blk_io.specs.Faults.{IfDamaged, IfDevice};
+ghost use Rattle.blk_volume.specs.Chains.{bucket_of_hash};
+ghost use Rattle.blk_volume.specs.View.{stock_of};
+ghost use Rattle.blk_disk.specs.Sealed.{RecordChecks};
+ghost use Rattle.blk_disk.specs.Tables.{Agrees, stands_among};
+ghost use Rattle.blk_entry.specs.Keys.{HasKey, IsKeyDamage};
+ghost use Rattle.blk_chain.specs.Naming.{HasName};
+ghost use Rattle.blk_chain.specs.Unlinking.{CanBeUnlinked};
+ghost use Rattle.blk_chain.specs.Finding.{CanBeSearched, IsAnswer, IsAstray, IsHead, IsKeyed, IsLinkDamage, IsOnTheWay, IsSearchDamage, IsStep, StandsAt, bucket_of_key, most_searched, names_record};
+
+use crate::found::Found;
+use crate::reading::{Head, damage, read_head};
+use blk_addr::{Addr, Kind};
+use blk_disk::BlockFiles;
+use blk_entry::key_equals;
+use blk_index::bucket;
+use blk_io::{Damage, Fault, FileId, Folder};
+use blk_record::super_fast_hash;
+
+// The most records that a search passes.
+const MOST_RECORDS: u32 = 131_073;
+
+// The number of the buckets, and the place of the first bucket's word.
+const BUCKETS: u32 = 65536;
+
+const TABLE: u64 = 368;
+
+// The place of the next in a record, and the flags of a child.
+const NEXT: u64 = 4;
+
+const CHILD: u32 = 2;
+
+// Where a search stands: at a word, behind the record that has it as its next, or at the front of a chain.
+#[derive(Clone, Copy, Debug)]
+struct Link {
+    word: u32,
+    before: Option<Addr>,
+}
+
+// What a record is sought by beside its key: the hash of the key, and the child flag.
+#[derive(Clone, Copy, Debug)]
+struct Sought {
+    hash: u32,
+    child: bool,
+}
+
+// What a step finds: the record that is sought, or another one behind which the search goes on.
+enum Step {
+    Here(Addr),
+    On(Link),
+}
+
+/// Finds the record with a key and a child flag in the chain of the key's bucket, and the record
+/// before it in the chain. A record has the key where it also has its hash. Where more than one has
+/// it, the first of the chain is found.
+///
+/// One folder call reads the word of the bucket, and one each record that is passed. Only where hash,
+/// length and child flag agree is the key read too: by one call more for the record, and by one for
+/// each 512 bytes of the key up to the first that differs. So a record with another hash, length or
+/// flag costs one call, and none costs more than three whose key has at most 512 bytes.
+///
+/// A damage is a read that gave too few bytes, a word of the chain that names no record that stands,
+/// a record that doesn't check or whose key has a wrong length or place, or a chain that goes on
+/// behind 131073 records. A folder that tells its files never gives one.
+pub fn find<F: Folder>(
+    f: &mut F,
+    files: &BlockFiles,
+    key: &[u8],
+    child: bool,
+) -> Result<Option<Found>, Fault>
+    requires complete { ForSome (F.told f.old).files (λ image. length_of image index ≡ index_length) }
+    requires agrees { ForSome (F.told f.old).files (Agrees files.now) }
+    requires searchable { ForSome (F.told f.old).files (CanBeSearched key.now) }
+    ensures found { IfOk result (λ answer. ForSome (F.told f.old).files (IsAnswer key.now child answer)) }
+
+    // What is found can be unlinked.
+    ensures kind { IfOk result (λ answer. IfSome answer (λ found. kind_of found.entry ≡ blocks_256)) }
+    ensures stands { IfOk result (λ answer. IfSome answer (λ found. IsTrue (stands_among files.now found.entry))) }
+    ensures kind_before { IfOk result (λ answer. IfSome answer (λ found. IfSome found.before (λ before. kind_of before ≡ blocks_256))) }
+    ensures stands_before { IfOk result (λ answer. IfSome answer (λ found. IfSome found.before (λ before. IsTrue (stands_among files.now before)))) }
+    ensures linked { IfOk result (λ answer. IfSome answer (λ found. ForSome (F.told f.old).files (CanBeUnlinked found.entry found.before))) }
+
+    // A folder that tells its files never gives a damage.
+    ensures damaged { IfDamaged result (IsSearchDamage files.now (F.told f.old) (bucket_of_key key.now)) }
+    ensures untold { IfDamaged result (λ _. (F.told f.old).files ≡ None) }
+
+    ensures stays { Stays (F.told f.old) (F.told f.new) }
+    ensures later { F.faults f.old ≤ F.faults f.new }
+    ensures device { IfDevice result (Rises (F.faults f.old) (F.faults f.new)) }
+{
+    let hash = super_fast_hash(key);
+    let word = bucket(f, (hash % BUCKETS) as u16)?;
+    let front = Link { word, before: None };
+    search(f, files, key, &Sought { hash, child }, front)
+}
+
+// Follows a chain from the word of its bucket on, up to the record that is sought.
+fn search<F: Folder>(
+    f: &mut F,
+    files: &BlockFiles,
+    key: &[u8],
+    sought: &Sought,
+    front: Link,
+) -> Result<Option<Found>, Fault>
+    requires hash { sought.now.hash ≡ hash_of key.now }
+    requires front { front.before ≡ None }
+    requires agrees { ForSome (F.told f.old).files (Agrees files.now) }
+    requires searchable { ForSome (F.told f.old).files (CanBeSearched key.now) }
+    requires way { ForSome (F.told f.old).files (IsOnTheWay key.now sought.now.child front.word None (most_searched + 1)) }
+    ensures found { IfOk result (λ answer. ForSome (F.told f.old).files (IsAnswer key.now sought.now.child answer)) }
+    ensures kind { IfOk result (λ answer. IfSome answer (λ found. kind_of found.entry ≡ blocks_256)) }
+    ensures stands { IfOk result (λ answer. IfSome answer (λ found. IsTrue (stands_among files.now found.entry))) }
+    ensures kind_before { IfOk result (λ answer. IfSome answer (λ found. IfSome found.before (λ before. kind_of before ≡ blocks_256))) }
+    ensures stands_before { IfOk result (λ answer. IfSome answer (λ found. IfSome found.before (λ before. IsTrue (stands_among files.now before)))) }
+    ensures linked { IfOk result (λ answer. IfSome answer (λ found. ForSome (F.told f.old).files (CanBeUnlinked found.entry found.before))) }
+    ensures damaged { IfDamaged result (IsSearchDamage files.now (F.told f.old) (bucket_of_key key.now)) }
+    ensures untold { IfDamaged result (λ _. (F.told f.old).files ≡ None) }
+    ensures stays { Stays (F.told f.old) (F.told f.new) }
+    ensures later { F.faults f.old ≤ F.faults f.new }
+    ensures device { IfDevice result (Rises (F.faults f.old) (F.faults f.new)) }
+{
+    let mut link = front;
+    let mut left = MOST_RECORDS;
+    while link.word != 0 {
+        if left == 0 {
+            return Err(damage_of(sought.hash, &link));
+        }
+        left -= 1;
+        match look_at(f, files, key, sought, &link)? {
+            Step::Here(entry) => {
+                return Ok(Some(Found {
+                    entry,
+                    before: link.before,
+                }));
+            }
+            Step::On(next) => link = next,
+        }
+    }
+    Ok(None)
+}
+
+// Reads the record of a word, and compares it with what is sought.
+fn look_at<F: Folder>(
+    f: &mut F,
+    files: &BlockFiles,
+    key: &[u8],
+    sought: &Sought,
+    link: &Link,
+) -> Result<Step, Fault>
+    requires hash { sought.now.hash ≡ hash_of key.now }
+    requires some { link.now.word ≢ 0 }
+    requires kind_before { IfSome link.now.before (λ before. kind_of before ≡ blocks_256) }
+    requires agrees { ForSome (F.told f.old).files (Agrees files.now) }
+    requires keyed { ForSome (F.told f.old).files (IsKeyed link.now.word) }
+    ensures step { IfOk result (λ step. ForSome (F.told f.old).files (IsStep key.now sought.now.child link.now.word step)) }
+    ensures stands { IfOk result (StandsAt files.now link.now.word) }
+    ensures damaged { IfDamaged result (IsSearchDamage files.now (F.told f.old) (bucket_of_key key.now)) }
+    ensures untold { IfDamaged result (λ _. (F.told f.old).files ≡ None) }
+    ensures stays { Stays (F.told f.old) (F.told f.new) }
+    ensures later { F.faults f.old ≤ F.faults f.new }
+    ensures device { IfDevice result (Rises (F.faults f.old) (F.faults f.new)) }
+{
+    let entry = record_of(files, sought.hash, link)?;
+    let head = read_head(f, files, entry)?;
+    if has_name(f, files, entry, &head, key, sought)? {
+        return Ok(Step::Here(entry));
+    }
+    Ok(Step::On(Link {
+        word: head.next,
+        before: Some(entry),
+    }))
+}
+
+// Whether a record has the key and the child flag. Its key is read only where hash, length and flag agree.
+fn has_name<F: Folder>(
+    f: &mut F,
+    files: &BlockFiles,
+    entry: Addr,
+    head: &Head,
+    key: &[u8],
+    sought: &Sought,
+) -> Result<bool, Fault>
+    requires hash { sought.now.hash ≡ hash_of key.now }
+    requires kind { kind_of entry ≡ blocks_256 }
+    requires stands { IsTrue (stands_among files.now entry) }
+    requires agrees { ForSome (F.told f.old).files (Agrees files.now) }
+    requires checks { ForSome (F.told f.old).files (RecordChecks entry) }
+    requires keyed { ForSome (F.told f.old).files (IsKeyed entry) }
+    requires head { ForSome (F.told f.old).files (IsHead entry head.now) }
+    ensures named { IfOk result (λ same. ForSome (F.told f.old).files (λ image. IsTrue same ↔ HasName (stock_of image) key.now sought.now.child entry)) }
+    ensures damaged { IfDamaged result (IsKeyDamage files.now (F.told f.old) entry) }
+    ensures untold { IfDamaged result (λ _. (F.told f.old).files ≡ None) }
+    ensures stays { Stays (F.told f.old) (F.told f.new) }
+    ensures later { F.faults f.old ≤ F.faults f.new }
+    ensures device { IfDevice result (Rises (F.faults f.old) (F.faults f.new)) }
+{
+    if head.hash != sought.hash {
+        return Ok(false);
+    }
+    if head.key_len as usize != key.len() {
+        return Ok(false);
+    }
+    if (head.flags == CHILD) != sought.child {
+        return Ok(false);
+    }
+    key_equals(f, files, entry, key)
+}
+
+// The record of a word, where it names one that stands.
+fn record_of(files: &BlockFiles, hash: u32, link: &Link) -> Result<Addr, Fault>
+    requires some { link.now.word ≢ 0 }
+    requires kind_before { IfSome link.now.before (λ before. kind_of before ≡ blocks_256) }
+    ensures entry { IfOk result (λ entry. entry ≡ link.now.word) }
+    ensures stands { IfOk result (λ entry. IsTrue (names_record files.now entry)) }
+    ensures right { names_record files.now link.now.word ≡ true → IsOk result }
+    ensures damaged { IfDamaged result (IsAstray files.now (bucket_of_hash hash)) }
+    ensures never { IfDevice result ⊥ }
+{
+    match standing_record(files, link.word) {
+        Some(entry) => Ok(entry),
+        None => Err(damage_of(hash, link)),
+    }
+}
+
+// The record that a word names, where it stands.
+#[tactic(auto, unfolding(crate::specs::Finding::names_record))]
+fn standing_record(files: &BlockFiles, word: u32) -> Option<Addr>
+    ensures { result ≡ (if names_record files.now word then Some word else None) }
+{
+    let Some(addr) = Addr::from_word(word) else {
+        return None;
+    };
+    if addr.kind() == Kind::B256 && files.stands(addr) {
+        Some(addr)
+    } else {
+        None
+    }
+}
+
+// The damage of the word of a link: of the word of a bucket, or of a record's next.
+fn damage_of(hash: u32, link: &Link) -> Fault
+    requires kind_before { IfSome link.now.before (λ before. kind_of before ≡ blocks_256) }
+    ensures { IsLinkDamage (bucket_of_hash hash) link.now.before link.now.word result }
+{
+    match link.before {
+        Some(before) => damage(before, NEXT, link.word),
+        None => Fault::Damaged(Damage {
+            file: FileId::Index,
+            at: TABLE + 4 * u64::from(hash % BUCKETS),
+            found: link.word,
+        }),
+    }
+}
