@@ -57,22 +57,6 @@ pub keyed-checks : (image : Image) (w : ℕ) → AreBytes image → IsKeyed w im
 keyed-checks image w bytes keyed =
     record_checks image w bytes (shown-kind image w keyed.core keyed.here) (ap (λ (c : Core). c.checks) (shown-core image w keyed.core keyed.here) ∙ keyed.good)
 
--- the words that were read
-pub head-is : (image : Image) (w : ℕ) (window : List ℕ) (h n k f : ℕ) → kind_of w ≡ blocks_256 → window ≡ range_at (byte image (Block (file_selector w))) (place w + 0) 96
-    → h ≡ word_at (content window) 0 → n ≡ word_at (content window) 4 → k ≡ word_at (content window) 32 → f ≡ word_at (content window) 72
-    → (h ≡ (entry_at image w).hash) × ((n ≡ (entry_at image w).next) × ((k ≡ (entry_at image w).key_len) × (f ≡ (entry_at image w).flags)))
-unfolding entry_in
-head-is image w window h n k f kind read eh en ek ef = (
-  eh ∙ head_word image w 0 window kind (omega arith) read ∙ ap (word image (Block (file_selector w))) (add-zero (place w)),
-  (
-    en ∙ head_word image w 4 window kind (omega arith) read,
-    (
-      ek ∙ head_word image w 32 window kind (omega arith) read,
-      ef ∙ head_word image w 72 window kind (omega arith) read,
-    ),
-  ),
-)
-
 -- the key of a record that has one
 key-is : (image : Image) (w : ℕ) (core : Core) → (stock_of image).entry w ≡ Some core → HasKey w image → key_at image w ≡ key_of (stock_of image) w core
 unfolding key_at stock_of

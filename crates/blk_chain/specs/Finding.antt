@@ -21,7 +21,6 @@ use Rattle.blk_entry.specs.Keys.{HasKey, IsCut, IsMisplaced}
 use Rattle.blk_chain.specs.declared.found.Found.{Found}
 use Rattle.blk_chain.specs.declared.finding.Step.{Step}
 use Rattle.blk_chain.specs.declared.finding.Step.TheVariants.{Here, On}
-use Rattle.blk_chain.specs.declared.reading.Head.{Head}
 use Rattle.blk_chain.specs.Naming.{HasName, IsWhole}
 use Rattle.blk_chain.specs.Unlinking.{StandsBehind}
 
@@ -107,13 +106,6 @@ pub record IsKeyed (w : ℕ) (image : Image) : Type 0 where
   pub here : (stock_of image).entry w ≡ Some core
   pub good : core.checks ≡ true
   pub key : HasKey w image
-
--- the words of a record that a search reads
-pub record IsHead (entry : ℕ) (head : Head) (image : Image) : Type 0 where
-  pub hash : head.hash ≡ (entry_at image entry).hash
-  pub next : head.next ≡ (entry_at image entry).next
-  pub key_len : head.key_len ≡ (entry_at image entry).key_len
-  pub flags : head.flags ≡ (entry_at image entry).flags
 
 -- a fault is a damage of the word of a link
 pub record IsLinkDamage (bucket : ℕ) (before : Option ℕ) (found : ℕ) (fault : Fault) : Type 0 where

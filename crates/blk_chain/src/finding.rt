@@ -1,26 +1,25 @@
 // Records that are found by their keys.
-ghost use Rattle.std.specs.Prelude.{◌≡◌, ◌≢◌, ◌↔◌, ◌+◌, ◌≤◌, IfOk, IfSome, IsOk, IsTrue, None, Some, true, if◌then◌else◌};
+ghost use Rattle.std.specs.Prelude.{◌≡◌, ◌≢◌, ◌⊎◌, ◌↔◌, ◌+◌, ◌<◌, ◌≤◌, IfOk, IfSome, IsOk, IsTrue, None, Some, true, if◌then◌else◌};
 ghost use Rattle.std.specs.Option.{ForSome};
 ghost use Rattle.blk_image.specs.Image.{Index as index, length_of};
 ghost use Rattle.blk_image.specs.Told.{Rises, Stays};
 ghost use Rattle.blk_format.specs.Address.{blocks_256, kind_of};
 ghost use Rattle.blk_format.specs.Hash.{hash as hash_of};
 ghost use Rattle.blk_format.specs.Headers.{index_length};
+ghost use Rattle.blk_format.specs.Records.{entry_size};
 ghost use Rattle.blk_io.specs.Faults.{IfDamaged, IfDevice};
 ghost use Rattle.blk_volume.specs.Chains.{bucket_of_hash};
 ghost use Rattle.blk_volume.specs.View.{stock_of};
-ghost use Rattle.blk_disk.specs.Sealed.{RecordChecks};
 ghost use Rattle.blk_disk.specs.Tables.{Agrees, stands_among};
-ghost use Rattle.blk_entry.specs.Keys.{HasKey, IsKeyDamage};
+ghost use Rattle.blk_entry.specs.Keys.{HasKey, IsCut, IsDamageAt, IsHead, IsMisplaced};
 ghost use Rattle.blk_chain.specs.Naming.{HasName};
 ghost use Rattle.blk_chain.specs.Unlinking.{CanBeUnlinked};
-ghost use Rattle.blk_chain.specs.Finding.{CanBeSearched, IsAnswer, IsAstray, IsHead, IsKeyed, IsLinkDamage, IsOnTheWay, IsSearchDamage, IsStep, StandsAt, bucket_of_key, most_searched, names_record};
+ghost use Rattle.blk_chain.specs.Finding.{CanBeSearched, IsAnswer, IsAstray, IsKeyed, IsLinkDamage, IsOnTheWay, IsSearchDamage, IsStep, StandsAt, bucket_of_key, most_searched, names_record};
 
 use crate::found::Found;
-use crate::reading::{Head, damage, read_head};
 use blk_addr::{Addr, Kind};
-use blk_disk::BlockFiles;
-use blk_entry::key_equals;
+use blk_disk::{BlockFiles, file_of};
+use blk_entry::{Head, key_is, read_head};
 use blk_index::bucket;
 use blk_io::{Damage, Fault, FileId, Folder};
 use blk_record::super_fast_hash;
@@ -32,6 +31,11 @@ const MOST_RECORDS: u32 = 131_073;
 const BUCKETS: u32 = 65536;
 
 const TABLE: u64 = 368;
+
+// The byte at which the first block of a block file begins, and the bytes of a block of a record.
+const HEADER: u64 = 8192;
+
+const BLOCK: u64 = 256;
 
 // The place of the next in a record, and the flags of a child.
 const NEXT: u64 = 4;
@@ -63,9 +67,8 @@ enum Step {
 /// it, the first of the chain is found.
 ///
 /// One folder call reads the word of the bucket, and one each record that is passed. Only where hash,
-/// length and child flag agree is the key read too: by one call more for the record, and by one for
-/// each 512 bytes of the key up to the first that differs. So a record with another hash, length or
-/// flag costs one call, and none costs more than three whose key has at most 512 bytes.
+/// length and child flag agree is the key read too: by one call, or by two where it has more than 16398
+/// bytes and the first of them are the same. So no record costs more than three calls.
 ///
 /// A damage is a read that gave too few bytes, a word of the chain that names no record that stands,
 /// a record that doesn't check or whose key has a wrong length or place, or a chain that goes on
@@ -192,11 +195,10 @@ fn has_name<F: Folder>(
     requires kind { kind_of entry ≡ blocks_256 }
     requires stands { IsTrue (stands_among files.now entry) }
     requires agrees { ForSome (F.told f.old).files (Agrees files.now) }
-    requires checks { ForSome (F.told f.old).files (RecordChecks entry) }
     requires keyed { ForSome (F.told f.old).files (IsKeyed entry) }
-    requires head { ForSome (F.told f.old).files (IsHead entry head.now) }
+    requires head { ForSome (F.told f.old).files (λ image. IsHead image entry head.now) }
     ensures named { IfOk result (λ same. ForSome (F.told f.old).files (λ image. IsTrue same ↔ HasName (stock_of image) key.now sought.now.child entry)) }
-    ensures damaged { IfDamaged result (IsKeyDamage files.now (F.told f.old) entry) }
+    ensures damaged { IfDamaged result (λ damage. IsCut (F.told f.old) damage ⊎ IsMisplaced files.now entry damage) }
     ensures untold { IfDamaged result (λ _. (F.told f.old).files ≡ None) }
     ensures stays { Stays (F.told f.old) (F.told f.new) }
     ensures later { F.faults f.old ≤ F.faults f.new }
@@ -211,7 +213,7 @@ fn has_name<F: Folder>(
     if (head.flags == CHILD) != sought.child {
         return Ok(false);
     }
-    key_equals(f, files, entry, key)
+    key_is(f, files, entry, head, key)
 }
 
 // The record of a word, where it names one that stands.
@@ -258,4 +260,18 @@ fn damage_of(hash: u32, link: &Link) -> Fault
             found: link.word,
         }),
     }
+}
+
+// The damage of a word of a record.
+fn damage(entry: Addr, at: u64, found: u32) -> Fault
+    requires kind { kind_of entry ≡ blocks_256 }
+    requires small { at < entry_size }
+    ensures { IsDamageAt entry at found result }
+{
+    let at = HEADER + u64::from(entry.start()) * BLOCK + at;
+    Fault::Damaged(Damage {
+        file: file_of(entry),
+        at,
+        found,
+    })
 }

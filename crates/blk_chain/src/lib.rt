@@ -4,7 +4,6 @@
 mod finding;
 mod found;
 mod linking;
-mod reading;
 mod unlinking;
 
 pub use finding::find;

@@ -200,11 +200,11 @@ fn twins(alloc: Global) -> Result<(Option<(u32, u32)>, Option<(u32, u32)>, u64),
 fn keys_of_one_hash_are_told_apart(rt: HostRuntime) {
     assert_eq!(rt; super_fast_hash(TWINS[0]), super_fast_hash(TWINS[1]));
 
-    // Eight calls load the files, one reads the word of the bucket, and three each record and its key.
+    // Eight calls load the files, one reads the word of the bucket, and two each record and its key.
     let found = (
         Some((WORDS[0], WORDS[1])),
         Some((WORDS[1], 0)),
-        8 + 1 + 3 + 3,
+        8 + 1 + 2 + 2,
     );
     assert_eq!(rt; twins(rt.alloc()), Ok(found));
 }
@@ -219,8 +219,8 @@ fn calls_of_finding(alloc: Global) -> Result<u64, Fault> {
 
 #[test]
 fn records_of_other_hashes_are_passed_by_one_call_each(rt: HostRuntime) {
-    // Two records are passed, and three calls read the last and its key.
-    assert_eq!(rt; calls_of_finding(rt.alloc()), Ok(8 + 1 + 2 + 3));
+    // Two records are passed, and two calls read the last and its key.
+    assert_eq!(rt; calls_of_finding(rt.alloc()), Ok(8 + 1 + 2 + 2));
 }
 
 // What is found of a key: of a child where there is none, of a child, and of one that is none, with the
@@ -241,7 +241,7 @@ fn a_child_has_another_name(rt: HostRuntime) {
     let found = [None, Some((WORDS[1], 0)), Some((WORDS[0], WORDS[1]))];
 
     // The child is passed by one call.
-    assert_eq!(rt; with_child(rt.alloc()), Ok((found, 8 + 1 + 1 + 3)));
+    assert_eq!(rt; with_child(rt.alloc()), Ok((found, 8 + 1 + 1 + 2)));
 }
 
 // The place of the word of the bucket of the three keys.

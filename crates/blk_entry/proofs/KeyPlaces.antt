@@ -51,11 +51,17 @@ head_word image w q window kind inside read =
     let size : record_size w ≡ 96 = entry_bytes w kind in
     ap (λ (l : List ℕ). word_at (content l) q) (record_read image w 96 window (sym size) read) ∙ record_word image w q (omega (arith, size, inside))
 
-pub head_is : (image : Image) (w : ℕ) (window : List ℕ) (h k l : ℕ) → kind_of w ≡ blocks_256 → window ≡ range_at (byte image (Block (file_selector w))) (place w + 0) 96
-    → h ≡ word_at (content window) 0 → k ≡ word_at (content window) 32 → l ≡ word_at (content window) 36 → (h ≡ (entry_at image w).hash) × (k ≡ (entry_at image w).key_len) × (l ≡ (entry_at image w).long_key)
+pub head_is : (image : Image) (w : ℕ) (window : List ℕ) (head : Head) → kind_of w ≡ blocks_256 → window ≡ range_at (byte image (Block (file_selector w))) (place w + 0) 96
+    → head.hash ≡ word_at (content window) 0 → head.next ≡ word_at (content window) 4 → head.key_len ≡ word_at (content window) 32 → head.long_key ≡ word_at (content window) 36 → head.flags ≡ word_at (content window) 72
+    → IsHead image w head
 unfolding entry_in
-head_is image w window h k l kind read eh ek el =
-    (eh ∙ head_word image w 0 window kind (omega arith) read ∙ ap (word image (Block (file_selector w))) (add-zero (place w)), ek ∙ head_word image w 32 window kind (omega arith) read, el ∙ head_word image w 36 window kind (omega arith) read)
+head_is image w window head kind read hash next key_len long_key flags = record {
+  hash = hash ∙ head_word image w 0 window kind (omega arith) read ∙ ap (word image (Block (file_selector w))) (add-zero (place w));
+  next = next ∙ head_word image w 4 window kind (omega arith) read;
+  key_len = key_len ∙ head_word image w 32 window kind (omega arith) read;
+  long_key = long_key ∙ head_word image w 36 window kind (omega arith) read;
+  flags = flags ∙ head_word image w 72 window kind (omega arith) read;
+}
 
 -- a key in its record
 pub may_have_parts : (w k : ℕ) → may_have w k ≡ true → (1 ≤ k) × (k ≤ 32796) × (block_count w ≡ entry_blocks k)
@@ -418,11 +424,6 @@ piece_is key bytes old f i k at a n is clipped many read = record {
     past beyond =
         let none : n ≡ 0 = omega (arith, many, clipped, beyond) in
         ap (λ (m : ℕ). take m (drop at key)) none ∙ ap (λ (m : ℕ). range_at f (i + a) m) (sym none)
-
--- only a folder that tells nothing does what is impossible for one that tells
-pub untold_where : (files : Option Image) → ForSome files (λ image. ⊥) → files ≡ None
-untold_where None never = refl
-untold_where (Some image) never = absurd (never image refl)
 
 -- a key by the place that was found for it
 pub key_in_place : (files : BlockFiles) (image : Image) (entry k l : ℕ) (key : List ℕ) (place : KeyPlace) → IsKey files image entry key k l → IsPlaceOf entry k l place → key ≡ data_at image place.addr place.skip place.len

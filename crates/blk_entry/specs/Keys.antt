@@ -105,11 +105,13 @@ IsKeyDamage files told entry damage = IsCut told damage ⊎ (IsUnsealed told ent
 
 -- Steps of the reading.
 
--- the words of a record that say what key it has
+-- the words of a record that say what it is, and where its chain goes on
 pub record IsHead (image : Image) (entry : ℕ) (head : Head) : Type 0 where
   pub hash : head.hash ≡ (entry_at image entry).hash
+  pub next : head.next ≡ (entry_at image entry).next
   pub key_len : head.key_len ≡ (entry_at image entry).key_len
   pub long_key : head.long_key ≡ (entry_at image entry).long_key
+  pub flags : head.flags ≡ (entry_at image entry).flags
 
 -- the longest key that lies in its record
 abbrev pub is_short : ℕ → Bool

@@ -1,27 +1,28 @@
 // Keys that are compared with those of entry records.
-ghost use Rattle.std.specs.Prelude.{◌≡◌, ◌≤◌, ◌↔◌, IfOk, IsTrue, None, length};
+ghost use Rattle.std.specs.Prelude.{◌≡◌, ◌⊎◌, ◌≤◌, ◌↔◌, IfOk, IsTrue, None, length};
 ghost use Rattle.std.specs.Option.{ForSome};
 ghost use Rattle.blk_image.specs.Told.{Rises, Stays};
 ghost use Rattle.blk_format.specs.Address.{blocks_256, kind_of};
 ghost use Rattle.blk_io.specs.Faults.{IfDamaged, IfDevice};
 ghost use Rattle.blk_disk.specs.Tables.{Agrees, stands_among};
 ghost use Rattle.blk_disk.specs.Sealed.{RecordChecks};
-ghost use Rattle.blk_entry.specs.Keys.{HasKey, IsCut, IsEntryOf, IsInFile, IsInside, IsKeyDamage, data_at};
+ghost use Rattle.blk_entry.specs.Keys.{HasKey, IsCut, IsEntryOf, IsHead, IsInFile, IsInside, IsKeyDamage, IsMisplaced, data_at};
 
 use crate::data::read_data;
-use crate::keys::{key_place, read_head};
+use crate::keys::{Head, key_place, read_head};
 use blk_addr::Addr;
 use blk_disk::BlockFiles;
 use blk_io::{Fault, Folder};
 use blk_record::super_fast_hash;
 
-// The bytes that are compared at a time.
-const PIECE: usize = 512;
+// The bytes that are compared at a time: half of the longest key.
+const PIECE: usize = 16_398;
 
 /// Whether an entry has this very key, and its hash.
 ///
-/// One folder call reads the record. Where its hash and length are those of the key, the key is read in
-/// pieces up to the first that differs. A damage is one of those that `key_piece` gives.
+/// One folder call reads the record. Where its hash and length are those of the key, one more reads the
+/// key, or two where it has more than 16398 bytes; the second only where the first piece is the same. A
+/// damage is one of those that `key_piece` gives.
 pub fn key_equals<F: Folder>(
     f: &mut F,
     files: &BlockFiles,
@@ -41,13 +42,38 @@ pub fn key_equals<F: Folder>(
     ensures device { IfDevice result (Rises (F.faults f.old) (F.faults f.new)) }
 {
     let head = read_head(f, files, entry)?;
+    key_is(f, files, entry, &head, key)
+}
+
+/// Whether an entry has this very key, and its hash, where the words of its record were read before.
+///
+/// The record isn't read again. Otherwise it is as in `key_equals`.
+pub fn key_is<F: Folder>(
+    f: &mut F,
+    files: &BlockFiles,
+    entry: Addr,
+    head: &Head,
+    key: &[u8],
+) -> Result<bool, Fault>
+    requires kind { kind_of entry ≡ blocks_256 }
+    requires stands { IsTrue (stands_among files.now entry) }
+    requires agrees { ForSome (F.told f.old).files (Agrees files.now) }
+    requires head { ForSome (F.told f.old).files (λ image. IsHead image entry head.now) }
+    requires key { ForSome (F.told f.old).files (HasKey entry) }
+    ensures equal { IfOk result (λ same. ForSome (F.told f.old).files (λ image. IsTrue same ↔ IsEntryOf key.now entry image)) }
+    ensures damaged { IfDamaged result (λ damage. IsCut (F.told f.old) damage ⊎ IsMisplaced files.now entry damage) }
+    ensures untold { IfDamaged result (λ _. (F.told f.old).files ≡ None) }
+    ensures stays { Stays (F.told f.old) (F.told f.new) }
+    ensures later { F.faults f.old ≤ F.faults f.new }
+    ensures device { IfDevice result (Rises (F.faults f.old) (F.faults f.new)) }
+{
     if head.key_len as usize != key.len() {
         return Ok(false);
     }
     if head.hash != super_fast_hash(key) {
         return Ok(false);
     }
-    let place = key_place(files, entry, head)?;
+    let place = key_place(files, entry, *head)?;
     data_is(f, files, place.addr, place.skip, key)
 }
 
@@ -90,7 +116,7 @@ fn piece_is<F: Folder>(
     at: u32,
     bytes: &[u8],
 ) -> Result<bool, Fault>
-    requires few { length bytes.now ≤ 512 }
+    requires few { length bytes.now ≤ 16398 }
     requires inside { IsInside files.now addr at (length bytes.now) }
     requires agrees { ForSome (F.told f.old).files (Agrees files.now) }
     requires external { ForSome (F.told f.old).files (IsInFile addr at (length bytes.now)) }

@@ -38,12 +38,19 @@ const HEADER: u64 = 8192;
 
 const BLOCK: u64 = 256;
 
-// The words of a record that say what key it has.
+/// The words of a record that say what it is, and where its chain goes on.
 #[derive(Clone, Copy, Debug)]
-pub(crate) struct Head {
-    pub(crate) hash: u32,
-    pub(crate) key_len: u32,
-    pub(crate) long_key: u32,
+pub struct Head {
+    /// The hash of the key.
+    pub hash: u32,
+    /// The word of the next record in the chain, or 0.
+    pub next: u32,
+    /// The number of the key's bytes.
+    pub key_len: u32,
+    /// The word of the storage of a long key, or 0.
+    pub long_key: u32,
+    /// 1 where the record is of a sparse entry, 2 where it is of a part of one.
+    pub flags: u32,
 }
 
 // Where a key lies: its bytes in the data of an address, behind some others.
@@ -89,8 +96,11 @@ pub fn key_piece<F: Folder>(
     Ok(n)
 }
 
-// Reads the words of a record that say what key it has. The record is to check.
-pub(crate) fn read_head<F: Folder>(
+/// Reads the words of a record that say what it is, by one folder call.
+///
+/// A damage is a read that gave too few bytes, or a record that doesn't check. A folder that tells its
+/// files never gives one.
+pub fn read_head<F: Folder>(
     f: &mut F,
     files: &BlockFiles,
     entry: Addr,
@@ -116,8 +126,10 @@ pub(crate) fn read_head<F: Folder>(
     }
     Ok(Head {
         hash: record.word(0),
+        next: record.word(4),
         key_len: record.word(32),
         long_key: record.word(36),
+        flags: record.word(72),
     })
 }
 

@@ -9,14 +9,12 @@ mod laws;
 mod marks;
 mod writing;
 
-pub use compare::key_equals;
+pub use compare::{key_equals, key_is};
 pub use fields::field;
-pub use keys::key_piece;
+pub use keys::{Head, key_piece, read_head};
 pub use laws::new_entries_are_shown_apart;
 pub use marks::{set_clean, set_dirty};
 pub use writing::{NewEntry, write_entry};
 
-#[cfg(test)]
-mod silent;
 #[cfg(test)]
 mod tests;

@@ -7,11 +7,10 @@ ghost use Rattle.blk_entry.specs.Writing.{FitsKey, ShareNoBlock};
 
 use crate::data::number;
 use crate::keys::{long_key, may_have};
-use crate::silent::Silent;
 use crate::{NewEntry, field, key_equals, key_piece, set_clean, set_dirty, write_entry};
 use blk_addr::Addr;
 use blk_disk::BlockFiles;
-use blk_io::{Failed, Fault, FileId, Folder, MemFolder};
+use blk_io::{Failed, Fault, FileId, Folder, MemFolder, SilentFolder};
 use blk_record::{EntryMut, NodeMut, RecordMut, super_fast_hash};
 use std::alloc::Global;
 use std::test::Fail;
@@ -60,8 +59,8 @@ const MOMENT: u64 = 0x0102_0304_0506_0708;
 const FILL: u8 = 0xEE;
 
 // A folder with the four block files, which have blocks and no allocation.
-fn folder(alloc: Global) -> Result<Silent, Failed> {
-    let mut f = Silent::new(MemFolder::new(alloc));
+fn folder(alloc: Global) -> Result<SilentFolder<MemFolder>, Failed> {
+    let mut f = SilentFolder::new(MemFolder::new(alloc));
     for (n, size) in BLOCKS.iter().enumerate() {
         let file = FileId::Block(n as u8);
         f.set_len(file, SIZE)?;
@@ -84,7 +83,7 @@ fn key_of(alloc: Global, size: usize) -> Result<Vec<u8>, Fail> {
 }
 
 // Writes the record of a key in the first block, by the format alone.
-fn put_record(f: &mut Silent, long_key: u32, key: &[u8]) -> Result<(), Failed> {
+fn put_record(f: &mut SilentFolder<MemFolder>, long_key: u32, key: &[u8]) -> Result<(), Failed> {
     let mut bytes = [0; 96];
     let mut record = EntryMut::new(&mut bytes);
     record.set_word(0, super_fast_hash(key));
@@ -95,7 +94,7 @@ fn put_record(f: &mut Silent, long_key: u32, key: &[u8]) -> Result<(), Failed> {
 }
 
 // Writes a key at its place.
-fn put_key(f: &mut Silent, long_key: u32, key: &[u8]) -> Result<(), Failed> {
+fn put_key(f: &mut SilentFolder<MemFolder>, long_key: u32, key: &[u8]) -> Result<(), Failed> {
     match long_key {
         0 => f.write_at(FileId::Block(1), 8192 + 96, key),
         0xA301_0004 => f.write_at(FileId::Block(1), 8192 + 1024, key),
@@ -142,7 +141,7 @@ fn node_of(files: &BlockFiles, word: u32) -> Option<Addr>
 }
 
 // Whether an entry has a key.
-fn equals(f: &mut Silent, word: u32, key: &[u8]) -> Result<bool, Fault> {
+fn equals(f: &mut SilentFolder<MemFolder>, word: u32, key: &[u8]) -> Result<bool, Fault> {
     let files = BlockFiles::load(f)?;
     match entry_of(&files, word) {
         Some(entry) => key_equals(f, &files, entry, key),
@@ -151,7 +150,7 @@ fn equals(f: &mut Silent, word: u32, key: &[u8]) -> Result<bool, Fault> {
 }
 
 // A piece of the key of an entry.
-fn piece(f: &mut Silent, word: u32, at: u32, out: &mut [u8]) -> Result<usize, Fault> {
+fn piece(f: &mut SilentFolder<MemFolder>, word: u32, at: u32, out: &mut [u8]) -> Result<usize, Fault> {
     let files = BlockFiles::load(f)?;
     match entry_of(&files, word) {
         Some(entry) => key_piece(f, &files, entry, at, out),
@@ -160,7 +159,7 @@ fn piece(f: &mut Silent, word: u32, at: u32, out: &mut [u8]) -> Result<usize, Fa
 }
 
 // The length of the key of an entry.
-fn length(f: &mut Silent, word: u32) -> Result<u32, Fault> {
+fn length(f: &mut SilentFolder<MemFolder>, word: u32) -> Result<u32, Fault> {
     let files = BlockFiles::load(f)?;
     match entry_of(&files, word) {
         Some(entry) => field(f, &files, entry, 32),
@@ -169,7 +168,7 @@ fn length(f: &mut Silent, word: u32) -> Result<u32, Fault> {
 }
 
 // Marks the first node with a number, or clean with 0.
-fn mark(f: &mut Silent, number: u32) -> Result<(), Fault> {
+fn mark(f: &mut SilentFolder<MemFolder>, number: u32) -> Result<(), Fault> {
     let files = BlockFiles::load(f)?;
     match node_of(&files, NODE) {
         Some(node) => {
@@ -184,7 +183,7 @@ fn mark(f: &mut Silent, number: u32) -> Result<(), Fault> {
 }
 
 // A word of a file.
-fn word(f: &mut Silent, file: FileId, at: u64) -> Result<u32, Failed> {
+fn word(f: &mut SilentFolder<MemFolder>, file: FileId, at: u64) -> Result<u32, Failed> {
     let mut bytes = [0; 4];
     f.read_at(file, at, &mut bytes)?;
     Ok(u32::from_le_bytes(bytes))
@@ -238,11 +237,11 @@ fn a_node_is_marked_and_clean_again(rt: HostRuntime) -> Result<(), Fail> {
         NODE_AT + 24,
         &0xA001_0000u32.to_le_bytes(),
     )?;
-    let before = f.inner.calls();
+    let before = f.calls();
     assert_eq!(rt; mark(&mut f, 7), Ok(()));
 
-    // Eight calls load the files, one reads the node, and three write a word each, beside the look for the length.
-    assert_eq!(rt; f.inner.calls().wrapping_sub(before), 8 + 1 + 6);
+    // Eight calls load the files, one reads the node, and three write a word each.
+    assert_eq!(rt; f.calls().wrapping_sub(before), 8 + 1 + 3);
     assert_eq!(rt; word(&mut f, FileId::Block(0), NODE_AT + 28)?, 7);
     assert_eq!(rt; word(&mut f, FileId::Block(0), NODE_AT + 32)?, DIRTY_SEAL);
     assert_eq!(rt; mark(&mut f, 0), Ok(()));
@@ -335,7 +334,7 @@ fn new_entry(files: &BlockFiles, words: (u32, u32), child: bool, key: &[u8]) -> 
 }
 
 // Writes a new entry, where its places fit the key.
-fn put_entry(f: &mut Silent, words: (u32, u32), child: bool, key: &[u8]) -> Result<(), Fault> {
+fn put_entry(f: &mut SilentFolder<MemFolder>, words: (u32, u32), child: bool, key: &[u8]) -> Result<(), Fault> {
     let files = BlockFiles::load(f)?;
     match new_entry(&files, words, child, key) {
         Some(new) => write_entry(f, &files, &new, key, MOMENT),
@@ -344,7 +343,7 @@ fn put_entry(f: &mut Silent, words: (u32, u32), child: bool, key: &[u8]) -> Resu
 }
 
 // Fills all blocks, and makes the external file of a key.
-fn fill(f: &mut Silent, key_len: u32) -> Result<(), Failed> {
+fn fill(f: &mut SilentFolder<MemFolder>, key_len: u32) -> Result<(), Failed> {
     for n in 0..4 {
         f.write_at(FileId::Block(n), 8192, &[FILL; 36864])?;
     }
@@ -353,7 +352,7 @@ fn fill(f: &mut Silent, key_len: u32) -> Result<(), Failed> {
 }
 
 // The bytes of a file.
-fn bytes_of(alloc: Global, f: &mut Silent, file: FileId) -> Result<Vec<u8>, Fail> {
+fn bytes_of(alloc: Global, f: &mut SilentFolder<MemFolder>, file: FileId) -> Result<Vec<u8>, Fail> {
     let mut bytes = Vec::new(alloc);
     bytes.resize(f.length(file)?.unwrap_or(0) as usize, 0)?;
     f.read_at(file, 0, &mut bytes)?;
@@ -370,7 +369,7 @@ fn blank(bytes: &mut [u8], from: usize, count: usize) {
 // Whether a file of two folders is the same outside of some ranges, each a place and a number of bytes.
 fn same_but(
     alloc: Global,
-    folders: (&mut Silent, &mut Silent),
+    folders: (&mut SilentFolder<MemFolder>, &mut SilentFolder<MemFolder>),
     file: FileId,
     ranges: &[(usize, usize)],
 ) -> Result<bool, Fail> {
@@ -394,7 +393,7 @@ fn place_of_key(long_key: u32) -> (FileId, u64) {
 }
 
 // Whether a key lies at its place, with one zero byte behind it, and with zeros in the record where it lies elsewhere.
-fn has_key(alloc: Global, f: &mut Silent, long_key: u32, key: &[u8]) -> Result<bool, Fail> {
+fn has_key(alloc: Global, f: &mut SilentFolder<MemFolder>, long_key: u32, key: &[u8]) -> Result<bool, Fail> {
     let (file, at) = place_of_key(long_key);
     let mut there = key_of(alloc, key.len())?;
     f.read_at(file, at, &mut there)?;
@@ -438,7 +437,7 @@ fn wanted_node(entry: u32) -> [u8; 36] {
 }
 
 // Whether record and node have all their words.
-fn has_records(f: &mut Silent, words: (u32, u32), child: bool, key: &[u8]) -> Result<bool, Failed> {
+fn has_records(f: &mut SilentFolder<MemFolder>, words: (u32, u32), child: bool, key: &[u8]) -> Result<bool, Failed> {
     let mut record = [0; 96];
     f.read_at(FileId::Block(1), 8192, &mut record)?;
     let mut node = [0; 36];
@@ -449,7 +448,7 @@ fn has_records(f: &mut Silent, words: (u32, u32), child: bool, key: &[u8]) -> Re
 // Whether all other bytes of the files are as before.
 fn spares_the_rest(
     alloc: Global,
-    f: &mut Silent,
+    f: &mut SilentFolder<MemFolder>,
     long_key: u32,
     key_len: u32,
 ) -> Result<bool, Fail> {
@@ -494,13 +493,13 @@ fn new_entries_are_written_and_read(rt: HostRuntime) -> Result<(), Fail> {
         let mut f = folder(rt.alloc())?;
         fill(&mut f, key_len)?;
         let mut key = key_of(rt.alloc(), key_len as usize)?;
-        let before = f.inner.calls();
+        let before = f.calls();
         assert_eq!(rt; put_entry(&mut f, (entry, long_key), child, &key), Ok(()));
 
-        // Eight calls load the files, and four write, each beside the look for the length.
+        // Eight calls load the files, and four write.
         assert_eq!(rt;
-            f.inner.calls().wrapping_sub(before),
-            8 + 8,
+            f.calls().wrapping_sub(before),
+            8 + 4,
             "{key_len} bytes"
         );
         assert!(rt; has_records(&mut f, (entry, long_key), child, &key)?);
@@ -518,7 +517,11 @@ fn new_entries_are_written_and_read(rt: HostRuntime) -> Result<(), Fail> {
         assert_eq!(rt; piece(&mut f, entry, 0, front), Ok(front.len()));
         assert_eq!(rt; piece(&mut f, entry, key_len / 2, end), Ok(end.len()));
         assert!(rt; read == key);
+
+        // Eight calls load the files, one reads the record, and one or two read the key.
+        let before = f.calls();
         assert_eq!(rt; equals(&mut f, entry, &key), Ok(true));
+        assert!(rt; f.calls().wrapping_sub(before) <= 8 + 3, "{key_len} bytes");
         assert_eq!(rt;
             equals(&mut f, entry, &key[..key.len().saturating_sub(1)]),
             Ok(false)

@@ -32,15 +32,15 @@ returns-then-head-sought-2-clause-named g c image there = (
       absurd (differs (c.args.head.now.flags == 2) c.args.sought.now.child c.if-head-sought-2.true (ap (λ (f : ℕ). f == 2) words.flags ∙ flag)),
 )
 
-pub key_equals-requires-clause-key : goal.key_equals-requires-clause-key
-key_equals-requires-clause-key g c image there = (c.requires.keyed image there).key
+pub key_is-requires-clause-key : goal.key_is-requires-clause-key
+key_is-requires-clause-key g c image there = (c.requires.keyed image there).key
 
 pub returns-clause-named : goal.returns-clause-named
 returns-clause-named g c =
-    ok_weaker c.key_equals.result (λ same. ForSome (g.F.Folder.told c.args.f.now).files (λ image. IsTrue same ↔ IsEntryOf c.args.key.now c.args.entry image))
+    ok_weaker c.key_is.result (λ same. ForSome (g.F.Folder.told c.args.f.now).files (λ image. IsTrue same ↔ IsEntryOf c.args.key.now c.args.entry image))
     (λ same. ForSome (g.F.Folder.told c.args.f.now).files (λ image. IsTrue same ↔ HasName (stock_of image) c.args.key.now c.args.sought.now.child c.args.entry))
     (λ same equal image there. let words = c.requires.head image there in
     let keyed = c.requires.keyed image there in
     let flag = ap (λ (f : ℕ). f == 2) (sym words.flags) ∙ agrees-by (c.args.head.now.flags == 2) c.args.sought.now.child c.if-head-sought-2.false in
     (λ yes. to-name image c.args.entry keyed c.args.key.now c.args.sought.now.child ((equal image there).0 yes) flag, λ named. (equal image there).1 (of-name image c.args.entry keyed c.args.key.now c.args.sought.now.child named)))
-    c.key_equals.ensures.equal
+    c.key_is.ensures.equal

@@ -4,7 +4,8 @@ use Rattle.blk_image.specs.Told.{Told}
 use Rattle.blk_volume.specs.View.{stock_of}
 use Rattle.blk_disk.specs.Sealed.{RecordChecks}
 use Rattle.blk_disk.specs.Tables.{Agrees}
-use Rattle.blk_entry.proofs.KeyPlaces.{clash, damaged_any, untold_where}
+use Rattle.blk_io.proofs.Carried.{untold_where}
+use Rattle.blk_entry.proofs.KeyPlaces.{clash, damaged_any}
 use Rattle.blk_chain.specs.Naming.{HasName}
 use Rattle.blk_chain.proofs.Names.{shown-follow}
 use Rattle.blk_chain.proofs.Heads.{keyed-checks, names-parts, shown-names}
@@ -35,11 +36,6 @@ has_name-requires-clause-stands g c = (names-parts c.args.files.now c.in_ok-entr
 
 pub has_name-requires-clause-agrees : goal.has_name-requires-clause-agrees
 has_name-requires-clause-agrees g c = subst (λ (t : Told). ForSome t.files (Agrees c.args.files.now)) (sym c.in_ok-head.ensures.stays) c.requires.agrees
-
-pub has_name-requires-clause-checks : goal.has_name-requires-clause-checks
-has_name-requires-clause-checks g c =
-    subst (λ (t : Told). ForSome t.files (RecordChecks c.in_ok-entry.entry)) (sym c.in_ok-head.ensures.stays)
-    (λ image there. subst (λ (w : ℕ). RecordChecks w image) (sym c.in_ok-entry.ensures.entry) (keyed-checks image c.args.link.now.word (g.met.F.Folder.are_bytes c.args.f.now image there) (c.requires.keyed image there)))
 
 pub returns-clause-step : goal.returns-clause-step
 returns-clause-step g c image there =

@@ -6,7 +6,8 @@ use Rattle.blk_format.specs.Address.{kind_of}
 use Rattle.blk_volume.specs.Chains.{bucket_of_hash}
 use Rattle.blk_volume.specs.View.{stock_of}
 use Rattle.blk_disk.specs.Tables.{Agrees, stands_among}
-use Rattle.blk_entry.proofs.KeyPlaces.{err_damaged, untold_where}
+use Rattle.blk_io.proofs.Carried.{untold_where}
+use Rattle.blk_entry.proofs.KeyPlaces.{err_damaged}
 use Rattle.blk_chain.specs.declared.found.Found.{Found}
 use Rattle.blk_chain.specs.declared.finding.Step.{Step}
 use Rattle.blk_chain.specs.Naming.{HasName}

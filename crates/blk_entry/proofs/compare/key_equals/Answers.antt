@@ -1,51 +1,8 @@
-use Rattle.std.proofs.Common.{◌≡◌, ◌↔◌, length, Some, None, sym, ◌∙◌, ap, subst, arith}
+use Rattle.std.proofs.Common.{sym, subst}
 use Rattle.std.specs.Option.{ForSome}
-use Rattle.std.specs.Prelude.{IsTrue}
 use Rattle.blk_image.specs.Told.{Told}
 use Rattle.blk_disk.specs.Tables.{Agrees}
-use Rattle.blk_entry.specs.Keys.{IsEntryOf, data_at}
-use Rattle.blk_entry.proofs.KeyPlaces.{clash, damaged_any, entry_of, head_facts, ok_weaker, untold_where, whole_there}
 use Rattle.blk_entry.proofs.compare.key_equals.Goals as goal
 
-pub returns-in_err-place-clause-untold : goal.returns-in_err-place-clause-untold
-returns-in_err-place-clause-untold g c =
-    damaged_any c.from_residual-in_err-place.result ((g.F.Folder.told c.args.f.now).files ≡ None)
-    (untold_where (g.F.Folder.told c.args.f.now).files
-    (λ image there. let has = c.requires.key image there in
-    let known = head_facts c.args.files.now image c.args.entry c.in_ok-head.head has.key (c.requires.agrees image there) c.requires.kind (c.in_ok-head.ensures.head image there) has.is in
-    clash (c.in_err-place.ensures.right known.has known.holds)))
-
-pub data_is-requires-clause-agrees : goal.data_is-requires-clause-agrees
-data_is-requires-clause-agrees g c = subst (λ (t : Told). ForSome t.files (Agrees c.args.files.now)) (sym c.in_ok-head.ensures.stays) c.requires.agrees
-
-pub data_is-requires-clause-external : goal.data_is-requires-clause-external
-data_is-requires-clause-external g c image now =
-    let there : (g.F.Folder.told c.args.f.now).files ≡ Some image = ap (λ (t : Told). t.files) (sym c.in_ok-head.ensures.stays) ∙ now in
-    let has = c.requires.key image there in
-    let known = head_facts c.args.files.now image c.args.entry c.in_ok-head.head has.key (c.requires.agrees image there) c.requires.kind (c.in_ok-head.ensures.head image there) has.is in
-    let place = c.in_ok-place.ensures.place in
-    whole_there c.args.files.now image c.args.entry c.in_ok-head.head.key_len c.in_ok-head.head.long_key has.key c.in_ok-place.place (length c.args.key.now) known place (let h = place.len in omega (arith, h, c.if-head-key.false))
-
-pub returns-then-head-key-clause-equal : goal.returns-then-head-key-clause-equal
-returns-then-head-key-clause-equal g c image there = (
-  λ no. absurd (clash no),
-  λ of_entry. let known = head_facts c.args.files.now image c.args.entry c.in_ok-head.head c.args.key.now (c.requires.agrees image there) c.requires.kind (c.in_ok-head.ensures.head image there) of_entry.is in
-      absurd (c.if-head-key.true (sym known.len)),
-)
-
-pub returns-then-head-super_fast_hash-clause-equal : goal.returns-then-head-super_fast_hash-clause-equal
-returns-then-head-super_fast_hash-clause-equal g c image there = (
-  λ no. absurd (clash no),
-  λ of_entry. let words = c.in_ok-head.ensures.head image there in absurd (c.if-head-super_fast_hash.true (words.hash ∙ of_entry.hash ∙ sym c.super_fast_hash.ensures)),
-)
-
-pub returns-clause-equal : goal.returns-clause-equal
-returns-clause-equal g c =
-    ok_weaker c.data_is.result (λ same. ForSome (g.F.Folder.told c.read_head.new.f).files (λ image. IsTrue same ↔ (c.args.key.now ≡ data_at image c.in_ok-place.place.addr c.in_ok-place.place.skip (length c.args.key.now))))
-    (λ same. ForSome (g.F.Folder.told c.args.f.now).files (λ image. IsTrue same ↔ IsEntryOf c.args.key.now c.args.entry image))
-    (λ same read_as image there. let now : (g.F.Folder.told c.read_head.new.f).files ≡ Some image = ap (λ (t : Told). t.files) c.in_ok-head.ensures.stays ∙ there in
-    let there_is = entry_of c.args.files.now image c.args.entry c.in_ok-head.head c.args.key.now c.in_ok-place.place (c.requires.agrees image there) c.requires.kind (c.in_ok-head.ensures.head image there) (c.requires.key image there) c.in_ok-place.ensures.place
-    c.if-head-key.false (c.if-head-super_fast_hash.false ∙ c.super_fast_hash.ensures) in
-    let whole = read_as image now in
-    (λ yes. there_is.0 (whole.0 yes), λ of_entry. whole.1 (there_is.1 of_entry)))
-    c.data_is.ensures.same
+pub key_is-requires-clause-agrees : goal.key_is-requires-clause-agrees
+key_is-requires-clause-agrees g c = subst (λ (t : Told). ForSome t.files (Agrees c.args.files.now)) (sym c.in_ok-head.ensures.stays) c.requires.agrees

@@ -5,7 +5,8 @@ use Rattle.blk_image.specs.Image.{byte}
 use Rattle.blk_image.specs.Told.{Told}
 use Rattle.blk_disk.specs.Tables.{Agrees}
 use Rattle.blk_entry.specs.Keys.{data_file, data_start}
-use Rattle.blk_entry.proofs.KeyPlaces.{clash, head_facts, untold_where, damaged_any, piece_is, key_in_place, piece_there}
+use Rattle.blk_io.proofs.Carried.{untold_where}
+use Rattle.blk_entry.proofs.KeyPlaces.{clash, head_facts, damaged_any, piece_is, key_in_place, piece_there}
 use Rattle.blk_entry.proofs.keys.key_piece.Goals as goal
 
 pub read_data-requires-clause-agrees : goal.read_data-requires-clause-agrees

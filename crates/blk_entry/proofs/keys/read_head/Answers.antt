@@ -38,6 +38,6 @@ pub returns-clause-head : goal.returns-clause-head
 returns-clause-head g c image there =
     let window : List ℕ = c.read_block.new.out in
     let same = c.in-Some.ensures.same in
-    let h = head_is image c.args.entry window c.word-2.result c.word-3.result c.word-4.result c.requires.kind (c.in_ok-read_block.ensures.bytes image there)
-    (c.word-2.ensures ∙ ap (λ (l : List ℕ). word_at (content l) 0) same) (c.word-3.ensures ∙ ap (λ (l : List ℕ). word_at (content l) 32) same) (c.word-4.ensures ∙ ap (λ (l : List ℕ). word_at (content l) 36) same) in
-    record { hash = h.0; key_len = h.1; long_key = h.2 }
+    head_is image c.args.entry window _ c.requires.kind (c.in_ok-read_block.ensures.bytes image there)
+    (c.word-2.ensures ∙ ap (λ (l : List ℕ). word_at (content l) 0) same) (c.word-3.ensures ∙ ap (λ (l : List ℕ). word_at (content l) 4) same) (c.word-4.ensures ∙ ap (λ (l : List ℕ). word_at (content l) 32) same)
+    (c.word-5.ensures ∙ ap (λ (l : List ℕ). word_at (content l) 36) same) (c.word-6.ensures ∙ ap (λ (l : List ℕ). word_at (content l) 72) same)

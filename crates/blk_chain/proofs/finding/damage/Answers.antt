@@ -3,7 +3,7 @@ use Rattle.blk_format.specs.Address.{kind_of, external, place}
 use Rattle.blk_disk.proofs.Ranges.{name_is}
 use Rattle.blk_disk.proofs.Standings.{start_is, place_is}
 use Rattle.blk_entry.proofs.Windows.{size_of_entry, not_external}
-use Rattle.blk_chain.proofs.reading.damage.Goals as goal
+use Rattle.blk_chain.proofs.finding.damage.Goals as goal
 
 pub returns : goal.returns
 returns c =
