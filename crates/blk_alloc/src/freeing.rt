@@ -37,6 +37,7 @@ pub fn free<F: Folder>(f: &mut F, files: &BlockFiles, addr: Addr) -> Result<(), 
     ensures formed { ForSome (F.told f.old).files (λ from. IsWellFormed from → Passes (F.told f.old) (F.told f.new) IsWellFormed) }
     ensures agrees { ForSome (F.told f.new).files (Agrees files.now) }
 
+    ensures silent { (F.told f.old).files ≡ None → (F.told f.new).files ≡ None }
     ensures cause { IfDamaged result (IsCause (F.told f.old) (file_selector addr)) }
     ensures untold { IfDamaged result (λ _. (F.told f.old).files ≡ None) }
     ensures later { F.faults f.old ≤ F.faults f.new }

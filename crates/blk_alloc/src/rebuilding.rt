@@ -165,6 +165,7 @@ pub fn rebuild<F: Folder>(f: &mut F, files: &mut BlockFiles, claims: &Claims) ->
     ensures blocks { ForSome (F.told f.old).files (λ from. Passes (F.told f.old) (F.told f.new) (KeepsBlocks from)) }
     ensures formed { ForSome (F.told f.old).files (λ from. IsWellFormed from → Passes (F.told f.old) (F.told f.new) IsWellFormed) }
 
+    ensures silent { (F.told f.old).files ≡ None → (F.told f.new).files ≡ None }
     ensures never { IfDamaged result (λ _. ⊥) }
     ensures later { F.faults f.old ≤ F.faults f.new }
     ensures device { IfDevice result (Rises (F.faults f.old) (F.faults f.new)) }
