@@ -3,7 +3,7 @@ use Rattle.std.proofs.lemmas.Bool.Decides.{nat_tests}
 use Rattle.blk_format.specs.Address.{kind_of, blocks_256, rankings}
 use Rattle.blk_disk.specs.declared.tables.BlockFiles.{BlockFiles}
 use Rattle.blk_disk.specs.Tables.{stands_among}
-use Rattle.blk_entry.specs.Keys.{is_short, may_have}
+use Rattle.blk_entry.specs.Keys.{may_have}
 use Rattle.blk_entry.specs.Writing.{FitsKey, IsLongPlace, longest_of}
 use Rattle.blk_entry.proofs.KeyPlaces.{may_have_parts}
 use Rattle.blk_entry.proofs.tests.new_entry.Goals.{then-key-le927, else-key-le927+in_ok-long_place}
