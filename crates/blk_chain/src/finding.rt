@@ -63,8 +63,8 @@ enum Step {
 }
 
 /// Finds the record with a key and a child flag in the chain of the key's bucket, and the record
-/// before it in the chain. A record has the key where it also has its hash. Where more than one has
-/// it, the first of the chain is found.
+/// before it there. A record whose hash isn't that of its key has no key here. Where more than one
+/// record of the chain has the key and the flag, the first is found; where none has, nothing is.
 ///
 /// One folder call reads the word of the bucket, and one each record that is passed. Only where hash,
 /// length and child flag agree is the key read too: by one call, or by two where it has more than 16398
@@ -72,7 +72,8 @@ enum Step {
 ///
 /// A damage is a read that gave too few bytes, a word of the chain that names no record that stands,
 /// a record that doesn't check or whose key has a wrong length or place, or a chain that goes on
-/// behind 131073 records. A folder that tells its files never gives one.
+/// behind 131073 records: then the word that would be followed is found. A folder that tells its files
+/// never gives one. Nothing is written.
 pub fn find<F: Folder>(
     f: &mut F,
     files: &BlockFiles,
