@@ -1,5 +1,7 @@
 pub mod Conditions
+pub mod Counting
 pub mod FailedChecks
+pub mod Finishing
 pub mod LinkReads
 pub mod Listed
 pub mod NodeRecords

@@ -4,3 +4,4 @@ pub mod Plans
 pub mod Lists
 pub mod Moments
 pub mod Untold
+pub mod Completing

@@ -7,12 +7,13 @@ ghost use Rattle.blk_io.specs.FileNames.{file_of};
 
 use blk_io::{Failed, FileId, Folder, MemFolder};
 
-/// A folder in memory that tells nothing.
+/// A folder in memory that tells nothing, and that lets only so many more writes pass.
 #[derive(Drop)]
 pub(crate) struct Silent {
     inner: MemFolder,
     calls: u64,
     faults: u64,
+    writes: u64,
 }
 
 impl Silent {
@@ -21,7 +22,13 @@ impl Silent {
             inner,
             calls: 0,
             faults: 0,
+            writes: u64::MAX,
         }
+    }
+
+    // Lets so many more writes pass; each one behind them fails.
+    pub(crate) fn stop_after(&mut self, writes: u64) {
+        self.writes = writes;
     }
 
     // The calls made on it so far.
@@ -55,8 +62,18 @@ fn length<F: Folder>(f: &mut F, file: FileId) -> Result<u64, Failed>
     }
 }
 
-// Writes bytes of a file, where it has them.
-fn write_inside<F: Folder>(f: &mut F, file: FileId, at: u64, bytes: &[u8]) -> Result<(), Failed> {
+// Writes bytes of a file, where it has them and one more write is left.
+fn write_inside<F: Folder>(
+    f: &mut F,
+    left: &mut u64,
+    file: FileId,
+    at: u64,
+    bytes: &[u8],
+) -> Result<(), Failed> {
+    if *left == 0 {
+        return Err(Failed);
+    }
+    *left -= 1;
     let n = length(f, file)?;
     if at > n || bytes.len() as u64 > n - at {
         return Err(Failed);
@@ -88,7 +105,7 @@ impl Folder for Silent {
     fn write_at(&mut self, file: FileId, at: u64, bytes: &[u8]) -> Result<(), Failed> {
         self.calls = self.calls.saturating_add(1);
         counted(
-            write_inside(&mut self.inner, file, at, bytes),
+            write_inside(&mut self.inner, &mut self.writes, file, at, bytes),
             &mut self.faults,
         )
     }
