@@ -8,7 +8,7 @@ ghost use Rattle.blk_volume.specs.View.{list_of};
 ghost use Rattle.blk_io.specs.Faults.{IfDamaged, IfDevice};
 ghost use Rattle.blk_disk.specs.Tables.{Agrees};
 ghost use Rattle.blk_lru.specs.Nodes.{is_node, AreLinksOf, IsFailedCheck};
-ghost use Rattle.blk_lru.specs.Writes.{AreOf, AreWords, HasWholeIndex, IsPartly, meant, steps_of};
+ghost use Rattle.blk_lru.specs.Writes.{AreOf, AreSealed, AreWords, HasWholeIndex, IsPartly, meant, steps_of};
 ghost use Rattle.blk_lru.specs.Completing.{AreNodes, CompletesAlike, Finds, FindsBeside, FindsHead, IsCompleted, finishing_writes};
 
 use crate::moments::write_moments;
@@ -51,6 +51,7 @@ pub fn complete<F: Folder>(f: &mut F, files: &BlockFiles) -> Result<(), Fault>
     ensures whole { OnOk result (ForSome (F.told f.old).files (λ from. Grows (F.told f.old) (F.told f.new) (steps_of (finishing_writes (list_of from)) from))) }
     ensures part { ForSome (F.told f.old).files (λ from. GrowsInPart (F.told f.old) (F.told f.new) (steps_of (finishing_writes (list_of from)) from)) }
     ensures done { OnOk result (ForSome (F.told f.old).files (λ from. ForSome (F.told f.new).files (IsCompleted from))) }
+    ensures sealed { OnOk result (ForSome (F.told f.old).files (λ from. ForSome (F.told f.new).files (AreSealed (finishing_writes (list_of from))))) }
 
     // At each word completing gives what it gave at the entry, so it may be stopped and begun again; nothing but the list changes.
     ensures keeps { ForSome (F.told f.old).files (λ from. Passes (F.told f.old) (F.told f.new) (CompletesAlike from)) }

@@ -8,11 +8,14 @@ use Rattle.blk_volume.specs.ListView.{ListWrite}
 use Rattle.blk_volume.specs.View.{list_of}
 use Rattle.blk_disk.specs.Tables.{Agrees}
 use Rattle.blk_lru.specs.Completing.{finishing_writes}
-use Rattle.blk_lru.specs.Writes.{IsPartly, meant}
+use Rattle.blk_lru.specs.Writes.{AreSealed, IsPartly, meant}
 use Rattle.blk_lru.proofs.Conditions.{told_now, told_stays}
-use Rattle.blk_lru.proofs.Counting.{some_finishes}
+use Rattle.blk_lru.proofs.Counting.{nothing_finishes, some_finishes}
 use Rattle.blk_lru.proofs.Finishing.{completed_none, completed_all, keeps_all}
 use Rattle.blk_lru.proofs.Operating.{part_as, shown_as, stops_as, stops_none, whole_as}
+use Rattle.blk_lru.proofs.Performing.{told_ready}
+use Rattle.blk_lru.proofs.SealedWrites.{grown_sealed}
+use Rattle.blk_lru.proofs.WriteLaws.{MayWrite}
 use Rattle.blk_lru.proofs.completing.complete.Given as given
 use Rattle.blk_lru.proofs.completing.complete.Goals as goal
 
@@ -26,6 +29,10 @@ pub returns-then-transaction-eq0-clause-done : goal.returns-then-transaction-eq0
 unfolding list_of
 returns-then-transaction-eq0-clause-done g c from there image here =
     completed_none (g.F.Folder.told c.args.f.now) (g.F.Folder.told c.word.new.f) from image there here c.in_ok-transaction.ensures.stays (sym (c.in_ok-transaction.ensures.word from there) ∙ c.if-transaction-eq0.true)
+
+pub returns-then-transaction-eq0-clause-sealed : goal.returns-then-transaction-eq0-clause-sealed
+unfolding list_of
+returns-then-transaction-eq0-clause-sealed g c from there image here = subst (λ (ws : List ListWrite). AreSealed ws image) (sym (nothing_finishes (list_of from) (sym (c.in_ok-transaction.ensures.word from there) ∙ c.if-transaction-eq0.true))) tt
 
 pub returns-then-transaction-eq0-clause-stops : goal.returns-then-transaction-eq0-clause-stops
 returns-then-transaction-eq0-clause-stops g c from there = stops_none (g.F.Folder.told c.args.f.now) (g.F.Folder.told c.word.new.f) from (finishing_writes (list_of from)) there c.in_ok-transaction.ensures.stays
@@ -79,3 +86,20 @@ returns-clause-stops g c = stops_here g c
 
 pub returns-clause-keeps : goal.returns-clause-keeps
 returns-clause-keeps g c from there = keeps_all from (stops_here g c from there)
+
+may_here : (g : given.Over) (c : goal.After-perform g) (from : Image) → (g.F.Folder.told c.args.f.now).files ≡ Some from → MayWrite c.args.files.now from (finishing_writes (list_of from))
+may_here g c from there =
+    let files = c.args.files.now in
+    let same : map meant c.deref.result.now ≡ map meant c.in_ok-plan.plan.items = ap (map meant) c.deref.ensures.0 in
+    subst (MayWrite files from) (sym same ∙ plan_is g c.before from there)
+    (c.in_ok-plan.ensures.stand, (c.in_ok-plan.ensures.check from (told_now from c.in_ok-transaction.ensures.stays there), c.in_ok-plan.ensures.words))
+
+pub returns-clause-sealed : goal.returns-clause-sealed
+returns-clause-sealed g c =
+    on_ok_weaker c.perform.result
+    (λ grows from there image here.
+    let files = c.args.files.now in
+    let old = g.F.Folder.told c.args.f.now in
+    let ready = told_ready files old c.requires.agrees c.requires.complete (g.met.F.Folder.are_bytes c.args.f.now) from there in
+    grown_sealed c.write_moments.ensures files old (g.F.Folder.told c.perform.new.f) from image there here (finishing_writes (list_of from)) ready (may_here g c from there) (grows from there))
+    (returns-clause-whole g c)
