@@ -41,10 +41,11 @@ pub(crate) struct Beside {
 
 /// Completes the operation in flight, if there is one, and ends its transaction.
 ///
-/// An operation counts where its code is one of an insert, a removal or a move, and its node and the
-/// nodes that it links it with stand and check. One that doesn't is given up: the transaction alone
-/// ends. Where there is no operation in flight nothing is written. The list need not be whole. This
-/// takes at most 34 folder calls.
+/// An operation counts where its code is that of an insert, a removal or a move, and its node and the
+/// nodes that it goes by stand and check: the first one for an insert and a move, and those beside
+/// the node for a removal and a move. One that doesn't count is given up: its transaction alone ends.
+/// Where there is none in flight nothing is written. The list need not be whole. This takes at most
+/// 34 folder calls.
 pub fn complete<F: Folder>(f: &mut F, files: &BlockFiles) -> Result<(), Fault>
     requires complete { ForSome (F.told f.old).files HasWholeIndex }
     requires agrees { ForSome (F.told f.old).files (Agrees files.now) }
