@@ -3,7 +3,7 @@ use Rattle.std.proofs.Common.{◌≡◌, Some, refl, sym, ap, ◌∙◌, subst}
 use Rattle.blk_image.specs.Image.{Image}
 use Rattle.blk_image.specs.Told.{Told, Passes}
 use Rattle.blk_image.proofs.Runs.{passes_weaker, some_inj}
-use Rattle.blk_volume.specs.ListView.{ListView, after_writes}
+use Rattle.blk_volume.specs.ListView.{ListView}
 use Rattle.blk_volume.specs.ListPlans.{outcome}
 use Rattle.blk_volume.specs.Walk.{walk}
 use Rattle.blk_volume.specs.View.{list_of}
@@ -11,7 +11,6 @@ use Rattle.blk_laws.proofs.ListMoments.{walk_outcome}
 use Rattle.blk_laws.proofs.ListWrites.{outcome_done, rested}
 use Rattle.blk_moments.specs.Moments.{OnlyListChanges}
 use Rattle.blk_lru.specs.Completing.{CompletesAlike, IsCompleted, finishing_writes}
-use Rattle.blk_lru.specs.Lists.{completed_walk, walked}
 use Rattle.blk_lru.specs.Writes.{IsPartly}
 use Rattle.blk_lru.proofs.Counting.{finishing_ends, finishing_keeps}
 use Rattle.blk_lru.proofs.WriteLaws.{unchanged}

@@ -1,22 +1,22 @@
 -- Each node that is written is sealed in the end, and a touch sets its times.
-use Rattle.std.proofs.Common.{inl, ◌≡◌, ◌≢◌, ℕ, ◌+◌, ◌*◌, ◌%◌, ◌/◌, ◌^◌, ◌<◌, ◌≤◌, true, List, [], ◌∷◌, All, Bool, Some, get_or, refl, ap, ap₂, sym, ◌∙◌, subst, arith}
-use Rattle.std.specs.Option.{ForSome, option_map}
+use Rattle.std.proofs.Common.{inl, ◌≡◌, ℕ, ◌+◌, ◌*◌, ◌%◌, ◌/◌, ◌^◌, ◌<◌, ◌≤◌, true, List, [], ◌∷◌, All, Bool, Some, get_or, refl, ap, ap₂, sym, ◌∙◌, subst, arith}
+use Rattle.std.specs.Option.{option_map}
 use Rattle.std.proofs.lemmas.List.Elements.{All-nil, All-cons}
 use Rattle.blk_image.specs.Bytes.{content, word_at, word_bytes}
 use Rattle.blk_image.specs.Image.{Index, Block, Image, AreBytes, byte, length_of, word}
 use Rattle.blk_image.specs.Steps.{TrailStep, Word, after, applied, word_step}
-use Rattle.blk_image.specs.Footprint.{Footprint, SameOutside, either, one_word}
+use Rattle.blk_image.specs.Footprint.{one_word}
 use Rattle.blk_image.specs.Told.{Told, Grows}
 use Rattle.blk_image.proofs.Runs.{some_inj, until_last}
 use Rattle.blk_image.proofs.Cuts.{after-append}
 use Rattle.blk_image.proofs.Footprints.{outside_write}
-use Rattle.blk_format.specs.Address.{kind_of, rankings, file_selector, place}
+use Rattle.blk_format.specs.Address.{file_selector, place}
 use Rattle.blk_format.specs.Records.{node_in}
 use Rattle.blk_volume.specs.ListView.{ListView, ListWrite, Next, Prev, Head, Tail, Transaction, Operation}
-use Rattle.blk_volume.specs.View.{list_of, node_at}
+use Rattle.blk_volume.specs.View.{list_of}
 use Rattle.blk_laws.proofs.ListWrites.{checks_stay}
 use Rattle.blk_disk.specs.declared.tables.BlockFiles.{BlockFiles}
-use Rattle.blk_disk.specs.Sealed.{AreChanges, IsMoment, IsUpdated, RecordChecks, placed, record_at, record_range, record_size, seal_place, sealed_steps, update_steps, update_words, new_seal}
+use Rattle.blk_disk.specs.Sealed.{AreChanges, IsMoment, IsUpdated, RecordChecks, placed, record_at, record_size, seal_place, sealed_steps, update_steps, update_words, new_seal}
 use Rattle.blk_disk.proofs.Ranges.{stands_range}
 use Rattle.blk_disk.proofs.SealedFields.{record_word, updated_is_new}
 use Rattle.blk_disk.proofs.SealedReads.{node_bytes, node_seal, record_inside}

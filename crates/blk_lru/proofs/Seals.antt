@@ -1,11 +1,11 @@
 -- Nodes that are sealed, and stay so.
-use Rattle.std.proofs.Common.{inl, inr, ⊎_elim, ◌≡◌, ◌⊎◌, ℕ, ◌+◌, ◌*◌, ◌≤◌, ◌<◌, Bool, true, false, ◌&&◌, List, [], ◌∷◌, take, refl, ap, ap₂, sym, ◌∙◌, subst, arith}
+use Rattle.std.proofs.Common.{◌≡◌, ◌⊎◌, ℕ, ◌+◌, ◌*◌, ◌≤◌, ◌<◌, Bool, true, false, ◌&&◌, List, take, refl, ap, ap₂, sym, ◌∙◌, subst, arith}
 use Rattle.std.specs.Prelude.{◌==◌, nat_le, nat_lt}
-use Rattle.std.proofs.lemmas.Bool.{eq-eqb, eqb-true, ne_eqb}
+use Rattle.std.proofs.lemmas.Bool.{eq-eqb, eqb-true}
 use Rattle.std.proofs.lemmas.Bool.Decides.{nat_tests}
 use Rattle.blk_image.specs.Bytes.{content, word_at, range_at}
-use Rattle.blk_image.specs.Image.{File, Index, Block, Image, AreBytes, byte, same_file}
-use Rattle.blk_image.specs.Footprint.{Footprint, SameOutside, one_word, range}
+use Rattle.blk_image.specs.Image.{Index, Block, Image, AreBytes, byte}
+use Rattle.blk_image.specs.Footprint.{Footprint, SameOutside, one_word}
 use Rattle.blk_image.proofs.Words.{same-range}
 use Rattle.blk_format.specs.Address.{kind_of, rankings, file_selector, first_block, place, block_place, block_size}
 use Rattle.blk_format.specs.Hash.{hash}

@@ -1,9 +1,9 @@
-use Rattle.std.proofs.Common.{◌≡◌, ◌∙◌, List, Some, map, sym, ap, subst, refl}
+use Rattle.std.proofs.Common.{◌≡◌, ◌∙◌, List, Some, map, sym, ap, subst}
 use Rattle.std.specs.Option.{ForSome}
 use Rattle.std.proofs.lemmas.Bool.{ne_eqb}
 use Rattle.std.proofs.lemmas.Result.{on_ok_weaker}
 use Rattle.blk_image.specs.Image.{Image}
-use Rattle.blk_image.specs.Told.{Told, Passes}
+use Rattle.blk_image.specs.Told.{Passes}
 use Rattle.blk_volume.specs.ListView.{ListWrite}
 use Rattle.blk_volume.specs.View.{list_of}
 use Rattle.blk_disk.specs.Tables.{Agrees}

@@ -1,15 +1,14 @@
-use Rattle.std.proofs.Common.{rules, ◌≡◌, ◌∙◌, ℕ, List, Some, map, true, sym, ap, subst}
+use Rattle.std.proofs.Common.{rules, ◌≡◌, ◌∙◌, ℕ, List, Some, true, sym, subst}
 use Rattle.blk_image.specs.Image.{Image}
-use Rattle.blk_volume.specs.Completion.{counts}
 use Rattle.blk_volume.specs.ListView.{ListWrite}
 use Rattle.blk_volume.specs.View.{list_of}
 use Rattle.blk_lru.specs.Completing.{AreNodes, Finds}
 use Rattle.blk_lru.specs.Nodes.{is_node}
 use Rattle.blk_lru.specs.Plans.{code_of, pending, word_or_zero}
-use Rattle.blk_lru.specs.Writes.{AreOf, AreWords, meant}
+use Rattle.blk_lru.specs.Writes.{AreOf, AreWords}
 use Rattle.blk_lru.proofs.Conditions.{Checked}
 use Rattle.blk_lru.proofs.Counting.{found_checked, found_stand, found_writes, no_writes}
-use Rattle.blk_lru.proofs.PlanNodes.{Each, Good, each_nodes, each_words, weaker}
+use Rattle.blk_lru.proofs.PlanNodes.{each_nodes, each_words, weaker}
 use Rattle.blk_lru.proofs.completing.completion.Given as given
 use Rattle.blk_lru.proofs.completing.completion.Goals as goal
 

@@ -1,4 +1,4 @@
-use Rattle.std.proofs.Common.{◌≡◌, ◌∙◌, ℕ, Option, None, Some, sym, ap, subst}
+use Rattle.std.proofs.Common.{◌≡◌, ◌∙◌, Option, None, Some, sym, ap, subst}
 use Rattle.blk_volume.specs.View.{list_of}
 use Rattle.blk_disk.specs.Tables.{Agrees}
 use Rattle.blk_lru.specs.declared.nodes.Links.{Links}

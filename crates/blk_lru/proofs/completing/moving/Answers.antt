@@ -3,7 +3,6 @@ use Rattle.std.specs.Prelude.{◌==◌}
 use Rattle.blk_volume.specs.View.{list_of}
 use Rattle.blk_disk.specs.Tables.{Agrees}
 use Rattle.blk_lru.specs.Completing.{FindsBeside, FindsHead}
-use Rattle.blk_lru.specs.Nodes.{AreLinksOf}
 use Rattle.blk_lru.proofs.Conditions.{told_now, told_stays}
 use Rattle.blk_lru.proofs.Counting.{not_head, not_links, move_found}
 use Rattle.blk_lru.proofs.completing.moving.Goals as goal

@@ -1,13 +1,9 @@
-use Rattle.std.proofs.Common.{rules, ◌≡◌, ◌∙◌, ℕ, List, Option, None, Some, false, if◌then◌else◌, inr, sym, ap, subst}
-use Rattle.blk_image.specs.Bytes.{content, word_at}
-use Rattle.blk_image.specs.Image.{Image}
-use Rattle.blk_format.specs.Records.{checks}
+use Rattle.std.proofs.Common.{rules, ◌≡◌, ℕ, List, Option, false, sym, subst}
 use Rattle.blk_volume.specs.View.{list_of}
 use Rattle.blk_lru.specs.declared.nodes.Links.{Links}
 use Rattle.blk_lru.specs.Nodes.{is_node, FindsNode}
 use Rattle.blk_lru.proofs.NodeRecords.{found_in, found_none}
 use Rattle.blk_lru.proofs.NodeWords.{node_kind, node_room, node_stands}
-use Rattle.blk_lru.proofs.nodes.checked.Given as given
 use Rattle.blk_lru.proofs.nodes.checked.Goals as goal
 
 pub returns-in_default-clause-found : goal.returns-in_default-clause-found
