@@ -14,7 +14,7 @@ use Rattle.blk_image.specs.Footprint.{SameOutside, either, one_word, size_of}
 use Rattle.blk_image.proofs.Cuts.{after-append}
 use Rattle.blk_image.proofs.Footprints.{outside-refl, outside-trans, outside_wider, outside_write, outside_longer, same_word_outside, within_left, within_right}
 use Rattle.blk_image.proofs.Images.{word-after_same, word-after_other, length-after_set_len, length-after_word}
-use Rattle.blk_image.proofs.Runs.{until-append, until_last, until_weaker2, quiet-append, grows_then, part_then, passes_part, some_inj, told_whole}
+use Rattle.blk_image.proofs.Runs.{until-append, until_last, until_weaker2, quiet-append, grows_then, part_then, passes_part, passes_step, some_inj, told_whole}
 use Rattle.blk_image.proofs.WordSteps.{quiet-word_steps}
 use Rattle.blk_image.proofs.Words.{same-word_at}
 use Rattle.blk_format.specs.Address.{file_selector}
@@ -303,6 +303,21 @@ module _ (files : BlockFiles) (image : Image) (n : ℕ) (agrees : Agrees files i
           let less : length_in files n < size = grind (arith, nat_tests) in
           same_word_outside (size_of (Block n)) image (applied (SetLength (Block n) size) image) (Block n) 36 (outside_longer (Block n) size image (omega (arith, size_is, less))) (λ k low high. refl)
       by_test false e = refl
+
+-- an image while file n is made longer, and nothing else
+abbrev pub IsLonger : ℕ → Image → Image → Type 0
+IsLonger n from image = SameOutside (size_of (Block n)) from image × IsGrowing n from image
+
+-- a file is made longer: what holds before and after that step
+module _ (n size : ℕ) (from : Image) (longer : length_of from (Block n) ≤ size) where
+  longer_step : IsLonger n from from × IsLonger n from (applied (SetLength (Block n) size) from)
+  longer_step = ((outside-refl (size_of (Block n)) from, growing_begins n from), (outside_longer (Block n) size from longer, growing_longer n from from size longer (growing_begins n from)))
+
+  pub passes_longer : {a b : Told} (P : Image → Type 0) → a.files ≡ Some from → ((i : Image) → IsLonger n from i → P i) → Grows a b (SetLength (Block n) size ∷ []) → Passes a b P
+  passes_longer P there holds grows =
+      passes_step P grows tt
+      (λ image here. let same : from ≡ image = some_inj (sym there ∙ here) in
+      subst (λ (i : Image). P i × P (applied (SetLength (Block n) size) i)) same (holds from longer_step.0, holds _ longer_step.1))
 
 -- a call that lengthened the file, and then raised its numbers
 module _ (files : BlockFiles) (n : ℕ) (a b d : Told) (agrees : ForSome a.files (Agrees files)) (among : is_among (all_files files) n ≡ true) (below : blocks_of files n < 64896) where

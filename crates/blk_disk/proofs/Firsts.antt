@@ -1,11 +1,9 @@
 -- The first check that fails.
 use Rattle.std.specs.Prelude.{nat_le}
-use Rattle.std.proofs.Common.{◌%◌, ◌^◌, ◌==◌, ◌-◌, ◌≡◌, ℕ, zero, suc, ◌+◌, ◌<◌, Bool, true, false, if◌then◌else◌, List, [], ◌∷◌, ◌++◌, get_or, None, Some, refl, arith, ◌≤◌}
-use Rattle.std.specs.declared.option.Option.{Option}
+use Rattle.std.proofs.Common.{◌%◌, ◌^◌, ◌==◌, ◌-◌, ◌≡◌, ℕ, ◌+◌, ◌<◌, Bool, true, false, if◌then◌else◌, List, None, Some, refl, arith, ◌≤◌}
 use Rattle.std.proofs.lemmas.Bool.Decides.{nat_tests}
-use Rattle.blk_image.specs.Image.{File, Block}
-use Rattle.blk_image.specs.Checks as checks
-use Rattle.blk_image.specs.Checks.{first_of, check_found}
+use Rattle.blk_image.specs.Image.{Block}
+use Rattle.blk_image.specs.Checks.{first_of}
 use Rattle.blk_image.specs.Bytes.{word_at}
 use Rattle.blk_image.proofs.FirstChecks.{all_none, passed}
 use Rattle.blk_format.specs.Headers.{next_file_of}

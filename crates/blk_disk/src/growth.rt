@@ -1,11 +1,13 @@
 // Block files get longer.
 ghost use Rattle.std.specs.Prelude.{◌≡◌, ◌+◌, ◌*◌, ◌≤◌, IsTrue, max, OnOk, OnErr};
 ghost use Rattle.std.specs.Option.{ForSome};
-ghost use Rattle.blk_image.specs.Told.{Grows, Rises, Stays};
-ghost use Rattle.blk_format.specs.BlockFiles.{is_among};
+ghost use Rattle.blk_image.specs.Image.{Block as block};
+ghost use Rattle.blk_image.specs.Footprint.{SameOutside, size_of};
+ghost use Rattle.blk_image.specs.Told.{Grows, Passes, Rises, Stays};
+ghost use Rattle.blk_format.specs.BlockFiles.{is_among, IsWellFormed};
 ghost use Rattle.blk_disk.specs.Tables.{Agrees, all_files, length_in, Resizes};
 ghost use Rattle.blk_disk.specs.Growth as growth;
-ghost use Rattle.blk_disk.specs.Growth.{fit_steps};
+ghost use Rattle.blk_disk.specs.Growth.{KeepsBlocks, fit_steps};
 
 use crate::heads::block_size;
 use crate::tables::BlockFiles;
@@ -23,6 +25,13 @@ impl BlockFiles {
         ensures kept { OnOk result (Resizes self.old self.new file (max (length_in self.old file) (growth.whole_length self.old file))) }
         ensures same { OnErr result (self.new ≡ self.old) }
         ensures agrees { ForSome (F.told f.new).files (Agrees self.new) }
+
+        // At each word nothing but the length has changed, each block that stood still stands, and a
+        // well-formed folder is still well formed.
+        ensures outside { ForSome (F.told f.old).files (λ from. Passes (F.told f.old) (F.told f.new) (SameOutside (size_of (block file)) from)) }
+        ensures blocks { ForSome (F.told f.old).files (λ from. Passes (F.told f.old) (F.told f.new) (KeepsBlocks from)) }
+        ensures well_formed { ForSome (F.told f.old).files (λ from. IsWellFormed from → Passes (F.told f.old) (F.told f.new) IsWellFormed) }
+
         ensures later { F.faults f.old ≤ F.faults f.new }
         ensures failed { OnErr result (Rises (F.faults f.old) (F.faults f.new)) }
     {

@@ -24,8 +24,3 @@ passes_words {a} {b} f at bs part from there =
     let P : Image → Type 0 = SameOutside (range f at (length bs)) from in
     passes_part P P part (quiet-words f at bs) (λ image same. same)
     (λ image is. subst (λ (i : Image). Until P P i (words f at bs)) (some_inj (sym there ∙ is)) (words_inside f at bs from))
-
--- only a folder that tells nothing does what is impossible for one that tells
-pub untold_where : (files : Option Image) → ForSome files (λ image. ⊥) → files ≡ None
-untold_where None never = refl
-untold_where (Some image) never = absurd (never image refl)

@@ -8,4 +8,5 @@ pub mod MemFolder
 pub mod Streams
 pub mod Clock
 pub mod MemStreams
+pub mod SilentFolder
 pub mod StopFolder

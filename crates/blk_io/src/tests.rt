@@ -152,3 +152,14 @@ fn a_clock_repeats_its_last_reading(rt: HostRuntime) -> Result<(), Fail> {
     assert_eq!(rt; none.now(), 0);
     Ok(())
 }
+
+#[test]
+fn a_silent_folder_passes_its_calls_on(rt: HostRuntime) -> Result<(), Fail> {
+    let mut f = SilentFolder::new(eight_zeros(rt.alloc())?);
+    assert_eq!(rt; run(&mut f), Ok(()));
+    assert_eq!(rt; f.calls(), 5);
+    assert_eq!(rt; f.write_at(FileId::Index, 5, &[1, 2, 3, 4]), Err(Failed));
+    assert_eq!(rt; f.calls(), 6);
+    assert!(rt; holds(&mut f, &[0, 0, 1, 2, 3, 4, 5, 0], None)?);
+    Ok(())
+}

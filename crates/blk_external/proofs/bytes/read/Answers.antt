@@ -1,6 +1,6 @@
 use Rattle.std.proofs.Common.{◌≡◌, ◌-◌, min, length, arith, subst}
 use Rattle.blk_image.specs.Image.{File, length_of}
-use Rattle.blk_external.proofs.Writings.{untold_where}
+use Rattle.blk_io.proofs.Carried.{untold_where}
 use Rattle.blk_external.proofs.bytes.read.Goals as goal
 
 pub returns-then-given-out-clause-untold : goal.returns-then-given-out-clause-untold

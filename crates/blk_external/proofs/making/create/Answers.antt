@@ -8,10 +8,9 @@ use Rattle.blk_image.proofs.Runs.{told_whole, part_whole}
 use Rattle.blk_format.specs.Headers.{index_length}
 use Rattle.blk_external.specs.Numbers.{IsSearched}
 use Rattle.blk_external.specs.Making.{IsMade}
-use Rattle.blk_io.proofs.Carried.{carried}
+use Rattle.blk_io.proofs.Carried.{carried, untold_where}
 use Rattle.blk_external.proofs.Makings.{passes_making, makes_none, makes_part, made_is, size_kept}
 use Rattle.blk_external.proofs.Searches.{not_all_taken}
-use Rattle.blk_external.proofs.Writings.{untold_where}
 use Rattle.blk_external.proofs.making.create.Goals as goal
 
 pub returns-in_err-last-clause-part : goal.returns-in_err-last-clause-part

@@ -1,9 +1,14 @@
-use Rattle.std.proofs.Common.{◌≡◌, ◌≤◌, ◌∙◌, ap, sym, arith}
-use Rattle.blk_image.specs.Image.{Block, length_of}
-use Rattle.blk_image.specs.Told.{Told}
+use Rattle.std.proofs.Common.{◌≡◌, ◌≤◌, ◌∙◌, Some, ap, sym, arith}
+use Rattle.blk_image.specs.Image.{Block, Image, length_of}
+use Rattle.blk_image.specs.Footprint.{SameOutside, size_of}
+use Rattle.blk_image.specs.Told.{Told, Passes}
 use Rattle.blk_image.proofs.Runs.{told_whole}
+use Rattle.blk_format.specs.BlockFiles.{IsWellFormed}
+use Rattle.blk_disk.specs.Growth.{KeepsBlocks}
 use Rattle.blk_disk.specs.Tables.{Agrees, length_in}
 use Rattle.blk_disk.proofs.Agreeing.{agrees_longer}
+use Rattle.blk_disk.proofs.Enlarging.{IsLonger, passes_longer, grows_blocks, grows_formed}
+use Rattle.blk_disk.proofs.tables.BlockFiles.fit.Given as given
 use Rattle.blk_disk.proofs.tables.BlockFiles.fit.Goals as goal
 
 pub returns-in_err-set_len-clause-agrees : goal.returns-in_err-set_len-clause-agrees
@@ -16,3 +21,24 @@ returns-clause-agrees g c =
     let size : length_in c.args.self.now c.args.file ≡ length_of image (Block c.args.file) = agrees.lengths c.args.file c.requires.linked in
     let longer : length_of image (Block c.args.file) ≤ c.whole_length-wanted.result = omega (arith, size, c.length.ensures, c.if-wanted-length.false) in
     agrees_longer c.args.self.now c.set_length.new.self image c.args.file c.whole_length-wanted.result longer c.set_length.ensures agrees)
+
+-- the file isn't longer than it gets
+not_longer : (g : given.Over) (c : goal.After-set_length g) (from : Image) → (g.F.Folder.told c.args.f.now).files ≡ Some from → length_of from (Block c.args.file) ≤ c.whole_length-wanted.result
+not_longer g c from there =
+    let agrees = c.requires.agrees from there in
+    let size : length_in c.args.self.now c.args.file ≡ length_of from (Block c.args.file) = agrees.lengths c.args.file c.requires.linked in
+    omega (arith, size, c.length.ensures, c.if-wanted-length.false)
+
+-- what holds of each longer file holds before and after
+passing : (g : given.Over) (c : goal.After-set_length g) (from : Image) (P : Image → Type 0) (there : (g.F.Folder.told c.args.f.now).files ≡ Some from)
+    → ((i : Image) → IsLonger c.args.file from i → P i) → Passes (g.F.Folder.told c.args.f.now) (g.F.Folder.told c.set_len.new.self) P
+passing g c from P there holds = passes_longer c.args.file c.whole_length-wanted.result from (not_longer g c from there) P there holds c.in_ok-set_len.ensures.done
+
+pub returns-clause-outside : goal.returns-clause-outside
+returns-clause-outside g c from there = passing g c from (SameOutside (size_of (Block c.args.file)) from) there (λ i longer. longer.0)
+
+pub returns-clause-blocks : goal.returns-clause-blocks
+returns-clause-blocks g c from there = passing g c from (KeepsBlocks from) there (λ i longer. grows_blocks c.args.file from i longer.1)
+
+pub returns-clause-well_formed : goal.returns-clause-well_formed
+returns-clause-well_formed g c from there formed = passing g c from IsWellFormed there (λ i longer. grows_formed c.args.file from i longer.1 formed)

@@ -1,9 +1,9 @@
-use Rattle.std.proofs.Common.{◌≡◌, ◌∙◌, List, None, ap, sym, subst}
-use Rattle.std.specs.Option.{ForSome, option_map}
+use Rattle.std.proofs.Common.{◌∙◌, ap, sym, subst}
+use Rattle.std.specs.Option.{ForSome}
 use Rattle.blk_image.specs.Image.{Image}
-use Rattle.blk_image.specs.Steps.{TrailStep, after}
-use Rattle.blk_image.specs.Told.{Told, GrowsInPart}
+use Rattle.blk_image.specs.Told.{Told}
 use Rattle.blk_image.proofs.Runs.{passes_none, some_inj}
+use Rattle.blk_io.proofs.Carried.{silent_part}
 use Rattle.blk_addr.specs.Kind.{kind_number}
 use Rattle.blk_disk.specs.Sealed.{IsMoment}
 use Rattle.blk_disk.specs.Tables.{Agrees}
@@ -78,15 +78,11 @@ returns-in_err-read_record-clause-agrees g c = subst (λ (t : Told). ForSome t.f
 pub write_update-requires-clause-agrees : goal.write_update-requires-clause-agrees
 write_update-requires-clause-agrees g c = subst (λ (t : Told). ForSome t.files (Agrees c.args.self.now)) (sym c.in_ok-read_record.ensures.stays) c.requires.agrees
 
--- a part of a plan leaves a folder that tells none as it is
-silent_part : (a m b : Told) (steps : List TrailStep) → m ≡ a → GrowsInPart m b steps → a.files ≡ None → b.files ≡ None
-silent_part a m b steps stays part none = part.grows.files ∙ ap (option_map (after part.made)) (ap (λ (t : Told). t.files) stays ∙ none)
-
 pub returns-in_err-read_record-clause-silent : goal.returns-in_err-read_record-clause-silent
 returns-in_err-read_record-clause-silent g c none = ap (λ (t : Told). t.files) c.in_err-read_record.ensures.stays ∙ none
 
 pub returns-in_err-write_update-clause-silent : goal.returns-in_err-write_update-clause-silent
-returns-in_err-write_update-clause-silent g c none = silent_part _ _ _ _ c.in_ok-read_record.ensures.stays c.in_err-write_update.ensures.part none
+returns-in_err-write_update-clause-silent g c none = silent_part c.in_err-write_update.ensures.part (ap (λ (t : Told). t.files) c.in_ok-read_record.ensures.stays ∙ none)
 
 pub returns-clause-silent : goal.returns-clause-silent
-returns-clause-silent g c none = silent_part _ _ _ _ c.in_ok-read_record.ensures.stays c.in_ok-write_update.ensures.part none
+returns-clause-silent g c none = silent_part c.in_ok-write_update.ensures.part (ap (λ (t : Told). t.files) c.in_ok-read_record.ensures.stays ∙ none)
