@@ -16,6 +16,4 @@ pub use completing::complete;
 pub use reading::{after, before, first, last};
 
 #[cfg(test)]
-mod silent;
-#[cfg(test)]
 mod tests;

@@ -2,11 +2,12 @@
 ghost use Rattle.std.specs.Prelude.{IfSome, IsTrue};
 ghost use Rattle.blk_lru.specs.Nodes.{is_node};
 
-use crate::silent::Silent;
 use crate::{after, before, complete, first, insert_front, last, nodes, remove, touch};
 use blk_addr::Addr;
 use blk_disk::BlockFiles;
-use blk_io::{Failed, Fault, FileId, Folder, MemFolder, read_word, write_word};
+use blk_io::{
+    Failed, Fault, FileId, Folder, MemFolder, SilentFolder, StopFolder, read_word, write_word,
+};
 use std::alloc::Global;
 use std::test::Fail;
 
@@ -20,9 +21,22 @@ const SIZES: [u32; 4] = [36, 256, 1024, 4096];
 
 const NODES: [u32; 3] = [0x9000_0000, 0x9000_0001, 0x9000_0002];
 
+// A folder in memory that stops, and tells nothing.
+type Silent = SilentFolder<StopFolder>;
+
+// Lets so many steps pass.
+fn stopping(inner: MemFolder, steps: u64) -> Silent {
+    SilentFolder::new(StopFolder::new(inner, steps))
+}
+
+// The folder with what was written, where so many more steps pass.
+fn again(f: Silent, steps: u64) -> Silent {
+    stopping(f.into_inner().into_inner(), steps)
+}
+
 // A folder with an index of zeros and four block files, of which the first has room for nodes.
 fn folder(alloc: Global) -> Result<Silent, Failed> {
-    let mut f = Silent::new(MemFolder::without_trail(alloc));
+    let mut f = stopping(MemFolder::without_trail(alloc), u64::MAX);
     f.set_len(FileId::Index, INDEX_LEN)?;
     for (n, size) in SIZES.iter().enumerate() {
         let file = FileId::Block(n as u8);
@@ -153,33 +167,34 @@ fn walked<F: Folder>(f: &mut F) -> Result<[u32; 3], Fault> {
     Ok(order)
 }
 
-// A folder whose list has these nodes, the last of them in front, with a change of which so many writes pass.
+// A folder whose list has these nodes, the last of them in front, with a change of which so many steps pass.
 fn stopped(
     alloc: Global,
     listed: &[u32],
     change: Change,
     word: u32,
-    writes: u64,
+    steps: u64,
 ) -> Result<(Silent, BlockFiles), Fail> {
     let mut f = folder(alloc)?;
     let files = BlockFiles::load(&mut f)?;
     for word in listed {
         change_list(&mut f, &files, Change::Insert, *word)?;
     }
-    f.stop_after(writes);
+    let mut f = again(f, steps);
     let _ = change_list(&mut f, &files, change, word);
     Ok((f, files))
 }
 
-// The walk once the operation in flight is completed, where completing is stopped after so many writes first, again and again.
-fn completed(f: &mut Silent, files: &BlockFiles, stops: &[u64]) -> Result<[u32; 3], Fault> {
-    for writes in stops {
-        f.stop_after(*writes);
-        let _ = complete(f, files);
+// The walk once the operation in flight is completed, where completing is stopped after so many steps first, again and again.
+fn completed(f: Silent, files: &BlockFiles, stops: &[u64]) -> Result<[u32; 3], Fault> {
+    let mut f = f;
+    for steps in stops {
+        f = again(f, *steps);
+        let _ = complete(&mut f, files);
     }
-    f.stop_after(u64::MAX);
-    complete(f, files)?;
-    walked(f)
+    f = again(f, u64::MAX);
+    complete(&mut f, files)?;
+    walked(&mut f)
 }
 
 #[test]
@@ -192,10 +207,10 @@ fn touch_stopped_after_each_word_leaves_the_old_order_or_the_new(
         (one, [one, two, zero]),
         (zero, [zero, two, one]),
     ] {
-        for writes in 0..30 {
-            let (mut f, files) = stopped(rt.alloc(), &NODES, Change::Touch, word, writes)?;
-            let order = if writes < 2 { [two, one, zero] } else { new };
-            assert_eq!(rt; completed(&mut f, &files, &[]), Ok(order));
+        for steps in 0..30 {
+            let (f, files) = stopped(rt.alloc(), &NODES, Change::Touch, word, steps)?;
+            let order = if steps < 2 { [two, one, zero] } else { new };
+            assert_eq!(rt; completed(f, &files, &[]), Ok(order));
         }
     }
     Ok(())
@@ -211,8 +226,8 @@ fn completing_may_be_stopped_twice(rt: HostRuntime) -> Result<(), Fail> {
     ] {
         for first in 0..24 {
             for second in [0, 2, 5, 11] {
-                let (mut f, files) = stopped(rt.alloc(), listed, change, word, 2)?;
-                assert_eq!(rt; completed(&mut f, &files, &[first, second]), Ok(new));
+                let (f, files) = stopped(rt.alloc(), listed, change, word, 2)?;
+                assert_eq!(rt; completed(f, &files, &[first, second]), Ok(new));
             }
         }
     }
@@ -223,9 +238,9 @@ fn completing_may_be_stopped_twice(rt: HostRuntime) -> Result<(), Fail> {
 fn operation_that_does_not_count_is_given_up(rt: HostRuntime) -> Result<(), Fail> {
     let [zero, one, two] = NODES;
     for (transaction, operation) in [(0x9000_0400, 1), (one, 4), (zero, 0), (0x1234, 3)] {
-        let (mut f, files) = stopped(rt.alloc(), &NODES, Change::Touch, two, 0)?;
+        let (f, files) = stopped(rt.alloc(), &NODES, Change::Touch, two, 0)?;
+        let mut f = again(f, u64::MAX);
         let (_, nexts, prevs) = shown(&mut f)?;
-        f.stop_after(u64::MAX);
         write_word(&mut f, FileId::Index, 332, operation)?;
         write_word(&mut f, FileId::Index, 328, transaction)?;
         let before = f.calls();
@@ -241,8 +256,8 @@ fn operation_that_does_not_count_is_given_up(rt: HostRuntime) -> Result<(), Fail
 
 #[test]
 fn completing_takes_few_calls(rt: HostRuntime) -> Result<(), Fail> {
-    let (mut f, files) = stopped(rt.alloc(), &NODES, Change::Touch, NODES[1], 2)?;
-    f.stop_after(u64::MAX);
+    let (f, files) = stopped(rt.alloc(), &NODES, Change::Touch, NODES[1], 2)?;
+    let mut f = again(f, u64::MAX);
     let before = f.calls();
     assert_eq!(rt; complete(&mut f, &files), Ok(()));
     assert_eq!(rt; f.calls().wrapping_sub(before), 34);
