@@ -73,6 +73,9 @@ told_stays P stays holds = subst (λ (t : Told). ForSome t.files P) (sym stays) 
 pub told_before : {a m : Told} (image : Image) → m ≡ a → m.files ≡ Some image → a.files ≡ Some image
 told_before image stays there = ap (λ (t : Told). t.files) (sym stays) ∙ there
 
+pub told_now : {a m : Told} (image : Image) → m ≡ a → a.files ≡ Some image → m.files ≡ Some image
+told_now image stays there = ap (λ (t : Told). t.files) stays ∙ there
+
 -- the links of a listed node name nodes
 pub next_names : (files : BlockFiles) (image : Image) (node : ℕ) → Agrees files image → is_node files node ≡ true → IsListed node image → is_node files (link_at image node 16) ≡ true
 next_names files image node agrees stands is =

@@ -1,5 +1,7 @@
 pub mod Conditions
+pub mod Counting
 pub mod FailedChecks
+pub mod Finishing
 pub mod LinkReads
 pub mod Listed
 pub mod NodeRecords
@@ -9,5 +11,7 @@ pub mod Performing
 pub mod PlanNodes
 pub mod PlanWords
 pub mod Results
+pub mod SealedWrites
+pub mod Seals
 pub mod Touching
 pub mod WriteLaws

@@ -1,5 +1,5 @@
 -- A node that checks, as a record of bytes.
-use Rattle.std.proofs.Common.{◌≡◌, ◌≢◌, ◌%◌, ℕ, ◌+◌, ◌≤◌, ◌<◌, true, List, [], ◌∷◌, take, ap, sym, ◌∙◌, subst, arith}
+use Rattle.std.proofs.Common.{◌≡◌, ◌≢◌, ◌%◌, ℕ, ◌+◌, ◌≤◌, ◌<◌, Bool, true, false, if◌then◌else◌, None, Some, List, [], ◌∷◌, take, refl, ap, sym, ◌∙◌, subst, arith}
 use Rattle.std.specs.Prelude.{◌==◌, ◌||◌}
 use Rattle.std.proofs.lemmas.List.{take_at}
 use Rattle.blk_image.specs.Bytes.{content, word_at, range_at, word_bytes}
@@ -16,15 +16,19 @@ use Rattle.blk_volume.specs.View.{stands_as, checks_at, list_of, node_at}
 use Rattle.std.proofs.lemmas.List.Elements.{All-nil, All-cons}
 use Rattle.blk_disk.specs.Sealed.{AreChanges, record_at, record_size, seal_place, RecordChecks}
 use Rattle.blk_disk.proofs.SealedFields.{record_word}
-use Rattle.blk_disk.proofs.SealedReads.{node_seal, node_bytes}
+use Rattle.blk_disk.proofs.SealedReads.{node_seal, node_bytes, record_read}
+use Rattle.blk_disk.specs.declared.tables.BlockFiles.{BlockFiles}
+use Rattle.blk_disk.specs.Tables.{Agrees}
+use Rattle.blk_lru.specs.Nodes.{is_node, link_at, FindsNode}
+use Rattle.blk_lru.proofs.NodeWords.{node_kind, stands_as_node, checked_names, next_link, prev_link}
 use Rattle.std.proofs.lemmas.Bool.{and_parts}
 
 -- the bytes of a node
-record_is : (image : Image) (w : ℕ) → kind_of w ≡ rankings → record_at image w ≡ range_at (byte image (Block (file_selector w))) (place w) 36
+pub record_is : (image : Image) (w : ℕ) → kind_of w ≡ rankings → record_at image w ≡ range_at (byte image (Block (file_selector w))) (place w) 36
 unfolding record_at
 record_is image w kind = ap (range_at (byte image (Block (file_selector w))) (place w)) (node_bytes w kind)
 
-front_is : (f : ℕ → ℕ) (p : ℕ) → take 32 (range_at f p 36) ≡ range_at f p 32
+pub front_is : (f : ℕ → ℕ) (p : ℕ) → take 32 (range_at f p 36) ≡ range_at f p 32
 front_is f p =
     ap (take 32) (range-add 32 4 p f) ∙ take_at (range_at f p 32) (range_at f (p + 32) 4) 32 (length-range 32 p f)
 
@@ -43,6 +47,38 @@ unfolding list_of checks_at
 record_checks image w bytes kind good =
     subst (λ (s : ℕ). checks s (record_at image w) ≡ true) (sym (node_seal w kind))
     (sym (checks_bytes image w bytes kind) ∙ (and_parts (stands_as image rankings w) (node_checks (node_at image w)) good).1)
+
+-- a node whose bytes were read checks where they do
+module _ (files : BlockFiles) (image : Image) (w : ℕ) (bytes : List ℕ) (agrees : Agrees files image) (small : AreBytes image) (is : is_node files w ≡ true) (read : bytes ≡ range_at (byte image (Block (file_selector w))) (place w + 0) 36) where
+  bytes_are : bytes ≡ record_at image w
+  bytes_are = record_read image w 36 bytes (sym (node_bytes w (node_kind files w is))) read
+
+  checks_are : (list_of image).checks w ≡ checks 32 bytes
+  unfolding list_of checks_at
+  checks_are = rw (stands_as_node files image agrees w is) (checks_bytes image w small (node_kind files w is) ∙ ap (checks 32) (sym bytes_are))
+
+  word_is : (q : ℕ) → q + 4 ≤ 36 → word_at (content bytes) q ≡ link_at image w q
+  word_is q inside = ap (λ (b : List ℕ). word_at (content b) q) bytes_are ∙ record_word image w q (let size = node_bytes w (node_kind files w is) in omega (arith, size, inside))
+
+  by_check : (t : Bool) → checks 32 bytes ≡ t → FindsNode (list_of image) w (if t then Some (record { node = w; next = word_at (content bytes) 16; prev = word_at (content bytes) 20 }) else None)
+  by_check true e = record {
+    node = refl;
+    good = checks_are ∙ e;
+    next = word_is 16 (omega arith) ∙ sym (next_link image w (stands_as_node files image agrees w is));
+    prev = word_is 20 (omega arith) ∙ sym (prev_link image w (stands_as_node files image agrees w is));
+  }
+  by_check false e = checks_are ∙ e
+
+  pub found_in : FindsNode (list_of image) w (if checks 32 bytes then Some (record { node = w; next = word_at (content bytes) 16; prev = word_at (content bytes) 20 }) else None)
+  found_in = by_check (checks 32 bytes) refl
+
+-- and a word that names no node finds none
+pub found_none : (files : BlockFiles) (image : Image) (w : ℕ) → Agrees files image → is_node files w ≡ false → (list_of image).checks w ≡ false
+found_none files image w agrees none = go ((list_of image).checks w) refl
+  where
+    go : (t : Bool) → (list_of image).checks w ≡ t → t ≡ false
+    go true e = sym (checked_names files image agrees w e) ∙ none
+    go false e = refl
 
 -- words that are written are bytes
 pub are_bytes-word : (f : File) (p v : ℕ) (image : Image) → AreBytes image → AreBytes (applied (Word f p (word_bytes v)) image)

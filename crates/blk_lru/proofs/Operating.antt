@@ -98,6 +98,11 @@ module _ (a m b : Told) (stays : m ≡ a) (ws : List ListWrite) (plan : Image �
   pub stops_as : ForSome m.files (λ from. Passes m b (IsPartly from ws)) → ForSome a.files (λ from. Passes a b (IsPartly from (plan from)))
   stops_as stops from there = subst (λ (w : List ListWrite). Passes a b (IsPartly from w)) (is from there) (subst (λ (t : Told). ForSome t.files (λ from. Passes t b (IsPartly from ws))) stays stops from there)
 
+  pub shown_as : {T E : Type 0} (r : Result T E) → OnOk r (ForSome m.files (λ from. ForSome b.files (OnlyListChanges ws from))) → OnOk r (ForSome a.files (λ from. ForSome b.files (OnlyListChanges (plan from) from)))
+  shown_as r made =
+      on_ok_weaker r (λ shown from there image here. subst (λ (w : List ListWrite). OnlyListChanges w from image) (is from there) (shown from there image here))
+      (subst (λ (t : Told). OnOk r (ForSome t.files (λ from. ForSome b.files (OnlyListChanges ws from)))) stays made)
+
   pub made_as : {T E : Type 0} (r : Result T E) → OnOk r (ForSome m.files (λ from. ForSome b.files (OnlyListChanges ws from))) → OnOk r (ForSome a.files (λ from. ForSome b.files (λ image. list_of image ≡ after_writes (plan from) (list_of from))))
   made_as r made =
       on_ok_weaker r (λ shown from there image here. (shown from there image here).list ∙ ap (λ (w : List ListWrite). after_writes w (list_of from)) (is from there))

@@ -43,7 +43,7 @@ steps-append (x ∷ xs) ys image =
     ∙ sym (append_assoc steps (steps_of xs between) (steps_of ys (after (steps_of xs between) between)))
     ∙ ap (λ (i : Image). (steps ++ steps_of xs between) ++ steps_of ys i) (sym (after-append steps (steps_of xs between) image))
 
-no_some : {A : Type 0} (x : A) → None ≡ Some x → ⊥
+pub no_some : {A : Type 0} (x : A) → None ≡ Some x → ⊥
 no_some x e = cc
 
 -- what is there after all of the writes
@@ -69,7 +69,7 @@ nothing old now writes same = record {
 }
 
 -- the writes touch no header and no length
-or_none : (a b : Bool) → a ≡ false → b ≡ false → (a || b) ≡ false
+pub or_none : (a b : Bool) → a ≡ false → b ≡ false → (a || b) ≡ false
 or_none a b p q = rw (p, q) refl
 
 spare_record : (w n i : ℕ) → i < 8192 → (record_range w).bytes (Block n) i ≡ false

@@ -1,15 +1,15 @@
 -- A touch at each of its words: the writes of the list, and then the times of the node.
-use Rattle.std.proofs.Common.{inl, ◌≡◌, ◌≢◌, ℕ, zero, suc, ◌+◌, ◌%◌, ◌/◌, ◌^◌, ◌<◌, ◌≤◌, Bool, true, false, List, [], ◌∷◌, ◌++◌, length, All, Some, if◌then◌else◌, refl, sym, ap, ◌∙◌, subst, arith}
+use Rattle.std.proofs.Common.{inl, ◌≡◌, ◌≢◌, ℕ, zero, suc, ◌+◌, ◌%◌, ◌/◌, ◌^◌, ◌<◌, ◌≤◌, Bool, true, false, List, [], ◌∷◌, ◌++◌, length, All, Option, None, Some, if◌then◌else◌, refl, sym, ap, ◌∙◌, subst, arith}
 use Rattle.std.specs.Prelude.{◌==◌}
-use Rattle.std.specs.Option.{option_map}
+use Rattle.std.specs.Option.{ForSome, option_map}
 use Rattle.std.proofs.lemmas.List.{append-nil, take_all}
 use Rattle.std.proofs.lemmas.List.Elements.{All-nil, All-cons}
 use Rattle.std.proofs.lemmas.Bool.{le-ltb, and_parts}
-use Rattle.blk_image.specs.Image.{Image, Block, length_of}
+use Rattle.blk_image.specs.Image.{Image, Index, Block, length_of}
 use Rattle.blk_image.specs.Steps.{TrailStep, applied, after, word_step}
 use Rattle.blk_image.specs.Footprint.{Footprint, either}
 use Rattle.blk_image.specs.Told.{Told, Grows, GrowsInPart, Passes, Along, Until, IsQuiet}
-use Rattle.blk_image.proofs.Runs.{passes_part, some_inj, until-append, until_weaker2, until_last, quiet-append}
+use Rattle.blk_image.proofs.Runs.{passes_end, passes_part, some_inj, until-append, until_weaker2, until_last, quiet-append}
 use Rattle.blk_image.proofs.Cuts.{after-append}
 use Rattle.blk_image.proofs.WordSteps.{quiet-word_steps}
 use Rattle.blk_image.proofs.Footprints.{outside-trans, outside_wider, within_left, within_right}
@@ -30,13 +30,14 @@ use Rattle.blk_moments.specs.Moments.{OnlyListChanges}
 use Rattle.blk_lru.specs.Lists.{TurnsAt, Turns, completed_walk}
 use Rattle.blk_lru.specs.Moments.{WriteMoments}
 use Rattle.blk_lru.specs.Nodes.{is_node}
-use Rattle.blk_lru.specs.Writes.{IsPartly, IsTouched, steps_of, times_of, touch_steps, touched_by_writes, write_steps}
+use Rattle.blk_lru.specs.Writes.{HasWholeIndex, IsPartly, IsTouched, steps_of, times_of, touch_steps, touched_by_writes, write_steps}
 use Rattle.blk_lru.proofs.NodeRecords.{record_checks}
 use Rattle.blk_lru.proofs.NodeWords.{node_kind, node_stands, stands_as_node}
 use Rattle.blk_lru.proofs.Operating.{quiet_front, turns_front, turns_whole}
+use Rattle.blk_lru.proofs.Performing.{no_some, or_none, spares_sizes}
 use Rattle.blk_lru.proofs.WriteLaws.{IsReady, MayWrite, writes_show, quiet_writes}
 
-each : (P : ℕ × ℕ → Type 0) (w x y z : ℕ × ℕ) → P w → P x → P y → P z → All P (w ∷ x ∷ y ∷ z ∷ [])
+pub each : (P : ℕ × ℕ → Type 0) (w x y z : ℕ × ℕ) → P w → P x → P y → P z → All P (w ∷ x ∷ y ∷ z ∷ [])
 each P w x y z p q r s = All-cons P w (x ∷ y ∷ z ∷ []) p (All-cons P x (y ∷ z ∷ []) q (All-cons P y (z ∷ []) r (All-cons P z [] s (All-nil P))))
 
 pub times_are : (node moment : ℕ) → kind_of node ≡ rankings → AreChanges (seal_place node) (times_of moment)
@@ -211,3 +212,13 @@ touch_done laws files old now from image there here ready node moment is good ws
     let last : Image = after (touch_steps node moment ws from) from in
     let same : last ≡ image = some_inj (sym (grows.files ∙ ap (option_map (after (touch_steps node moment ws from))) there) ∙ here) in
     ap list_of (sym same) ∙ ap list_of (after-append (steps_of ws from) (sealed_steps (after (steps_of ws from) from) node (times_of moment)) from) ∙ touch_ends laws files from ready node moment is good ws may
+
+-- the index is whole after a part of a touch
+pub still_whole : (old now : Told) (node : ℕ) (plan : Image → List ListWrite) → ForSome old.files HasWholeIndex → (old.files ≡ None → now.files ≡ None) → ForSome old.files (λ from. Passes old now (IsTouched from node (plan from))) → ForSome now.files HasWholeIndex
+still_whole old now node plan whole silent stops image here = by_files old.files refl
+  where
+    by_files : (o : Option Image) → old.files ≡ o → HasWholeIndex image
+    by_files None none = absurd (no_some image (sym (silent none) ∙ here))
+    by_files (Some from) there =
+        let t : IsTouched from node (plan from) image = passes_end (stops from there) image here in
+        t.outside.lengths Index (or_none _ _ (spares_sizes (plan from) Index) refl) ∙ whole from there

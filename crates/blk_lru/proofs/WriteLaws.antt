@@ -58,7 +58,7 @@ same_stock image = record {
   table = λ bucket. refl;
 }
 
-unchanged : (image : Image) → OnlyListChanges [] image image
+pub unchanged : (image : Image) → OnlyListChanges [] image image
 unchanged image = record { list = refl; stock = same_stock image }
 
 pub nothing_made : (writes : List ListWrite) (image : Image) → IsPartly image writes image

@@ -3,4 +3,4 @@ pub mod Writes
 pub mod Plans
 pub mod Lists
 pub mod Moments
-pub mod Untold
+pub mod Completing

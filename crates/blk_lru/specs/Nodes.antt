@@ -11,6 +11,8 @@ use Rattle.blk_io.specs.declared.fault.Damage.{Damage}
 use Rattle.blk_io.specs.FileNames.{file_of}
 use Rattle.blk_disk.specs.declared.tables.BlockFiles.{BlockFiles}
 use Rattle.blk_disk.specs.Tables.{stands_among}
+use Rattle.blk_volume.specs.ListView.{ListView}
+use Rattle.blk_lru.specs.declared.nodes.Links.{Links}
 
 -- a word is the address of a node that stands among the files
 unfoldable pub is_node : BlockFiles → ℕ → Bool
@@ -55,3 +57,15 @@ link_at image node at = word image (Block (file_selector node)) (place node + at
 -- a word is 0 or names a node
 abbrev pub NamesNode : BlockFiles → ℕ → Type 0
 NamesNode files w = (w ≡ 0) ⊎ (is_node files w ≡ true)
+
+-- a word names a node that checks, and these are the node and its links
+pub record AreLinksOf (list : ListView) (w : ℕ) (links : Links) : Type 0 where
+  pub node : links.node ≡ w
+  pub good : list.checks w ≡ true
+  pub next : links.next ≡ list.next w
+  pub prev : links.prev ≡ list.prev w
+
+-- the node that a word names is found where it stands and checks
+abbrev pub FindsNode : ListView → ℕ → Option Links → Type 0
+FindsNode list w None = list.checks w ≡ false
+FindsNode list w (Some links) = AreLinksOf list w links

@@ -1,5 +1,5 @@
 -- What an operation on the use list writes, by the words that it finds.
-use Rattle.std.specs.Prelude.{ℕ, ◌==◌, if◌then◌else◌, Option, None, Some, List, [], ◌∷◌, ◌++◌}
+use Rattle.std.specs.Prelude.{ℕ, ◌≡◌, ◌≢◌, ◌==◌, if◌then◌else◌, Option, None, Some, List, [], ◌∷◌, ◌++◌}
 use Rattle.blk_volume.specs.ListView.{ListWrite, Operation, Transaction}
 use Rattle.blk_volume.specs.Completion.{insert, remove, move, taking_out, putting_in_front}
 use Rattle.blk_lru.specs.declared.plans.Operation as code
@@ -34,6 +34,11 @@ abbrev pub code_of : code.Operation → ℕ
 code_of operations.Insert = insert
 code_of operations.Remove = remove
 code_of operations.Move = move
+
+-- the operation of a code is found where one has it
+abbrev pub FindsOperation : ℕ → Option code.Operation → Type 0
+FindsOperation number None = (operation : code.Operation) → number ≢ code_of operation
+FindsOperation number (Some operation) = code_of operation ≡ number
 
 -- a word, or 0 for none
 abbrev pub word_or_zero : Option ℕ → ℕ

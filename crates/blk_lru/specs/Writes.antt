@@ -76,6 +76,15 @@ AreOf P (Operation word ∷ writes) = AreOf P writes
 abbrev pub IsSealed : Image → ℕ → Type 0
 IsSealed image node = node_is_sealed (node_at image node) ≡ true
 
+-- each node that is written is sealed
+abbrev pub AreSealed : List ListWrite → Image → Type 0
+AreSealed writes image = AreOf (IsSealed image) writes
+
+-- both times of a node are a moment
+pub record AreTimes (node moment : ℕ) (image : Image) : Type 0 where
+  pub used : (node_at image node).last_used ≡ moment
+  pub modified : (node_at image node).last_modified ≡ moment
+
 -- the word that is written
 abbrev pub word_of : ListWrite → ℕ
 word_of (Next node word) = word

@@ -11,7 +11,7 @@ ghost use Rattle.blk_io.specs.Faults.{IfDamaged, IfDevice};
 ghost use Rattle.blk_disk.specs.Sealed.{sealed_steps};
 ghost use Rattle.blk_disk.specs.Tables.{Agrees};
 ghost use Rattle.blk_lru.specs.Nodes.{is_node, IsFailedCheck};
-ghost use Rattle.blk_lru.specs.Writes.{HasWholeIndex, IsPartly, IsTouched, steps_of, times_of, touch_steps};
+ghost use Rattle.blk_lru.specs.Writes.{AreSealed, AreTimes, HasWholeIndex, IsPartly, IsSealed, IsTouched, steps_of, times_of, touch_steps};
 ghost use Rattle.blk_lru.specs.Lists.{IsListed, Turns, first_of, walked};
 
 use crate::moments::write_moments;
@@ -37,6 +37,7 @@ pub fn insert_front<F: Folder>(f: &mut F, files: &BlockFiles, node: Addr) -> Res
     ensures whole { OnOk result (ForSome (F.told f.old).files (λ from. Grows (F.told f.old) (F.told f.new) (steps_of (writes_of insert node (list_of from)) from))) }
     ensures part { ForSome (F.told f.old).files (λ from. GrowsInPart (F.told f.old) (F.told f.new) (steps_of (writes_of insert node (list_of from)) from)) }
     ensures inserted { OnOk result (ForSome (F.told f.old).files (λ from. ForSome (F.told f.new).files (λ image. IsAtRest (list_of image) (node ∷ walked from)))) }
+    ensures sealed { OnOk result (ForSome (F.told f.old).files (λ from. ForSome (F.told f.new).files (AreSealed (writes_of insert node (list_of from))))) }
 
     // At each word completing gives the old list, or from the transaction word on the new one; nothing but the list changes.
     ensures turns { ForSome (F.told f.old).files (λ from. Turns (F.told f.old) (F.told f.new) (walked from) (node ∷ walked from)) }
@@ -73,6 +74,7 @@ pub fn remove<F: Folder>(f: &mut F, files: &BlockFiles, node: Addr) -> Result<()
     ensures whole { OnOk result (ForSome (F.told f.old).files (λ from. Grows (F.told f.old) (F.told f.new) (steps_of (writes_of removal node (list_of from)) from))) }
     ensures part { ForSome (F.told f.old).files (λ from. GrowsInPart (F.told f.old) (F.told f.new) (steps_of (writes_of removal node (list_of from)) from)) }
     ensures removed { OnOk result (ForSome (F.told f.old).files (λ from. ForSome (F.told f.new).files (λ image. (front behind : List ℕ) → walked from ≡ front ++ node ∷ behind → IsAtRest (list_of image) (front ++ behind)))) }
+    ensures sealed { OnOk result (ForSome (F.told f.old).files (λ from. ForSome (F.told f.new).files (AreSealed (writes_of removal node (list_of from))))) }
 
     // At each word completing gives the old list, or from the transaction word on the new one; nothing but the list changes.
     ensures turns { ForSome (F.told f.old).files (λ from. (front behind : List ℕ) → walked from ≡ front ++ node ∷ behind → Turns (F.told f.old) (F.told f.new) (walked from) (front ++ behind)) }
@@ -110,10 +112,13 @@ pub fn touch<F: Folder>(f: &mut F, files: &BlockFiles, node: Addr, moment: u64) 
     ensures whole { OnOk result (ForSome (F.told f.old).files (λ from. Grows (F.told f.old) (F.told f.new) (touch_steps node moment (touch_writes node (list_of from)) from))) }
     ensures part { ForSome (F.told f.old).files (λ from. GrowsInPart (F.told f.old) (F.told f.new) (touch_steps node moment (touch_writes node (list_of from)) from)) }
     ensures touched { OnOk result (ForSome (F.told f.old).files (λ from. ForSome (F.told f.new).files (λ image. (front behind : List ℕ) → walked from ≡ front ++ node ∷ behind → IsAtRest (list_of image) (node ∷ front ++ behind)))) }
+    ensures times { OnOk result (ForSome (F.told f.old).files (λ _. ForSome (F.told f.new).files (AreTimes node moment))) }
+    ensures sealed { OnOk result (ForSome (F.told f.old).files (λ from. ForSome (F.told f.new).files (λ image. AreSealed (touch_writes node (list_of from)) image × IsSealed image node))) }
 
     // At each word completing gives the old list, or from the transaction word on the new one; nothing but the list and the times changes.
     ensures turns { ForSome (F.told f.old).files (λ from. (front behind : List ℕ) → walked from ≡ front ++ node ∷ behind → Turns (F.told f.old) (F.told f.new) (walked from) (node ∷ front ++ behind)) }
     ensures stops { ForSome (F.told f.old).files (λ from. Passes (F.told f.old) (F.told f.new) (IsTouched from node (touch_writes node (list_of from)))) }
+    ensures complete { ForSome (F.told f.new).files HasWholeIndex }
     ensures agrees { ForSome (F.told f.new).files (Agrees files.now) }
 
     // A folder that tells its files never gives a damage.

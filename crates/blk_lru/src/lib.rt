@@ -4,6 +4,7 @@
 #![tactic(auto)]
 
 mod changing;
+mod completing;
 mod moments;
 mod nodes;
 mod plans;
@@ -11,9 +12,8 @@ mod reading;
 mod writes;
 
 pub use changing::{insert_front, remove, touch};
+pub use completing::complete;
 pub use reading::{after, before, first, last};
 
-#[cfg(test)]
-mod silent;
 #[cfg(test)]
 mod tests;

@@ -1,18 +1,22 @@
 // Words that name nodes, and the links of nodes.
-ghost use Rattle.std.specs.Prelude.{◌≡◌, ◌⊎◌, ◌+◌, ◌≤◌, IfOk, IsTrue, None, true};
+ghost use Rattle.std.specs.Prelude.{◌≡◌, ◌⊎◌, ◌+◌, ◌≤◌, IfOk, IfSome, IsTrue, None, Some, if◌then◌else◌, length, true};
 ghost use Rattle.std.specs.Option.{ForSome};
+ghost use Rattle.blk_image.specs.Bytes.{content, word_at};
 ghost use Rattle.blk_image.specs.Image.{Block as block, word as image_word};
 ghost use Rattle.blk_image.specs.Told.{Rises, Stays};
 ghost use Rattle.blk_format.specs.Address.{file_selector, place};
+ghost use Rattle.blk_format.specs.Records.{checks};
+ghost use Rattle.blk_volume.specs.View.{list_of};
 ghost use Rattle.blk_io.specs.declared.folder.FileId.TheVariants as names;
 ghost use Rattle.blk_io.specs.Faults.{IfDamaged, IfDevice, IsShort};
 ghost use Rattle.blk_disk.specs.Tables.{Agrees};
 ghost use Rattle.blk_lru.specs.Nodes as nodes;
-ghost use Rattle.blk_lru.specs.Nodes.{is_node, link_at, IsAstray, IsLinkPlace};
+ghost use Rattle.blk_lru.specs.Nodes.{is_node, link_at, FindsNode, IsAstray, IsFailedCheck, IsLinkPlace};
 
 use blk_addr::{Addr, Kind};
 use blk_disk::{BlockFiles, file_of};
 use blk_io::{Damage, Fault, Folder};
+use blk_record::{NodeView, Record};
 
 // The byte at which the blocks of a block file begin, and the bytes of a node.
 const HEADER_LEN: u64 = 8192;
@@ -23,6 +27,14 @@ const NODE_LEN: u64 = 36;
 pub(crate) const NEXT: u32 = 16;
 
 pub(crate) const PREV: u32 = 20;
+
+// A node that checks, and the words of its links.
+#[derive(Clone, Copy, Debug)]
+pub(crate) struct Links {
+    pub(crate) node: Addr,
+    pub(crate) next: u32,
+    pub(crate) prev: u32,
+}
 
 // The node that a word names, if it is the address of one that stands.
 #[tactic(auto, using(crate::proofs::WriteLaws::one_write), unfolding(crate::specs::Nodes::is_node))]
@@ -67,4 +79,45 @@ pub(crate) fn link<F: Folder>(
         return Err(Fault::Damaged(Damage { file, at, found }));
     };
     Ok(other)
+}
+
+// The node that a word names and its links, where it stands and checks, by at most one folder call.
+pub(crate) fn checked<F: Folder>(
+    f: &mut F,
+    files: &BlockFiles,
+    word: u32,
+) -> Result<Option<Links>, Fault>
+    requires agrees { ForSome (F.told f.old).files (Agrees files.now) }
+    ensures found { IfOk result (λ found. ForSome (F.told f.old).files (λ image. FindsNode (list_of image) word found)) }
+    ensures stands { IfOk result (λ found. IfSome found (λ links. is_node files.now links.node ≡ true)) }
+    ensures damaged { IfDamaged result (IsFailedCheck files.now) }
+    ensures untold { IfDamaged result (λ _. (F.told f.old).files ≡ None) }
+    ensures stays { Stays (F.told f.old) (F.told f.new) }
+    ensures later { F.faults f.old ≤ F.faults f.new }
+    ensures device { IfDevice result (Rises (F.faults f.old) (F.faults f.new)) }
+{
+    let Some(node) = node_of(files, word) else {
+        return Ok(None);
+    };
+    let mut window = [0u8; 36];
+    files.read_block(f, node, 0, &mut window)?;
+    Ok(links_in(node, &window))
+}
+
+// The links of a node that has these bytes, where it checks.
+fn links_in(node: Addr, window: &[u8]) -> Option<Links>
+    requires { length window.now ≡ 36 }
+    ensures { result ≡ (if checks 32 window.now then Some (record { node = node; next = word_at (content window.now) 16; prev = word_at (content window.now) 20 }) else None) }
+{
+    let Some(view) = NodeView::over(window) else {
+        unreachable!();
+    };
+    if !view.checks() {
+        return None;
+    }
+    Some(Links {
+        node,
+        next: view.word(NEXT as usize),
+        prev: view.word(PREV as usize),
+    })
 }

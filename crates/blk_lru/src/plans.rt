@@ -3,7 +3,7 @@ ghost use Rattle.std.specs.Prelude.{◌≡◌, ◌+◌, ◌++◌, ◌∷◌, ◌
 ghost use Rattle.blk_volume.specs.Completion as completion;
 ghost use Rattle.blk_volume.specs.Completion.{putting_in_front, taking_out};
 ghost use Rattle.blk_volume.specs.ListView as list;
-ghost use Rattle.blk_lru.specs.Plans.{code_of, pending, whole_plan, word_or_zero};
+ghost use Rattle.blk_lru.specs.Plans.{code_of, pending, whole_plan, word_or_zero, FindsOperation};
 ghost use Rattle.blk_lru.specs.Plans as plans;
 ghost use Rattle.blk_lru.specs.Writes.{meant};
 
@@ -35,6 +35,21 @@ impl Operation {
             Operation::Insert => 1,
             Operation::Remove => 2,
             Operation::Move => 3,
+        }
+    }
+
+    // The operation that a code stands for.
+    pub(crate) fn of_code(code: u32) -> Option<Operation>
+        ensures { FindsOperation code result }
+    {
+        if code == 1 {
+            Some(Operation::Insert)
+        } else if code == 2 {
+            Some(Operation::Remove)
+        } else if code == 3 {
+            Some(Operation::Move)
+        } else {
+            None
         }
     }
 }
@@ -74,6 +89,15 @@ pub(crate) fn pending_of(
 {
     let mut plan = ArrayVec::new();
     add_pending(&mut plan, operation, node, next, prev, head);
+    plan
+}
+
+// The end of a transaction alone.
+pub(crate) fn ending() -> Plan
+    ensures { map meant result.items ≡ list.Transaction 0 ∷ [] }
+{
+    let mut plan = ArrayVec::new();
+    add(&mut plan, &[Write::Transaction(0)]);
     plan
 }
 

@@ -19,6 +19,7 @@ use Rattle.blk_lru.proofs.Operating.{made_as, part_as, stops_as, stops_none, tur
 use Rattle.blk_lru.proofs.Performing.{told_ready}
 use Rattle.blk_lru.proofs.PlanNodes.{Each, Good, each_nodes, each_words, node_small, whole_good}
 use Rattle.blk_lru.proofs.PlanWords.{whole_is}
+use Rattle.blk_lru.proofs.SealedWrites.{grown_sealed}
 use Rattle.blk_lru.proofs.WriteLaws.{MayWrite}
 use Rattle.blk_lru.proofs.changing.insert_front.Given as given
 use Rattle.blk_lru.proofs.changing.insert_front.Goals as goal
@@ -107,3 +108,13 @@ returns-clause-turns g c from there =
 pub returns-clause-stops : goal.returns-clause-stops
 returns-clause-stops g c =
     stops_as (g.F.Folder.told c.args.f.now) (g.F.Folder.told c.first.new.f) (g.F.Folder.told c.perform.new.f) c.in_ok-head.ensures.stays (map meant c.deref.result.now) (λ from. writes_of 1 c.args.node (list_of from)) (plan_is g c.before) c.perform.ensures.stops
+
+pub returns-clause-sealed : goal.returns-clause-sealed
+returns-clause-sealed g c =
+    on_ok_weaker c.perform.result
+    (λ grows from there image here.
+    let files = c.args.files.now in
+    let old = g.F.Folder.told c.args.f.now in
+    let ready = told_ready files old c.requires.agrees c.requires.complete (g.met.F.Folder.are_bytes c.args.f.now) from there in
+    grown_sealed c.write_moments.ensures files old (g.F.Folder.told c.perform.new.f) from image there here (writes_of 1 c.args.node (list_of from)) ready (whole_here g c from there) (grows from there))
+    (returns-clause-whole g c)

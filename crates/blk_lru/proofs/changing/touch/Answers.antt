@@ -1,4 +1,4 @@
-use Rattle.std.proofs.Common.{◌≡◌, Bool, ℕ, List, ◌∷◌, ◌++◌, Some, ap, sym, ◌∙◌, subst, true}
+use Rattle.std.proofs.Common.{arith, ◌≡◌, Bool, ℕ, List, ◌∷◌, ◌++◌, Some, ap, sym, ◌∙◌, subst, true}
 use Rattle.std.specs.Option.{ForSome, option_map}
 use Rattle.std.proofs.lemmas.Result.{on_ok_weaker}
 use Rattle.blk_image.specs.Image.{Image}
@@ -16,7 +16,8 @@ use Rattle.blk_lru.proofs.Conditions.{listed_checks, touch_may}
 use Rattle.blk_lru.proofs.FailedChecks.{if_damaged_weaker}
 use Rattle.blk_lru.proofs.Conditions.{from_before, told_none}
 use Rattle.blk_lru.proofs.Performing.{told_ready}
-use Rattle.blk_lru.proofs.Touching.{touch_done, touch_stops, touch_turns}
+use Rattle.blk_lru.proofs.SealedWrites.{touch_sealed, touch_times}
+use Rattle.blk_lru.proofs.Touching.{still_whole, touch_done, touch_stops, touch_turns}
 use Rattle.blk_lru.proofs.WriteLaws.{writes_show}
 use Rattle.blk_lru.proofs.changing.touch.Given as given
 use Rattle.blk_lru.proofs.changing.touch.Goals as goal
@@ -112,3 +113,32 @@ returns-clause-touched g c =
 
 pub returns-clause-untold : goal.returns-clause-untold
 returns-clause-untold g c = if_damaged_weaker c.set_times.result (λ damage none. told_none (g.F.Folder.told c.args.f.now).files (g.F.Folder.told c.move_front.new.f).files (λ from there. (after (steps_of (touch_writes c.args.node (list_of from)) from) from, between_is g c from there)) none) c.set_times.ensures.untold
+
+pub returns-clause-times : goal.returns-clause-times
+returns-clause-times g c =
+    on_ok_weaker c.set_times.result
+    (λ grows from there image here.
+    let files = c.args.files.now in
+    let old = g.F.Folder.told c.args.f.now in
+    let listed = c.requires.listed from there in
+    let ready = told_ready files old c.requires.agrees c.requires.complete (g.met.F.Folder.are_bytes c.args.f.now) from there in
+    let may = touch_may files from c.args.node (c.requires.agrees from there) c.requires.stands listed in
+    touch_times c.write_moments.ensures files old (g.F.Folder.told c.set_times.new.f) from image there here ready c.args.node c.args.moment c.requires.stands (listed_checks from c.args.node listed) (touch_writes c.args.node (list_of from)) may (grows from there) (omega (arith, c.ranges.moment.fits)))
+    (returns-clause-whole g c)
+
+pub returns-clause-sealed : goal.returns-clause-sealed
+returns-clause-sealed g c =
+    on_ok_weaker c.set_times.result
+    (λ grows from there image here.
+    let files = c.args.files.now in
+    let old = g.F.Folder.told c.args.f.now in
+    let listed = c.requires.listed from there in
+    let ready = told_ready files old c.requires.agrees c.requires.complete (g.met.F.Folder.are_bytes c.args.f.now) from there in
+    let may = touch_may files from c.args.node (c.requires.agrees from there) c.requires.stands listed in
+    touch_sealed c.write_moments.ensures files old (g.F.Folder.told c.set_times.new.f) from image there here ready c.args.node c.args.moment c.requires.stands (listed_checks from c.args.node listed) (touch_writes c.args.node (list_of from)) may (grows from there))
+    (returns-clause-whole g c)
+
+pub returns-clause-complete : goal.returns-clause-complete
+returns-clause-complete g c image here =
+    let old = g.F.Folder.told c.args.f.now in
+    still_whole old (g.F.Folder.told c.set_times.new.f) c.args.node (λ from. touch_writes c.args.node (list_of from)) c.requires.complete (λ none. c.set_times.ensures.silent (c.in_ok-move_front.ensures.silent none)) (returns-clause-stops g c) image here

@@ -1,0 +1,287 @@
+// The operation in flight, completed.
+ghost use Rattle.std.specs.Prelude.{◌≡◌, ◌≤◌, None, IfOk, IfSome, OnOk, map, true};
+ghost use Rattle.std.specs.Option.{ForSome};
+ghost use Rattle.blk_image.specs.Told.{Grows, GrowsInPart, Passes, Rises, Stays};
+ghost use Rattle.blk_volume.specs.Completion.{insert, move, remove as removal};
+ghost use Rattle.blk_volume.specs.ListPlans.{completion_writes};
+ghost use Rattle.blk_volume.specs.View.{list_of};
+ghost use Rattle.blk_io.specs.Faults.{IfDamaged, IfDevice};
+ghost use Rattle.blk_disk.specs.Tables.{Agrees};
+ghost use Rattle.blk_lru.specs.Nodes.{is_node, AreLinksOf, IsFailedCheck};
+ghost use Rattle.blk_lru.specs.Writes.{AreOf, AreSealed, AreWords, HasWholeIndex, IsPartly, meant, steps_of};
+ghost use Rattle.blk_lru.specs.Completing.{AreNodes, CompletesAlike, Finds, FindsBeside, FindsHead, IsCompleted, finishing_writes};
+
+use crate::moments::write_moments;
+use crate::nodes::{Links, checked};
+use crate::plans::{Operation, Plan, ending, pending_of};
+use crate::reading::HEAD;
+use crate::writes::{OPERATION, TRANSACTION, perform};
+use blk_addr::Addr;
+use blk_disk::BlockFiles;
+use blk_index::word;
+use blk_io::{Fault, Folder};
+
+// An operation in flight that counts: its node, the nodes beside that one, and the first node, as far
+// as it needs them. Where the node has no next one the previous one isn't looked at.
+#[derive(Clone, Copy, Debug)]
+pub(crate) struct InFlight {
+    operation: Operation,
+    node: Addr,
+    next: Option<Addr>,
+    prev: Addr,
+    head: Option<Addr>,
+}
+
+// The nodes beside one: the next, if it has one, and the previous.
+#[derive(Clone, Copy, Debug)]
+pub(crate) struct Beside {
+    next: Option<Addr>,
+    prev: Addr,
+}
+
+/// Completes the operation in flight, if there is one, and ends its transaction.
+///
+/// An operation counts where its code is that of an insert, a removal or a move, and its node and the
+/// nodes that it goes by stand and check: the first one for an insert and a move, and those beside
+/// the node for a removal and a move. One that doesn't count is given up: its transaction alone ends.
+/// Where there is none in flight nothing is written. The list need not be whole. This takes at most
+/// 34 folder calls.
+pub fn complete<F: Folder>(f: &mut F, files: &BlockFiles) -> Result<(), Fault>
+    requires complete { ForSome (F.told f.old).files HasWholeIndex }
+    requires agrees { ForSome (F.told f.old).files (Agrees files.now) }
+    ensures whole { OnOk result (ForSome (F.told f.old).files (λ from. Grows (F.told f.old) (F.told f.new) (steps_of (finishing_writes (list_of from)) from))) }
+    ensures part { ForSome (F.told f.old).files (λ from. GrowsInPart (F.told f.old) (F.told f.new) (steps_of (finishing_writes (list_of from)) from)) }
+    ensures done { OnOk result (ForSome (F.told f.old).files (λ from. ForSome (F.told f.new).files (IsCompleted from))) }
+    ensures sealed { OnOk result (ForSome (F.told f.old).files (λ from. ForSome (F.told f.new).files (AreSealed (finishing_writes (list_of from))))) }
+
+    // At each word completing gives what it gave at the entry, so it may be stopped and begun again; nothing but the list changes.
+    ensures keeps { ForSome (F.told f.old).files (λ from. Passes (F.told f.old) (F.told f.new) (CompletesAlike from)) }
+    ensures stops { ForSome (F.told f.old).files (λ from. Passes (F.told f.old) (F.told f.new) (IsPartly from (finishing_writes (list_of from)))) }
+    ensures complete { ForSome (F.told f.new).files HasWholeIndex }
+    ensures agrees { ForSome (F.told f.new).files (Agrees files.now) }
+
+    // A folder that tells its files never gives a damage.
+    ensures damaged { IfDamaged result (IsFailedCheck files.now) }
+    ensures untold { IfDamaged result (λ _. (F.told f.old).files ≡ None) }
+    ensures silent { (F.told f.old).files ≡ None → (F.told f.new).files ≡ None }
+
+    ensures later { F.faults f.old ≤ F.faults f.new }
+    ensures device { IfDevice result (Rises (F.faults f.old) (F.faults f.new)) }
+{
+    write_moments();
+    let transaction = word(f, TRANSACTION)?;
+    if transaction == 0 {
+        return Ok(());
+    }
+    let plan = completion(f, files, transaction)?;
+    perform(f, files, &plan)
+}
+
+// What completing writes, where this is the transaction word.
+fn completion<F: Folder>(f: &mut F, files: &BlockFiles, transaction: u32) -> Result<Plan, Fault>
+    requires complete { ForSome (F.told f.old).files HasWholeIndex }
+    requires agrees { ForSome (F.told f.old).files (Agrees files.now) }
+    requires transaction { ForSome (F.told f.old).files (λ image. (list_of image).transaction ≡ transaction) }
+    ensures plan { IfOk result (λ plan. ForSome (F.told f.old).files (λ image. map meant plan.items ≡ completion_writes (list_of image))) }
+    ensures stand { IfOk result (λ plan. AreOf (λ n. is_node files.now n ≡ true) (map meant plan.items)) }
+    ensures words { IfOk result (λ plan. AreWords (map meant plan.items)) }
+    ensures check { IfOk result (λ plan. ForSome (F.told f.old).files (λ image. AreOf (λ n. (list_of image).checks n ≡ true) (map meant plan.items))) }
+    ensures damaged { IfDamaged result (IsFailedCheck files.now) }
+    ensures untold { IfDamaged result (λ _. (F.told f.old).files ≡ None) }
+    ensures stays { Stays (F.told f.old) (F.told f.new) }
+    ensures later { F.faults f.old ≤ F.faults f.new }
+    ensures device { IfDevice result (Rises (F.faults f.old) (F.faults f.new)) }
+{
+    let Some(found) = in_flight(f, files, transaction)? else {
+        return Ok(ending());
+    };
+    Ok(pending_of(
+        found.operation,
+        found.node,
+        found.next,
+        found.prev,
+        found.head,
+    ))
+}
+
+// The operation in flight, where this is the transaction word and it counts.
+fn in_flight<F: Folder>(
+    f: &mut F,
+    files: &BlockFiles,
+    transaction: u32,
+) -> Result<Option<InFlight>, Fault>
+    requires complete { ForSome (F.told f.old).files HasWholeIndex }
+    requires agrees { ForSome (F.told f.old).files (Agrees files.now) }
+    requires transaction { ForSome (F.told f.old).files (λ image. (list_of image).transaction ≡ transaction) }
+    ensures found { IfOk result (λ found. ForSome (F.told f.old).files (λ image. Finds (list_of image) found)) }
+    ensures stand { IfOk result (λ found. IfSome found (AreNodes files.now)) }
+    ensures damaged { IfDamaged result (IsFailedCheck files.now) }
+    ensures untold { IfDamaged result (λ _. (F.told f.old).files ≡ None) }
+    ensures stays { Stays (F.told f.old) (F.told f.new) }
+    ensures later { F.faults f.old ≤ F.faults f.new }
+    ensures device { IfDevice result (Rises (F.faults f.old) (F.faults f.new)) }
+{
+    let Some(links) = checked(f, files, transaction)? else {
+        return Ok(None);
+    };
+    let Some(operation) = Operation::of_code(word(f, OPERATION)?) else {
+        return Ok(None);
+    };
+    match operation {
+        Operation::Insert => inserting(f, files, &links),
+        Operation::Remove => removing(f, files, &links),
+        Operation::Move => moving(f, files, &links),
+    }
+}
+
+// The insert in flight of a node with these links, where it counts.
+fn inserting<F: Folder>(
+    f: &mut F,
+    files: &BlockFiles,
+    links: &Links,
+) -> Result<Option<InFlight>, Fault>
+    requires complete { ForSome (F.told f.old).files HasWholeIndex }
+    requires agrees { ForSome (F.told f.old).files (Agrees files.now) }
+    requires stands { is_node files.now links.now.node ≡ true }
+    requires links { ForSome (F.told f.old).files (λ image. AreLinksOf (list_of image) (list_of image).transaction links.now) }
+    requires operation { ForSome (F.told f.old).files (λ image. (list_of image).operation ≡ insert) }
+    ensures found { IfOk result (λ found. ForSome (F.told f.old).files (λ image. Finds (list_of image) found)) }
+    ensures stand { IfOk result (λ found. IfSome found (AreNodes files.now)) }
+    ensures damaged { IfDamaged result (IsFailedCheck files.now) }
+    ensures untold { IfDamaged result (λ _. (F.told f.old).files ≡ None) }
+    ensures stays { Stays (F.told f.old) (F.told f.new) }
+    ensures later { F.faults f.old ≤ F.faults f.new }
+    ensures device { IfDevice result (Rises (F.faults f.old) (F.faults f.new)) }
+{
+    let Some(head) = usable_head(f, files)? else {
+        return Ok(None);
+    };
+    Ok(Some(InFlight {
+        operation: Operation::Insert,
+        node: links.node,
+        next: None,
+        prev: links.node,
+        head,
+    }))
+}
+
+// The removal in flight of a node with these links, where it counts.
+fn removing<F: Folder>(
+    f: &mut F,
+    files: &BlockFiles,
+    links: &Links,
+) -> Result<Option<InFlight>, Fault>
+    requires complete { ForSome (F.told f.old).files HasWholeIndex }
+    requires agrees { ForSome (F.told f.old).files (Agrees files.now) }
+    requires stands { is_node files.now links.now.node ≡ true }
+    requires links { ForSome (F.told f.old).files (λ image. AreLinksOf (list_of image) (list_of image).transaction links.now) }
+    requires operation { ForSome (F.told f.old).files (λ image. (list_of image).operation ≡ removal) }
+    ensures found { IfOk result (λ found. ForSome (F.told f.old).files (λ image. Finds (list_of image) found)) }
+    ensures stand { IfOk result (λ found. IfSome found (AreNodes files.now)) }
+    ensures damaged { IfDamaged result (IsFailedCheck files.now) }
+    ensures untold { IfDamaged result (λ _. (F.told f.old).files ≡ None) }
+    ensures stays { Stays (F.told f.old) (F.told f.new) }
+    ensures later { F.faults f.old ≤ F.faults f.new }
+    ensures device { IfDevice result (Rises (F.faults f.old) (F.faults f.new)) }
+{
+    let Some(beside) = usable_links(f, files, links)? else {
+        return Ok(None);
+    };
+    Ok(Some(InFlight {
+        operation: Operation::Remove,
+        node: links.node,
+        next: beside.next,
+        prev: beside.prev,
+        head: None,
+    }))
+}
+
+// The move in flight of a node with these links, where it counts.
+fn moving<F: Folder>(
+    f: &mut F,
+    files: &BlockFiles,
+    links: &Links,
+) -> Result<Option<InFlight>, Fault>
+    requires complete { ForSome (F.told f.old).files HasWholeIndex }
+    requires agrees { ForSome (F.told f.old).files (Agrees files.now) }
+    requires stands { is_node files.now links.now.node ≡ true }
+    requires links { ForSome (F.told f.old).files (λ image. AreLinksOf (list_of image) (list_of image).transaction links.now) }
+    requires operation { ForSome (F.told f.old).files (λ image. (list_of image).operation ≡ move) }
+    ensures found { IfOk result (λ found. ForSome (F.told f.old).files (λ image. Finds (list_of image) found)) }
+    ensures stand { IfOk result (λ found. IfSome found (AreNodes files.now)) }
+    ensures damaged { IfDamaged result (IsFailedCheck files.now) }
+    ensures untold { IfDamaged result (λ _. (F.told f.old).files ≡ None) }
+    ensures stays { Stays (F.told f.old) (F.told f.new) }
+    ensures later { F.faults f.old ≤ F.faults f.new }
+    ensures device { IfDevice result (Rises (F.faults f.old) (F.faults f.new)) }
+{
+    let Some(head) = usable_head(f, files)? else {
+        return Ok(None);
+    };
+    let Some(beside) = usable_links(f, files, links)? else {
+        return Ok(None);
+    };
+    Ok(Some(InFlight {
+        operation: Operation::Move,
+        node: links.node,
+        next: beside.next,
+        prev: beside.prev,
+        head,
+    }))
+}
+
+// The first node or none, where the head is 0 or names a node that checks.
+fn usable_head<F: Folder>(f: &mut F, files: &BlockFiles) -> Result<Option<Option<Addr>>, Fault>
+    requires complete { ForSome (F.told f.old).files HasWholeIndex }
+    requires agrees { ForSome (F.told f.old).files (Agrees files.now) }
+    ensures found { IfOk result (λ found. ForSome (F.told f.old).files (λ image. FindsHead (list_of image) found)) }
+    ensures stand { IfOk result (λ found. IfSome found (λ head. IfSome head (λ n. is_node files.now n ≡ true))) }
+    ensures damaged { IfDamaged result (IsFailedCheck files.now) }
+    ensures untold { IfDamaged result (λ _. (F.told f.old).files ≡ None) }
+    ensures stays { Stays (F.told f.old) (F.told f.new) }
+    ensures later { F.faults f.old ≤ F.faults f.new }
+    ensures device { IfDevice result (Rises (F.faults f.old) (F.faults f.new)) }
+{
+    let head = word(f, HEAD)?;
+    if head == 0 {
+        return Ok(Some(None));
+    }
+    let Some(links) = checked(f, files, head)? else {
+        return Ok(None);
+    };
+    Ok(Some(Some(links.node)))
+}
+
+// The nodes beside one that has these links, where its next is 0 or both links name nodes that check.
+fn usable_links<F: Folder>(
+    f: &mut F,
+    files: &BlockFiles,
+    links: &Links,
+) -> Result<Option<Beside>, Fault>
+    requires agrees { ForSome (F.told f.old).files (Agrees files.now) }
+    requires stands { is_node files.now links.now.node ≡ true }
+    requires links { ForSome (F.told f.old).files (λ image. AreLinksOf (list_of image) (list_of image).transaction links.now) }
+    ensures found { IfOk result (λ found. ForSome (F.told f.old).files (λ image. FindsBeside (list_of image) (list_of image).transaction found)) }
+    ensures next { IfOk result (λ found. IfSome found (λ beside. IfSome beside.next (λ n. is_node files.now n ≡ true))) }
+    ensures prev { IfOk result (λ found. IfSome found (λ beside. is_node files.now beside.prev ≡ true)) }
+    ensures damaged { IfDamaged result (IsFailedCheck files.now) }
+    ensures untold { IfDamaged result (λ _. (F.told f.old).files ≡ None) }
+    ensures stays { Stays (F.told f.old) (F.told f.new) }
+    ensures later { F.faults f.old ≤ F.faults f.new }
+    ensures device { IfDevice result (Rises (F.faults f.old) (F.faults f.new)) }
+{
+    if links.next == 0 {
+        let (next, prev) = (None, links.node);
+        return Ok(Some(Beside { next, prev }));
+    }
+    let Some(next) = checked(f, files, links.next)? else {
+        return Ok(None);
+    };
+    let Some(prev) = checked(f, files, links.prev)? else {
+        return Ok(None);
+    };
+    Ok(Some(Beside {
+        next: Some(next.node),
+        prev: prev.node,
+    }))
+}
