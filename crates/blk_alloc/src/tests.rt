@@ -36,7 +36,12 @@ fn fields(number: u32, entry_size: u32) -> [(usize, u32); 4] {
 }
 
 // A folder whose `data_1` has 1024 blocks and these counters and first word of the map.
-fn folder_with(alloc: Global, entries: u32, empty: [u32; 4], map: u32) -> Result<SilentFolder<MemFolder>, Fail> {
+fn folder_with(
+    alloc: Global,
+    entries: u32,
+    empty: [u32; 4],
+    map: u32,
+) -> Result<SilentFolder<MemFolder>, Fail> {
     let mut inner = MemFolder::new(alloc);
     let first = file_with(alloc, HEADER_LEN, &fields(0, 36))?;
     inner.add_file(FileId::Block(0), &first)?;
@@ -89,7 +94,12 @@ fn word_at(f: &mut SilentFolder<MemFolder>, at: u64) -> Result<u32, Failed> {
 }
 
 // A folder just made, but for the counters and the map of `data_1`, whose map has this byte all over.
-fn made_folder(alloc: Global, blocks: u32, entries: u32, map: u8) -> Result<SilentFolder<MemFolder>, Fail> {
+fn made_folder(
+    alloc: Global,
+    blocks: u32,
+    entries: u32,
+    map: u8,
+) -> Result<SilentFolder<MemFolder>, Fail> {
     let mut inner = MemFolder::new(alloc);
     let first = file_with(alloc, HEADER_LEN, &fields(0, 36))?;
     inner.add_file(FileId::Block(0), &first)?;

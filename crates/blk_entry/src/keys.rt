@@ -100,11 +100,7 @@ pub fn key_piece<F: Folder>(
 ///
 /// A damage is a read that gave too few bytes, or a record that doesn't check. A folder that tells its
 /// files never gives one.
-pub fn read_head<F: Folder>(
-    f: &mut F,
-    files: &BlockFiles,
-    entry: Addr,
-) -> Result<Head, Fault>
+pub fn read_head<F: Folder>(f: &mut F, files: &BlockFiles, entry: Addr) -> Result<Head, Fault>
     requires kind { kind_of entry ≡ blocks_256 }
     requires stands { IsTrue (stands_among files.now entry) }
     requires agrees { ForSome (F.told f.old).files (Agrees files.now) }

@@ -150,7 +150,12 @@ fn equals(f: &mut SilentFolder<MemFolder>, word: u32, key: &[u8]) -> Result<bool
 }
 
 // A piece of the key of an entry.
-fn piece(f: &mut SilentFolder<MemFolder>, word: u32, at: u32, out: &mut [u8]) -> Result<usize, Fault> {
+fn piece(
+    f: &mut SilentFolder<MemFolder>,
+    word: u32,
+    at: u32,
+    out: &mut [u8],
+) -> Result<usize, Fault> {
     let files = BlockFiles::load(f)?;
     match entry_of(&files, word) {
         Some(entry) => key_piece(f, &files, entry, at, out),
@@ -334,7 +339,12 @@ fn new_entry(files: &BlockFiles, words: (u32, u32), child: bool, key: &[u8]) -> 
 }
 
 // Writes a new entry, where its places fit the key.
-fn put_entry(f: &mut SilentFolder<MemFolder>, words: (u32, u32), child: bool, key: &[u8]) -> Result<(), Fault> {
+fn put_entry(
+    f: &mut SilentFolder<MemFolder>,
+    words: (u32, u32),
+    child: bool,
+    key: &[u8],
+) -> Result<(), Fault> {
     let files = BlockFiles::load(f)?;
     match new_entry(&files, words, child, key) {
         Some(new) => write_entry(f, &files, &new, key, MOMENT),
@@ -393,7 +403,12 @@ fn place_of_key(long_key: u32) -> (FileId, u64) {
 }
 
 // Whether a key lies at its place, with one zero byte behind it, and with zeros in the record where it lies elsewhere.
-fn has_key(alloc: Global, f: &mut SilentFolder<MemFolder>, long_key: u32, key: &[u8]) -> Result<bool, Fail> {
+fn has_key(
+    alloc: Global,
+    f: &mut SilentFolder<MemFolder>,
+    long_key: u32,
+    key: &[u8],
+) -> Result<bool, Fail> {
     let (file, at) = place_of_key(long_key);
     let mut there = key_of(alloc, key.len())?;
     f.read_at(file, at, &mut there)?;
@@ -437,7 +452,12 @@ fn wanted_node(entry: u32) -> [u8; 36] {
 }
 
 // Whether record and node have all their words.
-fn has_records(f: &mut SilentFolder<MemFolder>, words: (u32, u32), child: bool, key: &[u8]) -> Result<bool, Failed> {
+fn has_records(
+    f: &mut SilentFolder<MemFolder>,
+    words: (u32, u32),
+    child: bool,
+    key: &[u8],
+) -> Result<bool, Failed> {
     let mut record = [0; 96];
     f.read_at(FileId::Block(1), 8192, &mut record)?;
     let mut node = [0; 36];
@@ -497,11 +517,7 @@ fn new_entries_are_written_and_read(rt: HostRuntime) -> Result<(), Fail> {
         assert_eq!(rt; put_entry(&mut f, (entry, long_key), child, &key), Ok(()));
 
         // Eight calls load the files, and four write.
-        assert_eq!(rt;
-            f.calls().wrapping_sub(before),
-            8 + 4,
-            "{key_len} bytes"
-        );
+        assert_eq!(rt; f.calls().wrapping_sub(before), 8 + 4, "{key_len} bytes");
         assert!(rt; has_records(&mut f, (entry, long_key), child, &key)?);
         assert!(rt; has_key(rt.alloc(), &mut f, long_key, &key)?);
         assert!(rt;

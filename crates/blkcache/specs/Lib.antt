@@ -1,4 +1,3 @@
-pub mod Untold
 pub mod FileIds
 pub mod Names
 pub mod Numbers
