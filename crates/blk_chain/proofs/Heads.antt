@@ -1,15 +1,13 @@
 -- The words of records that a search reads, and the names that they have.
-use Rattle.std.proofs.Common.{◌≡◌, ℕ, ◌+◌, Bool, true, false, List, length, Option, Some, None, refl, sym, ◌∙◌, ap, subst, arith, add-zero}
+use Rattle.std.proofs.Common.{◌≡◌, ℕ, Bool, true, false, List, length, Option, Some, None, refl, sym, ◌∙◌, ap, subst}
 use Rattle.std.specs.Prelude.{◌==◌, ◌&&◌, not, if◌then◌else◌}
 use Rattle.std.proofs.Math.Bool.{beq}
 use Rattle.std.specs.Option.{option_and_then}
 use Rattle.std.proofs.lemmas.Bool.{and_parts, eqb-true}
-use Rattle.blk_image.specs.Bytes.{content, word_at, range_at}
-use Rattle.blk_image.specs.Image.{AreBytes, Block, External, Image, byte, has_file, word}
+use Rattle.blk_image.specs.Image.{AreBytes, External, Image, has_file}
 use Rattle.blk_image.proofs.Runs.{some_inj}
-use Rattle.blk_format.specs.Address.{kind_of, is_address, external, external_number, file_selector, place, blocks_256}
+use Rattle.blk_format.specs.Address.{kind_of, is_address, external, external_number, blocks_256}
 use Rattle.blk_format.specs.BlockFiles.{stands_in_blocks}
-use Rattle.blk_format.specs.Records.{entry_in}
 use Rattle.blk_format.specs.Standing.{stands}
 use Rattle.blk_volume.specs.Entries.{is_key_length, key_of}
 use Rattle.blk_volume.specs.View.{Core, core_at, core_of, entry_at, stock_of}
@@ -18,7 +16,7 @@ use Rattle.blk_disk.specs.Sealed.{RecordChecks}
 use Rattle.blk_disk.specs.Tables.{Agrees, stands_among}
 use Rattle.blk_disk.proofs.Ranges.{stands_agree}
 use Rattle.blk_entry.specs.Keys.{HasKey, IsEntryOf, key_at}
-use Rattle.blk_entry.proofs.KeyPlaces.{head_word, key_facts}
+use Rattle.blk_entry.proofs.KeyPlaces.{key_facts}
 use Rattle.blk_moments.proofs.Shown.{core-standing, standing-parts}
 use Rattle.blk_chain.specs.Naming.{HasName}
 use Rattle.blk_chain.specs.Finding.{names_record, IsKeyed}

@@ -12,7 +12,7 @@ use Rattle.blk_io.specs.declared.folder.FileId.TheVariants as names
 use Rattle.blk_io.specs.declared.fault.Damage.{Damage}
 use Rattle.blk_io.specs.declared.fault.Fault.{Fault}
 use Rattle.blk_io.specs.declared.fault.Fault.TheVariants.{Damaged}
-use Rattle.blk_volume.specs.View.{Core, entry_at, stock_of}
+use Rattle.blk_volume.specs.View.{Core, stock_of}
 use Rattle.blk_volume.specs.Chains.{bucket_of_hash, chain, Linked}
 use Rattle.blk_disk.specs.declared.tables.BlockFiles.{BlockFiles}
 use Rattle.blk_disk.specs.Sealed.{IsUnsealed}

@@ -4,7 +4,7 @@ use Rattle.std.specs.Prelude.{◌==◌, nat_le, nat_lt, not, min, ◌++◌, ◌�
 use Rattle.std.proofs.lemmas.List.{take_all, take-append-le, take-append-drop, length-drop, length-take}
 use Rattle.std.proofs.lemmas.Bool.{and_parts, eqb-true, cases_Bool, cases_lt, leb-true}
 use Rattle.std.proofs.lemmas.Bool.Decides.{nat_tests}
-use Rattle.std.specs.Option.{ForSome, option_map, option_and_then}
+use Rattle.std.specs.Option.{option_map, option_and_then}
 use Rattle.std.proofs.Math.Seq.{drop-append_seam}
 use Rattle.blk_image.specs.Bytes.{content, word_at, range_at}
 use Rattle.blk_image.specs.Image.{Block, External, Image, byte, has_file, length_of, word}
