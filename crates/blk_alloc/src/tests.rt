@@ -193,6 +193,41 @@ fn a_file_is_added_where_the_only_one_is_full(rt: HostRuntime) -> Result<(), Fai
 }
 
 #[test]
+fn a_second_file_is_filled_before_a_third_is_added(rt: HostRuntime) -> Result<(), Fail> {
+    let mut f = made_folder(rt.alloc(), 64_896, 16_224, 0xFF)?;
+    let Ok(files) = BlockFiles::load(&mut f) else {
+        panic!(rt; "the files are whole");
+    };
+    let mut files = files;
+    assert_eq!(rt; give(&mut f, &mut files, 1), Ok(0xA004_0000));
+
+    // All blocks of the second file are in use but those of its last group.
+    let mut map = [0xFF; 8112];
+    map[8111] = 0x0F;
+    f.write_at(FileId::Block(4), 80, &map)?;
+    let words = [
+        (16, 16_223u32),
+        (20, 64_896),
+        (24, 0),
+        (28, 0),
+        (32, 0),
+        (36, 1),
+    ];
+    for (at, word) in words {
+        f.write_at(FileId::Block(4), at, &word.to_le_bytes())?;
+    }
+    let Ok(files) = BlockFiles::load(&mut f) else {
+        panic!(rt; "the files are whole");
+    };
+    let mut files = files;
+    assert_eq!(rt; give(&mut f, &mut files, 4), Ok(0xA304_FD7C));
+    assert_eq!(rt; word_in(&mut f, 4, 36), Ok(0));
+    assert_eq!(rt; give(&mut f, &mut files, 2), Ok(0xA105_0000));
+    assert_eq!(rt; word_in(&mut f, 4, 8), Ok(0x5_0004));
+    Ok(())
+}
+
+#[test]
 fn a_file_grows_where_none_has_room(rt: HostRuntime) -> Result<(), Fail> {
     let mut f = made_folder(rt.alloc(), 1024, 256, 0)?;
     for at in 0..32 {
