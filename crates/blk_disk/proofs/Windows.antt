@@ -18,8 +18,7 @@ use Rattle.blk_io.specs.declared.fault.Fault.{Fault}
 use Rattle.blk_disk.specs.declared.heads.Head.{Head}
 use Rattle.blk_disk.specs.declared.tables.BlockFiles.{BlockFiles}
 use Rattle.blk_disk.specs.Tables.{all_files}
-use Rattle.blk_disk.specs.Loading.{IsHead, Judges, ReadsAs, next_checks, files_left, next_of}
-use Rattle.blk_disk.proofs.Firsts.{length_passed}
+use Rattle.blk_disk.specs.Loading.{AreGiven, IsHead, Judges, ReadsAs, next_checks, files_left, next_of}
 
 module _ (image : Image) (file : File) (new : List ℕ) (given : ℕ) (gives : GivesBytes image file 0 (zeros 80) new given) where
   -- how many bytes were given
@@ -90,17 +89,19 @@ length_given (Some bytes) n e = ap (λ (m : Option ℕ). unwrap_or m 0) e
 -- the answer that the checks of the window give is that of the image
 module _ (files : BlockFiles) (image : Image) (kind n given : ℕ) (new : List ℕ) (size : ℕ) (answer : Result Head Fault)
     (gives : GivesBytes image (Block n) 0 (zeros 80) new given) (is : size ≡ length_of image (Block n)) where
+  -- all fields are given, where the file is long enough
+  are_given : AreGiven size given
+  are_given whole = omega (arith, whole, is, given_is image (Block n) new given gives)
+
   judged_as : (first : Option checks.Damage) → first ≡ first_of (next_checks files image kind n) → Judges first (content new) size given answer → ReadsAs files image kind n answer
   judged_as None none judges =
-      let enough : 80 ≤ given =
-      (let whole = length_passed kind (all_files files ++ n ∷ []) (files_left files kind) n (byte image (Block n)) (length_of image (Block n)) (sym none) in
-      omega (arith, whole, given_is image (Block n) new given gives)) in
-      let good = judges enough in
+      let good = judges are_given in
       let fits = λ (r : Result Head Fault). ReadsAs files image kind n r in
       subst fits (sym good.1) (sym none, same_head (content new) (byte image (Block n)) (window_is image (Block n) new given gives) size (length_of image (Block n)) good.0 is good.2)
   judged_as (Some damage) some judges =
       let fits = λ (r : Result Head Fault). ReadsAs files image kind n r in
-      subst fits (sym judges.1) (sym some ∙ ap Some (sym judges.2))
+      let bad = judges are_given in
+      subst fits (sym bad.1) (sym some ∙ ap Some (sym bad.2))
 
   pub judged : Judges (first_of (file_checks kind (all_files files ++ n ∷ []) (files_left files kind) n (content new) size)) (content new) size given answer → ReadsAs files image kind n answer
   judged judges =

@@ -4,6 +4,7 @@ use Rattle.std.specs.List.{flat_map}
 use Rattle.blk_image.specs.Image.{Block, Image, byte, length_of}
 use Rattle.blk_image.specs.Checks as checks
 use Rattle.blk_image.specs.Checks.{first_of}
+use Rattle.blk_format.specs.Address.{header_size}
 use Rattle.blk_format.specs.Headers.{next_file_of, max_entries_of, block_fields_length}
 use Rattle.blk_format.specs.BlockFiles.{most_files, next_file_in, max_entries_in, files_along, linked, linked_up_to, is_among, file_checks, checks_along, checks_of_type, block_types, block_checks, first_block_damage}
 use Rattle.blk_io.specs.declared.fault.Damage.{Damage}
@@ -30,10 +31,14 @@ pub record IsHead (f : ℕ → ℕ) (bytes : ℕ) (head : Head) : Type 0 where
   pub blocks : head.blocks ≡ max_entries_of f
   pub size : head.size ≡ bytes
 
--- the answer for a header of which so many bytes were given, and whose checks are these
+-- all fields of a header were given, where its file is long enough
+abbrev pub AreGiven : ℕ → ℕ → Type 0
+AreGiven size given = header_size ≤ size → block_fields_length ≤ given
+
+-- the answer for a header of which so many bytes were given, and whose first check that fails is this, if any does
 abbrev pub Judges : Option checks.Damage → (ℕ → ℕ) → ℕ → ℕ → Result Head Fault → Type 0
-Judges None f size given answer = block_fields_length ≤ given → (head : Head) × (answer ≡ Ok head) × IsHead f size head
-Judges (Some damage) f size given answer = (found : Damage) × (answer ≡ Err (Damaged found)) × (damage_of found ≡ damage)
+Judges None f size given answer = AreGiven size given → (head : Head) × (answer ≡ Ok head) × IsHead f size head
+Judges (Some damage) f size given answer = AreGiven size given → (found : Damage) × (answer ≡ Err (Damaged found)) × (damage_of found ≡ damage)
 
 -- how many files of a type may follow the next one
 abbrev pub files_left : BlockFiles → ℕ → ℕ

@@ -11,17 +11,11 @@ ghost use Rattle.blk_disk.specs.Tables.{Agrees, all_files, files_of, Joins};
 ghost use Rattle.blk_disk.specs.Growth as growth;
 ghost use Rattle.blk_disk.specs.Growth.{IsLeastFree, KeepsBlocks, add_steps, addition_of, link_steps, make_steps};
 
-use crate::heads::block_size;
+use crate::heads::{HEADER_LEN, MAGIC, VERSION, block_size};
 use crate::load::first_file;
 use crate::tables::BlockFiles;
 use blk_addr::Kind;
 use blk_io::{Failed, FileId, Folder, write_words};
-
-const MAGIC: u32 = 0xC104_CAC3;
-
-const VERSION: u32 = 0x20000;
-
-const HEADER_LEN: u64 = 8192;
 
 // The first number that new files may have.
 const FIRST_NUMBER: u8 = 4;

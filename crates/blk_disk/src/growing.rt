@@ -10,19 +10,17 @@ ghost use Rattle.blk_disk.specs.Tables.{Agrees, Enlarges, all_files, blocks_of, 
 ghost use Rattle.blk_disk.specs.Growth as growth;
 ghost use Rattle.blk_disk.specs.Growth.{KeepsBlocks, grow_steps, growth_of, lengthen_steps, raise_steps, size_as};
 
-use crate::heads::block_size;
+use crate::heads::{GROWTH, HEADER_LEN, MOST_BLOCKS, block_size};
 use crate::tables::BlockFiles;
 use blk_io::{Failed, FileId, Folder, write_words};
 
-const HEADER_LEN: u64 = 8192;
-
-// A file grows by so many blocks, but for the last time.
-const GROWTH: u32 = 1024;
-
-const MOST_BLOCKS: u32 = 64896;
-
 // The blocks of a group.
 const GROUP: u32 = 4;
+
+// The places of the number of blocks and of the counter of empty groups.
+const BLOCKS: u64 = 20;
+
+const EMPTY_GROUPS: u64 = 36;
 
 impl BlockFiles {
     /// Gives a linked file of fewer than 64896 blocks 1024 more, or 384 for the last time.
@@ -61,8 +59,7 @@ impl BlockFiles {
     }
 
     // The length of a file with so many blocks.
-    fn length_with(&self, file: u8, blocks: u32) -> u64
-        requires { blocks ≤ most_blocks }
+    pub(crate) fn length_with(&self, file: u8, blocks: u32) -> u64
         ensures { result ≡ header_size + blocks * size_as (type_among (files_of self.now) file) }
     {
         let size = match self.linked_as(file) {
@@ -98,7 +95,8 @@ fn raise<F: Folder>(f: &mut F, file: u8, groups: u32, blocks: u32) -> Result<(),
     ensures failed { OnErr result (Rises (F.faults f.old) (F.faults f.new)) }
 {
     let mut empty = [0u8; 4];
-    f.read_at(FileId::Block(file), 36, &mut empty)?;
+    f.read_at(FileId::Block(file), EMPTY_GROUPS, &mut empty)?;
     let raised = u32::from_le_bytes(empty).wrapping_add(groups);
-    write_words(f, FileId::Block(file), &[(36, raised), (20, blocks)])
+    let words = [(EMPTY_GROUPS, raised), (BLOCKS, blocks)];
+    write_words(f, FileId::Block(file), &words)
 }

@@ -9,11 +9,8 @@ ghost use Rattle.blk_disk.specs.Tables.{Agrees, all_files, length_in, Resizes};
 ghost use Rattle.blk_disk.specs.Growth as growth;
 ghost use Rattle.blk_disk.specs.Growth.{KeepsBlocks, fit_steps};
 
-use crate::heads::block_size;
 use crate::tables::BlockFiles;
 use blk_io::{Failed, FileId, Folder};
-
-const HEADER_LEN: u64 = 8192;
 
 impl BlockFiles {
     /// Lengthens a linked file to its header and all its blocks, where it is shorter.
@@ -49,10 +46,6 @@ impl BlockFiles {
     fn whole_length(&self, file: u8) -> u64
         ensures { result ≡ growth.whole_length self.now file }
     {
-        let size = match self.linked_as(file) {
-            Some(kind) => block_size(kind),
-            None => 0,
-        };
-        HEADER_LEN + u64::from(self.blocks(file)) * u64::from(size)
+        self.length_with(file, self.blocks(file))
     }
 }

@@ -22,11 +22,11 @@ use blk_record::BlockHead;
 // The bytes of the fields of a header, and of the whole header.
 const FIELDS_LEN: usize = 80;
 
-const HEADER_LEN: u64 = 8192;
+pub(crate) const HEADER_LEN: u64 = 8192;
 
-const MAGIC: u32 = 0xC104_CAC3;
+pub(crate) const MAGIC: u32 = 0xC104_CAC3;
 
-const VERSION: u32 = 0x20000;
+pub(crate) const VERSION: u32 = 0x20000;
 
 // The numbers that a link may have.
 const FIRST_LINK: u16 = 4;
@@ -34,11 +34,11 @@ const FIRST_LINK: u16 = 4;
 const LAST_LINK: u16 = 255;
 
 // A file grows by so many blocks, but for the last time.
-const GROWTH: u32 = 1024;
+pub(crate) const GROWTH: u32 = 1024;
 
 const MOST_WHOLE_BLOCKS: u32 = 64512;
 
-const MOST_BLOCKS: u32 = 64896;
+pub(crate) const MOST_BLOCKS: u32 = 64896;
 
 // What the header of a block file says, and the length of the file.
 #[derive(Clone, Copy, Debug)]
@@ -98,7 +98,8 @@ impl BlockFiles {
         self.judge(&head, kind, n, given, size)
     }
 
-    // Checks a header, of which so many bytes were given, of a file of this length.
+    // Checks a header, of which so many bytes were given, of a file of this length. Where the file has all
+    // bytes of its header and too few came, that is the damage.
     fn judge(
         &self,
         head: &BlockHead<'_>,
@@ -112,11 +113,11 @@ impl BlockFiles {
         ensures judged { Judges (first_of (file_checks (kind_number kind) (all_files self.now ++ n ∷ []) (files_left self.now (kind_number kind)) n (content head.now) size)) (content head.now) size given result }
         ensures device { IfDevice result ⊥ }
     {
+        if HEADER_LEN <= size && given < FIELDS_LEN {
+            return Err(Fault::Damaged(damage_at(n, 0, given as u32)));
+        }
         if let Some(damage) = self.header_damage(head, kind, n, size) {
             return Err(Fault::Damaged(damage));
-        }
-        if given < FIELDS_LEN {
-            return Err(Fault::Damaged(damage_at(n, 0, given as u32)));
         }
         let next = next_file(head.next_file());
         let blocks = head.max_entries();

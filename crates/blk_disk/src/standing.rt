@@ -9,11 +9,9 @@ ghost use Rattle.blk_format.specs.Standing as standing;
 ghost use Rattle.blk_addr.specs.Kind.{kind_number};
 ghost use Rattle.blk_disk.specs.Tables.{Agrees, all_files, blocks_of, files_of, stands_among};
 
-use crate::heads::block_size;
+use crate::heads::{HEADER_LEN, block_size};
 use crate::tables::BlockFiles;
 use blk_addr::{Addr, FileId, Kind};
-
-const HEADER_LEN: u64 = 8192;
 
 // The byte at which the blocks of an address begin.
 pub(crate) fn place_of(addr: Addr) -> u64

@@ -99,6 +99,13 @@ fn a_missing_file_is_a_damage(rt: HostRuntime) -> Result<(), Fail> {
     Ok(())
 }
 
+#[test]
+fn a_file_that_ends_inside_its_header_is_a_damage(rt: HostRuntime) -> Result<(), Fail> {
+    let mut f = folder_of(rt.alloc(), &FILES, HEADER_LEN - 1)?;
+    assert_eq!(rt; damage_of(&mut f, 0), Some((8192, 8191)));
+    Ok(())
+}
+
 // A folder in which file 6 has another word.
 fn with_word(alloc: Global, at: usize, word: u32) -> Result<MemFolder, Fail> {
     let mut f = MemFolder::new(alloc);
@@ -144,6 +151,12 @@ fn a_file_is_linked_once(rt: HostRuntime) -> Result<(), Fail> {
     headers[3] = (3, 6, 4096, 0);
     let mut f = folder_of(rt.alloc(), &headers, HEADER_LEN)?;
     assert_eq!(rt; damage_of(&mut f, 3), Some((8, 0x0006_0003)));
+
+    // An earlier file of the same type.
+    let mut headers = FILES;
+    headers[5] = (4, 6, 1024, 0);
+    let mut f = folder_of(rt.alloc(), &headers, HEADER_LEN)?;
+    assert_eq!(rt; damage_of(&mut f, 4), Some((8, 0x0006_0004)));
     Ok(())
 }
 
@@ -157,6 +170,13 @@ fn the_sixtieth_file_of_a_type_has_no_next_one(rt: HostRuntime) -> Result<(), Fa
     }
     let mut f = folder_of(alloc, &headers, HEADER_LEN)?;
     assert_eq!(rt; damage_of(&mut f, 62), Some((8, 0x003F_003E)));
+
+    // Without that link all sixty are taken up, and the next file is missing.
+    if let Some(last) = headers.last_mut() {
+        last.1 = 0;
+    }
+    let mut f = folder_of(alloc, &headers, HEADER_LEN)?;
+    assert_eq!(rt; damage_of(&mut f, 1), Some((8192, 0)));
     Ok(())
 }
 

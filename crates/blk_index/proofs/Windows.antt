@@ -1,6 +1,6 @@
 -- The first bytes of the index, in a window that had zeros.
-use Rattle.std.proofs.Common.{◌≡◌, ℕ, ◌+◌, ◌-◌, ◌%◌, ◌^◌, ◌<◌, ◌≤◌, ◌==◌, nat_lt, min, Bool, true, false, if◌then◌else◌, List, [], ◌++◌, length, Option, None, Some, unwrap_or, Result, refl, sym, ◌∙◌, ap, subst, arith, ◌⊎◌, inl, inr, ⊎_elim, get_or-take}
-use Rattle.std.proofs.lemmas.Bool.{cases_lt, eqb-true}
+use Rattle.std.proofs.Common.{◌≡◌, ℕ, ◌+◌, ◌-◌, ◌<◌, ◌≤◌, nat_lt, min, Bool, true, false, if◌then◌else◌, List, [], ◌++◌, length, Option, None, Some, unwrap_or, Result, refl, sym, ◌∙◌, ap, subst, arith, ◌⊎◌, inl, inr, ⊎_elim, get_or-take}
+use Rattle.std.proofs.lemmas.Bool.{cases_lt}
 use Rattle.std.proofs.lemmas.Bool.Decides.{nat_tests}
 use Rattle.std.proofs.lemmas.List.{get_or-drop, get_or_past}
 use Rattle.std.specs.Option.{option_map}
@@ -15,8 +15,7 @@ use Rattle.blk_image.proofs.Words.{content-range, same-word}
 use Rattle.blk_format.specs.Headers.{IsUnfinished, head_checks, list_checks, first_index_damage, magic_of}
 use Rattle.blk_io.specs.declared.fault.Fault.{Fault}
 use Rattle.blk_index.specs.declared.start.Start.{Start}
-use Rattle.blk_index.specs.Start.{LooksAs, Judges}
-use Rattle.blk_image.proofs.FirstChecks.{all_none, passed}
+use Rattle.blk_index.specs.Start.{IsGiven, LooksAs, Judges}
 
 -- how many bytes were given
 pub given_is : (image : Image) (new : List ℕ) (given : ℕ) → GivesBytes image Index 0 (zeros 368) new given → given ≡ min 368 (length_of image Index)
@@ -85,28 +84,21 @@ finished_given image new given gives finished (inl none) = finished (inl (omega 
 finished_given image new given gives finished (inr (inl few)) = finished (inl (omega (arith, given_is image new given gives)))
 finished_given image new given gives finished (inr (inr zero)) = finished (inr (same_magic (content new) (byte image Index) (window_is image new given gives) ∙ zero))
 
--- an index of which no check fails has its length
-pub length_checked : (image : Image) → first_index_damage image ≡ None → length_of image Index ≡ 262512
-unfolding head_checks
-length_checked image none =
-    let f = byte image Index in
-    let size = length_of image Index in
-    eqb-true size 262512 (passed Index 262512 (size % 2 ^ 32) (size == 262512) (all_none (head_checks f size ++ list_checks f) none 1))
-
-judged_as : (image : Image) (answer : Result Start Fault) (given : ℕ) (first : Option checks.Damage) → first ≡ first_index_damage image → (IsUnfinished image → ⊥) → (first ≡ None → 368 ≤ given) → Judges first given answer → LooksAs answer image
-judged_as image answer given None is finished enough judges =
+judged_as : (image : Image) (answer : Result Start Fault) (size given : ℕ) (first : Option checks.Damage) → first ≡ first_index_damage image → (IsUnfinished image → ⊥) → IsGiven size given → Judges first size given answer → LooksAs answer image
+judged_as image answer size given None is finished enough judges =
     let fits = λ (r : Result Start Fault). LooksAs r image in
-    subst fits (sym (judges (enough refl))) (record { finished = finished; undamaged = sym is })
-judged_as image answer given (Some damage) is finished enough judges =
+    subst fits (sym (judges enough)) (record { finished = finished; undamaged = sym is })
+judged_as image answer size given (Some damage) is finished enough judges =
     let fits = λ (r : Result Start Fault). LooksAs r image in
-    subst fits (sym judges.1) (finished, sym is ∙ ap Some (sym judges.2))
+    let bad = judges enough in
+    subst fits (sym bad.1) (finished, sym is ∙ ap Some (sym bad.2))
 
 -- the answer that the checks of the window give is that of the image
 pub judged : (image : Image) (new : List ℕ) (given length : ℕ) (answer : Result Start Fault) → GivesBytes image Index 0 (zeros 368) new given → ((given < 4) ⊎ (magic_of (content new) ≡ 0) → ⊥) → length ≡ length_of image Index
-    → Judges (first_of (head_checks (content new) length ++ list_checks (content new))) given answer → LooksAs answer image
+    → Judges (first_of (head_checks (content new) length ++ list_checks (content new))) length given answer → LooksAs answer image
 judged image new given length answer gives finished size judges =
     let same : first_of (head_checks (content new) length ++ list_checks (content new)) ≡ first_index_damage image =
     ap first_of (same_checks (content new) (byte image Index) length (window_is image new given gives))
     ∙ ap (λ (n : ℕ). first_of (head_checks (byte image Index) n ++ list_checks (byte image Index))) size in
-    judged_as image answer given (first_of (head_checks (content new) length ++ list_checks (content new))) same (finished_given image new given gives finished)
-    (λ none. let whole = length_checked image (sym same ∙ none) in omega (arith, whole, given_is image new given gives)) judges
+    judged_as image answer length given (first_of (head_checks (content new) length ++ list_checks (content new))) same (finished_given image new given gives finished)
+    (λ whole. omega (arith, whole, size, given_is image new given gives)) judges

@@ -2,7 +2,7 @@
 use Rattle.std.specs.Prelude.{◌≡◌, ◌≤◌, ℕ, Result, Ok, Err, Option, None, Some}
 use Rattle.blk_image.specs.Image.{Image}
 use Rattle.blk_image.specs.Checks as checks
-use Rattle.blk_format.specs.Headers.{IsUnfinished, first_index_damage, header_length}
+use Rattle.blk_format.specs.Headers.{IsUnfinished, first_index_damage, header_length, index_length}
 use Rattle.blk_io.specs.declared.fault.Damage.{Damage}
 use Rattle.blk_io.specs.declared.fault.Fault.{Fault}
 use Rattle.blk_io.specs.declared.fault.Fault.TheVariants.{Device, Damaged}
@@ -22,7 +22,11 @@ LooksAs (Ok Finished) image = IsFinished image
 LooksAs (Err Device) image = Unit {0}
 LooksAs (Err (Damaged damage)) image = (IsUnfinished image → ⊥) × (first_index_damage image ≡ Some (damage_of damage))
 
--- the answer for a finished index of which so many bytes were given, and whose first damage is this
-abbrev pub Judges : Option checks.Damage → ℕ → Result Start Fault → Type 0
-Judges None given answer = header_length ≤ given → answer ≡ Ok Finished
-Judges (Some damage) given answer = (found : Damage) × (answer ≡ Err (Damaged found)) × (damage_of found ≡ damage)
+-- all of the header was given, where the index has its length
+abbrev pub IsGiven : ℕ → ℕ → Type 0
+IsGiven size given = size ≡ index_length → header_length ≤ given
+
+-- the answer for a finished index of so many bytes, of which so many were given, and whose first damage is this, if it has any
+abbrev pub Judges : Option checks.Damage → ℕ → ℕ → Result Start Fault → Type 0
+Judges None size given answer = IsGiven size given → answer ≡ Ok Finished
+Judges (Some damage) size given answer = IsGiven size given → (found : Damage) × (answer ≡ Err (Damaged found)) × (damage_of found ≡ damage)

@@ -151,28 +151,37 @@ fn a_field_of_a_node_is_lent(rt: HostRuntime) -> Result<(), Fail> {
     Ok(())
 }
 
-// The index of a parent with the signature 1 and a key of 3 bytes.
+// Each word holds the number of its place, and then the last block is -1.
 #[test]
 fn a_sparse_head_is_read(rt: HostRuntime) -> Result<(), Fail> {
     let mut bytes = [0; 64];
-    bytes[0] = 1;
-    bytes[8..12].copy_from_slice(&[0xC3, 0xCA, 0x03, 0xC1]);
-    bytes[12] = 3;
+    for (i, word) in bytes.chunks_exact_mut(4).enumerate() {
+        word.copy_from_slice(&(4 * i as u32 + 0x100).to_le_bytes());
+    }
+    let head = SparseHead::over(&bytes).ok_or("too short")?;
+    assert_eq!(rt; head.signature(), 0x0000_0104_0000_0100);
+    assert_eq!(rt; head.last_block(), 0x110);
+    let words = [
+        head.magic(),
+        head.parent_key_len(),
+        head.last_block_len(),
+        head.zeros(0),
+        head.zeros(9),
+    ];
+    assert_eq!(rt; words, [0x108, 0x10C, 0x114, 0x118, 0x13C]);
     bytes[16..20].copy_from_slice(&[0xFF; 4]);
     let head = SparseHead::over(&bytes).ok_or("too short")?;
-    assert_eq!(rt; head.signature(), 1);
     assert_eq!(rt; head.last_block(), -1);
-    assert_eq!(rt;
-        [
-            head.magic(),
-            head.parent_key_len(),
-            head.last_block_len(),
-            head.zeros(9)
-        ],
-        [0xC103CAC3, 3, 0, 0]
-    );
-    assert!(rt; SparseHead::over(&[0; 63]).is_none());
     Ok(())
+}
+
+#[test]
+fn a_window_shorter_than_its_record_is_refused(rt: HostRuntime) {
+    assert!(rt; SparseHead::over(&[0; 63]).is_none());
+    assert!(rt; EntryView::over(&[0; 95]).is_none());
+    assert!(rt; NodeView::over(&[0; 35]).is_none());
+    assert!(rt; EntryMut::over(&mut [0; 95]).is_none());
+    assert!(rt; NodeMut::over(&mut [0; 35]).is_none());
 }
 
 #[test]

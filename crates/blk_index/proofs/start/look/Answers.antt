@@ -32,5 +32,5 @@ returns-clause-looked g c image there =
     let there_then = ap (λ (t : Told). t.files) c.in_ok-given.ensures.stays ∙ there in
     let size = c.unwrap_or-length.ensures ∙ length_given (image Index) c.in_ok-length.field-0 (c.in_ok-length.ensures.length image there_then) in
     let size_of : ℕ = c.unwrap_or-length.result in
-    let judges = subst (λ (l : List ℕ). Judges (first_of (head_checks (content l) size_of ++ list_checks (content l))) given c.judge.result) same c.judge.ensures.judged in
+    let judges = subst (λ (l : List ℕ). Judges (first_of (head_checks (content l) size_of ++ list_checks (content l))) size_of given c.judge.result) same c.judge.ensures.judged in
     judged image new given size_of c.judge.result gives finished size judges
