@@ -151,7 +151,7 @@ fn a_field_of_a_node_is_lent(rt: HostRuntime) -> Result<(), Fail> {
     Ok(())
 }
 
-// Each word holds the number of its place, and then the last block is -1.
+// Each word holds the number of its place, and 256 more.
 #[test]
 fn a_sparse_head_is_read(rt: HostRuntime) -> Result<(), Fail> {
     let mut bytes = [0; 64];
@@ -169,8 +169,7 @@ fn a_sparse_head_is_read(rt: HostRuntime) -> Result<(), Fail> {
         head.zeros(9),
     ];
     assert_eq!(rt; words, [0x108, 0x10C, 0x114, 0x118, 0x13C]);
-    bytes[16..20].copy_from_slice(&[0xFF; 4]);
-    let head = SparseHead::over(&bytes).ok_or("too short")?;
+    let head = SparseHead::over(&[0xFF; 64]).ok_or("too short")?;
     assert_eq!(rt; head.last_block(), -1);
     Ok(())
 }
