@@ -69,10 +69,6 @@ module _ (image : Image) (bare : IsBare image) where
   unfolding open_state
   walk-empty = walk-order (view_of image) (open_state [] any-limits) no_layout (represents-empty any-limits)
 
-  -- also where no operation is in flight to be completed
-  pub walk-bare : walk (completed (view_of image)).list ≡ []
-  walk-bare = ap (λ (v : View). walk v.list) idle ∙ walk-empty
-
   kept-none : (rule : Rule) → kept_by rule (view_of image) ≡ []
   unfolding kept_among
   kept-none rule = rw walk-empty refl

@@ -355,9 +355,6 @@ module _ (F : files.Footprint) (old new : Image) (touched : Claim → Bool) (sam
     externals = external-same;
   }
 
-  pub list-same : SameLinks touched (list_of old) (list_of new)
-  list-same = agreeing-list touched old new covered-agrees
-
   pub views-same : SameBut touched (view_of old) (view_of new)
   views-same = agreeing-views touched old new covered-agrees
 

@@ -42,7 +42,6 @@ pub mod SmallFolder
 pub mod OneEntry
 pub mod Premises
 pub mod NodeWords
-pub mod ListBytes
 pub mod DamagedParts
 pub mod Allocations
 pub mod Growing

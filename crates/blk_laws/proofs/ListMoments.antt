@@ -161,9 +161,6 @@ completing l [] = refl
 completing l (k ∷ ks) =
     completing (after_writes (take k (completion_writes l)) l) ks ∙ at_moment (λ u. outcome u ≡ outcome l) (completion_writes l) l k (completion_keeps l)
 
-pub completing_walk : (l : ListView) (ks : List ℕ) → walk (completed_list (stopped ks l)) ≡ walk (completed_list l)
-completing_walk l ks = walk_outcome (stopped ks l) ∙ ap walk (completing l ks) ∙ sym (walk_outcome l)
-
 completion_true : (l : ListView) → counts l ≡ true → completion_writes l ≡ pending_writes l
 unfolding completion_writes
 completion_true l e = rw e

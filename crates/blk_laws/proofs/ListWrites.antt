@@ -6,9 +6,6 @@ use Rattle.blk_volume.specs.ListView.{ListWrite, Next, Prev, Head, Tail, Transac
 use Rattle.blk_volume.specs.Completion.{taking_out, putting_in_front, take_out, put_front, counts, operated, completed_list}
 use Rattle.blk_volume.specs.ListPlans.{outcome, operation_writes, pending_writes, completion_writes, EachMoment}
 
-pub ListView-ext : (a b : ListView) → a.head ≡ b.head → a.tail ≡ b.tail → a.transaction ≡ b.transaction → a.operation ≡ b.operation → ((w : ℕ) → a.checks w ≡ b.checks w) → ((w : ℕ) → a.next w ≡ b.next w) → ((w : ℕ) → a.prev w ≡ b.prev w) → a ≡ b
-ListView-ext a b h t r o c n p = λ i. record { head = h i; tail = t i; transaction = r i; operation = o i; checks = λ w. c w i; next = λ w. n w i; prev = λ w. p w i }
-
 -- a view with no transaction and no operation
 abbrev pub rested : ListView → ListView
 rested l = record l { transaction = 0; operation = 0 }

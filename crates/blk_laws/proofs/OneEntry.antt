@@ -6,8 +6,6 @@ use Rattle.std.proofs.lemmas.Bool.Decides.{nat_tests}
 use Rattle.blk_model.specs.Items.{Item, main, main_row, plain, same_item, key_of}
 use Rattle.blk_model.specs.State.{Object, State, object_at}
 use Rattle.blk_model.specs.Holding.{open_state, objects_in, row_of}
-use Rattle.blk_model.specs.Request.{to_open}
-use Rattle.blk_model.specs.Refusals.{refused, refusals}
 use Rattle.blk_model.proofs.Same.{one_item}
 use Rattle.blk_format.specs.Hash.{of_one, of_bytes, mixed, hash}
 use Rattle.blk_format.specs.Address.{kind_of, block_count, file_selector, first_block, external_number}
@@ -20,10 +18,9 @@ use Rattle.blk_volume.specs.Chains.{bucket_of_hash, IsChain}
 use Rattle.blk_volume.specs.Entries.{IsPlain, is_key_length, stream_of, streams_of, role_of}
 use Rattle.blk_volume.specs.Entries as entries
 use Rattle.blk_volume.specs.Loads.{alone, Loaded, load, load_key, load_record, record_claims, all_claims}
-use Rattle.blk_volume.specs.Layout.{Layout, is_listed, IsLaid, IsListedRecord, Represents, HoldsBut, IsMidst}
-use Rattle.blk_volume.specs.Footprint.{IsClear, SameBut, IsFree, IsInside}
+use Rattle.blk_volume.specs.Layout.{Layout, is_listed, IsLaid, IsListedRecord, Represents, IsMidst}
+use Rattle.blk_volume.specs.Footprint.{IsClear}
 use Rattle.blk_volume.specs.Emptiness.{no_view, no_layout}
-use Rattle.blk_volume.specs.Removal.{ListsLess, HasLess}
 use Rattle.blk_laws.specs.CommandLaws.{LiesAsLive, IsWritten}
 use Rattle.blk_laws.proofs.Empty.{empty, empty-valid}
 
@@ -166,35 +163,7 @@ represented dirty = record {
 pub lies : (dirty : ℕ) → LiesAsLive (state (dirty == 0)) (layout dirty) 0 (object (dirty == 0)) (loaded dirty)
 lies dirty = record { here = refl; live = refl; at = refl }
 
--- nothing changes outside of nothing
-pub same-view : (v : View) → SameBut (λ claim. false) v v
-same-view v = record {
-  links = record { head = refl; tail = refl; transaction = refl; checks = λ w clear. refl; next = λ w clear. refl; prev = λ w clear. refl };
-  stock = record { named = λ w clear. refl; entry = λ w clear. refl; follow = λ w clear. refl; key_place = λ w core clear is long short. refl; stored = λ size w clear. refl };
-  table = λ b. refl;
-}
-
-pub free : IsFree (λ claim. false) (layout 0)
-free claim w owned = refl
-
-pub inside : IsInside (λ claim. false) (view 5) (view 5) (layout 5) node (loaded 5)
-inside = record { apart = λ claim other owned apart. refl; named = refl; bucket = λ b. refl; follow = refl; links = record { checks = refl; next = refl; prev = refl } }
-
--- with its node in the midst of a change
-pub holds-but : HoldsBut (λ w. w == node) (stock contents 5) (state false) (layout 5)
-holds-but =
-    let r : Represents (view 5) (state false) (layout 5) = represented 5 in
-    record {
-      no_record = refl;
-      each = λ w l is out. r.holds.shows.each w l is;
-      chains = r.holds.shows.chains;
-      laid = r.holds.lies.laid;
-      normal = r.holds.lies.normal;
-      chained = λ w l there is out. r.holds.lies.chained w l there is;
-      own = r.holds.lies.own;
-      single = r.holds.lies.single;
-    }
-
+-- its node is in the midst of a change
 pub midst : IsMidst (λ w. w == node) (stock contents 5) (state false) (layout 5) (codes "a")
 unfolding load load_record load_key
 midst = record {
@@ -209,11 +178,6 @@ midst = record {
     left : (b : Bool) → (b || false) ≡ true → b ≡ true
     left true e = refl
     left false e = cc
-
--- an Open of it is not refused
-pub opened : refused 7 (to_open 1 (codes "a")) (state true) ≡ None
-unfolding refusals
-opened = refl
 
 -- A new object.
 
@@ -285,17 +249,3 @@ written = record {
 
   not-contents : (w : ℕ) → IsClear (has_claim (all_claims fresh)) w → (w == contents) ≡ false
   not-contents w clear = apart w contents (BlockOf 1 0) named-1.0 named-1.1 clear
-
--- without nothing
-pub lists-less : ListsLess (state true) (state true).objects (λ item. true)
-lists-less = record { rows = λ item keep h. refl; settled = λ key keep. refl; closed = λ key n keep. refl; doomed_same = λ number o is dead. is }
-
-pub has-less : HasLess (state true) (state true).objects (λ item. true) (layout 0) (layout 0).at (layout 0).chains (layout 0).owner
-has-less = record {
-  stays = λ item l keep h is. is;
-  others = λ w l out is. is;
-  was = λ w l is. is;
-  chain_stays = λ w l there is h. h;
-  chain_was = λ b c below h. (represented 0).holds.lies.unchained b c below h;
-  own = λ w l c is h owned. owned;
-}

@@ -1,48 +1,29 @@
 -- What meets the premises of the laws, where nothing else here does.
-use Rattle.std.proofs.Common.{◌≡◌, ℕ, zero, suc, ◌+◌, ◌<◌, ◌≤◌, List, [], ◌∷◌, refl, sym, ◌∙◌, subst, arith, Bool, true, false, Option, Some, None, Ok, cond, get_or}
+use Rattle.std.proofs.Common.{◌≡◌, ℕ, zero, suc, ◌+◌, ◌<◌, ◌≤◌, List, [], ◌∷◌, refl, sym, ◌∙◌, arith, Bool, true, false, Option, Some, None, Ok, cond, get_or}
 use Rattle.std.specs.Prelude.{if◌then◌else◌, ◌==◌, ◌&&◌, nat_lt, codes, replicate, IfSome, IsSome, All}
 use Rattle.std.specs.List.{AllByRecursion}
 use Rattle.std.specs.Str.{bytes_eq}
-use Rattle.blk_image.specs.Image.{Image, Block, length_of}
-use Rattle.blk_image.specs.Bytes.{zeros, spliced}
-use Rattle.blk_image.specs.Steps.{SetLength, applied, with_word, word_step}
-use Rattle.blk_model.specs.State.{Bounds}
-use Rattle.blk_model.specs.Holding.{open_state}
-use Rattle.blk_volume.specs.Layout.{Represents}
-use Rattle.blk_volume.specs.Emptiness.{no_layout}
-use Rattle.blk_laws.proofs.Growing.{growth-keeps, longer-grown}
-use Rattle.blk_laws.proofs.Bare.{bare-sound, represents-empty}
 use Rattle.blk_model.specs.Items.{Item, main, part, same_item, times}
 use Rattle.blk_model.specs.State.{object_at, named_by, is_named, owners, IsObject, IsValidState}
 use Rattle.blk_model.proofs.Times.{times-cons}
 use Rattle.blk_model.proofs.Slots.{owners-cons}
 use Rattle.blk_format.specs.Hash.{of_one, of_bytes, mixed, hash}
-use Rattle.blk_format.specs.Address.{is_address, is_initialized, names_external, names_blocks, kind_of, reserved_bits, block_count, file_selector, first_block, external_number, block_size, block_place, place, room}
+use Rattle.blk_format.specs.Address.{kind_of, block_count, file_selector, first_block, external_number}
 use Rattle.blk_format.specs.Storage.{entry_blocks}
-use Rattle.blk_format.specs.Standing.{stands, stands_as_blocks}
-use Rattle.blk_format.specs.BlockFiles.{next_file_in, max_entries_in, files_along, linked, type_among, stands_in}
 use Rattle.blk_format.specs.Claims.{claims_of, has_claim, overlap, repeats}
 use Rattle.blk_volume.specs.ListView.{ListView}
-use Rattle.blk_volume.specs.View.{Core, View, list_of, checks_at, next_at, prev_at, view_of}
-use Rattle.blk_volume.specs.Completion.{remove, take_out}
-use Rattle.blk_volume.specs.ListPlans.{operation_writes}
-use Rattle.blk_format.specs.Records.{node_in, node_checks}
-use Rattle.blk_laws.specs.ListBytes.{ListUpdate, UpdateNode, UpdateWord, NextLink, HeadWord, TailWord, TransactionWord, ArePending}
+use Rattle.blk_volume.specs.View.{Core, View}
 use Rattle.blk_volume.specs.Chains.{chain_from}
 use Rattle.blk_volume.specs.Entries.{is_key_length, key_of, stream_of, streams_of, role_of}
 use Rattle.blk_volume.specs.Loads.{held, load, load_key, load_record, record_claims, all_claims}
 use Rattle.blk_volume.specs.Audit.{judged, is_orphan, admit, verdicts}
 use Rattle.blk_volume.specs.Audit as audit
-use Rattle.blk_volume.specs.Found.{completed}
-use Rattle.blk_volume.specs.Candidates.{candidates, SameNamed}
 use Rattle.blk_laws.specs.ListLaws.{IsAtRest, CanBeInserted}
 use Rattle.blk_laws.specs.KeptLaws.{IsDroppedIfLeftOut}
-use Rattle.blk_laws.specs.BareLaws.{IsNew, IsBare}
+use Rattle.blk_laws.specs.BareLaws.{IsBare}
 use Rattle.blk_laws.proofs.OneEntry as one
 use Rattle.blk_laws.proofs.DamagedViews.{node, entry, shown, plain_core}
-use Rattle.blk_laws.proofs.SmallFolder.{folder_with, small_records}
 use Rattle.blk_laws.proofs.NewFolders.{new_folder, new-is_new, new-bare}
-use Rattle.blk_laws.proofs.Bare.{walk-bare}
 
 -- A list at rest of three nodes: the second of them can be removed and touched, and a fourth be inserted.
 
@@ -94,28 +75,10 @@ pub both_are_keyed : (load_key pair.stock held 0x90000000 0xA0010000 0 first_cor
 unfolding load_key is_key_length key_of block_count entry_blocks chain_from hash mixed of_bytes of_one
 both_are_keyed = (refl, refl)
 
--- Two new folders, of other moments: they are well formed, have the same candidates, and agree on them.
-
-pub new_is_new : IsNew 50 (new_folder 50)
-new_is_new = new-is_new 50
+-- A new folder is bare.
 
 pub new_is_bare : IsBare (new_folder 50)
 new_is_bare = new-bare 50 (new_folder 50) (new-is_new 50)
-
-no_candidates : (image : Image) → IsBare image → candidates (completed (view_of image)) ≡ []
-no_candidates image bare = rw (walk-bare image bare) refl
-
-pub same_candidates : candidates (completed (view_of (new_folder 50))) ≡ candidates (completed (view_of (new_folder 60)))
-same_candidates = no_candidates (new_folder 50) (new-bare 50 (new_folder 50) (new-is_new 50)) ∙ sym (no_candidates (new_folder 60) (new-bare 60 (new_folder 60) (new-is_new 60)))
-
-pub same_named : AllByRecursion (SameNamed (completed (view_of (new_folder 50))).stock (completed (view_of (new_folder 60))).stock) (candidates (completed (view_of (new_folder 50))))
-same_named = subst (AllByRecursion (SameNamed (completed (view_of (new_folder 50))).stock (completed (view_of (new_folder 60))).stock)) (sym (no_candidates (new_folder 50) (new-bare 50 (new_folder 50) (new-is_new 50)))) tt
-
--- The blocks of the small folder stand.
-
-pub small_stands : (stands_in (folder_with small_records) 0x90000000 ≡ true) × (stands_in (folder_with small_records) 0xA0010000 ≡ true)
-unfolding folder_with zeros with_word spliced next_file_in max_entries_in linked files_along type_among stands stands_as_blocks is_address is_initialized names_external names_blocks kind_of reserved_bits block_count file_selector first_block external_number block_size block_place place room
-small_stands = (refl, refl)
 
 -- The state of one object is valid.
 
@@ -172,37 +135,3 @@ state_is_valid settled = record {
   held-by : (number : ℕ) → IfSome (object_at (one.state settled) number) (λ object. (object.live && object.settled ≡ false) → is_named (one.state settled) number ≡ true)
   held-by zero = λ unsettled. refl
   held-by (suc n) = tt
-
--- The small folder's list is at rest, and a removal of its node by sealed updates is ready once it has begun.
-
-pub small_at_rest : IsAtRest (list_of (folder_with small_records)) (0x90000000 ∷ [])
-unfolding list_of checks_at next_at prev_at folder_with zeros with_word spliced next_file_in max_entries_in linked files_along type_among stands stands_as_blocks is_address is_initialized names_external names_blocks kind_of reserved_bits block_count file_selector first_block external_number block_size block_place place room node_in node_checks
-small_at_rest = record {
-  whole = record {
-    head_is = refl;
-    tail_is = refl;
-    linked = (record { good = refl; next_is = refl; prev_is = refl }, tt);
-    distinct = (refl, tt);
-    few = omega arith;
-    no_zero = refl;
-  };
-  idle = refl;
-}
-
--- the updates: the head and the tail become 0, then the node's next, and at last the transaction
-pub removal_updates : List ListUpdate
-removal_updates = UpdateWord HeadWord 0 ∷ UpdateWord TailWord 0 ∷ UpdateNode 0x90000000 (NextLink 0 ∷ []) ∷ UpdateWord TransactionWord 0 ∷ []
-
-pub removal_is_pending : ArePending remove 0x90000000 (folder_with small_records) removal_updates
-unfolding removal_updates word_step operation_writes take_out list_of checks_at next_at prev_at folder_with zeros with_word spliced next_file_in max_entries_in linked files_along type_among stands stands_as_blocks is_address is_initialized names_external names_blocks kind_of reserved_bits block_count file_selector first_block external_number block_size block_place place room node_in node_checks
-removal_is_pending = record {
-  node_fits = omega arith;
-  ready = record { has_header = omega arith; each = (omega arith, (omega arith, ((refl, (omega arith, tt)), (omega arith, tt)))) };
-  pending = refl;
-}
-
--- A block file of a bare folder gets longer, and the folder still represents the empty state.
-
-pub bare_grows : (image : Image) (m length : ℕ) (limits : Bounds) → IsBare image → length_of image (Block m) ≤ length → Represents (view_of (applied (SetLength (Block m) length) image)) (open_state [] limits) no_layout
-bare_grows image m length limits bare longer =
-    growth-keeps image (applied (SetLength (Block m) length) image) (open_state [] limits) no_layout [] (bare-sound image bare).in_order.long_enough (longer-grown image m length longer) (represents-empty image bare limits) (λ claim node owner. cc)

@@ -4,5 +4,4 @@ pub mod StateLaws
 pub mod CommandLaws
 pub mod ByteLaws
 pub mod BareLaws
-pub mod ListBytes
 pub mod AllocationLaws

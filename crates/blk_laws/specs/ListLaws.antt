@@ -4,7 +4,7 @@ use Rattle.blk_format.specs.BlockFiles.{is_among}
 use Rattle.std.specs.declared.option.Option.TheVariants.{None}
 use Rattle.blk_volume.specs.ListView.{ListView, IsList, most_nodes, put, after_writes}
 use Rattle.blk_volume.specs.Walk.{walk}
-use Rattle.blk_volume.specs.Completion.{insert, remove, completed_list}
+use Rattle.blk_volume.specs.Completion.{insert, remove}
 use Rattle.blk_volume.specs.ListPlans.{writes_of, touch_writes, completion_writes, outcome, TurnsAtTwo, stopped}
 use Rattle.blk_volume.specs.View.{Stock}
 use Rattle.blk_volume.specs.Chains.{file_and_block, most_records, is_of_bucket, chain, Linked, IsChain}
@@ -51,9 +51,9 @@ TouchesTurnAtTwo = (node : ℕ) (list : ListView) (front behind : List ℕ) → 
 abbrev pub TouchesEnd : Type 0
 TouchesEnd = (node : ℕ) (list : ListView) (front behind : List ℕ) → IsAtRest list (front ++ node ∷ behind) → IsAtRest (after_writes (touch_writes node list) list) (node ∷ front ++ behind)
 
--- completing, stopped anywhere and begun again as often as one likes, leaves a list whose completion has the same walk, on every list
+-- completing, stopped anywhere and begun again as often as one likes, leaves a list whose completion is the same but for the operation word, on every list
 abbrev pub CompletingAgainIsTheSame : Type 0
-CompletingAgainIsTheSame = (list : ListView) (counts : List ℕ) → walk (completed_list (stopped counts list)) ≡ walk (completed_list list)
+CompletingAgainIsTheSame = (list : ListView) (counts : List ℕ) → outcome (stopped counts list) ≡ outcome list
 
 -- all that completing writes gives the completed list, but for the operation word
 abbrev pub CompletionsEnd : Type 0

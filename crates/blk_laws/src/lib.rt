@@ -8,7 +8,6 @@ ghost use Rattle.blk_laws.specs.BareLaws.{NothingRepresentsTheEmptyState, BareFo
 ghost use Rattle.blk_laws.specs.ByteLaws.{CoveredChangesStayInside, BlocksAreCovered, ExternalFilesAreCovered, HeadersNeedNoCover, HiddenWordsNeedNoCover, CoversOfLess, MoreCovers, CoversOfEither, AgreeingImagesShowTheSame, CoveredChangesAgree, GrowthIsPastTheBlocks, SameLinksLinkTheSame, AgreementGoesOn, AgreementButMore, LongerFilesHaveGrown, GrowthKeepsStates};
 ghost use Rattle.blk_laws.specs.CommandLaws.{UnsettledObjectsMayChange, EachMomentIsAtRest, RemovalsKeepTheOthers, LessIsLaid, DirtyWordsSettle, WrittenDirtyWordsSettle, RestBeforeTurning, RestAfterTurning, OpensAtEachWrite, OpensEnd, CreatesAtEachWrite, CreatesEnd, CreatesLeaveTheRest, CreatesMayLeaveWhatWas};
 ghost use Rattle.blk_laws.specs.KeptLaws.{KeptAreTheGiven, NoneOfTheGivenIsDropped, LeavingOutKeepsTheSame, SameKeyIsOneChain, OnlyCandidatesAreKept, SameCandidatesHoldTheSame};
-ghost use Rattle.blk_laws.specs.ListBytes.{UpdatesShowFronts, UpdatesShowAll, InsertsTurnInBytes, RemovalsTurnInBytes, MovesTurnInBytes, CompletionsStayInBytes};
 ghost use Rattle.blk_laws.specs.ListLaws.{WalksAreTheLists, InsertsTurnAtTwo, InsertsEnd, RemovalsTurnAtTwo, RemovalsEnd, TouchesTurnAtTwo, TouchesEnd, CompletingAgainIsTheSame, CompletionsEnd, ChainsAreTheirRecords, RecordsAreLinkedInFront, OtherChainsStay, FirstRecordsAreUnlinked, LaterRecordsAreUnlinked};
 ghost use Rattle.blk_laws.specs.StateLaws.{WalksAreTheOrder, ListedAreTheRows, NothingListedIsDropped, RepresentedChainsEnd, KeptAreAtRest, FoundIsAtRest, RepresentedStatesAreShown, RepresentedStatesAreStoodFor, LaidIsShown, KeptArePicked, FreeFootprintsKeepStates, ChangedItemsAreLaid, ChangedItemsAreRepresented};
 
@@ -39,20 +38,6 @@ pub fn touches_at_each_write()
 pub fn completions_at_each_write()
     ensures stops { CompletingAgainIsTheSame }
     ensures ends { CompletionsEnd }
-{}
-
-/// At each step of sealed updates and words of the index the list is that after a front of their writes, and in the end that after all.
-pub fn updates_write_the_list()
-    ensures fronts { UpdatesShowFronts }
-    ensures all { UpdatesShowAll }
-{}
-
-/// In bytes an insert, a removal and a move turn from the old list to the new one at the transaction word, and a completion may be stopped anywhere.
-pub fn operations_turn_in_bytes()
-    ensures inserts { InsertsTurnInBytes }
-    ensures removals { RemovalsTurnInBytes }
-    ensures moves { MovesTurnInBytes }
-    ensures completions { CompletionsStayInBytes }
 {}
 
 /// A chain is its records, a record is linked in front of it or taken out of it, and no other chain is touched.

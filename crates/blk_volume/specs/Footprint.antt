@@ -26,7 +26,7 @@ pub record SameStock (touched : Claim → Bool) (old new : Stock) : Type 0 where
   pub key_place : (w : ℕ) (core : Core) → IsClear touched w → old.entry w ≡ Some core → is_key_length w core ≡ true → nat_le core.key_len longest_short_key ≡ true → old.key_place w core.key_len ≡ new.key_place w core.key_len
   pub stored : (size w : ℕ) → IsClear touched w → old.stored size w ≡ new.stored size w
 
--- the links of nodes outside are the same, and so are the words of the index
+-- the links of nodes outside are the same, and so are the words of the index but the operation, which is not read where no transaction is in flight
 pub record SameLinks (touched : Claim → Bool) (old new : ListView) : Type 0 where
   pub head : old.head ≡ new.head
   pub tail : old.tail ≡ new.tail
@@ -47,7 +47,7 @@ pub record SameBut (touched : Claim → Bool) (old new : View) : Type 0 where
 abbrev pub is_in_word : ℕ → ℕ → Bool
 is_in_word word i = nat_le word i && nat_lt i (word + 4)
 
--- the places of the index that a view shows: the head, the tail, the transaction, and the table
+-- the places of the index that are compared here: the head, the tail, the transaction, and the table; the operation is not among them
 abbrev pub is_shown_place : ℕ → Bool
 is_shown_place i = is_in_word 288 i || is_in_word 308 i || is_in_word 328 i || nat_le 368 i
 
@@ -55,7 +55,7 @@ is_shown_place i = is_in_word 288 i || is_in_word 308 i || is_in_word 328 i || n
 abbrev pub is_extent_place : ℕ → Bool
 is_extent_place i = (i == 10) || (i == 11) || is_in_word 20 i
 
--- a change of these bytes and files touches these blocks and external numbers alone, and no word of the index that is shown
+-- a change of these bytes and files touches these blocks and external numbers alone, and no place of the index that is compared
 pub record Covers (image : Image) (footprint : Footprint) (touched : Claim → Bool) : Type 0 where
   pub index : (i : ℕ) → is_shown_place i ≡ true → footprint.bytes Index i ≡ false
   pub extents : (n i : ℕ) → is_extent_place i ≡ true → footprint.bytes (Block n) i ≡ false

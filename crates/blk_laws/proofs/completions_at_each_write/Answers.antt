@@ -1,9 +1,9 @@
-use Rattle.blk_laws.proofs.ListMoments.{completing_walk}
+use Rattle.blk_laws.proofs.ListMoments.{completing}
 use Rattle.blk_laws.proofs.AtRest.{completions-end}
 use Rattle.blk_laws.proofs.completions_at_each_write.Goals as goal
 
 pub returns : goal.returns
 returns c = record {
-  stops = completing_walk;
+  stops = completing;
   ends = completions-end;
 }
