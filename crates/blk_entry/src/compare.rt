@@ -1,12 +1,12 @@
 // Keys that are compared with those of entry records.
-ghost use Rattle.std.specs.Prelude.{◌≡◌, ◌⊎◌, ◌≤◌, ◌↔◌, IfOk, IsTrue, None, length};
+ghost use Rattle.std.specs.Prelude.{◌≡◌, ◌≤◌, ◌↔◌, IfOk, IsTrue, None, length};
 ghost use Rattle.std.specs.Option.{ForSome};
 ghost use Rattle.blk_image.specs.Told.{Rises, Stays};
 ghost use Rattle.blk_format.specs.Address.{blocks_256, kind_of};
 ghost use Rattle.blk_io.specs.Faults.{IfDamaged, IfDevice};
 ghost use Rattle.blk_disk.specs.Tables.{Agrees, stands_among};
 ghost use Rattle.blk_disk.specs.Sealed.{RecordChecks};
-ghost use Rattle.blk_entry.specs.Keys.{HasKey, IsCut, IsEntryOf, IsHead, IsInFile, IsInside, IsKeyDamage, IsMisplaced, data_at};
+ghost use Rattle.blk_entry.specs.Keys.{HasKey, IsCut, IsEntryOf, IsHead, IsInFile, IsInside, IsKeyDamage, IsPlaceDamage, data_at};
 
 use crate::data::read_data;
 use crate::keys::{Head, key_place, read_head};
@@ -35,7 +35,7 @@ pub fn key_equals<F: Folder>(
     requires checks { ForSome (F.told f.old).files (RecordChecks entry) }
     requires key { ForSome (F.told f.old).files (HasKey entry) }
     ensures equal { IfOk result (λ same. ForSome (F.told f.old).files (λ image. IsTrue same ↔ IsEntryOf key.now entry image)) }
-    ensures damaged { IfDamaged result (IsKeyDamage files.now (F.told f.old) entry) }
+    ensures damaged { IfDamaged result (IsKeyDamage files.now (F.told f.old) entry (length key.now)) }
     ensures untold { IfDamaged result (λ _. (F.told f.old).files ≡ None) }
     ensures stays { Stays (F.told f.old) (F.told f.new) }
     ensures later { F.faults f.old ≤ F.faults f.new }
@@ -61,7 +61,7 @@ pub fn key_is<F: Folder>(
     requires head { ForSome (F.told f.old).files (λ image. IsHead image entry head.now) }
     requires key { ForSome (F.told f.old).files (HasKey entry) }
     ensures equal { IfOk result (λ same. ForSome (F.told f.old).files (λ image. IsTrue same ↔ IsEntryOf key.now entry image)) }
-    ensures damaged { IfDamaged result (λ damage. IsCut (F.told f.old) damage ⊎ IsMisplaced files.now entry damage) }
+    ensures damaged { IfDamaged result (IsPlaceDamage files.now (F.told f.old) entry (length key.now) head.now.long_key) }
     ensures untold { IfDamaged result (λ _. (F.told f.old).files ≡ None) }
     ensures stays { Stays (F.told f.old) (F.told f.new) }
     ensures later { F.faults f.old ≤ F.faults f.new }
@@ -89,7 +89,7 @@ fn data_is<F: Folder>(
     requires agrees { ForSome (F.told f.old).files (Agrees files.now) }
     requires external { ForSome (F.told f.old).files (IsInFile addr at (length bytes.now)) }
     ensures same { IfOk result (λ same. ForSome (F.told f.old).files (λ image. IsTrue same ↔ (bytes.now ≡ data_at image addr at (length bytes.now)))) }
-    ensures short { IfDamaged result (IsCut (F.told f.old)) }
+    ensures short { IfDamaged result (IsCut (F.told f.old) addr at (length bytes.now)) }
     ensures untold { IfDamaged result (λ _. (F.told f.old).files ≡ None) }
     ensures stays { Stays (F.told f.old) (F.told f.new) }
     ensures later { F.faults f.old ≤ F.faults f.new }
@@ -121,7 +121,7 @@ fn piece_is<F: Folder>(
     requires agrees { ForSome (F.told f.old).files (Agrees files.now) }
     requires external { ForSome (F.told f.old).files (IsInFile addr at (length bytes.now)) }
     ensures same { IfOk result (λ same. ForSome (F.told f.old).files (λ image. IsTrue same ↔ (bytes.now ≡ data_at image addr at (length bytes.now)))) }
-    ensures short { IfDamaged result (IsCut (F.told f.old)) }
+    ensures short { IfDamaged result (IsCut (F.told f.old) addr at (length bytes.now)) }
     ensures untold { IfDamaged result (λ _. (F.told f.old).files ≡ None) }
     ensures stays { Stays (F.told f.old) (F.told f.new) }
     ensures later { F.faults f.old ≤ F.faults f.new }

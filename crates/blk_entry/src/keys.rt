@@ -9,7 +9,7 @@ ghost use Rattle.blk_io.specs.Faults.{IfDamaged, IfDevice, IsShort};
 ghost use Rattle.blk_disk.specs.Tables.{Agrees, stands_among};
 ghost use Rattle.blk_disk.specs.Sealed.{IsUnsealed, RecordChecks};
 ghost use Rattle.blk_entry.specs.Keys as keys;
-ghost use Rattle.blk_entry.specs.Keys.{HasKey, IsHead, IsInside, IsKeyDamage, IsMisplaced, IsPiece, IsPlaceOf, is_short, key_at, key_address, bytes_before};
+ghost use Rattle.blk_entry.specs.Keys.{HasKey, IsHead, IsHeadDamage, IsInside, IsMisplaced, IsPiece, IsPlaceOf, is_short, key_at, key_address, bytes_before};
 
 use crate::data::{EXTERNAL, number, read_data};
 use blk_addr::{Addr, blocks_for, entry_blocks, kind_for};
@@ -81,7 +81,7 @@ pub fn key_piece<F: Folder>(
     requires key { ForSome (F.told f.old).files (HasKey entry) }
     ensures within { IfOk result (λ n. n ≤ length out.old) }
     ensures piece { IfOk result (λ n. ForSome (F.told f.old).files (λ image. ForSome (key_at image entry) (λ key. IsPiece key at out.old out.new n))) }
-    ensures damaged { IfDamaged result (IsKeyDamage files.now (F.told f.old) entry) }
+    ensures damaged { IfDamaged result (keys.IsPieceDamage files.now (F.told f.old) entry) }
     ensures untold { IfDamaged result (λ _. (F.told f.old).files ≡ None) }
     ensures stays { Stays (F.told f.old) (F.told f.new) }
     ensures later { F.faults f.old ≤ F.faults f.new }
@@ -106,7 +106,7 @@ pub fn read_head<F: Folder>(f: &mut F, files: &BlockFiles, entry: Addr) -> Resul
     requires agrees { ForSome (F.told f.old).files (Agrees files.now) }
     requires checks { ForSome (F.told f.old).files (RecordChecks entry) }
     ensures head { IfOk result (λ head. ForSome (F.told f.old).files (λ image. IsHead image entry head)) }
-    ensures damaged { IfDamaged result (λ damage. IsShort (F.told f.old) (FileId.Block (file_selector entry)) (place entry) entry_size damage ⊎ IsUnsealed (F.told f.old) entry damage) }
+    ensures damaged { IfDamaged result (IsHeadDamage (F.told f.old) entry) }
     ensures untold { IfDamaged result (λ _. (F.told f.old).files ≡ None) }
     ensures stays { Stays (F.told f.old) (F.told f.new) }
     ensures later { F.faults f.old ≤ F.faults f.new }
@@ -150,7 +150,8 @@ pub(crate) fn key_place(files: &BlockFiles, entry: Addr, head: Head) -> Result<K
     ensures place { IfOk result (IsPlaceOf entry head.key_len head.long_key) }
     ensures inside { IfOk result (λ key. IsInside files.now key.addr key.skip key.len) }
     ensures right { keys.may_have entry head.key_len ≡ true → (is_short head.key_len ≡ false → keys.may_hold files.now head.key_len head.long_key ≡ true) → IsOk result }
-    ensures damaged { IfDamaged result (IsMisplaced files.now entry) }
+    ensures placed { IfOk result (λ _. keys.IsPlaced files.now entry head.key_len head.long_key) }
+    ensures damaged { IfDamaged result (IsMisplaced files.now entry head.key_len head.long_key) }
     ensures never { IfDevice result ⊥ }
 {
     if !may_have(entry, head.key_len) {

@@ -1,9 +1,9 @@
-use Rattle.std.proofs.Common.{◌≡◌, ◌↔◌, length, None, sym, ◌∙◌, arith}
+use Rattle.std.proofs.Common.{◌≡◌, ◌↔◌, ℕ, length, None, inl, inr, sym, ◌∙◌, subst, arith}
 use Rattle.std.specs.Option.{ForSome}
 use Rattle.std.specs.Prelude.{IsTrue}
-use Rattle.blk_entry.specs.Keys.{IsEntryOf, data_at}
-use Rattle.blk_io.proofs.Carried.{untold_where}
-use Rattle.blk_entry.proofs.KeyPlaces.{clash, damaged_any, entry_of, head_facts, ok_weaker, whole_there}
+use Rattle.blk_entry.specs.Keys.{IsCutKey, IsEntryOf, IsMisplaced, IsPlaceDamage, data_at}
+use Rattle.blk_io.proofs.Carried.{carried, if_damaged_weaker, untold_where}
+use Rattle.blk_entry.proofs.KeyPlaces.{clash, damaged_any, entry_of, head_facts, key_is_cut, ok_weaker, whole_there}
 use Rattle.blk_entry.proofs.compare.key_is.Goals as goal
 
 pub returns-in_err-place-clause-untold : goal.returns-in_err-place-clause-untold
@@ -44,3 +44,19 @@ returns-clause-equal g c =
     let whole = read_as image there in
     (λ yes. there_is.0 (whole.0 yes), λ of_entry. whole.1 (there_is.1 of_entry)))
     c.data_is.ensures.same
+
+pub returns-in_err-place-clause-damaged : goal.returns-in_err-place-clause-damaged
+returns-in_err-place-clause-damaged g c =
+    carried c.key_place.result c.from_residual.result c.in_err-place.field-0.0 (IsPlaceDamage c.args.files.now (g.F.Folder.told c.args.f.now) c.args.entry (length c.args.key.now) c.args.head.now.long_key) c.in_err-place.was c.from_residual.ensures.1
+    (if_damaged_weaker c.key_place.result _ _ (λ damage wrong. inr (subst (λ (k : ℕ). IsMisplaced c.args.files.now c.args.entry k c.args.head.now.long_key damage) c.if-head-key.false wrong)) c.key_place.ensures.damaged)
+
+pub returns-clause-damaged : goal.returns-clause-damaged
+returns-clause-damaged g c =
+    let place = c.in_ok-place.ensures.place in
+    let len = place.len in
+    let size = c.if-head-key.false in
+    if_damaged_weaker c.data_is.result _ _
+    (λ damage cut. inl (subst (λ (k : ℕ). IsCutKey c.args.files.now (g.F.Folder.told c.args.f.now) c.args.entry k c.args.head.now.long_key damage) size
+    (key_is_cut c.args.files.now (g.F.Folder.told c.args.f.now) c.args.entry c.args.head.now.key_len c.args.head.now.long_key c.in_ok-place.place c.in_ok-place.place.skip (length c.args.key.now) damage
+    c.in_ok-place.ensures.placed place (omega arith) (omega (arith, len, size)) cut)))
+    c.data_is.ensures.short
