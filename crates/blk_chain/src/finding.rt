@@ -1,5 +1,5 @@
 // Records that are found by their keys.
-ghost use Rattle.std.specs.Prelude.{◌≡◌, ◌≢◌, ◌⊎◌, ◌↔◌, ◌+◌, ◌<◌, ◌≤◌, IfOk, IfSome, IsOk, IsTrue, None, Some, true, if◌then◌else◌};
+ghost use Rattle.std.specs.Prelude.{◌≡◌, ◌≢◌, ◌↔◌, ◌+◌, ◌<◌, ◌≤◌, IfOk, IfSome, IsOk, IsTrue, None, Some, true, length, if◌then◌else◌};
 ghost use Rattle.std.specs.Option.{ForSome};
 ghost use Rattle.blk_image.specs.Image.{Index as index, length_of};
 ghost use Rattle.blk_image.specs.Told.{Rises, Stays};
@@ -11,10 +11,10 @@ ghost use Rattle.blk_io.specs.Faults.{IfDamaged, IfDevice};
 ghost use Rattle.blk_volume.specs.Chains.{bucket_of_hash};
 ghost use Rattle.blk_volume.specs.View.{stock_of};
 ghost use Rattle.blk_disk.specs.Tables.{Agrees, stands_among};
-ghost use Rattle.blk_entry.specs.Keys.{HasKey, IsCut, IsDamageAt, IsHead, IsMisplaced};
+ghost use Rattle.blk_entry.specs.Keys.{HasKey, IsDamageAt, IsHead, IsPlaceDamage};
 ghost use Rattle.blk_chain.specs.Naming.{HasName};
 ghost use Rattle.blk_chain.specs.Unlinking.{CanBeUnlinked};
-ghost use Rattle.blk_chain.specs.Finding.{CanBeSearched, IsAnswer, IsAstray, IsKeyed, IsLinkDamage, IsOnTheWay, IsSearchDamage, IsStep, StandsAt, bucket_of_key, most_searched, names_record};
+ghost use Rattle.blk_chain.specs.Finding.{CanBeSearched, IsAnswer, IsAstray, IsChainDamage, IsKeyed, IsLinkDamage, IsOnTheWay, IsSearchDamage, IsStep, StandsAt, StandsBefore, bucket_of_key, most_searched, names_record};
 
 use crate::found::Found;
 use blk_addr::{Addr, Kind};
@@ -93,7 +93,7 @@ pub fn find<F: Folder>(
     ensures linked { IfOk result (λ answer. IfSome answer (λ found. ForSome (F.told f.old).files (CanBeUnlinked found.entry found.before))) }
 
     // A folder that tells its files never gives a damage.
-    ensures damaged { IfDamaged result (IsSearchDamage files.now (F.told f.old) (bucket_of_key key.now)) }
+    ensures damaged { IfDamaged result (IsSearchDamage files.now (F.told f.old) key.now) }
     ensures untold { IfDamaged result (λ _. (F.told f.old).files ≡ None) }
 
     ensures stays { Stays (F.told f.old) (F.told f.new) }
@@ -125,7 +125,7 @@ fn search<F: Folder>(
     ensures kind_before { IfOk result (λ answer. IfSome answer (λ found. IfSome found.before (λ before. kind_of before ≡ blocks_256))) }
     ensures stands_before { IfOk result (λ answer. IfSome answer (λ found. IfSome found.before (λ before. IsTrue (stands_among files.now before)))) }
     ensures linked { IfOk result (λ answer. IfSome answer (λ found. ForSome (F.told f.old).files (CanBeUnlinked found.entry found.before))) }
-    ensures damaged { IfDamaged result (IsSearchDamage files.now (F.told f.old) (bucket_of_key key.now)) }
+    ensures damaged { IfDamaged result (IsChainDamage files.now (F.told f.old) key.now) }
     ensures untold { IfDamaged result (λ _. (F.told f.old).files ≡ None) }
     ensures stays { Stays (F.told f.old) (F.told f.new) }
     ensures later { F.faults f.old ≤ F.faults f.new }
@@ -162,11 +162,12 @@ fn look_at<F: Folder>(
     requires hash { sought.now.hash ≡ hash_of key.now }
     requires some { link.now.word ≢ 0 }
     requires kind_before { IfSome link.now.before (λ before. kind_of before ≡ blocks_256) }
+    requires named_before { StandsBefore files.now link.now.before }
     requires agrees { ForSome (F.told f.old).files (Agrees files.now) }
     requires keyed { ForSome (F.told f.old).files (IsKeyed link.now.word) }
     ensures step { IfOk result (λ step. ForSome (F.told f.old).files (IsStep key.now sought.now.child link.now.word step)) }
     ensures stands { IfOk result (StandsAt files.now link.now.word) }
-    ensures damaged { IfDamaged result (IsSearchDamage files.now (F.told f.old) (bucket_of_key key.now)) }
+    ensures damaged { IfDamaged result (IsChainDamage files.now (F.told f.old) key.now) }
     ensures untold { IfDamaged result (λ _. (F.told f.old).files ≡ None) }
     ensures stays { Stays (F.told f.old) (F.told f.new) }
     ensures later { F.faults f.old ≤ F.faults f.new }
@@ -199,7 +200,7 @@ fn has_name<F: Folder>(
     requires keyed { ForSome (F.told f.old).files (IsKeyed entry) }
     requires head { ForSome (F.told f.old).files (λ image. IsHead image entry head.now) }
     ensures named { IfOk result (λ same. ForSome (F.told f.old).files (λ image. IsTrue same ↔ HasName (stock_of image) key.now sought.now.child entry)) }
-    ensures damaged { IfDamaged result (λ damage. IsCut (F.told f.old) damage ⊎ IsMisplaced files.now entry damage) }
+    ensures damaged { IfDamaged result (IsPlaceDamage files.now (F.told f.old) entry (length key.now) head.now.long_key) }
     ensures untold { IfDamaged result (λ _. (F.told f.old).files ≡ None) }
     ensures stays { Stays (F.told f.old) (F.told f.new) }
     ensures later { F.faults f.old ≤ F.faults f.new }
@@ -221,6 +222,7 @@ fn has_name<F: Folder>(
 fn record_of(files: &BlockFiles, hash: u32, link: &Link) -> Result<Addr, Fault>
     requires some { link.now.word ≢ 0 }
     requires kind_before { IfSome link.now.before (λ before. kind_of before ≡ blocks_256) }
+    requires named_before { StandsBefore files.now link.now.before }
     ensures entry { IfOk result (λ entry. entry ≡ link.now.word) }
     ensures stands { IfOk result (λ entry. IsTrue (names_record files.now entry)) }
     ensures right { names_record files.now link.now.word ≡ true → IsOk result }
