@@ -6,20 +6,19 @@ ghost use Rattle.blk_image.specs.Told.{Rises, Stays};
 ghost use Rattle.blk_format.specs.Address.{blocks_256, kind_of};
 ghost use Rattle.blk_format.specs.Hash.{hash as hash_of};
 ghost use Rattle.blk_format.specs.Headers.{index_length};
-ghost use Rattle.blk_format.specs.Records.{entry_size};
 ghost use Rattle.blk_io.specs.Faults.{IfDamaged, IfDevice};
 ghost use Rattle.blk_volume.specs.Chains.{bucket_of_hash};
 ghost use Rattle.blk_volume.specs.View.{stock_of};
 ghost use Rattle.blk_disk.specs.Tables.{Agrees, stands_among};
-ghost use Rattle.blk_entry.specs.Keys.{HasKey, IsDamageAt, IsHead, IsPlaceDamage};
+ghost use Rattle.blk_entry.specs.Keys.{IsHead, IsPlaceDamage};
 ghost use Rattle.blk_chain.specs.Naming.{HasName};
 ghost use Rattle.blk_chain.specs.Unlinking.{CanBeUnlinked};
 ghost use Rattle.blk_chain.specs.Finding.{CanBeSearched, IsAnswer, IsAstray, IsChainDamage, IsKeyed, IsLinkDamage, IsOnTheWay, IsSearchDamage, IsStep, StandsAt, StandsBefore, bucket_of_key, most_searched, names_record};
 
 use crate::found::Found;
 use blk_addr::{Addr, Kind};
-use blk_disk::{BlockFiles, file_of};
-use blk_entry::{Head, key_is, read_head};
+use blk_disk::BlockFiles;
+use blk_entry::{Head, key_is, read_head, record_damage};
 use blk_index::bucket;
 use blk_io::{Damage, Fault, FileId, Folder};
 use blk_record::super_fast_hash;
@@ -32,13 +31,8 @@ const BUCKETS: u32 = 65536;
 
 const TABLE: u64 = 368;
 
-// The byte at which the first block of a block file begins, and the bytes of a block of a record.
-const HEADER: u64 = 8192;
-
-const BLOCK: u64 = 256;
-
 // The place of the next in a record, and the flags of a child.
-const NEXT: u64 = 4;
+const NEXT: u32 = 4;
 
 const CHILD: u32 = 2;
 
@@ -209,9 +203,6 @@ fn has_name<F: Folder>(
     if head.hash != sought.hash {
         return Ok(false);
     }
-    if head.key_len as usize != key.len() {
-        return Ok(false);
-    }
     if (head.flags == CHILD) != sought.child {
         return Ok(false);
     }
@@ -256,25 +247,11 @@ fn damage_of(hash: u32, link: &Link) -> Fault
     ensures { IsLinkDamage (bucket_of_hash hash) link.now.before link.now.word result }
 {
     match link.before {
-        Some(before) => damage(before, NEXT, link.word),
+        Some(before) => record_damage(before, NEXT, link.word),
         None => Fault::Damaged(Damage {
             file: FileId::Index,
             at: TABLE + 4 * u64::from(hash % BUCKETS),
             found: link.word,
         }),
     }
-}
-
-// The damage of a word of a record.
-fn damage(entry: Addr, at: u64, found: u32) -> Fault
-    requires kind { kind_of entry ≡ blocks_256 }
-    requires small { at < entry_size }
-    ensures { IsDamageAt entry at found result }
-{
-    let at = HEADER + u64::from(entry.start()) * BLOCK + at;
-    Fault::Damaged(Damage {
-        file: file_of(entry),
-        at,
-        found,
-    })
 }

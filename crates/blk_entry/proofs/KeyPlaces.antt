@@ -11,7 +11,6 @@ use Rattle.blk_image.specs.Image.{Block, External, Image, byte, has_file, length
 use Rattle.blk_image.specs.Told.{Told}
 use Rattle.blk_image.proofs.Words.{length-range}
 use Rattle.blk_format.specs.Address.{kind_of, block_count, block_size, is_address, external, external_number, file_selector, place, room, blocks_256}
-use Rattle.blk_format.specs.Hash.{hash as hash_of}
 use Rattle.blk_format.specs.Records.{entry_in}
 use Rattle.blk_format.specs.Storage.{entry_blocks, is_storage, kind_for, blocks_for, divided_up}
 use Rattle.blk_format.specs.Standing.{stands}
@@ -33,7 +32,7 @@ use Rattle.blk_io.specs.Faults.{IfDamaged, IsShort}
 use Rattle.blk_external.specs.Reading.{IsFew}
 use Rattle.blk_entry.specs.declared.keys.Head.{Head}
 use Rattle.blk_entry.specs.declared.keys.KeyPlace.{KeyPlace}
-use Rattle.blk_entry.specs.Keys.{IsCut, IsCutKey, IsPlaced, data_name, IsEntryOf, IsPiece, IsPlaceOf, data_file, data_start, data_at, held, key_at, key_address, bytes_before, is_short, may_have, may_hold, stores, IsInside, IsInFile, IsHead, HasKey}
+use Rattle.blk_entry.specs.Keys.{IsCut, IsCutKey, IsPlaced, data_name, IsPiece, IsPlaceOf, data_file, data_start, data_at, held, key_at, key_address, bytes_before, is_short, may_have, may_hold, stores, IsInside, IsInFile, IsHead, HasKey}
 use Rattle.blk_entry.proofs.Windows.{entry_room}
 
 -- the data of an address of blocks, and of an external one
@@ -498,14 +497,11 @@ whole_there files image entry k l key place n known at all e =
     omega (arith, h, at.skip, at.len, all)
 
 -- a key is that of a record exactly where its bytes lie there
-pub entry_of : (files : BlockFiles) (image : Image) (entry : ℕ) (head : Head) (key : List ℕ) (place : KeyPlace) → Agrees files image → kind_of entry ≡ blocks_256 → IsHead image entry head → HasKey entry image → IsPlaceOf entry head.key_len head.long_key place
-    → head.key_len ≡ length key → head.hash ≡ hash_of key → (key ≡ data_at image place.addr place.skip (length key)) ↔ IsEntryOf key entry image
-entry_of files image entry head key place agrees kind words has at size same_hash = (
-  λ same. record {
-    hash = sym words.hash ∙ same_hash;
-    is = has.is ∙ ap Some (key_in_place files image entry head.key_len head.long_key has.key place (head_facts files image entry head has.key agrees kind words has.is) at ∙ ap (data_at image place.addr place.skip) all ∙ sym same);
-  },
-  λ of_entry. key_in_place files image entry head.key_len head.long_key key place (head_facts files image entry head key agrees kind words of_entry.is) at ∙ ap (data_at image place.addr place.skip) all,
+pub key_by_place : (files : BlockFiles) (image : Image) (entry : ℕ) (head : Head) (key : List ℕ) (place : KeyPlace) → Agrees files image → kind_of entry ≡ blocks_256 → IsHead image entry head → HasKey entry image → IsPlaceOf entry head.key_len head.long_key place
+    → head.key_len ≡ length key → (key ≡ data_at image place.addr place.skip (length key)) ↔ (key_at image entry ≡ Some key)
+key_by_place files image entry head key place agrees kind words has at size = (
+  λ same. has.is ∙ ap Some (key_in_place files image entry head.key_len head.long_key has.key place (head_facts files image entry head has.key agrees kind words has.is) at ∙ ap (data_at image place.addr place.skip) all ∙ sym same),
+  λ is. key_in_place files image entry head.key_len head.long_key key place (head_facts files image entry head key agrees kind words is) at ∙ ap (data_at image place.addr place.skip) all,
 )
   where
     all : place.len ≡ length key

@@ -17,16 +17,23 @@ use blk_disk::{BlockFiles, file_of};
 use blk_io::{Damage, Fault, Folder};
 use blk_record::{EntryView, Record};
 
-// The bytes of an entry record before its key, and the places of its key's length and of a long key's word.
+// The bytes of an entry record before its key.
 const RECORD: usize = 96;
 
 const BEFORE_KEY: u32 = 96;
 
-const KEY_LEN: u64 = 32;
+// The places of its words.
+const HASH: usize = 0;
 
-const LONG_KEY: u64 = 36;
+const NEXT: usize = 4;
 
-const SEAL: u64 = 92;
+const KEY_LEN: u32 = 32;
+
+const LONG_KEY: u32 = 36;
+
+const FLAGS: usize = 72;
+
+const SEAL: u32 = 92;
 
 // The longest key in a record, and the longest key of all.
 const MOST_IN_RECORD: u32 = 927;
@@ -118,27 +125,27 @@ pub fn read_head<F: Folder>(f: &mut F, files: &BlockFiles, entry: Addr) -> Resul
         unreachable!();
     };
     if !record.checks() {
-        return Err(damage(entry, SEAL, record.word(92)));
+        return Err(record_damage(entry, SEAL, record.word(SEAL as usize)));
     }
     Ok(Head {
-        hash: record.word(0),
-        next: record.word(4),
-        key_len: record.word(32),
-        long_key: record.word(36),
-        flags: record.word(72),
+        hash: record.word(HASH),
+        next: record.word(NEXT),
+        key_len: record.word(KEY_LEN as usize),
+        long_key: record.word(LONG_KEY as usize),
+        flags: record.word(FLAGS),
     })
 }
 
-// The damage of a word of a record.
-fn damage(entry: Addr, at: u64, found: u32) -> Fault
+/// The damage of a word of a record: the word at a place in it, with what was found there.
+pub fn record_damage(entry: Addr, at: u32, found: u32) -> Fault
     requires kind { kind_of entry ≡ blocks_256 }
     requires small { at < entry_size }
     ensures { keys.IsDamageAt entry at found result }
 {
-    let at = HEADER + u64::from(entry.start()) * BLOCK + at;
+    let front = HEADER + u64::from(entry.start()) * BLOCK;
     Fault::Damaged(Damage {
         file: file_of(entry),
-        at,
+        at: front + u64::from(at),
         found,
     })
 }
@@ -155,7 +162,7 @@ pub(crate) fn key_place(files: &BlockFiles, entry: Addr, head: Head) -> Result<K
     ensures never { IfDevice result ⊥ }
 {
     if !may_have(entry, head.key_len) {
-        return Err(damage(entry, KEY_LEN, head.key_len));
+        return Err(record_damage(entry, KEY_LEN, head.key_len));
     }
     if head.key_len <= MOST_IN_RECORD {
         return Ok(KeyPlace {
@@ -170,7 +177,7 @@ pub(crate) fn key_place(files: &BlockFiles, entry: Addr, head: Head) -> Result<K
             skip: 0,
             len: head.key_len,
         }),
-        None => Err(damage(entry, LONG_KEY, head.long_key)),
+        None => Err(record_damage(entry, LONG_KEY, head.long_key)),
     }
 }
 
