@@ -16,7 +16,6 @@ use Rattle.blk_disk.specs.Sealed.{RecordChecks}
 use Rattle.blk_disk.specs.Tables.{Agrees, stands_among}
 use Rattle.blk_disk.proofs.Ranges.{stands_agree}
 use Rattle.blk_entry.specs.Keys.{HasKey, IsEntryOf, key_at}
-use Rattle.blk_entry.proofs.KeyPlaces.{key_facts}
 use Rattle.blk_moments.proofs.Shown.{core-standing, standing-parts}
 use Rattle.blk_chain.specs.Naming.{HasName}
 use Rattle.blk_chain.specs.Finding.{names_record, IsKeyed}
@@ -94,9 +93,6 @@ module _ (image : Image) (w : ℕ) (keyed : IsKeyed w image) (key : List ℕ) (i
 
   pub flag-of-name : HasName (stock_of image) key is_child w → ((entry_at image w).flags == 2) ≡ is_child
   flag-of-name named = ap (λ (c : Core). c.flags == 2) (here-core ∙ some_inj (sym keyed.here ∙ named.here)) ∙ named.flag
-
-  pub length-of-name : (files : BlockFiles) → Agrees files image → HasName (stock_of image) key is_child w → length key ≡ (entry_at image w).key_len
-  length-of-name files agrees named = (key_facts files image w key agrees (shown-kind image w keyed.core keyed.here) (of-name named).is).len
 
 -- two truths that are told apart, and two that are not
 pub differs : (a b : Bool) → not (beq a b) ≡ true → a ≡ b → ⊥

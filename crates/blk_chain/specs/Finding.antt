@@ -1,5 +1,5 @@
 -- A record is found by its key and its child flag, in the chain of the key's bucket.
-use Rattle.std.specs.Prelude.{◌≡◌, ◌≢◌, ◌⊎◌, ℕ, ◌+◌, ◌<◌, ◌≤◌, List, [], ◌∷◌, ◌++◌, length, Bool, true, false, ◌&&◌, ◌==◌}
+use Rattle.std.specs.Prelude.{◌≡◌, ◌≢◌, ◌⊎◌, ℕ, ◌+◌, ◌<◌, ◌≤◌, List, [], ◌∷◌, ◌++◌, length, Bool, true, false, ◌&&◌, ◌==◌, IfSome}
 use Rattle.std.specs.declared.option.Option.{Option}
 use Rattle.std.specs.declared.option.Option.TheVariants.{None, Some}
 use Rattle.blk_image.specs.Image.{Image}
@@ -12,12 +12,12 @@ use Rattle.blk_io.specs.declared.folder.FileId.TheVariants as names
 use Rattle.blk_io.specs.declared.fault.Damage.{Damage}
 use Rattle.blk_io.specs.declared.fault.Fault.{Fault}
 use Rattle.blk_io.specs.declared.fault.Fault.TheVariants.{Damaged}
+use Rattle.blk_io.specs.Faults.{IsShort}
 use Rattle.blk_volume.specs.View.{Core, stock_of}
 use Rattle.blk_volume.specs.Chains.{bucket_of_hash, chain, Linked}
 use Rattle.blk_disk.specs.declared.tables.BlockFiles.{BlockFiles}
-use Rattle.blk_disk.specs.Sealed.{IsUnsealed}
 use Rattle.blk_disk.specs.Tables.{stands_among}
-use Rattle.blk_entry.specs.Keys.{HasKey, IsCut, IsMisplaced}
+use Rattle.blk_entry.specs.Keys.{HasKey, IsKeyDamage}
 use Rattle.blk_chain.specs.declared.found.Found.{Found}
 use Rattle.blk_chain.specs.declared.finding.Step.{Step}
 use Rattle.blk_chain.specs.declared.finding.Step.TheVariants.{Here, On}
@@ -75,28 +75,38 @@ abbrev pub IsOfLink : ℕ → Option ℕ → Damage → Type 0
 IsOfLink bucket None damage = (damage.file ≡ names.Index) × (damage.at ≡ place_of_bucket bucket)
 IsOfLink bucket (Some before) damage = (damage.file ≡ names.Block (file_selector before)) × (damage.at ≡ place before + 4)
 
+-- the record before, where there is one, is named by a word and stands
+abbrev pub StandsBefore : BlockFiles → Option ℕ → Type 0
+StandsBefore files before = IfSome before (λ w. names_record files w ≡ true)
+
 -- a word at which a chain goes on names no record that stands
 pub record IsAstray (files : BlockFiles) (bucket : ℕ) (damage : Damage) : Type 0 where
   pub before : Option ℕ
+  pub stands : StandsBefore files before
   pub link : IsOfLink bucket before damage
   pub some : damage.found ≢ 0
   pub astray : names_record files damage.found ≡ false
 
 -- a chain goes on behind the last record that a search passes
-pub record IsLong (bucket : ℕ) (damage : Damage) : Type 0 where
+pub record IsLong (files : BlockFiles) (bucket : ℕ) (damage : Damage) : Type 0 where
   pub last : ℕ
+  pub stands : names_record files last ≡ true
   pub link : IsOfLink bucket (Some last) damage
   pub some : damage.found ≢ 0
 
--- a record that stands doesn't check, or the length or the place of its key is wrong
-pub record IsWrongRecord (files : BlockFiles) (told : Told) (damage : Damage) : Type 0 where
+-- a record that stands has too few bytes or doesn't check, or its key of so many bytes has a wrong length or place or too few bytes
+pub record IsWrongRecord (files : BlockFiles) (told : Told) (key_len : ℕ) (damage : Damage) : Type 0 where
   pub entry : ℕ
   pub stands : names_record files entry ≡ true
-  pub wrong : IsUnsealed told entry damage ⊎ IsMisplaced files entry damage
+  pub wrong : IsKeyDamage files told entry key_len damage
 
--- a damage of a search: too few bytes, a word that names no record, a wrong record, or a chain that is too long
-abbrev pub IsSearchDamage : BlockFiles → Told → ℕ → Damage → Type 0
-IsSearchDamage files told bucket damage = IsCut told damage ⊎ (IsAstray files bucket damage ⊎ (IsWrongRecord files told damage ⊎ IsLong bucket damage))
+-- a damage of a chain that is followed: a word that names no record, a wrong record, or a chain that is too long
+abbrev pub IsChainDamage : BlockFiles → Told → List ℕ → Damage → Type 0
+IsChainDamage files told key damage = IsAstray files (bucket_of_key key) damage ⊎ (IsWrongRecord files told (length key) damage ⊎ IsLong files (bucket_of_key key) damage)
+
+-- a damage of a search: too few bytes of the bucket's word, or one of the chain
+abbrev pub IsSearchDamage : BlockFiles → Told → List ℕ → Damage → Type 0
+IsSearchDamage files told key damage = IsShort told names.Index (place_of_bucket (bucket_of_key key)) 4 damage ⊎ IsChainDamage files told key damage
 
 -- Steps of a search.
 

@@ -1,25 +1,24 @@
 // Records that are found by their keys.
-ghost use Rattle.std.specs.Prelude.{◌≡◌, ◌≢◌, ◌⊎◌, ◌↔◌, ◌+◌, ◌<◌, ◌≤◌, IfOk, IfSome, IsOk, IsTrue, None, Some, true, if◌then◌else◌};
+ghost use Rattle.std.specs.Prelude.{◌≡◌, ◌≢◌, ◌↔◌, ◌+◌, ◌<◌, ◌≤◌, IfOk, IfSome, IsOk, IsTrue, None, Some, true, length, if◌then◌else◌};
 ghost use Rattle.std.specs.Option.{ForSome};
 ghost use Rattle.blk_image.specs.Image.{Index as index, length_of};
 ghost use Rattle.blk_image.specs.Told.{Rises, Stays};
 ghost use Rattle.blk_format.specs.Address.{blocks_256, kind_of};
 ghost use Rattle.blk_format.specs.Hash.{hash as hash_of};
 ghost use Rattle.blk_format.specs.Headers.{index_length};
-ghost use Rattle.blk_format.specs.Records.{entry_size};
 ghost use Rattle.blk_io.specs.Faults.{IfDamaged, IfDevice};
 ghost use Rattle.blk_volume.specs.Chains.{bucket_of_hash};
 ghost use Rattle.blk_volume.specs.View.{stock_of};
 ghost use Rattle.blk_disk.specs.Tables.{Agrees, stands_among};
-ghost use Rattle.blk_entry.specs.Keys.{HasKey, IsCut, IsDamageAt, IsHead, IsMisplaced};
+ghost use Rattle.blk_entry.specs.Keys.{IsHead, IsPlaceDamage};
 ghost use Rattle.blk_chain.specs.Naming.{HasName};
 ghost use Rattle.blk_chain.specs.Unlinking.{CanBeUnlinked};
-ghost use Rattle.blk_chain.specs.Finding.{CanBeSearched, IsAnswer, IsAstray, IsKeyed, IsLinkDamage, IsOnTheWay, IsSearchDamage, IsStep, StandsAt, bucket_of_key, most_searched, names_record};
+ghost use Rattle.blk_chain.specs.Finding.{CanBeSearched, IsAnswer, IsAstray, IsChainDamage, IsKeyed, IsLinkDamage, IsOnTheWay, IsSearchDamage, IsStep, StandsAt, StandsBefore, bucket_of_key, most_searched, names_record};
 
 use crate::found::Found;
 use blk_addr::{Addr, Kind};
-use blk_disk::{BlockFiles, file_of};
-use blk_entry::{Head, key_is, read_head};
+use blk_disk::BlockFiles;
+use blk_entry::{Head, key_is, read_head, record_damage};
 use blk_index::bucket;
 use blk_io::{Damage, Fault, FileId, Folder};
 use blk_record::super_fast_hash;
@@ -32,13 +31,8 @@ const BUCKETS: u32 = 65536;
 
 const TABLE: u64 = 368;
 
-// The byte at which the first block of a block file begins, and the bytes of a block of a record.
-const HEADER: u64 = 8192;
-
-const BLOCK: u64 = 256;
-
 // The place of the next in a record, and the flags of a child.
-const NEXT: u64 = 4;
+const NEXT: u32 = 4;
 
 const CHILD: u32 = 2;
 
@@ -93,7 +87,7 @@ pub fn find<F: Folder>(
     ensures linked { IfOk result (λ answer. IfSome answer (λ found. ForSome (F.told f.old).files (CanBeUnlinked found.entry found.before))) }
 
     // A folder that tells its files never gives a damage.
-    ensures damaged { IfDamaged result (IsSearchDamage files.now (F.told f.old) (bucket_of_key key.now)) }
+    ensures damaged { IfDamaged result (IsSearchDamage files.now (F.told f.old) key.now) }
     ensures untold { IfDamaged result (λ _. (F.told f.old).files ≡ None) }
 
     ensures stays { Stays (F.told f.old) (F.told f.new) }
@@ -125,7 +119,7 @@ fn search<F: Folder>(
     ensures kind_before { IfOk result (λ answer. IfSome answer (λ found. IfSome found.before (λ before. kind_of before ≡ blocks_256))) }
     ensures stands_before { IfOk result (λ answer. IfSome answer (λ found. IfSome found.before (λ before. IsTrue (stands_among files.now before)))) }
     ensures linked { IfOk result (λ answer. IfSome answer (λ found. ForSome (F.told f.old).files (CanBeUnlinked found.entry found.before))) }
-    ensures damaged { IfDamaged result (IsSearchDamage files.now (F.told f.old) (bucket_of_key key.now)) }
+    ensures damaged { IfDamaged result (IsChainDamage files.now (F.told f.old) key.now) }
     ensures untold { IfDamaged result (λ _. (F.told f.old).files ≡ None) }
     ensures stays { Stays (F.told f.old) (F.told f.new) }
     ensures later { F.faults f.old ≤ F.faults f.new }
@@ -162,11 +156,12 @@ fn look_at<F: Folder>(
     requires hash { sought.now.hash ≡ hash_of key.now }
     requires some { link.now.word ≢ 0 }
     requires kind_before { IfSome link.now.before (λ before. kind_of before ≡ blocks_256) }
+    requires named_before { StandsBefore files.now link.now.before }
     requires agrees { ForSome (F.told f.old).files (Agrees files.now) }
     requires keyed { ForSome (F.told f.old).files (IsKeyed link.now.word) }
     ensures step { IfOk result (λ step. ForSome (F.told f.old).files (IsStep key.now sought.now.child link.now.word step)) }
     ensures stands { IfOk result (StandsAt files.now link.now.word) }
-    ensures damaged { IfDamaged result (IsSearchDamage files.now (F.told f.old) (bucket_of_key key.now)) }
+    ensures damaged { IfDamaged result (IsChainDamage files.now (F.told f.old) key.now) }
     ensures untold { IfDamaged result (λ _. (F.told f.old).files ≡ None) }
     ensures stays { Stays (F.told f.old) (F.told f.new) }
     ensures later { F.faults f.old ≤ F.faults f.new }
@@ -199,16 +194,13 @@ fn has_name<F: Folder>(
     requires keyed { ForSome (F.told f.old).files (IsKeyed entry) }
     requires head { ForSome (F.told f.old).files (λ image. IsHead image entry head.now) }
     ensures named { IfOk result (λ same. ForSome (F.told f.old).files (λ image. IsTrue same ↔ HasName (stock_of image) key.now sought.now.child entry)) }
-    ensures damaged { IfDamaged result (λ damage. IsCut (F.told f.old) damage ⊎ IsMisplaced files.now entry damage) }
+    ensures damaged { IfDamaged result (IsPlaceDamage files.now (F.told f.old) entry (length key.now) head.now.long_key) }
     ensures untold { IfDamaged result (λ _. (F.told f.old).files ≡ None) }
     ensures stays { Stays (F.told f.old) (F.told f.new) }
     ensures later { F.faults f.old ≤ F.faults f.new }
     ensures device { IfDevice result (Rises (F.faults f.old) (F.faults f.new)) }
 {
     if head.hash != sought.hash {
-        return Ok(false);
-    }
-    if head.key_len as usize != key.len() {
         return Ok(false);
     }
     if (head.flags == CHILD) != sought.child {
@@ -221,6 +213,7 @@ fn has_name<F: Folder>(
 fn record_of(files: &BlockFiles, hash: u32, link: &Link) -> Result<Addr, Fault>
     requires some { link.now.word ≢ 0 }
     requires kind_before { IfSome link.now.before (λ before. kind_of before ≡ blocks_256) }
+    requires named_before { StandsBefore files.now link.now.before }
     ensures entry { IfOk result (λ entry. entry ≡ link.now.word) }
     ensures stands { IfOk result (λ entry. IsTrue (names_record files.now entry)) }
     ensures right { names_record files.now link.now.word ≡ true → IsOk result }
@@ -254,25 +247,11 @@ fn damage_of(hash: u32, link: &Link) -> Fault
     ensures { IsLinkDamage (bucket_of_hash hash) link.now.before link.now.word result }
 {
     match link.before {
-        Some(before) => damage(before, NEXT, link.word),
+        Some(before) => record_damage(before, NEXT, link.word),
         None => Fault::Damaged(Damage {
             file: FileId::Index,
             at: TABLE + 4 * u64::from(hash % BUCKETS),
             found: link.word,
         }),
     }
-}
-
-// The damage of a word of a record.
-fn damage(entry: Addr, at: u64, found: u32) -> Fault
-    requires kind { kind_of entry ≡ blocks_256 }
-    requires small { at < entry_size }
-    ensures { IsDamageAt entry at found result }
-{
-    let at = HEADER + u64::from(entry.start()) * BLOCK + at;
-    Fault::Damaged(Damage {
-        file: file_of(entry),
-        at,
-        found,
-    })
 }

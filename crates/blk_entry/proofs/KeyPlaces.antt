@@ -11,7 +11,6 @@ use Rattle.blk_image.specs.Image.{Block, External, Image, byte, has_file, length
 use Rattle.blk_image.specs.Told.{Told}
 use Rattle.blk_image.proofs.Words.{length-range}
 use Rattle.blk_format.specs.Address.{kind_of, block_count, block_size, is_address, external, external_number, file_selector, place, room, blocks_256}
-use Rattle.blk_format.specs.Hash.{hash as hash_of}
 use Rattle.blk_format.specs.Records.{entry_in}
 use Rattle.blk_format.specs.Storage.{entry_blocks, is_storage, kind_for, blocks_for, divided_up}
 use Rattle.blk_format.specs.Standing.{stands}
@@ -29,11 +28,11 @@ use Rattle.blk_io.specs.declared.folder.FileId.TheVariants as names
 use Rattle.blk_io.specs.declared.fault.Damage.{Damage}
 use Rattle.blk_io.specs.declared.fault.Fault.{Fault}
 use Rattle.blk_io.specs.declared.fault.Fault.TheVariants.{Device, Damaged}
-use Rattle.blk_io.specs.Faults.{IfDamaged}
+use Rattle.blk_io.specs.Faults.{IfDamaged, IsShort}
 use Rattle.blk_external.specs.Reading.{IsFew}
 use Rattle.blk_entry.specs.declared.keys.Head.{Head}
 use Rattle.blk_entry.specs.declared.keys.KeyPlace.{KeyPlace}
-use Rattle.blk_entry.specs.Keys.{IsCut, IsEntryOf, IsPiece, IsPlaceOf, data_file, data_start, data_at, held, key_at, key_address, bytes_before, is_short, may_have, may_hold, stores, IsInside, IsInFile, IsHead, HasKey}
+use Rattle.blk_entry.specs.Keys.{IsCut, IsCutKey, IsPlaced, data_name, IsPiece, IsPlaceOf, data_file, data_start, data_at, held, key_at, key_address, bytes_before, is_short, may_have, may_hold, stores, IsInside, IsInFile, IsHead, HasKey}
 use Rattle.blk_entry.proofs.Windows.{entry_room}
 
 -- the data of an address of blocks, and of an external one
@@ -370,20 +369,46 @@ key_facts files image entry key agrees kind e = by_stands (stands_as image block
 
 -- A read that gave too few bytes.
 
-pub damaged_weaker : {A : Type 0} (r : Result A Fault) (P Q : Damage → Type 0) → ((d : Damage) → P d → Q d) → IfDamaged r P → IfDamaged r Q
-damaged_weaker (Ok a) P Q weaker holds = tt
-damaged_weaker (Err Device) P Q weaker holds = tt
-damaged_weaker (Err (Damaged d)) P Q weaker holds = weaker d holds
+-- a read of all of the bytes, in blocks or in an external file
+cut_by : (told : Told) (w at n : ℕ) (d : Damage) → IsShort told (data_name w) (data_start w + at) n d → IsCut told w at n d
+cut_by told w at n d short = record { place = at; count = n; from = omega arith; within = omega arith; short = short }
 
-pub few_is_cut : (told : Told) (number place count : ℕ) (d : Damage) → count < 2 ^ 32 → IsFew told number place count d → IsCut told d
-few_is_cut told number place count d small few =
+pub short_is_cut : (told : Told) (w at n : ℕ) (d : Damage) → kind_of w ≢ external → IsShort told (names.Block (file_selector w)) (place w + at) n d → IsCut told w at n d
+unfolding data_name data_start
+short_is_cut told w at n d blocky short =
+    let t : (kind_of w == external) ≡ false = grind (arith, nat_tests) in
+    cut_by told w at n d (rw t short)
+
+few_is_short : (told : Told) (number place count : ℕ) (d : Damage) → count < 2 ^ 32 → IsFew told number place count d → IsShort told (names.External number) place count d
+few_is_short told number place count d small few =
     let given : d.found ≡ few.given = few.found ∙ (let h : few.given % 2 ^ 32 ≡ few.given = omega (arith, small, few.few) in h) in
-    record {
-      file = names.External number;
-      place = place;
-      count = count;
-      short = record { of_file = few.of_file; at_place = few.at_place; few = omega (arith, given, few.few); many = λ image there. given ∙ few.many image there };
-    }
+    record { of_file = few.of_file; at_place = few.at_place; few = omega (arith, given, few.few); many = λ image there. given ∙ few.many image there }
+
+pub few_is_cut : (told : Told) (w at n : ℕ) (d : Damage) → kind_of w ≡ external → n < 2 ^ 32 → IsFew told (external_number w) at n d → IsCut told w at n d
+unfolding data_name data_start
+few_is_cut told w at n d outside small few =
+    let t : (kind_of w == external) ≡ true = grind (arith, nat_tests) in
+    let zero_at : 0 + at ≡ at = omega arith in
+    cut_by told w at n d (rw (t, zero_at) (few_is_short told (external_number w) at n d small few))
+
+-- a read of fewer bytes is one of more
+pub wider_cut : (told : Told) (w at n i m : ℕ) (d : Damage) → i ≤ at → at + n ≤ i + m → IsCut told w at n d → IsCut told w i m d
+wider_cut told w at n i m d before behind cut = record {
+  place = cut.place;
+  count = cut.count;
+  from = let h = cut.from in omega (arith, h, before);
+  within = let h = cut.within in omega (arith, h, behind);
+  short = cut.short;
+}
+
+-- a read of some bytes at the place of a key
+pub key_is_cut : (files : BlockFiles) (told : Told) (entry k l : ℕ) (place : KeyPlace) (at n : ℕ) (d : Damage) → IsPlaced files entry k l → IsPlaceOf entry k l place → place.skip ≤ at → at + n ≤ place.skip + place.len → IsCut told place.addr at n d
+    → IsCutKey files told entry k l d
+key_is_cut files told entry k l place at n d placed is before behind cut = record {
+  placed = placed;
+  cut = let skip = is.skip in let len = is.len in
+      subst (λ (w : ℕ). IsCut told w (bytes_before k) k d) is.addr (wider_cut told place.addr at n (bytes_before k) k d (omega (arith, skip, before)) (omega (arith, skip, len, behind)) cut);
+}
 
 pub err_damaged : (A : Type 0) (x : Fault) (d : Damage) (P : Damage → Type 0) → x ≡ Damaged d → P d → IfDamaged {A = A} (Err x) P
 err_damaged A x d P is holds = subst (λ (y : Fault). IfDamaged {A = A} (Err y) P) (sym is) holds
@@ -472,14 +497,11 @@ whole_there files image entry k l key place n known at all e =
     omega (arith, h, at.skip, at.len, all)
 
 -- a key is that of a record exactly where its bytes lie there
-pub entry_of : (files : BlockFiles) (image : Image) (entry : ℕ) (head : Head) (key : List ℕ) (place : KeyPlace) → Agrees files image → kind_of entry ≡ blocks_256 → IsHead image entry head → HasKey entry image → IsPlaceOf entry head.key_len head.long_key place
-    → head.key_len ≡ length key → head.hash ≡ hash_of key → (key ≡ data_at image place.addr place.skip (length key)) ↔ IsEntryOf key entry image
-entry_of files image entry head key place agrees kind words has at size same_hash = (
-  λ same. record {
-    hash = sym words.hash ∙ same_hash;
-    is = has.is ∙ ap Some (key_in_place files image entry head.key_len head.long_key has.key place (head_facts files image entry head has.key agrees kind words has.is) at ∙ ap (data_at image place.addr place.skip) all ∙ sym same);
-  },
-  λ of_entry. key_in_place files image entry head.key_len head.long_key key place (head_facts files image entry head key agrees kind words of_entry.is) at ∙ ap (data_at image place.addr place.skip) all,
+pub key_by_place : (files : BlockFiles) (image : Image) (entry : ℕ) (head : Head) (key : List ℕ) (place : KeyPlace) → Agrees files image → kind_of entry ≡ blocks_256 → IsHead image entry head → HasKey entry image → IsPlaceOf entry head.key_len head.long_key place
+    → head.key_len ≡ length key → (key ≡ data_at image place.addr place.skip (length key)) ↔ (key_at image entry ≡ Some key)
+key_by_place files image entry head key place agrees kind words has at size = (
+  λ same. has.is ∙ ap Some (key_in_place files image entry head.key_len head.long_key has.key place (head_facts files image entry head has.key agrees kind words has.is) at ∙ ap (data_at image place.addr place.skip) all ∙ sym same),
+  λ is. key_in_place files image entry head.key_len head.long_key key place (head_facts files image entry head key agrees kind words is) at ∙ ap (data_at image place.addr place.skip) all,
 )
   where
     all : place.len ≡ length key

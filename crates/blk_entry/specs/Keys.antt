@@ -53,6 +53,9 @@ data_file w = if kind_of w == external then External (external_number w) else Bl
 unfoldable pub data_start : ℕ → ℕ
 data_start w = if kind_of w == external then 0 else place w
 
+unfoldable pub data_name : ℕ → FileId
+data_name w = if kind_of w == external then names.External (external_number w) else names.Block (file_selector w)
+
 -- so many bytes of the data of an address, from a place in it on
 abbrev pub data_at : Image → ℕ → ℕ → ℕ → List ℕ
 data_at image w place n = range_at (byte image (data_file w)) (data_start w + place) n
@@ -75,44 +78,6 @@ stores files size w = is_storage size w && ((kind_of w == external) || stands_am
 abbrev pub may_hold : BlockFiles → ℕ → ℕ → Bool
 may_hold files key_len w = stores files (key_len + 1) w
 
--- a read gave fewer bytes than asked
-pub record IsCut (told : Told) (damage : Damage) : Type 0 where
-  pub file : FileId
-  pub place : ℕ
-  pub count : ℕ
-  pub short : IsShort told file place count damage
-
--- the length of the key, at place 32 of the record, is one that the record can't have
-pub record IsUnfit (entry : ℕ) (damage : Damage) : Type 0 where
-  pub of_file : damage.file ≡ names.Block (file_selector entry)
-  pub at_place : damage.at ≡ place entry + 32
-  pub unfit : may_have entry damage.found ≡ false
-
--- the word of a long key, at place 36 of the record, is no address that stands and stores the key
-pub record IsAstray (files : BlockFiles) (entry : ℕ) (damage : Damage) : Type 0 where
-  pub key_len : ℕ
-  pub of_file : damage.file ≡ names.Block (file_selector entry)
-  pub at_place : damage.at ≡ place entry + 36
-  pub astray : may_hold files key_len damage.found ≡ false
-
--- the key's length or the word of a long key is wrong
-abbrev pub IsMisplaced : BlockFiles → ℕ → Damage → Type 0
-IsMisplaced files entry damage = IsUnfit entry damage ⊎ IsAstray files entry damage
-
--- a damage where a key is read: too few bytes, a record that doesn't check, or a wrong length or word
-abbrev pub IsKeyDamage : BlockFiles → Told → ℕ → Damage → Type 0
-IsKeyDamage files told entry damage = IsCut told damage ⊎ (IsUnsealed told entry damage ⊎ IsMisplaced files entry damage)
-
--- Steps of the reading.
-
--- the words of a record that say what it is, and where its chain goes on
-pub record IsHead (image : Image) (entry : ℕ) (head : Head) : Type 0 where
-  pub hash : head.hash ≡ (entry_at image entry).hash
-  pub next : head.next ≡ (entry_at image entry).next
-  pub key_len : head.key_len ≡ (entry_at image entry).key_len
-  pub long_key : head.long_key ≡ (entry_at image entry).long_key
-  pub flags : head.flags ≡ (entry_at image entry).flags
-
 -- the longest key that lies in its record
 abbrev pub is_short : ℕ → Bool
 is_short key_len = nat_le key_len longest_short_key
@@ -123,6 +88,80 @@ key_address entry key_len long_key = if is_short key_len then entry else long_ke
 
 unfoldable pub bytes_before : ℕ → ℕ
 bytes_before key_len = if is_short key_len then entry_size else 0
+
+-- a read of some of these bytes of the data of an address gave fewer: so many from a place in the data on
+pub record IsCut (told : Told) (w at n : ℕ) (damage : Damage) : Type 0 where
+  pub place : ℕ
+  pub count : ℕ
+  pub from : at ≤ place
+  pub within : place + count ≤ at + n
+  pub short : IsShort told (data_name w) (data_start w + place) count damage
+
+-- a record has a place for a key of so many bytes: in it, or where the word of a long key says
+pub record IsPlaced (files : BlockFiles) (entry key_len long_key : ℕ) : Type 0 where
+  pub has : may_have entry key_len ≡ true
+  pub holds : is_short key_len ≡ false → may_hold files key_len long_key ≡ true
+
+-- a read of some bytes of a key gave fewer
+pub record IsCutKey (files : BlockFiles) (told : Told) (entry key_len long_key : ℕ) (damage : Damage) : Type 0 where
+  pub placed : IsPlaced files entry key_len long_key
+  pub cut : IsCut told (key_address entry key_len long_key) (bytes_before key_len) key_len damage
+
+-- the length of the key, at place 32 of the record, is one that the record can't have
+pub record IsUnfit (entry key_len : ℕ) (damage : Damage) : Type 0 where
+  pub of_file : damage.file ≡ names.Block (file_selector entry)
+  pub at_place : damage.at ≡ place entry + 32
+  pub of_word : damage.found ≡ key_len
+  pub unfit : may_have entry key_len ≡ false
+
+-- the word of a long key, at place 36 of the record, is no address that stands and stores a key of so many bytes
+pub record IsAstray (files : BlockFiles) (entry key_len long_key : ℕ) (damage : Damage) : Type 0 where
+  pub of_file : damage.file ≡ names.Block (file_selector entry)
+  pub at_place : damage.at ≡ place entry + 36
+  pub of_word : damage.found ≡ long_key
+  pub has : may_have entry key_len ≡ true
+  pub long : is_short key_len ≡ false
+  pub astray : may_hold files key_len long_key ≡ false
+
+-- the key's length or the word of a long key is wrong
+abbrev pub IsMisplaced : BlockFiles → ℕ → ℕ → ℕ → Damage → Type 0
+IsMisplaced files entry key_len long_key damage = IsUnfit entry key_len damage ⊎ IsAstray files entry key_len long_key damage
+
+-- a damage of a key where the words of its record are known: its length, and the word of a long key
+abbrev pub IsPlaceDamage : BlockFiles → Told → ℕ → ℕ → ℕ → Damage → Type 0
+IsPlaceDamage files told entry key_len long_key damage = IsCutKey files told entry key_len long_key damage ⊎ IsMisplaced files entry key_len long_key damage
+
+-- a damage of a key of so many bytes, with some word of a long key
+pub record IsWrongKey (files : BlockFiles) (told : Told) (entry key_len : ℕ) (damage : Damage) : Type 0 where
+  pub long_key : ℕ
+  pub wrong : IsPlaceDamage files told entry key_len long_key damage
+
+-- a damage of a key of some bytes
+pub record IsWrongPiece (files : BlockFiles) (told : Told) (entry : ℕ) (damage : Damage) : Type 0 where
+  pub key_len : ℕ
+  pub wrong : IsWrongKey files told entry key_len damage
+
+-- a damage where the words of a record are read: too few bytes, or it doesn't check
+abbrev pub IsHeadDamage : Told → ℕ → Damage → Type 0
+IsHeadDamage told entry damage = IsShort told (names.Block (file_selector entry)) (place entry) entry_size damage ⊎ IsUnsealed told entry damage
+
+-- a damage where a record is read, and its key of so many bytes
+abbrev pub IsKeyDamage : BlockFiles → Told → ℕ → ℕ → Damage → Type 0
+IsKeyDamage files told entry key_len damage = IsHeadDamage told entry damage ⊎ IsWrongKey files told entry key_len damage
+
+-- a damage where a record is read, and a piece of its key
+abbrev pub IsPieceDamage : BlockFiles → Told → ℕ → Damage → Type 0
+IsPieceDamage files told entry damage = IsHeadDamage told entry damage ⊎ IsWrongPiece files told entry damage
+
+-- Steps of the reading.
+
+-- the words of a record that say what it is, and where its chain goes on
+pub record IsHead (image : Image) (entry : ℕ) (head : Head) : Type 0 where
+  pub hash : head.hash ≡ (entry_at image entry).hash
+  pub next : head.next ≡ (entry_at image entry).next
+  pub key_len : head.key_len ≡ (entry_at image entry).key_len
+  pub long_key : head.long_key ≡ (entry_at image entry).long_key
+  pub flags : head.flags ≡ (entry_at image entry).flags
 
 -- a place is that of a key of so many bytes of a record with this word of a long key
 pub record IsPlaceOf (entry key_len long_key : ℕ) (place : KeyPlace) : Type 0 where

@@ -1,12 +1,12 @@
 // Keys that are compared with those of entry records.
-ghost use Rattle.std.specs.Prelude.{◌≡◌, ◌⊎◌, ◌≤◌, ◌↔◌, IfOk, IsTrue, None, length};
+ghost use Rattle.std.specs.Prelude.{◌≡◌, ◌≤◌, ◌↔◌, IfOk, IsTrue, None, Some, length};
 ghost use Rattle.std.specs.Option.{ForSome};
 ghost use Rattle.blk_image.specs.Told.{Rises, Stays};
 ghost use Rattle.blk_format.specs.Address.{blocks_256, kind_of};
 ghost use Rattle.blk_io.specs.Faults.{IfDamaged, IfDevice};
 ghost use Rattle.blk_disk.specs.Tables.{Agrees, stands_among};
 ghost use Rattle.blk_disk.specs.Sealed.{RecordChecks};
-ghost use Rattle.blk_entry.specs.Keys.{HasKey, IsCut, IsEntryOf, IsHead, IsInFile, IsInside, IsKeyDamage, IsMisplaced, data_at};
+ghost use Rattle.blk_entry.specs.Keys.{HasKey, IsCut, IsEntryOf, IsHead, IsInFile, IsInside, IsKeyDamage, IsPlaceDamage, data_at, key_at};
 
 use crate::data::read_data;
 use crate::keys::{Head, key_place, read_head};
@@ -35,19 +35,26 @@ pub fn key_equals<F: Folder>(
     requires checks { ForSome (F.told f.old).files (RecordChecks entry) }
     requires key { ForSome (F.told f.old).files (HasKey entry) }
     ensures equal { IfOk result (λ same. ForSome (F.told f.old).files (λ image. IsTrue same ↔ IsEntryOf key.now entry image)) }
-    ensures damaged { IfDamaged result (IsKeyDamage files.now (F.told f.old) entry) }
+    ensures damaged { IfDamaged result (IsKeyDamage files.now (F.told f.old) entry (length key.now)) }
     ensures untold { IfDamaged result (λ _. (F.told f.old).files ≡ None) }
     ensures stays { Stays (F.told f.old) (F.told f.new) }
     ensures later { F.faults f.old ≤ F.faults f.new }
     ensures device { IfDevice result (Rises (F.faults f.old) (F.faults f.new)) }
 {
     let head = read_head(f, files, entry)?;
+    if head.hash != super_fast_hash(key) {
+        return Ok(false);
+    }
     key_is(f, files, entry, &head, key)
 }
 
-/// Whether an entry has this very key, and its hash, where the words of its record were read before.
+/// Whether an entry has this very key, where the words of its record were read before.
 ///
-/// The record isn't read again. Otherwise it is as in `key_equals`.
+/// The record isn't read again, and its hash isn't looked at. Only where its length is that of the key
+/// is the key read: by one folder call, or by two where it has more than 16398 bytes; the second only
+/// where the first piece is the same. A damage is a read of the key that gave too few bytes, a length
+/// that the key can't have, or the word of a long key that is no address which stands and stores the
+/// key. A folder that tells its files never gives one.
 pub fn key_is<F: Folder>(
     f: &mut F,
     files: &BlockFiles,
@@ -60,17 +67,14 @@ pub fn key_is<F: Folder>(
     requires agrees { ForSome (F.told f.old).files (Agrees files.now) }
     requires head { ForSome (F.told f.old).files (λ image. IsHead image entry head.now) }
     requires key { ForSome (F.told f.old).files (HasKey entry) }
-    ensures equal { IfOk result (λ same. ForSome (F.told f.old).files (λ image. IsTrue same ↔ IsEntryOf key.now entry image)) }
-    ensures damaged { IfDamaged result (λ damage. IsCut (F.told f.old) damage ⊎ IsMisplaced files.now entry damage) }
+    ensures equal { IfOk result (λ same. ForSome (F.told f.old).files (λ image. IsTrue same ↔ (key_at image entry ≡ Some key.now))) }
+    ensures damaged { IfDamaged result (IsPlaceDamage files.now (F.told f.old) entry (length key.now) head.now.long_key) }
     ensures untold { IfDamaged result (λ _. (F.told f.old).files ≡ None) }
     ensures stays { Stays (F.told f.old) (F.told f.new) }
     ensures later { F.faults f.old ≤ F.faults f.new }
     ensures device { IfDevice result (Rises (F.faults f.old) (F.faults f.new)) }
 {
     if head.key_len as usize != key.len() {
-        return Ok(false);
-    }
-    if head.hash != super_fast_hash(key) {
         return Ok(false);
     }
     let place = key_place(files, entry, *head)?;
@@ -89,7 +93,7 @@ fn data_is<F: Folder>(
     requires agrees { ForSome (F.told f.old).files (Agrees files.now) }
     requires external { ForSome (F.told f.old).files (IsInFile addr at (length bytes.now)) }
     ensures same { IfOk result (λ same. ForSome (F.told f.old).files (λ image. IsTrue same ↔ (bytes.now ≡ data_at image addr at (length bytes.now)))) }
-    ensures short { IfDamaged result (IsCut (F.told f.old)) }
+    ensures short { IfDamaged result (IsCut (F.told f.old) addr at (length bytes.now)) }
     ensures untold { IfDamaged result (λ _. (F.told f.old).files ≡ None) }
     ensures stays { Stays (F.told f.old) (F.told f.new) }
     ensures later { F.faults f.old ≤ F.faults f.new }
@@ -121,7 +125,7 @@ fn piece_is<F: Folder>(
     requires agrees { ForSome (F.told f.old).files (Agrees files.now) }
     requires external { ForSome (F.told f.old).files (IsInFile addr at (length bytes.now)) }
     ensures same { IfOk result (λ same. ForSome (F.told f.old).files (λ image. IsTrue same ↔ (bytes.now ≡ data_at image addr at (length bytes.now)))) }
-    ensures short { IfDamaged result (IsCut (F.told f.old)) }
+    ensures short { IfDamaged result (IsCut (F.told f.old) addr at (length bytes.now)) }
     ensures untold { IfDamaged result (λ _. (F.told f.old).files ≡ None) }
     ensures stays { Stays (F.told f.old) (F.told f.new) }
     ensures later { F.faults f.old ≤ F.faults f.new }

@@ -27,7 +27,7 @@ pub(crate) fn read_data<F: Folder>(
     requires agrees { ForSome (F.told f.old).files (Agrees files.now) }
     requires external { ForSome (F.told f.old).files (IsInFile addr at (length out.old)) }
     ensures bytes { OnOk result (ForSome (F.told f.old).files (λ image. out.new ≡ data_at image addr at (length out.old))) }
-    ensures short { IfDamaged result (IsCut (F.told f.old)) }
+    ensures short { IfDamaged result (IsCut (F.told f.old) addr at (length out.old)) }
     ensures untold { IfDamaged result (λ _. (F.told f.old).files ≡ None) }
     ensures stays { Stays (F.told f.old) (F.told f.new) }
     ensures later { F.faults f.old ≤ F.faults f.new }

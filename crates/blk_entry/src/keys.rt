@@ -9,7 +9,7 @@ ghost use Rattle.blk_io.specs.Faults.{IfDamaged, IfDevice, IsShort};
 ghost use Rattle.blk_disk.specs.Tables.{Agrees, stands_among};
 ghost use Rattle.blk_disk.specs.Sealed.{IsUnsealed, RecordChecks};
 ghost use Rattle.blk_entry.specs.Keys as keys;
-ghost use Rattle.blk_entry.specs.Keys.{HasKey, IsHead, IsInside, IsKeyDamage, IsMisplaced, IsPiece, IsPlaceOf, is_short, key_at, key_address, bytes_before};
+ghost use Rattle.blk_entry.specs.Keys.{HasKey, IsHead, IsHeadDamage, IsInside, IsMisplaced, IsPiece, IsPlaceOf, is_short, key_at, key_address, bytes_before};
 
 use crate::data::{EXTERNAL, number, read_data};
 use blk_addr::{Addr, blocks_for, entry_blocks, kind_for};
@@ -17,16 +17,23 @@ use blk_disk::{BlockFiles, file_of};
 use blk_io::{Damage, Fault, Folder};
 use blk_record::{EntryView, Record};
 
-// The bytes of an entry record before its key, and the places of its key's length and of a long key's word.
+// The bytes of an entry record before its key.
 const RECORD: usize = 96;
 
 const BEFORE_KEY: u32 = 96;
 
-const KEY_LEN: u64 = 32;
+// The places of its words.
+const HASH: usize = 0;
 
-const LONG_KEY: u64 = 36;
+const NEXT: usize = 4;
 
-const SEAL: u64 = 92;
+const KEY_LEN: u32 = 32;
+
+const LONG_KEY: u32 = 36;
+
+const FLAGS: usize = 72;
+
+const SEAL: u32 = 92;
 
 // The longest key in a record, and the longest key of all.
 const MOST_IN_RECORD: u32 = 927;
@@ -81,7 +88,7 @@ pub fn key_piece<F: Folder>(
     requires key { ForSome (F.told f.old).files (HasKey entry) }
     ensures within { IfOk result (λ n. n ≤ length out.old) }
     ensures piece { IfOk result (λ n. ForSome (F.told f.old).files (λ image. ForSome (key_at image entry) (λ key. IsPiece key at out.old out.new n))) }
-    ensures damaged { IfDamaged result (IsKeyDamage files.now (F.told f.old) entry) }
+    ensures damaged { IfDamaged result (keys.IsPieceDamage files.now (F.told f.old) entry) }
     ensures untold { IfDamaged result (λ _. (F.told f.old).files ≡ None) }
     ensures stays { Stays (F.told f.old) (F.told f.new) }
     ensures later { F.faults f.old ≤ F.faults f.new }
@@ -106,7 +113,7 @@ pub fn read_head<F: Folder>(f: &mut F, files: &BlockFiles, entry: Addr) -> Resul
     requires agrees { ForSome (F.told f.old).files (Agrees files.now) }
     requires checks { ForSome (F.told f.old).files (RecordChecks entry) }
     ensures head { IfOk result (λ head. ForSome (F.told f.old).files (λ image. IsHead image entry head)) }
-    ensures damaged { IfDamaged result (λ damage. IsShort (F.told f.old) (FileId.Block (file_selector entry)) (place entry) entry_size damage ⊎ IsUnsealed (F.told f.old) entry damage) }
+    ensures damaged { IfDamaged result (IsHeadDamage (F.told f.old) entry) }
     ensures untold { IfDamaged result (λ _. (F.told f.old).files ≡ None) }
     ensures stays { Stays (F.told f.old) (F.told f.new) }
     ensures later { F.faults f.old ≤ F.faults f.new }
@@ -118,27 +125,27 @@ pub fn read_head<F: Folder>(f: &mut F, files: &BlockFiles, entry: Addr) -> Resul
         unreachable!();
     };
     if !record.checks() {
-        return Err(damage(entry, SEAL, record.word(92)));
+        return Err(record_damage(entry, SEAL, record.word(SEAL as usize)));
     }
     Ok(Head {
-        hash: record.word(0),
-        next: record.word(4),
-        key_len: record.word(32),
-        long_key: record.word(36),
-        flags: record.word(72),
+        hash: record.word(HASH),
+        next: record.word(NEXT),
+        key_len: record.word(KEY_LEN as usize),
+        long_key: record.word(LONG_KEY as usize),
+        flags: record.word(FLAGS),
     })
 }
 
-// The damage of a word of a record.
-fn damage(entry: Addr, at: u64, found: u32) -> Fault
+/// The damage of a word of a record: the word at a place in it, with what was found there.
+pub fn record_damage(entry: Addr, at: u32, found: u32) -> Fault
     requires kind { kind_of entry ≡ blocks_256 }
     requires small { at < entry_size }
     ensures { keys.IsDamageAt entry at found result }
 {
-    let at = HEADER + u64::from(entry.start()) * BLOCK + at;
+    let front = HEADER + u64::from(entry.start()) * BLOCK;
     Fault::Damaged(Damage {
         file: file_of(entry),
-        at,
+        at: front + u64::from(at),
         found,
     })
 }
@@ -150,11 +157,12 @@ pub(crate) fn key_place(files: &BlockFiles, entry: Addr, head: Head) -> Result<K
     ensures place { IfOk result (IsPlaceOf entry head.key_len head.long_key) }
     ensures inside { IfOk result (λ key. IsInside files.now key.addr key.skip key.len) }
     ensures right { keys.may_have entry head.key_len ≡ true → (is_short head.key_len ≡ false → keys.may_hold files.now head.key_len head.long_key ≡ true) → IsOk result }
-    ensures damaged { IfDamaged result (IsMisplaced files.now entry) }
+    ensures placed { IfOk result (λ _. keys.IsPlaced files.now entry head.key_len head.long_key) }
+    ensures damaged { IfDamaged result (IsMisplaced files.now entry head.key_len head.long_key) }
     ensures never { IfDevice result ⊥ }
 {
     if !may_have(entry, head.key_len) {
-        return Err(damage(entry, KEY_LEN, head.key_len));
+        return Err(record_damage(entry, KEY_LEN, head.key_len));
     }
     if head.key_len <= MOST_IN_RECORD {
         return Ok(KeyPlace {
@@ -169,7 +177,7 @@ pub(crate) fn key_place(files: &BlockFiles, entry: Addr, head: Head) -> Result<K
             skip: 0,
             len: head.key_len,
         }),
-        None => Err(damage(entry, LONG_KEY, head.long_key)),
+        None => Err(record_damage(entry, LONG_KEY, head.long_key)),
     }
 }
 

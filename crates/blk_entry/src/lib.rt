@@ -11,7 +11,7 @@ mod writing;
 
 pub use compare::{key_equals, key_is};
 pub use fields::field;
-pub use keys::{Head, key_piece, read_head};
+pub use keys::{Head, key_piece, read_head, record_damage};
 pub use laws::new_entries_are_shown_apart;
 pub use marks::{set_clean, set_dirty};
 pub use writing::{NewEntry, write_entry};

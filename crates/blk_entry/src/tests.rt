@@ -149,6 +149,32 @@ fn equals(f: &mut SilentFolder<MemFolder>, word: u32, key: &[u8]) -> Result<bool
     }
 }
 
+// The same, and the number of the folder calls that it makes.
+fn counted_equals(
+    f: &mut SilentFolder<MemFolder>,
+    word: u32,
+    key: &[u8],
+) -> Result<(bool, u64), Fault> {
+    let before = f.calls();
+    let same = equals(f, word, key)?;
+    Ok((same, f.calls().wrapping_sub(before)))
+}
+
+// Whether an entry has a key, where the file of the records gets another length after the files are loaded.
+fn equals_in_cut_file(
+    f: &mut SilentFolder<MemFolder>,
+    word: u32,
+    key: &[u8],
+    length: u64,
+) -> Result<bool, Fault> {
+    let files = BlockFiles::load(f)?;
+    f.set_len(FileId::Block(1), length)?;
+    match entry_of(&files, word) {
+        Some(entry) => key_equals(f, &files, entry, key),
+        None => Err(Fault::Device),
+    }
+}
+
 // A piece of the key of an entry.
 fn piece(
     f: &mut SilentFolder<MemFolder>,
@@ -255,10 +281,10 @@ fn a_node_is_marked_and_clean_again(rt: HostRuntime) -> Result<(), Fail> {
     Ok(())
 }
 
-// The place and the word of a damage.
-fn found<T: Drop>(answer: Result<T, Fault>) -> Option<(u64, u32)> {
+// The file, the place and the word of a damage.
+fn found<T: Drop>(answer: Result<T, Fault>) -> Option<(FileId, u64, u32)> {
     match answer {
-        Err(Fault::Damaged(damage)) => Some((damage.at, damage.found)),
+        Err(Fault::Damaged(damage)) => Some((damage.file, damage.at, damage.found)),
         _ => None,
     }
 }
@@ -274,24 +300,62 @@ fn a_wrong_record_is_a_damage(rt: HostRuntime) -> Result<(), Fail> {
         put_record(&mut f, wrong, &key)?;
         assert_eq!(rt;
             found(piece(&mut f, 0xA001_0000, 0, &mut out)),
-            Some((8192 + 36, wrong))
+            Some((FileId::Block(1), 8192 + 36, wrong))
         );
         assert_eq!(rt;
             found(equals(&mut f, 0xA001_0000, &key)),
-            Some((8192 + 36, wrong))
+            Some((FileId::Block(1), 8192 + 36, wrong))
         );
     }
 
     // A length that two blocks don't have, and a seal that isn't the hash.
     assert_eq!(rt;
         found(piece(&mut f, 0xA101_0000, 0, &mut out)),
-        Some((8192 + 32, 928))
+        Some((FileId::Block(1), 8192 + 32, 928))
     );
     f.write_at(FileId::Block(1), 8192 + 92, &5u32.to_le_bytes())?;
     assert_eq!(rt;
         found(piece(&mut f, 0xA001_0000, 0, &mut out)),
-        Some((8192 + 92, 5))
+        Some((FileId::Block(1), 8192 + 92, 5))
     );
+    Ok(())
+}
+
+#[test]
+fn too_few_bytes_are_a_damage(rt: HostRuntime) -> Result<(), Fail> {
+    let mut f = folder(rt.alloc())?;
+    let key = key_of(rt.alloc(), 20000)?;
+    put_record(&mut f, 0x8000_0001, &key)?;
+    put_key(&mut f, 0x8000_0001, &key)?;
+    let mut out = [0; 8];
+
+    // An external file that ends in the second piece of its key.
+    f.set_len(FileId::External(1), 19000)?;
+    let second = Some((FileId::External(1), 16398, 19000 - 16398));
+    assert_eq!(rt; found(equals(&mut f, 0xA001_0000, &key)), second);
+    let end = Some((FileId::External(1), 18995, 5));
+    assert_eq!(rt; found(piece(&mut f, 0xA001_0000, 18995, &mut out)), end);
+
+    // A record whose last two bytes are past the end of its file.
+    let record = Some((FileId::Block(1), 8192, 94));
+    let cut = equals_in_cut_file(&mut f, 0xA001_0000, &key, 8192 + 94);
+    assert_eq!(rt; found(cut), record);
+    Ok(())
+}
+
+#[test]
+fn a_node_that_does_not_check_is_not_marked(rt: HostRuntime) -> Result<(), Fail> {
+    let mut f = folder(rt.alloc())?;
+    f.write_at(FileId::Block(0), NODE_AT + 32, &5u32.to_le_bytes())?;
+    let before = f.calls();
+    let wrong = Some((FileId::Block(0), NODE_AT + 32, 5));
+    assert_eq!(rt; found(mark(&mut f, 7)), wrong);
+    assert_eq!(rt; found(mark(&mut f, 0)), wrong);
+
+    // Eight calls load the files each time, and one reads the node.
+    assert_eq!(rt; f.calls().wrapping_sub(before), 2 * (8 + 1));
+    assert_eq!(rt; word(&mut f, FileId::Block(0), NODE_AT + 28)?, 0);
+    assert_eq!(rt; word(&mut f, FileId::Block(0), NODE_AT + 32)?, 5);
     Ok(())
 }
 
@@ -534,18 +598,18 @@ fn new_entries_are_written_and_read(rt: HostRuntime) -> Result<(), Fail> {
         assert_eq!(rt; piece(&mut f, entry, key_len / 2, end), Ok(end.len()));
         assert!(rt; read == key);
 
-        // Eight calls load the files, one reads the record, and one or two read the key.
-        let before = f.calls();
-        assert_eq!(rt; equals(&mut f, entry, &key), Ok(true));
-        assert!(rt; f.calls().wrapping_sub(before) <= 8 + 3, "{key_len} bytes");
-        assert_eq!(rt;
-            equals(&mut f, entry, &key[..key.len().saturating_sub(1)]),
-            Ok(false)
-        );
+        // Eight calls load the files, one reads the record, and one reads the key, or two a longer one.
+        let pieces = if key_len > 16398 { 2 } else { 1 };
+        let equal = Ok((true, 8 + 1 + pieces));
+        assert_eq!(rt; counted_equals(&mut f, entry, &key), equal, "{key_len} bytes");
+
+        // Where length or hash differ the key isn't read.
+        let front = &key[..key.len().saturating_sub(1)];
+        assert_eq!(rt; counted_equals(&mut f, entry, front), Ok((false, 8 + 1)));
         if let Some(byte) = key.last_mut() {
             *byte ^= 1;
         }
-        assert_eq!(rt; equals(&mut f, entry, &key), Ok(false));
+        assert_eq!(rt; counted_equals(&mut f, entry, &key), Ok((false, 8 + 1)));
     }
     Ok(())
 }

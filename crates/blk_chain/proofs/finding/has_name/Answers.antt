@@ -1,11 +1,11 @@
-use Rattle.std.proofs.Common.{ℕ, sym, ◌∙◌, ap}
+use Rattle.std.proofs.Common.{◌≡◌, ℕ, Some, sym, ◌∙◌, ap}
 use Rattle.std.specs.Prelude.{◌==◌, ◌↔◌, IsTrue}
 use Rattle.std.specs.Option.{ForSome}
 use Rattle.blk_volume.specs.View.{stock_of}
-use Rattle.blk_entry.specs.Keys.{IsEntryOf}
+use Rattle.blk_entry.specs.Keys.{key_at}
 use Rattle.blk_entry.proofs.KeyPlaces.{clash, ok_weaker}
 use Rattle.blk_chain.specs.Naming.{HasName}
-use Rattle.blk_chain.proofs.Heads.{to-name, of-name, flag-of-name, length-of-name, differs, agrees-by}
+use Rattle.blk_chain.proofs.Heads.{to-name, of-name, flag-of-name, differs, agrees-by}
 use Rattle.blk_chain.proofs.finding.has_name.Goals as goal
 
 pub returns-then-head-sought-clause-named : goal.returns-then-head-sought-clause-named
@@ -14,14 +14,6 @@ returns-then-head-sought-clause-named g c image there = (
   λ named. let words = c.requires.head image there in
       let of = of-name image c.args.entry (c.requires.keyed image there) c.args.key.now c.args.sought.now.child named in
       absurd (c.if-head-sought.true (words.hash ∙ of.hash ∙ sym c.requires.hash)),
-)
-
-pub returns-then-head-key-clause-named : goal.returns-then-head-key-clause-named
-returns-then-head-key-clause-named g c image there = (
-  λ no. absurd (clash no),
-  λ named. let words = c.requires.head image there in
-      let long = length-of-name image c.args.entry (c.requires.keyed image there) c.args.key.now c.args.sought.now.child c.args.files.now (c.requires.agrees image there) named in
-      absurd (c.if-head-key.true (words.key_len ∙ sym long)),
 )
 
 pub returns-then-head-sought-2-clause-named : goal.returns-then-head-sought-2-clause-named
@@ -37,10 +29,13 @@ key_is-requires-clause-key g c image there = (c.requires.keyed image there).key
 
 pub returns-clause-named : goal.returns-clause-named
 returns-clause-named g c =
-    ok_weaker c.key_is.result (λ same. ForSome (g.F.Folder.told c.args.f.now).files (λ image. IsTrue same ↔ IsEntryOf c.args.key.now c.args.entry image))
+    ok_weaker c.key_is.result (λ same. ForSome (g.F.Folder.told c.args.f.now).files (λ image. IsTrue same ↔ (key_at image c.args.entry ≡ Some c.args.key.now)))
     (λ same. ForSome (g.F.Folder.told c.args.f.now).files (λ image. IsTrue same ↔ HasName (stock_of image) c.args.key.now c.args.sought.now.child c.args.entry))
     (λ same equal image there. let words = c.requires.head image there in
     let keyed = c.requires.keyed image there in
     let flag = ap (λ (f : ℕ). f == 2) (sym words.flags) ∙ agrees-by (c.args.head.now.flags == 2) c.args.sought.now.child c.if-head-sought-2.false in
-    (λ yes. to-name image c.args.entry keyed c.args.key.now c.args.sought.now.child ((equal image there).0 yes) flag, λ named. (equal image there).1 (of-name image c.args.entry keyed c.args.key.now c.args.sought.now.child named)))
+    let hash = sym words.hash ∙ c.if-head-sought.false ∙ c.requires.hash in (
+      λ yes. to-name image c.args.entry keyed c.args.key.now c.args.sought.now.child (record { hash = hash; is = (equal image there).0 yes }) flag,
+      λ named. let of = of-name image c.args.entry keyed c.args.key.now c.args.sought.now.child named in (equal image there).1 of.is,
+    ))
     c.key_is.ensures.equal

@@ -1,10 +1,13 @@
-use Rattle.std.proofs.Common.{◌≡◌, ℕ, None, Some, sym, ◌∙◌, ap, subst}
+use Rattle.std.proofs.Common.{◌≡◌, ℕ, length, None, Some, inl, inr, sym, ◌∙◌, ap, subst}
 use Rattle.std.specs.Option.{ForSome}
 use Rattle.blk_image.specs.Told.{Told}
 use Rattle.blk_volume.specs.View.{stock_of}
 use Rattle.blk_disk.specs.Sealed.{RecordChecks}
 use Rattle.blk_disk.specs.Tables.{Agrees}
-use Rattle.blk_io.proofs.Carried.{untold_where}
+use Rattle.blk_io.proofs.Carried.{carried, if_damaged_weaker, untold_where}
+use Rattle.blk_volume.specs.Chains.{bucket_of_hash}
+use Rattle.blk_entry.specs.Keys.{IsPlaceDamage}
+use Rattle.blk_chain.specs.Finding.{IsAstray, IsChainDamage}
 use Rattle.blk_entry.proofs.KeyPlaces.{clash, damaged_any}
 use Rattle.blk_chain.specs.Naming.{HasName}
 use Rattle.blk_chain.proofs.Names.{shown-follow}
@@ -47,3 +50,27 @@ returns-clause-step g c image there =
           (words.next ∙ sym (shown-follow image c.in_ok-entry.entry keyed.core (subst (λ (w : ℕ). (stock_of image).entry w ≡ Some keyed.core) (sym is) keyed.here))),
       λ named. absurd (clash (sym c.if-branch.false ∙ (c.in_ok-has_name.ensures.named image now).1 (subst (λ (w : ℕ). HasName (stock_of image) c.args.key.now c.args.sought.now.child w) (sym is) named))),
     )
+
+pub returns-in_err-entry-clause-damaged : goal.returns-in_err-entry-clause-damaged
+returns-in_err-entry-clause-damaged g c =
+    carried c.record_of.result c.from_residual.result c.in_err-entry.field-0.0 (IsChainDamage c.args.files.now (g.F.Folder.told c.args.f.now) c.args.key.now) c.in_err-entry.was c.from_residual.ensures.1
+    (if_damaged_weaker c.record_of.result _ _ (λ damage astray. inl (subst (λ (h : ℕ). IsAstray c.args.files.now (bucket_of_hash h) damage) c.requires.hash astray)) c.record_of.ensures.damaged)
+
+pub returns-in_err-head-clause-damaged : goal.returns-in_err-head-clause-damaged
+returns-in_err-head-clause-damaged g c =
+    carried c.read_head.result c.from_residual-in_err-head.result c.in_err-head.field-0.0 (IsChainDamage c.args.files.now (g.F.Folder.told c.args.f.now) c.args.key.now) c.in_err-head.was c.from_residual-in_err-head.ensures.1
+    (if_damaged_weaker c.read_head.result _ _ (λ damage wrong. inr (inl (record { entry = c.in_ok-entry.entry; stands = c.in_ok-entry.ensures.stands; wrong = inl wrong }))) c.read_head.ensures.damaged)
+
+pub returns-in_err-has_name-clause-damaged : goal.returns-in_err-has_name-clause-damaged
+returns-in_err-has_name-clause-damaged g c =
+    carried c.has_name.result c.from_residual-in_err-has_name.result c.in_err-has_name.field-0.0 (IsChainDamage c.args.files.now (g.F.Folder.told c.args.f.now) c.args.key.now) c.in_err-has_name.was c.from_residual-in_err-has_name.ensures.1
+    (if_damaged_weaker c.has_name.result _ _
+    (λ damage wrong. inr (inl (record {
+      entry = c.in_ok-entry.entry;
+      stands = c.in_ok-entry.ensures.stands;
+      wrong = inr (record {
+        long_key = c.in_ok-head.head.long_key;
+        wrong = subst (λ (t : Told). IsPlaceDamage c.args.files.now t c.in_ok-entry.entry (length c.args.key.now) c.in_ok-head.head.long_key damage) c.in_ok-head.ensures.stays wrong;
+      });
+    })))
+    c.has_name.ensures.damaged)

@@ -11,7 +11,7 @@ use Rattle.blk_entry.proofs.KeyPlaces.{err_damaged}
 use Rattle.blk_chain.specs.declared.found.Found.{Found}
 use Rattle.blk_chain.specs.declared.finding.Step.{Step}
 use Rattle.blk_chain.specs.Naming.{HasName}
-use Rattle.blk_chain.specs.Finding.{bucket_of_key, IsLong, IsOfLink, IsSearchDamage, IsFound, IsOnTheWay, IsStep, StandsAt, names_record}
+use Rattle.blk_chain.specs.Finding.{bucket_of_key, IsChainDamage, IsLong, IsOfLink, IsFound, IsOnTheWay, IsStep, StandsAt, StandsBefore, names_record}
 use Rattle.blk_chain.proofs.Heads.{names-parts}
 use Rattle.blk_chain.proofs.Searches.{way-left, way-ended, way-keyed, way-on, way-found, found-linked}
 use Rattle.blk_chain.proofs.finding.search.Given as given
@@ -32,24 +32,25 @@ returns-then-left-eq0-clause-untold g c =
     (λ image there. way-left image c.args.key.now c.args.sought.now.child c.loop-link.link.word c.loop-link.link.before c.loop-link.left (c.loop-link.invariant.way image there) c.if-left-eq0.true))
 
 -- a chain that is too long
-long-here : (g : given.Over) (c : goal.After-damage_of g) → IsLong (bucket_of_key c.args.key.now) c.damage_of.ensures.damage
+long-here : (g : given.Over) (c : goal.After-damage_of g) → IsLong c.args.files.now (bucket_of_key c.args.key.now) c.damage_of.ensures.damage
 long-here g c = by c.loop-link.link.before refl
   where
     of-key : IsOfLink (bucket_of_key c.args.key.now) c.loop-link.link.before c.damage_of.ensures.damage
     of-key = subst (λ (h : ℕ). IsOfLink (bucket_of_hash h) c.loop-link.link.before c.damage_of.ensures.damage) c.requires.hash c.damage_of.ensures.link
 
-    by : (o : Option ℕ) → c.loop-link.link.before ≡ o → IsLong (bucket_of_key c.args.key.now) c.damage_of.ensures.damage
+    by : (o : Option ℕ) → c.loop-link.link.before ≡ o → IsLong c.args.files.now (bucket_of_key c.args.key.now) c.damage_of.ensures.damage
     by None e = absurd (let all = c.loop-link.invariant.begun e in omega (arith, all, c.if-left-eq0.true))
     by (Some last) e = record {
       last = last;
+      stands = subst (λ (o : Option ℕ). StandsBefore c.args.files.now o) e c.loop-link.invariant.named_before;
       link = subst (λ (o : Option ℕ). IsOfLink (bucket_of_key c.args.key.now) o c.damage_of.ensures.damage) e of-key;
       some = λ z. c.loop-link-test.true (sym c.damage_of.ensures.of_word ∙ z);
     }
 
 pub returns-then-left-eq0-clause-damaged : goal.returns-then-left-eq0-clause-damaged
 returns-then-left-eq0-clause-damaged g c =
-    err_damaged (Option Found) c.damage_of.result c.damage_of.ensures.damage (IsSearchDamage c.args.files.now (g.F.Folder.told c.args.f.now) (bucket_of_key c.args.key.now)) c.damage_of.ensures.is
-    (inr (inr (inr (long-here g c))))
+    err_damaged (Option Found) c.damage_of.result c.damage_of.ensures.damage (IsChainDamage c.args.files.now (g.F.Folder.told c.args.f.now) c.args.key.now) c.damage_of.ensures.is
+    (inr (inr (long-here g c)))
 
 -- the record that is found
 stands-here : (g : given.Over) (c : goal.In-Here g) → (c.in-Here.entry ≡ c.loop-link.link.word) × (names_record c.args.files.now c.loop-link.link.word ≡ true)
@@ -86,6 +87,7 @@ loop-link-preserved g c =
       later = let a = c.in_ok-entry.ensures.later in let b = c.loop-link.invariant.later in omega (arith, a, b);
       kind_before = subst (λ (o : Option ℕ). IfSome o (λ w. kind_of w ≡ 2)) (sym stands.0) parts.1.0;
       stands_before = subst (λ (o : Option ℕ). IfSome o (λ w. IsTrue (stands_among c.args.files.now w))) (sym stands.0) parts.1.1;
+      named_before = subst (λ (o : Option ℕ). StandsBefore c.args.files.now o) (sym stands.0) stands.1;
       begun = λ none. absurd (some-none (sym stands.0 ∙ none));
       way = λ image there.
           let now : (g.F.Folder.told c.loop-link.f).files ≡ Some image = ap (λ (t : Told). t.files) c.loop-link.invariant.told ∙ there in

@@ -3,7 +3,7 @@ use Rattle.std.specs.Option.{ForSome}
 use Rattle.blk_image.specs.Told.{Stays}
 use Rattle.blk_format.specs.Address.{blocks_256, kind_of}
 use Rattle.blk_disk.specs.Tables.{stands_among}
-use Rattle.blk_chain.specs.Finding.{IsOnTheWay, most_searched}
+use Rattle.blk_chain.specs.Finding.{IsOnTheWay, StandsBefore, most_searched}
 use Rattle.blk_chain.proofs.finding.search.Given as goal
 
 abbrev pub invariant-loop-link : goal.invariant-loop-link
@@ -12,6 +12,7 @@ invariant-loop-link g l = record {
   later : g.F.Folder.faults l.initial.f ≤ g.F.Folder.faults l.f;
   kind_before : IfSome l.link.before (λ before. kind_of before ≡ blocks_256);
   stands_before : IfSome l.link.before (λ before. IsTrue (stands_among l.files before));
+  named_before : StandsBefore l.files l.link.before;
   begun : l.link.before ≡ None → l.left ≡ most_searched + 1;
   way : ForSome (g.F.Folder.told l.initial.f).files (IsOnTheWay l.key l.sought.child l.link.word l.link.before l.left);
 }

@@ -3,8 +3,9 @@ use Rattle.std.specs.Option.{ForSome}
 use Rattle.blk_image.specs.Image.{byte}
 use Rattle.blk_image.specs.Told.{Told}
 use Rattle.blk_disk.specs.Tables.{Agrees}
-use Rattle.blk_entry.specs.Keys.{data_at, data_file, data_start}
-use Rattle.blk_entry.proofs.KeyPlaces.{clash, first_same, next_same, none_same}
+use Rattle.blk_io.proofs.Carried.{carried, if_damaged_weaker}
+use Rattle.blk_entry.specs.Keys.{IsCut, data_at, data_file, data_start}
+use Rattle.blk_entry.proofs.KeyPlaces.{clash, first_same, next_same, none_same, wider_cut}
 use Rattle.blk_entry.proofs.compare.data_is.Goals as goal
 
 pub piece_is-requires-clause-agrees : goal.piece_is-requires-clause-agrees
@@ -20,10 +21,24 @@ returns-then-not-branch-clause-same g c image there = (
       sym c.if-not-branch.true ∙ (c.in_ok-piece_is.ensures.same image now).1 piece,
 )
 
+pub returns-in_err-piece_is-clause-short : goal.returns-in_err-piece_is-clause-short
+returns-in_err-piece_is-clause-short g c =
+    let order = c.loop-rest.invariant.order in
+    let sum = c.loop-rest.invariant.sum in
+    let fits : c.min.result ≤ length c.loop-rest.rest.now = omega (arith, c.min.ensures) in
+    let behind : c.loop-rest.place + length c.split_at.result.0.now ≤ c.args.at + length c.args.bytes.now = omega (arith, c.split_at.ensures.front_len, fits, sum) in
+    carried c.piece_is.result c.from_residual.result c.in_err-piece_is.field-0.0 (IsCut (g.F.Folder.told c.args.f.now) c.args.addr c.args.at (length c.args.bytes.now)) c.in_err-piece_is.was c.from_residual.ensures.1
+    (if_damaged_weaker c.piece_is.result _ _
+    (λ damage cut. subst (λ (t : Told). IsCut t c.args.addr c.args.at (length c.args.bytes.now) damage) c.loop-rest.invariant.told
+    (wider_cut (g.F.Folder.told c.loop-rest.f) c.args.addr c.loop-rest.place (length c.split_at.result.0.now) c.args.at (length c.args.bytes.now) damage order behind cut))
+    c.piece_is.ensures.short)
+
 pub loop-rest-preserved : goal.loop-rest-preserved
 loop-rest-preserved g c = record {
   told = c.in_ok-piece_is.ensures.stays ∙ c.loop-rest.invariant.told;
   later = let a = c.in_ok-piece_is.ensures.later in let b = c.loop-rest.invariant.later in omega (arith, a, b);
+  order = let h = c.loop-rest.invariant.order in omega (arith, h);
+  sum = let h = c.loop-rest.invariant.sum in omega (arith, h, sizes);
   inside = let i = c.loop-rest.invariant.inside in record {
     small = let h = i.small in omega (arith, h, sizes);
     stands = i.stands;

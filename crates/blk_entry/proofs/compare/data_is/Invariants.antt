@@ -1,4 +1,4 @@
-use Rattle.std.proofs.Common.{◌≡◌, ◌≤◌, ◌↔◌, length}
+use Rattle.std.proofs.Common.{◌≡◌, ◌+◌, ◌≤◌, ◌↔◌, length}
 use Rattle.std.specs.Option.{ForSome}
 use Rattle.blk_image.specs.Told.{Stays}
 use Rattle.blk_entry.specs.Keys.{IsInFile, IsInside, data_at}
@@ -8,6 +8,8 @@ abbrev pub invariant-loop-rest : goal.invariant-loop-rest
 invariant-loop-rest g l = record {
   told : Stays (g.F.Folder.told l.initial.f) (g.F.Folder.told l.f);
   later : g.F.Folder.faults l.initial.f ≤ g.F.Folder.faults l.f;
+  order : l.at ≤ l.place;
+  sum : l.place + length l.rest ≡ l.at + length l.bytes;
   inside : IsInside l.files l.addr l.place (length l.rest);
   outside : ForSome (g.F.Folder.told l.initial.f).files (IsInFile l.addr l.place (length l.rest));
   same : ForSome (g.F.Folder.told l.initial.f).files (λ image. (l.rest ≡ data_at image l.addr l.place (length l.rest)) ↔ (l.bytes ≡ data_at image l.addr l.at (length l.bytes)));

@@ -1,9 +1,9 @@
-use Rattle.std.proofs.Common.{◌≡◌, ◌↔◌, length, None, sym, ◌∙◌, arith}
+use Rattle.std.proofs.Common.{◌≡◌, ◌↔◌, ℕ, length, None, Some, inl, inr, sym, subst, arith}
 use Rattle.std.specs.Option.{ForSome}
 use Rattle.std.specs.Prelude.{IsTrue}
-use Rattle.blk_entry.specs.Keys.{IsEntryOf, data_at}
-use Rattle.blk_io.proofs.Carried.{untold_where}
-use Rattle.blk_entry.proofs.KeyPlaces.{clash, damaged_any, entry_of, head_facts, ok_weaker, whole_there}
+use Rattle.blk_entry.specs.Keys.{IsCutKey, IsMisplaced, IsPlaceDamage, data_at, key_at}
+use Rattle.blk_io.proofs.Carried.{carried, if_damaged_weaker, untold_where}
+use Rattle.blk_entry.proofs.KeyPlaces.{clash, damaged_any, head_facts, key_by_place, key_is_cut, ok_weaker, whole_there}
 use Rattle.blk_entry.proofs.compare.key_is.Goals as goal
 
 pub returns-in_err-place-clause-untold : goal.returns-in_err-place-clause-untold
@@ -24,23 +24,33 @@ data_is-requires-clause-external g c image there =
 pub returns-then-head-key-clause-equal : goal.returns-then-head-key-clause-equal
 returns-then-head-key-clause-equal g c image there = (
   λ no. absurd (clash no),
-  λ of_entry. let known = head_facts c.args.files.now image c.args.entry c.args.head.now c.args.key.now (c.requires.agrees image there) c.requires.kind (c.requires.head image there) of_entry.is in
+  λ is. let known = head_facts c.args.files.now image c.args.entry c.args.head.now c.args.key.now (c.requires.agrees image there) c.requires.kind (c.requires.head image there) is in
       absurd (c.if-head-key.true (sym known.len)),
-)
-
-pub returns-then-head-super_fast_hash-clause-equal : goal.returns-then-head-super_fast_hash-clause-equal
-returns-then-head-super_fast_hash-clause-equal g c image there = (
-  λ no. absurd (clash no),
-  λ of_entry. let words = c.requires.head image there in absurd (c.if-head-super_fast_hash.true (words.hash ∙ of_entry.hash ∙ sym c.super_fast_hash.ensures)),
 )
 
 pub returns-clause-equal : goal.returns-clause-equal
 returns-clause-equal g c =
     ok_weaker c.data_is.result (λ same. ForSome (g.F.Folder.told c.args.f.now).files (λ image. IsTrue same ↔ (c.args.key.now ≡ data_at image c.in_ok-place.place.addr c.in_ok-place.place.skip (length c.args.key.now))))
-    (λ same. ForSome (g.F.Folder.told c.args.f.now).files (λ image. IsTrue same ↔ IsEntryOf c.args.key.now c.args.entry image))
+    (λ same. ForSome (g.F.Folder.told c.args.f.now).files (λ image. IsTrue same ↔ (key_at image c.args.entry ≡ Some c.args.key.now)))
     (λ same read_as image there.
-    let there_is = entry_of c.args.files.now image c.args.entry c.args.head.now c.args.key.now c.in_ok-place.place (c.requires.agrees image there) c.requires.kind (c.requires.head image there) (c.requires.key image there) c.in_ok-place.ensures.place
-    c.if-head-key.false (c.if-head-super_fast_hash.false ∙ c.super_fast_hash.ensures) in
+    let by_place = key_by_place c.args.files.now image c.args.entry c.args.head.now c.args.key.now c.in_ok-place.place (c.requires.agrees image there) c.requires.kind (c.requires.head image there) (c.requires.key image there) c.in_ok-place.ensures.place
+    c.if-head-key.false in
     let whole = read_as image there in
-    (λ yes. there_is.0 (whole.0 yes), λ of_entry. whole.1 (there_is.1 of_entry)))
+    (λ yes. by_place.0 (whole.0 yes), λ is. whole.1 (by_place.1 is)))
     c.data_is.ensures.same
+
+pub returns-in_err-place-clause-damaged : goal.returns-in_err-place-clause-damaged
+returns-in_err-place-clause-damaged g c =
+    carried c.key_place.result c.from_residual.result c.in_err-place.field-0.0 (IsPlaceDamage c.args.files.now (g.F.Folder.told c.args.f.now) c.args.entry (length c.args.key.now) c.args.head.now.long_key) c.in_err-place.was c.from_residual.ensures.1
+    (if_damaged_weaker c.key_place.result _ _ (λ damage wrong. inr (subst (λ (k : ℕ). IsMisplaced c.args.files.now c.args.entry k c.args.head.now.long_key damage) c.if-head-key.false wrong)) c.key_place.ensures.damaged)
+
+pub returns-clause-damaged : goal.returns-clause-damaged
+returns-clause-damaged g c =
+    let place = c.in_ok-place.ensures.place in
+    let len = place.len in
+    let size = c.if-head-key.false in
+    if_damaged_weaker c.data_is.result _ _
+    (λ damage cut. inl (subst (λ (k : ℕ). IsCutKey c.args.files.now (g.F.Folder.told c.args.f.now) c.args.entry k c.args.head.now.long_key damage) size
+    (key_is_cut c.args.files.now (g.F.Folder.told c.args.f.now) c.args.entry c.args.head.now.key_len c.args.head.now.long_key c.in_ok-place.place c.in_ok-place.place.skip (length c.args.key.now) damage
+    c.in_ok-place.ensures.placed place (omega arith) (omega (arith, len, size)) cut)))
+    c.data_is.ensures.short
