@@ -24,10 +24,12 @@ use Rattle.blk_disk.specs.declared.tables.BlockFiles.{BlockFiles}
 use Rattle.blk_disk.specs.Tables.{Agrees}
 use Rattle.blk_volume.specs.Entries.{key_of}
 use Rattle.blk_chain.specs.Naming.{HasName}
+use Rattle.blk_chain.specs.Turning.{Turns}
 use Rattle.blk_chain.specs.Linking.{bucket_at, chained_with, place_of_front}
 use Rattle.blk_chain.specs.Unlinking.{CanBeUnlinked, IsStillLinked, IsUnlinked, IsUnlinking, next_of, unlink_range, unlink_steps}
 use Rattle.blk_chain.proofs.Links.{bucket_read, front_inside, index_agrees, index_word}
 use Rattle.blk_chain.proofs.Names.{IsShownOf, shown-of, shown-follow}
+use Rattle.blk_chain.proofs.Turns.{turns_none, turns_part, turns_word}
 use Rattle.blk_chain.proofs.Unlinks.{next_read}
 
 -- no key is read in the table
@@ -73,6 +75,7 @@ module _ (from : Image) (entry : ℕ) (can : CanBeUnlinked entry None from) wher
         keeps = record { list = w.0; records = λ u. ap (λ (s : Stock). s.entry u) w.1; names = λ u name is_child apart. subst (λ (s : Stock). HasName (stock_of from) name is_child u ↔ HasName s name is_child u) (sym w.1) (named-table (stock_of from) (put (stock_of from).table b (next_of from entry)) name is_child u); well_formed = buckets-unchecked from image b is.outside; outside = is.outside };
         chain_now = λ front behind stands. subst (λ (s : Stock). IsChain s b behind) (sym w.1) (chain-behind behind stands.1);
         others = λ other e. ap (λ (s : Stock). chain s other) w.1 ∙ others-stay (stock_of from) b other (next_of from entry) e;
+        links = w.1;
       }
 
 next_small : (from : Image) (entry : ℕ) → AreBytes from → next_of from entry < 2 ^ 32
@@ -83,12 +86,16 @@ next_small from entry bytes = word-fits (byte from (Block (file_selector entry))
 pub record IsTaken (files : BlockFiles) (entry : ℕ) (a b : Told) : Type 0 where
   pub part : ForSome a.files (λ from. GrowsInPart a b (unlink_steps from entry None))
   pub stops : ForSome a.files (λ from. Passes a b (IsUnlinking from entry None))
+  pub turns : ForSome a.files (λ from. Turns 1 a b (IsStillLinked from entry None) (IsUnlinked from entry None))
   pub agrees : ForSome b.files (Agrees files)
 
 -- before the write
 pub first_not_yet : (a b : Told) (entry : ℕ) → b ≡ a → ForSome a.files (λ from. Passes a b (IsUnlinking from entry None))
 first_not_yet a b entry stays from there =
     passes_none (IsUnlinking from entry None) stays (λ image here. subst (λ (i : Image). IsUnlinking from entry None i) (some_inj (sym there ∙ here)) (inl (unchanged from entry None)))
+
+pub first_turns_yet : (a b : Told) (entry : ℕ) → b ≡ a → ForSome a.files (λ from. Turns 1 a b (IsStillLinked from entry None) (IsUnlinked from entry None))
+first_turns_yet a b entry stays from there = turns_none 0 a b from (IsStillLinked from entry None) (IsUnlinked from entry None) there stays (unchanged from entry None)
 
 module _ (files : BlockFiles) (a b : Told) (entry hash next : ℕ) (tells : TellsBytes a) (agrees : ForSome a.files (Agrees files)) (complete : ForSome a.files (λ image. length_of image Index ≡ 262512)) (can : ForSome a.files (CanBeUnlinked entry None))
     (read : ForSome a.files (λ image. next ≡ word image (Block (file_selector entry)) (place entry + 4)))
@@ -111,6 +118,9 @@ module _ (files : BlockFiles) (a b : Told) (entry hash next : ℕ) (tells : Tell
             passes_part (IsUnlinking from entry None) (IsUnlinking from entry None) (mine from there) (quiet-word_step Index (place_of_front from entry) (next_of from entry)) (λ image h. h)
             (λ image now. subst (λ (i : Image). Until (IsUnlinking from entry None) (IsUnlinking from entry None) i (unlink_steps from entry None)) (some_inj (sym there ∙ now))
             (until_word (IsUnlinking from entry None) (IsUnlinking from entry None) Index (place_of_front from entry) (next_of from entry) from (inl (unchanged from entry None)) (inr (after-first from there))));
+        turns = λ from there.
+            turns_part 1 a b from (IsStillLinked from entry None) (IsUnlinked from entry None) (unlink_steps from entry None) there (quiet-word_step Index (place_of_front from entry) (next_of from entry))
+            (turns_word (IsStillLinked from entry None) (IsUnlinked from entry None) Index (place_of_front from entry) (next_of from entry) from (unchanged from entry None) (after-first from there)) (mine from there);
         agrees = index_agrees files a b (place_of_bucket (hash % 65536)) next here agrees;
       }
 

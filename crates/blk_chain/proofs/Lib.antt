@@ -1,5 +1,6 @@
 pub mod Words
 pub mod Names
+pub mod Turns
 pub mod Links
 pub mod Apart
 pub mod Follows

@@ -26,6 +26,8 @@ use Rattle.blk_disk.specs.declared.tables.BlockFiles.{BlockFiles}
 use Rattle.blk_disk.specs.Tables.{Agrees}
 use Rattle.blk_disk.proofs.Agreeing.{SparesHeaders, agrees_still}
 use Rattle.blk_chain.specs.Linking.{bucket_at, chained_with, place_of_front, CanBeLinked, link_steps, IsLinked, IsLinking}
+use Rattle.blk_chain.specs.Turning.{Turns}
+use Rattle.blk_chain.proofs.Turns.{turns_none, turns_part, turns_word}
 use Rattle.blk_chain.proofs.Names.{shown-core, same-name, shown-of}
 use Rattle.blk_chain.proofs.Words.{linked-good, WithFirstBlock, with_first_block}
 
@@ -112,10 +114,20 @@ module _ (a b : Told) (entry n : ℕ) (read : ForSome a.files (λ from. n ≡ bu
         (λ image here. subst (λ (i : Image). Until P P i (link_steps from entry)) (some_inj (sym there ∙ here))
         (until_word P P Index (place_of_front from entry) entry from (inl refl) (inr (after_link from there))))
 
+    pub link_turns : GrowsInPart a b (word_step Index (place_of_bucket n) entry) → ForSome a.files (λ from. Turns 1 a b (λ image. image ≡ from) (IsLinked from entry))
+    link_turns part from there =
+        let P : Image → Type 0 = (λ image. image ≡ from) in
+        turns_part 1 a b from P (IsLinked from entry) (link_steps from entry) there (quiet-word_step Index (place_of_front from entry) entry)
+        (turns_word P (IsLinked from entry) Index (place_of_front from entry) entry from refl (after_link from there)) (link_part part from there)
+
     pub link_done : Grows a b (word_step Index (place_of_bucket n) entry) → ForSome a.files (λ from. ForSome b.files (IsLinked from entry))
     link_done whole from there =
         told_whole (IsLinked from entry) (link_whole whole from there)
         (λ image here. subst (λ (i : Image). IsLinked from entry (after (link_steps from entry) i)) (some_inj (sym there ∙ here)) (after_link from there))
+
+-- before the write
+pub link_not_yet : (a b : Told) (entry : ℕ) → b ≡ a → ForSome a.files (λ from. Turns 1 a b (λ image. image ≡ from) (IsLinked from entry))
+link_not_yet a b entry stays from there = turns_none 0 a b from (λ image. image ≡ from) (IsLinked from entry) there stays refl
 
 -- an address is a word
 pub address_small : (w : ℕ) → is_address w ≡ true → w < 2 ^ 32
@@ -128,6 +140,7 @@ address_small w address =
 pub record IsPut (files : BlockFiles) (entry : ℕ) (a b : Told) : Type 0 where
   pub part : ForSome a.files (λ from. GrowsInPart a b (link_steps from entry))
   pub stops : ForSome a.files (λ from. Passes a b (IsLinking from entry))
+  pub turns : ForSome a.files (λ from. Turns 1 a b (λ image. image ≡ from) (IsLinked from entry))
   pub agrees : ForSome b.files (Agrees files)
 
 module _ (files : BlockFiles) (a b : Told) (entry hash word : ℕ) (is : word ≡ entry) (address : is_address word ≡ true) (agrees : ForSome a.files (Agrees files)) (complete : ForSome a.files (λ image. length_of image Index ≡ 262512)) (can : ForSome a.files (CanBeLinked entry))
@@ -142,6 +155,7 @@ module _ (files : BlockFiles) (a b : Told) (entry hash word : ℕ) (is : word �
       record {
         part = link_part a b entry (hash % 65536) bucket_is here;
         stops = link_stops a b entry (hash % 65536) bucket_is (address_small entry (subst (λ (v : ℕ). is_address v ≡ true) is address)) complete can here;
+        turns = link_turns a b entry (hash % 65536) bucket_is (address_small entry (subst (λ (v : ℕ). is_address v ≡ true) is address)) complete can here;
         agrees = index_agrees files a b (place_of_bucket (hash % 65536)) entry here agrees;
       }
 

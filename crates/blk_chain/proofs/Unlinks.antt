@@ -1,15 +1,18 @@
 -- A record taken out of its chain, in bytes.
-use Rattle.std.proofs.Common.{◌≡◌, ◌≢◌, inl, inr, ⊎_elim, ℕ, ◌+◌, ◌%◌, ◌^◌, ◌<◌, ◌≤◌, true, false, List, [], ◌∷◌, ◌++◌, take, Option, Some, None, refl, sym, ◌∙◌, ap, subst, arith}
+use Rattle.std.proofs.Common.{◌≡◌, ◌≢◌, ◌⊎◌, inl, inr, ⊎_elim, ℕ, ◌+◌, ◌%◌, ◌^◌, ◌<◌, ◌≤◌, true, false, List, [], ◌∷◌, ◌++◌, take, Option, Some, None, refl, sym, ◌∙◌, ap, subst, arith}
 use Rattle.std.specs.Prelude.{◌==◌, ◌&&◌, nat_le, if◌then◌else◌}
 use Rattle.std.specs.Option.{ForSome, option_map, option_map_or}
 use Rattle.std.proofs.lemmas.Bool.{cases_Bool, cases_eq, eq-eqb}
 use Rattle.std.proofs.lemmas.List.Elements.{All-nil, All-cons}
-use Rattle.blk_image.specs.Bytes.{content, word_at}
-use Rattle.blk_image.specs.Image.{AreBytes, Index, Block, Image, byte, length_of, word}
+use Rattle.blk_image.specs.Bytes.{content, word_at, word_bytes}
+use Rattle.blk_image.specs.Image.{AreBytes, File, Index, Block, Image, byte, bytes_of, length_of, word}
+use Rattle.blk_image.specs.Steps.{Word, applied, word_step, with_word}
 use Rattle.blk_image.specs.Footprint.{SameOutside}
-use Rattle.blk_image.specs.Told.{Told, TellsBytes, Passes}
+use Rattle.blk_image.specs.Told.{Told, TellsBytes, GrowsInPart, IsQuiet, Passes}
 use Rattle.blk_image.proofs.Runs.{passes_none, passes_weaker, passes_end, some_inj}
-use Rattle.blk_image.proofs.Words.{word-fits}
+use Rattle.blk_image.proofs.Images.{bytes_of-written, length-after_write, word-after_same}
+use Rattle.blk_image.proofs.Words.{word-beside, word-fits}
+use Rattle.blk_image.proofs.WordSteps.{quiet-word_steps}
 use Rattle.blk_format.specs.Address.{kind_of, file_selector, place, blocks_256}
 use Rattle.blk_format.specs.BlockFiles.{is_among, stands_in}
 use Rattle.blk_format.specs.Records.{entry_in, entry_checks, checks}
@@ -26,16 +29,27 @@ use Rattle.blk_moments.proofs.Nodes.{none-or-one}
 use Rattle.blk_moments.proofs.Shown.{core-standing, standing-parts}
 use Rattle.blk_moments.proofs.Fronts.{AreSmall, small-take, small-range, entry_checks-front, entry_checks-by}
 use Rattle.blk_moments.proofs.Updates.{entry-seal, entry-here}
-use Rattle.blk_disk.proofs.SealedRecords.{length-record, seal_last, moment_before}
-use Rattle.blk_disk.specs.Sealed.{RecordChecks, AreChanges, IsMoment, IsUpdated, record_at, record_range, record_size, seal_place, size_by_kind, seal_by_kind}
+use Rattle.blk_disk.proofs.SealedRecords.{length-record, seal_last, moment_before, moments}
+use Rattle.blk_disk.proofs.SealedReads.{record_inside}
+use Rattle.blk_disk.proofs.Ranges.{stands_range}
+use Rattle.blk_disk.specs.declared.tables.BlockFiles.{BlockFiles}
+use Rattle.blk_disk.specs.Tables.{Agrees, stands_among}
+use Rattle.blk_disk.specs.Sealed.{RecordChecks, AreChanges, IsMoment, IsUpdated, new_seal, placed, record_at, record_range, record_size, seal_place, sealed_steps, size_by_kind, seal_by_kind, update_steps, update_words}
 use Rattle.blk_disk.proofs.SealedFields.{record_word, updated_is_new}
 use Rattle.blk_chain.specs.Linking.{bucket_at}
 use Rattle.blk_chain.specs.Unlinking.{CanBeUnlinked, first_claim, IsApart, NamesStay, IsStillLinked, IsUnlinked, IsUnlinking, KeepsRecords, next_of}
+use Rattle.blk_chain.specs.Turning.{TurnsAt, Turns}
+use Rattle.blk_chain.proofs.Turns.{turns_none, turns_part}
 use Rattle.blk_chain.proofs.Names.{IsShownOf, shown-of, shown-core, shown-kind, shown-follow, same-core, same-follow}
 use Rattle.blk_chain.proofs.Words.{linked-good}
 use Rattle.blk_chain.proofs.Keys.{first_word, first-clear, first-record, first-moment}
 use Rattle.blk_chain.proofs.Apart.{middle-there, behind-there, front-apart, rest-apart, once-without, length-without}
 use Rattle.blk_chain.proofs.Follows.{chain-same}
+
+-- a word beside the one that is written
+word-beside_write : (image : Image) (f : File) (at v j : ℕ) → (j + 4 ≤ at) ⊎ (at + 4 ≤ j) → word (applied (Word f at (word_bytes v)) image) f j ≡ word image f j
+unfolding with_word
+word-beside_write image f at v j beside = ap (λ (l : List ℕ). word_at (content l) j) (bytes_of-written image f at (word_bytes v)) ∙ word-beside j at v (bytes_of image f) beside
 
 -- the change of a record's next
 pub next_changes : (w next : ℕ) → kind_of w ≡ blocks_256 → AreChanges (seal_place w) ((4, next) ∷ [])
@@ -112,6 +126,7 @@ module _ (from : Image) (bytes : AreBytes from) (entry before : ℕ) (can : CanB
       keeps = keeps;
       chain_now = λ front behind stands. chain-without front behind (subst (λ (ws : List ℕ). IsChain (stock_of from) (bucket_at from entry) ws) stands can.whole);
       others = λ other apart. chain-same (stock_of from) (stock_of image) other records (λ w of. elsewhere other apart w (shown-of (stock_of from) other w of)) (sym (only.rest.table other));
+      links = record { link = link; table = λ bucket. sym (only.rest.table bucket); named = λ w. sym (only.rest.named w); follow = λ w apart. sym (only.follow w apart) };
     } where
       elsewhere : (other : ℕ) → (bucket_at from entry == other) ≡ false → (w : ℕ) → IsShownOf (stock_of from) other w → (stock_of image).follow w ≡ (stock_of from).follow w
       elsewhere other apart w shown = sym (only.follow w (λ e.
@@ -192,6 +207,48 @@ module _ (from : Image) (bytes : AreBytes from) (entry before : ℕ) (can : CanB
         let there : (entry_at image before).next ≡ word_at (content (record_at image before)) 4 = sym (record_word image before 4 inside) in
         now-unlinked image written.0 moment.outside names-stay (shown-follow image before shown-before.core (sym (written.0.entry before) ∙ shown-before.here) ∙ there ∙ new)
 
+    -- the link of the record before is the word at its place
+    pub link-is : (stock_of image).follow before ≡ word image (Block (file_selector before)) (place before + 4)
+    unfolding entry_in
+    link-is = shown-follow image before shown-before.core (sym (written.0.entry before) ∙ shown-before.here)
+
+    pub still-at : (stock_of image).follow before ≡ (stock_of from).follow before → IsStillLinked from entry (Some before) image
+    still-at same = still-linked image written.0 moment.outside names-stay same
+
+    pub unlinked-by : (stock_of image).follow before ≡ next_of from entry → IsUnlinked from entry (Some before) image
+    unlinked-by link = now-unlinked image written.0 moment.outside names-stay link
+
+  kind-before : kind_of before ≡ blocks_256
+  kind-before = shown-kind from before shown-before.core shown-before.here
+
+  -- the record is unlinked from the write of the next on
+  pub turns-with_next : RecordChecks before from → place before + record_size before ≤ length_of from (Block (file_selector before)) → TurnsAt 2 (IsStillLinked from entry (Some before)) (IsUnlinked from entry (Some before)) from (sealed_steps from before ((4, next_of from entry) ∷ []))
+  unfolding update_steps word_step size_by_kind seal_by_kind
+  turns-with_next checks fits =
+      let f : File = Block (file_selector before) in
+      let p : ℕ = place before in
+      let x : ℕ = next_of from entry in
+      let s : ℕ = new_seal from before ((4, next_of from entry) ∷ []) in
+      let i1 : Image = applied (Word f (p + seal_place before) (word_bytes 0)) from in
+      let i2 : Image = applied (Word f (p + 4) (word_bytes x)) i1 in
+      let i3 : Image = applied (Word f (p + seal_place before) (word_bytes s)) i2 in
+      let at_seal : seal_place before ≡ 92 = entry-seal before kind-before in
+      let size : record_size before ≡ 96 = rw kind-before refl in
+      let m = moments before from ((4, next_of from entry) ∷ []) fits checks (All-cons (λ c. c.0 + 4 ≤ seal_place before) (4, next_of from entry) [] (omega (arith, at_seal)) (All-nil (λ c. c.0 + 4 ≤ seal_place before))) in
+      let m1 : IsMoment from before ((4, next_of from entry) ∷ []) i1 = m.1.0 in
+      let m2 : IsMoment from before ((4, next_of from entry) ∷ []) i2 = m.1.1.0 in
+      let m3 : IsMoment from before ((4, next_of from entry) ∷ []) i3 = m.1.1.1 in
+      let long : length_of i1 f ≡ length_of from f = length-after_write from f f (p + seal_place before) (word_bytes 0) in
+      let w1 : word i1 f (p + 4) ≡ word from f (p + 4) = word-beside_write from f (p + seal_place before) 0 (p + 4) (inl (omega (arith, at_seal))) in
+      let w2 : word i2 f (p + 4) ≡ x = word-after_same i1 f (p + 4) x next-small (omega (arith, fits, size, long)) in
+      let w3 : word i3 f (p + 4) ≡ x = word-beside_write i2 f (p + seal_place before) s (p + 4) (inl (omega (arith, at_seal))) ∙ w2 in (
+        still-at from m.0 refl,
+        (
+          still-at i1 m1 (link-is i1 m1 ∙ w1 ∙ sym (link-is from m.0)),
+          (unlinked-by i2 m2 (link-is i2 m2 ∙ w2), unlinked-by i3 m3 (link-is i3 m3 ∙ w3)),
+        ),
+      )
+
 -- a record that is shown to check does so in its bytes
 pub record_checks : (image : Image) (w : ℕ) → AreBytes image → kind_of w ≡ blocks_256 → entry_checks (entry_at image w) ≡ true → RecordChecks w image
 unfolding entry_in record_at
@@ -219,6 +276,10 @@ pub moved : (a m : Told) (entry next : ℕ) (P : Told → Image → ℕ → Type
     → ForSome m.files (λ from. P m from next) → ForSome a.files (λ from. P a from (next_of from entry))
 moved a m entry next P read stays holds from there = subst (λ (n : ℕ). P a from n) (next_read from entry next (read from there)) (subst (λ (t : Told). ForSome t.files (λ from. P t from next)) stays holds from there)
 
+quiet-sealed : (image : Image) (w : ℕ) (changes : List (ℕ × ℕ)) → IsQuiet (sealed_steps image w changes)
+unfolding update_steps
+quiet-sealed image w changes = quiet-word_steps (Block (file_selector w)) (placed (place w) (update_words (seal_place w) changes (new_seal image w changes)))
+
 -- a list of changes with this next
 abbrev pub with_next : ℕ → List (ℕ × ℕ)
 with_next next = (4, next) ∷ []
@@ -230,6 +291,22 @@ module _ (a b : Told) (tells : TellsBytes a) (entry before : ℕ) (can : ForSome
       passes_none (IsUnlinking from entry (Some before)) stays
       (λ image here. subst (λ (i : Image). IsUnlinking from entry (Some before) i) (some_inj (sym there ∙ here))
       (unlinking_at from (tells from there) entry before (can from there) from (moment_before before from (with_next (next_of from entry)) (before_checks from (tells from there) entry before (can from there)))))
+
+  pub turns_yet : b ≡ a → ForSome a.files (λ from. Turns 2 a b (IsStillLinked from entry (Some before)) (IsUnlinked from entry (Some before)))
+  turns_yet stays from there =
+      let checks : RecordChecks before from = before_checks from (tells from there) entry before (can from there) in
+      turns_none 1 a b from (IsStillLinked from entry (Some before)) (IsUnlinked from entry (Some before)) there stays
+      (still-at from (tells from there) entry before (can from there) from (moment_before before from (with_next (next_of from entry)) checks) refl)
+
+  pub turns_then : (files : BlockFiles) → ForSome a.files (Agrees files) → stands_among files before ≡ true → ForSome a.files (λ from. GrowsInPart a b (sealed_steps from before (with_next (next_of from entry))))
+      → ForSome a.files (λ from. Turns 2 a b (IsStillLinked from entry (Some before)) (IsUnlinked from entry (Some before)))
+  turns_then files agrees stands part from there =
+      let checks : RecordChecks before from = before_checks from (tells from there) entry before (can from there) in
+      let shown = shown-before from (tells from there) entry before (can from there) in
+      let inside = stands_range files from before 0 (record_size before) (agrees from there) stands (omega (arith, record_inside before (inr (shown-kind from before shown.core shown.here)))) in
+      turns_part 2 a b from (IsStillLinked from entry (Some before)) (IsUnlinked from entry (Some before)) (sealed_steps from before (with_next (next_of from entry))) there
+      (quiet-sealed from before (with_next (next_of from entry)))
+      (turns-with_next from (tells from there) entry before (can from there) checks (omega (arith, inside))) (part from there)
 
   pub unlinking_stops : ForSome a.files (λ from. Passes a b (IsMoment from before (with_next (next_of from entry)))) → ForSome a.files (λ from. Passes a b (IsUnlinking from entry (Some before)))
   unlinking_stops stops from there =

@@ -1,4 +1,5 @@
 pub mod Naming
+pub mod Turning
 pub mod Linking
 pub mod Unlinking
 pub mod Finding

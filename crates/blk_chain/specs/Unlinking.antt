@@ -1,5 +1,5 @@
 -- A record is taken out of its chain.
-use Rattle.std.specs.Prelude.{◌≡◌, ◌↔◌, ◌⊎◌, ℕ, ◌+◌, List, [], ◌∷◌, ◌++◌, Bool, true, false, nat_le, ◌==◌}
+use Rattle.std.specs.Prelude.{◌≡◌, ◌≢◌, ◌↔◌, ◌⊎◌, ℕ, ◌+◌, List, [], ◌∷◌, ◌++◌, Bool, true, false, nat_le, ◌==◌}
 use Rattle.std.specs.declared.option.Option.{Option}
 use Rattle.std.specs.declared.option.Option.TheVariants.{None, Some}
 use Rattle.blk_image.specs.Image.{Image, Index}
@@ -12,10 +12,11 @@ use Rattle.blk_format.specs.BlockFiles.{IsWellFormed}
 use Rattle.blk_io.specs.declared.folder.FileId.TheVariants as names
 use Rattle.blk_io.specs.declared.fault.Damage.{Damage}
 use Rattle.blk_io.specs.Faults.{IsShort}
+use Rattle.blk_volume.specs.ListView.{put}
 use Rattle.blk_volume.specs.View.{Core, Stock, entry_at, list_of, stock_of}
 use Rattle.blk_volume.specs.Entries.{is_key_length, longest_short_key}
-use Rattle.blk_volume.specs.Chains.{chain, IsChain}
-use Rattle.blk_disk.specs.Sealed.{IsUnsealed, record_range, record_size, sealed_steps}
+use Rattle.blk_volume.specs.Chains.{chain, file_and_block, IsChain}
+use Rattle.blk_disk.specs.Sealed.{IsUnsealed, IsUpdated, record_range, record_size, sealed_steps}
 use Rattle.blk_chain.specs.Naming.{HasName, IsWhole}
 use Rattle.blk_chain.specs.Linking.{bucket_at, chained_with, place_of_front}
 
@@ -84,11 +85,34 @@ pub record IsStillLinked (from : Image) (entry : ℕ) (before : Option ℕ) (ima
   pub keeps : KeepsRecords from before (unlink_range from entry before) image
   pub chains : (bucket : ℕ) → chain (stock_of image) bucket ≡ chain (stock_of from) bucket
 
--- a record is unlinked: its chain is whole without it, and the other chains are as they were
+-- the record before links to the next of the one behind it, and no other link has changed: the table, what the nodes say, and the link of each word of another file or first block are as they were
+pub record IsRelinked (from : Image) (entry : ℕ) (before : ℕ) (image : Image) : Type 0 where
+  pub link : (stock_of image).follow before ≡ next_of from entry
+  pub table : (bucket : ℕ) → (stock_of image).table bucket ≡ (stock_of from).table bucket
+  pub named : (w : ℕ) → (stock_of image).named w ≡ (stock_of from).named w
+  pub follow : (w : ℕ) → file_and_block w ≢ file_and_block before → (stock_of image).follow w ≡ (stock_of from).follow w
+
+-- one link has become the record's next: the word of the bucket, or the link of the record before
+abbrev pub OneLinkChanges : Image → ℕ → Option ℕ → Image → Type 0
+OneLinkChanges from entry None image = stock_of image ≡ record (stock_of from) { table = put (stock_of from).table (bucket_at from entry) (next_of from entry) }
+OneLinkChanges from entry (Some before) image = IsRelinked from entry before image
+
+-- a record is unlinked: its chain is whole without it, the other chains are as they were, and one link alone has changed
 pub record IsUnlinked (from : Image) (entry : ℕ) (before : Option ℕ) (image : Image) : Type 0 where
   pub keeps : KeepsRecords from before (unlink_range from entry before) image
   pub chain_now : (front behind : List ℕ) → StandsBehind (chained_with from entry) entry before front behind → IsChain (stock_of image) (bucket_at from entry) (without before front behind)
   pub others : (other : ℕ) → (bucket_at from entry == other) ≡ false → chain (stock_of image) other ≡ chain (stock_of from) other
+  pub links : OneLinkChanges from entry before image
+
+-- the record before is the old one with the next of the record that is taken out, and sealed
+abbrev pub IsSealedAgain : Image → ℕ → Option ℕ → Image → Type 0
+IsSealedAgain from entry None image = Unit {0}
+IsSealedAgain from entry (Some before) image = IsUpdated from before ((4, next_of from entry) ∷ []) image
+
+-- the words that are written until the record is unlinked, that one too: the word of the bucket, or the seal of the record before and its next
+abbrev pub words_to_unlink : Option ℕ → ℕ
+words_to_unlink None = 1
+words_to_unlink (Some before) = 2
 
 -- a moment of unlinking: the chains are as they were, or the record is unlinked
 abbrev pub IsUnlinking : Image → ℕ → Option ℕ → Image → Type 0

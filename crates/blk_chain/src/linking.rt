@@ -10,6 +10,7 @@ ghost use Rattle.blk_io.specs.Faults.{IfDamaged, IfDevice, IsShort};
 ghost use Rattle.blk_disk.specs.Tables.{Agrees, stands_among};
 ghost use Rattle.blk_chain.specs.Linking.{CanBeLinked, IsLinked, IsLinking, link_steps};
 ghost use Rattle.blk_chain.specs.Mapping.{GainsOne};
+ghost use Rattle.blk_chain.specs.Turning.{Turns};
 
 use blk_addr::Addr;
 use blk_disk::BlockFiles;
@@ -41,6 +42,10 @@ pub fn link_front<F: Folder>(f: &mut F, files: &BlockFiles, entry: Addr) -> Resu
 
     // At each word the folder is the old one, or the record is linked and nothing else has changed.
     ensures stops { ForSome (F.told f.old).files (λ from. Passes (F.told f.old) (F.told f.new) (IsLinking from entry)) }
+
+    // Until the word of the bucket is written all is as before, and from then on the record is linked.
+    ensures turns { ForSome (F.told f.old).files (λ from. Turns 1 (F.told f.old) (F.told f.new) (λ image. image ≡ from) (IsLinked from entry)) }
+
     ensures complete { ForSome (F.told f.new).files (λ image. length_of image index ≡ index_length) }
     ensures agrees { ForSome (F.told f.new).files (Agrees files.now) }
 

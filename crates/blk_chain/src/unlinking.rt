@@ -10,7 +10,8 @@ ghost use Rattle.blk_io.specs.Faults.{IfDamaged, IfDevice, IsShort};
 ghost use Rattle.blk_disk.specs.Sealed.{IsUnsealed, record_size};
 ghost use Rattle.blk_disk.specs.Tables.{Agrees, stands_among};
 ghost use Rattle.blk_chain.specs.Mapping.{LosesOne};
-ghost use Rattle.blk_chain.specs.Unlinking.{CanBeUnlinked, IsUnlinkDamage, IsUnlinked, IsUnlinking, unlink_steps};
+ghost use Rattle.blk_chain.specs.Turning.{Turns};
+ghost use Rattle.blk_chain.specs.Unlinking.{CanBeUnlinked, IsSealedAgain, IsStillLinked, IsUnlinkDamage, IsUnlinked, IsUnlinking, unlink_steps, words_to_unlink};
 
 use crate::found::Found;
 use blk_addr::Addr;
@@ -43,7 +44,9 @@ fn unlink_behind<F: Folder>(
     ensures whole { OnOk result (ForSome (F.told f.old).files (λ from. Grows (F.told f.old) (F.told f.new) (unlink_steps from entry (Some before)))) }
     ensures part { ForSome (F.told f.old).files (λ from. GrowsInPart (F.told f.old) (F.told f.new) (unlink_steps from entry (Some before))) }
     ensures unlinked { OnOk result (ForSome (F.told f.old).files (λ from. ForSome (F.told f.new).files (IsUnlinked from entry (Some before)))) }
+    ensures sealed { OnOk result (ForSome (F.told f.old).files (λ from. ForSome (F.told f.new).files (IsSealedAgain from entry (Some before)))) }
     ensures stops { ForSome (F.told f.old).files (λ from. Passes (F.told f.old) (F.told f.new) (IsUnlinking from entry (Some before))) }
+    ensures turns { ForSome (F.told f.old).files (λ from. Turns (words_to_unlink (Some before)) (F.told f.old) (F.told f.new) (IsStillLinked from entry (Some before)) (IsUnlinked from entry (Some before))) }
     ensures complete { ForSome (F.told f.old).files (λ _. ForSome (F.told f.new).files (λ image. length_of image index ≡ index_length)) }
     ensures agrees { ForSome (F.told f.new).files (Agrees files.now) }
     ensures damaged { IfDamaged result (IsUnlinkDamage (F.told f.old) entry (Some before)) }
@@ -66,6 +69,7 @@ fn unlink_first<F: Folder>(f: &mut F, files: &BlockFiles, entry: Addr) -> Result
     ensures part { ForSome (F.told f.old).files (λ from. GrowsInPart (F.told f.old) (F.told f.new) (unlink_steps from entry None)) }
     ensures unlinked { OnOk result (ForSome (F.told f.old).files (λ from. ForSome (F.told f.new).files (IsUnlinked from entry None))) }
     ensures stops { ForSome (F.told f.old).files (λ from. Passes (F.told f.old) (F.told f.new) (IsUnlinking from entry None)) }
+    ensures turns { ForSome (F.told f.old).files (λ from. Turns (words_to_unlink None) (F.told f.old) (F.told f.new) (IsStillLinked from entry None) (IsUnlinked from entry None)) }
     ensures complete { ForSome (F.told f.old).files (λ _. ForSome (F.told f.new).files (λ image. length_of image index ≡ index_length)) }
     ensures agrees { ForSome (F.told f.new).files (Agrees files.now) }
     ensures damaged { IfDamaged result (IsUnlinkDamage (F.told f.old) entry None) }
@@ -97,11 +101,18 @@ pub fn unlink<F: Folder>(f: &mut F, files: &BlockFiles, found: &Found) -> Result
     ensures part { ForSome (F.told f.old).files (λ from. GrowsInPart (F.told f.old) (F.told f.new) (unlink_steps from found.now.entry found.now.before)) }
     ensures unlinked { OnOk result (ForSome (F.told f.old).files (λ from. ForSome (F.told f.new).files (IsUnlinked from found.now.entry found.now.before))) }
 
+    // A record before is the old one with that next, sealed.
+    ensures sealed { OnOk result (ForSome (F.told f.old).files (λ from. ForSome (F.told f.new).files (IsSealedAgain from found.now.entry found.now.before))) }
+
     // The chains, a map from keys and child flags to records, have one record less.
     ensures loses { OnOk result (ForSome (F.told f.old).files (λ from. ForSome (F.told f.new).files (LosesOne from found.now.entry found.now.before))) }
 
     // At each word the chains are the old ones or the record is unlinked, and each record checks as before.
     ensures stops { ForSome (F.told f.old).files (λ from. Passes (F.told f.old) (F.told f.new) (IsUnlinking from found.now.entry found.now.before)) }
+
+    // Until that one word is written the chains are the old ones, and from then on the record is unlinked.
+    ensures turns { ForSome (F.told f.old).files (λ from. Turns (words_to_unlink found.now.before) (F.told f.old) (F.told f.new) (IsStillLinked from found.now.entry found.now.before) (IsUnlinked from found.now.entry found.now.before)) }
+
     ensures complete { ForSome (F.told f.old).files (λ _. ForSome (F.told f.new).files (λ image. length_of image index ≡ index_length)) }
     ensures agrees { ForSome (F.told f.new).files (Agrees files.now) }
 

@@ -3,13 +3,16 @@ use Rattle.std.specs.Option.{ForSome}
 use Rattle.blk_image.specs.Told.{Told}
 use Rattle.blk_image.proofs.Runs.{part_whole}
 use Rattle.blk_disk.specs.Tables.{Agrees}
-use Rattle.blk_chain.proofs.Links.{IsPut, put_by, whole_by, linked_by}
+use Rattle.blk_chain.proofs.Links.{IsPut, link_not_yet, put_by, whole_by, linked_by}
 use Rattle.blk_chain.proofs.linking.link_front.Given as given
 use Rattle.blk_chain.proofs.Pairs.{gains-one}
 use Rattle.blk_chain.proofs.linking.link_front.Goals as goal
 
 pub returns-in_err-hash-clause-agrees : goal.returns-in_err-hash-clause-agrees
 returns-in_err-hash-clause-agrees g c = subst (λ (t : Told). ForSome t.files (Agrees c.args.files.now)) (sym c.in_err-hash.ensures.stays) c.requires.agrees
+
+pub returns-in_err-hash-clause-turns : goal.returns-in_err-hash-clause-turns
+returns-in_err-hash-clause-turns g c = link_not_yet (g.F.Folder.told c.args.f.now) (g.F.Folder.told c.field.new.f) c.args.entry c.in_err-hash.ensures.stays
 
 -- what a failed write leaves
 left_failed : (g : given.Over) (c : goal.After-from_residual-in_err-set_bucket g) → IsPut c.args.files.now c.args.entry (g.F.Folder.told c.args.f.now) (g.F.Folder.told c.set_bucket.new.f)
@@ -29,6 +32,9 @@ returns-in_err-set_bucket-clause-part g c = (left_failed g c).part
 pub returns-in_err-set_bucket-clause-stops : goal.returns-in_err-set_bucket-clause-stops
 returns-in_err-set_bucket-clause-stops g c = (left_failed g c).stops
 
+pub returns-in_err-set_bucket-clause-turns : goal.returns-in_err-set_bucket-clause-turns
+returns-in_err-set_bucket-clause-turns g c = (left_failed g c).turns
+
 pub returns-in_err-set_bucket-clause-agrees : goal.returns-in_err-set_bucket-clause-agrees
 returns-in_err-set_bucket-clause-agrees g c = (left_failed g c).agrees
 
@@ -47,6 +53,9 @@ returns-clause-part g c = (left_done g c).part
 
 pub returns-clause-stops : goal.returns-clause-stops
 returns-clause-stops g c = (left_done g c).stops
+
+pub returns-clause-turns : goal.returns-clause-turns
+returns-clause-turns g c = (left_done g c).turns
 
 pub returns-clause-agrees : goal.returns-clause-agrees
 returns-clause-agrees g c = (left_done g c).agrees

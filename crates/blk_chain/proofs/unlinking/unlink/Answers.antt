@@ -2,7 +2,7 @@ use Rattle.std.proofs.Common.{ℕ, Option, sym, subst}
 use Rattle.std.specs.Option.{ForSome}
 use Rattle.std.specs.Prelude.{OnOk}
 use Rattle.blk_image.specs.Told.{Grows}
-use Rattle.blk_chain.specs.Unlinking.{CanBeUnlinked, IsUnlinked, unlink_steps}
+use Rattle.blk_chain.specs.Unlinking.{CanBeUnlinked, IsSealedAgain, IsUnlinked, unlink_steps}
 use Rattle.std.proofs.lemmas.Result.{on_ok_weaker}
 use Rattle.blk_chain.proofs.Pairs.{loses-one}
 use Rattle.blk_chain.proofs.unlinking.unlink.Goals as goal
@@ -32,6 +32,15 @@ pub returns-in-Some-clause-unlinked : goal.returns-in-Some-clause-unlinked
 returns-in-Some-clause-unlinked g c =
     subst (λ (o : Option ℕ). OnOk c.unlink_behind.result (ForSome (g.F.Folder.told c.args.f.now).files (λ from. ForSome (g.F.Folder.told c.unlink_behind.new.f).files (IsUnlinked from c.args.found.now.entry o))))
     (sym c.in-Some.is) c.unlink_behind.ensures.unlinked
+
+pub returns-in-None-clause-sealed : goal.returns-in-None-clause-sealed
+returns-in-None-clause-sealed g c =
+    on_ok_weaker c.unlink_first.result (λ unlinked from there image now. subst (λ (o : Option ℕ). IsSealedAgain from c.args.found.now.entry o image) (sym c.in-None.is) tt) c.unlink_first.ensures.unlinked
+
+pub returns-in-Some-clause-sealed : goal.returns-in-Some-clause-sealed
+returns-in-Some-clause-sealed g c =
+    subst (λ (o : Option ℕ). OnOk c.unlink_behind.result (ForSome (g.F.Folder.told c.args.f.now).files (λ from. ForSome (g.F.Folder.told c.unlink_behind.new.f).files (IsSealedAgain from c.args.found.now.entry o))))
+    (sym c.in-Some.is) c.unlink_behind.ensures.sealed
 
 pub returns-in-None-clause-loses : goal.returns-in-None-clause-loses
 returns-in-None-clause-loses g c =

@@ -6,7 +6,7 @@ use Rattle.blk_image.specs.Told.{Told, Grows, GrowsInPart, Passes}
 use Rattle.blk_disk.specs.Sealed.{IsMoment, IsUpdated, RecordChecks, sealed_steps}
 use Rattle.blk_disk.specs.Tables.{Agrees}
 use Rattle.blk_chain.specs.Unlinking.{next_of}
-use Rattle.blk_chain.proofs.Unlinks.{next_changes, before_checks, moved, with_next, not_yet, unlinking_stops, unlinked_then, still_complete}
+use Rattle.blk_chain.proofs.Unlinks.{next_changes, before_checks, moved, with_next, not_yet, turns_yet, turns_then, unlinking_stops, unlinked_then, still_complete}
 use Rattle.blk_chain.proofs.unlinking.unlink_behind.Given as given
 use Rattle.blk_chain.proofs.unlinking.unlink_behind.Goals as goal
 use Rattle.blk_chain.proofs.unlinking.unlink_behind.Goals.{After-update_sealed}
@@ -17,6 +17,10 @@ returns-in_err-next-clause-agrees g c = subst (λ (t : Told). ForSome t.files (A
 pub returns-in_err-next-clause-stops : goal.returns-in_err-next-clause-stops
 returns-in_err-next-clause-stops g c =
     not_yet (g.F.Folder.told c.args.f.now) (g.F.Folder.told c.field.new.f) (g.met.F.Folder.are_bytes c.args.f.now) c.args.entry c.args.before c.requires.linked c.in_err-next.ensures.stays
+
+pub returns-in_err-next-clause-turns : goal.returns-in_err-next-clause-turns
+returns-in_err-next-clause-turns g c =
+    turns_yet (g.F.Folder.told c.args.f.now) (g.F.Folder.told c.field.new.f) (g.met.F.Folder.are_bytes c.args.f.now) c.args.entry c.args.before c.requires.linked c.in_err-next.ensures.stays
 
 pub update_sealed-requires-clause-agrees : goal.update_sealed-requires-clause-agrees
 update_sealed-requires-clause-agrees g c = subst (λ (t : Told). ForSome t.files (Agrees c.args.files.now)) (sym c.in_ok-next.ensures.stays) c.requires.agrees
@@ -40,6 +44,14 @@ returns-clause-whole g c =
 
 pub returns-clause-part : goal.returns-clause-part
 returns-clause-part g c = said g c (λ (t : Told) (from : Image) (n : ℕ). GrowsInPart t (g.F.Folder.told c.update_sealed.new.f) (sealed_steps from c.args.before (with_next n))) c.update_sealed.ensures.part
+
+pub returns-clause-turns : goal.returns-clause-turns
+returns-clause-turns g c =
+    turns_then (g.F.Folder.told c.args.f.now) (g.F.Folder.told c.update_sealed.new.f) (g.met.F.Folder.are_bytes c.args.f.now) c.args.entry c.args.before c.requires.linked c.args.files.now c.requires.agrees c.requires.stands_before (returns-clause-part g c)
+
+pub returns-clause-sealed : goal.returns-clause-sealed
+returns-clause-sealed g c =
+    on_ok_weaker c.update_sealed.result (λ updated. said g c (λ (t : Told) (from : Image) (n : ℕ). ForSome (g.F.Folder.told c.update_sealed.new.f).files (IsUpdated from c.args.before (with_next n))) updated) c.update_sealed.ensures.updated
 
 moments : (g : given.Over) (c : goal.After-update_sealed g) → ForSome (g.F.Folder.told c.args.f.now).files (λ from. Passes (g.F.Folder.told c.args.f.now) (g.F.Folder.told c.update_sealed.new.f) (IsMoment from c.args.before (with_next (next_of from c.args.entry))))
 moments g c = said g c (λ (t : Told) (from : Image) (n : ℕ). Passes t (g.F.Folder.told c.update_sealed.new.f) (IsMoment from c.args.before (with_next n))) c.update_sealed.ensures.stops

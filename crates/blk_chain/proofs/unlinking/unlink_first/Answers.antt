@@ -3,12 +3,15 @@ use Rattle.std.specs.Option.{ForSome}
 use Rattle.blk_image.specs.Told.{Told}
 use Rattle.blk_image.proofs.Runs.{part_whole}
 use Rattle.blk_disk.specs.Tables.{Agrees}
-use Rattle.blk_chain.proofs.Firsts.{IsTaken, first_not_yet, first_left, first_whole, first_done}
+use Rattle.blk_chain.proofs.Firsts.{IsTaken, first_not_yet, first_turns_yet, first_left, first_whole, first_done}
 use Rattle.blk_chain.proofs.unlinking.unlink_first.Given as given
 use Rattle.blk_chain.proofs.unlinking.unlink_first.Goals as goal
 
 pub returns-in_err-next-clause-stops : goal.returns-in_err-next-clause-stops
 returns-in_err-next-clause-stops g c = first_not_yet (g.F.Folder.told c.args.f.now) (g.F.Folder.told c.field.new.f) c.args.entry c.in_err-next.ensures.stays
+
+pub returns-in_err-next-clause-turns : goal.returns-in_err-next-clause-turns
+returns-in_err-next-clause-turns g c = first_turns_yet (g.F.Folder.told c.args.f.now) (g.F.Folder.told c.field.new.f) c.args.entry c.in_err-next.ensures.stays
 
 pub returns-in_err-next-clause-agrees : goal.returns-in_err-next-clause-agrees
 returns-in_err-next-clause-agrees g c = subst (λ (t : Told). ForSome t.files (Agrees c.args.files.now)) (sym c.in_err-next.ensures.stays) c.requires.agrees
@@ -18,6 +21,9 @@ field-requires-2-clause-agrees g c = subst (λ (t : Told). ForSome t.files (Agre
 
 pub returns-in_err-hash-clause-stops : goal.returns-in_err-hash-clause-stops
 returns-in_err-hash-clause-stops g c = first_not_yet (g.F.Folder.told c.args.f.now) (g.F.Folder.told c.field-2.new.f) c.args.entry (c.in_err-hash.ensures.stays ∙ c.in_ok-next.ensures.stays)
+
+pub returns-in_err-hash-clause-turns : goal.returns-in_err-hash-clause-turns
+returns-in_err-hash-clause-turns g c = first_turns_yet (g.F.Folder.told c.args.f.now) (g.F.Folder.told c.field-2.new.f) c.args.entry (c.in_err-hash.ensures.stays ∙ c.in_ok-next.ensures.stays)
 
 pub returns-in_err-hash-clause-agrees : goal.returns-in_err-hash-clause-agrees
 returns-in_err-hash-clause-agrees g c = subst (λ (t : Told). ForSome t.files (Agrees c.args.files.now)) (sym (c.in_err-hash.ensures.stays ∙ c.in_ok-next.ensures.stays)) c.requires.agrees
@@ -40,6 +46,9 @@ returns-in_err-set_bucket-clause-part g c = (left_failed g c).part
 pub returns-in_err-set_bucket-clause-stops : goal.returns-in_err-set_bucket-clause-stops
 returns-in_err-set_bucket-clause-stops g c = (left_failed g c).stops
 
+pub returns-in_err-set_bucket-clause-turns : goal.returns-in_err-set_bucket-clause-turns
+returns-in_err-set_bucket-clause-turns g c = (left_failed g c).turns
+
 pub returns-in_err-set_bucket-clause-agrees : goal.returns-in_err-set_bucket-clause-agrees
 returns-in_err-set_bucket-clause-agrees g c = (left_failed g c).agrees
 
@@ -58,6 +67,9 @@ returns-clause-part g c = (left_done g c).part
 
 pub returns-clause-stops : goal.returns-clause-stops
 returns-clause-stops g c = (left_done g c).stops
+
+pub returns-clause-turns : goal.returns-clause-turns
+returns-clause-turns g c = (left_done g c).turns
 
 pub returns-clause-agrees : goal.returns-clause-agrees
 returns-clause-agrees g c = (left_done g c).agrees
