@@ -10,7 +10,8 @@ ghost use Rattle.blk_laws.specs.ListLaws.{CanBeInserted, IsAtRest};
 ghost use Rattle.blk_io.specs.Faults.{IfDamaged, IfDevice};
 ghost use Rattle.blk_disk.specs.Sealed.{sealed_steps};
 ghost use Rattle.blk_disk.specs.Tables.{Agrees};
-ghost use Rattle.blk_lru.specs.Nodes.{is_node, IsFailedCheck};
+ghost use Rattle.blk_lru.specs.Damages.{IsInsertDamage, IsNodeDamage, IsRemovalDamage, IsTouchDamage};
+ghost use Rattle.blk_lru.specs.Nodes.{is_node};
 ghost use Rattle.blk_lru.specs.Writes.{AreSealed, AreTimes, HasWholeIndex, IsPartly, IsSealed, IsTouched, steps_of, times_of, touch_steps};
 ghost use Rattle.blk_lru.specs.Lists.{IsListed, Turns, first_of, walked};
 
@@ -46,7 +47,7 @@ pub fn insert_front<F: Folder>(f: &mut F, files: &BlockFiles, node: Addr) -> Res
     ensures agrees { ForSome (F.told f.new).files (Agrees files.now) }
 
     // A folder that tells its files never gives a damage.
-    ensures damaged { IfDamaged result (IsFailedCheck files.now) }
+    ensures damaged { IfDamaged result (IsInsertDamage files.now) }
     ensures untold { IfDamaged result (λ _. (F.told f.old).files ≡ None) }
     ensures silent { (F.told f.old).files ≡ None → (F.told f.new).files ≡ None }
 
@@ -83,7 +84,7 @@ pub fn remove<F: Folder>(f: &mut F, files: &BlockFiles, node: Addr) -> Result<()
     ensures agrees { ForSome (F.told f.new).files (Agrees files.now) }
 
     // A folder that tells its files never gives a damage.
-    ensures damaged { IfDamaged result (IsFailedCheck files.now) }
+    ensures damaged { IfDamaged result (IsRemovalDamage files.now node) }
     ensures untold { IfDamaged result (λ _. (F.told f.old).files ≡ None) }
     ensures silent { (F.told f.old).files ≡ None → (F.told f.new).files ≡ None }
 
@@ -122,7 +123,7 @@ pub fn touch<F: Folder>(f: &mut F, files: &BlockFiles, node: Addr, moment: u64) 
     ensures agrees { ForSome (F.told f.new).files (Agrees files.now) }
 
     // A folder that tells its files never gives a damage.
-    ensures damaged { IfDamaged result (IsFailedCheck files.now) }
+    ensures damaged { IfDamaged result (IsTouchDamage files.now node) }
     ensures untold { IfDamaged result (λ _. (F.told f.old).files ≡ None) }
     ensures silent { (F.told f.old).files ≡ None → (F.told f.new).files ≡ None }
 
@@ -143,7 +144,7 @@ fn set_times<F: Folder>(f: &mut F, files: &BlockFiles, node: Addr, moment: u64) 
     ensures whole { OnOk result (ForSome (F.told f.old).files (λ from. Grows (F.told f.old) (F.told f.new) (sealed_steps from node (times_of moment)))) }
     ensures part { ForSome (F.told f.old).files (λ from. GrowsInPart (F.told f.old) (F.told f.new) (sealed_steps from node (times_of moment))) }
     ensures agrees { ForSome (F.told f.new).files (Agrees files.now) }
-    ensures damaged { IfDamaged result (IsFailedCheck files.now) }
+    ensures damaged { IfDamaged result (IsNodeDamage files.now) }
     ensures untold { IfDamaged result (λ _. (F.told f.old).files ≡ None) }
     ensures silent { (F.told f.old).files ≡ None → (F.told f.new).files ≡ None }
     ensures later { F.faults f.old ≤ F.faults f.new }
@@ -165,7 +166,7 @@ fn move_front<F: Folder>(f: &mut F, files: &BlockFiles, node: Addr) -> Result<()
     ensures stops { ForSome (F.told f.old).files (λ from. Passes (F.told f.old) (F.told f.new) (IsPartly from (touch_writes node (list_of from)))) }
     ensures complete { ForSome (F.told f.new).files HasWholeIndex }
     ensures agrees { ForSome (F.told f.new).files (Agrees files.now) }
-    ensures damaged { IfDamaged result (IsFailedCheck files.now) }
+    ensures damaged { IfDamaged result (IsTouchDamage files.now node) }
     ensures untold { IfDamaged result (λ _. (F.told f.old).files ≡ None) }
     ensures silent { (F.told f.old).files ≡ None → (F.told f.new).files ≡ None }
     ensures later { F.faults f.old ≤ F.faults f.new }
@@ -196,7 +197,7 @@ fn move_behind<F: Folder>(
     ensures stops { ForSome (F.told f.old).files (λ from. Passes (F.told f.old) (F.told f.new) (IsPartly from (writes_of move node (list_of from)))) }
     ensures complete { ForSome (F.told f.new).files HasWholeIndex }
     ensures agrees { ForSome (F.told f.new).files (Agrees files.now) }
-    ensures damaged { IfDamaged result (IsFailedCheck files.now) }
+    ensures damaged { IfDamaged result (IsRemovalDamage files.now node) }
     ensures untold { IfDamaged result (λ _. (F.told f.old).files ≡ None) }
     ensures silent { (F.told f.old).files ≡ None → (F.told f.new).files ≡ None }
     ensures later { F.faults f.old ≤ F.faults f.new }

@@ -10,8 +10,9 @@ ghost use Rattle.blk_volume.specs.View.{list_of};
 ghost use Rattle.blk_io.specs.declared.folder.FileId.TheVariants as names;
 ghost use Rattle.blk_io.specs.Faults.{IfDamaged, IfDevice, IsShort};
 ghost use Rattle.blk_disk.specs.Tables.{Agrees};
+ghost use Rattle.blk_lru.specs.Damages.{IsNodeDamage};
 ghost use Rattle.blk_lru.specs.Nodes as nodes;
-ghost use Rattle.blk_lru.specs.Nodes.{is_node, link_at, FindsNode, IsAstray, IsFailedCheck, IsLinkPlace};
+ghost use Rattle.blk_lru.specs.Nodes.{is_node, link_at, FindsNode, IsAstray, IsLinkPlace};
 
 use blk_addr::{Addr, Kind};
 use blk_disk::{BlockFiles, file_of};
@@ -90,7 +91,7 @@ pub(crate) fn checked<F: Folder>(
     requires agrees { ForSome (F.told f.old).files (Agrees files.now) }
     ensures found { IfOk result (λ found. ForSome (F.told f.old).files (λ image. FindsNode (list_of image) word found)) }
     ensures stands { IfOk result (λ found. IfSome found (λ links. is_node files.now links.node ≡ true)) }
-    ensures damaged { IfDamaged result (IsFailedCheck files.now) }
+    ensures damaged { IfDamaged result (IsNodeDamage files.now) }
     ensures untold { IfDamaged result (λ _. (F.told f.old).files ≡ None) }
     ensures stays { Stays (F.told f.old) (F.told f.new) }
     ensures later { F.faults f.old ≤ F.faults f.new }
