@@ -24,6 +24,18 @@ use blk_addr::Addr;
 use blk_disk::BlockFiles;
 use blk_io::{Fault, Folder};
 
+// The number of values that a word may have.
+const WORD_VALUES: u64 = 0x1_0000_0000;
+
+// The places of a node's times: the low and the high words of its last use and of its last change.
+const USED_LOW: u32 = 0;
+
+const USED_HIGH: u32 = 4;
+
+const MODIFIED_LOW: u32 = 8;
+
+const MODIFIED_HIGH: u32 = 12;
+
 /// Puts a node in front of the list. It is not in the list, and fewer than 131072 nodes are.
 ///
 /// The operation word and the transaction word are written, then the node's links, the link of the
@@ -150,9 +162,15 @@ fn set_times<F: Folder>(f: &mut F, files: &BlockFiles, node: Addr, moment: u64) 
     ensures later { F.faults f.old ≤ F.faults f.new }
     ensures device { IfDevice result (Rises (F.faults f.old) (F.faults f.new)) }
 {
-    let low = (moment % 0x1_0000_0000) as u32;
-    let high = (moment / 0x1_0000_0000) as u32;
-    files.update_sealed(f, node, &[(0, low), (4, high), (8, low), (12, high)])
+    let low = (moment % WORD_VALUES) as u32;
+    let high = (moment / WORD_VALUES) as u32;
+    let times = [
+        (USED_LOW, low),
+        (USED_HIGH, high),
+        (MODIFIED_LOW, low),
+        (MODIFIED_HIGH, high),
+    ];
+    files.update_sealed(f, node, &times)
 }
 
 // Moves a listed node to the front of the list, where it isn't there already.
@@ -213,8 +231,9 @@ fn move_behind<F: Folder>(
 fn is_same(found: &Option<Addr>, node: Addr) -> bool
     ensures { result ≡ (word_or_zero found.now == node) }
 {
+    let word = node.word();
     match found {
-        Some(other) => other.word() == node.word(),
-        None => 0 == node.word(),
+        Some(other) => other.word() == word,
+        None => false,
     }
 }

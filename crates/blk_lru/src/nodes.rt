@@ -22,7 +22,7 @@ use blk_record::{NodeView, Record};
 // The byte at which the blocks of a block file begin, and the bytes of a node.
 const HEADER_LEN: u64 = 8192;
 
-const NODE_LEN: u64 = 36;
+const NODE_LEN: usize = 36;
 
 // The places of a node's links.
 pub(crate) const NEXT: u32 = 16;
@@ -76,7 +76,7 @@ pub(crate) fn link<F: Folder>(
     let found = u32::from_le_bytes(bytes);
     let Some(other) = node_of(files, found) else {
         let file = file_of(node);
-        let at = HEADER_LEN + u64::from(node.start()) * NODE_LEN + u64::from(at);
+        let at = HEADER_LEN + u64::from(node.start()) * NODE_LEN as u64 + u64::from(at);
         return Err(Fault::Damaged(Damage { file, at, found }));
     };
     Ok(other)
@@ -100,7 +100,7 @@ pub(crate) fn checked<F: Folder>(
     let Some(node) = node_of(files, word) else {
         return Ok(None);
     };
-    let mut window = [0u8; 36];
+    let mut window = [0u8; NODE_LEN];
     files.read_block(f, node, 0, &mut window)?;
     Ok(links_in(node, &window))
 }
