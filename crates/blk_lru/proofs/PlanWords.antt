@@ -22,13 +22,14 @@ some_word w address = ne_eqb w 0 (λ zero. clash (sym address ∙ ap is_address 
     clash : true ≡ false → ⊥
     clash e = cc
 
-pub front_none : (node : ℕ) → is_address node ≡ true → putting_in_front node 0 ≡ Next node node ∷ Prev node node ∷ Tail node ∷ Head node ∷ []
-front_none node address =
-    let apart : (0 == node) ≡ false = ne_eqb 0 node (λ e. let z : (node == 0) ≡ true = eq-eqb node 0 (sym e) in clash (sym z ∙ some_word node address)) in
-    rw apart refl
+pub zero_apart : (node : ℕ) → is_address node ≡ true → (0 == node) ≡ false
+zero_apart node address = ne_eqb 0 node (λ e. let z : (node == 0) ≡ true = eq-eqb node 0 (sym e) in clash (sym z ∙ some_word node address))
   where
     clash : true ≡ false → ⊥
     clash e = cc
+
+pub front_none : (node : ℕ) → is_address node ≡ true → putting_in_front node 0 ≡ Next node node ∷ Prev node node ∷ Tail node ∷ Head node ∷ []
+front_none node address = let apart = zero_apart node address in rw apart refl
 
 pub front_same : (node head : ℕ) → head ≡ node → putting_in_front node head ≡ []
 front_same node head e = let t : (head == node) ≡ true = eq-eqb head node e in rw t refl

@@ -1,4 +1,5 @@
 pub mod Nodes
+pub mod Damages
 pub mod Writes
 pub mod Plans
 pub mod Lists

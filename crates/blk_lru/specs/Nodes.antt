@@ -1,12 +1,10 @@
 -- Words that name nodes, and the checks of what is read.
-use Rattle.std.specs.Prelude.{ℕ, ◌≡◌, ◌≢◌, ◌⊎◌, ◌+◌, ◌≤◌, ◌<◌, Bool, true, false, ◌&&◌, ◌==◌, if◌then◌else◌, Option, None, Some}
+use Rattle.std.specs.Prelude.{ℕ, ◌≡◌, ◌⊎◌, ◌+◌, Bool, true, false, ◌&&◌, ◌==◌, if◌then◌else◌, Option, None, Some}
 use Rattle.std.specs.Option.{ForSome}
 use Rattle.blk_image.specs.Image.{Block, Image, word}
 use Rattle.blk_image.specs.Told.{Told}
 use Rattle.blk_format.specs.Address.{is_address, kind_of, rankings, file_selector, place}
-use Rattle.blk_format.specs.Records.{node_size, node_seal_place}
 use Rattle.blk_io.specs.declared.folder.FileId.{FileId}
-use Rattle.blk_io.specs.declared.folder.FileId.TheVariants as names
 use Rattle.blk_io.specs.declared.fault.Damage.{Damage}
 use Rattle.blk_io.specs.FileNames.{file_of}
 use Rattle.blk_disk.specs.declared.tables.BlockFiles.{BlockFiles}
@@ -28,23 +26,6 @@ pub record IsAstray (files : BlockFiles) (told : Told) (file : FileId) (at : ℕ
   pub at_place : damage.at ≡ at
   pub unlike : is_node files damage.found ≡ false
   pub there : ForSome told.files (λ image. damage.found ≡ word image (file_of file) at)
-
--- a read of a word or of a node gave fewer bytes: the damage finds how many there were
-pub record IsTooShort (damage : Damage) : Type 0 where
-  pub count : ℕ
-  pub most : count ≤ node_size
-  pub few : damage.found < count
-
--- a node that was read doesn't check: the damage has its seal, which isn't 0
-pub record IsBroken (damage : Damage) : Type 0 where
-  pub node : ℕ
-  pub of_file : damage.file ≡ names.Block (file_selector node)
-  pub at_seal : damage.at ≡ place node + node_seal_place
-  pub unlike : damage.found ≢ 0
-
--- a check that failed: a read was short, a word names no node, or a node doesn't check
-abbrev pub IsFailedCheck : BlockFiles → Damage → Type 0
-IsFailedCheck files damage = IsTooShort damage ⊎ ((is_node files damage.found ≡ false) ⊎ IsBroken damage)
 
 -- the places of a node's links: next, and prev
 abbrev pub IsLinkPlace : ℕ → Type 0

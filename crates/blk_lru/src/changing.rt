@@ -10,7 +10,8 @@ ghost use Rattle.blk_laws.specs.ListLaws.{CanBeInserted, IsAtRest};
 ghost use Rattle.blk_io.specs.Faults.{IfDamaged, IfDevice};
 ghost use Rattle.blk_disk.specs.Sealed.{sealed_steps};
 ghost use Rattle.blk_disk.specs.Tables.{Agrees};
-ghost use Rattle.blk_lru.specs.Nodes.{is_node, IsFailedCheck};
+ghost use Rattle.blk_lru.specs.Damages.{IsInsertDamage, IsNodeDamage, IsRemovalDamage, IsTouchDamage};
+ghost use Rattle.blk_lru.specs.Nodes.{is_node};
 ghost use Rattle.blk_lru.specs.Writes.{AreSealed, AreTimes, HasWholeIndex, IsPartly, IsSealed, IsTouched, steps_of, times_of, touch_steps};
 ghost use Rattle.blk_lru.specs.Lists.{IsListed, Turns, first_of, walked};
 
@@ -22,6 +23,18 @@ use crate::writes::perform;
 use blk_addr::Addr;
 use blk_disk::BlockFiles;
 use blk_io::{Fault, Folder};
+
+// The number of values that a word may have.
+const WORD_VALUES: u64 = 0x1_0000_0000;
+
+// The places of a node's times: the low and the high words of its last use and of its last change.
+const USED_LOW: u32 = 0;
+
+const USED_HIGH: u32 = 4;
+
+const MODIFIED_LOW: u32 = 8;
+
+const MODIFIED_HIGH: u32 = 12;
 
 /// Puts a node in front of the list. It is not in the list, and fewer than 131072 nodes are.
 ///
@@ -46,7 +59,7 @@ pub fn insert_front<F: Folder>(f: &mut F, files: &BlockFiles, node: Addr) -> Res
     ensures agrees { ForSome (F.told f.new).files (Agrees files.now) }
 
     // A folder that tells its files never gives a damage.
-    ensures damaged { IfDamaged result (IsFailedCheck files.now) }
+    ensures damaged { IfDamaged result (IsInsertDamage files.now) }
     ensures untold { IfDamaged result (λ _. (F.told f.old).files ≡ None) }
     ensures silent { (F.told f.old).files ≡ None → (F.told f.new).files ≡ None }
 
@@ -83,7 +96,7 @@ pub fn remove<F: Folder>(f: &mut F, files: &BlockFiles, node: Addr) -> Result<()
     ensures agrees { ForSome (F.told f.new).files (Agrees files.now) }
 
     // A folder that tells its files never gives a damage.
-    ensures damaged { IfDamaged result (IsFailedCheck files.now) }
+    ensures damaged { IfDamaged result (IsRemovalDamage files.now node) }
     ensures untold { IfDamaged result (λ _. (F.told f.old).files ≡ None) }
     ensures silent { (F.told f.old).files ≡ None → (F.told f.new).files ≡ None }
 
@@ -122,7 +135,7 @@ pub fn touch<F: Folder>(f: &mut F, files: &BlockFiles, node: Addr, moment: u64) 
     ensures agrees { ForSome (F.told f.new).files (Agrees files.now) }
 
     // A folder that tells its files never gives a damage.
-    ensures damaged { IfDamaged result (IsFailedCheck files.now) }
+    ensures damaged { IfDamaged result (IsTouchDamage files.now node) }
     ensures untold { IfDamaged result (λ _. (F.told f.old).files ≡ None) }
     ensures silent { (F.told f.old).files ≡ None → (F.told f.new).files ≡ None }
 
@@ -143,15 +156,21 @@ fn set_times<F: Folder>(f: &mut F, files: &BlockFiles, node: Addr, moment: u64) 
     ensures whole { OnOk result (ForSome (F.told f.old).files (λ from. Grows (F.told f.old) (F.told f.new) (sealed_steps from node (times_of moment)))) }
     ensures part { ForSome (F.told f.old).files (λ from. GrowsInPart (F.told f.old) (F.told f.new) (sealed_steps from node (times_of moment))) }
     ensures agrees { ForSome (F.told f.new).files (Agrees files.now) }
-    ensures damaged { IfDamaged result (IsFailedCheck files.now) }
+    ensures damaged { IfDamaged result (IsNodeDamage files.now) }
     ensures untold { IfDamaged result (λ _. (F.told f.old).files ≡ None) }
     ensures silent { (F.told f.old).files ≡ None → (F.told f.new).files ≡ None }
     ensures later { F.faults f.old ≤ F.faults f.new }
     ensures device { IfDevice result (Rises (F.faults f.old) (F.faults f.new)) }
 {
-    let low = (moment % 0x1_0000_0000) as u32;
-    let high = (moment / 0x1_0000_0000) as u32;
-    files.update_sealed(f, node, &[(0, low), (4, high), (8, low), (12, high)])
+    let low = (moment % WORD_VALUES) as u32;
+    let high = (moment / WORD_VALUES) as u32;
+    let times = [
+        (USED_LOW, low),
+        (USED_HIGH, high),
+        (MODIFIED_LOW, low),
+        (MODIFIED_HIGH, high),
+    ];
+    files.update_sealed(f, node, &times)
 }
 
 // Moves a listed node to the front of the list, where it isn't there already.
@@ -165,7 +184,7 @@ fn move_front<F: Folder>(f: &mut F, files: &BlockFiles, node: Addr) -> Result<()
     ensures stops { ForSome (F.told f.old).files (λ from. Passes (F.told f.old) (F.told f.new) (IsPartly from (touch_writes node (list_of from)))) }
     ensures complete { ForSome (F.told f.new).files HasWholeIndex }
     ensures agrees { ForSome (F.told f.new).files (Agrees files.now) }
-    ensures damaged { IfDamaged result (IsFailedCheck files.now) }
+    ensures damaged { IfDamaged result (IsTouchDamage files.now node) }
     ensures untold { IfDamaged result (λ _. (F.told f.old).files ≡ None) }
     ensures silent { (F.told f.old).files ≡ None → (F.told f.new).files ≡ None }
     ensures later { F.faults f.old ≤ F.faults f.new }
@@ -196,7 +215,7 @@ fn move_behind<F: Folder>(
     ensures stops { ForSome (F.told f.old).files (λ from. Passes (F.told f.old) (F.told f.new) (IsPartly from (writes_of move node (list_of from)))) }
     ensures complete { ForSome (F.told f.new).files HasWholeIndex }
     ensures agrees { ForSome (F.told f.new).files (Agrees files.now) }
-    ensures damaged { IfDamaged result (IsFailedCheck files.now) }
+    ensures damaged { IfDamaged result (IsRemovalDamage files.now node) }
     ensures untold { IfDamaged result (λ _. (F.told f.old).files ≡ None) }
     ensures silent { (F.told f.old).files ≡ None → (F.told f.new).files ≡ None }
     ensures later { F.faults f.old ≤ F.faults f.new }
@@ -212,8 +231,9 @@ fn move_behind<F: Folder>(
 fn is_same(found: &Option<Addr>, node: Addr) -> bool
     ensures { result ≡ (word_or_zero found.now == node) }
 {
+    let word = node.word();
     match found {
-        Some(other) => other.word() == node.word(),
-        None => 0 == node.word(),
+        Some(other) => other.word() == word,
+        None => false,
     }
 }

@@ -7,7 +7,8 @@ ghost use Rattle.blk_volume.specs.ListPlans.{completion_writes};
 ghost use Rattle.blk_volume.specs.View.{list_of};
 ghost use Rattle.blk_io.specs.Faults.{IfDamaged, IfDevice};
 ghost use Rattle.blk_disk.specs.Tables.{Agrees};
-ghost use Rattle.blk_lru.specs.Nodes.{is_node, AreLinksOf, IsFailedCheck};
+ghost use Rattle.blk_lru.specs.Damages.{IsCompletingDamage, IsNodeDamage};
+ghost use Rattle.blk_lru.specs.Nodes.{is_node, AreLinksOf};
 ghost use Rattle.blk_lru.specs.Writes.{AreOf, AreSealed, AreWords, HasWholeIndex, IsPartly, meant, steps_of};
 ghost use Rattle.blk_lru.specs.Completing.{AreNodes, CompletesAlike, Finds, FindsBeside, FindsHead, IsCompleted, finishing_writes};
 
@@ -61,7 +62,7 @@ pub fn complete<F: Folder>(f: &mut F, files: &BlockFiles) -> Result<(), Fault>
     ensures agrees { ForSome (F.told f.new).files (Agrees files.now) }
 
     // A folder that tells its files never gives a damage.
-    ensures damaged { IfDamaged result (IsFailedCheck files.now) }
+    ensures damaged { IfDamaged result (IsCompletingDamage files.now) }
     ensures untold { IfDamaged result (λ _. (F.told f.old).files ≡ None) }
     ensures silent { (F.told f.old).files ≡ None → (F.told f.new).files ≡ None }
 
@@ -86,7 +87,7 @@ fn completion<F: Folder>(f: &mut F, files: &BlockFiles, transaction: u32) -> Res
     ensures stand { IfOk result (λ plan. AreOf (λ n. is_node files.now n ≡ true) (map meant plan.items)) }
     ensures words { IfOk result (λ plan. AreWords (map meant plan.items)) }
     ensures check { IfOk result (λ plan. ForSome (F.told f.old).files (λ image. AreOf (λ n. (list_of image).checks n ≡ true) (map meant plan.items))) }
-    ensures damaged { IfDamaged result (IsFailedCheck files.now) }
+    ensures damaged { IfDamaged result (IsCompletingDamage files.now) }
     ensures untold { IfDamaged result (λ _. (F.told f.old).files ≡ None) }
     ensures stays { Stays (F.told f.old) (F.told f.new) }
     ensures later { F.faults f.old ≤ F.faults f.new }
@@ -115,7 +116,7 @@ fn in_flight<F: Folder>(
     requires transaction { ForSome (F.told f.old).files (λ image. (list_of image).transaction ≡ transaction) }
     ensures found { IfOk result (λ found. ForSome (F.told f.old).files (λ image. Finds (list_of image) found)) }
     ensures stand { IfOk result (λ found. IfSome found (AreNodes files.now)) }
-    ensures damaged { IfDamaged result (IsFailedCheck files.now) }
+    ensures damaged { IfDamaged result (IsCompletingDamage files.now) }
     ensures untold { IfDamaged result (λ _. (F.told f.old).files ≡ None) }
     ensures stays { Stays (F.told f.old) (F.told f.new) }
     ensures later { F.faults f.old ≤ F.faults f.new }
@@ -147,7 +148,7 @@ fn inserting<F: Folder>(
     requires operation { ForSome (F.told f.old).files (λ image. (list_of image).operation ≡ insert) }
     ensures found { IfOk result (λ found. ForSome (F.told f.old).files (λ image. Finds (list_of image) found)) }
     ensures stand { IfOk result (λ found. IfSome found (AreNodes files.now)) }
-    ensures damaged { IfDamaged result (IsFailedCheck files.now) }
+    ensures damaged { IfDamaged result (IsCompletingDamage files.now) }
     ensures untold { IfDamaged result (λ _. (F.told f.old).files ≡ None) }
     ensures stays { Stays (F.told f.old) (F.told f.new) }
     ensures later { F.faults f.old ≤ F.faults f.new }
@@ -178,7 +179,7 @@ fn removing<F: Folder>(
     requires operation { ForSome (F.told f.old).files (λ image. (list_of image).operation ≡ removal) }
     ensures found { IfOk result (λ found. ForSome (F.told f.old).files (λ image. Finds (list_of image) found)) }
     ensures stand { IfOk result (λ found. IfSome found (AreNodes files.now)) }
-    ensures damaged { IfDamaged result (IsFailedCheck files.now) }
+    ensures damaged { IfDamaged result (IsCompletingDamage files.now) }
     ensures untold { IfDamaged result (λ _. (F.told f.old).files ≡ None) }
     ensures stays { Stays (F.told f.old) (F.told f.new) }
     ensures later { F.faults f.old ≤ F.faults f.new }
@@ -209,7 +210,7 @@ fn moving<F: Folder>(
     requires operation { ForSome (F.told f.old).files (λ image. (list_of image).operation ≡ move) }
     ensures found { IfOk result (λ found. ForSome (F.told f.old).files (λ image. Finds (list_of image) found)) }
     ensures stand { IfOk result (λ found. IfSome found (AreNodes files.now)) }
-    ensures damaged { IfDamaged result (IsFailedCheck files.now) }
+    ensures damaged { IfDamaged result (IsCompletingDamage files.now) }
     ensures untold { IfDamaged result (λ _. (F.told f.old).files ≡ None) }
     ensures stays { Stays (F.told f.old) (F.told f.new) }
     ensures later { F.faults f.old ≤ F.faults f.new }
@@ -236,7 +237,7 @@ fn usable_head<F: Folder>(f: &mut F, files: &BlockFiles) -> Result<Option<Option
     requires agrees { ForSome (F.told f.old).files (Agrees files.now) }
     ensures found { IfOk result (λ found. ForSome (F.told f.old).files (λ image. FindsHead (list_of image) found)) }
     ensures stand { IfOk result (λ found. IfSome found (λ head. IfSome head (λ n. is_node files.now n ≡ true))) }
-    ensures damaged { IfDamaged result (IsFailedCheck files.now) }
+    ensures damaged { IfDamaged result (IsCompletingDamage files.now) }
     ensures untold { IfDamaged result (λ _. (F.told f.old).files ≡ None) }
     ensures stays { Stays (F.told f.old) (F.told f.new) }
     ensures later { F.faults f.old ≤ F.faults f.new }
@@ -264,7 +265,7 @@ fn usable_links<F: Folder>(
     ensures found { IfOk result (λ found. ForSome (F.told f.old).files (λ image. FindsBeside (list_of image) (list_of image).transaction found)) }
     ensures next { IfOk result (λ found. IfSome found (λ beside. IfSome beside.next (λ n. is_node files.now n ≡ true))) }
     ensures prev { IfOk result (λ found. IfSome found (λ beside. is_node files.now beside.prev ≡ true)) }
-    ensures damaged { IfDamaged result (IsFailedCheck files.now) }
+    ensures damaged { IfDamaged result (IsNodeDamage files.now) }
     ensures untold { IfDamaged result (λ _. (F.told f.old).files ≡ None) }
     ensures stays { Stays (F.told f.old) (F.told f.new) }
     ensures later { F.faults f.old ≤ F.faults f.new }

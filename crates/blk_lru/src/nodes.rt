@@ -10,8 +10,9 @@ ghost use Rattle.blk_volume.specs.View.{list_of};
 ghost use Rattle.blk_io.specs.declared.folder.FileId.TheVariants as names;
 ghost use Rattle.blk_io.specs.Faults.{IfDamaged, IfDevice, IsShort};
 ghost use Rattle.blk_disk.specs.Tables.{Agrees};
+ghost use Rattle.blk_lru.specs.Damages.{IsNodeDamage};
 ghost use Rattle.blk_lru.specs.Nodes as nodes;
-ghost use Rattle.blk_lru.specs.Nodes.{is_node, link_at, FindsNode, IsAstray, IsFailedCheck, IsLinkPlace};
+ghost use Rattle.blk_lru.specs.Nodes.{is_node, link_at, FindsNode, IsAstray, IsLinkPlace};
 
 use blk_addr::{Addr, Kind};
 use blk_disk::{BlockFiles, file_of};
@@ -21,7 +22,7 @@ use blk_record::{NodeView, Record};
 // The byte at which the blocks of a block file begin, and the bytes of a node.
 const HEADER_LEN: u64 = 8192;
 
-const NODE_LEN: u64 = 36;
+const NODE_LEN: usize = 36;
 
 // The places of a node's links.
 pub(crate) const NEXT: u32 = 16;
@@ -75,7 +76,7 @@ pub(crate) fn link<F: Folder>(
     let found = u32::from_le_bytes(bytes);
     let Some(other) = node_of(files, found) else {
         let file = file_of(node);
-        let at = HEADER_LEN + u64::from(node.start()) * NODE_LEN + u64::from(at);
+        let at = HEADER_LEN + u64::from(node.start()) * NODE_LEN as u64 + u64::from(at);
         return Err(Fault::Damaged(Damage { file, at, found }));
     };
     Ok(other)
@@ -90,7 +91,7 @@ pub(crate) fn checked<F: Folder>(
     requires agrees { ForSome (F.told f.old).files (Agrees files.now) }
     ensures found { IfOk result (λ found. ForSome (F.told f.old).files (λ image. FindsNode (list_of image) word found)) }
     ensures stands { IfOk result (λ found. IfSome found (λ links. is_node files.now links.node ≡ true)) }
-    ensures damaged { IfDamaged result (IsFailedCheck files.now) }
+    ensures damaged { IfDamaged result (IsNodeDamage files.now) }
     ensures untold { IfDamaged result (λ _. (F.told f.old).files ≡ None) }
     ensures stays { Stays (F.told f.old) (F.told f.new) }
     ensures later { F.faults f.old ≤ F.faults f.new }
@@ -99,7 +100,7 @@ pub(crate) fn checked<F: Folder>(
     let Some(node) = node_of(files, word) else {
         return Ok(None);
     };
-    let mut window = [0u8; 36];
+    let mut window = [0u8; NODE_LEN];
     files.read_block(f, node, 0, &mut window)?;
     Ok(links_in(node, &window))
 }

@@ -128,12 +128,12 @@ fn move_front(plan: &mut Plan, node: Addr, next: Option<Addr>, prev: Addr, head:
     ensures few { length plan.new.items ≤ length plan.old.items + 8 }
 {
     let Some(next) = next else {
-        add(plan, &[Write::Operation(1)]);
+        add(plan, &[Write::Operation(Operation::Insert.code())]);
         put_front(plan, node, head);
         return;
     };
     unlink(plan, node, next, prev);
-    add(plan, &[Write::Operation(1)]);
+    add(plan, &[Write::Operation(Operation::Insert.code())]);
     put_back(plan, node, next, prev, head);
 }
 
@@ -144,6 +144,7 @@ fn put_front(plan: &mut Plan, node: Addr, head: Option<Addr>)
     ensures few { length plan.new.items ≤ length plan.old.items + 4 }
 {
     let word = node.word();
+    let in_front = Write::Head(word);
     let Some(head) = head else {
         add(
             plan,
@@ -151,7 +152,7 @@ fn put_front(plan: &mut Plan, node: Addr, head: Option<Addr>)
                 Write::Next(node, word),
                 Write::Prev(node, word),
                 Write::Tail(word),
-                Write::Head(word),
+                in_front,
             ],
         );
         return;
@@ -163,7 +164,7 @@ fn put_front(plan: &mut Plan, node: Addr, head: Option<Addr>)
                 Write::Next(node, head.word()),
                 Write::Prev(node, word),
                 Write::Prev(head, word),
-                Write::Head(word),
+                in_front,
             ],
         );
     }

@@ -10,7 +10,8 @@ ghost use Rattle.blk_format.specs.Headers.{header_length};
 ghost use Rattle.blk_disk.specs.Sealed.{sealed_steps};
 ghost use Rattle.blk_disk.specs.Tables.{Agrees};
 ghost use Rattle.blk_moments.specs.Moments.{OnlyListChanges};
-ghost use Rattle.blk_lru.specs.Nodes.{is_node, IsFailedCheck, IsLinkPlace};
+ghost use Rattle.blk_lru.specs.Damages.{IsNodeDamage};
+ghost use Rattle.blk_lru.specs.Nodes.{is_node, IsLinkPlace};
 ghost use Rattle.blk_lru.specs.Writes.{AreOf, AreWords, HasWholeIndex, IsPartly, meant, steps_of, write_steps};
 
 use crate::moments::write_moments;
@@ -56,7 +57,7 @@ pub(crate) fn perform<F: Folder>(
     ensures complete { ForSome (F.told f.new).files HasWholeIndex }
     ensures agrees { ForSome (F.told f.new).files (Agrees files.now) }
     ensures silent { (F.told f.old).files ≡ None → (F.told f.new).files ≡ None }
-    ensures damaged { IfDamaged result (IsFailedCheck files.now) }
+    ensures damaged { IfDamaged result (IsNodeDamage files.now) }
     ensures untold { IfDamaged result (λ _. (F.told f.old).files ≡ None) }
     ensures later { F.faults f.old ≤ F.faults f.new }
     ensures device { IfDevice result (Rises (F.faults f.old) (F.faults f.new)) }
@@ -78,7 +79,7 @@ fn write_one<F: Folder>(f: &mut F, files: &BlockFiles, write: Write) -> Result<(
     ensures whole { OnOk result (ForSome (F.told f.old).files (λ from. Grows (F.told f.old) (F.told f.new) (write_steps (meant write) from))) }
     ensures part { ForSome (F.told f.old).files (λ from. GrowsInPart (F.told f.old) (F.told f.new) (write_steps (meant write) from)) }
     ensures silent { (F.told f.old).files ≡ None → (F.told f.new).files ≡ None }
-    ensures damaged { IfDamaged result (IsFailedCheck files.now) }
+    ensures damaged { IfDamaged result (IsNodeDamage files.now) }
     ensures untold { IfDamaged result (λ _. (F.told f.old).files ≡ None) }
     ensures later { F.faults f.old ≤ F.faults f.new }
     ensures device { IfDevice result (Rises (F.faults f.old) (F.faults f.new)) }
@@ -108,7 +109,7 @@ fn set_link<F: Folder>(
     ensures whole { OnOk result (ForSome (F.told f.old).files (λ from. Grows (F.told f.old) (F.told f.new) (sealed_steps from node ((at, word) ∷ [])))) }
     ensures part { ForSome (F.told f.old).files (λ from. GrowsInPart (F.told f.old) (F.told f.new) (sealed_steps from node ((at, word) ∷ []))) }
     ensures silent { (F.told f.old).files ≡ None → (F.told f.new).files ≡ None }
-    ensures damaged { IfDamaged result (IsFailedCheck files.now) }
+    ensures damaged { IfDamaged result (IsNodeDamage files.now) }
     ensures untold { IfDamaged result (λ _. (F.told f.old).files ≡ None) }
     ensures later { F.faults f.old ≤ F.faults f.new }
     ensures device { IfDevice result (Rises (F.faults f.old) (F.faults f.new)) }

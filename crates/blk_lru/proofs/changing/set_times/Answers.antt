@@ -1,5 +1,4 @@
 use Rattle.std.proofs.Common.{inl, arith}
-use Rattle.blk_disk.proofs.SealedReads.{node_seal, node_bytes}
 use Rattle.blk_lru.proofs.FailedChecks.{short_or_unsealed}
 use Rattle.blk_lru.proofs.NodeRecords.{record_checks}
 use Rattle.blk_lru.proofs.NodeWords.{node_kind, node_stands}
@@ -19,6 +18,4 @@ pub update_sealed-requires-clause-checks : goal.update_sealed-requires-clause-ch
 update_sealed-requires-clause-checks g c image there = record_checks image c.args.node (g.met.F.Folder.are_bytes c.args.f.now image there) (node_kind c.args.files.now c.args.node c.requires.stands) (c.requires.check image there)
 
 pub returns-clause-damaged : goal.returns-clause-damaged
-returns-clause-damaged g c =
-    let kind = node_kind c.args.files.now c.args.node c.requires.stands in
-    short_or_unsealed c.update_sealed.result c.args.files.now _ _ _ c.args.node _ (omega (arith, node_bytes c.args.node kind)) (node_seal c.args.node kind) c.update_sealed.ensures.damaged
+returns-clause-damaged g c = short_or_unsealed c.update_sealed.result c.args.files.now (g.F.Folder.told c.args.f.now) c.args.node c.requires.stands c.update_sealed.ensures.damaged

@@ -15,6 +15,6 @@ returns-in_default-clause-writes c =
     let old : List ListWrite = map meant c.args.plan.now.items in
     let head = word_or_zero c.args.head in
     c.put_front.ensures.writes
-    ∙ ap (λ (ws : List ListWrite). ws ++ putting_in_front c.args.node head) (added c.args.plan.now.items c.add.new.plan.items _ (Operation 1 ∷ []) c.add.ensures.items refl)
+    ∙ ap (λ (ws : List ListWrite). ws ++ putting_in_front c.args.node head) (added c.args.plan.now.items c.add.new.plan.items _ (Operation 1 ∷ []) c.add.ensures.items (ap (λ (n : ℕ). Operation n ∷ []) c.code.ensures))
     ∙ append_assoc old (Operation 1 ∷ []) (putting_in_front c.args.node head)
     ∙ ap (λ (ws : List ListWrite). old ++ ws) (none_moves c.args.node c.args.prev head ∙ ap (λ (n : ℕ). moving c.args.node n c.args.prev head) (sym (none_word c.args.next c.in_default.not-Some)))
