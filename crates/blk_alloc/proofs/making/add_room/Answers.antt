@@ -11,6 +11,7 @@ use Rattle.blk_disk.specs.Growth.{IsLeastFree, KeepsBlocks, addition_of, free_nu
 use Rattle.blk_alloc.specs.Making.{HasCounters}
 use Rattle.blk_alloc.proofs.Adding.{added_file, new_allocations, new_counters, new_among, join_keeps, join_widens, all_kept}
 use Rattle.blk_alloc.proofs.Members.{member_all}
+use Rattle.blk_io.proofs.Carried.{silent_part}
 use Rattle.blk_alloc.proofs.Causes.{told_before}
 use Rattle.blk_alloc.proofs.Sparing.{blocks_then}
 use Rattle.blk_alloc.proofs.Written.{passes_on}
@@ -133,3 +134,12 @@ returns-clause-blocks g c from there =
     passes_on from there (c.in_ok-file.ensures.blocks from there)
     (λ mid now keeps. let later : (i : Image) → KeepsBlocks mid i → KeepsBlocks from i = λ i more. blocks_then from mid i keeps more in
     passes_weaker (c.in_ok-place.ensures.blocks mid now) later later)
+
+pub returns-in_err-file-clause-silent : goal.returns-in_err-file-clause-silent
+returns-in_err-file-clause-silent g c none = silent_part c.in_err-file.ensures.part none
+
+pub returns-in_err-place-clause-silent : goal.returns-in_err-place-clause-silent
+returns-in_err-place-clause-silent g c none = c.in_err-place.ensures.silent (silent_part c.in_ok-file.ensures.part none)
+
+pub returns-clause-silent : goal.returns-clause-silent
+returns-clause-silent g c none = c.in_ok-place.ensures.silent (silent_part c.in_ok-file.ensures.part none)
