@@ -18,7 +18,7 @@ use Rattle.blk_alloc.specs.declared.blocks.Blocks.{Blocks}
 use Rattle.blk_alloc.specs.Owning.{is_of, IsCause, KeepsFile}
 use Rattle.blk_alloc.specs.Fitting.{HasNoRoom, IsFirstFit}
 use Rattle.blk_alloc.specs.Taking.{taking_of, IsTakeable, IsTaken, IsTaking}
-use Rattle.blk_alloc.specs.Making.{HasMostBlocks, IsFirstGrowing, KeepsFiles, KeepsMarks}
+use Rattle.blk_alloc.specs.Making.{HasMostBlocks, HasNoHints, IsFirstGrowing, KeepsFiles, KeepsMarks}
 
 -- What is asked of the files.
 
@@ -63,19 +63,21 @@ pub record IsChosen (files : BlockFiles) (image : Image) (kind count w : ℕ) : 
 
 -- What becomes of the files.
 
--- room was made in a file: its first blocks of it may be taken, each file that was kept has its marks and allocations as before, and a new one has none
+-- room was made in a file: its first blocks of it may be taken, each file that was kept has its marks and allocations as before, and a new one has none, and no hints
 pub record IsMade (files : BlockFiles) (from : Image) (place : Blocks) (image : Image) : Type 0 where
   pub takeable : IsTakeable image place
   pub keeps : KeepsFiles files from image
   pub marks : KeepsMarks files from image
   pub fresh : is_among (all_files files) place.file ≡ false → AreAllocations image place.file []
+  pub hints : is_among (all_files files) place.file ≡ false → HasNoHints image place.file
 
--- the blocks of an address are given: they were free and are marked now, no other mark of a file that was there has changed, its file has one allocation more and each other has its own, the counters are true, and updating is 0
+-- the blocks of an address are given: they were free and are marked now, no other mark of a file that was there has changed, its file has one allocation more and each other has its own, a file that wasn't there has no hints, the counters are true, and updating is 0
 pub record IsGiven (files : BlockFiles) (from : Image) (w : ℕ) (image : Image) : Type 0 where
   pub free : is_among (all_files files) (file_selector w) ≡ true → (b : ℕ) → is_of w (file_selector w) b ≡ true → is_marked from (file_selector w) b ≡ false
   pub marks : (n b : ℕ) → is_among (all_files files) n ≡ true → b < most_blocks → is_marked image n b ≡ (if is_of w n b then true else is_marked from n b)
   pub allocations : is_among (all_files files) (file_selector w) ≡ true → (words : List ℕ) → AreAllocations from (file_selector w) words → AreAllocations image (file_selector w) (w ∷ words)
   pub fresh : is_among (all_files files) (file_selector w) ≡ false → AreAllocations image (file_selector w) (w ∷ [])
+  pub hints : is_among (all_files files) (file_selector w) ≡ false → HasNoHints image (file_selector w)
   pub elsewhere : (n : ℕ) → is_among (all_files files) n ≡ true → n ≢ file_selector w → KeepsFile from image n
   pub empty : EmptyAgrees image (file_selector w)
   pub updating : updating_of (byte image (Block (file_selector w))) ≡ 0

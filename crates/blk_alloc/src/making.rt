@@ -10,7 +10,7 @@ ghost use Rattle.blk_format.specs.Maps.{group_size, AreAllocations};
 ghost use Rattle.blk_disk.specs.Tables.{Agrees, blocks_of, files_of};
 ghost use Rattle.blk_disk.specs.Growth.{IsLeastFree, KeepsBlocks, addition_of, free_number, growth_of};
 ghost use Rattle.blk_alloc.specs.Fitting.{IsPlace};
-ghost use Rattle.blk_alloc.specs.Making.{HasCounters, IsGrowing, KeepsAll, KeepsFiles, KeepsMarks};
+ghost use Rattle.blk_alloc.specs.Making.{HasCounters, HasNoHints, IsGrowing, KeepsAll, KeepsFiles, KeepsMarks};
 ghost use Rattle.blk_alloc.specs.Taking.{IsTakeable};
 
 use crate::blocks::Blocks;
@@ -74,6 +74,7 @@ pub(crate) fn add_room<F: Folder>(
     ensures all { OnOk result (KeepsAll files.old files.new) }
     ensures marks { OnOk result (ForSome (F.told f.old).files (λ from. ForSome (F.told f.new).files (KeepsMarks files.old from))) }
     ensures fresh { OnOk result (ForSome (F.told f.old).files (λ from. ForSome (F.told f.new).files (λ image. AreAllocations image (free_number files.old) []))) }
+    ensures hints { OnOk result (ForSome (F.told f.old).files (λ from. ForSome (F.told f.new).files (λ image. HasNoHints image (free_number files.old)))) }
     ensures least { OnOk result (IsLeastFree files.old (free_number files.old)) }
     ensures takeable { IfOk result (λ place. ForSome (F.told f.old).files (λ from. ForSome (F.told f.new).files (λ image. IsTakeable image place))) }
     ensures keeps { OnOk result (ForSome (F.told f.old).files (λ from. ForSome (F.told f.new).files (KeepsFiles files.old from))) }

@@ -7,7 +7,7 @@ use Rattle.blk_format.specs.BlockFiles.{is_among}
 use Rattle.blk_format.specs.Maps.{AreAllocations}
 use Rattle.blk_disk.specs.Tables.{all_files, files_of, blocks_of}
 use Rattle.blk_disk.specs.Growth.{IsLeastFree, addition_of, free_number, growth_of}
-use Rattle.blk_alloc.specs.Making.{IsFirstGrowing}
+use Rattle.blk_alloc.specs.Making.{HasNoHints, IsFirstGrowing}
 use Rattle.blk_alloc.specs.Giving.{IsMaking, IsMakingIn}
 use Rattle.blk_io.proofs.Carried.{untold_where}
 use Rattle.blk_alloc.proofs.Formed.{count_whole}
@@ -62,6 +62,7 @@ returns-in-Some-clause-made g c from there image now =
       keeps = c.in_ok-place.ensures.keeps from there image now;
       marks = c.in_ok-place.ensures.marks from there image now;
       fresh = λ none. absurd (among_or_not (sym all ∙ ap (is_among (all_files c.args.files.now)) (sym file) ∙ none));
+      hints = λ none. absurd (among_or_not (sym all ∙ ap (is_among (all_files c.args.files.now)) (sym file) ∙ none));
     }
 
 pub returns-in-Some-clause-making : goal.returns-in-Some-clause-making
@@ -120,6 +121,7 @@ returns-clause-made g c from there image now = record {
   keeps = c.in_ok-place-2.ensures.keeps from there image now;
   marks = c.in_ok-place-2.ensures.marks from there image now;
   fresh = λ none. subst (λ (n : ℕ). AreAllocations image n []) (sym c.in_ok-place-2.ensures.place.0) (c.in_ok-place-2.ensures.fresh from there image now);
+  hints = λ none. subst (HasNoHints image) (sym c.in_ok-place-2.ensures.place.0) (c.in_ok-place-2.ensures.hints from there image now);
 }
 
 pub returns-clause-making : goal.returns-clause-making
