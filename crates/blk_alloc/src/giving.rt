@@ -14,7 +14,7 @@ ghost use Rattle.blk_disk.specs.Tables.{Agrees, files_of, stands_among};
 ghost use Rattle.blk_alloc.specs.Owning.{KeepsExternals};
 ghost use Rattle.blk_alloc.specs.Fitting.{IsPlace};
 ghost use Rattle.blk_alloc.specs.Making.{HasMostBlocks, KeepsAll};
-ghost use Rattle.blk_alloc.specs.Giving.{AreCounted, HaveNoRoom, IsAddedPlace, IsCauseOf, IsChosen, IsFitTaken, IsFull, IsGiven, IsGiving, IsGrownPlace, IsMade, IsMaking, IsMakingIn, IsRefusal};
+ghost use Rattle.blk_alloc.specs.Giving.{AreCounted, HaveNoRoom, IsAddedPlace, IsChosen, IsFitTaken, IsFull, IsGiven, IsGiving, IsGrownPlace, IsMade, IsMaking, IsMakingIn, IsRefusal};
 
 use crate::blocks::Blocks;
 use crate::fitting::first_fit;
@@ -36,7 +36,7 @@ fn full_damage<F: Folder>(f: &mut F, files: &BlockFiles, kind: Kind) -> Result<D
     requires number { most_files ≤ length (files_of files.now (kind_number kind)) }
     requires full { All (HasMostBlocks files.now) (files_of files.now (kind_number kind)) }
     ensures full { IfOk result (IsFull files.now (kind_number kind) (F.told f.old)) }
-    ensures cause { IfDamaged result (IsCauseOf files.now (kind_number kind) (F.told f.old)) }
+    ensures cause { IfDamaged result (λ damage. (F.told f.old).files ≡ None → IsFull files.now (kind_number kind) (F.told f.old) damage) }
     ensures stays { Stays (F.told f.old) (F.told f.new) }
     ensures later { F.faults f.old ≤ F.faults f.new }
     ensures device { IfDevice result (Rises (F.faults f.old) (F.faults f.new)) }
