@@ -28,7 +28,7 @@ use Rattle.blk_disk.proofs.Joined.{among_types, by_kind, last_apart}
 use Rattle.blk_disk.proofs.Additions.{new_header, made_is}
 use Rattle.blk_disk.proofs.Agreeing.{other_file}
 use Rattle.blk_disk.proofs.Among.{is_among_more}
-use Rattle.blk_alloc.specs.Making.{HasCounters, KeepsFiles}
+use Rattle.blk_alloc.specs.Making.{HasCounters, HasNoHints, KeepsFiles}
 use Rattle.blk_alloc.proofs.Changing.{byte_beside}
 use Rattle.blk_alloc.proofs.Widening.{Widens, allocations_more, mark_kept}
 
@@ -63,6 +63,10 @@ module _ (mid : Image) (kind n : ℕ) (file : mid (Block n) ≡ Some (new_header
     marks = λ b small. unmarked_new b;
     counted = ap (λ (l : List ℕ). allocations_of (content l)) bytes_new ∙ zero_word kind n 16 (omega arith);
   }
+
+  -- nor hints
+  pub new_hints : HasNoHints mid n
+  new_hints i small = ap (λ (l : List ℕ). word_at (content l) (40 + 4 * i)) bytes_new ∙ zero_word kind n (40 + 4 * i) (omega arith)
 
   no_blocks : max_entries_in mid n ≡ 0
   unfolding max_entries_in

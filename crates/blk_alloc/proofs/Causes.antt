@@ -14,10 +14,10 @@ none_some : {image : Image} → None ≡ Some image → ⊥
 none_some {image} e = cc
 
 -- a cause at a later moment is one at the start, where nothing was told then
-pub cause_before : (later before : Told) (n : ℕ) (damage : Damage) → before.files ≡ None → IsCause later n damage → IsCause before n damage
-cause_before later before n damage none =
+pub cause_before : (later before : Told) (n start : ℕ) (damage : Damage) → before.files ≡ None → IsCause later n start damage → IsCause before n start damage
+cause_before later before n start damage none =
     ⊎_elim
-    (λ short. inl (record { place = short.place; count = short.count; short = record { of_file = short.short.of_file; at_place = short.short.at_place; few = short.short.few; many = λ image there. absurd (none_some (sym none ∙ there)) } }))
+    (λ short. inl (record { place = short.place; count = short.count; read = short.read; short = record { of_file = short.short.of_file; at_place = short.short.at_place; few = short.short.few; many = λ image there. absurd (none_some (sym none ∙ there)) } }))
     (λ count. inr (record { counters = count.counters; are = λ image there. absurd (none_some (sym none ∙ there)); at_end = count.at_end }))
 
 -- a folder that tells nothing after some steps told nothing before

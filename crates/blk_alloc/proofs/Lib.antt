@@ -19,6 +19,7 @@ pub mod Causes
 pub mod Growing
 pub mod Grown
 pub mod Fullness
+pub mod Hints
 pub mod Adding
 pub mod Rooms
 pub mod Sparing

@@ -28,11 +28,12 @@ use Rattle.blk_alloc.specs.declared.blocks.Blocks.{Blocks}
 use Rattle.blk_alloc.specs.Fitting.{HasNoRoom, IsFirstFit, IsPlace}
 use Rattle.blk_alloc.specs.Owning.{is_of}
 use Rattle.blk_alloc.specs.Places.{is_place}
-use Rattle.blk_alloc.specs.Making.{HasCounters, HasMostBlocks, IsFirstGrowing, KeepsAll}
+use Rattle.blk_alloc.specs.Making.{HasCounters, HasMostBlocks, HasNoHints, IsFirstGrowing, KeepsAll}
 use Rattle.blk_alloc.specs.Taking.{IsTakeable, IsTaken, taking_of}
 use Rattle.blk_alloc.specs.Giving.{AreCounted, HaveNoRoom, IsGiven, IsMade, IsMakingIn, added_of, grown_of}
 use Rattle.blk_alloc.proofs.Formed.{count_whole}
 use Rattle.blk_alloc.proofs.Fullness.{full_counts, many_full}
+use Rattle.blk_alloc.proofs.Hints.{taken_hints}
 use Rattle.blk_alloc.proofs.Members.{kind_small, member_all, member_head}
 
 or_true : (a b : Bool) → (a || b) ≡ true → (a ≡ true) ⊎ (b ≡ true)
@@ -140,6 +141,7 @@ given_made old new from mid image place w file all made taken = record {
   marks = λ n b among small. taken.marks n b small ∙ ap (λ (t : Bool). if is_of w n b then true else t) (made.marks n b among);
   allocations = λ among words are. taken.allocations words ((made.keeps (file_selector w) among).allocations words are);
   fresh = λ none. taken.allocations [] (subst (λ (n : ℕ). AreAllocations mid n []) (sym file) (made.fresh (ap (is_among (all_files old)) (sym file) ∙ none)));
+  hints = λ none. taken_hints (file_selector w) (file_selector w) mid image taken.same (subst (HasNoHints mid) (sym file) (made.hints (ap (is_among (all_files old)) (sym file) ∙ none)));
   elsewhere = λ n among differs. record {
     allocations = λ words are. taken.elsewhere n (all n among) differs words ((made.keeps n among).allocations words are);
     empty = λ was. taken.empty_elsewhere n differs ((made.keeps n among).empty was);
@@ -155,6 +157,7 @@ given_fit files from image w among taken = record {
   marks = λ n b there small. taken.marks n b small;
   allocations = λ there words are. taken.allocations words are;
   fresh = λ none. absurd (clash (sym none ∙ among));
+  hints = λ none. absurd (clash (sym none ∙ among));
   elsewhere = λ n there differs. record { allocations = λ words are. taken.elsewhere n there differs words are; empty = λ was. taken.empty_elsewhere n differs was };
   empty = taken.empty;
   updating = taken.updating;

@@ -1,14 +1,15 @@
 -- The first place where blocks fit: the files of a type in the order of their links, and in a file the least place.
-use Rattle.std.specs.Prelude.{◌≡◌, ℕ, ◌+◌, ◌%◌, ◌<◌, ◌≤◌, List, ◌∷◌, ◌++◌, true, Option, None, Some}
+use Rattle.std.specs.Prelude.{◌≡◌, ℕ, ◌+◌, ◌-◌, ◌*◌, ◌/◌, ◌%◌, min, ◌<◌, ◌≤◌, List, ◌∷◌, ◌++◌, true, Option, None, Some}
 use Rattle.std.specs.List.{All}
 use Rattle.blk_image.specs.Image.{Image}
 use Rattle.blk_image.specs.Told.{Told}
 use Rattle.blk_format.specs.BlockFiles.{is_among, max_entries_in, most_blocks}
-use Rattle.blk_format.specs.Maps.{is_marked, group_size}
+use Rattle.blk_format.specs.Maps.{is_marked, group_size, map_place}
+use Rattle.blk_io.specs.declared.folder.FileId.TheVariants as names
 use Rattle.blk_io.specs.declared.fault.Damage.{Damage}
+use Rattle.blk_io.specs.Faults.{IsShort}
 use Rattle.blk_disk.specs.declared.tables.BlockFiles.{BlockFiles}
-use Rattle.blk_disk.specs.Tables.{files_of}
-use Rattle.blk_alloc.specs.Owning.{IsShortHeader}
+use Rattle.blk_disk.specs.Tables.{blocks_of, files_of}
 use Rattle.blk_alloc.specs.declared.blocks.Blocks.{Blocks}
 use Rattle.blk_alloc.specs.Places.{is_place, AreNoPlaces, IsLeastPlace}
 
@@ -43,8 +44,14 @@ pub record IsPlace (files : BlockFiles) (kind count : ℕ) (place : Blocks) : Ty
   pub group : place.start % 4 + count ≤ group_size
   pub counted : place.count ≡ count
 
--- a read of the header of one of some files gave too few bytes
-pub record IsShortOf (told : Told) (files : List ℕ) (damage : Damage) : Type 0 where
+-- the map of a file of so many blocks is read 8192 blocks at a time: a read of those, or of the fewer that are left, gave too few bytes
+pub record IsShortPiece (told : Told) (n blocks : ℕ) (damage : Damage) : Type 0 where
+  pub piece : ℕ
+  pub inside : piece * 8192 < blocks
+  pub short : IsShort told (names.Block n) (map_place + piece * 1024) ((min (blocks - piece * 8192) 8192 + 7) / 8) damage
+
+-- the same, of the map of one of the files of a type
+pub record IsShortOf (files : BlockFiles) (kind : ℕ) (told : Told) (damage : Damage) : Type 0 where
   pub file : ℕ
-  pub linked : is_among files file ≡ true
-  pub short : IsShortHeader told file damage
+  pub linked : is_among (files_of files kind) file ≡ true
+  pub short : IsShortPiece told file (min (blocks_of files file) most_blocks) damage

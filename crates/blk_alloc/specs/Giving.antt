@@ -1,5 +1,5 @@
 -- Blocks are given: at the first place where they fit, or where no file of a type has room, in a file that grows or is added.
-use Rattle.std.specs.Prelude.{◌≡◌, ◌≢◌, ◌⊎◌, ℕ, ◌<◌, ◌≤◌, List, [], ◌∷◌, length, true, false, if◌then◌else◌}
+use Rattle.std.specs.Prelude.{◌≡◌, ◌≢◌, ◌⊎◌, ℕ, ◌-◌, ◌<◌, ◌≤◌, List, [], ◌∷◌, length, slice_get, true, false, if◌then◌else◌, Some}
 use Rattle.std.specs.List.{All, sum_by}
 use Rattle.std.specs.Option.{ForSome}
 use Rattle.blk_image.specs.Image.{Block, Image, byte, word}
@@ -16,9 +16,9 @@ use Rattle.blk_disk.specs.Tables.{all_files, blocks_of, files_of}
 use Rattle.blk_disk.specs.Growth.{IsLeastFree, addition_of, free_number, growth_of}
 use Rattle.blk_alloc.specs.declared.blocks.Blocks.{Blocks}
 use Rattle.blk_alloc.specs.Owning.{is_of, IsCause, KeepsFile}
-use Rattle.blk_alloc.specs.Fitting.{HasNoRoom, IsFirstFit}
+use Rattle.blk_alloc.specs.Fitting.{HasNoRoom, IsFirstFit, IsShortOf}
 use Rattle.blk_alloc.specs.Taking.{taking_of, IsTakeable, IsTaken, IsTaking}
-use Rattle.blk_alloc.specs.Making.{HasMostBlocks, IsFirstGrowing, KeepsFiles, KeepsMarks}
+use Rattle.blk_alloc.specs.Making.{HasMostBlocks, HasNoHints, IsFirstGrowing, KeepsFiles, KeepsMarks}
 
 -- What is asked of the files.
 
@@ -63,19 +63,21 @@ pub record IsChosen (files : BlockFiles) (image : Image) (kind count w : ℕ) : 
 
 -- What becomes of the files.
 
--- room was made in a file: its first blocks of it may be taken, each file that was kept has its marks and allocations as before, and a new one has none
+-- room was made in a file: its first blocks of it may be taken, each file that was kept has its marks and allocations as before, and a new one has none, and no hints
 pub record IsMade (files : BlockFiles) (from : Image) (place : Blocks) (image : Image) : Type 0 where
   pub takeable : IsTakeable image place
   pub keeps : KeepsFiles files from image
   pub marks : KeepsMarks files from image
   pub fresh : is_among (all_files files) place.file ≡ false → AreAllocations image place.file []
+  pub hints : is_among (all_files files) place.file ≡ false → HasNoHints image place.file
 
--- the blocks of an address are given: they were free and are marked now, no other mark of a file that was there has changed, its file has one allocation more and each other has its own, the counters are true, and updating is 0
+-- the blocks of an address are given: they were free and are marked now, no other mark of a file that was there has changed, its file has one allocation more and each other has its own, a file that wasn't there has no hints, the counters are true, and updating is 0
 pub record IsGiven (files : BlockFiles) (from : Image) (w : ℕ) (image : Image) : Type 0 where
   pub free : is_among (all_files files) (file_selector w) ≡ true → (b : ℕ) → is_of w (file_selector w) b ≡ true → is_marked from (file_selector w) b ≡ false
   pub marks : (n b : ℕ) → is_among (all_files files) n ≡ true → b < most_blocks → is_marked image n b ≡ (if is_of w n b then true else is_marked from n b)
   pub allocations : is_among (all_files files) (file_selector w) ≡ true → (words : List ℕ) → AreAllocations from (file_selector w) words → AreAllocations image (file_selector w) (w ∷ words)
   pub fresh : is_among (all_files files) (file_selector w) ≡ false → AreAllocations image (file_selector w) (w ∷ [])
+  pub hints : is_among (all_files files) (file_selector w) ≡ false → HasNoHints image (file_selector w)
   pub elsewhere : (n : ℕ) → is_among (all_files files) n ≡ true → n ≢ file_selector w → KeepsFile from image n
   pub empty : EmptyAgrees image (file_selector w)
   pub updating : updating_of (byte image (Block (file_selector w))) ≡ 0
@@ -119,22 +121,24 @@ IsFitTaken files kind count from image =
 abbrev pub last_place : ℕ
 last_place = 8188
 
--- a type has the most files, which are 60, and each has the most blocks: the damage has the place of the last word that was read, which is the last of the map of one of them, and finds this word
+-- a type has the most files, which are 60, and each has the most blocks: the damage has the place of the last word that was read, which is the last of the map of the last of them, and finds this word
 pub record IsFull (files : BlockFiles) (kind : ℕ) (told : Told) (damage : Damage) : Type 0 where
   pub number : most_files ≤ length (files_of files kind)
   pub full : All (HasMostBlocks files) (files_of files kind)
   pub file : ℕ
-  pub linked : is_among (files_of files kind) file ≡ true
+  pub last : slice_get (files_of files kind) (most_files - 1) ≡ Some file
   pub of_file : damage.file ≡ names.Block file
   pub at : damage.at ≡ last_place
   pub found : ForSome told.files (λ image. damage.found ≡ word image (Block file) last_place)
 
--- the header of one of the files of a type is damaged: a read of it gave too few bytes, or a counter would leave its range
+-- the header of one of the files of a type is damaged, whose blocks from one on were to be taken: a read of it gave too few bytes, or a counter would leave its range
 pub record IsCauseOf (files : BlockFiles) (kind : ℕ) (told : Told) (damage : Damage) : Type 0 where
   pub file : ℕ
+  pub start : ℕ
   pub linked : is_among (files_of files kind) file ≡ true
-  pub cause : IsCause told file damage
+  pub small : start < most_blocks
+  pub cause : IsCause told file start damage
 
--- why no blocks are given: a damaged header, which may be that of a file that was added, or files that were full
+-- why no blocks are given: a damaged header, which may be that of a file that was added, a map that was too short where room was sought, or files that were full
 abbrev pub IsRefusal : BlockFiles → BlockFiles → ℕ → Told → Damage → Type 0
-IsRefusal old new kind told damage = IsCauseOf new kind told damage ⊎ IsFull old kind told damage
+IsRefusal old new kind told damage = IsCauseOf new kind told damage ⊎ IsShortOf old kind told damage ⊎ IsFull old kind told damage

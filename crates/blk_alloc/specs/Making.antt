@@ -2,7 +2,7 @@
 use Rattle.std.specs.Prelude.{◌≡◌, ℕ, ◌<◌, List, true, ◌≤◌, ◌++◌, ◌∷◌, Option, None, Some}
 use Rattle.std.specs.List.{All}
 use Rattle.blk_image.specs.Image.{Block, Image, byte}
-use Rattle.blk_format.specs.Headers.{allocations_of}
+use Rattle.blk_format.specs.Headers.{allocations_of, hints_of}
 use Rattle.blk_format.specs.BlockFiles.{is_among, most_blocks}
 use Rattle.blk_format.specs.Maps.{is_marked, AreAllocations, EmptyAgrees}
 use Rattle.blk_disk.specs.declared.tables.BlockFiles.{BlockFiles}
@@ -16,6 +16,10 @@ pub record HasCounters (image : Image) (n : ℕ) : Type 0 where
   pub are : AreAllocations image n words
   pub empty : EmptyAgrees image n
   pub room : allocations_of (byte image (Block n)) < largest
+
+-- the four hints of a file are 0
+abbrev pub HasNoHints : Image → ℕ → Type 0
+HasNoHints image n = (i : ℕ) → i < 4 → hints_of (byte image (Block n)) i ≡ 0
 
 -- each file that is kept has its allocations as before, and its counters are as true as they were
 abbrev pub KeepsFiles : BlockFiles → Image → Image → Type 0

@@ -1,13 +1,13 @@
 -- Allocations of block files that come and go.
-use Rattle.std.specs.Prelude.{◌≡◌, ◌≢◌, ◌⊎◌, ℕ, ◌+◌, ◌<◌, List, filter, Bool, true, false, not, ◌&&◌, ◌==◌, if◌then◌else◌}
+use Rattle.std.specs.Prelude.{◌≡◌, ◌≢◌, ◌⊎◌, ℕ, ◌+◌, ◌*◌, ◌/◌, ◌<◌, List, filter, Bool, true, false, not, ◌&&◌, ◌==◌, if◌then◌else◌}
 use Rattle.std.specs.Option.{ForSome}
 use Rattle.blk_image.specs.Image.{Block, External, Image, byte}
 use Rattle.blk_image.specs.Told.{Told}
 use Rattle.blk_image.specs.Footprint.{SameOutside}
 use Rattle.blk_format.specs.Address.{file_selector, first_block, block_count}
-use Rattle.blk_format.specs.Headers.{updating_of}
+use Rattle.blk_format.specs.Headers.{block_fields_length, updating_of}
 use Rattle.blk_format.specs.BlockFiles.{is_among, most_blocks}
-use Rattle.blk_format.specs.Maps.{is_marked, AreAllocations, EmptyAgrees}
+use Rattle.blk_format.specs.Maps.{is_marked, map_place, AreAllocations, EmptyAgrees}
 use Rattle.blk_addr.specs.Bits.{is_between}
 use Rattle.blk_io.specs.declared.folder.FileId.TheVariants as names
 use Rattle.blk_io.specs.declared.fault.Damage.{Damage}
@@ -54,12 +54,17 @@ pub record IsCount (told : Told) (n : ℕ) (damage : Damage) : Type 0 where
   pub are : ForSome told.files (λ image. AreCounters (byte image (Block n)) counters)
   pub at_end : IsAtEnd counters n damage
 
--- a read of the header of a file gave too few bytes
-pub record IsShortHeader (told : Told) (n : ℕ) (damage : Damage) : Type 0 where
+-- what a change of blocks from `start` on reads of a header, by place and number of bytes: its fields, and the word of the map that has the blocks
+abbrev pub IsHeaderRead : ℕ → ℕ → ℕ → Type 0
+IsHeaderRead start place count = ((place ≡ 0) × (count ≡ block_fields_length)) ⊎ ((place ≡ map_place + 4 * (start / 32)) × (count ≡ 4))
+
+-- such a read of a file gave too few bytes
+pub record IsShortHeader (told : Told) (n start : ℕ) (damage : Damage) : Type 0 where
   pub place : ℕ
   pub count : ℕ
+  pub read : IsHeaderRead start place count
   pub short : IsShort told (names.Block n) place count damage
 
--- why the header of a file is damaged: a read of it gave too few bytes, or a counter would leave its range
-abbrev pub IsCause : Told → ℕ → Damage → Type 0
-IsCause told n damage = IsShortHeader told n damage ⊎ IsCount told n damage
+-- why the header of a file is damaged where blocks from `start` on change: a read of it gave too few bytes, or a counter would leave its range
+abbrev pub IsCause : Told → ℕ → ℕ → Damage → Type 0
+IsCause told n start damage = IsShortHeader told n start damage ⊎ IsCount told n damage

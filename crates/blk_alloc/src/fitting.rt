@@ -1,15 +1,14 @@
 // The first place where blocks fit.
-ghost use Rattle.std.specs.Prelude.{◌≡◌, ◌≢◌, ◌≤◌, ◌<◌, ◌+◌, ◌*◌, ◌%◌, min, true, length, None, IfOk};
+ghost use Rattle.std.specs.Prelude.{◌≡◌, ◌≢◌, ◌≤◌, ◌<◌, ◌+◌, ◌*◌, ◌/◌, ◌%◌, min, true, length, None, IfOk};
 ghost use Rattle.std.specs.Option.{ForSome};
 ghost use Rattle.blk_image.specs.Image.{Block as block, length_of};
 ghost use Rattle.blk_image.specs.Told.{Stays, Rises};
 ghost use Rattle.blk_format.specs.BlockFiles.{is_among, most_blocks};
-ghost use Rattle.blk_format.specs.Maps.{group_size};
+ghost use Rattle.blk_format.specs.Maps.{group_size, map_place};
 ghost use Rattle.blk_addr.specs.Kind.{kind_number};
-ghost use Rattle.blk_io.specs.Faults.{IfDamaged, IfDevice};
+ghost use Rattle.blk_io.specs.Faults.{IfDamaged, IfDevice, IsShort};
 ghost use Rattle.blk_disk.specs.Tables.{Agrees, all_files, blocks_of, files_of};
-ghost use Rattle.blk_alloc.specs.Owning.{IsShortHeader};
-ghost use Rattle.blk_alloc.specs.Fitting.{IsFitting, IsLeastFrom, IsPlace, IsShortOf};
+ghost use Rattle.blk_alloc.specs.Fitting.{IsFitting, IsLeastFrom, IsPlace, IsShortOf, IsShortPiece};
 ghost use Rattle.blk_format.specs.Address.{external};
 
 use crate::blocks::Blocks;
@@ -43,7 +42,7 @@ fn least_in_piece<F: Folder>(
     requires none_more { 8 * length piece.old < blocks + 8 }
     ensures least { IfOk result (λ found. ForSome (F.told f.old).files (λ image. IsLeastFrom image file count first (first + blocks) found)) }
     ensures inside { IfOk result (λ found. ForSome found (λ b. (b % 4 + count ≤ group_size) × (b < first + blocks))) }
-    ensures cause { IfDamaged result (IsShortHeader (F.told f.old) file) }
+    ensures short { IfDamaged result (IsShort (F.told f.old) (FileId.Block file) (map_place + first / 8) ((blocks + 7) / 8)) }
     ensures untold { IfDamaged result (λ _. ForSome (F.told f.old).files (λ image. 8192 ≤ length_of image (block file)) → (F.told f.old).files ≡ None) }
     ensures stays { Stays (F.told f.old) (F.told f.new) }
     ensures later { F.faults f.old ≤ F.faults f.new }
@@ -62,7 +61,7 @@ fn least_in_file<F: Folder>(f: &mut F, file: u8, end: u32, count: u32) -> Result
     requires small { end ≤ most_blocks }
     ensures least { IfOk result (λ found. ForSome (F.told f.old).files (λ image. IsLeastFrom image file count 0 end found)) }
     ensures inside { IfOk result (λ found. ForSome found (λ b. (b % 4 + count ≤ group_size) × (b < end))) }
-    ensures cause { IfDamaged result (IsShortHeader (F.told f.old) file) }
+    ensures cause { IfDamaged result (IsShortPiece (F.told f.old) file end) }
     ensures untold { IfDamaged result (λ _. ForSome (F.told f.old).files (λ image. 8192 ≤ length_of image (block file)) → (F.told f.old).files ≡ None) }
     ensures stays { Stays (F.told f.old) (F.told f.new) }
     ensures later { F.faults f.old ≤ F.faults f.new }
@@ -105,7 +104,7 @@ pub(crate) fn first_fit<F: Folder>(
     requires agrees { ForSome (F.told f.old).files (Agrees files.now) }
     ensures fit { IfOk result (λ found. ForSome (F.told f.old).files (λ image. IsFitting image (files_of files.now (kind_number kind)) count found)) }
     ensures place { IfOk result (λ found. ForSome found (IsPlace files.now (kind_number kind) count)) }
-    ensures cause { IfDamaged result (IsShortOf (F.told f.old) (files_of files.now (kind_number kind))) }
+    ensures cause { IfDamaged result (IsShortOf files.now (kind_number kind) (F.told f.old)) }
     ensures untold { IfDamaged result (λ _. (F.told f.old).files ≡ None) }
     ensures stays { Stays (F.told f.old) (F.told f.new) }
     ensures later { F.faults f.old ≤ F.faults f.new }

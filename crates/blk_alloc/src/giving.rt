@@ -14,7 +14,7 @@ ghost use Rattle.blk_disk.specs.Tables.{Agrees, files_of, stands_among};
 ghost use Rattle.blk_alloc.specs.Owning.{KeepsExternals};
 ghost use Rattle.blk_alloc.specs.Fitting.{IsPlace};
 ghost use Rattle.blk_alloc.specs.Making.{HasMostBlocks, KeepsAll};
-ghost use Rattle.blk_alloc.specs.Giving.{AreCounted, HaveNoRoom, IsAddedPlace, IsCauseOf, IsChosen, IsFitTaken, IsFull, IsGiven, IsGiving, IsGrownPlace, IsMade, IsMaking, IsMakingIn, IsRefusal};
+ghost use Rattle.blk_alloc.specs.Giving.{AreCounted, HaveNoRoom, IsAddedPlace, IsChosen, IsFitTaken, IsFull, IsGiven, IsGiving, IsGrownPlace, IsMade, IsMaking, IsMakingIn, IsRefusal};
 
 use crate::blocks::Blocks;
 use crate::fitting::first_fit;
@@ -36,7 +36,7 @@ fn full_damage<F: Folder>(f: &mut F, files: &BlockFiles, kind: Kind) -> Result<D
     requires number { most_files ≤ length (files_of files.now (kind_number kind)) }
     requires full { All (HasMostBlocks files.now) (files_of files.now (kind_number kind)) }
     ensures full { IfOk result (IsFull files.now (kind_number kind) (F.told f.old)) }
-    ensures cause { IfDamaged result (IsCauseOf files.now (kind_number kind) (F.told f.old)) }
+    ensures cause { IfDamaged result (λ damage. (F.told f.old).files ≡ None → IsFull files.now (kind_number kind) (F.told f.old) damage) }
     ensures stays { Stays (F.told f.old) (F.told f.new) }
     ensures later { F.faults f.old ≤ F.faults f.new }
     ensures device { IfDevice result (Rises (F.faults f.old) (F.faults f.new)) }
@@ -75,6 +75,7 @@ fn new_room<F: Folder>(
     ensures stops { ForSome (F.told f.old).files (λ from. Passes (F.told f.old) (F.told f.new) (IsMaking files.old (kind_number kind) from)) }
     ensures blocks { ForSome (F.told f.old).files (λ from. Passes (F.told f.old) (F.told f.new) (KeepsBlocks from)) }
     ensures formed { ForSome (F.told f.old).files (λ from. IsWellFormed from → Passes (F.told f.old) (F.told f.new) IsWellFormed) }
+    ensures silent { (F.told f.old).files ≡ None → (F.told f.new).files ≡ None }
     ensures cause { IfDamaged result (IsRefusal files.old files.new (kind_number kind) (F.told f.old)) }
     ensures untold { IfDamaged result (λ _. (F.told f.old).files ≡ None) }
     ensures later { F.faults f.old ≤ F.faults f.new }
@@ -113,6 +114,7 @@ fn take_new<F: Folder>(
     ensures stops { ForSome (F.told f.old).files (λ from. Passes (F.told f.old) (F.told f.new) (IsMaking files.old (kind_number kind) from)) }
     ensures blocks { ForSome (F.told f.old).files (λ from. Passes (F.told f.old) (F.told f.new) (KeepsBlocks from)) }
     ensures formed { ForSome (F.told f.old).files (λ from. IsWellFormed from → Passes (F.told f.old) (F.told f.new) IsWellFormed) }
+    ensures silent { (F.told f.old).files ≡ None → (F.told f.new).files ≡ None }
     ensures cause { IfDamaged result (IsRefusal files.old files.new (kind_number kind) (F.told f.old)) }
     ensures untold { IfDamaged result (λ _. (F.told f.old).files ≡ None) }
     ensures later { F.faults f.old ≤ F.faults f.new }
@@ -158,6 +160,7 @@ pub fn allocate<F: Folder>(
     ensures externals { ForSome (F.told f.old).files (λ from. Passes (F.told f.old) (F.told f.new) (KeepsExternals from)) }
     ensures formed { ForSome (F.told f.old).files (λ from. IsWellFormed from → Passes (F.told f.old) (F.told f.new) IsWellFormed) }
 
+    ensures silent { (F.told f.old).files ≡ None → (F.told f.new).files ≡ None }
     ensures cause { IfDamaged result (IsRefusal files.old files.new (kind_number kind) (F.told f.old)) }
     ensures untold { IfDamaged result (λ _. (F.told f.old).files ≡ None) }
     ensures later { F.faults f.old ≤ F.faults f.new }

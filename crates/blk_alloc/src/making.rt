@@ -10,7 +10,7 @@ ghost use Rattle.blk_format.specs.Maps.{group_size, AreAllocations};
 ghost use Rattle.blk_disk.specs.Tables.{Agrees, blocks_of, files_of};
 ghost use Rattle.blk_disk.specs.Growth.{IsLeastFree, KeepsBlocks, addition_of, free_number, growth_of};
 ghost use Rattle.blk_alloc.specs.Fitting.{IsPlace};
-ghost use Rattle.blk_alloc.specs.Making.{HasCounters, IsGrowing, KeepsAll, KeepsFiles, KeepsMarks};
+ghost use Rattle.blk_alloc.specs.Making.{HasCounters, HasNoHints, IsGrowing, KeepsAll, KeepsFiles, KeepsMarks};
 ghost use Rattle.blk_alloc.specs.Taking.{IsTakeable};
 
 use crate::blocks::Blocks;
@@ -48,6 +48,7 @@ pub(crate) fn grow_room<F: Folder>(
     ensures outside { ForSome (F.told f.old).files (λ from. Passes (F.told f.old) (F.told f.new) (SameOutside (growth_of file) from)) }
     ensures blocks { ForSome (F.told f.old).files (λ from. Passes (F.told f.old) (F.told f.new) (KeepsBlocks from)) }
     ensures formed { ForSome (F.told f.old).files (λ from. IsWellFormed from → Passes (F.told f.old) (F.told f.new) IsWellFormed) }
+    ensures silent { (F.told f.old).files ≡ None → (F.told f.new).files ≡ None }
     ensures later { F.faults f.old ≤ F.faults f.new }
     ensures failed { OnErr result (Rises (F.faults f.old) (F.faults f.new)) }
 {
@@ -73,6 +74,7 @@ pub(crate) fn add_room<F: Folder>(
     ensures all { OnOk result (KeepsAll files.old files.new) }
     ensures marks { OnOk result (ForSome (F.told f.old).files (λ from. ForSome (F.told f.new).files (KeepsMarks files.old from))) }
     ensures fresh { OnOk result (ForSome (F.told f.old).files (λ from. ForSome (F.told f.new).files (λ image. AreAllocations image (free_number files.old) []))) }
+    ensures hints { OnOk result (ForSome (F.told f.old).files (λ from. ForSome (F.told f.new).files (λ image. HasNoHints image (free_number files.old)))) }
     ensures least { OnOk result (IsLeastFree files.old (free_number files.old)) }
     ensures takeable { IfOk result (λ place. ForSome (F.told f.old).files (λ from. ForSome (F.told f.new).files (λ image. IsTakeable image place))) }
     ensures keeps { OnOk result (ForSome (F.told f.old).files (λ from. ForSome (F.told f.new).files (KeepsFiles files.old from))) }
@@ -80,6 +82,7 @@ pub(crate) fn add_room<F: Folder>(
     ensures outside { ForSome (F.told f.old).files (λ from. Passes (F.told f.old) (F.told f.new) (SameOutside (either (addition_of files.old (kind_number kind)) (growth_of (free_number files.old))) from)) }
     ensures blocks { ForSome (F.told f.old).files (λ from. Passes (F.told f.old) (F.told f.new) (KeepsBlocks from)) }
     ensures formed { ForSome (F.told f.old).files (λ from. IsWellFormed from → Passes (F.told f.old) (F.told f.new) IsWellFormed) }
+    ensures silent { (F.told f.old).files ≡ None → (F.told f.new).files ≡ None }
     ensures later { F.faults f.old ≤ F.faults f.new }
     ensures failed { OnErr result (Rises (F.faults f.old) (F.faults f.new)) }
 {

@@ -151,6 +151,10 @@ fn blocks_are_given_at_the_first_place_inside_a_group(rt: HostRuntime) -> Result
         (28, 0),
         (32, 0),
         (36, 254),
+        (40, 0),
+        (44, 0),
+        (48, 0),
+        (52, 0),
         (56, 0),
         (80, 0xFF),
     ];
@@ -183,6 +187,10 @@ fn a_file_is_added_where_the_only_one_is_full(rt: HostRuntime) -> Result<(), Fai
         (28, 0),
         (32, 1),
         (36, 255),
+        (40, 0),
+        (44, 0),
+        (48, 0),
+        (52, 0),
         (80, 1),
     ];
     for (at, word) in expected {

@@ -7,8 +7,7 @@ use Rattle.blk_image.proofs.Runs.{some_inj}
 use Rattle.blk_format.specs.BlockFiles.{is_among, max_entries_in}
 use Rattle.blk_addr.specs.Kind.{kind_number}
 use Rattle.blk_disk.specs.Tables.{files_of}
-use Rattle.blk_alloc.specs.Owning.{IsShortHeader}
-use Rattle.blk_alloc.specs.Fitting.{HasNoRoom, IsLeastFrom, IsPlace, IsShortOf}
+use Rattle.blk_alloc.specs.Fitting.{HasNoRoom, IsLeastFrom, IsPlace, IsShortOf, IsShortPiece}
 use Rattle.blk_io.proofs.Carried.{carried, if_damaged_weaker}
 use Rattle.blk_alloc.proofs.Formed.{count_whole}
 use Rattle.blk_alloc.proofs.Members.{member_all, member_head, member_at, split_at, at_place}
@@ -19,8 +18,13 @@ returns-in_err-start-clause-cause g c =
     let files = files_of c.args.files.now (kind_number c.args.kind) in
     let there : is_among files c.in-Some.file ≡ true = member_at files c.loop-i.i c.in-Some.file (sym c.file_at.ensures ∙ c.in-Some.is) in
     carried c.least_in_file.result c.from_residual.result c.in_err-start.field-0.0 _ c.in_err-start.was c.from_residual.ensures.1
-    (if_damaged_weaker c.least_in_file.result (IsShortHeader (g.F.Folder.told c.loop-i.f) c.in-Some.file) (IsShortOf (g.F.Folder.told c.args.f.now) files)
-    (λ damage short. record { file = c.in-Some.file; linked = there; short = subst (λ (t : Told). IsShortHeader t c.in-Some.file damage) c.loop-i.invariant.stays short }) c.least_in_file.ensures.cause)
+    (if_damaged_weaker c.least_in_file.result (IsShortPiece (g.F.Folder.told c.loop-i.f) c.in-Some.file c.blocks_in-end.result) (IsShortOf c.args.files.now (kind_number c.args.kind) (g.F.Folder.told c.args.f.now))
+    (λ damage short. record {
+      file = c.in-Some.file;
+      linked = there;
+      short = subst (λ (k : ℕ). IsShortPiece (g.F.Folder.told c.args.f.now) c.in-Some.file k damage) (c.blocks_in-end.ensures.blocks (member_all c.args.files.now c.args.kind c.in-Some.file c.requires.blocky there))
+          (subst (λ (t : Told). IsShortPiece t c.in-Some.file c.blocks_in-end.result damage) c.loop-i.invariant.stays short);
+    }) c.least_in_file.ensures.cause)
 
 pub returns-in_err-start-clause-untold : goal.returns-in_err-start-clause-untold
 returns-in_err-start-clause-untold g c =

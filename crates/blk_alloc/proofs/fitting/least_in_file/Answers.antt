@@ -2,7 +2,11 @@ use Rattle.std.proofs.Common.{◌≡◌, ℕ, ◌+◌, ◌*◌, ◌/◌, ◌%◌
 use Rattle.blk_image.specs.Told.{Told}
 use Rattle.blk_format.specs.Maps.{is_marked}
 use Rattle.blk_alloc.specs.Places.{AreNoPlaces}
-use Rattle.blk_alloc.specs.Fitting.{IsLeastFrom}
+use Rattle.blk_alloc.specs.Fitting.{IsLeastFrom, IsShortPiece}
+use Rattle.blk_io.specs.declared.folder.FileId.TheVariants as names
+use Rattle.blk_io.specs.declared.fault.Damage.{Damage}
+use Rattle.blk_io.specs.Faults.{IsShort}
+use Rattle.blk_io.proofs.Carried.{carried, if_damaged_weaker}
 use Rattle.blk_alloc.proofs.Pieces.{no_places-append}
 use Rattle.blk_alloc.proofs.fitting.least_in_file.Goals as goal
 
@@ -27,6 +31,25 @@ loop-piece-preserved g c = record {
   stays = c.in_ok-b.ensures.stays ∙ c.loop-piece.invariant.stays;
   later = let one = c.loop-piece.invariant.later in let other = c.in_ok-b.ensures.later in omega (arith, one, other);
 }
+
+moved_read : (told : Told) (n p q k m : ℕ) (damage : Damage) → p ≡ q → k ≡ m → IsShort told (names.Block n) p k damage → IsShort told (names.Block n) q m damage
+moved_read told n p q k m damage at count short = subst (λ (x : ℕ). IsShort told (names.Block n) x m damage) at (subst (λ (y : ℕ). IsShort told (names.Block n) p y damage) count short)
+
+pub returns-in_err-b-clause-cause : goal.returns-in_err-b-clause-cause
+returns-in_err-b-clause-cause g c =
+    let told = g.F.Folder.told c.args.f.now in
+    let ends : c.div_ceil-piece-end.result ≡ c.args.end / 8192 + min 1 (c.args.end % 8192) = c.div_ceil-piece-end.ensures in
+    let blocks : c.min-blocks.result ≡ min (c.args.end - c.loop-piece.piece * 8192) 8192 = c.min-blocks.ensures in
+    let count : (c.min-blocks.result + 7) / 8 ≡ (min (c.args.end - c.loop-piece.piece * 8192) 8192 + 7) / 8 = ap (λ (k : ℕ). (k + 7) / 8) blocks in
+    let place : 80 + c.loop-piece.piece * 8192 / 8 ≡ 80 + c.loop-piece.piece * 1024 = omega arith in
+    carried c.least_in_piece.result c.from_residual.result c.in_err-b.field-0.0 _ c.in_err-b.was c.from_residual.ensures.1
+    (if_damaged_weaker c.least_in_piece.result (IsShort (g.F.Folder.told c.loop-piece.f) (names.Block c.args.file) (80 + c.loop-piece.piece * 8192 / 8) ((c.min-blocks.result + 7) / 8)) (IsShortPiece told c.args.file c.args.end)
+    (λ damage short. record {
+      piece = c.loop-piece.piece;
+      inside = omega (arith, ends, c.loop-piece-test.true);
+      short = moved_read told c.args.file (80 + c.loop-piece.piece * 8192 / 8) (80 + c.loop-piece.piece * 1024) ((c.min-blocks.result + 7) / 8) ((min (c.args.end - c.loop-piece.piece * 8192) 8192 + 7) / 8) damage place count
+          (subst (λ (t : Told). IsShort t (names.Block c.args.file) (80 + c.loop-piece.piece * 8192 / 8) ((c.min-blocks.result + 7) / 8) damage) c.loop-piece.invariant.stays short);
+    }) c.least_in_piece.ensures.short)
 
 pub returns-clause-least : goal.returns-clause-least
 returns-clause-least g c image there b low upto =

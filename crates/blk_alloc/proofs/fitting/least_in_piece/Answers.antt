@@ -5,6 +5,7 @@ use Rattle.blk_image.specs.Image.{Block, byte, length_of}
 use Rattle.blk_image.proofs.Runs.{some_inj}
 use Rattle.blk_addr.specs.Bits.{has_bit}
 use Rattle.blk_io.specs.declared.folder.FileId.TheVariants as names
+use Rattle.blk_io.specs.Faults.{IfDamaged, IsShort}
 use Rattle.blk_io.proofs.Shorts.{untold_if}
 use Rattle.blk_alloc.specs.Places.{IsLeastPlace}
 use Rattle.blk_io.proofs.Carried.{carried, if_damaged}
@@ -17,6 +18,13 @@ returns-in_err-read_exact-clause-untold g c =
     (if_damaged c.read_exact.result (ForSome (g.F.Folder.told c.args.f.now).files (λ image. 8192 ≤ length_of image (Block c.args.file))) (λ _. (g.F.Folder.told c.args.f.now).files ≡ None)
     (λ header. untold_if c.read_exact.result (g.F.Folder.told c.args.f.now) (names.Block c.args.file) (80 + c.from.result) (length c.args.piece.now) c.read_exact.ensures.short
     (λ image there. let long = header image there in let place = c.from.ensures in omega (arith, long, place, c.requires.none_more, c.requires.small, c.requires.whole))))
+
+pub returns-in_err-read_exact-clause-short : goal.returns-in_err-read_exact-clause-short
+returns-in_err-read_exact-clause-short g c =
+    let count : length c.args.piece.now ≡ (c.args.blocks + 7) / 8 = omega (arith, c.requires.fits, c.requires.none_more) in
+    carried c.read_exact.result c.from_residual.result c.in_err-read_exact.field-0.0 _ c.in_err-read_exact.was c.from_residual.ensures.1
+    (subst (λ (k : ℕ). IfDamaged c.read_exact.result (IsShort (g.F.Folder.told c.args.f.now) (names.Block c.args.file) (80 + c.args.first / 8) k)) count
+    (subst (λ (p : ℕ). IfDamaged c.read_exact.result (IsShort (g.F.Folder.told c.args.f.now) (names.Block c.args.file) (80 + p) (length c.args.piece.now))) c.from.ensures c.read_exact.ensures.short))
 
 pub returns-in-Some-clause-least : goal.returns-in-Some-clause-least
 returns-in-Some-clause-least g c image there =

@@ -12,6 +12,8 @@ use Rattle.blk_alloc.specs.Changes.{IsMidst, IsReady, IsChanged, map_of}
 use Rattle.std.specs.Option.{ForSome}
 use Rattle.blk_image.specs.Footprint.{SameOutside}
 use Rattle.blk_format.specs.BlockFiles.{max_entries_in}
+use Rattle.blk_io.specs.Faults.{IfDamaged}
+use Rattle.blk_alloc.specs.Owning.{IsCause}
 use Rattle.blk_io.proofs.Carried.{if_damaged_weaker, told_at_end}
 use Rattle.blk_alloc.proofs.Formed.{formed_kept, agrees_kept}
 use Rattle.blk_alloc.proofs.Freed.{free_ready, freed_is, allocated_blocks}
@@ -81,6 +83,11 @@ returns-clause-untold g c =
     if_damaged_weaker c.change.result (λ _. ForSome (g.F.Folder.told c.args.f.now).files (λ image. IsReady image b.result.file b.result.start b.result.count false) → (g.F.Folder.told c.args.f.now).files ≡ None) (λ _. (g.F.Folder.told c.args.f.now).files ≡ None)
     (λ damage none. none (λ from there. (moved (λ n s k. IsReady from n s k false) c.args.addr b.result.file b.result.start b.result.count b.ensures.file b.ensures.start b.ensures.count
     (free_ready from c.args.addr (stands_blocky c.args.files.now c.args.addr c.requires.stands) (c.requires.agrees from there).undamaged (c.requires.allocated from there) (c.requires.empty from there))))) c.change.ensures.untold
+
+pub returns-clause-cause : goal.returns-clause-cause
+returns-clause-cause g c =
+    let b = c.blocks_of-blocks in
+    back (λ n s k. IfDamaged c.change.result (IsCause (g.F.Folder.told c.args.f.now) n s)) c.args.addr b.result.file b.result.start b.result.count b.ensures.file b.ensures.start b.ensures.count c.change.ensures.cause
 
 pub returns-clause-blocks : goal.returns-clause-blocks
 returns-clause-blocks g c from there =

@@ -7,9 +7,9 @@ use Rattle.blk_format.specs.BlockFiles.{is_among}
 use Rattle.blk_format.specs.Maps.{AreAllocations}
 use Rattle.blk_disk.specs.Tables.{all_files, files_of, blocks_of}
 use Rattle.blk_disk.specs.Growth.{IsLeastFree, addition_of, free_number, growth_of}
-use Rattle.blk_alloc.specs.Making.{IsFirstGrowing}
-use Rattle.blk_alloc.specs.Giving.{IsMaking, IsMakingIn}
-use Rattle.blk_io.proofs.Carried.{untold_where}
+use Rattle.blk_alloc.specs.Making.{HasNoHints, IsFirstGrowing}
+use Rattle.blk_alloc.specs.Giving.{IsFull, IsMaking, IsMakingIn, IsRefusal}
+use Rattle.blk_io.proofs.Carried.{carried, if_damaged_weaker, untold_where}
 use Rattle.blk_alloc.proofs.Formed.{count_whole}
 use Rattle.blk_alloc.proofs.Members.{member_all, member_head, member_split}
 use Rattle.blk_alloc.proofs.Rooms.{has_counters, if_damaged_any, making_added, making_grown, never_full}
@@ -62,6 +62,7 @@ returns-in-Some-clause-made g c from there image now =
       keeps = c.in_ok-place.ensures.keeps from there image now;
       marks = c.in_ok-place.ensures.marks from there image now;
       fresh = λ none. absurd (among_or_not (sym all ∙ ap (is_among (all_files c.args.files.now)) (sym file) ∙ none));
+      hints = λ none. absurd (among_or_not (sym all ∙ ap (is_among (all_files c.args.files.now)) (sym file) ∙ none));
     }
 
 pub returns-in-Some-clause-making : goal.returns-in-Some-clause-making
@@ -84,6 +85,16 @@ pub returns-in_err-damage-clause-untold : goal.returns-in_err-damage-clause-unto
 returns-in_err-damage-clause-untold g c =
     if_damaged_any c.from_residual-in_err-damage.result ((g.F.Folder.told c.args.f.now).files ≡ None)
     (untold_where (g.F.Folder.told c.args.f.now).files (λ from there. never_full c.args.files.now from c.args.kind c.args.count c.requires.blocky c.requires.few (c.requires.agrees from there) (c.requires.counted from there) (c.requires.full from there) c.in_default.ensures (many_files c.count.result (length (files_of c.args.files.now (kind_number c.args.kind))) c.count.ensures c.if-count-ge-MOST_FILES.true)))
+
+pub returns-in_err-damage-clause-cause : goal.returns-in_err-damage-clause-cause
+returns-in_err-damage-clause-cause g c =
+    let told = g.F.Folder.told c.args.f.now in
+    let kind : ℕ = kind_number c.args.kind in
+    let none : told.files ≡ None =
+    untold_where told.files (λ from there. never_full c.args.files.now from c.args.kind c.args.count c.requires.blocky c.requires.few (c.requires.agrees from there) (c.requires.counted from there) (c.requires.full from there) c.in_default.ensures (many_files c.count.result (length (files_of c.args.files.now kind)) c.count.ensures c.if-count-ge-MOST_FILES.true)) in
+    carried c.full_damage.result c.from_residual-in_err-damage.result c.in_err-damage.field-0.0 _ c.in_err-damage.was c.from_residual-in_err-damage.ensures.1
+    (if_damaged_weaker c.full_damage.result (λ damage. told.files ≡ None → IsFull c.args.files.now kind told damage) (IsRefusal c.args.files.now c.args.files.now kind told)
+    (λ damage full. inr (inr (full none))) c.full_damage.ensures.cause)
 
 pub returns-then-count-ge-MOST_FILES-clause-stops :
     goal.returns-then-count-ge-MOST_FILES-clause-stops
@@ -120,6 +131,7 @@ returns-clause-made g c from there image now = record {
   keeps = c.in_ok-place-2.ensures.keeps from there image now;
   marks = c.in_ok-place-2.ensures.marks from there image now;
   fresh = λ none. subst (λ (n : ℕ). AreAllocations image n []) (sym c.in_ok-place-2.ensures.place.0) (c.in_ok-place-2.ensures.fresh from there image now);
+  hints = λ none. subst (HasNoHints image) (sym c.in_ok-place-2.ensures.place.0) (c.in_ok-place-2.ensures.hints from there image now);
 }
 
 pub returns-clause-making : goal.returns-clause-making

@@ -9,8 +9,10 @@ use Rattle.blk_addr.specs.Kind.{kind_number}
 use Rattle.blk_disk.specs.Tables.{Joins}
 use Rattle.blk_disk.specs.Growth.{IsLeastFree, KeepsBlocks, addition_of, free_number, growth_of, add_steps, last_file}
 use Rattle.blk_alloc.specs.Making.{HasCounters}
-use Rattle.blk_alloc.proofs.Adding.{added_file, new_allocations, new_counters, new_among, join_keeps, join_widens, all_kept}
+use Rattle.blk_alloc.proofs.Adding.{added_file, new_allocations, new_hints, new_counters, new_among, join_keeps, join_widens, all_kept}
+use Rattle.blk_alloc.proofs.Hints.{grown_hints}
 use Rattle.blk_alloc.proofs.Members.{member_all}
+use Rattle.blk_io.proofs.Carried.{silent_part}
 use Rattle.blk_alloc.proofs.Causes.{told_before}
 use Rattle.blk_alloc.proofs.Sparing.{blocks_then}
 use Rattle.blk_alloc.proofs.Written.{passes_on}
@@ -122,6 +124,16 @@ returns-clause-fresh g c from there image last =
     let linked = member_all c.add_file.new.self c.args.kind n c.requires.blocky (new_among c.args.files.now c.add_file.new.self from mid kind n (last_file c.args.files.now kind) least.free joins same) in
     (c.in_ok-place.ensures.keeps mid now image last n linked).allocations [] (new_allocations mid kind n file)
 
+pub returns-clause-hints : goal.returns-clause-hints
+returns-clause-hints g c from there image last =
+    let kind : ℕ = kind_number c.args.kind in
+    let n : ℕ = free_number c.args.files.now in
+    let now = c.in_ok-file.ensures.whole.files ∙ ap (option_map (after (add_steps c.args.files.now kind))) there in
+    let mid : Image = after (add_steps c.args.files.now kind) from in
+    let least : IsLeastFree c.args.files.now n = subst (IsLeastFree c.args.files.now) c.in_ok-file.ensures.number c.in_ok-file.ensures.least in
+    let file = added_file c.args.files.now from c.args.kind c.requires.blocky (c.requires.agrees from there) c.requires.room least in
+    grown_hints c.in_ok-file.file n mid image (passes_end (c.in_ok-place.ensures.outside mid now) image last) (new_hints mid kind n file)
+
 pub returns-in_err-place-clause-blocks : goal.returns-in_err-place-clause-blocks
 returns-in_err-place-clause-blocks g c from there =
     passes_on from there (c.in_ok-file.ensures.blocks from there)
@@ -133,3 +145,12 @@ returns-clause-blocks g c from there =
     passes_on from there (c.in_ok-file.ensures.blocks from there)
     (λ mid now keeps. let later : (i : Image) → KeepsBlocks mid i → KeepsBlocks from i = λ i more. blocks_then from mid i keeps more in
     passes_weaker (c.in_ok-place.ensures.blocks mid now) later later)
+
+pub returns-in_err-file-clause-silent : goal.returns-in_err-file-clause-silent
+returns-in_err-file-clause-silent g c none = silent_part c.in_err-file.ensures.part none
+
+pub returns-in_err-place-clause-silent : goal.returns-in_err-place-clause-silent
+returns-in_err-place-clause-silent g c none = c.in_err-place.ensures.silent (silent_part c.in_ok-file.ensures.part none)
+
+pub returns-clause-silent : goal.returns-clause-silent
+returns-clause-silent g c none = c.in_ok-place.ensures.silent (silent_part c.in_ok-file.ensures.part none)
