@@ -601,7 +601,11 @@ fn new_entries_are_written_and_read(rt: HostRuntime) -> Result<(), Fail> {
         // Eight calls load the files, one reads the record, and one reads the key, or two a longer one.
         let pieces = if key_len > 16398 { 2 } else { 1 };
         let equal = Ok((true, 8 + 1 + pieces));
-        assert_eq!(rt; counted_equals(&mut f, entry, &key), equal, "{key_len} bytes");
+        assert_eq!(rt;
+            counted_equals(&mut f, entry, &key),
+            equal,
+            "{key_len} bytes"
+        );
 
         // Where length or hash differ the key isn't read.
         let front = &key[..key.len().saturating_sub(1)];

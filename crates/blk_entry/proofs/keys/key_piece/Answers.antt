@@ -56,7 +56,7 @@ returns-in_err-read_data-clause-damaged g c =
       wrong = record {
         long_key = c.in_ok-head.head.long_key;
         wrong = inl (subst (λ (t : Told). IsCutKey c.args.files.now t c.args.entry c.in_ok-head.head.key_len c.in_ok-head.head.long_key damage) c.in_ok-head.ensures.stays
-        (key_is_cut c.args.files.now (g.F.Folder.told c.read_head.new.f) c.args.entry c.in_ok-head.head.key_len c.in_ok-head.head.long_key c.in_ok-key.key (c.in_ok-key.key.skip + c.min-at.result) n damage c.in_ok-key.ensures.placed c.in_ok-key.ensures.place (omega arith) behind cut));
+            (key_is_cut c.args.files.now (g.F.Folder.told c.read_head.new.f) c.args.entry c.in_ok-head.head.key_len c.in_ok-head.head.long_key c.in_ok-key.key (c.in_ok-key.key.skip + c.min-at.result) n damage c.in_ok-key.ensures.placed c.in_ok-key.ensures.place (omega arith) behind cut));
       };
     }))
     c.read_data.ensures.short)
