@@ -10,6 +10,7 @@ use blk_index::bucket;
 use blk_io::{Damage, Failed, Fault, FileId, Folder, MemFolder, SilentFolder, StopFolder};
 use blk_record::{EntryMut, RecordMut, super_fast_hash};
 use std::alloc::Global;
+use std::test::Fail;
 
 // A folder in memory that tells nothing.
 type Silent = SilentFolder<MemFolder>;
@@ -58,15 +59,27 @@ fn place_of(word: u32) -> u64
     8192 + 256 * u64::from(word % 65536)
 }
 
-// Writes a record and its key, by the format alone.
-fn put_record(f: &mut Silent, word: u32, key: &[u8], flags: u32, next: u32) -> Result<(), Failed> {
+// The bytes of a record of a key with this hash and length.
+fn record_with(hash: u32, key_len: u32, flags: u32, next: u32) -> [u8; 96] {
     let mut bytes = [0; 96];
     let mut record = EntryMut::new(&mut bytes);
-    record.set_word(0, super_fast_hash(key));
+    record.set_word(0, hash);
     record.set_word(4, next);
-    record.set_word(32, (key.len() % 0x1_0000_0000) as u32);
+    record.set_word(32, key_len);
     record.set_word(72, flags);
     record.seal();
+    bytes
+}
+
+// The bytes of the record of a key.
+fn record_for(key: &[u8], flags: u32, next: u32) -> [u8; 96] {
+    let key_len = (key.len() % 0x1_0000_0000) as u32;
+    record_with(super_fast_hash(key), key_len, flags, next)
+}
+
+// Writes a record and its key, by the format alone.
+fn put_record(f: &mut Silent, word: u32, key: &[u8], flags: u32, next: u32) -> Result<(), Failed> {
+    let bytes = record_for(key, flags, next);
     f.write_at(FileId::Block(1), place_of(word), &bytes)?;
     f.write_at(FileId::Block(1), place_of(word) + 96, key)
 }
@@ -185,6 +198,42 @@ fn each_of_three_records_of_one_bucket_is_unlinked(rt: HostRuntime) {
     }
 }
 
+// The three keys as they are found when the middle, the first and the last record of their chain are unlinked in
+// turn, after each of them, and the word of the bucket in the end.
+fn emptied(alloc: Global) -> Result<([Three; 3], u32), Fault> {
+    let mut f = three(alloc)?;
+    let _middle = take(&mut f, KEYS[1])?;
+    let two = all(&mut f)?;
+    let _first = take(&mut f, KEYS[2])?;
+    let one = all(&mut f)?;
+    let _last = take(&mut f, KEYS[0])?;
+    let none = all(&mut f)?;
+    let front = bucket(&mut f, (super_fast_hash(KEYS[0]) % 65536) as u16)?;
+    Ok(([two, one, none], front))
+}
+
+#[test]
+fn a_chain_is_emptied_record_by_record(rt: HostRuntime) {
+    let one = [Some((WORDS[0], 0)), None, None];
+    assert_eq!(rt; emptied(rt.alloc()), Ok(([WITHOUT[1], one, [None; 3]], 0)));
+}
+
+// The bytes of the record before the middle one of three, when that one is unlinked.
+fn before_the_middle(alloc: Global) -> Result<[u8; 96], Fault> {
+    let mut f = three(alloc)?;
+    let _middle = take(&mut f, KEYS[1])?;
+    let mut bytes = [0; 96];
+    f.read_at(FileId::Block(1), place_of(WORDS[2]), &mut bytes)?;
+    Ok(bytes)
+}
+
+#[test]
+fn the_record_before_has_another_next_and_the_hash_as_its_seal(rt: HostRuntime) {
+    let sealed = record_for(KEYS[2], PLAIN, WORDS[0]);
+    assert!(rt; sealed[92..] != [0; 4]);
+    assert!(rt; before_the_middle(rt.alloc()) == Ok(sealed));
+}
+
 // What is found of the keys of one hash, and the folder calls that it took to find the first.
 fn twins(alloc: Global) -> Result<(Option<(u32, u32)>, Option<(u32, u32)>, u64), Fault> {
     let mut f = folder(alloc)?;
@@ -244,17 +293,66 @@ fn a_child_has_another_name(rt: HostRuntime) {
     assert_eq!(rt; with_child(rt.alloc()), Ok((found, 8 + 1 + 1 + 2)));
 }
 
-// The place of the word of the bucket of the three keys.
-fn front() -> u64 {
-    368 + 4 * u64::from(super_fast_hash(KEYS[0]) % 65536)
+// Makes the bucket of a key name this record.
+fn put_front(f: &mut Silent, key: &[u8], word: u32) -> Result<(), Failed> {
+    let at = 368 + 4 * u64::from(super_fast_hash(key) % 65536);
+    f.write_at(FileId::Index, at, &word.to_le_bytes())
 }
 
 // A folder where the bucket of the three keys names one record, of the first key and with this next.
 fn one(alloc: Global, next: u32) -> Result<Silent, Fault> {
     let mut f = folder(alloc)?;
     put_record(&mut f, WORDS[0], KEYS[0], PLAIN, next)?;
-    f.write_at(FileId::Index, front(), &WORDS[0].to_le_bytes())?;
+    put_front(&mut f, KEYS[0], WORDS[0])?;
     Ok(f)
+}
+
+// What is found of a key that is no child's, and the folder calls that it takes.
+fn counted(f: &mut Silent, key: &[u8]) -> Result<(Option<(u32, u32)>, u64), Fault> {
+    let before = f.calls();
+    let found = words(f, key, false)?;
+    Ok((found, f.calls().wrapping_sub(before)))
+}
+
+// A search for the first key behind a record with its hash and a length of 4 bytes.
+fn behind_another_length(alloc: Global) -> Result<(Option<(u32, u32)>, u64), Fault> {
+    let mut f = one(alloc, 0)?;
+    let longer = record_with(super_fast_hash(KEYS[0]), 4, PLAIN, WORDS[0]);
+    f.write_at(FileId::Block(1), place_of(WORDS[1]), &longer)?;
+    put_front(&mut f, KEYS[0], WORDS[1])?;
+    counted(&mut f, KEYS[0])
+}
+
+#[test]
+fn a_record_of_another_length_is_passed_by_one_call(rt: HostRuntime) {
+    // Eight calls load the files, and one reads the word of the bucket.
+    let found = (Some((WORDS[0], WORDS[1])), 8 + 1 + 1 + 2);
+    assert_eq!(rt; behind_another_length(rt.alloc()), Ok(found));
+}
+
+// A search for a key of 32768 bytes, which are in an external file.
+fn external(alloc: Global, key: &[u8]) -> Result<(Option<(u32, u32)>, u64), Fault> {
+    let mut f = folder(alloc)?;
+    let mut bytes = record_for(key, PLAIN, 0);
+    let mut record = EntryMut::new(&mut bytes);
+    record.set_word(36, 0x8000_0001);
+    record.seal();
+    f.write_at(FileId::Block(1), place_of(WORDS[0]), &bytes)?;
+    f.set_len(FileId::External(1), 32769)?;
+    f.write_at(FileId::External(1), 0, key)?;
+    put_front(&mut f, key, WORDS[0])?;
+    counted(&mut f, key)
+}
+
+#[test]
+fn the_longest_key_is_found_by_three_calls_for_its_record(rt: HostRuntime) -> Result<(), Fail> {
+    let mut key = Vec::new(rt.alloc());
+    key.resize(32768, 7)?;
+
+    // The record, and two pieces of the key.
+    let found = (Some((WORDS[0], 0)), 8 + 1 + 3);
+    assert_eq!(rt; external(rt.alloc(), &key), Ok(found));
+    Ok(())
 }
 
 // A search for the second key there, and the folder calls that it takes.
