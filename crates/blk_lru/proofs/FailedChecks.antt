@@ -29,9 +29,9 @@ short_or_unsealed r files told w stands holds =
       node = w;
       stands = stands;
       failed =
-        ⊎_elim {C = IsTooShort (names.Block (file_selector w)) (place w) 36 damage ⊎ IsBroken w damage}
-        (λ (short : IsShort told (names.Block (file_selector w)) (place w) (record_size w) damage). inl (record { of_file = short.of_file; at_place = short.at_place; few = subst (λ (n : ℕ). damage.found < n) (node_bytes w (node_kind files w stands)) short.few }))
-        (λ (broken : IsUnsealed told w damage). inr (record { of_file = broken.of_file; at_seal = broken.at_seal ∙ ap (λ (n : ℕ). place w + n) (node_seal w (node_kind files w stands)); unlike = broken.unlike }))
-        either;
+          ⊎_elim {C = IsTooShort (names.Block (file_selector w)) (place w) 36 damage ⊎ IsBroken w damage}
+          (λ (short : IsShort told (names.Block (file_selector w)) (place w) (record_size w) damage). inl (record { of_file = short.of_file; at_place = short.at_place; few = subst (λ (n : ℕ). damage.found < n) (node_bytes w (node_kind files w stands)) short.few }))
+          (λ (broken : IsUnsealed told w damage). inr (record { of_file = broken.of_file; at_seal = broken.at_seal ∙ ap (λ (n : ℕ). place w + n) (node_seal w (node_kind files w stands)); unlike = broken.unlike }))
+          either;
     })
     holds

@@ -2,12 +2,17 @@
 ghost use Rattle.std.specs.Prelude.{IfSome, IsTrue};
 ghost use Rattle.blk_lru.specs.Nodes.{is_node};
 
-use crate::{after, before, complete, first, insert_front, last, nodes, remove, touch};
+use crate::nodes::{NEXT, PREV, node_of};
+use crate::reading::{HEAD, TAIL};
+use crate::writes::{OPERATION, TRANSACTION};
+use crate::{after, before, complete, first, insert_front, last, remove, touch};
 use blk_addr::Addr;
 use blk_disk::BlockFiles;
 use blk_io::{
-    Failed, Fault, FileId, Folder, MemFolder, SilentFolder, StopFolder, read_word, write_word,
+    Failed, Fault, FileId, Folder, MemFolder, SilentFolder, StopFolder, read_exact, read_word,
+    write_word,
 };
+use blk_record::{NodeView, Record};
 use std::alloc::Global;
 use std::test::Fail;
 
@@ -20,6 +25,18 @@ const NODES_LEN: u64 = 45056;
 const SIZES: [u32; 4] = [36, 256, 1024, 4096];
 
 const NODES: [u32; 3] = [0x9000_0000, 0x9000_0001, 0x9000_0002];
+
+// The place of the first node, the bytes of a node, and the place of its seal.
+const NODES_AT: u64 = 8192;
+
+const NODE_LEN: usize = 36;
+
+const SEAL: u32 = 32;
+
+// The moment of a touch, and the four words of the times that it sets.
+const MOMENT: u64 = 0x0123_4567_89AB_CDEF;
+
+const TIMES: [u32; 4] = [0x89AB_CDEF, 0x0123_4567, 0x89AB_CDEF, 0x0123_4567];
 
 // A folder in memory that stops, and tells nothing.
 type Silent = SilentFolder<StopFolder>;
@@ -50,82 +67,78 @@ fn folder(alloc: Global) -> Result<Silent, Failed> {
     Ok(f)
 }
 
+// The place of a word of a node.
+fn place_of(word: u32, at: u32) -> u64 {
+    NODES_AT + 36 * u64::from(word % 0x1_0000) + u64::from(at)
+}
+
+// A word of a node.
+fn node_word<F: Folder>(f: &mut F, word: u32, at: u32) -> Result<u32, Fault> {
+    read_word(f, FileId::Block(0), place_of(word, at))
+}
+
 // The head, the tail, the transaction and the operation, and the next and the prev of each node.
 fn shown<F: Folder>(f: &mut F) -> Result<([u32; 4], [u32; 3], [u32; 3]), Fault> {
     let mut words = [0; 4];
-    for (slot, at) in words.iter_mut().zip([288, 308, 328, 332]) {
-        *slot = read_word(f, FileId::Index, at)?;
+    for (slot, at) in words.iter_mut().zip([HEAD, TAIL, TRANSACTION, OPERATION]) {
+        *slot = read_word(f, FileId::Index, u64::from(at))?;
     }
     let mut nexts = [0; 3];
     let mut prevs = [0; 3];
-    for (k, slot) in nexts.iter_mut().enumerate() {
-        *slot = read_word(f, FileId::Block(0), 8192 + 36 * k as u64 + 16)?;
+    for (slot, node) in nexts.iter_mut().zip(NODES) {
+        *slot = node_word(f, node, NEXT)?;
     }
-    for (k, slot) in prevs.iter_mut().enumerate() {
-        *slot = read_word(f, FileId::Block(0), 8192 + 36 * k as u64 + 20)?;
+    for (slot, node) in prevs.iter_mut().zip(NODES) {
+        *slot = node_word(f, node, PREV)?;
     }
     Ok((words, nexts, prevs))
 }
 
-// The nodes of three words, where all stand.
-fn three(files: &BlockFiles) -> Option<(Addr, Addr, Addr)>
-    ensures first { IfSome result (λ nodes. IsTrue (is_node files.now nodes.0)) }
-    ensures second { IfSome result (λ nodes. IsTrue (is_node files.now nodes.1)) }
-    ensures third { IfSome result (λ nodes. IsTrue (is_node files.now nodes.2)) }
-{
-    let one = nodes::node_of(files, NODES[0])?;
-    let two = nodes::node_of(files, NODES[1])?;
-    let three = nodes::node_of(files, NODES[2])?;
-    Some((one, two, three))
+// The words of a node's times.
+fn times<F: Folder>(f: &mut F, node: u32) -> Result<[u32; 4], Fault> {
+    let mut words = [0; 4];
+    for (slot, at) in words.iter_mut().zip([0, 4, 8, 12]) {
+        *slot = node_word(f, node, at)?;
+    }
+    Ok(words)
 }
 
-#[test]
-fn three_nodes_are_inserted_one_is_touched_and_one_removed(rt: HostRuntime) -> Result<(), Fail> {
-    let mut f = folder(rt.alloc())?;
-    let Ok(files) = BlockFiles::load(&mut f) else {
-        panic!(rt; "the files are whole");
+// The links and the seal of a node.
+#[derive(Clone, Copy)]
+struct Node {
+    next: u32,
+    prev: u32,
+    seal: u32,
+}
+
+// A node, where it checks.
+fn checked<F: Folder>(f: &mut F, word: u32) -> Result<Option<Node>, Fault> {
+    let mut window = [0; NODE_LEN];
+    read_exact(f, FileId::Block(0), place_of(word, 0), &mut window)?;
+    let Some(view) = NodeView::over(&window) else {
+        return Ok(None);
     };
-    let Some((one, two, three)) = three(&files) else {
-        panic!(rt; "the nodes stand");
-    };
-    assert_eq!(rt; insert_front(&mut f, &files, one), Ok(()));
-    assert_eq!(rt; insert_front(&mut f, &files, two), Ok(()));
-    let before_third = f.calls();
-    assert_eq!(rt; insert_front(&mut f, &files, three), Ok(()));
-    assert!(rt; f.calls().wrapping_sub(before_third) <= 22, "an insert");
-    let before_touch = f.calls();
-    assert_eq!(rt; touch(&mut f, &files, two, 0x0123_4567_89AB_CDEF), Ok(()));
-    assert!(rt; f.calls().wrapping_sub(before_touch) <= 44, "a touch");
-    let touched = (
-        [NODES[1], NODES[0], 0, 1],
-        [NODES[0], NODES[2], NODES[0]],
-        [NODES[2], NODES[1], NODES[1]],
-    );
-    assert_eq!(rt; shown(&mut f), Ok(touched));
-    assert_eq!(rt;
-        read_word(&mut f, FileId::Block(0), 8192 + 36),
-        Ok(0x89AB_CDEF)
-    );
-    assert_eq!(rt;
-        read_word(&mut f, FileId::Block(0), 8192 + 36 + 12),
-        Ok(0x0123_4567)
-    );
-    let before_removal = f.calls();
-    assert_eq!(rt; remove(&mut f, &files, three), Ok(()));
-    assert!(rt; f.calls().wrapping_sub(before_removal) <= 22, "a removal");
-    let removed = (
-        [NODES[1], NODES[0], 0, 2],
-        [NODES[0], NODES[0], 0],
-        [NODES[1], NODES[1], NODES[1]],
-    );
-    assert_eq!(rt; shown(&mut f), Ok(removed));
-    assert_eq!(rt; first(&mut f, &files), Ok(Some(two)));
-    assert_eq!(rt; last(&mut f, &files), Ok(Some(one)));
-    assert_eq!(rt; before(&mut f, &files, two), Ok(None));
-    let before_link = f.calls();
-    assert_eq!(rt; after(&mut f, &files, two), Ok(Some(one)));
-    assert_eq!(rt; f.calls().wrapping_sub(before_link), 1);
-    Ok(())
+    if !view.checks() {
+        return Ok(None);
+    }
+    Ok(Some(Node {
+        next: view.word(NEXT as usize),
+        prev: view.word(PREV as usize),
+        seal: view.word(SEAL as usize),
+    }))
+}
+
+// Whether each of these nodes checks by a seal that isn't 0.
+fn are_sealed<F: Folder>(f: &mut F, nodes: &[u32]) -> Result<bool, Fault> {
+    for word in nodes {
+        let Some(node) = checked(f, *word)? else {
+            return Ok(false);
+        };
+        if node.seal == 0 {
+            return Ok(false);
+        }
+    }
+    Ok(true)
 }
 
 // A change of the list.
@@ -138,36 +151,34 @@ enum Change {
 
 // Makes a change by the node of a word, where that one stands.
 fn change_list(f: &mut Silent, files: &BlockFiles, change: Change, word: u32) -> Result<(), Fault> {
-    let Some(node) = nodes::node_of(files, word) else {
+    let Some(node) = node_of(files, word) else {
         return Ok(());
     };
     match change {
         Change::Insert => insert_front(f, files, node),
         Change::Remove => remove(f, files, node),
-        Change::Touch => touch(f, files, node, 7),
+        Change::Touch => touch(f, files, node, MOMENT),
     }
 }
 
-// The nodes from the head on, as far as each has the one before it as its previous one, and then zeros.
-fn walked<F: Folder>(f: &mut F) -> Result<[u32; 3], Fault> {
-    let mut order = [0; 3];
-    let mut word = read_word(f, FileId::Index, 288)?;
-    let mut before = word;
-    for slot in order.iter_mut() {
-        let at = 8192 + 36 * u64::from(word % 0x1_0000);
-        let prev = read_word(f, FileId::Block(0), at + 20)?;
-        if word == 0 || prev != before {
-            break;
-        }
-        *slot = word;
-        let next = read_word(f, FileId::Block(0), at + 16)?;
-        before = word;
-        word = if next == word { 0 } else { next };
-    }
-    Ok(order)
+// The number of folder calls of a change.
+fn calls_of(f: &mut Silent, files: &BlockFiles, change: Change, word: u32) -> Result<u64, Fault> {
+    let start = f.calls();
+    change_list(f, files, change, word)?;
+    Ok(f.calls().wrapping_sub(start))
 }
 
-// A folder whose list has these nodes, the last of them in front, with a change of which so many steps pass.
+// A folder whose list has these nodes, the last of them in front.
+fn listing(alloc: Global, listed: &[u32]) -> Result<(Silent, BlockFiles), Fail> {
+    let mut f = folder(alloc)?;
+    let files = BlockFiles::load(&mut f)?;
+    for word in listed {
+        change_list(&mut f, &files, Change::Insert, *word)?;
+    }
+    Ok((f, files))
+}
+
+// Such a folder, with a change of which so many steps pass.
 fn stopped(
     alloc: Global,
     listed: &[u32],
@@ -175,14 +186,88 @@ fn stopped(
     word: u32,
     steps: u64,
 ) -> Result<(Silent, BlockFiles), Fail> {
-    let mut f = folder(alloc)?;
-    let files = BlockFiles::load(&mut f)?;
-    for word in listed {
-        change_list(&mut f, &files, Change::Insert, *word)?;
-    }
+    let (f, files) = listing(alloc, listed)?;
     let mut f = again(f, steps);
     let _ = change_list(&mut f, &files, change, word);
     Ok((f, files))
+}
+
+// The nodes of three words, where all stand.
+fn three(files: &BlockFiles) -> Option<(Addr, Addr, Addr)>
+    ensures first { IfSome result (λ nodes. IsTrue (is_node files.now nodes.0)) }
+    ensures second { IfSome result (λ nodes. IsTrue (is_node files.now nodes.1)) }
+    ensures third { IfSome result (λ nodes. IsTrue (is_node files.now nodes.2)) }
+{
+    let one = node_of(files, NODES[0])?;
+    let two = node_of(files, NODES[1])?;
+    let three = node_of(files, NODES[2])?;
+    Some((one, two, three))
+}
+
+#[test]
+fn three_nodes_are_inserted_one_is_touched_and_one_removed(rt: HostRuntime) -> Result<(), Fail> {
+    let [zero, one, two] = NODES;
+    let (mut f, files) = listing(rt.alloc(), &NODES)?;
+    assert_eq!(rt; change_list(&mut f, &files, Change::Touch, one), Ok(()));
+    let touched = ([one, zero, 0, 1], [zero, two, zero], [two, one, one]);
+    assert_eq!(rt; shown(&mut f), Ok(touched));
+    assert_eq!(rt; times(&mut f, one), Ok(TIMES));
+    assert_eq!(rt; change_list(&mut f, &files, Change::Remove, two), Ok(()));
+    let removed = ([one, zero, 0, 2], [zero, zero, 0], [one, one, one]);
+    assert_eq!(rt; shown(&mut f), Ok(removed));
+    Ok(())
+}
+
+#[test]
+fn reading_takes_one_call(rt: HostRuntime) -> Result<(), Fail> {
+    let (mut f, files) = listing(rt.alloc(), &NODES)?;
+    let Some((zero, one, two)) = three(&files) else {
+        panic!(rt; "the nodes stand");
+    };
+    let start = f.calls();
+    assert_eq!(rt; first(&mut f, &files), Ok(Some(two)));
+    assert_eq!(rt; f.calls().wrapping_sub(start), 1);
+    assert_eq!(rt; last(&mut f, &files), Ok(Some(zero)));
+    assert_eq!(rt; f.calls().wrapping_sub(start), 2);
+    assert_eq!(rt; before(&mut f, &files, one), Ok(Some(two)));
+    assert_eq!(rt; f.calls().wrapping_sub(start), 3);
+    assert_eq!(rt; after(&mut f, &files, one), Ok(Some(zero)));
+    assert_eq!(rt; f.calls().wrapping_sub(start), 4);
+    assert_eq!(rt; before(&mut f, &files, two), Ok(None));
+    assert_eq!(rt; after(&mut f, &files, zero), Ok(None));
+    Ok(())
+}
+
+#[test]
+fn changes_take_few_calls(rt: HostRuntime) -> Result<(), Fail> {
+    let [zero, one, two] = NODES;
+    let (mut f, files) = listing(rt.alloc(), &[zero, one])?;
+    assert_eq!(rt; calls_of(&mut f, &files, Change::Insert, two), Ok(17));
+    assert_eq!(rt; calls_of(&mut f, &files, Change::Touch, one), Ok(39));
+    assert_eq!(rt; calls_of(&mut f, &files, Change::Remove, two), Ok(17));
+    Ok(())
+}
+
+// The nodes from the head on, as far as each checks and has the one before it as its previous one, and then zeros.
+fn walked<F: Folder>(f: &mut F) -> Result<[u32; 3], Fault> {
+    let mut order = [0; 3];
+    let mut word = read_word(f, FileId::Index, u64::from(HEAD))?;
+    let mut before = word;
+    for slot in order.iter_mut() {
+        if word == 0 {
+            break;
+        }
+        let Some(node) = checked(f, word)? else {
+            break;
+        };
+        if node.prev != before {
+            break;
+        }
+        *slot = word;
+        before = word;
+        word = if node.next == word { 0 } else { node.next };
+    }
+    Ok(order)
 }
 
 // The walk once the operation in flight is completed, where completing is stopped after so many steps first, again and again.
@@ -216,36 +301,120 @@ fn touch_stopped_after_each_word_leaves_the_old_order_or_the_new(
     Ok(())
 }
 
-#[test]
-fn completing_may_be_stopped_twice(rt: HostRuntime) -> Result<(), Fail> {
-    let [zero, one, two] = NODES;
-    for (listed, change, word, new) in [
-        (&NODES[..2], Change::Insert, two, [two, one, zero]),
-        (&NODES[..], Change::Remove, one, [two, zero, 0]),
-        (&NODES[..], Change::Touch, zero, [zero, two, one]),
-    ] {
-        for first in 0..24 {
-            for second in [0, 2, 5, 11] {
-                let (f, files) = stopped(rt.alloc(), listed, change, word, 2)?;
-                assert_eq!(rt; completed(f, &files, &[first, second]), Ok(new));
+// Whether a change that is stopped once its node is named gives this order, where completing it is
+// stopped twice before so many steps.
+fn gives_twice(
+    alloc: Global,
+    listed: &[u32],
+    change: Change,
+    word: u32,
+    most: u64,
+    new: [u32; 3],
+) -> Result<bool, Fail> {
+    for first in 0..most {
+        for second in 0..most {
+            let (f, files) = stopped(alloc, listed, change, word, 2)?;
+            if completed(f, &files, &[first, second])? != new {
+                return Ok(false);
             }
         }
+    }
+    Ok(true)
+}
+
+#[test]
+fn completing_an_insert_or_a_removal_may_be_stopped_twice(rt: HostRuntime) -> Result<(), Fail> {
+    let [zero, one, two] = NODES;
+    let inserted = [two, one, zero];
+    let removed = [two, zero, 0];
+    assert!(rt; gives_twice(rt.alloc(), &NODES[..2], Change::Insert, two, 12, inserted)?);
+    assert!(rt; gives_twice(rt.alloc(), &NODES, Change::Remove, one, 12, removed)?);
+    Ok(())
+}
+
+#[test]
+fn completing_a_touch_may_be_stopped_twice(rt: HostRuntime) -> Result<(), Fail> {
+    let [zero, one, two] = NODES;
+    assert!(rt;
+        gives_twice(
+            rt.alloc(),
+            &NODES,
+            Change::Touch,
+            zero,
+            20,
+            [zero, two, one]
+        )?
+    );
+    Ok(())
+}
+
+#[test]
+fn written_nodes_are_sealed(rt: HostRuntime) -> Result<(), Fail> {
+    let [zero, one, two] = NODES;
+    for (listed, change, word) in [
+        (&NODES[..2], Change::Insert, two),
+        (&NODES[..], Change::Remove, one),
+        (&NODES[..], Change::Touch, zero),
+    ] {
+        let (mut f, _) = stopped(rt.alloc(), listed, change, word, u64::MAX)?;
+        assert_eq!(rt; are_sealed(&mut f, &NODES), Ok(true));
     }
     Ok(())
 }
 
 #[test]
+fn completing_seals_the_nodes_of_the_list(rt: HostRuntime) -> Result<(), Fail> {
+    let [zero, one, two] = NODES;
+    let left = [zero, two];
+    for (listed, change, word, new) in [
+        (&NODES[..2], Change::Insert, two, &NODES[..]),
+        (&NODES[..], Change::Remove, one, &left[..]),
+        (&NODES[..], Change::Touch, zero, &NODES[..]),
+    ] {
+        for steps in 2..22 {
+            let (f, files) = stopped(rt.alloc(), listed, change, word, steps)?;
+            let mut f = again(f, u64::MAX);
+            assert_eq!(rt; complete(&mut f, &files), Ok(()));
+            assert_eq!(rt; are_sealed(&mut f, new), Ok(true));
+        }
+    }
+    Ok(())
+}
+
+// A folder whose list has the three nodes, with an operation in flight on a node; another one, if it is given, has a wrong seal.
+fn in_flight(
+    alloc: Global,
+    transaction: u32,
+    operation: u32,
+    broken: Option<u32>,
+) -> Result<(Silent, BlockFiles), Fail> {
+    let (mut f, files) = listing(alloc, &NODES)?;
+    write_word(&mut f, FileId::Index, u64::from(OPERATION), operation)?;
+    write_word(&mut f, FileId::Index, u64::from(TRANSACTION), transaction)?;
+    if let Some(node) = broken {
+        let seal = 1u32.to_le_bytes();
+        f.write_at(FileId::Block(0), place_of(node, SEAL), &seal)?;
+    }
+    Ok((f, files))
+}
+
+#[test]
 fn operation_that_does_not_count_is_given_up(rt: HostRuntime) -> Result<(), Fail> {
     let [zero, one, two] = NODES;
-    for (transaction, operation) in [(0x9000_0400, 1), (one, 4), (zero, 0), (0x1234, 3)] {
-        let (f, files) = stopped(rt.alloc(), &NODES, Change::Touch, two, 0)?;
-        let mut f = again(f, u64::MAX);
+    for (transaction, operation, broken, calls) in [
+        (0x9000_0400, 1, None, 2),
+        (0x1234, 3, None, 2),
+        (one, 4, None, 4),
+        (zero, 0, None, 4),
+        (one, 2, Some(one), 3),
+        (zero, 1, Some(two), 6),
+        (one, 2, Some(zero), 5),
+    ] {
+        let (mut f, files) = in_flight(rt.alloc(), transaction, operation, broken)?;
         let (_, nexts, prevs) = shown(&mut f)?;
-        write_word(&mut f, FileId::Index, 332, operation)?;
-        write_word(&mut f, FileId::Index, 328, transaction)?;
-        let before = f.calls();
+        let start = f.calls();
         assert_eq!(rt; complete(&mut f, &files), Ok(()));
-        assert!(rt; f.calls().wrapping_sub(before) <= 4);
+        assert_eq!(rt; f.calls().wrapping_sub(start), calls);
         assert_eq!(rt;
             shown(&mut f),
             Ok(([two, zero, 0, operation], nexts, prevs))
@@ -258,11 +427,10 @@ fn operation_that_does_not_count_is_given_up(rt: HostRuntime) -> Result<(), Fail
 fn completing_takes_few_calls(rt: HostRuntime) -> Result<(), Fail> {
     let (f, files) = stopped(rt.alloc(), &NODES, Change::Touch, NODES[1], 2)?;
     let mut f = again(f, u64::MAX);
-    let before = f.calls();
+    let start = f.calls();
     assert_eq!(rt; complete(&mut f, &files), Ok(()));
-    assert_eq!(rt; f.calls().wrapping_sub(before), 34);
-    let again = f.calls();
+    assert_eq!(rt; f.calls().wrapping_sub(start), 34);
     assert_eq!(rt; complete(&mut f, &files), Ok(()));
-    assert_eq!(rt; f.calls().wrapping_sub(again), 1);
+    assert_eq!(rt; f.calls().wrapping_sub(start), 35);
     Ok(())
 }
