@@ -1,5 +1,5 @@
 -- Why a header is damaged, in a folder that tells nothing.
-use Rattle.std.proofs.Common.{◌≡◌, ℕ, inl, inr, Option, None, Some, Result, Ok, Err, refl, sym, ◌∙◌, ⊎_elim}
+use Rattle.std.proofs.Common.{◌≡◌, ℕ, Bool, inl, inr, Option, None, Some, Result, Ok, Err, refl, sym, ◌∙◌, ⊎_elim}
 use Rattle.std.specs.Option.{option_map}
 use Rattle.blk_image.specs.Image.{Image}
 use Rattle.blk_image.specs.Told.{Told}
@@ -14,8 +14,8 @@ none_some : {image : Image} → None ≡ Some image → ⊥
 none_some {image} e = cc
 
 -- a cause at a later moment is one at the start, where nothing was told then
-pub cause_before : (later before : Told) (n start : ℕ) (damage : Damage) → before.files ≡ None → IsCause later n start damage → IsCause before n start damage
-cause_before later before n start damage none =
+pub cause_before : (later before : Told) (n start : ℕ) (used : Bool) (damage : Damage) → before.files ≡ None → IsCause later n start used damage → IsCause before n start used damage
+cause_before later before n start used damage none =
     ⊎_elim
     (λ short. inl (record { place = short.place; count = short.count; read = short.read; short = record { of_file = short.short.of_file; at_place = short.short.at_place; few = short.short.few; many = λ image there. absurd (none_some (sym none ∙ there)) } }))
     (λ count. inr (record { counters = count.counters; are = λ image there. absurd (none_some (sym none ∙ there)); at_end = count.at_end }))

@@ -41,8 +41,8 @@ pub record MayMove (counters : Counters) (before later : ℕ) (used : Bool) : Ty
   pub enough : (i : ℕ) → i < 4 → counted before i ≤ slice_index counters.empty i
   pub room : (i : ℕ) → i < 4 → slice_index counters.empty i + counted later i ≤ largest
 
--- a counter would leave its range: the damage has its place, and finds the counter, which is 0 or the largest number
-pub record IsAtEnd (counters : Counters) (n : ℕ) (damage : Damage) : Type 0 where
+-- a counter would leave its range where an allocation comes or goes: the damage has its place, and finds it; num_entries is the largest number where it was to be raised and 0 where it was to be lowered, and a word of `empty`, which may be raised and lowered by both, is 0 or the largest number
+pub record IsAtEnd (counters : Counters) (n : ℕ) (used : Bool) (damage : Damage) : Type 0 where
   pub of_file : damage.file ≡ names.Block n
-  pub counter : ((damage.at ≡ allocations_place) × (damage.found ≡ counters.allocations)) ⊎ ((i : ℕ) × (i < 4) × (damage.at ≡ empty_place i) × (damage.found ≡ slice_index counters.empty i))
-  pub end : (damage.found ≡ 0) ⊎ (damage.found ≡ largest)
+  pub counter : ((damage.at ≡ allocations_place) × (damage.found ≡ counters.allocations) × (damage.found ≡ (if used then largest else 0)))
+      ⊎ ((i : ℕ) × (i < 4) × (damage.at ≡ empty_place i) × (damage.found ≡ slice_index counters.empty i) × ((damage.found ≡ 0) ⊎ (damage.found ≡ largest)))

@@ -137,7 +137,7 @@ pub record IsCauseOf (files : BlockFiles) (kind : ℕ) (told : Told) (damage : D
   pub start : ℕ
   pub linked : is_among (files_of files kind) file ≡ true
   pub small : start < most_blocks
-  pub cause : IsCause told file start damage
+  pub cause : IsCause told file start true damage
 
 -- why no blocks are given: a damaged header, which may be that of a file that was added, a map that was too short where room was sought, or files that were full
 abbrev pub IsRefusal : BlockFiles → BlockFiles → ℕ → Told → Damage → Type 0

@@ -49,10 +49,10 @@ pub record IsFreed (from : Image) (w : ℕ) (image : Image) : Type 0 where
   pub elsewhere : (n : ℕ) → n ≢ file_selector w → KeepsFile from image n
 
 -- a counter of a file would leave its range, by the header that was read
-pub record IsCount (told : Told) (n : ℕ) (damage : Damage) : Type 0 where
+pub record IsCount (told : Told) (n : ℕ) (used : Bool) (damage : Damage) : Type 0 where
   pub counters : Counters
   pub are : ForSome told.files (λ image. AreCounters (byte image (Block n)) counters)
-  pub at_end : IsAtEnd counters n damage
+  pub at_end : IsAtEnd counters n used damage
 
 -- what a change of blocks from `start` on reads of a header, by place and number of bytes: its fields, and the word of the map that has the blocks
 abbrev pub IsHeaderRead : ℕ → ℕ → ℕ → Type 0
@@ -65,6 +65,6 @@ pub record IsShortHeader (told : Told) (n start : ℕ) (damage : Damage) : Type 
   pub read : IsHeaderRead start place count
   pub short : IsShort told (names.Block n) place count damage
 
--- why the header of a file is damaged where blocks from `start` on change: a read of it gave too few bytes, or a counter would leave its range
-abbrev pub IsCause : Told → ℕ → ℕ → Damage → Type 0
-IsCause told n start damage = IsShortHeader told n start damage ⊎ IsCount told n damage
+-- why the header of a file is damaged where blocks from `start` on come into use or go out of it: a read of it gave too few bytes, or a counter would leave its range
+abbrev pub IsCause : Told → ℕ → ℕ → Bool → Damage → Type 0
+IsCause told n start used damage = IsShortHeader told n start damage ⊎ IsCount told n used damage

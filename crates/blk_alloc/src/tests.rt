@@ -317,6 +317,25 @@ fn a_counter_that_would_sink_below_0_is_a_damage(rt: HostRuntime) -> Result<(), 
     Ok(())
 }
 
+#[test]
+fn a_longest_run_that_no_group_has_is_a_damage_where_it_goes(rt: HostRuntime) -> Result<(), Fail> {
+    let mut f = folder_with(rt.alloc(), 1, [0, 0, 0, 255], 0x01)?;
+    let Ok(files) = BlockFiles::load(&mut f) else {
+        panic!(rt; "the files are whole");
+    };
+    let damage = Damage {
+        file: FileId::Block(1),
+        at: 32,
+        found: 0,
+    };
+    assert_eq!(rt;
+        free_word(&mut f, &files, 0xA001_0000),
+        Err(Fault::Damaged(damage))
+    );
+    assert_eq!(rt; word_at(&mut f, 80), Ok(0x01));
+    Ok(())
+}
+
 // A folder whose `data_1` has 1024 blocks, too few bytes for the last of them, and a header that is wrong
 // but for its hints and its number of blocks.
 fn wrong_folder(alloc: Global) -> Result<SilentFolder<MemFolder>, Fail> {

@@ -133,7 +133,7 @@ returns-in-Some-clause-cause g c =
     (λ i told. subst (λ (o : Option Blocks). IsFitting i (files_of c.args.files.now (kind_number c.args.kind)) c.args.blocks o) c.in-Some.is (c.in_ok-place.ensures.fit i told)) in
     let takeable : (i : Image) → (g.F.Folder.told c.args.f.now).files ≡ Some i → IsTakeable i c.in-Some.place =
     (λ i told. fit_takeable c.args.files.now i c.args.kind c.args.blocks c.in-Some.place c.requires.blocky c.requires.few (c.requires.agrees i told) (c.requires.counted i told) place (fits i told)) in
-    if_damaged_both c.take.result (λ damage. (told : Told) → told.files ≡ None → IsCause told c.in-Some.place.file c.in-Some.place.start damage)
+    if_damaged_both c.take.result (λ damage. (told : Told) → told.files ≡ None → IsCause told c.in-Some.place.file c.in-Some.place.start true damage)
     (λ _. ForSome (g.F.Folder.told c.first_fit.new.f).files (λ image. IsTakeable image c.in-Some.place) → (g.F.Folder.told c.first_fit.new.f).files ≡ None) (IsRefusal c.args.files.now c.take.new.files (kind_number c.args.kind) (g.F.Folder.told c.args.f.now))
     (λ damage cause none. inl (record { file = c.in-Some.place.file; start = c.in-Some.place.start; linked = c.take.ensures.linked; small = place.small; cause = cause (g.F.Folder.told c.args.f.now) (ap (λ (t : Told). t.files) (sym c.in_ok-place.ensures.stays) ∙ none (λ i now. takeable i (ap (λ (t : Told). t.files) (sym c.in_ok-place.ensures.stays) ∙ now))) }))
     c.take.ensures.cause c.take.ensures.untold

@@ -78,7 +78,7 @@ returns-clause-cause g c =
     let kind : ℕ = kind_number c.args.kind in
     let start : (ForSome (g.F.Folder.told c.new_room.new.f).files (λ mid. IsTakeable mid c.in_ok-place.place) → (g.F.Folder.told c.new_room.new.f).files ≡ None) → (g.F.Folder.told c.args.f.now).files ≡ None =
     silent_start (IsMaking c.args.files.now kind) (λ mid. IsTakeable mid c.in_ok-place.place) c.in_ok-place.ensures.stops (λ from there mid now. (c.in_ok-place.ensures.made from there mid now).takeable) in
-    if_damaged_both c.take.result (λ damage. (told : Told) → told.files ≡ None → IsCause told c.in_ok-place.place.file c.in_ok-place.place.start damage)
+    if_damaged_both c.take.result (λ damage. (told : Told) → told.files ≡ None → IsCause told c.in_ok-place.place.file c.in_ok-place.place.start true damage)
     (λ _. ForSome (g.F.Folder.told c.new_room.new.f).files (λ mid. IsTakeable mid c.in_ok-place.place) → (g.F.Folder.told c.new_room.new.f).files ≡ None) (IsRefusal c.args.files.now c.take.new.files kind (g.F.Folder.told c.args.f.now))
     (λ damage cause none. inl (record { file = c.in_ok-place.place.file; start = c.in_ok-place.place.start; linked = c.take.ensures.linked; small = c.in_ok-place.ensures.fits.small; cause = cause (g.F.Folder.told c.args.f.now) (start none) }))
     c.take.ensures.cause c.take.ensures.untold

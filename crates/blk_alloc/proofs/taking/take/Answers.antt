@@ -106,8 +106,8 @@ returns-clause-stands g c from there takeable =
 pub returns-in_err-change-clause-cause : goal.returns-in_err-change-clause-cause
 returns-in_err-change-clause-cause g c =
     carried c.change.result c.from_residual-in_err-change.result c.in_err-change.field-0.0 _ c.in_err-change.was c.from_residual-in_err-change.ensures.1
-    (if_damaged_weaker c.change.result (IsCause (g.F.Folder.told c.fit.new.f) c.args.place.file c.args.place.start) (λ damage. (told : Told) → told.files ≡ None → IsCause told c.args.place.file c.args.place.start damage)
-    (λ damage cause told none. cause_before (g.F.Folder.told c.fit.new.f) told c.args.place.file c.args.place.start damage none cause) c.change.ensures.cause)
+    (if_damaged_weaker c.change.result (IsCause (g.F.Folder.told c.fit.new.f) c.args.place.file c.args.place.start true) (λ damage. (told : Told) → told.files ≡ None → IsCause told c.args.place.file c.args.place.start true damage)
+    (λ damage cause told none. cause_before (g.F.Folder.told c.fit.new.f) told c.args.place.file c.args.place.start true damage none cause) c.change.ensures.cause)
 
 pub returns-in_err-change-clause-untold : goal.returns-in_err-change-clause-untold
 returns-in_err-change-clause-untold g c =

@@ -57,17 +57,17 @@ returns-clause-aligned g c = omega arith
 pub returns-in_err-counters-clause-cause : goal.returns-in_err-counters-clause-cause
 returns-in_err-counters-clause-cause g c =
     carried c.read.result c.from_residual.result c.in_err-counters.field-0.0 _ c.in_err-counters.was c.from_residual.ensures.1
-    (if_damaged_weaker c.read.result (IsShort (g.F.Folder.told c.args.f.now) (names.Block c.args.file) 0 80) (IsCause (g.F.Folder.told c.args.f.now) c.args.file c.args.start) (λ damage short. inl (record { place = 0; count = 80; read = inl (refl, refl); short = short })) c.read.ensures.short)
+    (if_damaged_weaker c.read.result (IsShort (g.F.Folder.told c.args.f.now) (names.Block c.args.file) 0 80) (IsCause (g.F.Folder.told c.args.f.now) c.args.file c.args.start c.args.used) (λ damage short. inl (record { place = 0; count = 80; read = inl (refl, refl); short = short })) c.read.ensures.short)
 
 pub returns-in_err-read_exact-clause-cause : goal.returns-in_err-read_exact-clause-cause
 returns-in_err-read_exact-clause-cause g c =
     carried c.read_exact.result c.from_residual-in_err-read_exact.result c.in_err-read_exact.field-0.0 _ c.in_err-read_exact.was c.from_residual-in_err-read_exact.ensures.1
-    (subst (λ (t : Told). IfDamaged c.read_exact.result (IsCause t c.args.file c.args.start)) c.in_ok-counters.ensures.stays
-    (if_damaged_weaker c.read_exact.result (IsShort (g.F.Folder.told c.read.new.f) (names.Block c.args.file) (80 + 4 * c.from.result) 4) (IsCause (g.F.Folder.told c.read.new.f) c.args.file c.args.start)
+    (subst (λ (t : Told). IfDamaged c.read_exact.result (IsCause t c.args.file c.args.start c.args.used)) c.in_ok-counters.ensures.stays
+    (if_damaged_weaker c.read_exact.result (IsShort (g.F.Folder.told c.read.new.f) (names.Block c.args.file) (80 + 4 * c.from.result) 4) (IsCause (g.F.Folder.told c.read.new.f) c.args.file c.args.start c.args.used)
     (λ damage short. inl (record { place = 80 + 4 * c.from.result; count = 4; read = inr (ap (λ (k : ℕ). 80 + 4 * k) c.from.ensures, refl); short = short })) c.read_exact.ensures.short))
 
 pub returns-in_err-counters-2-clause-cause : goal.returns-in_err-counters-2-clause-cause
 returns-in_err-counters-2-clause-cause g c =
     carried c.moved.result c.from_residual-in_err-counters-2.result c.in_err-counters-2.field-0.0 _ c.in_err-counters-2.was c.from_residual-in_err-counters-2.ensures.1
-    (if_damaged_weaker c.moved.result (IsAtEnd c.in_ok-counters.counters c.args.file) (IsCause (g.F.Folder.told c.args.f.now) c.args.file c.args.start)
+    (if_damaged_weaker c.moved.result (IsAtEnd c.in_ok-counters.counters c.args.file c.args.used) (IsCause (g.F.Folder.told c.args.f.now) c.args.file c.args.start c.args.used)
     (λ damage end. inr (record { counters = c.in_ok-counters.counters; are = c.in_ok-counters.ensures.counters; at_end = end })) c.moved.ensures.end)
