@@ -170,6 +170,24 @@ fn blocks_are_given_at_the_first_place_inside_a_group(rt: HostRuntime) -> Result
 }
 
 #[test]
+fn blocks_are_given_where_so_many_free_ones_lie_side_by_side(rt: HostRuntime) -> Result<(), Fail> {
+    // Block 1 of the group is in use; its blocks 0, 2 and 3 are free.
+    let mut f = folder_with(rt.alloc(), 1, [0, 1, 0, 255], 0x02)?;
+    let Ok(files) = BlockFiles::load(&mut f) else {
+        panic!(rt; "the files are whole");
+    };
+    let mut files = files;
+    assert_eq!(rt; give(&mut f, &mut files, 3), Ok(0xA201_0004));
+    assert_eq!(rt; give(&mut f, &mut files, 2), Ok(0xA101_0002));
+    assert_eq!(rt; give(&mut f, &mut files, 1), Ok(0xA001_0000));
+    let expected = [(16, 4), (24, 1), (28, 0), (32, 0), (36, 254), (80, 0x7F)];
+    for (at, word) in expected {
+        assert_eq!(rt; word_at(&mut f, at), Ok(word), "{at}");
+    }
+    Ok(())
+}
+
+#[test]
 fn a_file_is_added_where_the_only_one_is_full(rt: HostRuntime) -> Result<(), Fail> {
     let mut f = made_folder(rt.alloc(), 64_896, 16_224, 0xFF)?;
     let Ok(files) = BlockFiles::load(&mut f) else {
