@@ -1,4 +1,4 @@
-use Rattle.std.proofs.Common.{◌≡◌, ℕ, Option, ap, sym, ◌∙◌, subst, true, false}
+use Rattle.std.proofs.Common.{◌≡◌, ℕ, Option, ap, sym, ◌∙◌, subst, true}
 use Rattle.std.specs.Prelude.{◌==◌}
 use Rattle.blk_format.specs.Address.{is_address}
 use Rattle.blk_lru.specs.Plans.{word_or_zero}
