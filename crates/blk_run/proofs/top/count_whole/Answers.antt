@@ -1,8 +1,7 @@
 use Rattle.std.proofs.Common.{◌≡◌, Some, subst, sym}
-use Rattle.blk_index.proofs.Windows.{length_checked}
 use Rattle.blk_run.specs.Count.{checked_place, checked_places}
 use Rattle.blk_run.specs.Used.{FirstUsed}
-use Rattle.blk_run.proofs.Whole.{index_undamaged}
+use Rattle.blk_run.proofs.Whole.{index_undamaged, length_checked}
 use Rattle.blk_run.proofs.top.count_whole.Goals as goal
 
 pub first_used-requires : goal.first_used-requires
