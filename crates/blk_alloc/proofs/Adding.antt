@@ -26,8 +26,8 @@ use Rattle.blk_addr.specs.Kind.{kind_number}
 use Rattle.blk_disk.specs.Growth.{IsLeastFree, free_number, last_file, add_steps, make_steps, link_steps}
 use Rattle.blk_disk.proofs.Joined.{among_types, by_kind, last_apart}
 use Rattle.blk_disk.proofs.Additions.{new_header, made_is}
-use Rattle.blk_disk.proofs.Agreeing.{other_file}
-use Rattle.blk_disk.proofs.Among.{is_among_more}
+use Rattle.blk_format.proofs.SpareHeaders.{other_file}
+use Rattle.blk_format.proofs.Among.{is_among_more}
 use Rattle.blk_alloc.specs.Making.{HasCounters, HasNoHints, KeepsFiles}
 use Rattle.blk_alloc.proofs.Changing.{byte_beside}
 use Rattle.blk_alloc.proofs.Widening.{Widens, allocations_more, mark_kept}

@@ -12,7 +12,7 @@ use Rattle.blk_format.specs.BlockFiles.{is_among}
 use Rattle.blk_disk.specs.declared.tables.BlockFiles.{BlockFiles}
 use Rattle.blk_disk.specs.Tables.{Agrees, all_files}
 use Rattle.blk_disk.specs.Growth.{KeepsBlocks, fit_steps}
-use Rattle.blk_disk.proofs.Agreeing.{other_file}
+use Rattle.blk_format.proofs.SpareHeaders.{other_file}
 use Rattle.blk_alloc.specs.Changes.{map_of}
 use Rattle.blk_alloc.specs.Owning.{KeepsExternals}
 use Rattle.blk_alloc.specs.Taking.{taking_of}

@@ -15,8 +15,8 @@ use Rattle.blk_format.specs.BlockFiles.{is_among, linked, type_among, files_alon
 use Rattle.blk_format.specs.Maps.{is_marked, EmptyAgrees}
 use Rattle.blk_disk.specs.declared.tables.BlockFiles.{BlockFiles}
 use Rattle.blk_disk.specs.Tables.{Agrees}
-use Rattle.blk_disk.proofs.Agreeing.{other_file}
-use Rattle.blk_disk.proofs.Keeping.{KeepsHead, none_parts, each_type, checks_hold, undamaged_still}
+use Rattle.blk_format.proofs.SpareHeaders.{other_file}
+use Rattle.blk_format.proofs.Keeping.{KeepsHead, none_parts, each_type, checks_hold, undamaged_still}
 use Rattle.blk_disk.proofs.Enlarging.{well_formed_still}
 use Rattle.blk_disk.proofs.Firsts.{next_small}
 use Rattle.blk_alloc.specs.Changes.{map_of}

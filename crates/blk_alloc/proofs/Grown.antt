@@ -15,7 +15,7 @@ use Rattle.blk_format.specs.Maps.{is_marked, are_free, EmptyAgrees}
 use Rattle.blk_disk.specs.declared.tables.BlockFiles.{BlockFiles}
 use Rattle.blk_disk.specs.Tables.{Agrees, Enlarges, all_files, blocks_of, length_in}
 use Rattle.blk_disk.specs.Growth.{grown, new_groups, grown_length, growth_of, grow_steps, lengthen_steps, raised}
-use Rattle.blk_disk.proofs.Agreeing.{other_file}
+use Rattle.blk_format.proofs.SpareHeaders.{other_file}
 use Rattle.blk_disk.proofs.Enlarging.{long_room}
 use Rattle.blk_alloc.specs.Making.{HasCounters, KeepsFiles}
 use Rattle.blk_alloc.specs.Changes.{IsReady}

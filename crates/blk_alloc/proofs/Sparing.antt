@@ -6,8 +6,8 @@ use Rattle.blk_image.specs.Footprint.{Footprint, SameOutside, size_of}
 use Rattle.blk_format.specs.Address.{file_selector}
 use Rattle.blk_format.specs.BlockFiles.{linked, type_among, files_along, next_file_in, max_entries_in, is_block_count, IsWellFormed}
 use Rattle.blk_disk.specs.Growth.{KeepsBlocks}
-use Rattle.blk_disk.proofs.Agreeing.{past_header}
-use Rattle.blk_disk.proofs.Keeping.{KeepsHead, undamaged_still}
+use Rattle.blk_format.proofs.SpareHeaders.{past_header}
+use Rattle.blk_format.proofs.Keeping.{KeepsHead, undamaged_still}
 use Rattle.blk_disk.proofs.Enlarging.{well_formed_still}
 use Rattle.blk_disk.proofs.Ranges.{stands_more}
 use Rattle.blk_alloc.specs.Changes.{map_of}

@@ -17,9 +17,9 @@ use Rattle.blk_disk.specs.declared.tables.BlockFiles.{BlockFiles}
 use Rattle.blk_disk.specs.Tables.{Agrees, Resizes, all_files, files_of, length_in, stands_among}
 use Rattle.blk_disk.specs.Growth.{fit_steps, whole_length}
 use Rattle.std.proofs.lemmas.Bool.{cases_eq}
-use Rattle.blk_disk.proofs.Agreeing.{next_same, heads_still, sizes_spare, other_file}
+use Rattle.blk_format.proofs.SpareHeaders.{next_same, heads_still, sizes_spare, other_file}
 use Rattle.blk_disk.proofs.Enlarging.{well_formed_still}
-use Rattle.blk_disk.proofs.Keeping.{undamaged_still}
+use Rattle.blk_format.proofs.Keeping.{undamaged_still}
 use Rattle.blk_alloc.specs.declared.blocks.Blocks.{Blocks}
 use Rattle.blk_alloc.specs.Changes.{IsMidst, IsReady, IsChanged}
 use Rattle.blk_alloc.specs.Fitting.{IsPlace}

@@ -18,8 +18,8 @@ use Rattle.blk_volume.specs.Chains.{chain, IsChain, Linked}
 use Rattle.blk_laws.proofs.ChainLinks.{others-stay}
 use Rattle.blk_laws.proofs.Changing.{at-itself}
 use Rattle.blk_laws.proofs.Creating.{linked-table}
-use Rattle.blk_moments.specs.IndexMoments.{IsIndexWord}
-use Rattle.blk_moments.proofs.IndexWords.{buckets-written, buckets-unchecked}
+use Rattle.blk_laws.specs.IndexMoments.{IsIndexWord}
+use Rattle.blk_laws.proofs.IndexWords.{buckets-written, buckets-unchecked}
 use Rattle.blk_disk.specs.declared.tables.BlockFiles.{BlockFiles}
 use Rattle.blk_disk.specs.Tables.{Agrees}
 use Rattle.blk_volume.specs.Entries.{key_of}

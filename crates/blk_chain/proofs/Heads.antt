@@ -12,11 +12,11 @@ use Rattle.blk_format.specs.Standing.{stands}
 use Rattle.blk_volume.specs.Entries.{is_key_length, key_of}
 use Rattle.blk_volume.specs.View.{Core, core_at, core_of, entry_at, stock_of}
 use Rattle.blk_disk.specs.declared.tables.BlockFiles.{BlockFiles}
-use Rattle.blk_disk.specs.Sealed.{RecordChecks}
+use Rattle.blk_format.specs.Sealed.{RecordChecks}
 use Rattle.blk_disk.specs.Tables.{Agrees, stands_among}
 use Rattle.blk_disk.proofs.Ranges.{stands_agree}
 use Rattle.blk_entry.specs.Keys.{HasKey, IsEntryOf, key_at}
-use Rattle.blk_moments.proofs.Shown.{core-standing, standing-parts}
+use Rattle.blk_laws.proofs.StillShown.{core-standing, standing-parts}
 use Rattle.blk_chain.specs.Naming.{HasName}
 use Rattle.blk_chain.specs.Finding.{names_record, IsKeyed}
 use Rattle.blk_chain.proofs.Names.{shown-core, shown-kind}

@@ -15,8 +15,8 @@ use Rattle.blk_format.specs.Records.{entry_in, checks}
 use Rattle.blk_format.proofs.Words.{AreFields, AreFields-of, kind_of-block_word, block_count-block_word, file_selector-block_word, first_block-block_word, is_address-block_word}
 use Rattle.blk_volume.specs.Footprint.{IsClear}
 use Rattle.blk_volume.specs.View.{Core, core_of, core_at, entry_at, stands_as, stock_of}
-use Rattle.blk_disk.specs.Sealed.{IsMoment, record_at, record_size, seal_place, size_by_kind, seal_by_kind}
-use Rattle.blk_moments.proofs.Shown.{core-standing, standing-parts}
+use Rattle.blk_format.specs.Sealed.{IsMoment, record_at, record_size, seal_place, size_by_kind, seal_by_kind}
+use Rattle.blk_laws.proofs.StillShown.{core-standing, standing-parts}
 use Rattle.blk_chain.proofs.Names.{record-at, shown-core, shown-kind}
 
 -- the address of the first block of a record alone

@@ -20,11 +20,12 @@ use Rattle.blk_format.specs.BlockFiles.{is_among}
 use Rattle.blk_volume.specs.View.{Stock, Core, stock_of}
 use Rattle.blk_volume.specs.Chains.{bucket_of_hash, chain, file_and_block, is_of_bucket, IsChain}
 use Rattle.blk_laws.proofs.ChainLinks.{linked-front, others-stay}
-use Rattle.blk_moments.specs.IndexMoments.{IsIndexWord}
-use Rattle.blk_moments.proofs.IndexWords.{buckets-written, buckets-unchecked}
+use Rattle.blk_laws.specs.IndexMoments.{IsIndexWord}
+use Rattle.blk_laws.proofs.IndexWords.{buckets-written, buckets-unchecked}
 use Rattle.blk_disk.specs.declared.tables.BlockFiles.{BlockFiles}
 use Rattle.blk_disk.specs.Tables.{Agrees}
-use Rattle.blk_disk.proofs.Agreeing.{SparesHeaders, agrees_still}
+use Rattle.blk_format.proofs.SpareHeaders.{SparesHeaders}
+use Rattle.blk_disk.proofs.Agreeing.{agrees_still}
 use Rattle.blk_chain.specs.Linking.{bucket_at, chained_with, place_of_front, CanBeLinked, link_steps, IsLinked, IsLinking}
 use Rattle.blk_chain.specs.Turning.{Turns}
 use Rattle.blk_chain.proofs.Turns.{turns_none, turns_part, turns_word}

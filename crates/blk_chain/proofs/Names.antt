@@ -11,7 +11,7 @@ use Rattle.blk_format.specs.Records.{entry_in, entry_size}
 use Rattle.blk_volume.specs.Chains.{bucket_of_hash, file_and_block, is_of_bucket}
 use Rattle.blk_volume.specs.Entries.{key_of}
 use Rattle.blk_volume.specs.View.{Stock, Core, core_of, core_at, entry_at, follow_at, key_place_at, stands_as, stock_of}
-use Rattle.blk_moments.proofs.Shown.{standing-parts, core-standing}
+use Rattle.blk_laws.proofs.StillShown.{standing-parts, core-standing}
 use Rattle.blk_chain.specs.Naming.{HasName}
 
 pub same-file : (u w : ℕ) → file_and_block u ≡ file_and_block w → file_selector u ≡ file_selector w

@@ -10,7 +10,7 @@ use Rattle.blk_format.specs.Hash.{hash as hash_of}
 use Rattle.blk_format.specs.Headers.{bucket_of}
 use Rattle.blk_volume.specs.View.{Core, entry_at, stock_of}
 use Rattle.blk_volume.specs.Chains.{bucket_of_hash, chain, is_of_bucket, IsChain, Linked}
-use Rattle.blk_disk.proofs.Among.{is_among_more}
+use Rattle.blk_format.proofs.Among.{is_among_more}
 use Rattle.blk_chain.specs.Naming.{HasName}
 use Rattle.blk_chain.specs.Linking.{bucket_at}
 use Rattle.blk_chain.specs.Unlinking.{CanBeUnlinked, StandsBehind}

@@ -21,21 +21,21 @@ use Rattle.blk_volume.specs.Chains.{bucket_of_hash, file_and_block, IsChain, Lin
 use Rattle.blk_format.specs.Claims.{claims_of, has_claim}
 use Rattle.blk_volume.specs.Entries.{key_of}
 use Rattle.blk_laws.proofs.Unlinking.{unlink-behind}
-use Rattle.blk_moments.specs.Moments.{OnlyFollowChanges}
-use Rattle.blk_moments.specs.RecordMoments.{IsRecord}
-use Rattle.blk_moments.proofs.Inside.{record-changes}
-use Rattle.blk_moments.proofs.Records.{follows-written}
-use Rattle.blk_moments.proofs.Nodes.{none-or-one}
-use Rattle.blk_moments.proofs.Shown.{core-standing, standing-parts}
-use Rattle.blk_moments.proofs.Fronts.{AreSmall, small-take, small-range, entry_checks-front, entry_checks-by}
-use Rattle.blk_moments.proofs.Updates.{entry-seal, entry-here}
-use Rattle.blk_disk.proofs.SealedRecords.{length-record, seal_last, moment_before, moments}
-use Rattle.blk_disk.proofs.SealedReads.{record_inside}
+use Rattle.blk_laws.specs.Moments.{OnlyFollowChanges}
+use Rattle.blk_laws.specs.RecordMoments.{IsRecord}
+use Rattle.blk_laws.proofs.Inside.{record-changes}
+use Rattle.blk_laws.proofs.Records.{follows-written}
+use Rattle.blk_laws.proofs.Nodes.{none-or-one}
+use Rattle.blk_laws.proofs.StillShown.{core-standing, standing-parts}
+use Rattle.blk_laws.proofs.Fronts.{AreSmall, small-take, small-range, entry_checks-front, entry_checks-by}
+use Rattle.blk_laws.proofs.Updates.{entry-seal, entry-here}
+use Rattle.blk_format.proofs.SealedRecords.{length-record, seal_last, moment_before, moments}
+use Rattle.blk_format.proofs.SealedRecords.{record_inside}
 use Rattle.blk_disk.proofs.Ranges.{stands_range}
 use Rattle.blk_disk.specs.declared.tables.BlockFiles.{BlockFiles}
 use Rattle.blk_disk.specs.Tables.{Agrees, stands_among}
-use Rattle.blk_disk.specs.Sealed.{RecordChecks, AreChanges, IsMoment, IsUpdated, new_seal, placed, record_at, record_range, record_size, seal_place, sealed_steps, size_by_kind, seal_by_kind, update_steps, update_words}
-use Rattle.blk_disk.proofs.SealedFields.{record_word, updated_is_new}
+use Rattle.blk_format.specs.Sealed.{RecordChecks, AreChanges, IsMoment, IsUpdated, new_seal, placed, record_at, record_range, record_size, seal_place, sealed_steps, size_by_kind, seal_by_kind, update_steps, update_words}
+use Rattle.blk_format.proofs.SealedFields.{record_word, updated_is_new}
 use Rattle.blk_chain.specs.Linking.{bucket_at}
 use Rattle.blk_chain.specs.Unlinking.{CanBeUnlinked, first_claim, IsApart, NamesStay, IsStillLinked, IsUnlinked, IsUnlinking, KeepsRecords, next_of}
 use Rattle.blk_chain.specs.Turning.{TurnsAt, Turns}

@@ -16,7 +16,8 @@ use Rattle.blk_volume.specs.ListView.{put}
 use Rattle.blk_volume.specs.View.{Core, Stock, entry_at, list_of, stock_of}
 use Rattle.blk_volume.specs.Entries.{is_key_length, longest_short_key}
 use Rattle.blk_volume.specs.Chains.{chain, file_and_block, IsChain}
-use Rattle.blk_disk.specs.Sealed.{IsUnsealed, IsUpdated, record_range, record_size, sealed_steps}
+use Rattle.blk_disk.specs.Unsealed.{IsUnsealed}
+use Rattle.blk_format.specs.Sealed.{IsUpdated, record_range, record_size, sealed_steps}
 use Rattle.blk_chain.specs.Naming.{HasName, IsWhole}
 use Rattle.blk_chain.specs.Linking.{bucket_at, chained_with, place_of_front}
 

@@ -7,7 +7,8 @@ ghost use Rattle.blk_format.specs.Address.{blocks_256, file_selector, kind_of, p
 ghost use Rattle.blk_format.specs.Headers.{index_length};
 ghost use Rattle.blk_io.specs.declared.folder.FileId.TheVariants as FileId;
 ghost use Rattle.blk_io.specs.Faults.{IfDamaged, IfDevice, IsShort};
-ghost use Rattle.blk_disk.specs.Sealed.{IsUnsealed, record_size};
+ghost use Rattle.blk_disk.specs.Unsealed.{IsUnsealed};
+ghost use Rattle.blk_format.specs.Sealed.{record_size};
 ghost use Rattle.blk_disk.specs.Tables.{Agrees, stands_among};
 ghost use Rattle.blk_chain.specs.Mapping.{LosesOne};
 ghost use Rattle.blk_chain.specs.Turning.{Turns};

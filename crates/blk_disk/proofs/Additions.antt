@@ -19,7 +19,7 @@ use Rattle.blk_format.specs.Headers.{block_magic, version, magic_of, version_of,
 use Rattle.blk_format.specs.BlockFiles.{file_checks, is_block_count}
 use Rattle.blk_disk.specs.Growth.{header_words, link_steps, make_steps}
 use Rattle.blk_disk.proofs.Ranges.{size_small}
-use Rattle.blk_disk.proofs.Keeping.{checks_none, link_zero}
+use Rattle.blk_format.proofs.Keeping.{checks_none, link_zero}
 
 -- two bytes at the upper half of a word are one step
 words-half : (f : File) (a b : ℕ) → words f 10 (a ∷ b ∷ []) ≡ Word f 10 (a ∷ b ∷ []) ∷ []

@@ -1,21 +1,9 @@
--- Whether a number is in a list of files.
-use Rattle.std.proofs.Common.{◌≡◌, ℕ, Bool, true, false, ◌||◌, List, [], ◌∷◌, ◌++◌, refl, ◌∙◌, ap}
-use Rattle.std.specs.Prelude.{◌==◌}
-use Rattle.std.proofs.lemmas.List.Folds.{list_any-append}
+-- The files of all types.
+use Rattle.std.proofs.Common.{◌≡◌, ℕ, Bool, ◌||◌, ◌++◌, ◌∙◌, ap}
 use Rattle.blk_format.specs.BlockFiles.{is_among}
+use Rattle.blk_format.proofs.Among.{is_among-append}
 use Rattle.blk_disk.specs.declared.tables.BlockFiles.{BlockFiles}
 use Rattle.blk_disk.specs.Tables.{all_files, files_of}
-
-pub is_among-append : (xs ys : List ℕ) (n : ℕ) → is_among (xs ++ ys) n ≡ (is_among xs n || is_among ys n)
-is_among-append xs ys n = list_any-append (λ m. m == n) xs ys
-
--- one more file
-pub is_among_more : (xs : List ℕ) (x n : ℕ) → is_among (xs ++ x ∷ []) n ≡ (is_among xs n || (x == n))
-is_among_more xs x n = is_among-append xs (x ∷ []) n ∙ ap (λ (b : Bool). is_among xs n || b) (or-false (x == n))
-  where
-    or-false : (b : Bool) → (b || false) ≡ b
-    or-false true = refl
-    or-false false = refl
 
 -- the files of all types are those of the four
 pub all_files_among : (files : BlockFiles) (n : ℕ) → is_among (all_files files) n ≡ (is_among files.rankings.items n || is_among files.b256.items n || is_among files.b1k.items n || is_among files.b4k.items n)

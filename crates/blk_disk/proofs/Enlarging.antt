@@ -23,9 +23,9 @@ use Rattle.blk_format.specs.BlockFiles.{is_among, linked, type_among, files_alon
 use Rattle.blk_disk.specs.declared.tables.BlockFiles.{BlockFiles}
 use Rattle.blk_disk.specs.Tables.{Agrees, Enlarges, all_files, blocks_of, files_of, length_in}
 use Rattle.blk_disk.specs.Growth.{KeepsBlocks, grown, grown_length, growth_of, grow_steps, lengthen_steps, new_groups, raise_steps, raised, size_as}
-use Rattle.blk_disk.proofs.Agreeing.{blocks_same, sizes_spare, other_file, past_header}
+use Rattle.blk_format.proofs.SpareHeaders.{blocks_same, sizes_spare, other_file, past_header}
 use Rattle.blk_disk.proofs.Ranges.{stands_more}
-use Rattle.blk_disk.proofs.Keeping.{KeepsHead, none_parts, none_both, undamaged_still}
+use Rattle.blk_format.proofs.Keeping.{KeepsHead, none_parts, none_both, undamaged_still}
 
 -- a folder is still well formed where its index is as it was and no check of a block file fails
 pub well_formed_still : (a b : Image) → ((i : ℕ) → byte b Index i ≡ byte a Index i) → length_of b Index ≡ length_of a Index → (first_block_damage a ≡ None → first_block_damage b ≡ None) → IsWellFormed a → IsWellFormed b

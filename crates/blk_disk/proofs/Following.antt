@@ -22,14 +22,10 @@ use Rattle.blk_io.specs.declared.fault.Fault.{Fault}
 use Rattle.blk_io.specs.declared.fault.Fault.TheVariants.{Device, Damaged}
 use Rattle.blk_io.specs.Faults.{IfDamaged, damage_of}
 use Rattle.blk_disk.specs.Loading.{Follows, ReadsAs, IsHead, files_left, next_checks, checks_after, checks_from, links_from, next_of}
-use Rattle.blk_disk.proofs.Among.{is_among_more}
+use Rattle.blk_format.proofs.Among.{is_among_more}
+use Rattle.blk_format.proofs.Keeping.{last_link}
 use Rattle.blk_image.proofs.FirstChecks.{append_some, append_none}
 use Rattle.blk_disk.proofs.Firsts.{link_passed}
-
--- a last file has no next one
-pub last_link : (met : List ℕ) (next : ℕ) → is_link met 0 next ≡ true → (next == 0) ≡ true
-unfolding is_link
-last_link met next holds = grind (arith, nat_tests)
 
 less_one : (n : ℕ) → suc n - 1 ≡ n
 less_one n = omega arith

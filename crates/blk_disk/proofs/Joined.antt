@@ -26,11 +26,12 @@ use Rattle.blk_disk.specs.declared.tables.BlockFiles.{BlockFiles}
 use Rattle.blk_disk.specs.Tables.{Agrees, Joins, all_files, blocks_of, files_of, length_in}
 use Rattle.blk_disk.specs.Growth.{IsLeastFree, KeepsBlocks, add_steps, addition_of, free_number, last_file, link_steps, make_steps}
 use Rattle.blk_disk.proofs.Additions.{IsNew, header_new, header_size_is, made_is, making_outside, making_quiet, new_header, new_passes, next_is}
-use Rattle.blk_disk.proofs.Agreeing.{other_file, past_header}
-use Rattle.blk_disk.proofs.Among.{all_files_among, is_among-append, is_among_more}
+use Rattle.blk_format.proofs.SpareHeaders.{other_file, past_header}
+use Rattle.blk_disk.proofs.Among.{all_files_among}
+use Rattle.blk_format.proofs.Among.{is_among-append, is_among_more}
 use Rattle.blk_disk.proofs.Chains.{block_kind, fails, linked_once, met_in, or_cases, type_none}
 use Rattle.blk_disk.proofs.Enlarging.{well_formed_still}
-use Rattle.blk_disk.proofs.Keeping.{KeepsHead, all_types, along_kept, links_kept}
+use Rattle.blk_format.proofs.Keeping.{KeepsHead, all_types, along_kept, links_kept}
 use Rattle.blk_disk.proofs.Ranges.{stands_agree, stands_linked, stands_more}
 use Rattle.blk_disk.proofs.Linking.{checks_added, ends, links_added, some_along}
 

@@ -6,7 +6,6 @@ pub mod Following
 pub mod Standings
 pub mod Ranges
 pub mod Agreeing
-pub mod Keeping
 pub mod Raising
 pub mod Enlarging
 pub mod Numbers
@@ -14,9 +13,6 @@ pub mod Additions
 pub mod Chains
 pub mod Linking
 pub mod Joined
-pub mod RecordBytes
-pub mod SealedRecords
+pub mod ThreeChanges
 pub mod SealedReads
 pub mod SealedWrites
-pub mod ThreeChanges
-pub mod SealedFields

@@ -10,17 +10,8 @@ use Rattle.blk_format.specs.Records.{checks, seal_of}
 use Rattle.blk_format.proofs.Words.{AreFields-of}
 use Rattle.blk_io.specs.declared.fault.Damage.{Damage}
 use Rattle.blk_io.specs.declared.folder.FileId.TheVariants as names
-use Rattle.blk_disk.specs.Sealed.{BeginsWithRecord, size_by_kind, seal_by_kind, record_size, seal_place, record_at, RecordChecks, wrong_seal, IsUnsealed}
-
--- the record is in the blocks
-pub record_inside : (w : ℕ) → BeginsWithRecord w → record_size w ≤ room w
-unfolding room block_size size_by_kind
-record_inside w begins =
-    let some = (AreFields-of w).some in
-    ⊎_elim
-    (λ (node : kind_of w ≡ 1). rw node (let h : 36 ≤ block_count w * 36 = omega (arith, some) in h))
-    (λ (entry : kind_of w ≡ 2). rw entry (let h : 96 ≤ block_count w * 256 = omega (arith, some) in h))
-    begins
+use Rattle.blk_format.specs.Sealed.{BeginsWithRecord, size_by_kind, seal_by_kind, record_size, seal_place, record_at, RecordChecks}
+use Rattle.blk_disk.specs.Unsealed.{wrong_seal, IsUnsealed}
 
 -- the bytes that are read from the front of the blocks are the record
 pub record_read : (image : Image) (w n : ℕ) (bytes : List ℕ) → n ≡ record_size w → bytes ≡ range_at (byte image (Block (file_selector w))) (place w + 0) n → bytes ≡ record_at image w
@@ -77,23 +68,6 @@ untold_unsealed told w damage unsealed checks = by_files told.files refl
     by_files : (files : Option Image) → told.files ≡ files → told.files ≡ None
     by_files None there = there
     by_files (Some image) there = absurd (clash (sym (checks image there) ∙ (unsealed.unsealed image there).1))
-
--- the records of the two types
-pub node_seal : (w : ℕ) → kind_of w ≡ 1 → seal_place w ≡ 32
-unfolding seal_by_kind
-node_seal w kind = rw kind refl
-
-pub node_bytes : (w : ℕ) → kind_of w ≡ 1 → record_size w ≡ 36
-unfolding size_by_kind
-node_bytes w kind = rw kind refl
-
-pub entry_seal : (w : ℕ) → kind_of w ≡ 2 → seal_place w ≡ 92
-unfolding seal_by_kind
-entry_seal w kind = rw kind refl
-
-pub entry_bytes : (w : ℕ) → kind_of w ≡ 2 → record_size w ≡ 96
-unfolding size_by_kind
-entry_bytes w kind = rw kind refl
 
 -- a record that was read and checks
 pub read_checks : (image : Image) (w s n : ℕ) (bytes : List ℕ) → s ≡ seal_place w → n ≡ record_size w → bytes ≡ range_at (byte image (Block (file_selector w))) (place w + 0) n → checks s bytes ≡ true → RecordChecks w image

@@ -15,11 +15,12 @@ use Rattle.blk_io.specs.declared.folder.FileId.TheVariants as names
 use Rattle.blk_io.specs.FileNames.{file_of}
 use Rattle.blk_disk.specs.declared.tables.BlockFiles.{BlockFiles}
 use Rattle.blk_disk.specs.Tables.{Agrees, stands_among}
-use Rattle.blk_disk.specs.Sealed.{AreChanges, BeginsWithRecord, seal_by_kind, record_size, seal_place, record_at, record_range, RecordChecks, placed, update_words, update_steps, new_seal, sealed_steps, IsMoment, IsUpdated}
-use Rattle.blk_disk.proofs.Agreeing.{agrees_still, SparesHeaders, blocks_spare}
+use Rattle.blk_format.specs.Sealed.{AreChanges, BeginsWithRecord, seal_by_kind, record_size, seal_place, record_at, record_range, RecordChecks, placed, update_words, update_steps, new_seal, sealed_steps, IsMoment, IsUpdated}
+use Rattle.blk_disk.proofs.Agreeing.{agrees_still}
+use Rattle.blk_format.proofs.SpareHeaders.{SparesHeaders, blocks_spare}
 use Rattle.blk_disk.proofs.Ranges.{stands_range}
-use Rattle.blk_disk.proofs.SealedReads.{record_inside}
-use Rattle.blk_disk.proofs.SealedRecords.{seal_aligned, seal_last, moments, updated}
+use Rattle.blk_format.proofs.SealedRecords.{record_inside}
+use Rattle.blk_format.proofs.SealedRecords.{seal_aligned, seal_last, moments, updated}
 
 place_aligned : (w : ℕ) → BeginsWithRecord w → place w % 4 ≡ 0
 unfolding place block_place block_size

@@ -2,4 +2,4 @@ pub mod Names
 pub mod Tables
 pub mod Loading
 pub mod Growth
-pub mod Sealed
+pub mod Unsealed

@@ -10,8 +10,9 @@ ghost use Rattle.blk_record.specs.Fields.{IsField};
 ghost use Rattle.blk_io.specs.declared.folder.FileId.TheVariants as FileId;
 ghost use Rattle.blk_io.specs.Faults.{IfDamaged, IfDevice, IsShort};
 ghost use Rattle.blk_disk.specs.Tables.{Agrees, stands_among};
-ghost use Rattle.blk_disk.specs.Sealed as sealed;
-ghost use Rattle.blk_disk.specs.Sealed.{AreChanges, BeginsWithRecord, IsMoment, IsUnsealed, IsUpdated, RecordChecks, placed, record_at, record_size, seal_by_kind, seal_place, sealed_steps, size_by_kind, update_steps, update_words};
+ghost use Rattle.blk_format.specs.Sealed as sealed;
+ghost use Rattle.blk_format.specs.Sealed.{AreChanges, BeginsWithRecord, IsMoment, IsUpdated, RecordChecks, placed, record_at, record_size, seal_by_kind, seal_place, sealed_steps, size_by_kind, update_steps, update_words};
+ghost use Rattle.blk_disk.specs.Unsealed.{IsUnsealed};
 
 use crate::names::file_of;
 use crate::standing::place_of;
@@ -124,7 +125,7 @@ impl BlockFiles {
 }
 
 // The number of the bytes of a record.
-#[tactic(auto, unfolding(crate::specs::Sealed::size_by_kind))]
+#[tactic(auto, unfolding(blk_format::specs::Sealed::size_by_kind))]
 fn size_of(kind: Kind) -> usize
     ensures size { result ≡ size_by_kind (kind_number kind) }
     ensures most { result ≤ 96 }
@@ -136,7 +137,7 @@ fn size_of(kind: Kind) -> usize
 }
 
 // The place of the seal in a record.
-#[tactic(auto, unfolding(crate::specs::Sealed::seal_by_kind))]
+#[tactic(auto, unfolding(blk_format::specs::Sealed::seal_by_kind))]
 fn seal_of(kind: Kind) -> u32
     ensures place { result ≡ seal_by_kind (kind_number kind) }
     ensures most { result ≤ 92 }
@@ -148,7 +149,7 @@ fn seal_of(kind: Kind) -> u32
 }
 
 // The seal of a record, where it doesn't check.
-#[tactic(auto, unfolding(crate::specs::Sealed::size_by_kind, crate::specs::Sealed::seal_by_kind))]
+#[tactic(auto, unfolding(blk_format::specs::Sealed::size_by_kind, blk_format::specs::Sealed::seal_by_kind))]
 fn wrong_seal(kind: Kind, bytes: &[u8]) -> Option<u32>
     requires { length bytes.now ≡ size_by_kind (kind_number kind) }
     ensures { result ≡ sealed.wrong_seal (seal_by_kind (kind_number kind)) bytes.now }
@@ -183,7 +184,7 @@ fn wrong_seal_at<R: Record>(view: &R, at: usize) -> Option<u32>
 }
 
 // The seal of a record after some changes.
-#[tactic(auto, unfolding(crate::specs::Sealed::size_by_kind, crate::specs::Sealed::seal_by_kind))]
+#[tactic(auto, unfolding(blk_format::specs::Sealed::size_by_kind, blk_format::specs::Sealed::seal_by_kind))]
 fn seal_after(kind: Kind, bytes: &mut [u8], changes: &[(u32, u32)]) -> u32
     requires size { length bytes.old ≡ size_by_kind (kind_number kind) }
     requires changes { AreChanges (seal_by_kind (kind_number kind)) changes.now }

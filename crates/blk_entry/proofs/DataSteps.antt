@@ -12,7 +12,8 @@ use Rattle.blk_image.proofs.Runs.{told_part, told_whole, until_last, until_weake
 use Rattle.blk_format.specs.Address.{kind_of, external, external_number, file_selector, place}
 use Rattle.blk_disk.specs.declared.tables.BlockFiles.{BlockFiles}
 use Rattle.blk_disk.specs.Tables.{Agrees}
-use Rattle.blk_disk.proofs.Agreeing.{SparesHeaders, agrees_still}
+use Rattle.blk_format.proofs.SpareHeaders.{SparesHeaders}
+use Rattle.blk_disk.proofs.Agreeing.{agrees_still}
 use Rattle.blk_entry.specs.Keys.{data_file, data_start, IsInFile}
 use Rattle.blk_entry.specs.Steps.{data_steps}
 

@@ -21,9 +21,10 @@ use Rattle.blk_volume.specs.Entries.{is_key_length, key_of, longest_key}
 use Rattle.blk_disk.specs.declared.tables.BlockFiles.{BlockFiles}
 use Rattle.blk_disk.specs.Tables.{Agrees, stands_among}
 use Rattle.blk_disk.proofs.Ranges.{stands_agree}
-use Rattle.blk_disk.specs.Sealed.{record_size}
-use Rattle.blk_disk.proofs.SealedReads.{record_read, entry_bytes}
-use Rattle.blk_disk.proofs.SealedFields.{record_word}
+use Rattle.blk_format.specs.Sealed.{record_size}
+use Rattle.blk_disk.proofs.SealedReads.{record_read}
+use Rattle.blk_format.proofs.SealedRecords.{entry_bytes}
+use Rattle.blk_format.proofs.SealedFields.{record_word}
 use Rattle.blk_io.specs.declared.folder.FileId.TheVariants as names
 use Rattle.blk_io.specs.declared.fault.Damage.{Damage}
 use Rattle.blk_io.specs.declared.fault.Fault.{Fault}

@@ -7,9 +7,9 @@ use Rattle.blk_format.specs.Address.{kind_of, file_selector, place, rankings}
 use Rattle.blk_format.specs.Hash.{hash}
 use Rattle.blk_format.specs.Records.{Node, node_in, node_body, node_seal, sealed_node, seal_of}
 use Rattle.blk_format.proofs.Bodies.{node_body-in}
-use Rattle.blk_disk.specs.Sealed.{AreChanges, IsMoment, IsUpdated, record_at, record_size, seal_place}
-use Rattle.blk_disk.proofs.SealedReads.{node_seal as seal_of_node, node_bytes}
-use Rattle.blk_disk.proofs.SealedFields.{record_word, one_change, one_change_others, updated_seal, updated_stays, updated_is_new}
+use Rattle.blk_format.specs.Sealed.{AreChanges, IsMoment, IsUpdated, record_at, record_size, seal_place}
+use Rattle.blk_format.proofs.SealedRecords.{node_seal as seal_of_node, node_bytes}
+use Rattle.blk_format.proofs.SealedFields.{record_word, one_change, one_change_others, updated_seal, updated_stays, updated_is_new}
 use Rattle.blk_entry.specs.Marks.{dirty_change, plain_node, IsMarking, IsMarked}
 
 -- one word before the seal of a node is changed

@@ -15,8 +15,8 @@ use Rattle.blk_laws.proofs.ByteChanges.{views-same}
 use Rattle.blk_laws.proofs.Covers.{blocks-covered, externals-covered, covers-less, covers-more, covers-either}
 use Rattle.blk_disk.specs.declared.tables.BlockFiles.{BlockFiles}
 use Rattle.blk_disk.specs.Tables.{Agrees, stands_among}
-use Rattle.blk_disk.specs.Sealed.{record_range}
-use Rattle.blk_disk.proofs.SealedReads.{record_inside}
+use Rattle.blk_format.specs.Sealed.{record_range}
+use Rattle.blk_format.proofs.SealedRecords.{record_inside}
 use Rattle.blk_entry.specs.declared.writing.NewEntry.{NewEntry}
 use Rattle.blk_entry.specs.Covering.{NewPlacesAreCovered, NewPlacesAreShownApart}
 use Rattle.blk_entry.specs.Keys.{IsInside}

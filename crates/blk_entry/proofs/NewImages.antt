@@ -23,10 +23,11 @@ use Rattle.blk_format.specs.Standing.{is_linked_as, stands_as_blocks}
 use Rattle.blk_format.specs.BlockFiles.{type_among}
 use Rattle.blk_disk.specs.declared.tables.BlockFiles.{BlockFiles}
 use Rattle.blk_disk.specs.Tables.{Agrees, files_of, stands_among}
-use Rattle.blk_disk.specs.Sealed.{record_size}
-use Rattle.blk_disk.proofs.Agreeing.{other_file}
+use Rattle.blk_format.specs.Sealed.{record_size}
+use Rattle.blk_format.proofs.SpareHeaders.{other_file}
 use Rattle.blk_disk.proofs.Ranges.{stands_range}
-use Rattle.blk_disk.proofs.SealedReads.{entry_bytes as entry_size_is, entry_seal, node_bytes as node_size_is, node_seal, read_checks, record_inside}
+use Rattle.blk_format.proofs.SealedRecords.{entry_bytes as entry_size_is, entry_seal, node_bytes as node_size_is, node_seal, record_inside}
+use Rattle.blk_disk.proofs.SealedReads.{read_checks}
 use Rattle.blk_entry.specs.declared.writing.NewEntry.{NewEntry}
 use Rattle.blk_entry.specs.Keys.{IsInside, IsInFile, data_file, data_start, may_hold, stores}
 use Rattle.blk_entry.specs.Steps.{data_steps, ended_steps}

@@ -17,11 +17,12 @@ use Rattle.blk_image.proofs.Splices.{length-zeros}
 use Rattle.blk_format.specs.BlockFiles.{IsWellFormed}
 use Rattle.blk_disk.specs.declared.tables.BlockFiles.{BlockFiles}
 use Rattle.blk_disk.specs.Tables.{Agrees, stands_among}
-use Rattle.blk_disk.specs.Sealed.{record_range, record_size}
-use Rattle.blk_disk.proofs.Agreeing.{SparesHeaders, agrees_still, heads_still, next_same, past_header}
+use Rattle.blk_format.specs.Sealed.{record_range, record_size}
+use Rattle.blk_format.proofs.SpareHeaders.{SparesHeaders, heads_still, next_same, past_header}
+use Rattle.blk_disk.proofs.Agreeing.{agrees_still}
 use Rattle.blk_disk.proofs.Enlarging.{well_formed_still}
-use Rattle.blk_disk.proofs.Keeping.{undamaged_still}
-use Rattle.blk_disk.proofs.SealedReads.{node_bytes as node_size_is}
+use Rattle.blk_format.proofs.Keeping.{undamaged_still}
+use Rattle.blk_format.proofs.SealedRecords.{node_bytes as node_size_is}
 use Rattle.blk_entry.specs.declared.writing.NewEntry.{NewEntry}
 use Rattle.blk_entry.specs.Keys.{IsInside, IsInFile, data_file, data_start, is_short, may_hold, stores}
 use Rattle.blk_entry.specs.Steps.{data_steps, ended_steps}

@@ -7,8 +7,8 @@ use Rattle.blk_image.specs.Steps.{with_word, with_words}
 use Rattle.blk_image.proofs.Words.{content-range}
 use Rattle.blk_format.specs.Hash.{hash, mixed}
 use Rattle.blk_format.specs.Records.{Entry, Node, entry_in, entry_body, sealed_entry, node_in, node_body, sealed_node, checks, child, plain}
-use Rattle.blk_disk.specs.Sealed.{sealed}
-use Rattle.blk_disk.proofs.RecordBytes.{with_words-append}
+use Rattle.blk_format.specs.Sealed.{sealed}
+use Rattle.blk_format.proofs.RecordBytes.{with_words-append}
 use Rattle.blk_format.specs.Address.{is_address, is_initialized}
 use Rattle.blk_entry.specs.declared.writing.NewEntry.{NewEntry}
 use Rattle.blk_entry.specs.Writing.{AreWords, entry_bytes, new_node, new_record, node_bytes}

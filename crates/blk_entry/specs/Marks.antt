@@ -5,7 +5,7 @@ use Rattle.blk_image.specs.Steps.{TrailStep}
 use Rattle.blk_image.specs.Footprint.{SameOutside}
 use Rattle.blk_format.specs.Records.{Node, sealed_node}
 use Rattle.blk_volume.specs.View.{node_at}
-use Rattle.blk_disk.specs.Sealed.{RecordChecks, record_range, sealed_steps}
+use Rattle.blk_format.specs.Sealed.{RecordChecks, record_range, sealed_steps}
 
 -- the place of the dirty word in a node
 abbrev pub dirty_place : ℕ

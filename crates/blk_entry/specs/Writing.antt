@@ -13,7 +13,7 @@ use Rattle.blk_volume.specs.Entries.{IsPlain, streams_of}
 use Rattle.blk_volume.specs.Loads.{Loaded}
 use Rattle.blk_disk.specs.declared.tables.BlockFiles.{BlockFiles}
 use Rattle.blk_disk.specs.Tables.{stands_among}
-use Rattle.blk_disk.specs.Sealed.{RecordChecks, record_range}
+use Rattle.blk_format.specs.Sealed.{RecordChecks, record_range}
 use Rattle.blk_entry.specs.declared.writing.NewEntry.{NewEntry}
 use Rattle.blk_entry.specs.Keys.{data_at, data_file, data_start, is_short, key_at, key_place_bytes, may_hold}
 use Rattle.blk_entry.specs.Steps.{ended_steps}

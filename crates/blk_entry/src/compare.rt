@@ -5,7 +5,7 @@ ghost use Rattle.blk_image.specs.Told.{Rises, Stays};
 ghost use Rattle.blk_format.specs.Address.{blocks_256, kind_of};
 ghost use Rattle.blk_io.specs.Faults.{IfDamaged, IfDevice};
 ghost use Rattle.blk_disk.specs.Tables.{Agrees, stands_among};
-ghost use Rattle.blk_disk.specs.Sealed.{RecordChecks};
+ghost use Rattle.blk_format.specs.Sealed.{RecordChecks};
 ghost use Rattle.blk_entry.specs.Keys.{HasKey, IsCut, IsEntryOf, IsHead, IsInFile, IsInside, IsKeyDamage, IsPlaceDamage, data_at, key_at};
 
 use crate::data::read_data;

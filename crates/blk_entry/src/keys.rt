@@ -7,7 +7,8 @@ ghost use Rattle.blk_format.specs.Records.{entry_size};
 ghost use Rattle.blk_io.specs.declared.folder.FileId.TheVariants as FileId;
 ghost use Rattle.blk_io.specs.Faults.{IfDamaged, IfDevice, IsShort};
 ghost use Rattle.blk_disk.specs.Tables.{Agrees, stands_among};
-ghost use Rattle.blk_disk.specs.Sealed.{IsUnsealed, RecordChecks};
+ghost use Rattle.blk_disk.specs.Unsealed.{IsUnsealed};
+ghost use Rattle.blk_format.specs.Sealed.{RecordChecks};
 ghost use Rattle.blk_entry.specs.Keys as keys;
 ghost use Rattle.blk_entry.specs.Keys.{HasKey, IsHead, IsHeadDamage, IsInside, IsMisplaced, IsPiece, IsPlaceOf, is_short, key_at, key_address, bytes_before};
 

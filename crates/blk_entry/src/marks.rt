@@ -6,7 +6,8 @@ ghost use Rattle.blk_format.specs.Address.{file_selector, kind_of, place, rankin
 ghost use Rattle.blk_io.specs.declared.folder.FileId.TheVariants as FileId;
 ghost use Rattle.blk_io.specs.Faults.{IfDamaged, IfDevice, IsShort};
 ghost use Rattle.blk_disk.specs.Tables.{Agrees, stands_among};
-ghost use Rattle.blk_disk.specs.Sealed.{IsUnsealed, RecordChecks, record_size};
+ghost use Rattle.blk_disk.specs.Unsealed.{IsUnsealed};
+ghost use Rattle.blk_format.specs.Sealed.{RecordChecks, record_size};
 ghost use Rattle.blk_entry.specs.Marks.{IsMarked, IsMarking, mark_steps};
 
 use blk_addr::Addr;

@@ -13,7 +13,7 @@ ghost use Rattle.blk_volume.specs.Loads.{alone, load};
 ghost use Rattle.blk_volume.specs.View.{stock_of};
 ghost use Rattle.blk_record.specs.Fields.{IsField};
 ghost use Rattle.blk_io.specs.Faults.{IfDamaged, IfDevice};
-ghost use Rattle.blk_disk.specs.Sealed as sealed;
+ghost use Rattle.blk_format.specs.Sealed as sealed;
 ghost use Rattle.blk_disk.specs.Tables.{Agrees, stands_among};
 ghost use Rattle.blk_entry.specs.Writing.{AreWords, FitsKey, HasItsLength, IsShownNew, IsWritten, entry_bytes, entry_steps, key_steps, loaded_new, new_node, new_record, node_bytes, node_steps, places_of, record_steps};
 

@@ -12,3 +12,10 @@ pub mod MapExamples
 pub mod NameLemmas
 pub mod NameExamples
 pub mod SparseIndexExamples
+pub mod Among
+pub mod Keeping
+pub mod SpareHeaders
+pub mod RecordBytes
+pub mod Seals
+pub mod SealedRecords
+pub mod SealedFields

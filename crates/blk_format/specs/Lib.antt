@@ -9,3 +9,4 @@ pub mod Names
 pub mod SparseIndex
 pub mod BlockFiles
 pub mod Maps
+pub mod Sealed

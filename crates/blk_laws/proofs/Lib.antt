@@ -58,3 +58,13 @@ pub mod ExampleKept
 pub mod ExampleFamily
 pub mod ExampleParts
 pub mod ExampleDoomed
+pub mod Adding
+pub mod WellFormed
+pub mod Inside
+pub mod StillShown
+pub mod Fronts
+pub mod Updates
+pub mod Nodes
+pub mod Records
+pub mod IndexWords
+pub mod ExampleMoments

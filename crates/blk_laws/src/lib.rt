@@ -1,6 +1,6 @@
 //! The laws of what a cache folder holds, each the contract of a function with an empty body.
 //!
-//! They say that the definitions of `blk_volume` fit together: what is kept, what represents a state, and what changes leave.
+//! They say that the definitions of `blk_volume` fit together: what is kept, what represents a state, what changes leave, and what a folder shows at each moment of a write.
 #![tactic(auto)]
 
 ghost use Rattle.blk_laws.specs.AllocationLaws.{SoundFilesAreAllocated, StoodForFilesAreAllocated};
@@ -10,6 +10,10 @@ ghost use Rattle.blk_laws.specs.CommandLaws.{UnsettledObjectsMayChange, EachMome
 ghost use Rattle.blk_laws.specs.KeptLaws.{KeptAreTheGiven, NoneOfTheGivenIsDropped, LeavingOutKeepsTheSame, SameKeyIsOneChain, OnlyCandidatesAreKept, SameCandidatesHoldTheSame};
 ghost use Rattle.blk_laws.specs.ListLaws.{WalksAreTheLists, InsertsTurnAtTwo, InsertsEnd, RemovalsTurnAtTwo, RemovalsEnd, TouchesTurnAtTwo, TouchesEnd, CompletingAgainIsTheSame, CompletionsEnd, ChainsAreTheirRecords, RecordsAreLinkedInFront, OtherChainsStay, FirstRecordsAreUnlinked, LaterRecordsAreUnlinked};
 ghost use Rattle.blk_laws.specs.StateLaws.{WalksAreTheOrder, ListedAreTheRows, NothingListedIsDropped, RepresentedChainsEnd, KeptAreAtRest, FoundIsAtRest, RepresentedStatesAreShown, RepresentedStatesAreStoodFor, LaidIsShown, KeptArePicked, FreeFootprintsKeepStates, ChangedItemsAreLaid, ChangedItemsAreRepresented};
+
+mod moments;
+
+pub use moments::{blocks_change_inside, index_words_are_written, links_are_written, names_are_written, records_are_written};
 
 /// The walk of a whole list is its nodes.
 pub fn whole_lists_are_walked()

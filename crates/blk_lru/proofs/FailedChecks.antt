@@ -8,8 +8,9 @@ use Rattle.blk_io.specs.declared.fault.Fault.{Fault}
 use Rattle.blk_io.specs.declared.fault.Fault.TheVariants.{Device, Damaged}
 use Rattle.blk_io.specs.Faults.{IfDamaged, IsShort}
 use Rattle.blk_disk.specs.declared.tables.BlockFiles.{BlockFiles}
-use Rattle.blk_disk.specs.Sealed.{IsUnsealed, record_size}
-use Rattle.blk_disk.proofs.SealedReads.{node_seal, node_bytes}
+use Rattle.blk_disk.specs.Unsealed.{IsUnsealed}
+use Rattle.blk_format.specs.Sealed.{record_size}
+use Rattle.blk_format.proofs.SealedRecords.{node_seal, node_bytes}
 use Rattle.blk_lru.specs.Damages.{IsBroken, IsNodeDamage, IsTooShort}
 use Rattle.blk_lru.specs.Nodes.{is_node}
 use Rattle.blk_lru.proofs.NodeWords.{node_kind}

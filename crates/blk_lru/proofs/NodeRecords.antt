@@ -14,9 +14,10 @@ use Rattle.blk_format.specs.Records.{checks, node_in, node_body, node_is_sealed,
 use Rattle.blk_format.proofs.Bodies.{range-add, node_body-in}
 use Rattle.blk_volume.specs.View.{stands_as, checks_at, list_of, node_at}
 use Rattle.std.proofs.lemmas.List.Elements.{All-nil, All-cons}
-use Rattle.blk_disk.specs.Sealed.{AreChanges, record_at, record_size, seal_place, RecordChecks}
-use Rattle.blk_disk.proofs.SealedFields.{record_word}
-use Rattle.blk_disk.proofs.SealedReads.{node_seal, node_bytes, record_read}
+use Rattle.blk_format.specs.Sealed.{AreChanges, record_at, record_size, seal_place, RecordChecks}
+use Rattle.blk_format.proofs.SealedFields.{record_word}
+use Rattle.blk_format.proofs.SealedRecords.{node_seal, node_bytes}
+use Rattle.blk_disk.proofs.SealedReads.{record_read}
 use Rattle.blk_disk.specs.declared.tables.BlockFiles.{BlockFiles}
 use Rattle.blk_disk.specs.Tables.{Agrees}
 use Rattle.blk_lru.specs.Nodes.{is_node, link_at, FindsNode}

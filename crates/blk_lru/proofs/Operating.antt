@@ -14,7 +14,7 @@ use Rattle.blk_volume.specs.Completion.{completed_list}
 use Rattle.blk_volume.specs.ListPlans.{TurnsAtTwo}
 use Rattle.blk_volume.specs.View.{list_of}
 use Rattle.blk_disk.specs.declared.tables.BlockFiles.{BlockFiles}
-use Rattle.blk_moments.specs.Moments.{OnlyListChanges}
+use Rattle.blk_laws.specs.Moments.{OnlyListChanges}
 use Rattle.blk_lru.specs.Lists.{TurnsAt, Turns, completed_walk}
 use Rattle.blk_lru.specs.Moments.{WriteMoments}
 use Rattle.blk_lru.specs.Writes.{IsPartly, steps_of, write_steps}

@@ -6,8 +6,9 @@ use Rattle.std.specs.Prelude.{◌||◌}
 use Rattle.blk_image.specs.Image.{File, Index, Block, Image, AreBytes}
 use Rattle.blk_image.specs.Footprint.{Footprint, range}
 use Rattle.blk_format.specs.Address.{file_selector, place}
-use Rattle.blk_disk.specs.Sealed.{record_range, record_size}
-use Rattle.blk_disk.proofs.Agreeing.{SparesHeaders, agrees_still, blocks_spare}
+use Rattle.blk_format.specs.Sealed.{record_range, record_size}
+use Rattle.blk_format.proofs.SpareHeaders.{SparesHeaders, blocks_spare}
+use Rattle.blk_disk.proofs.Agreeing.{agrees_still}
 use Rattle.blk_image.specs.Steps.{TrailStep, after}
 use Rattle.blk_image.specs.Told.{Told, Grows, GrowsInPart, Passes, Until}
 use Rattle.blk_image.proofs.Cuts.{after-append}
@@ -16,7 +17,7 @@ use Rattle.blk_volume.specs.ListView.{ListWrite, Next, Prev, Head, Tail, Transac
 use Rattle.blk_volume.specs.View.{list_of}
 use Rattle.blk_disk.specs.declared.tables.BlockFiles.{BlockFiles}
 use Rattle.blk_disk.specs.Tables.{Agrees}
-use Rattle.blk_moments.specs.Moments.{OnlyListChanges}
+use Rattle.blk_laws.specs.Moments.{OnlyListChanges}
 use Rattle.blk_lru.specs.Moments.{WriteMoments}
 use Rattle.blk_lru.specs.Nodes.{is_node}
 use Rattle.blk_lru.specs.Writes.{HasWholeIndex, write_steps, steps_of, touched_by, touched_by_writes, IsPartly, AreOf, AreWords, meant}

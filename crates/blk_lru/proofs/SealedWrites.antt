@@ -16,11 +16,11 @@ use Rattle.blk_volume.specs.ListView.{ListView, ListWrite, Next, Prev, Head, Tai
 use Rattle.blk_volume.specs.View.{list_of}
 use Rattle.blk_laws.proofs.ListWrites.{checks_stay}
 use Rattle.blk_disk.specs.declared.tables.BlockFiles.{BlockFiles}
-use Rattle.blk_disk.specs.Sealed.{AreChanges, IsMoment, IsUpdated, RecordChecks, placed, record_at, record_size, seal_place, sealed_steps, update_steps, update_words, new_seal}
+use Rattle.blk_format.specs.Sealed.{AreChanges, IsMoment, IsUpdated, RecordChecks, placed, record_at, record_size, seal_place, sealed_steps, update_steps, update_words, new_seal}
 use Rattle.blk_disk.proofs.Ranges.{stands_range}
-use Rattle.blk_disk.proofs.SealedFields.{record_word, updated_is_new}
-use Rattle.blk_disk.proofs.SealedReads.{node_bytes, node_seal, record_inside}
-use Rattle.blk_disk.proofs.SealedRecords.{moments, updated}
+use Rattle.blk_format.proofs.SealedFields.{record_word, updated_is_new}
+use Rattle.blk_format.proofs.SealedRecords.{node_bytes, node_seal, record_inside}
+use Rattle.blk_format.proofs.SealedRecords.{moments, updated}
 use Rattle.blk_lru.specs.Moments.{WriteMoments}
 use Rattle.blk_lru.specs.Nodes.{is_node}
 use Rattle.blk_lru.specs.Writes.{AreOf, AreSealed, AreTimes, IsSealed, steps_of, times_of, touch_steps, write_steps}

@@ -12,9 +12,9 @@ use Rattle.blk_format.specs.Hash.{hash}
 use Rattle.blk_format.specs.Records.{node_in, node_body, node_is_sealed, seal_of}
 use Rattle.blk_format.proofs.Bodies.{node_body-in}
 use Rattle.blk_volume.specs.View.{node_at}
-use Rattle.blk_disk.specs.Sealed.{AreChanges, IsUpdated, record_at, record_range, record_size, seal_place}
-use Rattle.blk_disk.proofs.SealedFields.{record_word, updated_seal}
-use Rattle.blk_disk.proofs.SealedReads.{node_seal, node_bytes}
+use Rattle.blk_format.specs.Sealed.{AreChanges, IsUpdated, record_at, record_range, record_size, seal_place}
+use Rattle.blk_format.proofs.SealedFields.{record_word, updated_seal}
+use Rattle.blk_format.proofs.SealedRecords.{node_seal, node_bytes}
 use Rattle.blk_lru.specs.Writes.{IsSealed}
 use Rattle.blk_lru.proofs.NodeRecords.{front_is, record_is}
 

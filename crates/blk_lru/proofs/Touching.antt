@@ -22,11 +22,11 @@ use Rattle.blk_volume.specs.ListPlans.{TurnsAtTwo, touch_writes, writes_of, pend
 use Rattle.blk_volume.specs.View.{list_of}
 use Rattle.blk_laws.proofs.ListWrites.{checks_stay}
 use Rattle.blk_disk.specs.declared.tables.BlockFiles.{BlockFiles}
-use Rattle.blk_disk.specs.Sealed.{AreChanges, RecordChecks, IsMoment, seal_place, record_size, record_range, sealed_steps, update_steps, update_words, placed, new_seal}
+use Rattle.blk_format.specs.Sealed.{AreChanges, RecordChecks, IsMoment, seal_place, record_size, record_range, sealed_steps, update_steps, update_words, placed, new_seal}
 use Rattle.blk_disk.proofs.Ranges.{stands_range}
-use Rattle.blk_disk.proofs.SealedReads.{node_seal, record_inside}
-use Rattle.blk_disk.proofs.SealedRecords.{moments}
-use Rattle.blk_moments.specs.Moments.{OnlyListChanges}
+use Rattle.blk_format.proofs.SealedRecords.{node_seal, record_inside}
+use Rattle.blk_format.proofs.SealedRecords.{moments}
+use Rattle.blk_laws.specs.Moments.{OnlyListChanges}
 use Rattle.blk_lru.specs.Lists.{TurnsAt, Turns, completed_walk}
 use Rattle.blk_lru.specs.Moments.{WriteMoments}
 use Rattle.blk_lru.specs.Nodes.{is_node}

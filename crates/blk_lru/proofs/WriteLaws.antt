@@ -18,14 +18,15 @@ use Rattle.blk_volume.specs.View.{list_of, stock_of}
 use Rattle.blk_laws.proofs.ListWrites.{checks_stay}
 use Rattle.blk_disk.specs.declared.tables.BlockFiles.{BlockFiles}
 use Rattle.blk_disk.specs.Tables.{Agrees}
-use Rattle.blk_disk.specs.Sealed.{RecordChecks, IsMoment, IsUpdated, seal_place, record_size, record_at, record_range, sealed_steps, update_steps, update_words, placed, new_seal}
-use Rattle.blk_disk.proofs.Agreeing.{SparesHeaders, agrees_still, blocks_spare}
-use Rattle.blk_disk.proofs.RecordBytes.{take-before_word}
+use Rattle.blk_format.specs.Sealed.{RecordChecks, IsMoment, IsUpdated, seal_place, record_size, record_at, record_range, sealed_steps, update_steps, update_words, placed, new_seal}
+use Rattle.blk_format.proofs.SpareHeaders.{SparesHeaders, blocks_spare}
+use Rattle.blk_disk.proofs.Agreeing.{agrees_still}
+use Rattle.blk_format.proofs.RecordBytes.{take-before_word}
 use Rattle.blk_disk.proofs.Ranges.{stands_range}
-use Rattle.blk_disk.proofs.SealedReads.{node_seal, record_inside}
-use Rattle.blk_disk.proofs.SealedRecords.{moments, updated}
-use Rattle.blk_moments.specs.Moments.{ShowsTheSame, OnlyListChanges}
-use Rattle.blk_moments.specs.IndexMoments.{IsIndexWord, checked_words}
+use Rattle.blk_format.proofs.SealedRecords.{node_seal, record_inside}
+use Rattle.blk_format.proofs.SealedRecords.{moments, updated}
+use Rattle.blk_laws.specs.Moments.{ShowsTheSame, OnlyListChanges}
+use Rattle.blk_laws.specs.IndexMoments.{IsIndexWord, checked_words}
 use Rattle.blk_format.specs.BlockFiles.{is_among}
 use Rattle.blk_lru.specs.Moments.{WriteMoments}
 use Rattle.blk_lru.specs.Nodes.{is_node}

@@ -5,7 +5,7 @@ use Rattle.blk_volume.specs.ListView.{ListView, ListWrite}
 use Rattle.blk_volume.specs.Completion.{insert, remove, counts}
 use Rattle.blk_volume.specs.ListPlans.{completion_writes, outcome}
 use Rattle.blk_volume.specs.View.{list_of, stock_of}
-use Rattle.blk_moments.specs.Moments.{ShowsTheSame}
+use Rattle.blk_laws.specs.Moments.{ShowsTheSame}
 use Rattle.blk_disk.specs.declared.tables.BlockFiles.{BlockFiles}
 use Rattle.blk_lru.specs.declared.completing.Beside.{Beside}
 use Rattle.blk_lru.specs.declared.completing.InFlight.{InFlight}

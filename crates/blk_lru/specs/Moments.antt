@@ -1,7 +1,7 @@
 -- What is known of the writes into the use list at each of their words.
-use Rattle.blk_moments.specs.NodeMoments.{NextsAreWritten, PrevsAreWritten, TimesAreNotShown}
-use Rattle.blk_moments.specs.IndexMoments.{HeadsAreWritten, TailsAreWritten, TransactionsAreWritten, OperationsAreWritten, OtherWordsAreNotChecked}
-use Rattle.blk_moments.specs.BlockMoments.{UpdatesStayInside, ListChangesAdd}
+use Rattle.blk_laws.specs.NodeMoments.{NextsAreWritten, PrevsAreWritten, TimesAreNotShown}
+use Rattle.blk_laws.specs.IndexMoments.{HeadsAreWritten, TailsAreWritten, TransactionsAreWritten, OperationsAreWritten, OtherWordsAreNotChecked}
+use Rattle.blk_laws.specs.BlockMoments.{UpdatesStayInside, ListChangesAdd}
 
 -- what the laws of moments say of the writes into the list
 pub record WriteMoments : Type 0 where

@@ -8,8 +8,8 @@ use Rattle.blk_format.specs.Records.{node_is_sealed}
 use Rattle.blk_format.specs.BlockFiles.{IsWellFormed}
 use Rattle.blk_volume.specs.ListView.{ListWrite, Next, Prev, Head, Tail, Transaction, Operation}
 use Rattle.blk_volume.specs.View.{node_at}
-use Rattle.blk_disk.specs.Sealed.{sealed_steps, record_range}
-use Rattle.blk_moments.specs.Moments.{OnlyListChanges}
+use Rattle.blk_format.specs.Sealed.{sealed_steps, record_range}
+use Rattle.blk_laws.specs.Moments.{OnlyListChanges}
 use Rattle.blk_lru.specs.declared.writes.Write.{Write}
 use Rattle.blk_lru.specs.declared.writes.Write.TheVariants as code
 

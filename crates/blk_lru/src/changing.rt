@@ -8,7 +8,7 @@ ghost use Rattle.blk_volume.specs.ListPlans.{touch_writes, writes_of};
 ghost use Rattle.blk_volume.specs.View.{list_of};
 ghost use Rattle.blk_laws.specs.ListLaws.{CanBeInserted, IsAtRest};
 ghost use Rattle.blk_io.specs.Faults.{IfDamaged, IfDevice};
-ghost use Rattle.blk_disk.specs.Sealed.{sealed_steps};
+ghost use Rattle.blk_format.specs.Sealed.{sealed_steps};
 ghost use Rattle.blk_disk.specs.Tables.{Agrees};
 ghost use Rattle.blk_lru.specs.Damages.{IsInsertDamage, IsNodeDamage, IsRemovalDamage, IsTouchDamage};
 ghost use Rattle.blk_lru.specs.Nodes.{is_node};

@@ -5,7 +5,7 @@ ghost use Rattle.blk_lru.specs.Moments.{WriteMoments};
 pub(crate) fn write_moments()
     ensures { WriteMoments }
 {
-    blk_moments::links_are_written();
-    blk_moments::blocks_change_inside();
-    blk_moments::index_words_are_written();
+    blk_laws::links_are_written();
+    blk_laws::blocks_change_inside();
+    blk_laws::index_words_are_written();
 }

@@ -28,20 +28,6 @@ with_word-put place value window buffer enough is =
     ap₂ (λ (x y : List ℕ). x ++ y) body none ∙ append-nil (word_bytes value ++ drop (place + 4) window) in
     ap (λ (l : List ℕ). take place window ++ l) tail ∙ sym (with_word-is place value window enough)
 
--- what lies before a word that is written
-take-with_word : (place value : ℕ) (window : List ℕ) → place + 4 ≤ length window → take place (with_word place value window) ≡ take place window
-take-with_word place value window enough =
-    let front : length (take place window) ≡ place = length-take-le place window (omega arith) in
-    ap (take place) (with_word-is place value window enough)
-    ∙ take-append-le place (take place window) (word_bytes value ++ drop (place + 4) window) (omega (arith, front))
-    ∙ take_all place (take place window) (omega (arith, front))
-
--- a hash is a word
-hash-fits : (bytes : List ℕ) → hash bytes < 2 ^ 32
-unfolding hash mixed
-hash-fits [] = omega arith
-hash-fits (b ∷ bytes) = omega arith
-
 -- the word that was written is read
 pub set-reads : (place value : ℕ) (old new : List ℕ) → new ≡ with_word place value old → value < 2 ^ 32 → place + 4 ≤ length old → word_at (content new) place ≡ value
 set-reads place value old new is fits enough = ap (λ (w : List ℕ). word_at (content w) place) is ∙ word-there place value old fits enough
@@ -51,22 +37,6 @@ pub others-stay : (size place value : ℕ) (old new : List ℕ) → new ≡ with
 others-stay size place value old new is aligned other field apart =
     let beside : (other + 4 ≤ place) ⊎ (place + 4 ≤ other) = ⊎_elim (λ (x : other < place). inl (omega (arith, field.aligned))) (λ (x : place ≤ other). inr (omega (arith, field.aligned))) (cases_lt other place) in
     ap (λ (w : List ℕ). word_at (content w) other) is ∙ word-beside other place value old beside
-
--- a record whose seal is 0 checks
-pub unsealed-checks : (place : ℕ) (old new : List ℕ) → new ≡ with_word place 0 old → place + 4 ≤ length old → checks place new ≡ true
-unsealed-checks place old new is enough =
-    let zero : word_at (content new) place ≡ 0 = set-reads place 0 old new is (omega arith) enough in
-    rw zero refl
-
-either-true : (n : ℕ) → ((n == 0) || (n == n)) ≡ true
-either-true n = grind arith
-
--- a record with its seal checks
-pub sealed-checks : (place : ℕ) (old new : List ℕ) → new ≡ with_word place (seal_of place old) old → place + 4 ≤ length old → checks place new ≡ true
-sealed-checks place old new is enough =
-    let there : word_at (content new) place ≡ seal_of place old = set-reads place (seal_of place old) old new is (hash-fits (take place old)) enough in
-    let front : seal_of place new ≡ seal_of place old = ap hash (ap (take place) is ∙ take-with_word place (seal_of place old) old enough) in
-    ap₂ (λ (x y : ℕ). (x == 0) || (x == y)) there front ∙ either-true (seal_of place old)
 
 -- a place over which four bytes were written has their word
 pub written-read : WrittenWordsAreRead

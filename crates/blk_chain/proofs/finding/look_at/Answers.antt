@@ -2,7 +2,7 @@ use Rattle.std.proofs.Common.{◌≡◌, ℕ, length, None, Some, inl, inr, sym,
 use Rattle.std.specs.Option.{ForSome}
 use Rattle.blk_image.specs.Told.{Told}
 use Rattle.blk_volume.specs.View.{stock_of}
-use Rattle.blk_disk.specs.Sealed.{RecordChecks}
+use Rattle.blk_format.specs.Sealed.{RecordChecks}
 use Rattle.blk_disk.specs.Tables.{Agrees}
 use Rattle.blk_io.proofs.Carried.{carried, if_damaged_weaker, untold_where}
 use Rattle.blk_volume.specs.Chains.{bucket_of_hash}

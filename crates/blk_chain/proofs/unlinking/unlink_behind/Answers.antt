@@ -3,7 +3,7 @@ use Rattle.std.specs.Option.{ForSome}
 use Rattle.std.proofs.lemmas.Result.{on_ok_weaker}
 use Rattle.blk_image.specs.Image.{Image}
 use Rattle.blk_image.specs.Told.{Told, Grows, GrowsInPart, Passes}
-use Rattle.blk_disk.specs.Sealed.{IsMoment, IsUpdated, RecordChecks, sealed_steps}
+use Rattle.blk_format.specs.Sealed.{IsMoment, IsUpdated, RecordChecks, sealed_steps}
 use Rattle.blk_disk.specs.Tables.{Agrees}
 use Rattle.blk_chain.specs.Unlinking.{next_of}
 use Rattle.blk_chain.proofs.Unlinks.{next_changes, before_checks, moved, with_next, not_yet, turns_yet, turns_then, unlinking_stops, unlinked_then, still_complete}

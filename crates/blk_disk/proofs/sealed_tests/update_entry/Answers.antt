@@ -1,8 +1,9 @@
 use Rattle.std.proofs.Common.{rules, inr, ◌≡◌, arith, sym, ◌∙◌, ap}
 use Rattle.blk_image.specs.Told.{Told}
 use Rattle.blk_format.specs.Address.{kind_of}
-use Rattle.blk_disk.specs.Sealed.{seal_place}
-use Rattle.blk_disk.proofs.SealedReads.{entry_seal, entry_bytes, read_checks, record_inside}
+use Rattle.blk_format.specs.Sealed.{seal_place}
+use Rattle.blk_format.proofs.SealedRecords.{entry_seal, entry_bytes, record_inside}
+use Rattle.blk_disk.proofs.SealedReads.{read_checks}
 use Rattle.blk_disk.proofs.ThreeChanges.{are_three}
 use Rattle.blk_disk.proofs.Agreeing.{loaded_agrees}
 use Rattle.blk_disk.proofs.sealed_tests.update_entry.Goals as goal

@@ -4,8 +4,9 @@ use Rattle.blk_format.specs.Address.{file_selector, place}
 use Rattle.blk_format.specs.Records.{entry_size, checks}
 use Rattle.blk_io.specs.declared.folder.FileId.TheVariants as FileId
 use Rattle.blk_io.specs.Faults.{IsShort}
-use Rattle.blk_disk.specs.Sealed.{IsUnsealed}
-use Rattle.blk_disk.proofs.SealedReads.{entry_bytes, entry_seal, record_read, unsealed_is, untold_unsealed}
+use Rattle.blk_disk.specs.Unsealed.{IsUnsealed}
+use Rattle.blk_format.proofs.SealedRecords.{entry_bytes, entry_seal}
+use Rattle.blk_disk.proofs.SealedReads.{record_read, unsealed_is, untold_unsealed}
 use Rattle.blk_entry.specs.declared.keys.Head.{Head}
 use Rattle.blk_entry.proofs.Windows.{entry_room_least}
 use Rattle.blk_entry.proofs.KeyPlaces.{head_is, err_damaged}

@@ -3,7 +3,7 @@ use Rattle.blk_image.specs.Bytes.{zeros}
 use Rattle.blk_image.specs.Steps.{with_words}
 use Rattle.blk_format.specs.Hash.{hash as hash_of}
 use Rattle.blk_format.specs.Records.{child, plain}
-use Rattle.blk_disk.specs.Sealed.{sealed}
+use Rattle.blk_format.specs.Sealed.{sealed}
 use Rattle.blk_entry.specs.Writing.{new_record}
 use Rattle.blk_entry.proofs.NewRecords.{filled_record, plain_record, record_words}
 use Rattle.blk_entry.proofs.writing.record_of.Goals as goal

@@ -1,7 +1,9 @@
 use Rattle.std.proofs.Common.{◌+◌, ℕ, inr, length, ap, sym, ◌∙◌, arith, refl}
-use Rattle.blk_disk.specs.Sealed.{IsUnsealed, seal_by_kind, wrong_seal}
+use Rattle.blk_disk.specs.Unsealed.{IsUnsealed, wrong_seal}
+use Rattle.blk_format.specs.Sealed.{seal_by_kind}
 use Rattle.blk_disk.proofs.Ranges.{stands_blocky, name_is}
-use Rattle.blk_disk.proofs.SealedReads.{record_inside, record_read, unsealed_is, untold_unsealed}
+use Rattle.blk_format.proofs.SealedRecords.{record_inside}
+use Rattle.blk_disk.proofs.SealedReads.{record_read, unsealed_is, untold_unsealed}
 use Rattle.blk_disk.proofs.tables.BlockFiles.read_record.Given as given
 use Rattle.blk_disk.proofs.tables.BlockFiles.read_record.Goals as goal
 

@@ -5,9 +5,9 @@ use Rattle.blk_image.specs.Told.{Told}
 use Rattle.blk_image.proofs.Runs.{passes_none, some_inj}
 use Rattle.blk_io.proofs.Carried.{silent_part}
 use Rattle.blk_addr.specs.Kind.{kind_number}
-use Rattle.blk_disk.specs.Sealed.{IsMoment}
+use Rattle.blk_format.specs.Sealed.{IsMoment}
 use Rattle.blk_disk.specs.Tables.{Agrees}
-use Rattle.blk_disk.proofs.SealedRecords.{moment_before}
+use Rattle.blk_format.proofs.SealedRecords.{moment_before}
 use Rattle.blk_disk.proofs.SealedWrites.{IsLeft, left_by, whole_by, updated_by}
 use Rattle.blk_disk.proofs.tables.BlockFiles.update_sealed.Given as given
 use Rattle.blk_disk.proofs.tables.BlockFiles.update_sealed.Goals as goal

@@ -11,7 +11,8 @@ use Rattle.blk_format.specs.Address.{file_selector, place}
 use Rattle.blk_io.specs.declared.folder.FileId.{FileId}
 use Rattle.blk_io.specs.FileNames.{file_of}
 use Rattle.blk_disk.specs.Tables.{Agrees}
-use Rattle.blk_disk.proofs.Agreeing.{agrees_still, blocks_spare}
+use Rattle.blk_disk.proofs.Agreeing.{agrees_still}
+use Rattle.blk_format.proofs.SpareHeaders.{blocks_spare}
 use Rattle.blk_disk.proofs.Ranges.{stands_blocky, stands_range, name_is}
 use Rattle.blk_disk.proofs.tables.BlockFiles.write_block.Goals as goal
 

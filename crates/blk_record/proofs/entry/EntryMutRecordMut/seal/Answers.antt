@@ -1,6 +1,7 @@
 use Rattle.std.proofs.Common.{arith, refl}
 use Rattle.blk_format.specs.Records.{entry_size, entry_seal_place, seal_of}
-use Rattle.blk_record.proofs.Writes.{sealed-checks, others-stay}
+use Rattle.blk_format.proofs.Seals.{sealed-checks}
+use Rattle.blk_record.proofs.Writes.{others-stay}
 use Rattle.blk_record.proofs.entry.EntryMutRecordMut.seal.Goals as goal
 
 pub returns-clause-checks : goal.returns-clause-checks

@@ -1,0 +1,21 @@
+-- A record that was read and doesn't check.
+use Rattle.std.specs.Prelude.{Option, None, Some, ℕ, ◌≡◌, ◌≢◌, ◌+◌, if◌then◌else◌, List, true, false}
+use Rattle.std.specs.Option.{ForSome}
+use Rattle.blk_image.specs.Bytes.{content, word_at}
+use Rattle.blk_image.specs.Told.{Told}
+use Rattle.blk_format.specs.Address.{file_selector, place}
+use Rattle.blk_format.specs.Records.{checks}
+use Rattle.blk_format.specs.Sealed.{record_at, seal_place}
+use Rattle.blk_io.specs.declared.folder.FileId.TheVariants as names
+use Rattle.blk_io.specs.declared.fault.Damage.{Damage}
+
+-- the seal of a record that doesn't check
+abbrev pub wrong_seal : ℕ → List ℕ → Option ℕ
+wrong_seal seal bytes = if checks seal bytes then None else Some (word_at (content bytes) seal)
+
+-- a record that was read doesn't check: the damage has its seal, which isn't 0
+pub record IsUnsealed (told : Told) (w : ℕ) (damage : Damage) : Type 0 where
+  pub of_file : damage.file ≡ names.Block (file_selector w)
+  pub at_seal : damage.at ≡ place w + seal_place w
+  pub unlike : damage.found ≢ 0
+  pub unsealed : ForSome told.files (λ image. (damage.found ≡ word_at (content (record_at image w)) (seal_place w)) × (checks (seal_place w) (record_at image w) ≡ false))

@@ -1,5 +1,0 @@
-use Rattle.blk_moments.proofs.Nodes.{contents-written, dirty-written}
-use Rattle.blk_moments.proofs.names_are_written.Goals as goal
-
-pub returns : goal.returns
-returns c = record { contents = contents-written; dirty = dirty-written }
