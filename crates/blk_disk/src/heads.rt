@@ -156,7 +156,7 @@ impl BlockFiles {
     }
 
     // Whether a file is among those that are met with file n.
-    #[tactic(auto, using(crate::proofs::Among::is_among_more))]
+    #[tactic(auto, using(blk_format::proofs::Among::is_among_more))]
     fn is_met(&self, n: u8, file: u8) -> bool
         ensures { result ≡ block_files.is_among (all_files self.now ++ n ∷ []) file }
     {
