@@ -1,10 +1,9 @@
 -- The use list of an image.
 use Rattle.std.specs.Prelude.{ℕ, ◌≡◌, true, List, [], ◌∷◌, Option, None, Some}
 use Rattle.blk_image.specs.Image.{Image}
-use Rattle.blk_image.specs.Steps.{TrailStep, applied}
+use Rattle.blk_image.specs.Steps.{TrailStep}
 use Rattle.std.specs.Option.{ForSome}
-use Rattle.blk_image.specs.Told.{Told, Grows, IsQuiet, Along}
-use Rattle.std.proofs.Common.{zero, suc}
+use Rattle.blk_image.specs.Told.{Told, Grows, IsQuiet, TurnsAt}
 use Rattle.blk_format.specs.BlockFiles.{is_among}
 use Rattle.blk_volume.specs.ListView.{last_or}
 use Rattle.blk_volume.specs.Walk.{walk}
@@ -37,12 +36,6 @@ first_of (word ∷ words) = Some word
 abbrev pub last_of : List ℕ → Option ℕ
 last_of [] = None
 last_of (word ∷ words) = Some (last_or word words)
-
--- P holds of the files before the step of this number, and Q of them from that step on
-abbrev pub TurnsAt : ℕ → (P Q : Image → Type 0) → Image → List TrailStep → Type 0
-TurnsAt zero P Q image steps = Along Q image steps
-TurnsAt (suc count) P Q image [] = P image
-TurnsAt (suc count) P Q image (step ∷ steps) = P image × TurnsAt count P Q (applied step image) steps
 
 -- Steps were made, none of them a note. Of an operation the first writes its code, and the second names the node:
 -- before that one completing leaves the one list, and the other from then on.
