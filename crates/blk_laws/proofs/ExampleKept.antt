@@ -21,7 +21,7 @@ use Rattle.blk_volume.specs.Loads.{held}
 use Rattle.blk_volume.specs.Audit.{kept_among, kept_by}
 use Rattle.blk_volume.specs.Found.{completed, found}
 use Rattle.blk_volume.specs.Candidates.{is_candidate, candidates, SameData, SameNamed}
-use Rattle.blk_laws.specs.BareLaws.{new_file_words}
+use Rattle.blk_format.specs.NewFolder.{new_file_words}
 use Rattle.blk_laws.proofs.OneEntry as one
 use Rattle.blk_laws.proofs.LeavingOut.{leaving-out}
 use Rattle.blk_laws.proofs.Loads.{one-chain}

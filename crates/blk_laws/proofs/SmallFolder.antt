@@ -22,7 +22,7 @@ use Rattle.blk_volume.specs.Reasons as reason
 use Rattle.blk_volume.specs.Loads.{held, load, load_key, load_record, record_claims, all_claims}
 use Rattle.blk_volume.specs.Audit.{is_named, is_orphan, admit, verdicts, kept_among, dropped_among}
 use Rattle.blk_volume.specs.Found.{kept, found}
-use Rattle.blk_laws.specs.BareLaws.{new_index_words, new_file_words}
+use Rattle.blk_format.specs.NewFolder.{new_index_words, new_file_words}
 
 -- the index of a new folder, with node 0 of data_0 as head and tail, and the record at block 0 of data_1 in the bucket of `a`
 abbrev pub small_index : List ℕ

@@ -13,7 +13,7 @@ use Rattle.blk_image.proofs.Words.{length-with_word}
 use Rattle.blk_format.specs.Headers.{empty_of}
 use Rattle.blk_format.specs.BlockFiles.{max_entries_in}
 use Rattle.blk_format.specs.Maps.{is_marked_at, is_marked, are_free, has_run, longest_run, groups_with, groups_of, EmptyAgrees}
-use Rattle.blk_laws.specs.BareLaws.{new_file_words}
+use Rattle.blk_format.specs.NewFolder.{new_file_words}
 use Rattle.blk_laws.proofs.NewFolders.{byte-later}
 use Rattle.blk_laws.proofs.WholeFolder.{whole_folder}
 
