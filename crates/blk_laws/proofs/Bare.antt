@@ -132,17 +132,9 @@ module _ (image : Image) (bare : IsBare image) where
     doomed = record { each = tt; once = tt; all = λ number o is dead. absurd (no-object limits number o is); records = λ number among. absurd (let z : false ≡ true = among in cc) };
   }
 
-  none-doomed : (limits : Bounds) (doomed : List (ℕ × Loaded)) → AreDoomed (view_of image) (open_state [] limits) doomed → doomed ≡ []
-  none-doomed limits [] are = refl
-  none-doomed limits (d ∷ doomed) are = absurd (go (λ o. KeepsDoomed (view_of image) o d.1) (object_at (open_state [] limits) d.0) refl are.each.0) where
-    go : (P : Object → Type 0) (o : Option Object) → object_at (open_state [] limits) d.0 ≡ o → IsSomeAnd o P → ⊥
-    go P None e h = h
-    go P (Some o) e h = no-object limits d.0 o e
-
   pub bare-stands : (limits : Bounds) → StandsFor image (open_state [] limits)
   bare-stands limits = stands-for image (open_state [] limits) no_layout (represents-empty limits) (empty-valid limits) [] (allocated limits) bare.well_formed
-      (λ doomed are. subst (λ (ds : List (ℕ × Loaded)). IsInOrder image (kept_by listed (view_of image)) (map (λ (d : ℕ × Loaded). d.1) ds)) (sym (none-doomed limits doomed are))
-      (subst (λ (ls : List Loaded). IsInOrder image ls []) (sym (kept-none listed)) in-order))
+      (subst (λ (ls : List Loaded). IsInOrder image ls []) (sym (kept-none listed)) in-order)
 
 pub bare-found : BareFoldersHoldNothing
 unfolding found

@@ -188,8 +188,7 @@ whole-is_shown = shows-state whole_folder (one.state true) (one.layout 0) whole-
 -- it stands for it
 pub whole-stands : StandsFor whole_folder (one.state true)
 whole-stands = stands-for whole_folder (one.state true) (one.layout 0) whole-is_represented (state_is_valid true) [] whole-is_allocated whole-is_well_formed
-    (λ doomed are. subst (λ (ds : List (ℕ × Loaded)). IsInOrder whole_folder (kept_by listed (view_of whole_folder)) (map (λ (d : ℕ × Loaded). d.1) ds)) (sym (none-doomed doomed are))
-    (subst (λ (ls : List Loaded). IsInOrder whole_folder ls []) (sym kept-listed) whole-is_in_order))
+    (subst (λ (ls : List Loaded). IsInOrder whole_folder ls []) (sym kept-listed) whole-is_in_order)
 
 whole-is_owned : AreOwned whole_folder (claims_of_loaded (one.loaded 0 ∷ []))
 whole-is_owned =
