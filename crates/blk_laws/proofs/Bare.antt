@@ -1,10 +1,9 @@
 -- A bare folder is sound, holds nothing, and stands for the empty state.
-use Rattle.std.proofs.Common.{◌≡◌, ℕ, ◌+◌, ◌<◌, List, [], ◌∷◌, map, refl, ap, sym, ◌∙◌, subst, inl, arith, Bool, true, false, Option, Some, None}
+use Rattle.std.proofs.Common.{◌≡◌, ℕ, ◌+◌, ◌<◌, List, [], refl, ap, sym, ◌∙◌, subst, inl, arith, Bool, true, false, None}
 use Rattle.std.specs.Prelude.{if◌then◌else◌}
 use Rattle.blk_model.specs.Items.{Row}
 use Rattle.blk_format.specs.Headers.{unfinished}
-use Rattle.std.specs.Option.{IsSomeAnd}
-use Rattle.blk_model.specs.State.{Bounds, Object, object_at}
+use Rattle.blk_model.specs.State.{Bounds}
 use Rattle.blk_model.specs.Holding.{open_state}
 use Rattle.blk_image.specs.Image.{Image}
 use Rattle.blk_format.specs.Address.{is_address, is_initialized, block_place}
@@ -23,7 +22,7 @@ use Rattle.blk_volume.specs.Found.{completed, kept, dropped, found}
 use Rattle.blk_volume.specs.Layout.{Represents}
 use Rattle.blk_volume.specs.Emptiness.{no_layout}
 use Rattle.blk_volume.specs.Sound.{AreOwned, IsInOrder, IsSound}
-use Rattle.blk_volume.specs.StandsFor.{KeepsDoomed, AreDoomed, StandsFor, IsAllocated}
+use Rattle.blk_volume.specs.StandsFor.{StandsFor, IsAllocated}
 use Rattle.blk_laws.specs.BareLaws.{IsBare, IsBareFile, BareFoldersHoldNothing}
 use Rattle.blk_laws.proofs.Empty.{no-object, empty-valid, empty-view}
 use Rattle.blk_laws.proofs.Chains.{chain-is}

@@ -42,7 +42,7 @@ use Rattle.blk_laws.proofs.WholeMarks.{marks, whole-marks, whole-empty}
 -- ---- owners
 
 -- which blocks the entry has
-has-blocks : (n b : ℕ) → n < 4 → has_claim (BlockOf 0 0 ∷ BlockOf 1 0 ∷ BlockOf 1 1 ∷ []) (BlockOf n b) ≡ marks n b
+pub has-blocks : (n b : ℕ) → n < 4 → has_claim (BlockOf 0 0 ∷ BlockOf 1 0 ∷ BlockOf 1 1 ∷ []) (BlockOf n b) ≡ marks n b
 unfolding has_claim
 has-blocks zero b small = grind (arith, nat_tests)
 has-blocks (suc zero) b small = grind (arith, nat_tests)
@@ -54,7 +54,7 @@ some-if : (t : Bool) → is_some (if t then Some one.node else None) ≡ t
 some-if true = refl
 some-if false = refl
 
-whole-owner : (claim : Claim) → is_some ((one.layout 0).owner claim) ≡ has_claim (BlockOf 0 0 ∷ BlockOf 1 0 ∷ BlockOf 1 1 ∷ []) claim
+pub whole-owner : (claim : Claim) → is_some ((one.layout 0).owner claim) ≡ has_claim (BlockOf 0 0 ∷ BlockOf 1 0 ∷ BlockOf 1 1 ∷ []) claim
 whole-owner claim = some-if (has_claim (all_claims (one.loaded 0)) claim) ∙ ap (λ (cs : List Claim). has_claim cs claim) one.claims
 
 linked-below : (n : ℕ) → is_some (linked_as whole_folder n) ≡ nat_lt n 4
@@ -71,7 +71,7 @@ no-externals : (n : ℕ) → has_file whole_folder (External n) ≡ false
 unfolding whole_folder
 no-externals n = refl
 
-no-external : (n : ℕ) → has_claim (BlockOf 0 0 ∷ BlockOf 1 0 ∷ BlockOf 1 1 ∷ []) (ExternalOf n) ≡ false
+pub no-external : (n : ℕ) → has_claim (BlockOf 0 0 ∷ BlockOf 1 0 ∷ BlockOf 1 1 ∷ []) (ExternalOf n) ≡ false
 unfolding has_claim
 no-external n = refl
 

@@ -219,7 +219,7 @@ module _ (image : Image) (m : State) (y : Layout) (r : Represents (view_of image
         subst (λ (z : Option Loaded). AllByRecursion (λ x. IsSomeAnd (object_at m x.0) (λ o. KeepsDoomed (view_of image) o x.1)) (cons_option (option_map (λ (l : Loaded). (n, l)) z) (doomed_of y ns)) × (map (λ (x : ℕ × Loaded). x.0) (cons_option (option_map (λ (l : Loaded). (n, l)) z) (doomed_of y ns)) ≡ n ∷ ns)) (sym d.here)
         ((here, rest.0), ap (λ (xs : List ℕ). n ∷ xs) rest.1)
 
-  are-doomed : AreDoomed (view_of image) m (doomed_of y numbers)
+  pub are-doomed : AreDoomed (view_of image) m (doomed_of y numbers)
   are-doomed =
       let p = doomed-each numbers a.doomed.each (λ n h. h) in
       record {
