@@ -1,9 +1,7 @@
 -- A folder of one doomed object, computed from its bytes: the whole folder after its entry `a` is out of the list and the chain, with a record of state 2. It stands for the state of that object.
-use Rattle.std.proofs.Common.{◌≡◌, ℕ, zero, suc, ◌+◌, ◌/◌, ◌%◌, ◌<◌, ◌≤◌, List, [], ◌∷◌, inl, refl, ap, sym, ◌∙◌, subst, arith, lit≤, Bool, true, false, Option, Some, None, Ok}
-use Rattle.std.specs.Prelude.{if◌then◌else◌, ◌==◌, nat_lt, is_some, unwrap_or}
+use Rattle.std.proofs.Common.{◌≡◌, ℕ, zero, suc, ◌+◌, ◌/◌, ◌%◌, ◌<◌, ◌≤◌, List, [], ◌∷◌, inl, refl, ap, sym, ◌∙◌, subst, arith, lit≤, true, false, Option, Some, None, Ok}
+use Rattle.std.specs.Prelude.{◌==◌, is_some, unwrap_or}
 use Rattle.std.specs.Int.{bit_at}
-use Rattle.std.proofs.lemmas.Bool.{ltb-true}
-use Rattle.std.proofs.lemmas.Bool.Decides.{nat_tests}
 use Rattle.blk_image.specs.Bytes.{content, spliced, range_at, words_at, zeros}
 use Rattle.blk_image.specs.Image.{Index, Block, External, Image, byte, has_file, length_of}
 use Rattle.blk_image.specs.Steps.{with_word, with_words}
@@ -38,6 +36,8 @@ use Rattle.blk_laws.proofs.Standing.{are-doomed, stands-for, found-at_rest}
 use Rattle.blk_laws.proofs.WholeFolder.{whole_nodes, whole_records, whole_folder}
 use Rattle.blk_laws.proofs.WholeMarks.{byte-outside, nodes_words, records_words, marks, whole-marks, over_all, content-words, nodes-content, records-content, empty-agrees, whole-empty}
 use Rattle.blk_laws.proofs.ExampleFolders.{has-blocks, whole-owner, no-external}
+use Rattle.blk_laws.proofs.ExampleFolders as folders
+use Rattle.blk_laws.proofs.ByteChanges.{same-links}
 use Rattle.blk_laws.proofs.ExampleDoomed.{doomed_object, doomed_state, doomed_layout, doomed-is_represented, doomed-is_valid}
 
 -- the words that are other than in the whole folder: the node's next is 0, and it is sealed again
@@ -101,35 +101,20 @@ folder-is_represented = record {
 
 -- ---- owners
 
-links : (linked doomed_folder 1 ≡ 0 ∷ []) × (linked doomed_folder 2 ≡ 1 ∷ []) × (linked doomed_folder 3 ≡ 2 ∷ []) × (linked doomed_folder 4 ≡ 3 ∷ [])
-unfolding doomed_folder linked files_along next_file_in zeros with_word spliced block_size
-links = (refl, refl, refl, refl)
+-- the same files are linked as in the whole folder
+same-next : (n : ℕ) → next_file_in doomed_folder n ≡ next_file_in whole_folder n
+unfolding next_file_in doomed_folder whole_folder zeros with_word spliced
+same-next zero = refl
+same-next (suc zero) = refl
+same-next (suc (suc zero)) = refl
+same-next (suc (suc (suc zero))) = refl
+same-next (suc (suc (suc (suc n)))) = refl
 
--- data_0 to data_3 are linked, each as its type
-linked-is : (n : ℕ) → linked_as doomed_folder n ≡ (if nat_lt n 4 then Some (n + 1) else None)
-unfolding type_among
-linked-is n = let l = links in rw (l.0, l.1, l.2, l.3) (go n) where
-  go : (n : ℕ) → type_among (λ kind. if kind == 1 then 0 ∷ [] else if kind == 2 then 1 ∷ [] else if kind == 3 then 2 ∷ [] else 3 ∷ []) n ≡ (if nat_lt n 4 then Some (n + 1) else None)
-  go zero = refl
-  go (suc zero) = refl
-  go (suc (suc zero)) = refl
-  go (suc (suc (suc zero))) = refl
-  go (suc (suc (suc (suc n)))) = grind (arith, nat_tests)
-
-linked-below : (n : ℕ) → is_some (linked_as doomed_folder n) ≡ nat_lt n 4
-linked-below n = ap is_some (linked-is n) ∙ go (nat_lt n 4) where
-  go : (t : Bool) → is_some (if t then Some (n + 1) else None) ≡ t
-  go true = refl
-  go false = refl
+linked-same : (n : ℕ) → linked_as doomed_folder n ≡ linked_as whole_folder n
+linked-same = same-links whole_folder doomed_folder same-next
 
 below : (n : ℕ) → is_some (linked_as doomed_folder n) ≡ true → n < 4
-below n is = ltb-true n 4 (sym (linked-below n) ∙ is)
-
-its-type : (n kind : ℕ) → linked_as doomed_folder n ≡ Some kind → n + 1 ≡ kind
-its-type n kind is = go (nat_lt n 4) (sym (linked-is n) ∙ is) where
-  go : (t : Bool) → (if t then Some (n + 1) else None) ≡ Some kind → n + 1 ≡ kind
-  go true e = cc
-  go false e = cc
+below n is = folders.below n (ap is_some (sym (linked-same n)) ∙ is)
 
 -- the headers are those of the whole folder
 same-header : (n k : ℕ) → n < 4 → k < 8192 → byte doomed_folder (Block n) k ≡ byte whole_folder (Block n) k
@@ -165,24 +150,33 @@ folder-is_allocated = record {
 -- ---- files, counters and seals
 
 folder-only : OnlyLinked doomed_folder
-unfolding doomed_folder
-folder-only n small = there n ∙ sym (linked-below n) where
-  there : (n : ℕ) → has_file doomed_folder (Block n) ≡ nat_lt n 4
+unfolding doomed_folder whole_folder
+folder-only n small = there n ∙ folders.whole-only n small ∙ ap is_some (sym (linked-same n)) where
+  there : (n : ℕ) → has_file doomed_folder (Block n) ≡ has_file whole_folder (Block n)
   there zero = refl
   there (suc zero) = refl
   there (suc (suc zero)) = refl
   there (suc (suc (suc zero))) = refl
-  there (suc (suc (suc (suc n)))) = grind (arith, nat_tests)
+  there (suc (suc (suc (suc n)))) = refl
+
+-- each file has the length and the blocks of that of the whole folder
+same-length : (n : ℕ) → n < 4 → length_of doomed_folder (Block n) ≡ length_of whole_folder (Block n)
+unfolding doomed_folder whole_folder
+same-length zero small = length-with_words node_words whole_nodes
+same-length (suc zero) small = length-with_words record_words whole_records
+same-length (suc (suc zero)) small = refl
+same-length (suc (suc (suc zero))) small = refl
+same-length (suc (suc (suc (suc n)))) small = absurd (omega arith)
+
+same-blocks : (n : ℕ) → n < 4 → max_entries_in doomed_folder n ≡ max_entries_in whole_folder n
+unfolding max_entries_in
+same-blocks n small = omega (arith, same-header n 20 small (lit≤ tt), same-header n 21 small (lit≤ tt), same-header n 22 small (lit≤ tt), same-header n 23 small (lit≤ tt))
 
 folder-long : AreLongEnough doomed_folder
-unfolding doomed_folder zeros with_word spliced max_entries_in block_place block_size
-folder-long n kind is = subst (λ (k : ℕ). block_place k (max_entries_in doomed_folder n) ≤ length_of doomed_folder (Block n)) (its-type n kind is) (go n (below n (ap is_some is))) where
-  go : (n : ℕ) → n < 4 → block_place (n + 1) (max_entries_in doomed_folder n) ≤ length_of doomed_folder (Block n)
-  go zero small = lit≤ tt
-  go (suc zero) small = lit≤ tt
-  go (suc (suc zero)) small = lit≤ tt
-  go (suc (suc (suc zero))) small = lit≤ tt
-  go (suc (suc (suc (suc n)))) small = absurd (omega arith)
+folder-long n kind is =
+    let small : n < 4 = below n (ap is_some is) in
+    subst (λ (most : ℕ). block_place kind most ≤ length_of doomed_folder (Block n)) (sym (same-blocks n small))
+    (subst (λ (size : ℕ). block_place kind (max_entries_in whole_folder n) ≤ size) (sym (same-length n small)) (folders.whole-long n kind (sym (linked-same n) ∙ is)))
 
 -- the contents of the two files
 nodes-are : byte doomed_folder (Block 0) ≡ over_all node_words (over_all nodes_words (λ k. 0))

@@ -88,7 +88,7 @@ whole-is_allocated = record {
 
 -- ---- files, counters and seals
 
-whole-only : OnlyLinked whole_folder
+pub whole-only : OnlyLinked whole_folder
 unfolding whole_folder
 whole-only n small = there n ∙ sym (linked-below n) where
   there : (n : ℕ) → has_file whole_folder (Block n) ≡ nat_lt n 4
