@@ -242,6 +242,27 @@ rivals_dropped : dropped_nodes rivals ≡ (0x90000001, reason.Claimed) ∷ []
 unfolding rivals with_stream dropped_among verdicts load load_record load_key admit is_key_length key_of stream_of streams_of role_of is_named is_orphan record_claims all_claims claims_of has_claim overlap repeats kind_of block_count file_selector first_block external_number entry_blocks walk walk_from chain_from hash mixed of_bytes of_one
 rivals_dropped = refl
 
+-- so it is where their keys are `b` and `a`, each the first of its bucket, with `b` nearer the front
+strangers : View
+strangers =
+    let plain : View = shown 0x90000001 0
+    ((0x90000001, node 0x90000000 0x90000001 0xA0010001) ∷ (0x90000000, node 0x90000000 0x90000001 0xA0010000) ∷ [])
+    ((0xA0010001, record { follow = 0; core = record (with_stream 0 0x90000001).core { hash = 0x70C1A0E1 } }) ∷ (0xA0010000, with_stream 0 0x90000000) ∷ []) in
+    record plain {
+      stock = record plain.stock {
+        table = λ b. if b == 0xA0E1 then 0xA0010001 else if b == 0xA782 then 0xA0010000 else 0;
+        key_place = λ w n. if w == 0xA0010001 then codes "b" else codes "a";
+      };
+    }
+
+strangers_kept : kept_nodes strangers ≡ 0x90000001 ∷ []
+unfolding strangers with_stream kept_among verdicts load load_record load_key admit is_key_length key_of stream_of streams_of role_of is_named is_orphan record_claims all_claims claims_of has_claim overlap repeats kind_of block_count file_selector first_block external_number entry_blocks walk walk_from chain_from hash mixed of_bytes of_one
+strangers_kept = refl
+
+strangers_dropped : dropped_nodes strangers ≡ (0x90000000, reason.Claimed) ∷ []
+unfolding strangers with_stream dropped_among verdicts load load_record load_key admit is_key_length key_of stream_of streams_of role_of is_named is_orphan record_claims all_claims claims_of has_claim overlap repeats kind_of block_count file_selector first_block external_number entry_blocks walk walk_from chain_from hash mixed of_bytes of_one
+strangers_dropped = refl
+
 -- One record for each reason.
 
 -- what is dropped where the one record is this, at this address and with this dirty word
