@@ -23,13 +23,13 @@ use Rattle.blk_laws.proofs.Central.{walk-order, found-rest}
 use Rattle.blk_laws.proofs.Outside.{represents-outside}
 use Rattle.blk_laws.proofs.ExampleChanges.{not-clear, and-false, named-blocks, new_block, block-is_free}
 
-abbrev doomed_object : Object
+abbrev pub doomed_object : Object
 doomed_object = record (one.object true) { live = false }
 
-abbrev doomed_state : State
+abbrev pub doomed_state : State
 doomed_state = record (one.state true) { objects = Some doomed_object ∷ []; uses = [] }
 
-abbrev doomed_layout : Layout
+abbrev pub doomed_layout : Layout
 doomed_layout = record (one.layout 0) { place = λ item. 0; place_of_doomed = λ number. one.node; state = λ w. doomed; chains = λ b. [] }
 
 -- the view, in which data is stored at block 2 of data_1, or isn't
@@ -91,7 +91,7 @@ good-object = record {
   parts = λ i d less. absurd (omega arith);
 }
 
-doomed-is_valid : IsValidState doomed_state
+pub doomed-is_valid : IsValidState doomed_state
 doomed-is_valid = record { objects = objects; names = refl; bound = bound; listed = listed; once = λ item. omega arith; held = held-by } where
   objects : (number : ℕ) → IfSome (object_at doomed_state number) IsObject
   objects zero = good-object

@@ -63,7 +63,7 @@ other-walks = (refl, refl)
 
 -- and the candidate is the same
 one-candidate : (candidates (completed (view_of (folder_with small_records))) ≡ 0x90000000 ∷ []) × (candidates (completed (view_of dirty_folder)) ≡ 0x90000000 ∷ [])
-unfolding folder_with dirty_folder zeros with_word spliced next_file_in max_entries_in linked files_along type_among is_candidate stock_of named_at core_at stands stands_as_blocks is_address is_initialized names_external names_blocks kind_of reserved_bits block_count file_selector first_block external_number block_size block_place place room node_in entry_in words_at
+unfolding folder_with dirty_folder zeros with_word spliced next_file_in max_entries_in linked files_along type_among is_candidate stock_of named_at core_at stands stands_as_blocks is_address is_initialized names_external names_blocks kind_of reserved_bits block_count file_selector first_block external_number block_size block_place place room node_in entry_in entry_checks words_at
 one-candidate = (rw other-walks.0 refl, rw other-walks.1 refl)
 
 -- they agree on what it names

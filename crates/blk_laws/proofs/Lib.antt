@@ -58,6 +58,7 @@ pub mod ExampleKept
 pub mod ExampleFamily
 pub mod ExampleParts
 pub mod ExampleDoomed
+pub mod DoomedFolder
 pub mod Adding
 pub mod WellFormed
 pub mod Inside
