@@ -68,3 +68,9 @@ pub mod Nodes
 pub mod Records
 pub mod IndexWords
 pub mod ExampleMoments
+pub mod NodeRecords
+pub mod WriteSteps
+pub mod WriteWords
+pub mod WordTurns
+pub mod WordStops
+pub mod ExampleWords
