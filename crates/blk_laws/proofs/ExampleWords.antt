@@ -17,13 +17,14 @@ use Rattle.blk_volume.specs.ListPlans.{writes_of, touch_writes, operation_writes
 use Rattle.blk_volume.specs.View.{list_of, checks_at, next_at, prev_at}
 use Rattle.blk_laws.specs.BareLaws.{new_index_words, new_file_words}
 use Rattle.blk_laws.specs.ListLaws.{IsAtRest, CanBeInserted}
-use Rattle.blk_laws.specs.ListSteps.{IsPartly, IsTouched, AreTimes}
+use Rattle.blk_laws.specs.ListSteps.{IsPartly, IsTouched, IsSealed, AreSealed, AreTimes}
 use Rattle.blk_laws.specs.ListWords.{IsWritable, CanBeMade, CompletesTo, CompletesAlike, Rests, IsCompleted, IsStopped, operation_steps, steps_of_touch, completion_steps, stopped_folder}
 use Rattle.blk_laws.specs.Moments.{OnlyListChanges}
 use Rattle.blk_laws.proofs.ExampleMoments.{small-zeros}
 use Rattle.blk_laws.proofs.Fronts.{AreSmall, small-words}
+use Rattle.blk_laws.proofs.Sealing.{writes-seal, touches-seal}
 use Rattle.blk_laws.proofs.WriteSteps.{writes-in_turn, writes-made, writes-go_on}
-use Rattle.blk_laws.proofs.WordTurns.{inserts-can, inserts-turn_words, inserts-rest, removals-can, removals-turn_words, removals-rest, touches-can, touches-in_turn, touches-turn_words, touches-rest, touches-times}
+use Rattle.blk_laws.proofs.WordTurns.{inserts-can, inserts-turn_words, inserts-rest, removals-can, removals-turn_words, removals-rest, touches-can, touches-go_on, touches-in_turn, touches-turn_words, touches-rest, touches-times}
 use Rattle.blk_laws.proofs.WordStops.{completions-can, completions-keep, completions-done, completions-stop}
 
 -- node 1 is the head, and node 0 the tail; node 2 is in no list
@@ -111,6 +112,9 @@ insert-made = writes-made pair (writes_of insert another (list_of pair)) (pair-w
 pub insert-goes_on : Along IsWritable pair (operation_steps insert another pair)
 insert-goes_on = writes-go_on pair (writes_of insert another (list_of pair)) (pair-writable [])
 
+pub insert-seals : AreSealed (writes_of insert another (list_of pair)) (after (operation_steps insert another pair) pair)
+insert-seals = writes-seal pair (writes_of insert another (list_of pair)) (pair-writable []) insert-can
+
 -- the tail is removed
 pub removal-can : CanBeMade pair (writes_of remove last (list_of pair))
 removal-can = removals-can pair last (first ∷ []) [] pair-at_rest
@@ -122,6 +126,9 @@ pub removal-ends : Rests (first ∷ []) (after (operation_steps remove last pair
 removal-ends = removals-rest pair last (first ∷ []) [] (pair-writable []) pair-at_rest
 
 -- it is touched
+pub touch-goes_on : Along IsWritable pair (steps_of_touch last 70 pair)
+touch-goes_on = touches-go_on pair last 70 (pair-writable [])
+
 pub touch-can : CanBeMade pair (touch_writes last (list_of pair))
 touch-can = touches-can pair last (first ∷ []) [] pair-at_rest
 
@@ -136,6 +143,9 @@ touch-ends = touches-rest pair last 70 (first ∷ []) [] (pair-writable []) pair
 
 pub touch-times : AreTimes last 70 (after (steps_of_touch last 70 pair) pair)
 touch-times = touches-times pair last 70 (first ∷ []) [] (pair-writable []) pair-at_rest (omega arith)
+
+pub touch-seals : AreSealed (touch_writes last (list_of pair)) (after (steps_of_touch last 70 pair) pair) × IsSealed (after (steps_of_touch last 70 pair) pair) last
+touch-seals = touches-seal pair last 70 (first ∷ []) [] (pair-writable []) pair-at_rest
 
 -- so is the head, which stays where it is
 pub head-turns : TurnsAt 2 (CompletesTo (first ∷ last ∷ [])) (CompletesTo (first ∷ last ∷ [])) pair (steps_of_touch first 70 pair)

@@ -73,4 +73,5 @@ pub mod WriteSteps
 pub mod WriteWords
 pub mod WordTurns
 pub mod WordStops
+pub mod Sealing
 pub mod ExampleWords

@@ -9,7 +9,7 @@ use Rattle.blk_volume.specs.Walk.{walk}
 use Rattle.blk_volume.specs.ListPlans.{completion_writes, outcome}
 use Rattle.blk_volume.specs.View.{list_of, stock_of}
 use Rattle.blk_laws.specs.ListSteps.{IsPartly, steps_of}
-use Rattle.blk_laws.specs.ListWords.{IsWritable, CompletesAlike, IsCompleted, IsStopped, CompletionsCanBeMade, CompletionsKeepTheOutcome, CompletionsAreDone, CompletionsMayBeStopped, completion_steps, stopped_folder}
+use Rattle.blk_laws.specs.ListWords.{IsWritable, CompletesAlike, IsCompleted, IsStopped, CompletionsCanBeMade, CompletionsKeepTheOutcome, CompletionsAreDone, CompletionsMayBeStopped, completed_walk, completion_steps, stopped_folder}
 use Rattle.blk_laws.specs.Moments.{OnlyListChanges}
 use Rattle.blk_laws.proofs.Adding.{shows-both}
 use Rattle.blk_laws.proofs.IndexWords.{same-shown}
@@ -65,6 +65,10 @@ front_holds P zero (x ∷ steps) image all = all.0
 front_holds P (suc count) [] image all = all
 front_holds P (suc count) (x ∷ steps) image all = front_holds P count steps (applied x image) all.1
 
+-- where completing gives the same it leaves the same nodes
+alike-walk : (from image : Image) → CompletesAlike from image → completed_walk image ≡ completed_walk from
+alike-walk from image alike = walk_outcome (list_of image) ∙ ap walk alike ∙ sym (walk_outcome (list_of from))
+
 -- one stop, and then the others
 stop_once : (image : Image) (count : ℕ) → IsWritable image → IsWritable (after (take count (completion_steps image)) image) × IsStopped image (after (take count (completion_steps image)) image)
 stop_once image count ready =
@@ -72,17 +76,18 @@ stop_once image count ready =
     let stopped : Image = after (take count (steps_of ws image)) image in
     let part : IsPartly image ws stopped = front_holds (IsPartly image ws) count (steps_of ws image) image (writes_show ws image ready (completion_can image)).along in (
       front_holds IsWritable count (steps_of ws image) image (writes-go_on image ws ready),
-      record { list = partly-alike image stopped part; stock = part.shown.stock; well_formed = part.well_formed },
+      record { list = partly-alike image stopped part; walk = alike-walk image stopped (partly-alike image stopped part); stock = part.shown.stock; well_formed = part.well_formed },
     )
 
 pub completions-stop : CompletionsMayBeStopped
-completions-stop image [] ready = record { list = refl; stock = same-shown (stock_of image); well_formed = λ well. well }
+completions-stop image [] ready = record { list = refl; walk = refl; stock = same-shown (stock_of image); well_formed = λ well. well }
 completions-stop image (count ∷ counts) ready =
     let once = stop_once image count ready in
     let between : Image = after (take count (steps_of (completion_writes (list_of image)) image)) image in
     let more = completions-stop between counts once.0 in
     record {
       list = more.list ∙ once.1.list;
+      walk = more.walk ∙ once.1.walk;
       stock = shows-both (stock_of image) (stock_of between) (stock_of (stopped_folder counts between)) once.1.stock more.stock;
       well_formed = λ well. more.well_formed (once.1.well_formed well);
     }

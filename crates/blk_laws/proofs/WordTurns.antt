@@ -8,10 +8,10 @@ use Rattle.blk_image.specs.Bytes.{content, word_at}
 use Rattle.blk_image.specs.Image.{Image, Block, byte, word}
 use Rattle.blk_image.specs.Steps.{TrailStep, applied, after, word_step}
 use Rattle.blk_image.specs.Footprint.{Footprint, either}
-use Rattle.blk_image.specs.Told.{Along, TurnsAt}
+use Rattle.blk_image.specs.Told.{Along, IsQuiet, TurnsAt}
 use Rattle.blk_image.proofs.Cuts.{after-append}
 use Rattle.blk_image.proofs.Footprints.{outside-trans, outside_wider, within_left, within_right}
-use Rattle.blk_image.proofs.Runs.{until-append, until_weaker2, until_last}
+use Rattle.blk_image.proofs.Runs.{until-append, until_weaker2, until_last, quiet-append}
 use Rattle.blk_format.specs.Address.{kind_of, rankings, file_selector, place}
 use Rattle.blk_format.specs.Records.{node_in}
 use Rattle.blk_format.specs.Sealed.{AreChanges, IsMoment, IsUpdated, record_at, record_range, seal_place, sealed_steps}
@@ -24,14 +24,14 @@ use Rattle.blk_volume.specs.ListPlans.{TurnsAtTwo, touch_writes, writes_of}
 use Rattle.blk_volume.specs.View.{list_of}
 use Rattle.blk_laws.specs.ListLaws.{IsAtRest}
 use Rattle.blk_laws.specs.ListSteps.{IsPartly, IsTouched, AreTimes, steps_of, times_of, touch_steps, touched_by_writes, write_steps}
-use Rattle.blk_laws.specs.ListWords.{IsWritable, CanBeMade, CompletesTo, Rests, InsertsCanBeMade, InsertsTurnAtTheSecondWord, InsertsEndAtRest, RemovalsCanBeMade, RemovalsTurnAtTheSecondWord, RemovalsEndAtRest, TouchesCanBeMade, TouchesAreMadeInTurn, TouchesTurnAtTheSecondWord, TouchesEndAtRest, TouchesSetTheTimes}
+use Rattle.blk_laws.specs.ListWords.{IsWritable, CanBeMade, CompletesTo, Rests, InsertsCanBeMade, InsertsTurnAtTheSecondWord, InsertsEndAtRest, RemovalsCanBeMade, RemovalsTurnAtTheSecondWord, RemovalsEndAtRest, TouchesCanBeMade, TouchesAreMadeInTurn, TouchesCanGoOn, TouchesTurnAtTheSecondWord, TouchesEndAtRest, TouchesSetTheTimes}
 use Rattle.blk_laws.specs.Moments.{OnlyListChanges}
 use Rattle.blk_laws.proofs.Adding.{changes-add}
 use Rattle.blk_laws.proofs.AtRest.{inserts-turn, inserts-end, removals-turn, removals-end, touches-turn, touches-end}
 use Rattle.blk_laws.proofs.Inside.{updates-inside}
 use Rattle.blk_laws.proofs.ListMoments.{insert_counts, remove_counts, move_counts, listed}
 use Rattle.blk_laws.proofs.Nodes.{times-hidden}
-use Rattle.blk_laws.proofs.WriteSteps.{IsGood, good-node, one_write, first_can, rest_can, still_check, writable-after, writable-writes, writes_show}
+use Rattle.blk_laws.proofs.WriteSteps.{IsGood, good-node, one_write, first_can, rest_can, still_check, quiet-sealed, quiet-writes, writable-after, writable-sealed, writable-writes, writes_show, writes-go_on}
 use Rattle.blk_laws.proofs.WriteWords.{operation_can}
 
 -- an operation turns with its second write
@@ -123,10 +123,11 @@ module _ (from : Image) (ready : IsWritable from) (node moment : ℕ) (good : (l
   times = sealed_steps between node (times_of moment)
 
   -- the node is as good there
+  pub still_checks : (list_of between).checks node ≡ true
+  still_checks = ap (λ (c : ℕ → Bool). c node) (still_check ws from between (writes_show ws from ready can).ends) ∙ good
+
   pub still_good : IsGood between node
-  still_good =
-      let shows = writes_show ws from ready can in
-      good-node between node (writable-writes ws from ready) (ap (λ (c : ℕ → Bool). c node) (still_check ws from between shows.ends) ∙ good)
+  still_good = good-node between node (writable-writes ws from ready) still_checks
 
   -- the times, where the writes are made
   pub times_show : Along (λ image. (list_of image ≡ after_writes ws (list_of from)) × IsTouched from node ws image) between times
@@ -136,7 +137,6 @@ module _ (from : Image) (ready : IsWritable from) (node moment : ℕ) (good : (l
       let is = still_good in
       let seal = node_seal node is.kind in
       let changes : List (ℕ × ℕ) = times_of moment in
-      let still : (list_of i).checks node ≡ true = ap (λ (c : ℕ → Bool). c node) (still_check ws from i shows.ends) ∙ good in
       let all : All (λ c. c.0 + 4 ≤ seal_place node) changes = each (λ c. c.0 + 4 ≤ seal_place node) (0, moment % 2 ^ 32) (4, moment / 2 ^ 32) (8, moment % 2 ^ 32) (12, moment / 2 ^ 32) (omega (arith, seal)) (omega (arith, seal)) (omega (arith, seal)) (omega (arith, seal)) in
       let early : All (λ c. c.0 < 16) changes = each (λ c. c.0 < 16) (0, moment % 2 ^ 32) (4, moment / 2 ^ 32) (8, moment % 2 ^ 32) (12, moment / 2 ^ 32) (omega arith) (omega arith) (omega arith) (omega arith) in
       let here : IsPartly from ws i = until_last (IsPartly from ws) (IsPartly from ws) (steps_of ws from) from shows.along in
@@ -145,7 +145,7 @@ module _ (from : Image) (ready : IsWritable from) (node moment : ℕ) (good : (l
       let M : Image → Type 0 = IsMoment i node changes in
       let R : Image → Type 0 = λ image. (list_of image ≡ after_writes ws (list_of from)) × IsTouched from node ws image in
       let step : (image : Image) → M image → R image = λ image m.
-      let none : OnlyListChanges [] i image = times-hidden i image node changes (record { good = still; bytes = (writable-writes ws from ready).bytes }) (times_are node moment is.kind) early m in
+      let none : OnlyListChanges [] i image = times-hidden i image node changes (record { good = still_checks; bytes = (writable-writes ws from ready).bytes }) (times_are node moment is.kind) early m in
       let sum : OnlyListChanges ws from image = subst (λ (w : List ListWrite). OnlyListChanges w from image) (append-nil ws) (changes-add ws [] from i image shows.ends none) in (
         sum.list,
         record {
@@ -194,6 +194,17 @@ module _ (from : Image) (ready : IsWritable from) (node moment : ℕ) (good : (l
       ap (λ (w : List ListWrite). walk (completed_list (after_writes w (list_of from)))) (sym (take_all n ws (omega arith))) ∙ turn n ∙ ap (λ (t : Bool). if t then before else later) (le-ltb n 2 (omega arith)) in
       let step : (image : Image) → R image → Q image = λ image r. ap (λ (l : ListView). walk (completed_list l)) r.0 ∙ is in
       until_weaker2 R Q R Q (sealed_steps (after (steps_of ws from) from) node (times_of moment)) (after (steps_of ws from) from) step step times_show
+
+-- the image can be written at each word, and no step is a note
+pub touch_goes_on : (from : Image) → IsWritable from → (node moment : ℕ) (ws : List ListWrite) → Along IsWritable from (touch_steps node moment ws from)
+touch_goes_on from ready node moment ws =
+    let i : Image = after (steps_of ws from) from in
+    until-append IsWritable IsWritable (steps_of ws from) (sealed_steps i node (times_of moment)) from (writes-go_on from ws ready) (writable-sealed node (times_of moment) i (writable-writes ws from ready))
+
+pub touch_quiet : (from : Image) (node moment : ℕ) (ws : List ListWrite) → IsQuiet (touch_steps node moment ws from)
+touch_quiet from node moment ws =
+    let i : Image = after (steps_of ws from) from in
+    quiet-append (steps_of ws from) (sealed_steps i node (times_of moment)) (quiet-writes ws from) (quiet-sealed i node (times_of moment))
 
 -- both times are a moment once its words are written
 pub times_set : (from image : Image) (node moment : ℕ) → kind_of node ≡ rankings → moment < 2 ^ 64 → IsUpdated from node (times_of moment) image → AreTimes node moment image
@@ -265,6 +276,9 @@ touches-can image node front behind rest = go ((list_of image).head == node)
 pub touches-in_turn : TouchesAreMadeInTurn
 touches-in_turn image node moment front behind ready rest =
     touch_along image ready node moment (listed node (list_of image) front behind rest.whole).good (touch_writes node (list_of image)) (touches-can image node front behind rest)
+
+pub touches-go_on : TouchesCanGoOn
+touches-go_on image node moment ready = touch_goes_on image ready node moment (touch_writes node (list_of image))
 
 pub touches-turn_words : TouchesTurnAtTheSecondWord
 touches-turn_words image node moment front behind ready rest =

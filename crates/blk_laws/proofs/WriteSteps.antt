@@ -7,8 +7,9 @@ use Rattle.blk_image.specs.Bytes.{word_bytes}
 use Rattle.blk_image.specs.Image.{File, Index, Block, Image, length_of}
 use Rattle.blk_image.specs.Steps.{TrailStep, Word, after, applied, word_step, word_steps, with_words}
 use Rattle.blk_image.specs.Footprint.{Footprint, IsWithin, SameOutside, nothing, one_word, either}
-use Rattle.blk_image.specs.Told.{Along}
-use Rattle.blk_image.proofs.Runs.{until-append, until_weaker2, until_last}
+use Rattle.blk_image.specs.Told.{Along, IsQuiet}
+use Rattle.blk_image.proofs.Runs.{until-append, until_weaker2, until_last, quiet-append}
+use Rattle.blk_image.proofs.WordSteps.{quiet-word_step, quiet-word_steps}
 use Rattle.blk_image.proofs.Cuts.{after-append}
 use Rattle.blk_image.proofs.Images.{word-after_same, length-after_write}
 use Rattle.blk_image.proofs.Footprints.{outside-refl, outside-trans, outside_wider, outside_write, within_left, within_right, within_both}
@@ -102,6 +103,9 @@ stands-inside image w st kind =
 
 pub checked-small : (image : Image) (w : ℕ) → (list_of image).checks w ≡ true → w < 2 ^ 32
 checked-small image w good = stands-small image w (standing-parts image rankings w (good-stands image w good)).0
+
+pub checked-kind : (image : Image) (w : ℕ) → (list_of image).checks w ≡ true → kind_of w ≡ rankings
+checked-kind image w good = (standing-parts image rankings w (good-stands image w good)).1
 
 pub good-node : (image : Image) (w : ℕ) → IsWritable image → (list_of image).checks w ≡ true → IsGood image w
 good-node image w ready good =
@@ -273,3 +277,21 @@ writes-made image writes ready can = (writes_show writes image ready can).ends
 
 pub writable-writes : (writes : List ListWrite) (image : Image) → IsWritable image → IsWritable (after (steps_of writes image) image)
 writable-writes writes image is = until_last IsWritable IsWritable (steps_of writes image) image (writes-go_on image writes is)
+
+-- no step is a note
+pub quiet-sealed : (image : Image) (w : ℕ) (changes : List (ℕ × ℕ)) → IsQuiet (sealed_steps image w changes)
+unfolding update_steps
+quiet-sealed image w changes = quiet-word_steps (Block (file_selector w)) (placed (place w) (update_words (seal_place w) changes (new_seal image w changes)))
+
+quiet-write : (write : ListWrite) (image : Image) → IsQuiet (write_steps write image)
+unfolding write_steps
+quiet-write (Next w x) image = quiet-sealed image w ((16, x) ∷ [])
+quiet-write (Prev w x) image = quiet-sealed image w ((20, x) ∷ [])
+quiet-write (Head x) image = quiet-word_step Index 288 x
+quiet-write (Tail x) image = quiet-word_step Index 308 x
+quiet-write (Transaction x) image = quiet-word_step Index 328 x
+quiet-write (Operation x) image = quiet-word_step Index 332 x
+
+pub quiet-writes : (writes : List ListWrite) (image : Image) → IsQuiet (steps_of writes image)
+quiet-writes [] image = tt
+quiet-writes (write ∷ writes) image = quiet-append (write_steps write image) (steps_of writes (after (write_steps write image) image)) (quiet-write write image) (quiet-writes writes (after (write_steps write image) image))

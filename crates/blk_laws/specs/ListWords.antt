@@ -11,7 +11,7 @@ use Rattle.blk_volume.specs.Completion.{insert, remove, completed_list}
 use Rattle.blk_volume.specs.ListPlans.{writes_of, touch_writes, completion_writes, outcome}
 use Rattle.blk_volume.specs.View.{list_of, stock_of}
 use Rattle.blk_laws.specs.ListLaws.{IsAtRest, CanBeInserted}
-use Rattle.blk_laws.specs.ListSteps.{IsPartly, IsTouched, AreOf, AreWords, AreTimes, steps_of, touch_steps}
+use Rattle.blk_laws.specs.ListSteps.{IsPartly, IsTouched, IsSealed, AreOf, AreSealed, AreTimes, AreWords, steps_of, touch_steps}
 use Rattle.blk_laws.specs.Moments.{OnlyListChanges, ShowsTheSame}
 
 -- an image of bytes, whose index has its header
@@ -37,6 +37,10 @@ WritesAreMade = (image : Image) (writes : List ListWrite) → IsWritable image �
 -- at each word the image can be written
 abbrev pub WritesCanGoOn : Type 0
 WritesCanGoOn = (image : Image) (writes : List ListWrite) → IsWritable image → Along IsWritable image (steps_of writes image)
+
+-- in the end each node that is written is sealed
+abbrev pub WritesSealTheirNodes : Type 0
+WritesSealTheirNodes = (image : Image) (writes : List ListWrite) → IsWritable image → CanBeMade image writes → AreSealed writes (after (steps_of writes image) image)
 
 -- Operations.
 
@@ -99,6 +103,10 @@ abbrev pub TouchesAreMadeInTurn : Type 0
 TouchesAreMadeInTurn = (image : Image) (node moment : ℕ) (front behind : List ℕ) → IsWritable image → Rests (front ++ node ∷ behind) image
     → Along (IsTouched image node (touch_writes node (list_of image))) image (steps_of_touch node moment image)
 
+-- at each word of it the image can be written
+abbrev pub TouchesCanGoOn : Type 0
+TouchesCanGoOn = (image : Image) (node moment : ℕ) → IsWritable image → Along IsWritable image (steps_of_touch node moment image)
+
 -- a touch, stopped at any of its words and completed, gives the old list before the second word, and the new list from then on; where the node is the head already they are one
 abbrev pub TouchesTurnAtTheSecondWord : Type 0
 TouchesTurnAtTheSecondWord = (image : Image) (node moment : ℕ) (front behind : List ℕ) → IsWritable image → Rests (front ++ node ∷ behind) image
@@ -111,6 +119,11 @@ TouchesEndAtRest = (image : Image) (node moment : ℕ) (front behind : List ℕ)
 -- and with the moment as both times of the node
 abbrev pub TouchesSetTheTimes : Type 0
 TouchesSetTheTimes = (image : Image) (node moment : ℕ) (front behind : List ℕ) → IsWritable image → Rests (front ++ node ∷ behind) image → moment < 2 ^ 64 → AreTimes node moment (after (steps_of_touch node moment image) image)
+
+-- and with seals on the node and on all that its writes are of
+abbrev pub TouchesSealTheirNodes : Type 0
+TouchesSealTheirNodes = (image : Image) (node moment : ℕ) (front behind : List ℕ) → IsWritable image → Rests (front ++ node ∷ behind) image
+    → AreSealed (touch_writes node (list_of image)) (after (steps_of_touch node moment image) image) × IsSealed (after (steps_of_touch node moment image) image) node
 
 -- Completions, on every list.
 
@@ -146,11 +159,13 @@ abbrev pub stopped_folder : List ℕ → Image → Image
 stopped_folder [] image = image
 stopped_folder (count ∷ counts) image = stopped_folder counts (after (take count (completion_steps image)) image)
 
--- however often it is stopped, completing gives the same, nothing but the list is shown to change, and what is well formed stays so
+-- completing gives the same as of another image, with the same walk; nothing but the list is shown to change, and what is well formed stays so
 pub record IsStopped (from image : Image) : Type 0 where
   pub list : CompletesAlike from image
+  pub walk : completed_walk image ≡ completed_walk from
   pub stock : ShowsTheSame (stock_of from) (stock_of image)
   pub well_formed : IsWellFormed from → IsWellFormed image
 
+-- however often a completion is stopped
 abbrev pub CompletionsMayBeStopped : Type 0
 CompletionsMayBeStopped = (image : Image) (counts : List ℕ) → IsWritable image → IsStopped image (stopped_folder counts image)
