@@ -40,7 +40,7 @@ entry = 0xA0010000
 
 -- ---- bytes
 
-small-zeros : (n : ℕ) → AreSmall (zeros n)
+pub small-zeros : (n : ℕ) → AreSmall (zeros n)
 small-zeros n i = omega (arith, content-zeros n i)
 
 small-file : (file : File) → AreSmall (bytes_of small file)

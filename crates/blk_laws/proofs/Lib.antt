@@ -69,3 +69,10 @@ pub mod Nodes
 pub mod Records
 pub mod IndexWords
 pub mod ExampleMoments
+pub mod NodeRecords
+pub mod WriteSteps
+pub mod WriteWords
+pub mod WordTurns
+pub mod WordStops
+pub mod Sealing
+pub mod ExampleWords

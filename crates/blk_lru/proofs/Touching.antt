@@ -27,11 +27,13 @@ use Rattle.blk_disk.proofs.Ranges.{stands_range}
 use Rattle.blk_format.proofs.SealedRecords.{node_seal, record_inside}
 use Rattle.blk_format.proofs.SealedRecords.{moments}
 use Rattle.blk_laws.specs.Moments.{OnlyListChanges}
-use Rattle.blk_lru.specs.Lists.{Turns, completed_walk}
+use Rattle.blk_lru.specs.Lists.{Turns}
+use Rattle.blk_laws.specs.ListWords.{completed_walk}
 use Rattle.blk_lru.specs.Moments.{WriteMoments}
 use Rattle.blk_lru.specs.Nodes.{is_node}
-use Rattle.blk_lru.specs.Writes.{HasWholeIndex, IsPartly, IsTouched, steps_of, times_of, touch_steps, touched_by_writes, write_steps}
-use Rattle.blk_lru.proofs.NodeRecords.{record_checks}
+use Rattle.blk_lru.specs.Writes.{HasWholeIndex}
+use Rattle.blk_laws.specs.ListSteps.{IsPartly, IsTouched, steps_of, times_of, touch_steps, touched_by_writes, write_steps}
+use Rattle.blk_laws.proofs.NodeRecords.{record_checks}
 use Rattle.blk_lru.proofs.NodeWords.{node_kind, node_stands, stands_as_node}
 use Rattle.blk_lru.proofs.Operating.{quiet_front, turns_front, turns_whole}
 use Rattle.blk_lru.proofs.Performing.{no_some, or_none, spares_sizes}

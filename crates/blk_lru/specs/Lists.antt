@@ -6,27 +6,16 @@ use Rattle.std.specs.Option.{ForSome}
 use Rattle.blk_image.specs.Told.{Told, Grows, IsQuiet, TurnsAt}
 use Rattle.blk_format.specs.BlockFiles.{is_among}
 use Rattle.blk_volume.specs.ListView.{last_or}
-use Rattle.blk_volume.specs.Walk.{walk}
-use Rattle.blk_volume.specs.Completion.{completed_list}
-use Rattle.blk_volume.specs.View.{list_of}
-use Rattle.blk_laws.specs.ListLaws.{IsAtRest}
-
--- the walked nodes
-abbrev pub walked : Image → List ℕ
-walked image = walk (list_of image)
+use Rattle.blk_laws.specs.ListWords.{CompletesTo, Rests, walked}
 
 -- the list is whole, and no operation is in flight
 abbrev pub IsRested : Image → Type 0
-IsRested image = IsAtRest (list_of image) (walked image)
+IsRested image = Rests (walked image) image
 
 -- a node of a list at rest
 pub record IsListed (node : ℕ) (image : Image) : Type 0 where
   pub rest : IsRested image
   pub listed : is_among (walked image) node ≡ true
-
--- the nodes that completing leaves
-abbrev pub completed_walk : Image → List ℕ
-completed_walk image = walk (completed_list (list_of image))
 
 -- the first, and the last, of some words
 abbrev pub first_of : List ℕ → Option ℕ
@@ -43,4 +32,4 @@ pub record Turns (told now : Told) (before later : List ℕ) : Type 0 where
   pub steps : List TrailStep
   pub grows : Grows told now steps
   pub quiet : IsQuiet steps
-  pub turns : ForSome told.files (λ image. TurnsAt 2 (λ i. completed_walk i ≡ before) (λ i. completed_walk i ≡ later) image steps)
+  pub turns : ForSome told.files (λ image. TurnsAt 2 (CompletesTo before) (CompletesTo later) image steps)
