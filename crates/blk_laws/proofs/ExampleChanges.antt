@@ -151,8 +151,8 @@ written-is_represented =
 -- at a moment when the record names the new place and the data isn't there yet, what is at rest is kept
 pub torn-is_at_rest : map volume.row_of (kept_by held (volume.completed (with_data None))) ≡ rest (state false)
 torn-is_at_rest =
-    moment-rest touched (view 5) (with_data None) (state false) (layout 5) (represented 5) (state_is_valid false) 0 (object false) refl refl refl (loaded 5) refl (same-but None)
-    (record { apart = apart-but; named = refl; bucket = λ b. refl; follow = refl; links = record { checks = refl; next = refl; prev = refl } })
+    moment-rest touched (view 5) (with_data None) (state false) (layout 5) (represented 5) (state_is_valid false) 0 (object false) (main (codes "a")) refl refl refl (loaded 5) refl (same-but None)
+    (record { apart = apart-but; named = refl; bucket = λ b. refl; follow = refl; links = record { checks = refl; next = refl; prev = refl } }) tt
 
 -- and so it is with the node's record in the midst of this
 torn-chains : (b : ℕ) → b < 65536 → IsChain (with_data None).stock b ((layout 5).chains b)

@@ -4,7 +4,7 @@ use Rattle.std.specs.List.{filter, filter_map}
 use Rattle.std.specs.declared.option.Option.{Option}
 use Rattle.std.specs.declared.option.Option.TheVariants.{None, Some}
 use Rattle.blk_model.specs.Items.{Item, main, key_of}
-use Rattle.blk_model.specs.State.{State, Object, IsValidState, object_at}
+use Rattle.blk_model.specs.State.{State, Object, IsValidState, object_at, has_item}
 use Rattle.blk_model.specs.Holding.{rest, owner}
 use Rattle.blk_model.specs.Request.{to_open, to_create}
 use Rattle.blk_model.specs.Effects.{with_slot, created}
@@ -21,7 +21,7 @@ use Rattle.blk_volume.specs.Audit.{kept_among, kept_by}
 use Rattle.blk_volume.specs.Found.{row_of, completed}
 use Rattle.blk_volume.specs.Layout.{Layout, is_listed, nodes_of, order, Lies, HoldsBut, IsMidst, Represents, changed_at}
 use Rattle.blk_volume.specs.Given.{picked_with, IsTest}
-use Rattle.blk_volume.specs.Footprint.{SameBut, IsFree, SameNodeLinks, IsInside}
+use Rattle.blk_volume.specs.Footprint.{SameBut, IsFree, SameNodeLinks, IsInside, KeepsName}
 use Rattle.blk_volume.specs.Removal.{without_items, laid_less, ListsLess, HasLess}
 use Rattle.blk_volume.specs.Creation.{IsNewEntry, IsFrontOfChain, with_new, linked_front}
 
@@ -32,10 +32,10 @@ abbrev pub UnsettledObjectsMayChange : Type 0
 UnsettledObjectsMayChange = (hole : ℕ → Bool) (stock : Stock) (state : State) (layout : Layout) → HoldsBut hole stock state layout → IsValidState state → (key : List ℕ) → IsMidst hole stock state layout key → Distinct (order state layout)
     → map row_of (kept_among stock held (order state layout)) ≡ rest state
 
--- at any moment of a change inside the footprint of an unsettled object, what is kept is what is at rest
+-- at any moment of a change inside the footprint of a node of an unsettled object, its main item's or a part's, what is kept is what is at rest
 abbrev pub EachMomentIsAtRest : Type 0
-EachMomentIsAtRest = (touched : Claim → Bool) (old new : View) (state : State) (layout : Layout) → Represents old state layout → IsValidState state → (number : ℕ) (object : Object) → object_at state number ≡ Some object → object.live ≡ true → object.settled ≡ false
-    → (loaded : Loaded) → layout.at (layout.place (main object.key)) ≡ Some loaded → SameBut touched old new → IsInside touched old new layout (layout.place (main object.key)) loaded → map row_of (kept_by held (completed new)) ≡ rest state
+EachMomentIsAtRest = (touched : Claim → Bool) (old new : View) (state : State) (layout : Layout) → Represents old state layout → IsValidState state → (number : ℕ) (object : Object) (item : Item) → object_at state number ≡ Some object → has_item object item ≡ true → object.settled ≡ false
+    → (loaded : Loaded) → layout.at (layout.place item) ≡ Some loaded → SameBut touched old new → IsInside touched old new layout (layout.place item) loaded → KeepsName old.stock new.stock item loaded.contents → map row_of (kept_by held (completed new)) ≡ rest state
 
 -- Removals.
 

@@ -2,6 +2,7 @@
 use Rattle.std.specs.Prelude.{◌≡◌, ℕ, ◌+◌, ◌<◌, ◌≤◌, Bool, true, false, ◌&&◌, ◌||◌, nat_le, nat_lt, ◌==◌}
 use Rattle.std.specs.declared.option.Option.TheVariants.{Some}
 use Rattle.std.specs.declared.result.Result.TheVariants.{Ok}
+use Rattle.blk_model.specs.Items.{Item, main, part}
 use Rattle.blk_image.specs.Image.{Index, Block, External, Image}
 use Rattle.blk_image.specs.Footprint.{Footprint}
 use Rattle.blk_format.specs.Address.{block_place}
@@ -10,7 +11,7 @@ use Rattle.blk_format.specs.BlockFiles.{linked_as}
 use Rattle.blk_volume.specs.ListView.{ListView}
 use Rattle.blk_volume.specs.View.{View, Stock, Core}
 use Rattle.blk_volume.specs.Chains.{is_of_bucket}
-use Rattle.blk_volume.specs.Entries.{is_key_length, longest_short_key}
+use Rattle.blk_volume.specs.Entries.{is_key_length, key_of, longest_short_key}
 use Rattle.blk_volume.specs.Loads.{Loaded, load}
 use Rattle.blk_volume.specs.Layout.{Layout, rule_of}
 
@@ -95,3 +96,8 @@ pub record IsInside (touched : Claim → Bool) (old new : View) (layout : Layout
   pub bucket : (bucket : ℕ) → is_of_bucket new.stock bucket loaded.contents ≡ is_of_bucket old.stock bucket loaded.contents
   pub follow : new.stock.follow loaded.contents ≡ old.stock.follow loaded.contents
   pub links : SameNodeLinks node old.list new.list
+
+-- the record of a part keeps its flags and its key, wherever its streams are; of a main item's nothing is asked
+abbrev pub KeepsName : Stock → Stock → Item → ℕ → Type 0
+KeepsName old new (main key) contents = Unit {0}
+KeepsName old new (part key n) contents = (was now : Core) → old.entry contents ≡ Some was → new.entry contents ≡ Some now → (now.flags ≡ was.flags) × (key_of new contents now ≡ key_of old contents was)
