@@ -57,6 +57,7 @@ pub mod ExampleLists
 pub mod ExampleKept
 pub mod ExampleFamily
 pub mod ExampleParts
+pub mod ExampleUnsettled
 pub mod ExampleDoomed
 pub mod Adding
 pub mod WellFormed
