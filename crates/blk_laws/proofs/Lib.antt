@@ -35,6 +35,8 @@ pub mod AtRest
 pub mod ChainLinks
 pub mod Covers
 pub mod DirtyWords
+pub mod DoomedObjects
+pub mod DoomedChanges
 pub mod Bare
 pub mod NewFolders
 pub mod DamagedViews

@@ -75,5 +75,5 @@ module _ (m : State) (objects : List (Option Object)) (keep : Item → Bool) (y 
     own = λ w l c is h. gone.own w l c is h (r.own w l c (gone.was w l is) h);
     single = λ w l is. r.single w l (gone.was w l is);
     doomed_objects = λ number o is dead. let d : IsDoomedAt m y number o = r.doomed_objects number o (less.doomed_same number o is dead) dead in
-        record { loaded = d.loaded; here = gone.others (y.place_of_doomed number) d.loaded d.unlisted d.here; row = d.row; mark = d.mark; unlisted = not_kept (y.place_of_doomed number) d.unlisted };
+        record { loaded = d.loaded; here = gone.others (y.place_of_doomed number) d.loaded d.unlisted d.here; row = d.row; mark = d.mark; unlisted = not_kept (y.place_of_doomed number) d.unlisted; alone = λ other x there gone_too e. d.alone other x (less.doomed_same other x there gone_too) gone_too e };
   }

@@ -16,12 +16,13 @@ use Rattle.blk_volume.specs.ListView.{Distinct, most_nodes, put, after_writes}
 use Rattle.blk_volume.specs.Completion.{insert}
 use Rattle.blk_volume.specs.ListPlans.{writes_of, touch_writes}
 use Rattle.blk_volume.specs.View.{View, Stock, Named}
-use Rattle.blk_volume.specs.Loads.{held, Loaded}
+use Rattle.std.specs.declared.result.Result.TheVariants.{Ok}
+use Rattle.blk_volume.specs.Loads.{held, Loaded, load}
 use Rattle.blk_volume.specs.Audit.{kept_among, kept_by}
 use Rattle.blk_volume.specs.Found.{row_of, completed}
-use Rattle.blk_volume.specs.Layout.{Layout, is_listed, nodes_of, order, Lies, HoldsBut, IsMidst, Represents, changed_at}
+use Rattle.blk_volume.specs.Layout.{Layout, is_listed, nodes_of, order, rule_of, Lies, HoldsBut, IsMidst, Represents, changed_at, emptied_at, IsDoomedChange}
 use Rattle.blk_volume.specs.Given.{picked_with, IsTest}
-use Rattle.blk_volume.specs.Footprint.{SameBut, IsFree, SameNodeLinks, IsInside, KeepsName}
+use Rattle.blk_volume.specs.Footprint.{SameBut, IsFree, IsFreeBut, SameNodeLinks, IsInside, KeepsName}
 use Rattle.blk_volume.specs.Removal.{without_items, laid_less, ListsLess, HasLess}
 use Rattle.blk_volume.specs.Creation.{IsNewEntry, IsFrontOfChain, with_new, linked_front}
 
@@ -94,6 +95,50 @@ RestBeforeTurning = (state : State) → IsValidState state → (number : ℕ) (o
 abbrev pub RestAfterTurning : Type 0
 RestAfterTurning = (state : State) → IsValidState state → (number : ℕ) (object : Object) (settled : Bool) (names : List (Option ℕ)) → object_at state number ≡ Some object → object.live ≡ true
     → rest (turned state number object settled names) ≡ pick state (turned state number object settled names) (not object.settled && settled) state.uses
+
+-- Doomed objects.
+
+-- the object of a number, doomed, lies at its node as this
+pub record LiesAsDoomed (state : State) (layout : Layout) (number : ℕ) (object : Object) (loaded : Loaded) : Type 0 where
+  pub here : object_at state number ≡ Some object
+  pub dead : object.live ≡ false
+  pub at : layout.at (layout.place_of_doomed number) ≡ Some loaded
+
+-- something else at the node of a doomed object is laid out for the state with another doomed object
+abbrev pub ChangedDoomedObjectsAreLaid : Type 0
+ChangedDoomedObjectsAreLaid = (state : State) (layout : Layout) → Lies state layout → (number : ℕ) (object other : Object) (was now : Loaded) (owner : Claim → Option ℕ) → LiesAsDoomed state layout number object was
+    → IsDoomedChange layout (layout.place_of_doomed number) other now owner → Lies (with_slot number (Some other) state) (changed_at layout (layout.place_of_doomed number) now owner)
+
+-- and where it changed inside the footprint of its node, it is represented
+abbrev pub ChangedDoomedObjectsAreRepresented : Type 0
+ChangedDoomedObjectsAreRepresented = (touched : Claim → Bool) (old new : View) (state : State) (layout : Layout) → Represents old state layout → (number : ℕ) (object other : Object) (was now : Loaded) (owner : Claim → Option ℕ) → LiesAsDoomed state layout number object was
+    → SameBut touched old new → IsFreeBut (layout.place_of_doomed number) touched layout → load new.stock (rule_of layout (layout.place_of_doomed number)) (layout.place_of_doomed number) ≡ Ok now → IsDoomedChange layout (layout.place_of_doomed number) other now owner
+    → Represents new (with_slot number (Some other) state) (changed_at layout (layout.place_of_doomed number) now owner)
+
+-- at any moment of a change there, also where its record is torn, what is kept is what is at rest
+abbrev pub EachDoomedMomentIsAtRest : Type 0
+EachDoomedMomentIsAtRest = (touched : Claim → Bool) (old new : View) (state : State) (layout : Layout) → Represents old state layout → IsValidState state → (number : ℕ) (object : Object) → object_at state number ≡ Some object → object.live ≡ false
+    → SameBut touched old new → IsFreeBut (layout.place_of_doomed number) touched layout → map row_of (kept_by held (completed new)) ≡ rest state
+
+-- and once it is gone, the state without it is represented
+abbrev pub GoneDoomedObjectsAreRepresented : Type 0
+GoneDoomedObjectsAreRepresented = (touched : Claim → Bool) (old new : View) (state : State) (layout : Layout) → Represents old state layout → (number : ℕ) (object : Object) (was : Loaded) (owner : Claim → Option ℕ) → LiesAsDoomed state layout number object was
+    → SameBut touched old new → IsFreeBut (layout.place_of_doomed number) touched layout → ((claim : Claim) (node : ℕ) → layout.owner claim ≡ Some node → (layout.place_of_doomed number == node) ≡ false → owner claim ≡ Some node)
+    → Represents new (with_slot number None state) (emptied_at layout (layout.place_of_doomed number) owner)
+
+-- the dirty word of a doomed object's node settles it where it is 0, and unsettles it where it is not
+abbrev pub DoomedDirtyWordsSettle : Type 0
+DoomedDirtyWordsSettle = (view : View) (state : State) (layout : Layout) → Represents view state layout → (number : ℕ) (object : Object) (loaded : Loaded) → LiesAsDoomed state layout number object loaded
+    → (named : Named) (dirty : ℕ) → view.stock.named (layout.place_of_doomed number) ≡ Some named
+    → Represents (record view { stock = record view.stock { named = put view.stock.named (layout.place_of_doomed number) (Some (record named { dirty = dirty })) } }) (marked state number object (dirty == 0))
+    (dirtied layout (layout.place_of_doomed number) loaded dirty)
+
+-- the same from the footprint of the write
+abbrev pub WrittenDoomedDirtyWordsSettle : Type 0
+WrittenDoomedDirtyWordsSettle = (old new : View) (state : State) (layout : Layout) → Represents old state layout → (number : ℕ) (object : Object) (loaded : Loaded) → LiesAsDoomed state layout number object loaded
+    → (dirty : ℕ) → SameBut (has_claim (claims_of (layout.place_of_doomed number))) old new
+    → ((named : Named) → old.stock.named (layout.place_of_doomed number) ≡ Some named → new.stock.named (layout.place_of_doomed number) ≡ Some (record named { dirty = dirty }))
+    → Represents new (marked state number object (dirty == 0)) (dirtied layout (layout.place_of_doomed number) loaded dirty)
 
 -- Open.
 
