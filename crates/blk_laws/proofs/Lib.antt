@@ -37,6 +37,8 @@ pub mod Covers
 pub mod DirtyWords
 pub mod DoomedObjects
 pub mod DoomedChanges
+pub mod OthersHold
+pub mod Dooming
 pub mod Bare
 pub mod NewFolders
 pub mod DamagedViews

@@ -1,17 +1,14 @@
 -- At any word of a change inside the footprint of a node of an unsettled object, what is found is what is at rest.
 use Rattle.std.proofs.Common.{◌≡◌, ℕ, ◌<◌, List, map, refl, ap, sym, ◌∙◌, subst, Bool, true, false, arith, Option, Some, Ok, ⊎_elim}
-use Rattle.std.specs.Prelude.{◌&&◌, ◌==◌, is_some}
+use Rattle.std.specs.Prelude.{◌&&◌, ◌==◌}
 use Rattle.std.specs.Option.{option_map_or}
-use Rattle.std.proofs.lemmas.Bool.{and_parts}
 use Rattle.std.proofs.lemmas.Bool.Decides.{eqb_tells}
 use Rattle.std.proofs.Math.Dec.{eqb}
 use Rattle.blk_volume.specs.ListView.{IsList, first_or, last_or}
 use Rattle.blk_volume.specs.Walk.{walk}
 use Rattle.blk_volume.specs.Completion.{completed_list}
 use Rattle.blk_model.specs.Items.{Item, main, part, key_of}
-use Rattle.std.specs.Str.{bytes_eq}
-use Rattle.blk_model.specs.State.{State, Object, IsValidState, object_at, part_at, has_item, slot_has_item}
-use Rattle.blk_model.proofs.Same.{same_bytes}
+use Rattle.blk_model.specs.State.{State, Object, IsValidState, object_at, has_item, slot_has_item}
 use Rattle.blk_model.proofs.States.{one_owner}
 use Rattle.blk_format.specs.BlockFiles.{is_among}
 use Rattle.blk_format.specs.Claims.{Claim}
@@ -27,7 +24,7 @@ use Rattle.blk_volume.specs.Footprint.{IsClear, SameNodeLinks, SameBut, IsInside
 use Rattle.blk_laws.proofs.Loads.{load-then}
 use Rattle.blk_laws.proofs.Loading.{load-clean}
 use Rattle.blk_laws.proofs.Shown.{node-is, role-part, role-name}
-use Rattle.blk_laws.proofs.Owner.{live}
+use Rattle.blk_laws.proofs.Owner.{live, its-key}
 use Rattle.blk_laws.proofs.Opening.{listed-times}
 use Rattle.blk_laws.proofs.Laid.{IsNodeOf, node-of, part-at}
 use Rattle.blk_laws.proofs.Outside.{AreClear, all-clear, clear-zero, load-outside}
@@ -105,11 +102,7 @@ module _ (touched : Claim → Bool) (v u : View) (m : State) (y : Layout) (r : R
     no_zero = sym (same.links.checks 0 (clear-zero touched)) ∙ r.list.no_zero;
   }
 
-  -- it is an item of the object, and is listed with its main item
-  its-key : (i : Item) → has_item o i ≡ true → key_of i ≡ o.key
-  its-key (main key) h = same_bytes key o.key (and_parts o.live (bytes_eq key o.key) h).1
-  its-key (part key n) h = same_bytes key o.key (and_parts o.live (bytes_eq key o.key) (and_parts (o.live && bytes_eq key o.key) (is_some (part_at o n)) h).0).1
-
+  -- the item is listed with its main item
   o-live : o.live ≡ true
   o-live = live o item has
 
@@ -184,7 +177,7 @@ module _ (touched : Claim → Bool) (v u : View) (m : State) (y : Layout) (r : R
 
   midst : IsMidst (λ w. y.place item == w) u.stock m y o.key
   midst = record {
-    of_key = λ i h e. ap key_of (sym (only-item i h e)) ∙ its-key item has;
+    of_key = λ i h e. ap key_of (sym (only-item i h e)) ∙ its-key o item has;
     unsettled = λ x is. let s : above.loaded ≡ x = (let b : y.at (y.place (main o.key)) ≡ Some above.loaded = above.here in let c : y.at (y.place (main o.key)) ≡ Some x = is in cc) in ap (λ (z : Loaded). z.dirty == 0) (sym s) ∙ dirty-above;
     dirty = still-dirty;
     parts = λ n x k h e is ok. part-midst n (only-item (part o.key n) h e) x k is ok;

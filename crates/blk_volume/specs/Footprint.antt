@@ -1,5 +1,5 @@
 -- Two views that agree outside a footprint: some blocks and external numbers; and which bytes of files these cover.
-use Rattle.std.specs.Prelude.{◌≡◌, ℕ, ◌+◌, ◌<◌, ◌≤◌, Bool, true, false, ◌&&◌, ◌||◌, nat_le, nat_lt, ◌==◌}
+use Rattle.std.specs.Prelude.{◌≡◌, ◌⊎◌, ℕ, ◌+◌, ◌<◌, ◌≤◌, Bool, true, false, ◌&&◌, ◌||◌, nat_le, nat_lt, ◌==◌}
 use Rattle.std.specs.declared.option.Option.TheVariants.{Some}
 use Rattle.std.specs.declared.result.Result.TheVariants.{Ok}
 use Rattle.blk_model.specs.Items.{Item, main, part}
@@ -42,6 +42,19 @@ pub record SameBut (touched : Claim → Bool) (old new : View) : Type 0 where
   pub stock : SameStock touched old.stock new.stock
   pub table : (bucket : ℕ) → old.stock.table bucket ≡ new.stock.table bucket
 
+-- The records that stay when one is written.
+
+-- beside the record of a word: what the nodes say, its own key, and the keys and data in other blocks than its own are the same
+pub record SameBeside (w : ℕ) (old new : Stock) : Type 0 where
+  pub named : (u : ℕ) → old.named u ≡ new.named u
+  pub key_place : (u : ℕ) (core : Core) → IsClear (has_claim (claims_of w)) u ⊎ (u ≡ w) → old.entry u ≡ Some core → is_key_length u core ≡ true → nat_le core.key_len longest_short_key ≡ true → old.key_place u core.key_len ≡ new.key_place u core.key_len
+  pub stored : (size u : ℕ) → IsClear (has_claim (claims_of w)) u → old.stored size u ≡ new.stored size u
+
+-- no record changes but for its link: that of the record of a word may, and the table
+pub record OnlyLinksChange (w : ℕ) (old new : Stock) : Type 0 where
+  pub beside : SameBeside w old new
+  pub entry : (u : ℕ) → old.entry u ≡ new.entry u
+
 -- The bytes of files that a footprint of blocks covers.
 
 -- a place lies in the word there
@@ -74,6 +87,10 @@ IsFree touched layout = (claim : Claim) (node : ℕ) → layout.owner claim ≡ 
 -- a footprint that is nobody's but one node's
 abbrev pub IsFreeBut : ℕ → (Claim → Bool) → Layout → Type 0
 IsFreeBut node touched layout = (claim : Claim) (other : ℕ) → layout.owner claim ≡ Some other → (node == other) ≡ false → touched claim ≡ false
+
+-- whoever has a block of a word has its record there
+abbrev pub IsOnlyRecord : ℕ → Layout → Type 0
+IsOnlyRecord w layout = (claim : Claim) (node : ℕ) (loaded : Loaded) → has_claim (claims_of w) claim ≡ true → layout.owner claim ≡ Some node → layout.at node ≡ Some loaded → loaded.contents ≡ w
 
 -- a node checks as before, with its links as before
 pub record SameNodeLinks (node : ℕ) (old new : ListView) : Type 0 where
