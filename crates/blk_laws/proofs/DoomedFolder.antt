@@ -84,7 +84,7 @@ unfolding doomed_folder
 no-bucket b below = ap (λ (o : Option (List ℕ)). bucket_of (content (unwrap_or o [])) b) (sym (new-is_new 50).index) ∙ (new-bare 50 (new_folder 50) (new-is_new 50)).index.table b below
 
 -- the folder represents the state of the doomed object
-pub folder-is_represented : Represents (view_of doomed_folder) doomed_state doomed_layout
+pub folder-is_represented : Represents (view_of doomed_folder) (doomed_state true) (doomed_layout 0)
 unfolding stock_of
 folder-is_represented = record {
   holds = record {
@@ -93,7 +93,7 @@ folder-is_represented = record {
       each = λ w l is. let p = one.at-node 0 w l is in subst (λ (x : ℕ). load (stock_of doomed_folder) (alone doomed) x ≡ Ok l) (sym p.0) (doomed-loads ∙ ap Ok p.1);
       chains = λ b below. record { linked = no-bucket b below; once = tt; few = omega arith };
     };
-    lies = doomed-is_represented.holds.lies;
+    lies = (doomed-is_represented 0).holds.lies;
   };
   list = doomed-list;
   idle = doomed-idle;
@@ -134,16 +134,16 @@ unfolding doomed_folder
 no-files n = refl
 
 -- they are those of the doomed object, whose number is 0
-pub folder-is_allocated : IsAllocated doomed_folder doomed_state doomed_layout (0 ∷ [])
+pub folder-is_allocated : IsAllocated doomed_folder (doomed_state true) (doomed_layout 0) (0 ∷ [])
 folder-is_allocated = record {
   blocks = λ n b is small. doomed-marks n b (below n is) small ∙ sym (whole-owner (BlockOf n b) ∙ has-blocks n b (below n is));
   files = λ n small. no-files n ∙ sym (whole-owner (ExternalOf n) ∙ no-external n);
   exact = λ claim w owned. let c = one.choice (has_claim (all_claims (one.loaded 0)) claim) one.node w owned in
-      subst (λ (x : ℕ). IsOwner doomed_state doomed_layout (one.node ∷ []) claim x) c.1 (record { among = refl; loaded = one.loaded 0; here = refl; claims = c.0 });
+      subst (λ (x : ℕ). IsOwner (doomed_state true) (doomed_layout 0) (one.node ∷ []) claim x) c.1 (record { among = refl; loaded = one.loaded 0; here = refl; claims = c.0 });
   once = (refl, tt);
   doomed = record { each = (refl, tt); once = (refl, tt); all = all; records = λ number among. refl };
 } where
-  all : (number : ℕ) (o : Object) → object_at doomed_state number ≡ Some o → o.live ≡ false → is_among (0 ∷ []) number ≡ true
+  all : (number : ℕ) (o : Object) → object_at (doomed_state true) number ≡ Some o → o.live ≡ false → is_among (0 ∷ []) number ≡ true
   all zero o is dead = refl
   all (suc number) o is dead = absurd (cc)
 
@@ -242,18 +242,18 @@ folder-is_in_order = record { only_linked = folder-only; long_enough = folder-lo
 -- nothing is listed
 none-listed : kept_by listed (view_of doomed_folder) ≡ []
 unfolding kept_among
-none-listed = rw (walk-order (view_of doomed_folder) doomed_state doomed_layout folder-is_represented) refl
+none-listed = rw (walk-order (view_of doomed_folder) (doomed_state true) (doomed_layout 0) folder-is_represented) refl
 
 -- the node and the record keep the doomed object, and no other is to be kept
-pub folder-keeps_doomed : AreDoomed (view_of doomed_folder) doomed_state ((0, one.loaded 0) ∷ [])
-folder-keeps_doomed = are-doomed doomed_folder doomed_state doomed_layout folder-is_represented doomed-is_valid (0 ∷ []) folder-is_allocated
+pub folder-keeps_doomed : AreDoomed (view_of doomed_folder) (doomed_state true) ((0, one.loaded 0) ∷ [])
+folder-keeps_doomed = are-doomed doomed_folder (doomed_state true) (doomed_layout 0) folder-is_represented (doomed-is_valid true) (0 ∷ []) folder-is_allocated
 
-pub keeps-the_object : KeepsDoomed (view_of doomed_folder) doomed_object (one.loaded 0)
+pub keeps-the_object : KeepsDoomed (view_of doomed_folder) (doomed_object true) (one.loaded 0)
 keeps-the_object = folder-keeps_doomed.each.0
 
 -- the folder stands for the state of the doomed object
-pub doomed-stands : StandsFor doomed_folder doomed_state
-doomed-stands = stands-for doomed_folder doomed_state doomed_layout folder-is_represented doomed-is_valid (0 ∷ []) folder-is_allocated doomed-is_well_formed
+pub doomed-stands : StandsFor doomed_folder (doomed_state true)
+doomed-stands = stands-for doomed_folder (doomed_state true) (doomed_layout 0) folder-is_represented (doomed-is_valid true) (0 ∷ []) folder-is_allocated doomed-is_well_formed
     (subst (λ (ls : List Loaded). IsInOrder doomed_folder ls (one.loaded 0 ∷ [])) (sym none-listed) folder-is_in_order)
 
 -- and it holds nothing
@@ -263,4 +263,4 @@ is_finished = refl
 
 pub doomed-is_not_found : found doomed_folder ≡ []
 unfolding rest
-doomed-is_not_found = found-at_rest doomed_folder doomed_state doomed_layout folder-is_represented doomed-is_valid is_finished
+doomed-is_not_found = found-at_rest doomed_folder (doomed_state true) (doomed_layout 0) folder-is_represented (doomed-is_valid true) is_finished
