@@ -50,11 +50,6 @@ are_bytes-word f p v image bytes =
     are_bytes-with_file image f (written p (word_bytes v) (image f)) bytes
     (λ k. subst (λ (l : List ℕ). content l k < 256) (sym (bytes-written (image f) p (word_bytes v))) (small-spliced p (word_bytes v) (bytes_of image f) (word_bytes-small v) (bytes f) k))
 
-pub are_bytes-word_steps : (f : File) (ws : List (ℕ × ℕ)) (image : Image) → AreBytes image → AreBytes (after (word_steps f ws) image)
-unfolding word_step
-are_bytes-word_steps f [] image bytes = bytes
-are_bytes-word_steps f (w ∷ ws) image bytes = are_bytes-word_steps f ws (applied (Word f w.0 (word_bytes w.1)) image) (are_bytes-word f w.0 w.1 image bytes)
-
 -- a link of a node: its one change
 pub one_change : (w p x : ℕ) → kind_of w ≡ rankings → p % 4 ≡ 0 → p < 32 → AreChanges (seal_place w) ((p, x) ∷ [])
 one_change w p x kind aligned before =
