@@ -6,7 +6,7 @@ use Rattle.std.proofs.lemmas.List.Elements.{All-nil, All-cons}
 use Rattle.std.proofs.lemmas.Bool.{and_parts}
 use Rattle.blk_image.specs.Bytes.{content, word_at, range_at, word_bytes}
 use Rattle.blk_image.specs.Image.{File, Block, Image, AreBytes, byte, bytes_of}
-use Rattle.blk_image.specs.Steps.{Word, applied, after, written, word_steps, word_step}
+use Rattle.blk_image.specs.Steps.{Word, applied, written}
 use Rattle.blk_image.proofs.Images.{bytes-written}
 use Rattle.blk_image.proofs.Words.{length-range, word_bytes-small}
 use Rattle.blk_image.proofs.ByteSteps.{small-spliced, are_bytes-with_file}

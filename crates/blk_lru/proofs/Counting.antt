@@ -4,7 +4,7 @@ use Rattle.std.specs.Prelude.{◌==◌}
 use Rattle.std.proofs.lemmas.Bool.{and_parts, eq-eqb, eqb-true, ne_eqb}
 use Rattle.blk_format.specs.Address.{is_address, kind_of, rankings}
 use Rattle.blk_volume.specs.ListView.{ListView, ListWrite, Transaction, Operation}
-use Rattle.blk_volume.specs.Completion.{counts, taking_out, putting_in_front}
+use Rattle.blk_volume.specs.Completion.{counts, head_counts, links_count, taking_out, putting_in_front}
 use Rattle.blk_volume.specs.ListPlans.{completion_writes, operation_writes}
 use Rattle.blk_laws.proofs.ListWrites.{counting}
 use Rattle.blk_disk.specs.declared.tables.BlockFiles.{BlockFiles}
@@ -13,7 +13,7 @@ use Rattle.blk_lru.specs.declared.completing.InFlight.{InFlight}
 use Rattle.blk_lru.specs.declared.plans.Operation as code
 use Rattle.blk_lru.specs.declared.plans.Operation.TheVariants as operations
 use Rattle.blk_lru.specs.declared.completing.Beside.{Beside}
-use Rattle.blk_lru.specs.Completing.{AreNodes, Finds, FindsBeside, FindsHead, HasWords, finishing_writes, head_counts, links_count}
+use Rattle.blk_lru.specs.Completing.{AreNodes, Finds, FindsBeside, FindsHead, HasWords, finishing_writes}
 use Rattle.blk_lru.specs.declared.nodes.Links.{Links}
 use Rattle.blk_lru.specs.Nodes.{is_node, AreLinksOf, FindsNode}
 use Rattle.blk_lru.specs.Plans.{code_of, head_without, moving, pending, planned, word_or_zero}
@@ -69,7 +69,7 @@ module _ (list : ListView) where
   not_head other bad =
       false_unless (counts list)
       (λ e.
-      let h : ((list.operation == 2) || (list.head == 0) || list.checks list.head) ≡ true = (counting list e).head_good in
+      let h : ((list.operation == 2) || head_counts list) ≡ true = (counting list e).head_good in
       let k : head_counts list ≡ true = rw other at h in
       clash k bad)
 
@@ -77,7 +77,7 @@ module _ (list : ListView) where
   not_links other bad =
       false_unless (counts list)
       (λ e.
-      let h : ((list.operation == 1) || (list.next list.transaction == 0) || (list.checks (list.next list.transaction) && list.checks (list.prev list.transaction))) ≡ true = (counting list e).links in
+      let h : ((list.operation == 1) || links_count list list.transaction) ≡ true = (counting list e).links in
       let k : links_count list list.transaction ≡ true = rw other at h in
       clash k bad)
 
