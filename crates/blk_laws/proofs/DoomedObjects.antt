@@ -145,9 +145,9 @@ module _ (m : State) (y : Layout) (r : Lies m y) (number : ℕ) (o : Object) (he
         let old : object_at m k ≡ Some x = let apart : k ≢ number = e.1 in let same : object_at (record m { objects = set m.objects number slot }) k ≡ object_at m k = rw get_or-set_other in sym same ∙ is in
         let q : IsDoomedAt m y k x = r.doomed_objects k x old dies in
         let apart : (y.place_of_doomed number == y.place_of_doomed k) ≡ false = ⊎_elim
-            (λ (a : (eqb (y.place_of_doomed number) (y.place_of_doomed k) ≡ true) × (y.place_of_doomed number ≡ y.place_of_doomed k)). absurd (e.1 (sym (q.alone number o here gone a.1))))
-            (λ (a : (eqb (y.place_of_doomed number) (y.place_of_doomed k) ≡ false) × _). a.0)
-            (eqb_tells (y.place_of_doomed number) (y.place_of_doomed k)) in
+        (λ (a : (eqb (y.place_of_doomed number) (y.place_of_doomed k) ≡ true) × (y.place_of_doomed number ≡ y.place_of_doomed k)). absurd (e.1 (sym (q.alone number o here gone a.1))))
+        (λ (a : (eqb (y.place_of_doomed number) (y.place_of_doomed k) ≡ false) × _). a.0)
+        (eqb_tells (y.place_of_doomed number) (y.place_of_doomed k)) in
         record {
           loaded = q.loaded;
           here = at-else (y.place_of_doomed k) apart ∙ q.here;

@@ -63,6 +63,7 @@ pub mod ExampleFamily
 pub mod ExampleParts
 pub mod ExampleUnsettled
 pub mod ExampleDoomed
+pub mod ExampleDoom
 pub mod Adding
 pub mod WellFormed
 pub mod Inside

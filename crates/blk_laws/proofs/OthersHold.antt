@@ -179,7 +179,7 @@ unfolding all_claims record_claims
 chained-only m y r b w below there c x l h owned is =
     let q : IsListedRecord m y w = r.unchained b w below there in
     let mine : has_claim (all_claims q.loaded) c ≡ true = claim-append (claims_of q.loaded.node) (record_claims q.loaded) c ∙ or_right (has_claim (claims_of q.loaded.node) c) (has_claim (record_claims q.loaded) c)
-        (claim-append (claims_of q.loaded.contents) (flat_map claims_of q.loaded.others) c ∙ or_left (has_claim (claims_of q.loaded.contents) c) (has_claim (flat_map claims_of q.loaded.others) c) (ap (λ (z : ℕ). has_claim (claims_of z) c) q.record_is ∙ h)) in
+    (claim-append (claims_of q.loaded.contents) (flat_map claims_of q.loaded.others) c ∙ or_left (has_claim (claims_of q.loaded.contents) c) (has_claim (flat_map claims_of q.loaded.others) c) (ap (λ (z : ℕ). has_claim (claims_of z) c) q.record_is ∙ h)) in
     let node : q.node ≡ x = let a : y.owner c ≡ Some q.node = r.own q.node q.loaded c q.here mine in let b : y.owner c ≡ Some x = owned in cc in
     let same : q.loaded ≡ l = let a : y.at q.node ≡ Some q.loaded = q.here in let b : y.at x ≡ Some l = is in let e : y.at q.node ≡ y.at x = ap y.at node in cc in
     ap (λ (z : Loaded). z.contents) (sym same) ∙ q.record_is

@@ -13,7 +13,10 @@ ghost use Rattle.blk_laws.specs.StateLaws.{WalksAreTheOrder, ListedAreTheRows, N
 
 mod moments;
 
-pub use moments::{blocks_change_inside, index_words_are_written, links_are_written, names_are_written, records_are_written};
+pub use moments::{
+    blocks_change_inside, index_words_are_written, links_are_written, names_are_written,
+    records_are_written,
+};
 
 /// The walk of a whole list is its nodes.
 pub fn whole_lists_are_walked()
