@@ -1,4 +1,4 @@
--- The laws on doomed objects.
+-- The laws on doomed objects, and on handles.
 use Rattle.std.proofs.Common.{◌≡◌, ℕ, refl, ap, sym, ◌∙◌, subst, Option, Some, None, Ok}
 use Rattle.std.specs.Prelude.{◌==◌}
 use Rattle.blk_model.specs.State.{State, Object}
@@ -6,7 +6,8 @@ use Rattle.blk_format.specs.Claims.{claims_of, has_claim, repeats}
 use Rattle.blk_volume.specs.Loads.{Loaded, all_claims, record_claims}
 use Rattle.blk_volume.specs.Found.{row_of}
 use Rattle.blk_volume.specs.Layout.{Layout, IsDoomedAt, Lies, IsDoomedChange}
-use Rattle.blk_laws.specs.CommandLaws.{LiesAsDoomed, ChangedDoomedObjectsAreLaid, ChangedDoomedObjectsAreRepresented, EachDoomedMomentIsAtRest, GoneDoomedObjectsAreRepresented, DoomedDirtyWordsSettle, WrittenDoomedDirtyWordsSettle, dirtied, marked}
+use Rattle.blk_laws.specs.CommandLaws.{LiesAsDoomed, ChangedDoomedObjectsAreLaid, ChangedDoomedObjectsAreRepresented, EachDoomedMomentIsAtRest, GoneDoomedObjectsAreRepresented, DoomedDirtyWordsSettle, WrittenDoomedDirtyWordsSettle, HandlesAreNotShown, dirtied, marked}
+use Rattle.blk_laws.proofs.Opening.{lies-reordered}
 use Rattle.blk_laws.proofs.Settling.{shows-dirty}
 use Rattle.blk_laws.proofs.Marking.{node-alone, loads-marked}
 use Rattle.blk_laws.proofs.DoomedObjects.{IsDoomedSlot, lies-aside, represents-aside, aside-rest}
@@ -73,3 +74,7 @@ written-doomed-settles v u m y r number o l at d same named =
     (node-alone v u m y r (y.place_of_doomed number) l at.at d same named)
     (loads-marked v u m y r (y.place_of_doomed number) l at.at d same named)
     (dirty-change m y r.holds.lies number o l at d)
+
+-- which handles there are is not shown
+pub handles-not_shown : HandlesAreNotShown
+handles-not_shown v m y r names = record { holds = record { shows = r.holds.shows; lies = lies-reordered m y m.uses names (λ i. refl) r.holds.lies }; list = r.list; idle = r.idle }

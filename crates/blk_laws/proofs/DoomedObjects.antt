@@ -20,6 +20,7 @@ use Rattle.blk_volume.specs.Audit.{kept_among}
 use Rattle.blk_volume.specs.Found.{row_of}
 use Rattle.blk_volume.specs.Layout.{Layout, is_listed, order, rule_of, IsMarked, HasParentAt, IsLaid, IsDoomedAt, IsListedRecord, Lies, Shows, Represents, HoldsBut}
 use Rattle.blk_volume.specs.Footprint.{IsClear, SameBut, IsFreeBut}
+use Rattle.blk_laws.specs.CommandLaws.{ListedItemsAreAtRest}
 use Rattle.blk_laws.proofs.Owner.{IsOwned, owned, rest-picked}
 use Rattle.blk_laws.proofs.Shown.{node-is}
 use Rattle.blk_laws.proofs.Laid.{IsNodeOf, node-of, is_among-node, found-but, picked-closed}
@@ -144,9 +145,9 @@ module _ (m : State) (y : Layout) (r : Lies m y) (number : ℕ) (o : Object) (he
         let old : object_at m k ≡ Some x = let apart : k ≢ number = e.1 in let same : object_at (record m { objects = set m.objects number slot }) k ≡ object_at m k = rw get_or-set_other in sym same ∙ is in
         let q : IsDoomedAt m y k x = r.doomed_objects k x old dies in
         let apart : (y.place_of_doomed number == y.place_of_doomed k) ≡ false = ⊎_elim
-            (λ (a : (eqb (y.place_of_doomed number) (y.place_of_doomed k) ≡ true) × (y.place_of_doomed number ≡ y.place_of_doomed k)). absurd (e.1 (sym (q.alone number o here gone a.1))))
-            (λ (a : (eqb (y.place_of_doomed number) (y.place_of_doomed k) ≡ false) × _). a.0)
-            (eqb_tells (y.place_of_doomed number) (y.place_of_doomed k)) in
+        (λ (a : (eqb (y.place_of_doomed number) (y.place_of_doomed k) ≡ true) × (y.place_of_doomed number ≡ y.place_of_doomed k)). absurd (e.1 (sym (q.alone number o here gone a.1))))
+        (λ (a : (eqb (y.place_of_doomed number) (y.place_of_doomed k) ≡ false) × _). a.0)
+        (eqb_tells (y.place_of_doomed number) (y.place_of_doomed k)) in
         record {
           loaded = q.loaded;
           here = at-else (y.place_of_doomed k) apart ∙ q.here;
@@ -173,6 +174,15 @@ module _ (m : State) (y : Layout) (r : Lies m y) (number : ℕ) (o : Object) (he
           (λ e _. r.single w x (sym (at-else w e) ∙ is)) refl;
       doomed_objects = doomed-next;
     }
+
+-- ---- what is kept while all items are listed
+
+pub listed-rest : ListedItemsAreAtRest
+listed-rest hole v m y r valid once sound =
+    found-but m y r.laid m.uses (λ i h. h) (λ n. is_live_and_settled (object_at m n)) (settled-is_test m y r.laid valid) hole v r once
+    (λ i x listed is passes. sound i listed)
+    (λ i k listed broken ok. absurd (let z : true ≡ false = sym broken ∙ sound i listed in cc))
+    ∙ picked-closed m y r.laid m.uses (λ i h. h) (λ n. is_live_and_settled (object_at m n)) (settled-is_test m y r.laid valid) (all-closed m y r.laid valid) ∙ sym (rest-picked m)
 
 -- ---- what is shown
 
@@ -217,10 +227,7 @@ module _ (touched : Claim → Bool) (v u : View) (m : State) (y : Layout) (r : R
   -- what is kept at a moment of this
   pub aside-rest : IsValidState m → map row_of (kept_among u.stock held (walk (completed_list u.list))) ≡ model.rest m
   aside-rest valid = ap (λ (ws : List ℕ). map row_of (kept_among u.stock held ws)) (walk-idle u.list idle ∙ walk_list u.list (order m y) still-listed) ∙
-      found-but m y lies.laid m.uses (λ i h. h) (λ n. is_live_and_settled (object_at m n)) (settled-is_test m y lies.laid valid) (λ w. y.place_of_doomed number == w) u.stock but r.list.distinct
-      (λ i x listed is passes. apart-item m y lies number o here gone i listed)
-      (λ i k listed hole ok. absurd (let z : true ≡ false = sym hole ∙ apart-item m y lies number o here gone i listed in cc))
-      ∙ picked-closed m y lies.laid m.uses (λ i h. h) (λ n. is_live_and_settled (object_at m n)) (settled-is_test m y lies.laid valid) (all-closed m y lies.laid valid) ∙ sym (rest-picked m) where
+      listed-rest (λ w. y.place_of_doomed number == w) u.stock m y but valid r.list.distinct (λ i listed. apart-item m y lies number o here gone i listed) where
         but : HoldsBut (λ w. y.place_of_doomed number == w) u.stock m y
         but = record {
           no_record = nothing;

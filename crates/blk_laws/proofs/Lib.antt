@@ -64,6 +64,7 @@ pub mod ExampleParts
 pub mod ExampleUnsettled
 pub mod ExampleDoomed
 pub mod DoomedFolder
+pub mod ExampleDoom
 pub mod Adding
 pub mod WellFormed
 pub mod Inside

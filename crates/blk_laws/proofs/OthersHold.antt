@@ -2,27 +2,59 @@
 use Rattle.std.proofs.Common.{◌≡◌, ◌⊎◌, inl, inr, ⊎_elim, ℕ, suc, ◌+◌, List, ◌++◌, refl, ap, sym, ◌∙◌, subst, true, false, Some, Ok}
 use Rattle.std.specs.Prelude.{not, ◌==◌, nat_le, slice_index}
 use Rattle.std.specs.List.{flat_map}
-use Rattle.std.proofs.lemmas.Bool.{cases_Bool, or_left, eq-eqb}
+use Rattle.std.proofs.lemmas.Bool.{cases_Bool, or_left, or_right, eq-eqb}
 use Rattle.std.proofs.lemmas.Bool.Decides.{eqb_tells}
 use Rattle.std.proofs.Math.Dec.{eqb}
 use Rattle.blk_model.specs.Items.{Item, main, part}
 use Rattle.blk_model.specs.State.{State}
 use Rattle.blk_format.specs.BlockFiles.{is_among}
-use Rattle.blk_format.specs.Claims.{claims_of, has_claim, repeats}
+use Rattle.blk_format.specs.Claims.{Claim, claims_of, has_claim, repeats}
 use Rattle.blk_volume.specs.View.{Stock, Core, size_of, address_of}
 use Rattle.blk_volume.specs.Chains.{chain, bucket_of_hash, Linked, IsChain}
 use Rattle.blk_volume.specs.Entries.{is_key_length, key_of, stream_of, streams_of, role_of, parent_role}
 use Rattle.blk_volume.specs.Loads.{Rule, alone, Loaded, load, all_claims, record_claims}
-use Rattle.blk_volume.specs.Layout.{Layout, HasParentAt, IsLaid, rule_of}
+use Rattle.blk_volume.specs.Layout.{Layout, IsListedRecord, HasParentAt, IsLaid, rule_of}
 use Rattle.blk_volume.specs.Footprint.{IsClear, SameBeside}
-use Rattle.blk_laws.specs.CommandLaws.{OthersHoldOutside, OthersHoldUnlinked, RecordsOfAnotherStateLoad}
+use Rattle.blk_laws.specs.CommandLaws.{RepresentedHoldBut, MoreMayBeLeftOut, OthersHoldOutside, OthersHoldUnlinked, ChainedRecordsAreOnlyRecords, RecordsStayOutside, RecordsStayUnlinked, RecordsOfAnotherStateLoad}
 use Rattle.blk_laws.proofs.Loads.{load-then}
 use Rattle.blk_laws.proofs.Loading.{load-from}
+use Rattle.blk_laws.proofs.ClaimLists.{claim-append}
 use Rattle.blk_laws.proofs.Marking.{repeats-apart}
 use Rattle.blk_laws.proofs.Laid.{repeats-tail}
 use Rattle.blk_laws.proofs.Outside.{AreClear, all-clear, clear-zero, load-outside, linked-same, index-claims}
 
+-- ---- some nodes are left out
+
+pub represented-but : RepresentedHoldBut
+represented-but hole v m y r = record {
+  no_record = r.holds.shows.no_record;
+  each = λ w l is sound. r.holds.shows.each w l is;
+  chains = r.holds.shows.chains;
+  laid = r.holds.lies.laid;
+  normal = r.holds.lies.normal;
+  chained = λ w l there is sound. r.holds.lies.chained w l there is;
+  own = r.holds.lies.own;
+  single = r.holds.lies.single;
+}
+
+pub more-left_out : MoreMayBeLeftOut
+more-left_out hole more v m y r larger = record {
+  no_record = r.no_record;
+  each = λ w l is sound. r.each w l is (smaller w sound);
+  chains = r.chains;
+  laid = r.laid;
+  normal = r.normal;
+  chained = λ w l there is sound. r.chained w l there is (smaller w sound);
+  own = r.own;
+  single = r.single;
+} where
+  smaller : (w : ℕ) → more w ≡ false → hole w ≡ false
+  smaller w out = ⊎_elim (λ (h : hole w ≡ true). absurd (let z : true ≡ false = sym (larger w h) ∙ out in cc)) (λ (h : hole w ≡ false). h) (cases_Bool (hole w))
+
 -- ---- a change that touches none of the others
+
+pub records-outside : RecordsStayOutside
+records-outside touched v u s w l ok same clear = load-outside touched v u same (alone s) w l refl ok (all-clear touched l clear)
 
 pub others-outside : OthersHoldOutside
 others-outside touched hole v u m y r same table free clear = record {
@@ -111,10 +143,21 @@ laid-chained m y chains i q = record { loaded = q.loaded; here = q.here; row = q
   parent (main key) l p = p
   parent (part key n) l p = record { name = p.name; index = p.index; role = p.role; of_key = p.of_key; listed = p.listed; parent = p.parent; at_parent = p.at_parent; of = p.of }
 
+pub records-unlinked : RecordsStayUnlinked
+records-unlinked v u s x w l ok once same apart = ⊎_elim
+    (λ (a : l.contents ≡ w). load-beside w v u same.beside (alone s) s (λ e. e.state) x l refl ok (inr a)
+    (λ i. subst (λ (z : ℕ). IsClear (has_claim (claims_of z)) (slice_index l.others i)) a (others-clear l once i)) entry (λ e h. h))
+    (λ (a : (c : Claim) → has_claim (all_claims l) c ≡ true → has_claim (claims_of w) c ≡ false).
+    let clear : AreClear (has_claim (claims_of w)) l = all-clear (has_claim (claims_of w)) l a in
+    load-beside w v u same.beside (alone s) s (λ e. e.state) x l refl ok (inl clear.contents) clear.others entry (λ e h. h))
+    apart where
+      entry : (e : Core) → v.entry l.contents ≡ Some e → u.entry l.contents ≡ Some (record e { state = e.state })
+      entry e is = sym (same.entry l.contents) ∙ is
+
 pub others-unlinked : OthersHoldUnlinked
 others-unlinked hole v u m y r w same only chains now = record {
   no_record = sym (same.entry 0) ∙ r.no_record;
-  each = λ x l is sound. each x l is (r.each x l is sound);
+  each = λ x l is sound. records-unlinked v u (y.state x) x w l (r.each x l is sound) (r.single x l is) same (apart x l is);
   chains = now.whole;
   laid = λ i listed. laid-chained m y chains i (r.laid i listed);
   normal = r.normal;
@@ -122,17 +165,21 @@ others-unlinked hole v u m y r w same only chains now = record {
   own = r.own;
   single = r.single;
 } where
-  entry-same : (l : Loaded) (e : Core) → v.entry l.contents ≡ Some e → u.entry l.contents ≡ Some (record e { state = e.state })
-  entry-same l e is = sym (same.entry l.contents) ∙ is
-
-  each : (x : ℕ) (l : Loaded) → y.at x ≡ Some l → load v (rule_of y x) x ≡ Ok l → load u (rule_of y x) x ≡ Ok l
-  each x l is ok = ⊎_elim
-      (λ (a : (eqb l.contents w ≡ true) × (l.contents ≡ w)). load-beside w v u same.beside (rule_of y x) (y.state x) (λ e. e.state) x l refl ok (inr a.1)
-      (λ i. subst (λ (z : ℕ). IsClear (has_claim (claims_of z)) (slice_index l.others i)) a.1 (others-clear l (r.single x l is) i)) (entry-same l) (λ e s. s))
-      (λ (a : (eqb l.contents w ≡ false) × _).
-      let clear : AreClear (has_claim (claims_of w)) l = all-clear (has_claim (claims_of w)) l (λ c h. ⊎_elim
+  apart : (x : ℕ) (l : Loaded) → y.at x ≡ Some l → (l.contents ≡ w) ⊎ ((c : Claim) → has_claim (all_claims l) c ≡ true → has_claim (claims_of w) c ≡ false)
+  apart x l is = ⊎_elim
+      (λ (a : (eqb l.contents w ≡ true) × (l.contents ≡ w)). inl a.1)
+      (λ (a : (eqb l.contents w ≡ false) × _). inr (λ c h. ⊎_elim
       (λ (b : has_claim (claims_of w) c ≡ true). let p : l.contents ≡ w = only c x l b (r.own x l c is h) is in absurd (let z : true ≡ false = sym (eq-eqb l.contents w p) ∙ a.0 in cc))
       (λ (b : has_claim (claims_of w) c ≡ false). b)
-      (cases_Bool (has_claim (claims_of w) c))) in
-      load-beside w v u same.beside (rule_of y x) (y.state x) (λ e. e.state) x l refl ok (inl clear.contents) clear.others (entry-same l) (λ e s. s))
+      (cases_Bool (has_claim (claims_of w) c))))
       (eqb_tells l.contents w)
+
+pub chained-only : ChainedRecordsAreOnlyRecords
+unfolding all_claims record_claims
+chained-only m y r b w below there c x l h owned is =
+    let q : IsListedRecord m y w = r.unchained b w below there in
+    let mine : has_claim (all_claims q.loaded) c ≡ true = claim-append (claims_of q.loaded.node) (record_claims q.loaded) c ∙ or_right (has_claim (claims_of q.loaded.node) c) (has_claim (record_claims q.loaded) c)
+    (claim-append (claims_of q.loaded.contents) (flat_map claims_of q.loaded.others) c ∙ or_left (has_claim (claims_of q.loaded.contents) c) (has_claim (flat_map claims_of q.loaded.others) c) (ap (λ (z : ℕ). has_claim (claims_of z) c) q.record_is ∙ h)) in
+    let node : q.node ≡ x = let a : y.owner c ≡ Some q.node = r.own q.node q.loaded c q.here mine in let b : y.owner c ≡ Some x = owned in cc in
+    let same : q.loaded ≡ l = let a : y.at q.node ≡ Some q.loaded = q.here in let b : y.at x ≡ Some l = is in let e : y.at q.node ≡ y.at x = ap y.at node in cc in
+    ap (λ (z : Loaded). z.contents) (sym same) ∙ q.record_is

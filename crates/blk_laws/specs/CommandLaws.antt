@@ -1,5 +1,5 @@
 -- The laws of the changes that commands make: objects in the midst of a change, removals, the dirty word, Open and Create.
-use Rattle.std.specs.Prelude.{◌≡◌, ℕ, ◌<◌, not, ◌&&◌, ◌==◌, List, [], length, map, take, Bool, true, false}
+use Rattle.std.specs.Prelude.{◌≡◌, ◌⊎◌, ℕ, ◌<◌, not, ◌&&◌, ◌==◌, List, [], length, map, take, Bool, true, false}
 use Rattle.std.specs.List.{filter, filter_map}
 use Rattle.std.specs.declared.option.Option.{Option}
 use Rattle.std.specs.declared.option.Option.TheVariants.{None, Some}
@@ -144,29 +144,58 @@ WrittenDoomedDirtyWordsSettle = (old new : View) (state : State) (layout : Layou
     → ((named : Named) → old.stock.named (layout.place_of_doomed number) ≡ Some named → new.stock.named (layout.place_of_doomed number) ≡ Some (record named { dirty = dirty }))
     → Represents new (marked state number object (dirty == 0)) (dirtied layout (layout.place_of_doomed number) loaded dirty)
 
--- Dooms.
+-- Records that stay while others change or go.
 
--- while some nodes are in the midst of a change or gone, a change that touches none of the others, and no record of a chain, leaves the others
+-- of what represents a state, some nodes may be left out
+abbrev pub RepresentedHoldBut : Type 0
+RepresentedHoldBut = (hole : ℕ → Bool) (view : View) (state : State) (layout : Layout) → Represents view state layout → HoldsBut hole view.stock state layout
+
+-- and more of them
+abbrev pub MoreMayBeLeftOut : Type 0
+MoreMayBeLeftOut = (hole more : ℕ → Bool) (stock : Stock) (state : State) (layout : Layout) → HoldsBut hole stock state layout → ((node : ℕ) → hole node ≡ true → more node ≡ true) → HoldsBut more stock state layout
+
+-- a change that touches none of the others, and no record of a chain, leaves the others
 abbrev pub OthersHoldOutside : Type 0
 OthersHoldOutside = (touched : Claim → Bool) (hole : ℕ → Bool) (old new : Stock) (state : State) (layout : Layout) → HoldsBut hole old state layout → SameStock touched old new → ((bucket : ℕ) → old.table bucket ≡ new.table bucket)
     → ((claim : Claim) (node : ℕ) → layout.owner claim ≡ Some node → hole node ≡ false → touched claim ≡ false) → ((bucket contents : ℕ) → bucket < table_length → is_among (layout.chains bucket) contents ≡ true → IsClear touched contents)
     → HoldsBut hole new state layout
 
--- and so does the link of a record that changes, or a word of the table, with the chains that there are then
+-- so does the change of the link of a record, or of a word of the table, with the chains that there are then
 abbrev pub OthersHoldUnlinked : Type 0
 OthersHoldUnlinked = (hole : ℕ → Bool) (old new : Stock) (state : State) (layout : Layout) → HoldsBut hole old state layout → (word : ℕ) → OnlyLinksChange word old new → IsOnlyRecord word layout
     → (chains : ℕ → List ℕ) → HasChains hole new state layout chains → HoldsBut hole new state (record layout { chains = chains })
+
+-- the word of a record of a chain is such a word
+abbrev pub ChainedRecordsAreOnlyRecords : Type 0
+ChainedRecordsAreOnlyRecords = (state : State) (layout : Layout) → Lies state layout → (bucket contents : ℕ) → bucket < table_length → is_among (layout.chains bucket) contents ≡ true → IsOnlyRecord contents layout
+
+-- one record, chained or not, loads as before where none of its blocks is touched
+abbrev pub RecordsStayOutside : Type 0
+RecordsStayOutside = (touched : Claim → Bool) (old new : Stock) (state node : ℕ) (loaded : Loaded) → load old (alone state) node ≡ Ok loaded → SameStock touched old new → ((claim : Claim) → has_claim (all_claims loaded) claim ≡ true → touched claim ≡ false)
+    → load new (alone state) node ≡ Ok loaded
+
+-- and where the link of it or of a record in other blocks changes
+abbrev pub RecordsStayUnlinked : Type 0
+RecordsStayUnlinked = (old new : Stock) (state node word : ℕ) (loaded : Loaded) → load old (alone state) node ≡ Ok loaded → repeats (all_claims loaded) ≡ false → OnlyLinksChange word old new
+    → (loaded.contents ≡ word) ⊎ ((claim : Claim) → has_claim (all_claims loaded) claim ≡ true → has_claim (claims_of word) claim ≡ false) → load new (alone state) node ≡ Ok loaded
+
+-- one of which only the state is written loads as one of that state
+abbrev pub RecordsOfAnotherStateLoad : Type 0
+RecordsOfAnotherStateLoad = (old new : Stock) (before after node : ℕ) (loaded : Loaded) (core : Core) → load old (alone before) node ≡ Ok loaded → repeats (all_claims loaded) ≡ false → SameBeside loaded.contents old new
+    → old.entry loaded.contents ≡ Some core → new.entry loaded.contents ≡ Some (record core { state = after }) → load new (alone after) node ≡ Ok loaded
+
+-- Dooms.
+
+-- while all items are listed, and their records are there, what is kept is what is at rest
+abbrev pub ListedItemsAreAtRest : Type 0
+ListedItemsAreAtRest = (hole : ℕ → Bool) (stock : Stock) (state : State) (layout : Layout) → HoldsBut hole stock state layout → IsValidState state → Distinct (order state layout) → ((item : Item) → is_listed state item ≡ true → hole (layout.place item) ≡ false)
+    → map row_of (kept_among stock held (order state layout)) ≡ rest state
 
 -- once the main item of an object is out of the list, what is kept is what is at rest after its doom, whether its parts are still listed or not
 abbrev pub DoomsKeepTheOthers : Type 0
 DoomsKeepTheOthers = (hole : ℕ → Bool) (stock : Stock) (state : State) (layout : Layout) → HoldsBut hole stock state layout → IsValidState state → (number : ℕ) (object : Object) → object_at state number ≡ Some object
     → (keep : Item → Bool) → keep (main object.key) ≡ false → ((item : Item) → is_of_another object.key item ≡ true → keep item ≡ true) → Distinct (nodes_of layout (filter keep state.uses)) → ((item : Item) → is_listed state item ≡ true → keep item ≡ true → hole (layout.place item) ≡ false)
     → map row_of (kept_among stock held (nodes_of layout (filter keep state.uses))) ≡ rest (doomed number state (Some object))
-
--- a record of which only the state is written loads as one of that state
-abbrev pub RecordsOfAnotherStateLoad : Type 0
-RecordsOfAnotherStateLoad = (old new : Stock) (before after node : ℕ) (loaded : Loaded) (core : Core) → load old (alone before) node ≡ Ok loaded → repeats (all_claims loaded) ≡ false → SameBeside loaded.contents old new
-    → old.entry loaded.contents ≡ Some core → new.entry loaded.contents ≡ Some (record core { state = after }) → load new (alone after) node ≡ Ok loaded
 
 -- the object of a number, live and held by a handle, is doomed: what the layout has at its main item's node stays, and what it has of the object's parts goes
 pub record IsDoomedNow (state : State) (layout : Layout) (number : ℕ) (object : Object) (loaded : Loaded) (at : ℕ → Option Loaded) (chains : ℕ → List ℕ) (owner : Claim → Option ℕ) : Type 0 where
@@ -186,6 +215,12 @@ DoomedIsRepresented = (hole : ℕ → Bool) (view : View) (state : State) (layou
     → IsDoomedNow state layout number object loaded at chains owner → HoldsBut hole view.stock state (record layout { chains = chains }) → ((node : ℕ) (other : Loaded) → at node ≡ Some other → hole node ≡ true → layout.place (main object.key) ≡ node)
     → load view.stock (alone records.doomed) (layout.place (main object.key)) ≡ Ok loaded → IsAtRest view.list (nodes_of layout (filter (is_of_another object.key) state.uses))
     → Represents view (doomed number state (Some object)) (laid_doomed layout number (layout.place (main object.key)) at chains owner)
+
+-- Handles.
+
+-- which handles there are is not shown
+abbrev pub HandlesAreNotShown : Type 0
+HandlesAreNotShown = (view : View) (state : State) (layout : Layout) → Represents view state layout → (names : List (Option ℕ)) → Represents view (record state { names = names }) layout
 
 -- Open.
 
