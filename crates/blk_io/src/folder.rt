@@ -99,6 +99,11 @@ impl From<AllocError> for NoMemory {
     }
 }
 
+/// A folder of cache files.
+///
+/// A folder in memory tells its files, and its contracts say what the calls read and leave. A folder of real
+/// files tells nothing. A call that answers `Failed` is counted in `faults`; a read then gave nothing, a write
+/// may have made some of its steps, from the first on, and any other call changed nothing.
 pub trait Folder {
     /// What is told of the files now, and of the steps that made them.
     ghost told: { Self → Told };

@@ -15,7 +15,9 @@ use std::alloc::{AllocError, Global};
 /// A file and its bytes.
 #[derive(Drop)]
 pub struct MemFile {
+    /// Its name.
     pub file: FileId,
+    /// What it holds.
     pub bytes: Vec<u8>,
 }
 
