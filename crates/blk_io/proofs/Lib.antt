@@ -1,3 +1,4 @@
+pub mod Padding
 pub mod Adjoining
 pub mod FileLists
 pub mod Trails
