@@ -45,7 +45,7 @@ impl Plan {
         ensures plan { IfOk result (λ plan. ForSome (F.told f.old).files (λ image. IsPlan image file start count used plan)) }
         ensures aligned { IfOk result (λ plan. plan.at % 4 ≡ 0) }
         ensures fits { IfOk result (λ plan. plan.counters.allocations < 2 ^ 32) }
-        ensures cause { IfDamaged result (IsCause (F.told f.old) file start used) }
+        ensures cause { IfDamaged result (IsCause (F.told f.old) file start count used) }
         ensures untold { IfDamaged result (λ _. ForSome (F.told f.old).files (λ image. IsReady image file start count used) → (F.told f.old).files ≡ None) }
         ensures stays { Stays (F.told f.old) (F.told f.new) }
         ensures later { F.faults f.old ≤ F.faults f.new }

@@ -1,3 +1,4 @@
+pub mod Adjoining
 pub mod FileLists
 pub mod Trails
 pub mod ReadBytes

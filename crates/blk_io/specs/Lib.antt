@@ -1,5 +1,6 @@
 pub mod FileNames
 pub mod Faults
+pub mod Neighbours
 pub mod Files
 pub mod Trail
 pub mod Counts

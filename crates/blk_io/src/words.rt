@@ -1,12 +1,13 @@
-// Words and bytes that are read whole, and words that are written one by one.
-ghost use Rattle.std.specs.Prelude.{◌≡◌, ◌⊎◌, ◌+◌, ◌%◌, ◌^◌, ◌≤◌, ◌<◌, ℕ, All, length, OnOk, OnErr, IfOk};
+// Words and bytes that are read whole, and words that are written one by one or side by side.
+ghost use Rattle.std.specs.Prelude.{◌≡◌, ◌⊎◌, ◌+◌, ◌*◌, ◌%◌, ◌^◌, ◌≤◌, ◌<◌, ℕ, All, length, map, OnOk, OnErr, IfOk};
 ghost use Rattle.std.specs.Option.{ForSome};
-ghost use Rattle.blk_image.specs.Bytes.{range_at};
+ghost use Rattle.blk_image.specs.Bytes.{range_at, word_bytes};
 ghost use Rattle.blk_image.specs.Image.{HasRange, byte, word};
 ghost use Rattle.blk_image.specs.Steps.{word_step, word_steps};
 ghost use Rattle.blk_image.specs.Told.{Grows, GrowsInPart, Stays, Rises};
 ghost use Rattle.blk_io.specs.FileNames.{file_of};
 ghost use Rattle.blk_io.specs.Faults.{IfDamaged, IfDevice, IsShort};
+ghost use Rattle.blk_io.specs.Neighbours.{run_from};
 
 use crate::{Damage, Failed, Fault, FileId, Folder};
 
@@ -35,6 +36,35 @@ pub fn write_words<F: Folder>(f: &mut F, file: FileId, words: &[(u64, u32)]) -> 
         write_word(f, file, *at, *value)?;
     }
     Ok(())
+}
+
+/// Writes neighbouring words from a place on, by one call.
+pub fn write_run<F: Folder, const N: usize>(
+    f: &mut F,
+    file: FileId,
+    at: u64,
+    words: &[u32; N],
+) -> Result<(), Failed>
+    requires aligned { at % 4 ≡ 0 }
+    requires inside { ForSome (F.told f.old).files (λ image. HasRange image (file_of file) at (4 * length words.now)) }
+    ensures whole { OnOk result (Grows (F.told f.old) (F.told f.new) (word_steps (file_of file) (run_from at words.now))) }
+    ensures part { GrowsInPart (F.told f.old) (F.told f.new) (word_steps (file_of file) (run_from at words.now)) }
+    ensures later { F.faults f.old ≤ F.faults f.new }
+    ensures failed { OnErr result (Rises (F.faults f.old) (F.faults f.new)) }
+{
+    let bytes = bytes_of(words);
+    f.write_at(file, at, bytes.as_flattened())
+}
+
+// The bytes of each word, its low byte first.
+fn bytes_of<const N: usize>(words: &[u32; N]) -> [[u8; 4]; N]
+    ensures { result ≡ map word_bytes words.now }
+{
+    let mut bytes = [[0u8; 4]; N];
+    for (i, word) in words.iter().enumerate() {
+        bytes[i] = word.to_le_bytes();
+    }
+    bytes
 }
 
 /// Reads bytes of a file into the whole of `out`.

@@ -119,7 +119,7 @@ module _ (m : State) (objects : List (Option Object)) (y : Layout) (i : Item) (l
     doomed_objects = λ number o is dead. let d : IsDoomedAt m y number o = r.doomed_objects number o (one.doomed_same number o is dead) dead in
         let apart : (y.place i == y.place_of_doomed number) ≡ false = ⊎_elim (λ (x : (eqb (y.place i) (y.place_of_doomed number) ≡ true) × (y.place i ≡ y.place_of_doomed number)).
         let a : is_among (order m y) (y.place i) ≡ true = is_among-node y m.uses i listed in let b : is_among (order m y) (y.place i) ≡ is_among (order m y) (y.place_of_doomed number) = ap (is_among (order m y)) x.1 in absurd (let z : true ≡ false = sym a ∙ b ∙ d.unlisted in cc)) (λ (x : (eqb (y.place i) (y.place_of_doomed number) ≡ false) × _). x.0) (eqb_tells (y.place i) (y.place_of_doomed number)) in
-        record { loaded = d.loaded; here = at-else (y.place_of_doomed number) apart ∙ d.here; row = d.row; mark = d.mark; unlisted = d.unlisted };
+        record { loaded = d.loaded; here = at-else (y.place_of_doomed number) apart ∙ d.here; row = d.row; mark = d.mark; unlisted = d.unlisted; alone = λ other x there gone e. d.alone other x (one.doomed_same other x there gone) gone e };
   }
 
 -- ---- a state with another object in a slot, with the same items

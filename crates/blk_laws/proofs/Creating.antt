@@ -272,6 +272,10 @@ module _ (m : State) (y : Layout) (r : Lies m y) (v : Stock) (handle : ℕ) (key
           row = d.row;
           mark = d.mark;
           unlisted = ap (λ (xs : List ℕ). is_among xs (y.place_of_doomed number)) order-after ∙ none-of l.node (y.place_of_doomed number) (order m y) (other-node (y.place_of_doomed number) d.loaded d.here) d.unlisted;
+          alone = λ other x there gone e. ⊎_elim
+              (λ (was : object_at m other ≡ Some x). d.alone other x was gone e)
+              (λ (q : Some (new_object key) ≡ Some x). let s : new_object key ≡ x = cc in absurd (let z : true ≡ false = ap (λ (k : Object). k.live) s ∙ gone in cc))
+              (push-back m.objects (Some (new_object key)) other x there);
         })
         (λ (e : Some (new_object key) ≡ Some o). let s : new_object key ≡ o = cc in absurd (let z : true ≡ false = ap (λ (q : Object). q.live) s ∙ dead in cc))
         (push-back m.objects (Some (new_object key)) number o is);

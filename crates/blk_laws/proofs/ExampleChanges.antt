@@ -50,7 +50,7 @@ unfolding has_claim claims_of kind_of block_count file_selector first_block exte
 named-blocks = (refl, refl, refl, refl)
 
 -- each owner of the layout is the node
-only-node : (dirty w : ℕ) (c : Claim) → (layout dirty).owner c ≡ Some w → node ≡ w
+pub only-node : (dirty w : ℕ) (c : Claim) → (layout dirty).owner c ≡ Some w → node ≡ w
 only-node dirty w c owned = (choice (has_claim (all_claims (loaded 0)) c) node w owned).1
 
 -- Stream 0 of the unsettled object becomes `yyy`, at block 2 of data_1.
@@ -58,11 +58,12 @@ only-node dirty w c owned = (choice (has_claim (all_claims (loaded 0)) c) node w
 abbrev written_object : Object
 written_object = record (object false) { streams = (codes "yyy", [], []) }
 
-abbrev now : Loaded
+-- what the node names then
+abbrev pub now : Loaded
 now = record (loaded 5) { streams = codes "yyy" ∷ [] ∷ [] ∷ []; others = 0 ∷ 0xA0010002 ∷ 0 ∷ 0 ∷ 0 ∷ [] }
 
 -- the record, the old place and the new place
-abbrev touched : Claim → Bool
+abbrev pub touched : Claim → Bool
 touched = has_claim (BlockOf 1 0 ∷ BlockOf 1 1 ∷ BlockOf 1 2 ∷ [])
 
 -- the record has the new size and place, and there the view has this
@@ -74,7 +75,8 @@ with_data bytes = record (view 5) {
   };
 }
 
-touched-claims : (touched (BlockOf 1 0) ≡ true) × (touched (BlockOf 1 1) ≡ true) × (touched (BlockOf 1 2) ≡ true)
+-- these blocks are touched
+pub touched-claims : (touched (BlockOf 1 0) ≡ true) × (touched (BlockOf 1 1) ≡ true) × (touched (BlockOf 1 2) ≡ true)
 unfolding has_claim
 touched-claims = (refl, refl, refl)
 
@@ -98,7 +100,8 @@ now-loads : load (with_data (Some (codes "yyy"))).stock (alone 0) node ≡ Ok no
 unfolding load load_record load_key is_key_length entries.key_of stream_of streams_of role_of block_count entry_blocks hash mixed of_bytes of_one
 now-loads = refl
 
-now-once : repeats (all_claims now) ≡ false
+-- it claims no block twice
+pub now-once : repeats (all_claims now) ≡ false
 unfolding repeats has_claim all_claims record_claims claims_of kind_of block_count file_selector first_block external_number
 now-once = refl
 
@@ -113,7 +116,8 @@ one-changed = record { rows = rows; settled = λ key other. rw other refl; doome
   doomed-same zero o is dead = let s : written_object ≡ o = cc in let c : true ≡ false = ap (λ (z : Object). z.live) s ∙ dead in absurd (cc)
   doomed-same (suc number) o is dead = absurd (cc)
 
-abbrev owners_now : Claim → Option ℕ
+-- who owns what then
+abbrev pub owners_now : Claim → Option ℕ
 owners_now c = if has_claim (all_claims now) c then Some node else None
 
 is-change : IsChange (state false) (Some written_object ∷ []) (layout 5) (main (codes "a")) (loaded 5) now owners_now
@@ -151,8 +155,8 @@ written-is_represented =
 -- at a moment when the record names the new place and the data isn't there yet, what is at rest is kept
 pub torn-is_at_rest : map volume.row_of (kept_by held (volume.completed (with_data None))) ≡ rest (state false)
 torn-is_at_rest =
-    moment-rest touched (view 5) (with_data None) (state false) (layout 5) (represented 5) (state_is_valid false) 0 (object false) refl refl refl (loaded 5) refl (same-but None)
-    (record { apart = apart-but; named = refl; bucket = λ b. refl; follow = refl; links = record { checks = refl; next = refl; prev = refl } })
+    moment-rest touched (view 5) (with_data None) (state false) (layout 5) (represented 5) (state_is_valid false) 0 (object false) (main (codes "a")) refl refl refl (loaded 5) refl (same-but None)
+    (record { apart = apart-but; named = refl; bucket = λ b. refl; follow = refl; links = record { checks = refl; next = refl; prev = refl } }) tt
 
 -- and so it is with the node's record in the midst of this
 torn-chains : (b : ℕ) → b < 65536 → IsChain (with_data None).stock b ((layout 5).chains b)

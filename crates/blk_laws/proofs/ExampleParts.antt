@@ -56,7 +56,8 @@ good-part = record {
   inside = record { whole = λ block there. absurd (let z : false ≡ true = sym (none-there 1024 block) ∙ there in cc); piece = tt };
 }
 
-good-family : IsObject family
+-- the family is an object that a state may have
+pub good-family : IsObject family
 good-family = record {
   key = record { some = omega arith; short = omega arith; bytes = bytes-small (codes "a") (omega arith, tt) };
   streams = (bytes-small [] tt, bytes-small [] tt, bytes-small [] tt);
@@ -75,7 +76,8 @@ good-family = record {
 no-other : (n : ℕ) (value : PartValue) → find nat_cmp (suc n) ((0, value) ∷ []) ≡ None
 no-other n value = let z : (suc n == 0) ≡ false = grind (arith, nat_tests) in rw (unsigned_tied (suc n) 0 ∙ z) refl
 
-one-owner : (item : Item) → (times item family_state.uses ≡ owners item family_state.objects) × (times item family_state.uses ≤ 1)
+-- each item of its state has one owner
+pub one-owner : (item : Item) → (times item family_state.uses ≡ owners item family_state.objects) × (times item family_state.uses ≤ 1)
 one-owner (main key) = ⊎_elim (λ (e : bytes_eq key (codes "a") ≡ true). rw e (refl, omega arith)) (λ (e : bytes_eq key (codes "a") ≡ false). rw e (refl, omega arith)) (cases_Bool (bytes_eq key (codes "a")))
 one-owner (part key zero) = ⊎_elim (λ (e : bytes_eq key (codes "a") ≡ true). rw e (refl, omega arith)) (λ (e : bytes_eq key (codes "a") ≡ false). rw e (refl, omega arith)) (cases_Bool (bytes_eq key (codes "a")))
 one-owner (part key (suc n)) = let z : (suc n == 0) ≡ false = grind (arith, nat_tests) in ⊎_elim (λ (e : bytes_eq key (codes "a") ≡ true). rw (e, no-other n part_value, z) (refl, omega arith)) (λ (e : bytes_eq key (codes "a") ≡ false). rw e (refl, omega arith)) (cases_Bool (bytes_eq key (codes "a")))

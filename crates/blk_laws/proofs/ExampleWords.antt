@@ -15,7 +15,7 @@ use Rattle.blk_volume.specs.ListView.{Next, Tail, Transaction}
 use Rattle.blk_volume.specs.Completion.{insert, remove, counts}
 use Rattle.blk_volume.specs.ListPlans.{writes_of, touch_writes, operation_writes, completion_writes}
 use Rattle.blk_volume.specs.View.{list_of, checks_at, next_at, prev_at}
-use Rattle.blk_laws.specs.BareLaws.{new_index_words, new_file_words}
+use Rattle.blk_format.specs.NewFolder.{new_index_words, new_file_words}
 use Rattle.blk_laws.specs.ListLaws.{IsAtRest, CanBeInserted}
 use Rattle.blk_laws.specs.ListSteps.{IsPartly, IsTouched, IsSealed, AreSealed, AreTimes}
 use Rattle.blk_laws.specs.ListWords.{IsWritable, CanBeMade, CompletesTo, CompletesAlike, Rests, IsCompleted, IsStopped, operation_steps, steps_of_touch, completion_steps, stopped_folder}

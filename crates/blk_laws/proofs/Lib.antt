@@ -35,6 +35,10 @@ pub mod AtRest
 pub mod ChainLinks
 pub mod Covers
 pub mod DirtyWords
+pub mod DoomedObjects
+pub mod DoomedChanges
+pub mod OthersHold
+pub mod Dooming
 pub mod Bare
 pub mod NewFolders
 pub mod DamagedViews
@@ -57,7 +61,10 @@ pub mod ExampleLists
 pub mod ExampleKept
 pub mod ExampleFamily
 pub mod ExampleParts
+pub mod ExampleUnsettled
 pub mod ExampleDoomed
+pub mod DoomedFolder
+pub mod ExampleDoom
 pub mod Adding
 pub mod WellFormed
 pub mod Inside

@@ -13,7 +13,7 @@ use Rattle.blk_volume.specs.View.{View, Stock, Named, Core}
 use Rattle.blk_volume.specs.Chains.{chain, bucket_of_hash}
 use Rattle.blk_volume.specs.Loads.{Rule, Loaded, load, all_claims, record_claims}
 use Rattle.blk_volume.specs.Layout.{Layout, rule_of, Represents, changed_at}
-use Rattle.blk_volume.specs.Footprint.{SameNodeLinks, IsClear, SameStock, SameBut}
+use Rattle.blk_volume.specs.Footprint.{SameNodeLinks, IsClear, SameStock, SameBut, IsFreeBut}
 use Rattle.blk_laws.proofs.Loads.{load-then}
 use Rattle.blk_laws.proofs.Loading.{load-from}
 use Rattle.blk_laws.proofs.Shown.{node-is}
@@ -74,54 +74,63 @@ load-marked touched v u same rule w d l any free is contents others ok = load-th
       };
     }))
 
+-- the dirty word of a node of a layout, from the footprint of its write
+module _ (v u : View) (m : State) (y : Layout) (r : Represents v m y) (w0 : ℕ) (l : Loaded) (at : y.at w0 ≡ Some l) (d : ℕ) (same : SameBut (has_claim (claims_of w0)) v u)
+    (named : (n : Named) → v.stock.named w0 ≡ Some n → u.stock.named w0 ≡ Some (record n { dirty = d })) where
+  loads : load v.stock (rule_of y w0) w0 ≡ Ok l
+  loads = r.holds.shows.each w0 l at
+
+  node : l.node ≡ w0
+  node = node-is v.stock (rule_of y w0) w0 l loads
+
+  -- the claims of the node are its own
+  node-own : (c : Claim) → has_claim (claims_of w0) c ≡ true → y.owner c ≡ Some w0
+  unfolding all_claims
+  node-own c h = r.holds.lies.own w0 l c at (claim-append (claims_of l.node) (record_claims l) c ∙ or_left (has_claim (claims_of l.node) c) (has_claim (record_claims l) c) (ap (λ (x : ℕ). has_claim (claims_of x) c) node ∙ h))
+
+  pub node-alone : IsFreeBut w0 (has_claim (claims_of w0)) y
+  node-alone c x own apart = ⊎_elim
+      (λ (e : has_claim (claims_of w0) c ≡ true). let p : y.owner c ≡ Some w0 = node-own c e in let q : y.owner c ≡ Some x = own in let s : w0 ≡ x = cc in
+      absurd (let z : true ≡ false = sym (eq-eqb w0 x s) ∙ apart in cc))
+      (λ (e : has_claim (claims_of w0) c ≡ false). e)
+      (cases_Bool (has_claim (claims_of w0) c))
+
+  -- and none of its record
+  record-clear : (c : Claim) → has_claim (record_claims l) c ≡ true → has_claim (claims_of w0) c ≡ false
+  unfolding all_claims
+  record-clear c h = ⊎_elim
+      (λ (e : has_claim (claims_of w0) c ≡ true).
+      let a : has_claim (record_claims l) c ≡ false = repeats-apart (claims_of l.node) (record_claims l) c (r.holds.lies.single w0 l at) (ap (λ (x : ℕ). has_claim (claims_of x) c) node ∙ e) in
+      absurd (let z : true ≡ false = sym h ∙ a in cc))
+      (λ (e : has_claim (claims_of w0) c ≡ false). e)
+      (cases_Bool (has_claim (claims_of w0) c))
+
+  pub contents-clear : IsClear (has_claim (claims_of w0)) l.contents
+  unfolding record_claims
+  contents-clear c h = record-clear c (claim-append (claims_of l.contents) (flat_map claims_of l.others) c ∙ or_left (has_claim (claims_of l.contents) c) (has_claim (flat_map claims_of l.others) c) h)
+
+  others-clear : (i : ℕ) → IsClear (has_claim (claims_of w0)) (slice_index l.others i)
+  unfolding record_claims
+  others-clear i c h = record-clear c (claim-append (claims_of l.contents) (flat_map claims_of l.others) c ∙ or_right (has_claim (claims_of l.contents) c) (has_claim (flat_map claims_of l.others) c) (index-claims l.others i c h))
+
+  pub loads-marked : load u.stock (rule_of y w0) w0 ≡ Ok (record l { dirty = d })
+  loads-marked = load-marked (has_claim (claims_of w0)) v.stock u.stock same.stock (rule_of y w0) w0 d l refl refl named contents-clear others-clear loads
+
 module _ (v u : View) (m : State) (y : Layout) (r : Represents v m y) (valid : IsValidState m) (number : ℕ) (o : Object) (b : Bool) (here : object_at m number ≡ Some o) (live : o.live ≡ true)
     (l : Loaded) (d : ℕ) (at : y.at (y.place (main o.key)) ≡ Some l) (mark : (d == 0) ≡ b)
     (same : SameBut (has_claim (claims_of (y.place (main o.key)))) v u)
     (named : (n : Named) → v.stock.named (y.place (main o.key)) ≡ Some n → u.stock.named (y.place (main o.key)) ≡ Some (record n { dirty = d }))
     (links : SameNodeLinks (y.place (main o.key)) v.list u.list) where
-  w0 : ℕ
-  w0 = y.place (main o.key)
-
-  loads : load v.stock (rule_of y (y.place (main o.key))) (y.place (main o.key)) ≡ Ok l
-  loads = r.holds.shows.each (y.place (main o.key)) l at
-
-  node : l.node ≡ y.place (main o.key)
-  node = node-is v.stock (rule_of y (y.place (main o.key))) (y.place (main o.key)) l loads
-
-  -- the claims of the node are its own
-  node-own : (c : Claim) → has_claim (claims_of (y.place (main o.key))) c ≡ true → y.owner c ≡ Some (y.place (main o.key))
-  unfolding all_claims
-  node-own c h = r.holds.lies.own (y.place (main o.key)) l c at (claim-append (claims_of l.node) (record_claims l) c ∙ or_left (has_claim (claims_of l.node) c) (has_claim (record_claims l) c) (ap (λ (x : ℕ). has_claim (claims_of x) c) node ∙ h))
-
-  -- and none of its record
-  record-clear : (c : Claim) → has_claim (record_claims l) c ≡ true → has_claim (claims_of (y.place (main o.key))) c ≡ false
-  unfolding all_claims
-  record-clear c h = ⊎_elim
-      (λ (e : has_claim (claims_of (y.place (main o.key))) c ≡ true).
-      let a : has_claim (record_claims l) c ≡ false = repeats-apart (claims_of l.node) (record_claims l) c (r.holds.lies.single (y.place (main o.key)) l at) (ap (λ (x : ℕ). has_claim (claims_of x) c) node ∙ e) in
-      absurd (let z : true ≡ false = sym h ∙ a in cc))
-      (λ (e : has_claim (claims_of (y.place (main o.key))) c ≡ false). e)
-      (cases_Bool (has_claim (claims_of (y.place (main o.key))) c))
-
-  contents-clear : IsClear (has_claim (claims_of (y.place (main o.key)))) l.contents
-  unfolding record_claims
-  contents-clear c h = record-clear c (claim-append (claims_of l.contents) (flat_map claims_of l.others) c ∙ or_left (has_claim (claims_of l.contents) c) (has_claim (flat_map claims_of l.others) c) h)
-
-  others-clear : (i : ℕ) → IsClear (has_claim (claims_of (y.place (main o.key)))) (slice_index l.others i)
-  unfolding record_claims
-  others-clear i c h = record-clear c (claim-append (claims_of l.contents) (flat_map claims_of l.others) c ∙ or_right (has_claim (claims_of l.contents) c) (has_claim (flat_map claims_of l.others) c) (index-claims l.others i c h))
+  clear : IsClear (has_claim (claims_of (y.place (main o.key)))) l.contents
+  clear = contents-clear v u m y r (y.place (main o.key)) l at d same named
 
   pub marked : Represents u (record m { objects = set m.objects number (Some (record o { settled = b })) }) (changed_at y (y.place (main o.key)) (record l { dirty = d }) y.owner)
   marked = replaced (has_claim (claims_of (y.place (main o.key)))) v u m y r (set m.objects number (Some (record o { settled = b }))) (main o.key) l (record l { dirty = d }) y.owner same
       (settle-one m valid number o b here live) (main-listed m valid number o b here live) at (settle-change m valid number o b here live y r.holds.lies l at d mark)
       (record {
-        apart = λ c x own apart. ⊎_elim
-            (λ (e : has_claim (claims_of (y.place (main o.key))) c ≡ true). let p : y.owner c ≡ Some (y.place (main o.key)) = node-own c e in let q : y.owner c ≡ Some x = own in let s : y.place (main o.key) ≡ x = cc in
-            absurd (let z : true ≡ false = sym (eq-eqb (y.place (main o.key)) x s) ∙ apart in cc))
-            (λ (e : has_claim (claims_of (y.place (main o.key))) c ≡ false). e)
-            (cases_Bool (has_claim (claims_of (y.place (main o.key))) c));
-        loads = load-marked (has_claim (claims_of (y.place (main o.key)))) v.stock u.stock same.stock (rule_of y (y.place (main o.key))) (y.place (main o.key)) d l refl refl named contents-clear others-clear loads;
-        bucket = λ n. ap (λ (x : Option Core). option_map_or (λ e. e.checks && (bucket_of_hash e.hash == n)) x false) (sym (same.stock.entry l.contents contents-clear));
-        follow = sym (same.stock.follow l.contents contents-clear);
+        apart = node-alone v u m y r (y.place (main o.key)) l at d same named;
+        loads = loads-marked v u m y r (y.place (main o.key)) l at d same named;
+        bucket = λ n. ap (λ (x : Option Core). option_map_or (λ e. e.checks && (bucket_of_hash e.hash == n)) x false) (sym (same.stock.entry l.contents clear));
+        follow = sym (same.stock.follow l.contents clear);
         links = links;
       })

@@ -61,7 +61,7 @@ module _ (m : State) (y : Layout) (uses : List Item) (names : List (Option ℕ))
     own = r.own;
     single = r.single;
     doomed_objects = λ number o is dead. let d : IsDoomedAt m y number o = r.doomed_objects number o is dead in
-        record { loaded = d.loaded; here = d.here; row = d.row; mark = d.mark; unlisted = same-has y uses m.uses same (y.place_of_doomed number) ∙ d.unlisted };
+        record { loaded = d.loaded; here = d.here; row = d.row; mark = d.mark; unlisted = same-has y uses m.uses same (y.place_of_doomed number) ∙ d.unlisted; alone = λ other x at gone e. d.alone other x at gone e };
   } where
     mark : (i : Item) (l : Loaded) → IsMarked m i l → IsMarked (record m { uses = uses; names = names }) i l
     mark (main key) l x = x

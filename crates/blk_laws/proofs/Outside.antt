@@ -102,7 +102,7 @@ module _ (touched : Claim → Bool) (v u : Stock) (same : SameStock touched v u)
 
   -- ---- chains
 
-  linked-same : (b w : ℕ) (cs : List ℕ) → ((c : ℕ) → is_among cs c ≡ true → IsClear touched c) → Linked v b w cs → Linked u b w cs
+  pub linked-same : (b w : ℕ) (cs : List ℕ) → ((c : ℕ) → is_among cs c ≡ true → IsClear touched c) → Linked v b w cs → Linked u b w cs
   linked-same b w [] clear linked = linked
   linked-same b w (c ∷ cs) clear linked =
       let here : IsClear touched c = clear c (or_left (c == c) (is_among cs c) (eq-eqb c c refl)) in (

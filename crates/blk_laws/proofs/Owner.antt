@@ -5,7 +5,8 @@ use Rattle.std.specs.Option.{option_and_then}
 use Rattle.std.specs.List.{filter_map}
 use Rattle.std.specs.Str.{bytes_eq}
 use Rattle.std.proofs.lemmas.Bool.{and_parts}
-use Rattle.blk_model.specs.Items.{Item, main, part, Row}
+use Rattle.blk_model.specs.Items.{Item, main, part, key_of, Row}
+use Rattle.blk_model.proofs.Same.{same_bytes}
 use Rattle.blk_model.specs.State.{State, Object, IsValidState, object_at, part_at, has_item, slot_has_item}
 use Rattle.blk_model.specs.Holding.{owner, row_in, row_of, settled_row, rest}
 use Rattle.blk_model.specs.Stops.{is_live_and_settled}
@@ -39,8 +40,13 @@ pub live : (o : Object) (i : Item) → has_item o i ≡ true → o.live ≡ true
 live o (main key) h = (and_parts o.live (bytes_eq key o.key) h).0
 live o (part key n) h = (and_parts o.live (bytes_eq key o.key) (and_parts (o.live && bytes_eq key o.key) (is_some (part_at o n)) h).0).0
 
+-- an item has the key of an object that has it
+pub its-key : (o : Object) (i : Item) → has_item o i ≡ true → key_of i ≡ o.key
+its-key o (main key) h = same_bytes key o.key (and_parts o.live (bytes_eq key o.key) h).1
+its-key o (part key n) h = same_bytes key o.key (and_parts o.live (bytes_eq key o.key) (and_parts (o.live && bytes_eq key o.key) (is_some (part_at o n)) h).0).1
+
 -- what is at rest is what is picked of the live settled objects
-settled-picked : (m : State) (i : Item) → settled_row m i ≡ picked_with m (λ number. is_live_and_settled (object_at m number)) i
+pub settled-picked : (m : State) (i : Item) → settled_row m i ≡ picked_with m (λ number. is_live_and_settled (object_at m number)) i
 unfolding settled_row row_of
 settled-picked m i = go (owner m i) refl where
   one : (number : ℕ) (o : Object) → object_at m number ≡ Some o → has_item o i ≡ true → owner m i ≡ Some number

@@ -52,7 +52,7 @@ part_role-is key streams role is = go (not (length (stream 0 streams) == 0)) (na
   go false false (Some name) None is = cc
   go false false (Some name) (Some index) is = one name index ((index.signature == name.signature) && (index.key_len == length name.key) && is_covered index (length (stream 1 streams))) is
 
-role-part : (e : Core) (key : List ℕ) (streams : List (List ℕ)) (role : Role) → role_of e key streams ≡ Some role → (e.flags == child) ≡ is_part_role role
+pub role-part : (e : Core) (key : List ℕ) (streams : List (List ℕ)) (role : Role) → role_of e key streams ≡ Some role → (e.flags == child) ≡ is_part_role role
 unfolding role_of
 role-part e key streams role is =
     ⊎_elim

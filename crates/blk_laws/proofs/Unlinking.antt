@@ -1,17 +1,17 @@
 -- A record taken out of its chain, and a layout without some items.
-use Rattle.std.proofs.Common.{◌≡◌, ℕ, List, [], ◌∷◌, ◌++◌, refl, sym, ◌∙◌, subst, Bool, true, false, Option, ⊎_elim}
+use Rattle.std.proofs.Common.{◌≡◌, ℕ, List, [], ◌∷◌, ◌++◌, refl, sym, ◌∙◌, subst, Bool, true, false, Option, Some, ⊎_elim}
 use Rattle.std.specs.Prelude.{◌&&◌, ◌==◌}
 use Rattle.std.specs.List.{filter}
 use Rattle.std.proofs.lemmas.Bool.{cases_Bool, or_left, or_right, and_parts, eq-eqb}
 use Rattle.blk_model.specs.Items.{Item, main, part}
-use Rattle.blk_model.specs.Holding.{owner_object}
-use Rattle.blk_model.specs.State.{State, Object}
+use Rattle.blk_model.specs.Holding.{owner_object, row_of}
+use Rattle.blk_model.specs.State.{State, Object, object_at}
 use Rattle.blk_format.specs.BlockFiles.{is_among}
 use Rattle.blk_format.specs.Claims.{Claim}
 use Rattle.blk_volume.specs.View.{Stock}
 use Rattle.blk_volume.specs.Chains.{is_of_bucket, Linked}
 use Rattle.blk_volume.specs.Loads.{Loaded}
-use Rattle.blk_volume.specs.Layout.{Layout, is_listed, nodes_of, order, IsMarked, HasParentAt, IsLaid, IsDoomedAt, Lies, is_in}
+use Rattle.blk_volume.specs.Layout.{Layout, is_listed, nodes_of, order, settled_with, IsMarked, HasParentAt, IsLaid, IsDoomedAt, IsListedRecord, Lies, is_in}
 use Rattle.blk_volume.specs.Removal.{without_items, laid_less, ListsLess, HasLess}
 use Rattle.blk_laws.proofs.Laid.{IsNodeOf, node-of, is_among-node}
 use Rattle.blk_laws.proofs.Changing.{mark-same}
@@ -37,9 +37,11 @@ unlink-behind v u b w p c (x ∷ xs) cs bucket front rest link linked = (
       (unlink-behind v u b (v.follow x) p c xs cs (λ z h. bucket z (or_right (x == z) (is_among (xs ++ p ∷ cs) z) h)) (λ z h. front z (or_right (x == z) (is_among xs z) h)) rest link linked.2),
 )
 
--- ---- a layout without some items
+-- ---- a layout without some items, where other objects may be doomed
 
-module _ (m : State) (objects : List (Option Object)) (keep : Item → Bool) (y : Layout) (at : ℕ → Option Loaded) (chains : ℕ → List ℕ) (owner : Claim → Option ℕ) (r : Lies m y) (less : ListsLess m objects keep) (gone : HasLess m objects keep y at chains owner) where
+module _ (m : State) (objects : List (Option Object)) (keep : Item → Bool) (y : Layout) (at : ℕ → Option Loaded) (chains : ℕ → List ℕ) (owner : Claim → Option ℕ) (doomed : ℕ → ℕ) (state : ℕ → ℕ) (r : Lies m y)
+    (rows : (i : Item) → keep i ≡ true → is_listed m i ≡ true → row_of (without_items m objects keep) i ≡ row_of m i) (settled : (key : List ℕ) → keep (main key) ≡ true → settled_with (without_items m objects keep) key ≡ settled_with m key)
+    (closed : (key : List ℕ) (n : ℕ) → keep (part key n) ≡ true → keep (main key) ≡ true) (gone : HasLess m objects keep y at chains owner) where
   kept : (i : Item) → is_in (filter keep m.uses) i ≡ true → (keep i ≡ true) × (is_listed m i ≡ true)
   kept i h = and_parts (keep i) (is_listed m i) (sym (in-filter keep m.uses i) ∙ h)
 
@@ -49,31 +51,50 @@ module _ (m : State) (objects : List (Option Object)) (keep : Item → Bool) (y 
     both a b = rw (a, b) refl
 
   -- a node of a kept item was listed
-  node-kept : (w : ℕ) → is_among (nodes_of y (filter keep m.uses)) w ≡ true → is_among (order m y) w ≡ true
+  pub node-kept : (w : ℕ) → is_among (nodes_of y (filter keep m.uses)) w ≡ true → is_among (order m y) w ≡ true
   node-kept w h = let n : IsNodeOf y (filter keep m.uses) w = node-of y (filter keep m.uses) w h in subst (λ (x : ℕ). is_among (order m y) x ≡ true) n.is (is_among-node y m.uses n.item (kept n.item n.among).1)
 
-  not_kept : (w : ℕ) → is_among (order m y) w ≡ false → is_among (nodes_of y (filter keep m.uses)) w ≡ false
+  pub not_kept : (w : ℕ) → is_among (order m y) w ≡ false → is_among (nodes_of y (filter keep m.uses)) w ≡ false
   not_kept w e = ⊎_elim (λ (h : is_among (nodes_of y (filter keep m.uses)) w ≡ true). absurd (let z : true ≡ false = sym (node-kept w h) ∙ e in cc)) (λ (h : is_among (nodes_of y (filter keep m.uses)) w ≡ false). h) (cases_Bool (is_among (nodes_of y (filter keep m.uses)) w))
 
-  parent-kept : (i : Item) (l : Loaded) → keep i ≡ true → HasParentAt m y i l → HasParentAt (without_items m objects keep) (laid_less y at chains owner) i l
+  next : Layout
+  next = record y { at = at; chains = chains; owner = owner; place_of_doomed = doomed; state = state }
+
+  parent-kept : (i : Item) (l : Loaded) → keep i ≡ true → HasParentAt m y i l → HasParentAt (without_items m objects keep) (record y { at = at; chains = chains; owner = owner; place_of_doomed = doomed; state = state }) i l
   parent-kept (main key) l k p = p
   parent-kept (part key n) l k p =
-      let with_main : keep (main key) ≡ true = less.closed key n k in
+      let with_main : keep (main key) ≡ true = closed key n k in
       record { name = p.name; index = p.index; role = p.role; of_key = p.of_key; listed = still (main key) with_main p.listed; parent = p.parent; at_parent = gone.stays (main key) p.parent with_main p.listed p.at_parent; of = p.of }
 
   mark-kept : (i : Item) (l : Loaded) → keep i ≡ true → IsMarked m i l → IsMarked (without_items m objects keep) i l
-  mark-kept (main key) l k p = mark-same (owner_object (without_items m objects keep) (main key)) (owner_object m (main key)) (l.dirty == 0) (less.settled key k) p
+  mark-kept (main key) l k p = mark-same (owner_object (without_items m objects keep) (main key)) (owner_object m (main key)) (l.dirty == 0) (settled key k) p
   mark-kept (part key n) l k p = p
 
-  pub lies-less : Lies (without_items m objects keep) (laid_less y at chains owner)
-  lies-less = record {
+  pub lies-without : ((w : ℕ) → is_among (nodes_of y (filter keep m.uses)) w ≡ true → state w ≡ 0)
+      → ((number : ℕ) (o : Object) → object_at (without_items m objects keep) number ≡ Some o → o.live ≡ false → IsDoomedAt (without_items m objects keep) (record y { at = at; chains = chains; owner = owner; place_of_doomed = doomed; state = state }) number o)
+      → Lies (without_items m objects keep) (record y { at = at; chains = chains; owner = owner; place_of_doomed = doomed; state = state })
+  lies-without normal dead = record {
     laid = λ i h. let k = kept i h in let q : IsLaid m y i = r.laid i k.1 in
-        record { loaded = q.loaded; here = gone.stays i q.loaded k.0 k.1 q.here; row = less.rows i k.0 k.1 ∙ q.row; mark = mark-kept i q.loaded k.0 q.mark; parent = parent-kept i q.loaded k.0 q.parent };
-    normal = λ w h. r.normal w (node-kept w h);
+        record { loaded = q.loaded; here = gone.stays i q.loaded k.0 k.1 q.here; row = rows i k.0 k.1 ∙ q.row; mark = mark-kept i q.loaded k.0 q.mark; parent = parent-kept i q.loaded k.0 q.parent };
+    normal = normal;
     chained = λ w l h is. gone.chain_stays w l h is (r.chained w l (node-kept w h) (gone.was w l is));
-    unchained = λ b c below h. gone.chain_was b c below h;
+    unchained = λ b c below h. let q : IsListedRecord (without_items m objects keep) (laid_less y at chains owner) c = gone.chain_was b c below h in
+        record { node = q.node; loaded = q.loaded; listed = q.listed; here = q.here; record_is = q.record_is };
     own = λ w l c is h. gone.own w l c is h (r.own w l c (gone.was w l is) h);
     single = λ w l is. r.single w l (gone.was w l is);
-    doomed_objects = λ number o is dead. let d : IsDoomedAt m y number o = r.doomed_objects number o (less.doomed_same number o is dead) dead in
-        record { loaded = d.loaded; here = gone.others (y.place_of_doomed number) d.loaded d.unlisted d.here; row = d.row; mark = d.mark; unlisted = not_kept (y.place_of_doomed number) d.unlisted };
+    doomed_objects = dead;
   }
+
+module _ (m : State) (objects : List (Option Object)) (keep : Item → Bool) (y : Layout) (at : ℕ → Option Loaded) (chains : ℕ → List ℕ) (owner : Claim → Option ℕ) (r : Lies m y) (less : ListsLess m objects keep) (gone : HasLess m objects keep y at chains owner) where
+  pub lies-less : Lies (without_items m objects keep) (laid_less y at chains owner)
+  lies-less = lies-without m objects keep y at chains owner y.place_of_doomed y.state r less.rows less.settled less.closed gone
+      (λ w h. r.normal w (node-kept m objects keep y at chains owner y.place_of_doomed y.state r less.rows less.settled less.closed gone w h))
+      (λ number o is dead. let d : IsDoomedAt m y number o = r.doomed_objects number o (less.doomed_same number o is dead) dead in
+      record {
+        loaded = d.loaded;
+        here = gone.others (y.place_of_doomed number) d.loaded d.unlisted d.here;
+        row = d.row;
+        mark = d.mark;
+        unlisted = not_kept m objects keep y at chains owner y.place_of_doomed y.state r less.rows less.settled less.closed gone (y.place_of_doomed number) d.unlisted;
+        alone = λ other x there gone_too e. d.alone other x (less.doomed_same other x there gone_too) gone_too e;
+      })

@@ -1,28 +1,33 @@
 -- The laws of the changes that commands make: objects in the midst of a change, removals, the dirty word, Open and Create.
-use Rattle.std.specs.Prelude.{◌≡◌, ℕ, ◌<◌, not, ◌&&◌, ◌==◌, List, [], length, map, take, Bool, true, false}
+use Rattle.std.specs.Prelude.{◌≡◌, ◌⊎◌, ℕ, ◌<◌, not, ◌&&◌, ◌==◌, List, [], length, map, take, Bool, true, false}
 use Rattle.std.specs.List.{filter, filter_map}
 use Rattle.std.specs.declared.option.Option.{Option}
 use Rattle.std.specs.declared.option.Option.TheVariants.{None, Some}
 use Rattle.blk_model.specs.Items.{Item, main, key_of}
-use Rattle.blk_model.specs.State.{State, Object, IsValidState, object_at}
+use Rattle.blk_model.specs.State.{State, Object, IsValidState, object_at, has_item, is_named}
 use Rattle.blk_model.specs.Holding.{rest, owner}
 use Rattle.blk_model.specs.Request.{to_open, to_create}
-use Rattle.blk_model.specs.Effects.{with_slot, created}
+use Rattle.blk_model.specs.Effects.{with_slot, created, doomed}
 use Rattle.blk_model.specs.Refusals.{refused, evicted}
 use Rattle.blk_model.specs.Step.{step}
 use Rattle.blk_model.specs.Stops.{StopOutcome, pick}
-use Rattle.blk_format.specs.Claims.{Claim, claims_of, has_claim}
+use Rattle.blk_format.specs.Headers.{table_length}
+use Rattle.blk_format.specs.Records as records
+use Rattle.blk_format.specs.Claims.{Claim, claims_of, has_claim, repeats}
+use Rattle.blk_format.specs.BlockFiles.{is_among}
 use Rattle.blk_volume.specs.ListView.{Distinct, most_nodes, put, after_writes}
 use Rattle.blk_volume.specs.Completion.{insert}
 use Rattle.blk_volume.specs.ListPlans.{writes_of, touch_writes}
-use Rattle.blk_volume.specs.View.{View, Stock, Named}
-use Rattle.blk_volume.specs.Loads.{held, Loaded}
+use Rattle.blk_volume.specs.View.{View, Stock, Named, Core}
+use Rattle.std.specs.declared.result.Result.TheVariants.{Ok}
+use Rattle.blk_volume.specs.Loads.{held, alone, Loaded, load, all_claims}
 use Rattle.blk_volume.specs.Audit.{kept_among, kept_by}
 use Rattle.blk_volume.specs.Found.{row_of, completed}
-use Rattle.blk_volume.specs.Layout.{Layout, is_listed, nodes_of, order, Lies, HoldsBut, IsMidst, Represents, changed_at}
+use Rattle.blk_volume.specs.Layout.{Layout, is_listed, nodes_of, order, rule_of, Lies, HoldsBut, IsMidst, Represents, changed_at, emptied_at, IsDoomedChange}
 use Rattle.blk_volume.specs.Given.{picked_with, IsTest}
-use Rattle.blk_volume.specs.Footprint.{SameBut, IsFree, SameNodeLinks, IsInside}
-use Rattle.blk_volume.specs.Removal.{without_items, laid_less, ListsLess, HasLess}
+use Rattle.blk_volume.specs.Footprint.{IsClear, SameStock, SameBut, SameBeside, OnlyLinksChange, IsFree, IsFreeBut, IsOnlyRecord, SameNodeLinks, IsInside, KeepsName}
+use Rattle.blk_volume.specs.Removal.{without_items, laid_less, ListsLess, HasLess, HasChains, is_of_another, laid_doomed}
+use Rattle.blk_laws.specs.ListLaws.{IsAtRest}
 use Rattle.blk_volume.specs.Creation.{IsNewEntry, IsFrontOfChain, with_new, linked_front}
 
 -- In the midst of a change.
@@ -32,10 +37,10 @@ abbrev pub UnsettledObjectsMayChange : Type 0
 UnsettledObjectsMayChange = (hole : ℕ → Bool) (stock : Stock) (state : State) (layout : Layout) → HoldsBut hole stock state layout → IsValidState state → (key : List ℕ) → IsMidst hole stock state layout key → Distinct (order state layout)
     → map row_of (kept_among stock held (order state layout)) ≡ rest state
 
--- at any moment of a change inside the footprint of an unsettled object, what is kept is what is at rest
+-- at any moment of a change inside the footprint of a node of an unsettled object, its main item's or a part's, what is kept is what is at rest
 abbrev pub EachMomentIsAtRest : Type 0
-EachMomentIsAtRest = (touched : Claim → Bool) (old new : View) (state : State) (layout : Layout) → Represents old state layout → IsValidState state → (number : ℕ) (object : Object) → object_at state number ≡ Some object → object.live ≡ true → object.settled ≡ false
-    → (loaded : Loaded) → layout.at (layout.place (main object.key)) ≡ Some loaded → SameBut touched old new → IsInside touched old new layout (layout.place (main object.key)) loaded → map row_of (kept_by held (completed new)) ≡ rest state
+EachMomentIsAtRest = (touched : Claim → Bool) (old new : View) (state : State) (layout : Layout) → Represents old state layout → IsValidState state → (number : ℕ) (object : Object) (item : Item) → object_at state number ≡ Some object → has_item object item ≡ true → object.settled ≡ false
+    → (loaded : Loaded) → layout.at (layout.place item) ≡ Some loaded → SameBut touched old new → IsInside touched old new layout (layout.place item) loaded → KeepsName old.stock new.stock item loaded.contents → map row_of (kept_by held (completed new)) ≡ rest state
 
 -- Removals.
 
@@ -94,6 +99,128 @@ RestBeforeTurning = (state : State) → IsValidState state → (number : ℕ) (o
 abbrev pub RestAfterTurning : Type 0
 RestAfterTurning = (state : State) → IsValidState state → (number : ℕ) (object : Object) (settled : Bool) (names : List (Option ℕ)) → object_at state number ≡ Some object → object.live ≡ true
     → rest (turned state number object settled names) ≡ pick state (turned state number object settled names) (not object.settled && settled) state.uses
+
+-- Doomed objects.
+
+-- the object of a number, doomed, lies at its node as this
+pub record LiesAsDoomed (state : State) (layout : Layout) (number : ℕ) (object : Object) (loaded : Loaded) : Type 0 where
+  pub here : object_at state number ≡ Some object
+  pub dead : object.live ≡ false
+  pub at : layout.at (layout.place_of_doomed number) ≡ Some loaded
+
+-- something else at the node of a doomed object is laid out for the state with another doomed object
+abbrev pub ChangedDoomedObjectsAreLaid : Type 0
+ChangedDoomedObjectsAreLaid = (state : State) (layout : Layout) → Lies state layout → (number : ℕ) (object other : Object) (was now : Loaded) (owner : Claim → Option ℕ) → LiesAsDoomed state layout number object was
+    → IsDoomedChange layout (layout.place_of_doomed number) other now owner → Lies (with_slot number (Some other) state) (changed_at layout (layout.place_of_doomed number) now owner)
+
+-- and where it changed inside the footprint of its node, it is represented
+abbrev pub ChangedDoomedObjectsAreRepresented : Type 0
+ChangedDoomedObjectsAreRepresented = (touched : Claim → Bool) (old new : View) (state : State) (layout : Layout) → Represents old state layout → (number : ℕ) (object other : Object) (was now : Loaded) (owner : Claim → Option ℕ) → LiesAsDoomed state layout number object was
+    → SameBut touched old new → IsFreeBut (layout.place_of_doomed number) touched layout → load new.stock (rule_of layout (layout.place_of_doomed number)) (layout.place_of_doomed number) ≡ Ok now → IsDoomedChange layout (layout.place_of_doomed number) other now owner
+    → Represents new (with_slot number (Some other) state) (changed_at layout (layout.place_of_doomed number) now owner)
+
+-- at any moment of a change there, also where its record is torn, what is kept is what is at rest
+abbrev pub EachDoomedMomentIsAtRest : Type 0
+EachDoomedMomentIsAtRest = (touched : Claim → Bool) (old new : View) (state : State) (layout : Layout) → Represents old state layout → IsValidState state → (number : ℕ) (object : Object) → object_at state number ≡ Some object → object.live ≡ false
+    → SameBut touched old new → IsFreeBut (layout.place_of_doomed number) touched layout → map row_of (kept_by held (completed new)) ≡ rest state
+
+-- and once it is gone, the state without it is represented
+abbrev pub GoneDoomedObjectsAreRepresented : Type 0
+GoneDoomedObjectsAreRepresented = (touched : Claim → Bool) (old new : View) (state : State) (layout : Layout) → Represents old state layout → (number : ℕ) (object : Object) (was : Loaded) (owner : Claim → Option ℕ) → LiesAsDoomed state layout number object was
+    → SameBut touched old new → IsFreeBut (layout.place_of_doomed number) touched layout → ((claim : Claim) (node : ℕ) → layout.owner claim ≡ Some node → (layout.place_of_doomed number == node) ≡ false → owner claim ≡ Some node)
+    → Represents new (with_slot number None state) (emptied_at layout (layout.place_of_doomed number) owner)
+
+-- the dirty word of a doomed object's node settles it where it is 0, and unsettles it where it is not
+abbrev pub DoomedDirtyWordsSettle : Type 0
+DoomedDirtyWordsSettle = (view : View) (state : State) (layout : Layout) → Represents view state layout → (number : ℕ) (object : Object) (loaded : Loaded) → LiesAsDoomed state layout number object loaded
+    → (named : Named) (dirty : ℕ) → view.stock.named (layout.place_of_doomed number) ≡ Some named
+    → Represents (record view { stock = record view.stock { named = put view.stock.named (layout.place_of_doomed number) (Some (record named { dirty = dirty })) } }) (marked state number object (dirty == 0))
+    (dirtied layout (layout.place_of_doomed number) loaded dirty)
+
+-- the same from the footprint of the write
+abbrev pub WrittenDoomedDirtyWordsSettle : Type 0
+WrittenDoomedDirtyWordsSettle = (old new : View) (state : State) (layout : Layout) → Represents old state layout → (number : ℕ) (object : Object) (loaded : Loaded) → LiesAsDoomed state layout number object loaded
+    → (dirty : ℕ) → SameBut (has_claim (claims_of (layout.place_of_doomed number))) old new
+    → ((named : Named) → old.stock.named (layout.place_of_doomed number) ≡ Some named → new.stock.named (layout.place_of_doomed number) ≡ Some (record named { dirty = dirty }))
+    → Represents new (marked state number object (dirty == 0)) (dirtied layout (layout.place_of_doomed number) loaded dirty)
+
+-- Records that stay while others change or go.
+
+-- of what represents a state, some nodes may be left out
+abbrev pub RepresentedHoldBut : Type 0
+RepresentedHoldBut = (hole : ℕ → Bool) (view : View) (state : State) (layout : Layout) → Represents view state layout → HoldsBut hole view.stock state layout
+
+-- and more of them
+abbrev pub MoreMayBeLeftOut : Type 0
+MoreMayBeLeftOut = (hole more : ℕ → Bool) (stock : Stock) (state : State) (layout : Layout) → HoldsBut hole stock state layout → ((node : ℕ) → hole node ≡ true → more node ≡ true) → HoldsBut more stock state layout
+
+-- a change that touches none of the others, and no record of a chain, leaves the others
+abbrev pub OthersHoldOutside : Type 0
+OthersHoldOutside = (touched : Claim → Bool) (hole : ℕ → Bool) (old new : Stock) (state : State) (layout : Layout) → HoldsBut hole old state layout → SameStock touched old new → ((bucket : ℕ) → old.table bucket ≡ new.table bucket)
+    → ((claim : Claim) (node : ℕ) → layout.owner claim ≡ Some node → hole node ≡ false → touched claim ≡ false) → ((bucket contents : ℕ) → bucket < table_length → is_among (layout.chains bucket) contents ≡ true → IsClear touched contents)
+    → HoldsBut hole new state layout
+
+-- so does the change of the link of a record, or of a word of the table, with the chains that there are then
+abbrev pub OthersHoldUnlinked : Type 0
+OthersHoldUnlinked = (hole : ℕ → Bool) (old new : Stock) (state : State) (layout : Layout) → HoldsBut hole old state layout → (word : ℕ) → OnlyLinksChange word old new → IsOnlyRecord word layout
+    → (chains : ℕ → List ℕ) → HasChains hole new state layout chains → HoldsBut hole new state (record layout { chains = chains })
+
+-- the word of a record of a chain is such a word
+abbrev pub ChainedRecordsAreOnlyRecords : Type 0
+ChainedRecordsAreOnlyRecords = (state : State) (layout : Layout) → Lies state layout → (bucket contents : ℕ) → bucket < table_length → is_among (layout.chains bucket) contents ≡ true → IsOnlyRecord contents layout
+
+-- one record, chained or not, loads as before where none of its blocks is touched
+abbrev pub RecordsStayOutside : Type 0
+RecordsStayOutside = (touched : Claim → Bool) (old new : Stock) (state node : ℕ) (loaded : Loaded) → load old (alone state) node ≡ Ok loaded → SameStock touched old new → ((claim : Claim) → has_claim (all_claims loaded) claim ≡ true → touched claim ≡ false)
+    → load new (alone state) node ≡ Ok loaded
+
+-- and where the link of it or of a record in other blocks changes
+abbrev pub RecordsStayUnlinked : Type 0
+RecordsStayUnlinked = (old new : Stock) (state node word : ℕ) (loaded : Loaded) → load old (alone state) node ≡ Ok loaded → repeats (all_claims loaded) ≡ false → OnlyLinksChange word old new
+    → (loaded.contents ≡ word) ⊎ ((claim : Claim) → has_claim (all_claims loaded) claim ≡ true → has_claim (claims_of word) claim ≡ false) → load new (alone state) node ≡ Ok loaded
+
+-- one of which only the state is written loads as one of that state
+abbrev pub RecordsOfAnotherStateLoad : Type 0
+RecordsOfAnotherStateLoad = (old new : Stock) (before after node : ℕ) (loaded : Loaded) (core : Core) → load old (alone before) node ≡ Ok loaded → repeats (all_claims loaded) ≡ false → SameBeside loaded.contents old new
+    → old.entry loaded.contents ≡ Some core → new.entry loaded.contents ≡ Some (record core { state = after }) → load new (alone after) node ≡ Ok loaded
+
+-- Dooms.
+
+-- while all items are listed, and their records are there, what is kept is what is at rest
+abbrev pub ListedItemsAreAtRest : Type 0
+ListedItemsAreAtRest = (hole : ℕ → Bool) (stock : Stock) (state : State) (layout : Layout) → HoldsBut hole stock state layout → IsValidState state → Distinct (order state layout) → ((item : Item) → is_listed state item ≡ true → hole (layout.place item) ≡ false)
+    → map row_of (kept_among stock held (order state layout)) ≡ rest state
+
+-- once the main item of an object is out of the list, what is kept is what is at rest after its doom, whether its parts are still listed or not
+abbrev pub DoomsKeepTheOthers : Type 0
+DoomsKeepTheOthers = (hole : ℕ → Bool) (stock : Stock) (state : State) (layout : Layout) → HoldsBut hole stock state layout → IsValidState state → (number : ℕ) (object : Object) → object_at state number ≡ Some object
+    → (keep : Item → Bool) → keep (main object.key) ≡ false → ((item : Item) → is_of_another object.key item ≡ true → keep item ≡ true) → Distinct (nodes_of layout (filter keep state.uses)) → ((item : Item) → is_listed state item ≡ true → keep item ≡ true → hole (layout.place item) ≡ false)
+    → map row_of (kept_among stock held (nodes_of layout (filter keep state.uses))) ≡ rest (doomed number state (Some object))
+
+-- the object of a number, live and held by a handle, is doomed: what the layout has at its main item's node stays, and what it has of the object's parts goes
+pub record IsDoomedNow (state : State) (layout : Layout) (number : ℕ) (object : Object) (loaded : Loaded) (at : ℕ → Option Loaded) (chains : ℕ → List ℕ) (owner : Claim → Option ℕ) : Type 0 where
+  pub lies : LiesAsLive state layout number object loaded
+  pub named : is_named state number ≡ true
+  pub less : HasLess state (doomed number state (Some object)).objects (is_of_another object.key) layout at chains owner
+  pub stays : at (layout.place (main object.key)) ≡ Some loaded
+
+-- so the layout with its node as that of a doomed object is laid out for the state after the doom
+abbrev pub DoomedIsLaid : Type 0
+DoomedIsLaid = (state : State) (layout : Layout) → Lies state layout → IsValidState state → (number : ℕ) (object : Object) (loaded : Loaded) (at : ℕ → Option Loaded) (chains : ℕ → List ℕ) (owner : Claim → Option ℕ)
+    → IsDoomedNow state layout number object loaded at chains owner → Lies (doomed number state (Some object)) (laid_doomed layout number (layout.place (main object.key)) at chains owner)
+
+-- and represented, once the others stay in the list and in the chains, and the object's record has state 2
+abbrev pub DoomedIsRepresented : Type 0
+DoomedIsRepresented = (hole : ℕ → Bool) (view : View) (state : State) (layout : Layout) → Lies state layout → IsValidState state → (number : ℕ) (object : Object) (loaded : Loaded) (at : ℕ → Option Loaded) (chains : ℕ → List ℕ) (owner : Claim → Option ℕ)
+    → IsDoomedNow state layout number object loaded at chains owner → HoldsBut hole view.stock state (record layout { chains = chains }) → ((node : ℕ) (other : Loaded) → at node ≡ Some other → hole node ≡ true → layout.place (main object.key) ≡ node)
+    → load view.stock (alone records.doomed) (layout.place (main object.key)) ≡ Ok loaded → IsAtRest view.list (nodes_of layout (filter (is_of_another object.key) state.uses))
+    → Represents view (doomed number state (Some object)) (laid_doomed layout number (layout.place (main object.key)) at chains owner)
+
+-- Handles.
+
+-- which handles there are is not shown
+abbrev pub HandlesAreNotShown : Type 0
+HandlesAreNotShown = (view : View) (state : State) (layout : Layout) → Represents view state layout → (names : List (Option ℕ)) → Represents view (record state { names = names }) layout
 
 -- Open.
 

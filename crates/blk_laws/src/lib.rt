@@ -6,7 +6,7 @@
 ghost use Rattle.blk_laws.specs.AllocationLaws.{SoundFilesAreAllocated, StoodForFilesAreAllocated};
 ghost use Rattle.blk_laws.specs.BareLaws.{NothingRepresentsTheEmptyState, BareFoldersHoldNothing, BareFoldersAreSound, BareFoldersRepresentTheEmptyState, BareFoldersStandForTheEmptyState, NewFoldersAreBare};
 ghost use Rattle.blk_laws.specs.ByteLaws.{CoveredChangesStayInside, BlocksAreCovered, ExternalFilesAreCovered, HeadersNeedNoCover, HiddenWordsNeedNoCover, CoversOfLess, MoreCovers, CoversOfEither, AgreeingImagesShowTheSame, CoveredChangesAgree, GrowthIsPastTheBlocks, SameLinksLinkTheSame, AgreementGoesOn, AgreementButMore, LongerFilesHaveGrown, GrowthKeepsStates};
-ghost use Rattle.blk_laws.specs.CommandLaws.{UnsettledObjectsMayChange, EachMomentIsAtRest, RemovalsKeepTheOthers, LessIsLaid, DirtyWordsSettle, WrittenDirtyWordsSettle, RestBeforeTurning, RestAfterTurning, OpensAtEachWrite, OpensEnd, CreatesAtEachWrite, CreatesEnd, CreatesLeaveTheRest, CreatesMayLeaveWhatWas};
+ghost use Rattle.blk_laws.specs.CommandLaws.{UnsettledObjectsMayChange, EachMomentIsAtRest, RemovalsKeepTheOthers, LessIsLaid, DirtyWordsSettle, WrittenDirtyWordsSettle, ChangedDoomedObjectsAreLaid, ChangedDoomedObjectsAreRepresented, EachDoomedMomentIsAtRest, GoneDoomedObjectsAreRepresented, DoomedDirtyWordsSettle, WrittenDoomedDirtyWordsSettle, RepresentedHoldBut, MoreMayBeLeftOut, OthersHoldOutside, OthersHoldUnlinked, ChainedRecordsAreOnlyRecords, RecordsStayOutside, RecordsStayUnlinked, RecordsOfAnotherStateLoad, ListedItemsAreAtRest, DoomsKeepTheOthers, DoomedIsLaid, DoomedIsRepresented, HandlesAreNotShown, RestBeforeTurning, RestAfterTurning, OpensAtEachWrite, OpensEnd, CreatesAtEachWrite, CreatesEnd, CreatesLeaveTheRest, CreatesMayLeaveWhatWas};
 ghost use Rattle.blk_laws.specs.KeptLaws.{KeptAreTheGiven, NoneOfTheGivenIsDropped, LeavingOutKeepsTheSame, SameKeyIsOneChain, OnlyCandidatesAreKept, SameCandidatesHoldTheSame};
 ghost use Rattle.blk_laws.specs.ListLaws.{WalksAreTheLists, InsertsTurnAtTwo, InsertsEnd, RemovalsTurnAtTwo, RemovalsEnd, TouchesTurnAtTwo, TouchesEnd, CompletingAgainIsTheSame, CompletionsEnd, ChainsAreTheirRecords, RecordsAreLinkedInFront, OtherChainsStay, FirstRecordsAreUnlinked, LaterRecordsAreUnlinked};
 ghost use Rattle.blk_laws.specs.StateLaws.{WalksAreTheOrder, ListedAreTheRows, NothingListedIsDropped, RepresentedChainsEnd, KeptAreAtRest, FoundIsAtRest, RepresentedStatesAreShown, RepresentedStatesAreStoodFor, LaidIsShown, KeptArePicked, FreeFootprintsKeepStates, ChangedItemsAreLaid, ChangedItemsAreRepresented};
@@ -150,6 +150,41 @@ pub fn removals_keep_the_others()
 pub fn dirty_words_settle()
     ensures put { DirtyWordsSettle }
     ensures written { WrittenDirtyWordsSettle }
+{}
+
+/// A doomed object may change at its node, and its dirty word settles and unsettles it, and it may go; at each moment what is kept is what is at rest.
+pub fn doomed_objects_change()
+    ensures laid { ChangedDoomedObjectsAreLaid }
+    ensures represented { ChangedDoomedObjectsAreRepresented }
+    ensures moments { EachDoomedMomentIsAtRest }
+    ensures gone { GoneDoomedObjectsAreRepresented }
+    ensures put { DoomedDirtyWordsSettle }
+    ensures written { WrittenDoomedDirtyWordsSettle }
+{}
+
+/// While some records are in the midst of a change or gone, the others stay through changes of what is not theirs and of links.
+pub fn others_hold_meanwhile()
+    ensures begin { RepresentedHoldBut }
+    ensures more { MoreMayBeLeftOut }
+    ensures outside { OthersHoldOutside }
+    ensures unlinked { OthersHoldUnlinked }
+    ensures only { ChainedRecordsAreOnlyRecords }
+    ensures record_outside { RecordsStayOutside }
+    ensures record_unlinked { RecordsStayUnlinked }
+    ensures state { RecordsOfAnotherStateLoad }
+{}
+
+/// While an object is doomed what is kept is what is at rest before or after it; in the end its node is that of a doomed object, and the new state is laid out and represented.
+pub fn dooms_keep_the_others()
+    ensures before { ListedItemsAreAtRest }
+    ensures after { DoomsKeepTheOthers }
+    ensures laid { DoomedIsLaid }
+    ensures represented { DoomedIsRepresented }
+{}
+
+/// Which handles there are is not shown.
+pub fn handles_are_not_shown()
+    ensures { HandlesAreNotShown }
 {}
 
 /// What is at rest before and after an object is settled or unsettled is picked by that.

@@ -1,7 +1,8 @@
 -- Two views that agree outside a footprint: some blocks and external numbers; and which bytes of files these cover.
-use Rattle.std.specs.Prelude.{◌≡◌, ℕ, ◌+◌, ◌<◌, ◌≤◌, Bool, true, false, ◌&&◌, ◌||◌, nat_le, nat_lt, ◌==◌}
+use Rattle.std.specs.Prelude.{◌≡◌, ◌⊎◌, ℕ, ◌+◌, ◌<◌, ◌≤◌, Bool, true, false, ◌&&◌, ◌||◌, nat_le, nat_lt, ◌==◌}
 use Rattle.std.specs.declared.option.Option.TheVariants.{Some}
 use Rattle.std.specs.declared.result.Result.TheVariants.{Ok}
+use Rattle.blk_model.specs.Items.{Item, main, part}
 use Rattle.blk_image.specs.Image.{Index, Block, External, Image}
 use Rattle.blk_image.specs.Footprint.{Footprint}
 use Rattle.blk_format.specs.Address.{block_place}
@@ -10,7 +11,7 @@ use Rattle.blk_format.specs.BlockFiles.{linked_as}
 use Rattle.blk_volume.specs.ListView.{ListView}
 use Rattle.blk_volume.specs.View.{View, Stock, Core}
 use Rattle.blk_volume.specs.Chains.{is_of_bucket}
-use Rattle.blk_volume.specs.Entries.{is_key_length, longest_short_key}
+use Rattle.blk_volume.specs.Entries.{is_key_length, key_of, longest_short_key}
 use Rattle.blk_volume.specs.Loads.{Loaded, load}
 use Rattle.blk_volume.specs.Layout.{Layout, rule_of}
 
@@ -40,6 +41,19 @@ pub record SameBut (touched : Claim → Bool) (old new : View) : Type 0 where
   pub links : SameLinks touched old.list new.list
   pub stock : SameStock touched old.stock new.stock
   pub table : (bucket : ℕ) → old.stock.table bucket ≡ new.stock.table bucket
+
+-- The records that stay when one is written.
+
+-- beside the record of a word: what the nodes say, its own key, and the keys and data in other blocks than its own are the same
+pub record SameBeside (w : ℕ) (old new : Stock) : Type 0 where
+  pub named : (u : ℕ) → old.named u ≡ new.named u
+  pub key_place : (u : ℕ) (core : Core) → IsClear (has_claim (claims_of w)) u ⊎ (u ≡ w) → old.entry u ≡ Some core → is_key_length u core ≡ true → nat_le core.key_len longest_short_key ≡ true → old.key_place u core.key_len ≡ new.key_place u core.key_len
+  pub stored : (size u : ℕ) → IsClear (has_claim (claims_of w)) u → old.stored size u ≡ new.stored size u
+
+-- no record changes but for its link: that of the record of a word may, and the table
+pub record OnlyLinksChange (w : ℕ) (old new : Stock) : Type 0 where
+  pub beside : SameBeside w old new
+  pub entry : (u : ℕ) → old.entry u ≡ new.entry u
 
 -- The bytes of files that a footprint of blocks covers.
 
@@ -74,6 +88,10 @@ IsFree touched layout = (claim : Claim) (node : ℕ) → layout.owner claim ≡ 
 abbrev pub IsFreeBut : ℕ → (Claim → Bool) → Layout → Type 0
 IsFreeBut node touched layout = (claim : Claim) (other : ℕ) → layout.owner claim ≡ Some other → (node == other) ≡ false → touched claim ≡ false
 
+-- whoever has a block of a word has its record there
+abbrev pub IsOnlyRecord : ℕ → Layout → Type 0
+IsOnlyRecord w layout = (claim : Claim) (node : ℕ) (loaded : Loaded) → has_claim (claims_of w) claim ≡ true → layout.owner claim ≡ Some node → layout.at node ≡ Some loaded → loaded.contents ≡ w
+
 -- a node checks as before, with its links as before
 pub record SameNodeLinks (node : ℕ) (old new : ListView) : Type 0 where
   pub checks : old.checks node ≡ new.checks node
@@ -95,3 +113,8 @@ pub record IsInside (touched : Claim → Bool) (old new : View) (layout : Layout
   pub bucket : (bucket : ℕ) → is_of_bucket new.stock bucket loaded.contents ≡ is_of_bucket old.stock bucket loaded.contents
   pub follow : new.stock.follow loaded.contents ≡ old.stock.follow loaded.contents
   pub links : SameNodeLinks node old.list new.list
+
+-- the record of a part keeps its flags and its key, wherever its streams are; of a main item's nothing is asked
+abbrev pub KeepsName : Stock → Stock → Item → ℕ → Type 0
+KeepsName old new (main key) contents = Unit {0}
+KeepsName old new (part key n) contents = (was now : Core) → old.entry contents ≡ Some was → new.entry contents ≡ Some now → (now.flags ≡ was.flags) × (key_of new contents now ≡ key_of old contents was)

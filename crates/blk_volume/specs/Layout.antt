@@ -85,13 +85,14 @@ pub record IsLaid (state : State) (layout : Layout) (item : Item) : Type 0 where
   pub mark : IsMarked state item loaded
   pub parent : HasParentAt state layout item loaded
 
--- a doomed object lies at its node
+-- a doomed object lies at its node, and no other does
 pub record IsDoomedAt (state : State) (layout : Layout) (number : ℕ) (object : Object) : Type 0 where
   pub loaded : Loaded
   pub here : layout.at (layout.place_of_doomed number) ≡ Some loaded
   pub row : row_of loaded ≡ main_row object.key object.shape object.streams
   pub mark : (loaded.dirty == 0) ≡ object.settled
   pub unlisted : is_among (order state layout) (layout.place_of_doomed number) ≡ false
+  pub alone : (other : ℕ) (object : Object) → object_at state other ≡ Some object → object.live ≡ false → layout.place_of_doomed other ≡ layout.place_of_doomed number → other ≡ number
 
 -- a record of a chain is that of a listed node
 pub record IsListedRecord (state : State) (layout : Layout) (contents : ℕ) : Type 0 where
@@ -172,3 +173,16 @@ pub record IsChange (state : State) (objects : List (Option Object)) (layout : L
   pub own : (claim : Claim) → has_claim (all_claims now) claim ≡ true → owner claim ≡ Some (layout.place item)
   pub others : (claim : Claim) (node : ℕ) → layout.owner claim ≡ Some node → (layout.place item == node) ≡ false → owner claim ≡ Some node
   pub single : repeats (all_claims now) ≡ false
+
+-- what is to be shown of something else at the node of a doomed object, which is this afterwards
+pub record IsDoomedChange (layout : Layout) (node : ℕ) (object : Object) (now : Loaded) (owner : Claim → Option ℕ) : Type 0 where
+  pub dead : object.live ≡ false
+  pub row : row_of now ≡ main_row object.key object.shape object.streams
+  pub mark : (now.dirty == 0) ≡ object.settled
+  pub own : (claim : Claim) → has_claim (all_claims now) claim ≡ true → owner claim ≡ Some node
+  pub others : (claim : Claim) (other : ℕ) → layout.owner claim ≡ Some other → (node == other) ≡ false → owner claim ≡ Some other
+  pub single : repeats (all_claims now) ≡ false
+
+-- the layout with nothing at one node, and other owners
+abbrev pub emptied_at : Layout → ℕ → (Claim → Option ℕ) → Layout
+emptied_at layout node owner = record layout { at = put layout.at node None; owner = owner }

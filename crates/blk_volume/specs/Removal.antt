@@ -1,16 +1,20 @@
--- A state and a layout without some items.
-use Rattle.std.specs.Prelude.{◌≡◌, ℕ, ◌<◌, List, Bool, true, false}
+-- A state and a layout without some items, or with one of their objects doomed.
+use Rattle.std.specs.Prelude.{◌≡◌, ℕ, ◌<◌, List, Bool, true, false, not}
+use Rattle.std.specs.Str.{bytes_eq}
 use Rattle.std.specs.List.{filter}
 use Rattle.std.specs.declared.option.Option.{Option}
 use Rattle.std.specs.declared.option.Option.TheVariants.{Some}
-use Rattle.blk_model.specs.Items.{Item, main, part}
+use Rattle.blk_model.specs.Items.{Item, main, part, key_of}
 use Rattle.blk_model.specs.State.{State, Object, object_at}
 use Rattle.blk_model.specs.Holding as model
 use Rattle.blk_format.specs.Hash.{hash}
 use Rattle.blk_format.specs.Headers.{table_length}
+use Rattle.blk_format.specs.Records as records
 use Rattle.blk_format.specs.Claims.{Claim, has_claim}
 use Rattle.blk_format.specs.BlockFiles.{is_among}
-use Rattle.blk_volume.specs.Chains.{bucket_of_hash}
+use Rattle.blk_volume.specs.ListView.{put}
+use Rattle.blk_volume.specs.View.{Stock}
+use Rattle.blk_volume.specs.Chains.{bucket_of_hash, IsChain}
 use Rattle.blk_volume.specs.Loads.{Loaded, all_claims}
 use Rattle.blk_volume.specs.Layout.{Layout, settled_with, is_listed, nodes_of, order, IsListedRecord}
 
@@ -37,3 +41,18 @@ pub record HasLess (state : State) (objects : List (Option Object)) (keep : Item
   pub chain_stays : (node : ℕ) (loaded : Loaded) → is_among (nodes_of layout (filter keep state.uses)) node ≡ true → at node ≡ Some loaded → is_among (layout.chains (bucket_of_hash (hash loaded.key))) loaded.contents ≡ true → is_among (chains (bucket_of_hash (hash loaded.key))) loaded.contents ≡ true
   pub chain_was : (bucket contents : ℕ) → bucket < table_length → is_among (chains bucket) contents ≡ true → IsListedRecord (without_items state objects keep) (laid_less layout at chains owner) contents
   pub own : (node : ℕ) (loaded : Loaded) (claim : Claim) → at node ≡ Some loaded → has_claim (all_claims loaded) claim ≡ true → layout.owner claim ≡ Some node → owner claim ≡ Some node
+
+-- An object that is doomed.
+
+-- the items of other keys stay
+abbrev pub is_of_another : List ℕ → Item → Bool
+is_of_another key item = not (bytes_eq key (key_of item))
+
+-- the layout without some items, where a node is that of the doomed object of a number, with a record of state 2
+abbrev pub laid_doomed : Layout → ℕ → ℕ → (ℕ → Option Loaded) → (ℕ → List ℕ) → (Claim → Option ℕ) → Layout
+laid_doomed layout number node at chains owner = record (laid_less layout at chains owner) { place_of_doomed = put layout.place_of_doomed number node; state = put layout.state node records.doomed }
+
+-- whole chains, in which the records of the nodes that stay are
+pub record HasChains (hole : ℕ → Bool) (stock : Stock) (state : State) (layout : Layout) (chains : ℕ → List ℕ) : Type 0 where
+  pub whole : (bucket : ℕ) → bucket < table_length → IsChain stock bucket (chains bucket)
+  pub chained : (node : ℕ) (loaded : Loaded) → is_among (order state layout) node ≡ true → layout.at node ≡ Some loaded → hole node ≡ false → is_among (chains (bucket_of_hash (hash loaded.key))) loaded.contents ≡ true

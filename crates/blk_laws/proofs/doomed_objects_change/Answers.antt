@@ -1,0 +1,12 @@
+use Rattle.blk_laws.proofs.DoomedChanges.{changed-doomed-lies, changed-doomed, doomed-rest, gone-doomed, doomed-settles, written-doomed-settles}
+use Rattle.blk_laws.proofs.doomed_objects_change.Goals as goal
+
+pub returns : goal.returns
+returns c = record {
+  laid = changed-doomed-lies;
+  represented = changed-doomed;
+  moments = doomed-rest;
+  gone = gone-doomed;
+  put = doomed-settles;
+  written = written-doomed-settles;
+}

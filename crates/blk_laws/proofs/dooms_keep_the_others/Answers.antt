@@ -1,0 +1,11 @@
+use Rattle.blk_laws.proofs.DoomedObjects.{listed-rest}
+use Rattle.blk_laws.proofs.Dooming.{dooms-keep, doomed-is-laid, doomed-is-represented}
+use Rattle.blk_laws.proofs.dooms_keep_the_others.Goals as goal
+
+pub returns : goal.returns
+returns c = record {
+  before = listed-rest;
+  after = dooms-keep;
+  laid = doomed-is-laid;
+  represented = doomed-is-represented;
+}
