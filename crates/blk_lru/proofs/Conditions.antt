@@ -12,9 +12,7 @@ use Rattle.blk_disk.specs.Tables.{Agrees}
 use Rattle.blk_volume.specs.Walk.{walk}
 use Rattle.blk_volume.specs.Completion.{completed_list}
 use Rattle.blk_laws.specs.ListLaws.{IsAtRest}
-use Rattle.blk_laws.proofs.ListMoments.{walk_outcome}
-use Rattle.blk_laws.proofs.ListWrites.{rested, outcome_done}
-use Rattle.blk_laws.proofs.Walks.{walk_list}
+use Rattle.blk_laws.proofs.ListMoments.{walk_at_rest}
 use Rattle.blk_lru.specs.Lists.{IsListed, first_of}
 use Rattle.blk_laws.specs.ListWords.{Rests, walked}
 use Rattle.blk_lru.specs.Nodes.{is_node, link_at}
@@ -71,10 +69,7 @@ prev_names files image node agrees stands is =
 
 -- completing a list at rest gives it
 pub rested_walk : (list : ListView) (nodes : List ℕ) → IsAtRest list nodes → walk (completed_list list) ≡ nodes
-rested_walk list nodes rest = walk_outcome list ∙ ap walk (outcome_done list rest.idle) ∙ walk_list (rested list) nodes (same rest.whole)
-  where
-    same : IsList list nodes → IsList (rested list) nodes
-    same is = record { head_is = is.head_is; tail_is = is.tail_is; linked = is.linked; distinct = is.distinct; few = is.few; no_zero = is.no_zero }
+rested_walk list nodes rest = walk_at_rest list nodes rest.idle rest.whole
 
 -- the list around a listed node
 pub around : (node : ℕ) (image : Image) → IsListed node image → (front : List ℕ) × (behind : List ℕ) × Rests (front ++ node ∷ behind) image

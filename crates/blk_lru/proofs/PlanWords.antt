@@ -103,4 +103,3 @@ whole_is code node next prev head list n p h =
 pub none_word : (o : Option ℕ) → ((w : ℕ) → o ≡ Some w → ⊥) → word_or_zero o ≡ 0
 none_word None never = refl
 none_word (Some w) never = absurd (never w refl)
-
