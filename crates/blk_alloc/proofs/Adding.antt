@@ -1,8 +1,7 @@
 -- A file that is added: it has no blocks and no allocations, and all others are as they were.
-use Rattle.std.proofs.Common.{◌≡◌, ◌≢◌, ℕ, suc, ◌+◌, ◌*◌, ◌/◌, ◌%◌, ◌<◌, ◌≤◌, inr, List, [], ◌∷◌, length, Bool, true, false, ◌&&◌, ◌||◌, if◌then◌else◌, nat_le, nat_lt, Option, None, Some, unwrap_or, refl, sym, ◌∙◌, ap, arith, ⊎_elim}
+use Rattle.std.proofs.Common.{◌≡◌, ◌≢◌, ℕ, suc, ◌+◌, ◌*◌, ◌/◌, ◌%◌, ◌<◌, ◌≤◌, inr, List, [], ◌∷◌, length, Bool, true, false, ◌&&◌, ◌||◌, nat_le, nat_lt, Option, Some, unwrap_or, refl, sym, ◌∙◌, ap, arith}
 use Rattle.std.specs.Prelude.{◌==◌}
 use Rattle.std.specs.Int.{bit_at}
-use Rattle.std.proofs.lemmas.Bool.{cases_eq}
 use Rattle.std.proofs.lemmas.Bool.Decides.{nat_tests}
 use Rattle.std.proofs.lemmas.Nat.Bits.{bit_at-zero}
 use Rattle.std.proofs.lemmas.List.Elements.{All-nil}
@@ -14,7 +13,7 @@ use Rattle.blk_image.proofs.Splices.{content-zeros}
 use Rattle.blk_format.specs.Address.{block_size}
 use Rattle.blk_format.specs.Headers.{empty_of, allocations_of, max_entries_of, block_magic, version}
 use Rattle.blk_format.specs.Claims.{has_claim, is_in_file, repeats}
-use Rattle.blk_format.specs.BlockFiles.{is_among, type_among, max_entries_in, stands_in}
+use Rattle.blk_format.specs.BlockFiles.{is_among, max_entries_in, stands_in}
 use Rattle.blk_format.specs.Maps.{is_marked, groups_with, groups_of, AreAllocations, EmptyAgrees}
 use Rattle.blk_disk.specs.declared.tables.BlockFiles.{BlockFiles}
 use Rattle.blk_disk.specs.Tables.{Agrees, Joins, files_of, all_files}
@@ -30,6 +29,7 @@ use Rattle.blk_format.proofs.SpareHeaders.{other_file}
 use Rattle.blk_format.proofs.Among.{is_among_more}
 use Rattle.blk_alloc.specs.Making.{HasCounters, HasNoHints, KeepsFiles}
 use Rattle.blk_alloc.proofs.Changing.{byte_beside}
+use Rattle.blk_alloc.proofs.Kept.{apart, join_larger, types_kept}
 use Rattle.blk_alloc.proofs.Widening.{Widens, allocations_more, mark_kept}
 
 -- past its first fields a new header has zeros
@@ -83,12 +83,6 @@ module _ (mid : Image) (kind n : ℕ) (file : mid (Block n) ≡ Some (new_header
 
 module _ (old new : BlockFiles) (from mid : Image) (kind n last : ℕ) (free : is_among (all_files old) n ≡ false) (joins : Joins old new kind n 0 8192)
     (same : SameOutside (either (whole (Block n)) (range (Block last) 10 2)) from mid) where
-  apart : (f : ℕ) → is_among (all_files old) f ≡ true → f ≢ n
-  apart f there e = clash (sym there ∙ ap (is_among (all_files old)) e ∙ free)
-    where
-      clash : true ≡ false → ⊥
-      clash c = cc
-
   spared : (f i : ℕ) → f ≢ n → 12 ≤ i → (either (whole (Block n)) (range (Block last) 10 2)).bytes (Block f) i ≡ false
   spared f i differs past = ap (λ (t : Bool). t || (same_file (Block last) (Block f) && (nat_le 10 i && nat_lt i 12))) (other_file n f differs) ∙ by_test (same_file (Block last) (Block f))
     where
@@ -97,31 +91,11 @@ module _ (old new : BlockFiles) (from mid : Image) (kind n last : ℕ) (free : i
       by_test false = refl
 
   kept : (f i : ℕ) → is_among (all_files old) f ≡ true → 12 ≤ i → byte mid (Block f) i ≡ byte from (Block f) i
-  kept f i there past = same.bytes (Block f) i (spared f i (apart f there) past)
-
-  -- a file that was there is of its types alone
-  types_kept : (f j : ℕ) → f ≢ n → is_among (files_of new j) f ≡ is_among (files_of old j) f
-  types_kept f j differs = ⊎_elim here (λ other. ap (λ (l : List ℕ). is_among l f) (joins.others j other)) (cases_eq j kind)
-    where
-      here : j ≡ kind → is_among (files_of new j) f ≡ is_among (files_of old j) f
-      here e =
-          let test : (n == f) ≡ false = grind (arith, nat_tests) in
-          ap (λ (k : ℕ). is_among (files_of new k) f) e ∙ ap (λ (l : List ℕ). is_among l f) joins.last ∙ is_among_more (files_of old kind) n f
-          ∙ ap (λ (t : Bool). is_among (files_of old kind) f || t) test ∙ or_false (is_among (files_of old kind) f) ∙ ap (λ (k : ℕ). is_among (files_of old k) f) (sym e)
-        where
-          or_false : (t : Bool) → (t || false) ≡ t
-          or_false true = refl
-          or_false false = refl
-
-  type_kept : (f : ℕ) → f ≢ n → type_among (files_of new) f ≡ type_among (files_of old) f
-  unfolding type_among
-  type_kept f differs = λ j. if types_kept f 1 differs j then Some 1 else if types_kept f 2 differs j then Some 2 else if types_kept f 3 differs j then Some 3 else if types_kept f 4 differs j then Some 4 else None
+  kept f i there past = same.bytes (Block f) i (spared f i (apart old new kind n free joins f there) past)
 
   pub join_widens : Widens old new from mid
   join_widens = record {
-    types = λ f there. type_kept f (apart f there);
-    blocks = λ f there. let e = joins.other_blocks f (apart f there) in omega (arith, e);
-    lengths = λ f there. let e = joins.other_lengths f (apart f there) in omega (arith, e);
+    tables = join_larger old new kind n free joins;
     externals = λ m. same.files (External m) refl;
     marks = λ f b there. mark_kept from mid f b (kept f (80 + b / 8) there (omega arith));
     allocations = λ f there j. kept f 16 there (omega arith) j + 256 * kept f 17 there (omega arith) j + 65536 * kept f 18 there (omega arith) j + 16777216 * kept f 19 there (omega arith) j;
@@ -146,7 +120,7 @@ module _ (old new : BlockFiles) (from mid : Image) (kind n last : ℕ) (free : i
   -- it is among all files as it was
   pub all_kept : (f : ℕ) → is_among (all_files old) f ≡ true → is_among (all_files new) f ≡ true
   all_kept f there =
-      among_types new f ∙ (λ j. types_kept f 1 (apart f there) j || types_kept f 2 (apart f there) j || types_kept f 3 (apart f there) j || types_kept f 4 (apart f there) j) ∙ sym (among_types old f) ∙ there
+      among_types new f ∙ (λ j. types_kept old new kind n free joins f 1 (apart old new kind n free joins f there) j || types_kept old new kind n free joins f 2 (apart old new kind n free joins f there) j || types_kept old new kind n free joins f 3 (apart old new kind n free joins f there) j || types_kept old new kind n free joins f 4 (apart old new kind n free joins f there) j) ∙ sym (among_types old f) ∙ there
 
   -- the new file is among those of its type
   pub new_among : is_among (files_of new kind) n ≡ true

@@ -1,11 +1,12 @@
 -- Files that are lengthened to their blocks, one after another.
 use Rattle.std.proofs.Common.{◌≡◌, ◌≢◌, ℕ, ◌+◌, ◌*◌, ◌<◌, ◌≤◌, List, true, false, max, refl, sym, ◌∙◌, ap, ap₂, subst, arith, ⊎_elim}
-use Rattle.std.proofs.lemmas.Bool.{cases_eq}
+use Rattle.std.proofs.lemmas.Bool.{cases_eq, cases_lt}
 use Rattle.blk_format.specs.Address.{header_size}
 use Rattle.blk_format.specs.BlockFiles.{is_among, type_among}
 use Rattle.blk_disk.specs.declared.tables.BlockFiles.{BlockFiles}
 use Rattle.blk_disk.specs.Tables.{files_of, all_files, blocks_of, length_in, Resizes}
 use Rattle.blk_disk.specs.Growth.{size_as, whole_length}
+use Rattle.blk_alloc.proofs.Kept.{IsLarger}
 
 -- the files whose numbers are below one are as long as they are to be, and all others as before
 pub record HasFitted (old new : BlockFiles) (count : ℕ) : Type 0 where
@@ -53,3 +54,11 @@ none_more old mid n apart before = record {
   where
     clash : true ≡ false → ⊥
     clash e = cc
+
+-- what stood among the files still does
+pub fitted_larger : (old new : BlockFiles) (count : ℕ) → HasFitted old new count → IsLarger old new
+fitted_larger old new count fitted = record {
+  types = λ f there j. type_among (λ kind. fitted.files kind j) f;
+  blocks = λ f there. let e = fitted.blocks f in omega (arith, e);
+  lengths = λ f there. ⊎_elim (λ (below : f < count). let e = fitted.done f below there in omega (arith, e)) (λ high. let e = fitted.rest f high in omega (arith, e)) (cases_lt f count);
+}

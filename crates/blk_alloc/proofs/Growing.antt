@@ -2,7 +2,7 @@
 use Rattle.std.proofs.Common.{◌≡◌, ◌≢◌, ℕ, zero, suc, ◌+◌, ◌*◌, ◌/◌, ◌%◌, ◌<◌, ◌≤◌, ◌⊎◌, inl, inr, List, [], ◌∷◌, max, Bool, true, false, ◌&&◌, ◌||◌, nat_le, nat_lt, refl, sym, ◌∙◌, ap, ap₂, subst, arith, ⊎_elim}
 use Rattle.std.specs.Prelude.{◌==◌}
 use Rattle.std.specs.List.{All, count_by, range_with_len}
-use Rattle.std.proofs.lemmas.Bool.{cases_eq, cases_lt}
+use Rattle.std.proofs.lemmas.Bool.{cases_lt}
 use Rattle.std.proofs.lemmas.Bool.Decides.{nat_tests}
 use Rattle.blk_image.specs.Image.{Image, Block, External, same_file, byte}
 use Rattle.blk_image.specs.Footprint.{SameOutside}
@@ -10,7 +10,7 @@ use Rattle.blk_image.proofs.Footprints.{same_word_outside}
 use Rattle.blk_format.specs.Address.{file_selector, first_block, block_count, kind_of, external}
 use Rattle.blk_format.specs.Claims.{BlockOf, claims_of, claims_of_all, has_claim, is_in_file}
 use Rattle.blk_format.specs.Headers.{empty_of}
-use Rattle.blk_format.specs.BlockFiles.{is_among, type_among, max_entries_in, stands_in, most_blocks}
+use Rattle.blk_format.specs.BlockFiles.{is_among, max_entries_in, stands_in, most_blocks}
 use Rattle.blk_format.specs.Maps.{is_marked, are_free, has_run, longest_run, groups_with, groups_of, AreAllocations, EmptyAgrees}
 use Rattle.blk_disk.specs.declared.tables.BlockFiles.{BlockFiles}
 use Rattle.blk_disk.specs.Tables.{Agrees, Enlarges, all_files, blocks_of, length_in}
@@ -21,6 +21,7 @@ use Rattle.blk_alloc.specs.Owning.{is_of}
 use Rattle.blk_alloc.proofs.Groups.{longest_run-same, count-same, counted_most, first_counted, one}
 use Rattle.blk_alloc.proofs.Lists.{claims_blocks}
 use Rattle.blk_alloc.proofs.Standing.{StandsHere, stands_here}
+use Rattle.blk_alloc.proofs.Kept.{grow_larger}
 use Rattle.blk_alloc.proofs.Widening.{Widens, mark_kept}
 
 -- what growth spares: the map, and num_entries
@@ -34,18 +35,13 @@ map_spared n f i place = by_test (same_file (Block n) (Block f))
 module _ (old new : BlockFiles) (from mid : Image) (n : ℕ) (enlarges : Enlarges old new n (grown (blocks_of old n)) (max (length_in old n) (grown_length old n))) (below : blocks_of old n < most_blocks) (same : SameOutside (growth_of n) from mid) where
   pub grow_widens : Widens old new from mid
   grow_widens = record {
-    types = λ f there j. type_among (λ kind. enlarges.files kind j) f;
-    blocks = λ f there. ⊎_elim (λ (here : f ≡ n). let e : blocks_of new f ≡ grown (blocks_of old f) = ap (blocks_of new) here ∙ enlarges.blocks_there ∙ ap (λ (k : ℕ). grown (blocks_of old k)) (sym here) in let less : blocks_of old f < 64896 = ap_less f n here below in omega (arith, e, less)) (λ differs. let e = enlarges.other_blocks f differs in omega (arith, e)) (cases_eq f n);
-    lengths = λ f there. ⊎_elim (λ (here : f ≡ n). let e : length_in new f ≡ max (length_in old f) (grown_length old f) = ap (length_in new) here ∙ enlarges.size_there ∙ ap (λ (k : ℕ). max (length_in old k) (grown_length old k)) (sym here) in omega (arith, e)) (λ differs. let e = enlarges.other_lengths f differs in omega (arith, e)) (cases_eq f n);
+    tables = grow_larger old new n enlarges below;
     externals = λ m. same.files (External m) refl;
     marks = λ f b there. mark_kept from mid f b (same.bytes (Block f) (80 + b / 8) (map_spared n f (80 + b / 8) (inl (omega arith))));
     allocations = λ f there j.
         same.bytes (Block f) 16 (map_spared n f 16 (inr (omega arith, omega arith))) j + 256 * same.bytes (Block f) 17 (map_spared n f 17 (inr (omega arith, omega arith))) j
         + 65536 * same.bytes (Block f) 18 (map_spared n f 18 (inr (omega arith, omega arith))) j + 16777216 * same.bytes (Block f) 19 (map_spared n f 19 (inr (omega arith, omega arith))) j;
   }
-    where
-      ap_less : (f m : ℕ) → f ≡ m → blocks_of old m < 64896 → blocks_of old f < 64896
-      ap_less f m e h = subst (λ (k : ℕ). blocks_of old k < 64896) (sym e) h
 
 pub in_file : (w n : ℕ) → is_in_file n w ≡ true → (kind_of w ≢ external) × (file_selector w ≡ n)
 unfolding is_in_file

@@ -11,6 +11,7 @@ pub mod Standing
 pub mod Freed
 pub mod Pieces
 pub mod Members
+pub mod Kept
 pub mod Widening
 pub mod Taken
 pub mod TakenBlocks

@@ -11,11 +11,11 @@ use Rattle.blk_image.specs.Steps.{after}
 use Rattle.blk_image.specs.Told.{Told, PassesTo}
 use Rattle.blk_image.specs.Footprint.{SameOutside, IsWithin, either}
 use Rattle.blk_image.proofs.Footprints.{outside-trans, outside_wider, within_left, within_right, within_both}
-use Rattle.blk_format.specs.Address.{external, file_selector, block_word}
+use Rattle.blk_format.specs.Address.{external, file_selector, block_count, block_word, kind_of}
 use Rattle.blk_format.specs.Headers.{allocations_of}
 use Rattle.blk_format.specs.BlockFiles.{is_among, max_entries_in}
 use Rattle.blk_format.specs.Maps.{is_marked, are_free, AreAllocations}
-use Rattle.blk_format.proofs.Words.{file_selector-block_word}
+use Rattle.blk_format.proofs.Words.{AreFields, file_selector-block_word, kind_of-block_word, block_count-block_word}
 use Rattle.blk_addr.specs.declared.kinds.Kind.{Kind}
 use Rattle.blk_addr.specs.Kind.{kind_number}
 use Rattle.blk_io.specs.declared.fault.Fault.{Fault}
@@ -133,6 +133,15 @@ word_file files k count place some is =
     let group = is.group in
     let counted = is.counted in
     file_selector-block_word (kind_number k) place.file place.start place.count (record { kind = kind_small k; file = is.number; start = omega (arith, small); some = omega (arith, some, counted); most = omega (arith, group, counted) })
+
+-- the type and the number of blocks of an address of a place
+pub word_kind : (files : BlockFiles) (k : Kind) (count : ℕ) (place : Blocks) → 0 < count → IsPlace files (kind_number k) count place → (kind_of (block_word (kind_number k) place.file place.start place.count) ≡ kind_number k) × (block_count (block_word (kind_number k) place.file place.start place.count) ≡ count)
+word_kind files k count place some is =
+    let small = is.small in
+    let group = is.group in
+    let counted = is.counted in
+    let fields : AreFields (kind_number k) place.file place.start place.count = record { kind = kind_small k; file = is.number; start = omega (arith, small); some = omega (arith, some, counted); most = omega (arith, group, counted) } in
+    (kind_of-block_word (kind_number k) place.file place.start place.count fields, block_count-block_word (kind_number k) place.file place.start place.count fields ∙ counted)
 
 -- blocks that are taken where room was made are given
 pub given_made : (old new : BlockFiles) (from mid image : Image) (place : Blocks) (w : ℕ) → file_selector w ≡ place.file → KeepsAll old new → IsMade old from place mid → IsTaken new mid w image → IsGiven old from w image

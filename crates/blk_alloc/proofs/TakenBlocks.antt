@@ -71,8 +71,8 @@ module _ (old new : BlockFiles) (from mid : Image) (k : Kind) (w : ℕ)
   unfolding stands_as_blocks
   taken_stands =
       let type : is_linked_as (type_among (files_of new) n) (kind_of w) ≡ true =
-      ap (λ (o : Option ℕ). is_linked_as o (kind_of w)) (widens.types n all_there ∙ type_is old from k n blocky before there) ∙ (let e = kind in grind (arith, nat_tests)) in
-      let fits : nat_le (first_block w + block_count w) (blocks_of new n) ≡ true = (let count = before.blocks n all_there in let more = widens.blocks n all_there in grind (arith, nat_tests)) in
+      ap (λ (o : Option ℕ). is_linked_as o (kind_of w)) (widens.tables.types n all_there ∙ type_is old from k n blocky before there) ∙ (let e = kind in grind (arith, nat_tests)) in
+      let fits : nat_le (first_block w + block_count w) (blocks_of new n) ≡ true = (let count = before.blocks n all_there in let more = widens.tables.blocks n all_there in grind (arith, nat_tests)) in
       let inside : nat_le (place w + room w) (length_in new n) ≡ true = (let e = ends_inside in grind (arith, nat_tests)) in
       rw (type, fits, inside) refl
 

@@ -16,8 +16,8 @@ use Rattle.blk_disk.specs.Tables.{all_files, blocks_of, files_of}
 use Rattle.blk_disk.specs.Growth.{IsLeastFree, addition_of, free_number, growth_of}
 use Rattle.blk_alloc.specs.declared.blocks.Blocks.{Blocks}
 use Rattle.blk_alloc.specs.Owning.{is_of, IsCause, KeepsFile}
-use Rattle.blk_alloc.specs.Fitting.{HasNoRoom, IsFirstFit, IsShortOf}
-use Rattle.blk_alloc.specs.Taking.{taking_of, IsTakeable, IsTaken, IsTaking}
+use Rattle.blk_alloc.specs.Fitting.{HasNoRoom, IsFirstFit, IsPlace, IsShortOf}
+use Rattle.blk_alloc.specs.Taking.{taking_of, IsAstray, IsTakeable, IsTaken, IsTaking}
 use Rattle.blk_alloc.specs.Making.{HasMostBlocks, HasNoHints, IsFirstGrowing, KeepsFiles, KeepsMarks}
 
 -- What is asked of the files.
@@ -139,6 +139,12 @@ pub record IsCauseOf (files : BlockFiles) (kind : ℕ) (told : Told) (damage : D
   pub small : start < most_blocks
   pub cause : IsCause told file start true damage
 
--- why no blocks are given: a damaged header, which may be that of a file that was added, a map that was too short where room was sought, or files that were full
+-- the blocks of one of the files of a type that were to be taken don't stand
+pub record IsAstrayOf (files : BlockFiles) (kind : ℕ) (damage : Damage) : Type 0 where
+  pub place : Blocks
+  pub is : IsPlace files kind place.count place
+  pub astray : IsAstray files kind place damage
+
+-- why no blocks are given: a damaged header, which may be that of a file that was added, a map that was too short where room was sought, files that were full, or blocks that don't stand
 abbrev pub IsRefusal : BlockFiles → BlockFiles → ℕ → Told → Damage → Type 0
-IsRefusal old new kind told damage = IsCauseOf new kind told damage ⊎ IsShortOf old kind told damage ⊎ IsFull old kind told damage
+IsRefusal old new kind told damage = IsCauseOf new kind told damage ⊎ IsShortOf old kind told damage ⊎ IsFull old kind told damage ⊎ IsAstrayOf new kind damage

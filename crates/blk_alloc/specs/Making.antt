@@ -6,7 +6,7 @@ use Rattle.blk_format.specs.Headers.{allocations_of, hints_of}
 use Rattle.blk_format.specs.BlockFiles.{is_among, most_blocks}
 use Rattle.blk_format.specs.Maps.{is_marked, AreAllocations, EmptyAgrees}
 use Rattle.blk_disk.specs.declared.tables.BlockFiles.{BlockFiles}
-use Rattle.blk_disk.specs.Tables.{all_files, blocks_of}
+use Rattle.blk_disk.specs.Tables.{all_files, blocks_of, stands_among}
 use Rattle.blk_alloc.specs.Counting.{largest}
 use Rattle.blk_alloc.specs.Owning.{KeepsFile}
 
@@ -32,6 +32,10 @@ KeepsMarks files from image = (n b : ℕ) → is_among (all_files files) n ≡ t
 -- each file that is kept is kept still
 abbrev pub KeepsAll : BlockFiles → BlockFiles → Type 0
 KeepsAll old new = (n : ℕ) → is_among (all_files old) n ≡ true → is_among (all_files new) n ≡ true
+
+-- each address that stands among the old files stands among the new ones
+abbrev pub KeepsStanding : BlockFiles → BlockFiles → Type 0
+KeepsStanding old new = (w : ℕ) → stands_among old w ≡ true → stands_among new w ≡ true
 
 -- a file has as many blocks as a file can have
 abbrev pub HasMostBlocks : BlockFiles → ℕ → Type 0

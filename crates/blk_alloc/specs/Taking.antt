@@ -2,12 +2,14 @@
 use Rattle.std.specs.Prelude.{◌≡◌, ◌≢◌, ◌⊎◌, ℕ, ◌<◌, List, ◌∷◌, true, false, if◌then◌else◌}
 use Rattle.blk_image.specs.Image.{Block, Image, byte}
 use Rattle.blk_image.specs.Footprint.{Footprint, SameOutside, either, one_word, size_of}
-use Rattle.blk_format.specs.Address.{file_selector}
+use Rattle.blk_format.specs.Address.{block_word, file_selector}
 use Rattle.blk_format.specs.Headers.{updating_of}
 use Rattle.blk_format.specs.BlockFiles.{is_among, most_blocks}
 use Rattle.blk_format.specs.Maps.{is_marked, are_free, AreAllocations, EmptyAgrees}
+use Rattle.blk_io.specs.declared.folder.FileId.TheVariants as names
+use Rattle.blk_io.specs.declared.fault.Damage.{Damage}
 use Rattle.blk_disk.specs.declared.tables.BlockFiles.{BlockFiles}
-use Rattle.blk_disk.specs.Tables.{all_files}
+use Rattle.blk_disk.specs.Tables.{all_files, blocks_of, stands_among}
 use Rattle.blk_alloc.specs.declared.blocks.Blocks.{Blocks}
 use Rattle.blk_alloc.specs.Changes.{map_of, updating_place, IsReady}
 use Rattle.blk_alloc.specs.Owning.{is_of}
@@ -36,3 +38,14 @@ pub record IsTaken (files : BlockFiles) (from : Image) (w : ℕ) (image : Image)
   pub empty : EmptyAgrees image (file_selector w)
   pub empty_elsewhere : (n : ℕ) → n ≢ file_selector w → EmptyAgrees from n → EmptyAgrees image n
   pub updating : updating_of (byte image (Block (file_selector w))) ≡ 0
+
+-- the place of the number of blocks in a header
+abbrev pub blocks_place : ℕ
+blocks_place = 20
+
+-- blocks of a type don't stand among the files: the damage has the place of their file's number of blocks, and finds what is kept of it
+pub record IsAstray (files : BlockFiles) (kind : ℕ) (place : Blocks) (damage : Damage) : Type 0 where
+  pub astray : stands_among files (block_word kind place.file place.start place.count) ≡ false
+  pub of_file : damage.file ≡ names.Block place.file
+  pub at : damage.at ≡ blocks_place
+  pub found : damage.found ≡ blocks_of files place.file

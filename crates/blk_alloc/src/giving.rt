@@ -4,7 +4,7 @@ ghost use Rattle.std.specs.List.{All};
 ghost use Rattle.std.specs.Option.{ForSome};
 ghost use Rattle.blk_image.specs.Told.{Passes, PassesTo, Rises, Stays};
 ghost use Rattle.blk_format.specs.Address as address;
-ghost use Rattle.blk_format.specs.Address.{external, rankings};
+ghost use Rattle.blk_format.specs.Address.{block_count, external, kind_of, rankings};
 ghost use Rattle.blk_format.specs.BlockFiles.{most_files, IsWellFormed};
 ghost use Rattle.blk_format.specs.Maps.{group_size};
 ghost use Rattle.blk_addr.specs.Kind.{kind_number};
@@ -13,7 +13,7 @@ ghost use Rattle.blk_disk.specs.Growth.{KeepsBlocks};
 ghost use Rattle.blk_disk.specs.Tables.{Agrees, files_of, stands_among};
 ghost use Rattle.blk_alloc.specs.Owning.{KeepsExternals};
 ghost use Rattle.blk_alloc.specs.Fitting.{IsPlace};
-ghost use Rattle.blk_alloc.specs.Making.{HasMostBlocks, KeepsAll};
+ghost use Rattle.blk_alloc.specs.Making.{HasMostBlocks, KeepsAll, KeepsStanding};
 ghost use Rattle.blk_alloc.specs.Giving.{AreCounted, HaveNoRoom, IsAddedPlace, IsChosen, IsFitTaken, IsFull, IsGiven, IsGiving, IsGrownPlace, IsMade, IsMaking, IsMakingIn, IsRefusal};
 
 use crate::blocks::Blocks;
@@ -71,6 +71,7 @@ fn new_room<F: Folder>(
     ensures made { IfOk result (λ place. ForSome (F.told f.old).files (λ from. ForSome (F.told f.new).files (IsMade files.old from place))) }
     ensures making { IfOk result (λ place. ForSome (F.told f.old).files (λ from. ForSome (F.told f.new).files (IsMakingIn files.old (kind_number kind) from place.file))) }
     ensures all { OnOk result (KeepsAll files.old files.new) }
+    ensures standing { KeepsStanding files.old files.new }
     ensures agrees { OnOk result (ForSome (F.told f.new).files (Agrees files.new)) }
     ensures stops { ForSome (F.told f.old).files (λ from. Passes (F.told f.old) (F.told f.new) (IsMaking files.old (kind_number kind) from)) }
     ensures blocks { ForSome (F.told f.old).files (λ from. Passes (F.told f.old) (F.told f.new) (KeepsBlocks from)) }
@@ -108,7 +109,9 @@ fn take_new<F: Folder>(
     requires counted { ForSome (F.told f.old).files (AreCounted files.old (kind_number kind)) }
     requires full { ForSome (F.told f.old).files (HaveNoRoom files.old (kind_number kind) count) }
     ensures chosen { IfOk result (λ addr. ForSome (F.told f.old).files (λ from. IsChosen files.old from (kind_number kind) count addr)) }
-    ensures stands { IfOk result (λ addr. ForSome (F.told f.old).files (λ _. IsTrue (stands_among files.new addr))) }
+    ensures kind { IfOk result (λ addr. (kind_of addr ≡ kind_number kind) × (block_count addr ≡ count)) }
+    ensures stands { IfOk result (λ addr. IsTrue (stands_among files.new addr)) }
+    ensures keeps { KeepsStanding files.old files.new }
     ensures given { IfOk result (λ addr. ForSome (F.told f.old).files (λ from. ForSome (F.told f.new).files (IsGiven files.old from addr))) }
     ensures agrees { OnOk result (ForSome (F.told f.new).files (Agrees files.new)) }
     ensures stops { ForSome (F.told f.old).files (λ from. Passes (F.told f.old) (F.told f.new) (IsMaking files.old (kind_number kind) from)) }
@@ -131,7 +134,8 @@ fn take_new<F: Folder>(
 /// 64896 blocks grows, and where there is none, a file is added and grows; the new blocks are given.
 ///
 /// A damage is a read of a file's header that gave too few bytes, a counter that would leave its
-/// range, or 60 full files of the kind; then it finds the last word of the last map. With at most 655362
+/// range, or 60 full files of the kind; then it finds the last word of the last map. Where the blocks
+/// don't stand among the files, it has the place of their file's number of blocks. With at most 655362
 /// allocations of the kind all of these need a folder that tells nothing.
 pub fn allocate<F: Folder>(
     f: &mut F,
@@ -146,9 +150,13 @@ pub fn allocate<F: Folder>(
     requires agrees { ForSome (F.told f.old).files (Agrees files.old) }
     requires counted { ForSome (F.told f.old).files (AreCounted files.old (kind_number kind)) }
 
+    // In any case: the blocks are of the kind, as many as asked for, and stand, and what stood still does.
+    ensures kind { IfOk result (λ addr. (kind_of addr ≡ kind_number kind) × (block_count addr ≡ blocks)) }
+    ensures stands { IfOk result (λ addr. IsTrue (stands_among files.new addr)) }
+    ensures keeps { KeepsStanding files.old files.new }
+
     // The first fit, or where no file of the kind has room, the first blocks of a growth, and of a new file only where none may grow.
     ensures chosen { IfOk result (λ addr. ForSome (F.told f.old).files (λ from. IsChosen files.old from (kind_number kind) blocks addr)) }
-    ensures stands { IfOk result (λ addr. ForSome (F.told f.old).files (λ _. IsTrue (stands_among files.new addr))) }
     ensures given { IfOk result (λ addr. ForSome (F.told f.old).files (λ from. ForSome (F.told f.new).files (IsGiven files.old from addr))) }
     ensures agrees { OnOk result (ForSome (F.told f.new).files (Agrees files.new)) }
 

@@ -10,7 +10,7 @@ ghost use Rattle.blk_format.specs.Maps.{group_size, AreAllocations};
 ghost use Rattle.blk_disk.specs.Tables.{Agrees, blocks_of, files_of};
 ghost use Rattle.blk_disk.specs.Growth.{IsLeastFree, KeepsBlocks, addition_of, free_number, growth_of};
 ghost use Rattle.blk_alloc.specs.Fitting.{IsPlace};
-ghost use Rattle.blk_alloc.specs.Making.{HasCounters, HasNoHints, IsGrowing, KeepsAll, KeepsFiles, KeepsMarks};
+ghost use Rattle.blk_alloc.specs.Making.{HasCounters, HasNoHints, IsGrowing, KeepsAll, KeepsFiles, KeepsMarks, KeepsStanding};
 ghost use Rattle.blk_alloc.specs.Taking.{IsTakeable};
 
 use crate::blocks::Blocks;
@@ -40,6 +40,7 @@ pub(crate) fn grow_room<F: Folder>(
     ensures place { IfOk result (λ place. (place.file ≡ file) × (place.start ≡ blocks_of files.old file / 4 * 4) × (place.count ≡ count)) }
     ensures fits { IfOk result (IsPlace files.new (kind_number kind) count) }
     ensures all { OnOk result (KeepsAll files.old files.new) }
+    ensures standing { KeepsStanding files.old files.new }
     ensures marks { OnOk result (ForSome (F.told f.old).files (λ from. ForSome (F.told f.new).files (KeepsMarks files.old from))) }
     ensures takeable { IfOk result (λ place. ForSome (F.told f.old).files (λ from. ForSome (F.told f.new).files (λ image. IsTakeable image place))) }
     ensures keeps { OnOk result (ForSome (F.told f.old).files (λ from. ForSome (F.told f.new).files (KeepsFiles files.old from))) }
@@ -72,6 +73,7 @@ pub(crate) fn add_room<F: Folder>(
     ensures place { IfOk result (λ place. (place.file ≡ free_number files.old) × (place.start ≡ 0) × (place.count ≡ count)) }
     ensures fits { IfOk result (IsPlace files.new (kind_number kind) count) }
     ensures all { OnOk result (KeepsAll files.old files.new) }
+    ensures standing { KeepsStanding files.old files.new }
     ensures marks { OnOk result (ForSome (F.told f.old).files (λ from. ForSome (F.told f.new).files (KeepsMarks files.old from))) }
     ensures fresh { OnOk result (ForSome (F.told f.old).files (λ from. ForSome (F.told f.new).files (λ image. AreAllocations image (free_number files.old) []))) }
     ensures hints { OnOk result (ForSome (F.told f.old).files (λ from. ForSome (F.told f.new).files (λ image. HasNoHints image (free_number files.old)))) }

@@ -9,8 +9,9 @@ ghost use Rattle.blk_format.specs.Maps.{groups_of, groups_with, map_place};
 ghost use Rattle.blk_addr.specs.Bits.{has_bit};
 ghost use Rattle.blk_io.specs.Faults.{IfDamaged, IfDevice};
 ghost use Rattle.blk_disk.specs.Growth.{KeepsBlocks, whole_length};
-ghost use Rattle.blk_disk.specs.Tables.{Agrees, Resizes, all_files, length_in};
+ghost use Rattle.blk_disk.specs.Tables.{Agrees, Resizes, all_files, files_of, length_in};
 ghost use Rattle.blk_alloc.specs.Changes.{map_length, map_of};
+ghost use Rattle.blk_alloc.specs.Making.{KeepsStanding};
 ghost use Rattle.blk_alloc.specs.Rebuilding.{AreFitted, AreItsAllocations, AreMarked, IsInHand, IsRebuilding, IsRebuilt, counts_of, is_block_claimed};
 
 use crate::claimed::{count_runs, mark_claimed};
@@ -137,7 +138,8 @@ fn rebuild_file<F: Folder>(
     ensures done { OnOk result (ForSome (F.told f.new).files (λ image. IsRebuilt claims.now image file)) }
     ensures fitted { OnOk result (Resizes files.old files.new file (max (length_in files.old file) (whole_length files.old file))) }
     ensures agrees { ForSome (F.told f.new).files (Agrees files.new) }
-    ensures all { all_files files.new ≡ all_files files.old }
+    ensures all { (kind : ℕ) → files_of files.new kind ≡ files_of files.old kind }
+    ensures keeps { KeepsStanding files.old files.new }
     ensures stops { ForSome (F.told f.old).files (λ from. Passes (F.told f.old) (F.told f.new) (IsRebuilding claims.now (file ∷ []) from)) }
     ensures silent { (F.told f.old).files ≡ None → (F.told f.new).files ≡ None }
     ensures later { F.faults f.old ≤ F.faults f.new }
@@ -153,6 +155,10 @@ fn rebuild_file<F: Folder>(
 /// Before that, a file that is shorter than its header and blocks is lengthened to them. There is no damage.
 pub fn rebuild<F: Folder>(f: &mut F, files: &mut BlockFiles, claims: &Claims) -> Result<(), Fault>
     requires agrees { ForSome (F.told f.old).files (Agrees files.old) }
+    // In any case the same files are linked, and what stood still does.
+    ensures all { (kind : ℕ) → files_of files.new kind ≡ files_of files.old kind }
+    ensures keeps { KeepsStanding files.old files.new }
+
     ensures rebuilt { OnOk result (ForSome (F.told f.new).files (λ image. (n : ℕ) → is_among (all_files files.old) n ≡ true → IsRebuilt claims.now image n)) }
     ensures allocations { OnOk result (ForSome (F.told f.old).files (λ from. ForSome (F.told f.new).files (AreItsAllocations claims.now (all_files files.old) from))) }
     ensures fitted { OnOk result (AreFitted files.old files.new) }

@@ -9,16 +9,21 @@ ghost use Rattle.blk_format.specs.Maps.{group_size};
 ghost use Rattle.blk_addr.specs.Kind.{kind_number};
 ghost use Rattle.blk_io.specs.Faults.{IfDamaged, IfDevice};
 ghost use Rattle.blk_disk.specs.Growth.{KeepsBlocks};
-ghost use Rattle.blk_disk.specs.Tables.{Agrees, all_files, files_of, stands_among};
+ghost use Rattle.blk_disk.specs.Tables.{Agrees, all_files, blocks_of, files_of, stands_among};
 ghost use Rattle.blk_alloc.specs.Fitting.{IsPlace};
+ghost use Rattle.blk_alloc.specs.Giving.{IsAstrayOf};
+ghost use Rattle.blk_alloc.specs.Making.{KeepsStanding};
 ghost use Rattle.blk_alloc.specs.Owning.{IsCause};
-ghost use Rattle.blk_alloc.specs.Taking.{IsTakeable, IsTaking, IsTaken};
+ghost use Rattle.blk_alloc.specs.Taking.{blocks_place, IsTakeable, IsTaking, IsTaken};
 
 use crate::blocks::Blocks;
 use crate::change::change;
 use blk_addr::{Addr, Kind};
 use blk_disk::BlockFiles;
-use blk_io::{Fault, Folder};
+use blk_io::{Damage, Fault, FileId, Folder};
+
+// The place of the number of blocks in a header.
+const BLOCKS: u64 = 20;
 
 const INITIALIZED: u32 = 0x8000_0000;
 
@@ -61,6 +66,21 @@ pub(crate) fn address_of(kind: Kind, file: u8, start: u32, count: u32) -> Addr
     }
 }
 
+// The damage where blocks of a file don't stand.
+fn astray(files: &BlockFiles, file: u8) -> Damage
+    requires { IsTrue (is_among (all_files files.now) file) }
+    ensures { result ≡ record { file = FileId.Block file; at = blocks_place; found = blocks_of files.now file } }
+{
+    let Some(found) = files.max_entries(file) else {
+        unreachable!();
+    };
+    Damage {
+        file: FileId::Block(file),
+        at: BLOCKS,
+        found,
+    }
+}
+
 // Takes blocks of a file: lengthens the file to all its blocks, where it is shorter, and marks them.
 pub(crate) fn take<F: Folder>(
     f: &mut F,
@@ -74,7 +94,8 @@ pub(crate) fn take<F: Folder>(
     requires place { IsPlace files.old (kind_number kind) place.count place }
     requires agrees { ForSome (F.told f.old).files (Agrees files.old) }
     ensures word { IfOk result (λ addr. addr ≡ address.block_word (kind_number kind) place.file place.start place.count) }
-    ensures stands { IfOk result (λ addr. ForSome (F.told f.old).files (λ from. IsTakeable from place → IsTrue (stands_among files.new addr))) }
+    ensures stands { IfOk result (λ addr. IsTrue (stands_among files.new addr)) }
+    ensures keeps { KeepsStanding files.old files.new }
     ensures taken { IfOk result (λ addr. ForSome (F.told f.old).files (λ from. IsTakeable from place → ForSome (F.told f.new).files (IsTaken files.old from addr))) }
     ensures agrees { ForSome (F.told f.new).files (Agrees files.new) }
 
@@ -85,12 +106,16 @@ pub(crate) fn take<F: Folder>(
     ensures silent { (F.told f.old).files ≡ None → (F.told f.new).files ≡ None }
     ensures linked { IsTrue (is_among (files_of files.new (kind_number kind)) place.file) }
 
-    ensures cause { IfDamaged result (λ damage. (told : Told) → told.files ≡ None → IsCause told place.file place.start true damage) }
+    ensures cause { IfDamaged result (λ damage. ((told : Told) → told.files ≡ None → IsCause told place.file place.start true damage) ⊎ IsAstrayOf files.new (kind_number kind) damage) }
     ensures untold { IfDamaged result (λ _. ForSome (F.told f.old).files (λ image. IsTakeable image place) → (F.told f.old).files ≡ None) }
     ensures later { F.faults f.old ≤ F.faults f.new }
     ensures device { IfDevice result (Rises (F.faults f.old) (F.faults f.new)) }
 {
     files.fit(f, place.file)?;
+    let addr = address_of(kind, place.file, place.start, place.count);
+    if !files.stands(addr) {
+        return Err(Fault::Damaged(astray(files, place.file)));
+    }
     change(f, place.file, place.start, place.count, true)?;
-    Ok(address_of(kind, place.file, place.start, place.count))
+    Ok(addr)
 }

@@ -2,9 +2,9 @@
 use Rattle.std.proofs.Common.{◌≡◌, ℕ, zero, suc, List, [], ◌∷◌, ◌++◌, Some, sym, ◌∙◌, subst}
 use Rattle.blk_image.specs.Image.{File, Image}
 use Rattle.blk_image.specs.Steps.{TrailStep, Word, SetLength, Delete, Note, applied, after, word_step}
-use Rattle.blk_image.specs.Told.{Told, GrowsInPart, IsQuiet}
+use Rattle.blk_image.specs.Told.{Told, GrowsInPart, IsQuiet, TurnsAt}
 use Rattle.blk_image.proofs.Runs.{grows_none, some_inj, until_front}
-use Rattle.blk_chain.specs.Turning.{TurnsAt, Turns}
+use Rattle.blk_chain.specs.Turning.{Turns}
 
 -- the steps from the first on are turned at the same step
 turns_front : (count : ℕ) (P Q : Image → Type 0) (s t : List TrailStep) (image : Image) → TurnsAt count P Q image (s ++ t) → TurnsAt count P Q image s

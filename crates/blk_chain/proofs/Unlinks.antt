@@ -8,7 +8,7 @@ use Rattle.blk_image.specs.Bytes.{content, word_at, word_bytes}
 use Rattle.blk_image.specs.Image.{AreBytes, File, Index, Block, Image, byte, bytes_of, length_of, word}
 use Rattle.blk_image.specs.Steps.{Word, applied, word_step, with_word}
 use Rattle.blk_image.specs.Footprint.{SameOutside}
-use Rattle.blk_image.specs.Told.{Told, TellsBytes, GrowsInPart, IsQuiet, Passes}
+use Rattle.blk_image.specs.Told.{Told, TellsBytes, GrowsInPart, IsQuiet, Passes, TurnsAt}
 use Rattle.blk_image.proofs.Runs.{passes_none, passes_weaker, passes_end, some_inj}
 use Rattle.blk_image.proofs.Images.{bytes_of-written, length-after_write, word-after_same}
 use Rattle.blk_image.proofs.Words.{word-beside, word-fits}
@@ -38,7 +38,7 @@ use Rattle.blk_format.specs.Sealed.{RecordChecks, AreChanges, IsMoment, IsUpdate
 use Rattle.blk_format.proofs.SealedFields.{record_word, updated_is_new}
 use Rattle.blk_chain.specs.Linking.{bucket_at}
 use Rattle.blk_chain.specs.Unlinking.{CanBeUnlinked, first_claim, IsApart, NamesStay, IsStillLinked, IsUnlinked, IsUnlinking, KeepsRecords, next_of}
-use Rattle.blk_chain.specs.Turning.{TurnsAt, Turns}
+use Rattle.blk_chain.specs.Turning.{Turns}
 use Rattle.blk_chain.proofs.Turns.{turns_none, turns_part}
 use Rattle.blk_chain.proofs.Names.{IsShownOf, shown-of, shown-core, shown-kind, shown-follow, same-core, same-follow}
 use Rattle.blk_chain.proofs.Words.{linked-good}

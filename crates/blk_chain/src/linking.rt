@@ -49,6 +49,9 @@ pub fn link_front<F: Folder>(f: &mut F, files: &BlockFiles, entry: Addr) -> Resu
     ensures complete { ForSome (F.told f.new).files (λ image. length_of image index ≡ index_length) }
     ensures agrees { ForSome (F.told f.new).files (Agrees files.now) }
 
+    // A folder that tells no files goes on telling none.
+    ensures silent { (F.told f.old).files ≡ None → (F.told f.new).files ≡ None }
+
     // Too few bytes, which a folder that tells its files never gives.
     ensures short { IfDamaged result (IsShort (F.told f.old) (FileId.Block (file_selector entry)) (place entry) 4) }
     ensures untold { IfDamaged result (λ _. (F.told f.old).files ≡ None) }

@@ -48,8 +48,9 @@ fn unlink_behind<F: Folder>(
     ensures sealed { OnOk result (ForSome (F.told f.old).files (λ from. ForSome (F.told f.new).files (IsSealedAgain from entry (Some before)))) }
     ensures stops { ForSome (F.told f.old).files (λ from. Passes (F.told f.old) (F.told f.new) (IsUnlinking from entry (Some before))) }
     ensures turns { ForSome (F.told f.old).files (λ from. Turns (words_to_unlink (Some before)) (F.told f.old) (F.told f.new) (IsStillLinked from entry (Some before)) (IsUnlinked from entry (Some before))) }
-    ensures complete { ForSome (F.told f.old).files (λ _. ForSome (F.told f.new).files (λ image. length_of image index ≡ index_length)) }
+    ensures complete { ForSome (F.told f.new).files (λ image. length_of image index ≡ index_length) }
     ensures agrees { ForSome (F.told f.new).files (Agrees files.now) }
+    ensures silent { (F.told f.old).files ≡ None → (F.told f.new).files ≡ None }
     ensures damaged { IfDamaged result (IsUnlinkDamage (F.told f.old) entry (Some before)) }
     ensures untold { IfDamaged result (λ _. (F.told f.old).files ≡ None) }
     ensures later { F.faults f.old ≤ F.faults f.new }
@@ -71,8 +72,9 @@ fn unlink_first<F: Folder>(f: &mut F, files: &BlockFiles, entry: Addr) -> Result
     ensures unlinked { OnOk result (ForSome (F.told f.old).files (λ from. ForSome (F.told f.new).files (IsUnlinked from entry None))) }
     ensures stops { ForSome (F.told f.old).files (λ from. Passes (F.told f.old) (F.told f.new) (IsUnlinking from entry None)) }
     ensures turns { ForSome (F.told f.old).files (λ from. Turns (words_to_unlink None) (F.told f.old) (F.told f.new) (IsStillLinked from entry None) (IsUnlinked from entry None)) }
-    ensures complete { ForSome (F.told f.old).files (λ _. ForSome (F.told f.new).files (λ image. length_of image index ≡ index_length)) }
+    ensures complete { ForSome (F.told f.new).files (λ image. length_of image index ≡ index_length) }
     ensures agrees { ForSome (F.told f.new).files (Agrees files.now) }
+    ensures silent { (F.told f.old).files ≡ None → (F.told f.new).files ≡ None }
     ensures damaged { IfDamaged result (IsUnlinkDamage (F.told f.old) entry None) }
     ensures untold { IfDamaged result (λ _. (F.told f.old).files ≡ None) }
     ensures later { F.faults f.old ≤ F.faults f.new }
@@ -114,8 +116,11 @@ pub fn unlink<F: Folder>(f: &mut F, files: &BlockFiles, found: &Found) -> Result
     // Until that one word is written the chains are the old ones, and from then on the record is unlinked.
     ensures turns { ForSome (F.told f.old).files (λ from. Turns (words_to_unlink found.now.before) (F.told f.old) (F.told f.new) (IsStillLinked from found.now.entry found.now.before) (IsUnlinked from found.now.entry found.now.before)) }
 
-    ensures complete { ForSome (F.told f.old).files (λ _. ForSome (F.told f.new).files (λ image. length_of image index ≡ index_length)) }
+    ensures complete { ForSome (F.told f.new).files (λ image. length_of image index ≡ index_length) }
     ensures agrees { ForSome (F.told f.new).files (Agrees files.now) }
+
+    // A folder that tells no files goes on telling none.
+    ensures silent { (F.told f.old).files ≡ None → (F.told f.new).files ≡ None }
 
     // A damage is a short read or a record before that doesn't check. A folder that tells its files never gives one.
     ensures damaged { IfDamaged result (IsUnlinkDamage (F.told f.old) found.now.entry found.now.before) }

@@ -8,6 +8,7 @@ use Rattle.std.proofs.lemmas.List.{length-append, append-nil}
 use Rattle.blk_image.specs.Image.{Block, Image, byte, length_of}
 use Rattle.blk_image.specs.Checks as checks
 use Rattle.blk_image.specs.Checks.{first_of}
+use Rattle.blk_image.specs.Told.{Told}
 use Rattle.blk_format.specs.Address.{is_block_kind}
 use Rattle.blk_format.specs.BlockFiles.{next_file_in, max_entries_in, files_along, linked, linked_up_to, is_among, is_link, file_checks, checks_along, checks_of_type, block_checks, first_block_damage}
 use Rattle.blk_addr.specs.declared.kinds.Kind.{Kind}
@@ -21,7 +22,7 @@ use Rattle.std.specs.Prelude.{Err}
 use Rattle.blk_io.specs.declared.fault.Fault.{Fault}
 use Rattle.blk_io.specs.declared.fault.Fault.TheVariants.{Device, Damaged}
 use Rattle.blk_io.specs.Faults.{IfDamaged, damage_of}
-use Rattle.blk_disk.specs.Loading.{Follows, ReadsAs, IsHead, files_left, next_checks, checks_after, checks_from, links_from, next_of}
+use Rattle.blk_disk.specs.Loading.{Follows, IsHeaderDamage, IsLoadDamage, ReadsAs, IsHead, files_left, next_checks, checks_after, checks_from, links_from, next_of}
 use Rattle.blk_format.proofs.Among.{is_among_more}
 use Rattle.blk_format.proofs.Keeping.{last_link}
 use Rattle.blk_image.proofs.FirstChecks.{append_some, append_none}
@@ -159,6 +160,24 @@ pub damaged_if : (A : Type 0) (e : Fault) (told : Option Image) (files : BlockFi
     → IfDamaged {A = A} (Err e) (λ damage. ForSome told (λ image. first_block_damage image ≡ Some (damage_of damage)))
 damaged_if A Device told files kind n follows reads = tt
 damaged_if A (Damaged d) told files kind n follows reads = λ image there. damaged files image kind n (damage_of d) (follows image there) (reads image there)
+
+blocks_kind : (k : Kind) → kind_number k ≢ 0 → is_block_kind (kind_number k) ≡ true
+blocks_kind External blocky = absurd (blocky refl)
+blocks_kind Rankings blocky = refl
+blocks_kind B256 blocky = refl
+blocks_kind B1K blocky = refl
+blocks_kind B4K blocky = refl
+
+-- a call that failed to take up the next file, whatever the folder tells
+pub caused_if : (A B : Type 0) (e : Fault) (a b : Told) (files : BlockFiles) (k : Kind) (n : ℕ) → kind_number k ≢ 0 → b ≡ a → IfDamaged {A = A} (Err e) (IsHeaderDamage b files (kind_number k) n) → IfDamaged {A = B} (Err e) (IsLoadDamage a)
+caused_if A B Device a b files k n blocky stays cause = tt
+caused_if A B (Damaged d) a b files k n blocky stays cause = record {
+  files = files;
+  kind = kind_number k;
+  n = n;
+  of_blocks = blocks_kind k blocky;
+  cause = subst (λ (t : Told). IsHeaderDamage t files (kind_number k) n d) stays cause;
+}
 
 -- nothing is taken up yet
 pub follows_none : (files : BlockFiles) (image : Image) → HoldsNone files → Follows files image 0 None

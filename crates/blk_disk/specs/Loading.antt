@@ -1,16 +1,19 @@
 -- How block files are checked and taken up, one along the links after another.
-use Rattle.std.specs.Prelude.{◌≡◌, ◌≢◌, ℕ, ◌-◌, ◌<◌, ◌≤◌, List, [], ◌∷◌, ◌++◌, length, drop, ◌==◌, if◌then◌else◌, true, Option, None, Some, Result, Ok, Err}
+use Rattle.std.specs.Prelude.{◌≡◌, ◌≢◌, ◌⊎◌, ℕ, ◌-◌, ◌<◌, ◌≤◌, List, [], ◌∷◌, ◌++◌, length, drop, ◌==◌, if◌then◌else◌, true, Option, None, Some, Result, Ok, Err}
 use Rattle.std.specs.List.{flat_map}
+use Rattle.blk_image.specs.Bytes.{content}
 use Rattle.blk_image.specs.Image.{Block, Image, byte, length_of}
 use Rattle.blk_image.specs.Checks as checks
 use Rattle.blk_image.specs.Checks.{first_of}
-use Rattle.blk_format.specs.Address.{header_size}
+use Rattle.blk_image.specs.Told.{Told}
+use Rattle.blk_format.specs.Address.{header_size, is_block_kind}
 use Rattle.blk_format.specs.Headers.{next_file_of, max_entries_of, block_fields_length}
 use Rattle.blk_format.specs.BlockFiles.{most_files, next_file_in, max_entries_in, files_along, linked, linked_up_to, is_among, file_checks, checks_along, checks_of_type, block_types, block_checks, first_block_damage}
+use Rattle.blk_io.specs.declared.folder.FileId.TheVariants as names
 use Rattle.blk_io.specs.declared.fault.Damage.{Damage}
 use Rattle.blk_io.specs.declared.fault.Fault.{Fault}
 use Rattle.blk_io.specs.declared.fault.Fault.TheVariants.{Device, Damaged}
-use Rattle.blk_io.specs.Faults.{damage_of}
+use Rattle.blk_io.specs.Faults.{damage_of, IsShort}
 use Rattle.blk_disk.specs.declared.tables.BlockFiles.{BlockFiles}
 use Rattle.blk_disk.specs.declared.heads.Head.{Head}
 use Rattle.blk_disk.specs.Tables.{files_of, all_files, blocks_of, length_in, Agrees}
@@ -44,9 +47,36 @@ Judges (Some damage) f size given answer = AreGiven size given → (found : Dama
 abbrev pub files_left : BlockFiles → ℕ → ℕ
 files_left files kind = most_files - 1 - length (files_of files kind)
 
+-- the checks of a header with this content and of its file's length, of the next file of a type
+abbrev pub header_checks : BlockFiles → ℕ → ℕ → (ℕ → ℕ) → ℕ → List (Option checks.Damage)
+header_checks files kind n f size = file_checks kind (all_files files ++ n ∷ []) (files_left files kind) n f size
+
+-- too few bytes of a header came: the damage has its place, and finds how many there were
+abbrev pub IsFew : ℕ → ℕ → Damage → Type 0
+IsFew n given damage = (given < block_fields_length) × (damage_of damage ≡ record { file = Block n; at = 0; found = given })
+
+-- the fields of this header and this length were read, of the next file of a type, and the damage is the first check of them that fails
+pub record IsFailedHeader (files : BlockFiles) (kind n : ℕ) (damage : Damage) : Type 0 where
+  pub header : List ℕ
+  pub size : ℕ
+  pub read : length header ≡ block_fields_length
+  pub first : first_of (header_checks files kind n (content header) size) ≡ Some (damage_of damage)
+
+-- why the next file of a type can't be taken up, whether or not the folder tells its files: too few bytes of its header came, or a check of what was read fails
+abbrev pub IsHeaderDamage : Told → BlockFiles → ℕ → ℕ → Damage → Type 0
+IsHeaderDamage told files kind n damage = IsShort told (names.Block n) 0 block_fields_length damage ⊎ IsFailedHeader files kind n damage
+
+-- so it is for a file of some block type, with some files that were taken up before
+pub record IsLoadDamage (told : Told) (damage : Damage) : Type 0 where
+  pub files : BlockFiles
+  pub kind : ℕ
+  pub n : ℕ
+  pub of_blocks : is_block_kind kind ≡ true
+  pub cause : IsHeaderDamage told files kind n damage
+
 -- the checks of the next file of a type, with those that are taken up already
 abbrev pub next_checks : BlockFiles → Image → ℕ → ℕ → List (Option checks.Damage)
-next_checks files image kind n = file_checks kind (all_files files ++ n ∷ []) (files_left files kind) n (byte image (Block n)) (length_of image (Block n))
+next_checks files image kind n = header_checks files kind n (byte image (Block n)) (length_of image (Block n))
 
 -- the answer for the next file of an image: what its header says, where its checks hold, or the first that fails
 abbrev pub ReadsAs : BlockFiles → Image → ℕ → ℕ → Result Head Fault → Type 0

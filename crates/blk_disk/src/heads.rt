@@ -1,5 +1,5 @@
 // The headers of block files, read and checked.
-ghost use Rattle.std.specs.Prelude.{◌≡◌, ◌≢◌, ◌+◌, ◌-◌, ◌<◌, ◌≤◌, ◌∷◌, ◌++◌, [], length, IfOk};
+ghost use Rattle.std.specs.Prelude.{◌≡◌, ◌≢◌, ◌⊎◌, ◌+◌, ◌-◌, ◌<◌, ◌≤◌, ◌∷◌, ◌++◌, [], length, IfOk, Some};
 ghost use Rattle.std.specs.Option.{ForSome, option_map};
 ghost use Rattle.blk_image.specs.Bytes.{content, word_at};
 ghost use Rattle.blk_image.specs.Checks.{first_of};
@@ -7,11 +7,11 @@ ghost use Rattle.blk_image.specs.Told.{Stays, Rises};
 ghost use Rattle.blk_format.specs.Address as address;
 ghost use Rattle.blk_format.specs.Address.{external};
 ghost use Rattle.blk_format.specs.BlockFiles as block_files;
-ghost use Rattle.blk_format.specs.BlockFiles.{file_checks, most_files};
+ghost use Rattle.blk_format.specs.BlockFiles.{most_files};
 ghost use Rattle.blk_addr.specs.Kind.{kind_number};
-ghost use Rattle.blk_io.specs.Faults.{IfDevice, damage_of};
+ghost use Rattle.blk_io.specs.Faults.{IfDamaged, IfDevice, damage_of};
 ghost use Rattle.blk_disk.specs.Tables.{all_files, files_of};
-ghost use Rattle.blk_disk.specs.Loading.{HasRoom, Judges, ReadsAs, files_left, next_of};
+ghost use Rattle.blk_disk.specs.Loading.{HasRoom, IsFew, IsHeaderDamage, Judges, ReadsAs, files_left, header_checks, next_of};
 
 use crate::checks::{check, check_is, damage_at};
 use crate::tables::{BlockFiles, MOST_FILES};
@@ -84,6 +84,7 @@ impl BlockFiles {
         requires { kind_number kind ≢ external }
         ensures room { IfOk result (λ head. HasRoom (length (files_of self.now (kind_number kind)) + 1) head.next) }
         ensures read { ForSome (F.told f.old).files (λ image. ReadsAs self.now image (kind_number kind) n result) }
+        ensures cause { IfDamaged result (IsHeaderDamage (F.told f.old) self.now (kind_number kind) n) }
         ensures stays { Stays (F.told f.old) (F.told f.new) }
         ensures later { F.faults f.old ≤ F.faults f.new }
         ensures device { IfDevice result (Rises (F.faults f.old) (F.faults f.new)) }
@@ -110,7 +111,8 @@ impl BlockFiles {
     ) -> Result<Head, Fault>
         requires { kind_number kind ≢ external }
         ensures room { IfOk result (λ head. HasRoom (length (files_of self.now (kind_number kind)) + 1) head.next) }
-        ensures judged { Judges (first_of (file_checks (kind_number kind) (all_files self.now ++ n ∷ []) (files_left self.now (kind_number kind)) n (content head.now) size)) (content head.now) size given result }
+        ensures judged { Judges (first_of (header_checks self.now (kind_number kind) n (content head.now) size)) (content head.now) size given result }
+        ensures cause { IfDamaged result (λ damage. IsFew n given damage ⊎ (first_of (header_checks self.now (kind_number kind) n (content head.now) size) ≡ Some (damage_of damage))) }
         ensures device { IfDevice result ⊥ }
     {
         if HEADER_LEN <= size && given < FIELDS_LEN {
@@ -127,7 +129,7 @@ impl BlockFiles {
     // The first check of a header that fails.
     fn header_damage(&self, head: &BlockHead<'_>, kind: Kind, n: u8, size: u64) -> Option<Damage>
         requires { kind_number kind ≢ external }
-        ensures { option_map damage_of result ≡ first_of (file_checks (kind_number kind) (all_files self.now ++ n ∷ []) (files_left self.now (kind_number kind)) n (content head.now) size) }
+        ensures { option_map damage_of result ≡ first_of (header_checks self.now (kind_number kind) n (content head.now) size) }
     {
         let low = (size % 0x1_0000_0000) as u32;
         let numbers = numbers_word(head);
@@ -156,7 +158,7 @@ impl BlockFiles {
     }
 
     // Whether a file is among those that are met with file n.
-    #[tactic(auto, using(crate::proofs::Among::is_among_more))]
+    #[tactic(auto, using(blk_format::proofs::Among::is_among_more))]
     fn is_met(&self, n: u8, file: u8) -> bool
         ensures { result ≡ block_files.is_among (all_files self.now ++ n ∷ []) file }
     {

@@ -7,7 +7,7 @@ ghost use Rattle.blk_format.specs.BlockFiles.{first_block_damage, most_files};
 ghost use Rattle.blk_addr.specs.Kind.{kind_number};
 ghost use Rattle.blk_io.specs.Faults.{IfDamaged, IfDevice, damage_of};
 ghost use Rattle.blk_disk.specs.Tables.{files_of};
-ghost use Rattle.blk_disk.specs.Loading.{LoadsAs, Follows, HasRoom, KeepsOthers};
+ghost use Rattle.blk_disk.specs.Loading.{LoadsAs, Follows, HasRoom, IsHeaderDamage, IsLoadDamage, KeepsOthers};
 
 use crate::tables::BlockFiles;
 use blk_addr::Kind;
@@ -20,6 +20,10 @@ impl BlockFiles {
     /// first check that fails.
     pub fn load<F: Folder>(f: &mut F) -> Result<BlockFiles, Fault>
         ensures loaded { ForSome (F.told f.old).files (LoadsAs result) }
+
+        // The cause of a damage, which holds for a folder that tells nothing too.
+        ensures cause { IfDamaged result (IsLoadDamage (F.told f.old)) }
+
         ensures stays { Stays (F.told f.old) (F.told f.new) }
         ensures later { F.faults f.old ≤ F.faults f.new }
         ensures device { IfDevice result (Rises (F.faults f.old) (F.faults f.new)) }
@@ -40,6 +44,7 @@ impl BlockFiles {
         ensures followed { OnOk result (ForSome (F.told f.new).files (λ image. Follows self.new image (kind_number kind) None)) }
         ensures others { OnOk result (KeepsOthers self.old self.new (kind_number kind)) }
         ensures damaged { IfDamaged result (λ damage. ForSome (F.told f.old).files (λ image. first_block_damage image ≡ Some (damage_of damage))) }
+        ensures cause { IfDamaged result (IsLoadDamage (F.told f.old)) }
         ensures stays { Stays (F.told f.old) (F.told f.new) }
         ensures later { F.faults f.old ≤ F.faults f.new }
         ensures device { IfDevice result (Rises (F.faults f.old) (F.faults f.new)) }
@@ -61,6 +66,7 @@ impl BlockFiles {
         ensures longer { OnOk result (length (files_of self.new (kind_number kind)) ≡ length (files_of self.old (kind_number kind)) + 1) }
         ensures others { OnOk result (KeepsOthers self.old self.new (kind_number kind)) }
         ensures damaged { IfDamaged result (λ damage. ForSome (F.told f.old).files (λ image. first_block_damage image ≡ Some (damage_of damage))) }
+        ensures cause { IfDamaged result (IsHeaderDamage (F.told f.old) self.old (kind_number kind) n) }
         ensures stays { Stays (F.told f.old) (F.told f.new) }
         ensures later { F.faults f.old ≤ F.faults f.new }
         ensures device { IfDevice result (Rises (F.faults f.old) (F.faults f.new)) }

@@ -10,7 +10,7 @@ ghost use Rattle.blk_record.specs.Fields.{IsField};
 ghost use Rattle.blk_io.specs.declared.folder.FileId.TheVariants as FileId;
 ghost use Rattle.blk_io.specs.Faults.{IfDamaged, IfDevice, IsShort};
 ghost use Rattle.blk_disk.specs.Tables.{Agrees, stands_among};
-ghost use Rattle.blk_format.specs.Sealed as sealed;
+ghost use Rattle.blk_disk.specs.Unsealed as unsealed;
 ghost use Rattle.blk_format.specs.Sealed.{AreChanges, BeginsWithRecord, IsMoment, IsUpdated, RecordChecks, placed, record_at, record_size, seal_by_kind, seal_place, sealed_steps, size_by_kind, update_steps, update_words};
 ghost use Rattle.blk_disk.specs.Unsealed.{IsUnsealed};
 
@@ -152,7 +152,7 @@ fn seal_of(kind: Kind) -> u32
 #[tactic(auto, unfolding(blk_format::specs::Sealed::size_by_kind, blk_format::specs::Sealed::seal_by_kind))]
 fn wrong_seal(kind: Kind, bytes: &[u8]) -> Option<u32>
     requires { length bytes.now ≡ size_by_kind (kind_number kind) }
-    ensures { result ≡ sealed.wrong_seal (seal_by_kind (kind_number kind)) bytes.now }
+    ensures { result ≡ unsealed.wrong_seal (seal_by_kind (kind_number kind)) bytes.now }
 {
     match kind {
         Kind::Rankings => {
@@ -174,7 +174,7 @@ fn wrong_seal(kind: Kind, bytes: &[u8]) -> Option<u32>
 fn wrong_seal_at<R: Record>(view: &R, at: usize) -> Option<u32>
     requires place { at ≡ R.seal_place }
     requires inside { IsField R.size at }
-    ensures { result ≡ sealed.wrong_seal at (R.window_of view.now) }
+    ensures { result ≡ unsealed.wrong_seal at (R.window_of view.now) }
 {
     if view.checks() {
         None

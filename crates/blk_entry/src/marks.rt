@@ -42,6 +42,9 @@ pub fn set_dirty<F: Folder>(
     ensures agrees { ForSome (F.told f.new).files (Agrees files.now) }
     ensures checks { ForSome (F.told f.new).files (RecordChecks node) }
 
+    // A folder that tells no files goes on telling none.
+    ensures silent { (F.told f.old).files ≡ None → (F.told f.new).files ≡ None }
+
     // A damage is a short read or a node that doesn't check. A folder that tells its files never gives one.
     ensures damaged { IfDamaged result (λ damage. IsShort (F.told f.old) (FileId.Block (file_selector node)) (place node) (record_size node) damage ⊎ IsUnsealed (F.told f.old) node damage) }
     ensures untold { IfDamaged result (λ _. (F.told f.old).files ≡ None) }
@@ -67,6 +70,9 @@ pub fn set_clean<F: Folder>(f: &mut F, files: &BlockFiles, node: Addr) -> Result
     ensures agrees { ForSome (F.told f.new).files (Agrees files.now) }
     ensures checks { ForSome (F.told f.new).files (RecordChecks node) }
 
+    // A folder that tells no files goes on telling none.
+    ensures silent { (F.told f.old).files ≡ None → (F.told f.new).files ≡ None }
+
     // A damage is a short read or a node that doesn't check. A folder that tells its files never gives one.
     ensures damaged { IfDamaged result (λ damage. IsShort (F.told f.old) (FileId.Block (file_selector node)) (place node) (record_size node) damage ⊎ IsUnsealed (F.told f.old) node damage) }
     ensures untold { IfDamaged result (λ _. (F.told f.old).files ≡ None) }
@@ -89,6 +95,7 @@ fn write_mark<F: Folder>(f: &mut F, files: &BlockFiles, node: Addr, mark: u32) -
     ensures stops { ForSome (F.told f.old).files (λ from. Passes (F.told f.old) (F.told f.new) (IsMarking from node mark)) }
     ensures agrees { ForSome (F.told f.new).files (Agrees files.now) }
     ensures checks { ForSome (F.told f.new).files (RecordChecks node) }
+    ensures silent { (F.told f.old).files ≡ None → (F.told f.new).files ≡ None }
     ensures damaged { IfDamaged result (λ damage. IsShort (F.told f.old) (FileId.Block (file_selector node)) (place node) (record_size node) damage ⊎ IsUnsealed (F.told f.old) node damage) }
     ensures untold { IfDamaged result (λ _. (F.told f.old).files ≡ None) }
     ensures later { F.faults f.old ≤ F.faults f.new }

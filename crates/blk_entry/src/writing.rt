@@ -81,6 +81,9 @@ pub fn write_entry<F: Folder>(
     ensures formed { ForSome (F.told f.old).files (λ from. IsWellFormed from → Passes (F.told f.old) (F.told f.new) IsWellFormed) }
     ensures agrees { ForSome (F.told f.new).files (Agrees files.now) }
 
+    // A folder that tells no files goes on telling none.
+    ensures silent { (F.told f.old).files ≡ None → (F.told f.new).files ≡ None }
+
     // The fields are words, and the places addresses, whatever the answer.
     ensures words { AreWords new.now }
 

@@ -5,8 +5,8 @@ use Rattle.std.specs.List.{list_any, flat_map}
 use Rattle.std.specs.declared.option.Option.{Option}
 use Rattle.blk_image.specs.Image.{Index, Block, External, Image, has_file, length_of, byte}
 use Rattle.blk_image.specs.Checks.{Damage, first_of, check_word, check_length}
-use Rattle.blk_format.specs.Address.{rankings, blocks_256, blocks_1k, blocks_4k, block_size}
-use Rattle.blk_format.specs.Headers.{block_header_length, block_magic, version, magic_of, version_of, this_file_of, next_file_of, entry_size_of, max_entries_of, head_checks, list_checks}
+use Rattle.blk_format.specs.Address.{rankings, blocks_256, blocks_1k, blocks_4k, block_size, header_size}
+use Rattle.blk_format.specs.Headers.{block_magic, version, magic_of, version_of, this_file_of, next_file_of, entry_size_of, max_entries_of, head_checks, list_checks}
 use Rattle.blk_format.specs.Standing.{stands, stands_as_blocks}
 
 -- the most files of one type
@@ -90,7 +90,7 @@ is_block_count n = ((n % blocks_a_growth == 0) && nat_le n most_whole_blocks) ||
 -- the length, magic, version, this_file, next_file, entry_size and max_entries
 unfoldable pub file_checks : ℕ → List ℕ → ℕ → ℕ → (ℕ → ℕ) → ℕ → List (Option Damage)
 file_checks kind met left n f length =
-    check_length (Block n) block_header_length length (nat_le block_header_length length)
+    check_length (Block n) header_size length (nat_le header_size length)
     ∷ check_word (Block n) f 0 (magic_of f == block_magic)
     ∷ check_word (Block n) f 4 (version_of f == version)
     ∷ check_word (Block n) f 8 (this_file_of f == n)

@@ -18,11 +18,7 @@ table_length = 65536
 abbrev pub index_length : ℕ
 index_length = 262512
 
--- the bytes of a block file's header
-abbrev pub block_header_length : ℕ
-block_header_length = 8192
-
--- the bytes that its fields take, before the map
+-- the bytes that the fields of a block file's header take, before its map
 abbrev pub block_fields_length : ℕ
 block_fields_length = 80
 
@@ -173,6 +169,10 @@ abbrev pub user_of : (ℕ → ℕ) → ℕ → ℕ
 user_of f i = word_at f (60 + 4 * i)
 
 -- The checks of the index.
+
+-- the index has all its bytes
+abbrev pub HasWholeIndex : Image → Type 0
+HasWholeIndex image = length_of image Index ≡ index_length
 
 -- the index is not there, has fewer than 4 bytes, or has the magic number 0
 unfoldable pub IsUnfinished : Image → Type 0

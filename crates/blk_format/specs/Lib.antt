@@ -10,3 +10,4 @@ pub mod SparseIndex
 pub mod BlockFiles
 pub mod Maps
 pub mod Sealed
+pub mod NewFolder

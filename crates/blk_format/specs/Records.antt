@@ -1,20 +1,22 @@
 -- The two sealed records, the rankings node and the entry record: each field by its place, and the seal.
-use Rattle.std.specs.Prelude.{ℕ, ◌+◌, ◌/◌, ◌%◌, ◌^◌, List, ◌++◌, Bool, ◌||◌, ◌==◌, map, slice_index, take}
+use Rattle.std.specs.Prelude.{ℕ, ◌+◌, ◌/◌, ◌%◌, ◌^◌, List, ◌++◌, Bool, ◌||◌, ◌==◌, map, take}
 use Rattle.std.specs.List.{concat}
 use Rattle.blk_image.specs.Bytes.{content, word_at, long_at, words_at, word_bytes}
 use Rattle.blk_format.specs.Hash.{hash}
 
--- the bytes of a node, and the place of its seal
+-- the bytes of a node
 abbrev pub node_size : ℕ
 node_size = 36
 
+-- the place of its seal
 abbrev pub node_seal_place : ℕ
 node_seal_place = 32
 
--- the bytes of an entry record before its key, and the place of its seal
+-- the bytes of an entry record before its key
 abbrev pub entry_size : ℕ
 entry_size = 96
 
+-- the place of its seal
 abbrev pub entry_seal_place : ℕ
 entry_seal_place = 92
 
@@ -140,27 +142,22 @@ entry_checks e = (e.self_hash == 0) || entry_is_sealed e
 abbrev pub sealed_entry : Entry → Entry
 sealed_entry e = record e { self_hash = entry_seal e }
 
--- the size of stream i
-abbrev pub size_of : Entry → ℕ → ℕ
-size_of e i = slice_index e.data_size i
-
--- the address of stream i
-abbrev pub address_of : Entry → ℕ → ℕ
-address_of e i = slice_index e.data_addr i
-
--- the state of a live entry, and of a doomed one
+-- the state of a live entry
 abbrev pub normal : ℕ
 normal = 0
 
+-- the state of a doomed entry
 abbrev pub doomed : ℕ
 doomed = 2
 
--- the flags of a plain entry, of a parent and of a child
+-- the flags of an entry that is neither parent nor child
 abbrev pub plain : ℕ
 plain = 0
 
+-- the flags of a parent
 abbrev pub parent : ℕ
 parent = 1
 
+-- the flags of a child
 abbrev pub child : ℕ
 child = 2

@@ -1,5 +1,5 @@
 -- What a folder tells, and what its calls do to that.
-use Rattle.std.specs.Prelude.{◌≡◌, ℕ, ◌-◌, ◌^◌, ◌<◌, min, List, [], ◌∷◌, ◌++◌, length, take, drop, Option}
+use Rattle.std.specs.Prelude.{◌≡◌, ℕ, zero, suc, ◌-◌, ◌^◌, ◌<◌, min, List, [], ◌∷◌, ◌++◌, length, take, drop, Option}
 use Rattle.std.specs.Option.{option_map, ForSome}
 use Rattle.blk_image.specs.Bytes.{range_at}
 use Rattle.blk_image.specs.Image.{File, Image, AreBytes, byte, length_of}
@@ -51,6 +51,12 @@ Until P Q image (step ∷ steps) = P image × Until P Q (applied step image) ste
 -- P holds of the files, and after each step
 abbrev pub Along : (Image → Type 0) → Image → List TrailStep → Type 0
 Along P image steps = Until P P image steps
+
+-- P holds of the files until so many steps are made, and Q of them from then on
+abbrev pub TurnsAt : ℕ → (P Q : Image → Type 0) → Image → List TrailStep → Type 0
+TurnsAt zero P Q image steps = Along Q image steps
+TurnsAt (suc count) P Q image [] = P image
+TurnsAt (suc count) P Q image (step ∷ steps) = P image × TurnsAt count P Q (applied step image) steps
 
 -- no step is a note
 abbrev pub IsQuiet : List TrailStep → Type 0

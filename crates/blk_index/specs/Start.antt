@@ -1,12 +1,16 @@
 -- How a folder stands at the start.
-use Rattle.std.specs.Prelude.{◌≡◌, ◌≤◌, ℕ, Result, Ok, Err, Option, None, Some}
-use Rattle.blk_image.specs.Image.{Image}
+use Rattle.std.specs.Prelude.{◌≡◌, ◌≢◌, ◌≤◌, ◌<◌, ◌⊎◌, ℕ, List, length, ◌++◌, Result, Ok, Err, Option, None, Some}
+use Rattle.blk_image.specs.Bytes.{content}
+use Rattle.blk_image.specs.Image.{Image, Index}
 use Rattle.blk_image.specs.Checks as checks
-use Rattle.blk_format.specs.Headers.{IsUnfinished, first_index_damage, header_length, index_length}
+use Rattle.blk_image.specs.Checks.{first_of}
+use Rattle.blk_image.specs.Told.{Told}
+use Rattle.blk_format.specs.Headers.{IsUnfinished, first_index_damage, head_checks, list_checks, header_length, index_length, magic_of}
+use Rattle.blk_io.specs.declared.folder.FileId.TheVariants as names
 use Rattle.blk_io.specs.declared.fault.Damage.{Damage}
 use Rattle.blk_io.specs.declared.fault.Fault.{Fault}
 use Rattle.blk_io.specs.declared.fault.Fault.TheVariants.{Device, Damaged}
-use Rattle.blk_io.specs.Faults.{damage_of}
+use Rattle.blk_io.specs.Faults.{damage_of, IsShort}
 use Rattle.blk_index.specs.declared.start.Start.{Start}
 use Rattle.blk_index.specs.declared.start.Start.TheVariants.{Unfinished, Finished}
 
@@ -30,3 +34,19 @@ IsGiven size given = size ≡ index_length → header_length ≤ given
 abbrev pub Judges : Option checks.Damage → ℕ → ℕ → Result Start Fault → Type 0
 Judges None size given answer = IsGiven size given → answer ≡ Ok Finished
 Judges (Some damage) size given answer = IsGiven size given → (found : Damage) × (answer ≡ Err (Damaged found)) × (damage_of found ≡ damage)
+
+-- too few bytes of the header came: the damage has its place, and finds how many there were
+abbrev pub IsFew : ℕ → Damage → Type 0
+IsFew given damage = (given < header_length) × (damage_of damage ≡ record { file = Index; at = 0; found = given })
+
+-- this header and this length were read, of a finished index, and the damage is the first check of them that fails
+pub record IsFailedHeader (damage : Damage) : Type 0 where
+  pub header : List ℕ
+  pub size : ℕ
+  pub read : length header ≡ header_length
+  pub finished : magic_of (content header) ≢ 0
+  pub first : first_of (head_checks (content header) size ++ list_checks (content header)) ≡ Some (damage_of damage)
+
+-- why a look finds a damage, whether or not the folder tells its files: too few bytes of the header came, or a check of what was read fails
+abbrev pub IsLookDamage : Told → Damage → Type 0
+IsLookDamage told damage = IsShort told names.Index 0 header_length damage ⊎ IsFailedHeader damage

@@ -10,7 +10,7 @@ after-both : (writes later : List ListWrite) (list : ListView) → after_writes 
 after-both [] later list = refl
 after-both (write ∷ writes) later list = after-both writes later (with_write list write)
 
-shows-both : (a b c : Stock) → ShowsTheSame a b → ShowsTheSame b c → ShowsTheSame a c
+pub shows-both : (a b c : Stock) → ShowsTheSame a b → ShowsTheSame b c → ShowsTheSame a c
 shows-both a b c one two = record {
   stock = record {
     named = λ w clear. one.stock.named w clear ∙ two.stock.named w clear;

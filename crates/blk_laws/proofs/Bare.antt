@@ -1,10 +1,9 @@
 -- A bare folder is sound, holds nothing, and stands for the empty state.
-use Rattle.std.proofs.Common.{◌≡◌, ℕ, ◌+◌, ◌<◌, List, [], ◌∷◌, map, refl, ap, sym, ◌∙◌, subst, inl, arith, Bool, true, false, Option, Some, None}
+use Rattle.std.proofs.Common.{◌≡◌, ℕ, ◌+◌, ◌<◌, List, [], refl, ap, sym, ◌∙◌, subst, inl, arith, Bool, true, false, None}
 use Rattle.std.specs.Prelude.{if◌then◌else◌}
 use Rattle.blk_model.specs.Items.{Row}
 use Rattle.blk_format.specs.Headers.{unfinished}
-use Rattle.std.specs.Option.{IsSomeAnd}
-use Rattle.blk_model.specs.State.{Bounds, Object, object_at}
+use Rattle.blk_model.specs.State.{Bounds}
 use Rattle.blk_model.specs.Holding.{open_state}
 use Rattle.blk_image.specs.Image.{Image}
 use Rattle.blk_format.specs.Address.{is_address, is_initialized, block_place}
@@ -23,7 +22,7 @@ use Rattle.blk_volume.specs.Found.{completed, kept, dropped, found}
 use Rattle.blk_volume.specs.Layout.{Represents}
 use Rattle.blk_volume.specs.Emptiness.{no_layout}
 use Rattle.blk_volume.specs.Sound.{AreOwned, IsInOrder, IsSound}
-use Rattle.blk_volume.specs.StandsFor.{KeepsDoomed, AreDoomed, StandsFor, IsAllocated}
+use Rattle.blk_volume.specs.StandsFor.{StandsFor, IsAllocated}
 use Rattle.blk_laws.specs.BareLaws.{IsBare, IsBareFile, BareFoldersHoldNothing}
 use Rattle.blk_laws.proofs.Empty.{no-object, empty-valid, empty-view}
 use Rattle.blk_laws.proofs.Chains.{chain-is}
@@ -132,17 +131,9 @@ module _ (image : Image) (bare : IsBare image) where
     doomed = record { each = tt; once = tt; all = λ number o is dead. absurd (no-object limits number o is); records = λ number among. absurd (let z : false ≡ true = among in cc) };
   }
 
-  none-doomed : (limits : Bounds) (doomed : List (ℕ × Loaded)) → AreDoomed (view_of image) (open_state [] limits) doomed → doomed ≡ []
-  none-doomed limits [] are = refl
-  none-doomed limits (d ∷ doomed) are = absurd (go (λ o. KeepsDoomed (view_of image) o d.1) (object_at (open_state [] limits) d.0) refl are.each.0) where
-    go : (P : Object → Type 0) (o : Option Object) → object_at (open_state [] limits) d.0 ≡ o → IsSomeAnd o P → ⊥
-    go P None e h = h
-    go P (Some o) e h = no-object limits d.0 o e
-
   pub bare-stands : (limits : Bounds) → StandsFor image (open_state [] limits)
   bare-stands limits = stands-for image (open_state [] limits) no_layout (represents-empty limits) (empty-valid limits) [] (allocated limits) bare.well_formed
-      (λ doomed are. subst (λ (ds : List (ℕ × Loaded)). IsInOrder image (kept_by listed (view_of image)) (map (λ (d : ℕ × Loaded). d.1) ds)) (sym (none-doomed limits doomed are))
-      (subst (λ (ls : List Loaded). IsInOrder image ls []) (sym (kept-none listed)) in-order))
+      (subst (λ (ls : List Loaded). IsInOrder image ls []) (sym (kept-none listed)) in-order)
 
 pub bare-found : BareFoldersHoldNothing
 unfolding found

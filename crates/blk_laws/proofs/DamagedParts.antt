@@ -1,5 +1,5 @@
--- A parent and a part of it, computed on views: both are kept, and the part alone is dropped.
-use Rattle.std.proofs.Common.{◌≡◌, ℕ, List, [], ◌∷◌, ◌++◌, refl, Some, None}
+-- A parent and a part of it, computed on views: both are kept and are candidates, and the part alone is dropped.
+use Rattle.std.proofs.Common.{◌≡◌, ℕ, List, [], ◌∷◌, ◌++◌, refl, false, Some, None}
 use Rattle.std.specs.Prelude.{if◌then◌else◌, ◌==◌, ◌&&◌, codes, replicate}
 use Rattle.blk_image.specs.Bytes.{word_bytes, words_at}
 use Rattle.blk_format.specs.Hash.{of_four, of_three, of_one, of_bytes, mixed, hash}
@@ -15,6 +15,7 @@ use Rattle.blk_volume.specs.Entries.{is_key_length, key_of, stream_of, streams_o
 use Rattle.blk_volume.specs.Reasons as reason
 use Rattle.blk_volume.specs.Loads.{load, load_key, load_record, record_claims, all_claims}
 use Rattle.blk_volume.specs.Audit.{is_named, is_orphan, admit, verdicts, kept_among, dropped_among}
+use Rattle.blk_volume.specs.Candidates.{name_at, is_parent_at, is_candidate, candidates}
 use Rattle.blk_laws.proofs.DamagedViews.{Row, node, shown, plain_core, kept_nodes, dropped_nodes}
 
 -- the bytes of an index before its bitmap: signature 5, the magic, a key of one byte, no partial block
@@ -57,6 +58,11 @@ family_is_kept : kept_nodes family ≡ 0x90000001 ∷ 0x90000000 ∷ []
 unfolding family kept_among verdicts load load_record load_key admit is_key_length key_of stream_of streams_of role_of parent_role part_role is_covered read_parent_index read_part_index read_name split_last child_name hex_text words_at is_named is_orphan record_claims all_claims claims_of has_claim overlap repeats kind_of block_count file_selector first_block external_number entry_blocks walk walk_from chain_from hash mixed of_bytes of_four of_three of_one
 family_is_kept = refl
 
+-- and both are candidates, the part for its parent
+family_are_candidates : candidates family ≡ 0x90000001 ∷ 0x90000000 ∷ []
+unfolding family is_candidate name_at is_parent_at is_key_length key_of stream_of streams_of role_of parent_role read_parent_index read_name split_last child_name hex_text words_at block_count entry_blocks walk walk_from
+family_are_candidates = refl
+
 -- a part whose bit is 0, and one whose parent isn't listed
 no_bit : View
 no_bit = sparse_view 2 0x90000001 both_nodes
@@ -67,3 +73,24 @@ orphan = sparse_view 1 0x90000001 ((0x90000001, node 0x90000001 0x90000001 0xA00
 for_parent : (dropped_nodes no_bit ≡ (0x90000001, reason.Parent) ∷ []) × (dropped_nodes orphan ≡ (0x90000001, reason.Parent) ∷ [])
 unfolding no_bit orphan dropped_among verdicts load load_record load_key admit is_key_length key_of stream_of streams_of role_of parent_role part_role is_covered read_parent_index read_part_index read_name split_last child_name hex_text words_at is_named is_orphan record_claims all_claims claims_of has_claim overlap repeats kind_of block_count file_selector first_block external_number entry_blocks walk walk_from chain_from hash mixed of_bytes of_four of_three of_one
 for_parent = (refl, refl)
+
+-- the part whose bit is 0 is a candidate all the same, and the one without its parent is none
+candidate_parts : (candidates no_bit ≡ 0x90000001 ∷ 0x90000000 ∷ []) × (candidates orphan ≡ [])
+unfolding no_bit orphan is_candidate name_at is_parent_at is_key_length key_of stream_of streams_of role_of parent_role read_parent_index read_name split_last child_name hex_text words_at block_count entry_blocks walk walk_from
+candidate_parts = (refl, refl)
+
+-- nor is one whose parent is dirty
+dirty_parent : View
+dirty_parent = sparse_view 1 0x90000001 ((0x90000001, node 0x90000000 0x90000001 0xA0010001) ∷ (0x90000000, record { next = 0x90000000; prev = 0x90000001; contents = 0xA0010000; dirty = 5 }) ∷ [])
+
+no_candidates : candidates dirty_parent ≡ []
+unfolding dirty_parent is_candidate name_at is_parent_at is_key_length key_of stream_of streams_of role_of parent_role read_parent_index read_name split_last child_name hex_text words_at block_count entry_blocks walk walk_from
+no_candidates = refl
+
+-- a record that doesn't check is no child: its node is a candidate, whatever the flags are, and is dropped for its seal
+unsealed : ℕ → View
+unsealed flags = shown 0x90000000 0xA0010000 ((0x90000000, node 0x90000000 0x90000000 0xA0010000) ∷ []) ((0xA0010000, record { follow = 0; core = record (plain_core 0x90000000) { checks = false; flags = flags } }) ∷ [])
+
+unsealed_is_candidate : (flags : ℕ) → (candidates (unsealed flags) ≡ 0x90000000 ∷ []) × (dropped_nodes (unsealed flags) ≡ (0x90000000, reason.Seal) ∷ [])
+unfolding unsealed is_candidate dropped_among verdicts load walk walk_from
+unsealed_is_candidate flags = (refl, refl)

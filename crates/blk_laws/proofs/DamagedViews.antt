@@ -106,13 +106,41 @@ looped_chain : chain looped.stock 0xA782 ≡ record { reached = 0xA0010000 ∷ [
 unfolding looped chain_from
 looped_chain = refl
 
--- three nodes, of which the one in the middle has a wrong prev: the walk ends before it
+-- three nodes, whose records have the keys `c`, `b` and `a`, each the first of its bucket; the node in the middle has this prev
+in_three : ℕ → View
+in_three prev =
+    let plain : View = shown 0x90000002 0
+    ((0x90000002, node 0x90000001 0x90000002 0xA0010002) ∷ (0x90000001, node 0x90000000 prev 0xA0010001) ∷ (0x90000000, node 0x90000000 0x90000001 0xA0010000) ∷ [])
+    ((0xA0010002, record { follow = 0; core = record (plain_core 0x90000002) { hash = 0xF4C73EBF } }) ∷ (0xA0010001, record { follow = 0; core = record (plain_core 0x90000001) { hash = 0x70C1A0E1 } }) ∷ (0xA0010000, entry 0 0x90000000) ∷ []) in
+    record plain {
+      stock = record plain.stock {
+        table = λ b. if b == 0x3EBF then 0xA0010002 else if b == 0xA0E1 then 0xA0010001 else if b == 0xA782 then 0xA0010000 else 0;
+        key_place = λ w n. if w == 0xA0010002 then codes "c" else if w == 0xA0010001 then codes "b" else codes "a";
+      };
+    }
+
+-- where it is right all three are kept
+all_three : kept_nodes (in_three 0x90000002) ≡ 0x90000002 ∷ 0x90000001 ∷ 0x90000000 ∷ []
+unfolding in_three kept_among verdicts load load_record load_key admit is_key_length key_of stream_of streams_of role_of is_named is_orphan record_claims all_claims claims_of has_claim overlap repeats kind_of block_count file_selector first_block external_number entry_blocks walk walk_from chain_from hash mixed of_bytes of_one
+all_three = refl
+
+-- where it is wrong the walk ends before it
 crossed : View
-crossed = shown 0x90000002 0 ((0x90000002, node 0x90000001 0x90000002 0) ∷ (0x90000001, node 0x90000000 0x90000001 0) ∷ (0x90000000, node 0x90000000 0x90000001 0) ∷ []) []
+crossed = in_three 0x90000001
 
 crossed_walk : walk crossed.list ≡ 0x90000002 ∷ []
-unfolding crossed walk walk_from
+unfolding crossed in_three walk walk_from
 crossed_walk = refl
+
+-- so the first alone is kept
+crossed_kept : kept_nodes crossed ≡ 0x90000002 ∷ []
+unfolding crossed in_three kept_among verdicts load load_record load_key admit is_key_length key_of stream_of streams_of role_of is_named is_orphan record_claims all_claims claims_of has_claim overlap repeats kind_of block_count file_selector first_block external_number entry_blocks walk walk_from chain_from hash mixed of_bytes of_one
+crossed_kept = refl
+
+-- and the records of the other two are unlisted
+crossed_unlisted : (unlisted_in crossed 0x3EBF ≡ []) × (unlisted_in crossed 0xA0E1 ≡ (0xA0010001, reason.Unlisted) ∷ []) × (unlisted_in crossed 0xA782 ≡ (0xA0010000, reason.Unlisted) ∷ [])
+unfolding crossed in_three is_unlisted walk walk_from chain_from
+crossed_unlisted = (refl, refl, refl)
 
 -- a list in a ring is walked once around
 ring : View
@@ -124,7 +152,7 @@ ring_walk = refl
 
 -- Transactions.
 
--- a transaction on a node that isn't there doesn't count, nor does one of an unknown operation, nor a removal whose neighbours aren't there; a removal of a node whose next is 0 counts
+-- a transaction on a node that isn't there doesn't count, nor does one of an unknown operation; a removal of a node whose neighbours are there counts
 with_operation : ℕ → ℕ → ListView
 with_operation transaction operation = record looped.list { transaction = transaction; operation = operation }
 
@@ -136,16 +164,45 @@ no_operation : (counts (with_operation 0x90000000 0) ≡ false) × (counts (with
 unfolding with_operation looped counts
 no_operation = (refl, refl)
 
-removal_counts : (counts (with_operation 0x90000000 2) ≡ true) × (counts (record crossed.list { transaction = 0x90000000; operation = 2 }) ≡ true)
-unfolding with_operation looped crossed counts
-removal_counts = (refl, refl)
+removal_counts : counts (with_operation 0x90000000 2) ≡ true
+unfolding with_operation looped counts
+removal_counts = refl
 
-lost_neighbour : View
-lost_neighbour = shown 0x90000000 0 ((0x90000000, node 0x90000007 0x90000000 0) ∷ []) []
+-- two nodes, with this head, and an operation on the first of them, which has these links
+in_flight : (head next prev operation : ℕ) → ListView
+in_flight head next prev operation =
+    record (shown head 0 ((0x90000000, node next prev 0) ∷ (0x90000001, node 0x90000001 0x90000000 0) ∷ []) []).list { transaction = 0x90000000; operation = operation }
 
-no_neighbour : counts (record lost_neighbour.list { transaction = 0x90000000; operation = 2 }) ≡ false
-unfolding lost_neighbour counts
-no_neighbour = refl
+-- with a head that isn't there an insertion doesn't count, nor does a move; a removal does
+lost_head : (counts (in_flight 0x90000007 0x90000001 0x90000000 1) ≡ false)
+    × (counts (in_flight 0x90000007 0x90000001 0x90000000 2) ≡ true)
+    × (counts (in_flight 0x90000007 0x90000001 0x90000000 3) ≡ false)
+unfolding in_flight counts
+lost_head = (refl, refl, refl)
+
+-- with no head all three do
+no_head : (counts (in_flight 0 0x90000001 0x90000000 1) ≡ true) × (counts (in_flight 0 0x90000001 0x90000000 2) ≡ true) × (counts (in_flight 0 0x90000001 0x90000000 3) ≡ true)
+unfolding in_flight counts
+no_head = (refl, refl, refl)
+
+-- with a next that isn't there and a right prev a removal doesn't count, nor does a move; an insertion does
+lost_next : (counts (in_flight 0x90000000 0x90000007 0x90000000 1) ≡ true)
+    × (counts (in_flight 0x90000000 0x90000007 0x90000000 2) ≡ false)
+    × (counts (in_flight 0x90000000 0x90000007 0x90000000 3) ≡ false)
+unfolding in_flight counts
+lost_next = (refl, refl, refl)
+
+-- and so with a right next and a prev that isn't there
+lost_prev : (counts (in_flight 0x90000000 0x90000001 0x90000007 1) ≡ true)
+    × (counts (in_flight 0x90000000 0x90000001 0x90000007 2) ≡ false)
+    × (counts (in_flight 0x90000000 0x90000001 0x90000007 3) ≡ false)
+unfolding in_flight counts
+lost_prev = (refl, refl, refl)
+
+-- where the next is 0, the prev may be anything
+no_next : (counts (in_flight 0x90000000 0 0x90000007 2) ≡ true) × (counts (in_flight 0x90000000 0 0x90000007 3) ≡ true)
+unfolding in_flight counts
+no_next = (refl, refl)
 
 -- what doesn't count is taken as 0, and leaves the walk
 not_counted : walk (completed_list (with_operation 0x90000005 1)) ≡ 0x90000000 ∷ []
@@ -177,9 +234,34 @@ rivals = shown 0x90000000 0xA0010000
     ((0x90000000, node 0x90000001 0x90000000 0xA0010000) ∷ (0x90000001, node 0x90000001 0x90000000 0xA0010001) ∷ [])
     ((0xA0010000, with_stream 0xA0010001 0x90000000) ∷ (0xA0010001, with_stream 0 0x90000001) ∷ [])
 
+rivals_kept : kept_nodes rivals ≡ 0x90000000 ∷ []
+unfolding rivals with_stream kept_among verdicts load load_record load_key admit is_key_length key_of stream_of streams_of role_of is_named is_orphan record_claims all_claims claims_of has_claim overlap repeats kind_of block_count file_selector first_block external_number entry_blocks walk walk_from chain_from hash mixed of_bytes of_one
+rivals_kept = refl
+
 rivals_dropped : dropped_nodes rivals ≡ (0x90000001, reason.Claimed) ∷ []
 unfolding rivals with_stream dropped_among verdicts load load_record load_key admit is_key_length key_of stream_of streams_of role_of is_named is_orphan record_claims all_claims claims_of has_claim overlap repeats kind_of block_count file_selector first_block external_number entry_blocks walk walk_from chain_from hash mixed of_bytes of_one
 rivals_dropped = refl
+
+-- so it is where their keys are `b` and `a`, each the first of its bucket, with `b` nearer the front
+strangers : View
+strangers =
+    let plain : View = shown 0x90000001 0
+    ((0x90000001, node 0x90000000 0x90000001 0xA0010001) ∷ (0x90000000, node 0x90000000 0x90000001 0xA0010000) ∷ [])
+    ((0xA0010001, record { follow = 0; core = record (with_stream 0 0x90000001).core { hash = 0x70C1A0E1 } }) ∷ (0xA0010000, with_stream 0 0x90000000) ∷ []) in
+    record plain {
+      stock = record plain.stock {
+        table = λ b. if b == 0xA0E1 then 0xA0010001 else if b == 0xA782 then 0xA0010000 else 0;
+        key_place = λ w n. if w == 0xA0010001 then codes "b" else codes "a";
+      };
+    }
+
+strangers_kept : kept_nodes strangers ≡ 0x90000001 ∷ []
+unfolding strangers with_stream kept_among verdicts load load_record load_key admit is_key_length key_of stream_of streams_of role_of is_named is_orphan record_claims all_claims claims_of has_claim overlap repeats kind_of block_count file_selector first_block external_number entry_blocks walk walk_from chain_from hash mixed of_bytes of_one
+strangers_kept = refl
+
+strangers_dropped : dropped_nodes strangers ≡ (0x90000000, reason.Claimed) ∷ []
+unfolding strangers with_stream dropped_among verdicts load load_record load_key admit is_key_length key_of stream_of streams_of role_of is_named is_orphan record_claims all_claims claims_of has_claim overlap repeats kind_of block_count file_selector first_block external_number entry_blocks walk walk_from chain_from hash mixed of_bytes of_one
+strangers_dropped = refl
 
 -- One record for each reason.
 

@@ -30,13 +30,13 @@ use Rattle.blk_laws.proofs.DoomedChanges.{changed-doomed-lies, changed-doomed, d
 use Rattle.blk_laws.proofs.ExampleChanges.{not-clear, and-false, named-blocks, only-node, new_block, block-is_free, touched, touched-claims, now, now-once, owners_now}
 
 -- the object `a`, settled or not
-abbrev doomed_object : Bool → Object
+abbrev pub doomed_object : Bool → Object
 doomed_object settled = record (one.object settled) { live = false }
 
-abbrev doomed_state : Bool → State
+abbrev pub doomed_state : Bool → State
 doomed_state settled = record (one.state settled) { objects = Some (doomed_object settled) ∷ []; uses = [] }
 
-abbrev doomed_layout : ℕ → Layout
+abbrev pub doomed_layout : ℕ → Layout
 doomed_layout dirty = record (one.layout dirty) { place = λ item. 0; place_of_doomed = λ number. one.node; state = λ w. doomed; chains = λ b. [] }
 
 -- the view, in which the node has this dirty word and data is stored at block 2 of data_1, or isn't
@@ -102,7 +102,7 @@ good-object settled = record {
   parts = λ i d less. absurd (omega arith);
 }
 
-doomed-is_valid : (settled : Bool) → IsValidState (doomed_state settled)
+pub doomed-is_valid : (settled : Bool) → IsValidState (doomed_state settled)
 doomed-is_valid settled = record { objects = objects; names = refl; bound = bound; listed = listed; once = λ item. omega arith; held = held-by } where
   objects : (number : ℕ) → IfSome (object_at (doomed_state settled) number) IsObject
   objects zero = good-object settled

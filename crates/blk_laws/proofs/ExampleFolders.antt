@@ -42,7 +42,7 @@ use Rattle.blk_laws.proofs.WholeMarks.{marks, whole-marks, whole-empty}
 -- ---- owners
 
 -- which blocks the entry has
-has-blocks : (n b : ℕ) → n < 4 → has_claim (BlockOf 0 0 ∷ BlockOf 1 0 ∷ BlockOf 1 1 ∷ []) (BlockOf n b) ≡ marks n b
+pub has-blocks : (n b : ℕ) → n < 4 → has_claim (BlockOf 0 0 ∷ BlockOf 1 0 ∷ BlockOf 1 1 ∷ []) (BlockOf n b) ≡ marks n b
 unfolding has_claim
 has-blocks zero b small = grind (arith, nat_tests)
 has-blocks (suc zero) b small = grind (arith, nat_tests)
@@ -54,7 +54,7 @@ some-if : (t : Bool) → is_some (if t then Some one.node else None) ≡ t
 some-if true = refl
 some-if false = refl
 
-whole-owner : (claim : Claim) → is_some ((one.layout 0).owner claim) ≡ has_claim (BlockOf 0 0 ∷ BlockOf 1 0 ∷ BlockOf 1 1 ∷ []) claim
+pub whole-owner : (claim : Claim) → is_some ((one.layout 0).owner claim) ≡ has_claim (BlockOf 0 0 ∷ BlockOf 1 0 ∷ BlockOf 1 1 ∷ []) claim
 whole-owner claim = some-if (has_claim (all_claims (one.loaded 0)) claim) ∙ ap (λ (cs : List Claim). has_claim cs claim) one.claims
 
 linked-below : (n : ℕ) → is_some (linked_as whole_folder n) ≡ nat_lt n 4
@@ -71,7 +71,7 @@ no-externals : (n : ℕ) → has_file whole_folder (External n) ≡ false
 unfolding whole_folder
 no-externals n = refl
 
-no-external : (n : ℕ) → has_claim (BlockOf 0 0 ∷ BlockOf 1 0 ∷ BlockOf 1 1 ∷ []) (ExternalOf n) ≡ false
+pub no-external : (n : ℕ) → has_claim (BlockOf 0 0 ∷ BlockOf 1 0 ∷ BlockOf 1 1 ∷ []) (ExternalOf n) ≡ false
 unfolding has_claim
 no-external n = refl
 
@@ -88,7 +88,7 @@ whole-is_allocated = record {
 
 -- ---- files, counters and seals
 
-whole-only : OnlyLinked whole_folder
+pub whole-only : OnlyLinked whole_folder
 unfolding whole_folder
 whole-only n small = there n ∙ sym (linked-below n) where
   there : (n : ℕ) → has_file whole_folder (Block n) ≡ nat_lt n 4
@@ -188,8 +188,7 @@ whole-is_shown = shows-state whole_folder (one.state true) (one.layout 0) whole-
 -- it stands for it
 pub whole-stands : StandsFor whole_folder (one.state true)
 whole-stands = stands-for whole_folder (one.state true) (one.layout 0) whole-is_represented (state_is_valid true) [] whole-is_allocated whole-is_well_formed
-    (λ doomed are. subst (λ (ds : List (ℕ × Loaded)). IsInOrder whole_folder (kept_by listed (view_of whole_folder)) (map (λ (d : ℕ × Loaded). d.1) ds)) (sym (none-doomed doomed are))
-    (subst (λ (ls : List Loaded). IsInOrder whole_folder ls []) (sym kept-listed) whole-is_in_order))
+    (subst (λ (ls : List Loaded). IsInOrder whole_folder ls []) (sym kept-listed) whole-is_in_order)
 
 whole-is_owned : AreOwned whole_folder (claims_of_loaded (one.loaded 0 ∷ []))
 whole-is_owned =

@@ -12,7 +12,7 @@ use Rattle.blk_format.specs.BlockFiles.{next_file_in, max_entries_in, files_alon
 use Rattle.blk_volume.specs.View.{view_of}
 use Rattle.blk_volume.specs.Footprint.{SameBut}
 use Rattle.blk_volume.specs.Layout.{Represents}
-use Rattle.blk_laws.specs.BareLaws.{new_file_words}
+use Rattle.blk_format.specs.NewFolder.{new_file_words}
 use Rattle.blk_laws.specs.ByteLaws.{is_past, AgreeBut, HaveGrown}
 use Rattle.blk_laws.proofs.OneEntry as one
 use Rattle.blk_laws.proofs.ByteChanges.{agreeing-views, growth-past}

@@ -21,7 +21,7 @@ use Rattle.blk_volume.specs.Loads.{held}
 use Rattle.blk_volume.specs.Audit.{kept_among, kept_by}
 use Rattle.blk_volume.specs.Found.{completed, found}
 use Rattle.blk_volume.specs.Candidates.{is_candidate, candidates, SameData, SameNamed}
-use Rattle.blk_laws.specs.BareLaws.{new_file_words}
+use Rattle.blk_format.specs.NewFolder.{new_file_words}
 use Rattle.blk_laws.proofs.OneEntry as one
 use Rattle.blk_laws.proofs.LeavingOut.{leaving-out}
 use Rattle.blk_laws.proofs.Loads.{one-chain}
@@ -63,7 +63,7 @@ other-walks = (refl, refl)
 
 -- and the candidate is the same
 one-candidate : (candidates (completed (view_of (folder_with small_records))) ≡ 0x90000000 ∷ []) × (candidates (completed (view_of dirty_folder)) ≡ 0x90000000 ∷ [])
-unfolding folder_with dirty_folder zeros with_word spliced next_file_in max_entries_in linked files_along type_among is_candidate stock_of named_at core_at stands stands_as_blocks is_address is_initialized names_external names_blocks kind_of reserved_bits block_count file_selector first_block external_number block_size block_place place room node_in entry_in words_at
+unfolding folder_with dirty_folder zeros with_word spliced next_file_in max_entries_in linked files_along type_among is_candidate stock_of named_at core_at stands stands_as_blocks is_address is_initialized names_external names_blocks kind_of reserved_bits block_count file_selector first_block external_number block_size block_place place room node_in entry_in entry_checks words_at
 one-candidate = (rw other-walks.0 refl, rw other-walks.1 refl)
 
 -- they agree on what it names

@@ -17,7 +17,7 @@ use Rattle.blk_format.specs.Records.{node_in, node_checks, entry_in, entry_check
 use Rattle.blk_format.specs.Headers.{index_length}
 use Rattle.blk_format.specs.BlockFiles.{next_file_in, max_entries_in, files_along, linked, type_among, IsWellFormed}
 use Rattle.blk_volume.specs.View.{core_of, entry_at, list_of, stock_of, checks_at, named_at, core_at}
-use Rattle.blk_laws.specs.BareLaws.{new_index_words, new_file_words}
+use Rattle.blk_format.specs.NewFolder.{new_index_words, new_file_words}
 use Rattle.blk_laws.proofs.Premises.{new_is_bare}
 use Rattle.blk_laws.proofs.NewFolders.{new_folder}
 use Rattle.blk_laws.proofs.SmallFolder.{small_records, folder_with}
@@ -40,7 +40,7 @@ entry = 0xA0010000
 
 -- ---- bytes
 
-small-zeros : (n : ℕ) → AreSmall (zeros n)
+pub small-zeros : (n : ℕ) → AreSmall (zeros n)
 small-zeros n i = omega (arith, content-zeros n i)
 
 small-file : (file : File) → AreSmall (bytes_of small file)

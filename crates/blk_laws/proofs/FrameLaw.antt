@@ -154,7 +154,7 @@ kept-candidate v words kept w l loads ok =
     admit-then kept m l ok (λ same no_orphan.
     load-then v held w m loaded (λ n e facts.
     let clean : (n.dirty == 0) ≡ true = facts.facts.keyed.clean in
-    rw (facts.node, clean, facts.entry)
+    rw (facts.node, clean, facts.entry, facts.checks)
     (⊎_elim
     (λ (flag : (e.flags == child) ≡ true).
     let part : (name : Name) × (index : PartIndex) × (m.role ≡ IsPart name index) × (read_name m.key ≡ Some name) = role-child e m.key m.streams m.role flag facts.facts.role in

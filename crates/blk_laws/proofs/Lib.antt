@@ -64,6 +64,7 @@ pub mod ExampleParts
 pub mod ExampleUnsettled
 pub mod ExampleDoomed
 pub mod ExampleDoom
+pub mod DoomedFolder
 pub mod Adding
 pub mod WellFormed
 pub mod Inside
@@ -74,3 +75,10 @@ pub mod Nodes
 pub mod Records
 pub mod IndexWords
 pub mod ExampleMoments
+pub mod NodeRecords
+pub mod WriteSteps
+pub mod WriteWords
+pub mod WordTurns
+pub mod WordStops
+pub mod Sealing
+pub mod ExampleWords

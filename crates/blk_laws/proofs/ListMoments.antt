@@ -43,19 +43,19 @@ ends l nodes c list =
     let same : outcome l ≡ rested e = sym (EachMoment-last (λ u. outcome u ≡ outcome l) (pending_writes l) l (pending_keeps l c)) ∙ outcome_done e (pending_ends l) in
     (IsList-pending (rested e) nodes e.operation e.transaction (subst (λ (v : ListView). IsList v nodes) same list), pending_ends l)
 
-head_good : (l : ListView) (nodes : List ℕ) → IsList l nodes → (eqb l.head 0 || l.checks l.head) ≡ true
+pub head_good : (l : ListView) (nodes : List ℕ) → IsList l nodes → (eqb l.head 0 || l.checks l.head) ≡ true
 head_good l [] list = rw list.head_is
 head_good l (h ∷ ys) list = or_right (eqb l.head 0) (l.checks l.head) (rw list.head_is list.linked.0.good)
 
-counts_insert : (n : ℕ) (l : ListView) → eqb n 0 ≡ false → l.checks n ≡ true → (eqb l.head 0 || l.checks l.head) ≡ true → counts (record l { operation = 1; transaction = n }) ≡ true
+pub counts_insert : (n : ℕ) (l : ListView) → eqb n 0 ≡ false → l.checks n ≡ true → (eqb l.head 0 || l.checks l.head) ≡ true → counts (record l { operation = 1; transaction = n }) ≡ true
 unfolding counts
 counts_insert n l nz good head = rw (nz, good, head)
 
-counts_remove : (n : ℕ) (l : ListView) → eqb n 0 ≡ false → l.checks n ≡ true → l.checks (l.next n) ≡ true → l.checks (l.prev n) ≡ true → counts (record l { operation = 2; transaction = n }) ≡ true
+pub counts_remove : (n : ℕ) (l : ListView) → eqb n 0 ≡ false → l.checks n ≡ true → l.checks (l.next n) ≡ true → l.checks (l.prev n) ≡ true → counts (record l { operation = 2; transaction = n }) ≡ true
 unfolding counts
 counts_remove n l nz good ng pg = rw (nz, good, ng, pg) (or_right (eqb (l.next n) 0) true refl)
 
-counts_move : (n : ℕ) (l : ListView) → eqb n 0 ≡ false → l.checks n ≡ true → l.checks (l.next n) ≡ true → l.checks (l.prev n) ≡ true → (eqb l.head 0 || l.checks l.head) ≡ true → counts (record l { operation = 3; transaction = n }) ≡ true
+pub counts_move : (n : ℕ) (l : ListView) → eqb n 0 ≡ false → l.checks n ≡ true → l.checks (l.next n) ≡ true → l.checks (l.prev n) ≡ true → (eqb l.head 0 || l.checks l.head) ≡ true → counts (record l { operation = 3; transaction = n }) ≡ true
 unfolding counts
 counts_move n l nz good ng pg head = rw (nz, good, head, ng, pg) (or_right (eqb (l.next n) 0) true refl)
 
@@ -68,7 +68,7 @@ last_good : (c : ℕ → Bool) (nx pv : ℕ → ℕ) (b x : ℕ) (xs : List ℕ)
 last_good c nx pv b x [] e s = s.0.good
 last_good c nx pv b x (y ∷ ys) e s = last_good c nx pv x y ys e s.1
 
-listed : (n : ℕ) (l : ListView) (xs ys : List ℕ) → IsList l (xs ++ n ∷ ys) → ListedGood l n
+pub listed : (n : ℕ) (l : ListView) (xs ys : List ℕ) → IsList l (xs ++ n ∷ ys) → ListedGood l n
 listed n l xs ys list = go xs ys (split l.checks l.next l.prev (first_or 0 (xs ++ n ∷ ys)) xs (n ∷ ys) (last_or 0 (xs ++ n ∷ ys)) list.linked)
   where
     go : (xs ys : List ℕ) → Segment l.checks l.next l.prev (first_or 0 (xs ++ n ∷ ys)) xs n × Segment l.checks l.next l.prev (last_or (first_or 0 (xs ++ n ∷ ys)) xs) (n ∷ ys) (last_or 0 (xs ++ n ∷ ys)) → ListedGood l n
@@ -84,7 +84,7 @@ module _ (n : ℕ) (l : ListView) (nodes : List ℕ) (list : IsList l nodes) (e 
       subst (λ (v : ListView). IsList v (n ∷ nodes)) (sym (outcome_front n l1 refl refl (not_zero l n list.no_zero good) good (head_good l nodes list)))
       (IsList-pending (put_front n l1) (n ∷ nodes) 0 0 (list_front n l1 nodes (IsList-pending l nodes 1 n list) lacks good (omega arith)))
 
-  insert_counts : counts (record l { operation = 1; transaction = n }) ≡ true
+  pub insert_counts : counts (record l { operation = 1; transaction = n }) ≡ true
   insert_counts = counts_insert n l (not_zero l n list.no_zero good) good (head_good l nodes list)
 
   pub insert_turns : TurnsAtTwo l (writes_of 1 n l) nodes (n ∷ nodes)
@@ -94,7 +94,7 @@ module _ (n : ℕ) (l : ListView) (nodes : List ℕ) (list : IsList l nodes) (e 
   insert_ends = ends (record l { operation = 1; transaction = n }) (n ∷ nodes) insert_counts inserted
 
 module _ (n : ℕ) (l : ListView) (xs ys : List ℕ) (list : IsList l (xs ++ n ∷ ys)) (e : l.transaction ≡ 0) where
-  links_good : (eqb (l.next n) 0 || (l.checks (l.next n) && l.checks (l.prev n))) ≡ true
+  pub links_good : (eqb (l.next n) 0 || (l.checks (l.next n) && l.checks (l.prev n))) ≡ true
   links_good = let g = listed n l xs ys list in or_right (eqb (l.next n) 0) (l.checks (l.next n) && l.checks (l.prev n)) (rw (g.next_good, g.prev_good))
 
   removed : IsList (outcome (record l { operation = 2; transaction = n })) (xs ++ ys)
@@ -123,7 +123,7 @@ module _ (n : ℕ) (l : ListView) (xs ys : List ℕ) (list : IsList l (xs ++ n �
       (list_front n T (xs ++ ys) (list_out n l1 xs ys (IsList-pending l (xs ++ n ∷ ys) 3 n list)) (has_not xs n ys list.distinct) (ap (λ (c : ℕ → Bool). c n) (checks_out n l1) ∙ g.good)
       (omega (arith, list.few, length-append xs (n ∷ ys), length-append xs ys))))
 
-  move_counts : counts (record l { operation = 3; transaction = n }) ≡ true
+  pub move_counts : counts (record l { operation = 3; transaction = n }) ≡ true
   move_counts = let g = listed n l xs ys list in counts_move n l (not_zero l n list.no_zero g.good) g.good g.next_good g.prev_good (head_good l (xs ++ n ∷ ys) list)
 
   pub move_turns : TurnsAtTwo l (writes_of 3 n l) (xs ++ n ∷ ys) (n ∷ xs ++ ys)
@@ -132,13 +132,13 @@ module _ (n : ℕ) (l : ListView) (xs ys : List ℕ) (list : IsList l (xs ++ n �
   pub move_ends : IsList (after_writes (writes_of 3 n l) l) (n ∷ xs ++ ys) × ((after_writes (writes_of 3 n l) l).transaction ≡ 0)
   move_ends = ends (record l { operation = 3; transaction = n }) (n ∷ xs ++ ys) move_counts moved
 
-no_touch : (l : ListView) (n : ℕ) → l.head ≡ n → touch_writes n l ≡ []
+pub no_touch : (l : ListView) (n : ℕ) → l.head ≡ n → touch_writes n l ≡ []
 no_touch l n h = let t : eqb l.head n ≡ true = eq-eqb l.head n h in rw t
 
-some_touch : (l : ListView) (n : ℕ) → eqb l.head n ≡ false → touch_writes n l ≡ writes_of 3 n l
+pub some_touch : (l : ListView) (n : ℕ) → eqb l.head n ≡ false → touch_writes n l ≡ writes_of 3 n l
 some_touch l n h = rw h
 
-not_first : (n : ℕ) (l : ListView) (x : ℕ) (xs ys : List ℕ) → IsList l (x ∷ xs ++ n ∷ ys) → eqb l.head n ≡ false
+pub not_first : (n : ℕ) (l : ListView) (x : ℕ) (xs ys : List ℕ) → IsList l (x ∷ xs ++ n ∷ ys) → eqb l.head n ≡ false
 not_first n l x xs ys list = rw list.head_is (or_parts (eqb x n) (is_among (xs ++ ys) n) (has_not (x ∷ xs) n ys list.distinct)).0
 
 pub touch_turns : (n : ℕ) (l : ListView) (xs ys : List ℕ) → IsList l (xs ++ n ∷ ys) → l.transaction ≡ 0 → TurnsAtTwo l (touch_writes n l) (xs ++ n ∷ ys) (n ∷ xs ++ ys)
@@ -161,11 +161,11 @@ completing l [] = refl
 completing l (k ∷ ks) =
     completing (after_writes (take k (completion_writes l)) l) ks ∙ at_moment (λ u. outcome u ≡ outcome l) (completion_writes l) l k (completion_keeps l)
 
-completion_true : (l : ListView) → counts l ≡ true → completion_writes l ≡ pending_writes l
+pub completion_true : (l : ListView) → counts l ≡ true → completion_writes l ≡ pending_writes l
 unfolding completion_writes
 completion_true l e = rw e
 
-completion_false : (l : ListView) → counts l ≡ false → completion_writes l ≡ Transaction 0 ∷ []
+pub completion_false : (l : ListView) → counts l ≡ false → completion_writes l ≡ Transaction 0 ∷ []
 unfolding completion_writes
 completion_false l e = rw e
 

@@ -10,19 +10,20 @@ use Rattle.blk_image.specs.Steps.{with_word, with_words}
 use Rattle.blk_image.specs.Order.{IsBefore}
 use Rattle.blk_image.proofs.Splices.{length-zeros, content-zeros, content-spliced_outside}
 use Rattle.blk_image.proofs.Words.{word-beside, word-zeros, length-with_words}
-use Rattle.blk_format.specs.Address.{block_size}
-use Rattle.blk_format.specs.Headers.{head_checks, list_checks, index_length, block_header_length, place_of_bucket}
+use Rattle.blk_format.specs.Address.{block_size, header_size}
+use Rattle.blk_format.specs.Headers.{head_checks, list_checks, index_length, place_of_bucket}
 use Rattle.blk_format.specs.BlockFiles.{next_file_in, max_entries_in, files_along, linked, linked_as, type_among, is_link, is_block_count, file_checks, checks_along, checks_of_type, linked_up_to, IsWellFormed}
 use Rattle.blk_volume.specs.View.{list_of}
-use Rattle.blk_laws.specs.BareLaws.{new_index_words, new_file_words, IsNew, IsBareIndex, IsBareFile, IsBare, NewFoldersAreBare}
+use Rattle.blk_format.specs.NewFolder.{new_index_words, new_file_words, IsMade}
+use Rattle.blk_laws.specs.BareLaws.{IsBareIndex, IsBareFile, IsBare, NewFoldersAreBare}
 
 -- the new folder
 pub new_folder : ℕ → Image
 new_folder moment Index = Some (with_words (new_index_words moment) (zeros index_length))
-new_folder moment (Block n) = if nat_lt n 4 then Some (with_words (new_file_words n) (zeros block_header_length)) else None
+new_folder moment (Block n) = if nat_lt n 4 then Some (with_words (new_file_words n) (zeros header_size)) else None
 new_folder moment (External n) = None
 
-is-new : (moment : ℕ) (image : Image) → IsNew moment image → image ≡ new_folder moment
+is-new : (moment : ℕ) (image : Image) → IsMade moment image → image ≡ new_folder moment
 unfolding new_folder
 is-new moment image new = λ i file. each file i where
   each : (file : File) → image file ≡ new_folder moment file
@@ -77,11 +78,11 @@ linked-is moment n =
       go (suc (suc (suc zero))) = refl
       go (suc (suc (suc (suc n)))) = grind (arith, nat_tests)
 
-file-is : (moment n : ℕ) → n < 4 → new_folder moment (Block n) ≡ Some (with_words (new_file_words n) (zeros block_header_length))
+file-is : (moment n : ℕ) → n < 4 → new_folder moment (Block n) ≡ Some (with_words (new_file_words n) (zeros header_size))
 unfolding new_folder
 file-is moment n small = rw (lt-ltb n 4 small) refl
 
-bytes-are : (moment n : ℕ) → n < 4 → bytes_of (new_folder moment) (Block n) ≡ with_words (new_file_words n) (zeros block_header_length)
+bytes-are : (moment n : ℕ) → n < 4 → bytes_of (new_folder moment) (Block n) ≡ with_words (new_file_words n) (zeros header_size)
 bytes-are moment n small = ap (λ (o : Option (List ℕ)). unwrap_or o []) (file-is moment n small)
 
 -- a place is behind each of these words
@@ -98,8 +99,8 @@ file-byte : (moment n k : ℕ) → n < 4 → 16 ≤ k → byte (new_folder momen
 unfolding zeros
 file-byte moment n k small later =
     ap (λ (bytes : List ℕ). content bytes k) (bytes-are moment n small)
-    ∙ byte-later (new_file_words n) (zeros block_header_length) k (omega arith, (omega arith, (omega arith, (omega arith, tt))))
-    ∙ content-zeros block_header_length k
+    ∙ byte-later (new_file_words n) (zeros header_size) k (omega arith, (omega arith, (omega arith, (omega arith, tt))))
+    ∙ content-zeros header_size k
 
 file-word : (moment n k : ℕ) → n < 4 → 16 ≤ k → word_at (byte (new_folder moment) (Block n)) k ≡ 0
 file-word moment n k small later =
@@ -108,7 +109,7 @@ file-word moment n k small later =
 bare-file : (moment n : ℕ) → n < 4 → IsBareFile (new_folder moment) n
 unfolding max_entries_in
 bare-file moment n small = record {
-  long_enough = let l : length_of (new_folder moment) (Block n) ≡ block_header_length = ap length (bytes-are moment n small) ∙ length-with_words (new_file_words n) (zeros block_header_length) ∙ length-zeros block_header_length in omega arith;
+  long_enough = let l : length_of (new_folder moment) (Block n) ≡ header_size = ap length (bytes-are moment n small) ∙ length-with_words (new_file_words n) (zeros header_size) ∙ length-zeros header_size in omega arith;
   allocations = file-word moment n 16 small (lit≤ tt);
   max_entries = file-word moment n 20 small (lit≤ tt);
   empty = λ i few. file-word moment n (24 + 4 * i) small (omega arith);
@@ -138,7 +139,7 @@ pub new-bare : NewFoldersAreBare
 new-bare moment image new = subst IsBare (sym (is-new moment image new)) (bare moment)
 
 -- and the new folder is new
-pub new-is_new : (moment : ℕ) → IsNew moment (new_folder moment)
+pub new-is_new : (moment : ℕ) → IsMade moment (new_folder moment)
 unfolding new_folder
 new-is_new moment = record { index = refl; blocks = λ n small. rw (lt-ltb n 4 small) refl; others = others } where
   others : (file : File) → IsBefore (Block 3) file → new_folder moment file ≡ None

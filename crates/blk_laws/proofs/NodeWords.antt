@@ -12,7 +12,7 @@ use Rattle.blk_volume.specs.Footprint.{IsClear}
 use Rattle.blk_laws.proofs.ClaimLists.{claim-head, no-claim}
 use Rattle.blk_laws.proofs.ByteChanges.{stands-some, stands-address, not_equal}
 
-node_apart : rankings ≢ external
+pub node_apart : rankings ≢ external
 node_apart e = let x : ◌≡◌ {A = ℕ} 1 0 = e in cc
 
 -- what a standing node's word is
@@ -26,7 +26,7 @@ external-not : (w : ℕ) → kind_of w ≡ rankings → names_external w ≡ fal
 unfolding names_external
 external-not w kind = rw kind refl
 
-initialized-fits : (w : ℕ) → is_initialized w ≡ true → w < 2 ^ 32
+pub initialized-fits : (w : ℕ) → is_initialized w ≡ true → w < 2 ^ 32
 unfolding is_initialized
 initialized-fits w e = let top : w / 2 ^ 31 ≡ 1 = eqb-true (w / 2 ^ 31) 1 e in omega arith
 

@@ -31,7 +31,7 @@ use Rattle.blk_laws.proofs.StillShown.{standing-parts, stands_as-all, index-stil
 abbrev names_of : Node → Named
 names_of n = record { contents = n.contents; dirty = n.dirty }
 
-good-stands : (image : Image) (w : ℕ) → (list_of image).checks w ≡ true → stands_as image rankings w ≡ true
+pub good-stands : (image : Image) (w : ℕ) → (list_of image).checks w ≡ true → stands_as image rankings w ≡ true
 unfolding list_of checks_at
 good-stands image w good = (and_parts (stands_as image rankings w) (node_checks (node_at image w)) good).0
 

@@ -22,7 +22,7 @@ use Rattle.blk_volume.specs.Audit.{kept_by, kept_among}
 use Rattle.blk_volume.specs.Found.{row_of, kept, found}
 use Rattle.blk_volume.specs.Layout.{Layout, is_listed, order, rule_of, IsMarked, IsLaid, IsListedRecord, IsDoomedAt, Lies, Represents}
 use Rattle.blk_volume.specs.Given.{given_by}
-use Rattle.blk_volume.specs.StandsFor.{IsMarkedRow, KeepsDoomed, AreDoomed, ShowsState, StandsFor, IsOwner, IsAllocated}
+use Rattle.blk_volume.specs.StandsFor.{IsMarkedRow, KeepsDoomed, AreDoomed, ShowsState, StandsFor, doomed_of, IsOwner, IsAllocated}
 use Rattle.blk_volume.specs.Sound.{EndsWhole, AreOwned, IsInOrder}
 use Rattle.blk_laws.specs.StateLaws.{FoundIsAtRest}
 use Rattle.blk_laws.proofs.ClaimLists.{claim-append, no-claim, repeats-append, contents-claims, some-claim}
@@ -81,13 +81,6 @@ module _ (y : Layout) (own : (w : ℕ) (l : Loaded) (c : Claim) → y.at w ≡ S
         go (Some k) g = claim-append (all_claims k) (claims_at y ws) c ∙ or_right (has_claim (all_claims k) c) (has_claim (claims_at y ws) c) g
 
 -- ---- the doomed objects of some numbers
-
--- what lies at the node of a doomed object, with its number
-abbrev numbered : Layout → ℕ → Option (ℕ × Loaded)
-numbered y number = option_map (λ (l : Loaded). (number, l)) (y.at (y.place_of_doomed number))
-
-abbrev doomed_of : Layout → List ℕ → List (ℕ × Loaded)
-doomed_of y numbers = filter_map (numbered y) numbers
 
 doomed-records : (y : Layout) (numbers : List ℕ) → map (λ (d : ℕ × Loaded). d.1) (doomed_of y numbers) ≡ filter_map y.at (map y.place_of_doomed numbers)
 doomed-records y [] = refl
@@ -226,7 +219,7 @@ module _ (image : Image) (m : State) (y : Layout) (r : Represents (view_of image
         subst (λ (z : Option Loaded). AllByRecursion (λ x. IsSomeAnd (object_at m x.0) (λ o. KeepsDoomed (view_of image) o x.1)) (cons_option (option_map (λ (l : Loaded). (n, l)) z) (doomed_of y ns)) × (map (λ (x : ℕ × Loaded). x.0) (cons_option (option_map (λ (l : Loaded). (n, l)) z) (doomed_of y ns)) ≡ n ∷ ns)) (sym d.here)
         ((here, rest.0), ap (λ (xs : List ℕ). n ∷ xs) rest.1)
 
-  are-doomed : AreDoomed (view_of image) m (doomed_of y numbers)
+  pub are-doomed : AreDoomed (view_of image) m (doomed_of y numbers)
   are-doomed =
       let p = doomed-each numbers a.doomed.each (λ n h. h) in
       record {
@@ -257,8 +250,8 @@ module _ (image : Image) (m : State) (y : Layout) (r : Represents (view_of image
     marks = rw kept-at (marks-of (order m y) (λ w h. h));
   }
 
-  pub stands-for : IsWellFormed image → ((doomed : List (ℕ × Loaded)) → AreDoomed (view_of image) m doomed → IsInOrder image (kept_by listed (view_of image)) (map (λ (d : ℕ × Loaded). d.1) doomed)) → StandsFor image m
-  stands-for well in_order = record { well_formed = well; shows = shows-state; doomed = doomed_of y numbers; are_doomed = are-doomed; owned = are-owned; in_order = in_order (doomed_of y numbers) are-doomed }
+  pub stands-for : IsWellFormed image → IsInOrder image (kept_by listed (view_of image)) (map (λ (d : ℕ × Loaded). d.1) (doomed_of y numbers)) → StandsFor image m
+  stands-for well in_order = record { well_formed = well; shows = shows-state; doomed = doomed_of y numbers; are_doomed = are-doomed; owned = are-owned; in_order = in_order }
 
 -- a finished folder that represents a state holds what is at rest
 pub found-at_rest : FoundIsAtRest

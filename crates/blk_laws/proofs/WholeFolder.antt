@@ -22,7 +22,7 @@ use Rattle.blk_volume.specs.Chains.{is_of_bucket, IsChain}
 use Rattle.blk_volume.specs.Loads.{alone, load, load_key, load_record}
 use Rattle.blk_volume.specs.Found.{found}
 use Rattle.blk_volume.specs.Layout.{Represents}
-use Rattle.blk_laws.specs.BareLaws.{new_index_words, new_file_words}
+use Rattle.blk_format.specs.NewFolder.{new_index_words, new_file_words}
 use Rattle.blk_laws.proofs.OneEntry as one
 use Rattle.blk_laws.proofs.Premises.{state_is_valid}
 use Rattle.blk_laws.proofs.NewFolders.{Beside, words_beside}

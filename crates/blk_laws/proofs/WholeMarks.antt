@@ -6,14 +6,14 @@ use Rattle.std.proofs.lemmas.Nat.Bits.{bit_at-zero}
 use Rattle.std.proofs.lemmas.Bool.Decides.{nat_tests}
 use Rattle.std.proofs.lemmas.Bool.{cases_lt, lt-ltb, le-ltb}
 use Rattle.blk_image.specs.Bytes.{content, spliced, zeros, word_bytes}
-use Rattle.blk_image.specs.Image.{Block, byte}
+use Rattle.blk_image.specs.Image.{Block, Image, byte}
 use Rattle.blk_image.specs.Steps.{with_word, with_words}
 use Rattle.blk_image.proofs.Splices.{length-zeros, content-spliced_inside, content-spliced_outside, content-zeros}
 use Rattle.blk_image.proofs.Words.{length-with_word}
 use Rattle.blk_format.specs.Headers.{empty_of}
 use Rattle.blk_format.specs.BlockFiles.{max_entries_in}
 use Rattle.blk_format.specs.Maps.{is_marked_at, is_marked, are_free, has_run, longest_run, groups_with, groups_of, EmptyAgrees}
-use Rattle.blk_laws.specs.BareLaws.{new_file_words}
+use Rattle.blk_format.specs.NewFolder.{new_file_words}
 use Rattle.blk_laws.proofs.NewFolders.{byte-later}
 use Rattle.blk_laws.proofs.WholeFolder.{whole_folder}
 
@@ -34,10 +34,10 @@ pub byte-outside : (ws : List (ℕ × ℕ)) (bytes : List ℕ) (k : ℕ) → Out
 byte-outside [] bytes k out = refl
 byte-outside (w ∷ ws) bytes k out = byte-outside ws (with_word w.0 w.1 bytes) k out.1 ∙ unfold with_word in content-spliced_outside w.0 _ bytes k out.0
 
-abbrev nodes_words : List (ℕ × ℕ)
+abbrev pub nodes_words : List (ℕ × ℕ)
 nodes_words = new_file_words 0 ++ (16, 1) ∷ (20, 1024) ∷ (32, 1) ∷ (36, 255) ∷ (80, 1) ∷ (8208, 0x90000000) ∷ (8212, 0x90000000) ∷ (8216, 0xA0010000) ∷ (8224, 0xFE7F2CF2) ∷ []
 
-abbrev records_words : List (ℕ × ℕ)
+abbrev pub records_words : List (ℕ × ℕ)
 records_words = new_file_words 1 ++ (16, 2) ∷ (20, 1024) ∷ (28, 1) ∷ (36, 255) ∷ (80, 3) ∷ (8192, 0x115EA782) ∷ (8200, 0x90000000) ∷ (8224, 1) ∷ (8232, 2) ∷ (8248, 0xA0010001) ∷ (8284, 0x2C6F24C8) ∷ (8288, 97) ∷ (8448, 0x7A7A) ∷ []
 
 -- ---- marks
@@ -173,12 +173,12 @@ content-words (w ∷ ws) bytes n size inside =
     content-words ws (with_word w.0 w.1 bytes) n (length-with_word w.0 w.1 bytes ∙ size) inside.1
     ∙ ap (over_all ws) (content-word w bytes (let i = inside.0 in omega arith))
 
-nodes-content : byte whole_folder (Block 0) ≡ over_all nodes_words (λ k. 0)
+pub nodes-content : byte whole_folder (Block 0) ≡ over_all nodes_words (λ k. 0)
 unfolding whole_folder
 nodes-content = content-words nodes_words (zeros 45056) 45056 (length-zeros 45056) (omega arith, (omega arith, (omega arith, (omega arith, (omega arith, (omega arith, (omega arith, (omega arith, (omega arith, (omega arith, (omega arith, (omega arith, (omega arith, tt)))))))))))))
     ∙ ap (over_all nodes_words) (λ i k. content-zeros 45056 k i)
 
-records-content : byte whole_folder (Block 1) ≡ over_all records_words (λ k. 0)
+pub records-content : byte whole_folder (Block 1) ≡ over_all records_words (λ k. 0)
 unfolding whole_folder
 records-content = content-words records_words (zeros 270336) 270336 (length-zeros 270336)
     (omega arith, (omega arith, (omega arith, (omega arith, (omega arith, (omega arith, (omega arith, (omega arith, (omega arith, (omega arith, (omega arith, (omega arith, (omega arith, (omega arith, (omega arith, (omega arith, (omega arith, tt)))))))))))))))))
@@ -202,10 +202,10 @@ unfolding groups_with longest_run has_run are_free
 groups-1 = (refl, refl, refl, refl)
 
 -- the counts of the groups agree with the map
-empty-agrees : (n : ℕ) (f : ℕ → ℕ) → byte whole_folder (Block n) ≡ f → max_entries_in whole_folder n ≡ 1024 → ((i : ℕ) → i < 4 → empty_of (byte whole_folder (Block n)) i ≡ groups_with (is_marked_at f) 256 (i + 1)) → EmptyAgrees whole_folder n
+pub empty-agrees : (image : Image) (n : ℕ) (f : ℕ → ℕ) → byte image (Block n) ≡ f → max_entries_in image n ≡ 1024 → ((i : ℕ) → i < 4 → empty_of (byte image (Block n)) i ≡ groups_with (is_marked_at f) 256 (i + 1)) → EmptyAgrees image n
 unfolding EmptyAgrees
-empty-agrees n f same most each i small =
-    each i small ∙ sym (ap (λ (g : ℕ → ℕ). groups_with (is_marked_at g) 256 (i + 1)) same) ∙ ap (λ (m : ℕ). groups_with (is_marked whole_folder n) (groups_of m) (i + 1)) (sym most)
+empty-agrees image n f same most each i small =
+    each i small ∙ sym (ap (λ (g : ℕ → ℕ). groups_with (is_marked_at g) 256 (i + 1)) same) ∙ ap (λ (m : ℕ). groups_with (is_marked image n) (groups_of m) (i + 1)) (sym most)
 
 -- a file with no blocks has no groups
 no-groups : (n : ℕ) → max_entries_in whole_folder n ≡ 0 → ((i : ℕ) → i < 4 → empty_of (byte whole_folder (Block n)) i ≡ 0) → EmptyAgrees whole_folder n
@@ -234,14 +234,14 @@ no-words-3 = (refl, each) where
 
 -- the counts of each file agree with its map
 pub whole-empty : (n : ℕ) → n < 4 → EmptyAgrees whole_folder n
-whole-empty zero small = empty-agrees 0 (over_all nodes_words (λ k. 0)) nodes-content counts-0.0 each where
+whole-empty zero small = empty-agrees whole_folder 0 (over_all nodes_words (λ k. 0)) nodes-content counts-0.0 each where
   each : (i : ℕ) → i < 4 → empty_of (byte whole_folder (Block 0)) i ≡ groups_with (is_marked_at (over_all nodes_words (λ k. 0))) 256 (i + 1)
   each zero small = counts-0.1 ∙ sym groups-0.0
   each (suc zero) small = counts-0.2 ∙ sym groups-0.1
   each (suc (suc zero)) small = counts-0.3 ∙ sym groups-0.2
   each (suc (suc (suc zero))) small = counts-0.4 ∙ sym groups-0.3
   each (suc (suc (suc (suc i)))) small = absurd (omega arith)
-whole-empty (suc zero) small = empty-agrees 1 (over_all records_words (λ k. 0)) records-content counts-1.0 each where
+whole-empty (suc zero) small = empty-agrees whole_folder 1 (over_all records_words (λ k. 0)) records-content counts-1.0 each where
   each : (i : ℕ) → i < 4 → empty_of (byte whole_folder (Block 1)) i ≡ groups_with (is_marked_at (over_all records_words (λ k. 0))) 256 (i + 1)
   each zero small = counts-1.1 ∙ sym groups-1.0
   each (suc zero) small = counts-1.2 ∙ sym groups-1.1

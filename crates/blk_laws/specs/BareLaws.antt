@@ -1,14 +1,11 @@
 -- The laws of folders in which nothing is kept, such as one that was just made.
-use Rattle.std.specs.Prelude.{◌≡◌, ℕ, suc, ◌/◌, ◌%◌, ◌^◌, ◌<◌, ◌≤◌, List, [], ◌∷◌, true, false, is_some}
-use Rattle.std.specs.declared.option.Option.TheVariants.{None, Some}
-use Rattle.blk_image.specs.Bytes.{zeros}
-use Rattle.blk_image.specs.Image.{File, Index, Block, External, Image, has_file, length_of, byte}
-use Rattle.blk_image.specs.Steps.{with_words}
-use Rattle.blk_image.specs.Order.{IsBefore}
+use Rattle.std.specs.Prelude.{◌≡◌, ℕ, ◌^◌, ◌<◌, ◌≤◌, [], true, false, is_some}
+use Rattle.blk_image.specs.Image.{Index, Block, External, Image, has_file, length_of, byte}
 use Rattle.blk_model.specs.State.{Bounds}
 use Rattle.blk_model.specs.Holding.{open_state}
-use Rattle.blk_format.specs.Address.{block_size}
-use Rattle.blk_format.specs.Headers.{table_length, index_length, block_header_length, index_magic, block_magic, version, num_entries_of, num_bytes_of, sizes_of, bucket_of, allocations_of, empty_of, updating_of}
+use Rattle.blk_format.specs.Address.{header_size}
+use Rattle.blk_format.specs.Headers.{table_length, num_entries_of, num_bytes_of, sizes_of, bucket_of, allocations_of, empty_of, updating_of}
+use Rattle.blk_format.specs.NewFolder.{IsMade}
 use Rattle.blk_format.specs.BlockFiles.{linked_as, max_entries_in, most_blocks, IsWellFormed}
 use Rattle.blk_format.specs.Maps.{is_marked}
 use Rattle.blk_volume.specs.View.{list_of, view_of}
@@ -34,7 +31,7 @@ pub record IsBareIndex (image : Image) : Type 0 where
 
 -- a block file has its header, and no block
 pub record IsBareFile (image : Image) (n : ℕ) : Type 0 where
-  pub long_enough : block_header_length ≤ length_of image (Block n)
+  pub long_enough : header_size ≤ length_of image (Block n)
   pub allocations : allocations_of (byte image (Block n)) ≡ 0
   pub max_entries : max_entries_in image n ≡ 0
   pub empty : (i : ℕ) → i < 4 → empty_of (byte image (Block n)) i ≡ 0
@@ -65,20 +62,6 @@ BareFoldersRepresentTheEmptyState = (image : Image) (limits : Bounds) → IsBare
 abbrev pub BareFoldersStandForTheEmptyState : Type 0
 BareFoldersStandForTheEmptyState = (image : Image) (limits : Bounds) → IsBare image → StandsFor image (open_state [] limits)
 
--- the words of a new index that aren't 0, each with its place: version, table_len, create_time, and last the magic
-abbrev pub new_index_words : ℕ → List (ℕ × ℕ)
-new_index_words moment = (4, version) ∷ (28, table_length) ∷ (40, moment % 2 ^ 32) ∷ (44, moment / 2 ^ 32) ∷ (0, index_magic) ∷ []
-
--- those of a new block file: magic, version, this_file and entry_size
-abbrev pub new_file_words : ℕ → List (ℕ × ℕ)
-new_file_words n = (0, block_magic) ∷ (4, version) ∷ (8, n) ∷ (12, block_size (suc n)) ∷ []
-
--- a new folder, made at a moment: an index and four block files of these words and zeros, and no other file
-pub record IsNew (moment : ℕ) (image : Image) : Type 0 where
-  pub index : image Index ≡ Some (with_words (new_index_words moment) (zeros index_length))
-  pub blocks : (n : ℕ) → n < 4 → image (Block n) ≡ Some (with_words (new_file_words n) (zeros block_header_length))
-  pub others : (file : File) → IsBefore (Block 3) file → image file ≡ None
-
 -- a new folder is bare
 abbrev pub NewFoldersAreBare : Type 0
-NewFoldersAreBare = (moment : ℕ) (image : Image) → IsNew moment image → IsBare image
+NewFoldersAreBare = (moment : ℕ) (image : Image) → IsMade moment image → IsBare image

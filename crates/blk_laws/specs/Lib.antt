@@ -10,3 +10,5 @@ pub mod BlockMoments
 pub mod NodeMoments
 pub mod RecordMoments
 pub mod IndexMoments
+pub mod ListSteps
+pub mod ListWords

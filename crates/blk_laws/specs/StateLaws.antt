@@ -21,7 +21,7 @@ use Rattle.blk_volume.specs.Layout.{Layout, is_in, is_listed, nodes_of, order, L
 use Rattle.blk_volume.specs.Given.{given_by, GoesWith, picked_with, IsTest}
 use Rattle.blk_volume.specs.Footprint.{SameBut, IsFree, IsReplaced}
 use Rattle.blk_volume.specs.Sound.{ChainsEnd, IsInOrder}
-use Rattle.blk_volume.specs.StandsFor.{AreDoomed, ShowsState, StandsFor, IsAllocated}
+use Rattle.blk_volume.specs.StandsFor.{ShowsState, StandsFor, doomed_of, IsAllocated}
 
 -- What represents a valid state.
 
@@ -56,7 +56,7 @@ RepresentedStatesAreShown = (image : Image) (state : State) (layout : Layout) (n
 -- and an image stands for it where it is well formed, its maps are exact, and its files, counters and seals are in order
 abbrev pub RepresentedStatesAreStoodFor : Type 0
 RepresentedStatesAreStoodFor = (image : Image) (state : State) (layout : Layout) (numbers : List ℕ) → Represents (view_of image) state layout → IsValidState state → IsAllocated image state layout numbers → IsWellFormed image
-    → ((doomed : List (ℕ × Loaded)) → AreDoomed (view_of image) state doomed → IsInOrder image (kept_by listed (view_of image)) (map (λ d. d.1) doomed)) → StandsFor image state
+    → IsInOrder image (kept_by listed (view_of image)) (map (λ d. d.1) (doomed_of layout numbers)) → StandsFor image state
 
 -- What a walk of some items of a layout keeps.
 

@@ -11,8 +11,13 @@ ghost use Rattle.blk_laws.specs.KeptLaws.{KeptAreTheGiven, NoneOfTheGivenIsDropp
 ghost use Rattle.blk_laws.specs.ListLaws.{WalksAreTheLists, InsertsTurnAtTwo, InsertsEnd, RemovalsTurnAtTwo, RemovalsEnd, TouchesTurnAtTwo, TouchesEnd, CompletingAgainIsTheSame, CompletionsEnd, ChainsAreTheirRecords, RecordsAreLinkedInFront, OtherChainsStay, FirstRecordsAreUnlinked, LaterRecordsAreUnlinked};
 ghost use Rattle.blk_laws.specs.StateLaws.{WalksAreTheOrder, ListedAreTheRows, NothingListedIsDropped, RepresentedChainsEnd, KeptAreAtRest, FoundIsAtRest, RepresentedStatesAreShown, RepresentedStatesAreStoodFor, LaidIsShown, KeptArePicked, FreeFootprintsKeepStates, ChangedItemsAreLaid, ChangedItemsAreRepresented};
 
+mod list_words;
 mod moments;
 
+pub use list_words::{
+    completions_at_each_word, inserts_at_each_word, removals_at_each_word, touches_at_each_word,
+    writes_are_made_in_turn,
+};
 pub use moments::{
     blocks_change_inside, index_words_are_written, links_are_written, names_are_written,
     records_are_written,

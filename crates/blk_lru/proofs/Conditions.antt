@@ -15,7 +15,8 @@ use Rattle.blk_laws.specs.ListLaws.{IsAtRest}
 use Rattle.blk_laws.proofs.ListMoments.{walk_outcome}
 use Rattle.blk_laws.proofs.ListWrites.{rested, outcome_done}
 use Rattle.blk_laws.proofs.Walks.{walk_list}
-use Rattle.blk_lru.specs.Lists.{IsListed, first_of, walked}
+use Rattle.blk_lru.specs.Lists.{IsListed, first_of}
+use Rattle.blk_laws.specs.ListWords.{walked}
 use Rattle.blk_lru.specs.Nodes.{is_node, link_at}
 use Rattle.blk_lru.specs.Plans.{planned, whole_plan, word_or_zero}
 use Rattle.blk_lru.proofs.Listed.{Linked, head_checks, linked, splits}

@@ -10,8 +10,9 @@ use Rattle.blk_volume.specs.View.{list_of}
 use Rattle.blk_laws.proofs.ListMoments.{walk_outcome}
 use Rattle.blk_laws.proofs.ListWrites.{outcome_done, rested}
 use Rattle.blk_laws.specs.Moments.{OnlyListChanges}
-use Rattle.blk_lru.specs.Completing.{CompletesAlike, IsCompleted, finishing_writes}
-use Rattle.blk_lru.specs.Writes.{IsPartly}
+use Rattle.blk_laws.specs.ListWords.{CompletesAlike, IsCompleted}
+use Rattle.blk_lru.specs.Completing.{finishing_writes}
+use Rattle.blk_laws.specs.ListSteps.{IsPartly}
 use Rattle.blk_lru.proofs.Counting.{finishing_ends, finishing_keeps}
 use Rattle.blk_lru.proofs.WriteLaws.{unchanged}
 

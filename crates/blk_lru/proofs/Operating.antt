@@ -6,7 +6,7 @@ use Rattle.std.proofs.lemmas.Result.{on_ok_weaker}
 use Rattle.std.proofs.lemmas.Bool.{le-ltb}
 use Rattle.blk_image.specs.Image.{Image}
 use Rattle.blk_image.specs.Steps.{TrailStep, Word, SetLength, Delete, Note, applied, after, word_step}
-use Rattle.blk_image.specs.Told.{Told, Grows, GrowsInPart, Passes, IsQuiet}
+use Rattle.blk_image.specs.Told.{Told, Grows, GrowsInPart, Passes, IsQuiet, TurnsAt}
 use Rattle.blk_image.proofs.Runs.{passes_none, grows_none, some_inj, until_front, until_weaker2}
 use Rattle.blk_volume.specs.ListView.{ListView, ListWrite, Operation, Transaction, after_writes}
 use Rattle.blk_volume.specs.Walk.{walk}
@@ -15,9 +15,10 @@ use Rattle.blk_volume.specs.ListPlans.{TurnsAtTwo}
 use Rattle.blk_volume.specs.View.{list_of}
 use Rattle.blk_disk.specs.declared.tables.BlockFiles.{BlockFiles}
 use Rattle.blk_laws.specs.Moments.{OnlyListChanges}
-use Rattle.blk_lru.specs.Lists.{TurnsAt, Turns, completed_walk}
+use Rattle.blk_lru.specs.Lists.{Turns}
+use Rattle.blk_laws.specs.ListWords.{completed_walk}
 use Rattle.blk_lru.specs.Moments.{WriteMoments}
-use Rattle.blk_lru.specs.Writes.{IsPartly, steps_of, write_steps}
+use Rattle.blk_laws.specs.ListSteps.{IsPartly, steps_of, write_steps}
 use Rattle.blk_lru.proofs.WriteLaws.{IsReady, MayWrite, nothing_made, one_write, first_may, rest_may, writes_show, quiet_writes}
 
 -- the steps from the first on are turned at the same step

@@ -20,7 +20,8 @@ use Rattle.blk_disk.specs.Tables.{Agrees}
 use Rattle.blk_laws.specs.Moments.{OnlyListChanges}
 use Rattle.blk_lru.specs.Moments.{WriteMoments}
 use Rattle.blk_lru.specs.Nodes.{is_node}
-use Rattle.blk_lru.specs.Writes.{HasWholeIndex, write_steps, steps_of, touched_by, touched_by_writes, IsPartly, AreOf, AreWords, meant}
+use Rattle.blk_lru.specs.Writes.{HasWholeIndex, meant}
+use Rattle.blk_laws.specs.ListSteps.{write_steps, steps_of, touched_by, touched_by_writes, IsPartly, AreOf, AreWords}
 use Rattle.blk_lru.specs.declared.writes.Write.{Write}
 use Rattle.blk_lru.proofs.WriteLaws.{IsReady, MayWrite, WritesShow, writes_show, rest_may, first_may, one_write, quiet_writes}
 

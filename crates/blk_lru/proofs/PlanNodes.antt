@@ -9,7 +9,7 @@ use Rattle.blk_disk.specs.declared.tables.BlockFiles.{BlockFiles}
 use Rattle.blk_disk.specs.Tables.{stands_among}
 use Rattle.blk_lru.specs.Nodes.{is_node}
 use Rattle.blk_lru.specs.Plans.{head_without, moving, planned, pending, whole_plan}
-use Rattle.blk_lru.specs.Writes.{AreOf, AreWords}
+use Rattle.blk_laws.specs.ListSteps.{AreOf, AreWords}
 
 -- a node that is written has P, and a word is written
 abbrev pub Good : (ℕ → Type 0) → ListWrite → Type 0

@@ -23,8 +23,8 @@ use Rattle.blk_format.proofs.SealedRecords.{node_bytes, node_seal, record_inside
 use Rattle.blk_format.proofs.SealedRecords.{moments, updated}
 use Rattle.blk_lru.specs.Moments.{WriteMoments}
 use Rattle.blk_lru.specs.Nodes.{is_node}
-use Rattle.blk_lru.specs.Writes.{AreOf, AreSealed, AreTimes, IsSealed, steps_of, times_of, touch_steps, write_steps}
-use Rattle.blk_lru.proofs.NodeRecords.{are_bytes-word_steps, one_change, record_checks}
+use Rattle.blk_laws.specs.ListSteps.{AreOf, AreSealed, AreTimes, IsSealed, steps_of, times_of, touch_steps, write_steps}
+use Rattle.blk_laws.proofs.NodeRecords.{are_bytes-word_steps, one_change, record_checks}
 use Rattle.blk_lru.proofs.NodeWords.{node_kind, node_stands}
 use Rattle.blk_lru.proofs.Seals.{index_apart, stays_sealed, update_keeps_sealed, updated_is_sealed}
 use Rattle.blk_lru.proofs.Touching.{each, times_are}

@@ -15,8 +15,8 @@ use Rattle.blk_volume.specs.View.{node_at}
 use Rattle.blk_format.specs.Sealed.{AreChanges, IsUpdated, record_at, record_range, record_size, seal_place}
 use Rattle.blk_format.proofs.SealedFields.{record_word, updated_seal}
 use Rattle.blk_format.proofs.SealedRecords.{node_seal, node_bytes}
-use Rattle.blk_lru.specs.Writes.{IsSealed}
-use Rattle.blk_lru.proofs.NodeRecords.{front_is, record_is}
+use Rattle.blk_laws.specs.ListSteps.{IsSealed}
+use Rattle.blk_laws.proofs.NodeRecords.{front_is, record_is}
 
 -- a node is sealed where the word of its seal is the hash of its bytes before it
 sealed_bytes : (image : Image) (w : ℕ) → AreBytes image → kind_of w ≡ rankings → node_is_sealed (node_at image w) ≡ (word_at (content (record_at image w)) 32 == hash (take 32 (record_at image w)))

@@ -8,7 +8,7 @@ use Rattle.std.proofs.lemmas.Bool.{le-ltb, and_parts}
 use Rattle.blk_image.specs.Image.{Image, Index, Block, length_of}
 use Rattle.blk_image.specs.Steps.{TrailStep, applied, after, word_step}
 use Rattle.blk_image.specs.Footprint.{Footprint, either}
-use Rattle.blk_image.specs.Told.{Told, Grows, GrowsInPart, Passes, Along, Until, IsQuiet}
+use Rattle.blk_image.specs.Told.{Told, Grows, GrowsInPart, Passes, Along, Until, IsQuiet, TurnsAt}
 use Rattle.blk_image.proofs.Runs.{passes_end, passes_part, some_inj, until-append, until_weaker2, until_last, quiet-append}
 use Rattle.blk_image.proofs.Cuts.{after-append}
 use Rattle.blk_image.proofs.WordSteps.{quiet-word_steps}
@@ -27,11 +27,13 @@ use Rattle.blk_disk.proofs.Ranges.{stands_range}
 use Rattle.blk_format.proofs.SealedRecords.{node_seal, record_inside}
 use Rattle.blk_format.proofs.SealedRecords.{moments}
 use Rattle.blk_laws.specs.Moments.{OnlyListChanges}
-use Rattle.blk_lru.specs.Lists.{TurnsAt, Turns, completed_walk}
+use Rattle.blk_lru.specs.Lists.{Turns}
+use Rattle.blk_laws.specs.ListWords.{completed_walk}
 use Rattle.blk_lru.specs.Moments.{WriteMoments}
 use Rattle.blk_lru.specs.Nodes.{is_node}
-use Rattle.blk_lru.specs.Writes.{HasWholeIndex, IsPartly, IsTouched, steps_of, times_of, touch_steps, touched_by_writes, write_steps}
-use Rattle.blk_lru.proofs.NodeRecords.{record_checks}
+use Rattle.blk_lru.specs.Writes.{HasWholeIndex}
+use Rattle.blk_laws.specs.ListSteps.{IsPartly, IsTouched, steps_of, times_of, touch_steps, touched_by_writes, write_steps}
+use Rattle.blk_laws.proofs.NodeRecords.{record_checks}
 use Rattle.blk_lru.proofs.NodeWords.{node_kind, node_stands, stands_as_node}
 use Rattle.blk_lru.proofs.Operating.{quiet_front, turns_front, turns_whole}
 use Rattle.blk_lru.proofs.Performing.{no_some, or_none, spares_sizes}

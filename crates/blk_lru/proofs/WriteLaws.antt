@@ -30,9 +30,10 @@ use Rattle.blk_laws.specs.IndexMoments.{IsIndexWord, checked_words}
 use Rattle.blk_format.specs.BlockFiles.{is_among}
 use Rattle.blk_lru.specs.Moments.{WriteMoments}
 use Rattle.blk_lru.specs.Nodes.{is_node}
-use Rattle.blk_lru.specs.Writes.{HasWholeIndex, write_steps, steps_of, touched_by, touched_by_writes, IsPartly, AreOf, AreWords}
+use Rattle.blk_lru.specs.Writes.{HasWholeIndex}
+use Rattle.blk_laws.specs.ListSteps.{write_steps, steps_of, touched_by, touched_by_writes, IsPartly, AreOf, AreWords}
 use Rattle.blk_lru.proofs.NodeWords.{node_kind, node_stands, stands_as_node}
-use Rattle.blk_lru.proofs.NodeRecords.{record_checks, are_bytes-word, are_bytes-word_steps}
+use Rattle.blk_laws.proofs.NodeRecords.{record_checks, are_bytes-word, are_bytes-word_steps}
 use Rattle.std.proofs.lemmas.Bool.{and_parts}
 use Rattle.std.specs.Prelude.{◌==◌}
 

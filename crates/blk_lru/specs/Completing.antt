@@ -1,32 +1,17 @@
 -- The operation in flight as it is found, and what completing it writes and leaves.
 use Rattle.std.specs.Prelude.{ℕ, ◌≡◌, Bool, true, false, ◌==◌, ◌&&◌, ◌||◌, if◌then◌else◌, Option, None, Some, List, [], IfSome}
-use Rattle.blk_image.specs.Image.{Image}
 use Rattle.blk_volume.specs.ListView.{ListView, ListWrite}
 use Rattle.blk_volume.specs.Completion.{insert, remove, counts}
-use Rattle.blk_volume.specs.ListPlans.{completion_writes, outcome}
-use Rattle.blk_volume.specs.View.{list_of, stock_of}
-use Rattle.blk_laws.specs.Moments.{ShowsTheSame}
+use Rattle.blk_volume.specs.ListPlans.{completion_writes}
 use Rattle.blk_disk.specs.declared.tables.BlockFiles.{BlockFiles}
 use Rattle.blk_lru.specs.declared.completing.Beside.{Beside}
 use Rattle.blk_lru.specs.declared.completing.InFlight.{InFlight}
 use Rattle.blk_lru.specs.Nodes.{is_node}
 use Rattle.blk_lru.specs.Plans.{code_of, word_or_zero}
-use Rattle.blk_lru.specs.Lists.{completed_walk, walked}
 
 -- what completing writes: nothing where no operation is in flight
 abbrev pub finishing_writes : ListView → List ListWrite
 finishing_writes list = if list.transaction == 0 then [] else completion_writes list
-
--- completing gives the same list as of another image, but for the operation word, which nobody reads then
-abbrev pub CompletesAlike : Image → Image → Type 0
-CompletesAlike from image = outcome (list_of image) ≡ outcome (list_of from)
-
--- the list is what completing gives of the old one, but for the operation word, and no operation is in flight; nothing else is shown to change
-pub record IsCompleted (from image : Image) : Type 0 where
-  pub list : record (list_of image) { operation = 0 } ≡ outcome (list_of from)
-  pub idle : (list_of image).transaction ≡ 0
-  pub walk : walked image ≡ completed_walk from
-  pub stock : ShowsTheSame (stock_of from) (stock_of image)
 
 -- the head is 0 or names a node that checks
 abbrev pub head_counts : ListView → Bool

@@ -1,33 +1,21 @@
 -- The use list of an image.
 use Rattle.std.specs.Prelude.{ℕ, ◌≡◌, true, List, [], ◌∷◌, Option, None, Some}
 use Rattle.blk_image.specs.Image.{Image}
-use Rattle.blk_image.specs.Steps.{TrailStep, applied}
+use Rattle.blk_image.specs.Steps.{TrailStep}
 use Rattle.std.specs.Option.{ForSome}
-use Rattle.blk_image.specs.Told.{Told, Grows, IsQuiet, Along}
-use Rattle.std.proofs.Common.{zero, suc}
+use Rattle.blk_image.specs.Told.{Told, Grows, IsQuiet, TurnsAt}
 use Rattle.blk_format.specs.BlockFiles.{is_among}
 use Rattle.blk_volume.specs.ListView.{last_or}
-use Rattle.blk_volume.specs.Walk.{walk}
-use Rattle.blk_volume.specs.Completion.{completed_list}
-use Rattle.blk_volume.specs.View.{list_of}
-use Rattle.blk_laws.specs.ListLaws.{IsAtRest}
-
--- the walked nodes
-abbrev pub walked : Image → List ℕ
-walked image = walk (list_of image)
+use Rattle.blk_laws.specs.ListWords.{CompletesTo, Rests, walked}
 
 -- the list is whole, and no operation is in flight
 abbrev pub IsRested : Image → Type 0
-IsRested image = IsAtRest (list_of image) (walked image)
+IsRested image = Rests (walked image) image
 
 -- a node of a list at rest
 pub record IsListed (node : ℕ) (image : Image) : Type 0 where
   pub rest : IsRested image
   pub listed : is_among (walked image) node ≡ true
-
--- the nodes that completing leaves
-abbrev pub completed_walk : Image → List ℕ
-completed_walk image = walk (completed_list (list_of image))
 
 -- the first, and the last, of some words
 abbrev pub first_of : List ℕ → Option ℕ
@@ -38,16 +26,10 @@ abbrev pub last_of : List ℕ → Option ℕ
 last_of [] = None
 last_of (word ∷ words) = Some (last_or word words)
 
--- P holds of the files before the step of this number, and Q of them from that step on
-abbrev pub TurnsAt : ℕ → (P Q : Image → Type 0) → Image → List TrailStep → Type 0
-TurnsAt zero P Q image steps = Along Q image steps
-TurnsAt (suc count) P Q image [] = P image
-TurnsAt (suc count) P Q image (step ∷ steps) = P image × TurnsAt count P Q (applied step image) steps
-
 -- Steps were made, none of them a note. Of an operation the first writes its code, and the second names the node:
 -- before that one completing leaves the one list, and the other from then on.
 pub record Turns (told now : Told) (before later : List ℕ) : Type 0 where
   pub steps : List TrailStep
   pub grows : Grows told now steps
   pub quiet : IsQuiet steps
-  pub turns : ForSome told.files (λ image. TurnsAt 2 (λ i. completed_walk i ≡ before) (λ i. completed_walk i ≡ later) image steps)
+  pub turns : ForSome told.files (λ image. TurnsAt 2 (CompletesTo before) (CompletesTo later) image steps)

@@ -12,8 +12,10 @@ ghost use Rattle.blk_format.specs.Sealed.{sealed_steps};
 ghost use Rattle.blk_disk.specs.Tables.{Agrees};
 ghost use Rattle.blk_lru.specs.Damages.{IsInsertDamage, IsNodeDamage, IsRemovalDamage, IsTouchDamage};
 ghost use Rattle.blk_lru.specs.Nodes.{is_node};
-ghost use Rattle.blk_lru.specs.Writes.{AreSealed, AreTimes, HasWholeIndex, IsPartly, IsSealed, IsTouched, steps_of, times_of, touch_steps};
-ghost use Rattle.blk_lru.specs.Lists.{IsListed, Turns, first_of, walked};
+ghost use Rattle.blk_laws.specs.ListSteps.{AreSealed, AreTimes, IsPartly, IsSealed, IsTouched, steps_of, times_of, touch_steps};
+ghost use Rattle.blk_lru.specs.Writes.{HasWholeIndex};
+ghost use Rattle.blk_lru.specs.Lists.{IsListed, Turns, first_of};
+ghost use Rattle.blk_laws.specs.ListWords.{walked};
 
 use crate::moments::write_moments;
 use crate::nodes::{NEXT, PREV, link};

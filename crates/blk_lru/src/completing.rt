@@ -9,8 +9,10 @@ ghost use Rattle.blk_io.specs.Faults.{IfDamaged, IfDevice};
 ghost use Rattle.blk_disk.specs.Tables.{Agrees};
 ghost use Rattle.blk_lru.specs.Damages.{IsCompletingDamage, IsNodeDamage};
 ghost use Rattle.blk_lru.specs.Nodes.{is_node, AreLinksOf};
-ghost use Rattle.blk_lru.specs.Writes.{AreOf, AreSealed, AreWords, HasWholeIndex, IsPartly, meant, steps_of};
-ghost use Rattle.blk_lru.specs.Completing.{AreNodes, CompletesAlike, Finds, FindsBeside, FindsHead, IsCompleted, finishing_writes};
+ghost use Rattle.blk_laws.specs.ListSteps.{AreOf, AreSealed, AreWords, IsPartly, steps_of};
+ghost use Rattle.blk_lru.specs.Writes.{HasWholeIndex, meant};
+ghost use Rattle.blk_lru.specs.Completing.{AreNodes, Finds, FindsBeside, FindsHead, finishing_writes};
+ghost use Rattle.blk_laws.specs.ListWords.{CompletesAlike, IsCompleted};
 
 use crate::moments::write_moments;
 use crate::nodes::{Links, checked};

@@ -10,7 +10,8 @@ ghost use Rattle.blk_io.specs.Faults.{IfDamaged, IfDevice, IsShort};
 ghost use Rattle.blk_disk.specs.Tables.{Agrees};
 ghost use Rattle.blk_lru.specs.Nodes.{is_node, IsAstray, NamesNode};
 ghost use Rattle.blk_lru.specs.Writes.{HasWholeIndex};
-ghost use Rattle.blk_lru.specs.Lists.{IsListed, IsRested, first_of, last_of, walked};
+ghost use Rattle.blk_lru.specs.Lists.{IsListed, IsRested, first_of, last_of};
+ghost use Rattle.blk_laws.specs.ListWords.{walked};
 
 use crate::nodes::{NEXT, PREV, link, node_of};
 use blk_addr::Addr;

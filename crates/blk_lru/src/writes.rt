@@ -12,7 +12,8 @@ ghost use Rattle.blk_disk.specs.Tables.{Agrees};
 ghost use Rattle.blk_laws.specs.Moments.{OnlyListChanges};
 ghost use Rattle.blk_lru.specs.Damages.{IsNodeDamage};
 ghost use Rattle.blk_lru.specs.Nodes.{is_node, IsLinkPlace};
-ghost use Rattle.blk_lru.specs.Writes.{AreOf, AreWords, HasWholeIndex, IsPartly, meant, steps_of, write_steps};
+ghost use Rattle.blk_laws.specs.ListSteps.{AreOf, AreWords, IsPartly, steps_of, write_steps};
+ghost use Rattle.blk_lru.specs.Writes.{HasWholeIndex, meant};
 
 use crate::moments::write_moments;
 use crate::nodes::{NEXT, PREV};
@@ -70,7 +71,7 @@ pub(crate) fn perform<F: Folder>(
 }
 
 // Makes a write, by one folder call for a word of the index and four for a link.
-#[tactic(auto, unfolding(crate::specs::Writes::write_steps))]
+#[tactic(auto, unfolding(blk_laws::specs::ListSteps::write_steps))]
 fn write_one<F: Folder>(f: &mut F, files: &BlockFiles, write: Write) -> Result<(), Fault>
     requires stand { AreOf (λ n. is_node files.now n ≡ true) (meant write ∷ []) }
     requires complete { ForSome (F.told f.old).files HasWholeIndex }

@@ -1,14 +1,11 @@
 -- A word that is written into a window.
-use Rattle.std.proofs.Common.{◌≡◌, ℕ, ◌+◌, ◌-◌, ◌<◌, ◌≤◌, ◌%◌, ◌^◌, List, [], ◌∷◌, ◌++◌, length, take, drop, true, refl, sym, ap, ap₂, ◌∙◌, arith, ◌⊎◌, inl, inr, ⊎_elim, length-drop, append-nil}
+use Rattle.std.proofs.Common.{◌≡◌, ℕ, ◌+◌, ◌-◌, ◌<◌, ◌≤◌, ◌%◌, ◌^◌, List, [], ◌++◌, length, take, drop, refl, sym, ap, ap₂, ◌∙◌, arith, ◌⊎◌, inl, inr, ⊎_elim, length-drop, append-nil}
 use Rattle.std.proofs.lemmas.Bool.{cases_lt}
-use Rattle.std.proofs.lemmas.List.{take_all, drop_all, drop-drop, take-append-le, length-take-le}
-use Rattle.std.specs.Prelude.{◌||◌, ◌==◌}
+use Rattle.std.proofs.lemmas.List.{take_all, drop_all, drop-drop}
 use Rattle.blk_image.specs.Bytes.{content, spliced, word_at, word_bytes}
 use Rattle.blk_image.specs.Steps.{with_word}
 use Rattle.blk_image.proofs.Splices.{spliced-is, content-spliced_inside}
 use Rattle.blk_image.proofs.Words.{word-there, word-beside, word-other}
-use Rattle.blk_format.specs.Hash.{hash, mixed}
-use Rattle.blk_format.specs.Records.{checks, seal_of}
 use Rattle.blk_record.specs.Fields.{OtherFieldsStay, WrittenWordsAreRead, WrittenFieldsLeaveOthers}
 
 -- a window with a word is its front, the four bytes of the word, and the rest

@@ -5,21 +5,18 @@ use Rattle.std.specs.List.{list_any, filter}
 use Rattle.std.specs.Str.{bytes_eq}
 use Rattle.std.specs.declared.option.Option.{Option}
 use Rattle.std.specs.declared.option.Option.TheVariants.{None, Some}
-use Rattle.blk_format.specs.Records.{parent, child}
+use Rattle.blk_format.specs.Records.{parent}
 use Rattle.blk_format.specs.Names.{Name, read_name}
 use Rattle.blk_format.specs.BlockFiles.{is_among}
 use Rattle.blk_volume.specs.Walk.{walk}
 use Rattle.blk_volume.specs.View.{View, Stock, Core}
 use Rattle.blk_volume.specs.Chains.{chain, bucket_of_hash}
 use Rattle.blk_volume.specs.Entries.{Role, IsPlain, IsParent, IsPart, is_key_length, key_of, streams_of, role_of}
+use Rattle.blk_volume.specs.Audit.{is_child}
 
 -- the dirty word of a node is 0
 abbrev pub is_clean : Stock → ℕ → Bool
 is_clean stock node = option_map_or (λ named. named.dirty == 0) (stock.named node) false
-
--- a node's record has the child flag
-abbrev pub has_child_flag : Stock → ℕ → Bool
-has_child_flag stock node = option_map_or (λ named. option_map_or (λ core. core.flags == child) (stock.entry named.contents) false) (stock.named node) false
 
 -- the key of a record for which none of the reasons contents, seal, key length and key place holds
 abbrev pub sound_key : Stock → ℕ → Core → Option (List ℕ)
@@ -47,7 +44,7 @@ is_parent_at stock name node = is_clean stock node && option_map_or (λ named. o
 
 -- a clean node; where its record is a child, a walked node is the parent that its name says
 unfoldable pub is_candidate : Stock → List ℕ → ℕ → Bool
-is_candidate stock walked node = is_clean stock node && (not (has_child_flag stock node) || option_map_or (λ name. list_any (is_parent_at stock name) walked) (name_at stock node) false)
+is_candidate stock walked node = is_clean stock node && (not (is_child stock node) || option_map_or (λ name. list_any (is_parent_at stock name) walked) (name_at stock node) false)
 
 -- the candidates, in the order of the walk
 abbrev pub candidates : View → List ℕ

@@ -1,6 +1,7 @@
 -- An image that stands for a state.
 use Rattle.std.specs.Prelude.{◌≡◌, ℕ, ◌<◌, ◌^◌, List, [], ◌++◌, map, true, false, ◌==◌, IsSomeAnd, is_some}
-use Rattle.std.specs.List.{AllByRecursion}
+use Rattle.std.specs.Option.{option_map}
+use Rattle.std.specs.List.{filter_map, AllByRecursion}
 use Rattle.std.specs.declared.option.Option.TheVariants.{Some}
 use Rattle.std.specs.declared.result.Result.TheVariants.{Ok}
 use Rattle.blk_model.specs.Items.{main_row}
@@ -62,6 +63,10 @@ pub record StandsFor (image : Image) (state : State) : Type 0 where
   pub in_order : IsInOrder image (kept_by listed (view_of image)) (map (λ d. d.1) doomed)
 
 -- What of a layout is asked for that.
+
+-- what lies at the nodes of the doomed objects of these numbers, each with its number
+abbrev pub doomed_of : Layout → List ℕ → List (ℕ × Loaded)
+doomed_of layout numbers = filter_map (λ number. option_map (λ loaded. (number, loaded)) (layout.at (layout.place_of_doomed number))) numbers
 
 -- a node of the layout, listed or doomed, that claims
 pub record IsOwner (state : State) (layout : Layout) (doomed_nodes : List ℕ) (claim : Claim) (node : ℕ) : Type 0 where

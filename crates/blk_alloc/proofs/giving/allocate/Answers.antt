@@ -1,15 +1,15 @@
-use Rattle.std.proofs.Common.{◌≡◌, inl, inr, ℕ, ◌<◌, true, Option, None, Some, sym, ◌∙◌, ap, subst, ⊎_elim}
+use Rattle.std.proofs.Common.{◌≡◌, ◌⊎◌, inl, inr, ℕ, ◌<◌, true, Option, None, Some, sym, ◌∙◌, ap, subst, ⊎_elim}
 use Rattle.std.specs.Option.{ForSome}
 use Rattle.blk_image.specs.Image.{Image}
 use Rattle.blk_image.specs.Told.{Told}
 use Rattle.blk_image.proofs.Runs.{passes_none, passes_to, passes_weaker, passes_stayed, some_inj}
 use Rattle.blk_addr.specs.Kind.{kind_number}
 use Rattle.blk_disk.specs.Growth.{KeepsBlocks}
-use Rattle.blk_disk.specs.Tables.{Agrees, files_of, stands_among}
+use Rattle.blk_disk.specs.Tables.{Agrees, files_of}
 use Rattle.blk_alloc.specs.Fitting.{IsFitting, IsFirstFit, IsPlace}
-use Rattle.blk_alloc.specs.Giving.{AreCounted, HaveNoRoom, IsFitTaken, IsGiven, IsGiving, IsMaking, IsRefusal}
+use Rattle.blk_alloc.specs.Giving.{AreCounted, HaveNoRoom, IsAstrayOf, IsFitTaken, IsGiven, IsGiving, IsMaking, IsRefusal}
 use Rattle.std.specs.Prelude.{IfOk}
-use Rattle.blk_format.specs.Address.{block_word, file_selector}
+use Rattle.blk_format.specs.Address.{block_count, block_word, file_selector, kind_of}
 use Rattle.blk_format.specs.BlockFiles.{is_among}
 use Rattle.blk_alloc.specs.declared.blocks.Blocks.{Blocks}
 use Rattle.blk_alloc.specs.Taking.{IsTakeable, IsTaken, IsTaking}
@@ -18,7 +18,7 @@ use Rattle.blk_alloc.specs.Owning.{IsCause}
 use Rattle.blk_io.proofs.Carried.{if_damaged_weaker}
 use Rattle.blk_alloc.proofs.Causes.{if_damaged_both}
 use Rattle.blk_alloc.proofs.Members.{member_all}
-use Rattle.blk_alloc.proofs.Rooms.{fit_takeable, given_fit, if_ok_both, word_file}
+use Rattle.blk_alloc.proofs.Rooms.{fit_takeable, given_fit, if_ok_both, word_file, word_kind}
 use Rattle.blk_alloc.proofs.Externals.{giving_externals}
 use Rattle.blk_alloc.proofs.Sparing.{blocks_same}
 use Rattle.blk_alloc.proofs.giving.allocate.Goals as goal
@@ -96,16 +96,11 @@ returns-in-None-clause-stops g c from there =
     let keeps : (i : Image) → IsMaking c.args.files.now kind from i → IsGiving c.args.files.now kind c.args.blocks from i = λ i making. inr (inr (none, making)) in
     passes_stayed c.in_ok-place.ensures.stays (passes_weaker (c.take_new.ensures.stops from told) keeps (λ i making. inl (keeps i making)))
 
-pub returns-in-Some-clause-stands : goal.returns-in-Some-clause-stands
-returns-in-Some-clause-stands g c =
-    let place = c.in_ok-place.ensures.place c.in-Some.place c.in-Some.is in
-    let fits : (i : Image) → (g.F.Folder.told c.args.f.now).files ≡ Some i → IsFirstFit i (files_of c.args.files.now (kind_number c.args.kind)) c.args.blocks c.in-Some.place =
-    (λ i told. subst (λ (o : Option Blocks). IsFitting i (files_of c.args.files.now (kind_number c.args.kind)) c.args.blocks o) c.in-Some.is (c.in_ok-place.ensures.fit i told)) in
-    let takeable : (i : Image) → (g.F.Folder.told c.args.f.now).files ≡ Some i → IsTakeable i c.in-Some.place =
-    (λ i told. fit_takeable c.args.files.now i c.args.kind c.args.blocks c.in-Some.place c.requires.blocky c.requires.few (c.requires.agrees i told) (c.requires.counted i told) place (fits i told)) in
-    IfOk-weaker c.take.result (λ addr. ForSome (g.F.Folder.told c.first_fit.new.f).files (λ from. IsTakeable from c.in-Some.place → stands_among c.take.new.files addr ≡ true))
-    (λ addr. ForSome (g.F.Folder.told c.args.f.now).files (λ _. stands_among c.take.new.files addr ≡ true))
-    (λ addr stands from there. stands from (ap (λ (t : Told). t.files) c.in_ok-place.ensures.stays ∙ there) (takeable from there)) c.take.ensures.stands
+pub returns-in-Some-clause-kind : goal.returns-in-Some-clause-kind
+returns-in-Some-clause-kind g c =
+    IfOk-weaker c.take.result (λ addr. addr ≡ block_word (kind_number c.args.kind) c.in-Some.place.file c.in-Some.place.start c.in-Some.place.count)
+    (λ addr. (kind_of addr ≡ kind_number c.args.kind) × (block_count addr ≡ c.args.blocks))
+    (λ addr word. let is = word_kind c.args.files.now c.args.kind c.args.blocks c.in-Some.place c.requires.some (c.in_ok-place.ensures.place c.in-Some.place c.in-Some.is) in (ap kind_of word ∙ is.0, ap block_count word ∙ is.1)) c.take.ensures.word
 
 pub returns-in-Some-clause-formed : goal.returns-in-Some-clause-formed
 returns-in-Some-clause-formed g c from there formed =
@@ -133,9 +128,10 @@ returns-in-Some-clause-cause g c =
     (λ i told. subst (λ (o : Option Blocks). IsFitting i (files_of c.args.files.now (kind_number c.args.kind)) c.args.blocks o) c.in-Some.is (c.in_ok-place.ensures.fit i told)) in
     let takeable : (i : Image) → (g.F.Folder.told c.args.f.now).files ≡ Some i → IsTakeable i c.in-Some.place =
     (λ i told. fit_takeable c.args.files.now i c.args.kind c.args.blocks c.in-Some.place c.requires.blocky c.requires.few (c.requires.agrees i told) (c.requires.counted i told) place (fits i told)) in
-    if_damaged_both c.take.result (λ damage. (told : Told) → told.files ≡ None → IsCause told c.in-Some.place.file c.in-Some.place.start true damage)
+    if_damaged_both c.take.result (λ damage. ((told : Told) → told.files ≡ None → IsCause told c.in-Some.place.file c.in-Some.place.start true damage) ⊎ IsAstrayOf c.take.new.files (kind_number c.args.kind) damage)
     (λ _. ForSome (g.F.Folder.told c.first_fit.new.f).files (λ image. IsTakeable image c.in-Some.place) → (g.F.Folder.told c.first_fit.new.f).files ≡ None) (IsRefusal c.args.files.now c.take.new.files (kind_number c.args.kind) (g.F.Folder.told c.args.f.now))
-    (λ damage cause none. inl (record { file = c.in-Some.place.file; start = c.in-Some.place.start; linked = c.take.ensures.linked; small = place.small; cause = cause (g.F.Folder.told c.args.f.now) (ap (λ (t : Told). t.files) (sym c.in_ok-place.ensures.stays) ∙ none (λ i now. takeable i (ap (λ (t : Told). t.files) (sym c.in_ok-place.ensures.stays) ∙ now))) }))
+    (λ damage cause none. ⊎_elim (λ (why : (told : Told) → told.files ≡ None → IsCause told c.in-Some.place.file c.in-Some.place.start true damage). inl (record { file = c.in-Some.place.file; start = c.in-Some.place.start; linked = c.take.ensures.linked; small = place.small; cause = why (g.F.Folder.told c.args.f.now) (ap (λ (t : Told). t.files) (sym c.in_ok-place.ensures.stays) ∙ none (λ i now. takeable i (ap (λ (t : Told). t.files) (sym c.in_ok-place.ensures.stays) ∙ now))) }))
+    (λ astray. inr (inr (inr astray))) cause)
     c.take.ensures.cause c.take.ensures.untold
 
 pub returns-in_err-place-clause-blocks : goal.returns-in_err-place-clause-blocks

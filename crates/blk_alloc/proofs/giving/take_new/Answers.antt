@@ -1,20 +1,19 @@
-use Rattle.std.proofs.Common.{◌≡◌, inl, inr, ℕ, Option, None, Some, refl, true, ap, ◌∙◌, subst, ⊎_elim}
+use Rattle.std.proofs.Common.{◌≡◌, ◌⊎◌, inl, inr, ℕ, Option, None, Some, refl, true, ap, ◌∙◌, subst, ⊎_elim}
 use Rattle.std.specs.Option.{ForSome}
 use Rattle.std.proofs.lemmas.Result.{IfOk-weaker}
 use Rattle.blk_image.specs.Image.{Image}
 use Rattle.blk_image.specs.Told.{Told, PassesTo}
 use Rattle.blk_image.specs.Footprint.{SameOutside}
 use Rattle.blk_image.proofs.Runs.{passes_end, passes_then, passes_weaker}
-use Rattle.blk_format.specs.Address.{block_word, file_selector}
+use Rattle.blk_format.specs.Address.{block_count, block_word, file_selector, kind_of}
 use Rattle.blk_addr.specs.Kind.{kind_number}
 use Rattle.blk_disk.specs.Growth.{KeepsBlocks}
-use Rattle.blk_disk.specs.Tables.{stands_among}
 use Rattle.blk_alloc.specs.Owning.{IsCause}
 use Rattle.blk_alloc.specs.Taking.{IsTakeable, IsTaken, IsTaking, taking_of}
-use Rattle.blk_alloc.specs.Giving.{IsChosen, IsGiven, IsMaking, IsRefusal}
+use Rattle.blk_alloc.specs.Giving.{IsAstrayOf, IsChosen, IsGiven, IsMaking, IsRefusal}
 use Rattle.blk_alloc.proofs.Causes.{if_damaged_both}
 use Rattle.blk_io.proofs.Carried.{if_damaged_weaker}
-use Rattle.blk_alloc.proofs.Rooms.{given_made, if_ok_both, making_taken, told_later, untold_before, word_file}
+use Rattle.blk_alloc.proofs.Rooms.{given_made, if_ok_both, making_taken, told_later, untold_before, word_file, word_kind}
 use Rattle.blk_alloc.proofs.Sparing.{blocks_then}
 use Rattle.blk_alloc.proofs.Written.{passes_on}
 use Rattle.blk_alloc.proofs.giving.take_new.Goals as goal
@@ -29,11 +28,14 @@ returns-clause-chosen g c =
       chosen = inr (c.requires.full from there, c.in_ok-place.ensures.place from there);
     }) c.take.ensures.word
 
-pub returns-clause-stands : goal.returns-clause-stands
-returns-clause-stands g c =
-    IfOk-weaker c.take.result (λ addr. ForSome (g.F.Folder.told c.new_room.new.f).files (λ mid. IsTakeable mid c.in_ok-place.place → stands_among c.take.new.files addr ≡ true))
-    (λ addr. ForSome (g.F.Folder.told c.args.f.now).files (λ _. stands_among c.take.new.files addr ≡ true))
-    (λ addr stands from there. let mid = told_later (c.in_ok-place.ensures.stops from there) there in stands mid.0 mid.1 (c.in_ok-place.ensures.made from there mid.0 mid.1).takeable) c.take.ensures.stands
+pub returns-clause-kind : goal.returns-clause-kind
+returns-clause-kind g c =
+    IfOk-weaker c.take.result (λ addr. addr ≡ block_word (kind_number c.args.kind) c.in_ok-place.place.file c.in_ok-place.place.start c.in_ok-place.place.count)
+    (λ addr. (kind_of addr ≡ kind_number c.args.kind) × (block_count addr ≡ c.args.count))
+    (λ addr word. let is = word_kind c.new_room.new.files c.args.kind c.args.count c.in_ok-place.place c.requires.some c.in_ok-place.ensures.fits in (ap kind_of word ∙ is.0, ap block_count word ∙ is.1)) c.take.ensures.word
+
+pub returns-clause-keeps : goal.returns-clause-keeps
+returns-clause-keeps g c w is = c.take.ensures.keeps w (c.new_room.ensures.standing w is)
 
 pub returns-clause-given : goal.returns-clause-given
 returns-clause-given g c =
@@ -78,9 +80,9 @@ returns-clause-cause g c =
     let kind : ℕ = kind_number c.args.kind in
     let start : (ForSome (g.F.Folder.told c.new_room.new.f).files (λ mid. IsTakeable mid c.in_ok-place.place) → (g.F.Folder.told c.new_room.new.f).files ≡ None) → (g.F.Folder.told c.args.f.now).files ≡ None =
     silent_start (IsMaking c.args.files.now kind) (λ mid. IsTakeable mid c.in_ok-place.place) c.in_ok-place.ensures.stops (λ from there mid now. (c.in_ok-place.ensures.made from there mid now).takeable) in
-    if_damaged_both c.take.result (λ damage. (told : Told) → told.files ≡ None → IsCause told c.in_ok-place.place.file c.in_ok-place.place.start true damage)
+    if_damaged_both c.take.result (λ damage. ((told : Told) → told.files ≡ None → IsCause told c.in_ok-place.place.file c.in_ok-place.place.start true damage) ⊎ IsAstrayOf c.take.new.files kind damage)
     (λ _. ForSome (g.F.Folder.told c.new_room.new.f).files (λ mid. IsTakeable mid c.in_ok-place.place) → (g.F.Folder.told c.new_room.new.f).files ≡ None) (IsRefusal c.args.files.now c.take.new.files kind (g.F.Folder.told c.args.f.now))
-    (λ damage cause none. inl (record { file = c.in_ok-place.place.file; start = c.in_ok-place.place.start; linked = c.take.ensures.linked; small = c.in_ok-place.ensures.fits.small; cause = cause (g.F.Folder.told c.args.f.now) (start none) }))
+    (λ damage cause none. ⊎_elim (λ (why : (told : Told) → told.files ≡ None → IsCause told c.in_ok-place.place.file c.in_ok-place.place.start true damage). inl (record { file = c.in_ok-place.place.file; start = c.in_ok-place.place.start; linked = c.take.ensures.linked; small = c.in_ok-place.ensures.fits.small; cause = why (g.F.Folder.told c.args.f.now) (start none) })) (λ astray. inr (inr (inr astray))) cause)
     c.take.ensures.cause c.take.ensures.untold
 
 pub returns-clause-untold : goal.returns-clause-untold

@@ -11,6 +11,7 @@ use Rattle.blk_disk.specs.Growth.{IsLeastFree, KeepsBlocks, addition_of, free_nu
 use Rattle.blk_alloc.specs.Making.{HasCounters}
 use Rattle.blk_alloc.proofs.Adding.{added_file, new_allocations, new_hints, new_counters, new_among, join_keeps, join_widens, all_kept}
 use Rattle.blk_alloc.proofs.Hints.{grown_hints}
+use Rattle.blk_alloc.proofs.Kept.{join_larger, standing_kept, standing_same}
 use Rattle.blk_alloc.proofs.Members.{member_all}
 use Rattle.blk_io.proofs.Carried.{silent_part}
 use Rattle.blk_alloc.proofs.Causes.{told_before}
@@ -154,3 +155,14 @@ returns-in_err-place-clause-silent g c none = c.in_err-place.ensures.silent (sil
 
 pub returns-clause-silent : goal.returns-clause-silent
 returns-clause-silent g c none = c.in_ok-place.ensures.silent (silent_part c.in_ok-file.ensures.part none)
+
+pub returns-in_err-file-clause-standing : goal.returns-in_err-file-clause-standing
+returns-in_err-file-clause-standing g c = standing_same c.args.files.now c.add_file.new.self c.in_err-file.ensures.same
+
+pub returns-in_err-place-clause-standing : goal.returns-in_err-place-clause-standing
+returns-in_err-place-clause-standing g c w is =
+    c.in_err-place.ensures.standing w (standing_kept c.args.files.now c.add_file.new.self (join_larger c.args.files.now c.add_file.new.self (kind_number c.args.kind) c.in_ok-file.file c.in_ok-file.ensures.least.free c.in_ok-file.ensures.kept) w is)
+
+pub returns-clause-standing : goal.returns-clause-standing
+returns-clause-standing g c w is =
+    c.in_ok-place.ensures.standing w (standing_kept c.args.files.now c.add_file.new.self (join_larger c.args.files.now c.add_file.new.self (kind_number c.args.kind) c.in_ok-file.file c.in_ok-file.ensures.least.free c.in_ok-file.ensures.kept) w is)

@@ -12,6 +12,7 @@ use Rattle.blk_format.specs.BlockFiles.{is_among}
 use Rattle.blk_addr.specs.Kind.{kind_number}
 use Rattle.blk_alloc.proofs.Formed.{count_whole}
 use Rattle.blk_alloc.proofs.Growing.{grow_widens}
+use Rattle.blk_alloc.proofs.Kept.{grow_larger, standing_kept, standing_same}
 use Rattle.blk_alloc.proofs.Grown.{grown_ready, grown_free, grown_keeps}
 use Rattle.blk_alloc.proofs.making.grow_room.Goals as goal
 
@@ -78,3 +79,9 @@ pub returns-clause-marks : goal.returns-clause-marks
 returns-clause-marks g c from there mid now n b among =
     let same : SameOutside (growth_of c.args.file) from mid = passes_end (c.in_ok-grow.ensures.outside from there) mid now in
     (grow_widens c.args.files.now c.grow.new.self from mid c.args.file c.in_ok-grow.ensures.kept c.requires.below same).marks n b among
+
+pub returns-in_err-grow-clause-standing : goal.returns-in_err-grow-clause-standing
+returns-in_err-grow-clause-standing g c = standing_same c.args.files.now c.grow.new.self c.in_err-grow.ensures.same
+
+pub returns-clause-standing : goal.returns-clause-standing
+returns-clause-standing g c = standing_kept c.args.files.now c.grow.new.self (grow_larger c.args.files.now c.grow.new.self c.args.file c.in_ok-grow.ensures.kept c.requires.below)

@@ -4,6 +4,8 @@ use Rattle.blk_image.specs.Told.{Told}
 use Rattle.blk_format.specs.BlockFiles.{is_among}
 use Rattle.blk_disk.specs.declared.tables.BlockFiles.{BlockFiles}
 use Rattle.blk_disk.specs.Tables.{all_files}
+use Rattle.blk_alloc.proofs.Fitted.{fitted_larger}
+use Rattle.blk_alloc.proofs.Kept.{standing_kept}
 use Rattle.blk_alloc.proofs.Rebuilt.{HasRebuilt, none_rebuilt, next_none, next_rebuilt, next_stops, all_allocations, all_blocks, all_formed, all_rebuilt}
 use Rattle.blk_alloc.proofs.rebuilding.rebuild.Goals as goal
 use Rattle.blk_alloc.proofs.rebuilding.rebuild.Goals.{then-is_some+in_ok-rebuild_file, else-is_some}
@@ -61,3 +63,15 @@ returns-clause-blocks g c = all_blocks (g.F.Folder.told c.args.f.now) (g.F.Folde
 
 pub returns-clause-formed : goal.returns-clause-formed
 returns-clause-formed g c = all_formed (g.F.Folder.told c.args.f.now) (g.F.Folder.told c.loop-number.f) c.args.files.now c.args.claims.now c.loop-number.invariant.has.stops
+
+pub returns-in_err-rebuild_file-clause-all : goal.returns-in_err-rebuild_file-clause-all
+returns-in_err-rebuild_file-clause-all g c kind = c.rebuild_file.ensures.all kind ∙ c.loop-number.invariant.has.fitted.files kind
+
+pub returns-clause-all : goal.returns-clause-all
+returns-clause-all g c kind = c.loop-number.invariant.has.fitted.files kind
+
+pub returns-in_err-rebuild_file-clause-keeps : goal.returns-in_err-rebuild_file-clause-keeps
+returns-in_err-rebuild_file-clause-keeps g c w is = c.rebuild_file.ensures.keeps w (standing_kept c.args.files.now c.loop-number.files (fitted_larger c.args.files.now c.loop-number.files c.loop-number.number c.loop-number.invariant.has.fitted) w is)
+
+pub returns-clause-keeps : goal.returns-clause-keeps
+returns-clause-keeps g c = standing_kept c.args.files.now c.loop-number.files (fitted_larger c.args.files.now c.loop-number.files c.loop-number.number c.loop-number.invariant.has.fitted)

@@ -3,12 +3,14 @@ use Rattle.blk_image.specs.Image.{Image}
 use Rattle.blk_image.specs.Footprint.{SameOutside}
 use Rattle.blk_image.proofs.Runs.{passes_none, passes_then, passes_weaker, passes_end, some_inj}
 use Rattle.blk_format.specs.BlockFiles.{is_among, max_entries_in}
-use Rattle.blk_disk.specs.Tables.{Agrees}
+use Rattle.blk_disk.specs.declared.tables.BlockFiles.{BlockFiles}
+use Rattle.blk_disk.specs.Tables.{Agrees, files_of}
 use Rattle.blk_alloc.specs.Changes.{map_of}
 use Rattle.blk_alloc.specs.Rebuilding.{IsInHand, IsRebuilding}
 use Rattle.blk_alloc.specs.declared.blocks.Blocks.{Blocks}
 use Rattle.blk_io.proofs.Carried.{told_at_end}
 use Rattle.blk_alloc.proofs.Formed.{agrees_kept, count_whole}
+use Rattle.blk_alloc.proofs.Kept.{fit_larger, standing_kept, standing_same}
 use Rattle.blk_alloc.proofs.Members.{all_head}
 use Rattle.blk_alloc.proofs.Remade.{lengthened_is, rebuilding_begin, remade_is}
 use Rattle.blk_alloc.proofs.Taken.{fit_passes}
@@ -48,3 +50,15 @@ returns-clause-stops g c from there =
     (fit_passes c.args.files.now c.args.file from (c.requires.agrees from there) c.requires.linked (IsRebuilding c.args.claims.now (c.args.file ∷ []) from) there c.in_ok-fit.ensures.fitted
     (λ i same longer. lengthened_is c.args.claims.now c.args.file from i same longer))
     (passes_weaker (c.remake.ensures.stops found.0 found.1.now) keeps keeps)
+
+pub returns-in_err-fit-clause-all : goal.returns-in_err-fit-clause-all
+returns-in_err-fit-clause-all g c kind = ap (λ (files : BlockFiles). files_of files kind) c.in_err-fit.ensures.same
+
+pub returns-clause-all : goal.returns-clause-all
+returns-clause-all g c kind = c.in_ok-fit.ensures.kept.files kind
+
+pub returns-in_err-fit-clause-keeps : goal.returns-in_err-fit-clause-keeps
+returns-in_err-fit-clause-keeps g c = standing_same c.args.files.now c.fit.new.self c.in_err-fit.ensures.same
+
+pub returns-clause-keeps : goal.returns-clause-keeps
+returns-clause-keeps g c = standing_kept c.args.files.now c.fit.new.self (fit_larger c.args.files.now c.fit.new.self c.args.file _ c.in_ok-fit.ensures.kept)

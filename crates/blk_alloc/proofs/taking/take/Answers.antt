@@ -1,4 +1,4 @@
-use Rattle.std.proofs.Common.{◌≡◌, inl, ℕ, ◌+◌, ◌%◌, ◌<◌, ◌≤◌, List, true, None, sym, ◌∙◌, ap, subst, arith}
+use Rattle.std.proofs.Common.{◌≡◌, ◌⊎◌, inl, Bool, ℕ, ◌+◌, ◌%◌, ◌<◌, ◌≤◌, List, true, false, None, sym, ◌∙◌, ap, subst, arith}
 use Rattle.std.specs.Option.{ForSome}
 use Rattle.blk_image.specs.Told.{Told}
 use Rattle.blk_format.specs.BlockFiles.{is_among}
@@ -12,13 +12,15 @@ use Rattle.blk_alloc.specs.Taking.{IsTakeable, IsTaking, IsTaken}
 use Rattle.blk_alloc.specs.Changes.{IsReady, map_of}
 use Rattle.blk_alloc.proofs.Formed.{agrees_kept}
 use Rattle.blk_alloc.proofs.Members.{member_all, member_head}
-use Rattle.blk_alloc.proofs.Taken.{taking_fit}
+use Rattle.blk_alloc.proofs.Kept.{fit_larger, standing_kept, standing_same}
+use Rattle.blk_alloc.proofs.Taken.{fit_passes, taking_fit}
+use Rattle.blk_alloc.specs.Giving.{IsAstrayOf}
 use Rattle.blk_image.proofs.Footprints.{outside-refl}
 use Rattle.blk_disk.specs.Tables.{Agrees, files_of, stands_among}
 use Rattle.blk_alloc.proofs.TakenAfter.{ready_after, stops_after, taken_after, stands_after, formed_after}
 use Rattle.blk_image.specs.Steps.{after}
 use Rattle.blk_alloc.specs.Owning.{IsCause}
-use Rattle.blk_io.proofs.Carried.{carried, if_damaged_weaker, told_at_end}
+use Rattle.blk_io.proofs.Carried.{carried, if_damaged_weaker, told_at_end, untold_where}
 use Rattle.blk_alloc.proofs.Causes.{cause_before, none_before}
 use Rattle.blk_alloc.proofs.Externals.{fit_then_blocks}
 use Rattle.blk_alloc.proofs.Sparing.{blocks_same}
@@ -90,24 +92,49 @@ returns-clause-taken g c from there takeable image now =
     let tk : ForSome (g.F.Folder.told c.args.f.now).files (λ image. IsTakeable image c.args.place) = λ image is. subst (λ (i : Image). IsTakeable i c.args.place) (some_inj (sym there ∙ is)) takeable in
     let ready = ready_after (g.F.Folder.told c.args.f.now) (g.F.Folder.told c.fit.new.f) c.args.files.now c.fit.new.self c.args.place c.requires.agrees (member_all c.args.files.now c.args.kind c.args.place.file c.requires.blocky c.requires.place.linked)
     c.in_ok-fit.ensures.fitted c.in_ok-fit.ensures.kept c.in_ok-fit.ensures.agrees tk in
-    subst (λ (w : ℕ). IsTaken c.args.files.now from w image) (sym c.address_of.ensures.word)
+    subst (λ (w : ℕ). IsTaken c.args.files.now from w image) (sym c.address_of-addr.ensures.word)
     (taken_after (g.F.Folder.told c.args.f.now) (g.F.Folder.told c.fit.new.f) c.args.files.now c.fit.new.self c.args.place c.requires.agrees (member_all c.args.files.now c.args.kind c.args.place.file c.requires.blocky c.requires.place.linked)
     c.in_ok-fit.ensures.fitted c.in_ok-fit.ensures.kept c.in_ok-fit.ensures.agrees c.args.kind c.requires.blocky c.requires.some c.requires.node c.requires.place tk from there image (λ mid is. c.in_ok-change.ensures.done mid is (ready mid is) image now))
 
-pub returns-clause-stands : goal.returns-clause-stands
-returns-clause-stands g c from there takeable =
-    let tk : ForSome (g.F.Folder.told c.args.f.now).files (λ image. IsTakeable image c.args.place) = λ image is. subst (λ (i : Image). IsTakeable i c.args.place) (some_inj (sym there ∙ is)) takeable in
-    let ready = ready_after (g.F.Folder.told c.args.f.now) (g.F.Folder.told c.fit.new.f) c.args.files.now c.fit.new.self c.args.place c.requires.agrees (member_all c.args.files.now c.args.kind c.args.place.file c.requires.blocky c.requires.place.linked)
-    c.in_ok-fit.ensures.fitted c.in_ok-fit.ensures.kept c.in_ok-fit.ensures.agrees tk in
-    subst (λ (w : ℕ). stands_among c.fit.new.self w ≡ true) (sym c.address_of.ensures.word)
+pub astray-requires : goal.astray-requires
+astray-requires g c = ap (λ (l : List ℕ). is_among l c.args.place.file) c.in_ok-fit.ensures.kept.all ∙ member_all c.args.files.now c.args.kind c.args.place.file c.requires.blocky c.requires.place.linked
+
+both : (s t : Bool) → s ≡ false → s ≡ t → t ≡ true → ⊥
+both s t not same is = clash (sym not ∙ same ∙ is)
+  where
+    clash : false ≡ true → ⊥
+    clash e = cc
+
+-- a told folder never has blocks that don't stand
+pub returns-then-not-stands-clause-untold : goal.returns-then-not-stands-clause-untold
+returns-then-not-stands-clause-untold g c takeable =
+    untold_where (g.F.Folder.told c.args.f.now).files
+    (λ from there. both c.stands.result _ c.if-not-stands.true (c.stands.ensures.among ∙ ap (stands_among c.fit.new.self) c.address_of-addr.ensures.word)
     (stands_after (g.F.Folder.told c.args.f.now) (g.F.Folder.told c.fit.new.f) c.args.files.now c.fit.new.self c.args.place c.requires.agrees (member_all c.args.files.now c.args.kind c.args.place.file c.requires.blocky c.requires.place.linked)
-    c.in_ok-fit.ensures.fitted c.in_ok-fit.ensures.kept c.in_ok-fit.ensures.agrees c.args.kind c.requires.blocky c.requires.some c.requires.node c.requires.place tk from there)
+    c.in_ok-fit.ensures.fitted c.in_ok-fit.ensures.kept c.in_ok-fit.ensures.agrees c.args.kind c.requires.blocky c.requires.some c.requires.node c.requires.place takeable from there))
+
+pub returns-then-not-stands-clause-stops : goal.returns-then-not-stands-clause-stops
+returns-then-not-stands-clause-stops g c from there takeable =
+    passes_to (fit_passes c.args.files.now c.args.place.file from (c.requires.agrees from there) (member_all c.args.files.now c.args.kind c.args.place.file c.requires.blocky c.requires.place.linked) (IsTaking c.args.place.file from) there c.in_ok-fit.ensures.fitted (λ i same longer. taking_fit c.args.place.file from i same))
+    (λ image midst. inl midst)
+
+pub returns-in_err-fit-clause-keeps : goal.returns-in_err-fit-clause-keeps
+returns-in_err-fit-clause-keeps g c = standing_same c.args.files.now c.fit.new.self c.in_err-fit.ensures.same
+
+pub returns-then-not-stands-clause-keeps : goal.returns-then-not-stands-clause-keeps
+returns-then-not-stands-clause-keeps g c = standing_kept c.args.files.now c.fit.new.self (fit_larger c.args.files.now c.fit.new.self c.args.place.file _ c.in_ok-fit.ensures.kept)
+
+pub returns-in_err-change-clause-keeps : goal.returns-in_err-change-clause-keeps
+returns-in_err-change-clause-keeps g c = standing_kept c.args.files.now c.fit.new.self (fit_larger c.args.files.now c.fit.new.self c.args.place.file _ c.in_ok-fit.ensures.kept)
+
+pub returns-clause-keeps : goal.returns-clause-keeps
+returns-clause-keeps g c = standing_kept c.args.files.now c.fit.new.self (fit_larger c.args.files.now c.fit.new.self c.args.place.file _ c.in_ok-fit.ensures.kept)
 
 pub returns-in_err-change-clause-cause : goal.returns-in_err-change-clause-cause
 returns-in_err-change-clause-cause g c =
     carried c.change.result c.from_residual-in_err-change.result c.in_err-change.field-0.0 _ c.in_err-change.was c.from_residual-in_err-change.ensures.1
-    (if_damaged_weaker c.change.result (IsCause (g.F.Folder.told c.fit.new.f) c.args.place.file c.args.place.start true) (λ damage. (told : Told) → told.files ≡ None → IsCause told c.args.place.file c.args.place.start true damage)
-    (λ damage cause told none. cause_before (g.F.Folder.told c.fit.new.f) told c.args.place.file c.args.place.start true damage none cause) c.change.ensures.cause)
+    (if_damaged_weaker c.change.result (IsCause (g.F.Folder.told c.fit.new.f) c.args.place.file c.args.place.start true) (λ damage. ((told : Told) → told.files ≡ None → IsCause told c.args.place.file c.args.place.start true damage) ⊎ IsAstrayOf c.fit.new.self (kind_number c.args.kind) damage)
+    (λ damage cause. inl (λ told none. cause_before (g.F.Folder.told c.fit.new.f) told c.args.place.file c.args.place.start true damage none cause)) c.change.ensures.cause)
 
 pub returns-in_err-change-clause-untold : goal.returns-in_err-change-clause-untold
 returns-in_err-change-clause-untold g c =

@@ -1,7 +1,9 @@
-use Rattle.std.proofs.Common.{ℕ, sym, subst}
+use Rattle.std.proofs.Common.{◌≡◌, ℕ, None, sym, subst}
 use Rattle.std.specs.Option.{ForSome}
 use Rattle.std.proofs.lemmas.Result.{on_ok_weaker}
-use Rattle.blk_image.specs.Image.{Image}
+use Rattle.blk_image.specs.Image.{Image, Index, length_of}
+use Rattle.blk_format.specs.Headers.{index_length}
+use Rattle.blk_io.proofs.Carried.{told_at_end}
 use Rattle.blk_image.specs.Told.{Told, Grows, GrowsInPart, Passes}
 use Rattle.blk_format.specs.Sealed.{IsMoment, IsUpdated, RecordChecks, sealed_steps}
 use Rattle.blk_disk.specs.Tables.{Agrees}
@@ -66,6 +68,10 @@ returns-clause-unlinked g c =
     (λ updated. unlinked_then (g.F.Folder.told c.args.f.now) (g.F.Folder.told c.update_sealed.new.f) (g.met.F.Folder.are_bytes c.args.f.now) c.args.entry c.args.before c.requires.linked (moments g c)
     (said g c (λ (t : Told) (from : Image) (n : ℕ). ForSome (g.F.Folder.told c.update_sealed.new.f).files (IsUpdated from c.args.before (with_next n))) updated)) c.update_sealed.ensures.updated
 
+pub returns-clause-silent : goal.returns-clause-silent
+returns-clause-silent g c none = c.update_sealed.ensures.silent (subst (λ (t : Told). t.files ≡ None) (sym c.in_ok-next.ensures.stays) none)
+
 pub returns-clause-complete : goal.returns-clause-complete
 returns-clause-complete g c =
-    still_complete (g.F.Folder.told c.args.f.now) (g.F.Folder.told c.update_sealed.new.f) (g.met.F.Folder.are_bytes c.args.f.now) c.args.entry c.args.before c.requires.linked c.requires.complete (moments g c)
+    told_at_end (g.F.Folder.told c.args.f.now).files (g.F.Folder.told c.update_sealed.new.f).files (λ image. length_of image Index ≡ index_length) (returns-clause-silent g c)
+    (still_complete (g.F.Folder.told c.args.f.now) (g.F.Folder.told c.update_sealed.new.f) (g.met.F.Folder.are_bytes c.args.f.now) c.args.entry c.args.before c.requires.linked c.requires.complete (moments g c))

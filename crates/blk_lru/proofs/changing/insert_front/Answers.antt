@@ -9,10 +9,11 @@ use Rattle.blk_volume.specs.ListPlans.{writes_of, pending_writes}
 use Rattle.blk_volume.specs.View.{list_of}
 use Rattle.blk_laws.specs.ListLaws.{IsAtRest}
 use Rattle.blk_disk.specs.Tables.{Agrees}
-use Rattle.blk_lru.specs.Lists.{walked}
+use Rattle.blk_laws.specs.ListWords.{walked}
 use Rattle.blk_lru.specs.Nodes.{is_node}
 use Rattle.blk_lru.specs.Plans.{whole_plan, word_or_zero}
-use Rattle.blk_lru.specs.Writes.{meant, steps_of}
+use Rattle.blk_lru.specs.Writes.{meant}
+use Rattle.blk_laws.specs.ListSteps.{steps_of}
 use Rattle.blk_lru.proofs.Conditions.{Checked, checked_small, head_read, insert_any, may_write, one_is_one, some_holds, told_before, told_stays, unless_zero}
 use Rattle.blk_lru.proofs.Listed.{head_checks}
 use Rattle.blk_lru.proofs.Operating.{made_as, part_as, stops_as, stops_none, turns_none, turns_part, whole_as}

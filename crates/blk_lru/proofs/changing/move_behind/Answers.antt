@@ -7,10 +7,11 @@ use Rattle.blk_volume.specs.ListView.{ListView, IsList}
 use Rattle.blk_volume.specs.ListPlans.{writes_of}
 use Rattle.blk_volume.specs.View.{list_of}
 use Rattle.blk_disk.specs.Tables.{Agrees}
-use Rattle.blk_lru.specs.Lists.{walked}
+use Rattle.blk_laws.specs.ListWords.{walked}
 use Rattle.blk_lru.specs.Nodes.{is_node}
 use Rattle.blk_lru.specs.Plans.{whole_plan, word_or_zero}
-use Rattle.blk_lru.specs.Writes.{meant, steps_of}
+use Rattle.blk_lru.specs.Writes.{meant}
+use Rattle.blk_laws.specs.ListSteps.{steps_of}
 use Rattle.blk_lru.proofs.Conditions.{Checked, checked_small, head_read, may_write, some_holds, next_names, prev_names, told_before, told_stays, unless_zero}
 use Rattle.blk_lru.proofs.Listed.{head_checks, linked, splits}
 use Rattle.blk_lru.proofs.NodeWords.{stands_as_node, next_link, prev_link}

@@ -8,10 +8,12 @@ use Rattle.blk_volume.specs.ListPlans.{writes_of, pending_writes}
 use Rattle.blk_volume.specs.View.{list_of}
 use Rattle.blk_laws.specs.ListLaws.{IsAtRest}
 use Rattle.blk_disk.specs.Tables.{Agrees}
-use Rattle.blk_lru.specs.Lists.{Turns, walked}
+use Rattle.blk_lru.specs.Lists.{Turns}
+use Rattle.blk_laws.specs.ListWords.{walked}
 use Rattle.blk_lru.specs.Nodes.{is_node}
 use Rattle.blk_lru.specs.Plans.{whole_plan}
-use Rattle.blk_lru.specs.Writes.{meant, steps_of}
+use Rattle.blk_lru.specs.Writes.{meant}
+use Rattle.blk_laws.specs.ListSteps.{steps_of}
 use Rattle.blk_lru.proofs.Conditions.{Checked, checked_small, remove_any, may_write, one_is_one, next_names, prev_names, rested_walk, told_before, told_stays}
 use Rattle.blk_lru.proofs.Listed.{linked, splits}
 use Rattle.blk_lru.proofs.NodeWords.{stands_as_node, next_link, prev_link}

@@ -10,8 +10,8 @@ use Rattle.blk_volume.specs.ListView.{ListView, ListWrite}
 use Rattle.blk_volume.specs.View.{list_of}
 use Rattle.blk_laws.specs.ListLaws.{IsAtRest}
 use Rattle.blk_laws.proofs.ListWrites.{checks_stay}
-use Rattle.blk_lru.specs.Lists.{walked}
-use Rattle.blk_lru.specs.Writes.{steps_of, touch_steps}
+use Rattle.blk_laws.specs.ListWords.{walked}
+use Rattle.blk_laws.specs.ListSteps.{steps_of, touch_steps}
 use Rattle.blk_lru.proofs.Conditions.{listed_checks, touch_may}
 use Rattle.blk_lru.proofs.FailedChecks.{if_damaged_weaker}
 use Rattle.blk_lru.proofs.Conditions.{from_before, told_none}

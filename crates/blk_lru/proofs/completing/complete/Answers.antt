@@ -8,7 +8,8 @@ use Rattle.blk_volume.specs.ListView.{ListWrite}
 use Rattle.blk_volume.specs.View.{list_of}
 use Rattle.blk_disk.specs.Tables.{Agrees}
 use Rattle.blk_lru.specs.Completing.{finishing_writes}
-use Rattle.blk_lru.specs.Writes.{AreSealed, IsPartly, meant}
+use Rattle.blk_laws.specs.ListSteps.{AreSealed, IsPartly}
+use Rattle.blk_lru.specs.Writes.{meant}
 use Rattle.blk_lru.proofs.Conditions.{told_now, told_stays}
 use Rattle.blk_lru.proofs.Counting.{nothing_finishes, some_finishes}
 use Rattle.blk_lru.proofs.Finishing.{completed_none, completed_all, keeps_all}

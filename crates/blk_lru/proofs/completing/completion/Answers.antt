@@ -5,7 +5,7 @@ use Rattle.blk_volume.specs.View.{list_of}
 use Rattle.blk_lru.specs.Completing.{AreNodes, Finds}
 use Rattle.blk_lru.specs.Nodes.{is_node}
 use Rattle.blk_lru.specs.Plans.{code_of, pending, word_or_zero}
-use Rattle.blk_lru.specs.Writes.{AreOf, AreWords}
+use Rattle.blk_laws.specs.ListSteps.{AreOf, AreWords}
 use Rattle.blk_lru.proofs.Conditions.{Checked}
 use Rattle.blk_lru.proofs.Counting.{found_checked, found_stand, found_writes, no_writes}
 use Rattle.blk_lru.proofs.PlanNodes.{each_nodes, each_words, weaker}

@@ -2,7 +2,7 @@ use Rattle.std.proofs.Common.{◌≡◌, true, ◌∙◌, sym, ap, subst, ℕ, �
 use Rattle.std.specs.Prelude.{◌==◌}
 use Rattle.blk_volume.specs.ListView.{IsList}
 use Rattle.blk_volume.specs.View.{list_of}
-use Rattle.blk_lru.specs.Lists.{walked}
+use Rattle.blk_laws.specs.ListWords.{walked}
 use Rattle.blk_lru.specs.Nodes.{is_node}
 use Rattle.blk_lru.proofs.Listed.{linked, splits}
 use Rattle.blk_lru.proofs.NodeWords.{checked_names, stands_as_node, prev_link}

@@ -1,8 +1,9 @@
 use Rattle.std.proofs.Common.{ℕ, length, Some, refl, sym, ap, subst, arith, List}
 use Rattle.std.specs.declared.option.Option.{Option}
+use Rattle.std.proofs.lemmas.Result.{err_from_is_err_and}
 use Rattle.blk_addr.specs.Kind.{kind_number}
 use Rattle.blk_disk.specs.Loading.{Follows}
-use Rattle.blk_disk.proofs.Following.{follows_kind}
+use Rattle.blk_disk.proofs.Following.{caused_if, follows_kind}
 use Rattle.blk_disk.proofs.tables.BlockFiles.follow.Goals as goal
 
 pub loop-next-init : goal.loop-next-init
@@ -21,3 +22,9 @@ link-requires-clause-next g c image there = subst (λ (o : Option ℕ). Follows 
 
 pub returns-clause-followed : goal.returns-clause-followed
 returns-clause-followed g c image there = subst (λ (o : Option ℕ). Follows c.loop-next.self image (kind_number c.args.kind) o) c.in_default.is (c.loop-next.invariant.follows image there)
+
+pub returns-in_err-next-clause-cause : goal.returns-in_err-next-clause-cause
+returns-in_err-next-clause-cause g c =
+    let p = err_from_is_err_and c.from_residual.result c.from_residual.ensures.1 in
+    rw (p.1, p.2)
+    (caused_if (Option ℕ) Unit c.in_err-next.field-0.0 (g.F.Folder.told c.args.f.now) (g.F.Folder.told c.loop-next.f) c.loop-next.self c.args.kind c.in-Some.n c.requires.of_blocks c.loop-next.invariant.stays c.in_err-next.ensures.cause)
