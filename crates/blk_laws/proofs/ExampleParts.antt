@@ -102,16 +102,19 @@ family-is_valid = record {
 
 -- ---- the part goes, and its parent stays
 
-abbrev stays : Item → Bool
+-- what stays
+abbrev pub stays : Item → Bool
 stays item = not (same_item item (part (codes "a") 0))
 
-abbrev without_part : List (Option Object)
+-- the object without its part
+abbrev pub without_part : List (Option Object)
 without_part = Some (record family { parts = [] }) ∷ []
 
 not-the_part : (item : Item) → stays item ≡ true → item ≡ part (codes "a") 0 → ⊥
 not-the_part item keeps is = let c : false ≡ true = ap stays (sym is) ∙ keeps in cc
 
-lists-less : ListsLess family_state without_part stays
+-- the state without it lists less
+pub lists-less : ListsLess family_state without_part stays
 unfolding row_of
 lists-less = record {
   rows = λ item keeps h. ⊎_elim
@@ -126,16 +129,20 @@ lists-less = record {
   doomed-same zero o is dead = let s : (let z : Object = record family { parts = [] } in z) ≡ o = cc in let c : true ≡ false = ap (λ (z : Object). z.live) s ∙ dead in absurd (cc)
   doomed-same (suc n) o is dead = absurd (cc)
 
-abbrev parent_at : ℕ → Option Loaded
+-- what then lies where
+abbrev pub parent_at : ℕ → Option Loaded
 parent_at w = if w == parent_node then Some the_parent else None
 
-abbrev parent_chains : ℕ → List ℕ
+-- in which chains
+abbrev pub parent_chains : ℕ → List ℕ
 parent_chains b = if b == 0xA782 then 0xA0010000 ∷ [] else []
 
-abbrev parent_owner : Claim → Option ℕ
+-- and who owns what
+abbrev pub parent_owner : Claim → Option ℕ
 parent_owner claim = if has_claim (all_claims the_parent) claim then Some parent_node else None
 
-has-less : HasLess family_state without_part stays family_layout parent_at parent_chains parent_owner
+-- and the layout has less
+pub has-less : HasLess family_state without_part stays family_layout parent_at parent_chains parent_owner
 unfolding hash mixed of_bytes of_one
 has-less = record {
   stays = λ item l keeps h is. ⊎_elim
@@ -162,14 +169,15 @@ pub parent-is_laid : Lies (without_items family_state without_part stays) (laid_
 parent-is_laid = lies-less family_state without_part stays family_layout parent_at parent_chains parent_owner family-holds.lies lists-less has-less
 
 -- the stock once its node is gone
-abbrev without_node : Stock
+abbrev pub without_node : Stock
 without_node = record family_stock { named = λ w. if w == parent_node then family_stock.named parent_node else None }
 
 still-loads : load without_node (alone 0) parent_node ≡ Ok the_parent
 unfolding load load_record load_key is_key_length key_of stream_of streams_of role_of parent_role read_parent_index words_at block_count entry_blocks hash mixed of_bytes of_one
 still-loads = refl
 
-without-holds : HoldsBut (λ w. w == part_node) without_node family_state family_layout
+-- the parent stays meanwhile
+pub without-holds : HoldsBut (λ w. w == part_node) without_node family_state family_layout
 without-holds = record {
   no_record = refl;
   each = λ w l is out. ⊎_elim

@@ -35,10 +35,11 @@ use Rattle.blk_laws.proofs.ExampleParts.{good-family, one-owner}
 -- ---- the family, unsettled
 
 -- handle 0 names the object
-abbrev named_state : State
+abbrev pub named_state : State
 named_state = record family_state { names = Some 0 ∷ replicate 4095 None }
 
-named-is_valid : (settled : Bool) → IsValidState (marked named_state 0 family settled)
+-- it is one that a cache may have, settled or not
+pub named-is_valid : (settled : Bool) → IsValidState (marked named_state 0 family settled)
 named-is_valid settled = record {
   objects = objects;
   names = refl;
@@ -72,10 +73,11 @@ named-is_valid settled = record {
   held-by (suc n) = tt
 
 -- the view of both nodes, with its tail
-abbrev family_view : View
+abbrev pub family_view : View
 family_view = record { list = record (sparse_view 1 part_node both_nodes).list { tail = parent_node }; stock = family_stock }
 
-family-is_represented : Represents family_view named_state family_layout
+-- represents it
+pub family-is_represented : Represents family_view named_state family_layout
 family-is_represented = record {
   holds = record { shows = family-holds.shows; lies = lies-reordered family_state family_layout family_state.uses named_state.names (λ item. refl) family-holds.lies };
   list = record {

@@ -62,6 +62,7 @@ pub mod ExampleKept
 pub mod ExampleFamily
 pub mod ExampleParts
 pub mod ExampleUnsettled
+pub mod ExampleRemoval
 pub mod ExampleDoomed
 pub mod DoomedFolder
 pub mod ExampleDoom

@@ -137,7 +137,7 @@ another-state v u before after node l e ok once same here there = load-beside l.
 -- ---- a link that is written
 
 -- with other chains an item lies where it lay
-laid-chained : (m : State) (y : Layout) (chains : ℕ → List ℕ) (i : Item) → IsLaid m y i → IsLaid m (record y { chains = chains }) i
+pub laid-chained : (m : State) (y : Layout) (chains : ℕ → List ℕ) (i : Item) → IsLaid m y i → IsLaid m (record y { chains = chains }) i
 laid-chained m y chains i q = record { loaded = q.loaded; here = q.here; row = q.row; mark = q.mark; parent = parent i q.loaded q.parent } where
   parent : (i : Item) (l : Loaded) → HasParentAt m y i l → HasParentAt m (record y { chains = chains }) i l
   parent (main key) l p = p

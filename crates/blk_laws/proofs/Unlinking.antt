@@ -13,6 +13,7 @@ use Rattle.blk_volume.specs.Chains.{is_of_bucket, Linked}
 use Rattle.blk_volume.specs.Loads.{Loaded}
 use Rattle.blk_volume.specs.Layout.{Layout, is_listed, nodes_of, order, settled_with, IsMarked, HasParentAt, IsLaid, IsDoomedAt, IsListedRecord, Lies, is_in}
 use Rattle.blk_volume.specs.Removal.{without_items, laid_less, ListsLess, HasLess}
+use Rattle.blk_laws.specs.CommandLaws.{LessIsRepresented}
 use Rattle.blk_laws.proofs.Laid.{IsNodeOf, node-of, is_among-node}
 use Rattle.blk_laws.proofs.Changing.{mark-same}
 use Rattle.blk_laws.proofs.Removing.{in-filter}
@@ -98,3 +99,13 @@ module _ (m : State) (objects : List (Option Object)) (keep : Item → Bool) (y 
         unlisted = not_kept m objects keep y at chains owner y.place_of_doomed y.state r less.rows less.settled less.closed gone (y.place_of_doomed number) d.unlisted;
         alone = λ other x there gone_too e. d.alone other x (less.doomed_same other x there gone_too) gone_too e;
       })
+
+pub less-represented : LessIsRepresented
+less-represented hole v m objects keep y at chains owner lies less gone but left rest = record {
+  holds = record {
+    shows = record { no_record = but.no_record; each = λ w l is. but.each w l (gone.was w l is) (left w l is); chains = but.chains };
+    lies = lies-less m objects keep y at chains owner lies less gone;
+  };
+  list = rest.whole;
+  idle = rest.idle;
+}

@@ -55,6 +55,12 @@ abbrev pub LessIsLaid : Type 0
 LessIsLaid = (state : State) (objects : List (Option Object)) (keep : Item → Bool) (layout : Layout) (at : ℕ → Option Loaded) (chains : ℕ → List ℕ) (owners : Claim → Option ℕ) → Lies state layout → ListsLess state objects keep
     → HasLess state objects keep layout at chains owners → Lies (without_items state objects keep) (laid_less layout at chains owners)
 
+-- and represented, once what stays is in the list and in the chains
+abbrev pub LessIsRepresented : Type 0
+LessIsRepresented = (hole : ℕ → Bool) (view : View) (state : State) (objects : List (Option Object)) (keep : Item → Bool) (layout : Layout) (at : ℕ → Option Loaded) (chains : ℕ → List ℕ) (owners : Claim → Option ℕ) → Lies state layout → ListsLess state objects keep
+    → HasLess state objects keep layout at chains owners → HoldsBut hole view.stock state (record layout { chains = chains }) → ((node : ℕ) (loaded : Loaded) → at node ≡ Some loaded → hole node ≡ false) → IsAtRest view.list (nodes_of layout (filter keep state.uses))
+    → Represents view (without_items state objects keep) (laid_less layout at chains owners)
+
 -- The dirty word.
 
 -- the object of a number, live, lies at its node as this

@@ -1,9 +1,10 @@
 use Rattle.blk_laws.proofs.Removing.{removed-rows}
-use Rattle.blk_laws.proofs.Unlinking.{lies-less}
+use Rattle.blk_laws.proofs.Unlinking.{lies-less, less-represented}
 use Rattle.blk_laws.proofs.removals_keep_the_others.Goals as goal
 
 pub returns : goal.returns
 returns c = record {
   kept = removed-rows;
   laid = lies-less;
+  represented = less-represented;
 }
