@@ -11,9 +11,10 @@ use blk_record::BlockHead;
 
 const FIELDS_LEN: usize = 80;
 
-const ALLOCATIONS: u64 = 16;
+// The places of num_entries and of empty.
+pub(crate) const ALLOCATIONS: u64 = 16;
 
-const EMPTY: u64 = 24;
+pub(crate) const EMPTY: u64 = 24;
 
 // The number of allocations, and for each run of 1 to 4 blocks how many groups have it as their
 // longest free run.
