@@ -7,14 +7,14 @@ use Rattle.blk_image.specs.Told.{Told}
 use Rattle.blk_image.proofs.Runs.{some_inj}
 use Rattle.blk_volume.specs.ListView.{ListView, first_or, IsList}
 use Rattle.blk_volume.specs.View.{list_of}
-use Rattle.blk_disk.specs.declared.tables.BlockFiles.{BlockFiles}
-use Rattle.blk_disk.specs.Tables.{Agrees}
 use Rattle.blk_volume.specs.Walk.{walk}
 use Rattle.blk_volume.specs.Completion.{completed_list}
 use Rattle.blk_laws.specs.ListLaws.{IsAtRest}
 use Rattle.blk_laws.proofs.ListMoments.{walk_at_rest}
-use Rattle.blk_lru.specs.Lists.{IsListed, first_of}
 use Rattle.blk_laws.specs.ListWords.{Rests, walked}
+use Rattle.blk_disk.specs.declared.tables.BlockFiles.{BlockFiles}
+use Rattle.blk_disk.specs.Tables.{Agrees}
+use Rattle.blk_lru.specs.Lists.{IsListed, first_of}
 use Rattle.blk_lru.specs.Nodes.{is_node, link_at}
 use Rattle.blk_lru.specs.Plans.{planned, whole_plan, word_or_zero}
 use Rattle.blk_lru.proofs.Listed.{linked, splits}

@@ -7,6 +7,7 @@ use Rattle.blk_volume.specs.ListView.{ListView, ListWrite, Transaction, Operatio
 use Rattle.blk_volume.specs.Completion.{counts, head_counts, links_count, taking_out, putting_in_front}
 use Rattle.blk_volume.specs.ListPlans.{completion_writes, operation_writes}
 use Rattle.blk_laws.proofs.ListWrites.{counting}
+use Rattle.blk_laws.proofs.WriteWords.{Each, Good}
 use Rattle.blk_disk.specs.declared.tables.BlockFiles.{BlockFiles}
 use Rattle.blk_disk.specs.Tables.{stands_among}
 use Rattle.blk_lru.specs.declared.completing.InFlight.{InFlight}
@@ -17,7 +18,6 @@ use Rattle.blk_lru.specs.Completing.{AreNodes, Finds, FindsBeside, FindsHead, Ha
 use Rattle.blk_lru.specs.declared.nodes.Links.{Links}
 use Rattle.blk_lru.specs.Nodes.{is_node, AreLinksOf, FindsNode}
 use Rattle.blk_lru.specs.Plans.{code_of, head_without, moving, pending, planned, word_or_zero}
-use Rattle.blk_laws.proofs.WriteWords.{Each, Good}
 use Rattle.blk_lru.proofs.Conditions.{some_holds}
 use Rattle.blk_lru.proofs.PlanNodes.{node_small, plan_good}
 use Rattle.blk_lru.proofs.PlanWords.{planned_is, some_word}

@@ -3,6 +3,8 @@ use Rattle.std.proofs.Common.{inl, inr, ⊎_elim, ◌⊎◌, ◌≡◌, ℕ, ◌
 use Rattle.blk_image.specs.Image.{Image}
 use Rattle.blk_image.specs.Told.{Told}
 use Rattle.blk_format.specs.Address.{file_selector, place}
+use Rattle.blk_format.specs.Sealed.{record_size}
+use Rattle.blk_format.proofs.SealedRecords.{node_bytes}
 use Rattle.blk_io.specs.declared.folder.FileId.TheVariants as names
 use Rattle.blk_io.specs.declared.fault.Damage.{Damage}
 use Rattle.blk_io.specs.declared.fault.Fault.{Fault}
@@ -10,8 +12,6 @@ use Rattle.blk_io.specs.declared.fault.Fault.TheVariants.{Device, Damaged}
 use Rattle.blk_io.specs.Faults.{IfDamaged, IsShort}
 use Rattle.blk_disk.specs.declared.tables.BlockFiles.{BlockFiles}
 use Rattle.blk_disk.specs.Unsealed.{IsUnsealed}
-use Rattle.blk_format.specs.Sealed.{record_size}
-use Rattle.blk_format.proofs.SealedRecords.{node_bytes}
 use Rattle.blk_lru.specs.Damages.{IsBroken, IsNodeDamage, IsTooShort}
 use Rattle.blk_lru.specs.Nodes.{is_node}
 use Rattle.blk_lru.proofs.NodeWords.{node_kind}

@@ -4,14 +4,14 @@ use Rattle.blk_image.specs.Bytes.{content, word_at, range_at}
 use Rattle.blk_image.specs.Image.{Block, Image, AreBytes, byte}
 use Rattle.blk_format.specs.Address.{file_selector, place}
 use Rattle.blk_format.specs.Records.{checks}
-use Rattle.blk_volume.specs.View.{checks_at, list_of}
 use Rattle.blk_format.specs.Sealed.{record_at}
 use Rattle.blk_format.proofs.SealedFields.{record_word}
 use Rattle.blk_format.proofs.SealedRecords.{node_bytes}
+use Rattle.blk_volume.specs.View.{checks_at, list_of}
+use Rattle.blk_laws.proofs.NodeRecords.{checks_bytes}
 use Rattle.blk_disk.proofs.SealedReads.{record_read}
 use Rattle.blk_disk.specs.declared.tables.BlockFiles.{BlockFiles}
 use Rattle.blk_disk.specs.Tables.{Agrees}
-use Rattle.blk_laws.proofs.NodeRecords.{checks_bytes}
 use Rattle.blk_lru.specs.Nodes.{is_node, link_at, FindsNode}
 use Rattle.blk_lru.proofs.NodeWords.{node_kind, stands_as_node, checked_names, next_link, prev_link}
 

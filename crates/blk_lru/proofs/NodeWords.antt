@@ -7,10 +7,10 @@ use Rattle.blk_format.specs.Address.{is_address, kind_of, external, rankings, bl
 use Rattle.blk_format.specs.Standing.{stands}
 use Rattle.blk_format.specs.Records.{node_in, node_checks}
 use Rattle.blk_format.specs.BlockFiles.{stands_in, stands_in_blocks}
+use Rattle.blk_format.proofs.Words.{AreFields-of}
 use Rattle.blk_volume.specs.View.{stands_as, checks_at, next_at, prev_at, list_of, node_at}
 use Rattle.blk_disk.specs.declared.tables.BlockFiles.{BlockFiles}
 use Rattle.blk_disk.specs.Tables.{Agrees, stands_among}
-use Rattle.blk_format.proofs.Words.{AreFields-of}
 use Rattle.blk_disk.proofs.Ranges.{stands_agree}
 use Rattle.blk_lru.specs.Nodes.{is_node, link_at, NamesNode}
 

@@ -5,24 +5,25 @@ use Rattle.std.proofs.lemmas.List.{append-nil, drop_more, drop_all}
 use Rattle.std.specs.Prelude.{◌||◌}
 use Rattle.blk_image.specs.Image.{File, Index, Block, Image, AreBytes}
 use Rattle.blk_image.specs.Footprint.{Footprint, range}
-use Rattle.blk_format.specs.Address.{file_selector, place}
-use Rattle.blk_format.specs.Sealed.{record_range, record_size}
-use Rattle.blk_format.proofs.SpareHeaders.{SparesHeaders, blocks_spare}
-use Rattle.blk_disk.proofs.Agreeing.{agrees_still}
 use Rattle.blk_image.specs.Steps.{TrailStep, after}
 use Rattle.blk_image.specs.Told.{Told, Grows, GrowsInPart, Passes, Until}
 use Rattle.blk_image.proofs.Cuts.{after-append}
 use Rattle.blk_image.proofs.Runs.{grows_none, grows_then, part_then, part_only, part_whole, passes_part, passes_end, some_inj, until_last}
+use Rattle.blk_format.specs.Address.{file_selector, place}
+use Rattle.blk_format.specs.Sealed.{record_range, record_size}
+use Rattle.blk_format.proofs.SpareHeaders.{SparesHeaders, blocks_spare}
+use Rattle.blk_format.specs.Headers.{HasWholeIndex}
 use Rattle.blk_volume.specs.ListView.{ListWrite, Next, Prev, Head, Tail, Transaction, Operation}
 use Rattle.blk_volume.specs.View.{list_of}
-use Rattle.blk_disk.specs.declared.tables.BlockFiles.{BlockFiles}
-use Rattle.blk_disk.specs.Tables.{Agrees}
 use Rattle.blk_laws.specs.Moments.{OnlyListChanges}
-use Rattle.blk_lru.specs.Writes.{HasWholeIndex, meant}
 use Rattle.blk_laws.specs.ListSteps.{write_steps, steps_of, touched_by, touched_by_writes, IsPartly, AreOf, AreWords}
-use Rattle.blk_lru.specs.declared.writes.Write.{Write}
 use Rattle.blk_laws.specs.ListWords.{IsWritable, CanBeMade}
 use Rattle.blk_laws.proofs.WriteSteps.{WritesShow, writes_show, writable-after, writable-writes, rest_can, first_can, one_write, quiet-writes}
+use Rattle.blk_disk.proofs.Agreeing.{agrees_still}
+use Rattle.blk_disk.specs.declared.tables.BlockFiles.{BlockFiles}
+use Rattle.blk_disk.specs.Tables.{Agrees}
+use Rattle.blk_lru.specs.Writes.{meant}
+use Rattle.blk_lru.specs.declared.writes.Write.{Write}
 
 -- an image with its block files, its index and bytes alone
 pub record IsReady (files : BlockFiles) (image : Image) : Type 0 where

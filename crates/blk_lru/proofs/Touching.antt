@@ -4,6 +4,7 @@ use Rattle.std.specs.Option.{ForSome}
 use Rattle.blk_image.specs.Image.{Image, Index}
 use Rattle.blk_image.specs.Told.{Told, GrowsInPart, Passes, TurnsAt}
 use Rattle.blk_image.proofs.Runs.{passes_end}
+use Rattle.blk_format.specs.Headers.{HasWholeIndex}
 use Rattle.blk_volume.specs.ListView.{ListWrite}
 use Rattle.blk_volume.specs.ListPlans.{touch_writes}
 use Rattle.blk_volume.specs.View.{list_of}
@@ -11,7 +12,6 @@ use Rattle.blk_laws.specs.ListSteps.{IsTouched}
 use Rattle.blk_laws.specs.ListWords.{IsWritable, CompletesTo, steps_of_touch, walked}
 use Rattle.blk_laws.proofs.WordTurns.{touch_quiet, touches-in_turn, touches-turn_words}
 use Rattle.blk_lru.specs.Lists.{IsListed, Turns}
-use Rattle.blk_lru.specs.Writes.{HasWholeIndex}
 use Rattle.blk_lru.proofs.Conditions.{around, rests_as}
 use Rattle.blk_lru.proofs.Operating.{part_passes, part_turns}
 use Rattle.blk_lru.proofs.Performing.{no_some, or_none, spares_sizes}

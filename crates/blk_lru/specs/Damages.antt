@@ -5,9 +5,9 @@ use Rattle.blk_format.specs.Records.{node_size}
 use Rattle.blk_io.specs.declared.folder.FileId.{FileId}
 use Rattle.blk_io.specs.declared.folder.FileId.TheVariants as names
 use Rattle.blk_io.specs.declared.fault.Damage.{Damage}
-use Rattle.blk_disk.specs.declared.tables.BlockFiles.{BlockFiles}
 use Rattle.blk_io.specs.Faults.{IsShort}
 use Rattle.blk_io.specs.SilentFolder.{untold}
+use Rattle.blk_disk.specs.declared.tables.BlockFiles.{BlockFiles}
 use Rattle.blk_disk.specs.Unsealed.{IsUnsealed}
 use Rattle.blk_lru.specs.Nodes.{is_node, IsAstray}
 

@@ -1,8 +1,8 @@
 -- The use list of an image.
 use Rattle.std.specs.Prelude.{ℕ, ◌≡◌, true, List, [], ◌∷◌, Option, None, Some}
+use Rattle.std.specs.Option.{ForSome}
 use Rattle.blk_image.specs.Image.{Image}
 use Rattle.blk_image.specs.Steps.{TrailStep}
-use Rattle.std.specs.Option.{ForSome}
 use Rattle.blk_image.specs.Told.{Told, Grows, IsQuiet, TurnsAt}
 use Rattle.blk_format.specs.BlockFiles.{is_among}
 use Rattle.blk_volume.specs.ListView.{last_or}

@@ -1,21 +1,21 @@
 // Changes of the use list, each a transaction.
 ghost use Rattle.std.specs.Prelude.{◌≡◌, ◌==◌, ◌++◌, ◌∷◌, ◌≤◌, ℕ, List, IfSome, IsTrue, None, OnOk, true};
-ghost use Rattle.blk_lru.specs.Plans.{word_or_zero};
 ghost use Rattle.std.specs.Option.{ForSome};
 ghost use Rattle.blk_image.specs.Told.{Grows, GrowsInPart, Passes, Rises};
+ghost use Rattle.blk_format.specs.Sealed.{sealed_steps};
+ghost use Rattle.blk_format.specs.Headers.{HasWholeIndex};
 ghost use Rattle.blk_volume.specs.Completion.{insert, move, remove as removal};
 ghost use Rattle.blk_volume.specs.ListPlans.{touch_writes, writes_of};
 ghost use Rattle.blk_volume.specs.View.{list_of};
 ghost use Rattle.blk_laws.specs.ListLaws.{CanBeInserted, IsAtRest};
+ghost use Rattle.blk_laws.specs.ListSteps.{AreSealed, AreTimes, IsPartly, IsSealed, IsTouched, steps_of, times_of, touch_steps};
+ghost use Rattle.blk_laws.specs.ListWords.{walked};
 ghost use Rattle.blk_io.specs.Faults.{IfDamaged, IfDevice};
-ghost use Rattle.blk_format.specs.Sealed.{sealed_steps};
 ghost use Rattle.blk_disk.specs.Tables.{Agrees};
+ghost use Rattle.blk_lru.specs.Plans.{word_or_zero};
 ghost use Rattle.blk_lru.specs.Damages.{IsInsertDamage, IsNodeDamage, IsRemovalDamage, IsTouchDamage};
 ghost use Rattle.blk_lru.specs.Nodes.{is_node};
-ghost use Rattle.blk_laws.specs.ListSteps.{AreSealed, AreTimes, IsPartly, IsSealed, IsTouched, steps_of, times_of, touch_steps};
-ghost use Rattle.blk_lru.specs.Writes.{HasWholeIndex};
 ghost use Rattle.blk_lru.specs.Lists.{IsListed, Turns, first_of};
-ghost use Rattle.blk_laws.specs.ListWords.{walked};
 
 use crate::nodes::{NEXT, PREV, link};
 use crate::plans::{Operation, plan_of};

@@ -2,17 +2,18 @@
 ghost use Rattle.std.specs.Prelude.{◌≡◌, ◌≤◌, None, IfOk, IfSome, OnOk, map, true};
 ghost use Rattle.std.specs.Option.{ForSome};
 ghost use Rattle.blk_image.specs.Told.{Grows, GrowsInPart, Passes, Rises, Stays};
+ghost use Rattle.blk_format.specs.Headers.{HasWholeIndex};
 ghost use Rattle.blk_volume.specs.Completion.{insert, move, remove as removal};
 ghost use Rattle.blk_volume.specs.ListPlans.{completion_writes};
 ghost use Rattle.blk_volume.specs.View.{list_of};
+ghost use Rattle.blk_laws.specs.ListSteps.{AreOf, AreSealed, AreWords, IsPartly, steps_of};
+ghost use Rattle.blk_laws.specs.ListWords.{CompletesAlike, IsCompleted};
 ghost use Rattle.blk_io.specs.Faults.{IfDamaged, IfDevice};
 ghost use Rattle.blk_disk.specs.Tables.{Agrees};
 ghost use Rattle.blk_lru.specs.Damages.{IsCompletingDamage, IsNodeDamage};
 ghost use Rattle.blk_lru.specs.Nodes.{is_node, AreLinksOf};
-ghost use Rattle.blk_laws.specs.ListSteps.{AreOf, AreSealed, AreWords, IsPartly, steps_of};
-ghost use Rattle.blk_lru.specs.Writes.{HasWholeIndex, meant};
+ghost use Rattle.blk_lru.specs.Writes.{meant};
 ghost use Rattle.blk_lru.specs.Completing.{AreNodes, Finds, FindsBeside, FindsHead, finishing_writes};
-ghost use Rattle.blk_laws.specs.ListWords.{CompletesAlike, IsCompleted};
 
 use crate::nodes::{Links, checked};
 use crate::plans::{Operation, Plan, ending, pending_of};

@@ -4,14 +4,13 @@ ghost use Rattle.std.specs.Option.{ForSome};
 ghost use Rattle.blk_image.specs.Image.{word as image_word, Index as index};
 ghost use Rattle.blk_image.specs.Told.{Rises, Stays};
 ghost use Rattle.blk_format.specs.Address.{file_selector, place};
-ghost use Rattle.blk_format.specs.Headers.{header_length};
+ghost use Rattle.blk_format.specs.Headers.{header_length, HasWholeIndex};
+ghost use Rattle.blk_laws.specs.ListWords.{walked};
 ghost use Rattle.blk_io.specs.declared.folder.FileId.TheVariants as names;
 ghost use Rattle.blk_io.specs.Faults.{IfDamaged, IfDevice, IsShort};
 ghost use Rattle.blk_disk.specs.Tables.{Agrees};
 ghost use Rattle.blk_lru.specs.Nodes.{is_node, IsAstray, NamesNode};
-ghost use Rattle.blk_lru.specs.Writes.{HasWholeIndex};
 ghost use Rattle.blk_lru.specs.Lists.{IsListed, IsRested, first_of, last_of};
-ghost use Rattle.blk_laws.specs.ListWords.{walked};
 
 use crate::nodes::{NEXT, PREV, link, node_of};
 use blk_addr::Addr;

@@ -6,19 +6,19 @@ use Rattle.blk_image.specs.Told.{GrowsInPart}
 use Rattle.blk_volume.specs.ListView.{ListView, ListWrite}
 use Rattle.blk_volume.specs.ListPlans.{writes_of}
 use Rattle.blk_volume.specs.View.{list_of}
-use Rattle.blk_disk.specs.Tables.{Agrees}
 use Rattle.blk_laws.specs.ListWords.{IsWritable, CanBeMade, Rests, walked}
-use Rattle.blk_lru.specs.Nodes.{is_node}
-use Rattle.blk_lru.specs.Plans.{whole_plan, word_or_zero}
-use Rattle.blk_lru.specs.Writes.{meant}
 use Rattle.blk_laws.specs.ListSteps.{AreOf, AreSealed, IsPartly, steps_of}
-use Rattle.blk_lru.proofs.Conditions.{head_read, insert_any, one_is_one, some_holds, told_before, told_stays, rested_walk}
-use Rattle.blk_lru.proofs.Operating.{all_made, part_as, part_passes, part_turns, stops_none, turns_none, whole_as}
-use Rattle.blk_lru.proofs.Performing.{ready_writable, told_ready}
 use Rattle.blk_laws.proofs.Sealing.{writes-seal}
 use Rattle.blk_laws.proofs.WordTurns.{inserts-can}
 use Rattle.blk_laws.proofs.WriteSteps.{quiet-writes, writes-in_turn}
 use Rattle.blk_laws.proofs.WriteWords.{Each, Good, each_nodes, each_words}
+use Rattle.blk_disk.specs.Tables.{Agrees}
+use Rattle.blk_lru.specs.Nodes.{is_node}
+use Rattle.blk_lru.specs.Plans.{whole_plan, word_or_zero}
+use Rattle.blk_lru.specs.Writes.{meant}
+use Rattle.blk_lru.proofs.Conditions.{head_read, insert_any, one_is_one, some_holds, told_before, told_stays, rested_walk}
+use Rattle.blk_lru.proofs.Operating.{all_made, part_as, part_passes, part_turns, stops_none, turns_none, whole_as}
+use Rattle.blk_lru.proofs.Performing.{ready_writable, told_ready}
 use Rattle.blk_lru.proofs.PlanNodes.{node_small, whole_good}
 use Rattle.blk_lru.proofs.PlanWords.{whole_is}
 use Rattle.blk_lru.proofs.changing.insert_front.Given as given

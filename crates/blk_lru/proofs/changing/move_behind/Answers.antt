@@ -5,18 +5,18 @@ use Rattle.blk_image.specs.Told.{Told, GrowsInPart}
 use Rattle.blk_volume.specs.ListView.{ListWrite}
 use Rattle.blk_volume.specs.ListPlans.{writes_of}
 use Rattle.blk_volume.specs.View.{list_of}
-use Rattle.blk_disk.specs.Tables.{Agrees}
 use Rattle.blk_laws.specs.ListWords.{IsWritable, CanBeMade, walked}
-use Rattle.blk_lru.specs.Nodes.{is_node}
-use Rattle.blk_lru.specs.Plans.{whole_plan, word_or_zero}
-use Rattle.blk_lru.specs.Writes.{meant}
 use Rattle.blk_laws.specs.ListSteps.{AreOf, IsPartly, steps_of}
-use Rattle.blk_lru.proofs.Conditions.{head_read, some_holds, next_names, prev_names, told_before, told_stays, around}
-use Rattle.blk_lru.proofs.NodeWords.{stands_as_node, next_link, prev_link}
-use Rattle.blk_lru.proofs.Operating.{part_as, part_passes, stops_none, whole_as}
 use Rattle.blk_laws.proofs.WordTurns.{moves-can}
 use Rattle.blk_laws.proofs.WriteSteps.{quiet-writes, writes-in_turn}
 use Rattle.blk_laws.proofs.WriteWords.{Each, Good, each_nodes, each_words}
+use Rattle.blk_disk.specs.Tables.{Agrees}
+use Rattle.blk_lru.specs.Nodes.{is_node}
+use Rattle.blk_lru.specs.Plans.{whole_plan, word_or_zero}
+use Rattle.blk_lru.specs.Writes.{meant}
+use Rattle.blk_lru.proofs.Conditions.{head_read, some_holds, next_names, prev_names, told_before, told_stays, around}
+use Rattle.blk_lru.proofs.NodeWords.{stands_as_node, next_link, prev_link}
+use Rattle.blk_lru.proofs.Operating.{part_as, part_passes, stops_none, whole_as}
 use Rattle.blk_lru.proofs.PlanNodes.{node_small, whole_good}
 use Rattle.blk_lru.proofs.Performing.{ready_writable, told_ready}
 use Rattle.blk_lru.proofs.PlanWords.{whole_is}

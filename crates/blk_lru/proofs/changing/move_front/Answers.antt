@@ -5,9 +5,9 @@ use Rattle.blk_image.specs.Told.{Told, Grows}
 use Rattle.blk_volume.specs.ListPlans.{touch_writes, writes_of}
 use Rattle.blk_volume.specs.ListView.{ListView, ListWrite}
 use Rattle.blk_volume.specs.View.{list_of}
-use Rattle.blk_disk.specs.Tables.{Agrees}
 use Rattle.blk_laws.specs.ListWords.{walked}
 use Rattle.blk_laws.specs.ListSteps.{steps_of}
+use Rattle.blk_disk.specs.Tables.{Agrees}
 use Rattle.blk_lru.proofs.Conditions.{head_read, told_stays}
 use Rattle.blk_lru.proofs.Operating.{stops_none}
 use Rattle.blk_lru.proofs.changing.move_front.Goals as goal

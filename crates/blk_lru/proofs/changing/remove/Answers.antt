@@ -6,20 +6,20 @@ use Rattle.blk_image.specs.Told.{Told, GrowsInPart, TurnsAt}
 use Rattle.blk_volume.specs.ListView.{ListWrite}
 use Rattle.blk_volume.specs.ListPlans.{writes_of}
 use Rattle.blk_volume.specs.View.{list_of}
-use Rattle.blk_disk.specs.Tables.{Agrees}
 use Rattle.blk_laws.specs.ListWords.{IsWritable, CanBeMade, CompletesTo, Rests, walked}
-use Rattle.blk_lru.specs.Nodes.{is_node}
-use Rattle.blk_lru.specs.Plans.{whole_plan}
-use Rattle.blk_lru.specs.Writes.{meant}
 use Rattle.blk_laws.specs.ListSteps.{AreOf, AreSealed, IsPartly, steps_of}
-use Rattle.blk_lru.proofs.Conditions.{remove_any, one_is_one, next_names, prev_names, rested_walk, told_before, told_stays, around, rests_as}
-use Rattle.blk_lru.proofs.NodeWords.{stands_as_node, next_link, prev_link}
-use Rattle.blk_lru.proofs.Operating.{all_made, part_as, part_passes, part_turns, stops_none, turns_none, whole_as}
-use Rattle.blk_lru.proofs.Performing.{ready_writable, told_ready}
 use Rattle.blk_laws.proofs.Sealing.{writes-seal}
 use Rattle.blk_laws.proofs.WordTurns.{removals-can}
 use Rattle.blk_laws.proofs.WriteSteps.{quiet-writes, writes-in_turn}
 use Rattle.blk_laws.proofs.WriteWords.{Each, Good, each_nodes, each_words}
+use Rattle.blk_disk.specs.Tables.{Agrees}
+use Rattle.blk_lru.specs.Nodes.{is_node}
+use Rattle.blk_lru.specs.Plans.{whole_plan}
+use Rattle.blk_lru.specs.Writes.{meant}
+use Rattle.blk_lru.proofs.Conditions.{remove_any, one_is_one, next_names, prev_names, rested_walk, told_before, told_stays, around, rests_as}
+use Rattle.blk_lru.proofs.NodeWords.{stands_as_node, next_link, prev_link}
+use Rattle.blk_lru.proofs.Operating.{all_made, part_as, part_passes, part_turns, stops_none, turns_none, whole_as}
+use Rattle.blk_lru.proofs.Performing.{ready_writable, told_ready}
 use Rattle.blk_lru.proofs.PlanNodes.{node_small, whole_good}
 use Rattle.blk_lru.proofs.PlanWords.{whole_is}
 use Rattle.blk_lru.proofs.changing.remove.Given as given

@@ -7,14 +7,14 @@ use Rattle.blk_image.specs.Told.{Grows, GrowsInPart}
 use Rattle.blk_image.proofs.Runs.{grows_none}
 use Rattle.blk_volume.specs.ListView.{ListWrite}
 use Rattle.blk_volume.specs.View.{list_of}
-use Rattle.blk_disk.specs.Tables.{Agrees}
-use Rattle.blk_lru.specs.Completing.{finishing_writes}
 use Rattle.blk_volume.specs.ListPlans.{completion_writes}
 use Rattle.blk_laws.specs.ListSteps.{AreSealed, IsPartly, steps_of}
 use Rattle.blk_laws.specs.ListWords.{IsWritable, CanBeMade, CompletesAlike, IsCompleted, completion_steps}
 use Rattle.blk_laws.proofs.Sealing.{writes-seal}
 use Rattle.blk_laws.proofs.WordStops.{completions-can, completions-done, completions-keep}
 use Rattle.blk_laws.proofs.WriteSteps.{quiet-writes, writes-in_turn}
+use Rattle.blk_disk.specs.Tables.{Agrees}
+use Rattle.blk_lru.specs.Completing.{finishing_writes}
 use Rattle.blk_lru.specs.Writes.{meant}
 use Rattle.blk_lru.proofs.Conditions.{told_before, told_now, told_stays}
 use Rattle.blk_lru.proofs.Counting.{nothing_finishes, some_finishes}

@@ -1,11 +1,11 @@
 use Rattle.std.proofs.Common.{rules, ◌≡◌, ◌∙◌, ℕ, Some, true, sym, subst}
 use Rattle.blk_image.specs.Image.{Image}
 use Rattle.blk_volume.specs.View.{list_of}
+use Rattle.blk_laws.specs.ListSteps.{AreOf, AreWords}
+use Rattle.blk_laws.proofs.WriteWords.{completion_can, each_nodes, each_words}
 use Rattle.blk_lru.specs.Completing.{AreNodes, Finds}
 use Rattle.blk_lru.specs.Nodes.{is_node}
 use Rattle.blk_lru.specs.Plans.{code_of, pending, word_or_zero}
-use Rattle.blk_laws.specs.ListSteps.{AreOf, AreWords}
-use Rattle.blk_laws.proofs.WriteWords.{completion_can, each_nodes, each_words}
 use Rattle.blk_lru.proofs.Counting.{found_stand, found_writes, no_writes}
 use Rattle.blk_lru.proofs.completing.completion.Given as given
 use Rattle.blk_lru.proofs.completing.completion.Goals as goal

@@ -1,11 +1,11 @@
 use Rattle.std.proofs.Common.{◌≡◌, ◌∷◌, ◌+◌, List, None, drop, map, sym, subst, true, refl, arith}
 use Rattle.blk_volume.specs.ListView.{ListWrite}
 use Rattle.blk_volume.specs.View.{list_of}
+use Rattle.blk_io.proofs.Carried.{carried}
 use Rattle.blk_lru.specs.Nodes.{is_node}
 use Rattle.blk_lru.specs.Writes.{meant}
 use Rattle.blk_lru.proofs.FailedChecks.{if_damaged_weaker}
 use Rattle.blk_lru.proofs.Performing.{Reached, Wrote, nothing, midst, one_more, in_part, done_all, wrote_part, passes, told_ready, told_can, told_made, told_after, part_ready, first_checks, at_item, item_is, all_done, back_untold}
-use Rattle.blk_io.proofs.Carried.{carried}
 use Rattle.blk_lru.proofs.writes.perform.Goals as goal
 
 pub loop-write-init : goal.loop-write-init

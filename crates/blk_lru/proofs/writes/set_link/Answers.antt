@@ -1,6 +1,6 @@
 use Rattle.std.proofs.Common.{inl, ⊎_elim, ◌≡◌, arith, refl, ◌<◌, ◌%◌}
-use Rattle.blk_lru.proofs.FailedChecks.{short_or_unsealed}
 use Rattle.blk_laws.proofs.NodeRecords.{record_checks, one_change}
+use Rattle.blk_lru.proofs.FailedChecks.{short_or_unsealed}
 use Rattle.blk_lru.proofs.NodeWords.{node_kind, node_stands}
 use Rattle.blk_lru.proofs.writes.set_link.Goals as goal
 

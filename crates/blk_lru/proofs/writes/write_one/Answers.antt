@@ -3,8 +3,8 @@ use Rattle.std.specs.Prelude.{OnOk}
 use Rattle.std.specs.Option.{ForSome}
 use Rattle.blk_image.specs.Told.{Grows}
 use Rattle.blk_volume.specs.View.{list_of}
-use Rattle.blk_lru.specs.declared.writes.Write.{Write}
 use Rattle.blk_laws.specs.ListSteps.{AreOf, write_steps}
+use Rattle.blk_lru.specs.declared.writes.Write.{Write}
 use Rattle.blk_lru.specs.Writes.{meant}
 use Rattle.blk_lru.proofs.writes.write_one.Goals as goal
 
