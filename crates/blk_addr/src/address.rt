@@ -1,6 +1,6 @@
 // Addresses as a type: a word that is an address.
-ghost use Rattle.std.specs.Prelude.{◌≡◌, ◌≢◌, ◌+◌, ◌*◌, ◌^◌, ◌≤◌, ◌==◌, Some, None, IsTrue, if◌then◌else◌};
-ghost use Rattle.blk_format.specs.Address.{is_address, kind_of, first_block, block_count, file_selector, external_number, external};
+ghost use Rattle.std.specs.Prelude.{◌≡◌, ◌≢◌, ◌+◌, ◌*◌, ◌%◌, ◌^◌, ◌<◌, ◌≤◌, ◌==◌, Some, None, IsTrue, if◌then◌else◌};
+ghost use Rattle.blk_format.specs.Address.{is_address, kind_of, first_block, block_count, file_selector, external_number, external, rankings, block_word, external_word};
 ghost use Rattle.blk_addr.specs.Kind.{kind_number};
 ghost use Rattle.blk_addr.specs.FileId.{file_of_word};
 
@@ -37,6 +37,31 @@ impl Addr {
             Some(Addr { word })
         } else {
             None
+        }
+    }
+
+    /// The address of so many blocks of a file, from a first one on. They lie in one group of four.
+    pub fn of_blocks(kind: Kind, file: u8, start: u32, count: u32) -> Addr
+        requires blocks { kind_number kind ≢ external }
+        requires some { 0 < count }
+        requires group { start % 4 + count ≤ 4 }
+        requires small { start < 65536 }
+        requires node { kind_number kind ≡ rankings → count ≡ 1 }
+        ensures { result ≡ block_word (kind_number kind) file start count }
+    {
+        Addr {
+            word: fields::block_word(kind.number(), file, start, count),
+        }
+    }
+
+    /// The address of the external file of a number.
+    pub fn of_external(number: u32) -> Addr
+        requires some { 0 < number }
+        requires small { number < 2 ^ 28 }
+        ensures { result ≡ external_word number }
+    {
+        Addr {
+            word: fields::external_word(number),
         }
     }
 
@@ -126,11 +151,4 @@ impl Addr {
     {
         fields::file_selector(self.word)
     }
-}
-
-/// The word of an address gives that address again.
-pub fn from_word_of_word(addr: Addr) -> Option<Addr>
-    ensures { result ≡ Some addr }
-{
-    Addr::from_word(addr.word())
 }

@@ -1,7 +1,7 @@
 // Claims: the blocks and external files that have an owner.
 ghost use Rattle.std.specs.Prelude.{◌≡◌, ◌≢◌, ℕ, ◌≤◌, ◌++◌, List, [], ◌∷◌, true, false, not, slice_index, count_by, IsTrue, IfOk, OnOk, OnErr, if◌then◌else◌};
 ghost use Rattle.blk_format.specs.Address.{is_address, kind_of, external};
-ghost use Rattle.blk_format.specs.Claims.{claims_of, claims_of_all, overlap, is_in_file};
+ghost use Rattle.blk_format.specs.Claims.{BlockOf, claims_of, claims_of_all, has_claim, overlap, is_in_file};
 ghost use Rattle.blk_addr.specs.Bits.{bits_of_files};
 
 use crate::bitmap::Bitmap;
@@ -49,6 +49,17 @@ impl Claims {
         } else {
             self.blocks.has_any(addr.first_number(), addr.blocks())
         }
+    }
+
+    /// Whether a block of a block file is claimed. No address names a block from 65536 on.
+    pub fn has_block(&self, file: u8, block: u32) -> bool
+        ensures test { result ≡ contains_claim self.now (BlockOf file block) }
+        ensures listed { (words : List ℕ) → IsClaimsOf self.now words → result ≡ has_claim (claims_of_all words) (BlockOf file block) }
+    {
+        block < fields::BLOCKS_OF_FILE
+            && self
+                .blocks
+                .has(u32::from(file) * fields::BLOCKS_OF_FILE + block)
     }
 
     /// Adds the address and its claims, unless one of these is there: then nothing changes.

@@ -1,5 +1,5 @@
 // The fields of an address word.
-ghost use Rattle.std.specs.Prelude.{◌≡◌, ◌≤◌};
+ghost use Rattle.std.specs.Prelude.{◌≡◌, ◌≤◌, ◌<◌, ◌^◌};
 ghost use Rattle.blk_format.specs.Address as address;
 
 // The type numbers of address words.
@@ -116,4 +116,29 @@ pub fn is_address(word: u32) -> bool
     ensures { result ≡ address.is_address word }
 {
     is_initialized(word) && (names_external(word) || names_blocks(word))
+}
+
+// The word of so many blocks of a type in a file, from a first one on.
+#[tactic(auto, unfolding(blk_format::specs::Address::block_word))]
+pub fn block_word(kind: u32, file: u8, start: u32, count: u32) -> u32
+    requires kind { kind < 8 }
+    requires some { 0 < count }
+    requires most { count ≤ 4 }
+    requires small { start < 65536 }
+    ensures { result ≡ address.block_word kind file start count }
+{
+    INITIALIZED
+        + (kind << KIND_SHIFT)
+        + ((count - 1) << COUNT_SHIFT)
+        + (u32::from(file) << FILE_SHIFT)
+        + start
+}
+
+// The word of the external file of a number.
+#[tactic(auto, unfolding(blk_format::specs::Address::external_word))]
+pub fn external_word(number: u32) -> u32
+    requires { number < 2 ^ 28 }
+    ensures { result ≡ address.external_word number }
+{
+    INITIALIZED + number
 }

@@ -1,4 +1,4 @@
-// Addresses of blocks and external files, the storage of data by its size, and claims.
+//! Addresses of blocks and external files, the storage of data by its size, and claims.
 #![tactic(auto)]
 
 mod address;
@@ -7,12 +7,13 @@ mod claim_set;
 mod fields;
 mod file_id;
 mod kinds;
+pub mod laws;
 mod no_memory;
 mod storage;
 #[cfg(test)]
 mod tests;
 
-pub use address::{Addr, from_word_of_word};
+pub use address::Addr;
 pub use claim_set::Claims;
 pub use file_id::FileId;
 pub use kinds::Kind;

@@ -14,14 +14,8 @@ const MOST_IN_1K: u32 = 4095;
 
 const MOST_IN_4K: u32 = 16384;
 
-// The bytes of one block of each kind.
-const NODE_SIZE: u32 = 36;
-
-const SIZE_OF_256: u32 = 256;
-
-const SIZE_OF_1K: u32 = 1024;
-
-const SIZE_OF_4K: u32 = 4096;
+// A record's key needs a block more for each so many bytes.
+const BLOCK: u32 = 256;
 
 // The first length at which a key needs a second block of its record, and the longest key in a record.
 const SECOND_BLOCK_FROM: u32 = 160;
@@ -51,24 +45,9 @@ pub fn blocks_for(size: u32) -> u32
     requires { 0 < size }
     ensures { result ≡ storage.blocks_for size }
 {
-    match kind_for(size) {
-        Kind::External => 0,
-        kind => size.div_ceil(block_size(kind)),
-    }
-}
-
-// The bytes of one block of a kind that has blocks.
-#[tactic(auto, unfolding(blk_format::specs::Address::block_size))]
-fn block_size(kind: Kind) -> u32
-    requires { kind_number kind ≢ external }
-    ensures size { result ≡ address.block_size (kind_number kind) }
-    ensures some { 0 < result }
-{
-    match kind {
-        Kind::Rankings => NODE_SIZE,
-        Kind::B256 => SIZE_OF_256,
-        Kind::B1K => SIZE_OF_1K,
-        Kind::External | Kind::B4K => SIZE_OF_4K,
+    match kind_for(size).block_size() {
+        Some(block_size) => size.div_ceil(block_size),
+        None => 0,
     }
 }
 
@@ -80,6 +59,6 @@ pub fn entry_blocks(key_len: u32) -> u32
     if key_len < SECOND_BLOCK_FROM || key_len > MOST_IN_RECORD {
         1
     } else {
-        (key_len - SECOND_BLOCK_FROM) / SIZE_OF_256 + 2
+        (key_len - SECOND_BLOCK_FROM) / BLOCK + 2
     }
 }

@@ -1,5 +1,6 @@
 // Words, sizes and claims from the description of the forms.
-use crate::{Addr, Claims, FileId, Kind, blocks_for, entry_blocks, from_word_of_word, kind_for};
+use crate::laws::from_word_of_word;
+use crate::{Addr, Claims, FileId, Kind, blocks_for, entry_blocks, kind_for};
 use std::test::Fail;
 
 #[test]
@@ -38,6 +39,35 @@ fn words_are_no_addresses(rt: HostRuntime) {
         0,
     ] {
         assert_eq!(rt; Addr::from_word(word), None, "{word}");
+    }
+}
+
+#[test]
+fn addresses_are_put_together(rt: HostRuntime) {
+    for (addr, word) in [
+        (Addr::of_blocks(Kind::Rankings, 0, 0, 1), 0x9000_0000),
+        (Addr::of_blocks(Kind::B256, 1, 4, 2), 0xA101_0004),
+        (Addr::of_blocks(Kind::B1K, 2, 65535, 1), 0xB002_FFFF),
+        (Addr::of_blocks(Kind::B4K, 255, 65532, 4), 0xC3FF_FFFC),
+        (Addr::of_external(1), 0x8000_0001),
+        (Addr::of_external(0x0FFF_FFFF), 0x8FFF_FFFF),
+    ] {
+        assert_eq!(rt; addr.word(), word);
+        assert_eq!(rt; Addr::from_word(word), Some(addr));
+    }
+}
+
+#[test]
+fn kinds_have_numbers_and_sizes(rt: HostRuntime) {
+    for (kind, number, size) in [
+        (Kind::External, 0, None),
+        (Kind::Rankings, 1, Some(36)),
+        (Kind::B256, 2, Some(256)),
+        (Kind::B1K, 3, Some(1024)),
+        (Kind::B4K, 4, Some(4096)),
+    ] {
+        assert_eq!(rt; kind.number(), number);
+        assert_eq!(rt; kind.block_size(), size);
     }
 }
 
@@ -102,6 +132,21 @@ fn claims_are_found(rt: HostRuntime) -> Result<(), Fail> {
         assert_eq!(rt; add(&mut claims, word)?, true, "{word}");
         assert_eq!(rt; has(&claims, word)?, true, "{word}");
         assert_eq!(rt; add(&mut claims, word)?, false, "{word}");
+    }
+    for (file, block, claimed) in [
+        (3, 3, false),
+        (3, 4, true),
+        (3, 7, true),
+        (3, 8, false),
+        (2, 65536 + 4, false),
+        (4, 7, false),
+        (255, 65535, true),
+    ] {
+        assert_eq!(rt;
+            claims.has_block(file, block),
+            claimed,
+            "block {block} of {file}"
+        );
     }
     // block 7 of data_3, block 7 of data_4, block 8 of data_3, block 0 of data_255, f_000002
     assert_eq!(rt; has(&claims, 0xC003_0007)?, true);

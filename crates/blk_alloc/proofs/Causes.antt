@@ -14,11 +14,11 @@ none_some : {image : Image} → None ≡ Some image → ⊥
 none_some {image} e = cc
 
 -- a cause at a later moment is one at the start, where nothing was told then
-pub cause_before : (later before : Told) (n start : ℕ) (used : Bool) (damage : Damage) → before.files ≡ None → IsCause later n start used damage → IsCause before n start used damage
-cause_before later before n start used damage none =
+pub cause_before : (later before : Told) (n start count : ℕ) (used : Bool) (damage : Damage) → before.files ≡ None → IsCause later n start count used damage → IsCause before n start count used damage
+cause_before later before n start count used damage none =
     ⊎_elim
     (λ short. inl (record { place = short.place; count = short.count; read = short.read; short = record { of_file = short.short.of_file; at_place = short.short.at_place; few = short.short.few; many = λ image there. absurd (none_some (sym none ∙ there)) } }))
-    (λ count. inr (record { counters = count.counters; are = λ image there. absurd (none_some (sym none ∙ there)); at_end = count.at_end }))
+    (λ why. inr (record { counters = why.counters; bytes = why.bytes; are = λ image there. absurd (none_some (sym none ∙ there)); of_map = λ image there. absurd (none_some (sym none ∙ there)); at_end = why.at_end }))
 
 -- a folder that tells nothing after some steps told nothing before
 pub none_before : (f : Image → Image) (a b : Option Image) → b ≡ option_map f a → b ≡ None → a ≡ None

@@ -1,5 +1,5 @@
 -- Marks of claimed blocks, and the groups that they leave.
-use Rattle.std.proofs.Common.{◌≡◌, ◌≢◌, ℕ, zero, suc, ◌+◌, ◌-◌, ◌*◌, ◌<◌, ◌≤◌, Bool, true, false, if◌then◌else◌, min, refl, sym, ◌∙◌, ap, ap₂, arith}
+use Rattle.std.proofs.Common.{◌≡◌, ◌≢◌, ℕ, zero, suc, ◌+◌, ◌*◌, ◌<◌, ◌≤◌, Bool, true, false, if◌then◌else◌, refl, sym, ◌∙◌, ap, ap₂, arith}
 use Rattle.std.specs.Prelude.{◌==◌, map}
 use Rattle.std.specs.List.{list_any, count_by, range_with_len}
 use Rattle.std.proofs.lemmas.Bool.Decides.{nat_tests}
@@ -63,21 +63,6 @@ groups_more p n run =
     count-more (λ g. longest_run p g == run) 0 n
     ∙ ap (λ (k : ℕ). count_by (λ g. longest_run p g == run) (range_with_len 0 n) + one (longest_run p k == run)) {x = 0 + n} {y = n} (omega arith)
 
--- the groups of a piece behind those before it
-pub groups_then : (p q : ℕ → Bool) (a k run : ℕ) → ((g : ℕ) → g < k → longest_run q g ≡ longest_run p (a + g)) → groups_with p (a + k) run ≡ groups_with p a run + groups_with q k run
-groups_then p q a zero run same = ap (λ (n : ℕ). groups_with p n run) {x = a + 0} {y = a} (omega arith) ∙ sum_zero (groups_with p a run) (groups_with q 0 run) (no_groups q run)
-  where
-    sum_zero : (x y : ℕ) → y ≡ 0 → x ≡ x + y
-    sum_zero x y e = omega (arith, e)
-groups_then p q a (suc k) run same =
-    let here = groups_more p (a + k) run in
-    let there = groups_more q k run in
-    let rest = groups_then p q a k run (λ g small. same g (omega (arith, small))) in
-    let e : one (longest_run q k == run) ≡ one (longest_run p (a + k) == run) = ap (λ (r : ℕ). one (r == run)) (same k (omega arith)) in
-    let d : groups_with p (a + suc k) run ≡ groups_with p (a + k + 1) run = ap (λ (n : ℕ). groups_with p n run) {x = a + suc k} {y = a + k + 1} (omega arith) in
-    let z : groups_with q (suc k) run ≡ groups_with q (k + 1) run = ap (λ (n : ℕ). groups_with q n run) {x = suc k} {y = k + 1} (omega arith) in
-    omega (arith, here, there, rest, e, d, z)
-
 -- no more than all have a run
 pub groups_most : (p : ℕ → Bool) (n run : ℕ) → groups_with p n run ≤ n
 unfolding groups_with
@@ -87,11 +72,3 @@ groups_most p n run = counted_most (λ g. longest_run p g == run) 0 n
 pub groups_same : (p q : ℕ → Bool) (n run : ℕ) → ((b : ℕ) → b < 4 * n → p b ≡ q b) → groups_with p n run ≡ groups_with q n run
 unfolding groups_with
 groups_same p q n run same = count-same (λ g. longest_run p g == run) (λ g. longest_run q g == run) 0 n (λ g low small. ap (λ (r : ℕ). r == run) (longest_run-same p q g g (λ i few. same (4 * g + i) (omega (arith, small, few)))))
-
--- the groups of a map up to the end of a piece of it
-pub piece_groups : (p q : ℕ → Bool) (groups piece run : ℕ) → ((m : ℕ) → m < 4992 → q m ≡ p (piece * 4992 + m))
-    → groups_with p (min groups ((piece + 1) * 1248)) run ≡ groups_with p (min groups (piece * 1248)) run + groups_with q (min (groups - piece * 1248) 1248) run
-piece_groups p q groups piece run same =
-    ap (λ (n : ℕ). groups_with p n run) {x = min groups ((piece + 1) * 1248)} {y = min groups (piece * 1248) + min (groups - piece * 1248) 1248} (omega arith)
-    ∙ groups_then p q (min groups (piece * 1248)) (min (groups - piece * 1248) 1248) run
-    (λ g small. longest_run-same q p g (min groups (piece * 1248) + g) (λ i few. same (4 * g + i) (omega (arith, small, few)) ∙ ap p {x = piece * 4992 + (4 * g + i)} {y = 4 * (min groups (piece * 1248) + g) + i} (omega (arith, small))))

@@ -1,5 +1,5 @@
 -- The counters of a file that are written behind its map.
-use Rattle.std.proofs.Common.{◌≡◌, ℕ, zero, suc, ◌+◌, ◌<◌, ◌≤◌, ◌⊎◌, inl, inr, ◌^◌, List, [], ◌∷◌, length, get_or, Bool, true, false, ◌&&◌, ◌||◌, nat_le, nat_lt, Some, refl, sym, ◌∙◌, ap, subst, arith, lit<}
+use Rattle.std.proofs.Common.{◌≡◌, ℕ, zero, suc, ◌+◌, ◌<◌, ◌≤◌, ◌⊎◌, inl, inr, ◌^◌, List, [], ◌∷◌, length, Bool, true, false, ◌&&◌, ◌||◌, nat_le, nat_lt, Some, refl, sym, ◌∙◌, ap, subst, arith, lit<}
 use Rattle.std.specs.Prelude.{◌==◌, ◌/◌, ◌%◌}
 use Rattle.std.specs.Int.{bit_at}
 use Rattle.std.specs.Option.{ForSome}
@@ -10,7 +10,7 @@ use Rattle.blk_image.specs.Steps.{Word, after, word_step, word_steps, with_word,
 use Rattle.blk_image.specs.Footprint.{Footprint, SameOutside, IsWithin, either, nothing, one_word, range, touched_by_all}
 use Rattle.blk_image.specs.Told.{Told, Grows, GrowsInPart, PassesTo, Until}
 use Rattle.blk_image.proofs.Words.{word-beside, word-there, length-with_word}
-use Rattle.blk_image.proofs.Footprints.{outside-trans, outside_wider, outside_steps, outside_write, within_left, within_right, within_both, range_within, same_word_outside}
+use Rattle.blk_image.proofs.Footprints.{outside-refl, outside-trans, outside_wider, outside_steps, outside_write, within_left, within_right, within_both, range_within, same_word_outside}
 use Rattle.blk_image.proofs.Runs.{passes_part, until-append, until_last, told_whole, some_inj}
 use Rattle.blk_image.proofs.WordSteps.{quiet-word_steps}
 use Rattle.blk_format.specs.Headers.{allocations_of, empty_of, updating_of}
@@ -57,6 +57,25 @@ module _ (n : ℕ) where
       by_test true k low high = grind (arith, nat_tests)
       by_test false k low high = refl
 
+-- a header has its length after a word
+pub word_kept : {a b : Told} (n at value : ℕ) → Grows a b (word_step (Block n) at value) → ForSome a.files (λ image. 8192 ≤ length_of image (Block n)) → ForSome b.files (λ image. 8192 ≤ length_of image (Block n))
+unfolding word_step
+word_kept {a} {b} n at value grows long = told_whole (λ image. 8192 ≤ length_of image (Block n)) grows (λ from there. let e = (outside_write (Block n) at (word_bytes value) from).lengths (Block n) refl in let was = long from there in omega (arith, e, was))
+
+-- and after two
+pub two_kept : {a b : Told} (n p v q w : ℕ) → Grows a b (word_steps (Block n) ((p, v) ∷ (q, w) ∷ [])) → ForSome a.files (λ image. 8192 ≤ length_of image (Block n)) → ForSome b.files (λ image. 8192 ≤ length_of image (Block n))
+unfolding word_step
+two_kept {a} {b} n p v q w grows long =
+    told_whole (λ image. 8192 ≤ length_of image (Block n)) grows
+    (λ from there. let e = (outside_write (Block n) p (word_bytes v) from).lengths (Block n) refl in
+    let d = (outside_write (Block n) q (word_bytes w) (after (Word (Block n) p (word_bytes v) ∷ []) from)).lengths (Block n) refl in
+    let was = long from there in omega (arith, e, d, was))
+
+-- the last word alone
+pub last_word : (n : ℕ) → word_step (Block n) 56 0 ≡ word_steps (Block n) ((56, 0) ∷ [])
+unfolding word_step
+last_word n = refl
+
 module _ (n a e0 e1 e2 e3 : ℕ) where
   abbrev f : File
   f = Block n
@@ -67,16 +86,6 @@ module _ (n a e0 e1 e2 e3 : ℕ) where
 
   abbrev pub last_words : List (ℕ × ℕ)
   last_words = (16, a) ∷ (24, e0) ∷ (28, e1) ∷ (32, e2) ∷ (36, e3) ∷ (56, 0) ∷ []
-
-  -- each of them is inside a header
-  pub each_inside : (size : ℕ) → 8192 ≤ size → (k : ℕ) (d : ℕ × ℕ) → k < 6 → (get_or last_words k d).0 + 4 ≤ size
-  each_inside size long zero d small = omega arith
-  each_inside size long (suc zero) d small = omega arith
-  each_inside size long (suc (suc zero)) d small = omega arith
-  each_inside size long (suc (suc (suc zero))) d small = omega arith
-  each_inside size long (suc (suc (suc (suc zero)))) d small = omega arith
-  each_inside size long (suc (suc (suc (suc (suc zero))))) d small = omega arith
-  each_inside size long (suc (suc (suc (suc (suc (suc k)))))) d small = absurd (omega arith)
 
   counters_within : IsWithin (touched_by_all (word_steps f counter_words)) (counts_of n)
   unfolding word_step
@@ -95,6 +104,13 @@ module _ (n a e0 e1 e2 e3 : ℕ) where
 
   counters_along : (from mid : Image) → SameOutside (counts_of n) from mid → Until (SameOutside (counts_of n) from) (SameOutside (counts_of n) from) mid (word_steps f counter_words)
   counters_along from mid same = outside_steps (counts_of n) (word_steps f counter_words) from mid counters_within same
+
+  -- a header has its length after the counters
+  pub counters_kept : {b c : Told} → Grows b c (word_steps f counter_words) → ForSome b.files (λ image. 8192 ≤ length_of image f) → ForSome c.files (λ image. 8192 ≤ length_of image f)
+  counters_kept {b} {c} grows long =
+      told_whole (λ image. 8192 ≤ length_of image f) grows
+      (λ from there. let e = (until_last (SameOutside (counts_of n) from) (SameOutside (counts_of n) from) (word_steps f counter_words) from (counters_along from from (outside-refl (counts_of n) from))).lengths f refl in
+      let was = long from there in omega (arith, e, was))
 
   abbrev pub finished : Image → Image
   finished mid = after (word_steps f last_words) mid
@@ -178,7 +194,7 @@ module _ (a e0 e1 e2 e3 : ℕ) (bytes : List ℕ) (long : 8192 ≤ length bytes)
   updating_is = word-there 56 0 b5 (lit< tt) (omega (arith, long, long5))
 
 module _ (claims : Claims) (n groups a e0 e1 e2 e3 : ℕ) (from mid : Image) (same : SameOutside (counts_of n) from mid) (long : 8192 ≤ length_of mid (Block n))
-    (few : groups ≤ 16224) (groups_are : groups ≡ groups_of (max_entries_in from n)) (marks : AreMarked claims mid n 0 most_blocks)
+    (few : groups ≤ 16224) (groups_are : groups ≡ groups_of (max_entries_in from n)) (marks : AreMarked claims mid n)
     (number : a ≡ allocations_in claims n) (small : a < 2 ^ 32)
     (c0 : e0 ≡ groups_with (is_block_claimed claims n) groups 1) (c1 : e1 ≡ groups_with (is_block_claimed claims n) groups 2)
     (c2 : e2 ≡ groups_with (is_block_claimed claims n) groups 3) (c3 : e3 ≡ groups_with (is_block_claimed claims n) groups 4) where
@@ -191,7 +207,7 @@ module _ (claims : Claims) (n groups a e0 e1 e2 e3 : ℕ) (from mid : Image) (sa
   marks_are : (b : ℕ) → b < most_blocks → is_marked image n b ≡ is_block_claimed claims n b
   marks_are b below =
       ap (λ (x : ℕ). bit_at x (b % 8) == 1) (ap (λ (l : List ℕ). content l (80 + b / 8)) bytes_are ∙ map_stays a e0 e1 e2 e3 (bytes_of mid (Block n)) long (80 + b / 8) (omega arith))
-      ∙ marks b (omega arith) below
+      ∙ marks b below
 
   -- the number of blocks stays
   blocks_same : max_entries_in image n ≡ max_entries_in from n

@@ -1,4 +1,5 @@
 pub mod Marking
+pub mod SideBySide
 pub mod Groups
 pub mod Headers
 pub mod Plans

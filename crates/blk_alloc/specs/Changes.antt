@@ -1,5 +1,5 @@
 -- A change of the marks of blocks in one group of a file, with the counters that go with it.
-use Rattle.std.specs.Prelude.{◌≡◌, ◌⊎◌, ℕ, ◌+◌, ◌*◌, ◌/◌, ◌%◌, ◌<◌, ◌≤◌, List, [], ◌∷◌, Bool, true, false, if◌then◌else◌, slice_index}
+use Rattle.std.specs.Prelude.{◌≡◌, ◌⊎◌, ℕ, ◌+◌, ◌*◌, ◌/◌, ◌%◌, ◌<◌, ◌≤◌, List, [], ◌∷◌, ◌++◌, Bool, true, false, if◌then◌else◌, slice_index}
 use Rattle.blk_image.specs.Bytes.{word_bytes}
 use Rattle.blk_image.specs.Image.{Block, Image, byte, length_of}
 use Rattle.blk_image.specs.Footprint.{Footprint, SameOutside, either, one_word, range}
@@ -26,13 +26,19 @@ map_of n = either (one_word (Block n) allocations_place) (either (range (Block n
 abbrev pub with_marks : (ℕ → Bool) → ℕ → ℕ → Bool → ℕ → Bool
 with_marks marked start count used b = if is_between start (start + count) b then used else marked b
 
--- the words that a plan writes, each with its place: updating is 1, then the word of the map, num_entries and empty, and at last updating is 0
+-- the words of the counters, each with its place: num_entries and empty
+abbrev pub counter_words : ℕ → List ℕ → List (ℕ × ℕ)
+counter_words allocations empty =
+    (allocations_place, allocations) ∷ (empty_place 0, slice_index empty 0) ∷ (empty_place 1, slice_index empty 1)
+    ∷ (empty_place 2, slice_index empty 2) ∷ (empty_place 3, slice_index empty 3) ∷ []
+
+-- the words that end a change: those of the counters, and at last updating is 0
+abbrev pub finish_words : ℕ → List ℕ → List (ℕ × ℕ)
+finish_words allocations empty = counter_words allocations empty ++ (updating_place, 0) ∷ []
+
+-- the words that a plan writes, each with its place: updating is 1, then the word of the map, and those that end the change
 abbrev pub plan_words : Plan → List (ℕ × ℕ)
-plan_words plan =
-    (updating_place, 1) ∷ (plan.at, plan.word) ∷ (allocations_place, plan.counters.allocations)
-    ∷ (empty_place 0, slice_index plan.counters.empty 0) ∷ (empty_place 1, slice_index plan.counters.empty 1)
-    ∷ (empty_place 2, slice_index plan.counters.empty 2) ∷ (empty_place 3, slice_index plan.counters.empty 3)
-    ∷ (updating_place, 0) ∷ []
+plan_words plan = (updating_place, 1) ∷ (plan.at, plan.word) ∷ finish_words plan.counters.allocations plan.counters.empty
 
 -- the plan of a change: the word of the map that has the blocks, with their new marks, and the counters
 pub record IsPlan (image : Image) (n start count : ℕ) (used : Bool) (plan : Plan) : Type 0 where

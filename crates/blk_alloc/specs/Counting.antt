@@ -1,5 +1,5 @@
 -- The counters of a block file's header: how many allocations it has, and how many groups have a longest free run of 1 to 4 blocks.
-use Rattle.std.specs.Prelude.{◌≡◌, ◌⊎◌, ℕ, ◌+◌, ◌-◌, ◌*◌, ◌^◌, ◌<◌, ◌≤◌, Bool, true, false, ◌==◌, if◌then◌else◌, slice_index}
+use Rattle.std.specs.Prelude.{◌≡◌, ◌≢◌, ◌⊎◌, ℕ, ◌+◌, ◌-◌, ◌*◌, ◌^◌, ◌<◌, ◌≤◌, Bool, true, false, ◌==◌, if◌then◌else◌, slice_index}
 use Rattle.blk_format.specs.Headers.{allocations_of, empty_of}
 use Rattle.blk_io.specs.declared.folder.FileId.TheVariants as names
 use Rattle.blk_io.specs.declared.fault.Damage.{Damage}
@@ -41,8 +41,16 @@ pub record MayMove (counters : Counters) (before later : ℕ) (used : Bool) : Ty
   pub enough : (i : ℕ) → i < 4 → counted before i ≤ slice_index counters.empty i
   pub room : (i : ℕ) → i < 4 → slice_index counters.empty i + counted later i ≤ largest
 
--- a counter would leave its range where an allocation comes or goes: the damage has its place, and finds it; num_entries is the largest number where it was to be raised and 0 where it was to be lowered, and a word of `empty`, which may be raised and lowered by both, is 0 or the largest number
-pub record IsAtEnd (counters : Counters) (n : ℕ) (used : Bool) (damage : Damage) : Type 0 where
+-- the word of `empty` that counts the groups with a longest free run of so many blocks has a number: the damage has its place, and finds it
+pub record IsEmptyAt (counters : Counters) (run number : ℕ) (damage : Damage) : Type 0 where
+  pub i : ℕ
+  pub of_run : run ≡ i + 1
+  pub at : damage.at ≡ empty_place i
+  pub found : damage.found ≡ slice_index counters.empty i
+  pub is : damage.found ≡ number
+
+-- a counter would leave its range where an allocation comes or goes and the longest free run of a group turns from one into another: num_entries is the largest number where it was to be raised and 0 where it was to be lowered, or the word that counts the old run, which was to be lowered, is 0, or the one that counts the new run, which was to be raised, is the largest number
+pub record IsAtEnd (counters : Counters) (n before later : ℕ) (used : Bool) (damage : Damage) : Type 0 where
   pub of_file : damage.file ≡ names.Block n
   pub counter : ((damage.at ≡ allocations_place) × (damage.found ≡ counters.allocations) × (damage.found ≡ (if used then largest else 0)))
-      ⊎ ((i : ℕ) × (i < 4) × (damage.at ≡ empty_place i) × (damage.found ≡ slice_index counters.empty i) × ((damage.found ≡ 0) ⊎ (damage.found ≡ largest)))
+      ⊎ ((before ≢ later) × (IsEmptyAt counters before 0 damage ⊎ IsEmptyAt counters later largest damage))

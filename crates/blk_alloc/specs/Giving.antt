@@ -131,13 +131,11 @@ pub record IsFull (files : BlockFiles) (kind : ℕ) (told : Told) (damage : Dama
   pub at : damage.at ≡ last_place
   pub found : ForSome told.files (λ image. damage.found ≡ word image (Block file) last_place)
 
--- the header of one of the files of a type is damaged, whose blocks from one on were to be taken: a read of it gave too few bytes, or a counter would leave its range
+-- the header of one of the files of a type is damaged, of which some blocks were to be taken: a read of it gave too few bytes, or a counter would leave its range
 pub record IsCauseOf (files : BlockFiles) (kind : ℕ) (told : Told) (damage : Damage) : Type 0 where
-  pub file : ℕ
-  pub start : ℕ
-  pub linked : is_among (files_of files kind) file ≡ true
-  pub small : start < most_blocks
-  pub cause : IsCause told file start true damage
+  pub place : Blocks
+  pub is : IsPlace files kind place.count place
+  pub cause : IsCause told place.file place.start place.count true damage
 
 -- the blocks of one of the files of a type that were to be taken don't stand
 pub record IsAstrayOf (files : BlockFiles) (kind : ℕ) (damage : Damage) : Type 0 where

@@ -1,4 +1,5 @@
 pub mod Places
+pub mod Runs
 pub mod Counting
 pub mod Changes
 pub mod Owning

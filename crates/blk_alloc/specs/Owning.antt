@@ -1,20 +1,21 @@
 -- Allocations of block files that come and go.
-use Rattle.std.specs.Prelude.{◌≡◌, ◌≢◌, ◌⊎◌, ℕ, ◌+◌, ◌*◌, ◌/◌, ◌<◌, List, filter, Bool, true, false, not, ◌&&◌, ◌==◌, if◌then◌else◌}
+use Rattle.std.specs.Prelude.{◌≡◌, ◌≢◌, ◌⊎◌, ℕ, ◌+◌, ◌*◌, ◌/◌, ◌%◌, ◌<◌, List, filter, Bool, true, false, not, ◌&&◌, ◌==◌, if◌then◌else◌}
 use Rattle.std.specs.Option.{ForSome}
+use Rattle.blk_image.specs.Bytes.{range_at}
 use Rattle.blk_image.specs.Image.{Block, External, Image, byte}
 use Rattle.blk_image.specs.Told.{Told}
 use Rattle.blk_image.specs.Footprint.{SameOutside}
 use Rattle.blk_format.specs.Address.{file_selector, first_block, block_count}
 use Rattle.blk_format.specs.Headers.{block_fields_length, updating_of}
 use Rattle.blk_format.specs.BlockFiles.{is_among, most_blocks}
-use Rattle.blk_format.specs.Maps.{is_marked, map_place, AreAllocations, EmptyAgrees}
-use Rattle.blk_addr.specs.Bits.{is_between}
+use Rattle.blk_format.specs.Maps.{is_marked, longest_run, map_place, AreAllocations, EmptyAgrees}
+use Rattle.blk_addr.specs.Bits.{has_bit, is_between}
 use Rattle.blk_io.specs.declared.folder.FileId.TheVariants as names
 use Rattle.blk_io.specs.declared.fault.Damage.{Damage}
 use Rattle.blk_io.specs.Faults.{IsShort}
 use Rattle.blk_alloc.specs.declared.counters.Counters.{Counters}
 use Rattle.blk_alloc.specs.Counting.{AreCounters, IsAtEnd}
-use Rattle.blk_alloc.specs.Changes.{map_of}
+use Rattle.blk_alloc.specs.Changes.{map_of, with_marks}
 
 -- whether a block of a file is one of an address
 unfoldable pub is_of : ℕ → ℕ → ℕ → Bool
@@ -48,11 +49,13 @@ pub record IsFreed (from : Image) (w : ℕ) (image : Image) : Type 0 where
   pub updating : updating_of (byte image (Block (file_selector w))) ≡ 0
   pub elsewhere : (n : ℕ) → n ≢ file_selector w → KeepsFile from image n
 
--- a counter of a file would leave its range, by the header that was read
-pub record IsCount (told : Told) (n : ℕ) (used : Bool) (damage : Damage) : Type 0 where
+-- a counter of a file would leave its range where so many blocks from one on, in one group, come into use or go out of it: by the fields of the header that were read, and the four bytes of the map that have the blocks
+pub record IsCount (told : Told) (n start count : ℕ) (used : Bool) (damage : Damage) : Type 0 where
   pub counters : Counters
+  pub bytes : List ℕ
   pub are : ForSome told.files (λ image. AreCounters (byte image (Block n)) counters)
-  pub at_end : IsAtEnd counters n used damage
+  pub of_map : ForSome told.files (λ image. bytes ≡ range_at (byte image (Block n)) (map_place + 4 * (start / 32)) 4)
+  pub at_end : IsAtEnd counters n (longest_run (has_bit bytes) (start % 32 / 4)) (longest_run (with_marks (has_bit bytes) (start % 32) count used) (start % 32 / 4)) used damage
 
 -- what a change of blocks from `start` on reads of a header, by place and number of bytes: its fields, and the word of the map that has the blocks
 abbrev pub IsHeaderRead : ℕ → ℕ → ℕ → Type 0
@@ -65,6 +68,6 @@ pub record IsShortHeader (told : Told) (n start : ℕ) (damage : Damage) : Type 
   pub read : IsHeaderRead start place count
   pub short : IsShort told (names.Block n) place count damage
 
--- why the header of a file is damaged where blocks from `start` on come into use or go out of it: a read of it gave too few bytes, or a counter would leave its range
-abbrev pub IsCause : Told → ℕ → ℕ → Bool → Damage → Type 0
-IsCause told n start used damage = IsShortHeader told n start damage ⊎ IsCount told n used damage
+-- why the header of a file is damaged where so many blocks from one on come into use or go out of it: a read of it gave too few bytes, or a counter would leave its range
+abbrev pub IsCause : Told → ℕ → ℕ → ℕ → Bool → Damage → Type 0
+IsCause told n start count used damage = IsShortHeader told n start damage ⊎ IsCount told n start count used damage

@@ -20,13 +20,13 @@ use Rattle.blk_alloc.specs.Changes.{map_length}
 abbrev pub is_block_claimed : Claims → ℕ → ℕ → Bool
 is_block_claimed claims n b = contains_claim claims (BlockOf n b)
 
--- of the blocks from `low` on and below `end` exactly the claimed ones are marked
-abbrev pub AreMarked : Claims → Image → ℕ → ℕ → ℕ → Type 0
-AreMarked claims image n low end = (b : ℕ) → low ≤ b → b < end → is_marked image n b ≡ is_block_claimed claims n b
+-- of the blocks of a file exactly the claimed ones are marked
+abbrev pub AreMarked : Claims → Image → ℕ → Type 0
+AreMarked claims image n = (b : ℕ) → b < most_blocks → is_marked image n b ≡ is_block_claimed claims n b
 
 -- the map and the counters of a file are those of claims: exactly the claimed blocks are marked, num_entries is the number of the addresses of the file that were added, `empty` agrees with the map, and updating is 0
 pub record IsRebuilt (claims : Claims) (image : Image) (n : ℕ) : Type 0 where
-  pub marks : (b : ℕ) → b < most_blocks → is_marked image n b ≡ is_block_claimed claims n b
+  pub marks : AreMarked claims image n
   pub allocations : allocations_of (byte image (Block n)) ≡ allocations_in claims n
   pub empty : EmptyAgrees image n
   pub updating : updating_of (byte image (Block n)) ≡ 0

@@ -30,7 +30,7 @@ pub(crate) fn change<F: Folder>(
     ensures outside { ForSome (F.told f.old).files (λ from. Passes (F.told f.old) (F.told f.new) (SameOutside (map_of file) from)) }
     ensures stops { ForSome (F.told f.old).files (λ from. IsReady from file start count used → PassesTo (F.told f.old) (F.told f.new) (IsMidst file from) (λ image. IsMidst file from image ⊎ IsChanged from file start count used image)) }
     ensures silent { (F.told f.old).files ≡ None → (F.told f.new).files ≡ None }
-    ensures cause { IfDamaged result (IsCause (F.told f.old) file start used) }
+    ensures cause { IfDamaged result (IsCause (F.told f.old) file start count used) }
     ensures untold { IfDamaged result (λ _. ForSome (F.told f.old).files (λ image. IsReady image file start count used) → (F.told f.old).files ≡ None) }
     ensures later { F.faults f.old ≤ F.faults f.new }
     ensures device { IfDevice result (Rises (F.faults f.old) (F.faults f.new)) }

@@ -17,14 +17,14 @@ fn is_claimed(claims: &Claims, file: u8, b: u32) -> bool
     claims.has(address_of(Kind::Rankings, file, b, 1))
 }
 
-// Marks the claimed blocks of a file, from one on, and no others.
-pub(crate) fn mark_claimed(claims: &Claims, file: u8, first: u32, bytes: &mut [u8])
-    requires { first + 8 * length bytes.old ≤ 65536 }
-    ensures marks { (m : ℕ) → m < 8 * length bytes.old → has_bit bytes.new m ≡ is_block_claimed claims.now file (first + m) }
+// Marks the claimed blocks of a file, and no others.
+pub(crate) fn mark_claimed(claims: &Claims, file: u8, bytes: &mut [u8])
+    requires { 8 * length bytes.old ≤ 65536 }
+    ensures marks { (m : ℕ) → m < 8 * length bytes.old → has_bit bytes.new m ≡ is_block_claimed claims.now file m }
     ensures length { length bytes.new ≡ length bytes.old }
 {
     for m in 0..8 * bytes.len() as u32 {
-        let used = is_claimed(claims, file, first + m);
+        let used = is_claimed(claims, file, m);
         set_mark(bytes, m, used);
     }
 }

@@ -11,9 +11,10 @@ use blk_record::BlockHead;
 
 const FIELDS_LEN: usize = 80;
 
-const ALLOCATIONS: u64 = 16;
+// The places of num_entries and of empty.
+pub(crate) const ALLOCATIONS: u64 = 16;
 
-const EMPTY: u64 = 24;
+pub(crate) const EMPTY: u64 = 24;
 
 // The number of allocations, and for each run of 1 to 4 blocks how many groups have it as their
 // longest free run.
@@ -25,7 +26,7 @@ pub(crate) struct Counters {
 }
 
 impl Counters {
-    ghost use Rattle.blk_alloc.specs.Counting.{AreCounters, counted, largest, IsCounted, Moves, MayMove, IsAtEnd};
+    ghost use Rattle.blk_alloc.specs.Counting.{AreCounters, counted, largest, IsCounted, Moves, MayMove, IsAtEnd, IsEmptyAt};
 
     // The counters that the header of a file has.
     pub(crate) fn read<F: Folder>(f: &mut F, file: u8) -> Result<Counters, Fault>
@@ -58,7 +59,7 @@ impl Counters {
         requires before { before ≤ group_size }
         requires later { later ≤ group_size }
         ensures moves { IfOk result (λ counters. Moves self counters before later used) }
-        ensures end { IfDamaged result (IsAtEnd self file used) }
+        ensures end { IfDamaged result (IsAtEnd self file before later used) }
         ensures never { IfDamaged result (λ _. MayMove self before later used → ⊥) }
         ensures no_device { IfDevice result ⊥ }
     {
@@ -73,7 +74,7 @@ impl Counters {
     fn counting(self, file: u8, used: bool) -> Result<Counters, Fault>
         ensures allocations { IfOk result (λ counters. IsCounted used self.allocations counters.allocations) }
         ensures same { IfOk result (λ counters. counters.empty ≡ self.empty) }
-        ensures end { IfDamaged result (IsAtEnd self file used) }
+        ensures end { IfDamaged result (λ damage. (before later : ℕ) → IsAtEnd self file before later used damage) }
         ensures never { IfDamaged result (λ _. (before later : ℕ) → MayMove self before later used → ⊥) }
         ensures no_device { IfDevice result ⊥ }
     {
@@ -95,8 +96,7 @@ impl Counters {
         requires { run ≤ group_size }
         ensures allocations { IfOk result (λ counters. counters.allocations ≡ self.allocations) }
         ensures empty { IfOk result (λ counters. (i : ℕ) → i < 4 → slice_index counters.empty i + counted run i ≡ slice_index self.empty i) }
-        ensures end { IfDamaged result (λ damage. (used : Bool) → IsAtEnd self file used damage) }
-        ensures place { IfDamaged result (λ damage. (run ≢ 0) × (damage.at ≡ 20 + 4 * run) × (damage.found ≡ slice_index self.empty (run - 1)) × (damage.found ≡ 0)) }
+        ensures end { IfDamaged result (λ damage. (damage.file ≡ FileId.Block file) × IsEmptyAt self run 0 damage) }
         ensures no_device { IfDevice result ⊥ }
     {
         if run == 0 {
@@ -120,8 +120,7 @@ impl Counters {
         requires { run ≤ group_size }
         ensures allocations { IfOk result (λ counters. counters.allocations ≡ self.allocations) }
         ensures empty { IfOk result (λ counters. (i : ℕ) → i < 4 → slice_index counters.empty i ≡ slice_index self.empty i + counted run i) }
-        ensures end { IfDamaged result (λ damage. (used : Bool) → IsAtEnd self file used damage) }
-        ensures place { IfDamaged result (λ damage. (run ≢ 0) × (damage.at ≡ 20 + 4 * run) × (damage.found ≡ slice_index self.empty (run - 1)) × (damage.found ≡ largest)) }
+        ensures end { IfDamaged result (λ damage. (damage.file ≡ FileId.Block file) × IsEmptyAt self run largest damage) }
         ensures no_device { IfDevice result ⊥ }
     {
         if run == 0 {

@@ -2,7 +2,7 @@
 ghost use Rattle.std.specs.Prelude.{◌≡◌, ◌⊎◌, ◌≤◌, false, None, IsTrue, OnOk};
 ghost use Rattle.std.specs.Option.{ForSome};
 ghost use Rattle.blk_image.specs.Told.{Passes, PassesTo, Rises};
-ghost use Rattle.blk_format.specs.Address.{file_selector, first_block};
+ghost use Rattle.blk_format.specs.Address.{block_count, file_selector, first_block};
 ghost use Rattle.blk_format.specs.BlockFiles.{IsWellFormed};
 ghost use Rattle.blk_format.specs.Maps.{EmptyAgrees};
 ghost use Rattle.blk_io.specs.Faults.{IfDamaged, IfDevice};
@@ -38,7 +38,7 @@ pub fn free<F: Folder>(f: &mut F, files: &BlockFiles, addr: Addr) -> Result<(), 
     ensures agrees { ForSome (F.told f.new).files (Agrees files.now) }
 
     ensures silent { (F.told f.old).files ≡ None → (F.told f.new).files ≡ None }
-    ensures cause { IfDamaged result (IsCause (F.told f.old) (file_selector addr) (first_block addr) false) }
+    ensures cause { IfDamaged result (IsCause (F.told f.old) (file_selector addr) (first_block addr) (block_count addr) false) }
     ensures untold { IfDamaged result (λ _. (F.told f.old).files ≡ None) }
     ensures later { F.faults f.old ≤ F.faults f.new }
     ensures device { IfDevice result (Rises (F.faults f.old) (F.faults f.new)) }

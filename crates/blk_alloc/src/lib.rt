@@ -5,6 +5,7 @@ mod blocks;
 mod change;
 mod claimed;
 mod counters;
+mod finishing;
 mod fitting;
 mod freeing;
 mod giving;
@@ -12,6 +13,7 @@ mod making;
 mod map;
 mod plan;
 mod rebuilding;
+mod run;
 mod taking;
 
 pub use freeing::free;

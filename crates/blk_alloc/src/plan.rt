@@ -8,12 +8,11 @@ ghost use Rattle.blk_format.specs.Maps.{group_size};
 ghost use Rattle.blk_io.specs.Faults.{IfDamaged, IfDevice};
 
 use crate::counters::Counters;
+use crate::finishing::{UPDATING, finish};
 use crate::map::{longest_run, set_marks, word_of};
 use blk_io::{Failed, Fault, FileId, Folder, read_exact, write_words};
 
 const MAP: u64 = 80;
-
-const UPDATING: u64 = 56;
 
 const BITS_OF_WORD: u32 = 32;
 
@@ -45,7 +44,7 @@ impl Plan {
         ensures plan { IfOk result (λ plan. ForSome (F.told f.old).files (λ image. IsPlan image file start count used plan)) }
         ensures aligned { IfOk result (λ plan. plan.at % 4 ≡ 0) }
         ensures fits { IfOk result (λ plan. plan.counters.allocations < 2 ^ 32) }
-        ensures cause { IfDamaged result (IsCause (F.told f.old) file start used) }
+        ensures cause { IfDamaged result (IsCause (F.told f.old) file start count used) }
         ensures untold { IfDamaged result (λ _. ForSome (F.told f.old).files (λ image. IsReady image file start count used) → (F.told f.old).files ≡ None) }
         ensures stays { Stays (F.told f.old) (F.told f.new) }
         ensures later { F.faults f.old ≤ F.faults f.new }
@@ -74,18 +73,8 @@ impl Plan {
         ensures later { F.faults f.old ≤ F.faults f.new }
         ensures failed { OnErr result (Rises (F.faults f.old) (F.faults f.new)) }
     {
-        let allocations = self.counters.allocations;
-        let empty = self.counters.empty;
-        let words = [
-            (UPDATING, 1),
-            (self.at, self.word),
-            (16, allocations),
-            (24, empty[0]),
-            (28, empty[1]),
-            (32, empty[2]),
-            (36, empty[3]),
-            (UPDATING, 0),
-        ];
-        write_words(f, FileId::Block(file), &words)
+        let words = [(UPDATING, 1), (self.at, self.word)];
+        write_words(f, FileId::Block(file), &words)?;
+        finish(f, file, self.counters.allocations, &self.counters.empty)
     }
 }

@@ -15,54 +15,24 @@ ghost use Rattle.blk_alloc.specs.Making.{KeepsStanding};
 ghost use Rattle.blk_alloc.specs.Rebuilding.{AreFitted, AreItsAllocations, AreMarked, IsInHand, IsRebuilding, IsRebuilt, counts_of, is_block_claimed};
 
 use crate::claimed::{count_runs, mark_claimed};
+use crate::finishing::{UPDATING, finish};
 use crate::fitting::blocks_in;
 use blk_addr::Claims;
 use blk_disk::BlockFiles;
-use blk_io::{Failed, Fault, FileId, Folder, write_word, write_words};
+use blk_io::{Failed, Fault, FileId, Folder, write_word};
 
 const MAP: u64 = 80;
 
-const UPDATING: u64 = 56;
-
 const GROUP: u32 = 4;
 
-// A map has 13 pieces of so many bytes, which have so many blocks and groups.
-const PIECES: u32 = 13;
-
-const PIECE_LEN: usize = 624;
-
-const PIECE: u32 = 4992;
-
-const PIECE_GROUPS: u32 = 1248;
+// The bytes of a map.
+const MAP_LEN: usize = 8112;
 
 // The numbers of block files.
 const NUMBERS: u16 = 256;
 
-// Writes a piece of the map of a file, from a block on, with the marks of the claimed blocks.
-fn write_piece<F: Folder>(
-    f: &mut F,
-    claims: &Claims,
-    file: u8,
-    first: u32,
-    bytes: &mut [u8],
-) -> Result<(), Failed>
-    requires whole { first % 8 ≡ 0 }
-    requires inside { first + 8 * length bytes.old ≤ most_blocks }
-    requires header { ForSome (F.told f.old).files (λ image. 8192 ≤ length_of image (block file)) }
-    ensures bits { (m : ℕ) → m < 8 * length bytes.old → has_bit bytes.new m ≡ is_block_claimed claims.now file (first + m) }
-    ensures length { length bytes.new ≡ length bytes.old }
-    ensures marks { OnOk result (ForSome (F.told f.new).files (λ image. AreMarked claims.now image file first (first + 8 * length bytes.old))) }
-    ensures outside { ForSome (F.told f.old).files (λ from. Passes (F.told f.old) (F.told f.new) (SameOutside (range (block file) (map_place + first / 8) (length bytes.old)) from)) }
-    ensures silent { (F.told f.old).files ≡ None → (F.told f.new).files ≡ None }
-    ensures later { F.faults f.old ≤ F.faults f.new }
-    ensures failed { OnErr result (Rises (F.faults f.old) (F.faults f.new)) }
-{
-    mark_claimed(claims, file, first, bytes);
-    f.write_at(FileId::Block(file), MAP + u64::from(first / 8), bytes)
-}
-
-// Writes the map of a file, with the marks of the claimed blocks, in pieces. Gives how many of its
-// first groups have a longest free run of 1 to 4 blocks.
+// Writes the map of a file, with the marks of the claimed blocks. Gives how many of its first groups have
+// a longest free run of 1 to 4 blocks.
 fn write_map<F: Folder>(
     f: &mut F,
     claims: &Claims,
@@ -72,19 +42,17 @@ fn write_map<F: Folder>(
     requires few { groups ≤ 16224 }
     requires header { ForSome (F.told f.old).files (λ image. 8192 ≤ length_of image (block file)) }
     ensures counts { IfOk result (λ empty. (i : ℕ) → i < 4 → slice_index empty i ≡ groups_with (is_block_claimed claims.now file) groups (i + 1)) }
-    ensures marks { OnOk result (ForSome (F.told f.new).files (λ image. AreMarked claims.now image file 0 most_blocks)) }
+    ensures marks { OnOk result (ForSome (F.told f.new).files (λ image. AreMarked claims.now image file)) }
     ensures outside { ForSome (F.told f.old).files (λ from. Passes (F.told f.old) (F.told f.new) (SameOutside (range (block file) map_place map_length) from)) }
     ensures silent { (F.told f.old).files ≡ None → (F.told f.new).files ≡ None }
     ensures later { F.faults f.old ≤ F.faults f.new }
     ensures failed { OnErr result (Rises (F.faults f.old) (F.faults f.new)) }
 {
+    let mut bytes = [0u8; MAP_LEN];
+    mark_claimed(claims, file, &mut bytes);
+    f.write_at(FileId::Block(file), MAP, &bytes)?;
     let mut empty = [0u32; 4];
-    let mut bytes = [0u8; PIECE_LEN];
-    for piece in 0..PIECES {
-        write_piece(f, claims, file, piece * PIECE, &mut bytes)?;
-        let left = groups.saturating_sub(piece * PIECE_GROUPS);
-        count_runs(&bytes, left.min(PIECE_GROUPS), &mut empty);
-    }
+    count_runs(&bytes, groups, &mut empty);
     Ok(empty)
 }
 
@@ -100,15 +68,7 @@ fn write_marks<F: Folder>(f: &mut F, claims: &Claims, file: u8, groups: u32) -> 
     ensures failed { OnErr result (Rises (F.faults f.old) (F.faults f.new)) }
 {
     let empty = write_map(f, claims, file, groups)?;
-    let words = [
-        (16, claims.allocations(file)),
-        (24, empty[0]),
-        (28, empty[1]),
-        (32, empty[2]),
-        (36, empty[3]),
-        (UPDATING, 0),
-    ];
-    write_words(f, FileId::Block(file), &words)
+    finish(f, file, claims.allocations(file), &empty)
 }
 
 // Makes the map and the counters of a file anew, and says so until they are done.

@@ -106,7 +106,7 @@ pub(crate) fn take<F: Folder>(
     ensures silent { (F.told f.old).files ≡ None → (F.told f.new).files ≡ None }
     ensures linked { IsTrue (is_among (files_of files.new (kind_number kind)) place.file) }
 
-    ensures cause { IfDamaged result (λ damage. ((told : Told) → told.files ≡ None → IsCause told place.file place.start true damage) ⊎ IsAstrayOf files.new (kind_number kind) damage) }
+    ensures cause { IfDamaged result (λ damage. ((told : Told) → told.files ≡ None → IsCause told place.file place.start place.count true damage) ⊎ IsAstrayOf files.new (kind_number kind) damage) }
     ensures untold { IfDamaged result (λ _. ForSome (F.told f.old).files (λ image. IsTakeable image place) → (F.told f.old).files ≡ None) }
     ensures later { F.faults f.old ≤ F.faults f.new }
     ensures device { IfDevice result (Rises (F.faults f.old) (F.faults f.new)) }

@@ -177,7 +177,11 @@ fn blocks_are_given_where_so_many_free_ones_lie_side_by_side(rt: HostRuntime) ->
         panic!(rt; "the files are whole");
     };
     let mut files = files;
+    let before = f.calls();
     assert_eq!(rt; give(&mut f, &mut files, 3), Ok(0xA201_0004));
+
+    // One read of the map, and two reads and five writes for the marks.
+    assert_eq!(rt; f.calls().wrapping_sub(before), 8);
     assert_eq!(rt; give(&mut f, &mut files, 2), Ok(0xA101_0002));
     assert_eq!(rt; give(&mut f, &mut files, 1), Ok(0xA001_0000));
     let expected = [(16, 4), (24, 1), (28, 0), (32, 0), (36, 254), (80, 0x7F)];
@@ -196,7 +200,9 @@ fn a_file_is_added_where_the_only_one_is_full(rt: HostRuntime) -> Result<(), Fai
     let mut files = files;
     let before = f.calls();
     assert_eq!(rt; give(&mut f, &mut files, 1), Ok(0xA004_0000));
-    assert!(rt; f.calls().wrapping_sub(before) <= 40);
+
+    // Eight reads of the map, seven calls for the file and four for its growth, two reads and five writes for the marks.
+    assert_eq!(rt; f.calls().wrapping_sub(before), 26);
     assert_eq!(rt; word_at(&mut f, 8), Ok(0x4_0001));
     let expected = [
         (16, 1),
@@ -277,7 +283,9 @@ fn a_freed_block_is_counted_by_the_run_that_it_leaves(rt: HostRuntime) -> Result
     let Ok(files) = BlockFiles::load(&mut f) else {
         panic!(rt; "the files are whole");
     };
+    let before = f.calls();
     assert_eq!(rt; free_word(&mut f, &files, 0xA001_0004), Ok(true));
+    assert_eq!(rt; f.calls().wrapping_sub(before), 7);
     let expected = [
         (16, 2),
         (24, 1),
@@ -418,7 +426,9 @@ fn a_wrong_map_is_made_that_of_the_claims(rt: HostRuntime) -> Result<(), Fail> {
     assert!(rt; add_words(&mut claims, &words));
     let before = f.calls();
     assert_eq!(rt; rebuild_all(&mut f, &mut files, &claims), Ok(()));
-    assert_eq!(rt; f.calls().wrapping_sub(before), 81);
+
+    // Five writes for each of the four files, and one is lengthened.
+    assert_eq!(rt; f.calls().wrapping_sub(before), 21);
     assert_eq!(rt; f.length(FileId::Block(1)), Ok(Some(270_336)));
     let expected = [
         (0, MAGIC),

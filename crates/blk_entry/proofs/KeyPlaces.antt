@@ -33,7 +33,7 @@ use Rattle.blk_io.specs.Faults.{IfDamaged, IsShort}
 use Rattle.blk_external.specs.Reading.{IsFew}
 use Rattle.blk_entry.specs.declared.keys.Head.{Head}
 use Rattle.blk_entry.specs.declared.keys.KeyPlace.{KeyPlace}
-use Rattle.blk_entry.specs.Keys.{IsCut, IsCutKey, IsPlaced, data_name, IsPiece, IsPlaceOf, data_file, data_start, data_at, held, key_at, key_address, bytes_before, is_short, may_have, may_hold, stores, IsInside, IsInFile, IsHead, HasKey}
+use Rattle.blk_entry.specs.Keys.{IsCut, IsCutKey, IsCutPart, IsCutPiece, IsPlaced, data_name, IsPiece, IsPlaceOf, data_file, data_start, data_at, held, key_at, key_address, bytes_before, is_short, may_have, may_hold, stores, IsInside, IsInFile, IsHead, HasKey}
 use Rattle.blk_entry.proofs.Windows.{entry_room}
 
 -- the data of an address of blocks, and of an external one
@@ -370,15 +370,11 @@ key_facts files image entry key agrees kind e = by_stands (stands_as image block
 
 -- A read that gave too few bytes.
 
--- a read of all of the bytes, in blocks or in an external file
-cut_by : (told : Told) (w at n : ℕ) (d : Damage) → IsShort told (data_name w) (data_start w + at) n d → IsCut told w at n d
-cut_by told w at n d short = record { place = at; count = n; from = omega arith; within = omega arith; short = short }
-
 pub short_is_cut : (told : Told) (w at n : ℕ) (d : Damage) → kind_of w ≢ external → IsShort told (names.Block (file_selector w)) (place w + at) n d → IsCut told w at n d
 unfolding data_name data_start
 short_is_cut told w at n d blocky short =
     let t : (kind_of w == external) ≡ false = grind (arith, nat_tests) in
-    cut_by told w at n d (rw t short)
+    rw t short
 
 few_is_short : (told : Told) (number place count : ℕ) (d : Damage) → count < 2 ^ 32 → IsFew told number place count d → IsShort told (names.External number) place count d
 few_is_short told number place count d small few =
@@ -390,26 +386,51 @@ unfolding data_name data_start
 few_is_cut told w at n d outside small few =
     let t : (kind_of w == external) ≡ true = grind (arith, nat_tests) in
     let zero_at : 0 + at ≡ at = omega arith in
-    cut_by told w at n d (rw (t, zero_at) (few_is_short told (external_number w) at n d small few))
+    rw (t, zero_at) (few_is_short told (external_number w) at n d small few)
 
--- a read of fewer bytes is one of more
-pub wider_cut : (told : Told) (w at n i m : ℕ) (d : Damage) → i ≤ at → at + n ≤ i + m → IsCut told w at n d → IsCut told w i m d
-wider_cut told w at n i m d before behind cut = record {
-  place = cut.place;
-  count = cut.count;
-  from = let h = cut.from in omega (arith, h, before);
-  within = let h = cut.within in omega (arith, h, behind);
-  short = cut.short;
-}
-
--- a read of some bytes at the place of a key
-pub key_is_cut : (files : BlockFiles) (told : Told) (entry k l : ℕ) (place : KeyPlace) (at n : ℕ) (d : Damage) → IsPlaced files entry k l → IsPlaceOf entry k l place → place.skip ≤ at → at + n ≤ place.skip + place.len → IsCut told place.addr at n d
-    → IsCutKey files told entry k l d
-key_is_cut files told entry k l place at n d placed is before behind cut = record {
+-- a read of a piece of the bytes at the place of a key
+pub key_is_cut : (files : BlockFiles) (told : Told) (entry k l : ℕ) (place : KeyPlace) (d : Damage) → IsPlaced files entry k l → IsPlaceOf entry k l place → IsCutPiece told place.addr place.skip place.len d → IsCutKey files told entry k l d
+key_is_cut files told entry k l place d placed is cut = record {
   placed = placed;
-  cut = let skip = is.skip in let len = is.len in
-      subst (λ (w : ℕ). IsCut told w (bytes_before k) k d) is.addr (wider_cut told place.addr at n (bytes_before k) k d (omega (arith, skip, before)) (omega (arith, skip, len, behind)) cut);
+  cut = subst (λ (n : ℕ). IsCutPiece told (key_address entry k l) (bytes_before k) n d) is.len
+      (subst (λ (i : ℕ). IsCutPiece told (key_address entry k l) i place.len d) is.skip (subst (λ (w : ℕ). IsCutPiece told w place.skip place.len d) is.addr cut));
 }
+
+-- a read of the bytes from a place on, as many as there are and as fit
+pub part_is_cut : (files : BlockFiles) (told : Told) (entry k l : ℕ) (place : KeyPlace) (at size from n : ℕ) (d : Damage) → IsPlaced files entry k l → IsPlaceOf entry k l place → from ≡ min at place.len → n ≡ min (place.len - from) size → IsCut told place.addr (place.skip + from) n d
+    → IsCutPart files told entry k l at size d
+part_is_cut files told entry k l place at size from n d placed is start count cut =
+    let len = is.len in
+    let skip = is.skip in
+    let first : from ≡ min at k = omega (arith, start, len) in
+    let many : n ≡ min (k - min at k) size = omega (arith, count, first, len) in
+    let there : place.skip + from ≡ bytes_before k + min at k = omega (arith, skip, first) in
+    record {
+      placed = placed;
+      cut = subst (λ (w : ℕ). IsCut told w (bytes_before k + min at k) (min (k - min at k) size) d) is.addr
+          (subst (λ (i : ℕ). IsCut told place.addr i (min (k - min at k) size) d) there (subst (λ (m : ℕ). IsCut told place.addr (place.skip + from) m d) many cut));
+    }
+
+-- a read of the next piece
+pub next_is_cut : (told : Told) (w at n place left count : ℕ) (d : Damage) → at ≤ place → place + left ≡ at + n → (place - at) % 16398 ≡ 0 → 0 < left → count ≡ min left 16398 → IsCut told w place count d → IsCutPiece told w at n d
+next_is_cut told w at n place left count d order sum whole some size cut =
+    let piece : ℕ = (place - at) / 16398 in
+    let e : piece * 16398 ≡ place - at = omega (arith, whole) in
+    let there : place ≡ at + piece * 16398 = omega (arith, e, order) in
+    let many : count ≡ min (n - piece * 16398) 16398 = omega (arith, size, e, order, sum) in
+    record {
+      piece = piece;
+      inside = omega (arith, e, order, sum, some);
+      cut = subst (λ (i : ℕ). IsCut told w i (min (n - piece * 16398) 16398) d) there (subst (λ (m : ℕ). IsCut told w place m d) many cut);
+    }
+
+-- after a piece the place is one of pieces still, or nothing is left
+pub next_pieces : (place at left piece rest : ℕ) → at ≤ place → (place - at) % 16398 ≡ 0 → piece ≡ min left 16398 → piece + rest ≡ left → ((place + piece - at) % 16398 ≡ 0) ⊎ (rest ≡ 0)
+next_pieces place at left piece rest order whole size sum =
+    ⊎_elim (λ (few : left < 16398). inr (omega (arith, few, size, sum))) (λ (many : 16398 ≤ left). inl (let e : place + piece - at ≡ (place - at) + 16398 = omega (arith, order, many, size) in omega (arith, e, whole))) (cases_lt left 16398)
+
+pub some_left : (bytes : List ℕ) → (length bytes == 0) ≡ false → 0 < length bytes
+some_left bytes e = grind (arith, nat_tests)
 
 pub err_damaged : (A : Type 0) (x : Fault) (d : Damage) (P : Damage → Type 0) → x ≡ Damaged d → P d → IfDamaged {A = A} (Err x) P
 err_damaged A x d P is holds = subst (λ (y : Fault). IfDamaged {A = A} (Err y) P) (sym is) holds

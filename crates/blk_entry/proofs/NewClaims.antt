@@ -88,7 +88,7 @@ module _ (files : BlockFiles) (new : NewEntry) (key : List ℕ) (image : Image) 
   unfolding touched
   long-covered = by_place new.long_key fits.long (key_is_inside files new key fits) (long-claims new key)
     where
-      by_place : (o : Option ℕ) → IsLongPlace files new.entry (length key) o → IsInside files (address_of_key new.entry o) (before_key o) (length key + 1) → ((claim : Claim) → has_claim (claims_of (unwrap_or o 0)) claim ≡ true → touched claim ≡ true)
+      by_place : (o : Option ℕ) → IsLongPlace files (length key) o → IsInside files (address_of_key new.entry o) (before_key o) (length key + 1) → ((claim : Claim) → has_claim (claims_of (unwrap_or o 0)) claim ≡ true → touched claim ≡ true)
           → Covers image (long_range o (length key)) touched
       by_place None is inside more = covers-less image nothing (range (Block (file_selector new.entry)) (place new.entry) (room new.entry)) touched (nothing-within _) record-covered
       by_place (Some w) is inside more =
@@ -108,7 +108,7 @@ module _ (files : BlockFiles) (new : NewEntry) (key : List ℕ) (image : Image) 
           (cases_Bool (kind_of w == external))
         where
           address : is_address w ≡ true
-          address = (long_storage files new key 0 fits w is.1.0).0
+          address = (long_storage files new key 0 fits w is.1).0
 
   all-covered : Covers image (places_of new (length key)) touched
   unfolding places_of

@@ -31,7 +31,7 @@ use Rattle.blk_disk.proofs.SealedReads.{read_checks}
 use Rattle.blk_entry.specs.declared.writing.NewEntry.{NewEntry}
 use Rattle.blk_entry.specs.Keys.{IsInside, IsInFile, data_file, data_start, may_hold, stores}
 use Rattle.blk_entry.specs.Steps.{data_steps, ended_steps}
-use Rattle.blk_entry.specs.Writing.{AreWords, FitsKey, HasItsLength, IsLongPlace, IsWritten, ShareNoBlock, address_of_key, before_key, empty_key_place, entry_bytes, entry_steps, key_steps, longest_of, new_node, new_record, node_bytes, node_steps, record_steps}
+use Rattle.blk_entry.specs.Writing.{AreWords, FitsKey, HasItsLength, IsLongPlace, IsWritten, LiesApart, ShareNoBlock, address_of_key, before_key, empty_key_place, entry_bytes, entry_steps, key_steps, longest_of, new_node, new_record, node_bytes, node_steps, record_steps}
 use Rattle.blk_entry.proofs.KeyPlaces.{data_of_blocks, drop-range, storage_parts, take-range}
 use Rattle.blk_entry.proofs.NewPlaces.{file_of_blocks, file_of_external, key_is_inside, key_is_there, start_of_blocks, start_of_external}
 use Rattle.blk_entry.proofs.NewRecords.{entry_bytes_check, entry_of_bytes, node_bytes_check, node_of_bytes}
@@ -139,9 +139,9 @@ module _ (files : BlockFiles) (new : NewEntry) (key : List ℕ) (moment : ℕ) (
   long_small : unwrap_or new.long_key 0 < 2 ^ 32
   long_small = by_place new.long_key fits.long
     where
-      by_place : (o : Option ℕ) → IsLongPlace files new.entry (length key) o → unwrap_or o 0 < 2 ^ 32
+      by_place : (o : Option ℕ) → IsLongPlace files (length key) o → unwrap_or o 0 < 2 ^ 32
       by_place None is = omega arith
-      by_place (Some w) is = address_fits w (long_storage w is.1.0).0
+      by_place (Some w) is = address_fits w (long_storage w is.1).0
 
   -- the node is in another file than the record, and than the key
   node_off_record : same_file (Block (file_selector new.node)) (Block (file_selector new.entry)) ≡ false
@@ -150,20 +150,20 @@ module _ (files : BlockFiles) (new : NewEntry) (key : List ℕ) (moment : ℕ) (
   node_off_key : same_file (Block (file_selector new.node)) (data_file (address_of_key new.entry new.long_key)) ≡ false
   node_off_key = by_place new.long_key fits.long (key_is_inside files new key fits)
     where
-      by_place : (o : Option ℕ) → IsLongPlace files new.entry (length key) o → IsInside files (address_of_key new.entry o) (before_key o) (length key + 1) → same_file (Block (file_selector new.node)) (data_file (address_of_key new.entry o)) ≡ false
+      by_place : (o : Option ℕ) → IsLongPlace files (length key) o → IsInside files (address_of_key new.entry o) (before_key o) (length key + 1) → same_file (Block (file_selector new.node)) (data_file (address_of_key new.entry o)) ≡ false
       by_place None is inside = rw (file_of_blocks new.entry (not_external new.entry fits.entry_kind)) node_off_record
       by_place (Some w) is inside =
           ⊎_elim
           (λ (e : (kind_of w == external) ≡ true). let x : kind_of w ≡ external = eqb-true (kind_of w) external e in rw (file_of_external w x) refl)
           (λ (e : (kind_of w == external) ≡ false).
           let blocky : kind_of w ≢ external = (λ same. let z : (kind_of w == external) ≡ true = grind (arith, nat_tests) in let y : true ≡ false = sym z ∙ e in cc) in
-          rw (file_of_blocks w blocky) (two_files files new.node w fits.node_stands (inside.stands blocky) (λ same. (long_storage w is.1.0).1 (sym same ∙ fits.node_kind))))
+          rw (file_of_blocks w blocky) (two_files files new.node w fits.node_stands (inside.stands blocky) (λ same. (long_storage w is.1).1 (sym same ∙ fits.node_kind))))
           (cases_Bool (kind_of w == external))
 
   -- the record is apart from the key
-  record_off_key : (k : ℕ) → data_start (address_of_key new.entry new.long_key) + before_key new.long_key ≤ k → k < data_start (address_of_key new.entry new.long_key) + before_key new.long_key + (length key + 1)
+  record_off_key : LiesApart new.entry new.long_key → (k : ℕ) → data_start (address_of_key new.entry new.long_key) + before_key new.long_key ≤ k → k < data_start (address_of_key new.entry new.long_key) + before_key new.long_key + (length key + 1)
       → (range (Block (file_selector new.entry)) (place new.entry) (length (entry_bytes (new_record new key moment) ++ empty_key_place new.long_key))).bytes (data_file (address_of_key new.entry new.long_key)) k ≡ false
-  record_off_key = by_place new.long_key fits.long (key_is_inside files new key fits)
+  record_off_key lies = by_place new.long_key fits.long lies (key_is_inside files new key fits)
     where
       B : File
       B = Block (file_selector new.entry)
@@ -171,13 +171,13 @@ module _ (files : BlockFiles) (new : NewEntry) (key : List ℕ) (moment : ℕ) (
       E : List ℕ
       E = entry_bytes (new_record new key moment)
 
-      by_place : (o : Option ℕ) → IsLongPlace files new.entry (length key) o → IsInside files (address_of_key new.entry o) (before_key o) (length key + 1)
+      by_place : (o : Option ℕ) → IsLongPlace files (length key) o → LiesApart new.entry o → IsInside files (address_of_key new.entry o) (before_key o) (length key + 1)
           → (k : ℕ) → data_start (address_of_key new.entry o) + before_key o ≤ k → k < data_start (address_of_key new.entry o) + before_key o + (length key + 1)
           → (range B (place new.entry) (length (E ++ empty_key_place o))).bytes (data_file (address_of_key new.entry o)) k ≡ false
-      by_place None is inside k low high =
+      by_place None is apart inside k low high =
           apart_place B (data_file new.entry) (place new.entry) (length (E ++ [])) k
           (inr (omega (arith, low, start_of_blocks new.entry (not_external new.entry fits.entry_kind), length-append E [], record_length new key moment)))
-      by_place (Some w) is inside k low high =
+      by_place (Some w) is apart inside k low high =
           ⊎_elim
           (λ (e : (kind_of w == external) ≡ true). let x : kind_of w ≡ external = eqb-true (kind_of w) external e in apart_file B (data_file w) (place new.entry) (length (E ++ empty_key_place (Some w))) k (rw (file_of_external w x) refl))
           (λ (e : (kind_of w == external) ≡ false).
@@ -201,12 +201,12 @@ module _ (files : BlockFiles) (new : NewEntry) (key : List ℕ) (moment : ℕ) (
               (⊎_elim
               (λ (first : first_block new.entry + block_count new.entry ≤ first_block w). inr (omega (arith, first, low, place_e, place_w, room_e, least, start, most)))
               (λ (last : first_block w + block_count w ≤ first_block new.entry). inl (omega (arith, last, high, place_e, place_w, room_w, start, enough)))
-              (is.1.1 blocky same)))
+              (apart blocky same)))
               (λ (differ : file_selector new.entry ≢ file_selector w).
               apart_file B (data_file w) (place new.entry) (length (E ++ empty_key_place (Some w))) k (rw (file_of_blocks w blocky) (other_file (file_selector new.entry) (file_selector w) (λ e. differ (sym e)))))
               (cases_eq (file_selector new.entry) (file_selector w))
 
-  module _ (from : Image) (agrees : Agrees files from) (has : HasItsLength new.long_key (length key) from) where
+  module _ (from : Image) (agrees : Agrees files from) (has : HasItsLength new.long_key (length key) from) (apart : LiesApart new.entry new.long_key) where
     abbrev A : File
     A = data_file (address_of_key new.entry new.long_key)
 
@@ -274,14 +274,14 @@ module _ (files : BlockFiles) (new : NewEntry) (key : List ℕ) (moment : ℕ) (
     key_last : range_at (byte i4 A) a (length key) ≡ key
     key_last =
         kept_range (range C (place new.node) (length N)) i3 i4 A a (length key) same4 (λ k low high. apart_file C A (place new.node) (length N) k node_off_key)
-        ∙ kept_range (range B (place new.entry) (length R)) i2 i3 A a (length key) same3 (λ k low high. record_off_key k low (omega (arith, high)))
+        ∙ kept_range (range B (place new.entry) (length R)) i2 i3 A a (length key) same3 (λ k low high. record_off_key apart k low (omega (arith, high)))
         ∙ kept_range (range A z 1) i1 i2 A a (length key) same2 (λ k low high. apart_place A A z 1 k (inl (omega (arith, high))))
         ∙ key_first
 
     zero_last : range_at (byte i4 A) z 1 ≡ 0 ∷ []
     zero_last =
         kept_range (range C (place new.node) (length N)) i3 i4 A z 1 same4 (λ k low high. apart_file C A (place new.node) (length N) k node_off_key)
-        ∙ kept_range (range B (place new.entry) (length R)) i2 i3 A z 1 same3 (λ k low high. record_off_key k (omega (arith, low)) (omega (arith, high)))
+        ∙ kept_range (range B (place new.entry) (length R)) i2 i3 A z 1 same3 (λ k low high. record_off_key apart k (omega (arith, low)) (omega (arith, high)))
         ∙ zero_first
 
     record_last : range_at (byte i4 B) (place new.entry) (length R) ≡ R
@@ -345,6 +345,6 @@ module _ (files : BlockFiles) (new : NewEntry) (key : List ℕ) (moment : ℕ) (
           subst (IsWritten new key moment) (sym last) written_here
 
   -- where the folder tells its files
-  module _ (b c : Told) (are : AreWords new) (small : moment < 2 ^ 64) (agrees : ForSome b.files (Agrees files)) (has : ForSome b.files (HasItsLength new.long_key (length key))) (grown : Grows b c (entry_steps new key moment)) where
+  module _ (b c : Told) (are : AreWords new) (small : moment < 2 ^ 64) (agrees : ForSome b.files (Agrees files)) (has : ForSome b.files (HasItsLength new.long_key (length key))) (apart : ForSome b.files (λ _. LiesApart new.entry new.long_key)) (grown : Grows b c (entry_steps new key moment)) where
     pub written_there : ForSome c.files (IsWritten new key moment)
-    written_there = told_whole (IsWritten new key moment) grown (λ from there. written_after from (agrees from there) (has from there) are small)
+    written_there = told_whole (IsWritten new key moment) grown (λ from there. written_after from (agrees from there) (has from there) (apart from there) are small)

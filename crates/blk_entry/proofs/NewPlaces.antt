@@ -77,9 +77,9 @@ key_is_inside files new key fits = by_place new.long_key fits.long
         by_child true less = less
         by_child false less = omega (arith, less)
 
-    by_place : (o : Option ℕ) → IsLongPlace files new.entry (length key) o → IsInside files (address_of_key new.entry o) (before_key o) (length key + 1)
+    by_place : (o : Option ℕ) → IsLongPlace files (length key) o → IsInside files (address_of_key new.entry o) (before_key o) (length key + 1)
     by_place None is = short_is_inside files new.entry (length key) fits.entry_kind fits.entry_stands fits.blocks is
-    by_place (Some w) is = long_is_inside files w (length key) most is.1.0
+    by_place (Some w) is = long_is_inside files w (length key) most is.1
 
 pub key_is_there : (files : BlockFiles) (new : NewEntry) (key : List ℕ) (image : Image) → FitsKey files new key → HasItsLength new.long_key (length key) image → IsInFile (address_of_key new.entry new.long_key) (before_key new.long_key) (length key + 1) image
 key_is_there files new key image fits has = by_place new.long_key has

@@ -148,11 +148,11 @@ module _ (files : BlockFiles) (new : NewEntry) (key : List ℕ) (moment : ℕ) (
   unfolding key_of stock_of new_record key_place_at stores
   key_found = by_place new.long_key fits.long has done.key_there
     where
-      by_place : (o : Option ℕ) → IsLongPlace files new.entry (length key) o → HasItsLength o (length key) image → data_at image (address_of_key new.entry o) (before_key o) (length key) ≡ key
+      by_place : (o : Option ℕ) → IsLongPlace files (length key) o → HasItsLength o (length key) image → data_at image (address_of_key new.entry o) (before_key o) (length key) ≡ key
           → (if nat_le (length key) 927 then (if unwrap_or o 0 == 0 then Some (key_place_at image new.entry (length key)) else None) else option_map (take (length key)) (stored_at image (length key + 1) (unwrap_or o 0))) ≡ Some key
       by_place None is file at = rw is (ap Some (sym (data_of_blocks image new.entry 96 (length key) (not_external new.entry fits.entry_kind)) ∙ at))
       by_place (Some w) is file at =
-          let holds = and_parts _ _ is.1.0 in
+          let holds = and_parts _ _ is.1 in
           let address : is_address w ≡ true = (storage_parts (length key + 1) w (omega arith) holds.0).0 in
           let stored : stored_at image (length key + 1) w ≡ Some (data_at image w 0 (length key + 1)) = stored_there image (length key + 1) w (omega arith) holds.0 (long_stands w address holds.1 file) file in
           rw is.0 (ap (option_map (take (length key))) stored ∙ ap Some (take-range (length key) (length key + 1) (data_start w + 0) (byte image (data_file w)) (omega arith) ∙ at))

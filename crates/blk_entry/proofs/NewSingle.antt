@@ -12,7 +12,7 @@ use Rattle.blk_disk.specs.declared.tables.BlockFiles.{BlockFiles}
 use Rattle.blk_entry.specs.declared.writing.NewEntry.{NewEntry}
 use Rattle.blk_entry.specs.Covering.{NewClaimsAreSingle}
 use Rattle.blk_entry.specs.Keys.{IsInside}
-use Rattle.blk_entry.specs.Writing.{AreWords, FitsKey, IsLongPlace, address_of_key, before_key, loaded_new}
+use Rattle.blk_entry.specs.Writing.{AreWords, FitsKey, IsLongPlace, LiesApart, address_of_key, before_key, loaded_new}
 use Rattle.blk_entry.proofs.NewImages.{long_storage, same_kind}
 use Rattle.blk_entry.proofs.NewPlaces.{key_is_inside}
 use Rattle.blk_entry.proofs.Windows.{not_external}
@@ -39,7 +39,7 @@ among f first (suc n) c e =
     here (ExternalOf m) e = no e
 
     wider : (c : Claim) → IsAmong f (first + 1) n c → IsAmong f first (suc n) c
-    wider (BlockOf m b) is = let low = is.1.0 in let high = is.1.1 in (is.0, (omega (arith, low), omega (arith, high)))
+    wider (BlockOf m b) is = let low = is.1 in let high = is.1.1 in (is.0, (omega (arith, low), omega (arith, high)))
     wider (ExternalOf m) is = is
 
 once : (f first n : ℕ) → repeats (map (λ b. BlockOf f b) (range_with_len first n)) ≡ false
@@ -47,7 +47,7 @@ unfolding repeats
 once f first zero = refl
 once f first (suc n) =
     neither (has_claim (map (λ b. BlockOf f b) (range_with_len (first + 1) n)) (BlockOf f first)) (repeats (map (λ b. BlockOf f b) (range_with_len (first + 1) n)))
-    (⊎_elim (λ (e : has_claim (map (λ b. BlockOf f b) (range_with_len (first + 1) n)) (BlockOf f first) ≡ true). let is = among f (first + 1) n (BlockOf f first) e in let low = is.1.0 in absurd (omega (arith, low)))
+    (⊎_elim (λ (e : has_claim (map (λ b. BlockOf f b) (range_with_len (first + 1) n)) (BlockOf f first) ≡ true). let is = among f (first + 1) n (BlockOf f first) e in let low = is.1 in absurd (omega (arith, low)))
     (λ (e : has_claim (map (λ b. BlockOf f b) (range_with_len (first + 1) n)) (BlockOf f first) ≡ false). e)
     (cases_Bool (has_claim (map (λ b. BlockOf f b) (range_with_len (first + 1) n)) (BlockOf f first))))
     (once f (first + 1) n)
@@ -98,7 +98,7 @@ unfolding has_claim
 apart_external f first n k (BlockOf m b) one e = no e
 apart_external f first n k (ExternalOf m) one e = one
 
-module _ (files : BlockFiles) (new : NewEntry) (key : List ℕ) (fits : FitsKey files new key) (are : AreWords new) where
+module _ (files : BlockFiles) (new : NewEntry) (key : List ℕ) (fits : FitsKey files new key) (lies : LiesApart new.entry new.long_key) (are : AreWords new) where
   node_blocky : kind_of new.node ≢ external
   node_blocky e = let z : ◌≡◌ {A = ℕ} 1 0 = sym fits.node_kind ∙ e in cc
 
@@ -107,18 +107,18 @@ module _ (files : BlockFiles) (new : NewEntry) (key : List ℕ) (fits : FitsKey 
 
   -- what is known of the claims of the long key
   long_known : (repeats (claims_of (unwrap_or new.long_key 0)) ≡ false) × (((c : Claim) → has_claim (claims_of new.entry) c ≡ true → has_claim (claims_of (unwrap_or new.long_key 0)) c ≡ true → ⊥) × ((c : Claim) → has_claim (claims_of new.node) c ≡ true → has_claim (claims_of (unwrap_or new.long_key 0)) c ≡ true → ⊥))
-  long_known = by_place new.long_key fits.long (key_is_inside files new key fits)
+  long_known = by_place new.long_key fits.long lies (key_is_inside files new key fits)
     where
-      by_place : (o : Option ℕ) → IsLongPlace files new.entry (length key) o → IsInside files (address_of_key new.entry o) (before_key o) (length key + 1)
+      by_place : (o : Option ℕ) → IsLongPlace files (length key) o → LiesApart new.entry o → IsInside files (address_of_key new.entry o) (before_key o) (length key + 1)
           → (repeats (claims_of (unwrap_or o 0)) ≡ false) × (((c : Claim) → has_claim (claims_of new.entry) c ≡ true → has_claim (claims_of (unwrap_or o 0)) c ≡ true → ⊥) × ((c : Claim) → has_claim (claims_of new.node) c ≡ true → has_claim (claims_of (unwrap_or o 0)) c ≡ true → ⊥))
-      by_place None is inside = (ap repeats no_claims ∙ none_once, (λ c a b. never c b, λ c a b. never c b))
+      by_place None is apart inside = (ap repeats no_claims ∙ none_once, (λ c a b. never c b, λ c a b. never c b))
         where
           none_once : repeats [] ≡ false
           none_once = repeats_none
 
           never : (c : Claim) → has_claim (claims_of 0) c ≡ true → ⊥
           never c e = no (sym (no-claim c) ∙ ap (λ (l : List Claim). has_claim l c) (sym no_claims) ∙ e)
-      by_place (Some w) is inside =
+      by_place (Some w) is apart inside =
           ⊎_elim
           (λ (e : (kind_of w == external) ≡ true).
           let x : kind_of w ≡ external = eqb-true (kind_of w) external e in
@@ -133,7 +133,7 @@ module _ (files : BlockFiles) (new : NewEntry) (key : List ℕ) (fits : FitsKey 
           let blocky : kind_of w ≢ external = (λ same. let z : (kind_of w == external) ≡ true = grind (arith, nat_tests) in let y : true ≡ false = sym z ∙ e in cc) in (
             block_once w address blocky,
             (
-              λ c a b. apart_blocks (file_selector new.entry) (first_block new.entry) (block_count new.entry) (file_selector w) (first_block w) (block_count w) c (block_claim new.entry c are.entry entry_blocky a) (block_claim w c address blocky b) (is.1.1 blocky),
+              λ c a b. apart_blocks (file_selector new.entry) (first_block new.entry) (block_count new.entry) (file_selector w) (first_block w) (block_count w) c (block_claim new.entry c are.entry entry_blocky a) (block_claim w c address blocky b) (apart blocky),
               λ c a b. apart_blocks (file_selector new.node) (first_block new.node) (block_count new.node) (file_selector w) (first_block w) (block_count w) c (block_claim new.node c are.node node_blocky a) (block_claim w c address blocky b)
                   (λ same. absurd (storage.1 (sym (same_kind files new.node w fits.node_stands (inside.stands blocky) same) ∙ fits.node_kind))),
             ),
@@ -141,7 +141,7 @@ module _ (files : BlockFiles) (new : NewEntry) (key : List ℕ) (fits : FitsKey 
           (cases_Bool (kind_of w == external))
         where
           storage : (is_address w ≡ true) × (kind_of w ≢ rankings)
-          storage = long_storage files new key 0 fits w is.1.0
+          storage = long_storage files new key 0 fits w is.1
 
           address : is_address w ≡ true
           address = storage.0
@@ -164,4 +164,4 @@ module _ (files : BlockFiles) (new : NewEntry) (key : List ℕ) (fits : FitsKey 
       (λ c a b. ⊎_elim (node_entry c a) (long_known.1.1 c a) (or_cases (has_claim (claims_of new.entry) c) (has_claim l c) (sym (claim-append (claims_of new.entry) l c) ∙ b)))
 
 pub new-claims-single : NewClaimsAreSingle
-new-claims-single files new key fits are = single files new key fits are
+new-claims-single files new key fits lies are = single files new key fits lies are

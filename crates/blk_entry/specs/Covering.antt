@@ -9,7 +9,7 @@ use Rattle.blk_image.specs.Footprint.{SameOutside}
 use Rattle.blk_disk.specs.declared.tables.BlockFiles.{BlockFiles}
 use Rattle.blk_disk.specs.Tables.{Agrees}
 use Rattle.blk_entry.specs.declared.writing.NewEntry.{NewEntry}
-use Rattle.blk_entry.specs.Writing.{AreWords, FitsKey, loaded_new, places_of}
+use Rattle.blk_entry.specs.Writing.{AreWords, FitsKey, LiesApart, loaded_new, places_of}
 
 -- the three places of a new entry are covered by the claims of its node, its record and its long key
 abbrev pub NewPlacesAreCovered : Type 0
@@ -21,4 +21,4 @@ NewPlacesAreShownApart = (files : BlockFiles) (new : NewEntry) (key : List ℕ) 
 
 -- no two of these claims are one
 abbrev pub NewClaimsAreSingle : Type 0
-NewClaimsAreSingle = (files : BlockFiles) (new : NewEntry) (key : List ℕ) → FitsKey files new key → AreWords new → repeats (all_claims (loaded_new new key)) ≡ false
+NewClaimsAreSingle = (files : BlockFiles) (new : NewEntry) (key : List ℕ) → FitsKey files new key → LiesApart new.entry new.long_key → AreWords new → repeats (all_claims (loaded_new new key)) ≡ false

@@ -1,5 +1,5 @@
 -- The key of an entry record: where it lies, and what a read of it gives.
-use Rattle.std.specs.Prelude.{ℕ, ◌≡◌, ◌≢◌, ◌⊎◌, ◌+◌, ◌-◌, ◌≤◌, min, List, length, take, drop, Bool, false, true, ◌&&◌, ◌||◌, nat_le, ◌==◌, if◌then◌else◌, Option, None, Some}
+use Rattle.std.specs.Prelude.{ℕ, ◌≡◌, ◌≢◌, ◌⊎◌, ◌+◌, ◌-◌, ◌*◌, ◌<◌, ◌≤◌, min, List, length, take, drop, Bool, false, true, ◌&&◌, ◌||◌, nat_le, ◌==◌, if◌then◌else◌, Option, None, Some}
 use Rattle.std.specs.Option.{option_and_then}
 use Rattle.blk_image.specs.Bytes.{range_at}
 use Rattle.blk_image.specs.Image.{File, Block, External, Image, HasRange, byte}
@@ -89,23 +89,34 @@ key_address entry key_len long_key = if is_short key_len then entry else long_ke
 unfoldable pub bytes_before : ℕ → ℕ
 bytes_before key_len = if is_short key_len then entry_size else 0
 
--- a read of some of these bytes of the data of an address gave fewer: so many from a place in the data on
-pub record IsCut (told : Told) (w at n : ℕ) (damage : Damage) : Type 0 where
-  pub place : ℕ
-  pub count : ℕ
-  pub from : at ≤ place
-  pub within : place + count ≤ at + n
-  pub short : IsShort told (data_name w) (data_start w + place) count damage
+-- a read of so many bytes of the data of an address, from a place in it on, gave fewer
+abbrev pub IsCut : Told → ℕ → ℕ → ℕ → Damage → Type 0
+IsCut told w at n damage = IsShort told (data_name w) (data_start w + at) n damage
+
+-- the bytes of a key that are compared at a time: half of the longest
+abbrev pub piece_size : ℕ
+piece_size = 16398
+
+-- so many bytes of the data of an address, from a place in it on, are read piece by piece: a read of one, or of the fewer bytes that are left, gave too few
+pub record IsCutPiece (told : Told) (w at n : ℕ) (damage : Damage) : Type 0 where
+  pub piece : ℕ
+  pub inside : piece * piece_size < n
+  pub cut : IsCut told w (at + piece * piece_size) (min (n - piece * piece_size) piece_size) damage
 
 -- a record has a place for a key of so many bytes: in it, or where the word of a long key says
 pub record IsPlaced (files : BlockFiles) (entry key_len long_key : ℕ) : Type 0 where
   pub has : may_have entry key_len ≡ true
   pub holds : is_short key_len ≡ false → may_hold files key_len long_key ≡ true
 
--- a read of some bytes of a key gave fewer
+-- a key is read piece by piece, and a read of one gave too few bytes
 pub record IsCutKey (files : BlockFiles) (told : Told) (entry key_len long_key : ℕ) (damage : Damage) : Type 0 where
   pub placed : IsPlaced files entry key_len long_key
-  pub cut : IsCut told (key_address entry key_len long_key) (bytes_before key_len) key_len damage
+  pub cut : IsCutPiece told (key_address entry key_len long_key) (bytes_before key_len) key_len damage
+
+-- the bytes of a key from a place on are read, as many as there are and as `size` has room for, and too few were given
+pub record IsCutPart (files : BlockFiles) (told : Told) (entry key_len long_key at size : ℕ) (damage : Damage) : Type 0 where
+  pub placed : IsPlaced files entry key_len long_key
+  pub cut : IsCut told (key_address entry key_len long_key) (bytes_before key_len + min at key_len) (min (key_len - min at key_len) size) damage
 
 -- the length of the key, at place 32 of the record, is one that the record can't have
 pub record IsUnfit (entry key_len : ℕ) (damage : Damage) : Type 0 where
@@ -136,10 +147,11 @@ pub record IsWrongKey (files : BlockFiles) (told : Told) (entry key_len : ℕ) (
   pub long_key : ℕ
   pub wrong : IsPlaceDamage files told entry key_len long_key damage
 
--- a damage of a key of some bytes
-pub record IsWrongPiece (files : BlockFiles) (told : Told) (entry : ℕ) (damage : Damage) : Type 0 where
+-- a damage of the bytes of a key from a place on, with some length of the key and some word of a long one
+pub record IsWrongPart (files : BlockFiles) (told : Told) (entry at size : ℕ) (damage : Damage) : Type 0 where
   pub key_len : ℕ
-  pub wrong : IsWrongKey files told entry key_len damage
+  pub long_key : ℕ
+  pub wrong : IsCutPart files told entry key_len long_key at size damage ⊎ IsMisplaced files entry key_len long_key damage
 
 -- a damage where the words of a record are read: too few bytes, or it doesn't check
 abbrev pub IsHeadDamage : Told → ℕ → Damage → Type 0
@@ -149,9 +161,9 @@ IsHeadDamage told entry damage = IsShort told (names.Block (file_selector entry)
 abbrev pub IsKeyDamage : BlockFiles → Told → ℕ → ℕ → Damage → Type 0
 IsKeyDamage files told entry key_len damage = IsHeadDamage told entry damage ⊎ IsWrongKey files told entry key_len damage
 
--- a damage where a record is read, and a piece of its key
-abbrev pub IsPieceDamage : BlockFiles → Told → ℕ → Damage → Type 0
-IsPieceDamage files told entry damage = IsHeadDamage told entry damage ⊎ IsWrongPiece files told entry damage
+-- a damage where a record is read, and the bytes of its key from a place on
+abbrev pub IsPartDamage : BlockFiles → Told → ℕ → ℕ → ℕ → Damage → Type 0
+IsPartDamage files told entry at size damage = IsHeadDamage told entry damage ⊎ IsWrongPart files told entry at size damage
 
 -- Steps of the reading.
 

@@ -24,10 +24,15 @@ use Rattle.blk_entry.specs.Steps.{ended_steps}
 abbrev pub ShareNoBlock : ℕ → ℕ → Type 0
 ShareNoBlock one other = file_selector one ≡ file_selector other → (first_block one + block_count one ≤ first_block other) ⊎ (first_block other + block_count other ≤ first_block one)
 
--- the place of a long key: there is none where the key lies in its record; else it stands, stores the key with one zero byte, and shares no block with the record
-abbrev pub IsLongPlace : BlockFiles → ℕ → ℕ → Option ℕ → Type 0
-IsLongPlace files entry key_len None = is_short key_len ≡ true
-IsLongPlace files entry key_len (Some w) = (is_short key_len ≡ false) × ((may_hold files key_len w ≡ true) × (kind_of w ≢ external → ShareNoBlock entry w))
+-- the place of a long key: there is none where the key lies in its record; else it stands, and stores the key with one zero byte
+abbrev pub IsLongPlace : BlockFiles → ℕ → Option ℕ → Type 0
+IsLongPlace files key_len None = is_short key_len ≡ true
+IsLongPlace files key_len (Some w) = (is_short key_len ≡ false) × (may_hold files key_len w ≡ true)
+
+-- a long key that lies in blocks shares none with the record
+abbrev pub LiesApart : ℕ → Option ℕ → Type 0
+LiesApart entry None = Unit {0}
+LiesApart entry (Some w) = kind_of w ≢ external → ShareNoBlock entry w
 
 -- the longest key of a child, which is a name, and of another entry
 abbrev pub longest_of : Bool → ℕ
@@ -42,7 +47,7 @@ pub record FitsKey (files : BlockFiles) (new : NewEntry) (key : List ℕ) : Type
   pub some : 1 ≤ length key
   pub most : length key ≤ longest_of new.child
   pub blocks : block_count new.entry ≡ entry_blocks (length key)
-  pub long : IsLongPlace files new.entry (length key) new.long_key
+  pub long : IsLongPlace files (length key) new.long_key
 
 -- the numbers of a new entry are words, and its places are addresses
 pub record AreWords (new : NewEntry) : Type 0 where

@@ -6,7 +6,7 @@ ghost use Rattle.blk_format.specs.Address.{blocks_256, kind_of};
 ghost use Rattle.blk_io.specs.Faults.{IfDamaged, IfDevice};
 ghost use Rattle.blk_disk.specs.Tables.{Agrees, stands_among};
 ghost use Rattle.blk_format.specs.Sealed.{RecordChecks};
-ghost use Rattle.blk_entry.specs.Keys.{HasKey, IsCut, IsEntryOf, IsHead, IsInFile, IsInside, IsKeyDamage, IsPlaceDamage, data_at, key_at};
+ghost use Rattle.blk_entry.specs.Keys.{HasKey, IsCut, IsCutPiece, IsEntryOf, IsHead, IsInFile, IsInside, IsKeyDamage, IsPlaceDamage, data_at, key_at};
 
 use crate::data::read_data;
 use crate::keys::{Head, key_place, read_head};
@@ -52,7 +52,7 @@ pub fn key_equals<F: Folder>(
 ///
 /// The record isn't read again, and its hash isn't looked at. Only where its length is that of the key
 /// is the key read: by one folder call, or by two where it has more than 16398 bytes; the second only
-/// where the first piece is the same. A damage is a read of the key that gave too few bytes, a length
+/// where the first piece is the same. A damage is a read of a piece that gave too few bytes, a length
 /// that the key can't have, or the word of a long key that is no address which stands and stores the
 /// key. A folder that tells its files never gives one.
 pub fn key_is<F: Folder>(
@@ -93,7 +93,7 @@ fn data_is<F: Folder>(
     requires agrees { ForSome (F.told f.old).files (Agrees files.now) }
     requires external { ForSome (F.told f.old).files (IsInFile addr at (length bytes.now)) }
     ensures same { IfOk result (λ same. ForSome (F.told f.old).files (λ image. IsTrue same ↔ (bytes.now ≡ data_at image addr at (length bytes.now)))) }
-    ensures short { IfDamaged result (IsCut (F.told f.old) addr at (length bytes.now)) }
+    ensures short { IfDamaged result (IsCutPiece (F.told f.old) addr at (length bytes.now)) }
     ensures untold { IfDamaged result (λ _. (F.told f.old).files ≡ None) }
     ensures stays { Stays (F.told f.old) (F.told f.new) }
     ensures later { F.faults f.old ≤ F.faults f.new }

@@ -89,7 +89,7 @@ pub fn key_piece<F: Folder>(
     requires key { ForSome (F.told f.old).files (HasKey entry) }
     ensures within { IfOk result (λ n. n ≤ length out.old) }
     ensures piece { IfOk result (λ n. ForSome (F.told f.old).files (λ image. ForSome (key_at image entry) (λ key. IsPiece key at out.old out.new n))) }
-    ensures damaged { IfDamaged result (keys.IsPieceDamage files.now (F.told f.old) entry) }
+    ensures damaged { IfDamaged result (keys.IsPartDamage files.now (F.told f.old) entry at (length out.old)) }
     ensures untold { IfDamaged result (λ _. (F.told f.old).files ≡ None) }
     ensures stays { Stays (F.told f.old) (F.told f.new) }
     ensures later { F.faults f.old ≤ F.faults f.new }

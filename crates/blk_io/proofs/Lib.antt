@@ -1,3 +1,5 @@
+pub mod Padding
+pub mod Adjoining
 pub mod FileLists
 pub mod Trails
 pub mod ReadBytes

@@ -1,5 +1,7 @@
 pub mod FileNames
 pub mod Faults
+pub mod Texts
+pub mod Neighbours
 pub mod Files
 pub mod Trail
 pub mod Counts

@@ -5,21 +5,62 @@ ghost use Rattle.blk_image.specs.Checks.{first_of};
 ghost use Rattle.blk_io.specs.Faults.{damage_of};
 
 use crate::{Failed, FileId};
+use std::error::Error;
+use std::fmt;
 
-/// A check that failed on bytes that were read: the file, the place in bytes, and the word found there.
+/// A check that failed on bytes that were read.
 #[derive(Clone, Copy, Debug, PartialEq, Eq)]
 pub struct Damage {
+    /// The file that was read.
     pub file: FileId,
+    /// The place of what was checked, in bytes.
     pub at: u64,
+    /// The word found there, or how many bytes there were where they are too few.
     pub found: u32,
 }
 
-/// The folder failed, or what it holds failed a check.
+impl fmt::Display for Damage {
+    ghost use Rattle.std.specs.Prelude.{Some};
+    ghost use Rattle.blk_io.specs.Faults.{damage_of};
+    ghost use Rattle.blk_io.specs.Texts.{damage_text};
+
+    ghost output = { λ damage. Some (damage_text (damage_of damage)) };
+
+    #[tactic(auto, using(crate::proofs::Padding::padded_text), unfolding(crate::specs::Texts::damage_text, crate::specs::Texts::hex_text))]
+    fn fmt<W: fmt::Write>(&self, f: &mut fmt::Formatter<W>) -> fmt::Result {
+        let file = self.file;
+        let at = self.at;
+        let found = self.found;
+        write!(f, "damaged {file} {at} {found:08x}")
+    }
+}
+
+impl Error for Damage {}
+
+/// Why a call did not succeed.
 #[derive(Clone, Copy, Debug, PartialEq, Eq)]
 pub enum Fault {
+    /// The folder failed.
     Device,
+    /// What the folder holds failed a check.
     Damaged(Damage),
 }
+
+impl fmt::Display for Fault {
+    ghost use Rattle.std.specs.Prelude.{Some};
+    ghost use Rattle.blk_io.specs.Texts.{fault_text};
+
+    ghost output = { λ fault. Some (fault_text fault) };
+
+    fn fmt<W: fmt::Write>(&self, f: &mut fmt::Formatter<W>) -> fmt::Result {
+        match self {
+            Fault::Device => Failed.fmt(f),
+            Fault::Damaged(damage) => damage.fmt(f),
+        }
+    }
+}
+
+impl Error for Fault {}
 
 impl From<Failed> for Fault {
     ghost use Rattle.std.specs.Prelude.{◌≡◌};
@@ -29,6 +70,17 @@ impl From<Failed> for Fault {
 
     fn from(_: Failed) -> Self {
         Fault::Device
+    }
+}
+
+impl From<Damage> for Fault {
+    ghost use Rattle.std.specs.Prelude.{◌≡◌};
+    ghost use Rattle.blk_io.specs.declared.fault.Fault.TheVariants.{Damaged};
+
+    ghost from_gives = { λ damage fault. fault ≡ Damaged damage };
+
+    fn from(damage: Damage) -> Self {
+        Fault::Damaged(damage)
     }
 }
 

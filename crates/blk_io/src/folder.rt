@@ -8,39 +8,38 @@ ghost use Rattle.blk_image.specs.Told.{Told, Grows, Stays, GrowsInPart, Rises, A
 ghost use Rattle.blk_io.specs.FileNames.{file_of};
 
 use std::alloc::AllocError;
+use std::error::Error;
+use std::fmt;
 
-/// The name of a cache file.
-#[derive(Clone, Copy, Debug, PartialEq, Eq)]
+/// The name of a cache file. The index comes first, then the block files by number, then the external files by number.
+#[derive(Clone, Copy, Debug, PartialEq, Eq, PartialOrd, Ord)]
 pub enum FileId {
+    /// `index`
     Index,
+    /// `data_N`, by its number
     Block(u8),
+    /// `f_` and at least six hexadecimal digits, by its number
     External(u32),
 }
 
+impl fmt::Display for FileId {
+    ghost use Rattle.std.specs.Prelude.{Some};
+    ghost use Rattle.blk_io.specs.FileNames.{file_of};
+    ghost use Rattle.blk_io.specs.Texts.{name_of};
+
+    ghost output = { λ file. Some (name_of (file_of file)) };
+
+    #[tactic(auto, using(crate::proofs::Padding::padded_text), unfolding(crate::specs::Texts::name_of, crate::specs::Texts::hex_text))]
+    fn fmt<W: fmt::Write>(&self, f: &mut fmt::Formatter<W>) -> fmt::Result {
+        match *self {
+            FileId::Index => f.write_str("index"),
+            FileId::Block(n) => write!(f, "data_{n}"),
+            FileId::External(n) => write!(f, "f_{n:06x}"),
+        }
+    }
+}
+
 impl FileId {
-    /// Whether two names are one.
-    pub fn is(self, other: FileId) -> bool
-        ensures { result ≡ same_file (file_of self) (file_of other) }
-    {
-        match (self, other) {
-            (FileId::Index, FileId::Index) => true,
-            (FileId::Block(m), FileId::Block(n)) => m == n,
-            (FileId::External(m), FileId::External(n)) => m == n,
-            _ => false,
-        }
-    }
-
-    // The place of the kind in the order of the files.
-    fn kind(self) -> u8
-        ensures { result ≡ kind_of (file_of self) }
-    {
-        match self {
-            FileId::Index => 0,
-            FileId::Block(_) => 1,
-            FileId::External(_) => 2,
-        }
-    }
-
     /// The number among the files of the kind.
     pub fn number(self) -> u32
         ensures { result ≡ number_of (file_of self) }
@@ -52,22 +51,11 @@ impl FileId {
         }
     }
 
-    /// Whether the file comes before another: the index, the block files by number, the external files by number.
-    pub fn is_before(self, other: FileId) -> bool
-        ensures { IsTrue result ↔ IsBefore (file_of self) (file_of other) }
-    {
-        self.kind() < other.kind()
-            || (self.kind() == other.kind() && self.number() < other.number())
-    }
-
     /// Whether the file comes after another, where there is one.
     pub fn is_after(self, other: Option<FileId>) -> bool
         ensures { IsTrue result ↔ IsAfter (option_map file_of other) (file_of self) }
     {
-        match other {
-            Some(other) => other.is_before(self),
-            None => true,
-        }
+        other < Some(self)
     }
 }
 
@@ -75,9 +63,35 @@ impl FileId {
 #[derive(Clone, Copy, Debug, PartialEq, Eq)]
 pub struct Failed;
 
+impl fmt::Display for Failed {
+    ghost use Rattle.std.specs.Prelude.{Some};
+    ghost use Rattle.blk_io.specs.Texts.{failed_text};
+
+    ghost output = { λ _. Some failed_text };
+
+    fn fmt<W: fmt::Write>(&self, f: &mut fmt::Formatter<W>) -> fmt::Result {
+        f.write_str("the device failed")
+    }
+}
+
+impl Error for Failed {}
+
 /// There was no memory. Nothing was changed.
 #[derive(Clone, Copy, Debug, PartialEq, Eq)]
 pub struct NoMemory;
+
+impl fmt::Display for NoMemory {
+    ghost use Rattle.std.specs.Prelude.{Some};
+    ghost use Rattle.blk_io.specs.Texts.{no_memory_text};
+
+    ghost output = { λ _. Some no_memory_text };
+
+    fn fmt<W: fmt::Write>(&self, f: &mut fmt::Formatter<W>) -> fmt::Result {
+        f.write_str("there is no memory")
+    }
+}
+
+impl Error for NoMemory {}
 
 impl From<AllocError> for NoMemory {
     fn from(_: AllocError) -> Self {
@@ -85,6 +99,11 @@ impl From<AllocError> for NoMemory {
     }
 }
 
+/// A folder of cache files.
+///
+/// A folder in memory tells its files, and its contracts say what the calls read and leave. A folder of real
+/// files tells nothing. A call that answers `Failed` is counted in `faults`; a read then gave nothing, a write
+/// may have made some of its steps, from the first on, and any other call changed nothing.
 pub trait Folder {
     /// What is told of the files now, and of the steps that made them.
     ghost told: { Self → Told };

@@ -15,7 +15,9 @@ use std::alloc::{AllocError, Global};
 /// A file and its bytes.
 #[derive(Drop)]
 pub struct MemFile {
+    /// Its name.
     pub file: FileId,
+    /// What it holds.
     pub bytes: Vec<u8>,
 }
 
@@ -25,7 +27,7 @@ fn place_of(files: &[MemFile], file: FileId) -> Option<usize>
     ensures none { IfNone result (image_of files.now (file_of file) ≡ None) }
 {
     for (i, one) in files.iter().enumerate() {
-        if one.file.is(file) {
+        if one.file == file {
             return Some(i);
         }
     }
@@ -153,7 +155,7 @@ pub(crate) fn remove(files: &mut Vec<MemFile>, file: FileId)
     files.retain(
         |one: &MemFile| -> bool
             ensures { result ≡ not (same_file (file_of one.now.file) (file_of file)) }
-        { !one.file.is(file) },
+        { one.file != file },
     );
 }
 
@@ -180,7 +182,7 @@ pub fn nearer(file: FileId, after: Option<FileId>, next: Option<FileId>) -> Opti
         return next;
     }
     match next {
-        Some(first) if !file.is_before(first) => next,
+        Some(first) if first <= file => next,
         _ => Some(file),
     }
 }

@@ -14,9 +14,13 @@ use std::alloc::{AllocError, AllocFailed, Global};
 /// What a call did.
 #[derive(Drop)]
 pub enum Change {
+    /// It wrote these bytes from this place on.
     Wrote(FileId, u64, Vec<u8>),
+    /// It gave the file this length.
     Sized(FileId, u64),
+    /// It removed the file.
     Deleted(FileId),
+    /// It noted that so many commands are done.
     Noted(u64),
 }
 

@@ -1,9 +1,10 @@
 // A folder that tells nothing.
-ghost use Rattle.std.specs.Prelude.{◌≡◌, ◌≤◌, length, Ok, OnErr, IfOk};
+ghost use Rattle.std.specs.Prelude.{◌≡◌, ◌≤◌, [], ◌∷◌, length, OnOk, OnErr, IfOk};
 ghost use Rattle.std.specs.Option.{ForSome, option_map};
 ghost use Rattle.blk_image.specs.Image.{length_of};
-ghost use Rattle.blk_image.specs.Order.{IsAfter};
-ghost use Rattle.blk_image.specs.Told.{Rises};
+ghost use Rattle.blk_image.specs.Order.{IsAfter, IsNextFile};
+ghost use Rattle.blk_image.specs.Steps.{SetLength, Delete, Note, words};
+ghost use Rattle.blk_image.specs.Told.{Grows, GrowsInPart, GivesBytes, Rises, Stays};
 ghost use Rattle.blk_io.specs.Counts.{one_more};
 ghost use Rattle.blk_io.specs.FileNames.{file_of};
 
@@ -11,7 +12,8 @@ use crate::{Failed, FileId, Folder};
 
 /// A folder that passes each call on to another, and tells nothing, as a folder of real files does.
 ///
-/// No condition on its files is owed. So a write fails where its file hasn't the range.
+/// No condition on its files is owed. So a write asks the folder inside for the length of the file first,
+/// which is a call more there, and fails where the file hasn't the range.
 #[derive(Drop)]
 pub struct SilentFolder<F> {
     inner: F,
@@ -51,22 +53,20 @@ impl<F: Folder> SilentFolder<F> {
 
 // What the folder answered, with its failure counted.
 fn counted<T>(answer: Result<T, Failed>, faults: &mut u64) -> Result<T, Failed>
-    ensures answer { IfOk result (λ value. answer ≡ Ok value) }
+    ensures answer { result ≡ answer }
     ensures later { faults.old ≤ faults.new }
     ensures failed { OnErr result (Rises faults.old faults.new) }
 {
-    match answer {
-        Ok(value) => Ok(value),
-        Err(_) => {
-            *faults = faults.saturating_add(1);
-            Err(Failed)
-        }
+    if answer.is_err() {
+        *faults = faults.saturating_add(1);
     }
+    answer
 }
 
 // The length of a file, 0 where there is none.
 fn length<F: Folder>(f: &mut F, file: FileId) -> Result<u64, Failed>
-    ensures { IfOk result (λ n. ForSome (F.told f.new).files (λ image. length_of image (file_of file) ≡ n)) }
+    ensures length { IfOk result (λ n. ForSome (F.told f.old).files (λ image. length_of image (file_of file) ≡ n)) }
+    ensures stays { Stays (F.told f.old) (F.told f.new) }
 {
     match f.length(file)? {
         Some(n) => Ok(n),
@@ -75,7 +75,10 @@ fn length<F: Folder>(f: &mut F, file: FileId) -> Result<u64, Failed>
 }
 
 // Writes bytes of a file, where it has them.
-fn write_inside<F: Folder>(f: &mut F, file: FileId, at: u64, bytes: &[u8]) -> Result<(), Failed> {
+fn write_inside<F: Folder>(f: &mut F, file: FileId, at: u64, bytes: &[u8]) -> Result<(), Failed>
+    ensures whole { OnOk result (Grows (F.told f.old) (F.told f.new) (words (file_of file) at bytes.now)) }
+    ensures part { GrowsInPart (F.told f.old) (F.told f.new) (words (file_of file) at bytes.now) }
+{
     let n = length(f, file)?;
     if at > n || bytes.len() as u64 > n - at {
         return Err(Failed);
@@ -84,7 +87,7 @@ fn write_inside<F: Folder>(f: &mut F, file: FileId, at: u64, bytes: &[u8]) -> Re
 }
 
 impl<F: Folder> Folder for SilentFolder<F> {
-    ghost use Rattle.blk_io.specs.SilentFolder.{calls_of, faults_of, untold, untold_agrees, untold_bytes};
+    ghost use Rattle.blk_io.specs.SilentFolder.{calls_of, faults_of, folder_of, untold, untold_agrees, untold_bytes};
 
     ghost told = { λ _. untold };
 
@@ -98,6 +101,8 @@ impl<F: Folder> Folder for SilentFolder<F> {
         ensures later { faults_of self.old ≤ faults_of self.new }
         ensures failed { OnErr result (Rises (faults_of self.old) (faults_of self.new)) }
         ensures calls { calls_of self.new ≡ one_more (calls_of self.old) }
+        ensures inside { IfOk result (λ n. ForSome (F.told (folder_of self.old)).files (λ image. n ≡ option_map length (image (file_of file)))) }
+        ensures inside_stays { Stays (F.told (folder_of self.old)) (F.told (folder_of self.new)) }
     {
         self.calls = self.calls.saturating_add(1);
         counted(self.inner.length(file), &mut self.faults)
@@ -108,6 +113,8 @@ impl<F: Folder> Folder for SilentFolder<F> {
         ensures later { faults_of self.old ≤ faults_of self.new }
         ensures failed { OnErr result (Rises (faults_of self.old) (faults_of self.new)) }
         ensures calls { calls_of self.new ≡ one_more (calls_of self.old) }
+        ensures inside { IfOk result (λ n. ForSome (F.told (folder_of self.old)).files (λ image. GivesBytes image (file_of file) at out.old out.new n)) }
+        ensures inside_stays { Stays (F.told (folder_of self.old)) (F.told (folder_of self.new)) }
     {
         self.calls = self.calls.saturating_add(1);
         counted(self.inner.read_at(file, at, out), &mut self.faults)
@@ -117,6 +124,8 @@ impl<F: Folder> Folder for SilentFolder<F> {
         ensures later { faults_of self.old ≤ faults_of self.new }
         ensures failed { OnErr result (Rises (faults_of self.old) (faults_of self.new)) }
         ensures calls { calls_of self.new ≡ one_more (calls_of self.old) }
+        ensures inside { OnOk result (Grows (F.told (folder_of self.old)) (F.told (folder_of self.new)) (words (file_of file) at bytes.now)) }
+        ensures inside_part { GrowsInPart (F.told (folder_of self.old)) (F.told (folder_of self.new)) (words (file_of file) at bytes.now) }
     {
         self.calls = self.calls.saturating_add(1);
         counted(
@@ -129,6 +138,8 @@ impl<F: Folder> Folder for SilentFolder<F> {
         ensures later { faults_of self.old ≤ faults_of self.new }
         ensures failed { OnErr result (Rises (faults_of self.old) (faults_of self.new)) }
         ensures calls { calls_of self.new ≡ one_more (calls_of self.old) }
+        ensures inside { OnOk result (Grows (F.told (folder_of self.old)) (F.told (folder_of self.new)) (SetLength (file_of file) length ∷ [])) }
+        ensures inside_undone { OnErr result (Stays (F.told (folder_of self.old)) (F.told (folder_of self.new))) }
     {
         self.calls = self.calls.saturating_add(1);
         counted(self.inner.set_len(file, length), &mut self.faults)
@@ -138,6 +149,8 @@ impl<F: Folder> Folder for SilentFolder<F> {
         ensures later { faults_of self.old ≤ faults_of self.new }
         ensures failed { OnErr result (Rises (faults_of self.old) (faults_of self.new)) }
         ensures calls { calls_of self.new ≡ one_more (calls_of self.old) }
+        ensures inside { OnOk result (Grows (F.told (folder_of self.old)) (F.told (folder_of self.new)) (Delete (file_of file) ∷ [])) }
+        ensures inside_undone { OnErr result (Stays (F.told (folder_of self.old)) (F.told (folder_of self.new))) }
     {
         self.calls = self.calls.saturating_add(1);
         counted(self.inner.delete(file), &mut self.faults)
@@ -148,6 +161,8 @@ impl<F: Folder> Folder for SilentFolder<F> {
         ensures later { faults_of self.old ≤ faults_of self.new }
         ensures failed { OnErr result (Rises (faults_of self.old) (faults_of self.new)) }
         ensures calls { calls_of self.new ≡ one_more (calls_of self.old) }
+        ensures inside { IfOk result (λ next. ForSome (F.told (folder_of self.old)).files (λ image. IsNextFile image (option_map file_of after) (option_map file_of next))) }
+        ensures inside_stays { Stays (F.told (folder_of self.old)) (F.told (folder_of self.new)) }
     {
         self.calls = self.calls.saturating_add(1);
         counted(self.inner.list(after), &mut self.faults)
@@ -157,6 +172,8 @@ impl<F: Folder> Folder for SilentFolder<F> {
         ensures later { faults_of self.old ≤ faults_of self.new }
         ensures failed { OnErr result (Rises (faults_of self.old) (faults_of self.new)) }
         ensures calls { calls_of self.new ≡ one_more (calls_of self.old) }
+        ensures inside { OnOk result (Grows (F.told (folder_of self.old)) (F.told (folder_of self.new)) (Note answered ∷ [])) }
+        ensures inside_undone { OnErr result (Stays (F.told (folder_of self.old)) (F.told (folder_of self.new))) }
     {
         self.calls = self.calls.saturating_add(1);
         counted(self.inner.note(answered), &mut self.faults)

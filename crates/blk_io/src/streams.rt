@@ -6,6 +6,9 @@ ghost use Rattle.blk_io.specs.Streams.{Appends, Moves, Readings, reading_of, lat
 
 use crate::Failed;
 
+/// Bytes that come from outside, as the lines of a script do.
+///
+/// A call that answers `Failed` took nothing, and is counted in `faults`.
 pub trait Source {
     /// The bytes that are left, where they are told.
     ghost left: { Self → Option (List ℕ) };
@@ -23,6 +26,9 @@ pub trait Source {
         ensures failed { OnErr result (Rises (faults self.old) (faults self.new)) };
 }
 
+/// Where bytes go that are printed.
+///
+/// A call that answers `Failed` may have written a front of its bytes, and is counted in `faults`.
 pub trait Sink {
     /// The bytes that were written, where they are told.
     ghost written: { Self → Option (List ℕ) };
@@ -38,11 +44,12 @@ pub trait Sink {
         ensures failed { OnErr result (Rises (faults self.old) (faults self.new)) };
 }
 
+/// A clock, which is read in microseconds since 1970.
 pub trait Clock {
     /// The readings to come, where they are told.
     ghost readings: { Self → Option Readings };
 
-    /// The next reading.
+    /// The next reading, in microseconds since 1970. It may be less than the one before.
     fn now(&mut self) -> u64
         ensures reading { ForSome (readings self.old) (λ r. result ≡ reading_of r) }
         ensures later { readings self.new ≡ option_map later_of (readings self.old) };

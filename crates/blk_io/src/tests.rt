@@ -57,6 +57,31 @@ fn a_listed_write_lasts_in_part(rt: HostRuntime) -> Result<(), Fail> {
     Ok(())
 }
 
+// Writes two words behind the first of the index, where they fit.
+fn write_two<F: Folder>(f: &mut F) -> Result<(), Failed> {
+    match f.length(FileId::Index)? {
+        Some(n) if n >= 12 => write_run(f, FileId::Index, 4, &[0x0403_0201, 5]),
+        _ => Err(Failed),
+    }
+}
+
+#[test]
+fn neighbouring_words_are_written_by_one_call(rt: HostRuntime) -> Result<(), Fail> {
+    let mut f = MemFolder::new(rt.alloc());
+    f.add_file(FileId::Index, &[9; 16])?;
+    assert_eq!(rt; write_two(&mut f), Ok(()));
+    assert_eq!(rt; f.calls(), 2);
+    assert_eq!(rt; f.steps(), Some(2));
+    assert!(rt;
+        holds(
+            &mut f,
+            &[9, 9, 9, 9, 1, 2, 3, 4, 5, 0, 0, 0, 9, 9, 9, 9],
+            None
+        )?
+    );
+    Ok(())
+}
+
 #[test]
 fn a_stop_leaves_the_image_after_its_steps(rt: HostRuntime) -> Result<(), Fail> {
     let after = [

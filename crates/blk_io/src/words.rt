@@ -1,16 +1,17 @@
-// Words and bytes that are read whole, and words that are written one by one.
-ghost use Rattle.std.specs.Prelude.{◌≡◌, ◌⊎◌, ◌+◌, ◌%◌, ◌^◌, ◌≤◌, ◌<◌, ℕ, All, length, OnOk, OnErr, IfOk};
+// Words and bytes that are read whole, and words that are written one by one or side by side.
+ghost use Rattle.std.specs.Prelude.{◌≡◌, ◌⊎◌, ◌+◌, ◌*◌, ◌%◌, ◌^◌, ◌≤◌, ◌<◌, ℕ, All, length, map, OnOk, OnErr, IfOk};
 ghost use Rattle.std.specs.Option.{ForSome};
-ghost use Rattle.blk_image.specs.Bytes.{range_at};
+ghost use Rattle.blk_image.specs.Bytes.{range_at, word_bytes};
 ghost use Rattle.blk_image.specs.Image.{HasRange, byte, word};
 ghost use Rattle.blk_image.specs.Steps.{word_step, word_steps};
 ghost use Rattle.blk_image.specs.Told.{Grows, GrowsInPart, Stays, Rises};
 ghost use Rattle.blk_io.specs.FileNames.{file_of};
 ghost use Rattle.blk_io.specs.Faults.{IfDamaged, IfDevice, IsShort};
+ghost use Rattle.blk_io.specs.Neighbours.{run_from};
 
 use crate::{Damage, Failed, Fault, FileId, Folder};
 
-/// Writes a word, its low byte first.
+/// Writes a word, its low byte first. `Failed` comes where the folder failed; the word may then be written.
 pub fn write_word<F: Folder>(f: &mut F, file: FileId, at: u64, value: u32) -> Result<(), Failed>
     requires aligned { at % 4 ≡ 0 }
     requires inside { ForSome (F.told f.old).files (λ image. HasRange image (file_of file) at 4) }
@@ -22,7 +23,8 @@ pub fn write_word<F: Folder>(f: &mut F, file: FileId, at: u64, value: u32) -> Re
     f.write_at(file, at, &value.to_le_bytes())
 }
 
-/// Writes these words in turn, each at its place.
+/// Writes these words in turn, each at its place and by a call of its own. `Failed` comes where the folder
+/// failed; some of the words may then be written, from the first on.
 pub fn write_words<F: Folder>(f: &mut F, file: FileId, words: &[(u64, u32)]) -> Result<(), Failed>
     requires aligned { All (λ w. w.0 % 4 ≡ 0) words.now }
     requires inside { ForSome (F.told f.old).files (λ image. All (λ w. HasRange image (file_of file) w.0 4) words.now) }
@@ -37,9 +39,40 @@ pub fn write_words<F: Folder>(f: &mut F, file: FileId, words: &[(u64, u32)]) -> 
     Ok(())
 }
 
+/// Writes neighbouring words from a place on, by one call. `Failed` comes where the folder failed; some of
+/// the words may then be written, from the first on.
+pub fn write_run<F: Folder, const N: usize>(
+    f: &mut F,
+    file: FileId,
+    at: u64,
+    words: &[u32; N],
+) -> Result<(), Failed>
+    requires aligned { at % 4 ≡ 0 }
+    requires inside { ForSome (F.told f.old).files (λ image. HasRange image (file_of file) at (4 * length words.now)) }
+    ensures whole { OnOk result (Grows (F.told f.old) (F.told f.new) (word_steps (file_of file) (run_from at words.now))) }
+    ensures part { GrowsInPart (F.told f.old) (F.told f.new) (word_steps (file_of file) (run_from at words.now)) }
+    ensures later { F.faults f.old ≤ F.faults f.new }
+    ensures failed { OnErr result (Rises (F.faults f.old) (F.faults f.new)) }
+{
+    let bytes = bytes_of(words);
+    f.write_at(file, at, bytes.as_flattened())
+}
+
+// The bytes of each word, its low byte first.
+fn bytes_of<const N: usize>(words: &[u32; N]) -> [[u8; 4]; N]
+    ensures { result ≡ map word_bytes words.now }
+{
+    let mut bytes = [[0u8; 4]; N];
+    for (i, word) in words.iter().enumerate() {
+        bytes[i] = word.to_le_bytes();
+    }
+    bytes
+}
+
 /// Reads bytes of a file into the whole of `out`.
 ///
 /// Too few bytes are a damage: it has the place of the read, and finds how many bytes there were.
+/// `Device` comes where the folder failed.
 pub fn read_exact<F: Folder>(f: &mut F, file: FileId, at: u64, out: &mut [u8]) -> Result<(), Fault>
     requires { length out.old < 2 ^ 32 }
     ensures bytes { OnOk result (ForSome (F.told f.old).files (λ image. out.new ≡ range_at (byte image (file_of file)) at (length out.old))) }
@@ -57,7 +90,7 @@ pub fn read_exact<F: Folder>(f: &mut F, file: FileId, at: u64, out: &mut [u8]) -
     Ok(())
 }
 
-/// Reads the word at a place, its low byte first. Too few bytes are a damage.
+/// Reads the word at a place, its low byte first. Too few bytes are a damage. `Device` comes where the folder failed.
 pub fn read_word<F: Folder>(f: &mut F, file: FileId, at: u64) -> Result<u32, Fault>
     ensures word { IfOk result (λ w. ForSome (F.told f.old).files (λ image. w ≡ word image (file_of file) at)) }
     ensures inside { OnOk result (ForSome (F.told f.old).files (λ image. HasRange image (file_of file) at 4)) }

@@ -65,8 +65,8 @@ pub mod ExampleParts
 pub mod ExampleUnsettled
 pub mod ExampleRemoval
 pub mod ExampleDoomed
-pub mod ExampleDoom
 pub mod DoomedFolder
+pub mod ExampleDoom
 pub mod Adding
 pub mod WellFormed
 pub mod Inside

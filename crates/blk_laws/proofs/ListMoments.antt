@@ -23,7 +23,7 @@ pub walk_outcome : (l : ListView) → walk (completed_list l) ≡ walk (outcome 
 unfolding outcome walk
 walk_outcome l = refl
 
-walk_at_rest : (l : ListView) (nodes : List ℕ) → l.transaction ≡ 0 → IsList l nodes → walk (completed_list l) ≡ nodes
+pub walk_at_rest : (l : ListView) (nodes : List ℕ) → l.transaction ≡ 0 → IsList l nodes → walk (completed_list l) ≡ nodes
 walk_at_rest l nodes e list = walk_outcome l ∙ ap walk (outcome_done l e) ∙ walk_list (rested l) nodes (IsList-pending l nodes 0 0 list)
 
 -- one operation, whatever it is
@@ -64,7 +64,7 @@ pub record ListedGood (l : ListView) (n : ℕ) : Type 0 where
   pub next_good : l.checks (l.next n) ≡ true
   pub prev_good : l.checks (l.prev n) ≡ true
 
-last_good : (c : ℕ → Bool) (nx pv : ℕ → ℕ) (b x : ℕ) (xs : List ℕ) (e : ℕ) → Segment c nx pv b (x ∷ xs) e → c (last_or x xs) ≡ true
+pub last_good : (c : ℕ → Bool) (nx pv : ℕ → ℕ) (b x : ℕ) (xs : List ℕ) (e : ℕ) → Segment c nx pv b (x ∷ xs) e → c (last_or x xs) ≡ true
 last_good c nx pv b x [] e s = s.0.good
 last_good c nx pv b x (y ∷ ys) e s = last_good c nx pv x y ys e s.1
 

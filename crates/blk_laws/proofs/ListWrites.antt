@@ -3,7 +3,7 @@ use Rattle.std.proofs.Common.{if◌then◌else◌, ◌≡◌, ℕ, Bool, true, f
 use Rattle.std.proofs.lemmas.Bool.Decides.{nat_tests}
 use Rattle.std.proofs.lemmas.Bool.{eq-eqb, and_parts, or_right}
 use Rattle.blk_volume.specs.ListView.{ListWrite, Next, Prev, Head, Tail, Transaction, Operation, ListView, put, with_write, after_writes}
-use Rattle.blk_volume.specs.Completion.{taking_out, putting_in_front, take_out, put_front, counts, operated, completed_list}
+use Rattle.blk_volume.specs.Completion.{taking_out, putting_in_front, take_out, put_front, head_counts, links_count, counts, operated, completed_list}
 use Rattle.blk_volume.specs.ListPlans.{outcome, operation_writes, pending_writes, completion_writes, EachMoment}
 
 -- a view with no transaction and no operation
@@ -284,8 +284,8 @@ pub record Counting (l : ListView) : Type 0 where
   pub not_zero : eqb l.transaction 0 ≡ false
   pub good : l.checks l.transaction ≡ true
   pub known : (l.operation ≡ 1) ⊎ (l.operation ≡ 2) ⊎ (l.operation ≡ 3)
-  pub head_good : (eqb l.operation 2 || eqb l.head 0 || l.checks l.head) ≡ true
-  pub links : (eqb l.operation 1 || eqb (l.next l.transaction) 0 || (l.checks (l.next l.transaction) && l.checks (l.prev l.transaction))) ≡ true
+  pub head_good : (eqb l.operation 2 || head_counts l) ≡ true
+  pub links : (eqb l.operation 1 || links_count l l.transaction) ≡ true
 
 counting_parts : (z c o h k : Bool) → (not z && c && o && h && k) ≡ true → (z ≡ false) × (c ≡ true) × (o ≡ true) × (h ≡ true) × (k ≡ true)
 counting_parts true c o h k e = absurd (grind arith)
@@ -301,7 +301,7 @@ known_operation o e = grind (arith, nat_tests)
 pub counting : (l : ListView) → counts l ≡ true → Counting l
 unfolding counts
 counting l e =
-    let p = counting_parts (eqb l.transaction 0) (l.checks l.transaction) (eqb l.operation 1 || eqb l.operation 2 || eqb l.operation 3) (eqb l.operation 2 || eqb l.head 0 || l.checks l.head) (eqb l.operation 1 || eqb (l.next l.transaction) 0 || (l.checks (l.next l.transaction) && l.checks (l.prev l.transaction))) e in
+    let p = counting_parts (eqb l.transaction 0) (l.checks l.transaction) (eqb l.operation 1 || eqb l.operation 2 || eqb l.operation 3) (eqb l.operation 2 || head_counts l) (eqb l.operation 1 || links_count l l.transaction) e in
     record { not_zero = p.0; good = p.1; known = known_operation l.operation p.2; head_good = p.3; links = p.4 }
 
 pub after_writes-append : (ws vs : List ListWrite) (l : ListView) → after_writes (ws ++ vs) l ≡ after_writes vs (after_writes ws l)

@@ -6,7 +6,7 @@ use Rattle.std.proofs.lemmas.List.Elements.{All-nil, All-cons}
 use Rattle.std.proofs.lemmas.Bool.{and_parts}
 use Rattle.blk_image.specs.Bytes.{content, word_at, range_at, word_bytes}
 use Rattle.blk_image.specs.Image.{File, Block, Image, AreBytes, byte, bytes_of}
-use Rattle.blk_image.specs.Steps.{Word, applied, after, written, word_steps, word_step}
+use Rattle.blk_image.specs.Steps.{Word, applied, written}
 use Rattle.blk_image.proofs.Images.{bytes-written}
 use Rattle.blk_image.proofs.Words.{length-range, word_bytes-small}
 use Rattle.blk_image.proofs.ByteSteps.{small-spliced, are_bytes-with_file}
@@ -49,11 +49,6 @@ pub are_bytes-word : (f : File) (p v : ℕ) (image : Image) → AreBytes image �
 are_bytes-word f p v image bytes =
     are_bytes-with_file image f (written p (word_bytes v) (image f)) bytes
     (λ k. subst (λ (l : List ℕ). content l k < 256) (sym (bytes-written (image f) p (word_bytes v))) (small-spliced p (word_bytes v) (bytes_of image f) (word_bytes-small v) (bytes f) k))
-
-pub are_bytes-word_steps : (f : File) (ws : List (ℕ × ℕ)) (image : Image) → AreBytes image → AreBytes (after (word_steps f ws) image)
-unfolding word_step
-are_bytes-word_steps f [] image bytes = bytes
-are_bytes-word_steps f (w ∷ ws) image bytes = are_bytes-word_steps f ws (applied (Word f w.0 (word_bytes w.1)) image) (are_bytes-word f w.0 w.1 image bytes)
 
 -- a link of a node: its one change
 pub one_change : (w p x : ℕ) → kind_of w ≡ rankings → p % 4 ≡ 0 → p < 32 → AreChanges (seal_place w) ((p, x) ∷ [])

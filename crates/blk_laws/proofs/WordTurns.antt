@@ -265,13 +265,17 @@ module _ (from : Image) (ready : IsWritable from) (node moment : ℕ) (good : (l
       go true = turns_none
       go false = turns_some move _
 
--- the writes of a touch
+-- what a move of a listed node writes can be made
+pub moves-can : (image : Image) (node : ℕ) (front behind : List ℕ) → Rests (front ++ node ∷ behind) image → CanBeMade image (writes_of move node (list_of image))
+moves-can image node front behind rest = operation_can move node image (omega arith) (move_counts node (list_of image) front behind rest.whole rest.idle)
+
+-- and so can what a touch writes
 pub touches-can : TouchesCanBeMade
 touches-can image node front behind rest = go ((list_of image).head == node)
   where
     go : (t : Bool) → CanBeMade image (if t then [] else writes_of move node (list_of image))
     go true = record { nodes = tt; words = tt }
-    go false = operation_can move node image (omega arith) (move_counts node (list_of image) front behind rest.whole rest.idle)
+    go false = moves-can image node front behind rest
 
 pub touches-in_turn : TouchesAreMadeInTurn
 touches-in_turn image node moment front behind ready rest =

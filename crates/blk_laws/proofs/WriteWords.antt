@@ -101,7 +101,7 @@ module _ (P : ℕ → Type 0) (node : ℕ) (list : ListView) where
       by_tests false e false true some = first some
       by_tests false e false false some = first some
 
-or_last : (a b c : Bool) → (a || b || c) ≡ true → a ≡ false → b ≡ false → c ≡ true
+or_last : (a b c : Bool) → (a || (b || c)) ≡ true → a ≡ false → b ≡ false → c ≡ true
 or_last true b c e f h = let z : true ≡ false = f in cc
 or_last false true c e f h = let z : true ≡ false = h in cc
 or_last false false c e f h = e

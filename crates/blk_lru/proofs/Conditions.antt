@@ -1,30 +1,24 @@
 -- What the conditions of the operations say of the words that are read.
-use Rattle.std.proofs.Common.{inl, inr, ◌≡◌, ◌⊎◌, ℕ, ◌<◌, ◌^◌, Bool, if◌then◌else◌, true, false, List, [], ◌∷◌, ◌++◌, Option, None, Some, refl, sym, ap, ◌∙◌, subst, arith}
+use Rattle.std.proofs.Common.{◌≡◌, ℕ, true, false, List, [], ◌∷◌, ◌++◌, Option, None, Some, refl, sym, ap, ◌∙◌, subst}
 use Rattle.std.specs.Prelude.{◌==◌, IfSome}
 use Rattle.std.specs.Option.{ForSome}
 use Rattle.blk_image.specs.Image.{Image}
 use Rattle.blk_image.specs.Told.{Told}
 use Rattle.blk_image.proofs.Runs.{some_inj}
-use Rattle.blk_volume.specs.ListView.{ListView, ListWrite, first_or, IsList}
+use Rattle.blk_volume.specs.ListView.{ListView, first_or, IsList}
 use Rattle.blk_volume.specs.View.{list_of}
 use Rattle.blk_disk.specs.declared.tables.BlockFiles.{BlockFiles}
 use Rattle.blk_disk.specs.Tables.{Agrees}
 use Rattle.blk_volume.specs.Walk.{walk}
 use Rattle.blk_volume.specs.Completion.{completed_list}
 use Rattle.blk_laws.specs.ListLaws.{IsAtRest}
-use Rattle.blk_laws.proofs.ListMoments.{walk_outcome}
-use Rattle.blk_laws.proofs.ListWrites.{rested, outcome_done}
-use Rattle.blk_laws.proofs.Walks.{walk_list}
+use Rattle.blk_laws.proofs.ListMoments.{walk_at_rest}
 use Rattle.blk_lru.specs.Lists.{IsListed, first_of}
-use Rattle.blk_laws.specs.ListWords.{walked}
+use Rattle.blk_laws.specs.ListWords.{Rests, walked}
 use Rattle.blk_lru.specs.Nodes.{is_node, link_at}
 use Rattle.blk_lru.specs.Plans.{planned, whole_plan, word_or_zero}
-use Rattle.blk_lru.proofs.Listed.{Linked, head_checks, linked, splits}
-use Rattle.blk_lru.proofs.PlanWords.{whole_is}
-use Rattle.blk_volume.specs.ListPlans.{touch_writes, writes_of}
+use Rattle.blk_lru.proofs.Listed.{linked, splits}
 use Rattle.blk_lru.proofs.NodeWords.{checked_names, stands_as_node, next_link, prev_link}
-use Rattle.blk_lru.proofs.PlanNodes.{Each, Good, each_nodes, each_words, node_small, weaker, whole_good}
-use Rattle.blk_lru.proofs.WriteLaws.{MayWrite}
 
 pub word_first : (words : List ℕ) → word_or_zero (first_of words) ≡ first_or 0 words
 word_first [] = refl
@@ -47,25 +41,8 @@ pub some_holds : (P : ℕ → Type 0) (o : Option ℕ) → IfSome o P → (word_
 some_holds P None h e = absurd (let z : true ≡ false = e in cc)
 some_holds P (Some w) h e = h
 
-pub unless_zero : (P : ℕ → Type 0) (w : ℕ) → (w ≡ 0) ⊎ P w → (w == 0) ≡ false → P w
-unless_zero P w (inl zero) e = absurd (let z : (w == 0) ≡ true = rw zero refl in let y : true ≡ false = sym z ∙ e in cc)
-unless_zero P w (inr h) e = h
-
 pub one_is_one : (1 == 1) ≡ false → ⊥
 one_is_one e = let z : true ≡ false = e in cc
-
--- nodes that check besides
-abbrev pub Checked : BlockFiles → Image → ℕ → Type 0
-Checked files image n = (is_node files n ≡ true) × ((list_of image).checks n ≡ true)
-
-pub checked_small : (files : BlockFiles) (image : Image) (n : ℕ) → Checked files image n → n < 2 ^ 32
-checked_small files image n h = node_small files n h.0
-
--- writes of nodes that stand and check
-pub may_write : (files : BlockFiles) (image : Image) (ws : List ListWrite) → Each (Good (Checked files image)) ws → MayWrite files image ws
-may_write files image ws each =
-    let nodes = each_nodes (Checked files image) ws each in
-    (weaker (Checked files image) (λ n. is_node files n ≡ true) ws (λ n h. h.0) nodes, (weaker (Checked files image) (λ n. (list_of image).checks n ≡ true) ws (λ n h. h.1) nodes, each_words (Checked files image) ws each))
 
 -- what is told stays
 pub told_stays : {a m : Told} (P : Image → Type 0) → m ≡ a → ForSome a.files P → ForSome m.files P
@@ -92,43 +69,20 @@ prev_names files image node agrees stands is =
 
 -- completing a list at rest gives it
 pub rested_walk : (list : ListView) (nodes : List ℕ) → IsAtRest list nodes → walk (completed_list list) ≡ nodes
-rested_walk list nodes rest = walk_outcome list ∙ ap walk (outcome_done list rest.idle) ∙ walk_list (rested list) nodes (same rest.whole)
-  where
-    same : IsList list nodes → IsList (rested list) nodes
-    same is = record { head_is = is.head_is; tail_is = is.tail_is; linked = is.linked; distinct = is.distinct; few = is.few; no_zero = is.no_zero }
+rested_walk list nodes rest = walk_at_rest list nodes rest.idle rest.whole
 
--- the writes of a touch may be made
-pub touch_may : (files : BlockFiles) (from : Image) (node : ℕ) → Agrees files from → is_node files node ≡ true → IsListed node from → MayWrite files from (touch_writes node (list_of from))
-touch_may files from node agrees stands is = go (list.head == node)
-  where
-    list : ListView
-    list = list_of from
+-- the list around a listed node
+pub around : (node : ℕ) (image : Image) → IsListed node image → (front : List ℕ) × (behind : List ℕ) × Rests (front ++ node ∷ behind) image
+around node image is =
+    let s = splits (walked image) node is.listed in
+    (s.front, s.behind, subst (λ (nodes : List ℕ). Rests nodes image) s.is is.rest)
 
-    links : Linked list (splits (walked from) node is.listed).front node (splits (walked from) node is.listed).behind
-    links =
-        let s = splits (walked from) node is.listed in
-        linked list s.front node s.behind (subst (IsList list) s.is is.rest.whole)
-
-    checked : (w : ℕ) → list.checks w ≡ true → Checked files from w
-    checked w good = (checked_names files from agrees w good, good)
-
-    moves : MayWrite files from (writes_of 3 node list)
-    moves =
-        subst (MayWrite files from) (whole_is 3 node (list.next node) (list.prev node) list.head list refl refl refl)
-        (may_write files from (whole_plan 3 node (list.next node) (list.prev node) list.head)
-        (whole_good (Checked files from) (checked_small files from) node (checked node links.good) 3 (list.next node) (list.prev node) list.head (omega arith)
-        (λ one nz. (checked (list.next node) links.next_good, checked (list.prev node) links.prev_good))
-        (λ two nz. checked list.head (unless_zero (λ w. list.checks w ≡ true) list.head (head_checks list (walked from) is.rest.whole) nz))))
-
-    go : (t : Bool) → MayWrite files from (if t then [] else writes_of 3 node list)
-    go true = (tt, (tt, tt))
-    go false = moves
+pub rests_as : (node : ℕ) (image : Image) → IsListed node image → (front behind : List ℕ) → walked image ≡ front ++ node ∷ behind → Rests (front ++ node ∷ behind) image
+rests_as node image listed front behind is = subst (λ (nodes : List ℕ). Rests nodes image) is listed.rest
 
 -- a listed node checks
 pub listed_checks : (from : Image) (node : ℕ) → IsListed node from → (list_of from).checks node ≡ true
-listed_checks from node is =
-    let s = splits (walked from) node is.listed in
-    (linked (list_of from) s.front node s.behind (subst (IsList (list_of from)) s.is is.rest.whole)).good
+listed_checks from node is = let a = around node from is in (linked (list_of from) a.0 node a.1 a.2.whole).good
 
 -- what is there after a call that a folder with files ends with these files
 pub from_before : (before now : Option Image) (P : Image → Type 0) → (before ≡ None → now ≡ None) → ((from : Image) → before ≡ Some from → (next : Image) × ((now ≡ Some next) × P next)) → (image : Image) → now ≡ Some image → P image

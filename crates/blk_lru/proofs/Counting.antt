@@ -1,27 +1,25 @@
 -- Whether the operation in flight counts, and what completing writes where it does.
-use Rattle.std.proofs.Common.{⊎_elim, ◌≡◌, ◌≢◌, ℕ, ◌<◌, ◌^◌, Bool, true, false, ◌&&◌, ◌||◌, if◌then◌else◌, List, [], ◌∷◌, ◌++◌, take, Option, None, Some, refl, sym, ap, ◌∙◌, subst, arith}
+use Rattle.std.proofs.Common.{⊎_elim, ◌≡◌, ◌≢◌, ℕ, ◌<◌, ◌^◌, Bool, true, false, ◌&&◌, ◌||◌, if◌then◌else◌, List, [], ◌∷◌, ◌++◌, Option, None, Some, refl, sym, ap, ◌∙◌, arith}
 use Rattle.std.specs.Prelude.{◌==◌}
 use Rattle.std.proofs.lemmas.Bool.{and_parts, eq-eqb, eqb-true, ne_eqb}
-use Rattle.blk_image.specs.Image.{Image}
 use Rattle.blk_format.specs.Address.{is_address, kind_of, rankings}
-use Rattle.blk_volume.specs.ListView.{ListView, ListWrite, Transaction, Operation, after_writes}
-use Rattle.blk_volume.specs.Completion.{counts, taking_out, putting_in_front}
-use Rattle.blk_volume.specs.ListPlans.{EachMoment, completion_writes, operation_writes, outcome}
-use Rattle.blk_volume.specs.View.{list_of}
-use Rattle.blk_laws.proofs.ListMoments.{at_moment, completion_ends}
-use Rattle.blk_laws.proofs.ListWrites.{Counting, completion_keeps, counting, outcome_done, rested}
+use Rattle.blk_volume.specs.ListView.{ListView, ListWrite, Transaction, Operation}
+use Rattle.blk_volume.specs.Completion.{counts, head_counts, links_count, taking_out, putting_in_front}
+use Rattle.blk_volume.specs.ListPlans.{completion_writes, operation_writes}
+use Rattle.blk_laws.proofs.ListWrites.{counting}
 use Rattle.blk_disk.specs.declared.tables.BlockFiles.{BlockFiles}
 use Rattle.blk_disk.specs.Tables.{stands_among}
 use Rattle.blk_lru.specs.declared.completing.InFlight.{InFlight}
 use Rattle.blk_lru.specs.declared.plans.Operation as code
 use Rattle.blk_lru.specs.declared.plans.Operation.TheVariants as operations
 use Rattle.blk_lru.specs.declared.completing.Beside.{Beside}
-use Rattle.blk_lru.specs.Completing.{AreNodes, Finds, FindsBeside, FindsHead, HasWords, finishing_writes, head_counts, links_count}
+use Rattle.blk_lru.specs.Completing.{AreNodes, Finds, FindsBeside, FindsHead, HasWords, finishing_writes}
 use Rattle.blk_lru.specs.declared.nodes.Links.{Links}
 use Rattle.blk_lru.specs.Nodes.{is_node, AreLinksOf, FindsNode}
 use Rattle.blk_lru.specs.Plans.{code_of, head_without, moving, pending, planned, word_or_zero}
-use Rattle.blk_lru.proofs.Conditions.{Checked, checked_small, some_holds}
-use Rattle.blk_lru.proofs.PlanNodes.{Each, Good, node_small, plan_good}
+use Rattle.blk_laws.proofs.WriteWords.{Each, Good}
+use Rattle.blk_lru.proofs.Conditions.{some_holds}
+use Rattle.blk_lru.proofs.PlanNodes.{node_small, plan_good}
 use Rattle.blk_lru.proofs.PlanWords.{planned_is, some_word}
 
 clash : {b : Bool} → b ≡ true → b ≡ false → ⊥
@@ -30,10 +28,6 @@ clash e f = let z : true ≡ false = sym e ∙ f in cc
 or_second : (a b : Bool) → b ≡ true → (a || b) ≡ true
 or_second true b e = refl
 or_second false b e = e
-
-and_second : (a : Bool) → (a && false) ≡ false
-and_second true = refl
-and_second false = refl
 
 false_unless : (b : Bool) → (b ≡ true → ⊥) → b ≡ false
 false_unless true never = absurd (never refl)
@@ -60,29 +54,6 @@ module _ (list : ListView) where
       let b : list.checks list.head ≡ true = ap list.checks is ∙ found.good in
       (or_second (list.head == 0) (list.checks list.head) b, found.node ∙ sym is)
 
-  -- and whether a node's links count
-  pub links_none : (node : ℕ) → list.next node ≡ 0 → links_count list node ≡ true
-  links_none node zero = let t : (list.next node == 0) ≡ true = eq-eqb (list.next node) 0 zero in rw t refl
-
-  pub next_bad : (node next : ℕ) → list.next node ≡ next → next ≢ 0 → FindsNode list next None → links_count list node ≡ false
-  next_bad node next is some bad =
-      let t : (list.next node == 0) ≡ false = ne_eqb (list.next node) 0 (λ zero. some (sym is ∙ zero)) in
-      let b : list.checks (list.next node) ≡ false = ap list.checks is ∙ bad in
-      rw (t, b) refl
-
-  pub prev_bad : (node next prev : ℕ) → list.next node ≡ next → list.prev node ≡ prev → next ≢ 0 → FindsNode list prev None → links_count list node ≡ false
-  prev_bad node next prev is same some bad =
-      let t : (list.next node == 0) ≡ false = ne_eqb (list.next node) 0 (λ zero. some (sym is ∙ zero)) in
-      let b : list.checks (list.prev node) ≡ false = ap list.checks same ∙ bad in
-      rw (t, b) (and_second (list.checks (list.next node)))
-
-  pub both_good : (node next prev : ℕ) → list.next node ≡ next → list.prev node ≡ prev → (one other : Links) → FindsNode list next (Some one) → FindsNode list prev (Some other)
-      → (links_count list node ≡ true) × ((one.node ≡ list.next node) × (other.node ≡ list.prev node))
-  both_good node next prev is same one other found before =
-      let a : list.checks (list.next node) ≡ true = ap list.checks is ∙ found.good in
-      let b : list.checks (list.prev node) ≡ true = ap list.checks same ∙ before.good in
-      (or_second (list.next node == 0) (list.checks (list.next node) && list.checks (list.prev node)) (rw (a, b) refl), (found.node ∙ sym is, before.node ∙ sym same))
-
 -- where it doesn't count
 module _ (list : ListView) where
   not_node : list.checks list.transaction ≡ false → counts list ≡ false
@@ -98,7 +69,7 @@ module _ (list : ListView) where
   not_head other bad =
       false_unless (counts list)
       (λ e.
-      let h : ((list.operation == 2) || (list.head == 0) || list.checks list.head) ≡ true = (counting list e).head_good in
+      let h : ((list.operation == 2) || head_counts list) ≡ true = (counting list e).head_good in
       let k : head_counts list ≡ true = rw other at h in
       clash k bad)
 
@@ -106,7 +77,7 @@ module _ (list : ListView) where
   not_links other bad =
       false_unless (counts list)
       (λ e.
-      let h : ((list.operation == 1) || (list.next list.transaction == 0) || (list.checks (list.next list.transaction) && list.checks (list.prev list.transaction))) ≡ true = (counting list e).links in
+      let h : ((list.operation == 1) || links_count list list.transaction) ≡ true = (counting list e).links in
       let k : links_count list list.transaction ≡ true = rw other at h in
       clash k bad)
 
@@ -236,29 +207,6 @@ found_stand files found are =
     plan_good P (node_small files) found.node are.node (code_of found.operation) (word_or_zero found.next) found.prev (word_or_zero found.head) (code_small found.operation)
     (λ one some. (some_holds P found.next are.next some, are.prev)) (λ two some. some_holds P found.head are.head some)
 
-or_last : (a b c : Bool) → (a || b || c) ≡ true → a ≡ false → b ≡ false → c ≡ true
-or_last true b c e f h = absurd (clash refl f)
-or_last false true c e f h = absurd (clash refl h)
-or_last false false c e f h = e
-
-pub found_checked : (files : BlockFiles) (image : Image) (found : InFlight) → AreNodes files found → counts (list_of image) ≡ true → HasWords (list_of image) found → Each (Good (Checked files image)) (pending (code_of found.operation) found.node (word_or_zero found.next) found.prev (word_or_zero found.head))
-found_checked files image found are e has =
-    let P : ℕ → Type 0 = λ n. is_node files n ≡ true in
-    let list : ListView = list_of image in
-    let c : Counting list = counting list e in
-    plan_good (Checked files image) (checked_small files image) found.node (are.node, subst (λ (n : ℕ). list.checks n ≡ true) (sym has.node) c.good) (code_of found.operation) (word_or_zero found.next) found.prev (word_or_zero found.head) (code_small found.operation)
-    (λ one some.
-    let other : (list.operation == 1) ≡ false = ap (λ (o : ℕ). o == 1) (sym has.operation) ∙ one in
-    let next : word_or_zero found.next ≡ list.next list.transaction = has.next other in
-    let full : (list.next list.transaction == 0) ≡ false = ap (λ (n : ℕ). n == 0) (sym next) ∙ some in
-    let both = and_parts (list.checks (list.next list.transaction)) (list.checks (list.prev list.transaction)) (or_last (list.operation == 1) (list.next list.transaction == 0) (list.checks (list.next list.transaction) && list.checks (list.prev list.transaction)) c.links other full) in
-    ((some_holds P found.next are.next some, subst (λ (n : ℕ). list.checks n ≡ true) (sym next) both.0), (are.prev, subst (λ (n : ℕ). list.checks n ≡ true) (sym (has.prev other full)) both.1)))
-    (λ two some.
-    let other : (list.operation == 2) ≡ false = ap (λ (o : ℕ). o == 2) (sym has.operation) ∙ two in
-    let head : word_or_zero found.head ≡ list.head = has.head other in
-    let full : (list.head == 0) ≡ false = ap (λ (n : ℕ). n == 0) (sym head) ∙ some in
-    (some_holds P found.head are.head some, subst (λ (n : ℕ). list.checks n ≡ true) (sym head) (or_last (list.operation == 2) (list.head == 0) (list.checks list.head) c.head_good other full)))
-
 -- Completing at each of its writes, also where there is nothing to complete.
 
 pub nothing_finishes : (list : ListView) → list.transaction ≡ 0 → finishing_writes list ≡ []
@@ -266,19 +214,3 @@ nothing_finishes list e = let t : (list.transaction == 0) ≡ true = eq-eqb list
 
 pub some_finishes : (list : ListView) → (list.transaction == 0) ≡ false → finishing_writes list ≡ completion_writes list
 some_finishes list e = rw e refl
-
--- each write keeps what completing gives
-pub finishing_keeps : (list : ListView) (count : ℕ) → outcome (after_writes (take count (finishing_writes list)) list) ≡ outcome list
-finishing_keeps list count = at_moment (λ u. outcome u ≡ outcome list) (finishing_writes list) list count (go (list.transaction == 0))
-  where
-    go : (t : Bool) → EachMoment (λ u. outcome u ≡ outcome list) (if t then [] else completion_writes list) list
-    go true = refl
-    go false = completion_keeps list
-
--- and in the end the list is completed
-pub finishing_ends : (list : ListView) → (rested (after_writes (finishing_writes list) list) ≡ outcome list) × ((after_writes (finishing_writes list) list).transaction ≡ 0)
-finishing_ends list = go (list.transaction == 0) refl
-  where
-    go : (t : Bool) → (list.transaction == 0) ≡ t → (rested (after_writes (if t then [] else completion_writes list) list) ≡ outcome list) × ((after_writes (if t then [] else completion_writes list) list).transaction ≡ 0)
-    go true e = let zero : list.transaction ≡ 0 = eqb-true list.transaction 0 e in (sym (outcome_done list zero), zero)
-    go false e = completion_ends list

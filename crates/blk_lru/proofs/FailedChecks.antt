@@ -1,5 +1,6 @@
 -- Damages, as the callers see them.
-use Rattle.std.proofs.Common.{inl, inr, ⊎_elim, ◌⊎◌, ◌≡◌, ℕ, ◌+◌, ◌<◌, Result, Ok, Err, ap, ◌∙◌, subst, true}
+use Rattle.std.proofs.Common.{inl, inr, ⊎_elim, ◌⊎◌, ◌≡◌, ℕ, ◌<◌, None, Some, Result, Ok, Err, subst, true}
+use Rattle.blk_image.specs.Image.{Image}
 use Rattle.blk_image.specs.Told.{Told}
 use Rattle.blk_format.specs.Address.{file_selector, place}
 use Rattle.blk_io.specs.declared.folder.FileId.TheVariants as names
@@ -10,7 +11,7 @@ use Rattle.blk_io.specs.Faults.{IfDamaged, IsShort}
 use Rattle.blk_disk.specs.declared.tables.BlockFiles.{BlockFiles}
 use Rattle.blk_disk.specs.Unsealed.{IsUnsealed}
 use Rattle.blk_format.specs.Sealed.{record_size}
-use Rattle.blk_format.proofs.SealedRecords.{node_seal, node_bytes}
+use Rattle.blk_format.proofs.SealedRecords.{node_bytes}
 use Rattle.blk_lru.specs.Damages.{IsBroken, IsNodeDamage, IsTooShort}
 use Rattle.blk_lru.specs.Nodes.{is_node}
 use Rattle.blk_lru.proofs.NodeWords.{node_kind}
@@ -31,8 +32,11 @@ short_or_unsealed r files told w stands holds =
       stands = stands;
       failed =
           ⊎_elim {C = IsTooShort (names.Block (file_selector w)) (place w) 36 damage ⊎ IsBroken w damage}
-          (λ (short : IsShort told (names.Block (file_selector w)) (place w) (record_size w) damage). inl (record { of_file = short.of_file; at_place = short.at_place; few = subst (λ (n : ℕ). damage.found < n) (node_bytes w (node_kind files w stands)) short.few }))
-          (λ (broken : IsUnsealed told w damage). inr (record { of_file = broken.of_file; at_seal = broken.at_seal ∙ ap (λ (n : ℕ). place w + n) (node_seal w (node_kind files w stands)); unlike = broken.unlike }))
+          (λ (short : IsShort told (names.Block (file_selector w)) (place w) (record_size w) damage). inl (record { of_file = short.of_file; at_place = short.at_place; few = subst (λ (n : ℕ). damage.found < n) (node_bytes w (node_kind files w stands)) short.few; many = λ image e. absurd (nothing image e) }))
+          (λ (broken : IsUnsealed told w damage). inr (record { of_file = broken.of_file; at_seal = broken.at_seal; unlike = broken.unlike; unsealed = λ image e. absurd (nothing image e) }))
           either;
     })
     holds
+  where
+    nothing : (image : Image) → None ≡ Some image → ⊥
+    nothing image e = cc

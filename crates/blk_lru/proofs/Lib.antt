@@ -11,7 +11,4 @@ pub mod Performing
 pub mod PlanNodes
 pub mod PlanWords
 pub mod Results
-pub mod SealedWrites
-pub mod Seals
 pub mod Touching
-pub mod WriteLaws

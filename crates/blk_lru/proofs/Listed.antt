@@ -4,6 +4,7 @@ use Rattle.std.specs.Prelude.{◌==◌, ◌⊎◌}
 use Rattle.std.proofs.lemmas.Bool.{eq-eqb, eqb-true, or_parts}
 use Rattle.blk_volume.specs.ListView.{ListView, first_or, last_or, Distinct, Segment, IsList}
 use Rattle.blk_format.specs.BlockFiles.{is_among}
+use Rattle.blk_laws.proofs.ListMoments.{last_good}
 use Rattle.blk_laws.proofs.Lists.{split, last-append, not_zero, apart_right, Distinct-right, eqb-sym}
 use Rattle.blk_lru.specs.Lists.{first_of, last_of}
 
@@ -28,10 +29,6 @@ at_end list word (Some w) none empty full =
     let h = full w refl in
     let some : (w == 0) ≡ false = not_zero list w none h.1 in
     rw (h.0, some) refl
-
-last_good : (c : ℕ → Bool) (nx pv : ℕ → ℕ) (b x : ℕ) (xs : List ℕ) (e : ℕ) → Segment c nx pv b (x ∷ xs) e → c (last_or x xs) ≡ true
-last_good c nx pv b x [] e s = s.0.good
-last_good c nx pv b x (y ∷ ys) e s = last_good c nx pv x y ys e s.1
 
 some_eq : (v w : ℕ) → Some v ≡ Some w → v ≡ w
 some_eq v w e = cc

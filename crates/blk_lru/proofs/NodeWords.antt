@@ -14,9 +14,6 @@ use Rattle.blk_format.proofs.Words.{AreFields-of}
 use Rattle.blk_disk.proofs.Ranges.{stands_agree}
 use Rattle.blk_lru.specs.Nodes.{is_node, link_at, NamesNode}
 
-rankings_apart : rankings ≡ external → ⊥
-rankings_apart e = let x : ◌≡◌ {A = ℕ} 1 0 = e in cc
-
 and_both : (a b : Bool) → a ≡ true → b ≡ true → (a && b) ≡ true
 and_both a b e f = rw (e, f) refl
 

@@ -12,18 +12,27 @@ use Rattle.blk_disk.proofs.Agreeing.{agrees_still}
 use Rattle.blk_image.specs.Steps.{TrailStep, after}
 use Rattle.blk_image.specs.Told.{Told, Grows, GrowsInPart, Passes, Until}
 use Rattle.blk_image.proofs.Cuts.{after-append}
-use Rattle.blk_image.proofs.Runs.{grows_none, grows_then, part_then, part_only, part_whole, passes_part, passes_end, some_inj}
+use Rattle.blk_image.proofs.Runs.{grows_none, grows_then, part_then, part_only, part_whole, passes_part, passes_end, some_inj, until_last}
 use Rattle.blk_volume.specs.ListView.{ListWrite, Next, Prev, Head, Tail, Transaction, Operation}
 use Rattle.blk_volume.specs.View.{list_of}
 use Rattle.blk_disk.specs.declared.tables.BlockFiles.{BlockFiles}
 use Rattle.blk_disk.specs.Tables.{Agrees}
 use Rattle.blk_laws.specs.Moments.{OnlyListChanges}
-use Rattle.blk_lru.specs.Moments.{WriteMoments}
-use Rattle.blk_lru.specs.Nodes.{is_node}
 use Rattle.blk_lru.specs.Writes.{HasWholeIndex, meant}
 use Rattle.blk_laws.specs.ListSteps.{write_steps, steps_of, touched_by, touched_by_writes, IsPartly, AreOf, AreWords}
 use Rattle.blk_lru.specs.declared.writes.Write.{Write}
-use Rattle.blk_lru.proofs.WriteLaws.{IsReady, MayWrite, WritesShow, writes_show, rest_may, first_may, one_write, quiet_writes}
+use Rattle.blk_laws.specs.ListWords.{IsWritable, CanBeMade}
+use Rattle.blk_laws.proofs.WriteSteps.{WritesShow, writes_show, writable-after, writable-writes, rest_can, first_can, one_write, quiet-writes}
+
+-- an image with its block files, its index and bytes alone
+pub record IsReady (files : BlockFiles) (image : Image) : Type 0 where
+  pub agrees : Agrees files image
+  pub index : HasWholeIndex image
+  pub bytes : AreBytes image
+
+-- it can be written
+pub ready_writable : {files : BlockFiles} {image : Image} → IsReady files image → IsWritable image
+ready_writable {files} {image} ready = record { bytes = ready.bytes; has_header = omega (arith, ready.index) }
 
 -- all of some writes were made
 pub record Wrote (old now : Told) (writes : List ListWrite) : Type 0 where
@@ -106,16 +115,29 @@ pub spares_sizes : (writes : List ListWrite) (file : File) → (touched_by_write
 spares_sizes [] file = refl
 spares_sizes (write ∷ writes) file = or_none _ _ (spare_size write file) (spares_sizes writes file)
 
-module _ (laws : WriteMoments) (files : BlockFiles) (old : Told) (writes : List ListWrite)
-    (ready : ForSome old.files (IsReady files)) (may : ForSome old.files (λ image. MayWrite files image writes)) where
+-- what writes leave, or a part of them, agrees with the block files, and its index is whole
+part_agrees : (files : BlockFiles) (from image : Image) (writes : List ListWrite) → IsReady files from → IsPartly from writes image → Agrees files image × HasWholeIndex image
+part_agrees files from image writes ready p =
+    let F : Footprint = touched_by_writes writes in
+    (agrees_still F from image (spares_headers writes) p.outside files (λ n. spares_sizes writes (Block n)) ready.agrees, p.outside.lengths Index (spares_sizes writes Index) ∙ ready.index)
+
+pub ready_after : (files : BlockFiles) (from : Image) (writes : List ListWrite) → IsReady files from → CanBeMade from writes → IsReady files (after (steps_of writes from) from)
+ready_after files from writes ready can =
+    let is : IsWritable from = ready_writable ready in
+    let P : Image → Type 0 = IsPartly from writes in
+    let last : P (after (steps_of writes from) from) = until_last P P (steps_of writes from) from (writes_show writes from is can).along in
+    let parts = part_agrees files from (after (steps_of writes from) from) writes ready last in
+    record { agrees = parts.0; index = parts.1; bytes = (writable-writes writes from is).bytes }
+
+module _ (files : BlockFiles) (old : Told) (writes : List ListWrite) (ready : ForSome old.files (IsReady files)) (can : ForSome old.files (λ image. CanBeMade image writes)) where
   -- all of the writes, in front of others
-  split_may : (from : Image) (xs ys : List ListWrite) → IsReady files from → MayWrite files from (xs ++ ys) → MayWrite files from xs × MayWrite files (after (steps_of xs from) from) ys
-  split_may from [] ys ready may = ((tt, (tt, tt)), may)
-  split_may from (x ∷ xs) ys ready may =
-      let first = one_write laws files x from ready (first_may laws files from x (xs ++ ys) may) in
+  split_can : (from : Image) (xs ys : List ListWrite) → IsWritable from → CanBeMade from (xs ++ ys) → CanBeMade from xs × CanBeMade (after (steps_of xs from) from) ys
+  split_can from [] ys is all = (record { nodes = tt; words = tt }, all)
+  split_can from (x ∷ xs) ys is all =
+      let first = one_write x from is (first_can from x (xs ++ ys) all) in
       let between : Image = after (write_steps x from) from in
-      let rest = split_may between xs ys first.ready (rest_may laws files from between x (xs ++ ys) first.ends may) in
-      (front x xs ys may, subst (λ (i : Image). MayWrite files i ys) (sym (after-append (write_steps x from) (steps_of xs between) from)) rest.1)
+      let rest = split_can between xs ys (writable-after x from is) (rest_can from between x (xs ++ ys) first.ends all) in
+      (record { nodes = fronts (λ n. (list_of from).checks n ≡ true) (x ∷ xs) ys all.nodes; words = words (x ∷ xs) ys all.words }, subst (λ (i : Image). CanBeMade i ys) (sym (after-append (write_steps x from) (steps_of xs between) from)) rest.1)
     where
       fronts : (P : ℕ → Type 0) (xs ys : List ListWrite) → AreOf P (xs ++ ys) → AreOf P xs
       fronts P [] ys h = tt
@@ -130,17 +152,14 @@ module _ (laws : WriteMoments) (files : BlockFiles) (old : Told) (writes : List 
       words [] ys h = tt
       words (x ∷ xs) ys h = (h.0, words xs ys h.1)
 
-      front : (x : ListWrite) (xs ys : List ListWrite) → MayWrite files from (x ∷ xs ++ ys) → MayWrite files from (x ∷ xs)
-      front x xs ys may = (fronts _ (x ∷ xs) ys may.0, (fronts _ (x ∷ xs) ys may.1.0, words (x ∷ xs) ys may.1.1))
-
-  parts : (from : Image) → old.files ≡ Some from → (xs ys : List ListWrite) → writes ≡ xs ++ ys → MayWrite files from xs × MayWrite files (after (steps_of xs from) from) ys
-  parts from there xs ys split = split_may from xs ys (ready from there) (subst (MayWrite files from) split (may from there))
+  parts : (from : Image) → old.files ≡ Some from → (xs ys : List ListWrite) → writes ≡ xs ++ ys → CanBeMade from xs × CanBeMade (after (steps_of xs from) from) ys
+  parts from there xs ys split = split_can from xs ys (ready_writable (ready from there)) (subst (CanBeMade from) split (can from there))
 
   -- the folder in the midst of the writes
-  pub midst : (now : Told) (left : List ListWrite) → Reached old now writes left → ForSome now.files (λ image. IsReady files image × MayWrite files image left)
+  pub midst : (now : Told) (left : List ListWrite) → Reached old now writes left → ForSome now.files (λ image. IsReady files image × CanBeMade image left)
   midst now left r =
-      now_has (λ image. IsReady files image × MayWrite files image left) r.wrote
-      (λ from there. let p = parts from there r.done left r.split in ((writes_show laws files r.done from (ready from there) p.0).ready, p.1))
+      now_has (λ image. IsReady files image × CanBeMade image left) r.wrote
+      (λ from there. let p = parts from there r.done left r.split in (ready_after files from r.done (ready from there) p.0, p.1))
 
   -- one more
   pub one_more : (now next : Told) (write : ListWrite) (left : List ListWrite) → Reached old now writes (write ∷ left) → ForSome now.files (λ from. Grows now next (write_steps write from)) → (now.files ≡ None → next.files ≡ None) → Reached old next writes left
@@ -168,13 +187,13 @@ module _ (laws : WriteMoments) (files : BlockFiles) (old : Told) (writes : List 
 
   -- what a part of the writes leaves
   module _ (now : Told) (part : ForSome old.files (λ from. GrowsInPart old now (steps_of writes from))) where
-    shows : (from : Image) → old.files ≡ Some from → WritesShow files from writes
-    shows from there = writes_show laws files writes from (ready from there) (may from there)
+    shows : (from : Image) → old.files ≡ Some from → WritesShow from writes
+    shows from there = writes_show writes from (ready_writable (ready from there)) (can from there)
 
     pub passes : ForSome old.files (λ from. Passes old now (IsPartly from writes))
     passes from there =
         let P : Image → Type 0 = IsPartly from writes in
-        passes_part P P (part from there) (quiet_writes laws files writes from) (λ image p. p)
+        passes_part P P (part from there) (quiet-writes writes from) (λ image p. p)
         (λ image here. subst (λ (i : Image). Until P P i (steps_of writes from)) (some_inj (sym there ∙ here)) (shows from there).along)
 
     -- and its files and its index are as they were
@@ -183,18 +202,15 @@ module _ (laws : WriteMoments) (files : BlockFiles) (old : Told) (writes : List 
       where
         by_files : (o : Option Image) → old.files ≡ o → Agrees files image × HasWholeIndex image
         by_files None none = absurd (no_some image (sym (silent none) ∙ here))
-        by_files (Some from) there =
-            let p : IsPartly from writes image = passes_end (passes from there) image here in
-            let F : Footprint = touched_by_writes writes in
-            (agrees_still F from image (spares_headers writes) p.outside files (λ n. spares_sizes writes (Block n)) (ready from there).agrees, p.outside.lengths Index (spares_sizes writes Index) ∙ (ready from there).index)
+        by_files (Some from) there = part_agrees files from image writes (ready from there) (passes_end (passes from there) image here)
 
 -- ---- what is known before the writes
 
 pub told_ready : (files : BlockFiles) (told : Told) → ForSome told.files (Agrees files) → ForSome told.files HasWholeIndex → ForSome told.files AreBytes → ForSome told.files (IsReady files)
 told_ready files told agrees index bytes image there = record { agrees = agrees image there; index = index image there; bytes = bytes image there }
 
-pub told_may : (files : BlockFiles) (told : Told) (writes : List ListWrite) → AreOf (λ n. is_node files n ≡ true) writes → AreWords writes → ForSome told.files (λ image. AreOf (λ n. (list_of image).checks n ≡ true) writes) → ForSome told.files (λ image. MayWrite files image writes)
-told_may files told writes stand words check image there = (stand, (check image there, words))
+pub told_can : (told : Told) (writes : List ListWrite) → AreWords writes → ForSome told.files (λ image. AreOf (λ n. (list_of image).checks n ≡ true) writes) → ForSome told.files (λ image. CanBeMade image writes)
+told_can told writes words check image there = record { nodes = check image there; words = words }
 
 -- all of the writes are a part of them
 pub wrote_part : {old now : Told} {writes : List ListWrite} → Wrote old now writes → ForSome old.files (λ from. GrowsInPart old now (steps_of writes from))
@@ -239,11 +255,10 @@ back_untold {old} {now} {writes} wrote none = by_files old.files refl
     by_files None there = there
     by_files (Some from) there = absurd (no_some _ (sym none ∙ (wrote.grows from there).files ∙ ap (option_map (after (steps_of writes from))) there))
 
--- what a part of the writes leaves
-module _ (laws : WriteMoments) (files : BlockFiles) (old now : Told) (writes : List ListWrite)
-    (ready : ForSome old.files (IsReady files)) (may : ForSome old.files (λ image. MayWrite files image writes)) where
+-- what all of the writes leave
+module _ (files : BlockFiles) (old now : Told) (writes : List ListWrite) (ready : ForSome old.files (IsReady files)) (can : ForSome old.files (λ image. CanBeMade image writes)) where
   pub told_made : Wrote old now writes → ForSome old.files (λ from. ForSome now.files (OnlyListChanges writes from))
-  told_made wrote = at_now (λ from image. OnlyListChanges writes from image) wrote (λ from there. (writes_show laws files writes from (ready from there) (may from there)).ends)
+  told_made wrote = at_now (λ from image. OnlyListChanges writes from image) wrote (λ from there. (writes_show writes from (ready_writable (ready from there)) (can from there)).ends)
 
   pub told_after : Wrote old now writes → ForSome now.files (IsReady files)
-  told_after wrote = now_has (IsReady files) wrote (λ from there. (writes_show laws files writes from (ready from there) (may from there)).ready)
+  told_after wrote = now_has (IsReady files) wrote (λ from there. ready_after files from writes (ready from there) (can from there))

@@ -55,10 +55,6 @@ module _ (node next prev : ℕ) (address : is_address next ≡ true) where
   out_middle p n = rw (some_word next address, ne_eqb prev node p, ne_eqb next node n) refl
 
 -- the head once a node is out
-pub head_stays : (node prev head : ℕ) → head_without node 0 prev head ≡ head
-unfolding head_without
-head_stays node prev head = refl
-
 pub head_other : (node next prev head : ℕ) → prev ≢ node → head_without node next prev head ≡ head
 unfolding head_without
 head_other node next prev head apart = rw (ne_eqb prev node apart) (same (next == 0))
@@ -107,7 +103,3 @@ whole_is code node next prev head list n p h =
 pub none_word : (o : Option ℕ) → ((w : ℕ) → o ≡ Some w → ⊥) → word_or_zero o ≡ 0
 none_word None never = refl
 none_word (Some w) never = absurd (never w refl)
-
--- a word that is there
-pub some_or_zero : (o : Option ℕ) (w : ℕ) → o ≡ Some w → word_or_zero o ≡ w
-some_or_zero o w e = ap word_or_zero e

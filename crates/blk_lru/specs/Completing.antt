@@ -1,7 +1,7 @@
 -- The operation in flight as it is found, and what completing it writes and leaves.
-use Rattle.std.specs.Prelude.{ℕ, ◌≡◌, Bool, true, false, ◌==◌, ◌&&◌, ◌||◌, if◌then◌else◌, Option, None, Some, List, [], IfSome}
+use Rattle.std.specs.Prelude.{ℕ, ◌≡◌, true, false, ◌==◌, if◌then◌else◌, Option, None, Some, List, [], IfSome}
 use Rattle.blk_volume.specs.ListView.{ListView, ListWrite}
-use Rattle.blk_volume.specs.Completion.{insert, remove, counts}
+use Rattle.blk_volume.specs.Completion.{insert, remove, counts, head_counts, links_count}
 use Rattle.blk_volume.specs.ListPlans.{completion_writes}
 use Rattle.blk_disk.specs.declared.tables.BlockFiles.{BlockFiles}
 use Rattle.blk_lru.specs.declared.completing.Beside.{Beside}
@@ -12,14 +12,6 @@ use Rattle.blk_lru.specs.Plans.{code_of, word_or_zero}
 -- what completing writes: nothing where no operation is in flight
 abbrev pub finishing_writes : ListView → List ListWrite
 finishing_writes list = if list.transaction == 0 then [] else completion_writes list
-
--- the head is 0 or names a node that checks
-abbrev pub head_counts : ListView → Bool
-head_counts list = (list.head == 0) || list.checks list.head
-
--- a node's next is 0, or its next and its prev name nodes that check
-abbrev pub links_count : ListView → ℕ → Bool
-links_count list node = (list.next node == 0) || (list.checks (list.next node) && list.checks (list.prev node))
 
 -- the first node is found where the head counts
 abbrev pub FindsHead : ListView → Option (Option ℕ) → Type 0

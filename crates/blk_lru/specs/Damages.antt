@@ -1,30 +1,29 @@
 -- What is told of a damage that a change of the use list meets: it has the place that was read, and what was found there.
-use Rattle.std.specs.Prelude.{ℕ, ◌≡◌, ◌≢◌, ◌⊎◌, ◌+◌, ◌<◌, true, false}
+use Rattle.std.specs.Prelude.{ℕ, ◌≡◌, ◌⊎◌, ◌+◌, true}
 use Rattle.blk_format.specs.Address.{file_selector, place}
-use Rattle.blk_format.specs.Records.{node_size, node_seal_place}
+use Rattle.blk_format.specs.Records.{node_size}
 use Rattle.blk_io.specs.declared.folder.FileId.{FileId}
 use Rattle.blk_io.specs.declared.folder.FileId.TheVariants as names
 use Rattle.blk_io.specs.declared.fault.Damage.{Damage}
 use Rattle.blk_disk.specs.declared.tables.BlockFiles.{BlockFiles}
-use Rattle.blk_lru.specs.Nodes.{is_node}
+use Rattle.blk_io.specs.Faults.{IsShort}
+use Rattle.blk_io.specs.SilentFolder.{untold}
+use Rattle.blk_disk.specs.Unsealed.{IsUnsealed}
+use Rattle.blk_lru.specs.Nodes.{is_node, IsAstray}
+
+-- No folder that tells its files gives one of these damages, so they are told as of one that tells none.
 
 -- a read of so many bytes at a place of a file gave fewer: the damage finds how many there were
-pub record IsTooShort (file : FileId) (at count : ℕ) (damage : Damage) : Type 0 where
-  pub of_file : damage.file ≡ file
-  pub at_place : damage.at ≡ at
-  pub few : damage.found < count
+abbrev pub IsTooShort : FileId → (at count : ℕ) → Damage → Type 0
+IsTooShort file at count damage = IsShort untold file at count damage
 
 -- the word at a place of a file was to name a node, and doesn't: the damage finds the word
-pub record NamesNone (files : BlockFiles) (file : FileId) (at : ℕ) (damage : Damage) : Type 0 where
-  pub of_file : damage.file ≡ file
-  pub at_place : damage.at ≡ at
-  pub unlike : is_node files damage.found ≡ false
+abbrev pub NamesNone : BlockFiles → FileId → (at : ℕ) → Damage → Type 0
+NamesNone files file at damage = IsAstray files untold file at damage
 
 -- a node doesn't check: the damage finds its seal, which isn't 0
-pub record IsBroken (node : ℕ) (damage : Damage) : Type 0 where
-  pub of_file : damage.file ≡ names.Block (file_selector node)
-  pub at_seal : damage.at ≡ place node + node_seal_place
-  pub unlike : damage.found ≢ 0
+abbrev pub IsBroken : (node : ℕ) → Damage → Type 0
+IsBroken node damage = IsUnsealed untold node damage
 
 -- a node that stands was read whole: its bytes are too few, or it doesn't check
 pub record IsNodeDamage (files : BlockFiles) (damage : Damage) : Type 0 where

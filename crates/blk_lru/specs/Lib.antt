@@ -3,5 +3,4 @@ pub mod Damages
 pub mod Writes
 pub mod Plans
 pub mod Lists
-pub mod Moments
 pub mod Completing

@@ -17,7 +17,6 @@ ghost use Rattle.blk_lru.specs.Writes.{HasWholeIndex};
 ghost use Rattle.blk_lru.specs.Lists.{IsListed, Turns, first_of};
 ghost use Rattle.blk_laws.specs.ListWords.{walked};
 
-use crate::moments::write_moments;
 use crate::nodes::{NEXT, PREV, link};
 use crate::plans::{Operation, plan_of};
 use crate::reading::first;
@@ -68,8 +67,7 @@ pub fn insert_front<F: Folder>(f: &mut F, files: &BlockFiles, node: Addr) -> Res
     ensures later { F.faults f.old ≤ F.faults f.new }
     ensures device { IfDevice result (Rises (F.faults f.old) (F.faults f.new)) }
 {
-    write_moments();
-    blk_laws::inserts_at_each_write();
+    blk_laws::inserts_at_each_word();
     let head = first(f, files)?;
     let plan = plan_of(Operation::Insert, node, None, node, head);
     perform(f, files, &plan)
@@ -105,8 +103,7 @@ pub fn remove<F: Folder>(f: &mut F, files: &BlockFiles, node: Addr) -> Result<()
     ensures later { F.faults f.old ≤ F.faults f.new }
     ensures device { IfDevice result (Rises (F.faults f.old) (F.faults f.new)) }
 {
-    write_moments();
-    blk_laws::removals_at_each_write();
+    blk_laws::removals_at_each_word();
     let next = link(f, files, node, NEXT)?;
     let prev = link(f, files, node, PREV)?;
     let plan = plan_of(Operation::Remove, node, Some(next), prev, None);
@@ -144,8 +141,7 @@ pub fn touch<F: Folder>(f: &mut F, files: &BlockFiles, node: Addr, moment: u64) 
     ensures later { F.faults f.old ≤ F.faults f.new }
     ensures device { IfDevice result (Rises (F.faults f.old) (F.faults f.new)) }
 {
-    write_moments();
-    blk_laws::touches_at_each_write();
+    blk_laws::touches_at_each_word();
     move_front(f, files, node)?;
     set_times(f, files, node, moment)
 }

@@ -14,7 +14,6 @@ ghost use Rattle.blk_lru.specs.Writes.{HasWholeIndex, meant};
 ghost use Rattle.blk_lru.specs.Completing.{AreNodes, Finds, FindsBeside, FindsHead, finishing_writes};
 ghost use Rattle.blk_laws.specs.ListWords.{CompletesAlike, IsCompleted};
 
-use crate::moments::write_moments;
 use crate::nodes::{Links, checked};
 use crate::plans::{Operation, Plan, ending, pending_of};
 use crate::reading::HEAD;
@@ -71,7 +70,6 @@ pub fn complete<F: Folder>(f: &mut F, files: &BlockFiles) -> Result<(), Fault>
     ensures later { F.faults f.old ≤ F.faults f.new }
     ensures device { IfDevice result (Rises (F.faults f.old) (F.faults f.new)) }
 {
-    write_moments();
     let transaction = word(f, TRANSACTION)?;
     if transaction == 0 {
         return Ok(());

@@ -5,7 +5,6 @@
 
 mod changing;
 mod completing;
-mod moments;
 mod nodes;
 mod plans;
 mod reading;

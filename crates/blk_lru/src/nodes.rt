@@ -38,7 +38,7 @@ pub(crate) struct Links {
 }
 
 // The node that a word names, if it is the address of one that stands.
-#[tactic(auto, using(crate::proofs::WriteLaws::one_write), unfolding(crate::specs::Nodes::is_node))]
+#[tactic(auto, unfolding(crate::specs::Nodes::is_node))]
 pub(crate) fn node_of(files: &BlockFiles, word: u32) -> Option<Addr>
     ensures { result ≡ nodes.node_of files.now word }
 {

@@ -15,7 +15,6 @@ ghost use Rattle.blk_lru.specs.Nodes.{is_node, IsLinkPlace};
 ghost use Rattle.blk_laws.specs.ListSteps.{AreOf, AreWords, IsPartly, steps_of, write_steps};
 ghost use Rattle.blk_lru.specs.Writes.{HasWholeIndex, meant};
 
-use crate::moments::write_moments;
 use crate::nodes::{NEXT, PREV};
 use crate::reading::{HEAD, TAIL};
 use blk_addr::Addr;
@@ -63,7 +62,6 @@ pub(crate) fn perform<F: Folder>(
     ensures later { F.faults f.old ≤ F.faults f.new }
     ensures device { IfDevice result (Rises (F.faults f.old) (F.faults f.new)) }
 {
-    write_moments();
     for write in writes {
         write_one(f, files, *write)?;
     }

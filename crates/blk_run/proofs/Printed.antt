@@ -1,9 +1,9 @@
 -- Texts that are printed in pieces.
-use Rattle.std.proofs.Common.{◌≡◌, ℕ, ◌+◌, ◌<◌, ◌≤◌, ◌++◌, List, [], ◌∷◌, length, take, drop, get_or, Option, None, Some, Result, Ok, Err, OnOk, OnErr, refl, sym, ◌∙◌, ap, append_assoc, take-append-drop, subst, codes}
+use Rattle.std.proofs.Common.{◌≡◌, ℕ, ◌+◌, ◌<◌, ◌++◌, List, [], ◌∷◌, length, take, drop, get_or, Option, None, Some, Result, Ok, Err, OnOk, OnErr, sym, ◌∙◌, ap, append_assoc, take-append-drop, codes}
 use Rattle.std.specs.List.{flat_map}
 use Rattle.std.specs.Option.{option_map}
 use Rattle.std.proofs.lemmas.Grind.{flat_map-append}
-use Rattle.std.proofs.lemmas.List.{take_more, append-nil, take_all}
+use Rattle.std.proofs.lemmas.List.{take_more, append-nil}
 use Rattle.blk_image.specs.Image.{File}
 use Rattle.blk_image.specs.Told.{Rises}
 use Rattle.blk_io.specs.Streams.{Appends}

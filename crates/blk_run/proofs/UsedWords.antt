@@ -1,12 +1,12 @@
 -- Which word is the first that isn't 0.
-use Rattle.std.proofs.Common.{◌≡◌, ◌≢◌, ℕ, zero, suc, ◌+◌, ◌-◌, ◌*◌, ◌<◌, ◌≤◌, List, [], ◌∷◌, length, get_or, Option, None, Some, refl, sym, ◌∙◌, ap, subst, arith, ⊎_elim}
+use Rattle.std.proofs.Common.{◌≡◌, ℕ, zero, suc, ◌+◌, ◌-◌, ◌*◌, ◌<◌, ◌≤◌, List, [], ◌∷◌, length, get_or, Option, None, Some, refl, sym, ◌∙◌, ap, arith, lit≤, ⊎_elim}
 use Rattle.std.proofs.lemmas.Bool.{cases_lt}
 use Rattle.blk_image.specs.Bytes.{content, word_at, range_at}
 use Rattle.blk_image.specs.Image.{Image, Index, byte, word}
 use Rattle.blk_image.proofs.Words.{content-range}
 use Rattle.blk_format.specs.Headers.{place_of_bucket}
 use Rattle.blk_run.specs.declared.used.Used.{Used}
-use Rattle.blk_run.specs.Used.{AreUnused, IsFirstUsed, FirstUsed, IsFirstOf, FirstOf, FirstWord}
+use Rattle.blk_run.specs.Used.{AreUnused, FirstUsed, FirstOf, FirstWord, IsNamed}
 use Rattle.blk_run.specs.Count.{checked_place}
 
 -- a word of a range
@@ -127,3 +127,21 @@ table_behind image used head table = behind checked_place 6 65536 image head use
   where
     moved : (j : ℕ) → checked_place (6 + j) ≡ place_of_bucket j
     moved j = let e : 6 + j ≡ suc (suc (suc (suc (suc (suc j))))) = omega arith in ap checked_place e
+
+-- Whatever the folder tells, the word that is found isn't 0, and at one of the places.
+
+-- a place of some is a place of more
+pub named_more : (p q : ℕ → ℕ) (m k n : ℕ) → k + m ≤ n → ((j : ℕ) → p j ≡ q (k + j)) → (used : Used) → IsNamed p m used → IsNamed q n used
+named_more p q m k n more same used named = record {
+  number = k + named.number;
+  within = let within = named.within in omega (arith, within);
+  there = named.there ∙ same named.number;
+  nonzero = named.nonzero;
+}
+
+-- the places of the table are behind the six of the header
+pub named_table : (used : Used) → IsNamed place_of_bucket 65536 used → IsNamed checked_place 65542 used
+named_table used named = named_more place_of_bucket checked_place 65536 6 65542 (lit≤ tt) moved used named
+  where
+    moved : (j : ℕ) → place_of_bucket j ≡ checked_place (6 + j)
+    moved j = let e : 6 + j ≡ suc (suc (suc (suc (suc (suc j))))) = omega arith in sym (ap checked_place e)

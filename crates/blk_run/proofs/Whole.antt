@@ -2,7 +2,7 @@
 use Rattle.std.proofs.Common.{◌≡◌, ◌++◌, ◌%◌, ◌^◌, ◌==◌, Option, None, Some, refl, sym, ◌∙◌}
 use Rattle.std.proofs.lemmas.Bool.{eqb-true}
 use Rattle.blk_image.specs.Image.{Image, Index, byte, length_of}
-use Rattle.blk_image.specs.Checks.{Damage, first_of}
+use Rattle.blk_image.specs.Checks.{Damage}
 use Rattle.blk_format.specs.Headers.{head_checks, list_checks, first_index_damage}
 use Rattle.blk_format.specs.BlockFiles.{block_checks, first_block_damage, first_damage}
 use Rattle.blk_image.proofs.FirstChecks.{all_none, append_some, append_none, passed}

@@ -1,8 +1,13 @@
 -- The first word of the index, of those at some places, that isn't 0.
-use Rattle.std.specs.Prelude.{ℕ, zero, suc, ◌≡◌, ◌≢◌, ◌+◌, ◌*◌, ◌<◌, List, length, get_or, None, Some}
+use Rattle.std.specs.Prelude.{ℕ, ◌≡◌, ◌≢◌, ◌⊎◌, ◌+◌, ◌*◌, ◌<◌, List, length, get_or, None, Some}
 use Rattle.std.specs.declared.option.Option.{Option}
 use Rattle.blk_image.specs.Bytes.{content, word_at}
 use Rattle.blk_image.specs.Image.{Image, Index, word}
+use Rattle.blk_image.specs.Told.{Told}
+use Rattle.blk_format.specs.Headers.{header_length}
+use Rattle.blk_io.specs.declared.folder.FileId.TheVariants as names
+use Rattle.blk_io.specs.declared.fault.Damage.{Damage}
+use Rattle.blk_io.specs.Faults.{IsShort}
 use Rattle.blk_run.specs.declared.used.Used.{Used}
 
 -- the words at the first n places are 0
@@ -22,6 +27,23 @@ pub record IsFirstUsed (place : ℕ → ℕ) (n : ℕ) (image : Image) (used : U
 abbrev pub FirstUsed : (ℕ → ℕ) → ℕ → Image → Option Used → Type 0
 FirstUsed place n image None = AreUnused place n image
 FirstUsed place n image (Some used) = IsFirstUsed place n image used
+
+-- a word that isn't 0, at one of the first n places
+pub record IsNamed (place : ℕ → ℕ) (n : ℕ) (used : Used) : Type 0 where
+  pub number : ℕ
+  pub within : number < n
+  pub there : used.at ≡ place number
+  pub nonzero : used.found ≢ 0
+
+-- a read of a piece of the table gave too few bytes
+pub record IsPieceShort (told : Told) (damage : Damage) : Type 0 where
+  pub piece : ℕ
+  pub within : piece < 64
+  pub short : IsShort told names.Index (header_length + 4096 * piece) 4096 damage
+
+-- a read of the header, or of a piece of the table, gave too few bytes
+abbrev pub IsReadShort : Told → Damage → Type 0
+IsReadShort told damage = IsShort told names.Index 0 header_length damage ⊎ IsPieceShort told damage
 
 -- the first of these words, each with its place, that isn't 0, where there is one
 pub record IsFirstOf (words : List (ℕ × ℕ)) (used : Used) : Type 0 where

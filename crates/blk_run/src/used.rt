@@ -4,9 +4,9 @@ ghost use Rattle.std.specs.Option.{ForSome};
 ghost use Rattle.blk_image.specs.Bytes.{content, word_at};
 ghost use Rattle.blk_image.specs.Image.{Index as index, length_of};
 ghost use Rattle.blk_image.specs.Told.{Stays, Rises};
-ghost use Rattle.blk_format.specs.Headers.{index_length, place_of_bucket};
-ghost use Rattle.blk_io.specs.Faults.{IfDamaged, IfDevice};
-ghost use Rattle.blk_run.specs.Used.{FirstUsed, FirstOf, FirstWord};
+ghost use Rattle.blk_format.specs.Headers.{header_length, index_length, place_of_bucket};
+ghost use Rattle.blk_io.specs.Faults.{IfDamaged, IfDevice, IsShort};
+ghost use Rattle.blk_run.specs.Used.{FirstUsed, FirstOf, FirstWord, IsNamed, IsPieceShort, IsReadShort};
 ghost use Rattle.blk_run.specs.Count.{checked_place, checked_places};
 
 use blk_io::{Fault, FileId, Folder, read_exact};
@@ -28,6 +28,10 @@ pub struct Used {
 pub fn first_used<F: Folder>(f: &mut F) -> Result<Option<Used>, Fault>
     requires { ForSome (F.told f.old).files (λ image. length_of image index ≡ index_length) }
     ensures first { IfOk result (λ used. ForSome (F.told f.old).files (λ image. FirstUsed checked_place checked_places image used)) }
+    ensures named { IfOk result (λ used. ForSome used (IsNamed checked_place checked_places)) }
+
+    // Too few bytes, which a folder that tells its files never gives.
+    ensures short { IfDamaged result (IsReadShort (F.told f.old)) }
     ensures untold { IfDamaged result (λ _. (F.told f.old).files ≡ None) }
     ensures stays { Stays (F.told f.old) (F.told f.new) }
     ensures later { F.faults f.old ≤ F.faults f.new }
@@ -43,6 +47,8 @@ pub fn first_used<F: Folder>(f: &mut F) -> Result<Option<Used>, Fault>
 fn first_in_head<F: Folder>(f: &mut F) -> Result<Option<Used>, Fault>
     requires { ForSome (F.told f.old).files (λ image. length_of image index ≡ index_length) }
     ensures first { IfOk result (λ used. ForSome (F.told f.old).files (λ image. FirstUsed checked_place 6 image used)) }
+    ensures named { IfOk result (λ used. ForSome used (IsNamed checked_place 6)) }
+    ensures short { IfDamaged result (IsShort (F.told f.old) FileId.Index 0 header_length) }
     ensures untold { IfDamaged result (λ _. (F.told f.old).files ≡ None) }
     ensures stays { Stays (F.told f.old) (F.told f.new) }
     ensures later { F.faults f.old ≤ F.faults f.new }
@@ -82,6 +88,8 @@ fn first_of(words: &[(u32, u32)]) -> Option<Used>
 fn first_in_table<F: Folder>(f: &mut F) -> Result<Option<Used>, Fault>
     requires { ForSome (F.told f.old).files (λ image. length_of image index ≡ index_length) }
     ensures first { IfOk result (λ used. ForSome (F.told f.old).files (λ image. FirstUsed place_of_bucket 65536 image used)) }
+    ensures named { IfOk result (λ used. ForSome used (IsNamed place_of_bucket 65536)) }
+    ensures short { IfDamaged result (IsPieceShort (F.told f.old)) }
     ensures untold { IfDamaged result (λ _. (F.told f.old).files ≡ None) }
     ensures stays { Stays (F.told f.old) (F.told f.new) }
     ensures later { F.faults f.old ≤ F.faults f.new }
@@ -100,6 +108,8 @@ fn first_in_piece<F: Folder>(f: &mut F, number: u32) -> Result<Option<Used>, Fau
     requires piece { number < 64 }
     requires whole { ForSome (F.told f.old).files (λ image. length_of image index ≡ index_length) }
     ensures first { IfOk result (λ used. ForSome (F.told f.old).files (λ image. FirstUsed (λ j. place_of_bucket (1024 * number + j)) 1024 image used)) }
+    ensures named { IfOk result (λ used. ForSome used (IsNamed (λ j. place_of_bucket (1024 * number + j)) 1024)) }
+    ensures short { IfDamaged result (IsShort (F.told f.old) FileId.Index (header_length + 4096 * number) 4096) }
     ensures untold { IfDamaged result (λ _. (F.told f.old).files ≡ None) }
     ensures stays { Stays (F.told f.old) (F.told f.new) }
     ensures later { F.faults f.old ≤ F.faults f.new }

@@ -14,6 +14,14 @@ remove = 2
 abbrev pub move : ℕ
 move = 3
 
+-- the head is 0 or names a node that stands and checks
+abbrev pub head_counts : ListView → Bool
+head_counts list = (list.head == 0) || list.checks list.head
+
+-- a node's next is 0, or its next and its prev name nodes that stand and check
+abbrev pub links_count : ListView → ℕ → Bool
+links_count list node = (list.next node == 0) || (list.checks (list.next node) && list.checks (list.prev node))
+
 -- The transaction counts exactly where all of these hold:
 -- its word is not 0 and names a node that stands and checks;
 -- the operation is 1, 2 or 3;
@@ -23,8 +31,8 @@ unfoldable pub counts : ListView → Bool
 counts list =
     not (list.transaction == 0) && list.checks list.transaction
     && ((list.operation == insert) || (list.operation == remove) || (list.operation == move))
-    && ((list.operation == remove) || (list.head == 0) || list.checks list.head)
-    && ((list.operation == insert) || (list.next list.transaction == 0) || (list.checks (list.next list.transaction) && list.checks (list.prev list.transaction)))
+    && ((list.operation == remove) || head_counts list)
+    && ((list.operation == insert) || links_count list list.transaction)
 
 -- how a node's neighbours change where it is taken out, by the node's own links, line by line:
 -- prev and next name it: the head becomes 0, and the tail becomes 0;

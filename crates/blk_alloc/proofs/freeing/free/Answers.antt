@@ -87,7 +87,7 @@ returns-clause-untold g c =
 pub returns-clause-cause : goal.returns-clause-cause
 returns-clause-cause g c =
     let b = c.blocks_of-blocks in
-    back (λ n s k. IfDamaged c.change.result (IsCause (g.F.Folder.told c.args.f.now) n s false)) c.args.addr b.result.file b.result.start b.result.count b.ensures.file b.ensures.start b.ensures.count c.change.ensures.cause
+    back (λ n s k. IfDamaged c.change.result (IsCause (g.F.Folder.told c.args.f.now) n s k false)) c.args.addr b.result.file b.result.start b.result.count b.ensures.file b.ensures.start b.ensures.count c.change.ensures.cause
 
 pub returns-clause-blocks : goal.returns-clause-blocks
 returns-clause-blocks g c from there =

@@ -18,7 +18,7 @@ use Rattle.blk_alloc.specs.Owning.{IsCause}
 use Rattle.blk_io.proofs.Carried.{if_damaged_weaker}
 use Rattle.blk_alloc.proofs.Causes.{if_damaged_both}
 use Rattle.blk_alloc.proofs.Members.{member_all}
-use Rattle.blk_alloc.proofs.Rooms.{fit_takeable, given_fit, if_ok_both, word_file, word_kind}
+use Rattle.blk_alloc.proofs.Rooms.{fit_takeable, given_fit, if_ok_both, place_later, word_file, word_kind}
 use Rattle.blk_alloc.proofs.Externals.{giving_externals}
 use Rattle.blk_alloc.proofs.Sparing.{blocks_same}
 use Rattle.blk_alloc.proofs.giving.allocate.Goals as goal
@@ -128,9 +128,9 @@ returns-in-Some-clause-cause g c =
     (λ i told. subst (λ (o : Option Blocks). IsFitting i (files_of c.args.files.now (kind_number c.args.kind)) c.args.blocks o) c.in-Some.is (c.in_ok-place.ensures.fit i told)) in
     let takeable : (i : Image) → (g.F.Folder.told c.args.f.now).files ≡ Some i → IsTakeable i c.in-Some.place =
     (λ i told. fit_takeable c.args.files.now i c.args.kind c.args.blocks c.in-Some.place c.requires.blocky c.requires.few (c.requires.agrees i told) (c.requires.counted i told) place (fits i told)) in
-    if_damaged_both c.take.result (λ damage. ((told : Told) → told.files ≡ None → IsCause told c.in-Some.place.file c.in-Some.place.start true damage) ⊎ IsAstrayOf c.take.new.files (kind_number c.args.kind) damage)
+    if_damaged_both c.take.result (λ damage. ((told : Told) → told.files ≡ None → IsCause told c.in-Some.place.file c.in-Some.place.start c.in-Some.place.count true damage) ⊎ IsAstrayOf c.take.new.files (kind_number c.args.kind) damage)
     (λ _. ForSome (g.F.Folder.told c.first_fit.new.f).files (λ image. IsTakeable image c.in-Some.place) → (g.F.Folder.told c.first_fit.new.f).files ≡ None) (IsRefusal c.args.files.now c.take.new.files (kind_number c.args.kind) (g.F.Folder.told c.args.f.now))
-    (λ damage cause none. ⊎_elim (λ (why : (told : Told) → told.files ≡ None → IsCause told c.in-Some.place.file c.in-Some.place.start true damage). inl (record { file = c.in-Some.place.file; start = c.in-Some.place.start; linked = c.take.ensures.linked; small = place.small; cause = why (g.F.Folder.told c.args.f.now) (ap (λ (t : Told). t.files) (sym c.in_ok-place.ensures.stays) ∙ none (λ i now. takeable i (ap (λ (t : Told). t.files) (sym c.in_ok-place.ensures.stays) ∙ now))) }))
+    (λ damage cause none. ⊎_elim (λ (why : (told : Told) → told.files ≡ None → IsCause told c.in-Some.place.file c.in-Some.place.start c.in-Some.place.count true damage). inl (record { place = c.in-Some.place; is = place_later c.args.files.now c.take.new.files (kind_number c.args.kind) c.args.blocks c.in-Some.place place c.take.ensures.linked; cause = why (g.F.Folder.told c.args.f.now) (ap (λ (t : Told). t.files) (sym c.in_ok-place.ensures.stays) ∙ none (λ i now. takeable i (ap (λ (t : Told). t.files) (sym c.in_ok-place.ensures.stays) ∙ now))) }))
     (λ astray. inr (inr (inr astray))) cause)
     c.take.ensures.cause c.take.ensures.untold
 

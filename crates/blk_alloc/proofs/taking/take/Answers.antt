@@ -133,8 +133,8 @@ returns-clause-keeps g c = standing_kept c.args.files.now c.fit.new.self (fit_la
 pub returns-in_err-change-clause-cause : goal.returns-in_err-change-clause-cause
 returns-in_err-change-clause-cause g c =
     carried c.change.result c.from_residual-in_err-change.result c.in_err-change.field-0.0 _ c.in_err-change.was c.from_residual-in_err-change.ensures.1
-    (if_damaged_weaker c.change.result (IsCause (g.F.Folder.told c.fit.new.f) c.args.place.file c.args.place.start true) (λ damage. ((told : Told) → told.files ≡ None → IsCause told c.args.place.file c.args.place.start true damage) ⊎ IsAstrayOf c.fit.new.self (kind_number c.args.kind) damage)
-    (λ damage cause. inl (λ told none. cause_before (g.F.Folder.told c.fit.new.f) told c.args.place.file c.args.place.start true damage none cause)) c.change.ensures.cause)
+    (if_damaged_weaker c.change.result (IsCause (g.F.Folder.told c.fit.new.f) c.args.place.file c.args.place.start c.args.place.count true) (λ damage. ((told : Told) → told.files ≡ None → IsCause told c.args.place.file c.args.place.start c.args.place.count true damage) ⊎ IsAstrayOf c.fit.new.self (kind_number c.args.kind) damage)
+    (λ damage cause. inl (λ told none. cause_before (g.F.Folder.told c.fit.new.f) told c.args.place.file c.args.place.start c.args.place.count true damage none cause)) c.change.ensures.cause)
 
 pub returns-in_err-change-clause-untold : goal.returns-in_err-change-clause-untold
 returns-in_err-change-clause-untold g c =

@@ -1,11 +1,11 @@
-use Rattle.std.proofs.Common.{◌≡◌, ◌+◌, ◌≤◌, length, Some, sym, ◌∙◌, ap, subst, refl, arith}
+use Rattle.std.proofs.Common.{◌≡◌, inr, ⊎_elim, ◌+◌, ◌-◌, ◌%◌, ◌<◌, ◌≤◌, length, Some, sym, ◌∙◌, ap, subst, refl, arith}
 use Rattle.std.specs.Option.{ForSome}
 use Rattle.blk_image.specs.Image.{byte}
 use Rattle.blk_image.specs.Told.{Told}
 use Rattle.blk_disk.specs.Tables.{Agrees}
 use Rattle.blk_io.proofs.Carried.{carried, if_damaged_weaker}
-use Rattle.blk_entry.specs.Keys.{IsCut, data_at, data_file, data_start}
-use Rattle.blk_entry.proofs.KeyPlaces.{clash, first_same, next_same, none_same, wider_cut}
+use Rattle.blk_entry.specs.Keys.{IsCutPiece, data_at, data_file, data_start}
+use Rattle.blk_entry.proofs.KeyPlaces.{clash, first_same, next_is_cut, next_same, none_same, next_pieces, some_left}
 use Rattle.blk_entry.proofs.compare.data_is.Goals as goal
 
 pub piece_is-requires-clause-agrees : goal.piece_is-requires-clause-agrees
@@ -25,12 +25,13 @@ pub returns-in_err-piece_is-clause-short : goal.returns-in_err-piece_is-clause-s
 returns-in_err-piece_is-clause-short g c =
     let order = c.loop-rest.invariant.order in
     let sum = c.loop-rest.invariant.sum in
-    let fits : c.min.result ≤ length c.loop-rest.rest.now = omega (arith, c.min.ensures) in
-    let behind : c.loop-rest.place + length c.split_at.result.0.now ≤ c.args.at + length c.args.bytes.now = omega (arith, c.split_at.ensures.front_len, fits, sum) in
-    carried c.piece_is.result c.from_residual.result c.in_err-piece_is.field-0.0 (IsCut (g.F.Folder.told c.args.f.now) c.args.addr c.args.at (length c.args.bytes.now)) c.in_err-piece_is.was c.from_residual.ensures.1
+    let some : 0 < length c.loop-rest.rest.now = some_left c.loop-rest.rest.now (sym c.is_empty.ensures ∙ c.loop-rest-test.true) in
+    let whole : (c.loop-rest.place - c.args.at) % 16398 ≡ 0 = ⊎_elim (λ (e : (c.loop-rest.place - c.args.at) % 16398 ≡ 0). e) (λ (none : length c.loop-rest.rest.now ≡ 0). absurd (omega (arith, none, some))) c.loop-rest.invariant.pieces in
+    carried c.piece_is.result c.from_residual.result c.in_err-piece_is.field-0.0 (IsCutPiece (g.F.Folder.told c.args.f.now) c.args.addr c.args.at (length c.args.bytes.now)) c.in_err-piece_is.was c.from_residual.ensures.1
     (if_damaged_weaker c.piece_is.result _ _
-    (λ damage cut. subst (λ (t : Told). IsCut t c.args.addr c.args.at (length c.args.bytes.now) damage) c.loop-rest.invariant.told
-    (wider_cut (g.F.Folder.told c.loop-rest.f) c.args.addr c.loop-rest.place (length c.split_at.result.0.now) c.args.at (length c.args.bytes.now) damage order behind cut))
+    (λ damage cut. subst (λ (t : Told). IsCutPiece t c.args.addr c.args.at (length c.args.bytes.now) damage) c.loop-rest.invariant.told
+    (next_is_cut (g.F.Folder.told c.loop-rest.f) c.args.addr c.args.at (length c.args.bytes.now) c.loop-rest.place (length c.loop-rest.rest.now) (length c.split_at.result.0.now) damage order sum whole some
+    (omega (arith, c.split_at.ensures.front_len, c.min.ensures)) cut))
     c.piece_is.ensures.short)
 
 pub loop-rest-preserved : goal.loop-rest-preserved
@@ -39,6 +40,9 @@ loop-rest-preserved g c = record {
   later = let a = c.in_ok-piece_is.ensures.later in let b = c.loop-rest.invariant.later in omega (arith, a, b);
   order = let h = c.loop-rest.invariant.order in omega (arith, h);
   sum = let h = c.loop-rest.invariant.sum in omega (arith, h, sizes);
+  pieces = ⊎_elim
+      (λ (e : (c.loop-rest.place - c.args.at) % 16398 ≡ 0). next_pieces c.loop-rest.place c.args.at (length c.loop-rest.rest.now) (length c.split_at.result.0.now) (length c.split_at.result.1.now) c.loop-rest.invariant.order e (omega (arith, c.split_at.ensures.front_len, c.min.ensures)) sizes)
+      (λ (none : length c.loop-rest.rest.now ≡ 0). inr (omega (arith, none, sizes))) c.loop-rest.invariant.pieces;
   inside = let i = c.loop-rest.invariant.inside in record {
     small = let h = i.small in omega (arith, h, sizes);
     stands = i.stands;

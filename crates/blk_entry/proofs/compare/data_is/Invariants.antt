@@ -1,4 +1,4 @@
-use Rattle.std.proofs.Common.{◌≡◌, ◌+◌, ◌≤◌, ◌↔◌, length}
+use Rattle.std.proofs.Common.{◌≡◌, ◌⊎◌, ◌+◌, ◌-◌, ◌%◌, ◌≤◌, ◌↔◌, length}
 use Rattle.std.specs.Option.{ForSome}
 use Rattle.blk_image.specs.Told.{Stays}
 use Rattle.blk_entry.specs.Keys.{IsInFile, IsInside, data_at}
@@ -10,6 +10,7 @@ invariant-loop-rest g l = record {
   later : g.F.Folder.faults l.initial.f ≤ g.F.Folder.faults l.f;
   order : l.at ≤ l.place;
   sum : l.place + length l.rest ≡ l.at + length l.bytes;
+  pieces : ((l.place - l.at) % 16398 ≡ 0) ⊎ (length l.rest ≡ 0);
   inside : IsInside l.files l.addr l.place (length l.rest);
   outside : ForSome (g.F.Folder.told l.initial.f).files (IsInFile l.addr l.place (length l.rest));
   same : ForSome (g.F.Folder.told l.initial.f).files (λ image. (l.rest ≡ data_at image l.addr l.place (length l.rest)) ↔ (l.bytes ≡ data_at image l.addr l.at (length l.bytes)));

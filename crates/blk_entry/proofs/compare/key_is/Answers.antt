@@ -1,7 +1,7 @@
-use Rattle.std.proofs.Common.{◌≡◌, ◌↔◌, ℕ, length, None, Some, inl, inr, sym, subst, arith}
+use Rattle.std.proofs.Common.{◌≡◌, ◌↔◌, ℕ, length, None, Some, inl, inr, sym, ◌∙◌, subst, arith}
 use Rattle.std.specs.Option.{ForSome}
 use Rattle.std.specs.Prelude.{IsTrue}
-use Rattle.blk_entry.specs.Keys.{IsCutKey, IsMisplaced, IsPlaceDamage, data_at, key_at}
+use Rattle.blk_entry.specs.Keys.{IsCutKey, IsCutPiece, IsMisplaced, IsPlaceDamage, data_at, key_at}
 use Rattle.blk_io.proofs.Carried.{carried, if_damaged_weaker, untold_where}
 use Rattle.blk_entry.proofs.KeyPlaces.{clash, damaged_any, head_facts, key_by_place, key_is_cut, ok_weaker, whole_there}
 use Rattle.blk_entry.proofs.compare.key_is.Goals as goal
@@ -51,6 +51,6 @@ returns-clause-damaged g c =
     let size = c.if-head-key.false in
     if_damaged_weaker c.data_is.result _ _
     (λ damage cut. inl (subst (λ (k : ℕ). IsCutKey c.args.files.now (g.F.Folder.told c.args.f.now) c.args.entry k c.args.head.now.long_key damage) size
-    (key_is_cut c.args.files.now (g.F.Folder.told c.args.f.now) c.args.entry c.args.head.now.key_len c.args.head.now.long_key c.in_ok-place.place c.in_ok-place.place.skip (length c.args.key.now) damage
-    c.in_ok-place.ensures.placed place (omega arith) (omega (arith, len, size)) cut)))
+    (key_is_cut c.args.files.now (g.F.Folder.told c.args.f.now) c.args.entry c.args.head.now.key_len c.args.head.now.long_key c.in_ok-place.place damage
+    c.in_ok-place.ensures.placed place (subst (λ (n : ℕ). IsCutPiece (g.F.Folder.told c.args.f.now) c.in_ok-place.place.addr c.in_ok-place.place.skip n damage) (sym size ∙ sym len) cut))))
     c.data_is.ensures.short

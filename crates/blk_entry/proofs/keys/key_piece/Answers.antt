@@ -1,12 +1,12 @@
-use Rattle.std.proofs.Common.{◌≡◌, ◌+◌, ◌≤◌, ℕ, inl, inr, length, take, length-take, None, Some, sym, ◌∙◌, ap, ap₂, subst, arith}
+use Rattle.std.proofs.Common.{◌≡◌, ◌+◌, ℕ, inl, inr, length, take, length-take, None, Some, sym, ◌∙◌, ap, ap₂, subst, arith}
 use Rattle.std.specs.Option.{ForSome}
 use Rattle.blk_image.specs.Bytes.{range_at}
 use Rattle.blk_image.specs.Image.{byte}
 use Rattle.blk_image.specs.Told.{Told}
 use Rattle.blk_disk.specs.Tables.{Agrees}
-use Rattle.blk_entry.specs.Keys.{IsCutKey, IsPieceDamage, data_file, data_start}
+use Rattle.blk_entry.specs.Keys.{IsCutPart, IsPartDamage, data_file, data_start}
 use Rattle.blk_io.proofs.Carried.{carried, if_damaged_weaker, untold_where}
-use Rattle.blk_entry.proofs.KeyPlaces.{clash, head_facts, damaged_any, key_is_cut, piece_is, key_in_place, piece_there}
+use Rattle.blk_entry.proofs.KeyPlaces.{clash, head_facts, damaged_any, part_is_cut, piece_is, key_in_place, piece_there}
 use Rattle.blk_entry.proofs.keys.key_piece.Goals as goal
 
 pub read_data-requires-clause-agrees : goal.read_data-requires-clause-agrees
@@ -42,21 +42,19 @@ returns-clause-piece g c image there key is =
 
 pub returns-in_err-key-clause-damaged : goal.returns-in_err-key-clause-damaged
 returns-in_err-key-clause-damaged g c =
-    carried c.key_place.result c.from_residual-in_err-key.result c.in_err-key.field-0.0 (IsPieceDamage c.args.files.now (g.F.Folder.told c.args.f.now) c.args.entry) c.in_err-key.was c.from_residual-in_err-key.ensures.1
-    (if_damaged_weaker c.key_place.result _ _ (λ damage wrong. inr (record { key_len = c.in_ok-head.head.key_len; wrong = record { long_key = c.in_ok-head.head.long_key; wrong = inr wrong } })) c.key_place.ensures.damaged)
+    carried c.key_place.result c.from_residual-in_err-key.result c.in_err-key.field-0.0 (IsPartDamage c.args.files.now (g.F.Folder.told c.args.f.now) c.args.entry c.args.at (length c.args.out.now)) c.in_err-key.was c.from_residual-in_err-key.ensures.1
+    (if_damaged_weaker c.key_place.result _ _ (λ damage wrong. inr (record { key_len = c.in_ok-head.head.key_len; long_key = c.in_ok-head.head.long_key; wrong = inr wrong })) c.key_place.ensures.damaged)
 
 pub returns-in_err-read_data-clause-damaged : goal.returns-in_err-read_data-clause-damaged
 returns-in_err-read_data-clause-damaged g c =
     let n : ℕ = length (take c.min-n.result c.args.out.now) in
-    let behind : c.in_ok-key.key.skip + c.min-at.result + n ≤ c.in_ok-key.key.skip + c.in_ok-key.key.len = omega (arith, length-take c.min-n.result c.args.out.now, c.min-at.ensures, c.min-n.ensures) in
-    carried c.read_data.result c.from_residual-in_err-read_data.result c.in_err-read_data.field-0.0 (IsPieceDamage c.args.files.now (g.F.Folder.told c.args.f.now) c.args.entry) c.in_err-read_data.was c.from_residual-in_err-read_data.ensures.1
+    carried c.read_data.result c.from_residual-in_err-read_data.result c.in_err-read_data.field-0.0 (IsPartDamage c.args.files.now (g.F.Folder.told c.args.f.now) c.args.entry c.args.at (length c.args.out.now)) c.in_err-read_data.was c.from_residual-in_err-read_data.ensures.1
     (if_damaged_weaker c.read_data.result _ _
     (λ damage cut. inr (record {
       key_len = c.in_ok-head.head.key_len;
-      wrong = record {
-        long_key = c.in_ok-head.head.long_key;
-        wrong = inl (subst (λ (t : Told). IsCutKey c.args.files.now t c.args.entry c.in_ok-head.head.key_len c.in_ok-head.head.long_key damage) c.in_ok-head.ensures.stays
-            (key_is_cut c.args.files.now (g.F.Folder.told c.read_head.new.f) c.args.entry c.in_ok-head.head.key_len c.in_ok-head.head.long_key c.in_ok-key.key (c.in_ok-key.key.skip + c.min-at.result) n damage c.in_ok-key.ensures.placed c.in_ok-key.ensures.place (omega arith) behind cut));
-      };
+      long_key = c.in_ok-head.head.long_key;
+      wrong = inl (subst (λ (t : Told). IsCutPart c.args.files.now t c.args.entry c.in_ok-head.head.key_len c.in_ok-head.head.long_key c.args.at (length c.args.out.now) damage) c.in_ok-head.ensures.stays
+          (part_is_cut c.args.files.now (g.F.Folder.told c.read_head.new.f) c.args.entry c.in_ok-head.head.key_len c.in_ok-head.head.long_key c.in_ok-key.key c.args.at (length c.args.out.now) c.min-at.result n damage c.in_ok-key.ensures.placed c.in_ok-key.ensures.place
+          (omega (arith, c.min-at.ensures)) (omega (arith, length-take c.min-n.result c.args.out.now, c.min-at.ensures, c.min-n.ensures)) cut));
     }))
     c.read_data.ensures.short)

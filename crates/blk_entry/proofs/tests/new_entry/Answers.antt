@@ -11,7 +11,7 @@ use Rattle.blk_entry.proofs.tests.new_entry.Goals as goal
 
 module _ (files : BlockFiles) (entry node : ℕ) (child : Bool) (key : List ℕ) (entry_kind : kind_of entry ≡ blocks_256) (entry_stands : stands_among files entry ≡ true) (node_kind : kind_of node ≡ rankings) (node_stands : stands_among files node ≡ true)
     (has : may_have entry (length key) ≡ true) (few : length key ≤ 32768) where
-  made : (o : Option ℕ) → IsLongPlace files entry (length key) o → FitsKey files (record { entry = entry; node = node; long_key = o; child = child; dirty = 7; next = 2684420105 }) key
+  made : (o : Option ℕ) → IsLongPlace files (length key) o → FitsKey files (record { entry = entry; node = node; long_key = o; child = child; dirty = 7; next = 2684420105 }) key
   made o is =
       let parts = may_have_parts entry (length key) has in
       record { entry_kind = entry_kind; entry_stands = entry_stands; node_kind = node_kind; node_stands = node_stands; some = parts.0; most = by_child child; blocks = parts.2; long = is }
@@ -20,8 +20,8 @@ module _ (files : BlockFiles) (entry node : ℕ) (child : Bool) (key : List ℕ)
       by_child true = omega (arith, few)
       by_child false = few
 
-  made_as : (o p : Option ℕ) → o ≡ p → IsLongPlace files entry (length key) p → FitsKey files (record { entry = entry; node = node; long_key = o; child = child; dirty = 7; next = 2684420105 }) key
-  made_as o p same is = made o (subst (IsLongPlace files entry (length key)) (sym same) is)
+  made_as : (o p : Option ℕ) → o ≡ p → IsLongPlace files (length key) p → FitsKey files (record { entry = entry; node = node; long_key = o; child = child; dirty = 7; next = 2684420105 }) key
+  made_as o p same is = made o (subst (IsLongPlace files (length key)) (sym same) is)
 
 pub returns : goal.returns
 returns c =
@@ -32,5 +32,5 @@ returns c =
           c.if-key-le927.long_key None w.long_key-is (let less = w.if-key-le927.true in grind (arith, nat_tests))
       | else-key-le927+in_ok-long_place w ↦ made_as c.args.files.now c.in_ok-entry.entry c.in_ok-node.node c.args.child c.args.key.now c.in_ok-entry.ensures.kind c.in_ok-entry.ensures.stands c.in_ok-node.ensures.kind c.in_ok-node.ensures.stands has few
           c.if-key-le927.long_key (Some w.in_ok-long_place.field-0) w.long_key-is
-          ((let more = w.if-key-le927.false in grind (arith, nat_tests)), (w.in_ok-long_place.ensures.holds, w.in_ok-long_place.ensures.apart))
+          ((let more = w.if-key-le927.false in grind (arith, nat_tests)), w.in_ok-long_place.ensures)
     ]

@@ -31,7 +31,7 @@ returns-clause-agrees g c =
 
 pub returns-clause-written : goal.returns-clause-written
 returns-clause-written g c =
-    written_there c.args.files.now c.args.new.now c.args.key.now c.args.moment c.requires.fits (g.F.Folder.told c.args.f.now) (g.F.Folder.told c.write_places.new.f) c.in_ok-write_places.ensures.words (omega (arith, c.ranges.moment.fits)) c.requires.agrees c.requires.external c.in_ok-write_places.ensures.whole
+    written_there c.args.files.now c.args.new.now c.args.key.now c.args.moment c.requires.fits (g.F.Folder.told c.args.f.now) (g.F.Folder.told c.write_places.new.f) c.in_ok-write_places.ensures.words (omega (arith, c.ranges.moment.fits)) c.requires.agrees c.requires.external c.requires.apart c.in_ok-write_places.ensures.whole
 
 pub returns-clause-shown : goal.returns-clause-shown
 returns-clause-shown g c =

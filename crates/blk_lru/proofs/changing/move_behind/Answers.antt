@@ -1,24 +1,25 @@
-use Rattle.std.proofs.Common.{◌≡◌, ℕ, ◌∷◌, ◌++◌, Some, map, sym, ap, ◌∙◌, subst, true, arith}
-use Rattle.std.specs.Prelude.{◌==◌}
+use Rattle.std.proofs.Common.{◌≡◌, List, Some, map, sym, ap, ◌∙◌, subst, true, arith}
 use Rattle.std.specs.Option.{ForSome}
 use Rattle.blk_image.specs.Image.{Image}
 use Rattle.blk_image.specs.Told.{Told, GrowsInPart}
-use Rattle.blk_volume.specs.ListView.{ListView, IsList}
+use Rattle.blk_volume.specs.ListView.{ListWrite}
 use Rattle.blk_volume.specs.ListPlans.{writes_of}
 use Rattle.blk_volume.specs.View.{list_of}
 use Rattle.blk_disk.specs.Tables.{Agrees}
-use Rattle.blk_laws.specs.ListWords.{walked}
+use Rattle.blk_laws.specs.ListWords.{IsWritable, CanBeMade, walked}
 use Rattle.blk_lru.specs.Nodes.{is_node}
 use Rattle.blk_lru.specs.Plans.{whole_plan, word_or_zero}
 use Rattle.blk_lru.specs.Writes.{meant}
-use Rattle.blk_laws.specs.ListSteps.{steps_of}
-use Rattle.blk_lru.proofs.Conditions.{Checked, checked_small, head_read, may_write, some_holds, next_names, prev_names, told_before, told_stays, unless_zero}
-use Rattle.blk_lru.proofs.Listed.{head_checks, linked, splits}
+use Rattle.blk_laws.specs.ListSteps.{AreOf, IsPartly, steps_of}
+use Rattle.blk_lru.proofs.Conditions.{head_read, some_holds, next_names, prev_names, told_before, told_stays, around}
 use Rattle.blk_lru.proofs.NodeWords.{stands_as_node, next_link, prev_link}
-use Rattle.blk_lru.proofs.Operating.{part_as, stops_as, stops_none, whole_as}
-use Rattle.blk_lru.proofs.PlanNodes.{Each, Good, each_nodes, each_words, node_small, whole_good}
+use Rattle.blk_lru.proofs.Operating.{part_as, part_passes, stops_none, whole_as}
+use Rattle.blk_laws.proofs.WordTurns.{moves-can}
+use Rattle.blk_laws.proofs.WriteSteps.{quiet-writes, writes-in_turn}
+use Rattle.blk_laws.proofs.WriteWords.{Each, Good, each_nodes, each_words}
+use Rattle.blk_lru.proofs.PlanNodes.{node_small, whole_good}
+use Rattle.blk_lru.proofs.Performing.{ready_writable, told_ready}
 use Rattle.blk_lru.proofs.PlanWords.{whole_is}
-use Rattle.blk_lru.proofs.WriteLaws.{MayWrite}
 use Rattle.blk_lru.proofs.changing.move_behind.Given as given
 use Rattle.blk_lru.proofs.changing.move_behind.Goals as goal
 
@@ -70,23 +71,8 @@ good_here g c =
     (whole_good (λ n. is_node c.args.files.now n ≡ true) (node_small c.args.files.now) c.args.node c.requires.stands 3 c.in_ok-next.next c.in_ok-prev.prev (word_or_zero c.args.head) (omega arith) (λ one nz. (c.in_ok-next.ensures.stands, c.in_ok-prev.ensures.stands))
     (λ two. some_holds (λ n. is_node c.args.files.now n ≡ true) c.args.head c.requires.first))
 
-may_here : (g : given.Over) (c : goal.After-deref g) (from : Image) → (g.F.Folder.told c.args.f.now).files ≡ Some from → MayWrite c.args.files.now from (map meant c.deref.result.now)
-may_here g c from there =
-    let files = c.args.files.now in
-    let listed = c.requires.listed from there in
-    let list : ListView = list_of from in
-    let head : list.head ≡ word_or_zero c.args.head = head_read list (walked from) c.args.head listed.rest.whole (c.requires.head from there) in
-    let s = splits (walked from) c.args.node listed.listed in
-    let whole : IsList list (s.front ++ c.args.node ∷ s.behind) = subst (IsList list) s.is listed.rest.whole in
-    let l = linked list s.front c.args.node s.behind whole in
-    may_write files from (map meant c.deref.result.now)
-    (subst (Each (Good (Checked files from))) (sym (words_are g c))
-    (whole_good (Checked files from) (checked_small files from) c.args.node (c.requires.stands, l.good) 3 c.in_ok-next.next c.in_ok-prev.prev (word_or_zero c.args.head) (omega arith)
-    (λ one nz. ((c.in_ok-next.ensures.stands, subst (λ (w : ℕ). list.checks w ≡ true) (next_is g c from there) l.next_good), (c.in_ok-prev.ensures.stands, subst (λ (w : ℕ). list.checks w ≡ true) (prev_is g c from there) l.prev_good)))
-    (λ two nz. (
-      some_holds (λ n. is_node files n ≡ true) c.args.head c.requires.first nz,
-      subst (λ (w : ℕ). list.checks w ≡ true) head (unless_zero (λ w. list.checks w ≡ true) list.head (head_checks list (walked from) listed.rest.whole) (ap (λ (w : ℕ). w == 0) head ∙ nz)),
-    ))))
+can_here : (g : given.Over) (c : goal.After-deref g) (from : Image) → (g.F.Folder.told c.args.f.now).files ≡ Some from → CanBeMade from (writes_of 3 c.args.node (list_of from))
+can_here g c from there = (let a = around c.args.node from (c.requires.listed from there) in moves-can from c.args.node a.0 a.1 a.2)
 
 pub perform-requires-clause-stand : goal.perform-requires-clause-stand
 perform-requires-clause-stand g c = each_nodes (λ n. is_node c.args.files.now n ≡ true) (map meant c.deref.result.now) (good_here g c)
@@ -98,10 +84,9 @@ pub perform-requires-clause-agrees : goal.perform-requires-clause-agrees
 perform-requires-clause-agrees g c = told_stays (Agrees c.args.files.now) (c.in_ok-prev.ensures.stays ∙ c.in_ok-next.ensures.stays) c.requires.agrees
 
 pub perform-requires-clause-check : goal.perform-requires-clause-check
-perform-requires-clause-check g c image there = (may_here g c image (told_before image (c.in_ok-prev.ensures.stays ∙ c.in_ok-next.ensures.stays) there)).1.0
-
-whole_here : (g : given.Over) (c : goal.After-perform g) → (from : Image) → (g.F.Folder.told c.args.f.now).files ≡ Some from → MayWrite c.args.files.now from (writes_of 3 c.args.node (list_of from))
-whole_here g c from there = subst (MayWrite c.args.files.now from) (plan_is g c.before from there) (may_here g c.before from there)
+perform-requires-clause-check g c image there =
+    let here = told_before image (c.in_ok-prev.ensures.stays ∙ c.in_ok-next.ensures.stays) there in
+    subst (AreOf (λ n. (list_of image).checks n ≡ true)) (sym (plan_is g c image here)) (can_here g c image here).nodes
 
 pub returns-clause-whole : goal.returns-clause-whole
 returns-clause-whole g c = whole_as (g.F.Folder.told c.args.f.now) (g.F.Folder.told c.link-2.new.f) (g.F.Folder.told c.perform.new.f) (c.in_ok-prev.ensures.stays ∙ c.in_ok-next.ensures.stays) (map meant c.deref.result.now) (λ from. writes_of 3 c.args.node (list_of from)) (plan_is g c.before) c.perform.result c.perform.ensures.whole
@@ -109,8 +94,14 @@ returns-clause-whole g c = whole_as (g.F.Folder.told c.args.f.now) (g.F.Folder.t
 part_here : (g : given.Over) (c : goal.After-perform g) → ForSome (g.F.Folder.told c.args.f.now).files (λ from. GrowsInPart (g.F.Folder.told c.args.f.now) (g.F.Folder.told c.perform.new.f) (steps_of (writes_of 3 c.args.node (list_of from)) from))
 part_here g c = part_as (g.F.Folder.told c.args.f.now) (g.F.Folder.told c.link-2.new.f) (g.F.Folder.told c.perform.new.f) (c.in_ok-prev.ensures.stays ∙ c.in_ok-next.ensures.stays) (map meant c.deref.result.now) (λ from. writes_of 3 c.args.node (list_of from)) (plan_is g c.before) c.perform.ensures.part
 
+writable_here : (g : given.Over) (c : goal.After-perform g) (from : Image) → (g.F.Folder.told c.args.f.now).files ≡ Some from → IsWritable from
+writable_here g c from there = ready_writable (told_ready c.args.files.now (g.F.Folder.told c.args.f.now) c.requires.agrees c.requires.complete (g.met.F.Folder.are_bytes c.args.f.now) from there)
+
 pub returns-clause-part : goal.returns-clause-part
 returns-clause-part g c = part_here g c
 
 pub returns-clause-stops : goal.returns-clause-stops
-returns-clause-stops g c = stops_as (g.F.Folder.told c.args.f.now) (g.F.Folder.told c.link-2.new.f) (g.F.Folder.told c.perform.new.f) (c.in_ok-prev.ensures.stays ∙ c.in_ok-next.ensures.stays) (map meant c.deref.result.now) (λ from. writes_of 3 c.args.node (list_of from)) (plan_is g c.before) c.perform.ensures.stops
+returns-clause-stops g c from there =
+    let ws : List ListWrite = writes_of 3 c.args.node (list_of from) in
+    part_passes (g.F.Folder.told c.args.f.now) (g.F.Folder.told c.perform.new.f) from there (steps_of ws from) (quiet-writes ws from) (part_here g c from there) (IsPartly from ws)
+    (writes-in_turn from ws (writable_here g c from there) (can_here g c.before from there))

@@ -1,28 +1,27 @@
-use Rattle.std.proofs.Common.{◌≡◌, ℕ, List, ◌∷◌, ◌++◌, Some, map, refl, sym, ap, ◌∙◌, subst, true, arith}
+use Rattle.std.proofs.Common.{◌≡◌, ℕ, List, ◌++◌, Some, map, refl, sym, ap, ◌∙◌, subst, true, arith}
 use Rattle.std.specs.Option.{ForSome}
 use Rattle.std.proofs.lemmas.Result.{on_ok_weaker}
 use Rattle.blk_image.specs.Image.{Image}
-use Rattle.blk_image.specs.Told.{Told, GrowsInPart}
-use Rattle.blk_volume.specs.ListView.{ListView, IsList}
-use Rattle.blk_volume.specs.ListPlans.{writes_of, pending_writes}
+use Rattle.blk_image.specs.Told.{Told, GrowsInPart, TurnsAt}
+use Rattle.blk_volume.specs.ListView.{ListWrite}
+use Rattle.blk_volume.specs.ListPlans.{writes_of}
 use Rattle.blk_volume.specs.View.{list_of}
-use Rattle.blk_laws.specs.ListLaws.{IsAtRest}
 use Rattle.blk_disk.specs.Tables.{Agrees}
-use Rattle.blk_lru.specs.Lists.{Turns}
-use Rattle.blk_laws.specs.ListWords.{walked}
+use Rattle.blk_laws.specs.ListWords.{IsWritable, CanBeMade, CompletesTo, Rests, walked}
 use Rattle.blk_lru.specs.Nodes.{is_node}
 use Rattle.blk_lru.specs.Plans.{whole_plan}
 use Rattle.blk_lru.specs.Writes.{meant}
-use Rattle.blk_laws.specs.ListSteps.{steps_of}
-use Rattle.blk_lru.proofs.Conditions.{Checked, checked_small, remove_any, may_write, one_is_one, next_names, prev_names, rested_walk, told_before, told_stays}
-use Rattle.blk_lru.proofs.Listed.{linked, splits}
+use Rattle.blk_laws.specs.ListSteps.{AreOf, AreSealed, IsPartly, steps_of}
+use Rattle.blk_lru.proofs.Conditions.{remove_any, one_is_one, next_names, prev_names, rested_walk, told_before, told_stays, around, rests_as}
 use Rattle.blk_lru.proofs.NodeWords.{stands_as_node, next_link, prev_link}
-use Rattle.blk_lru.proofs.Operating.{made_as, part_as, stops_as, stops_none, turns_none, turns_part, whole_as}
-use Rattle.blk_lru.proofs.Performing.{told_ready}
-use Rattle.blk_lru.proofs.PlanNodes.{Each, Good, each_nodes, each_words, node_small, whole_good}
+use Rattle.blk_lru.proofs.Operating.{all_made, part_as, part_passes, part_turns, stops_none, turns_none, whole_as}
+use Rattle.blk_lru.proofs.Performing.{ready_writable, told_ready}
+use Rattle.blk_laws.proofs.Sealing.{writes-seal}
+use Rattle.blk_laws.proofs.WordTurns.{removals-can}
+use Rattle.blk_laws.proofs.WriteSteps.{quiet-writes, writes-in_turn}
+use Rattle.blk_laws.proofs.WriteWords.{Each, Good, each_nodes, each_words}
+use Rattle.blk_lru.proofs.PlanNodes.{node_small, whole_good}
 use Rattle.blk_lru.proofs.PlanWords.{whole_is}
-use Rattle.blk_lru.proofs.SealedWrites.{grown_sealed}
-use Rattle.blk_lru.proofs.WriteLaws.{MayWrite}
 use Rattle.blk_lru.proofs.changing.remove.Given as given
 use Rattle.blk_lru.proofs.changing.remove.Goals as goal
 
@@ -81,19 +80,8 @@ good_here g c =
     (whole_good (λ n. is_node c.args.files.now n ≡ true) (node_small c.args.files.now) c.args.node c.requires.stands 2 c.in_ok-next.next c.in_ok-prev.prev 0 (omega arith) (λ one nz. (c.in_ok-next.ensures.stands, c.in_ok-prev.ensures.stands))
     (λ two. absurd (one_is_one two)))
 
-may_here : (g : given.Over) (c : goal.After-deref g) (from : Image) → (g.F.Folder.told c.args.f.now).files ≡ Some from → MayWrite c.args.files.now from (map meant c.deref.result.now)
-may_here g c from there =
-    let files = c.args.files.now in
-    let listed = c.requires.listed from there in
-    let list : ListView = list_of from in
-    let s = splits (walked from) c.args.node listed.listed in
-    let whole : IsList list (s.front ++ c.args.node ∷ s.behind) = subst (IsList list) s.is listed.rest.whole in
-    let l = linked list s.front c.args.node s.behind whole in
-    may_write files from (map meant c.deref.result.now)
-    (subst (Each (Good (Checked files from))) (sym (words_are g c))
-    (whole_good (Checked files from) (checked_small files from) c.args.node (c.requires.stands, l.good) 2 c.in_ok-next.next c.in_ok-prev.prev 0 (omega arith)
-    (λ one nz. ((c.in_ok-next.ensures.stands, subst (λ (w : ℕ). list.checks w ≡ true) (next_is g c from there) l.next_good), (c.in_ok-prev.ensures.stands, subst (λ (w : ℕ). list.checks w ≡ true) (prev_is g c from there) l.prev_good)))
-    (λ two. absurd (one_is_one two))))
+can_here : (g : given.Over) (c : goal.After-deref g) (from : Image) → (g.F.Folder.told c.args.f.now).files ≡ Some from → CanBeMade from (writes_of 2 c.args.node (list_of from))
+can_here g c from there = (let a = around c.args.node from (c.requires.listed from there) in removals-can from c.args.node a.0 a.1 a.2)
 
 pub perform-requires-clause-stand : goal.perform-requires-clause-stand
 perform-requires-clause-stand g c = each_nodes (λ n. is_node c.args.files.now n ≡ true) (map meant c.deref.result.now) (good_here g c)
@@ -105,10 +93,9 @@ pub perform-requires-clause-agrees : goal.perform-requires-clause-agrees
 perform-requires-clause-agrees g c = told_stays (Agrees c.args.files.now) (c.in_ok-prev.ensures.stays ∙ c.in_ok-next.ensures.stays) c.requires.agrees
 
 pub perform-requires-clause-check : goal.perform-requires-clause-check
-perform-requires-clause-check g c image there = (may_here g c image (told_before image (c.in_ok-prev.ensures.stays ∙ c.in_ok-next.ensures.stays) there)).1.0
-
-whole_here : (g : given.Over) (c : goal.After-perform g) → (from : Image) → (g.F.Folder.told c.args.f.now).files ≡ Some from → MayWrite c.args.files.now from (writes_of 2 c.args.node (list_of from))
-whole_here g c from there = subst (MayWrite c.args.files.now from) (plan_is g c.before from there) (may_here g c.before from there)
+perform-requires-clause-check g c image there =
+    let here = told_before image (c.in_ok-prev.ensures.stays ∙ c.in_ok-next.ensures.stays) there in
+    subst (AreOf (λ n. (list_of image).checks n ≡ true)) (sym (plan_is g c image here)) (can_here g c image here).nodes
 
 pub returns-clause-whole : goal.returns-clause-whole
 returns-clause-whole g c = whole_as (g.F.Folder.told c.args.f.now) (g.F.Folder.told c.link-2.new.f) (g.F.Folder.told c.perform.new.f) (c.in_ok-prev.ensures.stays ∙ c.in_ok-next.ensures.stays) (map meant c.deref.result.now) (λ from. writes_of 2 c.args.node (list_of from)) (plan_is g c.before) c.perform.result c.perform.ensures.whole
@@ -116,33 +103,37 @@ returns-clause-whole g c = whole_as (g.F.Folder.told c.args.f.now) (g.F.Folder.t
 part_here : (g : given.Over) (c : goal.After-perform g) → ForSome (g.F.Folder.told c.args.f.now).files (λ from. GrowsInPart (g.F.Folder.told c.args.f.now) (g.F.Folder.told c.perform.new.f) (steps_of (writes_of 2 c.args.node (list_of from)) from))
 part_here g c = part_as (g.F.Folder.told c.args.f.now) (g.F.Folder.told c.link-2.new.f) (g.F.Folder.told c.perform.new.f) (c.in_ok-prev.ensures.stays ∙ c.in_ok-next.ensures.stays) (map meant c.deref.result.now) (λ from. writes_of 2 c.args.node (list_of from)) (plan_is g c.before) c.perform.ensures.part
 
+writable_here : (g : given.Over) (c : goal.After-perform g) (from : Image) → (g.F.Folder.told c.args.f.now).files ≡ Some from → IsWritable from
+writable_here g c from there = ready_writable (told_ready c.args.files.now (g.F.Folder.told c.args.f.now) c.requires.agrees c.requires.complete (g.met.F.Folder.are_bytes c.args.f.now) from there)
+
 pub returns-clause-part : goal.returns-clause-part
 returns-clause-part g c = part_here g c
+
+pub returns-clause-stops : goal.returns-clause-stops
+returns-clause-stops g c from there =
+    let ws : List ListWrite = writes_of 2 c.args.node (list_of from) in
+    part_passes (g.F.Folder.told c.args.f.now) (g.F.Folder.told c.perform.new.f) from there (steps_of ws from) (quiet-writes ws from) (part_here g c from there) (IsPartly from ws)
+    (writes-in_turn from ws (writable_here g c from there) (can_here g c.before from there))
 
 pub returns-clause-removed : goal.returns-clause-removed
 returns-clause-removed g c =
     on_ok_weaker c.perform.result
-    (λ made from there image here front behind is. subst (λ (l : ListView). IsAtRest l (front ++ behind)) (sym (made from there image here))
-    (c.removals_at_each_write.ensures.ends c.args.node (list_of from) front behind (subst (IsAtRest (list_of from)) is (c.requires.listed from there).rest)))
-    (made_as (g.F.Folder.told c.args.f.now) (g.F.Folder.told c.link-2.new.f) (g.F.Folder.told c.perform.new.f) (c.in_ok-prev.ensures.stays ∙ c.in_ok-next.ensures.stays) (map meant c.deref.result.now) (λ from. writes_of 2 c.args.node (list_of from)) (plan_is g c.before) c.perform.result c.perform.ensures.made)
+    (λ grows from there image here front behind is.
+    all_made (g.F.Folder.told c.args.f.now) (g.F.Folder.told c.perform.new.f) from there (steps_of (writes_of 2 c.args.node (list_of from)) from) (Rests (front ++ behind)) (grows from there) image here
+    (c.removals_at_each_word.ensures.ends from c.args.node front behind (writable_here g c from there) (rests_as c.args.node from (c.requires.listed from there) front behind is)))
+    (returns-clause-whole g c)
 
 pub returns-clause-turns : goal.returns-clause-turns
 returns-clause-turns g c from there front behind is =
-    let old = g.F.Folder.told c.args.f.now in
-    let ready = told_ready c.args.files.now old c.requires.agrees c.requires.complete (g.met.F.Folder.are_bytes c.args.f.now) from there in
-    subst (λ (w : List ℕ). Turns old (g.F.Folder.told c.perform.new.f) w (front ++ behind)) (sym is)
-    (turns_part c.write_moments.ensures c.args.files.now from ready old (g.F.Folder.told c.perform.new.f) 2 c.args.node (pending_writes (record (list_of from) { operation = 2; transaction = c.args.node })) (front ++ c.args.node ∷ behind) (front ++ behind) there
-    (whole_here g c from there) (c.removals_at_each_write.ensures.turns c.args.node (list_of from) front behind (subst (IsAtRest (list_of from)) is (c.requires.listed from there).rest)) (part_here g c from there))
-
-pub returns-clause-stops : goal.returns-clause-stops
-returns-clause-stops g c = stops_as (g.F.Folder.told c.args.f.now) (g.F.Folder.told c.link-2.new.f) (g.F.Folder.told c.perform.new.f) (c.in_ok-prev.ensures.stays ∙ c.in_ok-next.ensures.stays) (map meant c.deref.result.now) (λ from. writes_of 2 c.args.node (list_of from)) (plan_is g c.before) c.perform.ensures.stops
+    let ws : List ListWrite = writes_of 2 c.args.node (list_of from) in
+    part_turns (g.F.Folder.told c.args.f.now) (g.F.Folder.told c.perform.new.f) from there (steps_of ws from) (quiet-writes ws from) (part_here g c from there) (walked from) (front ++ behind)
+    (subst (λ (old : List ℕ). TurnsAt 2 (CompletesTo old) (CompletesTo (front ++ behind)) from (steps_of ws from)) (sym is)
+    (c.removals_at_each_word.ensures.turns from c.args.node front behind (writable_here g c from there) (rests_as c.args.node from (c.requires.listed from there) front behind is)))
 
 pub returns-clause-sealed : goal.returns-clause-sealed
 returns-clause-sealed g c =
     on_ok_weaker c.perform.result
     (λ grows from there image here.
-    let files = c.args.files.now in
-    let old = g.F.Folder.told c.args.f.now in
-    let ready = told_ready files old c.requires.agrees c.requires.complete (g.met.F.Folder.are_bytes c.args.f.now) from there in
-    grown_sealed c.write_moments.ensures files old (g.F.Folder.told c.perform.new.f) from image there here (writes_of 2 c.args.node (list_of from)) ready (whole_here g c from there) (grows from there))
+    let ws : List ListWrite = writes_of 2 c.args.node (list_of from) in
+    all_made (g.F.Folder.told c.args.f.now) (g.F.Folder.told c.perform.new.f) from there (steps_of ws from) (AreSealed ws) (grows from there) image here (writes-seal from ws (writable_here g c from there) (can_here g c.before from there)))
     (returns-clause-whole g c)

@@ -2,7 +2,7 @@ use Rattle.std.proofs.Common.{inl}
 use Rattle.blk_lru.proofs.FailedChecks.{short_or_unsealed}
 use Rattle.blk_laws.proofs.NodeRecords.{record_checks}
 use Rattle.blk_lru.proofs.NodeWords.{node_kind, node_stands}
-use Rattle.blk_lru.proofs.Touching.{times_are}
+use Rattle.blk_laws.proofs.WordTurns.{times_are}
 use Rattle.blk_lru.proofs.changing.set_times.Goals as goal
 
 pub update_sealed-requires-clause-stands : goal.update_sealed-requires-clause-stands

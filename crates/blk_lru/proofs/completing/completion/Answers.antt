@@ -1,14 +1,12 @@
-use Rattle.std.proofs.Common.{rules, ◌≡◌, ◌∙◌, ℕ, List, Some, true, sym, subst}
+use Rattle.std.proofs.Common.{rules, ◌≡◌, ◌∙◌, ℕ, Some, true, sym, subst}
 use Rattle.blk_image.specs.Image.{Image}
-use Rattle.blk_volume.specs.ListView.{ListWrite}
 use Rattle.blk_volume.specs.View.{list_of}
 use Rattle.blk_lru.specs.Completing.{AreNodes, Finds}
 use Rattle.blk_lru.specs.Nodes.{is_node}
 use Rattle.blk_lru.specs.Plans.{code_of, pending, word_or_zero}
 use Rattle.blk_laws.specs.ListSteps.{AreOf, AreWords}
-use Rattle.blk_lru.proofs.Conditions.{Checked}
-use Rattle.blk_lru.proofs.Counting.{found_checked, found_stand, found_writes, no_writes}
-use Rattle.blk_lru.proofs.PlanNodes.{each_nodes, each_words, weaker}
+use Rattle.blk_laws.proofs.WriteWords.{completion_can, each_nodes, each_words}
+use Rattle.blk_lru.proofs.Counting.{found_stand, found_writes, no_writes}
 use Rattle.blk_lru.proofs.completing.completion.Given as given
 use Rattle.blk_lru.proofs.completing.completion.Goals as goal
 
@@ -36,9 +34,4 @@ returns-clause-words g c =
     subst AreWords (sym c.pending_of.ensures) (each_words P (pending (code_of c.in-Some.found.operation) c.in-Some.found.node (word_or_zero c.in-Some.found.next) c.in-Some.found.prev (word_or_zero c.in-Some.found.head)) (found_stand c.args.files.now c.in-Some.found (nodes g c)))
 
 pub returns-clause-check : goal.returns-clause-check
-returns-clause-check g c image there =
-    let f = finds g c image there in
-    let plan : List ListWrite = pending (code_of c.in-Some.found.operation) c.in-Some.found.node (word_or_zero c.in-Some.found.next) c.in-Some.found.prev (word_or_zero c.in-Some.found.head) in
-    let P : ℕ → Type 0 = λ n. (list_of image).checks n ≡ true in
-    subst (AreOf P) (sym c.pending_of.ensures)
-    (weaker (Checked c.args.files.now image) P plan (λ n h. h.1) (each_nodes (Checked c.args.files.now image) plan (found_checked c.args.files.now image c.in-Some.found (nodes g c) f.0 f.1)))
+returns-clause-check g c image there = subst (AreOf (λ n. (list_of image).checks n ≡ true)) (sym (returns-clause-plan g c image there)) (completion_can image).nodes

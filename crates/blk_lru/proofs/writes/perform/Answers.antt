@@ -4,7 +4,7 @@ use Rattle.blk_volume.specs.View.{list_of}
 use Rattle.blk_lru.specs.Nodes.{is_node}
 use Rattle.blk_lru.specs.Writes.{meant}
 use Rattle.blk_lru.proofs.FailedChecks.{if_damaged_weaker}
-use Rattle.blk_lru.proofs.Performing.{Reached, Wrote, nothing, midst, one_more, in_part, done_all, wrote_part, passes, told_ready, told_may, told_made, told_after, part_ready, first_checks, at_item, item_is, all_done, back_untold}
+use Rattle.blk_lru.proofs.Performing.{Reached, Wrote, nothing, midst, one_more, in_part, done_all, wrote_part, passes, told_ready, told_can, told_made, told_after, part_ready, first_checks, at_item, item_is, all_done, back_untold}
 use Rattle.blk_io.proofs.Carried.{carried}
 use Rattle.blk_lru.proofs.writes.perform.Goals as goal
 
@@ -19,94 +19,94 @@ write_one-requires-clause-complete g c image there =
     let old = g.F.Folder.told c.args.f.now in
     let ws : List ListWrite = map meant c.args.writes.now in
     let ready = told_ready c.args.files.now old c.requires.agrees c.requires.complete (g.met.F.Folder.are_bytes c.args.f.now) in
-    let may = told_may c.args.files.now old ws c.requires.stand c.requires.words c.requires.check in
+    let can = told_can old ws c.requires.words c.requires.check in
     let now = g.F.Folder.told c.loop-write.f in
     let left : List ListWrite = map meant (drop (c.loop-write.write-index + 1) c.args.writes.now) in
     let reached : Reached old now ws (meant c.write-item.result ∷ left) = subst (Reached old now ws) (at_item c.args.writes.now c.loop-write.write-index c.write-item.result c.write-item.result c.loop-write-test.true (sym c.write-item.is)) c.loop-write.invariant.reached in
-    (midst c.write_moments.ensures c.args.files.now old ws ready may now (meant c.write-item.result ∷ left) reached image there).0.index
+    (midst c.args.files.now old ws ready can now (meant c.write-item.result ∷ left) reached image there).0.index
 
 pub write_one-requires-clause-agrees : goal.write_one-requires-clause-agrees
 write_one-requires-clause-agrees g c image there =
     let old = g.F.Folder.told c.args.f.now in
     let ws : List ListWrite = map meant c.args.writes.now in
     let ready = told_ready c.args.files.now old c.requires.agrees c.requires.complete (g.met.F.Folder.are_bytes c.args.f.now) in
-    let may = told_may c.args.files.now old ws c.requires.stand c.requires.words c.requires.check in
+    let can = told_can old ws c.requires.words c.requires.check in
     let now = g.F.Folder.told c.loop-write.f in
     let left : List ListWrite = map meant (drop (c.loop-write.write-index + 1) c.args.writes.now) in
     let reached : Reached old now ws (meant c.write-item.result ∷ left) = subst (Reached old now ws) (at_item c.args.writes.now c.loop-write.write-index c.write-item.result c.write-item.result c.loop-write-test.true (sym c.write-item.is)) c.loop-write.invariant.reached in
-    (midst c.write_moments.ensures c.args.files.now old ws ready may now (meant c.write-item.result ∷ left) reached image there).0.agrees
+    (midst c.args.files.now old ws ready can now (meant c.write-item.result ∷ left) reached image there).0.agrees
 
 pub write_one-requires-clause-check : goal.write_one-requires-clause-check
 write_one-requires-clause-check g c image there =
     let old = g.F.Folder.told c.args.f.now in
     let ws : List ListWrite = map meant c.args.writes.now in
     let ready = told_ready c.args.files.now old c.requires.agrees c.requires.complete (g.met.F.Folder.are_bytes c.args.f.now) in
-    let may = told_may c.args.files.now old ws c.requires.stand c.requires.words c.requires.check in
+    let can = told_can old ws c.requires.words c.requires.check in
     let now = g.F.Folder.told c.loop-write.f in
     let left : List ListWrite = map meant (drop (c.loop-write.write-index + 1) c.args.writes.now) in
     let reached : Reached old now ws (meant c.write-item.result ∷ left) = subst (Reached old now ws) (at_item c.args.writes.now c.loop-write.write-index c.write-item.result c.write-item.result c.loop-write-test.true (sym c.write-item.is)) c.loop-write.invariant.reached in
-    first_checks (list_of image).checks c.write-item.result left (midst c.write_moments.ensures c.args.files.now old ws ready may now (meant c.write-item.result ∷ left) reached image there).1.1.0
+    first_checks (list_of image).checks c.write-item.result left (midst c.args.files.now old ws ready can now (meant c.write-item.result ∷ left) reached image there).1.nodes
 
 pub returns-in_err-write_one-clause-part : goal.returns-in_err-write_one-clause-part
 returns-in_err-write_one-clause-part g c =
     let old = g.F.Folder.told c.args.f.now in
     let ws : List ListWrite = map meant c.args.writes.now in
     let ready = told_ready c.args.files.now old c.requires.agrees c.requires.complete (g.met.F.Folder.are_bytes c.args.f.now) in
-    let may = told_may c.args.files.now old ws c.requires.stand c.requires.words c.requires.check in
+    let can = told_can old ws c.requires.words c.requires.check in
     let now = g.F.Folder.told c.loop-write.f in
     let left : List ListWrite = map meant (drop (c.loop-write.write-index + 1) c.args.writes.now) in
     let reached : Reached old now ws (meant c.write-item.result ∷ left) = subst (Reached old now ws) (at_item c.args.writes.now c.loop-write.write-index c.write-item.result c.write-item.result c.loop-write-test.true (sym c.write-item.is)) c.loop-write.invariant.reached in
     let next = g.F.Folder.told c.write_one.new.f in
-    in_part c.write_moments.ensures c.args.files.now old ws ready may now next (meant c.write-item.result) left reached c.in_err-write_one.ensures.part
+    in_part c.args.files.now old ws ready can now next (meant c.write-item.result) left reached c.in_err-write_one.ensures.part
 
 pub returns-in_err-write_one-clause-stops : goal.returns-in_err-write_one-clause-stops
 returns-in_err-write_one-clause-stops g c =
     let old = g.F.Folder.told c.args.f.now in
     let ws : List ListWrite = map meant c.args.writes.now in
     let ready = told_ready c.args.files.now old c.requires.agrees c.requires.complete (g.met.F.Folder.are_bytes c.args.f.now) in
-    let may = told_may c.args.files.now old ws c.requires.stand c.requires.words c.requires.check in
+    let can = told_can old ws c.requires.words c.requires.check in
     let now = g.F.Folder.told c.loop-write.f in
     let left : List ListWrite = map meant (drop (c.loop-write.write-index + 1) c.args.writes.now) in
     let reached : Reached old now ws (meant c.write-item.result ∷ left) = subst (Reached old now ws) (at_item c.args.writes.now c.loop-write.write-index c.write-item.result c.write-item.result c.loop-write-test.true (sym c.write-item.is)) c.loop-write.invariant.reached in
     let next = g.F.Folder.told c.write_one.new.f in
-    let part = in_part c.write_moments.ensures c.args.files.now old ws ready may now next (meant c.write-item.result) left reached c.in_err-write_one.ensures.part in
+    let part = in_part c.args.files.now old ws ready can now next (meant c.write-item.result) left reached c.in_err-write_one.ensures.part in
     let silent : old.files ≡ None → next.files ≡ None = λ none. c.in_err-write_one.ensures.silent (reached.wrote.silent none) in
-    passes c.write_moments.ensures c.args.files.now old ws ready may next part
+    passes c.args.files.now old ws ready can next part
 
 pub returns-in_err-write_one-clause-complete : goal.returns-in_err-write_one-clause-complete
 returns-in_err-write_one-clause-complete g c image there =
     let old = g.F.Folder.told c.args.f.now in
     let ws : List ListWrite = map meant c.args.writes.now in
     let ready = told_ready c.args.files.now old c.requires.agrees c.requires.complete (g.met.F.Folder.are_bytes c.args.f.now) in
-    let may = told_may c.args.files.now old ws c.requires.stand c.requires.words c.requires.check in
+    let can = told_can old ws c.requires.words c.requires.check in
     let now = g.F.Folder.told c.loop-write.f in
     let left : List ListWrite = map meant (drop (c.loop-write.write-index + 1) c.args.writes.now) in
     let reached : Reached old now ws (meant c.write-item.result ∷ left) = subst (Reached old now ws) (at_item c.args.writes.now c.loop-write.write-index c.write-item.result c.write-item.result c.loop-write-test.true (sym c.write-item.is)) c.loop-write.invariant.reached in
     let next = g.F.Folder.told c.write_one.new.f in
-    let part = in_part c.write_moments.ensures c.args.files.now old ws ready may now next (meant c.write-item.result) left reached c.in_err-write_one.ensures.part in
+    let part = in_part c.args.files.now old ws ready can now next (meant c.write-item.result) left reached c.in_err-write_one.ensures.part in
     let silent : old.files ≡ None → next.files ≡ None = λ none. c.in_err-write_one.ensures.silent (reached.wrote.silent none) in
-    (part_ready c.write_moments.ensures c.args.files.now old ws ready may next part silent image there).1
+    (part_ready c.args.files.now old ws ready can next part silent image there).1
 
 pub returns-in_err-write_one-clause-agrees : goal.returns-in_err-write_one-clause-agrees
 returns-in_err-write_one-clause-agrees g c image there =
     let old = g.F.Folder.told c.args.f.now in
     let ws : List ListWrite = map meant c.args.writes.now in
     let ready = told_ready c.args.files.now old c.requires.agrees c.requires.complete (g.met.F.Folder.are_bytes c.args.f.now) in
-    let may = told_may c.args.files.now old ws c.requires.stand c.requires.words c.requires.check in
+    let can = told_can old ws c.requires.words c.requires.check in
     let now = g.F.Folder.told c.loop-write.f in
     let left : List ListWrite = map meant (drop (c.loop-write.write-index + 1) c.args.writes.now) in
     let reached : Reached old now ws (meant c.write-item.result ∷ left) = subst (Reached old now ws) (at_item c.args.writes.now c.loop-write.write-index c.write-item.result c.write-item.result c.loop-write-test.true (sym c.write-item.is)) c.loop-write.invariant.reached in
     let next = g.F.Folder.told c.write_one.new.f in
-    let part = in_part c.write_moments.ensures c.args.files.now old ws ready may now next (meant c.write-item.result) left reached c.in_err-write_one.ensures.part in
+    let part = in_part c.args.files.now old ws ready can now next (meant c.write-item.result) left reached c.in_err-write_one.ensures.part in
     let silent : old.files ≡ None → next.files ≡ None = λ none. c.in_err-write_one.ensures.silent (reached.wrote.silent none) in
-    (part_ready c.write_moments.ensures c.args.files.now old ws ready may next part silent image there).0
+    (part_ready c.args.files.now old ws ready can next part silent image there).0
 
 pub returns-in_err-write_one-clause-untold : goal.returns-in_err-write_one-clause-untold
 returns-in_err-write_one-clause-untold g c =
     let old = g.F.Folder.told c.args.f.now in
     let ws : List ListWrite = map meant c.args.writes.now in
     let ready = told_ready c.args.files.now old c.requires.agrees c.requires.complete (g.met.F.Folder.are_bytes c.args.f.now) in
-    let may = told_may c.args.files.now old ws c.requires.stand c.requires.words c.requires.check in
+    let can = told_can old ws c.requires.words c.requires.check in
     let now = g.F.Folder.told c.loop-write.f in
     let left : List ListWrite = map meant (drop (c.loop-write.write-index + 1) c.args.writes.now) in
     let reached : Reached old now ws (meant c.write-item.result ∷ left) = subst (Reached old now ws) (at_item c.args.writes.now c.loop-write.write-index c.write-item.result c.write-item.result c.loop-write-test.true (sym c.write-item.is)) c.loop-write.invariant.reached in
@@ -117,21 +117,21 @@ loop-write-preserved g c =
     let old = g.F.Folder.told c.args.f.now in
     let ws : List ListWrite = map meant c.args.writes.now in
     let ready = told_ready c.args.files.now old c.requires.agrees c.requires.complete (g.met.F.Folder.are_bytes c.args.f.now) in
-    let may = told_may c.args.files.now old ws c.requires.stand c.requires.words c.requires.check in
+    let can = told_can old ws c.requires.words c.requires.check in
     let now = g.F.Folder.told c.loop-write.f in
     let left : List ListWrite = map meant (drop (c.loop-write.write-index + 1) c.args.writes.now) in
     let reached : Reached old now ws (meant c.write-item.result ∷ left) = subst (Reached old now ws) (at_item c.args.writes.now c.loop-write.write-index c.write-item.result c.write-item.result c.loop-write-test.true (sym c.write-item.is)) c.loop-write.invariant.reached in
     let next = g.F.Folder.told c.write_one.new.f in
-    record { reached = one_more c.write_moments.ensures c.args.files.now old ws ready may now next (meant c.write-item.result) left reached c.in_ok-write_one.ensures.whole c.in_ok-write_one.ensures.silent; later = omega (arith, c.loop-write.invariant.later, c.in_ok-write_one.ensures.later) }
+    record { reached = one_more c.args.files.now old ws ready can now next (meant c.write-item.result) left reached c.in_ok-write_one.ensures.whole c.in_ok-write_one.ensures.silent; later = omega (arith, c.loop-write.invariant.later, c.in_ok-write_one.ensures.later) }
 
 pub returns-clause-whole : goal.returns-clause-whole
 returns-clause-whole g c =
     let old = g.F.Folder.told c.args.f.now in
     let ws : List ListWrite = map meant c.args.writes.now in
     let ready = told_ready c.args.files.now old c.requires.agrees c.requires.complete (g.met.F.Folder.are_bytes c.args.f.now) in
-    let may = told_may c.args.files.now old ws c.requires.stand c.requires.words c.requires.check in
+    let can = told_can old ws c.requires.words c.requires.check in
     let now = g.F.Folder.told c.loop-write.f in
-    let wrote : Wrote old now ws = done_all c.write_moments.ensures c.args.files.now old ws ready may now (subst (Reached old now ws) (all_done c.args.writes.now c.loop-write.write-index c.loop-write-test.false) c.loop-write.invariant.reached) in
+    let wrote : Wrote old now ws = done_all c.args.files.now old ws ready can now (subst (Reached old now ws) (all_done c.args.writes.now c.loop-write.write-index c.loop-write-test.false) c.loop-write.invariant.reached) in
     wrote.grows
 
 pub returns-clause-part : goal.returns-clause-part
@@ -139,9 +139,9 @@ returns-clause-part g c =
     let old = g.F.Folder.told c.args.f.now in
     let ws : List ListWrite = map meant c.args.writes.now in
     let ready = told_ready c.args.files.now old c.requires.agrees c.requires.complete (g.met.F.Folder.are_bytes c.args.f.now) in
-    let may = told_may c.args.files.now old ws c.requires.stand c.requires.words c.requires.check in
+    let can = told_can old ws c.requires.words c.requires.check in
     let now = g.F.Folder.told c.loop-write.f in
-    let wrote : Wrote old now ws = done_all c.write_moments.ensures c.args.files.now old ws ready may now (subst (Reached old now ws) (all_done c.args.writes.now c.loop-write.write-index c.loop-write-test.false) c.loop-write.invariant.reached) in
+    let wrote : Wrote old now ws = done_all c.args.files.now old ws ready can now (subst (Reached old now ws) (all_done c.args.writes.now c.loop-write.write-index c.loop-write-test.false) c.loop-write.invariant.reached) in
     wrote_part wrote
 
 pub returns-clause-stops : goal.returns-clause-stops
@@ -149,47 +149,47 @@ returns-clause-stops g c =
     let old = g.F.Folder.told c.args.f.now in
     let ws : List ListWrite = map meant c.args.writes.now in
     let ready = told_ready c.args.files.now old c.requires.agrees c.requires.complete (g.met.F.Folder.are_bytes c.args.f.now) in
-    let may = told_may c.args.files.now old ws c.requires.stand c.requires.words c.requires.check in
+    let can = told_can old ws c.requires.words c.requires.check in
     let now = g.F.Folder.told c.loop-write.f in
-    let wrote : Wrote old now ws = done_all c.write_moments.ensures c.args.files.now old ws ready may now (subst (Reached old now ws) (all_done c.args.writes.now c.loop-write.write-index c.loop-write-test.false) c.loop-write.invariant.reached) in
-    passes c.write_moments.ensures c.args.files.now old ws ready may now (wrote_part wrote)
+    let wrote : Wrote old now ws = done_all c.args.files.now old ws ready can now (subst (Reached old now ws) (all_done c.args.writes.now c.loop-write.write-index c.loop-write-test.false) c.loop-write.invariant.reached) in
+    passes c.args.files.now old ws ready can now (wrote_part wrote)
 
 pub returns-clause-made : goal.returns-clause-made
 returns-clause-made g c =
     let old = g.F.Folder.told c.args.f.now in
     let ws : List ListWrite = map meant c.args.writes.now in
     let ready = told_ready c.args.files.now old c.requires.agrees c.requires.complete (g.met.F.Folder.are_bytes c.args.f.now) in
-    let may = told_may c.args.files.now old ws c.requires.stand c.requires.words c.requires.check in
+    let can = told_can old ws c.requires.words c.requires.check in
     let now = g.F.Folder.told c.loop-write.f in
-    let wrote : Wrote old now ws = done_all c.write_moments.ensures c.args.files.now old ws ready may now (subst (Reached old now ws) (all_done c.args.writes.now c.loop-write.write-index c.loop-write-test.false) c.loop-write.invariant.reached) in
-    told_made c.write_moments.ensures c.args.files.now old now ws ready may wrote
+    let wrote : Wrote old now ws = done_all c.args.files.now old ws ready can now (subst (Reached old now ws) (all_done c.args.writes.now c.loop-write.write-index c.loop-write-test.false) c.loop-write.invariant.reached) in
+    told_made c.args.files.now old now ws ready can wrote
 
 pub returns-clause-complete : goal.returns-clause-complete
 returns-clause-complete g c image there =
     let old = g.F.Folder.told c.args.f.now in
     let ws : List ListWrite = map meant c.args.writes.now in
     let ready = told_ready c.args.files.now old c.requires.agrees c.requires.complete (g.met.F.Folder.are_bytes c.args.f.now) in
-    let may = told_may c.args.files.now old ws c.requires.stand c.requires.words c.requires.check in
+    let can = told_can old ws c.requires.words c.requires.check in
     let now = g.F.Folder.told c.loop-write.f in
-    let wrote : Wrote old now ws = done_all c.write_moments.ensures c.args.files.now old ws ready may now (subst (Reached old now ws) (all_done c.args.writes.now c.loop-write.write-index c.loop-write-test.false) c.loop-write.invariant.reached) in
-    (told_after c.write_moments.ensures c.args.files.now old now ws ready may wrote image there).index
+    let wrote : Wrote old now ws = done_all c.args.files.now old ws ready can now (subst (Reached old now ws) (all_done c.args.writes.now c.loop-write.write-index c.loop-write-test.false) c.loop-write.invariant.reached) in
+    (told_after c.args.files.now old now ws ready can wrote image there).index
 
 pub returns-clause-agrees : goal.returns-clause-agrees
 returns-clause-agrees g c image there =
     let old = g.F.Folder.told c.args.f.now in
     let ws : List ListWrite = map meant c.args.writes.now in
     let ready = told_ready c.args.files.now old c.requires.agrees c.requires.complete (g.met.F.Folder.are_bytes c.args.f.now) in
-    let may = told_may c.args.files.now old ws c.requires.stand c.requires.words c.requires.check in
+    let can = told_can old ws c.requires.words c.requires.check in
     let now = g.F.Folder.told c.loop-write.f in
-    let wrote : Wrote old now ws = done_all c.write_moments.ensures c.args.files.now old ws ready may now (subst (Reached old now ws) (all_done c.args.writes.now c.loop-write.write-index c.loop-write-test.false) c.loop-write.invariant.reached) in
-    (told_after c.write_moments.ensures c.args.files.now old now ws ready may wrote image there).agrees
+    let wrote : Wrote old now ws = done_all c.args.files.now old ws ready can now (subst (Reached old now ws) (all_done c.args.writes.now c.loop-write.write-index c.loop-write-test.false) c.loop-write.invariant.reached) in
+    (told_after c.args.files.now old now ws ready can wrote image there).agrees
 
 pub returns-clause-silent : goal.returns-clause-silent
 returns-clause-silent g c =
     let old = g.F.Folder.told c.args.f.now in
     let ws : List ListWrite = map meant c.args.writes.now in
     let ready = told_ready c.args.files.now old c.requires.agrees c.requires.complete (g.met.F.Folder.are_bytes c.args.f.now) in
-    let may = told_may c.args.files.now old ws c.requires.stand c.requires.words c.requires.check in
+    let can = told_can old ws c.requires.words c.requires.check in
     let now = g.F.Folder.told c.loop-write.f in
-    let wrote : Wrote old now ws = done_all c.write_moments.ensures c.args.files.now old ws ready may now (subst (Reached old now ws) (all_done c.args.writes.now c.loop-write.write-index c.loop-write-test.false) c.loop-write.invariant.reached) in
+    let wrote : Wrote old now ws = done_all c.args.files.now old ws ready can now (subst (Reached old now ws) (all_done c.args.writes.now c.loop-write.write-index c.loop-write-test.false) c.loop-write.invariant.reached) in
     wrote.silent

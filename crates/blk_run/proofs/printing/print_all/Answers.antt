@@ -1,8 +1,7 @@
-use Rattle.std.proofs.Common.{◌≡◌, ◌≤◌, ℕ, List, take, drop, length, Option, ap, sym, subst, ◌∙◌, arith, ◌+◌, ◌++◌, []}
+use Rattle.std.proofs.Common.{ℕ, List, ap, sym, subst, ◌∙◌, arith, ◌++◌, []}
 use Rattle.std.specs.List.{flat_map}
 use Rattle.std.specs.Option.{option_map}
 use Rattle.std.proofs.lemmas.List.{take_all}
-use Rattle.std.proofs.lemmas.Result.{on_ok_weaker}
 use Rattle.blk_io.specs.Streams.{Appends}
 use Rattle.blk_run.proofs.Printed.{then_more, then_part, part_of, whole_part, one_more, pieces_split}
 use Rattle.blk_run.proofs.printing.print_all.Goals as goal

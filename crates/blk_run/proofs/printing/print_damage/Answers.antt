@@ -1,4 +1,4 @@
-use Rattle.std.proofs.Common.{◌≡◌, ◌∙◌, List, ℕ, subst}
+use Rattle.std.proofs.Common.{◌∙◌, subst}
 use Rattle.blk_run.specs.Texts.{Prints}
 use Rattle.blk_run.proofs.Printed.{prints, index_line, block_line}
 use Rattle.blk_run.proofs.printing.print_damage.Goals as goal

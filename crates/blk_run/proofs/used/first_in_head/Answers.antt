@@ -1,4 +1,4 @@
-use Rattle.std.proofs.Common.{◌≡◌, ◌+◌, ◌≤◌, ℕ, List, [], ◌∷◌, refl, arith, lit≤}
+use Rattle.std.proofs.Common.{◌≡◌, ℕ, List, [], ◌∷◌, refl, arith, lit≤}
 use Rattle.blk_image.specs.Bytes.{range_at}
 use Rattle.blk_image.specs.Image.{Index, byte}
 use Rattle.blk_io.specs.declared.folder.FileId.TheVariants as names

@@ -1,6 +1,6 @@
-use Rattle.std.proofs.Common.{◌≡◌, ◌+◌, ◌*◌, ◌≤◌, ◌<◌, ℕ, List, None, Some, refl, sym, ◌∙◌, ap, subst, arith}
-use Rattle.blk_image.specs.Bytes.{content, word_at, range_at}
-use Rattle.blk_image.specs.Image.{Index, byte, Image, word}
+use Rattle.std.proofs.Common.{◌≡◌, ◌+◌, ◌*◌, ℕ, Some, ◌∙◌, ap, subst, arith}
+use Rattle.blk_image.specs.Bytes.{range_at}
+use Rattle.blk_image.specs.Image.{Index, byte}
 use Rattle.blk_format.specs.Headers.{place_of_bucket}
 use Rattle.blk_io.specs.declared.folder.FileId.TheVariants as names
 use Rattle.blk_io.proofs.Shorts.{untold_if}

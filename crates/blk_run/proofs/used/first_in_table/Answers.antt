@@ -1,10 +1,9 @@
-use Rattle.std.proofs.Common.{◌≡◌, ◌+◌, ◌*◌, ◌≤◌, ◌<◌, ℕ, Option, None, Some, refl, sym, ◌∙◌, ap, subst, arith}
-use Rattle.blk_image.specs.Image.{Image}
+use Rattle.std.proofs.Common.{◌≡◌, ◌+◌, ◌*◌, ℕ, Option, None, Some, refl, ◌∙◌, ap, subst, arith}
 use Rattle.blk_image.specs.Told.{Told}
 use Rattle.blk_format.specs.Headers.{place_of_bucket}
 use Rattle.blk_run.specs.declared.used.Used.{Used}
 use Rattle.blk_run.specs.Used.{AreUnused, FirstUsed}
-use Rattle.blk_run.proofs.UsedWords.{behind, among_more}
+use Rattle.blk_run.proofs.UsedWords.{behind, among_more, named_more}
 use Rattle.blk_run.proofs.used.first_in_table.Goals as goal
 
 pub returns-in-Some-clause-first : goal.returns-in-Some-clause-first
@@ -30,3 +29,8 @@ loop-number-preserved g c = record {
       subst (λ (n : ℕ). AreUnused place_of_bucket n image) many (behind place_of_bucket (1024 * number) 1024 image (c.loop-number.invariant.unused image there) None none);
   later = let later = c.in_ok-used.ensures.later in omega (arith, later, c.loop-number.invariant.later);
 }
+
+pub returns-in-Some-clause-named : goal.returns-in-Some-clause-named
+returns-in-Some-clause-named g c x there =
+    let number = c.loop-number.number in
+    named_more (λ j. place_of_bucket (1024 * number + j)) place_of_bucket 1024 (1024 * number) 65536 (omega (arith, c.loop-number-test.true)) (λ j. refl) x (c.in_ok-used.ensures.named x (c.in-Some.is ∙ there))

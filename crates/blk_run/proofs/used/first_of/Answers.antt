@@ -1,4 +1,4 @@
-use Rattle.std.proofs.Common.{◌≡◌, ℕ, ◌+◌, ◌<◌, get_or, refl, below_more}
+use Rattle.std.proofs.Common.{◌≡◌, get_or, refl, below_more}
 use Rattle.blk_run.proofs.used.first_of.Goals as goal
 
 pub returns-then-found-ne0 : goal.returns-then-found-ne0

@@ -1,4 +1,4 @@
-use Rattle.std.proofs.Common.{◌≡◌, ℕ, ◌*◌, sym, ◌∙◌, below_more}
+use Rattle.std.proofs.Common.{◌≡◌, ◌*◌, sym, ◌∙◌, below_more}
 use Rattle.blk_image.specs.Bytes.{content, word_at}
 use Rattle.blk_run.proofs.used.first_word.Goals as goal
 

@@ -1,4 +1,4 @@
-use Rattle.std.proofs.Common.{◌≡◌, ℕ, ◌+◌, ◌*◌, ◌/◌, sym, ◌∙◌, ap, subst, arith, refl, None, inl, inr}
+use Rattle.std.proofs.Common.{◌≡◌, ℕ, ◌+◌, ◌*◌, ◌/◌, ◌%◌, sym, ◌∙◌, ap, subst, arith, refl, None, inl, inr}
 use Rattle.std.specs.Option.{ForSome}
 use Rattle.blk_image.specs.Bytes.{range_at}
 use Rattle.blk_image.specs.Image.{Block, byte}
@@ -9,7 +9,9 @@ use Rattle.blk_io.proofs.Carried.{carried, untold_where, if_damaged, if_damaged_
 use Rattle.blk_io.specs.Faults.{IfDamaged, IsShort}
 use Rattle.blk_alloc.specs.Counting.{IsAtEnd}
 use Rattle.blk_alloc.specs.Owning.{IsCause}
-use Rattle.blk_alloc.specs.Changes.{IsReady}
+use Rattle.blk_format.specs.Maps.{longest_run}
+use Rattle.blk_addr.specs.Bits.{has_bit}
+use Rattle.blk_alloc.specs.Changes.{IsReady, with_marks}
 use Rattle.blk_alloc.proofs.Plans.{may_move, plan_is, run_before}
 use Rattle.blk_alloc.proofs.plan.Plan.read.Goals as goal
 
@@ -57,17 +59,24 @@ returns-clause-aligned g c = omega arith
 pub returns-in_err-counters-clause-cause : goal.returns-in_err-counters-clause-cause
 returns-in_err-counters-clause-cause g c =
     carried c.read.result c.from_residual.result c.in_err-counters.field-0.0 _ c.in_err-counters.was c.from_residual.ensures.1
-    (if_damaged_weaker c.read.result (IsShort (g.F.Folder.told c.args.f.now) (names.Block c.args.file) 0 80) (IsCause (g.F.Folder.told c.args.f.now) c.args.file c.args.start c.args.used) (λ damage short. inl (record { place = 0; count = 80; read = inl (refl, refl); short = short })) c.read.ensures.short)
+    (if_damaged_weaker c.read.result (IsShort (g.F.Folder.told c.args.f.now) (names.Block c.args.file) 0 80) (IsCause (g.F.Folder.told c.args.f.now) c.args.file c.args.start c.args.count c.args.used) (λ damage short. inl (record { place = 0; count = 80; read = inl (refl, refl); short = short })) c.read.ensures.short)
 
 pub returns-in_err-read_exact-clause-cause : goal.returns-in_err-read_exact-clause-cause
 returns-in_err-read_exact-clause-cause g c =
     carried c.read_exact.result c.from_residual-in_err-read_exact.result c.in_err-read_exact.field-0.0 _ c.in_err-read_exact.was c.from_residual-in_err-read_exact.ensures.1
-    (subst (λ (t : Told). IfDamaged c.read_exact.result (IsCause t c.args.file c.args.start c.args.used)) c.in_ok-counters.ensures.stays
-    (if_damaged_weaker c.read_exact.result (IsShort (g.F.Folder.told c.read.new.f) (names.Block c.args.file) (80 + 4 * c.from.result) 4) (IsCause (g.F.Folder.told c.read.new.f) c.args.file c.args.start c.args.used)
+    (subst (λ (t : Told). IfDamaged c.read_exact.result (IsCause t c.args.file c.args.start c.args.count c.args.used)) c.in_ok-counters.ensures.stays
+    (if_damaged_weaker c.read_exact.result (IsShort (g.F.Folder.told c.read.new.f) (names.Block c.args.file) (80 + 4 * c.from.result) 4) (IsCause (g.F.Folder.told c.read.new.f) c.args.file c.args.start c.args.count c.args.used)
     (λ damage short. inl (record { place = 80 + 4 * c.from.result; count = 4; read = inr (ap (λ (k : ℕ). 80 + 4 * k) c.from.ensures, refl); short = short })) c.read_exact.ensures.short))
 
 pub returns-in_err-counters-2-clause-cause : goal.returns-in_err-counters-2-clause-cause
 returns-in_err-counters-2-clause-cause g c =
     carried c.moved.result c.from_residual-in_err-counters-2.result c.in_err-counters-2.field-0.0 _ c.in_err-counters-2.was c.from_residual-in_err-counters-2.ensures.1
-    (if_damaged_weaker c.moved.result (IsAtEnd c.in_ok-counters.counters c.args.file c.args.used) (IsCause (g.F.Folder.told c.args.f.now) c.args.file c.args.start c.args.used)
-    (λ damage end. inr (record { counters = c.in_ok-counters.counters; are = c.in_ok-counters.ensures.counters; at_end = end })) c.moved.ensures.end)
+    (if_damaged_weaker c.moved.result (IsAtEnd c.in_ok-counters.counters c.args.file c.longest_run-before.result c.longest_run-later.result c.args.used) (IsCause (g.F.Folder.told c.args.f.now) c.args.file c.args.start c.args.count c.args.used)
+    (λ damage end. inr (record {
+      counters = c.in_ok-counters.counters;
+      bytes = c.read_exact.new.out;
+      are = c.in_ok-counters.ensures.counters;
+      of_map = λ image there. c.in_ok-read_exact.ensures.bytes image (ap (λ (t : Told). t.files) c.in_ok-counters.ensures.stays ∙ there) ∙ ap (λ (k : ℕ). range_at (byte image (Block c.args.file)) (80 + 4 * k) 4) c.from.ensures;
+      at_end = subst (λ (b : ℕ). IsAtEnd c.in_ok-counters.counters c.args.file b (longest_run (with_marks (has_bit c.read_exact.new.out) (c.args.start % 32) c.args.count c.args.used) (c.args.start % 32 / 4)) c.args.used damage) c.longest_run-before.ensures.run
+          (subst (λ (l : ℕ). IsAtEnd c.in_ok-counters.counters c.args.file c.longest_run-before.result l c.args.used damage) (c.longest_run-later.ensures.run ∙ (λ j. longest_run (λ m. c.set_marks.ensures.marks m j) (c.args.start % 32 / 4))) end);
+    })) c.moved.ensures.end)

@@ -1,0 +1,50 @@
+// The counters of a file are written, and its change is done.
+ghost use Rattle.std.specs.Prelude.{◌≡◌, ◌≤◌, length, OnOk, OnErr};
+ghost use Rattle.std.specs.Option.{ForSome};
+ghost use Rattle.blk_image.specs.Image.{Block as block, length_of};
+ghost use Rattle.blk_image.specs.Steps.{word_steps};
+ghost use Rattle.blk_image.specs.Told.{Grows, GrowsInPart, Rises};
+ghost use Rattle.blk_alloc.specs.Changes.{counter_words, finish_words};
+
+use crate::counters::{ALLOCATIONS, EMPTY};
+use crate::run::write_run;
+use blk_io::{Failed, FileId, Folder, write_word};
+
+// The place of updating.
+pub(crate) const UPDATING: u64 = 56;
+
+// Writes the number of allocations of a file, and how many groups have each longest free run.
+fn write_counters<F: Folder>(
+    f: &mut F,
+    file: u8,
+    allocations: u32,
+    empty: &[u32],
+) -> Result<(), Failed>
+    requires four { length empty.now ≡ 4 }
+    requires header { ForSome (F.told f.old).files (λ image. 8192 ≤ length_of image (block file)) }
+    ensures whole { OnOk result (Grows (F.told f.old) (F.told f.new) (word_steps (block file) (counter_words allocations empty.now))) }
+    ensures part { GrowsInPart (F.told f.old) (F.told f.new) (word_steps (block file) (counter_words allocations empty.now)) }
+    ensures later { F.faults f.old ≤ F.faults f.new }
+    ensures failed { OnErr result (Rises (F.faults f.old) (F.faults f.new)) }
+{
+    write_word(f, FileId::Block(file), ALLOCATIONS, allocations)?;
+    write_run(f, FileId::Block(file), EMPTY, empty)
+}
+
+// Writes the counters of a file, and then that its change is done.
+pub(crate) fn finish<F: Folder>(
+    f: &mut F,
+    file: u8,
+    allocations: u32,
+    empty: &[u32],
+) -> Result<(), Failed>
+    requires four { length empty.now ≡ 4 }
+    requires header { ForSome (F.told f.old).files (λ image. 8192 ≤ length_of image (block file)) }
+    ensures whole { OnOk result (Grows (F.told f.old) (F.told f.new) (word_steps (block file) (finish_words allocations empty.now))) }
+    ensures part { GrowsInPart (F.told f.old) (F.told f.new) (word_steps (block file) (finish_words allocations empty.now)) }
+    ensures later { F.faults f.old ≤ F.faults f.new }
+    ensures failed { OnErr result (Rises (F.faults f.old) (F.faults f.new)) }
+{
+    write_counters(f, file, allocations, empty)?;
+    write_word(f, FileId::Block(file), UPDATING, 0)
+}

@@ -1,0 +1,7 @@
+-- Words that stand side by side.
+use Rattle.std.specs.Prelude.{ℕ, ◌+◌, List, [], ◌∷◌}
+
+-- words from a place on, each behind the one before, with their places
+abbrev pub run_from : ℕ → List ℕ → List (ℕ × ℕ)
+run_from place [] = []
+run_from place (word ∷ words) = (place, word) ∷ run_from (place + 4) words

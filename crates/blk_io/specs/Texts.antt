@@ -1,0 +1,35 @@
+-- What is printed of files, damages and faults.
+use Rattle.std.specs.Prelude.{false, ℕ, ◌-◌, List, ◌++◌, length, replicate, codes, decimal}
+use Rattle.std.specs.Fmt.{digits}
+use Rattle.blk_image.specs.Image.{File, Index, Block, External}
+use Rattle.blk_image.specs.Checks as checks
+use Rattle.blk_io.specs.declared.fault.Fault.{Fault}
+use Rattle.blk_io.specs.declared.fault.Fault.TheVariants.{Device, Damaged}
+use Rattle.blk_io.specs.Faults.{damage_of}
+
+-- a number in lower-case hexadecimal, with leading zeros (48 is '0') up to so many digits
+unfoldable pub hex_text : ℕ → ℕ → List ℕ
+hex_text least n = replicate (least - length (digits 16 false n)) 48 ++ digits 16 false n
+
+-- the name of a file: a block file's number is in decimal, an external file's has at least six hexadecimal digits
+unfoldable pub name_of : File → List ℕ
+name_of Index = codes "index"
+name_of (Block n) = codes "data_" ++ decimal n
+name_of (External n) = codes "f_" ++ hex_text 6 n
+
+-- a damage: the file, the place in decimal, the word in eight hexadecimal digits
+unfoldable pub damage_text : checks.Damage → List ℕ
+damage_text damage = codes "damaged " ++ (name_of damage.file ++ (codes " " ++ (decimal damage.at ++ (codes " " ++ hex_text 8 damage.found))))
+
+-- a failure of the folder, the source or the sink
+abbrev pub failed_text : List ℕ
+failed_text = codes "the device failed"
+
+-- no memory
+abbrev pub no_memory_text : List ℕ
+no_memory_text = codes "there is no memory"
+
+-- a fault
+abbrev pub fault_text : Fault → List ℕ
+fault_text Device = failed_text
+fault_text (Damaged damage) = damage_text (damage_of damage)
