@@ -1,6 +1,6 @@
 -- The laws on a doom, word by word: the entry `a`, which a handle names, is behind `kmyb` in the list and in their chain; it is taken out of both, and its record gets state 2.
 use Rattle.std.proofs.Common.{◌≡◌, ⊎_elim, inr, ℕ, List, [], ◌∷◌, map, refl, ap, sym, ◌∙◌, subst, arith, Bool, true, false, Option, Some, Ok}
-use Rattle.std.specs.Prelude.{if◌then◌else◌, ◌==◌, ◌||◌, codes}
+use Rattle.std.specs.Prelude.{if◌then◌else◌, nat_lt, take, ◌==◌, ◌||◌, codes}
 use Rattle.std.proofs.lemmas.Bool.{cases_Bool, eqb-true, eq-eqb}
 use Rattle.std.proofs.lemmas.Bool.Decides.{nat_tests}
 use Rattle.blk_model.specs.Items.{Item, main, main_row, plain, same_item, IsKey}
@@ -23,7 +23,7 @@ use Rattle.blk_volume.specs.View.{View, Stock}
 use Rattle.blk_volume.specs.Chains.{bucket_of_hash, IsChain}
 use Rattle.blk_volume.specs.Entries.{IsPlain, is_key_length, key_of, stream_of, streams_of, role_of}
 use Rattle.blk_volume.specs.Loads.{alone, held, Loaded, load, load_key, load_record, record_claims, all_claims}
-use Rattle.blk_volume.specs.Audit.{kept_among}
+use Rattle.blk_volume.specs.Audit.{kept_among, kept_by}
 use Rattle.blk_volume.specs.Found as volume
 use Rattle.blk_volume.specs.Layout.{Layout, is_listed, IsListedRecord, Lies, HoldsBut, Represents}
 use Rattle.blk_volume.specs.Footprint.{IsClear, SameStock, SameBut, OnlyLinksChange, IsOnlyRecord}
@@ -39,6 +39,7 @@ use Rattle.blk_laws.proofs.DirtyWords.{dirty-settles}
 use Rattle.blk_laws.proofs.DoomedChanges.{handles-not_shown}
 use Rattle.blk_laws.proofs.DoomedObjects.{listed-rest}
 use Rattle.blk_laws.proofs.Dooming.{dooms-keep, doomed-is-laid, doomed-is-represented}
+use Rattle.blk_laws.proofs.DoomMoments.{dooms-moments}
 use Rattle.blk_laws.proofs.OthersHold.{represented-but, more-left_out, others-outside, others-unlinked, chained-only, records-outside, records-unlinked, another-state}
 use Rattle.blk_laws.proofs.ExampleChanges.{not-clear}
 
@@ -191,6 +192,12 @@ unfolding created closed rest settled_row
 both-are_at_rest = listed-rest (λ w. false) two_view.stock two two_layout whole-holds two-is_valid two-is_represented.list.distinct (λ item h. refl)
 
 -- ---- the node of `a` is taken out of the list
+
+-- at each write of that what is kept is what is at rest before the doom, or after it
+pub doom-moments : (count : ℕ) → map volume.row_of (kept_by held (volume.completed (record two_view { list = after_writes (take count (writes_of remove node two_view.list)) two_view.list })))
+    ≡ (if nat_lt count 2 then rest two else rest (doomed 0 two (Some (object true))))
+unfolding created closed
+doom-moments = dooms-moments two_view two two_layout two-is_represented two-is_valid 0 (object true) refl refl
 
 abbrev others : Item → Bool
 others = is_of_another (codes "a")

@@ -1,6 +1,6 @@
 -- The laws on removals and dooms at a sparse object with one part: the part goes alone, and the object is doomed with it.
 use Rattle.std.proofs.Common.{◌≡◌, ⊎_elim, ℕ, [], ◌∷◌, map, refl, ap, sym, ◌∙◌, subst, arith, Bool, true, false, Some, None, Ok}
-use Rattle.std.specs.Prelude.{if◌then◌else◌, ◌==◌, ◌||◌, not, codes}
+use Rattle.std.specs.Prelude.{if◌then◌else◌, take, ◌==◌, ◌||◌, not, codes}
 use Rattle.std.proofs.lemmas.Bool.{eqb-true, cases_Bool}
 use Rattle.blk_model.specs.Items.{Item, main, part, same_item}
 use Rattle.blk_model.specs.Holding.{rest, settled_row}
@@ -21,7 +21,7 @@ use Rattle.blk_volume.specs.View.{View, Stock}
 use Rattle.blk_volume.specs.Chains.{bucket_of_hash, IsChain}
 use Rattle.blk_volume.specs.Entries.{is_key_length, key_of, stream_of, streams_of, role_of, parent_role}
 use Rattle.blk_volume.specs.Loads.{alone, held, Loaded, load, load_key, load_record}
-use Rattle.blk_volume.specs.Audit.{kept_among}
+use Rattle.blk_volume.specs.Audit.{kept_among, kept_by}
 use Rattle.blk_volume.specs.Found as volume
 use Rattle.blk_volume.specs.Layout.{is_listed, HoldsBut, Represents}
 use Rattle.blk_volume.specs.Removal.{without_items, laid_less, HasChains, is_of_another, laid_doomed}
@@ -31,6 +31,7 @@ use Rattle.blk_laws.proofs.OneEntry.{choice}
 use Rattle.blk_laws.proofs.AtRest.{removals-end}
 use Rattle.blk_laws.proofs.Unlinking.{less-represented}
 use Rattle.blk_laws.proofs.Dooming.{dooms-keep, doomed-is-represented}
+use Rattle.blk_laws.proofs.DoomMoments.{doomed-parts}
 use Rattle.blk_laws.proofs.OthersHold.{represented-but, laid-chained, others-unlinked}
 use Rattle.blk_laws.proofs.ExampleFamily.{part_node, parent_node, the_part, the_parent, family, family_state, family_layout, family_stock, family-holds, at-either, which-item}
 use Rattle.blk_laws.proofs.DamagedParts.{parent_core}
@@ -96,6 +97,15 @@ family-holds_but = represented-but (λ w. false) family_view named_state family_
 pub part-is_not_kept : map volume.row_of (kept_among family_stock held (part_node ∷ [])) ≡ []
 unfolding rest settled_row doomed
 part-is_not_kept = dooms-keep (λ w. false) family_stock named_state family_layout family-holds_but (named-is_valid true) 0 family refl not_main refl others-stay (refl, tt) (λ item h keeps. refl)
+
+-- nor at any write of the removal of the part's node, which is alone in the list then
+abbrev without_main : View
+without_main = record { list = after_writes (writes_of remove parent_node family_view.list) family_view.list; stock = family_stock }
+
+pub part-is_never_kept : (count : ℕ) → map volume.row_of (kept_by held (volume.completed (record without_main { list = after_writes (take count (writes_of remove part_node without_main.list)) without_main.list }))) ≡ []
+unfolding rest settled_row doomed
+part-is_never_kept = doomed-parts (λ w. false) without_main named_state family_layout family-holds_but (named-is_valid true) 0 family refl not_main refl others-stay (λ item h keeps. refl)
+    (removals-end parent_node family_view.list (part_node ∷ []) [] family-at_rest) 0 refl refl
 
 -- then its part goes out of the list, both go out of their chains, the part's node goes, and the record of the object gets state 2
 abbrev both_gone : ℕ → Bool

@@ -39,6 +39,7 @@ pub mod DoomedObjects
 pub mod DoomedChanges
 pub mod OthersHold
 pub mod Dooming
+pub mod DoomMoments
 pub mod Bare
 pub mod NewFolders
 pub mod DamagedViews

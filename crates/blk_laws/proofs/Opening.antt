@@ -92,7 +92,7 @@ filter-absent i (j ∷ items) e =
 around-more : (i j : Item) (items : List Item) → same_item i j ≡ false → IsAround i items → IsAround i (j ∷ items)
 around-more i j items h a = record { before = j ∷ a.before; behind = a.behind; is = ap (λ (xs : List Item). j ∷ xs) a.is; rest = rw h (ap (λ (xs : List Item). j ∷ xs) a.rest) }
 
-around : (i : Item) (items : List Item) → is_in items i ≡ true → times i items ≤ 1 → IsAround i items
+pub around : (i : Item) (items : List Item) → is_in items i ≡ true → times i items ≤ 1 → IsAround i items
 around i [] there few = absurd (let c : false ≡ true = there in cc)
 around i (j ∷ items) there few =
     let t = times-cons i j items in
@@ -106,7 +106,7 @@ around i (j ∷ items) there few =
     around-more i j items h (around i items (rw h at there) (omega arith)))
     (cases_Bool (same_item i j))
 
-nodes-append : (y : Layout) (a b : List Item) → nodes_of y (a ++ b) ≡ nodes_of y a ++ nodes_of y b
+pub nodes-append : (y : Layout) (a b : List Item) → nodes_of y (a ++ b) ≡ nodes_of y a ++ nodes_of y b
 nodes-append y [] b = refl
 nodes-append y (i ∷ a) b = ap (λ (xs : List ℕ). y.place i ∷ xs) (nodes-append y a b)
 

@@ -1,9 +1,9 @@
 -- The laws of the changes that commands make: objects in the midst of a change, removals, the dirty word, Open and Create.
-use Rattle.std.specs.Prelude.{◌≡◌, ◌⊎◌, ℕ, ◌<◌, not, ◌&&◌, ◌==◌, List, [], length, map, take, Bool, true, false}
+use Rattle.std.specs.Prelude.{◌≡◌, ◌⊎◌, ℕ, ◌<◌, not, ◌&&◌, ◌==◌, if◌then◌else◌, nat_lt, List, [], length, map, take, Bool, true, false}
 use Rattle.std.specs.List.{filter, filter_map}
 use Rattle.std.specs.declared.option.Option.{Option}
 use Rattle.std.specs.declared.option.Option.TheVariants.{None, Some}
-use Rattle.blk_model.specs.Items.{Item, main, key_of}
+use Rattle.blk_model.specs.Items.{Item, main, part, key_of}
 use Rattle.blk_model.specs.State.{State, Object, IsValidState, object_at, has_item, is_named}
 use Rattle.blk_model.specs.Holding.{rest, owner}
 use Rattle.blk_model.specs.Request.{to_open, to_create}
@@ -16,7 +16,7 @@ use Rattle.blk_format.specs.Records as records
 use Rattle.blk_format.specs.Claims.{Claim, claims_of, has_claim, repeats}
 use Rattle.blk_format.specs.BlockFiles.{is_among}
 use Rattle.blk_volume.specs.ListView.{Distinct, most_nodes, put, after_writes}
-use Rattle.blk_volume.specs.Completion.{insert}
+use Rattle.blk_volume.specs.Completion.{insert, remove}
 use Rattle.blk_volume.specs.ListPlans.{writes_of, touch_writes}
 use Rattle.blk_volume.specs.View.{View, Stock, Named, Core}
 use Rattle.std.specs.declared.result.Result.TheVariants.{Ok}
@@ -202,6 +202,19 @@ abbrev pub DoomsKeepTheOthers : Type 0
 DoomsKeepTheOthers = (hole : ℕ → Bool) (stock : Stock) (state : State) (layout : Layout) → HoldsBut hole stock state layout → IsValidState state → (number : ℕ) (object : Object) → object_at state number ≡ Some object
     → (keep : Item → Bool) → keep (main object.key) ≡ false → ((item : Item) → is_of_another object.key item ≡ true → keep item ≡ true) → Distinct (nodes_of layout (filter keep state.uses)) → ((item : Item) → is_listed state item ≡ true → keep item ≡ true → hole (layout.place item) ≡ false)
     → map row_of (kept_among stock held (nodes_of layout (filter keep state.uses))) ≡ rest (doomed number state (Some object))
+
+-- at each write of the removal of an object's main item, what is kept is what is at rest before its doom, and from the second on what is at rest after it
+abbrev pub DoomsAtEachWrite : Type 0
+DoomsAtEachWrite = (view : View) (state : State) (layout : Layout) → Represents view state layout → IsValidState state → (number : ℕ) (object : Object) → object_at state number ≡ Some object → object.live ≡ true
+    → (count : ℕ) → map row_of (kept_by held (completed (record view { list = after_writes (take count (writes_of remove (layout.place (main object.key)) view.list)) view.list })))
+    ≡ (if nat_lt count 2 then rest state else rest (doomed number state (Some object)))
+
+-- and at each write of the removal of one of its parts after that
+abbrev pub DoomedPartsAtEachWrite : Type 0
+DoomedPartsAtEachWrite = (hole : ℕ → Bool) (view : View) (state : State) (layout : Layout) → HoldsBut hole view.stock state layout → IsValidState state → (number : ℕ) (object : Object) → object_at state number ≡ Some object
+    → (keep : Item → Bool) → keep (main object.key) ≡ false → ((item : Item) → is_of_another object.key item ≡ true → keep item ≡ true) → ((item : Item) → is_listed state item ≡ true → keep item ≡ true → hole (layout.place item) ≡ false)
+    → IsAtRest view.list (nodes_of layout (filter keep state.uses)) → (n : ℕ) → is_listed state (part object.key n) ≡ true → keep (part object.key n) ≡ true
+    → (count : ℕ) → map row_of (kept_by held (completed (record view { list = after_writes (take count (writes_of remove (layout.place (part object.key n)) view.list)) view.list }))) ≡ rest (doomed number state (Some object))
 
 -- the object of a number, live and held by a handle, is doomed: what the layout has at its main item's node stays, and what it has of the object's parts goes
 pub record IsDoomedNow (state : State) (layout : Layout) (number : ℕ) (object : Object) (loaded : Loaded) (at : ℕ → Option Loaded) (chains : ℕ → List ℕ) (owner : Claim → Option ℕ) : Type 0 where

@@ -6,7 +6,7 @@
 ghost use Rattle.blk_laws.specs.AllocationLaws.{SoundFilesAreAllocated, StoodForFilesAreAllocated};
 ghost use Rattle.blk_laws.specs.BareLaws.{NothingRepresentsTheEmptyState, BareFoldersHoldNothing, BareFoldersAreSound, BareFoldersRepresentTheEmptyState, BareFoldersStandForTheEmptyState, NewFoldersAreBare};
 ghost use Rattle.blk_laws.specs.ByteLaws.{CoveredChangesStayInside, BlocksAreCovered, ExternalFilesAreCovered, HeadersNeedNoCover, HiddenWordsNeedNoCover, CoversOfLess, MoreCovers, CoversOfEither, AgreeingImagesShowTheSame, CoveredChangesAgree, GrowthIsPastTheBlocks, SameLinksLinkTheSame, AgreementGoesOn, AgreementButMore, LongerFilesHaveGrown, GrowthKeepsStates};
-ghost use Rattle.blk_laws.specs.CommandLaws.{UnsettledObjectsMayChange, EachMomentIsAtRest, RemovalsKeepTheOthers, LessIsLaid, LessIsRepresented, DirtyWordsSettle, WrittenDirtyWordsSettle, ChangedDoomedObjectsAreLaid, ChangedDoomedObjectsAreRepresented, EachDoomedMomentIsAtRest, GoneDoomedObjectsAreRepresented, DoomedDirtyWordsSettle, WrittenDoomedDirtyWordsSettle, RepresentedHoldBut, MoreMayBeLeftOut, OthersHoldOutside, OthersHoldUnlinked, ChainedRecordsAreOnlyRecords, RecordsStayOutside, RecordsStayUnlinked, RecordsOfAnotherStateLoad, ListedItemsAreAtRest, DoomsKeepTheOthers, DoomedIsLaid, DoomedIsRepresented, HandlesAreNotShown, RestBeforeTurning, RestAfterTurning, OpensAtEachWrite, OpensEnd, CreatesAtEachWrite, CreatesEnd, CreatesLeaveTheRest, CreatesMayLeaveWhatWas};
+ghost use Rattle.blk_laws.specs.CommandLaws.{UnsettledObjectsMayChange, EachMomentIsAtRest, RemovalsKeepTheOthers, LessIsLaid, LessIsRepresented, DirtyWordsSettle, WrittenDirtyWordsSettle, ChangedDoomedObjectsAreLaid, ChangedDoomedObjectsAreRepresented, EachDoomedMomentIsAtRest, GoneDoomedObjectsAreRepresented, DoomedDirtyWordsSettle, WrittenDoomedDirtyWordsSettle, RepresentedHoldBut, MoreMayBeLeftOut, OthersHoldOutside, OthersHoldUnlinked, ChainedRecordsAreOnlyRecords, RecordsStayOutside, RecordsStayUnlinked, RecordsOfAnotherStateLoad, ListedItemsAreAtRest, DoomsKeepTheOthers, DoomsAtEachWrite, DoomedPartsAtEachWrite, DoomedIsLaid, DoomedIsRepresented, HandlesAreNotShown, RestBeforeTurning, RestAfterTurning, OpensAtEachWrite, OpensEnd, CreatesAtEachWrite, CreatesEnd, CreatesLeaveTheRest, CreatesMayLeaveWhatWas};
 ghost use Rattle.blk_laws.specs.KeptLaws.{KeptAreTheGiven, NoneOfTheGivenIsDropped, LeavingOutKeepsTheSame, SameKeyIsOneChain, OnlyCandidatesAreKept, SameCandidatesHoldTheSame};
 ghost use Rattle.blk_laws.specs.ListLaws.{WalksAreTheLists, InsertsTurnAtTwo, InsertsEnd, RemovalsTurnAtTwo, RemovalsEnd, TouchesTurnAtTwo, TouchesEnd, CompletingAgainIsTheSame, CompletionsEnd, ChainsAreTheirRecords, RecordsAreLinkedInFront, OtherChainsStay, FirstRecordsAreUnlinked, LaterRecordsAreUnlinked};
 ghost use Rattle.blk_laws.specs.StateLaws.{WalksAreTheOrder, ListedAreTheRows, NothingListedIsDropped, RepresentedChainsEnd, KeptAreAtRest, FoundIsAtRest, RepresentedStatesAreShown, RepresentedStatesAreStoodFor, LaidIsShown, KeptArePicked, FreeFootprintsKeepStates, ChangedItemsAreLaid, ChangedItemsAreRepresented};
@@ -179,6 +179,8 @@ pub fn others_hold_meanwhile()
 pub fn dooms_keep_the_others()
     ensures before { ListedItemsAreAtRest }
     ensures after { DoomsKeepTheOthers }
+    ensures moments { DoomsAtEachWrite }
+    ensures parts { DoomedPartsAtEachWrite }
     ensures laid { DoomedIsLaid }
     ensures represented { DoomedIsRepresented }
 {}
