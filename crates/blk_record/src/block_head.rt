@@ -6,9 +6,6 @@ ghost use Rattle.blk_format.specs.Headers.{allocations_of, block_fields_length, 
 use crate::words::{half, word};
 use std::marker::Model;
 
-// The bytes that the fields take.
-const LENGTH: usize = 80;
-
 /// A view of the header of a block file, over a window that has at least 80 bytes.
 #[derive(Debug, Drop)]
 pub struct BlockHead<'a> {
@@ -27,15 +24,56 @@ impl<'a> Model for BlockHead<'a> {
 }
 
 impl<'a> BlockHead<'a> {
+    /// The bytes that the fields take, before the map.
+    pub const LEN: usize = 80;
+
+    /// The bytes of the header with its map, before the first block.
+    pub const HEADER_LEN: u64 = 8192;
+
+    /// The magic number of a block file.
+    pub const MAGIC: u32 = 0xC104_CAC3;
+
+    /// The version of the format.
+    pub const VERSION: u32 = 0x2_0000;
+
+    /// The most blocks of a file.
+    pub const MOST_BLOCKS: u32 = 64896;
+
+    /// The place of the number of the next file of the type.
+    pub const NEXT_FILE: u64 = 10;
+
+    /// The place of the number of allocations.
+    pub const ALLOCATIONS: u64 = 16;
+
+    /// The place of the number of blocks.
+    pub const MAX_ENTRIES: u64 = 20;
+
+    /// The place of the first of the 4 words `empty`.
+    pub const EMPTY: u64 = 24;
+
+    /// The place of the word that is 1 while the map and the counters change.
+    pub const UPDATING: u64 = 56;
+
+    /// The place of the map.
+    pub const MAP: u64 = 80;
+
+    /// The view of a window that has the bytes.
+    pub fn new(window: &'a [u8]) -> BlockHead<'a>
+        requires { block_fields_length ≤ length window.now }
+        ensures { result ≡ window.now }
+    {
+        BlockHead { window }
+    }
+
     /// The view of a window, or `None` where it has fewer than 80 bytes.
     pub fn over(window: &'a [u8]) -> Option<BlockHead<'a>>
         ensures enough { IsSome result ↔ (block_fields_length ≤ length window.now) }
         ensures same { IfSome result (λ head. head ≡ window.now) }
     {
-        if window.len() < LENGTH {
+        if window.len() < Self::LEN {
             return None;
         }
-        Some(BlockHead { window })
+        Some(BlockHead::new(window))
     }
 
     /// The magic number.

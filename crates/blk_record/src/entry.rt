@@ -21,6 +21,35 @@ pub struct EntryView<'a> {
 impl<'a> EntryView<'a> {
     ghost use Rattle.blk_record.specs.Views.{entry_window};
 
+    /// The place of the hash of the key.
+    pub const HASH: u32 = 0;
+
+    /// The place of the address of the next record of the chain.
+    pub const NEXT: u32 = 4;
+
+    /// The place of the key's length.
+    pub const KEY_LEN: u32 = 32;
+
+    /// The place of the address of a key that lies elsewhere.
+    pub const LONG_KEY: u32 = 36;
+
+    /// The place of the first of the 4 lengths of the streams.
+    pub const DATA_SIZE: u32 = 40;
+
+    /// The place of the first of the 4 addresses of the streams.
+    pub const DATA_ADDR: u32 = 56;
+
+    /// The place of the flags.
+    pub const FLAGS: u32 = 72;
+
+    /// The view of a window that has the bytes.
+    pub fn new(window: &'a [u8]) -> EntryView<'a>
+        requires { entry_size ≤ length window.now }
+        ensures { entry_window result ≡ window.now }
+    {
+        EntryView { window }
+    }
+
     /// The view of a window, or `None` where it has fewer than 96 bytes.
     pub fn over(window: &'a [u8]) -> Option<EntryView<'a>>
         ensures enough { IsSome result ↔ (entry_size ≤ length window.now) }
@@ -29,7 +58,7 @@ impl<'a> EntryView<'a> {
         if window.len() < SIZE {
             return None;
         }
-        Some(EntryView { window })
+        Some(EntryView::new(window))
     }
 }
 

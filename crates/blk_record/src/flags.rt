@@ -4,6 +4,8 @@ ghost use Rattle.std.specs.Prelude.{⊤, [], ◌∷◌, codes};
 use bitflags::{Flag, Flags, bitflag_items};
 
 /// The flags of an entry record. A clause speaks of their word.
+///
+/// A `PARENT` is the record of a sparse entry, whose data is in parts; a `CHILD` is the record of such a part.
 #[derive(Clone, Copy, PartialEq, Eq, Debug)]
 pub struct EntryFlags(u32);
 

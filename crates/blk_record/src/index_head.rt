@@ -6,9 +6,6 @@ ghost use Rattle.blk_format.specs.Headers.{crash_of, create_time_of, experiment_
 use crate::words::{long, word};
 use std::marker::Model;
 
-// The bytes that the fields take.
-const LENGTH: usize = 368;
-
 /// A view of the header of the index, over a window that has at least 368 bytes.
 #[derive(Debug, Drop)]
 pub struct IndexHead<'a> {
@@ -27,15 +24,62 @@ impl<'a> Model for IndexHead<'a> {
 }
 
 impl<'a> IndexHead<'a> {
+    /// The bytes that the fields take, before the table.
+    pub const LEN: usize = 368;
+
+    /// The bytes of a whole index.
+    pub const INDEX_LEN: u64 = 262_512;
+
+    /// The magic number of a finished index.
+    pub const MAGIC: u32 = 0xC103_CAC3;
+
+    /// The version of the format.
+    pub const VERSION: u32 = 0x2_0000;
+
+    /// The number of the table's words.
+    pub const BUCKETS: u32 = 65536;
+
+    /// The place of the last external number that was made.
+    pub const LAST_FILE: u64 = 16;
+
+    /// The place of the number of the table's words.
+    pub const TABLE_LEN: u64 = 28;
+
+    /// The place of the moment of making, which takes two words.
+    pub const CREATE_TIME: u64 = 40;
+
+    /// The place of the head of the use list.
+    pub const HEADS: u64 = 288;
+
+    /// The place of the tail of the use list.
+    pub const TAILS: u64 = 308;
+
+    /// The place of the node of the operation in flight.
+    pub const TRANSACTION: u64 = 328;
+
+    /// The place of the operation in flight.
+    pub const OPERATION: u64 = 332;
+
+    /// The place of the table.
+    pub const TABLE: u64 = 368;
+
+    /// The view of a window that has the bytes.
+    pub fn new(window: &'a [u8]) -> IndexHead<'a>
+        requires { header_length ≤ length window.now }
+        ensures { result ≡ window.now }
+    {
+        IndexHead { window }
+    }
+
     /// The view of a window, or `None` where it has fewer than 368 bytes.
     pub fn over(window: &'a [u8]) -> Option<IndexHead<'a>>
         ensures enough { IsSome result ↔ (header_length ≤ length window.now) }
         ensures same { IfSome result (λ head. head ≡ window.now) }
     {
-        if window.len() < LENGTH {
+        if window.len() < Self::LEN {
             return None;
         }
-        Some(IndexHead { window })
+        Some(IndexHead::new(window))
     }
 
     /// The magic number.
@@ -108,7 +152,7 @@ impl<'a> IndexHead<'a> {
         word(self.window, 36)
     }
 
-    /// The moment of making, in the clock's units.
+    /// The moment of making, in microseconds since 1970.
     pub fn create_time(&self) -> u64
         ensures { result ≡ create_time_of (content self.now) }
     {

@@ -8,6 +8,7 @@ mod entry;
 mod flags;
 mod hash;
 mod index_head;
+pub mod laws;
 mod node;
 mod record;
 mod seals;

@@ -21,6 +21,32 @@ pub struct NodeView<'a> {
 impl<'a> NodeView<'a> {
     ghost use Rattle.blk_record.specs.Views.{node_window};
 
+    /// The place of the moment of the last use, which takes two words.
+    pub const LAST_USED: u32 = 0;
+
+    /// The place of the moment of the last change, which takes two words.
+    pub const LAST_MODIFIED: u32 = 8;
+
+    /// The place of the address of the next node of the use list.
+    pub const NEXT: u32 = 16;
+
+    /// The place of the address of the node before.
+    pub const PREV: u32 = 20;
+
+    /// The place of the address of the node's record.
+    pub const CONTENTS: u32 = 24;
+
+    /// The place of the word that says whether the entry is in use.
+    pub const DIRTY: u32 = 28;
+
+    /// The view of a window that has the bytes.
+    pub fn new(window: &'a [u8]) -> NodeView<'a>
+        requires { node_size ≤ length window.now }
+        ensures { node_window result ≡ window.now }
+    {
+        NodeView { window }
+    }
+
     /// The view of a window, or `None` where it has fewer than 36 bytes.
     pub fn over(window: &'a [u8]) -> Option<NodeView<'a>>
         ensures enough { IsSome result ↔ (node_size ≤ length window.now) }
@@ -29,7 +55,7 @@ impl<'a> NodeView<'a> {
         if window.len() < SIZE {
             return None;
         }
-        Some(NodeView { window })
+        Some(NodeView::new(window))
     }
 }
 

@@ -10,10 +10,13 @@ ghost use Rattle.blk_record.specs.Fields.{IsField, OtherFieldsStay, WrittenField
 ///
 /// The record lies at the front of a window of bytes.
 pub trait Record {
+    /// The number of the record's bytes, for clauses.
     ghost size: { ℕ };
 
+    /// The place of the seal, for clauses.
     ghost seal_place: { ℕ };
 
+    /// The bytes of the window at whose front the record lies.
     ghost window_of: { Self → List ℕ };
 
     /// The number of the record's bytes.
@@ -39,6 +42,7 @@ pub trait Record {
 
 /// A record that is written.
 pub trait RecordMut: Record {
+    /// The reference by which it writes.
     ghost reference: { Self → GName };
 
     // The view with these bytes over those of its window from a place on.

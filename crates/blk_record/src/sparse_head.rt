@@ -6,9 +6,6 @@ ghost use Rattle.blk_format.specs.SparseIndex.{last_block_len_of, last_block_of,
 use crate::words::{long, word};
 use std::marker::Model;
 
-// The bytes before the bitmap.
-const LENGTH: usize = 64;
-
 /// A view of the head of a sparse index, over a window that has at least 64 bytes.
 #[derive(Debug, Drop)]
 pub struct SparseHead<'a> {
@@ -27,15 +24,26 @@ impl<'a> Model for SparseHead<'a> {
 }
 
 impl<'a> SparseHead<'a> {
+    /// The bytes before the bitmap.
+    pub const LEN: usize = 64;
+
+    /// The view of a window that has the bytes.
+    pub fn new(window: &'a [u8]) -> SparseHead<'a>
+        requires { sparse_head_length ≤ length window.now }
+        ensures { result ≡ window.now }
+    {
+        SparseHead { window }
+    }
+
     /// The view of a window, or `None` where it has fewer than 64 bytes.
     pub fn over(window: &'a [u8]) -> Option<SparseHead<'a>>
         ensures enough { IsSome result ↔ (sparse_head_length ≤ length window.now) }
         ensures same { IfSome result (λ head. head ≡ window.now) }
     {
-        if window.len() < LENGTH {
+        if window.len() < Self::LEN {
             return None;
         }
-        Some(SparseHead { window })
+        Some(SparseHead::new(window))
     }
 
     /// The signature, which parts share with their parent.
