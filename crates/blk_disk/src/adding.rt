@@ -15,7 +15,8 @@ use crate::heads::{HEADER_LEN, MAGIC, VERSION, block_size};
 use crate::load::first_file;
 use crate::tables::BlockFiles;
 use blk_addr::Kind;
-use blk_io::{Failed, FileId, Folder, write_words};
+use blk_io::{Failed, FileId, Folder};
+use byteorder::{ByteOrder, LittleEndian};
 
 // The first number that new files may have.
 const FIRST_NUMBER: u8 = 4;
@@ -92,7 +93,7 @@ impl BlockFiles {
     }
 }
 
-// Makes a file with a header and no blocks.
+// Makes a file with a header and no blocks. The four fields that aren't 0 stand side by side, and are written by one call.
 fn make_file<F: Folder>(f: &mut F, kind: Kind, n: u8) -> Result<(), Failed>
     requires { kind_number kind ≢ external }
     ensures whole { OnOk result (Grows (F.told f.old) (F.told f.new) (make_steps (kind_number kind) n)) }
@@ -103,13 +104,10 @@ fn make_file<F: Folder>(f: &mut F, kind: Kind, n: u8) -> Result<(), Failed>
     let file = FileId::Block(n);
     f.set_len(file, 0)?;
     f.set_len(file, HEADER_LEN)?;
-    let words = [
-        (0, MAGIC),
-        (4, VERSION),
-        (8, u32::from(n)),
-        (12, block_size(kind)),
-    ];
-    write_words(f, file, &words)
+    let mut fields = [0u8; 16];
+    let words = [MAGIC, VERSION, u32::from(n), block_size(kind)];
+    LittleEndian::write_u32_into(&words, &mut fields);
+    f.write_at(file, 0, &fields)
 }
 
 // Writes the number of a file as the next one of another.

@@ -1,0 +1,20 @@
+-- Words side by side, written by one call.
+use Rattle.std.proofs.Common.{◌≡◌, ℕ, ◌+◌, ◌%◌, List, [], ◌∷◌, ◌++◌, refl, ◌∙◌, ap₂, arith}
+use Rattle.std.specs.List.{flat_map}
+use Rattle.byteorder.specs.Endian.{little_bytes}
+use Rattle.blk_image.specs.Image.{File}
+use Rattle.blk_image.specs.Steps.{TrailStep, word_steps, words}
+use Rattle.blk_image.proofs.Cuts.{words-split, words-word}
+
+-- words with their places, four apart
+abbrev pub placed : ℕ → List ℕ → List (ℕ × ℕ)
+placed at [] = []
+placed at (value ∷ values) = (at, value) ∷ placed (at + 4) values
+
+-- one write of them makes the steps of each in turn
+pub side_by_side : (f : File) (at : ℕ) (values : List ℕ) → at % 4 ≡ 0 → words f at (flat_map (little_bytes 4) values) ≡ word_steps f (placed at values)
+unfolding words
+side_by_side f at [] aligned = refl
+side_by_side f at (value ∷ values) aligned =
+    words-split f at 4 (little_bytes 4 value ++ flat_map (little_bytes 4) values) (omega arith) (omega arith)
+    ∙ ap₂ (λ (a b : List TrailStep). a ++ b) (words-word f at value aligned) (side_by_side f (at + 4) values (omega arith))
