@@ -28,7 +28,8 @@ impl BlockFiles {
     /// Adds a file with no blocks as the last one of a kind that has fewer than 60, and gives its number.
     ///
     /// The number is the least from 4 that no linked file has. The file gets the length 0, then
-    /// 8192 and its header, and then the `next_file` of the last file of the kind names it.
+    /// 8192 and its header, and then the `next_file` of the last file of the kind names it. `Failed` comes
+    /// only where the folder failed in this call; a front of the steps has then lasted.
     pub fn add_file<F: Folder>(&mut self, f: &mut F, kind: Kind) -> Result<u8, Failed>
         requires of_blocks { kind_number kind ≢ external }
         requires room { length (files_of self.old (kind_number kind)) < most_files }
