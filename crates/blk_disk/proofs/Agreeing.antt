@@ -1,17 +1,12 @@
 -- What is kept of the block files goes on agreeing with them, where no header and no length changes.
-use Rattle.std.proofs.Common.{◌≡◌, ◌≢◌, ℕ, ◌+◌, ◌-◌, ◌*◌, ◌<◌, ◌≤◌, Bool, true, false, ◌&&◌, List, refl, sym, ⊎_elim, ◌∙◌, ap, subst, arith}
-use Rattle.std.specs.Prelude.{nat_le, nat_lt}
-use Rattle.std.proofs.lemmas.Bool.Decides.{nat_tests}
-use Rattle.blk_image.specs.Image.{File, Block, Image, byte, length_of, same_file}
-use Rattle.blk_image.specs.Footprint.{Footprint, SameOutside, range, size_of}
+use Rattle.std.proofs.Common.{◌≡◌, ℕ, ◌≤◌, true, false, List, refl, sym, ⊎_elim, ◌∙◌, ap, subst, arith}
+use Rattle.blk_image.specs.Image.{Block, Image, length_of}
+use Rattle.blk_image.specs.Footprint.{Footprint, SameOutside, size_of}
 use Rattle.blk_image.specs.Steps.{applied, SetLength}
 use Rattle.blk_image.proofs.Images.{length-after_set_len}
 use Rattle.blk_image.proofs.Footprints.{outside_longer}
 use Rattle.std.proofs.lemmas.Bool.{cases_eq}
-use Rattle.blk_format.specs.Address.{place, block_place}
-use Rattle.blk_image.specs.Bytes.{word_at}
-use Rattle.blk_image.proofs.Words.{same-word_at}
-use Rattle.blk_format.specs.BlockFiles.{is_among, is_block_count, linked, files_along, next_file_in, max_entries_in}
+use Rattle.blk_format.specs.BlockFiles.{is_among}
 use Rattle.blk_format.proofs.Keeping.{undamaged_still}
 use Rattle.blk_format.proofs.SpareHeaders.{SparesHeaders, next_same, blocks_same, linked_same, heads_still, other_file, sizes_spare}
 use Rattle.std.specs.Option.{ForSome}

@@ -1,5 +1,5 @@
 -- A record that was read and doesn't check.
-use Rattle.std.specs.Prelude.{Option, None, Some, ℕ, ◌≡◌, ◌≢◌, ◌+◌, if◌then◌else◌, List, true, false}
+use Rattle.std.specs.Prelude.{Option, None, Some, ℕ, ◌≡◌, ◌≢◌, ◌+◌, if◌then◌else◌, List, false}
 use Rattle.std.specs.Option.{ForSome}
 use Rattle.blk_image.specs.Bytes.{content, word_at}
 use Rattle.blk_image.specs.Told.{Told}

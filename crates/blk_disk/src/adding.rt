@@ -15,7 +15,7 @@ use crate::heads::{HEADER_LEN, MAGIC, VERSION, block_size};
 use crate::load::first_file;
 use crate::tables::BlockFiles;
 use blk_addr::Kind;
-use blk_io::{Failed, FileId, Folder, write_words};
+use blk_io::{Failed, FileId, Folder, write_run};
 
 // The first number that new files may have.
 const FIRST_NUMBER: u8 = 4;
@@ -27,7 +27,8 @@ impl BlockFiles {
     /// Adds a file with no blocks as the last one of a kind that has fewer than 60, and gives its number.
     ///
     /// The number is the least from 4 that no linked file has. The file gets the length 0, then
-    /// 8192 and its header, and then the `next_file` of the last file of the kind names it.
+    /// 8192 and its header, and then the `next_file` of the last file of the kind names it. `Failed` comes
+    /// only where the folder failed in this call; a front of the steps has then lasted.
     pub fn add_file<F: Folder>(&mut self, f: &mut F, kind: Kind) -> Result<u8, Failed>
         requires of_blocks { kind_number kind ≢ external }
         requires room { length (files_of self.old (kind_number kind)) < most_files }
@@ -92,7 +93,7 @@ impl BlockFiles {
     }
 }
 
-// Makes a file with a header and no blocks.
+// Makes a file with a header and no blocks. The four fields that aren't 0 stand side by side, and are written by one call.
 fn make_file<F: Folder>(f: &mut F, kind: Kind, n: u8) -> Result<(), Failed>
     requires { kind_number kind ≢ external }
     ensures whole { OnOk result (Grows (F.told f.old) (F.told f.new) (make_steps (kind_number kind) n)) }
@@ -103,13 +104,8 @@ fn make_file<F: Folder>(f: &mut F, kind: Kind, n: u8) -> Result<(), Failed>
     let file = FileId::Block(n);
     f.set_len(file, 0)?;
     f.set_len(file, HEADER_LEN)?;
-    let words = [
-        (0, MAGIC),
-        (4, VERSION),
-        (8, u32::from(n)),
-        (12, block_size(kind)),
-    ];
-    write_words(f, file, &words)
+    let words = [MAGIC, VERSION, u32::from(n), block_size(kind)];
+    write_run(f, file, 0, &words)
 }
 
 // Writes the number of a file as the next one of another.

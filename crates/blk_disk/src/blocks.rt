@@ -18,6 +18,8 @@ use blk_io::{Failed, Fault, FileId, Folder, read_exact};
 
 impl BlockFiles {
     /// Reads bytes of the blocks of an address, from a place among them on.
+    ///
+    /// `Device` comes only where the folder failed in this call.
     pub fn read_block<F: Folder>(
         &self,
         f: &mut F,
@@ -42,6 +44,8 @@ impl BlockFiles {
     }
 
     /// Writes bytes over the blocks of an address, from a place among them on, one word after another.
+    ///
+    /// `Failed` comes only where the folder failed in this call; a front of the words has then lasted.
     pub fn write_block<F: Folder>(
         &self,
         f: &mut F,

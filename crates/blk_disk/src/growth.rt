@@ -14,6 +14,8 @@ use blk_io::{Failed, FileId, Folder};
 
 impl BlockFiles {
     /// Lengthens a linked file to its header and all its blocks, where it is shorter.
+    ///
+    /// `Failed` comes only where the folder failed in this call; nothing has then changed.
     pub fn fit<F: Folder>(&mut self, f: &mut F, file: u8) -> Result<(), Failed>
         requires linked { IsTrue (is_among (all_files self.old) file) }
         requires agrees { ForSome (F.told f.old).files (Agrees self.old) }

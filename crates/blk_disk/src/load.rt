@@ -17,7 +17,7 @@ impl BlockFiles {
     /// Checks the headers of the block files, and takes them up.
     ///
     /// They are `data_0` to `data_3`, and after each the files along its links. A damage names the
-    /// first check that fails.
+    /// first check that fails. `Device` comes only where the folder failed in this call.
     pub fn load<F: Folder>(f: &mut F) -> Result<BlockFiles, Fault>
         ensures loaded { ForSome (F.told f.old).files (LoadsAs result) }
 

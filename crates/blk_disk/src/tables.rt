@@ -46,9 +46,9 @@ impl BlockFiles {
         }
     }
 
-    // The numbers of the files of a kind.
+    /// The numbers of the linked files of a kind, in the order of the links; none of external files.
     #[tactic(auto, unfolding(crate::specs::Tables::files_of))]
-    pub(crate) fn files(&self, kind: Kind) -> &[u8]
+    pub fn files(&self, kind: Kind) -> &[u8]
         ensures files { result.now ≡ files_of self.now (kind_number kind) }
         ensures most { length result.now ≤ most_files }
     {

@@ -12,7 +12,7 @@ use blk_io::{Failed, Fault, FileId, Folder, read_word, write_word};
 
 const HEADER_LEN: u64 = 368;
 
-/// Reads the word of the header at a place in bytes.
+/// Reads the word of the header at a place in bytes. `Device` comes only where the folder failed in this call.
 pub fn word<F: Folder>(f: &mut F, at: u32) -> Result<u32, Fault>
     requires aligned { at % 4 ≡ 0 }
     requires inside { at < header_length }
@@ -31,6 +31,8 @@ pub fn word<F: Folder>(f: &mut F, at: u32) -> Result<u32, Fault>
 }
 
 /// Reads the word of a bucket: the first address of its chain, or 0.
+///
+/// `Device` comes only where the folder failed in this call.
 pub fn bucket<F: Folder>(f: &mut F, number: u16) -> Result<u32, Fault>
     requires { ForSome (F.told f.old).files (λ image. length_of image index ≡ index_length) }
     ensures word { IfOk result (λ w. ForSome (F.told f.old).files (λ image. w ≡ bucket_of (byte image index) number)) }
@@ -47,6 +49,8 @@ pub fn bucket<F: Folder>(f: &mut F, number: u16) -> Result<u32, Fault>
 }
 
 /// Writes the word of the header at a place in bytes, by one folder call.
+///
+/// `Failed` comes only where the folder failed in this call.
 pub fn set_word<F: Folder>(f: &mut F, at: u32, value: u32) -> Result<(), Failed>
     requires aligned { at % 4 ≡ 0 }
     requires inside { at < header_length }
@@ -65,6 +69,8 @@ pub fn set_word<F: Folder>(f: &mut F, at: u32, value: u32) -> Result<(), Failed>
 }
 
 /// Writes the word of a bucket, by one folder call: the first address of its chain, or 0.
+///
+/// `Failed` comes only where the folder failed in this call.
 pub fn set_bucket<F: Folder>(f: &mut F, number: u16, value: u32) -> Result<(), Failed>
     requires { ForSome (F.told f.old).files (λ image. length_of image index ≡ index_length) }
     ensures whole { OnOk result (Grows (F.told f.old) (F.told f.new) (word_step index (place_of_bucket number) value)) }

@@ -20,11 +20,15 @@ const PIECE_LEN: u32 = 4096;
 /// A word that isn't 0, and its place in bytes.
 #[derive(Clone, Copy, Debug, PartialEq, Eq)]
 pub struct Used {
+    /// Where it stands in the index, in bytes.
     pub at: u32,
+    /// The word that stands there.
     pub found: u32,
 }
 
 /// Looks for the first word that isn't 0: of the six of the header, and then of the table.
+///
+/// `Device` comes only where the folder failed in this call.
 pub fn first_used<F: Folder>(f: &mut F) -> Result<Option<Used>, Fault>
     requires { ForSome (F.told f.old).files (λ image. length_of image index ≡ index_length) }
     ensures first { IfOk result (λ used. ForSome (F.told f.old).files (λ image. FirstUsed checked_place checked_places image used)) }
@@ -73,15 +77,8 @@ fn first_in_head<F: Folder>(f: &mut F) -> Result<Option<Used>, Fault>
 fn first_of(words: &[(u32, u32)]) -> Option<Used>
     ensures { FirstOf words.now result }
 {
-    for (at, found) in words {
-        if *found != 0 {
-            return Some(Used {
-                at: *at,
-                found: *found,
-            });
-        }
-    }
-    None
+    let (at, found) = *words.iter().find(|(_, found)| *found != 0)?;
+    Some(Used { at, found })
 }
 
 // The first word of the table that isn't 0.
