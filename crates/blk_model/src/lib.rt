@@ -13,6 +13,8 @@ pub mod laws;
 
 pub use bounds::{Limits, MOST_BYTES, MOST_ITEMS};
 pub use checked::limits;
+use std::error::Error;
+use std::fmt;
 
 /// A command of a client. A handle is a name below 4096; offsets, counts and bytes are in bytes.
 #[derive(Clone, Copy, Debug, PartialEq, Eq)]
@@ -149,6 +151,19 @@ impl Refusal {
         }
     }
 }
+
+impl fmt::Display for Refusal {
+    ghost use Rattle.std.specs.Prelude.{Some};
+    ghost use Rattle.blk_model.specs.RefusalTable.{name_of_refusal};
+
+    ghost output = { λ refusal. Some (name_of_refusal refusal) };
+
+    fn fmt<W: fmt::Write>(&self, f: &mut fmt::Formatter<W>) -> fmt::Result {
+        f.write_str(self.name())
+    }
+}
+
+impl Error for Refusal {}
 
 /// What a command answers. The bytes that were read and the rows that were listed go with it apart.
 #[derive(Clone, Copy, Debug, PartialEq, Eq)]

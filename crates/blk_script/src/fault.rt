@@ -2,24 +2,27 @@
 ghost use Rattle.std.specs.Prelude.{◌≡◌, ◌∷◌};
 ghost use Rattle.blk_script.specs.Faults.{fault_number, fault_name};
 
+use std::error::Error;
+use std::fmt;
+
 /// Why a line is no command. The first fault in this order is given: `TooLong`, `Empty`,
 /// `UnknownWord`, `FieldCount`, and then that of the first field that fails.
 #[derive(Clone, Copy, Debug, PartialEq, Eq)]
 pub enum LineFault {
     /// The line has no byte.
-    Empty,
+    Empty = 1,
     /// The first field is no word of the language.
-    UnknownWord,
+    UnknownWord = 2,
     /// The word has another number of fields.
-    FieldCount,
+    FieldCount = 3,
     /// A field is no number, or one that is too large.
-    Number,
+    Number = 4,
     /// A field is no data.
-    Hex,
+    Hex = 5,
     /// A field is no key.
-    Key,
+    Key = 6,
     /// The line or its data is too long.
-    TooLong,
+    TooLong = 7,
 }
 
 impl LineFault {
@@ -27,15 +30,7 @@ impl LineFault {
     pub fn number(self) -> u8
         ensures { result ≡ fault_number self }
     {
-        match self {
-            LineFault::Empty => 1,
-            LineFault::UnknownWord => 2,
-            LineFault::FieldCount => 3,
-            LineFault::Number => 4,
-            LineFault::Hex => 5,
-            LineFault::Key => 6,
-            LineFault::TooLong => 7,
-        }
+        self as u8
     }
 
     /// The name of the fault.
@@ -53,3 +48,16 @@ impl LineFault {
         }
     }
 }
+
+impl fmt::Display for LineFault {
+    ghost use Rattle.std.specs.Prelude.{Some};
+    ghost use Rattle.blk_script.specs.Faults.{fault_name};
+
+    ghost output = { λ fault. Some (fault_name fault) };
+
+    fn fmt<W: fmt::Write>(&self, f: &mut fmt::Formatter<W>) -> fmt::Result {
+        f.write_str(self.name())
+    }
+}
+
+impl Error for LineFault {}

@@ -6,20 +6,35 @@ ghost use Rattle.blk_script.specs.Words.{by_known, word_line};
 /// A word that a command begins with.
 #[derive(Clone, Copy)]
 pub enum Word {
+    /// `create`
     Create,
+    /// `open`
     Open,
+    /// `read`
     Read,
+    /// `write`
     Write,
+    /// `cut`
     Cut,
+    /// `size`
     Size,
+    /// `swrite`
     SparseWrite,
+    /// `sread`
     SparseRead,
+    /// `srange`
     SparseRange,
+    /// `doom`
     Doom,
+    /// `close`
     Close,
+    /// `doomkey`
     DoomKey,
+    /// `trim`
     Trim,
+    /// `list`
     List,
+    /// `total`
     Total,
 }
 
