@@ -1,5 +1,5 @@
 -- Lists of words of different first blocks.
-use Rattle.std.proofs.Common.{◌≡◌, ◌≢◌, ⊎_elim, ℕ, suc, Bool, true, false, List, [], ◌∷◌, ◌++◌, length, map, refl, sym, ◌∙◌, ap}
+use Rattle.std.proofs.Common.{◌≡◌, ◌≢◌, ⊎_elim, ℕ, Bool, true, false, List, [], ◌∷◌, ◌++◌, map, refl, sym, ◌∙◌, ap}
 use Rattle.std.specs.Prelude.{◌==◌}
 use Rattle.std.proofs.lemmas.Bool.{or_cases, or_parts, or_left, or_right, eq-eqb, eqb-true}
 use Rattle.blk_format.specs.BlockFiles.{is_among}
@@ -58,10 +58,6 @@ less block (y ∷ front) p c rest h =
 pub once-without : (front : List ℕ) (p c : ℕ) (rest : List ℕ) → Distinct (map file_and_block (front ++ p ∷ c ∷ rest)) → Distinct (map file_and_block (front ++ p ∷ rest))
 once-without [] p c rest d = ((or_parts (file_and_block c == file_and_block p) (is_among (map file_and_block rest) (file_and_block p)) d.0).1, d.1.1)
 once-without (y ∷ front) p c rest d = (less (file_and_block y) front p c rest d.0, once-without front p c rest d.1)
-
-pub length-without : (front : List ℕ) (p c : ℕ) (rest : List ℕ) → length (front ++ p ∷ c ∷ rest) ≡ suc (length (front ++ p ∷ rest))
-length-without [] p c rest = refl
-length-without (y ∷ front) p c rest = ap suc (length-without front p c rest)
 
 -- each word of the shorter list is one of the longer
 pub still-there : (front : List ℕ) (p c : ℕ) (rest : List ℕ) (x : ℕ) → is_among (front ++ p ∷ rest) x ≡ true → is_among (front ++ p ∷ c ∷ rest) x ≡ true

@@ -1,5 +1,5 @@
 -- The first record of a chain taken out, in bytes.
-use Rattle.std.proofs.Common.{◌≡◌, inl, inr, ℕ, ◌+◌, ◌%◌, ◌^◌, ◌<◌, Bool, List, ◌∷◌, Option, Some, None, refl, sym, ◌∙◌, ap, ap₂, subst, arith}
+use Rattle.std.proofs.Common.{◌≡◌, inl, inr, ℕ, ◌+◌, ◌%◌, ◌^◌, ◌<◌, Bool, List, ◌∷◌, Option, Some, None, refl, sym, ◌∙◌, ap, ap₂, subst}
 use Rattle.std.specs.Prelude.{◌↔◌}
 use Rattle.std.specs.Option.{ForSome}
 use Rattle.blk_image.specs.Image.{AreBytes, Index, Block, Image, byte, length_of, word}
@@ -63,7 +63,6 @@ module _ (from : Image) (entry : ℕ) (can : CanBeUnlinked entry None from) wher
             subst (λ (y : ℕ). Linked (record v { table = put v.table b (next_of from entry) }) b y behind) (shown-follow from entry shown.core shown.here ∙ sym (at-itself v.table b (next_of from entry)))
             (linked-table v (put v.table b (next_of from entry)) b (v.follow entry) behind was.linked.2);
         once = was.once.1;
-        few = omega (arith, was.few);
       }
 
   -- the word of the bucket is its next

@@ -72,7 +72,7 @@ module _ (from : Image) (entry : ℕ) (can : CanBeLinked entry from) where
       record {
         list = w.0;
         stock = w.1;
-        chain_now = subst (λ (s : Stock). IsChain s b (entry ∷ chained_with from entry)) (sym w.1) (linked-front (stock_of from) b entry (chained_with from entry) can.whole in_bucket can.next apart can.few);
+        chain_now = subst (λ (s : Stock). IsChain s b (entry ∷ chained_with from entry)) (sym w.1) (linked-front (stock_of from) b entry (chained_with from entry) can.whole in_bucket can.next apart);
         others = λ other e. ap (λ (s : Stock). chain s other) w.1 ∙ others-stay (stock_of from) b other entry e;
         well_formed = buckets-unchecked from image b is.outside;
         outside = is.outside;

@@ -43,7 +43,7 @@ use Rattle.blk_chain.proofs.Turns.{turns_none, turns_part}
 use Rattle.blk_chain.proofs.Names.{IsShownOf, shown-of, shown-core, shown-kind, shown-follow, same-core, same-follow}
 use Rattle.blk_chain.proofs.Words.{linked-good}
 use Rattle.blk_chain.proofs.Keys.{first_word, first-clear, first-record, first-moment}
-use Rattle.blk_chain.proofs.Apart.{middle-there, behind-there, front-apart, rest-apart, once-without, length-without}
+use Rattle.blk_chain.proofs.Apart.{middle-there, behind-there, front-apart, rest-apart, once-without}
 use Rattle.blk_chain.proofs.Follows.{chain-same}
 
 -- a word beside the one that is written
@@ -145,7 +145,6 @@ module _ (from : Image) (bytes : AreBytes from) (entry before : ℕ) (can : CanB
             (link ∙ sym (shown-follow from entry shown-entry.core shown-entry.here))
             was.linked);
         once = once-without front before entry behind was.once;
-        few = let l = length-without front before entry behind in omega (arith, was.few, l);
       }
 
   module _ (image : Image) (moment : IsMoment from before ((4, next_of from entry) ∷ []) image) where

@@ -1,5 +1,5 @@
 -- A record is linked in front of its chain.
-use Rattle.std.specs.Prelude.{◌≡◌, ◌⊎◌, ℕ, ◌+◌, ◌<◌, List, ◌∷◌, length, true, false, ◌==◌}
+use Rattle.std.specs.Prelude.{◌≡◌, ◌⊎◌, ℕ, List, ◌∷◌, true, false, ◌==◌}
 use Rattle.std.specs.declared.option.Option.TheVariants.{Some}
 use Rattle.blk_image.specs.Image.{Image, Index}
 use Rattle.blk_image.specs.Steps.{TrailStep, word_step}
@@ -9,7 +9,7 @@ use Rattle.blk_format.specs.BlockFiles.{is_among, IsWellFormed}
 use Rattle.blk_format.specs.Records.{child}
 use Rattle.blk_volume.specs.ListView.{put}
 use Rattle.blk_volume.specs.View.{Core, entry_at, list_of, stock_of}
-use Rattle.blk_volume.specs.Chains.{bucket_of_hash, chain, IsChain, most_records}
+use Rattle.blk_volume.specs.Chains.{bucket_of_hash, chain, IsChain}
 use Rattle.blk_chain.specs.Naming.{HasName, IsWhole}
 
 -- the bucket of the record that a word names
@@ -33,7 +33,6 @@ pub record CanBeLinked (entry : ℕ) (image : Image) : Type 0 where
   pub key : List ℕ
   pub named : HasName (stock_of image) key (core.flags == child) entry
   pub whole : IsWhole (stock_of image) (bucket_at image entry)
-  pub few : length (chained_with image entry) + 1 < most_records
   pub fresh : (w : ℕ) → is_among (chained_with image entry) w ≡ true → HasName (stock_of image) key (core.flags == child) w → ⊥
 
 -- the one step: the word of the bucket becomes the record

@@ -77,7 +77,7 @@ module _ (image : Image) (bare : IsBare image) where
 
   unlisted-none : unlisted (view_of image) ≡ []
   unfolding unlisted stock_of
-  unlisted-none = flat_map-none (unlisted_in (view_of image)) 0 65536 (λ b low high. rw (chain-is (stock_of image) b [] (no-record image) (record { linked = bare.index.table b high; once = tt; few = omega arith })) refl)
+  unlisted-none = flat_map-none (unlisted_in (view_of image)) 0 65536 (λ b low high. rw (chain-is (stock_of image) b [] (no-record image) (record { linked = bare.index.table b high; once = tt })) refl)
 
   dropped-none : (rule : Rule) → dropped_by rule (view_of image) ≡ []
   unfolding dropped_among

@@ -354,7 +354,6 @@ module _ (v : Stock) (y : Layout) (r : Shows v y) (key : List ℕ) (l : Loaded) 
           linked-table v (put v.table (bucket_of_hash (hash l.key)) l.contents) (bucket_of_hash (hash l.key)) (v.follow l.contents) (y.chains (bucket_of_hash (hash l.key))) (subst (λ (x : ℕ). Linked v (bucket_of_hash (hash l.key)) x (y.chains (bucket_of_hash (hash l.key)))) (sym front.follows) c.linked),
         );
         once = (front.fresh, c.once);
-        few = let f = front.few in omega arith;
       }
 
   chains-after : (n : ℕ) → n < 65536 → IsChain (linked_front v l) n (put y.chains (bucket_of_hash (hash l.key)) (l.contents ∷ y.chains (bucket_of_hash (hash l.key))) n)
@@ -365,7 +364,7 @@ module _ (v : Stock) (y : Layout) (r : Shows v y) (key : List ℕ) (l : Loaded) 
       (λ (e : (eqb (bucket_of_hash (hash l.key)) n ≡ false) × _).
       let c : IsChain v n (y.chains n) = r.chains n below in
       subst (IsChain (linked_front v l) n) (sym (at-elsewhere y.chains (bucket_of_hash (hash l.key)) (l.contents ∷ y.chains (bucket_of_hash (hash l.key))) n e.0))
-      (record { linked = subst (λ (x : ℕ). Linked (linked_front v l) n x (y.chains n)) (sym (at-elsewhere v.table (bucket_of_hash (hash l.key)) l.contents n e.0)) (linked-table v (put v.table (bucket_of_hash (hash l.key)) l.contents) n (v.table n) (y.chains n) c.linked); once = c.once; few = c.few }))
+      (record { linked = subst (λ (x : ℕ). Linked (linked_front v l) n x (y.chains n)) (sym (at-elsewhere v.table (bucket_of_hash (hash l.key)) l.contents n e.0)) (linked-table v (put v.table (bucket_of_hash (hash l.key)) l.contents) n (v.table n) (y.chains n) c.linked); once = c.once }))
       (eqb_tells (bucket_of_hash (hash l.key)) n)
 
   each-after : (w : ℕ) (x : Loaded) → put y.at l.node (Some l) w ≡ Some x → load (linked_front v l) (rule_of (with_new y key l) w) w ≡ Ok x

@@ -91,7 +91,7 @@ folder-is_represented = record {
     shows = record {
       no_record = no-record doomed_folder;
       each = λ w l is. let p = one.at-node 0 w l is in subst (λ (x : ℕ). load (stock_of doomed_folder) (alone doomed) x ≡ Ok l) (sym p.0) (doomed-loads ∙ ap Ok p.1);
-      chains = λ b below. record { linked = no-bucket b below; once = tt; few = omega arith };
+      chains = λ b below. record { linked = no-bucket b below; once = tt };
     };
     lies = (doomed-is_represented 0).holds.lies;
   };

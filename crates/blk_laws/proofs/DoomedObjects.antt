@@ -212,7 +212,6 @@ module _ (touched : Claim → Bool) (v u : View) (m : State) (y : Layout) (r : R
     linked = subst (λ (x : ℕ). Linked u.stock b x (y.chains b)) (same.table b) (linked-same touched v.stock u.stock same.stock b (v.stock.table b) (y.chains b)
         (λ w h. let q : IsListedRecord m y w = lies.unchained b w below h in subst (IsClear touched) q.record_is (clear-other q.node q.loaded (apart-node m y lies number o here gone q.node q.listed) q.here).contents) c.linked);
     once = c.once;
-    few = c.few;
   }
 
   still-listed : IsList u.list (order m y)

@@ -22,7 +22,7 @@ pub empty-view : (v : View) (limits : Bounds) → v.stock.entry 0 ≡ None → (
 unfolding open_state objects_in
 empty-view v limits record_0 table list idle = record {
   holds = record {
-    shows = record { no_record = record_0; each = λ w l is. absurd (cc); chains = λ b below. record { linked = table b below; once = tt; few = omega arith } };
+    shows = record { no_record = record_0; each = λ w l is. absurd (cc); chains = λ b below. record { linked = table b below; once = tt } };
     lies = record {
       laid = λ i h. absurd (let z : false ≡ true = h in cc);
       normal = λ w h. refl;

@@ -161,8 +161,8 @@ torn-is_at_rest =
 -- and so it is with the node's record in the midst of this
 torn-chains : (b : ℕ) → b < 65536 → IsChain (with_data None).stock b ((layout 5).chains b)
 torn-chains b below = ⊎_elim
-    (λ (e : (b == bucket) ≡ true). subst (λ (x : ℕ). IsChain (with_data None).stock x ((layout 5).chains x)) (sym (eqb-true b bucket e)) (record { linked = (refl, refl, refl); once = (refl, tt); few = omega arith }))
-    (λ (e : (b == bucket) ≡ false). record { linked = rw e refl; once = rw e tt; few = rw e (omega arith) })
+    (λ (e : (b == bucket) ≡ true). subst (λ (x : ℕ). IsChain (with_data None).stock x ((layout 5).chains x)) (sym (eqb-true b bucket e)) (record { linked = (refl, refl, refl); once = (refl, tt) }))
+    (λ (e : (b == bucket) ≡ false). record { linked = rw e refl; once = rw e tt })
     (cases_Bool (b == bucket))
 
 torn-holds : HoldsBut (λ w. w == node) (with_data None).stock (state false) (layout 5)

@@ -139,7 +139,7 @@ second-is_written = record {
     free = λ claim h. let n : has_claim (all_claims (loaded 0)) claim ≡ false = not_true (has_claim (all_claims (loaded 0)) claim) (λ one. not_both claim one h) in rw n refl;
     single = second-once;
   };
-  front = record { follows = refl; fresh = refl; few = omega arith };
+  front = record { follows = refl; fresh = refl };
   good = refl;
   few = omega arith;
   missing = refl;
@@ -245,8 +245,8 @@ has-chains : HasChains gone unlinked two two_layout one_chain
 unfolding created closed put hash mixed of_bytes of_four
 has-chains = record {
   whole = λ b below. ⊎_elim
-      (λ (e : (b == bucket) ≡ true). subst (λ (x : ℕ). IsChain unlinked x (one_chain x)) (sym (eqb-true b bucket e)) (record { linked = (refl, refl, refl); once = (refl, tt); few = omega arith }))
-      (λ (e : (b == bucket) ≡ false). record { linked = rw e refl; once = rw e tt; few = rw e (omega arith) })
+      (λ (e : (b == bucket) ≡ true). subst (λ (x : ℕ). IsChain unlinked x (one_chain x)) (sym (eqb-true b bucket e)) (record { linked = (refl, refl, refl); once = (refl, tt) }))
+      (λ (e : (b == bucket) ≡ false). record { linked = rw e refl; once = rw e tt })
       (cases_Bool (b == bucket));
   chained = λ w l among is out.
       let s : second 0 ≡ l = at-second w l (either-node w among out) is in

@@ -60,7 +60,7 @@ doomed-is_represented dirty = record {
     shows = record {
       no_record = refl;
       each = λ w l is. let p = one.at-node dirty w l is in subst (λ (x : ℕ). load (doomed_view dirty None).stock (alone doomed) x ≡ Ok l) (sym p.0) (doomed-loads dirty ∙ ap Ok p.1);
-      chains = λ b below. record { linked = none b; once = tt; few = omega arith };
+      chains = λ b below. record { linked = none b; once = tt };
     };
     lies = record {
       laid = λ item h. absurd (let z : false ≡ true = h in cc);

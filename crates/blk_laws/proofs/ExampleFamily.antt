@@ -185,10 +185,10 @@ parent-laid = record { loaded = the_parent; here = refl; row = parent-row; mark 
 -- the parent and the part are each alone in a chain
 pub family-chains : (b : ℕ) → b < 65536 → IsChain family_stock b (family_layout.chains b)
 family-chains b below = ⊎_elim
-    (λ (e : (b == 0xA782) ≡ true). subst (λ (x : ℕ). IsChain family_stock x (family_layout.chains x)) (sym (eqb-true b 0xA782 e)) (record { linked = (refl, refl, refl); once = (refl, tt); few = omega arith }))
+    (λ (e : (b == 0xA782) ≡ true). subst (λ (x : ℕ). IsChain family_stock x (family_layout.chains x)) (sym (eqb-true b 0xA782 e)) (record { linked = (refl, refl, refl); once = (refl, tt) }))
     (λ (e : (b == 0xA782) ≡ false). ⊎_elim
-    (λ (f : (b == 0xD945) ≡ true). subst (λ (x : ℕ). IsChain family_stock x (family_layout.chains x)) (sym (eqb-true b 0xD945 f)) (record { linked = (refl, refl, refl); once = (refl, tt); few = omega arith }))
-    (λ (f : (b == 0xD945) ≡ false). record { linked = rw (e, f) refl; once = rw (e, f) tt; few = rw (e, f) (omega arith) })
+    (λ (f : (b == 0xD945) ≡ true). subst (λ (x : ℕ). IsChain family_stock x (family_layout.chains x)) (sym (eqb-true b 0xD945 f)) (record { linked = (refl, refl, refl); once = (refl, tt) }))
+    (λ (f : (b == 0xD945) ≡ false). record { linked = rw (e, f) refl; once = rw (e, f) tt })
     (cases_Bool (b == 0xD945)))
     (cases_Bool (b == 0xA782))
 

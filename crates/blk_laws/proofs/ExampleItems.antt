@@ -190,7 +190,7 @@ second-is_written = record {
     free = λ claim h. let n : has_claim (all_claims (loaded 0)) claim ≡ false = not_true (has_claim (all_claims (loaded 0)) claim) (λ one. not_both claim one h) in rw n refl;
     single = second-once;
   };
-  front = record { follows = refl; fresh = refl; few = omega arith };
+  front = record { follows = refl; fresh = refl };
   good = refl;
   few = omega arith;
   missing = refl;
@@ -279,7 +279,7 @@ removal-holds =
       no_record = refl;
       each = λ w l is out. let p = first-at w l is out in subst (λ (x : ℕ). load without_node (alone (both_layout.state x)) x ≡ Ok l) (sym p.0) (first-loads ∙ ap Ok p.1);
       chains = λ b below. let c : IsChain both_view.stock b (both_layout.chains b) = r.holds.shows.chains b below in
-          record { linked = linked-facts both_view.stock without_node b (both_view.stock.table b) (both_layout.chains b) (λ w h. (refl, refl)) c.linked; once = c.once; few = c.few };
+          record { linked = linked-facts both_view.stock without_node b (both_view.stock.table b) (both_layout.chains b) (λ w h. (refl, refl)) c.linked; once = c.once };
       laid = r.holds.lies.laid;
       normal = r.holds.lies.normal;
       chained = λ w l there is out. r.holds.lies.chained w l there is;

@@ -185,7 +185,7 @@ without-holds = record {
       (λ (p : (w ≡ part_node) × (the_part ≡ l)). absurd (let c : true ≡ false = sym (eq-eqb w part_node p.0) ∙ out in cc))
       (at-either w l is);
   chains = λ b below. let c : IsChain family_stock b (family_layout.chains b) = family-holds.shows.chains b below in
-      record { linked = linked-facts family_stock without_node b (family_stock.table b) (family_layout.chains b) (λ w h. (refl, refl)) c.linked; once = c.once; few = c.few };
+      record { linked = linked-facts family_stock without_node b (family_stock.table b) (family_layout.chains b) (λ w h. (refl, refl)) c.linked; once = c.once };
   laid = family-holds.lies.laid;
   normal = family-holds.lies.normal;
   chained = λ w l there is out. family-holds.lies.chained w l there is;

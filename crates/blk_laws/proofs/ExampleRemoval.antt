@@ -1,5 +1,5 @@
 -- The laws on removals and dooms at a sparse object with one part: the part goes alone, and the object is doomed with it.
-use Rattle.std.proofs.Common.{◌≡◌, ⊎_elim, ℕ, [], ◌∷◌, map, refl, ap, sym, ◌∙◌, subst, arith, Bool, true, false, Some, None, Ok}
+use Rattle.std.proofs.Common.{◌≡◌, ⊎_elim, ℕ, [], ◌∷◌, map, refl, ap, sym, ◌∙◌, subst, Bool, true, false, Some, None, Ok}
 use Rattle.std.specs.Prelude.{if◌then◌else◌, take, ◌==◌, ◌||◌, not, codes}
 use Rattle.std.proofs.lemmas.Bool.{eqb-true, cases_Bool}
 use Rattle.blk_model.specs.Items.{Item, main, part, same_item}
@@ -56,8 +56,8 @@ parent-has_chains : HasChains (λ w. w == part_node) part_unlinked family_state 
 unfolding hash mixed of_bytes of_one
 parent-has_chains = record {
   whole = λ b below. ⊎_elim
-      (λ (e : (b == 0xA782) ≡ true). subst (λ (x : ℕ). IsChain part_unlinked x (parent_chains x)) (sym (eqb-true b 0xA782 e)) (record { linked = (refl, refl, refl); once = (refl, tt); few = omega arith }))
-      (λ (e : (b == 0xA782) ≡ false). record { linked = rw e refl; once = rw e tt; few = rw e (omega arith) })
+      (λ (e : (b == 0xA782) ≡ true). subst (λ (x : ℕ). IsChain part_unlinked x (parent_chains x)) (sym (eqb-true b 0xA782 e)) (record { linked = (refl, refl, refl); once = (refl, tt) }))
+      (λ (e : (b == 0xA782) ≡ false). record { linked = rw e refl; once = rw e tt })
       (cases_Bool (b == 0xA782));
   chained = λ w l among is out. ⊎_elim
       (λ (p : (w ≡ parent_node) × (the_parent ≡ l)). subst (λ (x : Loaded). is_among (parent_chains (bucket_of_hash (hash x.key))) x.contents ≡ true) p.1 parent-in_chain)
@@ -126,7 +126,7 @@ doomed-holds : HoldsBut both_gone doomed_stock named_state (record family_layout
 doomed-holds = record {
   no_record = refl;
   each = λ w l is out. absurd (none w l is out);
-  chains = λ b below. record { linked = refl; once = tt; few = omega arith };
+  chains = λ b below. record { linked = refl; once = tt };
   laid = λ item h. laid-chained named_state family_layout (λ b. []) item (family-is_represented.holds.lies.laid item h);
   normal = λ w h. refl;
   chained = λ w l there is out. absurd (none w l is out);

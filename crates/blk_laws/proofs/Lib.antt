@@ -33,6 +33,8 @@ pub mod Finished
 pub mod FrameLaw
 pub mod AtRest
 pub mod ChainLinks
+pub mod ChainLengths
+pub mod ChainSizes
 pub mod Covers
 pub mod DirtyWords
 pub mod DoomedObjects

@@ -143,8 +143,8 @@ represented dirty = record {
 
   chains : (b : ℕ) → b < 65536 → IsChain (stock contents dirty) b ((layout dirty).chains b)
   chains b below = ⊎_elim
-      (λ (e : (b == bucket) ≡ true). subst (λ (x : ℕ). IsChain (stock contents dirty) x ((layout dirty).chains x)) (sym (eqb-true b bucket e)) (record { linked = (refl, refl, refl); once = (refl, tt); few = omega arith }))
-      (λ (e : (b == bucket) ≡ false). record { linked = rw e refl; once = rw e tt; few = rw e (omega arith) })
+      (λ (e : (b == bucket) ≡ true). subst (λ (x : ℕ). IsChain (stock contents dirty) x ((layout dirty).chains x)) (sym (eqb-true b bucket e)) (record { linked = (refl, refl, refl); once = (refl, tt) }))
+      (λ (e : (b == bucket) ≡ false). record { linked = rw e refl; once = rw e tt })
       (cases_Bool (b == bucket))
 
   is-a : (item : Item) → is_listed (state (dirty == 0)) item ≡ true → item ≡ main (codes "a")
@@ -232,7 +232,7 @@ written = record {
   };
   free = λ claim w owned. absurd (cc);
   entry = record { loads = fresh-loads; key_is = refl; role = refl; streams = refl; dirty = refl; nobody = refl; free = λ claim h. refl; single = fresh-once };
-  front = record { follows = refl; fresh = refl; few = omega arith };
+  front = record { follows = refl; fresh = refl };
   good = refl;
   few = omega arith;
   missing = refl;

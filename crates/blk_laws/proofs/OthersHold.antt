@@ -61,7 +61,7 @@ others-outside touched hole v u m y r same table free clear = record {
   no_record = sym (same.entry 0 (clear-zero touched)) ∙ r.no_record;
   each = λ w l is sound. load-outside touched v u same (rule_of y w) w l refl (r.each w l is sound) (all-clear touched l (λ c h. free c w (r.own w l c is h) sound));
   chains = λ b below. let c : IsChain v b (y.chains b) = r.chains b below in
-      record { linked = subst (λ (x : ℕ). Linked u b x (y.chains b)) (table b) (linked-same touched v u same b (v.table b) (y.chains b) (λ w h. clear b w below h) c.linked); once = c.once; few = c.few };
+      record { linked = subst (λ (x : ℕ). Linked u b x (y.chains b)) (table b) (linked-same touched v u same b (v.table b) (y.chains b) (λ w h. clear b w below h) c.linked); once = c.once };
   laid = r.laid;
   normal = r.normal;
   chained = r.chained;

@@ -120,7 +120,7 @@ module _ (touched : Claim → Bool) (v u : Stock) (same : SameStock touched v u)
     no_record = sym (same.entry 0 (clear-zero touched)) ∙ r.no_record;
     each = λ w l is. load-outside touched v u same (rule_of y w) w l refl (r.each w l is) (clear w l is);
     chains = λ b below. let is : IsChain v b (y.chains b) = r.chains b below in
-        record { linked = subst (λ (x : ℕ). Linked u b x (y.chains b)) (table b) (linked-same touched v u same b (v.table b) (y.chains b) (λ c there. chain_clear b c below there) is.linked); once = is.once; few = is.few };
+        record { linked = subst (λ (x : ℕ). Linked u b x (y.chains b)) (table b) (linked-same touched v u same b (v.table b) (y.chains b) (λ c there. chain_clear b c below there) is.linked); once = is.once };
   }
 
 module _ (touched : Claim → Bool) (m : State) (y : Layout) (free : IsFree touched y) (r : Lies m y) where

@@ -76,7 +76,7 @@ module _ (touched : Claim → Bool) (v u : View) (m : State) (y : Layout) (r : R
     no_record = sym (same.stock.entry 0 (clear-zero touched)) ∙ shows.no_record;
     each = each;
     chains = λ b below. let c : IsChain v.stock b (y.chains b) = shows.chains b below in
-        record { linked = subst (λ (x : ℕ). Linked u.stock b x (y.chains b)) (same.table b) (linked-facts v.stock u.stock b (v.stock.table b) (y.chains b) (λ x there. chain-same b x below there) c.linked); once = c.once; few = c.few };
+        record { linked = subst (λ (x : ℕ). Linked u.stock b x (y.chains b)) (same.table b) (linked-facts v.stock u.stock b (v.stock.table b) (y.chains b) (λ x there. chain-same b x below there) c.linked); once = c.once };
   }
 
   node-same : (w : ℕ) → is_among (order m y) w ≡ true → SameNodeLinks w v.list u.list

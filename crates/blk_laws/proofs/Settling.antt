@@ -170,7 +170,7 @@ pub shows-dirty : (v : Stock) (y : Layout) (r : Shows v y) (w0 d : ℕ) (l : Loa
 shows-dirty v y r w0 d l n owner at named = record {
   no_record = r.no_record;
   each = λ w x is. each w x is;
-  chains = λ b below. let c : IsChain v b (y.chains b) = r.chains b below in record { linked = linked-named v (put v.named w0 (Some (record n { dirty = d }))) b (v.table b) (y.chains b) c.linked; once = c.once; few = c.few };
+  chains = λ b below. let c : IsChain v b (y.chains b) = r.chains b below in record { linked = linked-named v (put v.named w0 (Some (record n { dirty = d }))) b (v.table b) (y.chains b) c.linked; once = c.once };
 } where
   f : ℕ → Option Named
   f = put v.named w0 (Some (record n { dirty = d }))

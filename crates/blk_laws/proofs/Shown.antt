@@ -296,7 +296,7 @@ filter-none p [] = tt
 filter-none p (x ∷ xs) = ⊎_elim (λ (e : p x ≡ true). rw e (filter-none p xs)) (λ (e : p x ≡ false). rw e (e, filter-none p xs)) (cases_Bool (p x))
 
 -- what is in a filtered list
-is_among-filter : (p : ℕ → Bool) (xs : List ℕ) (w : ℕ) → is_among (filter p xs) w ≡ (p w && is_among xs w)
+pub is_among-filter : (p : ℕ → Bool) (xs : List ℕ) (w : ℕ) → is_among (filter p xs) w ≡ (p w && is_among xs w)
 is_among-filter p [] w = and_false (p w) where
   and_false : (b : Bool) → false ≡ (b && false)
   and_false true = refl
@@ -313,7 +313,7 @@ is_among-filter p (x ∷ xs) w =
     (eqb_tells x w))
     (cases_Bool (p x))
 
-Distinct-filter : (p : ℕ → Bool) (xs : List ℕ) → Distinct xs → Distinct (filter p xs)
+pub Distinct-filter : (p : ℕ → Bool) (xs : List ℕ) → Distinct xs → Distinct (filter p xs)
 Distinct-filter p [] d = tt
 Distinct-filter p (x ∷ xs) d = ⊎_elim (λ (e : p x ≡ true). rw e (is_among-filter p xs x ∙ rw (e, d.0) refl, Distinct-filter p xs d.1)) (λ (e : p x ≡ false). rw e (Distinct-filter p xs d.1)) (cases_Bool (p x))
 

@@ -160,7 +160,7 @@ none_unlisted = flat_map-none (unlisted_in (completed (view_of (cut_to 8448)))) 
   each : (b : ℕ) → ((b == 0xA782) ≡ true) ⊎ ((b == 0xA782) ≡ false) → ((b == 0xA0E1) ≡ true) ⊎ ((b == 0xA0E1) ≡ false) → unlisted_in (completed (view_of (cut_to 8448))) b ≡ []
   each b (inl first) other = subst (λ (x : ℕ). unlisted_in (completed (view_of (cut_to 8448))) x ≡ []) (sym (eqb-true b 0xA782 first)) its_buckets.0
   each b (inr apart) (inl second) = subst (λ (x : ℕ). unlisted_in (completed (view_of (cut_to 8448))) x ≡ []) (sym (eqb-true b 0xA0E1 second)) its_buckets.1
-  each b (inr not_first) (inr not_second) = rw (chain-is (stock_of (cut_to 8448)) b [] (no-record (cut_to 8448)) (record { linked = unfold stock_of in other_bucket b not_first not_second; once = tt; few = omega arith })) refl
+  each b (inr not_first) (inr not_second) = rw (chain-is (stock_of (cut_to 8448)) b [] (no-record (cut_to 8448)) (record { linked = unfold stock_of in other_bucket b not_first not_second; once = tt })) refl
 
 -- and the other node is all that is dropped
 cut_is_dropped : dropped (cut_to 8448) ≡ (0x90000001, reason.Contents) ∷ []

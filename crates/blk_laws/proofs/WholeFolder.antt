@@ -120,11 +120,11 @@ its-bucket-word : (bucket_of (byte whole_folder Index) one.bucket ≡ one.conten
 unfolding whole_folder zeros with_word spliced next_file_in max_entries_in linked files_along type_among stock_of core_at follow_at stands stands_as_blocks is_address is_initialized names_external names_blocks kind_of reserved_bits block_count file_selector first_block external_number block_size block_place place room entry_checks entry_is_sealed entry_in entry_body words_at hash mixed of_bytes of_four
 its-bucket-word = (refl, refl, refl)
 
-whole-chains : (b : ℕ) → b < 65536 → IsChain (stock_of whole_folder) b ((one.layout 0).chains b)
+pub whole-chains : (b : ℕ) → b < 65536 → IsChain (stock_of whole_folder) b ((one.layout 0).chains b)
 unfolding stock_of
 whole-chains b below = ⊎_elim
-    (λ (e : (b == one.bucket) ≡ true). subst (λ (x : ℕ). IsChain (stock_of whole_folder) x ((one.layout 0).chains x)) (sym (eqb-true b one.bucket e)) (record { linked = its-bucket-word; once = (refl, tt); few = omega arith }))
-    (λ (e : (b == one.bucket) ≡ false). record { linked = rw e (other-bucket b e); once = rw e tt; few = rw e (omega arith) })
+    (λ (e : (b == one.bucket) ≡ true). subst (λ (x : ℕ). IsChain (stock_of whole_folder) x ((one.layout 0).chains x)) (sym (eqb-true b one.bucket e)) (record { linked = its-bucket-word; once = (refl, tt) }))
+    (λ (e : (b == one.bucket) ≡ false). record { linked = rw e (other-bucket b e); once = rw e tt })
     (cases_Bool (b == one.bucket))
 
 -- the folder represents the state of the entry

@@ -72,7 +72,7 @@ module _ (touched : Claim → Bool) (v u : View) (m : State) (y : Layout) (r : R
     no_record = sym (same.stock.entry 0 (clear-zero touched)) ∙ shows.no_record;
     each = λ w x is apart. load-outside touched v.stock u.stock same.stock (rule_of y w) w x refl (shows.each w x is) (clear-other w x apart is);
     chains = λ b below. let c : IsChain v.stock b (y.chains b) = shows.chains b below in
-        record { linked = subst (λ (x : ℕ). Linked u.stock b x (y.chains b)) (same.table b) (linked-facts v.stock u.stock b (v.stock.table b) (y.chains b) (λ x there. chain-same b x below there) c.linked); once = c.once; few = c.few };
+        record { linked = subst (λ (x : ℕ). Linked u.stock b x (y.chains b)) (same.table b) (linked-facts v.stock u.stock b (v.stock.table b) (y.chains b) (λ x there. chain-same b x below there) c.linked); once = c.once };
     laid = lies.laid;
     normal = lies.normal;
     chained = λ w x there is _. lies.chained w x there is;

@@ -1,12 +1,14 @@
 -- The laws of the use list and of the chains.
-use Rattle.std.specs.Prelude.{◌≡◌, ℕ, ◌+◌, ◌<◌, true, false, ◌==◌, List, ◌∷◌, ◌++◌, length, map}
+use Rattle.std.specs.Prelude.{◌≡◌, ℕ, ◌<◌, ◌≤◌, true, false, ◌==◌, List, ◌∷◌, ◌++◌, length, map}
+use Rattle.blk_image.specs.Image.{Image}
+use Rattle.blk_format.specs.Address.{blocks_256}
 use Rattle.blk_format.specs.BlockFiles.{is_among}
 use Rattle.std.specs.declared.option.Option.TheVariants.{None}
-use Rattle.blk_volume.specs.ListView.{ListView, IsList, most_nodes, put, after_writes}
+use Rattle.blk_volume.specs.ListView.{ListView, Distinct, IsList, most_nodes, put, after_writes}
 use Rattle.blk_volume.specs.Walk.{walk}
 use Rattle.blk_volume.specs.Completion.{insert, remove}
 use Rattle.blk_volume.specs.ListPlans.{writes_of, touch_writes, completion_writes, outcome, TurnsAtTwo, stopped}
-use Rattle.blk_volume.specs.View.{Stock}
+use Rattle.blk_volume.specs.View.{Stock, stands_as, stock_of}
 use Rattle.blk_volume.specs.Chains.{file_and_block, most_records, is_of_bucket, chain, Linked, IsChain}
 
 -- The use list.
@@ -65,24 +67,49 @@ CompletionsEnd = (list : ListView) → outcome (after_writes (completion_writes 
 abbrev pub ChainsAreTheirRecords : Type 0
 ChainsAreTheirRecords = (stock : Stock) (bucket : ℕ) (words : List ℕ) → stock.entry 0 ≡ None → IsChain stock bucket words → chain stock bucket ≡ record { reached = words; end = 0 }
 
+-- no whole chain has more records than there are first blocks
+abbrev pub WholeChainsAreShort : Type 0
+WholeChainsAreShort = (stock : Stock) (bucket : ℕ) (words : List ℕ) → IsChain stock bucket words → length words ≤ most_records
+
+-- of an image fewer records of different first blocks stand, since data_0 is linked as a file of nodes
+abbrev pub RecordsOfImagesAreFew : Type 0
+RecordsOfImagesAreFew = (image : Image) (words : List ℕ) → ((w : ℕ) → is_among words w ≡ true → stands_as image blocks_256 w ≡ true) → Distinct (map file_and_block words) → length words < most_records
+
+-- so a whole chain of an image has fewer
+abbrev pub ChainsOfImagesAreShort : Type 0
+ChainsOfImagesAreShort = (image : Image) (bucket : ℕ) (words : List ℕ) → IsChain (stock_of image) bucket words → length words < most_records
+
 -- a record of the bucket whose next is the table word, and whose first block no record of the chain has, is put in front by the table word
 abbrev pub RecordsAreLinkedInFront : Type 0
 RecordsAreLinkedInFront = (stock : Stock) (bucket contents : ℕ) (words : List ℕ) → IsChain stock bucket words → is_of_bucket stock bucket contents ≡ true → stock.follow contents ≡ stock.table bucket
-    → is_among (map file_and_block words) (file_and_block contents) ≡ false → length words + 1 < most_records → IsChain (record stock { table = put stock.table bucket contents }) bucket (contents ∷ words)
+    → is_among (map file_and_block words) (file_and_block contents) ≡ false → IsChain (record stock { table = put stock.table bucket contents }) bucket (contents ∷ words)
 
 -- the word of one bucket is not read for another
 abbrev pub OtherChainsStay : Type 0
 OtherChainsStay = (stock : Stock) (bucket other word : ℕ) → (bucket == other) ≡ false → chain (record stock { table = put stock.table bucket word }) other ≡ chain stock other
 
--- the records behind the first of a chain are a chain from its next on, where their own links and buckets are as before
+-- the records behind the first of linked records are linked from its next on, where their own links and buckets are as before
 abbrev pub FirstRecordsAreUnlinked : Type 0
 FirstRecordsAreUnlinked = (old new : Stock) (bucket word contents : ℕ) (words : List ℕ)
     → ((w : ℕ) → is_among words w ≡ true → (is_of_bucket new bucket w ≡ is_of_bucket old bucket w) × (new.follow w ≡ old.follow w))
     → Linked old bucket word (contents ∷ words) → Linked new bucket (old.follow contents) words
 
--- a record goes out of a chain where the one before it takes its next
+-- so the first record goes out of a chain where the table word becomes its next
+abbrev pub FirstRecordsLeaveChains : Type 0
+FirstRecordsLeaveChains = (old new : Stock) (bucket contents : ℕ) (words : List ℕ)
+    → ((w : ℕ) → is_among words w ≡ true → (is_of_bucket new bucket w ≡ is_of_bucket old bucket w) × (new.follow w ≡ old.follow w))
+    → new.table bucket ≡ old.follow contents → IsChain old bucket (contents ∷ words) → IsChain new bucket words
+
+-- a record goes out of linked records where the one before it takes its next
 abbrev pub LaterRecordsAreUnlinked : Type 0
 LaterRecordsAreUnlinked = (old new : Stock) (bucket word before contents : ℕ) (front behind : List ℕ)
     → ((w : ℕ) → is_among (front ++ before ∷ behind) w ≡ true → is_of_bucket new bucket w ≡ is_of_bucket old bucket w)
     → ((w : ℕ) → is_among front w ≡ true → new.follow w ≡ old.follow w) → ((w : ℕ) → is_among behind w ≡ true → new.follow w ≡ old.follow w) → new.follow before ≡ old.follow contents
     → Linked old bucket word (front ++ before ∷ contents ∷ behind) → Linked new bucket word (front ++ before ∷ behind)
+
+-- so it goes out of a chain where the table word is as before
+abbrev pub LaterRecordsLeaveChains : Type 0
+LaterRecordsLeaveChains = (old new : Stock) (bucket before contents : ℕ) (front behind : List ℕ)
+    → ((w : ℕ) → is_among (front ++ before ∷ behind) w ≡ true → is_of_bucket new bucket w ≡ is_of_bucket old bucket w)
+    → ((w : ℕ) → is_among front w ≡ true → new.follow w ≡ old.follow w) → ((w : ℕ) → is_among behind w ≡ true → new.follow w ≡ old.follow w) → new.follow before ≡ old.follow contents
+    → new.table bucket ≡ old.table bucket → IsChain old bucket (front ++ before ∷ contents ∷ behind) → IsChain new bucket (front ++ before ∷ behind)

@@ -8,7 +8,7 @@ ghost use Rattle.blk_laws.specs.BareLaws.{NothingRepresentsTheEmptyState, BareFo
 ghost use Rattle.blk_laws.specs.ByteLaws.{CoveredChangesStayInside, BlocksAreCovered, ExternalFilesAreCovered, HeadersNeedNoCover, HiddenWordsNeedNoCover, CoversOfLess, MoreCovers, CoversOfEither, AgreeingImagesShowTheSame, CoveredChangesAgree, GrowthIsPastTheBlocks, SameLinksLinkTheSame, AgreementGoesOn, AgreementButMore, LongerFilesHaveGrown, GrowthKeepsStates};
 ghost use Rattle.blk_laws.specs.CommandLaws.{UnsettledObjectsMayChange, EachMomentIsAtRest, RemovalsKeepTheOthers, LessIsLaid, LessIsRepresented, DirtyWordsSettle, WrittenDirtyWordsSettle, ChangedDoomedObjectsAreLaid, ChangedDoomedObjectsAreRepresented, EachDoomedMomentIsAtRest, GoneDoomedObjectsAreRepresented, DoomedDirtyWordsSettle, WrittenDoomedDirtyWordsSettle, RepresentedHoldBut, MoreMayBeLeftOut, OthersHoldOutside, OthersHoldUnlinked, ChainedRecordsAreOnlyRecords, RecordsStayOutside, RecordsStayUnlinked, RecordsOfAnotherStateLoad, ListedItemsAreAtRest, DoomsKeepTheOthers, DoomsAtEachWrite, DoomedPartsAtEachWrite, DoomedIsLaid, DoomedIsRepresented, HandlesAreNotShown, RestBeforeTurning, RestAfterTurning, OpensAtEachWrite, OpensEnd, CreatesAtEachWrite, CreatesEnd, CreatesLeaveTheRest, CreatesMayLeaveWhatWas};
 ghost use Rattle.blk_laws.specs.KeptLaws.{KeptAreTheGiven, NoneOfTheGivenIsDropped, LeavingOutKeepsTheSame, SameKeyIsOneChain, OnlyCandidatesAreKept, SameCandidatesHoldTheSame};
-ghost use Rattle.blk_laws.specs.ListLaws.{WalksAreTheLists, InsertsTurnAtTwo, InsertsEnd, RemovalsTurnAtTwo, RemovalsEnd, TouchesTurnAtTwo, TouchesEnd, CompletingAgainIsTheSame, CompletionsEnd, ChainsAreTheirRecords, RecordsAreLinkedInFront, OtherChainsStay, FirstRecordsAreUnlinked, LaterRecordsAreUnlinked};
+ghost use Rattle.blk_laws.specs.ListLaws.{WalksAreTheLists, InsertsTurnAtTwo, InsertsEnd, RemovalsTurnAtTwo, RemovalsEnd, TouchesTurnAtTwo, TouchesEnd, CompletingAgainIsTheSame, CompletionsEnd, ChainsAreTheirRecords, RecordsAreLinkedInFront, WholeChainsAreShort, RecordsOfImagesAreFew, ChainsOfImagesAreShort, OtherChainsStay, FirstRecordsAreUnlinked, FirstRecordsLeaveChains, LaterRecordsAreUnlinked, LaterRecordsLeaveChains};
 ghost use Rattle.blk_laws.specs.StateLaws.{WalksAreTheOrder, ListedAreTheRows, NothingListedIsDropped, RepresentedChainsEnd, KeptAreAtRest, FoundIsAtRest, RepresentedStatesAreShown, RepresentedStatesAreStoodFor, LaidIsShown, KeptArePicked, FreeFootprintsKeepStates, ChangedItemsAreLaid, ChangedItemsAreRepresented};
 
 mod list_words;
@@ -52,13 +52,18 @@ pub fn completions_at_each_write()
     ensures ends { CompletionsEnd }
 {}
 
-/// A chain is its records, a record is linked in front of it or taken out of it, and no other chain is touched.
+/// A chain is its records, of which there are no more than first blocks; a record is linked in front of it or taken out of it, and no other chain is touched.
 pub fn chains_are_linked()
     ensures records { ChainsAreTheirRecords }
+    ensures short { WholeChainsAreShort }
+    ensures few { RecordsOfImagesAreFew }
+    ensures of_images { ChainsOfImagesAreShort }
     ensures front { RecordsAreLinkedInFront }
     ensures others { OtherChainsStay }
     ensures first { FirstRecordsAreUnlinked }
     ensures later { LaterRecordsAreUnlinked }
+    ensures first_leaves { FirstRecordsLeaveChains }
+    ensures later_leaves { LaterRecordsLeaveChains }
 {}
 
 /// What is given to a walk is kept, and where something is given to each node none is dropped.

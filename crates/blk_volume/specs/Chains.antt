@@ -1,5 +1,5 @@
 -- The chains of the table.
-use Rattle.std.specs.Prelude.{◌≡◌, ℕ, zero, suc, ◌<◌, ◌%◌, ◌^◌, List, [], ◌∷◌, length, map, Bool, true, false, not, ◌&&◌, ◌==◌, if◌then◌else◌}
+use Rattle.std.specs.Prelude.{◌≡◌, ℕ, zero, suc, ◌%◌, ◌^◌, List, [], ◌∷◌, map, Bool, true, false, not, ◌&&◌, ◌==◌, if◌then◌else◌}
 use Rattle.std.specs.Option.{option_map_or}
 use Rattle.blk_format.specs.Headers.{table_length}
 use Rattle.blk_format.specs.BlockFiles.{is_among}
@@ -50,8 +50,7 @@ abbrev pub Linked : Stock → ℕ → ℕ → List ℕ → Type 0
 Linked stock bucket word [] = word ≡ 0
 Linked stock bucket word (w ∷ words) = (word ≡ w) × (is_of_bucket stock bucket w ≡ true) × Linked stock bucket (stock.follow w) words
 
--- these are the records of the chain of a bucket, which ends at the word 0
+-- these are the records of the chain of a bucket, which ends at the word 0: no first block stands twice
 pub record IsChain (stock : Stock) (bucket : ℕ) (words : List ℕ) : Type 0 where
   pub linked : Linked stock bucket (stock.table bucket) words
   pub once : Distinct (map file_and_block words)
-  pub few : length words < most_records

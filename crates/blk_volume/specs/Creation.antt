@@ -1,5 +1,5 @@
 -- A new object in a layout.
-use Rattle.std.specs.Prelude.{◌≡◌, ℕ, ◌+◌, ◌<◌, List, [], ◌∷◌, length, map, true, false, ◌==◌, if◌then◌else◌}
+use Rattle.std.specs.Prelude.{◌≡◌, ℕ, List, [], ◌∷◌, map, true, false, ◌==◌, if◌then◌else◌}
 use Rattle.std.specs.declared.option.Option.TheVariants.{None, Some}
 use Rattle.std.specs.declared.result.Result.TheVariants.{Ok}
 use Rattle.blk_model.specs.Items.{main, same_item}
@@ -9,7 +9,7 @@ use Rattle.blk_format.specs.Claims.{Claim, has_claim, repeats}
 use Rattle.blk_format.specs.BlockFiles.{is_among}
 use Rattle.blk_volume.specs.ListView.{put}
 use Rattle.blk_volume.specs.View.{Stock}
-use Rattle.blk_volume.specs.Chains.{bucket_of_hash, file_and_block, most_records}
+use Rattle.blk_volume.specs.Chains.{bucket_of_hash, file_and_block}
 use Rattle.blk_volume.specs.Entries.{IsPlain}
 use Rattle.blk_volume.specs.Loads.{alone, Loaded, load, all_claims}
 use Rattle.blk_volume.specs.Layout.{Layout}
@@ -29,7 +29,6 @@ pub record IsNewEntry (stock : Stock) (layout : Layout) (key : List ℕ) (loaded
 pub record IsFrontOfChain (stock : Stock) (layout : Layout) (loaded : Loaded) : Type 0 where
   pub follows : stock.follow loaded.contents ≡ stock.table (bucket_of_hash (hash loaded.key))
   pub fresh : is_among (map file_and_block (layout.chains (bucket_of_hash (hash loaded.key)))) (file_and_block loaded.contents) ≡ false
-  pub few : length (layout.chains (bucket_of_hash (hash loaded.key))) + 1 < most_records
 
 -- the layout with it
 abbrev pub with_new : Layout → List ℕ → Loaded → Layout

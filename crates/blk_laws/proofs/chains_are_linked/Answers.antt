@@ -1,13 +1,20 @@
 use Rattle.blk_laws.proofs.Chains.{chain-is}
-use Rattle.blk_laws.proofs.ChainLinks.{linked-front, others-stay}
+use Rattle.blk_laws.proofs.ChainLinks.{linked-front, others-stay, first-leaves, later-leaves}
+use Rattle.blk_laws.proofs.ChainLengths.{records-few, image-chains-short}
+use Rattle.blk_laws.proofs.ChainSizes.{chains-short}
 use Rattle.blk_laws.proofs.Unlinking.{unlink-first, unlink-behind}
 use Rattle.blk_laws.proofs.chains_are_linked.Goals as goal
 
 pub returns : goal.returns
 returns c = record {
   records = chain-is;
+  short = chains-short;
+  few = records-few;
+  of_images = image-chains-short;
   front = linked-front;
   others = others-stay;
   first = unlink-first;
   later = unlink-behind;
+  first_leaves = first-leaves;
+  later_leaves = later-leaves;
 }
