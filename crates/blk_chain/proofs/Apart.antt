@@ -1,7 +1,7 @@
 -- Lists of words of different first blocks.
 use Rattle.std.proofs.Common.{◌≡◌, ◌≢◌, ⊎_elim, ℕ, Bool, true, false, List, [], ◌∷◌, ◌++◌, map, refl, sym, ◌∙◌, ap}
 use Rattle.std.specs.Prelude.{◌==◌}
-use Rattle.std.proofs.lemmas.Bool.{or_cases, or_parts, or_left, or_right, eq-eqb, eqb-true}
+use Rattle.std.proofs.lemmas.Bool.{or_cases, or_left, or_right, eq-eqb, eqb-true}
 use Rattle.blk_format.specs.BlockFiles.{is_among}
 use Rattle.blk_volume.specs.ListView.{Distinct}
 use Rattle.blk_volume.specs.Chains.{file_and_block}
@@ -44,20 +44,6 @@ front-apart (y ∷ front) p rest d x h e =
 pub rest-apart : (front : List ℕ) (p : ℕ) (rest : List ℕ) → Distinct (map file_and_block (front ++ p ∷ rest)) → (x : ℕ) → is_among rest x ≡ true → file_and_block x ≢ file_and_block p
 rest-apart [] p rest d x h e = no-both (is_among (map file_and_block rest) (file_and_block p)) (ap (is_among (map file_and_block rest)) (sym e) ∙ among-blocks rest x h) d.0
 rest-apart (y ∷ front) p rest d x h e = rest-apart front p rest d.1 x h e
-
--- a list without the word behind the middle one
-less : (block : ℕ) (front : List ℕ) (p c : ℕ) (rest : List ℕ) → is_among (map file_and_block (front ++ p ∷ c ∷ rest)) block ≡ false → is_among (map file_and_block (front ++ p ∷ rest)) block ≡ false
-less block [] p c rest h =
-    let one = or_parts (file_and_block p == block) (is_among (map file_and_block (c ∷ rest)) block) h in
-    let two = or_parts (file_and_block c == block) (is_among (map file_and_block rest) block) one.1 in
-    rw (one.0, two.1) refl
-less block (y ∷ front) p c rest h =
-    let one = or_parts (file_and_block y == block) (is_among (map file_and_block (front ++ p ∷ c ∷ rest)) block) h in
-    rw (one.0, less block front p c rest one.1) refl
-
-pub once-without : (front : List ℕ) (p c : ℕ) (rest : List ℕ) → Distinct (map file_and_block (front ++ p ∷ c ∷ rest)) → Distinct (map file_and_block (front ++ p ∷ rest))
-once-without [] p c rest d = ((or_parts (file_and_block c == file_and_block p) (is_among (map file_and_block rest) (file_and_block p)) d.0).1, d.1.1)
-once-without (y ∷ front) p c rest d = (less (file_and_block y) front p c rest d.0, once-without front p c rest d.1)
 
 -- each word of the shorter list is one of the longer
 pub still-there : (front : List ℕ) (p c : ℕ) (rest : List ℕ) (x : ℕ) → is_among (front ++ p ∷ rest) x ≡ true → is_among (front ++ p ∷ c ∷ rest) x ≡ true

@@ -14,10 +14,9 @@ use Rattle.blk_format.specs.Records.{entry_in}
 use Rattle.blk_format.specs.Headers.{place_of_bucket}
 use Rattle.blk_volume.specs.ListView.{put}
 use Rattle.blk_volume.specs.View.{Stock, Core, stock_of}
-use Rattle.blk_volume.specs.Chains.{chain, IsChain, Linked}
-use Rattle.blk_laws.proofs.ChainLinks.{others-stay}
+use Rattle.blk_volume.specs.Chains.{chain, IsChain}
+use Rattle.blk_laws.proofs.ChainLinks.{first-leaves, others-stay}
 use Rattle.blk_laws.proofs.Changing.{at-itself}
-use Rattle.blk_laws.proofs.Creating.{linked-table}
 use Rattle.blk_laws.specs.IndexMoments.{IsIndexWord}
 use Rattle.blk_laws.proofs.IndexWords.{buckets-written, buckets-unchecked}
 use Rattle.blk_disk.specs.declared.tables.BlockFiles.{BlockFiles}
@@ -58,12 +57,7 @@ module _ (from : Image) (entry : ℕ) (can : CanBeUnlinked entry None from) wher
       let b : ℕ = bucket_at from entry in
       let was : IsChain v b (entry ∷ behind) = subst (λ (ws : List ℕ). IsChain v b ws) is can.whole in
       let shown : IsShownOf v b entry = shown-of v b entry was.linked.1 in
-      record {
-        linked =
-            subst (λ (y : ℕ). Linked (record v { table = put v.table b (next_of from entry) }) b y behind) (shown-follow from entry shown.core shown.here ∙ sym (at-itself v.table b (next_of from entry)))
-            (linked-table v (put v.table b (next_of from entry)) b (v.follow entry) behind was.linked.2);
-        once = was.once.1;
-      }
+      first-leaves v (record v { table = put v.table b (next_of from entry) }) b entry behind (λ w among. (refl, refl)) (at-itself v.table b (next_of from entry) ∙ sym (shown-follow from entry shown.core shown.here)) was
 
   -- the word of the bucket is its next
   pub first_unlinked : (image : Image) → IsIndexWord (place_of_front from entry) (next_of from entry) from image → IsUnlinked from entry None image

@@ -2,7 +2,7 @@
 use Rattle.std.proofs.Common.{◌≡◌, ◌≢◌, ◌⊎◌, inl, inr, ⊎_elim, ℕ, ◌+◌, ◌%◌, ◌^◌, ◌<◌, ◌≤◌, true, false, List, [], ◌∷◌, ◌++◌, take, Option, Some, None, refl, sym, ◌∙◌, ap, subst, arith}
 use Rattle.std.specs.Prelude.{◌==◌, ◌&&◌, nat_le, if◌then◌else◌}
 use Rattle.std.specs.Option.{ForSome, option_map, option_map_or}
-use Rattle.std.proofs.lemmas.Bool.{cases_Bool, cases_eq, eq-eqb}
+use Rattle.std.proofs.lemmas.Bool.{cases_Bool, cases_eq, eq-eqb, or_right}
 use Rattle.std.proofs.lemmas.List.Elements.{All-nil, All-cons}
 use Rattle.blk_image.specs.Bytes.{content, word_at, word_bytes}
 use Rattle.blk_image.specs.Image.{AreBytes, File, Index, Block, Image, byte, bytes_of, length_of, word}
@@ -17,10 +17,10 @@ use Rattle.blk_format.specs.Address.{kind_of, file_selector, place, blocks_256}
 use Rattle.blk_format.specs.BlockFiles.{is_among, stands_in}
 use Rattle.blk_format.specs.Records.{entry_in, entry_checks, checks}
 use Rattle.blk_volume.specs.View.{Core, entry_at, stock_of}
-use Rattle.blk_volume.specs.Chains.{bucket_of_hash, file_and_block, IsChain, Linked}
+use Rattle.blk_volume.specs.Chains.{bucket_of_hash, file_and_block, IsChain}
 use Rattle.blk_format.specs.Claims.{claims_of, has_claim}
 use Rattle.blk_volume.specs.Entries.{key_of}
-use Rattle.blk_laws.proofs.Unlinking.{unlink-behind}
+use Rattle.blk_laws.proofs.ChainLinks.{later-leaves}
 use Rattle.blk_laws.specs.Moments.{OnlyFollowChanges}
 use Rattle.blk_laws.specs.RecordMoments.{IsRecord}
 use Rattle.blk_laws.proofs.Inside.{record-changes}
@@ -43,7 +43,7 @@ use Rattle.blk_chain.proofs.Turns.{turns_none, turns_part}
 use Rattle.blk_chain.proofs.Names.{IsShownOf, shown-of, shown-core, shown-kind, shown-follow, same-core, same-follow}
 use Rattle.blk_chain.proofs.Words.{linked-good}
 use Rattle.blk_chain.proofs.Keys.{first_word, first-clear, first-record, first-moment}
-use Rattle.blk_chain.proofs.Apart.{middle-there, behind-there, front-apart, rest-apart, once-without}
+use Rattle.blk_chain.proofs.Apart.{middle-there, behind-there, front-apart, rest-apart}
 use Rattle.blk_chain.proofs.Follows.{chain-same}
 
 -- a word beside the one that is written
@@ -135,17 +135,14 @@ module _ (from : Image) (bytes : AreBytes from) (entry before : ℕ) (can : CanB
           let no : true ≡ false = sym (eq-eqb (bucket_at from entry) other bucket) ∙ apart in cc))
 
       chain-without : (front behind : List ℕ) → IsChain (stock_of from) (bucket_at from entry) (front ++ before ∷ entry ∷ behind) → IsChain (stock_of image) (bucket_at from entry) (front ++ before ∷ behind)
-      chain-without front behind was = record {
-        linked =
-            subst (λ (x : ℕ). Linked (stock_of image) (bucket_at from entry) x (front ++ before ∷ behind)) (only.rest.table (bucket_at from entry))
-            (unlink-behind (stock_of from) (stock_of image) (bucket_at from entry) ((stock_of from).table (bucket_at from entry)) before entry front behind
-            (λ x among. ap (λ (o : Option Core). option_map_or (λ core. core.checks && (bucket_of_hash core.hash == bucket_at from entry)) o false) (records x))
-            (λ x among. sym (only.follow x (front-apart front before (entry ∷ behind) was.once x among)))
-            (λ x among. sym (only.follow x (rest-apart front before behind (once-without front before entry behind was.once) x among)))
-            (link ∙ sym (shown-follow from entry shown-entry.core shown-entry.here))
-            was.linked);
-        once = once-without front before entry behind was.once;
-      }
+      chain-without front behind was =
+          later-leaves (stock_of from) (stock_of image) (bucket_at from entry) before entry front behind
+          (λ x among. ap (λ (o : Option Core). option_map_or (λ core. core.checks && (bucket_of_hash core.hash == bucket_at from entry)) o false) (records x))
+          (λ x among. sym (only.follow x (front-apart front before (entry ∷ behind) was.once x among)))
+          (λ x among. sym (only.follow x (rest-apart front before (entry ∷ behind) was.once x (or_right (entry == x) (is_among behind x) among))))
+          (link ∙ sym (shown-follow from entry shown-entry.core shown-entry.here))
+          (sym (only.rest.table (bucket_at from entry)))
+          was
 
   module _ (image : Image) (moment : IsMoment from before ((4, next_of from entry) ∷ []) image) where
     written : OnlyFollowChanges before from image × ((stock_of image).follow before ≡ (if moment.made == 0 then (stock_of from).follow before else next_of from entry))

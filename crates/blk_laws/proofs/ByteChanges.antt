@@ -20,7 +20,7 @@ use Rattle.blk_volume.specs.View.{stands_as, block_bytes, node_at, entry_at, Nam
 use Rattle.blk_volume.specs.Entries.{is_key_length, longest_key}
 use Rattle.blk_volume.specs.Footprint.{IsClear, SameStock, SameLinks, SameBut, Covers, is_shown_place, is_extent_place}
 use Rattle.blk_volume.specs.Sound.{AreLongEnough}
-use Rattle.blk_laws.specs.ByteLaws.{is_there, AgreeBut, HaveGrown, is_past}
+use Rattle.blk_laws.specs.ByteLaws.{is_there, BlocksStandByTheirLast, AgreeBut, HaveGrown, is_past}
 use Rattle.blk_laws.proofs.Laid.{same_claim-self}
 use Rattle.blk_laws.proofs.ClaimLists.{claim-head, some-blocks}
 use Rattle.blk_laws.proofs.BlockBytes.{part_of, same-node_in, same-entry_in, same_under, same_else, room_is, storage_inside, not_false, not_same}
@@ -152,7 +152,7 @@ unfolding block_place
 places-rise kind less more rises = let p : block_size kind * less ≤ block_size kind * more = mul-le-mul_left (block_size kind) rises in omega arith
 
 -- blocks stand where their last one is there
-last-there : (image : Image) (w : ℕ) → stands_in_blocks image w ≡ is_there image (file_selector w) (kind_of w) (first_block w + block_count w - 1)
+pub last-there : BlocksStandByTheirLast
 unfolding stands_as_blocks is_there
 last-there image w =
     let some : 0 < block_count w = some-blocks w in

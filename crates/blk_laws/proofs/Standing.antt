@@ -9,20 +9,19 @@ use Rattle.std.proofs.Math.Dec.{eqb}
 use Rattle.std.proofs.lemmas.List.Elements.{filter_map-append}
 use Rattle.blk_volume.specs.ListView.{ListView, IsList, Distinct, Segment, last_or}
 use Rattle.blk_volume.specs.Walk.{walk}
-use Rattle.blk_model.specs.Items.{Item, main, part, item_of}
+use Rattle.blk_model.specs.Items.{Item, item_of}
 use Rattle.blk_model.specs.State.{State, Object, IsValidState, object_at}
 use Rattle.blk_image.specs.Image.{Image}
 use Rattle.blk_format.specs.BlockFiles.{is_among, IsWellFormed}
 use Rattle.blk_format.specs.Claims.{Claim, BlockOf, ExternalOf, has_claim, claims_of, repeats}
 use Rattle.blk_volume.specs.View.{View, Core, view_of}
 use Rattle.blk_volume.specs.Chains.{Chain}
-use Rattle.blk_volume.specs.Loads.{Rule, listed, Loaded, load, all_claims, claims_of_loaded, is_part, is_part_role}
-use Rattle.blk_volume.specs.Entries.{Role, IsPlain, IsParent, IsPart}
+use Rattle.blk_volume.specs.Loads.{Rule, listed, Loaded, load, all_claims, claims_of_loaded}
 use Rattle.blk_volume.specs.Audit.{kept_by, kept_among}
 use Rattle.blk_volume.specs.Found.{row_of, kept, found}
 use Rattle.blk_volume.specs.Layout.{Layout, is_listed, order, rule_of, IsMarked, IsLaid, IsListedRecord, IsDoomedAt, Lies, Represents}
 use Rattle.blk_volume.specs.Given.{given_by}
-use Rattle.blk_volume.specs.StandsFor.{IsMarkedRow, KeepsDoomed, AreDoomed, ShowsState, StandsFor, doomed_of, IsOwner, IsAllocated}
+use Rattle.blk_volume.specs.StandsFor.{KeepsDoomed, AreDoomed, ShowsState, StandsFor, doomed_of, IsOwner, IsAllocated}
 use Rattle.blk_volume.specs.Sound.{EndsWhole, AreOwned, IsInOrder}
 use Rattle.blk_laws.specs.StateLaws.{FoundIsAtRest}
 use Rattle.blk_laws.proofs.ClaimLists.{claim-append, no-claim, repeats-append, contents-claims, some-claim}
@@ -31,8 +30,6 @@ use Rattle.blk_laws.proofs.Laid.{IsNodeOf, node-of, item-of}
 use Rattle.blk_laws.proofs.Shown.{kept-given, node-is}
 use Rattle.blk_laws.proofs.Chains.{chain-is}
 use Rattle.blk_laws.proofs.Central.{all-shown, walk-order, none-dropped, rows-kept, chain-end, found-rest}
-use Rattle.blk_laws.proofs.Settling.{main-owned}
-use Rattle.blk_model.specs.Holding as model
 
 -- the claims of nodes of a layout
 abbrev pub claims_at : Layout → List ℕ → List Claim
@@ -135,39 +132,16 @@ module _ (image : Image) (m : State) (y : Layout) (r : Represents (view_of image
             absurd (let z : true ≡ false = sym t ∙ e in cc)
 
   -- marks
-  mark-of : (i : Item) (l : Loaded) → is_listed m i ≡ true → y.at (y.place i) ≡ Some l → IsMarkedRow m l
+  mark-of : (i : Item) (l : Loaded) → is_listed m i ≡ true → y.at (y.place i) ≡ Some l → IsMarked m (item_of (row_of l)) l
   mark-of i l there here =
       let q : IsLaid m y i = lies.laid i there in
       let same : q.loaded ≡ l = let s : y.at (y.place i) ≡ Some q.loaded = q.here in let t : y.at (y.place i) ≡ Some l = here in cc in
-      go i (subst (IsMarked m i) same q.mark) (item-of m y lies.laid i l there here) where
-        role-item : (b : Role) → l.role ≡ b → is_part l ≡ false → item_of (row_of l) ≡ main l.key
-        role-item IsPlain e no_part = rw e refl
-        role-item (IsParent index) e no_part = rw e refl
-        role-item (IsPart name index) e no_part = absurd (let z : true ≡ false = ap is_part_role (sym e) ∙ no_part in cc)
+      subst (λ (j : Item). IsMarked m j l) (sym (item-of m y lies.laid i l there here)) (subst (IsMarked m i) same q.mark)
 
-        part-item : (b : Role) → l.role ≡ b → is_part l ≡ true → (key : List ℕ) → item_of (row_of l) ≡ main key → ⊥
-        part-item IsPlain e is_it key item = let z : true ≡ false = sym is_it ∙ ap is_part_role e in cc
-        part-item (IsParent index) e is_it key item = let z : true ≡ false = sym is_it ∙ ap is_part_role e in cc
-        part-item (IsPart name index) e is_it key item = let z : item_of (row_of l) ≡ part name.key name.part = rw e refl in let x : main key ≡ part name.key name.part = sym item ∙ z in cc
-
-        go : (i : Item) → IsMarked m i l → item_of (row_of l) ≡ i → IsMarkedRow m l
-        go (main key) mark item = record {
-          part = λ is_it. absurd (part-item l.role refl is_it key item);
-          main = λ no_part number o at live key_is.
-              let k : key ≡ o.key = (let z : main key ≡ main l.key = sym item ∙ role-item l.role refl no_part in let x : key ≡ l.key = cc in x ∙ sym key_is) in
-              let own : model.owner m (main key) ≡ Some number = subst (λ (z : List ℕ). model.owner m (main z) ≡ Some number) (sym k) (main-owned m valid number o true at live) in
-              let found : model.owner_object m (main key) ≡ Some o = rw own at in
-              rw found at mark;
-        }
-        go (part key n) mark item = record {
-          part = λ _. mark;
-          main = λ no_part number o at live key_is. absurd (let z : main l.key ≡ part key n = sym (role-item l.role refl no_part) ∙ item in cc);
-        }
-
-  marks-of : (ws : List ℕ) → ((w : ℕ) → is_among ws w ≡ true → is_among (order m y) w ≡ true) → AllByRecursion (IsMarkedRow m) (filter_map y.at ws)
+  marks-of : (ws : List ℕ) → ((w : ℕ) → is_among ws w ≡ true → is_among (order m y) w ≡ true) → AllByRecursion (λ k. IsMarked m (item_of (row_of k)) k) (filter_map y.at ws)
   marks-of [] sub = tt
   marks-of (w ∷ ws) sub = go (y.at w) refl (marks-of ws (λ x h. sub x (or_right (w == x) (is_among ws x) h))) where
-    go : (o : Option Loaded) → y.at w ≡ o → AllByRecursion (IsMarkedRow m) (filter_map y.at ws) → AllByRecursion (IsMarkedRow m) (cons_option o (filter_map y.at ws))
+    go : (o : Option Loaded) → y.at w ≡ o → AllByRecursion (λ k. IsMarked m (item_of (row_of k)) k) (filter_map y.at ws) → AllByRecursion (λ k. IsMarked m (item_of (row_of k)) k) (cons_option o (filter_map y.at ws))
     go None is rest = rest
     go (Some l) is rest =
         let n : IsNodeOf y m.uses w = node-of y m.uses w (sub w (or_left (w == w) (is_among ws w) (eq-eqb w w refl))) in

@@ -1,11 +1,11 @@
 -- The laws from the bytes of files to what a view shows.
-use Rattle.std.specs.Prelude.{◌≡◌, ◌≢◌, ◌⊎◌, ℕ, List, Some, ◌+◌, ◌<◌, ◌≤◌, Bool, true, false, not, ◌&&◌, ◌||◌, nat_le, is_some}
+use Rattle.std.specs.Prelude.{◌≡◌, ◌≢◌, ◌⊎◌, ℕ, List, Some, ◌+◌, ◌-◌, ◌<◌, ◌≤◌, Bool, true, false, not, ◌&&◌, ◌||◌, nat_le, is_some}
 use Rattle.blk_image.specs.Image.{Index, Block, External, Image, byte, length_of}
 use Rattle.blk_image.specs.Steps.{SetLength, applied}
 use Rattle.blk_image.specs.Footprint.{Footprint, range, whole, either, IsWithin, SameOutside}
-use Rattle.blk_format.specs.Address.{kind_of, file_selector, place, room, block_place, external, header_size}
+use Rattle.blk_format.specs.Address.{kind_of, file_selector, first_block, block_count, place, room, block_place, external, header_size}
 use Rattle.blk_format.specs.Standing.{is_linked_as}
-use Rattle.blk_format.specs.BlockFiles.{linked_as, max_entries_in, next_file_in, stands_in}
+use Rattle.blk_format.specs.BlockFiles.{linked_as, max_entries_in, next_file_in, stands_in, stands_in_blocks}
 use Rattle.blk_format.specs.Claims.{Claim, BlockOf, ExternalOf, same_claim, claims_of, has_claim}
 use Rattle.blk_volume.specs.View.{view_of}
 use Rattle.blk_volume.specs.Footprint.{SameBut, Covers, is_shown_place}
@@ -17,6 +17,10 @@ use Rattle.blk_model.specs.State.{State}
 -- a block is there as one of a type: its file is linked as that, and the block is below max_entries and ends inside the file
 unfoldable pub is_there : Image → ℕ → ℕ → ℕ → Bool
 is_there image n kind b = is_linked_as (linked_as image n) kind && nat_le (b + 1) (max_entries_in image n) && nat_le (block_place kind (b + 1)) (length_of image (Block n))
+
+-- so the blocks of a word stand exactly where the last of them is there
+abbrev pub BlocksStandByTheirLast : Type 0
+BlocksStandByTheirLast = (image : Image) (w : ℕ) → stands_in_blocks image w ≡ is_there image (file_selector w) (kind_of w) (first_block w + block_count w - 1)
 
 -- two images agree on the index that is shown, and on each block and external file but these: it is there in both or in neither, with the same bytes
 pub record AgreeBut (touched : Claim → Bool) (old new : Image) : Type 0 where

@@ -5,7 +5,7 @@
 
 ghost use Rattle.blk_laws.specs.AllocationLaws.{SoundFilesAreAllocated, StoodForFilesAreAllocated};
 ghost use Rattle.blk_laws.specs.BareLaws.{NothingRepresentsTheEmptyState, BareFoldersHoldNothing, BareFoldersAreSound, BareFoldersRepresentTheEmptyState, BareFoldersStandForTheEmptyState, NewFoldersAreBare};
-ghost use Rattle.blk_laws.specs.ByteLaws.{CoveredChangesStayInside, BlocksAreCovered, ExternalFilesAreCovered, HeadersNeedNoCover, HiddenWordsNeedNoCover, CoversOfLess, MoreCovers, CoversOfEither, AgreeingImagesShowTheSame, CoveredChangesAgree, GrowthIsPastTheBlocks, SameLinksLinkTheSame, AgreementGoesOn, AgreementButMore, LongerFilesHaveGrown, GrowthKeepsStates};
+ghost use Rattle.blk_laws.specs.ByteLaws.{BlocksStandByTheirLast, CoveredChangesStayInside, BlocksAreCovered, ExternalFilesAreCovered, HeadersNeedNoCover, HiddenWordsNeedNoCover, CoversOfLess, MoreCovers, CoversOfEither, AgreeingImagesShowTheSame, CoveredChangesAgree, GrowthIsPastTheBlocks, SameLinksLinkTheSame, AgreementGoesOn, AgreementButMore, LongerFilesHaveGrown, GrowthKeepsStates};
 ghost use Rattle.blk_laws.specs.CommandLaws.{UnsettledObjectsMayChange, EachMomentIsAtRest, RemovalsKeepTheOthers, LessIsLaid, LessIsRepresented, DirtyWordsSettle, WrittenDirtyWordsSettle, ChangedDoomedObjectsAreLaid, ChangedDoomedObjectsAreRepresented, EachDoomedMomentIsAtRest, GoneDoomedObjectsAreRepresented, DoomedDirtyWordsSettle, WrittenDoomedDirtyWordsSettle, RepresentedHoldBut, MoreMayBeLeftOut, OthersHoldOutside, OthersHoldUnlinked, ChainedRecordsAreOnlyRecords, RecordsStayOutside, RecordsStayUnlinked, RecordsOfAnotherStateLoad, ListedItemsAreAtRest, DoomsKeepTheOthers, DoomsAtEachWrite, DoomedPartsAtEachWrite, DoomedIsLaid, DoomedIsRepresented, HandlesAreNotShown, RestBeforeTurning, RestAfterTurning, OpensAtEachWrite, OpensEnd, CreatesAtEachWrite, CreatesEnd, CreatesLeaveTheRest, CreatesMayLeaveWhatWas};
 ghost use Rattle.blk_laws.specs.KeptLaws.{KeptAreTheGiven, NoneOfTheGivenIsDropped, LeavingOutKeepsTheSame, SameKeyIsOneChain, OnlyCandidatesAreKept, SameCandidatesHoldTheSame};
 ghost use Rattle.blk_laws.specs.ListLaws.{WalksAreTheLists, InsertsTurnAtTwo, InsertsEnd, RemovalsTurnAtTwo, RemovalsEnd, TouchesTurnAtTwo, TouchesEnd, CompletingAgainIsTheSame, CompletionsEnd, ChainsAreTheirRecords, RecordsAreLinkedInFront, WholeChainsAreShort, RecordsOfImagesAreFew, ChainsOfImagesAreShort, OtherChainsStay, FirstRecordsAreUnlinked, FirstRecordsLeaveChains, LaterRecordsAreUnlinked, LaterRecordsLeaveChains};
@@ -235,6 +235,7 @@ pub fn linked_files_are_allocated()
 
 /// Images that agree but on some blocks and external files show the same but there; a covered change leaves such images, and so does the growth or linking of block files.
 pub fn agreeing_images_show_the_same()
+    ensures last { BlocksStandByTheirLast }
     ensures shown { AgreeingImagesShowTheSame }
     ensures covered { CoveredChangesAgree }
     ensures growth { GrowthIsPastTheBlocks }

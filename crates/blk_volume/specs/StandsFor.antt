@@ -4,7 +4,7 @@ use Rattle.std.specs.Option.{option_map}
 use Rattle.std.specs.List.{filter_map, AllByRecursion}
 use Rattle.std.specs.declared.option.Option.TheVariants.{Some}
 use Rattle.std.specs.declared.result.Result.TheVariants.{Ok}
-use Rattle.blk_model.specs.Items.{main_row}
+use Rattle.blk_model.specs.Items.{main_row, item_of}
 use Rattle.blk_model.specs.State.{Object, State, IsValidState, object_at}
 use Rattle.blk_model.specs.Holding as model
 use Rattle.blk_image.specs.Image.{External, Image, has_file}
@@ -17,16 +17,11 @@ use Rattle.blk_volume.specs.ListView.{Distinct}
 use Rattle.blk_volume.specs.Walk.{walk}
 use Rattle.blk_volume.specs.View.{View, view_of}
 use Rattle.blk_volume.specs.Chains.{chain}
-use Rattle.blk_volume.specs.Loads.{listed, alone, is_part, Loaded, load, all_claims, claims_of_loaded}
+use Rattle.blk_volume.specs.Loads.{listed, alone, Loaded, load, all_claims, claims_of_loaded}
 use Rattle.blk_volume.specs.Audit.{kept_by, dropped_by}
 use Rattle.blk_volume.specs.Found.{row_of}
 use Rattle.blk_volume.specs.Sound.{EndsWhole, ChainsEnd, AreOwned, IsInOrder}
-use Rattle.blk_volume.specs.Layout.{Layout, order}
-
--- the dirty word of a main item is 0 exactly where its object is settled, and that of a part is 0
-pub record IsMarkedRow (state : State) (loaded : Loaded) : Type 0 where
-  pub part : is_part loaded ≡ true → loaded.dirty ≡ 0
-  pub main : is_part loaded ≡ false → (number : ℕ) (object : Object) → object_at state number ≡ Some object → object.live ≡ true → object.key ≡ loaded.key → (loaded.dirty == 0) ≡ object.settled
+use Rattle.blk_volume.specs.Layout.{Layout, order, IsMarked}
 
 -- a node and a record of state 2 keep a doomed object with its key, shape and streams, neither listed nor chained
 pub record KeepsDoomed (view : View) (object : Object) (loaded : Loaded) : Type 0 where
@@ -43,7 +38,7 @@ pub record AreDoomed (view : View) (state : State) (numbered : List (ℕ × Load
   pub once : Distinct (map (λ doomed. doomed.0) numbered)
   pub all : (number : ℕ) (object : Object) → object_at state number ≡ Some object → object.live ≡ false → is_among (map (λ doomed. doomed.0) numbered) number ≡ true
 
--- what a view shows of a valid state: what is listed, dirty or not, is its items in their order, nothing is dropped, and no operation is in flight
+-- what a view shows of a valid state: what is listed, dirty or not, is its items in their order, each with the dirty word of its item, nothing is dropped, and no operation is in flight
 pub record ShowsState (view : View) (state : State) : Type 0 where
   pub valid : IsValidState state
   pub transaction : view.list.transaction ≡ 0
@@ -51,7 +46,7 @@ pub record ShowsState (view : View) (state : State) : Type 0 where
   pub chain_ends : ChainsEnd view.stock
   pub nothing_dropped : dropped_by listed view ≡ []
   pub rows : map row_of (kept_by listed view) ≡ model.rows state
-  pub marks : AllByRecursion (IsMarkedRow state) (kept_by listed view)
+  pub marks : AllByRecursion (λ loaded. IsMarked state (item_of (row_of loaded)) loaded) (kept_by listed view)
 
 -- an image stands for a state
 pub record StandsFor (image : Image) (state : State) : Type 0 where

@@ -1,8 +1,9 @@
-use Rattle.blk_laws.proofs.ByteChanges.{agreeing-views, covered-agrees, growth-past, same-links, agreement-goes_on, agreement-more}
+use Rattle.blk_laws.proofs.ByteChanges.{last-there, agreeing-views, covered-agrees, growth-past, same-links, agreement-goes_on, agreement-more}
 use Rattle.blk_laws.proofs.agreeing_images_show_the_same.Goals as goal
 
 pub returns : goal.returns
 returns c = record {
+  last = last-there;
   shown = λ touched old new same. agreeing-views touched old new same;
   covered = λ old new footprint touched same covers. covered-agrees footprint old new touched same covers;
   growth = λ old new long grown. growth-past old new long grown;
