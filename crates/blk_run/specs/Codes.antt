@@ -1,5 +1,5 @@
--- The numbers of the statuses, as the process ends with them.
-use Rattle.std.specs.Prelude.{ℕ}
+-- The numbers of the statuses, as the process ends with them, and what is shown of them.
+use Rattle.std.specs.Prelude.{ℕ, List, codes}
 use Rattle.blk_run.specs.declared.ending.Status.{Status}
 use Rattle.blk_run.specs.declared.ending.Status.TheVariants as status
 
@@ -15,3 +15,16 @@ code_of status.Memory = 6
 code_of status.Damaged = 7
 code_of status.TooLong = 8
 code_of status.NotBuilt = 9
+
+-- what is shown of a status
+abbrev pub status_text : Status → List ℕ
+status_text status.Ok = codes "done"
+status_text status.Refused = codes "something was refused"
+status_text status.Words = codes "the words are no command"
+status_text status.Device = codes "the folder failed"
+status_text status.Source = codes "the input failed"
+status_text status.Sink = codes "the output failed"
+status_text status.Memory = codes "there is no memory"
+status_text status.Damaged = codes "the folder is damaged"
+status_text status.TooLong = codes "the input is too long"
+status_text status.NotBuilt = codes "the folder has entries, which can't be opened yet"

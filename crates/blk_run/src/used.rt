@@ -129,12 +129,7 @@ fn first_word(bytes: &[u8]) -> Option<usize>
     requires { length bytes.now ≡ 4096 }
     ensures { FirstWord bytes.now result }
 {
-    for i in 0..1024 {
-        if word_of(bytes, 4 * i) != 0 {
-            return Some(i);
-        }
-    }
-    None
+    (0..1024).find(|i| word_of(bytes, 4 * *i) != 0)
 }
 
 // The word at a place of some bytes.

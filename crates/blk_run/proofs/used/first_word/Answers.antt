@@ -1,9 +1,16 @@
-use Rattle.std.proofs.Common.{◌≡◌, ◌*◌, sym, ◌∙◌, below_more}
+use Rattle.std.proofs.Common.{◌≡◌, ◌≢◌, ℕ, ◌*◌, ◌<◌, ◌≤◌, List, Option, None, Some, rules, arith}
+use Rattle.std.specs.Option.{MatchOption}
+use Rattle.std.proofs.lemmas.Iterator.{first_from_Range}
 use Rattle.blk_image.specs.Bytes.{content, word_at}
+use Rattle.blk_run.specs.Used.{FirstWord}
 use Rattle.blk_run.proofs.used.first_word.Goals as goal
 
-pub returns-then-word_of-ne0 : goal.returns-then-word_of-ne0
-returns-then-word_of-ne0 c = (c.loop-i-test.true, (λ zero. c.if-word_of-ne0.true (c.word_of.ensures ∙ zero)), c.loop-i.invariant)
+by_result : (bytes : List ℕ) (r : Option ℕ) → MatchOption r ((k : ℕ) → 0 ≤ k → k < 1024 → word_at (content bytes) (4 * k) ≡ 0)
+    (λ i. (0 ≤ i) × (i < 1024) × (word_at (content bytes) (4 * i) ≢ 0) × ((k : ℕ) → 0 ≤ k → k < i → word_at (content bytes) (4 * k) ≡ 0)) → FirstWord bytes r
+by_result bytes None all = λ j below. all j (omega arith) below
+by_result bytes (Some i) found = (found.1, found.2, (λ j below. found.3 j (omega arith) below))
 
-pub loop-i-preserved : goal.loop-i-preserved
-loop-i-preserved c = below_more (λ j. word_at (content c.args.bytes.now) (4 * j) ≡ 0) c.loop-i.i c.loop-i.invariant (sym c.word_of.ensures ∙ c.if-word_of-ne0.false)
+pub returns : goal.returns
+returns c =
+    by_result c.args.bytes.now c.find.result
+    (first_from_Range _ _ _ c.find.result (λ i. word_at (content c.args.bytes.now) (4 * i) ≢ 0) (λ i. word_at (content c.args.bytes.now) (4 * i) ≡ 0) c.find.ensures.ran (λ x q k. search rules) (λ x q k. search rules))
