@@ -6,15 +6,11 @@ ghost use Rattle.blk_image.specs.Told.{Stays, Rises};
 ghost use Rattle.blk_format.specs.Maps.{group_size};
 ghost use Rattle.blk_io.specs.Faults.{IfDamaged, IfDevice, IsShort};
 
+use crate::layout::{ALLOCATIONS, EMPTY};
 use blk_io::{Damage, Fault, FileId, Folder, read_exact};
 use blk_record::BlockHead;
 
 const FIELDS_LEN: usize = 80;
-
-// The places of num_entries and of empty.
-pub(crate) const ALLOCATIONS: u64 = 16;
-
-pub(crate) const EMPTY: u64 = 24;
 
 // The number of allocations, and for each run of 1 to 4 blocks how many groups have it as their
 // longest free run.

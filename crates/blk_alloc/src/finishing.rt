@@ -6,12 +6,9 @@ ghost use Rattle.blk_image.specs.Steps.{word_steps};
 ghost use Rattle.blk_image.specs.Told.{Grows, GrowsInPart, Rises};
 ghost use Rattle.blk_alloc.specs.Changes.{counter_words, finish_words};
 
-use crate::counters::{ALLOCATIONS, EMPTY};
+use crate::layout::{ALLOCATIONS, EMPTY, UPDATING};
 use crate::run::write_run;
 use blk_io::{Failed, FileId, Folder, write_word};
-
-// The place of updating.
-pub(crate) const UPDATING: u64 = 56;
 
 // Writes the number of allocations of a file, and how many groups have each longest free run.
 fn write_counters<F: Folder>(

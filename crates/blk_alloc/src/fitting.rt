@@ -12,14 +12,11 @@ ghost use Rattle.blk_alloc.specs.Fitting.{IsFitting, IsLeastFrom, IsPlace, IsSho
 ghost use Rattle.blk_format.specs.Address.{external};
 
 use crate::blocks::Blocks;
+use crate::layout::{MAP, MOST_BLOCKS};
 use crate::map::least_place;
 use blk_addr::Kind;
 use blk_disk::BlockFiles;
 use blk_io::{Fault, FileId, Folder, read_exact};
-
-const MAP: u64 = 80;
-
-const MOST_BLOCKS: u32 = 64896;
 
 // The bytes of the map that are read at once, and their blocks.
 const PIECE_LEN: usize = 1024;

@@ -9,6 +9,7 @@ mod finishing;
 mod fitting;
 mod freeing;
 mod giving;
+mod layout;
 mod making;
 mod map;
 mod plan;

@@ -15,13 +15,10 @@ ghost use Rattle.blk_alloc.specs.Taking.{IsTakeable};
 
 use crate::blocks::Blocks;
 use crate::fitting::blocks_in;
+use crate::layout::{GROUP, MOST_BLOCKS};
 use blk_addr::Kind;
 use blk_disk::BlockFiles;
 use blk_io::{Failed, Folder};
-
-const MOST_BLOCKS: u32 = 64896;
-
-const GROUP: u32 = 4;
 
 // Gives a file more blocks, of which the first ones are the place.
 pub(crate) fn grow_room<F: Folder>(

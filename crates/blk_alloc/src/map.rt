@@ -7,9 +7,9 @@ ghost use Rattle.blk_addr.specs.Bits.{has_bit, is_between};
 ghost use Rattle.blk_alloc.specs.Places as places;
 ghost use Rattle.blk_alloc.specs.Places.{IsLeastPlace};
 
-const BITS_OF_BYTE: u32 = 8;
+use crate::layout::GROUP;
 
-const GROUP: u32 = 4;
+const BITS_OF_BYTE: u32 = 8;
 
 // Whether a block is marked.
 #[tactic(auto, unfolding(blk_addr::specs::Bits::has_bit))]

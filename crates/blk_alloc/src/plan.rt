@@ -8,15 +8,12 @@ ghost use Rattle.blk_format.specs.Maps.{group_size};
 ghost use Rattle.blk_io.specs.Faults.{IfDamaged, IfDevice};
 
 use crate::counters::Counters;
-use crate::finishing::{UPDATING, finish};
+use crate::finishing::finish;
+use crate::layout::{GROUP, MAP, UPDATING};
 use crate::map::{longest_run, set_marks, word_of};
 use blk_io::{Failed, Fault, FileId, Folder, read_exact, write_words};
 
-const MAP: u64 = 80;
-
 const BITS_OF_WORD: u32 = 32;
-
-const GROUP: u32 = 4;
 
 // A word of a map with its place, and the counters of the header.
 #[derive(Clone, Copy)]

@@ -15,18 +15,12 @@ ghost use Rattle.blk_alloc.specs.Making.{KeepsStanding};
 ghost use Rattle.blk_alloc.specs.Rebuilding.{AreFitted, AreItsAllocations, AreMarked, IsInHand, IsRebuilding, IsRebuilt, counts_of, is_block_claimed};
 
 use crate::claimed::{count_runs, mark_claimed};
-use crate::finishing::{UPDATING, finish};
+use crate::finishing::finish;
 use crate::fitting::blocks_in;
+use crate::layout::{GROUP, MAP, MAP_LEN, UPDATING};
 use blk_addr::Claims;
 use blk_disk::BlockFiles;
 use blk_io::{Failed, Fault, FileId, Folder, write_word};
-
-const MAP: u64 = 80;
-
-const GROUP: u32 = 4;
-
-// The bytes of a map.
-const MAP_LEN: usize = 8112;
 
 // The numbers of block files.
 const NUMBERS: u16 = 256;

@@ -18,12 +18,10 @@ ghost use Rattle.blk_alloc.specs.Taking.{blocks_place, IsTakeable, IsTaking, IsT
 
 use crate::blocks::Blocks;
 use crate::change::change;
+use crate::layout::BLOCKS;
 use blk_addr::{Addr, Kind};
 use blk_disk::BlockFiles;
 use blk_io::{Damage, Fault, FileId, Folder};
-
-// The place of the number of blocks in a header.
-const BLOCKS: u64 = 20;
 
 const INITIALIZED: u32 = 0x8000_0000;
 
