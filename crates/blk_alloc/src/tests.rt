@@ -201,8 +201,8 @@ fn a_file_is_added_where_the_only_one_is_full(rt: HostRuntime) -> Result<(), Fai
     let before = f.calls();
     assert_eq!(rt; give(&mut f, &mut files, 1), Ok(0xA004_0000));
 
-    // Eight reads of the map, seven calls for the file and four for its growth, two reads and five writes for the marks.
-    assert_eq!(rt; f.calls().wrapping_sub(before), 26);
+    // Eight reads of the map, four calls for the file and four for its growth, two reads and five writes for the marks.
+    assert_eq!(rt; f.calls().wrapping_sub(before), 23);
     assert_eq!(rt; word_at(&mut f, 8), Ok(0x4_0001));
     let expected = [
         (16, 1),
