@@ -36,6 +36,16 @@ use Rattle.blk_entry.specs.declared.keys.KeyPlace.{KeyPlace}
 use Rattle.blk_entry.specs.Keys.{IsCut, IsCutKey, IsCutPart, IsCutPiece, IsPlaced, data_name, IsPiece, IsPlaceOf, data_file, data_start, data_at, held, key_at, key_address, bytes_before, is_short, may_have, may_hold, stores, IsInside, IsInFile, IsHead, HasKey}
 use Rattle.blk_entry.proofs.Windows.{entry_room}
 
+-- two numbers that a test tells apart
+pub of_other : (a b : ℕ) → (a == b) ≡ false → a ≢ b
+of_other a b e same = absurd (none (sym e ∙ ap (λ (k : ℕ). a == k) (sym same) ∙ self a))
+  where
+    none : false ≡ true → ⊥
+    none h = cc
+
+    self : (k : ℕ) → (k == k) ≡ true
+    self k = grind (arith, nat_tests)
+
 -- the data of an address of blocks, and of an external one
 pub data_of_blocks : (image : Image) (w at n : ℕ) → kind_of w ≢ external → data_at image w at n ≡ range_at (byte image (Block (file_selector w))) (place w + at) n
 unfolding data_file data_start

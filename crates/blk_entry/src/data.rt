@@ -1,7 +1,8 @@
 // The bytes of data, which lie in blocks or in an external file.
-ghost use Rattle.std.specs.Prelude.{◌≡◌, ◌+◌, ◌≤◌, None, OnErr, OnOk, length};
+ghost use Rattle.std.specs.Prelude.{◌≡◌, ◌+◌, ◌≤◌, ◌==◌, None, OnErr, OnOk, length};
 ghost use Rattle.std.specs.Option.{ForSome};
 ghost use Rattle.blk_image.specs.Told.{Grows, GrowsInPart, Rises, Stays};
+ghost use Rattle.blk_format.specs.Address.{kind_of};
 ghost use Rattle.blk_addr.specs.Kind.{kind_number};
 ghost use Rattle.blk_io.specs.Faults.{IfDamaged, IfDevice};
 ghost use Rattle.blk_disk.specs.Tables.{Agrees};
@@ -11,9 +12,6 @@ ghost use Rattle.blk_entry.specs.Steps.{data_steps, ended_steps};
 use blk_addr::{Addr, Kind};
 use blk_disk::BlockFiles;
 use blk_io::{Failed, Fault, Folder};
-
-// The number of external files among the kinds.
-pub(crate) const EXTERNAL: u32 = 0;
 
 // Reads bytes of the data of an address, from a place in it on.
 pub(crate) fn read_data<F: Folder>(
@@ -33,7 +31,7 @@ pub(crate) fn read_data<F: Folder>(
     ensures later { F.faults f.old ≤ F.faults f.new }
     ensures device { IfDevice result (Rises (F.faults f.old) (F.faults f.new)) }
 {
-    if number(addr.kind()) == EXTERNAL {
+    if is_of(addr, Kind::External) {
         blk_external::read(f, addr, u64::from(at), out)
     } else {
         files.read_block(f, addr, at, out)
@@ -78,22 +76,16 @@ fn write_data<F: Folder>(
     ensures later { F.faults f.old ≤ F.faults f.new }
     ensures failed { OnErr result (Rises (F.faults f.old) (F.faults f.new)) }
 {
-    if number(addr.kind()) == EXTERNAL {
+    if is_of(addr, Kind::External) {
         blk_external::write(f, addr, u64::from(at), bytes)
     } else {
         files.write_block(f, addr, at, bytes)
     }
 }
 
-// The number that address words have for a kind.
-pub(crate) fn number(kind: Kind) -> u32
-    ensures { result ≡ kind_number kind }
+// Whether an address is of a kind.
+pub(crate) fn is_of(addr: Addr, kind: Kind) -> bool
+    ensures { result ≡ (kind_of addr == kind_number kind) }
 {
-    match kind {
-        Kind::External => EXTERNAL,
-        Kind::Rankings => 1,
-        Kind::B256 => 2,
-        Kind::B1K => 3,
-        Kind::B4K => 4,
-    }
+    addr.kind() == kind
 }

@@ -12,8 +12,8 @@ ghost use Rattle.blk_format.specs.Sealed.{RecordChecks};
 ghost use Rattle.blk_entry.specs.Keys as keys;
 ghost use Rattle.blk_entry.specs.Keys.{HasKey, IsHead, IsHeadDamage, IsInside, IsMisplaced, IsPiece, IsPlaceOf, is_short, key_at, key_address, bytes_before};
 
-use crate::data::{EXTERNAL, number, read_data};
-use blk_addr::{Addr, blocks_for, entry_blocks, kind_for};
+use crate::data::{is_of, read_data};
+use blk_addr::{Addr, Kind, blocks_for, entry_blocks, kind_for};
 use blk_disk::{BlockFiles, file_of};
 use blk_io::{Damage, Fault, Folder};
 use blk_record::{EntryView, Record};
@@ -210,9 +210,8 @@ fn stores(files: &BlockFiles, addr: Addr, size: u32) -> bool
     requires some { 0 < size }
     ensures { result ≡ keys.stores files.now size addr }
 {
-    let kind = number(addr.kind());
-    if kind != number(kind_for(size)) {
+    if !is_of(addr, kind_for(size)) {
         return false;
     }
-    kind == EXTERNAL || (addr.blocks() == blocks_for(size) && files.stands(addr))
+    is_of(addr, Kind::External) || (addr.blocks() == blocks_for(size) && files.stands(addr))
 }

@@ -5,10 +5,9 @@ ghost use Rattle.blk_disk.specs.Tables.{stands_among};
 ghost use Rattle.blk_entry.specs.Keys.{may_hold, most_key};
 ghost use Rattle.blk_entry.specs.Writing.{FitsKey};
 
-use crate::data::number;
 use crate::keys::{long_key, may_have};
 use crate::{NewEntry, field, key_equals, key_piece, set_clean, set_dirty, write_entry};
-use blk_addr::Addr;
+use blk_addr::{Addr, Kind};
 use blk_disk::BlockFiles;
 use blk_io::{Failed, Fault, FileId, Folder, MemFolder, SilentFolder};
 use blk_record::{EntryMut, NodeMut, RecordMut, super_fast_hash};
@@ -113,7 +112,7 @@ fn entry_of(files: &BlockFiles, word: u32) -> Option<Addr>
 {
     match Addr::from_word(word) {
         Some(addr) => {
-            if number(addr.kind()) == 2 && files.stands(addr) {
+            if addr.kind() == Kind::B256 && files.stands(addr) {
                 Some(addr)
             } else {
                 None
@@ -130,7 +129,7 @@ fn node_of(files: &BlockFiles, word: u32) -> Option<Addr>
 {
     match Addr::from_word(word) {
         Some(addr) => {
-            if number(addr.kind()) == 1 && files.stands(addr) {
+            if addr.kind() == Kind::Rankings && files.stands(addr) {
                 Some(addr)
             } else {
                 None
@@ -365,7 +364,7 @@ fn long_place(files: &BlockFiles, entry: Addr, word: u32, key_len: u32) -> Optio
     ensures { IfSome result (λ addr. IsTrue (may_hold files.now key_len addr)) }
 {
     let addr = long_key(files, key_len, word)?;
-    if number(addr.kind()) != 2 {
+    if addr.kind() != Kind::B256 {
         return Some(addr);
     }
     let end = u64::from(entry.start()) + u64::from(entry.blocks());
