@@ -10,7 +10,7 @@ ghost use Rattle.blk_addr.specs.Kind.{kind_number};
 ghost use Rattle.blk_disk.specs.Tables.{Agrees, all_files, blocks_of, files_of, stands_among};
 
 use crate::heads::{HEADER_LEN, block_size};
-use crate::tables::BlockFiles;
+use crate::tables::{BlockFiles, KINDS};
 use blk_addr::{Addr, FileId, Kind};
 
 // The byte at which the blocks of an address begin.
@@ -94,26 +94,16 @@ impl BlockFiles {
     }
 
     // The kind as which a file is linked.
-    #[tactic(auto, unfolding(blk_format::specs::BlockFiles::type_among))]
     pub(crate) fn linked_as(&self, file: u8) -> Option<Kind>
         ensures of_blocks { IfSome result (λ kind. kind_number kind ≢ external) }
         ensures kind { option_map kind_number result ≡ type_among (files_of self.now) file }
     {
-        if self.has_in(Kind::Rankings, file) {
-            Some(Kind::Rankings)
-        } else if self.has_in(Kind::B256, file) {
-            Some(Kind::B256)
-        } else if self.has_in(Kind::B1K, file) {
-            Some(Kind::B1K)
-        } else if self.has_in(Kind::B4K, file) {
-            Some(Kind::B4K)
-        } else {
-            None
-        }
+        let found = KINDS.iter().find(|kind| self.has_in(**kind, file));
+        found.copied()
     }
 
     // Whether a file is among those of a kind.
-    fn has_in(&self, kind: Kind, file: u8) -> bool
+    pub(crate) fn has_in(&self, kind: Kind, file: u8) -> bool
         ensures { result ≡ is_among (files_of self.now (kind_number kind)) file }
     {
         self.files(kind).contains(&file)

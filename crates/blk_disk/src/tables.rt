@@ -11,6 +11,9 @@ use blk_addr::Kind;
 // The most files of one type.
 pub(crate) const MOST_FILES: usize = 60;
 
+// The kinds of the linked files, in the order in which they are taken up.
+pub(crate) const KINDS: [Kind; 4] = [Kind::Rankings, Kind::B256, Kind::B1K, Kind::B4K];
+
 // The numbers of block files.
 const NUMBERS: usize = 256;
 
@@ -62,14 +65,10 @@ impl BlockFiles {
     }
 
     // Whether a file is linked.
-    #[tactic(auto, using(crate::proofs::Among::all_files_among))]
     pub(crate) fn has(&self, file: u8) -> bool
         ensures { result ≡ is_among (all_files self.now) file }
     {
-        self.rankings.as_slice().contains(&file)
-            || self.b256.as_slice().contains(&file)
-            || self.b1k.as_slice().contains(&file)
-            || self.b4k.as_slice().contains(&file)
+        KINDS.iter().any(|kind| self.has_in(*kind, file))
     }
 
     // The number of linked files of a kind, as a size.
