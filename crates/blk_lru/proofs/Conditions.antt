@@ -1,6 +1,5 @@
 -- What the conditions of the operations say of the words that are read.
-use Rattle.std.proofs.Common.{◌≡◌, ℕ, true, false, List, [], ◌∷◌, ◌++◌, Option, None, Some, refl, sym, ap, ◌∙◌, subst}
-use Rattle.std.specs.Prelude.{◌==◌, IfSome}
+use Rattle.std.proofs.Common.{◌≡◌, ℕ, true, List, [], ◌∷◌, ◌++◌, Option, None, Some, refl, sym, ap, ◌∙◌, subst}
 use Rattle.std.specs.Option.{ForSome}
 use Rattle.blk_image.specs.Image.{Image}
 use Rattle.blk_image.specs.Told.{Told}
@@ -16,7 +15,7 @@ use Rattle.blk_disk.specs.declared.tables.BlockFiles.{BlockFiles}
 use Rattle.blk_disk.specs.Tables.{Agrees}
 use Rattle.blk_lru.specs.Lists.{IsListed, first_of}
 use Rattle.blk_lru.specs.Nodes.{is_node, link_at}
-use Rattle.blk_lru.specs.Plans.{planned, whole_plan, word_or_zero}
+use Rattle.blk_lru.specs.Plans.{word_or_zero}
 use Rattle.blk_lru.proofs.Listed.{linked, splits}
 use Rattle.blk_lru.proofs.NodeWords.{checked_names, stands_as_node, next_link, prev_link}
 
@@ -27,22 +26,6 @@ word_first (w ∷ words) = refl
 -- the head that was read is that of the list
 pub head_read : (list : ListView) (nodes : List ℕ) (head : Option ℕ) → IsList list nodes → head ≡ first_of nodes → list.head ≡ word_or_zero head
 head_read list nodes head is read = is.head_is ∙ sym (word_first nodes) ∙ ap word_or_zero (sym read)
-
--- where an insert has no links they don't matter, and where a removal has no head
-pub insert_any : (node next prev next2 prev2 head : ℕ) → whole_plan 1 node next prev head ≡ whole_plan 1 node next2 prev2 head
-unfolding planned
-insert_any node next prev next2 prev2 head = refl
-
-pub remove_any : (node next prev head head2 : ℕ) → whole_plan 2 node next prev head ≡ whole_plan 2 node next prev head2
-unfolding planned
-remove_any node next prev head head2 = refl
-
-pub some_holds : (P : ℕ → Type 0) (o : Option ℕ) → IfSome o P → (word_or_zero o == 0) ≡ false → P (word_or_zero o)
-some_holds P None h e = absurd (let z : true ≡ false = e in cc)
-some_holds P (Some w) h e = h
-
-pub one_is_one : (1 == 1) ≡ false → ⊥
-one_is_one e = let z : true ≡ false = e in cc
 
 -- what is told stays
 pub told_stays : {a m : Told} (P : Image → Type 0) → m ≡ a → ForSome a.files P → ForSome m.files P

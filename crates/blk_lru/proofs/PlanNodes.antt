@@ -1,18 +1,22 @@
--- The nodes that an operation writes, by the words that it finds.
-use Rattle.std.proofs.Common.{◌≡◌, ℕ, ◌^◌, ◌<◌, Bool, true, false, [], ◌∷◌, if◌then◌else◌, refl, arith}
-use Rattle.std.specs.Prelude.{◌==◌, ◌&&◌, ◌/◌, ◌||◌}
+-- The nodes that an operation writes, by those that it goes by.
+use Rattle.std.proofs.Common.{◌≡◌, ◌≢◌, ℕ, ◌^◌, ◌<◌, Bool, true, false, [], ◌∷◌, Option, None, Some, if◌then◌else◌, refl, sym, ap, ◌∙◌, subst, arith}
+use Rattle.std.specs.Prelude.{◌==◌, ◌&&◌, ◌/◌, ◌||◌, IfSome}
 use Rattle.std.proofs.lemmas.Bool.{and_parts, eqb-true}
 use Rattle.blk_format.specs.Address.{is_address, is_initialized, names_external, names_blocks, kind_of, rankings}
 use Rattle.blk_volume.specs.ListView.{Transaction, Operation}
-use Rattle.blk_volume.specs.Completion.{taking_out, putting_in_front}
+use Rattle.blk_volume.specs.Completion.{putting_in_front}
 use Rattle.blk_laws.proofs.WriteWords.{Each, Good, Each-append, front_good, out_good}
 use Rattle.blk_disk.specs.declared.tables.BlockFiles.{BlockFiles}
 use Rattle.blk_disk.specs.Tables.{stands_among}
+use Rattle.blk_lru.specs.declared.plans.Beside.{Beside}
+use Rattle.blk_lru.specs.declared.plans.Operation as code
+use Rattle.blk_lru.specs.declared.plans.Operation.TheVariants as operations
 use Rattle.blk_lru.specs.Nodes.{is_node}
-use Rattle.blk_lru.specs.Plans.{head_without, moving, planned, pending, whole_plan}
+use Rattle.blk_lru.specs.Plans.{code_of, head_without, leaving, planned, pending, whole_plan, word_or_zero, StandBeside, StandsBy}
+use Rattle.blk_lru.proofs.PlanWords.{leaving_is, some_word}
 
 -- a node's word is below 2 ^ 32
-pub node_small : (files : BlockFiles) (w : ℕ) → is_node files w ≡ true → w < 2 ^ 32
+node_small : (files : BlockFiles) (w : ℕ) → is_node files w ≡ true → w < 2 ^ 32
 unfolding is_node is_address is_initialized
 node_small files w is =
     let a = (and_parts (is_address w) ((kind_of w == rankings) && stands_among files w) is).0 in
@@ -20,30 +24,57 @@ node_small files w is =
     let top : w / 2 ^ 31 ≡ 1 = eqb-true (w / 2 ^ 31) 1 b in
     omega arith
 
-module _ (P : ℕ → Type 0) (small : (n : ℕ) → P n → n < 2 ^ 32) (node : ℕ) (good : P node) where
-  left_good : (next prev head : ℕ) → ((next == 0) ≡ false → P next × P prev) → ((head == 0) ≡ false → P head) → (head_without node next prev head == 0) ≡ false → P (head_without node next prev head)
-  unfolding head_without
-  left_good next prev head links first = go (next == 0) refl (prev == node) (next == node)
+-- and isn't 0
+pub node_some : (files : BlockFiles) (w : ℕ) → is_node files w ≡ true → (w == 0) ≡ false
+unfolding is_node
+node_some files w is = some_word w (and_parts (is_address w) ((kind_of w == rankings) && stands_among files w) is).0
+
+pub node_apart : (files : BlockFiles) (w : ℕ) → is_node files w ≡ true → w ≢ 0
+node_apart files w is zero = clash (sym (node_some files w is) ∙ ap (λ (n : ℕ). n == 0) zero)
+  where
+    clash : false ≡ true → ⊥
+    clash e = cc
+
+module _ (files : BlockFiles) (node : ℕ) (stands : is_node files node ≡ true) where
+  abbrev Stands : ℕ → Type 0
+  Stands n = is_node files n ≡ true
+
+  front : (head : Option ℕ) → IfSome head Stands → Each (Good Stands) (putting_in_front node (word_or_zero head))
+  front None head = front_good Stands (node_small files) node stands 0 (λ some. absurd (clash some))
     where
       clash : (0 == 0) ≡ false → ⊥
       clash e = let z : true ≡ false = e in cc
+  front (Some w) head = front_good Stands (node_small files) node stands w (λ some. head)
 
-      go : (a : Bool) → (next == 0) ≡ a → (b c : Bool) → ((if a then head else (if b then (if c then 0 else next) else head)) == 0) ≡ false → P (if a then head else (if b then (if c then 0 else next) else head))
-      go true e b c h = first h
-      go false e true true h = absurd (clash h)
-      go false e true false h = (links e).0
-      go false e false c h = first h
+  out : (beside : Option Beside) → IfSome beside (StandBeside files) → Each (Good Stands) (leaving node beside)
+  out None beside = tt
+  out (Some b) beside =
+      subst (Each (Good Stands)) (leaving_is node b.next b.prev (Some b) (node_apart files b.next beside.0, (refl, refl)))
+      (out_good Stands (node_small files) node stands b.next b.prev (λ some. beside))
 
-  pub plan_good : (code next prev head : ℕ) → code < 2 ^ 32 → ((code == 1) ≡ false → (next == 0) ≡ false → P next × P prev) → ((code == 2) ≡ false → (head == 0) ≡ false → P head) → Each (Good P) (pending code node next prev head)
-  unfolding planned
-  plan_good code next prev head fits links first =
-      Each-append (Good P) (planned code node next prev head) (Transaction 0 ∷ []) (go (code == 1) refl (code == 2) refl) (omega arith, tt)
+  left : (beside : Option Beside) (head : Option ℕ) → IfSome beside (StandBeside files) → IfSome head Stands → IfSome (head_without node beside head) Stands
+  left None head none first = first
+  left (Some b) head beside first = by_tests (b.prev == node) (b.next == node)
     where
-      go : (a : Bool) → (code == 1) ≡ a → (b : Bool) → (code == 2) ≡ b → Each (Good P) (if a then putting_in_front node head else (if b then taking_out node next prev else moving node next prev head))
-      go true e true f = absurd (let x : code ≡ 1 = eqb-true code 1 e in let y : code ≡ 2 = eqb-true code 2 f in omega arith)
-      go true e false f = front_good P small node good head (first f)
-      go false e true f = out_good P small node good next prev (links e)
-      go false e false f = Each-append (Good P) (taking_out node next prev) (Operation 1 ∷ putting_in_front node (head_without node next prev head)) (out_good P small node good next prev (links e)) (omega arith, front_good P small node good (head_without node next prev head) (left_good next prev head (links e) (first f)))
+      by_tests : (p n : Bool) → IfSome (if p then (if n then None else Some b.next) else head) Stands
+      by_tests true true = tt
+      by_tests true false = beside.0
+      by_tests false n = first
 
-  pub whole_good : (code next prev head : ℕ) → code < 2 ^ 32 → ((code == 1) ≡ false → (next == 0) ≡ false → P next × P prev) → ((code == 2) ≡ false → (head == 0) ≡ false → P head) → Each (Good P) (whole_plan code node next prev head)
-  whole_good code next prev head fits links first = (fits, (small node good, plan_good code next prev head fits links first))
+  planned_good : (operation : code.Operation) → StandsBy files operation → Each (Good Stands) (planned node operation)
+  planned_good (operations.Insert head) first = front head first
+  planned_good (operations.Remove beside) links = out beside links
+  planned_good (operations.Move beside head) both =
+      Each-append (Good Stands) (leaving node beside) (Operation 1 ∷ putting_in_front node (word_or_zero (head_without node beside head))) (out beside both.0)
+      (omega arith, front (head_without node beside head) (left beside head both.0 both.1))
+
+  pub pending_good : (operation : code.Operation) → StandsBy files operation → Each (Good Stands) (pending node operation)
+  pending_good operation by = Each-append (Good Stands) (planned node operation) (Transaction 0 ∷ []) (planned_good operation by) (omega arith, tt)
+
+  pub whole_good : (operation : code.Operation) → StandsBy files operation → Each (Good Stands) (whole_plan node operation)
+  whole_good operation by = (code_small operation, (node_small files node stands, pending_good operation by))
+    where
+      code_small : (o : code.Operation) → code_of o < 2 ^ 32
+      code_small (operations.Insert head) = omega arith
+      code_small (operations.Remove beside) = omega arith
+      code_small (operations.Move beside head) = omega arith

@@ -1,14 +1,18 @@
 -- What an operation writes, by the words that it finds.
-use Rattle.std.proofs.Common.{◌≡◌, ◌≢◌, ℕ, Bool, true, false, List, [], ◌∷◌, ◌++◌, Option, None, Some, if◌then◌else◌, map, refl, sym, ap, ◌∙◌}
+use Rattle.std.proofs.Common.{◌≡◌, ℕ, Bool, true, false, List, [], ◌∷◌, ◌++◌, Option, None, Some, if◌then◌else◌, map, not, refl, sym, ap, ap₂, ◌∙◌}
 use Rattle.std.specs.Prelude.{◌==◌}
 use Rattle.std.proofs.lemmas.Bool.{eq-eqb, ne_eqb}
 use Rattle.std.proofs.lemmas.List.{map-append}
 use Rattle.blk_format.specs.Address.{is_address, is_initialized}
 use Rattle.blk_volume.specs.ListView.{ListView, after_writes, ListWrite, Next, Prev, Head, Tail, Transaction, Operation}
-use Rattle.blk_volume.specs.Completion.{taking_out, putting_in_front, take_out}
-use Rattle.blk_volume.specs.ListPlans.{operation_writes, writes_of}
+use Rattle.blk_volume.specs.Completion.{taking_out, putting_in_front, take_out, unlinking}
+use Rattle.blk_volume.specs.ListPlans.{pending_writes, writes_of}
+use Rattle.blk_laws.proofs.ListWrites.{pending_insert, pending_remove, pending_move}
+use Rattle.blk_lru.specs.declared.plans.Beside.{Beside}
+use Rattle.blk_lru.specs.declared.plans.Operation as code
+use Rattle.blk_lru.specs.declared.plans.Operation.TheVariants as operations
 use Rattle.blk_lru.specs.declared.writes.Write.{Write}
-use Rattle.blk_lru.specs.Plans.{head_without, planned, whole_plan, word_or_zero}
+use Rattle.blk_lru.specs.Plans.{code_of, head_without, leaving, pending, whole_plan, word_or_zero, AreBeside, GoesBy}
 use Rattle.blk_lru.specs.Writes.{meant}
 
 -- the word 0 is no address
@@ -31,53 +35,31 @@ zero_apart node address = ne_eqb 0 node (λ e. let z : (node == 0) ≡ true = eq
 pub front_none : (node : ℕ) → is_address node ≡ true → putting_in_front node 0 ≡ Next node node ∷ Prev node node ∷ Tail node ∷ Head node ∷ []
 front_none node address = let apart = zero_apart node address in rw apart refl
 
-pub front_same : (node head : ℕ) → head ≡ node → putting_in_front node head ≡ []
-front_same node head e = let t : (head == node) ≡ true = eq-eqb head node e in rw t refl
-
-pub front_some : (node head : ℕ) → head ≢ node → is_address head ≡ true → putting_in_front node head ≡ Next node head ∷ Prev node node ∷ Prev head node ∷ Head node ∷ []
-front_some node head apart address =
-    let t : (head == node) ≡ false = ne_eqb head node apart in
-    let z = some_word head address in
-    rw (t, z) refl
-
--- a node is taken out by its links
-module _ (node next prev : ℕ) (address : is_address next ≡ true) where
-  pub out_only : prev ≡ node → next ≡ node → taking_out node next prev ≡ Head 0 ∷ Tail 0 ∷ Next node 0 ∷ []
-  out_only p n = let a : (prev == node) ≡ true = eq-eqb prev node p in let b : (next == node) ≡ true = eq-eqb next node n in rw (some_word next address, a, b) refl
-
-  pub out_first : prev ≡ node → next ≢ node → taking_out node next prev ≡ Prev next next ∷ Head next ∷ Next node 0 ∷ []
-  out_first p n = let a : (prev == node) ≡ true = eq-eqb prev node p in rw (some_word next address, a, ne_eqb next node n) refl
-
-  pub out_last : prev ≢ node → next ≡ node → taking_out node next prev ≡ Next prev prev ∷ Tail prev ∷ Next node 0 ∷ []
-  out_last p n = let b : (next == node) ≡ true = eq-eqb next node n in rw (some_word next address, ne_eqb prev node p, b) refl
-
-  pub out_middle : prev ≢ node → next ≢ node → taking_out node next prev ≡ Next prev next ∷ Prev next prev ∷ Next node 0 ∷ []
-  out_middle p n = rw (some_word next address, ne_eqb prev node p, ne_eqb next node n) refl
-
--- the head once a node is out
-pub head_other : (node next prev head : ℕ) → prev ≢ node → head_without node next prev head ≡ head
-unfolding head_without
-head_other node next prev head apart = rw (ne_eqb prev node apart) (same (next == 0))
+pub front_some : (node head : ℕ) → true ≡ not (head == node) → is_address head ≡ true → putting_in_front node head ≡ Next node head ∷ Prev node node ∷ Prev head node ∷ Head node ∷ []
+front_some node head apart address = let t = by_not (head == node) apart in rw (t, some_word head address) refl
   where
-    same : (t : Bool) → (if t then head else head) ≡ head
-    same true = refl
-    same false = refl
-
-pub head_gone : (node next prev head : ℕ) → prev ≡ node → next ≡ node → is_address next ≡ true → head_without node next prev head ≡ 0
-unfolding head_without
-head_gone node next prev head p n address = let a : (prev == node) ≡ true = eq-eqb prev node p in let b : (next == node) ≡ true = eq-eqb next node n in rw (some_word next address, a, b) refl
-
-pub head_next : (node next prev head : ℕ) → prev ≡ node → next ≢ node → is_address next ≡ true → head_without node next prev head ≡ next
-unfolding head_without
-head_next node next prev head p n address = let a : (prev == node) ≡ true = eq-eqb prev node p in rw (some_word next address, a, ne_eqb next node n) refl
+    by_not : (b : Bool) → true ≡ not b → b ≡ false
+    by_not true e = absurd (let z : true ≡ false = e in cc)
+    by_not false e = refl
 
 -- writes that are added
 pub added : (old new more : List Write) (writes : List ListWrite) → new ≡ old ++ more → map meant more ≡ writes → map meant new ≡ map meant old ++ writes
 added old new more writes is are = ap (map meant) is ∙ map-append meant old more ∙ ap (λ (ws : List ListWrite). map meant old ++ ws) are
 
--- the head after a node is taken out of a list
-head_after : (node : ℕ) (list : ListView) → (take_out node list).head ≡ head_without node (list.next node) (list.prev node) list.head
-unfolding take_out head_without
+-- taking a node out by the nodes beside it is taking it out by its links
+pub leaving_is : (node next prev : ℕ) (beside : Option Beside) → AreBeside next prev beside → taking_out node next prev ≡ leaving node beside
+leaving_is node next prev None zero = ap (λ (n : ℕ). taking_out node n prev) zero
+leaving_is node next prev (Some beside) (some, (n, p)) =
+    let t : (next == 0) ≡ false = ne_eqb next 0 some in
+    let out : taking_out node next prev ≡ unlinking node next prev ++ Next node 0 ∷ [] = rw t refl in
+    out ∙ ap₂ (λ (n p : ℕ). unlinking node n p ++ Next node 0 ∷ []) (sym n) (sym p)
+
+-- the head after a node is taken out by its links
+left_head : (node next prev head : ℕ) → ℕ
+left_head node next prev head = if next == 0 then head else (if prev == node then (if next == node then 0 else next) else head)
+
+head_after : (node : ℕ) (list : ListView) → (take_out node list).head ≡ left_head node (list.next node) (list.prev node) list.head
+unfolding take_out left_head
 head_after node list = by_tests (list.next node == 0) (list.prev node == node) (list.next node == node)
   where
     by_tests : (a b c : Bool) → (after_writes (if a then [] else (if b then (if c then Head 0 ∷ Tail 0 ∷ [] else Prev (list.next node) (list.next node) ∷ Head (list.next node) ∷ []) else (if c then Next (list.prev node) (list.prev node) ∷ Tail (list.prev node) ∷ [] else Next (list.prev node) (list.next node) ∷ Prev (list.next node) (list.prev node) ∷ [])) ++ Next node 0 ∷ []) list).head ≡ (if a then list.head else (if b then (if c then 0 else list.next node) else list.head))
@@ -87,17 +69,43 @@ head_after node list = by_tests (list.next node == 0) (list.prev node == node) (
     by_tests false false true = refl
     by_tests false false false = refl
 
--- what is pending of the operation in flight of a list
-pub planned_is : (list : ListView) → operation_writes list ≡ planned list.operation list.transaction (list.next list.transaction) (list.prev list.transaction) list.head
-unfolding operation_writes planned
-planned_is list = ap (λ (h : ℕ). if list.operation == 1 then putting_in_front list.transaction list.head else (if list.operation == 2 then taking_out list.transaction (list.next list.transaction) (list.prev list.transaction) else taking_out list.transaction (list.next list.transaction) (list.prev list.transaction) ++ Operation 1 ∷ putting_in_front list.transaction h)) (head_after list.transaction list)
+head_left : (node next prev : ℕ) (beside : Option Beside) (head : Option ℕ) → AreBeside next prev beside → left_head node next prev (word_or_zero head) ≡ word_or_zero (head_without node beside head)
+unfolding left_head
+head_left node next prev None head zero = ap (λ (n : ℕ). left_head node n prev (word_or_zero head)) zero
+head_left node next prev (Some beside) head (some, (n, p)) =
+    let t : (next == 0) ≡ false = ne_eqb next 0 some in
+    let in_list : left_head node next prev (word_or_zero head) ≡ (if prev == node then (if next == node then 0 else next) else word_or_zero head) = rw t refl in
+    in_list ∙ ap₂ (λ (n p : ℕ). if p == node then (if n == node then 0 else n) else word_or_zero head) (sym n) (sym p) ∙ by_tests (beside.prev == node) (beside.next == node)
+  where
+    by_tests : (a b : Bool) → (if a then (if b then 0 else beside.next) else word_or_zero head) ≡ word_or_zero (if a then (if b then None else Some beside.next) else head)
+    by_tests true true = refl
+    by_tests true false = refl
+    by_tests false b = refl
+
+-- what is pending of the operation in flight of a list, by the nodes that it goes by
+pub pending_is : (list : ListView) (operation : code.Operation) → code_of operation ≡ list.operation → GoesBy list list.transaction operation → pending list.transaction operation ≡ pending_writes list
+pending_is list (operations.Insert head) is by =
+    ap (λ (h : ℕ). putting_in_front list.transaction h ++ Transaction 0 ∷ []) by ∙ sym (pending_insert list (sym is))
+pending_is list (operations.Remove beside) is by =
+    let node = list.transaction in
+    sym (pending_remove list (sym is) ∙ ap (λ (ws : List ListWrite). ws ++ Transaction 0 ∷ []) (leaving_is node (list.next node) (list.prev node) beside by))
+pending_is list (operations.Move beside head) is by =
+    let node = list.transaction in
+    let left : (take_out node list).head ≡ word_or_zero (head_without node beside head) =
+    head_after node list ∙ ap (left_head node (list.next node) (list.prev node)) (sym by.1) ∙ head_left node (list.next node) (list.prev node) beside head by.0 in
+    sym (pending_move list (sym is)
+    ∙ ap₂ (λ (ws : List ListWrite) (h : ℕ). (ws ++ Operation 1 ∷ putting_in_front node h) ++ Transaction 0 ∷ []) (leaving_is node (list.next node) (list.prev node) beside by.0) left)
 
 -- all of an operation on a node of a list
-pub whole_is : (code node next prev head : ℕ) (list : ListView) → list.next node ≡ next → list.prev node ≡ prev → list.head ≡ head → whole_plan code node next prev head ≡ writes_of code node list
-whole_is code node next prev head list n p h =
-    ap (λ (ws : List ListWrite). Operation code ∷ Transaction node ∷ ws ++ Transaction 0 ∷ [])
-    (ap (λ (x : ℕ). planned code node x prev head) (sym n) ∙ ap (λ (x : ℕ). planned code node (list.next node) x head) (sym p) ∙ ap (planned code node (list.next node) (list.prev node)) (sym h)
-    ∙ sym (planned_is (record list { operation = code; transaction = node })))
+pub whole_is : (list : ListView) (node : ℕ) (operation : code.Operation) → GoesBy list node operation → whole_plan node operation ≡ writes_of (code_of operation) node list
+whole_is list node operation by =
+    let named : ListView = record list { operation = code_of operation; transaction = node } in
+    ap (λ (ws : List ListWrite). Operation (code_of operation) ∷ Transaction node ∷ ws) (pending_is named operation refl (named_by operation by))
+  where
+    named_by : (o : code.Operation) → GoesBy list node o → GoesBy (record list { operation = code_of operation; transaction = node }) node o
+    named_by (operations.Insert head) by = by
+    named_by (operations.Remove beside) by = by
+    named_by (operations.Move beside head) by = by
 
 -- no word
 pub none_word : (o : Option ℕ) → ((w : ℕ) → o ≡ Some w → ⊥) → word_or_zero o ≡ 0

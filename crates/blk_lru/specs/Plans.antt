@@ -1,46 +1,66 @@
--- What an operation on the use list writes, by the words that it finds.
-use Rattle.std.specs.Prelude.{ℕ, ◌≡◌, ◌≢◌, ◌==◌, if◌then◌else◌, Option, None, Some, List, [], ◌∷◌, ◌++◌}
-use Rattle.blk_volume.specs.ListView.{ListWrite, Operation, Transaction}
-use Rattle.blk_volume.specs.Completion.{insert, remove, move, taking_out, putting_in_front}
+-- What an operation on the use list writes, by the nodes that it goes by.
+use Rattle.std.specs.Prelude.{ℕ, ◌≡◌, ◌≢◌, ◌==◌, if◌then◌else◌, Option, None, Some, List, [], ◌∷◌, ◌++◌, IfSome, true}
+use Rattle.blk_volume.specs.ListView.{ListView, ListWrite, Next, Operation, Transaction}
+use Rattle.blk_volume.specs.Completion.{insert, remove, move, unlinking, putting_in_front}
+use Rattle.blk_disk.specs.declared.tables.BlockFiles.{BlockFiles}
+use Rattle.blk_lru.specs.declared.plans.Beside.{Beside}
 use Rattle.blk_lru.specs.declared.plans.Operation as code
 use Rattle.blk_lru.specs.declared.plans.Operation.TheVariants as operations
-
--- the head once a node with these links is out
-unfoldable pub head_without : (node next prev head : ℕ) → ℕ
-head_without node next prev head =
-    if next == 0 then head else
-    (if prev == node then (if next == node then 0 else next) else head)
-
--- what a move writes: the node is taken out, and then put in front as an insert does it
-abbrev pub moving : (node next prev head : ℕ) → List ListWrite
-moving node next prev head = taking_out node next prev ++ Operation insert ∷ putting_in_front node (head_without node next prev head)
-
--- what an operation in flight writes: a node is put in front, taken out, or taken out and then put in front
-unfoldable pub planned : (operation node next prev head : ℕ) → List ListWrite
-planned operation node next prev head =
-    if operation == insert then putting_in_front node head else
-    (if operation == remove then taking_out node next prev else moving node next prev head)
-
--- and then the transaction ends
-abbrev pub pending : (operation node next prev head : ℕ) → List ListWrite
-pending operation node next prev head = planned operation node next prev head ++ Transaction 0 ∷ []
-
--- all of an operation
-abbrev pub whole_plan : (operation node next prev head : ℕ) → List ListWrite
-whole_plan operation node next prev head = Operation operation ∷ Transaction node ∷ pending operation node next prev head
-
--- the code of an operation
-abbrev pub code_of : code.Operation → ℕ
-code_of operations.Insert = insert
-code_of operations.Remove = remove
-code_of operations.Move = move
-
--- the operation of a code is found where one has it
-abbrev pub FindsOperation : ℕ → Option code.Operation → Type 0
-FindsOperation number None = (operation : code.Operation) → number ≢ code_of operation
-FindsOperation number (Some operation) = code_of operation ≡ number
+use Rattle.blk_lru.specs.Nodes.{is_node}
 
 -- a word, or 0 for none
 abbrev pub word_or_zero : Option ℕ → ℕ
 word_or_zero None = 0
 word_or_zero (Some word) = word
+
+-- taking a node out, by the nodes beside it: nothing where there are none; else those change, and at last its next becomes 0
+abbrev pub leaving : (node : ℕ) → Option Beside → List ListWrite
+leaving node None = []
+leaving node (Some beside) = unlinking node beside.next beside.prev ++ Next node 0 ∷ []
+
+-- the first node once a node is out: where it was the first, the next one if there is one
+abbrev pub head_without : (node : ℕ) → Option Beside → (head : Option ℕ) → Option ℕ
+head_without node None head = head
+head_without node (Some beside) head =
+    if beside.prev == node then (if beside.next == node then None else Some beside.next) else head
+
+-- what an operation in flight writes; a move turns into an insert once its node is out
+abbrev pub planned : (node : ℕ) → code.Operation → List ListWrite
+planned node (operations.Insert head) = putting_in_front node (word_or_zero head)
+planned node (operations.Remove beside) = leaving node beside
+planned node (operations.Move beside head) = leaving node beside ++ Operation insert ∷ putting_in_front node (word_or_zero (head_without node beside head))
+
+-- and then the transaction ends
+abbrev pub pending : (node : ℕ) → code.Operation → List ListWrite
+pending node operation = planned node operation ++ Transaction 0 ∷ []
+
+-- the code of an operation
+abbrev pub code_of : code.Operation → ℕ
+code_of (operations.Insert head) = insert
+code_of (operations.Remove beside) = remove
+code_of (operations.Move beside head) = move
+
+-- all of an operation
+abbrev pub whole_plan : (node : ℕ) → code.Operation → List ListWrite
+whole_plan node operation = Operation (code_of operation) ∷ Transaction node ∷ pending node operation
+
+-- the nodes beside one that has these links: none where its next is 0
+abbrev pub AreBeside : (next prev : ℕ) → Option Beside → Type 0
+AreBeside next prev None = next ≡ 0
+AreBeside next prev (Some beside) = (next ≢ 0) × ((beside.next ≡ next) × (beside.prev ≡ prev))
+
+-- an operation on a node goes by the nodes of the list
+abbrev pub GoesBy : ListView → (node : ℕ) → code.Operation → Type 0
+GoesBy list node (operations.Insert head) = word_or_zero head ≡ list.head
+GoesBy list node (operations.Remove beside) = AreBeside (list.next node) (list.prev node) beside
+GoesBy list node (operations.Move beside head) = AreBeside (list.next node) (list.prev node) beside × (word_or_zero head ≡ list.head)
+
+-- the nodes beside one stand
+abbrev pub StandBeside : BlockFiles → Beside → Type 0
+StandBeside files beside = (is_node files beside.next ≡ true) × (is_node files beside.prev ≡ true)
+
+-- the nodes that an operation goes by stand
+abbrev pub StandsBy : BlockFiles → code.Operation → Type 0
+StandsBy files (operations.Insert head) = IfSome head (λ n. is_node files n ≡ true)
+StandsBy files (operations.Remove beside) = IfSome beside (StandBeside files)
+StandsBy files (operations.Move beside head) = IfSome beside (StandBeside files) × IfSome head (λ n. is_node files n ≡ true)

@@ -1,7 +1,7 @@
 // Changes of the use list, each a transaction.
-ghost use Rattle.std.specs.Prelude.{◌≡◌, ◌==◌, ◌++◌, ◌∷◌, ◌≤◌, ℕ, List, IfSome, IsTrue, None, OnOk, true};
+ghost use Rattle.std.specs.Prelude.{◌≡◌, ◌==◌, ◌++◌, ◌∷◌, ◌≤◌, ℕ, List, IfOk, IfSome, IsTrue, None, OnOk, Some, true};
 ghost use Rattle.std.specs.Option.{ForSome};
-ghost use Rattle.blk_image.specs.Told.{Grows, GrowsInPart, Passes, Rises};
+ghost use Rattle.blk_image.specs.Told.{Grows, GrowsInPart, Passes, Rises, Stays};
 ghost use Rattle.blk_format.specs.Sealed.{sealed_steps};
 ghost use Rattle.blk_format.specs.Headers.{HasWholeIndex};
 ghost use Rattle.blk_volume.specs.Completion.{insert, move, remove as removal};
@@ -12,13 +12,13 @@ ghost use Rattle.blk_laws.specs.ListSteps.{AreSealed, AreTimes, IsPartly, IsSeal
 ghost use Rattle.blk_laws.specs.ListWords.{walked};
 ghost use Rattle.blk_io.specs.Faults.{IfDamaged, IfDevice};
 ghost use Rattle.blk_disk.specs.Tables.{Agrees};
-ghost use Rattle.blk_lru.specs.Plans.{word_or_zero};
+ghost use Rattle.blk_lru.specs.Plans.{AreBeside, StandBeside};
 ghost use Rattle.blk_lru.specs.Damages.{IsInsertDamage, IsNodeDamage, IsRemovalDamage, IsTouchDamage};
 ghost use Rattle.blk_lru.specs.Nodes.{is_node};
 ghost use Rattle.blk_lru.specs.Lists.{IsListed, Turns, first_of};
 
 use crate::nodes::{NEXT, PREV, link};
-use crate::plans::{Operation, plan_of};
+use crate::plans::{Beside, Operation, plan_of};
 use crate::reading::first;
 use crate::writes::perform;
 use blk_addr::Addr;
@@ -69,7 +69,7 @@ pub fn insert_front<F: Folder>(f: &mut F, files: &BlockFiles, node: Addr) -> Res
 {
     blk_laws::inserts_at_each_word();
     let head = first(f, files)?;
-    let plan = plan_of(Operation::Insert, node, None, node, head);
+    let plan = plan_of(node, &Operation::Insert { head });
     perform(f, files, &plan)
 }
 
@@ -104,9 +104,9 @@ pub fn remove<F: Folder>(f: &mut F, files: &BlockFiles, node: Addr) -> Result<()
     ensures device { IfDevice result (Rises (F.faults f.old) (F.faults f.new)) }
 {
     blk_laws::removals_at_each_word();
-    let next = link(f, files, node, NEXT)?;
-    let prev = link(f, files, node, PREV)?;
-    let plan = plan_of(Operation::Remove, node, Some(next), prev, None);
+    let beside = beside(f, files, node)?;
+    let beside = Some(beside);
+    let plan = plan_of(node, &Operation::Remove { beside });
     perform(f, files, &plan)
 }
 
@@ -189,7 +189,7 @@ fn move_front<F: Folder>(f: &mut F, files: &BlockFiles, node: Addr) -> Result<()
     ensures device { IfDevice result (Rises (F.faults f.old) (F.faults f.new)) }
 {
     let head = first(f, files)?;
-    if is_same(&head, node) {
+    if head == Some(node) {
         return Ok(());
     }
     move_behind(f, files, node, head)
@@ -219,19 +219,26 @@ fn move_behind<F: Folder>(
     ensures later { F.faults f.old ≤ F.faults f.new }
     ensures device { IfDevice result (Rises (F.faults f.old) (F.faults f.new)) }
 {
-    let next = link(f, files, node, NEXT)?;
-    let prev = link(f, files, node, PREV)?;
-    let plan = plan_of(Operation::Move, node, Some(next), prev, head);
+    let beside = beside(f, files, node)?;
+    let beside = Some(beside);
+    let plan = plan_of(node, &Operation::Move { beside, head });
     perform(f, files, &plan)
 }
 
-// Whether a node that may be there is this one.
-fn is_same(found: &Option<Addr>, node: Addr) -> bool
-    ensures { result ≡ (word_or_zero found.now == node) }
+// The nodes beside a listed one, by two folder calls.
+fn beside<F: Folder>(f: &mut F, files: &BlockFiles, node: Addr) -> Result<Beside, Fault>
+    requires stands { IsTrue (is_node files.now node) }
+    requires agrees { ForSome (F.told f.old).files (Agrees files.now) }
+    requires listed { ForSome (F.told f.old).files (IsListed node) }
+    ensures words { IfOk result (λ beside. ForSome (F.told f.old).files (λ image. AreBeside ((list_of image).next node) ((list_of image).prev node) (Some beside))) }
+    ensures stand { IfOk result (StandBeside files.now) }
+    ensures damaged { IfDamaged result (IsRemovalDamage files.now node) }
+    ensures untold { IfDamaged result (λ _. (F.told f.old).files ≡ None) }
+    ensures stays { Stays (F.told f.old) (F.told f.new) }
+    ensures later { F.faults f.old ≤ F.faults f.new }
+    ensures device { IfDevice result (Rises (F.faults f.old) (F.faults f.new)) }
 {
-    let word = node.word();
-    match found {
-        Some(other) => other.word() == word,
-        None => false,
-    }
+    let next = link(f, files, node, NEXT)?;
+    let prev = link(f, files, node, PREV)?;
+    Ok(Beside { next, prev })
 }

@@ -3,7 +3,6 @@ ghost use Rattle.std.specs.Prelude.{◌≡◌, ◌≤◌, None, IfOk, IfSome, On
 ghost use Rattle.std.specs.Option.{ForSome};
 ghost use Rattle.blk_image.specs.Told.{Grows, GrowsInPart, Passes, Rises, Stays};
 ghost use Rattle.blk_format.specs.Headers.{HasWholeIndex};
-ghost use Rattle.blk_volume.specs.Completion.{insert, move, remove as removal};
 ghost use Rattle.blk_volume.specs.ListPlans.{completion_writes};
 ghost use Rattle.blk_volume.specs.View.{list_of};
 ghost use Rattle.blk_laws.specs.ListSteps.{AreOf, AreSealed, AreWords, IsPartly, steps_of};
@@ -13,10 +12,10 @@ ghost use Rattle.blk_disk.specs.Tables.{Agrees};
 ghost use Rattle.blk_lru.specs.Damages.{IsCompletingDamage, IsNodeDamage};
 ghost use Rattle.blk_lru.specs.Nodes.{is_node, AreLinksOf};
 ghost use Rattle.blk_lru.specs.Writes.{meant};
-ghost use Rattle.blk_lru.specs.Completing.{AreNodes, Finds, FindsBeside, FindsHead, finishing_writes};
+ghost use Rattle.blk_lru.specs.Completing.{AreNodes, Finds, FindsBeside, FindsHead, StandsBeside, StandsHead, finishing_writes};
 
 use crate::nodes::{Links, checked};
-use crate::plans::{Operation, Plan, ending, pending_of};
+use crate::plans::{Beside, INSERT, MOVE, Operation, Plan, REMOVE, ending, pending_of};
 use crate::reading::HEAD;
 use crate::writes::{OPERATION, TRANSACTION, perform};
 use blk_addr::Addr;
@@ -24,22 +23,18 @@ use blk_disk::BlockFiles;
 use blk_index::word;
 use blk_io::{Fault, Folder};
 
-// An operation in flight that counts: its node, the nodes beside that one, and the first node, as far
-// as it needs them. Where the node has no next one the previous one isn't looked at.
+// An operation in flight that counts, and its node.
 #[derive(Clone, Copy, Debug)]
 pub(crate) struct InFlight {
-    operation: Operation,
     node: Addr,
-    next: Option<Addr>,
-    prev: Addr,
-    head: Option<Addr>,
+    operation: Operation,
 }
 
-// The nodes beside one: the next, if it has one, and the previous.
+// A part of an operation in flight: it counts, or it names a word that is no node or one that doesn't check.
 #[derive(Clone, Copy, Debug)]
-pub(crate) struct Beside {
-    next: Option<Addr>,
-    prev: Addr,
+pub(crate) enum Part<T> {
+    Counts(T),
+    Fails,
 }
 
 /// Completes the operation in flight, if there is one, and ends its transaction.
@@ -97,13 +92,7 @@ fn completion<F: Folder>(f: &mut F, files: &BlockFiles, transaction: u32) -> Res
     let Some(found) = in_flight(f, files, transaction)? else {
         return Ok(ending());
     };
-    Ok(pending_of(
-        found.operation,
-        found.node,
-        found.next,
-        found.prev,
-        found.head,
-    ))
+    Ok(pending_of(found.node, &found.operation))
 }
 
 // The operation in flight, where this is the transaction word and it counts.
@@ -126,118 +115,66 @@ fn in_flight<F: Folder>(
     let Some(links) = checked(f, files, transaction)? else {
         return Ok(None);
     };
-    let Some(operation) = Operation::of_code(word(f, OPERATION)?) else {
-        return Ok(None);
-    };
-    match operation {
-        Operation::Insert => inserting(f, files, &links),
-        Operation::Remove => removing(f, files, &links),
-        Operation::Move => moving(f, files, &links),
+    let code = word(f, OPERATION)?;
+    counting(f, files, code, &links)
+}
+
+// The operation in flight of a node with these links, where this is the operation word and it counts.
+fn counting<F: Folder>(
+    f: &mut F,
+    files: &BlockFiles,
+    code: u32,
+    links: &Links,
+) -> Result<Option<InFlight>, Fault>
+    requires complete { ForSome (F.told f.old).files HasWholeIndex }
+    requires agrees { ForSome (F.told f.old).files (Agrees files.now) }
+    requires stands { is_node files.now links.now.node ≡ true }
+    requires links { ForSome (F.told f.old).files (λ image. AreLinksOf (list_of image) (list_of image).transaction links.now) }
+    requires operation { ForSome (F.told f.old).files (λ image. (list_of image).operation ≡ code) }
+    ensures found { IfOk result (λ found. ForSome (F.told f.old).files (λ image. Finds (list_of image) found)) }
+    ensures stand { IfOk result (λ found. IfSome found (AreNodes files.now)) }
+    ensures damaged { IfDamaged result (IsCompletingDamage files.now) }
+    ensures untold { IfDamaged result (λ _. (F.told f.old).files ≡ None) }
+    ensures stays { Stays (F.told f.old) (F.told f.new) }
+    ensures later { F.faults f.old ≤ F.faults f.new }
+    ensures device { IfDevice result (Rises (F.faults f.old) (F.faults f.new)) }
+{
+    let node = links.node;
+    match code {
+        INSERT => {
+            let Part::Counts(head) = usable_head(f, files)? else {
+                return Ok(None);
+            };
+            let operation = Operation::Insert { head };
+            Ok(Some(InFlight { node, operation }))
+        }
+        REMOVE => {
+            let Part::Counts(beside) = usable_links(f, files, links)? else {
+                return Ok(None);
+            };
+            let operation = Operation::Remove { beside };
+            Ok(Some(InFlight { node, operation }))
+        }
+        MOVE => {
+            let Part::Counts(head) = usable_head(f, files)? else {
+                return Ok(None);
+            };
+            let Part::Counts(beside) = usable_links(f, files, links)? else {
+                return Ok(None);
+            };
+            let operation = Operation::Move { beside, head };
+            Ok(Some(InFlight { node, operation }))
+        }
+        _ => Ok(None),
     }
 }
 
-// The insert in flight of a node with these links, where it counts.
-fn inserting<F: Folder>(
-    f: &mut F,
-    files: &BlockFiles,
-    links: &Links,
-) -> Result<Option<InFlight>, Fault>
-    requires complete { ForSome (F.told f.old).files HasWholeIndex }
-    requires agrees { ForSome (F.told f.old).files (Agrees files.now) }
-    requires stands { is_node files.now links.now.node ≡ true }
-    requires links { ForSome (F.told f.old).files (λ image. AreLinksOf (list_of image) (list_of image).transaction links.now) }
-    requires operation { ForSome (F.told f.old).files (λ image. (list_of image).operation ≡ insert) }
-    ensures found { IfOk result (λ found. ForSome (F.told f.old).files (λ image. Finds (list_of image) found)) }
-    ensures stand { IfOk result (λ found. IfSome found (AreNodes files.now)) }
-    ensures damaged { IfDamaged result (IsCompletingDamage files.now) }
-    ensures untold { IfDamaged result (λ _. (F.told f.old).files ≡ None) }
-    ensures stays { Stays (F.told f.old) (F.told f.new) }
-    ensures later { F.faults f.old ≤ F.faults f.new }
-    ensures device { IfDevice result (Rises (F.faults f.old) (F.faults f.new)) }
-{
-    let Some(head) = usable_head(f, files)? else {
-        return Ok(None);
-    };
-    Ok(Some(InFlight {
-        operation: Operation::Insert,
-        node: links.node,
-        next: None,
-        prev: links.node,
-        head,
-    }))
-}
-
-// The removal in flight of a node with these links, where it counts.
-fn removing<F: Folder>(
-    f: &mut F,
-    files: &BlockFiles,
-    links: &Links,
-) -> Result<Option<InFlight>, Fault>
-    requires complete { ForSome (F.told f.old).files HasWholeIndex }
-    requires agrees { ForSome (F.told f.old).files (Agrees files.now) }
-    requires stands { is_node files.now links.now.node ≡ true }
-    requires links { ForSome (F.told f.old).files (λ image. AreLinksOf (list_of image) (list_of image).transaction links.now) }
-    requires operation { ForSome (F.told f.old).files (λ image. (list_of image).operation ≡ removal) }
-    ensures found { IfOk result (λ found. ForSome (F.told f.old).files (λ image. Finds (list_of image) found)) }
-    ensures stand { IfOk result (λ found. IfSome found (AreNodes files.now)) }
-    ensures damaged { IfDamaged result (IsCompletingDamage files.now) }
-    ensures untold { IfDamaged result (λ _. (F.told f.old).files ≡ None) }
-    ensures stays { Stays (F.told f.old) (F.told f.new) }
-    ensures later { F.faults f.old ≤ F.faults f.new }
-    ensures device { IfDevice result (Rises (F.faults f.old) (F.faults f.new)) }
-{
-    let Some(beside) = usable_links(f, files, links)? else {
-        return Ok(None);
-    };
-    Ok(Some(InFlight {
-        operation: Operation::Remove,
-        node: links.node,
-        next: beside.next,
-        prev: beside.prev,
-        head: None,
-    }))
-}
-
-// The move in flight of a node with these links, where it counts.
-fn moving<F: Folder>(
-    f: &mut F,
-    files: &BlockFiles,
-    links: &Links,
-) -> Result<Option<InFlight>, Fault>
-    requires complete { ForSome (F.told f.old).files HasWholeIndex }
-    requires agrees { ForSome (F.told f.old).files (Agrees files.now) }
-    requires stands { is_node files.now links.now.node ≡ true }
-    requires links { ForSome (F.told f.old).files (λ image. AreLinksOf (list_of image) (list_of image).transaction links.now) }
-    requires operation { ForSome (F.told f.old).files (λ image. (list_of image).operation ≡ move) }
-    ensures found { IfOk result (λ found. ForSome (F.told f.old).files (λ image. Finds (list_of image) found)) }
-    ensures stand { IfOk result (λ found. IfSome found (AreNodes files.now)) }
-    ensures damaged { IfDamaged result (IsCompletingDamage files.now) }
-    ensures untold { IfDamaged result (λ _. (F.told f.old).files ≡ None) }
-    ensures stays { Stays (F.told f.old) (F.told f.new) }
-    ensures later { F.faults f.old ≤ F.faults f.new }
-    ensures device { IfDevice result (Rises (F.faults f.old) (F.faults f.new)) }
-{
-    let Some(head) = usable_head(f, files)? else {
-        return Ok(None);
-    };
-    let Some(beside) = usable_links(f, files, links)? else {
-        return Ok(None);
-    };
-    Ok(Some(InFlight {
-        operation: Operation::Move,
-        node: links.node,
-        next: beside.next,
-        prev: beside.prev,
-        head,
-    }))
-}
-
 // The first node or none, where the head is 0 or names a node that checks.
-fn usable_head<F: Folder>(f: &mut F, files: &BlockFiles) -> Result<Option<Option<Addr>>, Fault>
+fn usable_head<F: Folder>(f: &mut F, files: &BlockFiles) -> Result<Part<Option<Addr>>, Fault>
     requires complete { ForSome (F.told f.old).files HasWholeIndex }
     requires agrees { ForSome (F.told f.old).files (Agrees files.now) }
     ensures found { IfOk result (λ found. ForSome (F.told f.old).files (λ image. FindsHead (list_of image) found)) }
-    ensures stand { IfOk result (λ found. IfSome found (λ head. IfSome head (λ n. is_node files.now n ≡ true))) }
+    ensures stand { IfOk result (StandsHead files.now) }
     ensures damaged { IfDamaged result (IsCompletingDamage files.now) }
     ensures untold { IfDamaged result (λ _. (F.told f.old).files ≡ None) }
     ensures stays { Stays (F.told f.old) (F.told f.new) }
@@ -246,26 +183,25 @@ fn usable_head<F: Folder>(f: &mut F, files: &BlockFiles) -> Result<Option<Option
 {
     let head = word(f, HEAD)?;
     if head == 0 {
-        return Ok(Some(None));
+        return Ok(Part::Counts(None));
     }
     let Some(links) = checked(f, files, head)? else {
-        return Ok(None);
+        return Ok(Part::Fails);
     };
-    Ok(Some(Some(links.node)))
+    Ok(Part::Counts(Some(links.node)))
 }
 
-// The nodes beside one that has these links, where its next is 0 or both links name nodes that check.
+// The nodes beside one that has these links or none, where its next is 0 or both links name nodes that check.
 fn usable_links<F: Folder>(
     f: &mut F,
     files: &BlockFiles,
     links: &Links,
-) -> Result<Option<Beside>, Fault>
+) -> Result<Part<Option<Beside>>, Fault>
     requires agrees { ForSome (F.told f.old).files (Agrees files.now) }
     requires stands { is_node files.now links.now.node ≡ true }
     requires links { ForSome (F.told f.old).files (λ image. AreLinksOf (list_of image) (list_of image).transaction links.now) }
     ensures found { IfOk result (λ found. ForSome (F.told f.old).files (λ image. FindsBeside (list_of image) (list_of image).transaction found)) }
-    ensures next { IfOk result (λ found. IfSome found (λ beside. IfSome beside.next (λ n. is_node files.now n ≡ true))) }
-    ensures prev { IfOk result (λ found. IfSome found (λ beside. is_node files.now beside.prev ≡ true)) }
+    ensures stand { IfOk result (StandsBeside files.now) }
     ensures damaged { IfDamaged result (IsNodeDamage files.now) }
     ensures untold { IfDamaged result (λ _. (F.told f.old).files ≡ None) }
     ensures stays { Stays (F.told f.old) (F.told f.new) }
@@ -273,17 +209,14 @@ fn usable_links<F: Folder>(
     ensures device { IfDevice result (Rises (F.faults f.old) (F.faults f.new)) }
 {
     if links.next == 0 {
-        let (next, prev) = (None, links.node);
-        return Ok(Some(Beside { next, prev }));
+        return Ok(Part::Counts(None));
     }
     let Some(next) = checked(f, files, links.next)? else {
-        return Ok(None);
+        return Ok(Part::Fails);
     };
     let Some(prev) = checked(f, files, links.prev)? else {
-        return Ok(None);
+        return Ok(Part::Fails);
     };
-    Ok(Some(Beside {
-        next: Some(next.node),
-        prev: prev.node,
-    }))
+    let (next, prev) = (next.node, prev.node);
+    Ok(Part::Counts(Some(Beside { next, prev })))
 }

@@ -1,9 +1,8 @@
 // What an operation on the use list writes.
 ghost use Rattle.std.specs.Prelude.{◌≡◌, ◌+◌, ◌++◌, ◌∷◌, ◌≤◌, [], length, map};
-ghost use Rattle.blk_volume.specs.Completion as completion;
-ghost use Rattle.blk_volume.specs.Completion.{putting_in_front, taking_out};
+ghost use Rattle.blk_volume.specs.Completion.{putting_in_front};
 ghost use Rattle.blk_volume.specs.ListView as list;
-ghost use Rattle.blk_lru.specs.Plans.{code_of, pending, whole_plan, word_or_zero, FindsOperation};
+ghost use Rattle.blk_lru.specs.Plans.{code_of, leaving, pending, whole_plan, word_or_zero};
 ghost use Rattle.blk_lru.specs.Plans as plans;
 ghost use Rattle.blk_lru.specs.Writes.{meant};
 
@@ -18,52 +17,52 @@ const MOST_WRITES: usize = 11;
 // Writes in their order.
 pub(crate) type Plan = ArrayVec<Write, MOST_WRITES>;
 
-// An operation on a node: it is put in front, taken out, or taken out and then put in front.
-#[derive(Clone, Copy, Debug, PartialEq, Eq)]
+// The codes of the operations.
+pub(crate) const INSERT: u32 = 1;
+
+pub(crate) const REMOVE: u32 = 2;
+
+pub(crate) const MOVE: u32 = 3;
+
+// The nodes beside one, by its links: the next and the previous. At an end of the list that is the node itself.
+#[derive(Clone, Copy, Debug)]
+pub(crate) struct Beside {
+    pub(crate) next: Addr,
+    pub(crate) prev: Addr,
+}
+
+// An operation on a node, and the nodes that it goes by: the first node, and those beside the node,
+// where there are any. The node is put in front, taken out, or taken out and then put in front.
+#[derive(Clone, Copy, Debug)]
 pub(crate) enum Operation {
-    Insert,
-    Remove,
-    Move,
+    Insert {
+        head: Option<Addr>,
+    },
+    Remove {
+        beside: Option<Beside>,
+    },
+    Move {
+        beside: Option<Beside>,
+        head: Option<Addr>,
+    },
 }
 
 impl Operation {
     // The word of the index that stands for the operation.
-    pub(crate) fn code(self) -> u32
-        ensures { result ≡ code_of self }
+    fn code(&self) -> u32
+        ensures { result ≡ code_of self.now }
     {
         match self {
-            Operation::Insert => 1,
-            Operation::Remove => 2,
-            Operation::Move => 3,
-        }
-    }
-
-    // The operation that a code stands for.
-    pub(crate) fn of_code(code: u32) -> Option<Operation>
-        ensures { FindsOperation code result }
-    {
-        if code == 1 {
-            Some(Operation::Insert)
-        } else if code == 2 {
-            Some(Operation::Remove)
-        } else if code == 3 {
-            Some(Operation::Move)
-        } else {
-            None
+            Operation::Insert { .. } => INSERT,
+            Operation::Remove { .. } => REMOVE,
+            Operation::Move { .. } => MOVE,
         }
     }
 }
 
-// All that an operation on a node writes, where these are the node's next and previous nodes and the
-// first node. Where there is no next node the previous one isn't looked at.
-pub(crate) fn plan_of(
-    operation: Operation,
-    node: Addr,
-    next: Option<Addr>,
-    prev: Addr,
-    head: Option<Addr>,
-) -> Plan
-    ensures { map meant result.items ≡ whole_plan (code_of operation) node (word_or_zero next) prev (word_or_zero head) }
+// All that an operation on a node writes.
+pub(crate) fn plan_of(node: Addr, operation: &Operation) -> Plan
+    ensures { map meant result.items ≡ whole_plan node operation.now }
 {
     let mut plan = ArrayVec::new();
     add(
@@ -73,22 +72,16 @@ pub(crate) fn plan_of(
             Write::Transaction(node.word()),
         ],
     );
-    add_pending(&mut plan, operation, node, next, prev, head);
+    add_pending(&mut plan, node, operation);
     plan
 }
 
 // What is left to write of an operation in flight.
-pub(crate) fn pending_of(
-    operation: Operation,
-    node: Addr,
-    next: Option<Addr>,
-    prev: Addr,
-    head: Option<Addr>,
-) -> Plan
-    ensures { map meant result.items ≡ pending (code_of operation) node (word_or_zero next) prev (word_or_zero head) }
+pub(crate) fn pending_of(node: Addr, operation: &Operation) -> Plan
+    ensures { map meant result.items ≡ pending node operation.now }
 {
     let mut plan = ArrayVec::new();
-    add_pending(&mut plan, operation, node, next, prev, head);
+    add_pending(&mut plan, node, operation);
     plan
 }
 
@@ -102,39 +95,20 @@ pub(crate) fn ending() -> Plan
 }
 
 // Adds what an operation writes behind its code and its node.
-fn add_pending(
-    plan: &mut Plan,
-    operation: Operation,
-    node: Addr,
-    next: Option<Addr>,
-    prev: Addr,
-    head: Option<Addr>,
-)
+fn add_pending(plan: &mut Plan, node: Addr, operation: &Operation)
     requires room { length plan.old.items ≤ 2 }
-    ensures { map meant plan.new.items ≡ map meant plan.old.items ++ pending (code_of operation) node (word_or_zero next) prev (word_or_zero head) }
+    ensures { map meant plan.new.items ≡ map meant plan.old.items ++ pending node operation.now }
 {
     match operation {
-        Operation::Insert => put_front(plan, node, head),
-        Operation::Remove => take_out(plan, node, next, prev),
-        Operation::Move => move_front(plan, node, next, prev, head),
+        Operation::Insert { head } => put_front(plan, node, *head),
+        Operation::Remove { beside } => take_out(plan, node, beside),
+        Operation::Move { beside, head } => {
+            take_out(plan, node, beside);
+            add(plan, &[Write::Operation(INSERT)]);
+            put_front(plan, node, head_without(node, beside, *head));
+        }
     }
     add(plan, &[Write::Transaction(0)]);
-}
-
-// Adds what takes a node out and then puts it in front.
-fn move_front(plan: &mut Plan, node: Addr, next: Option<Addr>, prev: Addr, head: Option<Addr>)
-    requires room { length plan.old.items ≤ 2 }
-    ensures writes { map meant plan.new.items ≡ map meant plan.old.items ++ plans.moving node (word_or_zero next) prev (word_or_zero head) }
-    ensures few { length plan.new.items ≤ length plan.old.items + 8 }
-{
-    let Some(next) = next else {
-        add(plan, &[Write::Operation(Operation::Insert.code())]);
-        put_front(plan, node, head);
-        return;
-    };
-    unlink(plan, node, next, prev);
-    add(plan, &[Write::Operation(Operation::Insert.code())]);
-    put_back(plan, node, next, prev, head);
 }
 
 // Adds what puts a node in front.
@@ -157,7 +131,7 @@ fn put_front(plan: &mut Plan, node: Addr, head: Option<Addr>)
         );
         return;
     };
-    if head.word() != word {
+    if head != node {
         add(
             plan,
             &[
@@ -170,63 +144,51 @@ fn put_front(plan: &mut Plan, node: Addr, head: Option<Addr>)
     }
 }
 
-// Adds what takes a node out, which is nothing where it has no next node.
-fn take_out(plan: &mut Plan, node: Addr, next: Option<Addr>, prev: Addr)
+// Adds what takes a node out, which is nothing where there are none beside it.
+fn take_out(plan: &mut Plan, node: Addr, beside: &Option<Beside>)
     requires room { length plan.old.items ≤ 2 }
-    ensures writes { map meant plan.new.items ≡ map meant plan.old.items ++ taking_out node (word_or_zero next) prev }
+    ensures writes { map meant plan.new.items ≡ map meant plan.old.items ++ leaving node beside.now }
     ensures few { length plan.new.items ≤ length plan.old.items + 3 }
 {
-    if let Some(next) = next {
-        unlink(plan, node, next, prev);
-    }
-}
-
-// Adds what takes a node out by its links.
-fn unlink(plan: &mut Plan, node: Addr, next: Addr, prev: Addr)
-    requires room { length plan.old.items ≤ 2 }
-    ensures writes { map meant plan.new.items ≡ map meant plan.old.items ++ taking_out node next prev }
-    ensures few { length plan.new.items ≤ length plan.old.items + 3 }
-{
-    let (word, next_word, prev_word) = (node.word(), next.word(), prev.word());
+    let Some(Beside { next, prev }) = *beside else {
+        return;
+    };
+    let (next_word, prev_word) = (next.word(), prev.word());
     let out = Write::Next(node, 0);
-    if prev_word == word {
-        if next_word == word {
-            add(plan, &[Write::Head(0), Write::Tail(0), out]);
-        } else {
-            add(
-                plan,
-                &[Write::Prev(next, next_word), Write::Head(next_word), out],
-            );
-        }
-    } else if next_word == word {
-        add(
+    match (prev == node, next == node) {
+        (true, true) => add(plan, &[Write::Head(0), Write::Tail(0), out]),
+        (true, false) => add(
+            plan,
+            &[Write::Prev(next, next_word), Write::Head(next_word), out],
+        ),
+        (false, true) => add(
             plan,
             &[Write::Next(prev, prev_word), Write::Tail(prev_word), out],
-        );
-    } else {
-        add(
+        ),
+        (false, false) => add(
             plan,
             &[
                 Write::Next(prev, next_word),
                 Write::Prev(next, prev_word),
                 out,
             ],
-        );
+        ),
     }
 }
 
-// Adds what puts a node in front that was taken out by its links, where this was the first node.
-fn put_back(plan: &mut Plan, node: Addr, next: Addr, prev: Addr, head: Option<Addr>)
-    requires room { length plan.old.items ≤ 6 }
-    ensures writes { map meant plan.new.items ≡ map meant plan.old.items ++ putting_in_front node (plans.head_without node next prev (word_or_zero head)) }
-    ensures few { length plan.new.items ≤ length plan.old.items + 4 }
+// The first node once a node is out, where this one was the first.
+fn head_without(node: Addr, beside: &Option<Beside>, head: Option<Addr>) -> Option<Addr>
+    ensures { result ≡ plans.head_without node beside.now head }
 {
-    if prev.word() != node.word() {
-        put_front(plan, node, head);
-    } else if next.word() == node.word() {
-        put_front(plan, node, None);
+    let Some(Beside { next, prev }) = *beside else {
+        return head;
+    };
+    if prev != node {
+        head
+    } else if next == node {
+        None
     } else {
-        put_front(plan, node, Some(next));
+        Some(next)
     }
 }
 

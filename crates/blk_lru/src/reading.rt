@@ -105,11 +105,7 @@ pub fn after<F: Folder>(f: &mut F, files: &BlockFiles, node: Addr) -> Result<Opt
 fn unless_same(node: Addr, other: Addr) -> Option<Addr>
     ensures { result ≡ (if other == node then None else Some other) }
 {
-    if other.word() == node.word() {
-        None
-    } else {
-        Some(other)
-    }
+    if other == node { None } else { Some(other) }
 }
 
 // The node that a word of the index names, or none where the word is 0.

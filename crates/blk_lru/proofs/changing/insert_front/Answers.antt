@@ -1,9 +1,9 @@
-use Rattle.std.proofs.Common.{◌≡◌, List, ◌∷◌, Some, map, refl, sym, ap, ◌∙◌, subst, true, arith}
+use Rattle.std.proofs.Common.{◌≡◌, List, ◌∷◌, Some, map, sym, ap, ◌∙◌, subst, true}
 use Rattle.std.specs.Option.{ForSome}
 use Rattle.std.proofs.lemmas.Result.{on_ok_weaker}
 use Rattle.blk_image.specs.Image.{Image}
 use Rattle.blk_image.specs.Told.{GrowsInPart}
-use Rattle.blk_volume.specs.ListView.{ListView, ListWrite}
+use Rattle.blk_volume.specs.ListView.{ListWrite}
 use Rattle.blk_volume.specs.ListPlans.{writes_of}
 use Rattle.blk_volume.specs.View.{list_of}
 use Rattle.blk_laws.specs.ListWords.{IsWritable, CanBeMade, Rests, walked}
@@ -13,13 +13,14 @@ use Rattle.blk_laws.proofs.WordTurns.{inserts-can}
 use Rattle.blk_laws.proofs.WriteSteps.{quiet-writes, writes-in_turn}
 use Rattle.blk_laws.proofs.WriteWords.{Each, Good, each_nodes, each_words}
 use Rattle.blk_disk.specs.Tables.{Agrees}
+use Rattle.blk_lru.specs.declared.plans.Operation.TheVariants as operations
 use Rattle.blk_lru.specs.Nodes.{is_node}
-use Rattle.blk_lru.specs.Plans.{whole_plan, word_or_zero}
+use Rattle.blk_lru.specs.Plans.{whole_plan}
 use Rattle.blk_lru.specs.Writes.{meant}
-use Rattle.blk_lru.proofs.Conditions.{head_read, insert_any, one_is_one, some_holds, told_before, told_stays, rested_walk}
+use Rattle.blk_lru.proofs.Conditions.{head_read, told_before, told_stays, rested_walk}
 use Rattle.blk_lru.proofs.Operating.{all_made, part_as, part_passes, part_turns, stops_none, turns_none, whole_as}
 use Rattle.blk_lru.proofs.Performing.{ready_writable, told_ready}
-use Rattle.blk_lru.proofs.PlanNodes.{node_small, whole_good}
+use Rattle.blk_lru.proofs.PlanNodes.{whole_good}
 use Rattle.blk_lru.proofs.PlanWords.{whole_is}
 use Rattle.blk_lru.proofs.changing.insert_front.Given as given
 use Rattle.blk_lru.proofs.changing.insert_front.Goals as goal
@@ -36,21 +37,16 @@ pub returns-in_err-head-clause-agrees : goal.returns-in_err-head-clause-agrees
 returns-in_err-head-clause-agrees g c = told_stays (Agrees c.args.files.now) c.in_err-head.ensures.stays c.requires.agrees
 
 -- the plan
-words_are : (g : given.Over) (c : goal.After-deref g) → map meant c.deref.result.now ≡ whole_plan 1 c.args.node 0 c.args.node (word_or_zero c.in_ok-head.head)
+words_are : (g : given.Over) (c : goal.After-deref g) → map meant c.deref.result.now ≡ whole_plan c.args.node (operations.Insert c.in_ok-head.head)
 words_are g c = ap (map meant) c.deref.ensures.0 ∙ c.plan_of-plan.ensures
 
 plan_is : (g : given.Over) (c : goal.After-deref g) → ForSome (g.F.Folder.told c.args.f.now).files (λ from. map meant c.deref.result.now ≡ writes_of 1 c.args.node (list_of from))
 plan_is g c from there =
-    let list : ListView = list_of from in
     words_are g c
-    ∙ insert_any c.args.node 0 c.args.node (list.next c.args.node) (list.prev c.args.node) (word_or_zero c.in_ok-head.head)
-    ∙ whole_is 1 c.args.node (list.next c.args.node) (list.prev c.args.node) (word_or_zero c.in_ok-head.head) list refl refl (head_read list (walked from) c.in_ok-head.head (c.requires.apart from there).rest.whole (c.in_ok-head.ensures.node from there))
+    ∙ whole_is (list_of from) c.args.node (operations.Insert c.in_ok-head.head) (sym (head_read (list_of from) (walked from) c.in_ok-head.head (c.requires.apart from there).rest.whole (c.in_ok-head.ensures.node from there)))
 
 good_here : (g : given.Over) (c : goal.After-deref g) → Each (Good (λ n. is_node c.args.files.now n ≡ true)) (map meant c.deref.result.now)
-good_here g c =
-    subst (Each (Good (λ n. is_node c.args.files.now n ≡ true))) (sym (words_are g c))
-    (whole_good (λ n. is_node c.args.files.now n ≡ true) (node_small c.args.files.now) c.args.node c.requires.stands 1 0 c.args.node (word_or_zero c.in_ok-head.head) (omega arith) (λ ne. absurd (one_is_one ne))
-    (λ two. some_holds (λ n. is_node c.args.files.now n ≡ true) c.in_ok-head.head c.in_ok-head.ensures.stands))
+good_here g c = subst (Each (Good (λ n. is_node c.args.files.now n ≡ true))) (sym (words_are g c)) (whole_good c.args.files.now c.args.node c.requires.stands (operations.Insert c.in_ok-head.head) c.in_ok-head.ensures.stands)
 
 can_here : (g : given.Over) (c : goal.After-deref g) (from : Image) → (g.F.Folder.told c.args.f.now).files ≡ Some from → CanBeMade from (writes_of 1 c.args.node (list_of from))
 can_here g c from there = inserts-can from c.args.node (walked from) (c.requires.apart from there)

@@ -1,7 +1,7 @@
-use Rattle.std.proofs.Common.{◌≡◌, List, Some, map, sym, ap, ◌∙◌, subst, true, arith}
+use Rattle.std.proofs.Common.{◌≡◌, List, Some, map, sym, ap, ◌∙◌, subst, true}
 use Rattle.std.specs.Option.{ForSome}
 use Rattle.blk_image.specs.Image.{Image}
-use Rattle.blk_image.specs.Told.{Told, GrowsInPart}
+use Rattle.blk_image.specs.Told.{GrowsInPart}
 use Rattle.blk_volume.specs.ListView.{ListWrite}
 use Rattle.blk_volume.specs.ListPlans.{writes_of}
 use Rattle.blk_volume.specs.View.{list_of}
@@ -11,65 +11,33 @@ use Rattle.blk_laws.proofs.WordTurns.{moves-can}
 use Rattle.blk_laws.proofs.WriteSteps.{quiet-writes, writes-in_turn}
 use Rattle.blk_laws.proofs.WriteWords.{Each, Good, each_nodes, each_words}
 use Rattle.blk_disk.specs.Tables.{Agrees}
+use Rattle.blk_lru.specs.declared.plans.Operation.TheVariants as operations
 use Rattle.blk_lru.specs.Nodes.{is_node}
-use Rattle.blk_lru.specs.Plans.{whole_plan, word_or_zero}
+use Rattle.blk_lru.specs.Plans.{whole_plan}
 use Rattle.blk_lru.specs.Writes.{meant}
-use Rattle.blk_lru.proofs.Conditions.{head_read, some_holds, next_names, prev_names, told_before, told_stays, around}
-use Rattle.blk_lru.proofs.NodeWords.{stands_as_node, next_link, prev_link}
+use Rattle.blk_lru.proofs.Conditions.{head_read, told_before, told_stays, around}
 use Rattle.blk_lru.proofs.Operating.{part_as, part_passes, stops_none, whole_as}
-use Rattle.blk_lru.proofs.PlanNodes.{node_small, whole_good}
+use Rattle.blk_lru.proofs.PlanNodes.{whole_good}
 use Rattle.blk_lru.proofs.Performing.{ready_writable, told_ready}
 use Rattle.blk_lru.proofs.PlanWords.{whole_is}
 use Rattle.blk_lru.proofs.changing.move_behind.Given as given
 use Rattle.blk_lru.proofs.changing.move_behind.Goals as goal
 
-pub link-requires-clause-named : goal.link-requires-clause-named
-link-requires-clause-named g c image there = next_names c.args.files.now image c.args.node (c.requires.agrees image there) c.requires.stands (c.requires.listed image there)
+pub returns-in_err-beside-clause-stops : goal.returns-in_err-beside-clause-stops
+returns-in_err-beside-clause-stops g c from there = stops_none (g.F.Folder.told c.args.f.now) (g.F.Folder.told c.beside.new.f) from (writes_of 3 c.args.node (list_of from)) there c.in_err-beside.ensures.stays
 
-pub link-requires-2-clause-agrees : goal.link-requires-2-clause-agrees
-link-requires-2-clause-agrees g c = told_stays (Agrees c.args.files.now) c.in_ok-next.ensures.stays c.requires.agrees
-
-pub link-requires-2-clause-named : goal.link-requires-2-clause-named
-link-requires-2-clause-named g c image there = let here = told_before image c.in_ok-next.ensures.stays there in prev_names c.args.files.now image c.args.node (c.requires.agrees image here) c.requires.stands (c.requires.listed image here)
-
-pub returns-in_err-next-clause-stops : goal.returns-in_err-next-clause-stops
-returns-in_err-next-clause-stops g c from there = stops_none (g.F.Folder.told c.args.f.now) (g.F.Folder.told c.link.new.f) from (writes_of 3 c.args.node (list_of from)) there c.in_err-next.ensures.stays
-
-pub returns-in_err-next-clause-agrees : goal.returns-in_err-next-clause-agrees
-returns-in_err-next-clause-agrees g c = told_stays (Agrees c.args.files.now) c.in_err-next.ensures.stays c.requires.agrees
-
-pub returns-in_err-prev-clause-stops : goal.returns-in_err-prev-clause-stops
-returns-in_err-prev-clause-stops g c from there = stops_none (g.F.Folder.told c.args.f.now) (g.F.Folder.told c.link-2.new.f) from (writes_of 3 c.args.node (list_of from)) there (c.in_err-prev.ensures.stays ∙ c.in_ok-next.ensures.stays)
-
-pub returns-in_err-prev-clause-agrees : goal.returns-in_err-prev-clause-agrees
-returns-in_err-prev-clause-agrees g c = told_stays (Agrees c.args.files.now) (c.in_err-prev.ensures.stays ∙ c.in_ok-next.ensures.stays) c.requires.agrees
+pub returns-in_err-beside-clause-agrees : goal.returns-in_err-beside-clause-agrees
+returns-in_err-beside-clause-agrees g c = told_stays (Agrees c.args.files.now) c.in_err-beside.ensures.stays c.requires.agrees
 
 -- the plan
-words_are : (g : given.Over) (c : goal.After-deref g) → map meant c.deref.result.now ≡ whole_plan 3 c.args.node c.in_ok-next.next c.in_ok-prev.prev (word_or_zero c.args.head)
+words_are : (g : given.Over) (c : goal.After-deref g) → map meant c.deref.result.now ≡ whole_plan c.args.node (operations.Move (Some c.in_ok-beside.beside) c.args.head)
 words_are g c = ap (map meant) c.deref.ensures.0 ∙ c.plan_of-plan.ensures
 
-stays_here : (g : given.Over) (c : goal.After-deref g) → g.F.Folder.told c.link-2.new.f ≡ g.F.Folder.told c.args.f.now
-stays_here g c = c.in_ok-prev.ensures.stays ∙ c.in_ok-next.ensures.stays
-
-next_is : (g : given.Over) (c : goal.After-deref g) (from : Image) → (g.F.Folder.told c.args.f.now).files ≡ Some from → (list_of from).next c.args.node ≡ c.in_ok-next.next
-next_is g c from there = next_link from c.args.node (stands_as_node c.args.files.now from (c.requires.agrees from there) c.args.node c.requires.stands) ∙ sym (c.in_ok-next.ensures.word from there)
-
-prev_is : (g : given.Over) (c : goal.After-deref g) (from : Image) → (g.F.Folder.told c.args.f.now).files ≡ Some from → (list_of from).prev c.args.node ≡ c.in_ok-prev.prev
-prev_is g c from there =
-    prev_link from c.args.node (stands_as_node c.args.files.now from (c.requires.agrees from there) c.args.node c.requires.stands)
-    ∙ sym (c.in_ok-prev.ensures.word from (ap (λ (t : Told). t.files) c.in_ok-next.ensures.stays ∙ there))
-
 plan_is : (g : given.Over) (c : goal.After-deref g) → ForSome (g.F.Folder.told c.args.f.now).files (λ from. map meant c.deref.result.now ≡ writes_of 3 c.args.node (list_of from))
-plan_is g c from there =
-    words_are g c
-    ∙ whole_is 3 c.args.node c.in_ok-next.next c.in_ok-prev.prev (word_or_zero c.args.head) (list_of from) (next_is g c from there) (prev_is g c from there)
-    (head_read (list_of from) (walked from) c.args.head (c.requires.listed from there).rest.whole (c.requires.head from there))
+plan_is g c from there = words_are g c ∙ whole_is (list_of from) c.args.node (operations.Move (Some c.in_ok-beside.beside) c.args.head) (c.in_ok-beside.ensures.words from there, sym (head_read (list_of from) (walked from) c.args.head (c.requires.listed from there).rest.whole (c.requires.head from there)))
 
 good_here : (g : given.Over) (c : goal.After-deref g) → Each (Good (λ n. is_node c.args.files.now n ≡ true)) (map meant c.deref.result.now)
-good_here g c =
-    subst (Each (Good (λ n. is_node c.args.files.now n ≡ true))) (sym (words_are g c))
-    (whole_good (λ n. is_node c.args.files.now n ≡ true) (node_small c.args.files.now) c.args.node c.requires.stands 3 c.in_ok-next.next c.in_ok-prev.prev (word_or_zero c.args.head) (omega arith) (λ one nz. (c.in_ok-next.ensures.stands, c.in_ok-prev.ensures.stands))
-    (λ two. some_holds (λ n. is_node c.args.files.now n ≡ true) c.args.head c.requires.first))
+good_here g c = subst (Each (Good (λ n. is_node c.args.files.now n ≡ true))) (sym (words_are g c)) (whole_good c.args.files.now c.args.node c.requires.stands (operations.Move (Some c.in_ok-beside.beside) c.args.head) (c.in_ok-beside.ensures.stand, c.requires.first))
 
 can_here : (g : given.Over) (c : goal.After-deref g) (from : Image) → (g.F.Folder.told c.args.f.now).files ≡ Some from → CanBeMade from (writes_of 3 c.args.node (list_of from))
 can_here g c from there = (let a = around c.args.node from (c.requires.listed from there) in moves-can from c.args.node a.0 a.1 a.2)
@@ -81,18 +49,18 @@ pub perform-requires-clause-words : goal.perform-requires-clause-words
 perform-requires-clause-words g c = each_words (λ n. is_node c.args.files.now n ≡ true) (map meant c.deref.result.now) (good_here g c)
 
 pub perform-requires-clause-agrees : goal.perform-requires-clause-agrees
-perform-requires-clause-agrees g c = told_stays (Agrees c.args.files.now) (c.in_ok-prev.ensures.stays ∙ c.in_ok-next.ensures.stays) c.requires.agrees
+perform-requires-clause-agrees g c = told_stays (Agrees c.args.files.now) c.in_ok-beside.ensures.stays c.requires.agrees
 
 pub perform-requires-clause-check : goal.perform-requires-clause-check
 perform-requires-clause-check g c image there =
-    let here = told_before image (c.in_ok-prev.ensures.stays ∙ c.in_ok-next.ensures.stays) there in
+    let here = told_before image c.in_ok-beside.ensures.stays there in
     subst (AreOf (λ n. (list_of image).checks n ≡ true)) (sym (plan_is g c image here)) (can_here g c image here).nodes
 
 pub returns-clause-whole : goal.returns-clause-whole
-returns-clause-whole g c = whole_as (g.F.Folder.told c.args.f.now) (g.F.Folder.told c.link-2.new.f) (g.F.Folder.told c.perform.new.f) (c.in_ok-prev.ensures.stays ∙ c.in_ok-next.ensures.stays) (map meant c.deref.result.now) (λ from. writes_of 3 c.args.node (list_of from)) (plan_is g c.before) c.perform.result c.perform.ensures.whole
+returns-clause-whole g c = whole_as (g.F.Folder.told c.args.f.now) (g.F.Folder.told c.beside.new.f) (g.F.Folder.told c.perform.new.f) c.in_ok-beside.ensures.stays (map meant c.deref.result.now) (λ from. writes_of 3 c.args.node (list_of from)) (plan_is g c.before) c.perform.result c.perform.ensures.whole
 
 part_here : (g : given.Over) (c : goal.After-perform g) → ForSome (g.F.Folder.told c.args.f.now).files (λ from. GrowsInPart (g.F.Folder.told c.args.f.now) (g.F.Folder.told c.perform.new.f) (steps_of (writes_of 3 c.args.node (list_of from)) from))
-part_here g c = part_as (g.F.Folder.told c.args.f.now) (g.F.Folder.told c.link-2.new.f) (g.F.Folder.told c.perform.new.f) (c.in_ok-prev.ensures.stays ∙ c.in_ok-next.ensures.stays) (map meant c.deref.result.now) (λ from. writes_of 3 c.args.node (list_of from)) (plan_is g c.before) c.perform.ensures.part
+part_here g c = part_as (g.F.Folder.told c.args.f.now) (g.F.Folder.told c.beside.new.f) (g.F.Folder.told c.perform.new.f) c.in_ok-beside.ensures.stays (map meant c.deref.result.now) (λ from. writes_of 3 c.args.node (list_of from)) (plan_is g c.before) c.perform.ensures.part
 
 writable_here : (g : given.Over) (c : goal.After-perform g) (from : Image) → (g.F.Folder.told c.args.f.now).files ≡ Some from → IsWritable from
 writable_here g c from there = ready_writable (told_ready c.args.files.now (g.F.Folder.told c.args.f.now) c.requires.agrees c.requires.complete (g.met.F.Folder.are_bytes c.args.f.now) from there)

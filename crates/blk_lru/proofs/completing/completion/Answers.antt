@@ -2,11 +2,12 @@ use Rattle.std.proofs.Common.{rules, ◌≡◌, ◌∙◌, ℕ, Some, true, sym,
 use Rattle.blk_image.specs.Image.{Image}
 use Rattle.blk_volume.specs.View.{list_of}
 use Rattle.blk_laws.specs.ListSteps.{AreOf, AreWords}
-use Rattle.blk_laws.proofs.WriteWords.{completion_can, each_nodes, each_words}
+use Rattle.blk_laws.proofs.WriteWords.{Each, Good, completion_can, each_nodes, each_words}
 use Rattle.blk_lru.specs.Completing.{AreNodes, Finds}
 use Rattle.blk_lru.specs.Nodes.{is_node}
-use Rattle.blk_lru.specs.Plans.{code_of, pending, word_or_zero}
-use Rattle.blk_lru.proofs.Counting.{found_stand, found_writes, no_writes}
+use Rattle.blk_lru.specs.Plans.{pending}
+use Rattle.blk_lru.proofs.Counting.{found_writes, no_writes}
+use Rattle.blk_lru.proofs.PlanNodes.{pending_good}
 use Rattle.blk_lru.proofs.completing.completion.Given as given
 use Rattle.blk_lru.proofs.completing.completion.Goals as goal
 
@@ -20,18 +21,21 @@ finds g c image there = subst (Finds (list_of image)) c.in-Some.is (c.in_ok-foun
 nodes : (g : given.Over) (c : goal.After-pending_of g) → AreNodes c.args.files.now c.in-Some.found
 nodes g c = search rules
 
+good_here : (g : given.Over) (c : goal.After-pending_of g) → Each (Good (λ n. is_node c.args.files.now n ≡ true)) (pending c.in-Some.found.node c.in-Some.found.operation)
+good_here g c = pending_good c.args.files.now c.in-Some.found.node (nodes g c).0 c.in-Some.found.operation (nodes g c).1
+
 pub returns-clause-plan : goal.returns-clause-plan
 returns-clause-plan g c image there = let f = finds g c image there in c.pending_of.ensures ∙ found_writes (list_of image) c.in-Some.found f.0 f.1
 
 pub returns-clause-stand : goal.returns-clause-stand
 returns-clause-stand g c =
     let P : ℕ → Type 0 = λ n. is_node c.args.files.now n ≡ true in
-    subst (AreOf P) (sym c.pending_of.ensures) (each_nodes P (pending (code_of c.in-Some.found.operation) c.in-Some.found.node (word_or_zero c.in-Some.found.next) c.in-Some.found.prev (word_or_zero c.in-Some.found.head)) (found_stand c.args.files.now c.in-Some.found (nodes g c)))
+    subst (AreOf P) (sym c.pending_of.ensures) (each_nodes P (pending c.in-Some.found.node c.in-Some.found.operation) (good_here g c))
 
 pub returns-clause-words : goal.returns-clause-words
 returns-clause-words g c =
     let P : ℕ → Type 0 = λ n. is_node c.args.files.now n ≡ true in
-    subst AreWords (sym c.pending_of.ensures) (each_words P (pending (code_of c.in-Some.found.operation) c.in-Some.found.node (word_or_zero c.in-Some.found.next) c.in-Some.found.prev (word_or_zero c.in-Some.found.head)) (found_stand c.args.files.now c.in-Some.found (nodes g c)))
+    subst AreWords (sym c.pending_of.ensures) (each_words P (pending c.in-Some.found.node c.in-Some.found.operation) (good_here g c))
 
 pub returns-clause-check : goal.returns-clause-check
 returns-clause-check g c image there = subst (AreOf (λ n. (list_of image).checks n ≡ true)) (sym (returns-clause-plan g c image there)) (completion_can image).nodes
