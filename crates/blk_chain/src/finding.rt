@@ -21,19 +21,12 @@ use blk_disk::BlockFiles;
 use blk_entry::{Head, key_is, read_head, record_damage};
 use blk_index::bucket;
 use blk_io::{Damage, Fault, FileId, Folder};
-use blk_record::super_fast_hash;
+use blk_record::{EntryView, IndexHead, super_fast_hash};
 
 // The most records that a search passes.
 const MOST_RECORDS: u32 = 131_073;
 
-// The number of the buckets, and the place of the first bucket's word.
-const BUCKETS: u32 = 65536;
-
-const TABLE: u64 = 368;
-
-// The place of the next in a record, and the flags of a child.
-const NEXT: u32 = 4;
-
+// The flags of a child.
 const CHILD: u32 = 2;
 
 // Where a search stands: at a word, behind the record that has it as its next, or at the front of a chain.
@@ -95,7 +88,7 @@ pub fn find<F: Folder>(
     ensures device { IfDevice result (Rises (F.faults f.old) (F.faults f.new)) }
 {
     let hash = super_fast_hash(key);
-    let word = bucket(f, (hash % BUCKETS) as u16)?;
+    let word = bucket(f, (hash % IndexHead::BUCKETS) as u16)?;
     let front = Link { word, before: None };
     search(f, files, key, &Sought { hash, child }, front)
 }
@@ -247,10 +240,10 @@ fn damage_of(hash: u32, link: &Link) -> Fault
     ensures { IsLinkDamage (bucket_of_hash hash) link.now.before link.now.word result }
 {
     match link.before {
-        Some(before) => record_damage(before, NEXT, link.word),
+        Some(before) => record_damage(before, EntryView::NEXT, link.word),
         None => Fault::Damaged(Damage {
             file: FileId::Index,
-            at: TABLE + 4 * u64::from(hash % BUCKETS),
+            at: IndexHead::TABLE + 4 * u64::from(hash % IndexHead::BUCKETS),
             found: link.word,
         }),
     }

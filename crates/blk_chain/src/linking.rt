@@ -17,11 +17,7 @@ use blk_disk::BlockFiles;
 use blk_entry::field;
 use blk_index::set_bucket;
 use blk_io::{Fault, Folder};
-
-// The place of the hash in a record, and the number of the buckets.
-const HASH: u32 = 0;
-
-const BUCKETS: u32 = 65536;
+use blk_record::{EntryView, IndexHead};
 
 /// Links a record in front of the chain of its bucket: the word of the bucket names it from then on.
 ///
@@ -59,7 +55,7 @@ pub fn link_front<F: Folder>(f: &mut F, files: &BlockFiles, entry: Addr) -> Resu
     ensures later { F.faults f.old ≤ F.faults f.new }
     ensures device { IfDevice result (Rises (F.faults f.old) (F.faults f.new)) }
 {
-    let hash = field(f, files, entry, HASH)?;
-    set_bucket(f, (hash % BUCKETS) as u16, entry.word())?;
+    let hash = field(f, files, entry, EntryView::HASH)?;
+    set_bucket(f, (hash % IndexHead::BUCKETS) as u16, entry.word())?;
     Ok(())
 }

@@ -20,13 +20,7 @@ use blk_disk::BlockFiles;
 use blk_entry::field;
 use blk_index::set_bucket;
 use blk_io::{Fault, Folder};
-
-// The places of the hash and of the next in a record, and the number of the buckets.
-const HASH: u32 = 0;
-
-const NEXT: u32 = 4;
-
-const BUCKETS: u32 = 65536;
+use blk_record::{EntryView, IndexHead};
 
 // Takes the record out of its chain that stands behind this one: its next becomes that record's.
 fn unlink_behind<F: Folder>(
@@ -56,8 +50,8 @@ fn unlink_behind<F: Folder>(
     ensures later { F.faults f.old ≤ F.faults f.new }
     ensures device { IfDevice result (Rises (F.faults f.old) (F.faults f.new)) }
 {
-    let next = field(f, files, entry, NEXT)?;
-    files.update_sealed(f, before, &[(NEXT, next)])
+    let next = field(f, files, entry, EntryView::NEXT)?;
+    files.update_sealed(f, before, &[(EntryView::NEXT, next)])
 }
 
 // Takes the first record of a chain out: the word of its bucket becomes its next.
@@ -80,9 +74,9 @@ fn unlink_first<F: Folder>(f: &mut F, files: &BlockFiles, entry: Addr) -> Result
     ensures later { F.faults f.old ≤ F.faults f.new }
     ensures device { IfDevice result (Rises (F.faults f.old) (F.faults f.new)) }
 {
-    let next = field(f, files, entry, NEXT)?;
-    let hash = field(f, files, entry, HASH)?;
-    set_bucket(f, (hash % BUCKETS) as u16, next)?;
+    let next = field(f, files, entry, EntryView::NEXT)?;
+    let hash = field(f, files, entry, EntryView::HASH)?;
+    set_bucket(f, (hash % IndexHead::BUCKETS) as u16, next)?;
     Ok(())
 }
 
