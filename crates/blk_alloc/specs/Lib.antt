@@ -1,5 +1,4 @@
 pub mod Places
-pub mod Runs
 pub mod Counting
 pub mod Changes
 pub mod Owning

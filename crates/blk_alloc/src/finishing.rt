@@ -7,15 +7,14 @@ ghost use Rattle.blk_image.specs.Told.{Grows, GrowsInPart, Rises};
 ghost use Rattle.blk_alloc.specs.Changes.{counter_words, finish_words};
 
 use crate::layout::{ALLOCATIONS, EMPTY, UPDATING};
-use crate::run::write_run;
-use blk_io::{Failed, FileId, Folder, write_word};
+use blk_io::{Failed, FileId, Folder, write_run, write_word};
 
 // Writes the number of allocations of a file, and how many groups have each longest free run.
 fn write_counters<F: Folder>(
     f: &mut F,
     file: u8,
     allocations: u32,
-    empty: &[u32],
+    empty: &[u32; 4],
 ) -> Result<(), Failed>
     requires four { length empty.now ≡ 4 }
     requires header { ForSome (F.told f.old).files (λ image. 8192 ≤ length_of image (block file)) }
@@ -33,7 +32,7 @@ pub(crate) fn finish<F: Folder>(
     f: &mut F,
     file: u8,
     allocations: u32,
-    empty: &[u32],
+    empty: &[u32; 4],
 ) -> Result<(), Failed>
     requires four { length empty.now ≡ 4 }
     requires header { ForSome (F.told f.old).files (λ image. 8192 ≤ length_of image (block file)) }

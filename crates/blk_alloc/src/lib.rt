@@ -14,7 +14,6 @@ mod making;
 mod map;
 mod plan;
 mod rebuilding;
-mod run;
 mod taking;
 
 pub use freeing::free;

@@ -1,11 +1,10 @@
 // Records that are found by their keys.
 ghost use Rattle.std.specs.Prelude.{◌≡◌, ◌≢◌, ◌↔◌, ◌+◌, ◌<◌, ◌≤◌, IfOk, IfSome, IsOk, IsTrue, None, Some, true, length, if◌then◌else◌};
 ghost use Rattle.std.specs.Option.{ForSome};
-ghost use Rattle.blk_image.specs.Image.{Index as index, length_of};
 ghost use Rattle.blk_image.specs.Told.{Rises, Stays};
 ghost use Rattle.blk_format.specs.Address.{blocks_256, kind_of};
 ghost use Rattle.blk_format.specs.Hash.{hash as hash_of};
-ghost use Rattle.blk_format.specs.Headers.{index_length};
+ghost use Rattle.blk_format.specs.Headers.{HasWholeIndex};
 ghost use Rattle.blk_io.specs.Faults.{IfDamaged, IfDevice};
 ghost use Rattle.blk_volume.specs.Chains.{bucket_of_hash};
 ghost use Rattle.blk_volume.specs.View.{stock_of};
@@ -67,7 +66,7 @@ pub fn find<F: Folder>(
     key: &[u8],
     child: bool,
 ) -> Result<Option<Found>, Fault>
-    requires complete { ForSome (F.told f.old).files (λ image. length_of image index ≡ index_length) }
+    requires complete { ForSome (F.told f.old).files HasWholeIndex }
     requires agrees { ForSome (F.told f.old).files (Agrees files.now) }
     requires searchable { ForSome (F.told f.old).files (CanBeSearched key.now) }
     ensures found { IfOk result (λ answer. ForSome (F.told f.old).files (IsAnswer key.now child answer)) }

@@ -1,10 +1,9 @@
 // Records that are linked in front of a chain.
 ghost use Rattle.std.specs.Prelude.{◌≡◌, ◌≤◌, IsTrue, None, OnOk};
 ghost use Rattle.std.specs.Option.{ForSome};
-ghost use Rattle.blk_image.specs.Image.{Index as index, length_of};
 ghost use Rattle.blk_image.specs.Told.{Grows, GrowsInPart, Passes, Rises};
 ghost use Rattle.blk_format.specs.Address.{blocks_256, file_selector, kind_of, place};
-ghost use Rattle.blk_format.specs.Headers.{index_length};
+ghost use Rattle.blk_format.specs.Headers.{HasWholeIndex};
 ghost use Rattle.blk_io.specs.declared.folder.FileId.TheVariants as FileId;
 ghost use Rattle.blk_io.specs.Faults.{IfDamaged, IfDevice, IsShort};
 ghost use Rattle.blk_disk.specs.Tables.{Agrees, stands_among};
@@ -26,7 +25,7 @@ use blk_record::{EntryView, IndexHead};
 pub fn link_front<F: Folder>(f: &mut F, files: &BlockFiles, entry: Addr) -> Result<(), Fault>
     requires kind { kind_of entry ≡ blocks_256 }
     requires stands { IsTrue (stands_among files.now entry) }
-    requires complete { ForSome (F.told f.old).files (λ image. length_of image index ≡ index_length) }
+    requires complete { ForSome (F.told f.old).files HasWholeIndex }
     requires agrees { ForSome (F.told f.old).files (Agrees files.now) }
     requires linkable { ForSome (F.told f.old).files (CanBeLinked entry) }
     ensures whole { OnOk result (ForSome (F.told f.old).files (λ from. Grows (F.told f.old) (F.told f.new) (link_steps from entry))) }
@@ -42,7 +41,7 @@ pub fn link_front<F: Folder>(f: &mut F, files: &BlockFiles, entry: Addr) -> Resu
     // Until the word of the bucket is written all is as before, and from then on the record is linked.
     ensures turns { ForSome (F.told f.old).files (λ from. Turns 1 (F.told f.old) (F.told f.new) (λ image. image ≡ from) (IsLinked from entry)) }
 
-    ensures complete { ForSome (F.told f.new).files (λ image. length_of image index ≡ index_length) }
+    ensures complete { ForSome (F.told f.new).files HasWholeIndex }
     ensures agrees { ForSome (F.told f.new).files (Agrees files.now) }
 
     // A folder that tells no files goes on telling none.

@@ -1,10 +1,9 @@
 // Records that are taken out of a chain.
 ghost use Rattle.std.specs.Prelude.{◌≡◌, ◌+◌, ◌≤◌, ◌⊎◌, IfSome, IsTrue, None, OnOk, Some};
 ghost use Rattle.std.specs.Option.{ForSome};
-ghost use Rattle.blk_image.specs.Image.{Index as index, length_of};
 ghost use Rattle.blk_image.specs.Told.{Grows, GrowsInPart, Passes, Rises};
 ghost use Rattle.blk_format.specs.Address.{blocks_256, file_selector, kind_of, place};
-ghost use Rattle.blk_format.specs.Headers.{index_length};
+ghost use Rattle.blk_format.specs.Headers.{HasWholeIndex};
 ghost use Rattle.blk_io.specs.declared.folder.FileId.TheVariants as FileId;
 ghost use Rattle.blk_io.specs.Faults.{IfDamaged, IfDevice, IsShort};
 ghost use Rattle.blk_disk.specs.Unsealed.{IsUnsealed};
@@ -33,7 +32,7 @@ fn unlink_behind<F: Folder>(
     requires stands { IsTrue (stands_among files.now entry) }
     requires kind_before { kind_of before ≡ blocks_256 }
     requires stands_before { IsTrue (stands_among files.now before) }
-    requires complete { ForSome (F.told f.old).files (λ image. length_of image index ≡ index_length) }
+    requires complete { ForSome (F.told f.old).files HasWholeIndex }
     requires agrees { ForSome (F.told f.old).files (Agrees files.now) }
     requires linked { ForSome (F.told f.old).files (CanBeUnlinked entry (Some before)) }
     ensures whole { OnOk result (ForSome (F.told f.old).files (λ from. Grows (F.told f.old) (F.told f.new) (unlink_steps from entry (Some before)))) }
@@ -42,7 +41,7 @@ fn unlink_behind<F: Folder>(
     ensures sealed { OnOk result (ForSome (F.told f.old).files (λ from. ForSome (F.told f.new).files (IsSealedAgain from entry (Some before)))) }
     ensures stops { ForSome (F.told f.old).files (λ from. Passes (F.told f.old) (F.told f.new) (IsUnlinking from entry (Some before))) }
     ensures turns { ForSome (F.told f.old).files (λ from. Turns (words_to_unlink (Some before)) (F.told f.old) (F.told f.new) (IsStillLinked from entry (Some before)) (IsUnlinked from entry (Some before))) }
-    ensures complete { ForSome (F.told f.new).files (λ image. length_of image index ≡ index_length) }
+    ensures complete { ForSome (F.told f.new).files HasWholeIndex }
     ensures agrees { ForSome (F.told f.new).files (Agrees files.now) }
     ensures silent { (F.told f.old).files ≡ None → (F.told f.new).files ≡ None }
     ensures damaged { IfDamaged result (IsUnlinkDamage (F.told f.old) entry (Some before)) }
@@ -58,7 +57,7 @@ fn unlink_behind<F: Folder>(
 fn unlink_first<F: Folder>(f: &mut F, files: &BlockFiles, entry: Addr) -> Result<(), Fault>
     requires kind { kind_of entry ≡ blocks_256 }
     requires stands { IsTrue (stands_among files.now entry) }
-    requires complete { ForSome (F.told f.old).files (λ image. length_of image index ≡ index_length) }
+    requires complete { ForSome (F.told f.old).files HasWholeIndex }
     requires agrees { ForSome (F.told f.old).files (Agrees files.now) }
     requires linked { ForSome (F.told f.old).files (CanBeUnlinked entry None) }
     ensures whole { OnOk result (ForSome (F.told f.old).files (λ from. Grows (F.told f.old) (F.told f.new) (unlink_steps from entry None))) }
@@ -66,7 +65,7 @@ fn unlink_first<F: Folder>(f: &mut F, files: &BlockFiles, entry: Addr) -> Result
     ensures unlinked { OnOk result (ForSome (F.told f.old).files (λ from. ForSome (F.told f.new).files (IsUnlinked from entry None))) }
     ensures stops { ForSome (F.told f.old).files (λ from. Passes (F.told f.old) (F.told f.new) (IsUnlinking from entry None)) }
     ensures turns { ForSome (F.told f.old).files (λ from. Turns (words_to_unlink None) (F.told f.old) (F.told f.new) (IsStillLinked from entry None) (IsUnlinked from entry None)) }
-    ensures complete { ForSome (F.told f.new).files (λ image. length_of image index ≡ index_length) }
+    ensures complete { ForSome (F.told f.new).files HasWholeIndex }
     ensures agrees { ForSome (F.told f.new).files (Agrees files.now) }
     ensures silent { (F.told f.old).files ≡ None → (F.told f.new).files ≡ None }
     ensures damaged { IfDamaged result (IsUnlinkDamage (F.told f.old) entry None) }
@@ -91,7 +90,7 @@ pub fn unlink<F: Folder>(f: &mut F, files: &BlockFiles, found: &Found) -> Result
     requires stands { IsTrue (stands_among files.now found.now.entry) }
     requires kind_before { IfSome found.now.before (λ before. kind_of before ≡ blocks_256) }
     requires stands_before { IfSome found.now.before (λ before. IsTrue (stands_among files.now before)) }
-    requires complete { ForSome (F.told f.old).files (λ image. length_of image index ≡ index_length) }
+    requires complete { ForSome (F.told f.old).files HasWholeIndex }
     requires agrees { ForSome (F.told f.old).files (Agrees files.now) }
     requires linked { ForSome (F.told f.old).files (CanBeUnlinked found.now.entry found.now.before) }
     ensures whole { OnOk result (ForSome (F.told f.old).files (λ from. Grows (F.told f.old) (F.told f.new) (unlink_steps from found.now.entry found.now.before))) }
@@ -110,7 +109,7 @@ pub fn unlink<F: Folder>(f: &mut F, files: &BlockFiles, found: &Found) -> Result
     // Until that one word is written the chains are the old ones, and from then on the record is unlinked.
     ensures turns { ForSome (F.told f.old).files (λ from. Turns (words_to_unlink found.now.before) (F.told f.old) (F.told f.new) (IsStillLinked from found.now.entry found.now.before) (IsUnlinked from found.now.entry found.now.before)) }
 
-    ensures complete { ForSome (F.told f.new).files (λ image. length_of image index ≡ index_length) }
+    ensures complete { ForSome (F.told f.new).files HasWholeIndex }
     ensures agrees { ForSome (F.told f.new).files (Agrees files.now) }
 
     // A folder that tells no files goes on telling none.

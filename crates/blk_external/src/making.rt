@@ -1,10 +1,9 @@
 // An external file is made, with the first free number.
 ghost use Rattle.std.specs.Prelude.{◌≡◌, ◌⊎◌, ◌+◌, ◌≤◌, ◌<◌, None, OnOk, OnErr, IfOk};
 ghost use Rattle.std.specs.Option.{ForSome};
-ghost use Rattle.blk_image.specs.Image.{Index as index, length_of};
 ghost use Rattle.blk_image.specs.Told.{Grows, GrowsInPart, Stays, PassesTo, Rises};
 ghost use Rattle.blk_format.specs.Address.{kind_of, external, external_number};
-ghost use Rattle.blk_format.specs.Headers.{index_length};
+ghost use Rattle.blk_format.specs.Headers.{HasWholeIndex};
 ghost use Rattle.blk_io.specs.Faults.{IfDamaged, IfDevice, IsShort};
 ghost use Rattle.blk_external.specs.Numbers.{IsNumber, HasFreeNumber, IsFirstFree, IsSearched, IsLeastFree, most_number};
 ghost use Rattle.blk_external.specs.Making.{making, last_number, last_file_place, MakesInPart, IsMaking, IsMade, IsFull};
@@ -26,7 +25,7 @@ const EXTERNAL: u32 = 0x8000_0000;
 /// Where the next number is free, two folder calls find it.
 pub fn create<F: Folder>(f: &mut F) -> Result<Addr, Fault>
     requires free { ForSome (F.told f.old).files HasFreeNumber }
-    requires whole { ForSome (F.told f.old).files (λ image. length_of image index ≡ index_length) }
+    requires whole { ForSome (F.told f.old).files HasWholeIndex }
     ensures kind { IfOk result (λ addr. kind_of addr ≡ external) }
     ensures number { IfOk result (λ addr. IsNumber (external_number addr)) }
     ensures first { IfOk result (λ addr. ForSome (F.told f.old).files (λ image. IsFirstFree image (last_number image) (external_number addr))) }
@@ -36,7 +35,7 @@ pub fn create<F: Folder>(f: &mut F) -> Result<Addr, Fault>
     // Whatever the answer: a front of the steps, at each moment all else as before, and the index as long as it was.
     ensures part { MakesInPart (F.told f.old) (F.told f.new) }
     ensures stops { ForSome (F.told f.old).files (λ from. PassesTo (F.told f.old) (F.told f.new) (IsMaking from) (IsMaking from)) }
-    ensures whole { ForSome (F.told f.new).files (λ image. length_of image index ≡ index_length) }
+    ensures whole { ForSome (F.told f.new).files HasWholeIndex }
 
     ensures damaged { IfDamaged result (λ damage. IsShort (F.told f.old) FileId.Index last_file_place 4 damage ⊎ IsFull (F.told f.old) damage) }
     ensures untold { IfDamaged result (λ _. (F.told f.old).files ≡ None) }
@@ -95,7 +94,7 @@ fn least_free<F: Folder>(f: &mut F, low: u32, end: u32) -> Result<Option<u32>, F
 
 // Makes the file of a number.
 fn make<F: Folder>(f: &mut F, number: u32) -> Result<(), Failed>
-    requires { ForSome (F.told f.old).files (λ image. length_of image index ≡ index_length) }
+    requires { ForSome (F.told f.old).files HasWholeIndex }
     ensures whole { OnOk result (Grows (F.told f.old) (F.told f.new) (making number)) }
     ensures part { GrowsInPart (F.told f.old) (F.told f.new) (making number) }
     ensures later { F.faults f.old ≤ F.faults f.new }

@@ -2,10 +2,10 @@
 ghost use Rattle.std.specs.Prelude.{◌≡◌, ◌+◌, ◌*◌, ◌%◌, ◌<◌, ◌≤◌, IfOk, None, OnErr, OnOk};
 ghost use Rattle.std.specs.Option.{ForSome};
 ghost use Rattle.blk_image.specs.Footprint.{SameOutside, one_word};
-ghost use Rattle.blk_image.specs.Image.{byte, word, length_of, Index as index};
+ghost use Rattle.blk_image.specs.Image.{byte, word, Index as index};
 ghost use Rattle.blk_image.specs.Steps.{word_step};
 ghost use Rattle.blk_image.specs.Told.{Grows, GrowsInPart, Passes, Stays, Rises};
-ghost use Rattle.blk_format.specs.Headers.{bucket_of, place_of_bucket, index_length, header_length};
+ghost use Rattle.blk_format.specs.Headers.{HasWholeIndex, bucket_of, place_of_bucket, header_length};
 ghost use Rattle.blk_io.specs.Faults.{IfDamaged, IfDevice, IsShort};
 
 use blk_io::{Failed, Fault, FileId, Folder, read_word, write_word};
@@ -16,7 +16,7 @@ const HEADER_LEN: u64 = 368;
 pub fn word<F: Folder>(f: &mut F, at: u32) -> Result<u32, Fault>
     requires aligned { at % 4 ≡ 0 }
     requires inside { at < header_length }
-    requires whole { ForSome (F.told f.old).files (λ image. length_of image index ≡ index_length) }
+    requires whole { ForSome (F.told f.old).files HasWholeIndex }
     ensures word { IfOk result (λ w. ForSome (F.told f.old).files (λ image. w ≡ word image index at)) }
 
     // Too few bytes, which a folder that tells its files never gives.
@@ -34,7 +34,7 @@ pub fn word<F: Folder>(f: &mut F, at: u32) -> Result<u32, Fault>
 ///
 /// `Device` comes only where the folder failed in this call.
 pub fn bucket<F: Folder>(f: &mut F, number: u16) -> Result<u32, Fault>
-    requires { ForSome (F.told f.old).files (λ image. length_of image index ≡ index_length) }
+    requires { ForSome (F.told f.old).files HasWholeIndex }
     ensures word { IfOk result (λ w. ForSome (F.told f.old).files (λ image. w ≡ bucket_of (byte image index) number)) }
 
     // Too few bytes, which a folder that tells its files never gives.
@@ -54,13 +54,13 @@ pub fn bucket<F: Folder>(f: &mut F, number: u16) -> Result<u32, Fault>
 pub fn set_word<F: Folder>(f: &mut F, at: u32, value: u32) -> Result<(), Failed>
     requires aligned { at % 4 ≡ 0 }
     requires inside { at < header_length }
-    requires complete { ForSome (F.told f.old).files (λ image. length_of image index ≡ index_length) }
+    requires complete { ForSome (F.told f.old).files HasWholeIndex }
     ensures whole { OnOk result (Grows (F.told f.old) (F.told f.new) (word_step index at value)) }
     ensures part { GrowsInPart (F.told f.old) (F.told f.new) (word_step index at value) }
 
     // Nothing but this word has changed before and after the step.
     ensures outside { ForSome (F.told f.old).files (λ from. Passes (F.told f.old) (F.told f.new) (SameOutside (one_word index at) from)) }
-    ensures complete { ForSome (F.told f.new).files (λ image. length_of image index ≡ index_length) }
+    ensures complete { ForSome (F.told f.new).files HasWholeIndex }
 
     ensures later { F.faults f.old ≤ F.faults f.new }
     ensures failed { OnErr result (Rises (F.faults f.old) (F.faults f.new)) }
@@ -72,13 +72,13 @@ pub fn set_word<F: Folder>(f: &mut F, at: u32, value: u32) -> Result<(), Failed>
 ///
 /// `Failed` comes only where the folder failed in this call.
 pub fn set_bucket<F: Folder>(f: &mut F, number: u16, value: u32) -> Result<(), Failed>
-    requires { ForSome (F.told f.old).files (λ image. length_of image index ≡ index_length) }
+    requires { ForSome (F.told f.old).files HasWholeIndex }
     ensures whole { OnOk result (Grows (F.told f.old) (F.told f.new) (word_step index (place_of_bucket number) value)) }
     ensures part { GrowsInPart (F.told f.old) (F.told f.new) (word_step index (place_of_bucket number) value) }
 
     // Nothing but this word has changed before and after the step.
     ensures outside { ForSome (F.told f.old).files (λ from. Passes (F.told f.old) (F.told f.new) (SameOutside (one_word index (place_of_bucket number)) from)) }
-    ensures complete { ForSome (F.told f.new).files (λ image. length_of image index ≡ index_length) }
+    ensures complete { ForSome (F.told f.new).files HasWholeIndex }
 
     ensures later { F.faults f.old ≤ F.faults f.new }
     ensures failed { OnErr result (Rises (F.faults f.old) (F.faults f.new)) }

@@ -2,9 +2,8 @@
 ghost use Rattle.std.specs.Prelude.{◌≡◌, ◌+◌, ◌*◌, ◌<◌, ◌≤◌, length, IfOk, None};
 ghost use Rattle.std.specs.Option.{ForSome};
 ghost use Rattle.blk_image.specs.Bytes.{content, word_at};
-ghost use Rattle.blk_image.specs.Image.{Index as index, length_of};
 ghost use Rattle.blk_image.specs.Told.{Stays, Rises};
-ghost use Rattle.blk_format.specs.Headers.{header_length, index_length, place_of_bucket};
+ghost use Rattle.blk_format.specs.Headers.{HasWholeIndex, header_length, place_of_bucket};
 ghost use Rattle.blk_io.specs.Faults.{IfDamaged, IfDevice, IsShort};
 ghost use Rattle.blk_run.specs.Used.{FirstUsed, FirstOf, FirstWord, IsNamed, IsPieceShort, IsReadShort};
 ghost use Rattle.blk_run.specs.Count.{checked_place, checked_places};
@@ -30,7 +29,7 @@ pub struct Used {
 ///
 /// `Device` comes only where the folder failed in this call.
 pub fn first_used<F: Folder>(f: &mut F) -> Result<Option<Used>, Fault>
-    requires { ForSome (F.told f.old).files (λ image. length_of image index ≡ index_length) }
+    requires { ForSome (F.told f.old).files HasWholeIndex }
     ensures first { IfOk result (λ used. ForSome (F.told f.old).files (λ image. FirstUsed checked_place checked_places image used)) }
     ensures named { IfOk result (λ used. ForSome used (IsNamed checked_place checked_places)) }
 
@@ -49,7 +48,7 @@ pub fn first_used<F: Folder>(f: &mut F) -> Result<Option<Used>, Fault>
 
 // The first of the six words of the header that isn't 0.
 fn first_in_head<F: Folder>(f: &mut F) -> Result<Option<Used>, Fault>
-    requires { ForSome (F.told f.old).files (λ image. length_of image index ≡ index_length) }
+    requires { ForSome (F.told f.old).files HasWholeIndex }
     ensures first { IfOk result (λ used. ForSome (F.told f.old).files (λ image. FirstUsed checked_place 6 image used)) }
     ensures named { IfOk result (λ used. ForSome used (IsNamed checked_place 6)) }
     ensures short { IfDamaged result (IsShort (F.told f.old) FileId.Index 0 header_length) }
@@ -83,7 +82,7 @@ fn first_of(words: &[(u32, u32)]) -> Option<Used>
 
 // The first word of the table that isn't 0.
 fn first_in_table<F: Folder>(f: &mut F) -> Result<Option<Used>, Fault>
-    requires { ForSome (F.told f.old).files (λ image. length_of image index ≡ index_length) }
+    requires { ForSome (F.told f.old).files HasWholeIndex }
     ensures first { IfOk result (λ used. ForSome (F.told f.old).files (λ image. FirstUsed place_of_bucket 65536 image used)) }
     ensures named { IfOk result (λ used. ForSome used (IsNamed place_of_bucket 65536)) }
     ensures short { IfDamaged result (IsPieceShort (F.told f.old)) }
@@ -103,7 +102,7 @@ fn first_in_table<F: Folder>(f: &mut F) -> Result<Option<Used>, Fault>
 // The first word of a piece of the table that isn't 0.
 fn first_in_piece<F: Folder>(f: &mut F, number: u32) -> Result<Option<Used>, Fault>
     requires piece { number < 64 }
-    requires whole { ForSome (F.told f.old).files (λ image. length_of image index ≡ index_length) }
+    requires whole { ForSome (F.told f.old).files HasWholeIndex }
     ensures first { IfOk result (λ used. ForSome (F.told f.old).files (λ image. FirstUsed (λ j. place_of_bucket (1024 * number + j)) 1024 image used)) }
     ensures named { IfOk result (λ used. ForSome used (IsNamed (λ j. place_of_bucket (1024 * number + j)) 1024)) }
     ensures short { IfDamaged result (IsShort (F.told f.old) FileId.Index (header_length + 4096 * number) 4096) }
