@@ -11,17 +11,15 @@ ghost use Rattle.blk_disk.specs.Tables.{Agrees, all_files, files_of, Joins};
 ghost use Rattle.blk_disk.specs.Growth as growth;
 ghost use Rattle.blk_disk.specs.Growth.{IsLeastFree, KeepsBlocks, add_steps, addition_of, link_steps, make_steps};
 
-use crate::heads::{HEADER_LEN, MAGIC, VERSION, block_size};
+use crate::heads::block_size;
 use crate::load::first_file;
 use crate::tables::BlockFiles;
 use blk_addr::Kind;
 use blk_io::{Failed, FileId, Folder, write_run};
+use blk_record::BlockHead;
 
 // The first number that new files may have.
 const FIRST_NUMBER: u8 = 4;
-
-// The place of next_file in a header.
-const NEXT_FILE: u64 = 10;
 
 impl BlockFiles {
     /// Adds a file with no blocks as the last one of a kind that has fewer than 60, and gives its number.
@@ -53,7 +51,7 @@ impl BlockFiles {
         let n = self.free_number();
         make_file(f, kind, n)?;
         link_file(f, self.last_file(kind), n)?;
-        self.join(kind, n, 0, HEADER_LEN);
+        self.join(kind, n, 0, BlockHead::HEADER_LEN);
         Ok(n)
     }
 
@@ -103,8 +101,13 @@ fn make_file<F: Folder>(f: &mut F, kind: Kind, n: u8) -> Result<(), Failed>
 {
     let file = FileId::Block(n);
     f.set_len(file, 0)?;
-    f.set_len(file, HEADER_LEN)?;
-    let words = [MAGIC, VERSION, u32::from(n), block_size(kind)];
+    f.set_len(file, BlockHead::HEADER_LEN)?;
+    let words = [
+        BlockHead::MAGIC,
+        BlockHead::VERSION,
+        u32::from(n),
+        block_size(kind),
+    ];
     write_run(f, file, 0, &words)
 }
 
@@ -116,5 +119,9 @@ fn link_file<F: Folder>(f: &mut F, last: u8, n: u8) -> Result<(), Failed>
     ensures later { F.faults f.old ≤ F.faults f.new }
     ensures failed { OnErr result (Rises (F.faults f.old) (F.faults f.new)) }
 {
-    f.write_at(FileId::Block(last), NEXT_FILE, &u16::from(n).to_le_bytes())
+    f.write_at(
+        FileId::Block(last),
+        BlockHead::NEXT_FILE,
+        &u16::from(n).to_le_bytes(),
+    )
 }

@@ -10,16 +10,15 @@ ghost use Rattle.blk_disk.specs.Tables.{Agrees, Enlarges, all_files, blocks_of, 
 ghost use Rattle.blk_disk.specs.Growth as growth;
 ghost use Rattle.blk_disk.specs.Growth.{KeepsBlocks, grow_steps, growth_of, lengthen_steps, raise_steps, size_as};
 
-use crate::heads::{GROWTH, HEADER_LEN, MOST_BLOCKS, block_size};
+use crate::heads::{GROWTH, block_size};
 use crate::tables::BlockFiles;
 use blk_io::{Failed, FileId, Folder, write_words};
+use blk_record::BlockHead;
 
 // The blocks of a group.
 const GROUP: u32 = 4;
 
-// The places of the number of blocks and of the counter of empty groups.
-const BLOCKS: u64 = 20;
-
+// The place of the counter of empty groups.
 const EMPTY_GROUPS: u64 = 36;
 
 impl BlockFiles {
@@ -50,7 +49,7 @@ impl BlockFiles {
         ensures failed { OnErr result (Rises (F.faults f.old) (F.faults f.new)) }
     {
         let old = self.blocks(file);
-        let blocks = (old + GROWTH).min(MOST_BLOCKS);
+        let blocks = (old + GROWTH).min(BlockHead::MOST_BLOCKS);
         let size = self.length_with(file, blocks);
         self.lengthen(f, file, size)?;
         raise(f, file, (blocks - old) / GROUP, blocks)?;
@@ -67,7 +66,7 @@ impl BlockFiles {
             Some(kind) => block_size(kind),
             None => 0,
         };
-        HEADER_LEN + u64::from(blocks) * u64::from(size)
+        BlockHead::HEADER_LEN + u64::from(blocks) * u64::from(size)
     }
 
     // Makes a file as long as this, where it is shorter.
@@ -98,6 +97,6 @@ fn raise<F: Folder>(f: &mut F, file: u8, groups: u32, blocks: u32) -> Result<(),
     let mut empty = [0u8; 4];
     f.read_at(FileId::Block(file), EMPTY_GROUPS, &mut empty)?;
     let raised = u32::from_le_bytes(empty).wrapping_add(groups);
-    let words = [(EMPTY_GROUPS, raised), (BLOCKS, blocks)];
+    let words = [(EMPTY_GROUPS, raised), (BlockHead::MAX_ENTRIES, blocks)];
     write_words(f, FileId::Block(file), &words)
 }

@@ -19,15 +19,6 @@ use blk_addr::Kind;
 use blk_io::{Damage, Fault, FileId, Folder, first_failed};
 use blk_record::BlockHead;
 
-// The bytes of the fields of a header, and of the whole header.
-const FIELDS_LEN: usize = 80;
-
-pub(crate) const HEADER_LEN: u64 = 8192;
-
-pub(crate) const MAGIC: u32 = 0xC104_CAC3;
-
-pub(crate) const VERSION: u32 = 0x20000;
-
 // The numbers that a link may have.
 const FIRST_LINK: u16 = 4;
 
@@ -37,8 +28,6 @@ const LAST_LINK: u16 = 255;
 pub(crate) const GROWTH: u32 = 1024;
 
 const MOST_WHOLE_BLOCKS: u32 = 64512;
-
-pub(crate) const MOST_BLOCKS: u32 = 64896;
 
 // What the header of a block file says, and the length of the file.
 #[derive(Clone, Copy, Debug)]
@@ -68,7 +57,7 @@ pub(crate) fn block_size(kind: Kind) -> u32
 fn is_block_count(blocks: u32) -> bool
     ensures { result ≡ block_files.is_block_count blocks }
 {
-    (blocks % GROWTH == 0 && blocks <= MOST_WHOLE_BLOCKS) || blocks == MOST_BLOCKS
+    (blocks % GROWTH == 0 && blocks <= MOST_WHOLE_BLOCKS) || blocks == BlockHead::MOST_BLOCKS
 }
 
 // The word of a header that has the numbers of the file and of the next one.
@@ -89,7 +78,7 @@ impl BlockFiles {
         ensures later { F.faults f.old ≤ F.faults f.new }
         ensures device { IfDevice result (Rises (F.faults f.old) (F.faults f.new)) }
     {
-        let mut window = [0u8; FIELDS_LEN];
+        let mut window = [0u8; BlockHead::LEN];
         let file = FileId::Block(n);
         let given = f.read_at(file, 0, &mut window)?;
         let size = f.length(file)?.unwrap_or(0);
@@ -115,7 +104,7 @@ impl BlockFiles {
         ensures cause { IfDamaged result (λ damage. IsFew n given damage ⊎ (first_of (header_checks self.now (kind_number kind) n (content head.now) size) ≡ Some (damage_of damage))) }
         ensures device { IfDevice result ⊥ }
     {
-        if HEADER_LEN <= size && given < FIELDS_LEN {
+        if BlockHead::HEADER_LEN <= size && given < BlockHead::LEN {
             return Err(Fault::Damaged(damage_at(n, 0, given as u32)));
         }
         if let Some(damage) = self.header_damage(head, kind, n, size) {
@@ -135,9 +124,9 @@ impl BlockFiles {
         let numbers = numbers_word(head);
         let blocks = head.max_entries();
         first_failed(&[
-            check(n, HEADER_LEN, low, HEADER_LEN <= size),
-            check_is(n, 0, head.magic(), MAGIC),
-            check_is(n, 4, head.version(), VERSION),
+            check(n, BlockHead::HEADER_LEN, low, BlockHead::HEADER_LEN <= size),
+            check_is(n, 0, head.magic(), BlockHead::MAGIC),
+            check_is(n, 4, head.version(), BlockHead::VERSION),
             check(n, 8, numbers, head.this_file() == u16::from(n)),
             check(n, 8, numbers, self.is_link(kind, n, head.next_file())),
             check_is(n, 12, head.entry_size(), block_size(kind)),

@@ -22,13 +22,6 @@ use blk_addr::{Addr, Kind};
 use blk_io::{Damage, Failed, Fault, Folder, write_words};
 use blk_record::{EntryMut, EntryView, NodeMut, NodeView, Record, RecordMut, super_fast_hash};
 
-// The bytes of the longer record, and the places of the two seals.
-const LONGEST: usize = 96;
-
-const NODE_SEAL: usize = 32;
-
-const ENTRY_SEAL: usize = 92;
-
 // The seal twice, and four changes.
 const MOST_WORDS: usize = 6;
 
@@ -72,7 +65,7 @@ impl BlockFiles {
         ensures device { IfDevice result (Rises (F.faults f.old) (F.faults f.new)) }
     {
         let kind = addr.kind();
-        let mut window = [0u8; LONGEST];
+        let mut window = [0u8; EntryView::SIZE];
         let bytes = &mut window[..size_of(kind)];
         self.read_record(f, addr, bytes)?;
         let seal = seal_after(kind, bytes, changes);
@@ -132,8 +125,8 @@ fn size_of(kind: Kind) -> usize
     ensures most { result ≤ 96 }
 {
     match kind {
-        Kind::Rankings => 36,
-        _ => 96,
+        Kind::Rankings => NodeView::SIZE,
+        _ => EntryView::SIZE,
     }
 }
 
@@ -160,13 +153,13 @@ fn wrong_seal(kind: Kind, bytes: &[u8]) -> Option<u32>
             let Some(node) = NodeView::over(bytes) else {
                 unreachable!();
             };
-            wrong_seal_at(&node, NODE_SEAL)
+            wrong_seal_at(&node, NodeView::SEAL)
         }
         _ => {
             let Some(entry) = EntryView::over(bytes) else {
                 unreachable!();
             };
-            wrong_seal_at(&entry, ENTRY_SEAL)
+            wrong_seal_at(&entry, EntryView::SEAL)
         }
     }
 }
@@ -192,8 +185,8 @@ fn seal_after(kind: Kind, bytes: &mut [u8], changes: &[(u32, u32)]) -> u32
     ensures { result ≡ records.seal_of (seal_by_kind (kind_number kind)) (with_words changes.now bytes.old) }
 {
     match kind {
-        Kind::Rankings => change(&mut NodeMut::new(bytes), NODE_SEAL, changes),
-        _ => change(&mut EntryMut::new(bytes), ENTRY_SEAL, changes),
+        Kind::Rankings => change(&mut NodeMut::new(bytes), NodeView::SEAL, changes),
+        _ => change(&mut EntryMut::new(bytes), EntryView::SEAL, changes),
     }
 }
 

@@ -9,9 +9,10 @@ ghost use Rattle.blk_format.specs.Standing as standing;
 ghost use Rattle.blk_addr.specs.Kind.{kind_number};
 ghost use Rattle.blk_disk.specs.Tables.{Agrees, all_files, blocks_of, files_of, stands_among};
 
-use crate::heads::{HEADER_LEN, block_size};
+use crate::heads::block_size;
 use crate::tables::{BlockFiles, KINDS};
 use blk_addr::{Addr, FileId, Kind};
+use blk_record::BlockHead;
 
 // The byte at which the blocks of an address begin.
 pub(crate) fn place_of(addr: Addr) -> u64
@@ -19,7 +20,7 @@ pub(crate) fn place_of(addr: Addr) -> u64
     ensures place { result ≡ place addr }
     ensures small { result < 2 ^ 32 }
 {
-    HEADER_LEN + u64::from(addr.start()) * u64::from(block_size(addr.kind()))
+    BlockHead::HEADER_LEN + u64::from(addr.start()) * u64::from(block_size(addr.kind()))
 }
 
 // The number of bytes of the blocks of an address.

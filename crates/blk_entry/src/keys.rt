@@ -16,34 +16,17 @@ use crate::data::{is_of, read_data};
 use blk_addr::{Addr, Kind, blocks_for, entry_blocks, kind_for};
 use blk_disk::{BlockFiles, file_of};
 use blk_io::{Damage, Fault, Folder};
-use blk_record::{EntryView, Record};
+use blk_record::{BlockHead, EntryView, Record};
 
 // The bytes of an entry record before its key.
-const RECORD: usize = 96;
-
 const BEFORE_KEY: u32 = 96;
-
-// The places of its words.
-const HASH: usize = 0;
-
-const NEXT: usize = 4;
-
-const KEY_LEN: u32 = 32;
-
-const LONG_KEY: u32 = 36;
-
-const FLAGS: usize = 72;
-
-const SEAL: u32 = 92;
 
 // The longest key in a record, and the longest key of all.
 const MOST_IN_RECORD: u32 = 927;
 
 const MOST_KEY: u32 = 32796;
 
-// The byte at which the first block of a block file begins, and the bytes of a block of a record.
-const HEADER: u64 = 8192;
-
+// The bytes of a block of a record.
 const BLOCK: u64 = 256;
 
 /// The words of a record that say what it is, and where its chain goes on.
@@ -120,20 +103,20 @@ pub fn read_head<F: Folder>(f: &mut F, files: &BlockFiles, entry: Addr) -> Resul
     ensures later { F.faults f.old ≤ F.faults f.new }
     ensures device { IfDevice result (Rises (F.faults f.old) (F.faults f.new)) }
 {
-    let mut window = [0u8; RECORD];
+    let mut window = [0u8; EntryView::SIZE];
     files.read_block(f, entry, 0, &mut window)?;
     let Some(record) = EntryView::over(&window) else {
         unreachable!();
     };
     if !record.checks() {
-        return Err(record_damage(entry, SEAL, record.word(SEAL as usize)));
+        return Err(record_damage(entry, EntryView::SEAL as u32, record.word(EntryView::SEAL)));
     }
     Ok(Head {
-        hash: record.word(HASH),
-        next: record.word(NEXT),
-        key_len: record.word(KEY_LEN as usize),
-        long_key: record.word(LONG_KEY as usize),
-        flags: record.word(FLAGS),
+        hash: record.word(EntryView::HASH as usize),
+        next: record.word(EntryView::NEXT as usize),
+        key_len: record.word(EntryView::KEY_LEN as usize),
+        long_key: record.word(EntryView::LONG_KEY as usize),
+        flags: record.word(EntryView::FLAGS as usize),
     })
 }
 
@@ -143,7 +126,7 @@ pub fn record_damage(entry: Addr, at: u32, found: u32) -> Fault
     requires small { at < entry_size }
     ensures { keys.IsDamageAt entry at found result }
 {
-    let front = HEADER + u64::from(entry.start()) * BLOCK;
+    let front = BlockHead::HEADER_LEN + u64::from(entry.start()) * BLOCK;
     Fault::Damaged(Damage {
         file: file_of(entry),
         at: front + u64::from(at),
@@ -163,7 +146,7 @@ pub(crate) fn key_place(files: &BlockFiles, entry: Addr, head: Head) -> Result<K
     ensures never { IfDevice result ⊥ }
 {
     if !may_have(entry, head.key_len) {
-        return Err(record_damage(entry, KEY_LEN, head.key_len));
+        return Err(record_damage(entry, EntryView::KEY_LEN, head.key_len));
     }
     if head.key_len <= MOST_IN_RECORD {
         return Ok(KeyPlace {
@@ -178,7 +161,7 @@ pub(crate) fn key_place(files: &BlockFiles, entry: Addr, head: Head) -> Result<K
             skip: 0,
             len: head.key_len,
         }),
-        None => Err(record_damage(entry, LONG_KEY, head.long_key)),
+        None => Err(record_damage(entry, EntryView::LONG_KEY, head.long_key)),
     }
 }
 

@@ -13,9 +13,7 @@ ghost use Rattle.blk_entry.specs.Marks.{IsMarked, IsMarking, mark_steps};
 use blk_addr::Addr;
 use blk_disk::BlockFiles;
 use blk_io::{Fault, Folder};
-
-// The place of the dirty word in a node.
-const DIRTY: u32 = 28;
+use blk_record::NodeView;
 
 /// Marks a node dirty, with a number that isn't 0.
 ///
@@ -101,5 +99,5 @@ fn write_mark<F: Folder>(f: &mut F, files: &BlockFiles, node: Addr, mark: u32) -
     ensures later { F.faults f.old ≤ F.faults f.new }
     ensures device { IfDevice result (Rises (F.faults f.old) (F.faults f.new)) }
 {
-    files.update_sealed(f, node, &[(DIRTY, mark)])
+    files.update_sealed(f, node, &[(NodeView::DIRTY, mark)])
 }

@@ -21,14 +21,10 @@ use crate::data::write_ended;
 use blk_addr::Addr;
 use blk_disk::BlockFiles;
 use blk_io::{Failed, Fault, Folder};
-use blk_record::{EntryMut, NodeMut, RecordMut, super_fast_hash};
+use blk_record::{EntryMut, EntryView, NodeMut, NodeView, Record, RecordMut, super_fast_hash};
 
-// The bytes of a record before its key, of a block of records, and of a node.
-const RECORD: usize = 96;
-
+// The bytes of a block of records.
 const BLOCK: usize = 256;
-
-const NODE: usize = 36;
 
 // The flag of a part of a sparse entry.
 const CHILD: u32 = 2;
@@ -135,7 +131,7 @@ fn write_key<F: Folder>(
 {
     match &new.long_key {
         Some(addr) => write_ended(f, files, *addr, 0, key),
-        None => write_ended(f, files, new.entry, RECORD as u32, key),
+        None => write_ended(f, files, new.entry, EntryView::SIZE as u32, key),
     }
 }
 
@@ -175,7 +171,7 @@ fn write_record<F: Folder>(
     ensures failed { OnErr result (Rises (F.faults f.old) (F.faults f.new)) }
 {
     let bytes = record_of(new, key, moment);
-    let front = &bytes[..RECORD];
+    let front = &bytes[..EntryView::SIZE];
     match &new.long_key {
         Some(_) => files.write_block(f, new.entry, 0, &bytes),
         None => files.write_block(f, new.entry, 0, front),
@@ -238,7 +234,7 @@ fn flags_of(child: bool) -> u32
 }
 
 // The bytes of the node.
-fn node_of(new: &NewEntry, moment: u64) -> [u8; NODE]
+fn node_of(new: &NewEntry, moment: u64) -> [u8; NodeView::SIZE]
     ensures { result ≡ node_bytes (new_node new.now moment) }
 {
     let low = (moment % WORD) as u32;
@@ -265,11 +261,11 @@ fn filled_record(words: &[(usize, u32)]) -> [u8; BLOCK]
 }
 
 // A node, in the same way.
-fn filled_node(words: &[(usize, u32)]) -> [u8; NODE]
+fn filled_node(words: &[(usize, u32)]) -> [u8; NodeView::SIZE]
     requires fields { All (λ word. IsField records.node_size word.0) words.now }
     ensures { result ≡ sealed.sealed records.node_seal_place (with_words words.now (zeros 36)) }
 {
-    let mut bytes = [0; NODE];
+    let mut bytes = [0; NodeView::SIZE];
     fill(&mut NodeMut::new(&mut bytes), words);
     bytes
 }

@@ -9,8 +9,7 @@ ghost use Rattle.blk_format.specs.Headers.{HasWholeIndex, bucket_of, place_of_bu
 ghost use Rattle.blk_io.specs.Faults.{IfDamaged, IfDevice, IsShort};
 
 use blk_io::{Failed, Fault, FileId, Folder, read_word, write_word};
-
-const HEADER_LEN: u64 = 368;
+use blk_record::IndexHead;
 
 /// Reads the word of the header at a place in bytes. `Device` comes only where the folder failed in this call.
 pub fn word<F: Folder>(f: &mut F, at: u32) -> Result<u32, Fault>
@@ -45,7 +44,7 @@ pub fn bucket<F: Folder>(f: &mut F, number: u16) -> Result<u32, Fault>
     ensures later { F.faults f.old ≤ F.faults f.new }
     ensures device { IfDevice result (Rises (F.faults f.old) (F.faults f.new)) }
 {
-    read_word(f, FileId::Index, HEADER_LEN + 4 * u64::from(number))
+    read_word(f, FileId::Index, IndexHead::TABLE + 4 * u64::from(number))
 }
 
 /// Writes the word of the header at a place in bytes, by one folder call.
@@ -83,5 +82,10 @@ pub fn set_bucket<F: Folder>(f: &mut F, number: u16, value: u32) -> Result<(), F
     ensures later { F.faults f.old ≤ F.faults f.new }
     ensures failed { OnErr result (Rises (F.faults f.old) (F.faults f.new)) }
 {
-    write_word(f, FileId::Index, HEADER_LEN + 4 * u64::from(number), value)
+    write_word(
+        f,
+        FileId::Index,
+        IndexHead::TABLE + 4 * u64::from(number),
+        value,
+    )
 }
