@@ -1,5 +1,5 @@
 -- What the steps on an external file do.
-use Rattle.std.proofs.Common.{◌≡◌, ℕ, List, length, Option, None, Some, refl, sym, ◌∙◌, ap, subst}
+use Rattle.std.proofs.Common.{◌≡◌, ℕ, List, length, sym, ◌∙◌, ap, subst}
 use Rattle.std.specs.Option.{option_map, ForSome}
 use Rattle.blk_image.specs.Bytes.{spliced}
 use Rattle.blk_image.specs.Image.{File, Image, bytes_of}

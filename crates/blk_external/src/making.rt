@@ -10,12 +10,9 @@ ghost use Rattle.blk_external.specs.Making.{making, last_number, last_file_place
 
 use blk_addr::Addr;
 use blk_io::{Damage, Failed, Fault, FileId, Folder, read_word, write_word};
+use blk_record::IndexHead;
 
 const MOST_NUMBER: u32 = 0x0FFF_FFFF;
-
-const LAST_FILE: u64 = 16;
-
-const EXTERNAL: u32 = 0x8000_0000;
 
 /// Makes an empty file with the first free number after the last one, and writes that number to the index.
 ///
@@ -42,7 +39,7 @@ pub fn create<F: Folder>(f: &mut F) -> Result<Addr, Fault>
     ensures later { F.faults f.old ≤ F.faults f.new }
     ensures device { IfDevice result (Rises (F.faults f.old) (F.faults f.new)) }
 {
-    let last = read_word(f, FileId::Index, LAST_FILE)?;
+    let last = read_word(f, FileId::Index, IndexHead::LAST_FILE)?;
     let Some(number) = first_free(f, last)? else {
         return Err(Fault::Damaged(full(last)));
     };
@@ -56,7 +53,7 @@ fn full(last: u32) -> Damage
 {
     Damage {
         file: FileId::Index,
-        at: LAST_FILE,
+        at: IndexHead::LAST_FILE,
         found: last,
     }
 }
@@ -101,7 +98,7 @@ fn make<F: Folder>(f: &mut F, number: u32) -> Result<(), Failed>
     ensures failed { OnErr result (Rises (F.faults f.old) (F.faults f.new)) }
 {
     f.set_len(FileId::External(number), 0)?;
-    write_word(f, FileId::Index, LAST_FILE, number)
+    write_word(f, FileId::Index, IndexHead::LAST_FILE, number)
 }
 
 // The address of a number.
@@ -110,8 +107,5 @@ fn address_of(number: u32) -> Addr
     ensures kind { kind_of result ≡ external }
     ensures number { external_number result ≡ number }
 {
-    match Addr::from_word(EXTERNAL + number) {
-        Some(addr) => addr,
-        None => unreachable!(),
-    }
+    Addr::of_external(number)
 }
