@@ -25,14 +25,15 @@ abbrev pub FindsBeside : ListView → ℕ → Part (Option Beside) → Type 0
 FindsBeside list node Fails = links_count list node ≡ false
 FindsBeside list node (Counts beside) = (links_count list node ≡ true) × AreBeside (list.next node) (list.prev node) beside
 
--- what is found stands
-abbrev pub StandsHead : BlockFiles → Part (Option ℕ) → Type 0
-StandsHead files Fails = Unit {0}
-StandsHead files (Counts head) = IfSome head (λ n. is_node files n ≡ true)
+-- the head that is found stands
+abbrev pub FoundHeadStands : BlockFiles → Part (Option ℕ) → Type 0
+FoundHeadStands files Fails = Unit {0}
+FoundHeadStands files (Counts head) = IfSome head (λ n. is_node files n ≡ true)
 
-abbrev pub StandsBeside : BlockFiles → Part (Option Beside) → Type 0
-StandsBeside files Fails = Unit {0}
-StandsBeside files (Counts beside) = IfSome beside (StandBeside files)
+-- and so do the nodes that are found beside one
+abbrev pub FoundBesideStands : BlockFiles → Part (Option Beside) → Type 0
+FoundBesideStands files Fails = Unit {0}
+FoundBesideStands files (Counts beside) = IfSome beside (StandBeside files)
 
 -- an operation in flight is the one of the list
 pub record IsInFlight (list : ListView) (found : InFlight) : Type 0 where

@@ -17,25 +17,17 @@ ghost use Rattle.blk_lru.specs.Damages.{IsInsertDamage, IsNodeDamage, IsRemovalD
 ghost use Rattle.blk_lru.specs.Nodes.{is_node};
 ghost use Rattle.blk_lru.specs.Lists.{IsListed, Turns, first_of};
 
-use crate::nodes::{NEXT, PREV, link};
+use crate::nodes::link;
 use crate::plans::{Beside, Operation, plan_of};
 use crate::reading::first;
 use crate::writes::perform;
 use blk_addr::Addr;
 use blk_disk::BlockFiles;
 use blk_io::{Fault, Folder};
+use blk_record::NodeView;
 
 // The number of values that a word may have.
 const WORD_VALUES: u64 = 0x1_0000_0000;
-
-// The places of a node's times: the low and the high words of its last use and of its last change.
-const USED_LOW: u32 = 0;
-
-const USED_HIGH: u32 = 4;
-
-const MODIFIED_LOW: u32 = 8;
-
-const MODIFIED_HIGH: u32 = 12;
 
 /// Puts a node in front of the list. It is not in the list, and fewer than 131072 nodes are.
 ///
@@ -163,10 +155,10 @@ fn set_times<F: Folder>(f: &mut F, files: &BlockFiles, node: Addr, moment: u64) 
     let low = (moment % WORD_VALUES) as u32;
     let high = (moment / WORD_VALUES) as u32;
     let times = [
-        (USED_LOW, low),
-        (USED_HIGH, high),
-        (MODIFIED_LOW, low),
-        (MODIFIED_HIGH, high),
+        (NodeView::LAST_USED, low),
+        (NodeView::LAST_USED + 4, high),
+        (NodeView::LAST_MODIFIED, low),
+        (NodeView::LAST_MODIFIED + 4, high),
     ];
     files.update_sealed(f, node, &times)
 }
@@ -238,7 +230,7 @@ fn beside<F: Folder>(f: &mut F, files: &BlockFiles, node: Addr) -> Result<Beside
     ensures later { F.faults f.old ≤ F.faults f.new }
     ensures device { IfDevice result (Rises (F.faults f.old) (F.faults f.new)) }
 {
-    let next = link(f, files, node, NEXT)?;
-    let prev = link(f, files, node, PREV)?;
+    let next = link(f, files, node, NodeView::NEXT)?;
+    let prev = link(f, files, node, NodeView::PREV)?;
     Ok(Beside { next, prev })
 }

@@ -12,7 +12,7 @@ ghost use Rattle.blk_disk.specs.Tables.{Agrees};
 ghost use Rattle.blk_lru.specs.Damages.{IsCompletingDamage, IsNodeDamage};
 ghost use Rattle.blk_lru.specs.Nodes.{is_node, AreLinksOf};
 ghost use Rattle.blk_lru.specs.Writes.{meant};
-ghost use Rattle.blk_lru.specs.Completing.{AreNodes, Finds, FindsBeside, FindsHead, StandsBeside, StandsHead, finishing_writes};
+ghost use Rattle.blk_lru.specs.Completing.{AreNodes, Finds, FindsBeside, FindsHead, FoundBesideStands, FoundHeadStands, finishing_writes};
 
 use crate::nodes::{Links, checked};
 use crate::plans::{Beside, INSERT, MOVE, Operation, Plan, REMOVE, ending, pending_of};
@@ -174,7 +174,7 @@ fn usable_head<F: Folder>(f: &mut F, files: &BlockFiles) -> Result<Part<Option<A
     requires complete { ForSome (F.told f.old).files HasWholeIndex }
     requires agrees { ForSome (F.told f.old).files (Agrees files.now) }
     ensures found { IfOk result (λ found. ForSome (F.told f.old).files (λ image. FindsHead (list_of image) found)) }
-    ensures stand { IfOk result (StandsHead files.now) }
+    ensures stand { IfOk result (FoundHeadStands files.now) }
     ensures damaged { IfDamaged result (IsCompletingDamage files.now) }
     ensures untold { IfDamaged result (λ _. (F.told f.old).files ≡ None) }
     ensures stays { Stays (F.told f.old) (F.told f.new) }
@@ -201,7 +201,7 @@ fn usable_links<F: Folder>(
     requires stands { is_node files.now links.now.node ≡ true }
     requires links { ForSome (F.told f.old).files (λ image. AreLinksOf (list_of image) (list_of image).transaction links.now) }
     ensures found { IfOk result (λ found. ForSome (F.told f.old).files (λ image. FindsBeside (list_of image) (list_of image).transaction found)) }
-    ensures stand { IfOk result (StandsBeside files.now) }
+    ensures stand { IfOk result (FoundBesideStands files.now) }
     ensures damaged { IfDamaged result (IsNodeDamage files.now) }
     ensures untold { IfDamaged result (λ _. (F.told f.old).files ≡ None) }
     ensures stays { Stays (F.told f.old) (F.told f.new) }

@@ -17,17 +17,7 @@ ghost use Rattle.blk_lru.specs.Nodes.{is_node, link_at, FindsNode, IsAstray, IsL
 use blk_addr::{Addr, Kind};
 use blk_disk::{BlockFiles, file_of};
 use blk_io::{Damage, Fault, Folder};
-use blk_record::{NodeView, Record};
-
-// The byte at which the blocks of a block file begin, and the bytes of a node.
-const HEADER_LEN: u64 = 8192;
-
-const NODE_LEN: usize = 36;
-
-// The places of a node's links.
-pub(crate) const NEXT: u32 = 16;
-
-pub(crate) const PREV: u32 = 20;
+use blk_record::{BlockHead, NodeView, Record};
 
 // A node that checks, and the words of its links.
 #[derive(Clone, Copy, Debug)]
@@ -76,7 +66,9 @@ pub(crate) fn link<F: Folder>(
     let found = u32::from_le_bytes(bytes);
     let Some(other) = node_of(files, found) else {
         let file = file_of(node);
-        let at = HEADER_LEN + u64::from(node.start()) * NODE_LEN as u64 + u64::from(at);
+        let at = BlockHead::HEADER_LEN
+            + u64::from(node.start()) * NodeView::SIZE as u64
+            + u64::from(at);
         return Err(Fault::Damaged(Damage { file, at, found }));
     };
     Ok(other)
@@ -100,7 +92,7 @@ pub(crate) fn checked<F: Folder>(
     let Some(node) = node_of(files, word) else {
         return Ok(None);
     };
-    let mut window = [0u8; NODE_LEN];
+    let mut window = [0u8; NodeView::SIZE];
     files.read_block(f, node, 0, &mut window)?;
     Ok(links_in(node, &window))
 }
@@ -118,7 +110,7 @@ fn links_in(node: Addr, window: &[u8]) -> Option<Links>
     }
     Some(Links {
         node,
-        next: view.word(NEXT as usize),
-        prev: view.word(PREV as usize),
+        next: view.word(NodeView::NEXT as usize),
+        prev: view.word(NodeView::PREV as usize),
     })
 }

@@ -12,11 +12,12 @@ ghost use Rattle.blk_disk.specs.Tables.{Agrees};
 ghost use Rattle.blk_lru.specs.Nodes.{is_node, IsAstray, NamesNode};
 ghost use Rattle.blk_lru.specs.Lists.{IsListed, IsRested, first_of, last_of};
 
-use crate::nodes::{NEXT, PREV, link, node_of};
+use crate::nodes::{link, node_of};
 use blk_addr::Addr;
 use blk_disk::BlockFiles;
 use blk_index::word;
 use blk_io::{Damage, Fault, FileId, Folder};
+use blk_record::NodeView;
 
 // The places of the first and the last node in the index.
 pub(crate) const HEAD: u32 = 288;
@@ -77,7 +78,7 @@ pub fn before<F: Folder>(f: &mut F, files: &BlockFiles, node: Addr) -> Result<Op
     ensures later { F.faults f.old ≤ F.faults f.new }
     ensures device { IfDevice result (Rises (F.faults f.old) (F.faults f.new)) }
 {
-    let other = link(f, files, node, PREV)?;
+    let other = link(f, files, node, NodeView::PREV)?;
     Ok(unless_same(node, other))
 }
 
@@ -97,7 +98,7 @@ pub fn after<F: Folder>(f: &mut F, files: &BlockFiles, node: Addr) -> Result<Opt
     ensures later { F.faults f.old ≤ F.faults f.new }
     ensures device { IfDevice result (Rises (F.faults f.old) (F.faults f.new)) }
 {
-    let other = link(f, files, node, NEXT)?;
+    let other = link(f, files, node, NodeView::NEXT)?;
     Ok(unless_same(node, other))
 }
 

@@ -2,7 +2,7 @@
 ghost use Rattle.std.specs.Prelude.{IfSome, IsTrue};
 ghost use Rattle.blk_lru.specs.Nodes.{is_node};
 
-use crate::nodes::{NEXT, PREV, node_of};
+use crate::nodes::node_of;
 use crate::reading::{HEAD, TAIL};
 use crate::writes::{OPERATION, TRANSACTION};
 use crate::{after, before, complete, first, insert_front, last, remove, touch};
@@ -86,10 +86,10 @@ fn shown<F: Folder>(f: &mut F) -> Result<([u32; 4], [u32; 3], [u32; 3]), Fault> 
     let mut nexts = [0; 3];
     let mut prevs = [0; 3];
     for (slot, node) in nexts.iter_mut().zip(NODES) {
-        *slot = node_word(f, node, NEXT)?;
+        *slot = node_word(f, node, NodeView::NEXT)?;
     }
     for (slot, node) in prevs.iter_mut().zip(NODES) {
-        *slot = node_word(f, node, PREV)?;
+        *slot = node_word(f, node, NodeView::PREV)?;
     }
     Ok((words, nexts, prevs))
 }
@@ -122,8 +122,8 @@ fn checked<F: Folder>(f: &mut F, word: u32) -> Result<Option<Node>, Fault> {
         return Ok(None);
     }
     Ok(Some(Node {
-        next: view.word(NEXT as usize),
-        prev: view.word(PREV as usize),
+        next: view.word(NodeView::NEXT as usize),
+        prev: view.word(NodeView::PREV as usize),
         seal: view.word(SEAL as usize),
     }))
 }

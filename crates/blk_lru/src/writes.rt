@@ -15,12 +15,12 @@ ghost use Rattle.blk_lru.specs.Damages.{IsNodeDamage};
 ghost use Rattle.blk_lru.specs.Nodes.{is_node, IsLinkPlace};
 ghost use Rattle.blk_lru.specs.Writes.{meant};
 
-use crate::nodes::{NEXT, PREV};
 use crate::reading::{HEAD, TAIL};
 use blk_addr::Addr;
 use blk_disk::BlockFiles;
 use blk_index::set_word;
 use blk_io::{Fault, Folder};
+use blk_record::NodeView;
 
 // The places of the operation in flight and of its node in the index.
 pub(crate) const TRANSACTION: u32 = 328;
@@ -84,8 +84,8 @@ fn write_one<F: Folder>(f: &mut F, files: &BlockFiles, write: Write) -> Result<(
     ensures device { IfDevice result (Rises (F.faults f.old) (F.faults f.new)) }
 {
     match write {
-        Write::Next(node, word) => set_link(f, files, node, NEXT, word),
-        Write::Prev(node, word) => set_link(f, files, node, PREV, word),
+        Write::Next(node, word) => set_link(f, files, node, NodeView::NEXT, word),
+        Write::Prev(node, word) => set_link(f, files, node, NodeView::PREV, word),
         Write::Head(word) => set_index(f, HEAD, word),
         Write::Tail(word) => set_index(f, TAIL, word),
         Write::Transaction(word) => set_index(f, TRANSACTION, word),
