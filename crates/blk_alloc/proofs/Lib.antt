@@ -12,6 +12,7 @@ pub mod Standing
 pub mod Freed
 pub mod Pieces
 pub mod Members
+pub mod NotStanding
 pub mod Kept
 pub mod Widening
 pub mod Taken

@@ -134,9 +134,9 @@ word_file files k count place some is =
     let counted = is.counted in
     file_selector-block_word (kind_number k) place.file place.start place.count (record { kind = kind_small k; file = is.number; start = omega (arith, small); some = omega (arith, some, counted); most = omega (arith, group, counted) })
 
--- a place is one still where its file is linked
-pub place_later : (old new : BlockFiles) (kind count : ℕ) (place : Blocks) → IsPlace old kind count place → is_among (files_of new kind) place.file ≡ true → IsPlace new kind place.count place
-place_later old new kind count place is linked = let counted = is.counted in let group = is.group in record { linked = linked; number = is.number; small = is.small; group = omega (arith, counted, group); counted = refl }
+-- so many blocks, by their own number
+pub place_counted : (files : BlockFiles) (kind count : ℕ) (place : Blocks) → place.count ≡ count → IsPlace files kind place.count place → IsPlace files kind count place
+place_counted files kind count place counted is = subst (λ (k : ℕ). IsPlace files kind k place) counted is
 
 -- the type and the number of blocks of an address of a place
 pub word_kind : (files : BlockFiles) (k : Kind) (count : ℕ) (place : Blocks) → 0 < count → IsPlace files (kind_number k) count place → (kind_of (block_word (kind_number k) place.file place.start place.count) ≡ kind_number k) × (block_count (block_word (kind_number k) place.file place.start place.count) ≡ count)

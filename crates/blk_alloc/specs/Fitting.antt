@@ -36,11 +36,12 @@ abbrev pub IsFitting : Image → List ℕ → ℕ → Option Blocks → Type 0
 IsFitting image files count None = All (HasNoRoom image count) files
 IsFitting image files count (Some place) = IsFirstFit image files count place
 
--- blocks in a file of a type, so many and in one group
+-- blocks in a file of a type, so many and in one group, of which the first is below the file's number of blocks
 pub record IsPlace (files : BlockFiles) (kind count : ℕ) (place : Blocks) : Type 0 where
   pub linked : is_among (files_of files kind) place.file ≡ true
   pub number : place.file < 256
   pub small : place.start < most_blocks
+  pub below : place.start < blocks_of files place.file
   pub group : place.start % 4 + count ≤ group_size
   pub counted : place.count ≡ count
 

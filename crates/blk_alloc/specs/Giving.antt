@@ -131,18 +131,18 @@ pub record IsFull (files : BlockFiles) (kind : ℕ) (told : Told) (damage : Dama
   pub at : damage.at ≡ last_place
   pub found : ForSome told.files (λ image. damage.found ≡ word image (Block file) last_place)
 
--- the header of one of the files of a type is damaged, of which some blocks were to be taken: a read of it gave too few bytes, or a counter would leave its range
-pub record IsCauseOf (files : BlockFiles) (kind : ℕ) (told : Told) (damage : Damage) : Type 0 where
+-- the header of one of the files of a type is damaged, of which so many blocks were to be taken: a read of it gave too few bytes, or a counter would leave its range
+pub record IsCauseOf (files : BlockFiles) (kind count : ℕ) (told : Told) (damage : Damage) : Type 0 where
   pub place : Blocks
-  pub is : IsPlace files kind place.count place
+  pub is : IsPlace files kind count place
   pub cause : IsCause told place.file place.start place.count true damage
 
--- the blocks of one of the files of a type that were to be taken don't stand
-pub record IsAstrayOf (files : BlockFiles) (kind : ℕ) (damage : Damage) : Type 0 where
+-- so many blocks of one of the files of a type, which were to be taken, don't stand
+pub record IsAstrayOf (files : BlockFiles) (kind count : ℕ) (damage : Damage) : Type 0 where
   pub place : Blocks
-  pub is : IsPlace files kind place.count place
+  pub is : IsPlace files kind count place
   pub astray : IsAstray files kind place damage
 
--- why no blocks are given: a damaged header, which may be that of a file that was added, a map that was too short where room was sought, files that were full, or blocks that don't stand
-abbrev pub IsRefusal : BlockFiles → BlockFiles → ℕ → Told → Damage → Type 0
-IsRefusal old new kind told damage = IsCauseOf new kind told damage ⊎ IsShortOf old kind told damage ⊎ IsFull old kind told damage ⊎ IsAstrayOf new kind damage
+-- why so many blocks are not given: a damaged header, which may be that of a file that was added, a map that was too short where room was sought, files that were full, or blocks that don't stand
+abbrev pub IsRefusal : BlockFiles → BlockFiles → ℕ → ℕ → Told → Damage → Type 0
+IsRefusal old new kind count told damage = IsCauseOf new kind count told damage ⊎ IsShortOf old kind told damage ⊎ IsFull old kind told damage ⊎ IsAstrayOf new kind count damage

@@ -1,15 +1,15 @@
 -- Blocks of a file are taken: the file is lengthened to its blocks, and the blocks are marked.
-use Rattle.std.specs.Prelude.{◌≡◌, ◌≢◌, ◌⊎◌, ℕ, ◌<◌, List, ◌∷◌, true, false, if◌then◌else◌}
+use Rattle.std.specs.Prelude.{◌≡◌, ◌≢◌, ◌⊎◌, ℕ, ◌+◌, ◌<◌, List, ◌∷◌, true, false, if◌then◌else◌, Some}
 use Rattle.blk_image.specs.Image.{Block, Image, byte}
 use Rattle.blk_image.specs.Footprint.{Footprint, SameOutside, either, one_word, size_of}
 use Rattle.blk_format.specs.Address.{block_word, file_selector}
 use Rattle.blk_format.specs.Headers.{updating_of}
-use Rattle.blk_format.specs.BlockFiles.{is_among, most_blocks}
+use Rattle.blk_format.specs.BlockFiles.{is_among, most_blocks, type_among}
 use Rattle.blk_format.specs.Maps.{is_marked, are_free, AreAllocations, EmptyAgrees}
 use Rattle.blk_io.specs.declared.folder.FileId.TheVariants as names
 use Rattle.blk_io.specs.declared.fault.Damage.{Damage}
 use Rattle.blk_disk.specs.declared.tables.BlockFiles.{BlockFiles}
-use Rattle.blk_disk.specs.Tables.{all_files, blocks_of, stands_among}
+use Rattle.blk_disk.specs.Tables.{all_files, blocks_of, files_of, stands_among}
 use Rattle.blk_alloc.specs.declared.blocks.Blocks.{Blocks}
 use Rattle.blk_alloc.specs.Changes.{map_of, updating_place, IsReady}
 use Rattle.blk_alloc.specs.Owning.{is_of}
@@ -43,9 +43,10 @@ pub record IsTaken (files : BlockFiles) (from : Image) (w : ℕ) (image : Image)
 abbrev pub blocks_place : ℕ
 blocks_place = 20
 
--- blocks of a type don't stand among the files: the damage has the place of their file's number of blocks, and finds what is kept of it
+-- blocks of a type don't stand among the files: the type of their file isn't theirs, or its number of blocks ends among them; the damage has the place of this number, and finds what is kept of it
 pub record IsAstray (files : BlockFiles) (kind : ℕ) (place : Blocks) (damage : Damage) : Type 0 where
   pub astray : stands_among files (block_word kind place.file place.start place.count) ≡ false
+  pub why : (type_among (files_of files) place.file ≢ Some kind) ⊎ (blocks_of files place.file < place.start + place.count)
   pub of_file : damage.file ≡ names.Block place.file
   pub at : damage.at ≡ blocks_place
   pub found : damage.found ≡ blocks_of files place.file

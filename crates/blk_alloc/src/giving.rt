@@ -77,7 +77,7 @@ fn new_room<F: Folder>(
     ensures blocks { ForSome (F.told f.old).files (λ from. Passes (F.told f.old) (F.told f.new) (KeepsBlocks from)) }
     ensures formed { ForSome (F.told f.old).files (λ from. IsWellFormed from → Passes (F.told f.old) (F.told f.new) IsWellFormed) }
     ensures silent { (F.told f.old).files ≡ None → (F.told f.new).files ≡ None }
-    ensures cause { IfDamaged result (IsRefusal files.old files.new (kind_number kind) (F.told f.old)) }
+    ensures cause { IfDamaged result (IsRefusal files.old files.new (kind_number kind) count (F.told f.old)) }
     ensures untold { IfDamaged result (λ _. (F.told f.old).files ≡ None) }
     ensures later { F.faults f.old ≤ F.faults f.new }
     ensures device { IfDevice result (Rises (F.faults f.old) (F.faults f.new)) }
@@ -118,7 +118,7 @@ fn take_new<F: Folder>(
     ensures blocks { ForSome (F.told f.old).files (λ from. Passes (F.told f.old) (F.told f.new) (KeepsBlocks from)) }
     ensures formed { ForSome (F.told f.old).files (λ from. IsWellFormed from → Passes (F.told f.old) (F.told f.new) IsWellFormed) }
     ensures silent { (F.told f.old).files ≡ None → (F.told f.new).files ≡ None }
-    ensures cause { IfDamaged result (IsRefusal files.old files.new (kind_number kind) (F.told f.old)) }
+    ensures cause { IfDamaged result (IsRefusal files.old files.new (kind_number kind) count (F.told f.old)) }
     ensures untold { IfDamaged result (λ _. (F.told f.old).files ≡ None) }
     ensures later { F.faults f.old ≤ F.faults f.new }
     ensures device { IfDevice result (Rises (F.faults f.old) (F.faults f.new)) }
@@ -135,8 +135,9 @@ fn take_new<F: Folder>(
 ///
 /// A damage is a read of a file's header that gave too few bytes, a counter that would leave its
 /// range, or 60 full files of the kind; then it finds the last word of the last map. Where the blocks
-/// don't stand among the files, it has the place of their file's number of blocks. With at most 655362
-/// allocations of the kind all of these need a folder that tells nothing.
+/// don't stand among the files, as their file is kept as one of another kind too or its number of blocks
+/// ends among them, it has the place of this number. With at most 655362 allocations of the kind all of
+/// these need a folder that tells nothing.
 pub fn allocate<F: Folder>(
     f: &mut F,
     files: &mut BlockFiles,
@@ -169,7 +170,7 @@ pub fn allocate<F: Folder>(
     ensures formed { ForSome (F.told f.old).files (λ from. IsWellFormed from → Passes (F.told f.old) (F.told f.new) IsWellFormed) }
 
     ensures silent { (F.told f.old).files ≡ None → (F.told f.new).files ≡ None }
-    ensures cause { IfDamaged result (IsRefusal files.old files.new (kind_number kind) (F.told f.old)) }
+    ensures cause { IfDamaged result (IsRefusal files.old files.new (kind_number kind) blocks (F.told f.old)) }
     ensures untold { IfDamaged result (λ _. (F.told f.old).files ≡ None) }
     ensures later { F.faults f.old ≤ F.faults f.new }
     ensures device { IfDevice result (Rises (F.faults f.old) (F.faults f.new)) }

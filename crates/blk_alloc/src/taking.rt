@@ -11,10 +11,9 @@ ghost use Rattle.blk_io.specs.Faults.{IfDamaged, IfDevice};
 ghost use Rattle.blk_disk.specs.Growth.{KeepsBlocks};
 ghost use Rattle.blk_disk.specs.Tables.{Agrees, all_files, blocks_of, files_of, stands_among};
 ghost use Rattle.blk_alloc.specs.Fitting.{IsPlace};
-ghost use Rattle.blk_alloc.specs.Giving.{IsAstrayOf};
 ghost use Rattle.blk_alloc.specs.Making.{KeepsStanding};
 ghost use Rattle.blk_alloc.specs.Owning.{IsCause};
-ghost use Rattle.blk_alloc.specs.Taking.{blocks_place, IsTakeable, IsTaking, IsTaken};
+ghost use Rattle.blk_alloc.specs.Taking.{blocks_place, IsAstray, IsTakeable, IsTaking, IsTaken};
 
 use crate::blocks::Blocks;
 use crate::change::change;
@@ -102,9 +101,8 @@ pub(crate) fn take<F: Folder>(
     ensures formed { ForSome (F.told f.old).files (λ from. IsTakeable from place → IsWellFormed from → Passes (F.told f.old) (F.told f.new) IsWellFormed) }
     ensures blocks { ForSome (F.told f.old).files (λ from. Passes (F.told f.old) (F.told f.new) (KeepsBlocks from)) }
     ensures silent { (F.told f.old).files ≡ None → (F.told f.new).files ≡ None }
-    ensures linked { IsTrue (is_among (files_of files.new (kind_number kind)) place.file) }
-
-    ensures cause { IfDamaged result (λ damage. ((told : Told) → told.files ≡ None → IsCause told place.file place.start place.count true damage) ⊎ IsAstrayOf files.new (kind_number kind) damage) }
+    ensures place { IsPlace files.new (kind_number kind) place.count place }
+    ensures cause { IfDamaged result (λ damage. ((told : Told) → told.files ≡ None → IsCause told place.file place.start place.count true damage) ⊎ IsAstray files.new (kind_number kind) place damage) }
     ensures untold { IfDamaged result (λ _. ForSome (F.told f.old).files (λ image. IsTakeable image place) → (F.told f.old).files ≡ None) }
     ensures later { F.faults f.old ≤ F.faults f.new }
     ensures device { IfDevice result (Rises (F.faults f.old) (F.faults f.new)) }

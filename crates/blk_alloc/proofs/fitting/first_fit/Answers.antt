@@ -64,6 +64,7 @@ returns-in-Some-2-clause-place g c place is =
       linked = member_at files c.loop-i.i c.in-Some.file (sym c.file_at.ensures ∙ c.in-Some.is);
       number = c.blocks_in-end.ensures.number;
       small = let below = inside.1 in let most = c.blocks_in-end.ensures.most in omega (arith, below, most);
+      below = let below = inside.1 in let is = c.blocks_in-end.ensures.blocks (member_all c.args.files.now c.args.kind c.in-Some.file c.requires.blocky (member_at files c.loop-i.i c.in-Some.file (sym c.file_at.ensures ∙ c.in-Some.is))) in omega (arith, below, is);
       group = inside.0;
       counted = refl;
     })

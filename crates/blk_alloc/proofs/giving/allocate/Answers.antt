@@ -7,18 +7,18 @@ use Rattle.blk_addr.specs.Kind.{kind_number}
 use Rattle.blk_disk.specs.Growth.{KeepsBlocks}
 use Rattle.blk_disk.specs.Tables.{Agrees, files_of}
 use Rattle.blk_alloc.specs.Fitting.{IsFitting, IsFirstFit, IsPlace}
-use Rattle.blk_alloc.specs.Giving.{AreCounted, HaveNoRoom, IsAstrayOf, IsFitTaken, IsGiven, IsGiving, IsMaking, IsRefusal}
+use Rattle.blk_alloc.specs.Giving.{AreCounted, HaveNoRoom, IsFitTaken, IsGiven, IsGiving, IsMaking, IsRefusal}
 use Rattle.std.specs.Prelude.{IfOk}
 use Rattle.blk_format.specs.Address.{block_count, block_word, file_selector, kind_of}
 use Rattle.blk_format.specs.BlockFiles.{is_among}
 use Rattle.blk_alloc.specs.declared.blocks.Blocks.{Blocks}
-use Rattle.blk_alloc.specs.Taking.{IsTakeable, IsTaken, IsTaking}
+use Rattle.blk_alloc.specs.Taking.{IsAstray, IsTakeable, IsTaken, IsTaking}
 use Rattle.std.proofs.lemmas.Result.{IfOk-weaker}
 use Rattle.blk_alloc.specs.Owning.{IsCause}
 use Rattle.blk_io.proofs.Carried.{if_damaged_weaker}
 use Rattle.blk_alloc.proofs.Causes.{if_damaged_both}
 use Rattle.blk_alloc.proofs.Members.{member_all}
-use Rattle.blk_alloc.proofs.Rooms.{fit_takeable, given_fit, if_ok_both, place_later, word_file, word_kind}
+use Rattle.blk_alloc.proofs.Rooms.{fit_takeable, given_fit, if_ok_both, place_counted, word_file, word_kind}
 use Rattle.blk_alloc.proofs.Externals.{giving_externals}
 use Rattle.blk_alloc.proofs.Sparing.{blocks_same}
 use Rattle.blk_alloc.proofs.giving.allocate.Goals as goal
@@ -128,10 +128,10 @@ returns-in-Some-clause-cause g c =
     (λ i told. subst (λ (o : Option Blocks). IsFitting i (files_of c.args.files.now (kind_number c.args.kind)) c.args.blocks o) c.in-Some.is (c.in_ok-place.ensures.fit i told)) in
     let takeable : (i : Image) → (g.F.Folder.told c.args.f.now).files ≡ Some i → IsTakeable i c.in-Some.place =
     (λ i told. fit_takeable c.args.files.now i c.args.kind c.args.blocks c.in-Some.place c.requires.blocky c.requires.few (c.requires.agrees i told) (c.requires.counted i told) place (fits i told)) in
-    if_damaged_both c.take.result (λ damage. ((told : Told) → told.files ≡ None → IsCause told c.in-Some.place.file c.in-Some.place.start c.in-Some.place.count true damage) ⊎ IsAstrayOf c.take.new.files (kind_number c.args.kind) damage)
-    (λ _. ForSome (g.F.Folder.told c.first_fit.new.f).files (λ image. IsTakeable image c.in-Some.place) → (g.F.Folder.told c.first_fit.new.f).files ≡ None) (IsRefusal c.args.files.now c.take.new.files (kind_number c.args.kind) (g.F.Folder.told c.args.f.now))
-    (λ damage cause none. ⊎_elim (λ (why : (told : Told) → told.files ≡ None → IsCause told c.in-Some.place.file c.in-Some.place.start c.in-Some.place.count true damage). inl (record { place = c.in-Some.place; is = place_later c.args.files.now c.take.new.files (kind_number c.args.kind) c.args.blocks c.in-Some.place place c.take.ensures.linked; cause = why (g.F.Folder.told c.args.f.now) (ap (λ (t : Told). t.files) (sym c.in_ok-place.ensures.stays) ∙ none (λ i now. takeable i (ap (λ (t : Told). t.files) (sym c.in_ok-place.ensures.stays) ∙ now))) }))
-    (λ astray. inr (inr (inr astray))) cause)
+    if_damaged_both c.take.result (λ damage. ((told : Told) → told.files ≡ None → IsCause told c.in-Some.place.file c.in-Some.place.start c.in-Some.place.count true damage) ⊎ IsAstray c.take.new.files (kind_number c.args.kind) c.in-Some.place damage)
+    (λ _. ForSome (g.F.Folder.told c.first_fit.new.f).files (λ image. IsTakeable image c.in-Some.place) → (g.F.Folder.told c.first_fit.new.f).files ≡ None) (IsRefusal c.args.files.now c.take.new.files (kind_number c.args.kind) c.args.blocks (g.F.Folder.told c.args.f.now))
+    (λ damage cause none. ⊎_elim (λ (why : (told : Told) → told.files ≡ None → IsCause told c.in-Some.place.file c.in-Some.place.start c.in-Some.place.count true damage). inl (record { place = c.in-Some.place; is = place_counted c.take.new.files (kind_number c.args.kind) c.args.blocks c.in-Some.place place.counted c.take.ensures.place; cause = why (g.F.Folder.told c.args.f.now) (ap (λ (t : Told). t.files) (sym c.in_ok-place.ensures.stays) ∙ none (λ i now. takeable i (ap (λ (t : Told). t.files) (sym c.in_ok-place.ensures.stays) ∙ now))) }))
+    (λ astray. inr (inr (inr (record { place = c.in-Some.place; is = place_counted c.take.new.files (kind_number c.args.kind) c.args.blocks c.in-Some.place place.counted c.take.ensures.place; astray = astray })))) cause)
     c.take.ensures.cause c.take.ensures.untold
 
 pub returns-in_err-place-clause-blocks : goal.returns-in_err-place-clause-blocks

@@ -93,7 +93,7 @@ returns-in_err-damage-clause-cause g c =
     let none : told.files ≡ None =
     untold_where told.files (λ from there. never_full c.args.files.now from c.args.kind c.args.count c.requires.blocky c.requires.few (c.requires.agrees from there) (c.requires.counted from there) (c.requires.full from there) c.in_default.ensures (many_files c.count.result (length (files_of c.args.files.now kind)) c.count.ensures c.if-count-ge-MOST_FILES.true)) in
     carried c.full_damage.result c.from_residual-in_err-damage.result c.in_err-damage.field-0.0 _ c.in_err-damage.was c.from_residual-in_err-damage.ensures.1
-    (if_damaged_weaker c.full_damage.result (λ damage. told.files ≡ None → IsFull c.args.files.now kind told damage) (IsRefusal c.args.files.now c.args.files.now kind told)
+    (if_damaged_weaker c.full_damage.result (λ damage. told.files ≡ None → IsFull c.args.files.now kind told damage) (IsRefusal c.args.files.now c.args.files.now kind c.args.count told)
     (λ damage full. inr (inr (inl (full none)))) c.full_damage.ensures.cause)
 
 pub returns-then-count-ge-MOST_FILES-clause-stops :

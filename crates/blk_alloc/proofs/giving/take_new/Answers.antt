@@ -9,11 +9,11 @@ use Rattle.blk_format.specs.Address.{block_count, block_word, file_selector, kin
 use Rattle.blk_addr.specs.Kind.{kind_number}
 use Rattle.blk_disk.specs.Growth.{KeepsBlocks}
 use Rattle.blk_alloc.specs.Owning.{IsCause}
-use Rattle.blk_alloc.specs.Taking.{IsTakeable, IsTaken, IsTaking, taking_of}
-use Rattle.blk_alloc.specs.Giving.{IsAstrayOf, IsChosen, IsGiven, IsMaking, IsRefusal}
+use Rattle.blk_alloc.specs.Taking.{IsAstray, IsTakeable, IsTaken, IsTaking, taking_of}
+use Rattle.blk_alloc.specs.Giving.{IsChosen, IsGiven, IsMaking, IsRefusal}
 use Rattle.blk_alloc.proofs.Causes.{if_damaged_both}
 use Rattle.blk_io.proofs.Carried.{if_damaged_weaker}
-use Rattle.blk_alloc.proofs.Rooms.{given_made, if_ok_both, making_taken, place_later, told_later, untold_before, word_file, word_kind}
+use Rattle.blk_alloc.proofs.Rooms.{given_made, if_ok_both, making_taken, place_counted, told_later, untold_before, word_file, word_kind}
 use Rattle.blk_alloc.proofs.Sparing.{blocks_then}
 use Rattle.blk_alloc.proofs.Written.{passes_on}
 use Rattle.blk_alloc.proofs.giving.take_new.Goals as goal
@@ -80,9 +80,9 @@ returns-clause-cause g c =
     let kind : ℕ = kind_number c.args.kind in
     let start : (ForSome (g.F.Folder.told c.new_room.new.f).files (λ mid. IsTakeable mid c.in_ok-place.place) → (g.F.Folder.told c.new_room.new.f).files ≡ None) → (g.F.Folder.told c.args.f.now).files ≡ None =
     silent_start (IsMaking c.args.files.now kind) (λ mid. IsTakeable mid c.in_ok-place.place) c.in_ok-place.ensures.stops (λ from there mid now. (c.in_ok-place.ensures.made from there mid now).takeable) in
-    if_damaged_both c.take.result (λ damage. ((told : Told) → told.files ≡ None → IsCause told c.in_ok-place.place.file c.in_ok-place.place.start c.in_ok-place.place.count true damage) ⊎ IsAstrayOf c.take.new.files kind damage)
-    (λ _. ForSome (g.F.Folder.told c.new_room.new.f).files (λ mid. IsTakeable mid c.in_ok-place.place) → (g.F.Folder.told c.new_room.new.f).files ≡ None) (IsRefusal c.args.files.now c.take.new.files kind (g.F.Folder.told c.args.f.now))
-    (λ damage cause none. ⊎_elim (λ (why : (told : Told) → told.files ≡ None → IsCause told c.in_ok-place.place.file c.in_ok-place.place.start c.in_ok-place.place.count true damage). inl (record { place = c.in_ok-place.place; is = place_later c.new_room.new.files c.take.new.files kind c.args.count c.in_ok-place.place c.in_ok-place.ensures.fits c.take.ensures.linked; cause = why (g.F.Folder.told c.args.f.now) (start none) })) (λ astray. inr (inr (inr astray))) cause)
+    if_damaged_both c.take.result (λ damage. ((told : Told) → told.files ≡ None → IsCause told c.in_ok-place.place.file c.in_ok-place.place.start c.in_ok-place.place.count true damage) ⊎ IsAstray c.take.new.files kind c.in_ok-place.place damage)
+    (λ _. ForSome (g.F.Folder.told c.new_room.new.f).files (λ mid. IsTakeable mid c.in_ok-place.place) → (g.F.Folder.told c.new_room.new.f).files ≡ None) (IsRefusal c.args.files.now c.take.new.files kind c.args.count (g.F.Folder.told c.args.f.now))
+    (λ damage cause none. ⊎_elim (λ (why : (told : Told) → told.files ≡ None → IsCause told c.in_ok-place.place.file c.in_ok-place.place.start c.in_ok-place.place.count true damage). inl (record { place = c.in_ok-place.place; is = place_counted c.take.new.files kind c.args.count c.in_ok-place.place c.in_ok-place.ensures.fits.counted c.take.ensures.place; cause = why (g.F.Folder.told c.args.f.now) (start none) })) (λ astray. inr (inr (inr (record { place = c.in_ok-place.place; is = place_counted c.take.new.files kind c.args.count c.in_ok-place.place c.in_ok-place.ensures.fits.counted c.take.ensures.place; astray = astray })))) cause)
     c.take.ensures.cause c.take.ensures.untold
 
 pub returns-clause-untold : goal.returns-clause-untold

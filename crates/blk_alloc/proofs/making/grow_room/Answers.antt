@@ -28,6 +28,9 @@ whole_start old whole = omega (arith, whole)
 small_start : (blocks old : ℕ) → blocks ≡ min old 64896 → old < 64896 → blocks / 4 * 4 < 64896
 small_start blocks old is below = omega (arith, is, below)
 
+below_grown : (blocks old new : ℕ) → blocks ≡ min old 64896 → old < 64896 → new ≡ min (old + 1024) 64896 → blocks / 4 * 4 < new
+below_grown blocks old new is below grown = omega (arith, is, below, grown)
+
 in_one_group : (groups count : ℕ) → count ≤ 4 → groups * 4 % 4 + count ≤ 4
 in_one_group groups count few = omega (arith, few)
 
@@ -68,6 +71,7 @@ returns-clause-fits g c =
       linked = ap (λ (l : List ℕ). is_among l c.args.file) (c.in_ok-grow.ensures.kept.files (kind_number c.args.kind)) ∙ c.requires.linked;
       number = c.blocks_in-groups.ensures.number;
       small = small_start c.blocks_in-groups.result (blocks_of c.args.files.now c.args.file) (c.blocks_in-groups.ensures.blocks all) c.requires.below;
+      below = below_grown c.blocks_in-groups.result (blocks_of c.args.files.now c.args.file) (blocks_of c.grow.new.self c.args.file) (c.blocks_in-groups.ensures.blocks all) c.requires.below c.in_ok-grow.ensures.kept.blocks_there;
       group = in_one_group (c.blocks_in-groups.result / 4) c.args.count c.requires.few;
       counted = refl;
     }

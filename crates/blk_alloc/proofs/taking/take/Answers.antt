@@ -1,4 +1,4 @@
-use Rattle.std.proofs.Common.{◌≡◌, ◌⊎◌, inl, Bool, ℕ, ◌+◌, ◌%◌, ◌<◌, ◌≤◌, List, true, false, None, sym, ◌∙◌, ap, subst, arith}
+use Rattle.std.proofs.Common.{◌≡◌, ◌⊎◌, inl, inr, Bool, ℕ, ◌+◌, ◌%◌, ◌<◌, ◌≤◌, List, true, false, None, sym, ◌∙◌, ap, subst, arith}
 use Rattle.std.specs.Option.{ForSome}
 use Rattle.blk_image.specs.Told.{Told}
 use Rattle.blk_format.specs.BlockFiles.{is_among}
@@ -8,15 +8,18 @@ use Rattle.blk_image.specs.Footprint.{SameOutside, size_of}
 use Rattle.blk_image.proofs.Runs.{passes_to, passes_none, passes_end, passes_weaker, some_inj}
 use Rattle.blk_disk.specs.Growth.{KeepsBlocks, fit_steps}
 use Rattle.blk_disk.specs.declared.tables.BlockFiles.{BlockFiles}
-use Rattle.blk_alloc.specs.Taking.{IsTakeable, IsTaking, IsTaken}
+use Rattle.blk_alloc.specs.Taking.{IsAstray, IsTakeable, IsTaking, IsTaken}
 use Rattle.blk_alloc.specs.Changes.{IsReady, map_of}
 use Rattle.blk_alloc.proofs.Formed.{agrees_kept}
 use Rattle.blk_alloc.proofs.Members.{member_all, member_head}
 use Rattle.blk_alloc.proofs.Kept.{fit_larger, standing_kept, standing_same}
 use Rattle.blk_alloc.proofs.Taken.{fit_passes, taking_fit}
-use Rattle.blk_alloc.specs.Giving.{IsAstrayOf}
+use Rattle.blk_alloc.specs.Fitting.{IsPlace}
+use Rattle.blk_io.specs.declared.fault.Damage.{Damage}
+use Rattle.blk_format.specs.Address.{block_word}
+use Rattle.blk_alloc.proofs.NotStanding.{place_resized, why_astray}
 use Rattle.blk_image.proofs.Footprints.{outside-refl}
-use Rattle.blk_disk.specs.Tables.{Agrees, files_of, stands_among}
+use Rattle.blk_disk.specs.Tables.{Agrees, stands_among}
 use Rattle.blk_alloc.proofs.TakenAfter.{ready_after, stops_after, taken_after, stands_after, formed_after}
 use Rattle.blk_image.specs.Steps.{after}
 use Rattle.blk_alloc.specs.Owning.{IsCause}
@@ -133,7 +136,7 @@ returns-clause-keeps g c = standing_kept c.args.files.now c.fit.new.self (fit_la
 pub returns-in_err-change-clause-cause : goal.returns-in_err-change-clause-cause
 returns-in_err-change-clause-cause g c =
     carried c.change.result c.from_residual-in_err-change.result c.in_err-change.field-0.0 _ c.in_err-change.was c.from_residual-in_err-change.ensures.1
-    (if_damaged_weaker c.change.result (IsCause (g.F.Folder.told c.fit.new.f) c.args.place.file c.args.place.start c.args.place.count true) (λ damage. ((told : Told) → told.files ≡ None → IsCause told c.args.place.file c.args.place.start c.args.place.count true damage) ⊎ IsAstrayOf c.fit.new.self (kind_number c.args.kind) damage)
+    (if_damaged_weaker c.change.result (IsCause (g.F.Folder.told c.fit.new.f) c.args.place.file c.args.place.start c.args.place.count true) (λ damage. ((told : Told) → told.files ≡ None → IsCause told c.args.place.file c.args.place.start c.args.place.count true damage) ⊎ IsAstray c.fit.new.self (kind_number c.args.kind) c.args.place damage)
     (λ damage cause. inl (λ told none. cause_before (g.F.Folder.told c.fit.new.f) told c.args.place.file c.args.place.start c.args.place.count true damage none cause)) c.change.ensures.cause)
 
 pub returns-in_err-change-clause-untold : goal.returns-in_err-change-clause-untold
@@ -156,11 +159,26 @@ pub returns-clause-blocks : goal.returns-clause-blocks
 returns-clause-blocks g c from there =
     fit_then_blocks c.args.files.now c.args.place.file from (c.requires.agrees from there) (member_all c.args.files.now c.args.kind c.args.place.file c.requires.blocky c.requires.place.linked) there c.in_ok-fit.ensures.fitted c.in_ok-change.ensures.outside
 
-pub returns-in_err-fit-clause-linked : goal.returns-in_err-fit-clause-linked
-returns-in_err-fit-clause-linked g c = ap (λ (files : BlockFiles). is_among (files_of files (kind_number c.args.kind)) c.args.place.file) c.in_err-fit.ensures.same ∙ c.requires.place.linked
+pub returns-in_err-fit-clause-place : goal.returns-in_err-fit-clause-place
+returns-in_err-fit-clause-place g c = subst (λ (files : BlockFiles). IsPlace files (kind_number c.args.kind) c.args.place.count c.args.place) (sym c.in_err-fit.ensures.same) c.requires.place
 
-pub returns-in_err-change-clause-linked : goal.returns-in_err-change-clause-linked
-returns-in_err-change-clause-linked g c = ap (λ (l : List ℕ). is_among l c.args.place.file) (c.in_ok-fit.ensures.kept.files (kind_number c.args.kind)) ∙ c.requires.place.linked
+pub returns-then-not-stands-clause-place : goal.returns-then-not-stands-clause-place
+returns-then-not-stands-clause-place g c = place_resized c.args.files.now c.fit.new.self (kind_number c.args.kind) c.args.place.count c.args.place.file _ c.args.place c.in_ok-fit.ensures.kept c.requires.place
 
-pub returns-clause-linked : goal.returns-clause-linked
-returns-clause-linked g c = ap (λ (l : List ℕ). is_among l c.args.place.file) (c.in_ok-fit.ensures.kept.files (kind_number c.args.kind)) ∙ c.requires.place.linked
+pub returns-in_err-change-clause-place : goal.returns-in_err-change-clause-place
+returns-in_err-change-clause-place g c = place_resized c.args.files.now c.fit.new.self (kind_number c.args.kind) c.args.place.count c.args.place.file _ c.args.place c.in_ok-fit.ensures.kept c.requires.place
+
+pub returns-clause-place : goal.returns-clause-place
+returns-clause-place g c = place_resized c.args.files.now c.fit.new.self (kind_number c.args.kind) c.args.place.count c.args.place.file _ c.args.place c.in_ok-fit.ensures.kept c.requires.place
+
+pub returns-then-not-stands-clause-cause : goal.returns-then-not-stands-clause-cause
+returns-then-not-stands-clause-cause g c =
+    let astray : stands_among c.fit.new.self (block_word (kind_number c.args.kind) c.args.place.file c.args.place.start c.args.place.count) ≡ false =
+    ap (stands_among c.fit.new.self) (sym c.address_of-addr.ensures.word) ∙ sym c.stands.ensures.among ∙ c.if-not-stands.true in
+    inr (record {
+      astray = astray;
+      why = why_astray c.args.files.now c.fit.new.self c.args.kind c.args.place c.requires.some c.requires.place c.in_ok-fit.ensures.kept astray;
+      of_file = ap (λ (damage : Damage). damage.file) c.astray.ensures;
+      at = ap (λ (damage : Damage). damage.at) c.astray.ensures;
+      found = ap (λ (damage : Damage). damage.found) c.astray.ensures;
+    })
