@@ -17,10 +17,11 @@ ghost use Rattle.blk_alloc.specs.Rebuilding.{AreFitted, AreItsAllocations, AreMa
 use crate::claimed::{count_runs, mark_claimed};
 use crate::finishing::finish;
 use crate::fitting::blocks_in;
-use crate::layout::{GROUP, MAP, MAP_LEN, UPDATING};
+use crate::layout::{GROUP, MAP_LEN};
 use blk_addr::Claims;
 use blk_disk::BlockFiles;
 use blk_io::{Failed, Fault, FileId, Folder, write_word};
+use blk_record::BlockHead;
 
 // The numbers of block files.
 const NUMBERS: u16 = 256;
@@ -44,7 +45,7 @@ fn write_map<F: Folder>(
 {
     let mut bytes = [0u8; MAP_LEN];
     mark_claimed(claims, file, &mut bytes);
-    f.write_at(FileId::Block(file), MAP, &bytes)?;
+    f.write_at(FileId::Block(file), BlockHead::MAP, &bytes)?;
     let mut empty = [0u32; 4];
     count_runs(&bytes, groups, &mut empty);
     Ok(empty)
@@ -76,7 +77,7 @@ fn remake<F: Folder>(f: &mut F, claims: &Claims, file: u8, groups: u32) -> Resul
     ensures later { F.faults f.old ≤ F.faults f.new }
     ensures failed { OnErr result (Rises (F.faults f.old) (F.faults f.new)) }
 {
-    write_word(f, FileId::Block(file), UPDATING, 1)?;
+    write_word(f, FileId::Block(file), BlockHead::UPDATING, 1)?;
     write_marks(f, claims, file, groups)
 }
 

@@ -17,51 +17,10 @@ ghost use Rattle.blk_alloc.specs.Taking.{blocks_place, IsAstray, IsTakeable, IsT
 
 use crate::blocks::Blocks;
 use crate::change::change;
-use crate::layout::BLOCKS;
 use blk_addr::{Addr, Kind};
 use blk_disk::BlockFiles;
 use blk_io::{Damage, Fault, FileId, Folder};
-
-const INITIALIZED: u32 = 0x8000_0000;
-
-const ONE_KIND: u32 = 0x1000_0000;
-
-const ONE_BLOCK: u32 = 0x100_0000;
-
-const ONE_FILE: u32 = 0x1_0000;
-
-// The number of a type.
-fn number_of(kind: Kind) -> u32
-    ensures { result ≡ kind_number kind }
-{
-    match kind {
-        Kind::External => 0,
-        Kind::Rankings => 1,
-        Kind::B256 => 2,
-        Kind::B1K => 3,
-        Kind::B4K => 4,
-    }
-}
-
-// The address of blocks of a type.
-pub(crate) fn address_of(kind: Kind, file: u8, start: u32, count: u32) -> Addr
-    requires blocky { kind_number kind ≢ external }
-    requires some { 0 < count }
-    requires group { start % 4 + count ≤ group_size }
-    requires small { start < 65536 }
-    requires node { kind_number kind ≡ rankings → count ≡ 1 }
-    ensures word { result ≡ address.block_word (kind_number kind) file start count }
-{
-    let word = INITIALIZED
-        + number_of(kind) * ONE_KIND
-        + (count - 1) * ONE_BLOCK
-        + u32::from(file) * ONE_FILE
-        + start;
-    match Addr::from_word(word) {
-        Some(addr) => addr,
-        None => unreachable!(),
-    }
-}
+use blk_record::BlockHead;
 
 // The damage where blocks of a file don't stand.
 fn astray(files: &BlockFiles, file: u8) -> Damage
@@ -73,7 +32,7 @@ fn astray(files: &BlockFiles, file: u8) -> Damage
     };
     Damage {
         file: FileId::Block(file),
-        at: BLOCKS,
+        at: BlockHead::MAX_ENTRIES,
         found,
     }
 }
@@ -108,7 +67,7 @@ pub(crate) fn take<F: Folder>(
     ensures device { IfDevice result (Rises (F.faults f.old) (F.faults f.new)) }
 {
     files.fit(f, place.file)?;
-    let addr = address_of(kind, place.file, place.start, place.count);
+    let addr = Addr::of_blocks(kind, place.file, place.start, place.count);
     if !files.stands(addr) {
         return Err(Fault::Damaged(astray(files, place.file)));
     }
