@@ -1,12 +1,11 @@
 // Maps and counters are made anew, from claims.
-ghost use Rattle.std.specs.Prelude.{◌≡◌, ℕ, ◌⊎◌, ◌+◌, ◌*◌, ◌/◌, ◌%◌, ◌<◌, ◌≤◌, [], ◌∷◌, true, None, length, max, slice_index, IfOk, OnOk, OnErr, IsTrue};
+ghost use Rattle.std.specs.Prelude.{◌≡◌, ℕ, ◌⊎◌, ◌+◌, ◌/◌, ◌<◌, ◌≤◌, [], ◌∷◌, true, None, max, slice_index, IfOk, OnOk, OnErr, IsTrue};
 ghost use Rattle.std.specs.Option.{ForSome};
 ghost use Rattle.blk_image.specs.Image.{Block as block, length_of};
 ghost use Rattle.blk_image.specs.Footprint.{SameOutside, range};
 ghost use Rattle.blk_image.specs.Told.{Passes, PassesTo, Rises};
-ghost use Rattle.blk_format.specs.BlockFiles.{is_among, max_entries_in, most_blocks, IsWellFormed};
+ghost use Rattle.blk_format.specs.BlockFiles.{is_among, max_entries_in, IsWellFormed};
 ghost use Rattle.blk_format.specs.Maps.{groups_of, groups_with, map_place};
-ghost use Rattle.blk_addr.specs.Bits.{has_bit};
 ghost use Rattle.blk_io.specs.Faults.{IfDamaged, IfDevice};
 ghost use Rattle.blk_disk.specs.Growth.{KeepsBlocks, whole_length};
 ghost use Rattle.blk_disk.specs.Tables.{Agrees, Resizes, all_files, files_of, length_in};
