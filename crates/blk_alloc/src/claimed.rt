@@ -6,16 +6,7 @@ ghost use Rattle.blk_alloc.specs.Counting.{counted};
 ghost use Rattle.blk_alloc.specs.Rebuilding.{is_block_claimed};
 
 use crate::map::{longest_run, set_mark};
-use crate::taking::address_of;
-use blk_addr::{Claims, Kind};
-
-// Whether a block of a file is claimed.
-fn is_claimed(claims: &Claims, file: u8, b: u32) -> bool
-    requires { b < 65536 }
-    ensures { result ≡ is_block_claimed claims.now file b }
-{
-    claims.has(address_of(Kind::Rankings, file, b, 1))
-}
+use blk_addr::Claims;
 
 // Marks the claimed blocks of a file, and no others.
 pub(crate) fn mark_claimed(claims: &Claims, file: u8, bytes: &mut [u8])
@@ -24,7 +15,7 @@ pub(crate) fn mark_claimed(claims: &Claims, file: u8, bytes: &mut [u8])
     ensures length { length bytes.new ≡ length bytes.old }
 {
     for m in 0..8 * bytes.len() as u32 {
-        let used = is_claimed(claims, file, m);
+        let used = claims.has_block(file, m);
         set_mark(bytes, m, used);
     }
 }

@@ -1,16 +1,13 @@
 // The counters of a block file's header.
-ghost use Rattle.std.specs.Prelude.{◌≡◌, ◌≤◌, ◌<◌, ◌+◌, ◌-◌, ◌*◌, ◌^◌, ◌≢◌, ℕ, Bool, length, slice_index, IfOk};
+ghost use Rattle.std.specs.Prelude.{◌≡◌, ◌≤◌, ◌<◌, ◌+◌, ◌-◌, ◌*◌, ℕ, length, slice_index, IfOk};
 ghost use Rattle.std.specs.Option.{ForSome};
 ghost use Rattle.blk_image.specs.Image.{Block as block, byte};
 ghost use Rattle.blk_image.specs.Told.{Stays, Rises};
 ghost use Rattle.blk_format.specs.Maps.{group_size};
 ghost use Rattle.blk_io.specs.Faults.{IfDamaged, IfDevice, IsShort};
 
-use crate::layout::{ALLOCATIONS, EMPTY};
 use blk_io::{Damage, Fault, FileId, Folder, read_exact};
 use blk_record::BlockHead;
-
-const FIELDS_LEN: usize = 80;
 
 // The number of allocations, and for each run of 1 to 4 blocks how many groups have it as their
 // longest free run.
@@ -32,7 +29,7 @@ impl Counters {
         ensures later { F.faults f.old ≤ F.faults f.new }
         ensures device { IfDevice result (Rises (F.faults f.old) (F.faults f.new)) }
     {
-        let mut bytes = [0u8; FIELDS_LEN];
+        let mut bytes = [0u8; BlockHead::LEN];
         read_exact(f, FileId::Block(file), 0, &mut bytes)?;
         let Some(head) = BlockHead::over(&bytes) else {
             unreachable!();
@@ -83,7 +80,7 @@ impl Counters {
         };
         match new {
             Some(allocations) => Ok(Counters { allocations, empty }),
-            None => Err(at_end(file, ALLOCATIONS, old)),
+            None => Err(at_end(file, BlockHead::ALLOCATIONS, old)),
         }
     }
 
@@ -102,7 +99,7 @@ impl Counters {
         let mut empty = self.empty;
         let old = empty[i];
         if old == 0 {
-            return Err(at_end(file, EMPTY + 4 * i as u64, old));
+            return Err(at_end(file, BlockHead::EMPTY + 4 * i as u64, old));
         }
         empty[i] = old - 1;
         Ok(Counters {
@@ -126,7 +123,7 @@ impl Counters {
         let mut empty = self.empty;
         let old = empty[i];
         if old == u32::MAX {
-            return Err(at_end(file, EMPTY + 4 * i as u64, old));
+            return Err(at_end(file, BlockHead::EMPTY + 4 * i as u64, old));
         }
         empty[i] = old + 1;
         Ok(Counters {

@@ -6,8 +6,8 @@ ghost use Rattle.blk_image.specs.Steps.{word_steps};
 ghost use Rattle.blk_image.specs.Told.{Grows, GrowsInPart, Rises};
 ghost use Rattle.blk_alloc.specs.Changes.{counter_words, finish_words};
 
-use crate::layout::{ALLOCATIONS, EMPTY, UPDATING};
 use blk_io::{Failed, FileId, Folder, write_run, write_word};
+use blk_record::BlockHead;
 
 // Writes the number of allocations of a file, and how many groups have each longest free run.
 fn write_counters<F: Folder>(
@@ -23,8 +23,8 @@ fn write_counters<F: Folder>(
     ensures later { F.faults f.old ≤ F.faults f.new }
     ensures failed { OnErr result (Rises (F.faults f.old) (F.faults f.new)) }
 {
-    write_word(f, FileId::Block(file), ALLOCATIONS, allocations)?;
-    write_run(f, FileId::Block(file), EMPTY, empty)
+    write_word(f, FileId::Block(file), BlockHead::ALLOCATIONS, allocations)?;
+    write_run(f, FileId::Block(file), BlockHead::EMPTY, empty)
 }
 
 // Writes the counters of a file, and then that its change is done.
@@ -42,5 +42,5 @@ pub(crate) fn finish<F: Folder>(
     ensures failed { OnErr result (Rises (F.faults f.old) (F.faults f.new)) }
 {
     write_counters(f, file, allocations, empty)?;
-    write_word(f, FileId::Block(file), UPDATING, 0)
+    write_word(f, FileId::Block(file), BlockHead::UPDATING, 0)
 }

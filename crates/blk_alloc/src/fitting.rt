@@ -12,11 +12,11 @@ ghost use Rattle.blk_alloc.specs.Fitting.{IsFitting, IsLeastFrom, IsPlace, IsSho
 ghost use Rattle.blk_format.specs.Address.{external};
 
 use crate::blocks::Blocks;
-use crate::layout::{MAP, MOST_BLOCKS};
 use crate::map::least_place;
 use blk_addr::Kind;
 use blk_disk::BlockFiles;
 use blk_io::{Fault, FileId, Folder, read_exact};
+use blk_record::BlockHead;
 
 // The bytes of the map that are read at once, and their blocks.
 const PIECE_LEN: usize = 1024;
@@ -45,7 +45,12 @@ fn least_in_piece<F: Folder>(
     ensures later { F.faults f.old ≤ F.faults f.new }
     ensures device { IfDevice result (Rises (F.faults f.old) (F.faults f.new)) }
 {
-    read_exact(f, FileId::Block(file), MAP + u64::from(first / 8), piece)?;
+    read_exact(
+        f,
+        FileId::Block(file),
+        BlockHead::MAP + u64::from(first / 8),
+        piece,
+    )?;
     match least_place(piece, blocks, count) {
         Some(b) => Ok(Some(first + b)),
         None => Ok(None),
@@ -83,7 +88,7 @@ pub(crate) fn blocks_in(files: &BlockFiles, file: u8) -> u32
     ensures blocks { is_among (all_files files.now) file ≡ true → result ≡ min (blocks_of files.now file) most_blocks }
 {
     match files.max_entries(file) {
-        Some(blocks) => blocks.min(MOST_BLOCKS),
+        Some(blocks) => blocks.min(BlockHead::MOST_BLOCKS),
         None => 0,
     }
 }

@@ -1,5 +1,5 @@
 // Files get room for blocks.
-ghost use Rattle.std.specs.Prelude.{◌≡◌, ◌≢◌, ◌+◌, ◌*◌, ◌/◌, ◌≤◌, ◌<◌, [], None, length, IfOk, OnOk, OnErr, IsTrue};
+ghost use Rattle.std.specs.Prelude.{◌≡◌, ◌≢◌, ◌*◌, ◌/◌, ◌≤◌, ◌<◌, [], None, length, IfOk, OnOk, OnErr, IsTrue};
 ghost use Rattle.std.specs.Option.{ForSome};
 ghost use Rattle.blk_image.specs.Footprint.{SameOutside, either};
 ghost use Rattle.blk_image.specs.Told.{Passes, Rises};
@@ -15,10 +15,11 @@ ghost use Rattle.blk_alloc.specs.Taking.{IsTakeable};
 
 use crate::blocks::Blocks;
 use crate::fitting::blocks_in;
-use crate::layout::{GROUP, MOST_BLOCKS};
+use crate::layout::GROUP;
 use blk_addr::Kind;
 use blk_disk::BlockFiles;
 use blk_io::{Failed, Folder};
+use blk_record::BlockHead;
 
 // Gives a file more blocks, of which the first ones are the place.
 pub(crate) fn grow_room<F: Folder>(
@@ -99,7 +100,7 @@ pub(crate) fn growing_file(files: &BlockFiles, kind: Kind) -> Option<u8>
         let Some(file) = files.file_at(kind, i) else {
             unreachable!();
         };
-        if blocks_in(files, file) < MOST_BLOCKS {
+        if blocks_in(files, file) < BlockHead::MOST_BLOCKS {
             return Some(file);
         }
     }

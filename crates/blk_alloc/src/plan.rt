@@ -1,5 +1,5 @@
 // The plan of a change of marks: what is read of a header, and what is to be written.
-ghost use Rattle.std.specs.Prelude.{◌≡◌, ◌⊎◌, ◌≤◌, ◌<◌, ◌+◌, ◌*◌, ◌%◌, ◌^◌, None, IfOk, OnOk, OnErr};
+ghost use Rattle.std.specs.Prelude.{◌≡◌, ◌≤◌, ◌<◌, ◌+◌, ◌*◌, ◌%◌, ◌^◌, None, IfOk, OnOk, OnErr};
 ghost use Rattle.std.specs.Option.{ForSome};
 ghost use Rattle.blk_image.specs.Image.{Block as block, length_of};
 ghost use Rattle.blk_image.specs.Steps.{word_steps};
@@ -9,9 +9,10 @@ ghost use Rattle.blk_io.specs.Faults.{IfDamaged, IfDevice};
 
 use crate::counters::Counters;
 use crate::finishing::finish;
-use crate::layout::{GROUP, MAP, UPDATING};
+use crate::layout::GROUP;
 use crate::map::{longest_run, set_marks, word_of};
 use blk_io::{Failed, Fault, FileId, Folder, read_exact, write_words};
+use blk_record::BlockHead;
 
 const BITS_OF_WORD: u32 = 32;
 
@@ -48,7 +49,7 @@ impl Plan {
         ensures device { IfDevice result (Rises (F.faults f.old) (F.faults f.new)) }
     {
         let counters = Counters::read(f, file)?;
-        let at = MAP + 4 * u64::from(start / BITS_OF_WORD);
+        let at = BlockHead::MAP + 4 * u64::from(start / BITS_OF_WORD);
         let mut bytes = [0u8; 4];
         read_exact(f, FileId::Block(file), at, &mut bytes)?;
         let first = start % BITS_OF_WORD;
@@ -70,7 +71,7 @@ impl Plan {
         ensures later { F.faults f.old ≤ F.faults f.new }
         ensures failed { OnErr result (Rises (F.faults f.old) (F.faults f.new)) }
     {
-        let words = [(UPDATING, 1), (self.at, self.word)];
+        let words = [(BlockHead::UPDATING, 1), (self.at, self.word)];
         write_words(f, FileId::Block(file), &words)?;
         finish(f, file, self.counters.allocations, &self.counters.empty)
     }

@@ -1,12 +1,11 @@
 // Maps and counters are made anew, from claims.
-ghost use Rattle.std.specs.Prelude.{◌≡◌, ℕ, ◌⊎◌, ◌+◌, ◌*◌, ◌/◌, ◌%◌, ◌<◌, ◌≤◌, [], ◌∷◌, true, None, length, max, slice_index, IfOk, OnOk, OnErr, IsTrue};
+ghost use Rattle.std.specs.Prelude.{◌≡◌, ℕ, ◌⊎◌, ◌+◌, ◌/◌, ◌<◌, ◌≤◌, [], ◌∷◌, true, None, max, slice_index, IfOk, OnOk, OnErr, IsTrue};
 ghost use Rattle.std.specs.Option.{ForSome};
 ghost use Rattle.blk_image.specs.Image.{Block as block, length_of};
 ghost use Rattle.blk_image.specs.Footprint.{SameOutside, range};
 ghost use Rattle.blk_image.specs.Told.{Passes, PassesTo, Rises};
-ghost use Rattle.blk_format.specs.BlockFiles.{is_among, max_entries_in, most_blocks, IsWellFormed};
+ghost use Rattle.blk_format.specs.BlockFiles.{is_among, max_entries_in, IsWellFormed};
 ghost use Rattle.blk_format.specs.Maps.{groups_of, groups_with, map_place};
-ghost use Rattle.blk_addr.specs.Bits.{has_bit};
 ghost use Rattle.blk_io.specs.Faults.{IfDamaged, IfDevice};
 ghost use Rattle.blk_disk.specs.Growth.{KeepsBlocks, whole_length};
 ghost use Rattle.blk_disk.specs.Tables.{Agrees, Resizes, all_files, files_of, length_in};
@@ -17,10 +16,11 @@ ghost use Rattle.blk_alloc.specs.Rebuilding.{AreFitted, AreItsAllocations, AreMa
 use crate::claimed::{count_runs, mark_claimed};
 use crate::finishing::finish;
 use crate::fitting::blocks_in;
-use crate::layout::{GROUP, MAP, MAP_LEN, UPDATING};
+use crate::layout::{GROUP, MAP_LEN};
 use blk_addr::Claims;
 use blk_disk::BlockFiles;
 use blk_io::{Failed, Fault, FileId, Folder, write_word};
+use blk_record::BlockHead;
 
 // The numbers of block files.
 const NUMBERS: u16 = 256;
@@ -44,7 +44,7 @@ fn write_map<F: Folder>(
 {
     let mut bytes = [0u8; MAP_LEN];
     mark_claimed(claims, file, &mut bytes);
-    f.write_at(FileId::Block(file), MAP, &bytes)?;
+    f.write_at(FileId::Block(file), BlockHead::MAP, &bytes)?;
     let mut empty = [0u32; 4];
     count_runs(&bytes, groups, &mut empty);
     Ok(empty)
@@ -76,7 +76,7 @@ fn remake<F: Folder>(f: &mut F, claims: &Claims, file: u8, groups: u32) -> Resul
     ensures later { F.faults f.old ≤ F.faults f.new }
     ensures failed { OnErr result (Rises (F.faults f.old) (F.faults f.new)) }
 {
-    write_word(f, FileId::Block(file), UPDATING, 1)?;
+    write_word(f, FileId::Block(file), BlockHead::UPDATING, 1)?;
     write_marks(f, claims, file, groups)
 }
 

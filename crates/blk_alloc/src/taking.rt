@@ -1,15 +1,14 @@
 // Blocks of a file are taken.
-ghost use Rattle.std.specs.Prelude.{◌≡◌, ◌≢◌, ◌⊎◌, ◌≤◌, ◌<◌, ◌+◌, ◌%◌, true, None, IfOk, OnOk, IsTrue};
+ghost use Rattle.std.specs.Prelude.{◌≡◌, ◌≢◌, ◌⊎◌, ◌≤◌, ◌<◌, true, None, IfOk, IsTrue};
 ghost use Rattle.std.specs.Option.{ForSome};
 ghost use Rattle.blk_image.specs.Told.{Passes, PassesTo, Rises, Told};
 ghost use Rattle.blk_format.specs.Address as address;
 ghost use Rattle.blk_format.specs.Address.{external, rankings};
 ghost use Rattle.blk_format.specs.BlockFiles.{is_among, IsWellFormed};
-ghost use Rattle.blk_format.specs.Maps.{group_size};
 ghost use Rattle.blk_addr.specs.Kind.{kind_number};
 ghost use Rattle.blk_io.specs.Faults.{IfDamaged, IfDevice};
 ghost use Rattle.blk_disk.specs.Growth.{KeepsBlocks};
-ghost use Rattle.blk_disk.specs.Tables.{Agrees, all_files, blocks_of, files_of, stands_among};
+ghost use Rattle.blk_disk.specs.Tables.{Agrees, all_files, blocks_of, stands_among};
 ghost use Rattle.blk_alloc.specs.Fitting.{IsPlace};
 ghost use Rattle.blk_alloc.specs.Making.{KeepsStanding};
 ghost use Rattle.blk_alloc.specs.Owning.{IsCause};
@@ -17,51 +16,10 @@ ghost use Rattle.blk_alloc.specs.Taking.{blocks_place, IsAstray, IsTakeable, IsT
 
 use crate::blocks::Blocks;
 use crate::change::change;
-use crate::layout::BLOCKS;
 use blk_addr::{Addr, Kind};
 use blk_disk::BlockFiles;
 use blk_io::{Damage, Fault, FileId, Folder};
-
-const INITIALIZED: u32 = 0x8000_0000;
-
-const ONE_KIND: u32 = 0x1000_0000;
-
-const ONE_BLOCK: u32 = 0x100_0000;
-
-const ONE_FILE: u32 = 0x1_0000;
-
-// The number of a type.
-fn number_of(kind: Kind) -> u32
-    ensures { result ≡ kind_number kind }
-{
-    match kind {
-        Kind::External => 0,
-        Kind::Rankings => 1,
-        Kind::B256 => 2,
-        Kind::B1K => 3,
-        Kind::B4K => 4,
-    }
-}
-
-// The address of blocks of a type.
-pub(crate) fn address_of(kind: Kind, file: u8, start: u32, count: u32) -> Addr
-    requires blocky { kind_number kind ≢ external }
-    requires some { 0 < count }
-    requires group { start % 4 + count ≤ group_size }
-    requires small { start < 65536 }
-    requires node { kind_number kind ≡ rankings → count ≡ 1 }
-    ensures word { result ≡ address.block_word (kind_number kind) file start count }
-{
-    let word = INITIALIZED
-        + number_of(kind) * ONE_KIND
-        + (count - 1) * ONE_BLOCK
-        + u32::from(file) * ONE_FILE
-        + start;
-    match Addr::from_word(word) {
-        Some(addr) => addr,
-        None => unreachable!(),
-    }
-}
+use blk_record::BlockHead;
 
 // The damage where blocks of a file don't stand.
 fn astray(files: &BlockFiles, file: u8) -> Damage
@@ -73,7 +31,7 @@ fn astray(files: &BlockFiles, file: u8) -> Damage
     };
     Damage {
         file: FileId::Block(file),
-        at: BLOCKS,
+        at: BlockHead::MAX_ENTRIES,
         found,
     }
 }
@@ -108,7 +66,7 @@ pub(crate) fn take<F: Folder>(
     ensures device { IfDevice result (Rises (F.faults f.old) (F.faults f.new)) }
 {
     files.fit(f, place.file)?;
-    let addr = address_of(kind, place.file, place.start, place.count);
+    let addr = Addr::of_blocks(kind, place.file, place.start, place.count);
     if !files.stands(addr) {
         return Err(Fault::Damaged(astray(files, place.file)));
     }

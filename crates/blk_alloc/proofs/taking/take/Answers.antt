@@ -95,7 +95,7 @@ returns-clause-taken g c from there takeable image now =
     let tk : ForSome (g.F.Folder.told c.args.f.now).files (λ image. IsTakeable image c.args.place) = λ image is. subst (λ (i : Image). IsTakeable i c.args.place) (some_inj (sym there ∙ is)) takeable in
     let ready = ready_after (g.F.Folder.told c.args.f.now) (g.F.Folder.told c.fit.new.f) c.args.files.now c.fit.new.self c.args.place c.requires.agrees (member_all c.args.files.now c.args.kind c.args.place.file c.requires.blocky c.requires.place.linked)
     c.in_ok-fit.ensures.fitted c.in_ok-fit.ensures.kept c.in_ok-fit.ensures.agrees tk in
-    subst (λ (w : ℕ). IsTaken c.args.files.now from w image) (sym c.address_of-addr.ensures.word)
+    subst (λ (w : ℕ). IsTaken c.args.files.now from w image) (sym c.of_blocks-addr.ensures)
     (taken_after (g.F.Folder.told c.args.f.now) (g.F.Folder.told c.fit.new.f) c.args.files.now c.fit.new.self c.args.place c.requires.agrees (member_all c.args.files.now c.args.kind c.args.place.file c.requires.blocky c.requires.place.linked)
     c.in_ok-fit.ensures.fitted c.in_ok-fit.ensures.kept c.in_ok-fit.ensures.agrees c.args.kind c.requires.blocky c.requires.some c.requires.node c.requires.place tk from there image (λ mid is. c.in_ok-change.ensures.done mid is (ready mid is) image now))
 
@@ -112,7 +112,7 @@ both s t not same is = clash (sym not ∙ same ∙ is)
 pub returns-then-not-stands-clause-untold : goal.returns-then-not-stands-clause-untold
 returns-then-not-stands-clause-untold g c takeable =
     untold_where (g.F.Folder.told c.args.f.now).files
-    (λ from there. both c.stands.result _ c.if-not-stands.true (c.stands.ensures.among ∙ ap (stands_among c.fit.new.self) c.address_of-addr.ensures.word)
+    (λ from there. both c.stands.result _ c.if-not-stands.true (c.stands.ensures.among ∙ ap (stands_among c.fit.new.self) c.of_blocks-addr.ensures)
     (stands_after (g.F.Folder.told c.args.f.now) (g.F.Folder.told c.fit.new.f) c.args.files.now c.fit.new.self c.args.place c.requires.agrees (member_all c.args.files.now c.args.kind c.args.place.file c.requires.blocky c.requires.place.linked)
     c.in_ok-fit.ensures.fitted c.in_ok-fit.ensures.kept c.in_ok-fit.ensures.agrees c.args.kind c.requires.blocky c.requires.some c.requires.node c.requires.place takeable from there))
 
@@ -174,7 +174,7 @@ returns-clause-place g c = place_resized c.args.files.now c.fit.new.self (kind_n
 pub returns-then-not-stands-clause-cause : goal.returns-then-not-stands-clause-cause
 returns-then-not-stands-clause-cause g c =
     let astray : stands_among c.fit.new.self (block_word (kind_number c.args.kind) c.args.place.file c.args.place.start c.args.place.count) ≡ false =
-    ap (stands_among c.fit.new.self) (sym c.address_of-addr.ensures.word) ∙ sym c.stands.ensures.among ∙ c.if-not-stands.true in
+    ap (stands_among c.fit.new.self) (sym c.of_blocks-addr.ensures) ∙ sym c.stands.ensures.among ∙ c.if-not-stands.true in
     inr (record {
       astray = astray;
       why = why_astray c.args.files.now c.fit.new.self c.args.kind c.args.place c.requires.some c.requires.place c.in_ok-fit.ensures.kept astray;
