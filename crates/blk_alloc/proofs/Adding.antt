@@ -14,7 +14,7 @@ use Rattle.blk_format.specs.Address.{block_size}
 use Rattle.blk_format.specs.Headers.{empty_of, allocations_of, max_entries_of, block_magic, version}
 use Rattle.blk_format.specs.Claims.{has_claim, is_in_file, repeats}
 use Rattle.blk_format.specs.BlockFiles.{is_among, max_entries_in, stands_in}
-use Rattle.blk_format.specs.Maps.{is_marked, groups_with, groups_of, AreAllocations, EmptyAgrees}
+use Rattle.blk_format.specs.Maps.{is_block_marked, groups_with, groups_of, AreAllocations, EmptyAgrees}
 use Rattle.blk_disk.specs.declared.tables.BlockFiles.{BlockFiles}
 use Rattle.blk_disk.specs.Tables.{Agrees, Joins, files_of, all_files}
 use Rattle.blk_image.specs.Steps.{after}
@@ -23,13 +23,13 @@ use Rattle.blk_image.proofs.Images.{other-word, with_file-same}
 use Rattle.blk_addr.specs.declared.kinds.Kind.{Kind}
 use Rattle.blk_addr.specs.Kind.{kind_number}
 use Rattle.blk_disk.specs.Growth.{IsLeastFree, free_number, last_file, add_steps, make_steps, link_steps}
-use Rattle.blk_disk.proofs.Joined.{among_types, by_kind, last_apart}
+use Rattle.blk_disk.proofs.Joined.{among_kinds, by_kind, last_apart}
 use Rattle.blk_disk.proofs.Additions.{new_header, made_is}
 use Rattle.blk_format.proofs.SpareHeaders.{other_file}
 use Rattle.blk_format.proofs.Among.{is_among_more}
 use Rattle.blk_alloc.specs.Making.{HasCounters, HasNoHints, KeepsFiles}
 use Rattle.blk_alloc.proofs.Changing.{byte_beside}
-use Rattle.blk_alloc.proofs.Kept.{apart, join_larger, types_kept}
+use Rattle.blk_alloc.proofs.Kept.{apart, join_larger, kinds_kept}
 use Rattle.blk_alloc.proofs.Widening.{Widens, allocations_more, mark_kept}
 
 -- past its first fields a new header has zeros
@@ -48,7 +48,7 @@ module _ (mid : Image) (kind n : ℕ) (file : mid (Block n) ≡ Some (new_header
   bytes_new : bytes_of mid (Block n) ≡ new_header kind n
   bytes_new = ap (λ (o : Option (List ℕ)). unwrap_or o []) file
 
-  unmarked_new : (b : ℕ) → is_marked mid n b ≡ false
+  unmarked_new : (b : ℕ) → is_block_marked mid n b ≡ false
   unmarked_new b =
       ap (λ (l : List ℕ). bit_at (content l (80 + b / 8)) (b % 8) == 1) bytes_new
       ∙ ap (λ (x : ℕ). bit_at x (b % 8) == 1) (zero_past kind n (80 + b / 8) (omega arith)) ∙ ap (λ (x : ℕ). x == 1) (bit_at-zero (b % 8))
@@ -76,7 +76,7 @@ module _ (mid : Image) (kind n : ℕ) (file : mid (Block n) ≡ Some (new_header
   unfolding EmptyAgrees groups_with
   new_empty i small =
       let none : empty_of (byte mid (Block n)) i ≡ 0 = ap (λ (l : List ℕ). empty_of (content l) i) bytes_new ∙ zero_word kind n (24 + 4 * i) (omega arith) in
-      none ∙ ap (λ (m : ℕ). groups_with (is_marked mid n) (m / 4) (i + 1)) (sym no_blocks)
+      none ∙ ap (λ (m : ℕ). groups_with (is_block_marked mid n) (m / 4) (i + 1)) (sym no_blocks)
 
   pub new_counters : HasCounters mid n
   new_counters = record { words = []; are = new_allocations; empty = new_empty; room = let none = new_allocations.counted in omega (arith, none) }
@@ -120,7 +120,7 @@ module _ (old new : BlockFiles) (from mid : Image) (kind n last : ℕ) (free : i
   -- it is among all files as it was
   pub all_kept : (f : ℕ) → is_among (all_files old) f ≡ true → is_among (all_files new) f ≡ true
   all_kept f there =
-      among_types new f ∙ (λ j. types_kept old new kind n free joins f 1 (apart old new kind n free joins f there) j || types_kept old new kind n free joins f 2 (apart old new kind n free joins f there) j || types_kept old new kind n free joins f 3 (apart old new kind n free joins f there) j || types_kept old new kind n free joins f 4 (apart old new kind n free joins f there) j) ∙ sym (among_types old f) ∙ there
+      among_kinds new f ∙ (λ j. kinds_kept old new kind n free joins f 1 (apart old new kind n free joins f there) j || kinds_kept old new kind n free joins f 2 (apart old new kind n free joins f there) j || kinds_kept old new kind n free joins f 3 (apart old new kind n free joins f there) j || kinds_kept old new kind n free joins f 4 (apart old new kind n free joins f there) j) ∙ sym (among_kinds old f) ∙ there
 
   -- the new file is among those of its type
   pub new_among : is_among (files_of new kind) n ≡ true
@@ -133,8 +133,8 @@ module _ (old new : BlockFiles) (from mid : Image) (kind n last : ℕ) (free : i
 -- the file after it was added
 pub added_file : (files : BlockFiles) (image : Image) (k : Kind) → kind_number k ≢ 0 → Agrees files image → length (files_of files (kind_number k)) < 60 → IsLeastFree files (free_number files)
     → after (add_steps files (kind_number k)) image (Block (free_number files)) ≡ Some (new_header (kind_number k) (free_number files))
-added_file files image k blocky agrees few least =
-    by_kind (λ (j : ℕ). length (files_of files j) < 60 → after (add_steps files j) image (Block (free_number files)) ≡ Some (new_header j (free_number files))) each k blocky few
+added_file files image k block_kind agrees few least =
+    by_kind (λ (j : ℕ). length (files_of files j) < 60 → after (add_steps files j) image (Block (free_number files)) ≡ Some (new_header j (free_number files))) each k block_kind few
   where
     each : (p : ℕ) → p < 4 → length (files_of files (suc p)) < 60 → after (add_steps files (suc p)) image (Block (free_number files)) ≡ Some (new_header (suc p) (free_number files))
     each p small room =

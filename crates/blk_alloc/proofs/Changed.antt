@@ -12,16 +12,16 @@ use Rattle.blk_image.specs.Footprint.{SameOutside}
 use Rattle.blk_image.proofs.Words.{word-beside, word-there, length-with_word}
 use Rattle.blk_image.proofs.Footprints.{same_word_outside}
 use Rattle.std.specs.Option.{ForSome}
-use Rattle.blk_image.specs.Told.{Told, Grows, GrowsInPart, PassesTo, Until}
+use Rattle.blk_image.specs.Told.{Told, Applies, AppliesPrefix, PassesTo, Until}
 use Rattle.blk_image.proofs.Runs.{passes_weaker, passes_part, some_inj, told_whole}
 use Rattle.blk_image.proofs.WordSteps.{quiet-word_steps}
 use Rattle.blk_format.specs.Headers.{allocations_of, empty_of, updating_of}
-use Rattle.blk_format.specs.Maps.{is_marked, longest_run, groups_with, groups_of, EmptyAgrees}
+use Rattle.blk_format.specs.Maps.{is_block_marked, longest_run, groups_with, groups_of, EmptyAgrees}
 use Rattle.blk_format.specs.BlockFiles.{max_entries_in, most_blocks}
 use Rattle.blk_addr.specs.Bits.{has_bit, is_between}
 use Rattle.blk_alloc.specs.declared.plan.Plan.{Plan}
 use Rattle.blk_alloc.specs.Counting.{counted}
-use Rattle.blk_alloc.specs.Changes.{map_of, plan_words, with_marks, IsPlan, IsReady, IsMidst, IsChanged}
+use Rattle.blk_alloc.specs.Changes.{map_of, plan_words, with_marks, IsPlan, IsReady, IsMapInProgress, IsChanged}
 use Rattle.blk_alloc.proofs.Groups.{longest_run-same, count-changed, counted_most, one}
 use Rattle.blk_alloc.proofs.Plans.{group_there}
 use Rattle.blk_alloc.proofs.Changing.{bytes_after, byte_beside, byte_there, ended, ended_is, ended_same, plan_until}
@@ -149,18 +149,18 @@ module _ (from : Image) (n start count : ℕ) (used : Bool) (plan : Plan) (ready
   abbrev new : ℕ → ℕ
   new = content (with_words (plan_words plan) (bytes_of from f))
 
-  marks_are : (b : ℕ) → b < most_blocks → is_marked image n b ≡ with_marks (is_marked from n) start count used b
+  marks_are : (b : ℕ) → b < most_blocks → is_block_marked image n b ≡ with_marks (is_block_marked from n) start count used b
   marks_are b small = ap (λ (l : List ℕ). bit_at (content l (80 + b / 8)) (b % 8) == 1) bytes_are ∙ ⊎_elim here elsewhere (cases_eq (b / 32) (start / 32))
     where
-      here : b / 32 ≡ start / 32 → (bit_at (new (80 + b / 8)) (b % 8) == 1) ≡ with_marks (is_marked from n) start count used b
+      here : b / 32 ≡ start / 32 → (bit_at (new (80 + b / 8)) (b % 8) == 1) ≡ with_marks (is_block_marked from n) start count used b
       here e =
           sym (bit_here plan (start / 32) is.at few (bytes_of from f) ready.header b e) ∙ is.bits (b % 32) (omega arith)
-          ∙ ap (with_marks (is_marked from n) start count used) {x = 32 * (start / 32) + b % 32} {y = b} (omega (arith, e))
+          ∙ ap (with_marks (is_block_marked from n) start count used) {x = 32 * (start / 32) + b % 32} {y = b} (omega (arith, e))
 
-      elsewhere : b / 32 ≢ start / 32 → (bit_at (new (80 + b / 8)) (b % 8) == 1) ≡ with_marks (is_marked from n) start count used b
+      elsewhere : b / 32 ≢ start / 32 → (bit_at (new (80 + b / 8)) (b % 8) == 1) ≡ with_marks (is_block_marked from n) start count used b
       elsewhere apart =
           ap (λ (x : ℕ). x == 1) (bit_elsewhere plan (start / 32) is.at few (bytes_of from f) ready.header b apart)
-          ∙ ap (λ (t : Bool). if t then used else is_marked from n b) (sym (outside_word start count b group apart))
+          ∙ ap (λ (t : Bool). if t then used else is_block_marked from n b) (sym (outside_word start count b group apart))
 
   same : SameOutside (map_of n) from image
   same = ended_same n plan low high from ready.header
@@ -174,20 +174,20 @@ module _ (from : Image) (n start count : ℕ) (used : Bool) (plan : Plan) (ready
   groups = groups_of (max_entries_in from n)
 
   abbrev before : ℕ
-  before = longest_run (is_marked from n) (start / 4)
+  before = longest_run (is_block_marked from n) (start / 4)
 
   abbrev later : ℕ
-  later = longest_run (with_marks (is_marked from n) start count used) (start / 4)
+  later = longest_run (with_marks (is_block_marked from n) start count used) (start / 4)
 
-  later_is : longest_run (is_marked image n) (start / 4) ≡ later
-  later_is = longest_run-same (is_marked image n) (with_marks (is_marked from n) start count used) (start / 4) (start / 4) (λ i small. marks_are (4 * (start / 4) + i) (let below = ready.below in let most = ready.most in omega (arith, below, most, some, group)))
+  later_is : longest_run (is_block_marked image n) (start / 4) ≡ later
+  later_is = longest_run-same (is_block_marked image n) (with_marks (is_block_marked from n) start count used) (start / 4) (start / 4) (λ i small. marks_are (4 * (start / 4) + i) (let below = ready.below in let most = ready.most in omega (arith, below, most, some, group)))
 
-  other_group : (g : ℕ) → g < groups → g ≢ start / 4 → longest_run (is_marked from n) g ≡ longest_run (is_marked image n) g
+  other_group : (g : ℕ) → g < groups → g ≢ start / 4 → longest_run (is_block_marked from n) g ≡ longest_run (is_block_marked image n) g
   other_group g there apart =
-      longest_run-same (is_marked from n) (is_marked image n) g g
+      longest_run-same (is_block_marked from n) (is_block_marked image n) g g
       (λ i small.
       let out : is_between start (start + count) (4 * g + i) ≡ false = grind (arith, nat_tests) in
-      sym (marks_are (4 * g + i) (let most = ready.most in omega (arith, most, there)) ∙ ap (λ (t : Bool). if t then used else is_marked from n (4 * g + i)) out))
+      sym (marks_are (4 * g + i) (let most = ready.most in omega (arith, most, there)) ∙ ap (λ (t : Bool). if t then used else is_block_marked from n (4 * g + i)) out))
 
   counted_once : (run i : ℕ) → counted run i ≤ 1
   counted_once run i = by_test (run == i + 1)
@@ -199,8 +199,8 @@ module _ (from : Image) (n start count : ℕ) (used : Bool) (plan : Plan) (ready
   empty_true : EmptyAgrees image n
   unfolding EmptyAgrees groups_with
   empty_true i small =
-      let p : ℕ → Bool = λ g. longest_run (is_marked from n) g == i + 1 in
-      let q : ℕ → Bool = λ g. longest_run (is_marked image n) g == i + 1 in
+      let p : ℕ → Bool = λ g. longest_run (is_block_marked from n) g == i + 1 in
+      let q : ℕ → Bool = λ g. longest_run (is_block_marked image n) g == i + 1 in
       let changed : count_by q (range_with_len 0 groups) + one (p (start / 4)) ≡ count_by p (range_with_len 0 groups) + one (q (start / 4)) =
       count-changed p q (start / 4) 0 groups (omega arith) (omega (arith, group_there from n start count used ready some)) (λ g low there apart. ap (λ (r : ℕ). r == i + 1) (other_group g (omega (arith, there)) apart)) in
       let was : empty_of (byte from f) i ≡ count_by p (range_with_len 0 groups) = ready.empty i small in
@@ -213,7 +213,7 @@ module _ (from : Image) (n start count : ℕ) (used : Bool) (plan : Plan) (ready
       fitting : (i : ℕ) → i < 4 → slice_index plan.counters.empty i < 2 ^ 32
       fitting i small =
           let was = ready.empty i small in
-          let most = counted_most (λ g. longest_run (is_marked from n) g == i + 1) 0 groups in
+          let most = counted_most (λ g. longest_run (is_block_marked from n) g == i + 1) 0 groups in
           let moved = is.empty i small in
           let blocks = ready.most in
           omega (arith, was, most, moved, blocks, counted_once later i)
@@ -231,22 +231,22 @@ module _ (from : Image) (n start count : ℕ) (used : Bool) (plan : Plan) (ready
   }
 
   -- what a front of the plan's words leaves at each moment
-  pub change_stops : {a b : Told} → a.files ≡ Some from → GrowsInPart a b (word_steps f (plan_words plan)) → PassesTo a b (IsMidst n from) (λ i. IsMidst n from i ⊎ IsChanged from n start count used i)
+  pub change_stops : {a b : Told} → a.files ≡ Some from → AppliesPrefix a b (word_steps f (plan_words plan)) → PassesTo a b (IsMapInProgress n from) (λ i. IsMapInProgress n from i ⊎ IsChanged from n start count used i)
   change_stops {a} {b} there part =
-      let Q : Image → Type 0 = λ i. IsMidst n from i ⊎ IsChanged from n start count used i in
-      passes_part (IsMidst n from) Q part (quiet-word_steps f (plan_words plan)) (λ i midst. inl midst)
-      (λ i is_. subst (λ (j : Image). Until (IsMidst n from) Q j (word_steps f (plan_words plan))) (some_inj (sym there ∙ is_)) (plan_until n plan low high from Q ready.header (inr changed_is)))
+      let Q : Image → Type 0 = λ i. IsMapInProgress n from i ⊎ IsChanged from n start count used i in
+      passes_part (IsMapInProgress n from) Q part (quiet-word_steps f (plan_words plan)) (λ i midst. inl midst)
+      (λ i is_. subst (λ (j : Image). Until (IsMapInProgress n from) Q j (word_steps f (plan_words plan))) (some_inj (sym there ∙ is_)) (plan_until n plan low high from Q ready.header (inr changed_is)))
 
   -- all of its words make the change
-  pub change_done : {a b : Told} → a.files ≡ Some from → Grows a b (word_steps f (plan_words plan)) → ForSome b.files (IsChanged from n start count used)
+  pub change_done : {a b : Told} → a.files ≡ Some from → Applies a b (word_steps f (plan_words plan)) → ForSome b.files (IsChanged from n start count used)
   change_done {a} {b} there grows =
       told_whole (IsChanged from n start count used) grows
       (λ i is_. subst (λ (j : Image). IsChanged from n start count used (after (word_steps f (plan_words plan)) j)) (some_inj (sym there ∙ is_)) (subst (IsChanged from n start count used) (sym (ended_is n plan low high from)) changed_is))
 
 -- at each moment of the plan only map and counters differ
-pub change_outside : (from : Image) (n : ℕ) (plan : Plan) → 80 ≤ plan.at → plan.at + 4 ≤ 8192 → 8192 ≤ length_of from (Block n) → {a b : Told} → a.files ≡ Some from → GrowsInPart a b (word_steps (Block n) (plan_words plan)) → PassesTo a b (SameOutside (map_of n) from) (SameOutside (map_of n) from)
+pub change_outside : (from : Image) (n : ℕ) (plan : Plan) → 80 ≤ plan.at → plan.at + 4 ≤ 8192 → 8192 ≤ length_of from (Block n) → {a b : Told} → a.files ≡ Some from → AppliesPrefix a b (word_steps (Block n) (plan_words plan)) → PassesTo a b (SameOutside (map_of n) from) (SameOutside (map_of n) from)
 change_outside from n plan low high long {a} {b} there part =
     passes_weaker
-    (passes_part (IsMidst n from) (SameOutside (map_of n) from) part (quiet-word_steps (Block n) (plan_words plan)) (λ i midst. midst.same)
-    (λ i is. subst (λ (j : Image). Until (IsMidst n from) (SameOutside (map_of n) from) j (word_steps (Block n) (plan_words plan))) (some_inj (sym there ∙ is)) (plan_until n plan low high from (SameOutside (map_of n) from) long (ended_same n plan low high from long))))
+    (passes_part (IsMapInProgress n from) (SameOutside (map_of n) from) part (quiet-word_steps (Block n) (plan_words plan)) (λ i midst. midst.same)
+    (λ i is. subst (λ (j : Image). Until (IsMapInProgress n from) (SameOutside (map_of n) from) j (word_steps (Block n) (plan_words plan))) (some_inj (sym there ∙ is)) (plan_until n plan low high from (SameOutside (map_of n) from) long (ended_same n plan low high from long))))
     (λ i midst. midst.same) (λ i same. same)

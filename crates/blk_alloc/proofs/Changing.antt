@@ -13,7 +13,7 @@ use Rattle.blk_image.proofs.Footprints.{outside-refl, outside-trans, outside_wid
 use Rattle.blk_image.proofs.Runs.{until_both, until_weaker2, until-append, until_last}
 use Rattle.blk_image.proofs.WordSteps.{along_over, StaysOver}
 use Rattle.blk_alloc.specs.declared.plan.Plan.{Plan}
-use Rattle.blk_alloc.specs.Changes.{map_of, plan_words, IsMidst}
+use Rattle.blk_alloc.specs.Changes.{map_of, plan_words, IsMapInProgress}
 use Rattle.blk_alloc.proofs.Groups.{one}
 
 -- one within another within a third
@@ -54,7 +54,7 @@ module _ (n : ℕ) where
       (within-trans (range (Block n) 80 8112) updated (map_of n) (within_right (one_word (Block n) 56) (range (Block n) 80 8112)) inner)
 
 -- no step was made
-pub midst_begin : (n : ℕ) (from : Image) → IsMidst n from from
+pub midst_begin : (n : ℕ) (from : Image) → IsMapInProgress n from from
 midst_begin n from = record { same = outside-refl (map_of n) from; updating = inr (outside-refl (one_word (Block n) 56) from) }
 
 -- the words between the two of updating
@@ -146,22 +146,22 @@ module _ (n : ℕ) (plan : Plan) (low : 80 ≤ plan.at) (high : plan.at + 4 ≤ 
   marked_begun from long = ap (λ (b : List ℕ). word_at (content b) 56) (bytes_of-written from file 56 (word_bytes 1)) ∙ unfold with_word in word-there 56 1 (bytes_of from file) (lit< tt) (omega (arith, long))
 
   -- at each moment before the last word the change is under way
-  midst_along : (from : Image) → 8192 ≤ length_of from file → Until (IsMidst n from) (IsMidst n from) (begun from) (word_steps file (inner_words plan))
+  midst_along : (from : Image) → 8192 ≤ length_of from file → Until (IsMapInProgress n from) (IsMapInProgress n from) (begun from) (word_steps file (inner_words plan))
   midst_along from long =
       let both : Until (λ i. SameOutside (map_of n) from i × Marked (bytes_of i file)) (λ i. SameOutside (map_of n) from i × Marked (bytes_of i file)) (begun from) (word_steps file (inner_words plan)) =
       until_both (SameOutside (map_of n) from) (λ i. Marked (bytes_of i file)) (SameOutside (map_of n) from) (λ i. Marked (bytes_of i file)) (word_steps file (inner_words plan)) (begun from)
       (outside_steps (map_of n) (word_steps file (inner_words plan)) from (begun from) inner_within (begun_same from))
       (along_over Marked file (inner_words plan) (begun from) stays (marked_begun from long)) in
-      let midst : (i : Image) → SameOutside (map_of n) from i × Marked (bytes_of i file) → IsMidst n from i = λ i h. record { same = h.0; updating = inl h.1 } in
-      until_weaker2 (λ i. SameOutside (map_of n) from i × Marked (bytes_of i file)) (IsMidst n from) (λ i. SameOutside (map_of n) from i × Marked (bytes_of i file)) (IsMidst n from) (word_steps file (inner_words plan)) (begun from) midst midst both
+      let midst : (i : Image) → SameOutside (map_of n) from i × Marked (bytes_of i file) → IsMapInProgress n from i = λ i h. record { same = h.0; updating = inl h.1 } in
+      until_weaker2 (λ i. SameOutside (map_of n) from i × Marked (bytes_of i file)) (IsMapInProgress n from) (λ i. SameOutside (map_of n) from i × Marked (bytes_of i file)) (IsMapInProgress n from) (word_steps file (inner_words plan)) (begun from) midst midst both
 
   -- the steps of the plan
-  pub plan_until : (from : Image) (Q : Image → Type 0) → 8192 ≤ length_of from file → Q (ended from) → Until (IsMidst n from) Q from (word_steps file (plan_words plan))
+  pub plan_until : (from : Image) (Q : Image → Type 0) → 8192 ≤ length_of from file → Q (ended from) → Until (IsMapInProgress n from) Q from (word_steps file (plan_words plan))
   unfolding word_step
   plan_until from Q long last = (
     midst_begin n from,
-    until-append (IsMidst n from) Q (word_steps file (inner_words plan)) (Word file 56 (word_bytes 0) ∷ []) (begun from) (midst_along from long)
-        (until_last (IsMidst n from) (IsMidst n from) (word_steps file (inner_words plan)) (begun from) (midst_along from long), last),
+    until-append (IsMapInProgress n from) Q (word_steps file (inner_words plan)) (Word file 56 (word_bytes 0) ∷ []) (begun from) (midst_along from long)
+        (until_last (IsMapInProgress n from) (IsMapInProgress n from) (word_steps file (inner_words plan)) (begun from) (midst_along from long), last),
   )
 
   pub ended_is : (from : Image) → after (word_steps file (plan_words plan)) from ≡ ended from
@@ -169,4 +169,4 @@ module _ (n : ℕ) (plan : Plan) (low : 80 ≤ plan.at) (high : plan.at + 4 ≤ 
   ended_is from = refl
 
   pub ended_same : (from : Image) → 8192 ≤ length_of from file → SameOutside (map_of n) from (ended from)
-  ended_same from long = step_within from (written from) (ended from) 0 refl (until_last (IsMidst n from) (IsMidst n from) (word_steps file (inner_words plan)) (begun from) (midst_along from long)).same
+  ended_same from long = step_within from (written from) (ended from) 0 refl (until_last (IsMapInProgress n from) (IsMapInProgress n from) (word_steps file (inner_words plan)) (begun from) (midst_along from long)).same

@@ -8,14 +8,14 @@ use Rattle.blk_image.specs.Bytes.{content, word_bytes}
 use Rattle.blk_image.specs.Image.{Image, File, Block, byte, bytes_of, length_of, same_file}
 use Rattle.blk_image.specs.Steps.{Word, after, word_step, word_steps, with_word, with_words}
 use Rattle.blk_image.specs.Footprint.{Footprint, SameOutside, IsWithin, either, nothing, one_word, range, touched_by_all}
-use Rattle.blk_image.specs.Told.{Told, Grows, GrowsInPart, PassesTo, Until}
+use Rattle.blk_image.specs.Told.{Told, Applies, AppliesPrefix, PassesTo, Until}
 use Rattle.blk_image.proofs.Words.{word-beside, word-there, length-with_word}
 use Rattle.blk_image.proofs.Footprints.{outside-refl, outside-trans, outside_wider, outside_steps, outside_write, within_left, within_right, within_both, range_within, same_word_outside}
 use Rattle.blk_image.proofs.Runs.{passes_part, until-append, until_last, told_whole, some_inj}
 use Rattle.blk_image.proofs.WordSteps.{quiet-word_steps}
 use Rattle.blk_format.specs.Headers.{allocations_of, empty_of, updating_of}
 use Rattle.blk_format.specs.BlockFiles.{max_entries_in, most_blocks}
-use Rattle.blk_format.specs.Maps.{is_marked, groups_of, groups_with, EmptyAgrees}
+use Rattle.blk_format.specs.Maps.{is_block_marked, groups_of, groups_with, EmptyAgrees}
 use Rattle.blk_addr.specs.Claims.{allocations_in}
 use Rattle.blk_addr.specs.declared.claim_set.Claims.{Claims}
 use Rattle.blk_alloc.specs.Changes.{map_of}
@@ -58,12 +58,12 @@ module _ (n : ℕ) where
       by_test false k low high = refl
 
 -- a header has its length after a word
-pub word_kept : {a b : Told} (n at value : ℕ) → Grows a b (word_step (Block n) at value) → ForSome a.files (λ image. 8192 ≤ length_of image (Block n)) → ForSome b.files (λ image. 8192 ≤ length_of image (Block n))
+pub word_kept : {a b : Told} (n at value : ℕ) → Applies a b (word_step (Block n) at value) → ForSome a.files (λ image. 8192 ≤ length_of image (Block n)) → ForSome b.files (λ image. 8192 ≤ length_of image (Block n))
 unfolding word_step
 word_kept {a} {b} n at value grows long = told_whole (λ image. 8192 ≤ length_of image (Block n)) grows (λ from there. let e = (outside_write (Block n) at (word_bytes value) from).lengths (Block n) refl in let was = long from there in omega (arith, e, was))
 
 -- and after two
-pub two_kept : {a b : Told} (n p v q w : ℕ) → Grows a b (word_steps (Block n) ((p, v) ∷ (q, w) ∷ [])) → ForSome a.files (λ image. 8192 ≤ length_of image (Block n)) → ForSome b.files (λ image. 8192 ≤ length_of image (Block n))
+pub two_kept : {a b : Told} (n p v q w : ℕ) → Applies a b (word_steps (Block n) ((p, v) ∷ (q, w) ∷ [])) → ForSome a.files (λ image. 8192 ≤ length_of image (Block n)) → ForSome b.files (λ image. 8192 ≤ length_of image (Block n))
 unfolding word_step
 two_kept {a} {b} n p v q w grows long =
     told_whole (λ image. 8192 ≤ length_of image (Block n)) grows
@@ -106,7 +106,7 @@ module _ (n a e0 e1 e2 e3 : ℕ) where
   counters_along from mid same = outside_steps (counts_of n) (word_steps f counter_words) from mid counters_within same
 
   -- a header has its length after the counters
-  pub counters_kept : {b c : Told} → Grows b c (word_steps f counter_words) → ForSome b.files (λ image. 8192 ≤ length_of image f) → ForSome c.files (λ image. 8192 ≤ length_of image f)
+  pub counters_kept : {b c : Told} → Applies b c (word_steps f counter_words) → ForSome b.files (λ image. 8192 ≤ length_of image f) → ForSome c.files (λ image. 8192 ≤ length_of image f)
   counters_kept {b} {c} grows long =
       told_whole (λ image. 8192 ≤ length_of image f) grows
       (λ from there. let e = (until_last (SameOutside (counts_of n) from) (SameOutside (counts_of n) from) (word_steps f counter_words) from (counters_along from from (outside-refl (counts_of n) from))).lengths f refl in
@@ -204,7 +204,7 @@ module _ (claims : Claims) (n groups a e0 e1 e2 e3 : ℕ) (from mid : Image) (sa
   bytes_are : bytes_of image (Block n) ≡ with_words (last_words n a e0 e1 e2 e3) (bytes_of mid (Block n))
   bytes_are = bytes_after (Block n) (last_words n a e0 e1 e2 e3) mid
 
-  marks_are : (b : ℕ) → b < most_blocks → is_marked image n b ≡ is_block_claimed claims n b
+  marks_are : (b : ℕ) → b < most_blocks → is_block_marked image n b ≡ is_block_claimed claims n b
   marks_are b below =
       ap (λ (x : ℕ). bit_at x (b % 8) == 1) (ap (λ (l : List ℕ). content l (80 + b / 8)) bytes_are ∙ map_stays a e0 e1 e2 e3 (bytes_of mid (Block n)) long (80 + b / 8) (omega arith))
       ∙ marks b below
@@ -222,11 +222,11 @@ module _ (claims : Claims) (n groups a e0 e1 e2 e3 : ℕ) (from mid : Image) (sa
   run_fits : (e run : ℕ) → e ≡ groups_with (is_block_claimed claims n) groups run → e < 2 ^ 32
   run_fits e run is = let most = groups_most (is_block_claimed claims n) groups run in omega (arith, is, most, few)
 
-  at_run : (i e : ℕ) → e ≡ groups_with (is_block_claimed claims n) groups (i + 1) → empty_of (byte image (Block n)) i ≡ e → empty_of (byte image (Block n)) i ≡ groups_with (is_marked image n) (groups_of (max_entries_in image n)) (i + 1)
+  at_run : (i e : ℕ) → e ≡ groups_with (is_block_claimed claims n) groups (i + 1) → empty_of (byte image (Block n)) i ≡ e → empty_of (byte image (Block n)) i ≡ groups_with (is_block_marked image n) (groups_of (max_entries_in image n)) (i + 1)
   at_run i e is read =
       read ∙ is
-      ∙ groups_same (is_block_claimed claims n) (is_marked image n) groups (i + 1) (λ b below. sym (marks_are b (omega (arith, below, few))))
-      ∙ ap (λ (k : ℕ). groups_with (is_marked image n) k (i + 1)) (groups_are ∙ ap groups_of (sym blocks_same))
+      ∙ groups_same (is_block_claimed claims n) (is_block_marked image n) groups (i + 1) (λ b below. sym (marks_are b (omega (arith, below, few))))
+      ∙ ap (λ (k : ℕ). groups_with (is_block_marked image n) k (i + 1)) (groups_are ∙ ap groups_of (sym blocks_same))
 
   read : (i e : ℕ) → empty_of (content (with_words (last_words n a e0 e1 e2 e3) (bytes_of mid (Block n)))) i ≡ e → empty_of (byte image (Block n)) i ≡ e
   read i e is = ap (λ (l : List ℕ). empty_of (content l) i) bytes_are ∙ is
@@ -248,7 +248,7 @@ module _ (claims : Claims) (n groups a e0 e1 e2 e3 : ℕ) (from mid : Image) (sa
   }
 
   -- what a front of the words leaves at each moment
-  pub finish_stops : {b c : Told} → b.files ≡ Some mid → GrowsInPart b c (word_steps (Block n) (last_words n a e0 e1 e2 e3))
+  pub finish_stops : {b c : Told} → b.files ≡ Some mid → AppliesPrefix b c (word_steps (Block n) (last_words n a e0 e1 e2 e3))
       → PassesTo b c (SameOutside (counts_of n) from) (λ i. SameOutside (counts_of n) from i ⊎ (SameOutside (map_of n) from i × IsRebuilt claims i n))
   finish_stops {b} {c} there part =
       let Q : Image → Type 0 = λ i. SameOutside (counts_of n) from i ⊎ (SameOutside (map_of n) from i × IsRebuilt claims i n) in
@@ -257,6 +257,6 @@ module _ (claims : Claims) (n groups a e0 e1 e2 e3 : ℕ) (from mid : Image) (sa
       (finish_until n a e0 e1 e2 e3 from mid Q same (inr (finished_same n a e0 e1 e2 e3 from mid same, rebuilt_is))))
 
   -- all of them
-  pub finish_done : {b c : Told} → b.files ≡ Some mid → Grows b c (word_steps (Block n) (last_words n a e0 e1 e2 e3)) → ForSome c.files (λ i. IsRebuilt claims i n)
+  pub finish_done : {b c : Told} → b.files ≡ Some mid → Applies b c (word_steps (Block n) (last_words n a e0 e1 e2 e3)) → ForSome c.files (λ i. IsRebuilt claims i n)
   finish_done {b} {c} there grows =
       told_whole (λ i. IsRebuilt claims i n) grows (λ i is. subst (λ (j : Image). IsRebuilt claims (after (word_steps (Block n) (last_words n a e0 e1 e2 e3)) j) n) (some_inj (sym there ∙ is)) rebuilt_is)

@@ -2,7 +2,7 @@
 use Rattle.std.proofs.Common.{◌≡◌, ◌≢◌, ℕ, ◌+◌, ◌*◌, ◌<◌, ◌≤◌, List, true, false, max, refl, sym, ◌∙◌, ap, ap₂, subst, arith, ⊎_elim}
 use Rattle.std.proofs.lemmas.Bool.{cases_eq, cases_lt}
 use Rattle.blk_format.specs.Address.{header_size}
-use Rattle.blk_format.specs.BlockFiles.{is_among, type_among}
+use Rattle.blk_format.specs.BlockFiles.{is_among, kind_among}
 use Rattle.blk_disk.specs.declared.tables.BlockFiles.{BlockFiles}
 use Rattle.blk_disk.specs.Tables.{files_of, all_files, blocks_of, length_in, Resizes}
 use Rattle.blk_disk.specs.Growth.{size_as, whole_length}
@@ -22,7 +22,7 @@ none_fitted files = record { files = λ kind. refl; all = refl; blocks = λ n. r
 -- the length that a file is to have stays
 whole_same : (old new : BlockFiles) (n : ℕ) → ((kind : ℕ) → files_of new kind ≡ files_of old kind) → ((m : ℕ) → blocks_of new m ≡ blocks_of old m) → whole_length new n ≡ whole_length old n
 unfolding whole_length
-whole_same old new n files blocks = λ j. header_size + blocks n j * size_as (type_among (λ kind. files kind j) n)
+whole_same old new n files blocks = λ j. header_size + blocks n j * size_as (kind_among (λ kind. files kind j) n)
 
 -- one file more is lengthened
 pub one_fitted : (old mid new : BlockFiles) (n : ℕ) → HasFitted old mid n → Resizes mid new n (max (length_in mid n) (whole_length mid n)) → HasFitted old new (n + 1)
@@ -58,7 +58,7 @@ none_more old mid n apart before = record {
 -- what stood among the files still does
 pub fitted_larger : (old new : BlockFiles) (count : ℕ) → HasFitted old new count → IsLarger old new
 fitted_larger old new count fitted = record {
-  types = λ f there j. type_among (λ kind. fitted.files kind j) f;
+  types = λ f there j. kind_among (λ kind. fitted.files kind j) f;
   blocks = λ f there. let e = fitted.blocks f in omega (arith, e);
   lengths = λ f there. ⊎_elim (λ (below : f < count). let e = fitted.done f below there in omega (arith, e)) (λ high. let e = fitted.rest f high in omega (arith, e)) (cases_lt f count);
 }

@@ -11,12 +11,12 @@ use Rattle.blk_image.proofs.Footprints.{same_file_outside}
 use Rattle.blk_format.specs.Address.{is_block_kind}
 use Rattle.blk_format.specs.Headers.{allocations_of}
 use Rattle.blk_format.specs.Standing.{stands}
-use Rattle.blk_format.specs.BlockFiles.{is_among, linked, type_among, files_along, next_file_in, max_entries_in, is_block_count, file_checks, checks_along, checks_of_type, linked_up_to, first_block_damage, stands_in, IsWellFormed, most_blocks}
-use Rattle.blk_format.specs.Maps.{is_marked, EmptyAgrees}
+use Rattle.blk_format.specs.BlockFiles.{is_among, linked, kind_among, files_along, next_file_in, max_entries_in, is_block_count, file_checks, checks_along, checks_of_kind, linked_up_to, first_block_damage, stands_in, IsWellFormed, most_blocks}
+use Rattle.blk_format.specs.Maps.{is_block_marked, EmptyAgrees}
 use Rattle.blk_disk.specs.declared.tables.BlockFiles.{BlockFiles}
 use Rattle.blk_disk.specs.Tables.{Agrees}
 use Rattle.blk_format.proofs.SpareHeaders.{other_file}
-use Rattle.blk_format.proofs.Keeping.{KeepsHead, none_parts, each_type, checks_hold, undamaged_still}
+use Rattle.blk_format.proofs.Keeping.{KeepsHead, none_parts, each_kind, checks_hold, undamaged_still}
 use Rattle.blk_disk.proofs.Enlarging.{well_formed_still}
 use Rattle.blk_disk.proofs.Firsts.{next_small}
 use Rattle.blk_alloc.specs.Changes.{map_of}
@@ -67,7 +67,7 @@ module _ (n : ℕ) (from image : Image) (same : SameOutside (map_of n) from imag
   }
 
   pub stands_kept : stands_in image ≡ stands_in from
-  stands_kept = λ j w. stands (λ m. type_among (λ kind. linked_kept kind j) m) (λ m. blocks_kept m j) (λ m. same.lengths (Block m) refl j) (λ m. same.files (External m) refl j) w
+  stands_kept = λ j w. stands (λ m. kind_among (λ kind. linked_kept kind j) m) (λ m. blocks_kept m j) (λ m. same.lengths (Block m) refl j) (λ m. same.files (External m) refl j) w
 
   -- another file is as it was
   pub other_kept : (m : ℕ) → m ≢ n → image (Block m) ≡ from (Block m)
@@ -80,7 +80,7 @@ module _ (n : ℕ) (from image : Image) (same : SameOutside (map_of n) from imag
       stand = subst (λ (f : ℕ → Bool). All (λ w. f w ≡ true) words) (sym stands_kept) are.stand;
       here = are.here;
       apart = are.apart;
-      marks = λ b small. ap (λ (o : Option (List ℕ)). is_marked (λ file. o) m b) (other_kept m differs) ∙ are.marks b small;
+      marks = λ b small. ap (λ (o : Option (List ℕ)). is_block_marked (λ file. o) m b) (other_kept m differs) ∙ are.marks b small;
       counted = ap (λ (o : Option (List ℕ)). allocations_of (content (unwrap_or o []))) (other_kept m differs) ∙ are.counted;
     };
     empty = λ was. subst (λ (o : Option (List ℕ)). EmptyAgrees (λ file. o) m) (sym (other_kept m differs)) was;
@@ -129,13 +129,13 @@ along_checked image kind (suc left) k met m small among none =
 
 -- a linked file of a folder whose block files are undamaged has its header, and a number of blocks that is allowed
 pub linked_checked : (image : Image) (kind m : ℕ) → first_block_damage image ≡ None → is_block_kind kind ≡ true → is_among (linked image kind) m ≡ true → HasHead image m
-unfolding linked checks_of_type
-linked_checked image kind m undamaged blocky among =
-    let each = each_type image undamaged in
+unfolding linked checks_of_kind
+linked_checked image kind m undamaged block_kind among =
+    let each = each_kind image undamaged in
     by_kind kind (grind (arith, nat_tests)) (grind (arith, nat_tests)) among each
   where
     by_kind : (k : ℕ) → 1 ≤ k → k ≤ 4 → is_among (files_along (next_file_in image) 59 (k - 1)) m ≡ true
-        → ((first_of (checks_of_type image 1) ≡ None) × (first_of (checks_of_type image 2) ≡ None) × (first_of (checks_of_type image 3) ≡ None) × (first_of (checks_of_type image 4) ≡ None)) → HasHead image m
+        → ((first_of (checks_of_kind image 1) ≡ None) × (first_of (checks_of_kind image 2) ≡ None) × (first_of (checks_of_kind image 3) ≡ None) × (first_of (checks_of_kind image 4) ≡ None)) → HasHead image m
     by_kind zero low high there each = absurd (omega arith)
     by_kind (suc zero) low high there each = along_checked image 1 59 0 (linked_up_to image 0) m (omega arith) there each.0
     by_kind (suc (suc zero)) low high there each = along_checked image 2 59 1 (linked_up_to image 1) m (omega arith) there each.1

@@ -9,7 +9,7 @@ use Rattle.blk_image.specs.Image.{Image}
 use Rattle.blk_format.specs.Address.{kind_of, external, file_selector, first_block, block_count}
 use Rattle.blk_format.specs.Claims.{BlockOf, is_in_file}
 use Rattle.blk_format.specs.BlockFiles.{is_among, stands_in, most_blocks, first_block_damage}
-use Rattle.blk_format.specs.Maps.{is_marked, AreAllocations, EmptyAgrees}
+use Rattle.blk_format.specs.Maps.{is_block_marked, AreAllocations, EmptyAgrees}
 use Rattle.blk_addr.specs.Bits.{is_between}
 use Rattle.blk_alloc.specs.Changes.{with_marks, IsReady, IsChanged}
 use Rattle.blk_alloc.specs.Owning.{is_of, others, IsAllocated, IsFreed}
@@ -26,9 +26,9 @@ some_there (x ∷ words) w among = omega arith
 
 -- an allocation may be freed
 pub free_ready : (image : Image) (w : ℕ) → kind_of w ≢ external → first_block_damage image ≡ None → IsAllocated image w → EmptyAgrees image (file_selector w) → IsReady image (file_selector w) (first_block w) (block_count w) false
-free_ready image w blocky undamaged allocated empty =
-    let here : StandsHere image w = stands_here image w blocky (all_among (λ x. stands_in image x ≡ true) allocated.words w allocated.are.stand allocated.there) in
-    let head : HasHead image (file_selector w) = linked_checked image (kind_of w) (file_selector w) undamaged here.blocky here.linked in
+free_ready image w block_kind undamaged allocated empty =
+    let here : StandsHere image w = stands_here image w block_kind (all_among (λ x. stands_in image x ≡ true) allocated.words w allocated.are.stand allocated.there) in
+    let head : HasHead image (file_selector w) = linked_checked image (kind_of w) (file_selector w) undamaged here.block_kind here.linked in
     let count = count_whole _ head.count in
     record {
       header = head.header;
@@ -45,27 +45,27 @@ free_ready image w blocky undamaged allocated empty =
 
 -- an allocation is of blocks
 pub allocated_blocks : (image : Image) (w : ℕ) → kind_of w ≢ external → IsAllocated image w → IsBlocks w
-allocated_blocks image w blocky allocated = (stands_here image w blocky (all_among (λ x. stands_in image x ≡ true) allocated.words w allocated.are.stand allocated.there)).blocks
+allocated_blocks image w block_kind allocated = (stands_here image w block_kind (all_among (λ x. stands_in image x ≡ true) allocated.words w allocated.are.stand allocated.there)).blocks
 
 module _ (from image : Image) (w : ℕ) (blocks : IsBlocks w) (changed : IsChanged from (file_selector w) (first_block w) (block_count w) false image) where
   n : ℕ
   n = file_selector w
 
-  marks_are : (m b : ℕ) → b < most_blocks → is_marked image m b ≡ (if is_of w m b then false else is_marked from m b)
+  marks_are : (m b : ℕ) → b < most_blocks → is_block_marked image m b ≡ (if is_of w m b then false else is_block_marked from m b)
   unfolding is_of
   marks_are m b small = ⊎_elim here elsewhere (cases_eq m (file_selector w))
     where
-      here : m ≡ file_selector w → is_marked image m b ≡ (if (file_selector w == m) && is_between (first_block w) (first_block w + block_count w) b then false else is_marked from m b)
+      here : m ≡ file_selector w → is_block_marked image m b ≡ (if (file_selector w == m) && is_between (first_block w) (first_block w + block_count w) b then false else is_block_marked from m b)
       here e =
           let test : (file_selector w == m) ≡ true = grind (arith, nat_tests) in
-          ap (λ (k : ℕ). is_marked image k b) e ∙ changed.marks b small ∙ ap (λ (k : ℕ). with_marks (is_marked from k) (first_block w) (block_count w) false b) (sym e)
-          ∙ ap (λ (t : Bool). if t && is_between (first_block w) (first_block w + block_count w) b then false else is_marked from m b) (sym test)
+          ap (λ (k : ℕ). is_block_marked image k b) e ∙ changed.marks b small ∙ ap (λ (k : ℕ). with_marks (is_block_marked from k) (first_block w) (block_count w) false b) (sym e)
+          ∙ ap (λ (t : Bool). if t && is_between (first_block w) (first_block w + block_count w) b then false else is_block_marked from m b) (sym test)
 
-      elsewhere : m ≢ file_selector w → is_marked image m b ≡ (if (file_selector w == m) && is_between (first_block w) (first_block w + block_count w) b then false else is_marked from m b)
+      elsewhere : m ≢ file_selector w → is_block_marked image m b ≡ (if (file_selector w == m) && is_between (first_block w) (first_block w + block_count w) b then false else is_block_marked from m b)
       elsewhere differs =
           let test : (file_selector w == m) ≡ false = grind (arith, nat_tests) in
-          ap (λ (o : Option (List ℕ)). is_marked (λ file. o) m b) (other_kept (file_selector w) from image changed.same m differs)
-          ∙ ap (λ (t : Bool). if t && is_between (first_block w) (first_block w + block_count w) b then false else is_marked from m b) (sym test)
+          ap (λ (o : Option (List ℕ)). is_block_marked (λ file. o) m b) (other_kept (file_selector w) from image changed.same m differs)
+          ∙ ap (λ (t : Bool). if t && is_between (first_block w) (first_block w + block_count w) b then false else is_block_marked from m b) (sym test)
 
   allocations_are : (words : List ℕ) → AreAllocations from (file_selector w) words → is_among words w ≡ true → AreAllocations image (file_selector w) (others w words)
   allocations_are words are among =

@@ -11,7 +11,7 @@ use Rattle.blk_format.specs.Address.{first_block, block_count}
 use Rattle.blk_format.specs.Claims.{BlockOf, claims_of, claims_of_all, has_claim, is_in_file}
 use Rattle.blk_format.specs.Headers.{allocations_of}
 use Rattle.blk_format.specs.BlockFiles.{max_entries_in, stands_in, most_blocks}
-use Rattle.blk_format.specs.Maps.{is_marked, are_free, groups_of, AreAllocations}
+use Rattle.blk_format.specs.Maps.{is_block_marked, are_free, groups_of, AreAllocations}
 use Rattle.blk_addr.proofs.ClaimLemmas.{has_claim-append}
 use Rattle.blk_alloc.specs.Fitting.{HasNoRoom}
 use Rattle.blk_alloc.specs.Owning.{is_of}
@@ -127,7 +127,7 @@ full_counts image n count words few whole most are full =
   where
     owned : (g : ℕ) → g < groups_of (max_entries_in image n) → list_any (λ w. first_block w / 4 == g) words ≡ true
     owned g there =
-        let found = group_marked (is_marked image n) count g few (full (4 * g) (omega arith) (omega (arith, there, whole))) in
+        let found = group_marked (is_block_marked image n) count g few (full (4 * g) (omega arith) (omega (arith, there, whole))) in
         let small = found.1 in
         let b : ℕ = 4 * g + found.0 in
         let claimed : has_claim (claims_of_all words) (BlockOf n b) ≡ true = sym (are.marks b (omega (arith, there, whole, most, small))) ∙ found.2 in

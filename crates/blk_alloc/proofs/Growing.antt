@@ -11,7 +11,7 @@ use Rattle.blk_format.specs.Address.{file_selector, first_block, block_count, ki
 use Rattle.blk_format.specs.Claims.{BlockOf, claims_of, claims_of_all, has_claim, is_in_file}
 use Rattle.blk_format.specs.Headers.{empty_of}
 use Rattle.blk_format.specs.BlockFiles.{is_among, max_entries_in, stands_in, most_blocks}
-use Rattle.blk_format.specs.Maps.{is_marked, are_free, has_run, longest_run, groups_with, groups_of, AreAllocations, EmptyAgrees}
+use Rattle.blk_format.specs.Maps.{is_block_marked, are_free, has_run, longest_run, groups_with, groups_of, AreAllocations, EmptyAgrees}
 use Rattle.blk_disk.specs.declared.tables.BlockFiles.{BlockFiles}
 use Rattle.blk_disk.specs.Tables.{Agrees, Enlarges, all_files, blocks_of, length_in}
 use Rattle.blk_disk.specs.Growth.{grown, new_groups, grown_length, growth_of, raised}
@@ -63,7 +63,7 @@ none_past image n b past (w ∷ ws) stand here =
     ∙ ap₂ (λ (x y : Bool). x || y) (claims_blocks w n b is.blocks ∙ not_of w n b (omega (arith, low, past)))
     (none_past image n b past ws (All-tail (λ x. stands_in image x ≡ true) w ws stand) (All-tail (λ x. is_in_file n x ≡ true) w ws here))
 
-pub past_unmarked : (image : Image) (n : ℕ) (words : List ℕ) → AreAllocations image n words → (b : ℕ) → max_entries_in image n ≤ b → b < most_blocks → is_marked image n b ≡ false
+pub past_unmarked : (image : Image) (n : ℕ) (words : List ℕ) → AreAllocations image n words → (b : ℕ) → max_entries_in image n ≤ b → b < most_blocks → is_block_marked image n b ≡ false
 past_unmarked image n words are b past small = are.marks b small ∙ none_past image n b past words are.stand are.here
 
 -- a count in two parts
@@ -96,14 +96,14 @@ unfolding longest_run has_run are_free
 free_group marked g free = longest_run-same marked (λ b. false) g 0 free ∙ refl
 
 -- counters of a file that has more groups, all of them free
-pub more_groups : (from mid : Image) (n more : ℕ) → EmptyAgrees from n → ((g : ℕ) → g < groups_of (max_entries_in from n) → longest_run (is_marked mid n) g ≡ longest_run (is_marked from n) g)
-    → ((g : ℕ) → groups_of (max_entries_in from n) ≤ g → g < groups_of (max_entries_in from n) + more → longest_run (is_marked mid n) g ≡ 4)
+pub more_groups : (from mid : Image) (n more : ℕ) → EmptyAgrees from n → ((g : ℕ) → g < groups_of (max_entries_in from n) → longest_run (is_block_marked mid n) g ≡ longest_run (is_block_marked from n) g)
+    → ((g : ℕ) → groups_of (max_entries_in from n) ≤ g → g < groups_of (max_entries_in from n) + more → longest_run (is_block_marked mid n) g ≡ 4)
     → groups_of (max_entries_in mid n) ≡ groups_of (max_entries_in from n) + more
     → ((i : ℕ) → i < 3 → empty_of (byte mid (Block n)) i ≡ empty_of (byte from (Block n)) i) → empty_of (byte mid (Block n)) 3 ≡ empty_of (byte from (Block n)) 3 + more → EmptyAgrees mid n
 unfolding EmptyAgrees groups_with
 more_groups from mid n more was kept free total empty last i small =
-    let q : ℕ → Bool = λ g. longest_run (is_marked mid n) g == i + 1 in
-    let p : ℕ → Bool = λ g. longest_run (is_marked from n) g == i + 1 in
+    let q : ℕ → Bool = λ g. longest_run (is_block_marked mid n) g == i + 1 in
+    let p : ℕ → Bool = λ g. longest_run (is_block_marked from n) g == i + 1 in
     let groups : ℕ = groups_of (max_entries_in from n) in
     let here : empty_of (byte from (Block n)) i ≡ count_by p (range_with_len 0 groups) = was i small in
     let split : count_by q (range_with_len 0 (groups + more)) ≡ count_by q (range_with_len 0 groups) + count_by q (range_with_len (0 + groups) more) = count-append q 0 groups more in
@@ -133,11 +133,11 @@ module _ (old new : BlockFiles) (from mid : Image) (n : ℕ) (agrees : Agrees ol
   blocks_later : max_entries_in mid n ≡ grown (blocks_of old n)
   blocks_later = sym (agrees_new.blocks n (ap (λ (l : List ℕ). is_among l n) enlarges.all ∙ among)) ∙ enlarges.blocks_there
 
-  marks_same : (b : ℕ) → is_marked mid n b ≡ is_marked from n b
+  marks_same : (b : ℕ) → is_block_marked mid n b ≡ is_block_marked from n b
   marks_same b = (grow_widens old new from mid n enlarges below same).marks n b among
 
   -- the new blocks are free
-  pub new_free : (b : ℕ) → blocks_of old n ≤ b → b < grown (blocks_of old n) → is_marked mid n b ≡ false
+  pub new_free : (b : ℕ) → blocks_of old n ≤ b → b < grown (blocks_of old n) → is_block_marked mid n b ≡ false
   new_free b low high = marks_same b ∙ past_unmarked from n words are b (omega (arith, low, blocks_before)) (omega (arith, high))
 
   lower_same : (i : ℕ) → i < 3 → empty_of (byte mid (Block n)) i ≡ empty_of (byte from (Block n)) i
@@ -152,12 +152,12 @@ module _ (old new : BlockFiles) (from mid : Image) (n : ℕ) (agrees : Agrees ol
 
   few : empty_of (byte from (Block n)) 3 ≤ most_blocks
   unfolding EmptyAgrees groups_with
-  few = let is = empty 3 (omega arith) in let most = counted_most (λ g. longest_run (is_marked from n) g == 4) 0 (groups_of (max_entries_in from n)) in omega (arith, is, most, blocks_before, below)
+  few = let is = empty 3 (omega arith) in let most = counted_most (λ g. longest_run (is_block_marked from n) g == 4) 0 (groups_of (max_entries_in from n)) in omega (arith, is, most, blocks_before, below)
 
   -- the counters are true
   pub grown_empty : EmptyAgrees mid n
   grown_empty =
       more_groups from mid n (new_groups (blocks_of old n)) empty
-      (λ g low. longest_run-same (is_marked mid n) (is_marked from n) g g (λ i small. marks_same (4 * g + i)))
-      (λ g low high. free_group (is_marked mid n) g (λ i small. new_free (4 * g + i) (omega (arith, low, small, blocks_before, whole)) (omega (arith, low, high, small, blocks_before, whole, below))))
+      (λ g low. longest_run-same (is_block_marked mid n) (is_block_marked from n) g g (λ i small. marks_same (4 * g + i)))
+      (λ g low high. free_group (is_block_marked mid n) g (λ i small. new_free (4 * g + i) (omega (arith, low, small, blocks_before, whole)) (omega (arith, low, high, small, blocks_before, whole, below))))
       (omega (arith, blocks_before, blocks_later, whole, below)) lower_same (raise ∙ (let least = few in omega (arith, least, below)))

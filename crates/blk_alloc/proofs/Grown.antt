@@ -11,7 +11,7 @@ use Rattle.blk_image.proofs.Footprints.{same_file_outside}
 use Rattle.blk_image.proofs.Words.{word-beside, word-there}
 use Rattle.blk_format.specs.Headers.{empty_of}
 use Rattle.blk_format.specs.BlockFiles.{is_among, max_entries_in, most_blocks}
-use Rattle.blk_format.specs.Maps.{is_marked, are_free, EmptyAgrees}
+use Rattle.blk_format.specs.Maps.{is_block_marked, are_free, EmptyAgrees}
 use Rattle.blk_disk.specs.declared.tables.BlockFiles.{BlockFiles}
 use Rattle.blk_disk.specs.Tables.{Agrees, Enlarges, all_files, blocks_of, length_in}
 use Rattle.blk_disk.specs.Growth.{grown, new_groups, grown_length, growth_of, grow_steps, lengthen_steps, raised}
@@ -85,8 +85,8 @@ module _ (old new : BlockFiles) (from mid : Image) (n : ℕ) (agrees : Agrees ol
       clash : true ≡ false → ⊥
       clash e = cc
 
-  pub grown_free : (count : ℕ) → count ≤ 4 → are_free (is_marked mid n) (blocks_of old n) count ≡ true
-  grown_free count few = free_all (is_marked mid n) (blocks_of old n) count (λ b low high. new_free old new from mid n agrees agrees_new among enlarges below whole same raise counters.words counters.are counters.empty b low (omega (arith, high, few, blocks_before, whole, below)))
+  pub grown_free : (count : ℕ) → count ≤ 4 → are_free (is_block_marked mid n) (blocks_of old n) count ≡ true
+  grown_free count few = free_all (is_block_marked mid n) (blocks_of old n) count (λ b low high. new_free old new from mid n agrees agrees_new among enlarges below whole same raise counters.words counters.are counters.empty b low (omega (arith, high, few, blocks_before, whole, below)))
 
   pub grown_keeps : KeepsFiles old from mid
   unfolding EmptyAgrees max_entries_in

@@ -3,9 +3,9 @@ use Rattle.std.proofs.Common.{◌≡◌, ◌≢◌, ℕ, ◌+◌, ◌<◌, ◌�
 use Rattle.std.specs.Prelude.{◌==◌}
 use Rattle.std.proofs.lemmas.Bool.{cases_eq}
 use Rattle.std.proofs.lemmas.Bool.Decides.{nat_tests}
-use Rattle.blk_format.specs.Address.{kind_of, file_selector, first_block, block_count, place, room}
+use Rattle.blk_format.specs.Address.{kind_of, file_selector, first_block, block_count, place, byte_size}
 use Rattle.blk_format.specs.Standing.{is_linked_as, stands_as_blocks}
-use Rattle.blk_format.specs.BlockFiles.{is_among, type_among, most_blocks}
+use Rattle.blk_format.specs.BlockFiles.{is_among, kind_among, most_blocks}
 use Rattle.blk_format.proofs.Among.{is_among_more}
 use Rattle.blk_disk.specs.declared.tables.BlockFiles.{BlockFiles}
 use Rattle.blk_disk.specs.Tables.{Enlarges, Joins, Resizes, files_of, all_files, blocks_of, length_in, stands_among}
@@ -15,7 +15,7 @@ use Rattle.blk_alloc.specs.Making.{KeepsStanding}
 
 -- each file that was kept has its type, and no fewer blocks and bytes
 pub record IsLarger (old new : BlockFiles) : Type 0 where
-  pub types : (f : ℕ) → is_among (all_files old) f ≡ true → type_among (files_of new) f ≡ type_among (files_of old) f
+  pub types : (f : ℕ) → is_among (all_files old) f ≡ true → kind_among (files_of new) f ≡ kind_among (files_of old) f
   pub blocks : (f : ℕ) → is_among (all_files old) f ≡ true → blocks_of old f ≤ blocks_of new f
   pub lengths : (f : ℕ) → is_among (all_files old) f ≡ true → length_in old f ≤ length_in new f
 
@@ -38,14 +38,14 @@ unfolding stands_as_blocks
 standing_kept old new larger w is =
     let f : ℕ = file_selector w in
     let there : is_among (all_files old) f ≡ true = stands_linked old w is in
-    let front : (is_linked_as (type_among (files_of old) f) (kind_of w) && nat_le (first_block w + block_count w) (blocks_of old f)) ≡ true =
-    first_of_two (is_linked_as (type_among (files_of old) f) (kind_of w) && nat_le (first_block w + block_count w) (blocks_of old f)) (nat_le (place w + room w) (length_in old f)) is in
-    let linked : is_linked_as (type_among (files_of new) f) (kind_of w) ≡ true = ap (λ (o : Option ℕ). is_linked_as o (kind_of w)) (larger.types f there) ∙ first_of_two (is_linked_as (type_among (files_of old) f) (kind_of w)) (nat_le (first_block w + block_count w) (blocks_of old f)) front in
-    let was_below : nat_le (first_block w + block_count w) (blocks_of old f) ≡ true = second_of_two (is_linked_as (type_among (files_of old) f) (kind_of w)) (nat_le (first_block w + block_count w) (blocks_of old f)) front in
-    let was_inside : nat_le (place w + room w) (length_in old f) ≡ true = second_of_two (is_linked_as (type_among (files_of old) f) (kind_of w) && nat_le (first_block w + block_count w) (blocks_of old f)) (nat_le (place w + room w) (length_in old f)) is in
-    both_of_two (is_linked_as (type_among (files_of new) f) (kind_of w) && nat_le (first_block w + block_count w) (blocks_of new f)) (nat_le (place w + room w) (length_in new f))
-    (both_of_two (is_linked_as (type_among (files_of new) f) (kind_of w)) (nat_le (first_block w + block_count w) (blocks_of new f)) linked (longer (first_block w + block_count w) (blocks_of old f) (blocks_of new f) (larger.blocks f there) was_below))
-    (longer (place w + room w) (length_in old f) (length_in new f) (larger.lengths f there) was_inside)
+    let front : (is_linked_as (kind_among (files_of old) f) (kind_of w) && nat_le (first_block w + block_count w) (blocks_of old f)) ≡ true =
+    first_of_two (is_linked_as (kind_among (files_of old) f) (kind_of w) && nat_le (first_block w + block_count w) (blocks_of old f)) (nat_le (place w + byte_size w) (length_in old f)) is in
+    let linked : is_linked_as (kind_among (files_of new) f) (kind_of w) ≡ true = ap (λ (o : Option ℕ). is_linked_as o (kind_of w)) (larger.types f there) ∙ first_of_two (is_linked_as (kind_among (files_of old) f) (kind_of w)) (nat_le (first_block w + block_count w) (blocks_of old f)) front in
+    let was_below : nat_le (first_block w + block_count w) (blocks_of old f) ≡ true = second_of_two (is_linked_as (kind_among (files_of old) f) (kind_of w)) (nat_le (first_block w + block_count w) (blocks_of old f)) front in
+    let was_inside : nat_le (place w + byte_size w) (length_in old f) ≡ true = second_of_two (is_linked_as (kind_among (files_of old) f) (kind_of w) && nat_le (first_block w + block_count w) (blocks_of old f)) (nat_le (place w + byte_size w) (length_in old f)) is in
+    both_of_two (is_linked_as (kind_among (files_of new) f) (kind_of w) && nat_le (first_block w + block_count w) (blocks_of new f)) (nat_le (place w + byte_size w) (length_in new f))
+    (both_of_two (is_linked_as (kind_among (files_of new) f) (kind_of w)) (nat_le (first_block w + block_count w) (blocks_of new f)) linked (longer (first_block w + block_count w) (blocks_of old f) (blocks_of new f) (larger.blocks f there) was_below))
+    (longer (place w + byte_size w) (length_in old f) (length_in new f) (larger.lengths f there) was_inside)
   where
     longer : (x a b : ℕ) → a ≤ b → nat_le x a ≡ true → nat_le x b ≡ true
     longer x a b less e = grind (arith, nat_tests)
@@ -57,7 +57,7 @@ standing_same old new same w is = ap (λ (files : BlockFiles). stands_among file
 -- a file that is lengthened
 pub fit_larger : (old new : BlockFiles) (n size : ℕ) → Resizes old new n (max (length_in old n) size) → IsLarger old new
 fit_larger old new n size resizes = record {
-  types = λ f there j. type_among (λ kind. resizes.files kind j) f;
+  types = λ f there j. kind_among (λ kind. resizes.files kind j) f;
   blocks = λ f there. let e = resizes.blocks f in omega (arith, e);
   lengths = λ f there. ⊎_elim (λ (here : f ≡ n). let e : length_in new f ≡ max (length_in old f) size = ap (length_in new) here ∙ resizes.size_there ∙ ap (λ (k : ℕ). max (length_in old k) size) (sym here) in omega (arith, e)) (λ differs. let e = resizes.other_lengths f differs in omega (arith, e)) (cases_eq f n);
 }
@@ -65,7 +65,7 @@ fit_larger old new n size resizes = record {
 -- a file that grows
 pub grow_larger : (old new : BlockFiles) (n : ℕ) → Enlarges old new n (grown (blocks_of old n)) (max (length_in old n) (grown_length old n)) → blocks_of old n < most_blocks → IsLarger old new
 grow_larger old new n enlarges below = record {
-  types = λ f there j. type_among (λ kind. enlarges.files kind j) f;
+  types = λ f there j. kind_among (λ kind. enlarges.files kind j) f;
   blocks = λ f there. ⊎_elim (λ (here : f ≡ n). let e : blocks_of new f ≡ grown (blocks_of old f) = ap (blocks_of new) here ∙ enlarges.blocks_there ∙ ap (λ (k : ℕ). grown (blocks_of old k)) (sym here) in let less : blocks_of old f < 64896 = ap_less f n here below in omega (arith, e, less)) (λ differs. let e = enlarges.other_blocks f differs in omega (arith, e)) (cases_eq f n);
   lengths = λ f there. ⊎_elim (λ (here : f ≡ n). let e : length_in new f ≡ max (length_in old f) (grown_length old f) = ap (length_in new) here ∙ enlarges.size_there ∙ ap (λ (k : ℕ). max (length_in old k) (grown_length old k)) (sym here) in omega (arith, e)) (λ differs. let e = enlarges.other_lengths f differs in omega (arith, e)) (cases_eq f n);
 }
@@ -82,8 +82,8 @@ module _ (old new : BlockFiles) (kind n : ℕ) (free : is_among (all_files old) 
       clash c = cc
 
   -- a file that was there is of its types alone
-  pub types_kept : (f j : ℕ) → f ≢ n → is_among (files_of new j) f ≡ is_among (files_of old j) f
-  types_kept f j differs = ⊎_elim here (λ other. ap (λ (l : List ℕ). is_among l f) (joins.others j other)) (cases_eq j kind)
+  pub kinds_kept : (f j : ℕ) → f ≢ n → is_among (files_of new j) f ≡ is_among (files_of old j) f
+  kinds_kept f j differs = ⊎_elim here (λ other. ap (λ (l : List ℕ). is_among l f) (joins.others j other)) (cases_eq j kind)
     where
       here : j ≡ kind → is_among (files_of new j) f ≡ is_among (files_of old j) f
       here e =
@@ -95,13 +95,13 @@ module _ (old new : BlockFiles) (kind n : ℕ) (free : is_among (all_files old) 
           or_false true = refl
           or_false false = refl
 
-  type_kept : (f : ℕ) → f ≢ n → type_among (files_of new) f ≡ type_among (files_of old) f
-  unfolding type_among
-  type_kept f differs = λ j. if types_kept f 1 differs j then Some 1 else if types_kept f 2 differs j then Some 2 else if types_kept f 3 differs j then Some 3 else if types_kept f 4 differs j then Some 4 else None
+  kind_kept : (f : ℕ) → f ≢ n → kind_among (files_of new) f ≡ kind_among (files_of old) f
+  unfolding kind_among
+  kind_kept f differs = λ j. if kinds_kept f 1 differs j then Some 1 else if kinds_kept f 2 differs j then Some 2 else if kinds_kept f 3 differs j then Some 3 else if kinds_kept f 4 differs j then Some 4 else None
 
   pub join_larger : IsLarger old new
   join_larger = record {
-    types = λ f there. type_kept f (apart f there);
+    types = λ f there. kind_kept f (apart f there);
     blocks = λ f there. let e = joins.other_blocks f (apart f there) in omega (arith, e);
     lengths = λ f there. let e = joins.other_lengths f (apart f there) in omega (arith, e);
   }

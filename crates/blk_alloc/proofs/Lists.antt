@@ -60,12 +60,12 @@ once_parts (x ∷ a) b once =
 -- an address of blocks
 pub record IsBlocks (w : ℕ) : Type 0 where
   pub some : w ≢ 0
-  pub blocky : kind_of w ≢ external
+  pub block_kind : kind_of w ≢ external
 
 -- what an address of blocks claims of a file
 pub claims_blocks : (w n b : ℕ) → IsBlocks w → has_claim (claims_of w) (BlockOf n b) ≡ is_of w n b
 unfolding is_of
-claims_blocks w n b is = ap (λ (l : List Claim). has_claim l (BlockOf n b)) (claims_of-blocks w is.some is.blocky) ∙ has_claim-blocks (file_selector w) (first_block w) (block_count w) n b ∙ turned
+claims_blocks w n b is = ap (λ (l : List Claim). has_claim l (BlockOf n b)) (claims_of-blocks w is.some is.block_kind) ∙ has_claim-blocks (file_selector w) (first_block w) (block_count w) n b ∙ turned
   where
     turned : ((n == file_selector w) && is_between (first_block w) (first_block w + block_count w) b) ≡ ((file_selector w == n) && is_between (first_block w) (first_block w + block_count w) b)
     turned = grind (arith, nat_tests)
@@ -184,4 +184,4 @@ one_more_once words w is once apart = repeats-append (claims_of w) (claims_of_al
 
 -- an address of blocks claims no external file
 pub claims_no_external : (w m : ℕ) → IsBlocks w → has_claim (claims_of w) (ExternalOf m) ≡ false
-claims_no_external w m is = ap (λ (l : List Claim). has_claim l (ExternalOf m)) (claims_of-blocks w is.some is.blocky) ∙ has_claim-no-external (file_selector w) (first_block w) (block_count w) m
+claims_no_external w m is = ap (λ (l : List Claim). has_claim l (ExternalOf m)) (claims_of-blocks w is.some is.block_kind) ∙ has_claim-no-external (file_selector w) (first_block w) (block_count w) m

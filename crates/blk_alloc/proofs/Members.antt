@@ -13,7 +13,7 @@ use Rattle.blk_addr.specs.declared.kinds.Kind.TheVariants.{External, Rankings, B
 use Rattle.blk_addr.specs.Kind.{kind_number}
 use Rattle.blk_disk.specs.declared.tables.BlockFiles.{BlockFiles}
 use Rattle.blk_disk.specs.Tables.{Agrees, files_of, all_files}
-use Rattle.blk_disk.proofs.Joined.{among_types}
+use Rattle.blk_disk.proofs.Joined.{among_kinds}
 use Rattle.blk_alloc.proofs.Formed.{HasHead, linked_checked}
 
 pub kind_blocky : (k : Kind) → kind_number k ≢ external → is_block_kind (kind_number k) ≡ true
@@ -44,16 +44,16 @@ or_left false b e = absurd (clash e)
 -- a file of a type is one of all
 pub member_all : (files : BlockFiles) (k : Kind) (n : ℕ) → kind_number k ≢ external → is_among (files_of files (kind_number k)) n ≡ true → is_among (all_files files) n ≡ true
 member_all files External n some among = absurd (some refl)
-member_all files Rankings n some among = among_types files n ∙ or_left _ (is_among (files_of files 4) n) (or_left _ (is_among (files_of files 3) n) (or_left (is_among (files_of files 1) n) (is_among (files_of files 2) n) among))
-member_all files B256 n some among = among_types files n ∙ or_left _ (is_among (files_of files 4) n) (or_left _ (is_among (files_of files 3) n) (or_right (is_among (files_of files 1) n) (is_among (files_of files 2) n) among))
-member_all files B1K n some among = among_types files n ∙ or_left _ (is_among (files_of files 4) n) (or_right (is_among (files_of files 1) n || is_among (files_of files 2) n) (is_among (files_of files 3) n) among)
-member_all files B4K n some among = among_types files n ∙ or_right (is_among (files_of files 1) n || is_among (files_of files 2) n || is_among (files_of files 3) n) (is_among (files_of files 4) n) among
+member_all files Rankings n some among = among_kinds files n ∙ or_left _ (is_among (files_of files 4) n) (or_left _ (is_among (files_of files 3) n) (or_left (is_among (files_of files 1) n) (is_among (files_of files 2) n) among))
+member_all files B256 n some among = among_kinds files n ∙ or_left _ (is_among (files_of files 4) n) (or_left _ (is_among (files_of files 3) n) (or_right (is_among (files_of files 1) n) (is_among (files_of files 2) n) among))
+member_all files B1K n some among = among_kinds files n ∙ or_left _ (is_among (files_of files 4) n) (or_right (is_among (files_of files 1) n || is_among (files_of files 2) n) (is_among (files_of files 3) n) among)
+member_all files B4K n some among = among_kinds files n ∙ or_right (is_among (files_of files 1) n || is_among (files_of files 2) n || is_among (files_of files 3) n) (is_among (files_of files 4) n) among
 
 -- what its header has
 pub member_head : (files : BlockFiles) (image : Image) (k : Kind) (n : ℕ) → kind_number k ≢ external → Agrees files image → is_among (files_of files (kind_number k)) n ≡ true → HasHead image n
 member_head files image k n some agrees among =
-    let blocky = kind_blocky k some in
-    linked_checked image (kind_number k) n agrees.undamaged blocky (subst (λ (l : List ℕ). is_among l n ≡ true) (agrees.links (kind_number k) blocky) among)
+    let block_kind = kind_blocky k some in
+    linked_checked image (kind_number k) n agrees.undamaged block_kind (subst (λ (l : List ℕ). is_among l n ≡ true) (agrees.links (kind_number k) block_kind) among)
 
 -- one that is given by its place
 pub at_place : (xs : List ℕ) (i x : ℕ) → slice_get xs i ≡ Some x → (i < length xs) × ((d : ℕ) → get_or xs i d ≡ x)
@@ -96,7 +96,7 @@ all_head files image n agrees among =
     ⊎_elim (λ two. ⊎_elim (of_type 1 refl) (of_type 2 refl) (or_cases (is_among (files_of files 1) n) (is_among (files_of files 2) n) two)) (of_type 3 refl)
     (or_cases (is_among (files_of files 1) n || is_among (files_of files 2) n) (is_among (files_of files 3) n) three))
     (of_type 4 refl)
-    (or_cases ((is_among (files_of files 1) n || is_among (files_of files 2) n) || is_among (files_of files 3) n) (is_among (files_of files 4) n) (sym (among_types files n) ∙ among))
+    (or_cases ((is_among (files_of files 1) n || is_among (files_of files 2) n) || is_among (files_of files 3) n) (is_among (files_of files 4) n) (sym (among_kinds files n) ∙ among))
   where
     of_type : (kind : ℕ) → is_block_kind kind ≡ true → is_among (files_of files kind) n ≡ true → HasHead image n
-    of_type kind blocky there = linked_checked image kind n agrees.undamaged blocky (subst (λ (l : List ℕ). is_among l n ≡ true) (agrees.links kind blocky) there)
+    of_type kind block_kind there = linked_checked image kind n agrees.undamaged block_kind (subst (λ (l : List ℕ). is_among l n ≡ true) (agrees.links kind block_kind) there)

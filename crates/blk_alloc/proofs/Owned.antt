@@ -63,14 +63,14 @@ unfolded_zero n b = refl
 
 other_file : (n b w : ℕ) → kind_of w ≢ external → is_in_file n w ≡ false → is_of w n b ≡ false
 unfolding is_of is_in_file
-other_file n b w blocky apart = let test : (kind_of w == external) ≡ false = grind (arith, nat_tests) in let differs : (file_selector w == n) ≡ false = grind (arith, nat_tests) in ap (λ (t : Bool). t && is_between (first_block w) (first_block w + block_count w) b) differs
+other_file n b w block_kind apart = let test : (kind_of w == external) ≡ false = grind (arith, nat_tests) in let differs : (file_selector w == n) ≡ false = grind (arith, nat_tests) in ap (λ (t : Bool). t && is_between (first_block w) (first_block w + block_count w) b) differs
 
 none_claimed : (n b w : ℕ) → is_in_file n w ≡ false → has_claim (claims_of w) (BlockOf n b) ≡ false
 none_claimed n b w apart =
     ⊎_elim (λ (none : w ≡ 0). ap (λ (x : ℕ). has_claim (claims_of x) (BlockOf n b)) none ∙ unfolded_zero n b)
     (λ (some : w ≢ 0).
     ⊎_elim (λ (kind : kind_of w ≡ external). ap (λ (l : List Claim). has_claim l (BlockOf n b)) (claims_of-external w some kind) ∙ no_block (external_number w))
-    (λ (blocky : kind_of w ≢ external). claims_blocks w n b (record { some = some; blocky = blocky }) ∙ other_file n b w blocky apart) (cases_eq (kind_of w) external)) (cases_eq w 0)
+    (λ (block_kind : kind_of w ≢ external). claims_blocks w n b (record { some = some; block_kind = block_kind }) ∙ other_file n b w block_kind apart) (cases_eq (kind_of w) external)) (cases_eq w 0)
   where
     no_block : (m : ℕ) → has_claim (ExternalOf m ∷ []) (BlockOf n b) ≡ false
     no_block m = unfold has_claim in refl

@@ -5,7 +5,7 @@ use Rattle.std.proofs.lemmas.Bool.{cases_lt}
 use Rattle.std.proofs.lemmas.Bool.Decides.{nat_tests}
 use Rattle.blk_image.specs.Bytes.{range_at}
 use Rattle.blk_image.specs.Image.{Image, Block, byte}
-use Rattle.blk_format.specs.Maps.{are_free, is_marked}
+use Rattle.blk_format.specs.Maps.{are_free, is_block_marked}
 use Rattle.blk_addr.specs.Bits.{has_bit}
 use Rattle.blk_alloc.specs.Places.{is_place, AreNoPlaces, IsLeastPlace}
 use Rattle.blk_alloc.specs.Fitting.{IsLeastFrom}
@@ -30,17 +30,17 @@ place_same p q a b count group same = ap (λ (k : ℕ). nat_le (k + count) 4 && 
     by_test false e = refl
 
 module _ (image : Image) (n first blocks count len : ℕ) (bytes : List ℕ) (whole : first % 8 ≡ 0) (long : blocks ≤ 8 * len) (read : bytes ≡ range_at (byte image (Block n)) (80 + first / 8) len) where
-  bits_are : (m : ℕ) → m < 8 * len → has_bit bytes m ≡ is_marked image n (first + m)
+  bits_are : (m : ℕ) → m < 8 * len → has_bit bytes m ≡ is_block_marked image n (first + m)
   bits_are m small = ap (λ (l : List ℕ). has_bit l m) read ∙ bit_read (byte image (Block n)) (first / 8) len (first + m) m small (omega (arith, whole))
 
-  place_is : (m : ℕ) → m < blocks → is_place (has_bit bytes) count m ≡ is_place (is_marked image n) count (first + m)
+  place_is : (m : ℕ) → m < blocks → is_place (has_bit bytes) count m ≡ is_place (is_block_marked image n) count (first + m)
   place_is m small =
-      place_same (has_bit bytes) (is_marked image n) m (first + m) count (omega (arith, whole))
-      (λ inside i few. bits_are (m + i) (omega (arith, inside, long, small)) ∙ ap (is_marked image n) {x = first + (m + i)} {y = first + m + i} (omega arith))
+      place_same (has_bit bytes) (is_block_marked image n) m (first + m) count (omega (arith, whole))
+      (λ inside i few. bits_are (m + i) (omega (arith, inside, long, small)) ∙ ap (is_block_marked image n) {x = first + (m + i)} {y = first + m + i} (omega arith))
 
-  none_from : (k : ℕ) → k ≤ blocks → AreNoPlaces (has_bit bytes) count 0 k → AreNoPlaces (is_marked image n) count first (first + k)
+  none_from : (k : ℕ) → k ≤ blocks → AreNoPlaces (has_bit bytes) count 0 k → AreNoPlaces (is_block_marked image n) count first (first + k)
   none_from k most none b low high =
-      ap (is_place (is_marked image n) count) {x = b} {y = first + (b - first)} (omega arith) ∙ sym (place_is (b - first) (omega arith)) ∙ none (b - first) (omega arith) (omega arith)
+      ap (is_place (is_block_marked image n) count) {x = b} {y = first + (b - first)} (omega arith) ∙ sym (place_is (b - first) (omega arith)) ∙ none (b - first) (omega arith) (omega arith)
 
   pub least_none : AreNoPlaces (has_bit bytes) count 0 blocks → IsLeastFrom image n count first (first + blocks) None
   least_none none = none_from blocks (omega arith) none

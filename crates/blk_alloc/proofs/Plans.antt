@@ -5,7 +5,7 @@ use Rattle.std.proofs.lemmas.Bool.Decides.{nat_tests}
 use Rattle.blk_image.specs.Bytes.{range_at, word_bytes}
 use Rattle.blk_image.specs.Image.{Image, Block, byte}
 use Rattle.blk_format.specs.BlockFiles.{max_entries_in}
-use Rattle.blk_format.specs.Maps.{is_marked, longest_run, groups_with, groups_of, EmptyAgrees}
+use Rattle.blk_format.specs.Maps.{is_block_marked, longest_run, groups_with, groups_of, EmptyAgrees}
 use Rattle.blk_addr.specs.Bits.{has_bit, is_between}
 use Rattle.blk_alloc.specs.declared.counters.Counters.{Counters}
 use Rattle.blk_alloc.specs.Counting.{AreCounters, counted, Moves, MayMove}
@@ -19,19 +19,19 @@ module _ (image : Image) (n start count : ℕ) (used : Bool) (ready : IsReady im
   group_there = let whole = ready.whole in let below = ready.below in omega (arith, whole, below, some)
 
   -- true counters may move
-  pub may_move : (counters : Counters) (before later : ℕ) → AreCounters (byte image (Block n)) counters → before ≡ longest_run (is_marked image n) (start / 4) → MayMove counters before later used
+  pub may_move : (counters : Counters) (before later : ℕ) → AreCounters (byte image (Block n)) counters → before ≡ longest_run (is_block_marked image n) (start / 4) → MayMove counters before later used
   unfolding groups_with EmptyAgrees
   may_move counters before later are is = record {
     more = λ e. let few = ready.more e in let same = are.allocations in omega (arith, few, same);
     less = λ e. let few = ready.less e in let same = are.allocations in omega (arith, few, same);
     enough = λ i small.
-        let test : ℕ → Bool = λ g. longest_run (is_marked image n) g == i + 1 in
+        let test : ℕ → Bool = λ g. longest_run (is_block_marked image n) g == i + 1 in
         let there = counted_there test (start / 4) 0 (groups_of (max_entries_in image n)) (omega arith) (omega (arith, group_there)) in
         let same = are.empty i small ∙ ready.empty i small in
         let e : counted before i ≡ one (test (start / 4)) = ap (λ (r : ℕ). one (r == i + 1)) is in
         omega (arith, there, same, e);
     room = λ i small.
-        let test : ℕ → Bool = λ g. longest_run (is_marked image n) g == i + 1 in
+        let test : ℕ → Bool = λ g. longest_run (is_block_marked image n) g == i + 1 in
         let most = counted_most test 0 (groups_of (max_entries_in image n)) in
         let same = are.empty i small ∙ ready.empty i small in
         let few : counted later i ≤ 1 = one_most (later == i + 1) in
@@ -51,25 +51,25 @@ module _ (image : Image) (n start count : ℕ) (used : Bool) (old new : List ℕ
     (group : start % 4 + count ≤ 4)
     (marks : (m : ℕ) → has_bit new m ≡ (if is_between (start % 32) (start % 32 + count) m then used else has_bit old m)) where
   -- the word's bits before
-  old_bits : (m : ℕ) → m < 32 → has_bit old m ≡ is_marked image n (32 * (start / 32) + m)
+  old_bits : (m : ℕ) → m < 32 → has_bit old m ≡ is_block_marked image n (32 * (start / 32) + m)
   old_bits m small = ap (λ (l : List ℕ). has_bit l m) read ∙ bit_read (byte image (Block n)) (4 * (start / 32)) 4 (32 * (start / 32) + m) m (omega arith) (omega arith)
 
   -- and with the new marks
-  pub new_bits : (m : ℕ) → m < 32 → has_bit new m ≡ with_marks (is_marked image n) start count used (32 * (start / 32) + m)
+  pub new_bits : (m : ℕ) → m < 32 → has_bit new m ≡ with_marks (is_block_marked image n) start count used (32 * (start / 32) + m)
   new_bits m small =
       marks m ∙ ap (λ (t : Bool). if t then used else has_bit old m) (in_word start count m small group)
       ∙ ap (λ (b : Bool). if is_between start (start + count) (32 * (start / 32) + m) then used else b) (old_bits m small)
 
   -- the longest run of the group, before and after
-  pub run_before : longest_run (has_bit old) (start % 32 / 4) ≡ longest_run (is_marked image n) (start / 4)
+  pub run_before : longest_run (has_bit old) (start % 32 / 4) ≡ longest_run (is_block_marked image n) (start / 4)
   run_before =
-      longest_run-same (has_bit old) (is_marked image n) (start % 32 / 4) (start / 4)
-      (λ i small. old_bits (4 * (start % 32 / 4) + i) (omega arith) ∙ ap (is_marked image n) {x = 32 * (start / 32) + (4 * (start % 32 / 4) + i)} {y = 4 * (start / 4) + i} (omega arith))
+      longest_run-same (has_bit old) (is_block_marked image n) (start % 32 / 4) (start / 4)
+      (λ i small. old_bits (4 * (start % 32 / 4) + i) (omega arith) ∙ ap (is_block_marked image n) {x = 32 * (start / 32) + (4 * (start % 32 / 4) + i)} {y = 4 * (start / 4) + i} (omega arith))
 
-  pub run_later : longest_run (has_bit new) (start % 32 / 4) ≡ longest_run (with_marks (is_marked image n) start count used) (start / 4)
+  pub run_later : longest_run (has_bit new) (start % 32 / 4) ≡ longest_run (with_marks (is_block_marked image n) start count used) (start / 4)
   run_later =
-      longest_run-same (has_bit new) (with_marks (is_marked image n) start count used) (start % 32 / 4) (start / 4)
-      (λ i small. new_bits (4 * (start % 32 / 4) + i) (omega arith) ∙ ap (with_marks (is_marked image n) start count used) {x = 32 * (start / 32) + (4 * (start % 32 / 4) + i)} {y = 4 * (start / 4) + i} (omega arith))
+      longest_run-same (has_bit new) (with_marks (is_block_marked image n) start count used) (start % 32 / 4) (start / 4)
+      (λ i small. new_bits (4 * (start % 32 / 4) + i) (omega arith) ∙ ap (with_marks (is_block_marked image n) start count used) {x = 32 * (start / 32) + (4 * (start % 32 / 4) + i)} {y = 4 * (start / 4) + i} (omega arith))
 
   -- what was read, and the counters that move, are the plan
   pub plan_is : (before later : ℕ) (counters moved : Counters) (at word : ℕ) → at ≡ 80 + 4 * (start / 32) → word_bytes word ≡ new

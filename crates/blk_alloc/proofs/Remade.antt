@@ -6,14 +6,14 @@ use Rattle.blk_image.specs.Bytes.{content, word_bytes}
 use Rattle.blk_image.specs.Image.{Image, File, Index, Block, External, byte, length_of, same_file}
 use Rattle.blk_image.specs.Steps.{after, word_step}
 use Rattle.blk_image.specs.Footprint.{SameOutside, IsWithin, range, size_of}
-use Rattle.blk_image.specs.Told.{Told, GrowsInPart, PassesTo, Until}
+use Rattle.blk_image.specs.Told.{Told, AppliesPrefix, PassesTo, Until}
 use Rattle.blk_image.proofs.Images.{word-after_same}
 use Rattle.blk_image.proofs.Footprints.{outside-refl, outside-trans, outside_wider, outside_write, same_file_outside}
 use Rattle.blk_image.proofs.Runs.{passes_part, passes_weaker, some_inj}
 use Rattle.blk_image.proofs.WordSteps.{quiet-word_step, until_word}
 use Rattle.blk_format.specs.Headers.{allocations_of, updating_of}
 use Rattle.blk_format.specs.BlockFiles.{is_among, max_entries_in}
-use Rattle.blk_format.specs.Maps.{is_marked, EmptyAgrees}
+use Rattle.blk_format.specs.Maps.{is_block_marked, EmptyAgrees}
 use Rattle.blk_addr.specs.declared.claim_set.Claims.{Claims}
 use Rattle.blk_alloc.specs.Changes.{map_of}
 use Rattle.blk_alloc.specs.Rebuilding.{counts_of, is_block_file, is_counted_place, is_updating_place, rebuilding_of, IsInHand, IsRebuilding, IsRebuilt, KeepsBytes}
@@ -27,7 +27,7 @@ use Rattle.blk_alloc.proofs.Sparing.{SparesFields}
 pub rebuilt_same : (claims : Claims) (a b : Image) (n : ℕ) → b (Block n) ≡ a (Block n) → IsRebuilt claims a n → IsRebuilt claims b n
 unfolding EmptyAgrees max_entries_in
 rebuilt_same claims a b n same rebuilt = record {
-  marks = λ k small. ap (λ (o : Option (List ℕ)). is_marked (λ file. o) n k) same ∙ rebuilt.marks k small;
+  marks = λ k small. ap (λ (o : Option (List ℕ)). is_block_marked (λ file. o) n k) same ∙ rebuilt.marks k small;
   allocations = ap (λ (o : Option (List ℕ)). allocations_of (content (unwrap_or o []))) same ∙ rebuilt.allocations;
   empty = subst (λ (o : Option (List ℕ)). EmptyAgrees (λ file. o) n) (sym same) rebuilt.empty;
   updating = ap (λ (o : Option (List ℕ)). updating_of (content (unwrap_or o []))) same ∙ rebuilt.updating;
@@ -67,7 +67,7 @@ module _ (claims : Claims) (n : ℕ) (from : Image) (long : 8192 ≤ length_of f
   begun_remade : IsRemade begun
   begun_remade = (begun_same, inr (inl begun_one))
 
-  pub begin_passes : {a b : Told} → a.files ≡ Some from → GrowsInPart a b (word_step (Block n) 56 1) → PassesTo a b IsRemade IsRemade
+  pub begin_passes : {a b : Told} → a.files ≡ Some from → AppliesPrefix a b (word_step (Block n) 56 1) → PassesTo a b IsRemade IsRemade
   begin_passes {a} {b} there part =
       passes_part IsRemade IsRemade part (quiet-word_step (Block n) 56 1) (λ i holds. holds)
       (λ i is. subst (λ (j : Image). Until IsRemade IsRemade j (word_step (Block n) 56 1)) (some_inj (sym there ∙ is)) (until_word IsRemade IsRemade (Block n) 56 1 from remade_begin begun_remade))

@@ -14,7 +14,7 @@ use Rattle.blk_image.proofs.Footprints.{outside-trans, outside_wider, within_lef
 use Rattle.blk_format.specs.Address.{external, file_selector, block_count, block_word, kind_of}
 use Rattle.blk_format.specs.Headers.{allocations_of}
 use Rattle.blk_format.specs.BlockFiles.{is_among, max_entries_in}
-use Rattle.blk_format.specs.Maps.{is_marked, are_free, AreAllocations}
+use Rattle.blk_format.specs.Maps.{is_block_marked, are_free, AreAllocations}
 use Rattle.blk_format.proofs.Words.{AreFields, file_selector-block_word, kind_of-block_word, block_count-block_word}
 use Rattle.blk_addr.specs.declared.kinds.Kind.{Kind}
 use Rattle.blk_addr.specs.Kind.{kind_number}
@@ -29,8 +29,8 @@ use Rattle.blk_alloc.specs.Fitting.{HasNoRoom, IsFirstFit, IsPlace}
 use Rattle.blk_alloc.specs.Owning.{is_of}
 use Rattle.blk_alloc.specs.Places.{is_place}
 use Rattle.blk_alloc.specs.Making.{HasCounters, HasMostBlocks, HasNoHints, IsFirstGrowing, KeepsAll}
-use Rattle.blk_alloc.specs.Taking.{IsTakeable, IsTaken, taking_of}
-use Rattle.blk_alloc.specs.Giving.{AreCounted, HaveNoRoom, IsGiven, IsMade, IsMakingIn, added_of, grown_of}
+use Rattle.blk_alloc.specs.Taking.{CanBeMarked, MarksUsed, taking_of}
+use Rattle.blk_alloc.specs.Giving.{AreCounted, HaveNoRoom, Allocates, Extends, ExtendsInProgressIn, added_of, grown_of}
 use Rattle.blk_alloc.proofs.Formed.{count_whole}
 use Rattle.blk_alloc.proofs.Fullness.{full_counts, many_full}
 use Rattle.blk_alloc.proofs.Hints.{taken_hints}
@@ -70,7 +70,7 @@ at_member xs k d small = list_any_at (λ m. m == get_or xs k d) xs k d small (sa
 -- 60 full files of a type would hold more allocations than there are
 pub never_full : (files : BlockFiles) (image : Image) (k : Kind) (count : ℕ) → kind_number k ≢ external → count ≤ 4 → Agrees files image → AreCounted files (kind_number k) image
     → HaveNoRoom files (kind_number k) count image → All (HasMostBlocks files) (files_of files (kind_number k)) → 60 ≤ length (files_of files (kind_number k)) → ⊥
-never_full files image k count blocky few agrees counted none full sixty =
+never_full files image k count block_kind few agrees counted none full sixty =
     let list : List ℕ = files_of files (kind_number k) in
     let f : ℕ → ℕ = λ n. allocations_of (byte image (Block n)) in
     let each : All (λ n. 16224 ≤ f n) list = (λ i d small. holds (get_or list i d) (at_member list i d small) (none i d small) (full i d small)) in
@@ -81,14 +81,14 @@ never_full files image k count blocky few agrees counted none full sixty =
     holds : (n : ℕ) → is_among (files_of files (kind_number k)) n ≡ true → HasNoRoom image count n → HasMostBlocks files n → 16224 ≤ allocations_of (byte image (Block n))
     holds n among refuses big =
         let has = counted.each n among in
-        let head = member_head files image k n blocky agrees among in
+        let head = member_head files image k n block_kind agrees among in
         let whole = count_whole _ head.count in
-        let is = agrees.blocks n (member_all files k n blocky among) in
+        let is = agrees.blocks n (member_all files k n block_kind among) in
         let groups = full_counts image n count has.words few whole.0 whole.1 has.are refuses in
         omega (arith, groups, is, big)
 
 -- room that is made by a growth
-pub making_grown : (files : BlockFiles) (kind n : ℕ) (from image : Image) → IsFirstGrowing files (files_of files kind) n → SameOutside (growth_of n) from image → IsMakingIn files kind from n image
+pub making_grown : (files : BlockFiles) (kind n : ℕ) (from image : Image) → IsFirstGrowing files (files_of files kind) n → SameOutside (growth_of n) from image → ExtendsInProgressIn files kind from n image
 making_grown files kind n from image first same = inl (first, outside_wider (growth_of n) (grown_of n) from image (within_left (growth_of n) (taking_of n)) same)
 
 taking_within : (files : BlockFiles) (kind : ℕ) → IsWithin (taking_of (free_number files)) (added_of files kind)
@@ -104,7 +104,7 @@ growth_within files kind = record {
 }
 
 -- room that is made in a new file
-pub making_added : (files : BlockFiles) (kind : ℕ) (from image : Image) → All (HasMostBlocks files) (files_of files kind) → SameOutside (either (addition_of files kind) (growth_of (free_number files))) from image → IsMakingIn files kind from (free_number files) image
+pub making_added : (files : BlockFiles) (kind : ℕ) (from image : Image) → All (HasMostBlocks files) (files_of files kind) → SameOutside (either (addition_of files kind) (growth_of (free_number files))) from image → ExtendsInProgressIn files kind from (free_number files) image
 making_added files kind from image full same =
     inr (
       full,
@@ -114,7 +114,7 @@ making_added files kind from image full same =
     )
 
 -- room that was made is taken
-pub making_taken : (files : BlockFiles) (kind n : ℕ) (from mid image : Image) → IsMakingIn files kind from n mid → SameOutside (taking_of n) mid image → IsMakingIn files kind from n image
+pub making_taken : (files : BlockFiles) (kind n : ℕ) (from mid image : Image) → ExtendsInProgressIn files kind from n mid → SameOutside (taking_of n) mid image → ExtendsInProgressIn files kind from n image
 making_taken files kind n from mid image making same =
     ⊎_elim
     (λ grows. inl (grows.0, outside-trans (grown_of n) from mid image grows.1 (outside_wider (taking_of n) (grown_of n) mid image (within_right (growth_of n) (taking_of n)) same)))
@@ -148,7 +148,7 @@ word_kind files k count place some is =
     (kind_of-block_word (kind_number k) place.file place.start place.count fields, block_count-block_word (kind_number k) place.file place.start place.count fields ∙ counted)
 
 -- blocks that are taken where room was made are given
-pub given_made : (old new : BlockFiles) (from mid image : Image) (place : Blocks) (w : ℕ) → file_selector w ≡ place.file → KeepsAll old new → IsMade old from place mid → IsTaken new mid w image → IsGiven old from w image
+pub given_made : (old new : BlockFiles) (from mid image : Image) (place : Blocks) (w : ℕ) → file_selector w ≡ place.file → KeepsAll old new → Extends old from place mid → MarksUsed new mid w image → Allocates old from w image
 given_made old new from mid image place w file all made taken = record {
   free = λ among b of. sym (made.marks (file_selector w) b among) ∙ taken.free b of;
   marks = λ n b among small. taken.marks n b small ∙ ap (λ (t : Bool). if is_of w n b then true else t) (made.marks n b among);
@@ -164,7 +164,7 @@ given_made old new from mid image place w file all made taken = record {
 }
 
 -- blocks that are taken of a file that was there are given
-pub given_fit : (files : BlockFiles) (from image : Image) (w : ℕ) → is_among (all_files files) (file_selector w) ≡ true → IsTaken files from w image → IsGiven files from w image
+pub given_fit : (files : BlockFiles) (from image : Image) (w : ℕ) → is_among (all_files files) (file_selector w) ≡ true → MarksUsed files from w image → Allocates files from w image
 given_fit files from image w among taken = record {
   free = λ there b of. taken.free b of;
   marks = λ n b there small. taken.marks n b small;
@@ -190,7 +190,7 @@ untold_before {a} {b} P stops none = by_files a.files refl
   where
     by_files : (o : Option Image) → a.files ≡ o → a.files ≡ None
     by_files None is = is
-    by_files (Some from) is = absurd (none_some (sym none ∙ (stops from is).grows.files ∙ ap (option_map (after (stops from is).steps)) is))
+    by_files (Some from) is = absurd (none_some (sym none ∙ (stops from is).applies.files ∙ ap (option_map (after (stops from is).steps)) is))
 
 -- what holds whatever the damage is
 pub if_damaged_any : {A : Type 0} (r : Result A Fault) (X : Type 0) → X → IfDamaged r (λ _. X)
@@ -200,7 +200,7 @@ if_damaged_any {A} (Err (Damaged damage)) X holds = holds
 
 -- files that were told before some steps are told after them
 pub told_later : {a b : Told} {P Q : Image → Type 0} {from : Image} → PassesTo a b P Q → a.files ≡ Some from → (mid : Image) × (b.files ≡ Some mid)
-told_later {a} {b} {P} {Q} {from} passes there = (after passes.steps from, passes.grows.files ∙ ap (option_map (after passes.steps)) there)
+told_later {a} {b} {P} {Q} {from} passes there = (after passes.steps from, passes.applies.files ∙ ap (option_map (after passes.steps)) there)
 
 first_of_two : (a b : Bool) → (a && b) ≡ true → a ≡ true
 first_of_two true b e = refl
@@ -212,13 +212,13 @@ second_of_two false b e = absurd (clash e)
 
 -- the first fit may be taken
 pub fit_takeable : (files : BlockFiles) (image : Image) (k : Kind) (count : ℕ) (place : Blocks) → kind_number k ≢ external → count ≤ 4 → Agrees files image → AreCounted files (kind_number k) image
-    → IsPlace files (kind_number k) count place → IsFirstFit image (files_of files (kind_number k)) count place → IsTakeable image place
+    → IsPlace files (kind_number k) count place → IsFirstFit image (files_of files (kind_number k)) count place → CanBeMarked image place
 unfolding is_place
-fit_takeable files image k count place blocky few agrees counted is fit =
+fit_takeable files image k count place block_kind few agrees counted is fit =
     let has = has_counters files image (kind_number k) place.file counted is.linked in
-    let head = member_head files image k place.file blocky agrees is.linked in
+    let head = member_head files image k place.file block_kind agrees is.linked in
     let whole = count_whole _ head.count in
-    let free = second_of_two (nat_le (place.start % 4 + count) 4) (are_free (is_marked image place.file) place.start count) fit.least.1 in
+    let free = second_of_two (nat_le (place.start % 4 + count) 4) (are_free (is_block_marked image place.file) place.start count) fit.least.1 in
     let below = fit.least.0 in
     let group = is.group in
     let room = has.room in
@@ -233,7 +233,7 @@ fit_takeable files image k count place blocky few agrees counted is fit =
         more = λ e. room;
         less = λ e. absurd (clash (sym e));
       };
-      free = subst (λ (m : ℕ). are_free (is_marked image place.file) place.start m ≡ true) (sym at) free;
+      free = subst (λ (m : ℕ). are_free (is_block_marked image place.file) place.start m ≡ true) (sym at) free;
     }
   where
     in_group : (start n count max : ℕ) → start < max → max % 4 ≡ 0 → start % 4 + count ≤ 4 → n ≡ count → start + n ≤ max

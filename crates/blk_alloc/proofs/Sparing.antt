@@ -4,7 +4,7 @@ use Rattle.std.proofs.lemmas.Bool.Decides.{nat_tests}
 use Rattle.blk_image.specs.Image.{Image, Index, Block, byte, length_of, same_file}
 use Rattle.blk_image.specs.Footprint.{Footprint, SameOutside, size_of}
 use Rattle.blk_format.specs.Address.{file_selector}
-use Rattle.blk_format.specs.BlockFiles.{linked, type_among, files_along, next_file_in, max_entries_in, is_block_count, IsWellFormed}
+use Rattle.blk_format.specs.BlockFiles.{linked, kind_among, files_along, next_file_in, max_entries_in, is_block_count, IsWellFormed}
 use Rattle.blk_disk.specs.Growth.{KeepsBlocks}
 use Rattle.blk_format.proofs.SpareHeaders.{past_header}
 use Rattle.blk_format.proofs.Keeping.{KeepsHead, undamaged_still}
@@ -75,7 +75,7 @@ module _ (F : Footprint) (from image : Image) (spares : SparesFields F) (same : 
   keeps_blocks = record {
     stand = λ w stands.
         let blocks = blocks_spared (file_selector w) in
-        stands_more from image w (ap (λ (lists : ℕ → List ℕ). type_among lists (file_selector w)) linked_spared) (omega (arith, blocks)) (longer (file_selector w)) stands;
+        stands_more from image w (ap (λ (lists : ℕ → List ℕ). kind_among lists (file_selector w)) linked_spared) (omega (arith, blocks)) (longer (file_selector w)) stands;
     bytes = λ w i stands low high. same.bytes (Block (file_selector w)) i (spares.blocks (file_selector w) i (let past = past_header w in omega (arith, past, low)));
   }
 

@@ -5,8 +5,8 @@ use Rattle.std.specs.List.{All}
 use Rattle.std.proofs.lemmas.List.Elements.{All-head, All-tail}
 use Rattle.std.proofs.lemmas.Bool.Decides.{nat_tests}
 use Rattle.blk_image.specs.Image.{Image, Block, External, has_file, length_of}
-use Rattle.blk_format.specs.Address.{kind_of, external, external_number, file_selector, first_block, block_count, is_address, is_block_kind, place, room}
-use Rattle.blk_format.specs.BlockFiles.{is_among, linked, type_among, max_entries_in, stands_in, stands_in_blocks}
+use Rattle.blk_format.specs.Address.{kind_of, external, external_number, file_selector, first_block, block_count, is_address, is_block_kind, place, byte_size}
+use Rattle.blk_format.specs.BlockFiles.{is_among, linked, kind_among, max_entries_in, stands_in, stands_in_blocks}
 use Rattle.blk_format.specs.Standing.{is_linked_as, stands, stands_as_blocks}
 use Rattle.blk_addr.proofs.AddressFields.{address_above_0}
 use Rattle.blk_alloc.proofs.Lists.{IsBlocks}
@@ -35,12 +35,12 @@ second_of_two false b e = absurd (clash e)
     clash h = cc
 
 -- a file that is linked as one of a type is in its list
-linked_in : (lists : ℕ → List ℕ) (n kind : ℕ) → is_linked_as (type_among lists n) kind ≡ true → (is_block_kind kind ≡ true) × (is_among (lists kind) n ≡ true)
-unfolding type_among
+linked_in : (lists : ℕ → List ℕ) (n kind : ℕ) → is_linked_as (kind_among lists n) kind ≡ true → (is_block_kind kind ≡ true) × (is_among (lists kind) n ≡ true)
+unfolding kind_among
 linked_in lists n kind holds = first (is_among (lists 1) n) refl holds
   where
     at : (k : ℕ) → is_block_kind k ≡ true → is_among (lists k) n ≡ true → (k == kind) ≡ true → (is_block_kind kind ≡ true) × (is_among (lists kind) n ≡ true)
-    at k blocky there same = let e : k ≡ kind = grind (arith, nat_tests) in (subst (λ (j : ℕ). is_block_kind j ≡ true) e blocky, subst (λ (j : ℕ). is_among (lists j) n ≡ true) e there)
+    at k block_kind there same = let e : k ≡ kind = grind (arith, nat_tests) in (subst (λ (j : ℕ). is_block_kind j ≡ true) e block_kind, subst (λ (j : ℕ). is_among (lists j) n ≡ true) e there)
 
     clash : false ≡ true → ⊥
     clash e = cc
@@ -65,28 +65,28 @@ linked_in lists n kind holds = first (is_among (lists 1) n) refl holds
 pub record StandsHere (image : Image) (w : ℕ) : Type 0 where
   pub address : is_address w ≡ true
   pub blocks : IsBlocks w
-  pub blocky : is_block_kind (kind_of w) ≡ true
+  pub block_kind : is_block_kind (kind_of w) ≡ true
   pub linked : is_among (linked image (kind_of w)) (file_selector w) ≡ true
   pub below : first_block w + block_count w ≤ max_entries_in image (file_selector w)
-  pub inside : place w + room w ≤ length_of image (Block (file_selector w))
+  pub inside : place w + byte_size w ≤ length_of image (Block (file_selector w))
 
 pub stands_here : (image : Image) (w : ℕ) → kind_of w ≢ external → stands_in image w ≡ true → StandsHere image w
 unfolding stands stands_as_blocks
-stands_here image w blocky is =
+stands_here image w block_kind is =
     let n : ℕ = file_selector w in
     let address : is_address w ≡ true = first_of_two (is_address w) (if kind_of w == external then has_file image (External (external_number w)) else stands_in_blocks image w) is in
     let test : (kind_of w == external) ≡ false = grind (arith, nat_tests) in
     let rest : stands_in_blocks image w ≡ true = ap (λ (t : Bool). if t then has_file image (External (external_number w)) else stands_in_blocks image w) (sym test) ∙ second_of_two (is_address w) (if kind_of w == external then has_file image (External (external_number w)) else stands_in_blocks image w) is in
-    let front : (is_linked_as (type_among (linked image) n) (kind_of w) && nat_le (first_block w + block_count w) (max_entries_in image n)) ≡ true =
-    first_of_two (is_linked_as (type_among (linked image) n) (kind_of w) && nat_le (first_block w + block_count w) (max_entries_in image n)) (nat_le (place w + room w) (length_of image (Block n))) rest in
-    let last : nat_le (place w + room w) (length_of image (Block n)) ≡ true = second_of_two (is_linked_as (type_among (linked image) n) (kind_of w) && nat_le (first_block w + block_count w) (max_entries_in image n)) (nat_le (place w + room w) (length_of image (Block n))) rest in
-    let here : is_linked_as (type_among (linked image) n) (kind_of w) ≡ true = first_of_two (is_linked_as (type_among (linked image) n) (kind_of w)) (nat_le (first_block w + block_count w) (max_entries_in image n)) front in
-    let fits : nat_le (first_block w + block_count w) (max_entries_in image n) ≡ true = second_of_two (is_linked_as (type_among (linked image) n) (kind_of w)) (nat_le (first_block w + block_count w) (max_entries_in image n)) front in
+    let front : (is_linked_as (kind_among (linked image) n) (kind_of w) && nat_le (first_block w + block_count w) (max_entries_in image n)) ≡ true =
+    first_of_two (is_linked_as (kind_among (linked image) n) (kind_of w) && nat_le (first_block w + block_count w) (max_entries_in image n)) (nat_le (place w + byte_size w) (length_of image (Block n))) rest in
+    let last : nat_le (place w + byte_size w) (length_of image (Block n)) ≡ true = second_of_two (is_linked_as (kind_among (linked image) n) (kind_of w) && nat_le (first_block w + block_count w) (max_entries_in image n)) (nat_le (place w + byte_size w) (length_of image (Block n))) rest in
+    let here : is_linked_as (kind_among (linked image) n) (kind_of w) ≡ true = first_of_two (is_linked_as (kind_among (linked image) n) (kind_of w)) (nat_le (first_block w + block_count w) (max_entries_in image n)) front in
+    let fits : nat_le (first_block w + block_count w) (max_entries_in image n) ≡ true = second_of_two (is_linked_as (kind_among (linked image) n) (kind_of w)) (nat_le (first_block w + block_count w) (max_entries_in image n)) front in
     let found = linked_in (linked image) n (kind_of w) here in
     record {
       address = address;
-      blocks = record { some = address_above_0 w address; blocky = blocky };
-      blocky = found.0;
+      blocks = record { some = address_above_0 w address; block_kind = block_kind };
+      block_kind = found.0;
       linked = found.1;
       below = grind (arith, nat_tests);
       inside = grind (arith, nat_tests);

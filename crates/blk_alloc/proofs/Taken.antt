@@ -6,14 +6,14 @@ use Rattle.std.proofs.lemmas.Bool.Decides.{nat_tests}
 use Rattle.blk_image.specs.Image.{Image, Block, byte, length_of}
 use Rattle.blk_image.specs.Steps.{SetLength, applied}
 use Rattle.blk_image.specs.Footprint.{SameOutside, size_of, one_word, either}
-use Rattle.blk_image.specs.Told.{Told, Grows, PassesTo, Until, IsQuiet}
+use Rattle.blk_image.specs.Told.{Told, Applies, PassesTo, Until, IsQuiet}
 use Rattle.blk_image.proofs.Footprints.{outside-refl, outside-trans, outside_wider, outside_longer, within_left, within_right}
 use Rattle.blk_image.proofs.Images.{length-after_set_len}
 use Rattle.blk_image.proofs.Runs.{passes_part, part_whole, some_inj}
 use Rattle.blk_format.specs.Address.{external}
 use Rattle.blk_format.specs.Headers.{empty_of, max_entries_of, allocations_of}
-use Rattle.blk_format.specs.BlockFiles.{is_among, type_among, linked, max_entries_in, most_blocks}
-use Rattle.blk_format.specs.Maps.{is_marked_at, are_free, groups_with, groups_of, EmptyAgrees}
+use Rattle.blk_format.specs.BlockFiles.{is_among, kind_among, linked, max_entries_in, most_blocks}
+use Rattle.blk_format.specs.Maps.{is_block_marked_at, are_free, groups_with, groups_of, EmptyAgrees}
 use Rattle.blk_addr.specs.declared.kinds.Kind.{Kind}
 use Rattle.blk_addr.specs.declared.kinds.Kind.TheVariants.{External, Rankings, B256, B1K, B4K}
 use Rattle.blk_addr.specs.Kind.{kind_number}
@@ -21,8 +21,8 @@ use Rattle.blk_disk.specs.declared.tables.BlockFiles.{BlockFiles}
 use Rattle.blk_disk.specs.Tables.{Agrees, files_of, all_files, length_in}
 use Rattle.blk_disk.specs.Growth.{fit_steps, whole_length}
 use Rattle.blk_disk.proofs.Chains.{linked_once}
-use Rattle.blk_alloc.specs.Changes.{map_of, IsReady, IsMidst}
-use Rattle.blk_alloc.specs.Taking.{taking_of, IsTaking}
+use Rattle.blk_alloc.specs.Changes.{map_of, IsReady, IsMapInProgress}
+use Rattle.blk_alloc.specs.Taking.{taking_of, MarksUsedInProgress}
 use Rattle.blk_alloc.proofs.Members.{kind_blocky}
 
 clash : true ≡ false → ⊥
@@ -33,12 +33,12 @@ not_true true never = absurd (never refl)
 not_true false never = refl
 
 -- a file of a type has that type
-pub type_is : (files : BlockFiles) (image : Image) (k : Kind) (n : ℕ) → kind_number k ≢ external → Agrees files image → is_among (files_of files (kind_number k)) n ≡ true → type_among (files_of files) n ≡ Some (kind_number k)
-unfolding type_among
-type_is files image k n some agrees among = by_kind k some among
+pub kind_is : (files : BlockFiles) (image : Image) (k : Kind) (n : ℕ) → kind_number k ≢ external → Agrees files image → is_among (files_of files (kind_number k)) n ≡ true → kind_among (files_of files) n ≡ Some (kind_number k)
+unfolding kind_among
+kind_is files image k n some agrees among = by_kind k some among
   where
     in_image : (j : Kind) → kind_number j ≢ external → is_among (files_of files (kind_number j)) n ≡ true → is_among (linked image (kind_number j)) n ≡ true
-    in_image j blocky there = subst (λ (l : List ℕ). is_among l n ≡ true) (agrees.links (kind_number j) (kind_blocky j blocky)) there
+    in_image j block_kind there = subst (λ (l : List ℕ). is_among l n ≡ true) (agrees.links (kind_number j) (kind_blocky j block_kind)) there
 
     apart : (a b : ℕ) → a ≢ b → a < 4 → b < 4 → is_among (linked image (suc a)) n ≡ true → is_among (linked image (suc b)) n ≡ true → ⊥
     apart a b differs small small2 one other = linked_once image agrees.undamaged a b n differs small small2 one other
@@ -48,19 +48,19 @@ type_is files image k n some agrees among = by_kind k some among
 
     by_kind : (j : Kind) → kind_number j ≢ external → is_among (files_of files (kind_number j)) n ≡ true
         → (if is_among (files_of files 1) n then Some 1 else if is_among (files_of files 2) n then Some 2 else if is_among (files_of files 3) n then Some 3 else if is_among (files_of files 4) n then Some 4 else None) ≡ Some (kind_number j)
-    by_kind External blocky there = absurd (blocky refl)
-    by_kind Rankings blocky there = rw there refl
-    by_kind B256 blocky there =
-        let a : is_among (files_of files 1) n ≡ false = not_true (is_among (files_of files 1) n) (λ h. apart 0 1 (omega arith) (omega arith) (omega arith) (in_image Rankings (omega arith) h) (in_image B256 blocky there)) in
+    by_kind External block_kind there = absurd (block_kind refl)
+    by_kind Rankings block_kind there = rw there refl
+    by_kind B256 block_kind there =
+        let a : is_among (files_of files 1) n ≡ false = not_true (is_among (files_of files 1) n) (λ h. apart 0 1 (omega arith) (omega arith) (omega arith) (in_image Rankings (omega arith) h) (in_image B256 block_kind there)) in
         rw (a, there) refl
-    by_kind B1K blocky there =
-        let a : is_among (files_of files 1) n ≡ false = not_true (is_among (files_of files 1) n) (λ h. apart 0 2 (omega arith) (omega arith) (omega arith) (in_image Rankings (omega arith) h) (in_image B1K blocky there)) in
-        let b : is_among (files_of files 2) n ≡ false = not_true (is_among (files_of files 2) n) (λ h. apart 1 2 (omega arith) (omega arith) (omega arith) (in_image B256 (omega arith) h) (in_image B1K blocky there)) in
+    by_kind B1K block_kind there =
+        let a : is_among (files_of files 1) n ≡ false = not_true (is_among (files_of files 1) n) (λ h. apart 0 2 (omega arith) (omega arith) (omega arith) (in_image Rankings (omega arith) h) (in_image B1K block_kind there)) in
+        let b : is_among (files_of files 2) n ≡ false = not_true (is_among (files_of files 2) n) (λ h. apart 1 2 (omega arith) (omega arith) (omega arith) (in_image B256 (omega arith) h) (in_image B1K block_kind there)) in
         rw (a, b, there) refl
-    by_kind B4K blocky there =
-        let a : is_among (files_of files 1) n ≡ false = not_true (is_among (files_of files 1) n) (λ h. apart 0 3 (omega arith) (omega arith) (omega arith) (in_image Rankings (omega arith) h) (in_image B4K blocky there)) in
-        let b : is_among (files_of files 2) n ≡ false = not_true (is_among (files_of files 2) n) (λ h. apart 1 3 (omega arith) (omega arith) (omega arith) (in_image B256 (omega arith) h) (in_image B4K blocky there)) in
-        let d : is_among (files_of files 3) n ≡ false = not_true (is_among (files_of files 3) n) (λ h. apart 2 3 (omega arith) (omega arith) (omega arith) (in_image B1K (omega arith) h) (in_image B4K blocky there)) in
+    by_kind B4K block_kind there =
+        let a : is_among (files_of files 1) n ≡ false = not_true (is_among (files_of files 1) n) (λ h. apart 0 3 (omega arith) (omega arith) (omega arith) (in_image Rankings (omega arith) h) (in_image B4K block_kind there)) in
+        let b : is_among (files_of files 2) n ≡ false = not_true (is_among (files_of files 2) n) (λ h. apart 1 3 (omega arith) (omega arith) (omega arith) (in_image B256 (omega arith) h) (in_image B4K block_kind there)) in
+        let d : is_among (files_of files 3) n ≡ false = not_true (is_among (files_of files 3) n) (λ h. apart 2 3 (omega arith) (omega arith) (omega arith) (in_image B1K (omega arith) h) (in_image B4K block_kind there)) in
         rw (a, b, d, there) refl
 
 -- The file is lengthened to its blocks.
@@ -83,7 +83,7 @@ module _ (files : BlockFiles) (n : ℕ) (from : Image) (agrees : Agrees files fr
       by_test true = tt
       by_test false = tt
 
-  pub fit_passes : {a b : Told} (P : Image → Type 0) → a.files ≡ Some from → Grows a b (fit_steps files n) → ((mid : Image) → SameOutside (size_of (Block n)) from mid → length_of from (Block n) ≤ length_of mid (Block n) → P mid) → PassesTo a b P P
+  pub fit_passes : {a b : Told} (P : Image → Type 0) → a.files ≡ Some from → Applies a b (fit_steps files n) → ((mid : Image) → SameOutside (size_of (Block n)) from mid → length_of from (Block n) ≤ length_of mid (Block n) → P mid) → PassesTo a b P P
   fit_passes {a} {b} P there grows all =
       passes_part P P (part_whole grows) fit_quiet (λ i p. p)
       (λ i is. subst (λ (j : Image). Until P P j (fit_steps files n)) (some_inj (sym there ∙ is)) (fit_along P (all from (outside-refl (size_of (Block n)) from) (omega arith)) all))
@@ -98,19 +98,19 @@ ready_kept from mid n start count used same longer ready =
       whole = subst (λ (f : ℕ → ℕ). max_entries_of f % 4 ≡ 0) bytes ready.whole;
       most = subst (λ (f : ℕ → ℕ). max_entries_of f ≤ most_blocks) bytes ready.most;
       below = subst (λ (f : ℕ → ℕ). start + count ≤ max_entries_of f) bytes ready.below;
-      empty = subst (λ (f : ℕ → ℕ). (i : ℕ) → i < 4 → empty_of f i ≡ groups_with (is_marked_at f) (groups_of (max_entries_of f)) (i + 1)) bytes ready.empty;
+      empty = subst (λ (f : ℕ → ℕ). (i : ℕ) → i < 4 → empty_of f i ≡ groups_with (is_block_marked_at f) (groups_of (max_entries_of f)) (i + 1)) bytes ready.empty;
       more = subst (λ (f : ℕ → ℕ). used ≡ true → allocations_of f < 4294967295) bytes ready.more;
       less = subst (λ (f : ℕ → ℕ). used ≡ false → 0 < allocations_of f) bytes ready.less;
     }
 
 -- a moment after the file was lengthened
-pub taking_fit : (n : ℕ) (from mid : Image) → SameOutside (size_of (Block n)) from mid → IsTaking n from mid
+pub taking_fit : (n : ℕ) (from mid : Image) → SameOutside (size_of (Block n)) from mid → MarksUsedInProgress n from mid
 taking_fit n from mid same = record {
   same = outside_wider (size_of (Block n)) (taking_of n) from mid (within_left (size_of (Block n)) (map_of n)) same;
   updating = inr (outside_wider (size_of (Block n)) (either (size_of (Block n)) (one_word (Block n) 56)) from mid (within_left (size_of (Block n)) (one_word (Block n) 56)) same);
 }
 
-pub taking_midst : (n : ℕ) (from mid image : Image) → SameOutside (size_of (Block n)) from mid → IsMidst n mid image → IsTaking n from image
+pub taking_midst : (n : ℕ) (from mid image : Image) → SameOutside (size_of (Block n)) from mid → IsMapInProgress n mid image → MarksUsedInProgress n from image
 taking_midst n from mid image same midst =
     let first = taking_fit n from mid same in
     record {

@@ -4,11 +4,11 @@ use Rattle.std.specs.Option.{ForSome, option_map}
 use Rattle.blk_image.specs.Image.{Image, Index, Block, length_of}
 use Rattle.blk_image.specs.Steps.{after}
 use Rattle.blk_image.specs.Footprint.{SameOutside, size_of}
-use Rattle.blk_image.specs.Told.{Told, PassesTo, Grows}
+use Rattle.blk_image.specs.Told.{Told, PassesTo, Applies}
 use Rattle.blk_image.proofs.Runs.{passes_weaker, passes_then, passes_end, some_inj}
 use Rattle.blk_format.specs.Address.{block_word, file_selector, first_block, block_count, kind_of, external, is_address, rankings}
 use Rattle.blk_format.specs.BlockFiles.{IsWellFormed, is_among, max_entries_in, most_blocks}
-use Rattle.blk_format.specs.Maps.{is_marked, are_free}
+use Rattle.blk_format.specs.Maps.{is_block_marked, are_free}
 use Rattle.blk_format.proofs.Words.{AreFields, is_address-block_word, kind_of-block_word, file_selector-block_word, first_block-block_word, block_count-block_word}
 use Rattle.blk_addr.specs.declared.kinds.Kind.{Kind}
 use Rattle.blk_addr.specs.Kind.{kind_number}
@@ -21,9 +21,9 @@ use Rattle.blk_format.proofs.SpareHeaders.{next_same, heads_still, sizes_spare, 
 use Rattle.blk_disk.proofs.Enlarging.{well_formed_still}
 use Rattle.blk_format.proofs.Keeping.{undamaged_still}
 use Rattle.blk_alloc.specs.declared.blocks.Blocks.{Blocks}
-use Rattle.blk_alloc.specs.Changes.{IsMidst, IsReady, IsChanged}
+use Rattle.blk_alloc.specs.Changes.{IsMapInProgress, IsReady, IsChanged}
 use Rattle.blk_alloc.specs.Fitting.{IsPlace}
-use Rattle.blk_alloc.specs.Taking.{IsTakeable, IsTaking, IsTaken}
+use Rattle.blk_alloc.specs.Taking.{CanBeMarked, MarksUsedInProgress, MarksUsed}
 use Rattle.blk_alloc.proofs.Formed.{formed_kept}
 use Rattle.blk_alloc.proofs.Lists.{IsBlocks}
 use Rattle.blk_alloc.proofs.Members.{kind_blocky, kind_small}
@@ -31,7 +31,7 @@ use Rattle.blk_alloc.proofs.Taken.{fit_passes, ready_kept, taking_fit, taking_mi
 use Rattle.blk_alloc.proofs.TakenBlocks.{taken_is, taken_stands}
 
 module _ (a b : Told) (old new : BlockFiles) (place : Blocks) (agrees : ForSome a.files (Agrees old)) (all : is_among (all_files old) place.file ≡ true)
-    (fitted : Grows a b (fit_steps old place.file)) (kept : Resizes old new place.file (max (length_in old place.file) (whole_length old place.file))) (agrees_new : ForSome b.files (Agrees new)) where
+    (fitted : Applies a b (fit_steps old place.file)) (kept : Resizes old new place.file (max (length_in old place.file) (whole_length old place.file))) (agrees_new : ForSome b.files (Agrees new)) where
   abbrev n : ℕ
   n = place.file
 
@@ -61,7 +61,7 @@ module _ (a b : Told) (old new : BlockFiles) (place : Blocks) (agrees : ForSome 
           clash h = cc
       by_files (Some from) e = let found = mid_of from e in (from, e, subst (IsMid from) (some_inj (sym found.1.now ∙ now)) found.1)
 
-  pub ready_after : ForSome a.files (λ image. IsTakeable image place) → ForSome b.files (λ mid. IsReady mid n place.start place.count true)
+  pub ready_after : ForSome a.files (λ image. CanBeMarked image place) → ForSome b.files (λ mid. IsReady mid n place.start place.count true)
   ready_after takeable mid now = let was = from_of mid now in ready_kept was.0 mid n place.start place.count true was.2.same was.2.longer (takeable was.0 was.1).ready
 
   -- a well-formed folder is still so
@@ -73,17 +73,17 @@ module _ (a b : Told) (old new : BlockFiles) (place : Blocks) (agrees : ForSome 
       lengths : (m : ℕ) → length_of from (Block m) ≤ length_of i (Block m)
       lengths m = ⊎_elim (λ (e : m ≡ n). subst (λ (k : ℕ). length_of from (Block k) ≤ length_of i (Block k)) (sym e) longer) (λ differs. let e = same.lengths (Block m) (other_file n m differs) in omega (arith, e)) (cases_eq m n)
 
-  module _ (c : Told) (stops : ForSome b.files (λ mid. PassesTo b c (IsMidst n mid) (λ image. IsMidst n mid image ⊎ IsChanged mid n place.start place.count true image))) where
+  module _ (c : Told) (stops : ForSome b.files (λ mid. PassesTo b c (IsMapInProgress n mid) (λ image. IsMapInProgress n mid image ⊎ IsChanged mid n place.start place.count true image))) where
     pub formed_after : ForSome a.files (λ from. IsWellFormed from → PassesTo a c IsWellFormed IsWellFormed)
     formed_after from there formed =
         let found = mid_of from there in
         let mid = found.0 in
         let first : PassesTo a b IsWellFormed IsWellFormed = fit_passes old n from (agrees from there) all IsWellFormed there fitted (λ i same longer. lengthened_formed from i same longer formed) in
         let mid_formed = lengthened_formed from mid found.1.same found.1.longer formed in
-        let keeps : (i : Image) → IsMidst n mid i → IsWellFormed i = λ i midst. formed_kept n mid i midst.same mid_formed in
+        let keeps : (i : Image) → IsMapInProgress n mid i → IsWellFormed i = λ i midst. formed_kept n mid i midst.same mid_formed in
         passes_then first (passes_weaker (stops mid found.1.now) keeps (λ i. ⊎_elim (keeps i) (λ changed. formed_kept n mid i changed.same mid_formed)))
 
-  module _ (k : Kind) (blocky : kind_number k ≢ external) (some : 0 < place.count) (node : kind_number k ≡ rankings → place.count ≡ 1) (is : IsPlace old (kind_number k) place.count place) (takeable : ForSome a.files (λ image. IsTakeable image place)) where
+  module _ (k : Kind) (block_kind : kind_number k ≢ external) (some : 0 < place.count) (node : kind_number k ≡ rankings → place.count ≡ 1) (is : IsPlace old (kind_number k) place.count place) (takeable : ForSome a.files (λ image. CanBeMarked image place)) where
     abbrev w : ℕ
     w = block_word (kind_number k) n place.start place.count
 
@@ -91,13 +91,13 @@ module _ (a b : Told) (old new : BlockFiles) (place : Blocks) (agrees : ForSome 
     fields = let small = is.small in let group = is.group in record { kind = kind_small k; file = is.number; start = omega (arith, small); some = some; most = omega (arith, group) }
 
     address : is_address w ≡ true
-    address = is_address-block_word (kind_number k) n place.start place.count fields (kind_blocky k blocky) is.group node
+    address = is_address-block_word (kind_number k) n place.start place.count fields (kind_blocky k block_kind) is.group node
 
     kind_is : kind_of w ≡ kind_number k
     kind_is = kind_of-block_word (kind_number k) n place.start place.count fields
 
     blocks : IsBlocks w
-    blocks = record { some = address_above_0 w address; blocky = λ e. blocky (sym kind_is ∙ e) }
+    blocks = record { some = address_above_0 w address; block_kind = λ e. block_kind (sym kind_is ∙ e) }
 
     file_is : file_selector w ≡ n
     file_is = file_selector-block_word (kind_number k) n place.start place.count fields
@@ -116,27 +116,27 @@ module _ (a b : Told) (old new : BlockFiles) (place : Blocks) (agrees : ForSome 
     stands_after from there =
         let found = mid_of from there in
         let ready = (takeable from there).ready in
-        taken_stands old new from found.0 k w blocky kind_is address blocks (agrees from there) (agrees_new found.0 found.1.now)
+        taken_stands old new from found.0 k w block_kind kind_is address blocks (agrees from there) (agrees_new found.0 found.1.now)
         (at_word (λ f s m. is_among (files_of old (kind_number k)) f ≡ true) is.linked) (at_word (λ f s m. s + m ≤ max_entries_in from f) ready.below) (at_word (λ f s m. max_entries_in from f ≤ most_blocks) ready.most)
         (at_word (λ f s m. Resizes old new f (max (length_in old f) (whole_length old f))) kept) (at_word (λ f s m. SameOutside (size_of (Block f)) from found.0) found.1.same)
 
-    pub taken_after : (from : Image) → a.files ≡ Some from → (image : Image) → ((mid : Image) → b.files ≡ Some mid → IsChanged mid n place.start place.count true image) → IsTaken old from w image
+    pub taken_after : (from : Image) → a.files ≡ Some from → (image : Image) → ((mid : Image) → b.files ≡ Some mid → IsChanged mid n place.start place.count true image) → MarksUsed old from w image
     taken_after from there image changed =
         let found = mid_of from there in
         let ready = (takeable from there).ready in
-        taken_is old new from found.0 k w blocky kind_is address blocks (agrees from there) (agrees_new found.0 found.1.now)
+        taken_is old new from found.0 k w block_kind kind_is address blocks (agrees from there) (agrees_new found.0 found.1.now)
         (at_word (λ f s m. is_among (files_of old (kind_number k)) f ≡ true) is.linked) (at_word (λ f s m. s + m ≤ max_entries_in from f) ready.below) (at_word (λ f s m. max_entries_in from f ≤ most_blocks) ready.most)
         (at_word (λ f s m. Resizes old new f (max (length_in old f) (whole_length old f))) kept) (at_word (λ f s m. SameOutside (size_of (Block f)) from found.0) found.1.same)
-        image (at_word (λ f s m. IsChanged found.0 f s m true image) (changed found.0 found.1.now)) (at_word (λ f s m. are_free (is_marked from f) s m ≡ true) (takeable from there).free)
+        image (at_word (λ f s m. IsChanged found.0 f s m true image) (changed found.0 found.1.now)) (at_word (λ f s m. are_free (is_block_marked from f) s m ≡ true) (takeable from there).free)
 
-    pub stops_after : (c : Told) → ForSome b.files (λ mid. PassesTo b c (IsMidst n mid) (λ image. IsMidst n mid image ⊎ IsChanged mid n place.start place.count true image))
-        → ForSome a.files (λ from. PassesTo a c (IsTaking n from) (λ image. IsTaking n from image ⊎ IsTaken old from w image))
+    pub stops_after : (c : Told) → ForSome b.files (λ mid. PassesTo b c (IsMapInProgress n mid) (λ image. IsMapInProgress n mid image ⊎ IsChanged mid n place.start place.count true image))
+        → ForSome a.files (λ from. PassesTo a c (MarksUsedInProgress n from) (λ image. MarksUsedInProgress n from image ⊎ MarksUsed old from w image))
     stops_after c stops from there =
         let found = mid_of from there in
         let mid = found.0 in
-        let first : PassesTo a b (IsTaking n from) (IsTaking n from) = fit_passes old n from (agrees from there) all (IsTaking n from) there fitted (λ i same longer. taking_fit n from i same) in
-        let keeps : (i : Image) → IsMidst n mid i → IsTaking n from i = λ i midst. taking_midst n from mid i found.1.same midst in
-        let second : PassesTo b c (IsTaking n from) (λ image. IsTaking n from image ⊎ IsTaken old from w image) =
+        let first : PassesTo a b (MarksUsedInProgress n from) (MarksUsedInProgress n from) = fit_passes old n from (agrees from there) all (MarksUsedInProgress n from) there fitted (λ i same longer. taking_fit n from i same) in
+        let keeps : (i : Image) → IsMapInProgress n mid i → MarksUsedInProgress n from i = λ i midst. taking_midst n from mid i found.1.same midst in
+        let second : PassesTo b c (MarksUsedInProgress n from) (λ image. MarksUsedInProgress n from image ⊎ MarksUsed old from w image) =
         passes_weaker (stops mid found.1.now) keeps
         (λ i. ⊎_elim (λ midst. inl (keeps i midst)) (λ changed. inr (taken_after from there i (λ m now. subst (λ (x : Image). IsChanged x n place.start place.count true i) (some_inj (sym found.1.now ∙ now)) changed)))) in
         passes_then first second

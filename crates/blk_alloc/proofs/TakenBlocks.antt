@@ -10,12 +10,12 @@ use Rattle.std.proofs.Math.Nat.{mul-le-mul}
 use Rattle.blk_image.specs.Image.{Image, Block, External, has_file, byte}
 use Rattle.blk_image.specs.Footprint.{SameOutside, size_of}
 use Rattle.blk_image.proofs.Footprints.{outside-trans, outside_wider, within_right}
-use Rattle.blk_format.specs.Address.{kind_of, external, external_number, file_selector, first_block, block_count, block_size, is_address, place, room, block_place}
+use Rattle.blk_format.specs.Address.{kind_of, external, external_number, file_selector, first_block, block_count, block_size, is_address, place, byte_size, block_place}
 use Rattle.blk_format.specs.Claims.{Claim, BlockOf, ExternalOf, claims_of, claims_of_all, has_claim, is_in_file}
 use Rattle.blk_format.specs.Headers.{empty_of, max_entries_of}
 use Rattle.blk_format.specs.Standing.{is_linked_as, stands, stands_as_blocks}
-use Rattle.blk_format.specs.BlockFiles.{is_among, type_among, max_entries_in, stands_in, stands_in_blocks, most_blocks}
-use Rattle.blk_format.specs.Maps.{is_marked, is_marked_at, groups_with, groups_of, are_free, AreAllocations, EmptyAgrees}
+use Rattle.blk_format.specs.BlockFiles.{is_among, kind_among, max_entries_in, stands_in, stands_in_blocks, most_blocks}
+use Rattle.blk_format.specs.Maps.{is_block_marked, is_block_marked_at, groups_with, groups_of, are_free, AreAllocations, EmptyAgrees}
 use Rattle.blk_addr.specs.Bits.{is_between}
 use Rattle.blk_addr.specs.declared.kinds.Kind.{Kind}
 use Rattle.blk_addr.specs.Kind.{kind_number}
@@ -26,12 +26,12 @@ use Rattle.blk_disk.specs.Growth.{whole_length, size_as}
 use Rattle.blk_disk.proofs.Ranges.{stands_agree}
 use Rattle.blk_alloc.specs.Changes.{map_of, with_marks, IsChanged}
 use Rattle.blk_alloc.specs.Owning.{is_of}
-use Rattle.blk_alloc.specs.Taking.{taking_of, IsTaken}
+use Rattle.blk_alloc.specs.Taking.{taking_of, MarksUsed}
 use Rattle.blk_alloc.proofs.Formed.{stands_kept, other_kept, file_kept}
 use Rattle.blk_alloc.proofs.Lists.{IsBlocks, claims_blocks, claims_no_external, one_more_once}
 use Rattle.blk_alloc.proofs.Members.{member_all}
 use Rattle.blk_alloc.proofs.Widening.{Widens, fit_widens, allocations_more}
-use Rattle.blk_alloc.proofs.Taken.{type_is, taking_fit, free_at}
+use Rattle.blk_alloc.proofs.Taken.{kind_is, taking_fit, free_at}
 
 clash : true ≡ false → ⊥
 clash e = cc
@@ -40,7 +40,7 @@ spread : (a b c : ℕ) → 8192 + a * c + b * c ≡ 8192 + (a + b) * c
 spread a b c = grind arith
 
 module _ (old new : BlockFiles) (from mid : Image) (k : Kind) (w : ℕ)
-    (blocky : kind_number k ≢ external) (kind : kind_of w ≡ kind_number k) (address : is_address w ≡ true) (blocks : IsBlocks w)
+    (block_kind : kind_number k ≢ external) (kind : kind_of w ≡ kind_number k) (address : is_address w ≡ true) (blocks : IsBlocks w)
     (before : Agrees old from) (later : Agrees new mid)
     (there : is_among (files_of old (kind_number k)) (file_selector w) ≡ true)
     (below : first_block w + block_count w ≤ max_entries_in from (file_selector w)) (most : max_entries_in from (file_selector w) ≤ most_blocks)
@@ -50,16 +50,16 @@ module _ (old new : BlockFiles) (from mid : Image) (k : Kind) (w : ℕ)
   n = file_selector w
 
   all_there : is_among (all_files old) n ≡ true
-  all_there = member_all old k n blocky there
+  all_there = member_all old k n block_kind there
 
   abbrev pub widens : Widens old new from mid
   widens = fit_widens old new from mid n (whole_length old n) resizes same
 
   -- the blocks end inside the file
-  ends_inside : place w + room w ≤ length_in new n
-  unfolding whole_length place room block_place
+  ends_inside : place w + byte_size w ≤ length_in new n
+  unfolding whole_length place byte_size block_place
   ends_inside =
-      let type : type_among (files_of old) n ≡ Some (kind_number k) = type_is old from k n blocky before there in
+      let type : kind_among (files_of old) n ≡ Some (kind_number k) = kind_is old from k n block_kind before there in
       let whole : whole_length old n ≡ 8192 + blocks_of old n * block_size (kind_number k) = ap (λ (o : Option ℕ). 8192 + blocks_of old n * size_as o) type in
       let size = resizes.size_there in
       let count = before.blocks n all_there in
@@ -70,37 +70,37 @@ module _ (old new : BlockFiles) (from mid : Image) (k : Kind) (w : ℕ)
   pub taken_stands : stands_among new w ≡ true
   unfolding stands_as_blocks
   taken_stands =
-      let type : is_linked_as (type_among (files_of new) n) (kind_of w) ≡ true =
-      ap (λ (o : Option ℕ). is_linked_as o (kind_of w)) (widens.tables.types n all_there ∙ type_is old from k n blocky before there) ∙ (let e = kind in grind (arith, nat_tests)) in
+      let type : is_linked_as (kind_among (files_of new) n) (kind_of w) ≡ true =
+      ap (λ (o : Option ℕ). is_linked_as o (kind_of w)) (widens.tables.types n all_there ∙ kind_is old from k n block_kind before there) ∙ (let e = kind in grind (arith, nat_tests)) in
       let fits : nat_le (first_block w + block_count w) (blocks_of new n) ≡ true = (let count = before.blocks n all_there in let more = widens.tables.blocks n all_there in grind (arith, nat_tests)) in
-      let inside : nat_le (place w + room w) (length_in new n) ≡ true = (let e = ends_inside in grind (arith, nat_tests)) in
+      let inside : nat_le (place w + byte_size w) (length_in new n) ≡ true = (let e = ends_inside in grind (arith, nat_tests)) in
       rw (type, fits, inside) refl
 
-  module _ (image : Image) (changed : IsChanged mid n (first_block w) (block_count w) true image) (free : are_free (is_marked from n) (first_block w) (block_count w) ≡ true) where
-    mid_marks : (m b : ℕ) → is_marked mid m b ≡ is_marked from m b
+  module _ (image : Image) (changed : IsChanged mid n (first_block w) (block_count w) true image) (free : are_free (is_block_marked from n) (first_block w) (block_count w) ≡ true) where
+    mid_marks : (m b : ℕ) → is_block_marked mid m b ≡ is_block_marked from m b
     mid_marks m b = ap (λ (x : ℕ). bit_at x (b % 8) == 1) (same.bytes (Block m) (80 + b / 8) refl)
 
-    free_blocks : (b : ℕ) → is_of w n b ≡ true → is_marked from n b ≡ false
+    free_blocks : (b : ℕ) → is_of w n b ≡ true → is_block_marked from n b ≡ false
     unfolding is_of
-    free_blocks b of = free_at (is_marked from n) (first_block w) (block_count w) b free (grind (arith, nat_tests)) (grind (arith, nat_tests))
+    free_blocks b of = free_at (is_block_marked from n) (first_block w) (block_count w) b free (grind (arith, nat_tests)) (grind (arith, nat_tests))
 
-    marks_are : (m b : ℕ) → b < most_blocks → is_marked image m b ≡ (if is_of w m b then true else is_marked from m b)
+    marks_are : (m b : ℕ) → b < most_blocks → is_block_marked image m b ≡ (if is_of w m b then true else is_block_marked from m b)
     unfolding is_of
     marks_are m b small = ⊎_elim here elsewhere (cases_eq m (file_selector w))
       where
-        here : m ≡ file_selector w → is_marked image m b ≡ (if (file_selector w == m) && is_between (first_block w) (first_block w + block_count w) b then true else is_marked from m b)
+        here : m ≡ file_selector w → is_block_marked image m b ≡ (if (file_selector w == m) && is_between (first_block w) (first_block w + block_count w) b then true else is_block_marked from m b)
         here e =
             let test : (file_selector w == m) ≡ true = grind (arith, nat_tests) in
-            ap (λ (j : ℕ). is_marked image j b) e ∙ changed.marks b small ∙ ap (λ (j : ℕ). with_marks (is_marked mid j) (first_block w) (block_count w) true b) (sym e)
+            ap (λ (j : ℕ). is_block_marked image j b) e ∙ changed.marks b small ∙ ap (λ (j : ℕ). with_marks (is_block_marked mid j) (first_block w) (block_count w) true b) (sym e)
             ∙ ap (λ (t : Bool). if is_between (first_block w) (first_block w + block_count w) b then true else t) (mid_marks m b)
-            ∙ ap (λ (t : Bool). if t && is_between (first_block w) (first_block w + block_count w) b then true else is_marked from m b) (sym test)
+            ∙ ap (λ (t : Bool). if t && is_between (first_block w) (first_block w + block_count w) b then true else is_block_marked from m b) (sym test)
 
-        elsewhere : m ≢ file_selector w → is_marked image m b ≡ (if (file_selector w == m) && is_between (first_block w) (first_block w + block_count w) b then true else is_marked from m b)
+        elsewhere : m ≢ file_selector w → is_block_marked image m b ≡ (if (file_selector w == m) && is_between (first_block w) (first_block w + block_count w) b then true else is_block_marked from m b)
         elsewhere differs =
             let test : (file_selector w == m) ≡ false = grind (arith, nat_tests) in
-            ap (λ (o : Option (List ℕ)). is_marked (λ file. o) m b) (other_kept (file_selector w) mid image changed.same m differs)
+            ap (λ (o : Option (List ℕ)). is_block_marked (λ file. o) m b) (other_kept (file_selector w) mid image changed.same m differs)
             ∙ mid_marks m b
-            ∙ ap (λ (t : Bool). if t && is_between (first_block w) (first_block w + block_count w) b then true else is_marked from m b) (sym test)
+            ∙ ap (λ (t : Bool). if t && is_between (first_block w) (first_block w + block_count w) b then true else is_block_marked from m b) (sym test)
 
     -- the address shares nothing with the allocations of its file
     of_parts : (f b : ℕ) → is_of w f b ≡ true → (f ≡ n) × ((first_block w ≤ b) × (b < first_block w + block_count w))
@@ -112,14 +112,14 @@ module _ (old new : BlockFiles) (from mid : Image) (k : Kind) (w : ℕ)
     apart words are (BlockOf f b) inside also =
         let parts = of_parts f b (sym (claims_blocks w f b blocks) ∙ inside) in
         let high = parts.1.1 in
-        let unmarked : is_marked from n b ≡ false = free_at (is_marked from n) (first_block w) (block_count w) b free parts.1.0 high in
+        let unmarked : is_block_marked from n b ≡ false = free_at (is_block_marked from n) (first_block w) (block_count w) b free parts.1.0 high in
         clash (sym also ∙ ap (λ (g : ℕ). has_claim (claims_of_all words) (BlockOf g b)) parts.0 ∙ sym (are.marks b (omega (arith, high, below, most))) ∙ unmarked)
 
     stands_last : stands_in image w ≡ true
     unfolding stands
     stands_last =
         let mid_stands : stands_in_blocks mid w ≡ true = sym (stands_agree new mid w later) ∙ taken_stands in
-        let test : (kind_of w == external) ≡ false = (let d = blocks.blocky in grind (arith, nat_tests)) in
+        let test : (kind_of w == external) ≡ false = (let d = blocks.block_kind in grind (arith, nat_tests)) in
         let all : (is_address w && (if kind_of w == external then has_file mid (External (external_number w)) else stands_in_blocks mid w)) ≡ true =
         ap (λ (t : Bool). is_address w && (if t then has_file mid (External (external_number w)) else stands_in_blocks mid w)) test ∙ ap₂ (λ (x y : Bool). x && y) address mid_stands in
         ap (λ (f : ℕ → Bool). f w) (stands_kept n mid image changed.same) ∙ all
@@ -128,13 +128,13 @@ module _ (old new : BlockFiles) (from mid : Image) (k : Kind) (w : ℕ)
     unfolding EmptyAgrees max_entries_in
     empty_mid m was =
         let bytes : byte from (Block m) ≡ byte mid (Block m) = (λ j i. sym (same.bytes (Block m) i refl) j) in
-        subst (λ (f : ℕ → ℕ). (i : ℕ) → i < 4 → empty_of f i ≡ groups_with (is_marked_at f) (groups_of (max_entries_of f)) (i + 1)) bytes was
+        subst (λ (f : ℕ → ℕ). (i : ℕ) → i < 4 → empty_of f i ≡ groups_with (is_block_marked_at f) (groups_of (max_entries_of f)) (i + 1)) bytes was
 
     or_is : (t b : Bool) → (if t then true else b) ≡ (t || b)
     or_is true b = refl
     or_is false b = refl
 
-    pub taken_is : IsTaken old from w image
+    pub taken_is : MarksUsed old from w image
     taken_is = record {
       same = outside-trans (taking_of n) from mid image (taking_fit n from mid same).same (outside_wider (map_of n) (taking_of n) mid image (within_right (size_of (Block n)) (map_of n)) changed.same);
       free = free_blocks;
@@ -143,7 +143,7 @@ module _ (old new : BlockFiles) (from mid : Image) (k : Kind) (w : ℕ)
           let kept = allocations_more old new from mid before later widens n all_there words are in
           record {
             stand = All-cons (λ x. stands_in image x ≡ true) w words stands_last (subst (λ (f : ℕ → Bool). All (λ x. f x ≡ true) words) (sym (stands_kept n mid image changed.same)) kept.stand);
-            here = All-cons (λ x. is_in_file n x ≡ true) w words (is_in_file-blocks n w blocks.blocky ∙ self n) are.here;
+            here = All-cons (λ x. is_in_file n x ≡ true) w words (is_in_file-blocks n w blocks.block_kind ∙ self n) are.here;
             apart = one_more_once words w blocks are.apart (apart words are);
             marks = λ b small. marks_are n b small ∙ ap₂ (λ (t m : Bool). if t then true else m) (sym (claims_blocks w n b blocks)) (are.marks b small)
                 ∙ or_is (has_claim (claims_of w) (BlockOf n b)) (has_claim (claims_of_all words) (BlockOf n b)) ∙ sym (has_claim-append (claims_of w) (claims_of_all words) (BlockOf n b));

@@ -8,7 +8,7 @@ use Rattle.blk_format.specs.Address.{kind_of, external, external_number, is_addr
 use Rattle.blk_format.specs.Headers.{allocations_of}
 use Rattle.blk_format.specs.Standing.{stands}
 use Rattle.blk_format.specs.BlockFiles.{is_among, stands_in, stands_in_blocks}
-use Rattle.blk_format.specs.Maps.{is_marked, AreAllocations}
+use Rattle.blk_format.specs.Maps.{is_block_marked, AreAllocations}
 use Rattle.blk_disk.specs.declared.tables.BlockFiles.{BlockFiles}
 use Rattle.blk_disk.specs.Tables.{Agrees, Resizes, all_files, length_in}
 use Rattle.blk_disk.proofs.Ranges.{stands_agree}
@@ -18,7 +18,7 @@ use Rattle.blk_alloc.proofs.Kept.{IsLarger, fit_larger, standing_kept}
 pub record Widens (old new : BlockFiles) (from mid : Image) : Type 0 where
   pub tables : IsLarger old new
   pub externals : (m : ℕ) → has_file mid (External m) ≡ has_file from (External m)
-  pub marks : (f b : ℕ) → is_among (all_files old) f ≡ true → is_marked mid f b ≡ is_marked from f b
+  pub marks : (f b : ℕ) → is_among (all_files old) f ≡ true → is_block_marked mid f b ≡ is_block_marked from f b
   pub allocations : (f : ℕ) → is_among (all_files old) f ≡ true → allocations_of (byte mid (Block f)) ≡ allocations_of (byte from (Block f))
 
 first_of_two : (a b : Bool) → (a && b) ≡ true → a ≡ true
@@ -57,7 +57,7 @@ module _ (old new : BlockFiles) (from mid : Image) (before : Agrees old from) (l
   }
 
 -- a mark is a bit of the map
-pub mark_kept : (from mid : Image) (f b : ℕ) → byte mid (Block f) (80 + b / 8) ≡ byte from (Block f) (80 + b / 8) → is_marked mid f b ≡ is_marked from f b
+pub mark_kept : (from mid : Image) (f b : ℕ) → byte mid (Block f) (80 + b / 8) ≡ byte from (Block f) (80 + b / 8) → is_block_marked mid f b ≡ is_block_marked from f b
 mark_kept from mid f b same = ap (λ (x : ℕ). bit_at x (b % 8) == 1) same
 
 -- a file that is lengthened to its blocks

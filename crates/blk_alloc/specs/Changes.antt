@@ -5,7 +5,7 @@ use Rattle.blk_image.specs.Image.{Block, Image, byte, length_of}
 use Rattle.blk_image.specs.Footprint.{Footprint, SameOutside, either, one_word, range}
 use Rattle.blk_format.specs.Headers.{allocations_of, empty_of, updating_of}
 use Rattle.blk_format.specs.BlockFiles.{max_entries_in, most_blocks}
-use Rattle.blk_format.specs.Maps.{is_marked, longest_run, map_place, EmptyAgrees}
+use Rattle.blk_format.specs.Maps.{is_block_marked, longest_run, map_place, EmptyAgrees}
 use Rattle.blk_addr.specs.Bits.{has_bit, is_between}
 use Rattle.blk_alloc.specs.declared.plan.Plan.{Plan}
 use Rattle.blk_alloc.specs.Counting.{allocations_place, empty_place, counted, IsCounted, largest}
@@ -43,10 +43,10 @@ plan_words plan = (updating_place, 1) ∷ (plan.at, plan.word) ∷ finish_words 
 -- the plan of a change: the word of the map that has the blocks, with their new marks, and the counters
 pub record IsPlan (image : Image) (n start count : ℕ) (used : Bool) (plan : Plan) : Type 0 where
   pub at : plan.at ≡ map_place + 4 * (start / 32)
-  pub bits : (m : ℕ) → m < 32 → has_bit (word_bytes plan.word) m ≡ with_marks (is_marked image n) start count used (32 * (start / 32) + m)
+  pub bits : (m : ℕ) → m < 32 → has_bit (word_bytes plan.word) m ≡ with_marks (is_block_marked image n) start count used (32 * (start / 32) + m)
   pub allocations : IsCounted used (allocations_of (byte image (Block n))) plan.counters.allocations
-  pub empty : (i : ℕ) → i < 4 → slice_index plan.counters.empty i + counted (longest_run (is_marked image n) (start / 4)) i
-      ≡ empty_of (byte image (Block n)) i + counted (longest_run (with_marks (is_marked image n) start count used) (start / 4)) i
+  pub empty : (i : ℕ) → i < 4 → slice_index plan.counters.empty i + counted (longest_run (is_block_marked image n) (start / 4)) i
+      ≡ empty_of (byte image (Block n)) i + counted (longest_run (with_marks (is_block_marked image n) start count used) (start / 4)) i
 
 -- a file whose marks may change: it has its header and whole groups, the blocks are below max_entries, and the counters are true
 pub record IsReady (image : Image) (n start count : ℕ) (used : Bool) : Type 0 where
@@ -59,14 +59,14 @@ pub record IsReady (image : Image) (n start count : ℕ) (used : Bool) : Type 0 
   pub less : used ≡ false → 0 < allocations_of (byte image (Block n))
 
 -- a moment of a change: only map, counters and updating of the file differ, and where another of its bytes than updating differs, updating is 1
-pub record IsMidst (n : ℕ) (from image : Image) : Type 0 where
+pub record IsMapInProgress (n : ℕ) (from image : Image) : Type 0 where
   pub same : SameOutside (map_of n) from image
   pub updating : (updating_of (byte image (Block n)) ≡ 1) ⊎ SameOutside (one_word (Block n) updating_place) from image
 
 -- the change is done: the blocks have their new marks, all others the old ones, the counters are true, and updating is 0
 pub record IsChanged (from : Image) (n start count : ℕ) (used : Bool) (image : Image) : Type 0 where
   pub same : SameOutside (map_of n) from image
-  pub marks : (b : ℕ) → b < most_blocks → is_marked image n b ≡ with_marks (is_marked from n) start count used b
+  pub marks : (b : ℕ) → b < most_blocks → is_block_marked image n b ≡ with_marks (is_block_marked from n) start count used b
   pub allocations : IsCounted used (allocations_of (byte from (Block n))) (allocations_of (byte image (Block n)))
   pub empty : EmptyAgrees image n
   pub updating : updating_of (byte image (Block n)) ≡ 0

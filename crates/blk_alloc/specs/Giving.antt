@@ -8,7 +8,7 @@ use Rattle.blk_image.specs.Footprint.{Footprint, SameOutside, either}
 use Rattle.blk_format.specs.Address.{file_selector, block_word}
 use Rattle.blk_format.specs.Headers.{allocations_of, updating_of}
 use Rattle.blk_format.specs.BlockFiles.{is_among, most_blocks, most_files}
-use Rattle.blk_format.specs.Maps.{is_marked, AreAllocations, EmptyAgrees}
+use Rattle.blk_format.specs.Maps.{is_block_marked, AreAllocations, EmptyAgrees}
 use Rattle.blk_io.specs.declared.folder.FileId.TheVariants as names
 use Rattle.blk_io.specs.declared.fault.Damage.{Damage}
 use Rattle.blk_disk.specs.declared.tables.BlockFiles.{BlockFiles}
@@ -17,7 +17,7 @@ use Rattle.blk_disk.specs.Growth.{IsLeastFree, addition_of, free_number, growth_
 use Rattle.blk_alloc.specs.declared.blocks.Blocks.{Blocks}
 use Rattle.blk_alloc.specs.Owning.{is_of, IsCause, KeepsFile}
 use Rattle.blk_alloc.specs.Fitting.{HasNoRoom, IsFirstFit, IsPlace, IsShortOf}
-use Rattle.blk_alloc.specs.Taking.{taking_of, IsAstray, IsTakeable, IsTaken, IsTaking}
+use Rattle.blk_alloc.specs.Taking.{taking_of, IsDangling, CanBeMarked, MarksUsed, MarksUsedInProgress}
 use Rattle.blk_alloc.specs.Making.{HasMostBlocks, HasNoHints, IsFirstGrowing, KeepsFiles, KeepsMarks}
 
 -- What is asked of the files.
@@ -64,17 +64,17 @@ pub record IsChosen (files : BlockFiles) (image : Image) (kind count w : ℕ) : 
 -- What becomes of the files.
 
 -- room was made in a file: its first blocks of it may be taken, each file that was kept has its marks and allocations as before, and a new one has none, and no hints
-pub record IsMade (files : BlockFiles) (from : Image) (place : Blocks) (image : Image) : Type 0 where
-  pub takeable : IsTakeable image place
+pub record Extends (files : BlockFiles) (from : Image) (place : Blocks) (image : Image) : Type 0 where
+  pub takeable : CanBeMarked image place
   pub keeps : KeepsFiles files from image
   pub marks : KeepsMarks files from image
   pub fresh : is_among (all_files files) place.file ≡ false → AreAllocations image place.file []
   pub hints : is_among (all_files files) place.file ≡ false → HasNoHints image place.file
 
 -- the blocks of an address are given: they were free and are marked now, no other mark of a file that was there has changed, its file has one allocation more and each other has its own, a file that wasn't there has no hints, the counters are true, and updating is 0
-pub record IsGiven (files : BlockFiles) (from : Image) (w : ℕ) (image : Image) : Type 0 where
-  pub free : is_among (all_files files) (file_selector w) ≡ true → (b : ℕ) → is_of w (file_selector w) b ≡ true → is_marked from (file_selector w) b ≡ false
-  pub marks : (n b : ℕ) → is_among (all_files files) n ≡ true → b < most_blocks → is_marked image n b ≡ (if is_of w n b then true else is_marked from n b)
+pub record Allocates (files : BlockFiles) (from : Image) (w : ℕ) (image : Image) : Type 0 where
+  pub free : is_among (all_files files) (file_selector w) ≡ true → (b : ℕ) → is_of w (file_selector w) b ≡ true → is_block_marked from (file_selector w) b ≡ false
+  pub marks : (n b : ℕ) → is_among (all_files files) n ≡ true → b < most_blocks → is_block_marked image n b ≡ (if is_of w n b then true else is_block_marked from n b)
   pub allocations : is_among (all_files files) (file_selector w) ≡ true → (words : List ℕ) → AreAllocations from (file_selector w) words → AreAllocations image (file_selector w) (w ∷ words)
   pub fresh : is_among (all_files files) (file_selector w) ≡ false → AreAllocations image (file_selector w) (w ∷ [])
   pub hints : is_among (all_files files) (file_selector w) ≡ false → HasNoHints image (file_selector w)
@@ -93,27 +93,27 @@ abbrev pub added_of : BlockFiles → ℕ → Footprint
 added_of files kind = either (addition_of files kind) (grown_of (free_number files))
 
 -- room is made in a file, and its blocks are taken: it is the first that may grow, or a new one where none may grow, and nothing else differs
-abbrev pub IsMakingIn : BlockFiles → ℕ → Image → ℕ → Image → Type 0
-IsMakingIn files kind from n image =
+abbrev pub ExtendsInProgressIn : BlockFiles → ℕ → Image → ℕ → Image → Type 0
+ExtendsInProgressIn files kind from n image =
     (IsFirstGrowing files (files_of files kind) n × SameOutside (grown_of n) from image)
     ⊎ (All (HasMostBlocks files) (files_of files kind) × (n ≡ free_number files) × SameOutside (added_of files kind) from image)
 
 -- the same, in some file
-pub record IsMaking (files : BlockFiles) (kind : ℕ) (from image : Image) : Type 0 where
+pub record ExtendsInProgress (files : BlockFiles) (kind : ℕ) (from image : Image) : Type 0 where
   pub file : ℕ
-  pub making : IsMakingIn files kind from file image
+  pub making : ExtendsInProgressIn files kind from file image
 
 -- nothing differs yet, or the first fit is being taken, or room is made where no file of the type has any
-abbrev pub IsGiving : BlockFiles → ℕ → ℕ → Image → Image → Type 0
-IsGiving files kind count from image =
+abbrev pub AllocatesInProgress : BlockFiles → ℕ → ℕ → Image → Image → Type 0
+AllocatesInProgress files kind count from image =
     (image ≡ from)
-    ⊎ ((place : Blocks) × IsFirstFit from (files_of files kind) count place × IsTaking place.file from image)
-    ⊎ (HaveNoRoom files kind count from × IsMaking files kind from image)
+    ⊎ ((place : Blocks) × IsFirstFit from (files_of files kind) count place × MarksUsedInProgress place.file from image)
+    ⊎ (HaveNoRoom files kind count from × ExtendsInProgress files kind from image)
 
 -- the first fit is taken
-abbrev pub IsFitTaken : BlockFiles → ℕ → ℕ → Image → Image → Type 0
-IsFitTaken files kind count from image =
-    (place : Blocks) × IsFirstFit from (files_of files kind) count place × IsTaken files from (block_word kind place.file place.start count) image
+abbrev pub MarksFitUsed : BlockFiles → ℕ → ℕ → Image → Image → Type 0
+MarksFitUsed files kind count from image =
+    (place : Blocks) × IsFirstFit from (files_of files kind) count place × MarksUsed files from (block_word kind place.file place.start count) image
 
 -- Why there is none.
 
@@ -138,11 +138,11 @@ pub record IsCauseOf (files : BlockFiles) (kind count : ℕ) (told : Told) (dama
   pub cause : IsCause told place.file place.start place.count true damage
 
 -- so many blocks of one of the files of a type, which were to be taken, don't stand
-pub record IsAstrayOf (files : BlockFiles) (kind count : ℕ) (damage : Damage) : Type 0 where
+pub record IsDanglingOf (files : BlockFiles) (kind count : ℕ) (damage : Damage) : Type 0 where
   pub place : Blocks
   pub is : IsPlace files kind count place
-  pub astray : IsAstray files kind place damage
+  pub dangling : IsDangling files kind place damage
 
 -- why so many blocks are not given: a damaged header, which may be that of a file that was added, a map that was too short where room was sought, files that were full, or blocks that don't stand
 abbrev pub IsRefusal : BlockFiles → BlockFiles → ℕ → ℕ → Told → Damage → Type 0
-IsRefusal old new kind count told damage = IsCauseOf new kind count told damage ⊎ IsShortOf old kind told damage ⊎ IsFull old kind told damage ⊎ IsAstrayOf new kind count damage
+IsRefusal old new kind count told damage = IsCauseOf new kind count told damage ⊎ IsShortOf old kind told damage ⊎ IsFull old kind told damage ⊎ IsDanglingOf new kind count damage

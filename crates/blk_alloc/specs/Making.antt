@@ -4,7 +4,7 @@ use Rattle.std.specs.List.{All}
 use Rattle.blk_image.specs.Image.{Block, Image, byte}
 use Rattle.blk_format.specs.Headers.{allocations_of, hints_of}
 use Rattle.blk_format.specs.BlockFiles.{is_among, most_blocks}
-use Rattle.blk_format.specs.Maps.{is_marked, AreAllocations, EmptyAgrees}
+use Rattle.blk_format.specs.Maps.{is_block_marked, AreAllocations, EmptyAgrees}
 use Rattle.blk_disk.specs.declared.tables.BlockFiles.{BlockFiles}
 use Rattle.blk_disk.specs.Tables.{all_files, blocks_of, stands_among}
 use Rattle.blk_alloc.specs.Counting.{largest}
@@ -27,7 +27,7 @@ KeepsFiles files from image = (n : ℕ) → is_among (all_files files) n ≡ tru
 
 -- each file that is kept has its marks as before
 abbrev pub KeepsMarks : BlockFiles → Image → Image → Type 0
-KeepsMarks files from image = (n b : ℕ) → is_among (all_files files) n ≡ true → is_marked image n b ≡ is_marked from n b
+KeepsMarks files from image = (n b : ℕ) → is_among (all_files files) n ≡ true → is_block_marked image n b ≡ is_block_marked from n b
 
 -- each file that is kept is kept still
 abbrev pub KeepsAll : BlockFiles → BlockFiles → Type 0

@@ -8,7 +8,7 @@ use Rattle.blk_image.specs.Footprint.{SameOutside}
 use Rattle.blk_format.specs.Address.{file_selector, first_block, block_count}
 use Rattle.blk_format.specs.Headers.{block_fields_length, updating_of}
 use Rattle.blk_format.specs.BlockFiles.{is_among, most_blocks}
-use Rattle.blk_format.specs.Maps.{is_marked, longest_run, map_place, AreAllocations, EmptyAgrees}
+use Rattle.blk_format.specs.Maps.{is_block_marked, longest_run, map_place, AreAllocations, EmptyAgrees}
 use Rattle.blk_addr.specs.Bits.{has_bit, is_between}
 use Rattle.blk_io.specs.declared.folder.FileId.TheVariants as names
 use Rattle.blk_io.specs.declared.fault.Damage.{Damage}
@@ -43,7 +43,7 @@ KeepsExternals from image = (m : ℕ) → image (External m) ≡ from (External 
 -- the blocks of an address are freed: their marks are cleared and no other, the counters of its file are true, updating is 0, and all other files are as before
 pub record IsFreed (from : Image) (w : ℕ) (image : Image) : Type 0 where
   pub same : SameOutside (map_of (file_selector w)) from image
-  pub marks : (n b : ℕ) → b < most_blocks → is_marked image n b ≡ (if is_of w n b then false else is_marked from n b)
+  pub marks : (n b : ℕ) → b < most_blocks → is_block_marked image n b ≡ (if is_of w n b then false else is_block_marked from n b)
   pub allocations : (words : List ℕ) → AreAllocations from (file_selector w) words → is_among words w ≡ true → AreAllocations image (file_selector w) (others w words)
   pub empty : EmptyAgrees image (file_selector w)
   pub updating : updating_of (byte image (Block (file_selector w))) ≡ 0

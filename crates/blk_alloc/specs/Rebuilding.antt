@@ -6,7 +6,7 @@ use Rattle.blk_image.specs.Footprint.{Footprint, SameOutside, either, one_word, 
 use Rattle.blk_format.specs.Claims.{BlockOf, is_in_file}
 use Rattle.blk_format.specs.Headers.{allocations_of, updating_of}
 use Rattle.blk_format.specs.BlockFiles.{is_among, most_blocks, stands_in}
-use Rattle.blk_format.specs.Maps.{is_marked, map_place, AreAllocations, EmptyAgrees}
+use Rattle.blk_format.specs.Maps.{is_block_marked, map_place, AreAllocations, EmptyAgrees}
 use Rattle.blk_addr.specs.Bits.{is_between}
 use Rattle.blk_addr.specs.Claims.{contains_claim, allocations_in, IsClaimsOf}
 use Rattle.blk_addr.specs.declared.claim_set.Claims.{Claims}
@@ -22,7 +22,7 @@ is_block_claimed claims n b = contains_claim claims (BlockOf n b)
 
 -- of the blocks of a file exactly the claimed ones are marked
 abbrev pub AreMarked : Claims → Image → ℕ → Type 0
-AreMarked claims image n = (b : ℕ) → b < most_blocks → is_marked image n b ≡ is_block_claimed claims n b
+AreMarked claims image n = (b : ℕ) → b < most_blocks → is_block_marked image n b ≡ is_block_claimed claims n b
 
 -- the map and the counters of a file are those of claims: exactly the claimed blocks are marked, num_entries is the number of the addresses of the file that were added, `empty` agrees with the map, and updating is 0
 pub record IsRebuilt (claims : Claims) (image : Image) (n : ℕ) : Type 0 where

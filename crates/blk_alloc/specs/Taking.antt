@@ -4,8 +4,8 @@ use Rattle.blk_image.specs.Image.{Block, Image, byte}
 use Rattle.blk_image.specs.Footprint.{Footprint, SameOutside, either, one_word, size_of}
 use Rattle.blk_format.specs.Address.{block_word, file_selector}
 use Rattle.blk_format.specs.Headers.{updating_of}
-use Rattle.blk_format.specs.BlockFiles.{is_among, most_blocks, type_among}
-use Rattle.blk_format.specs.Maps.{is_marked, are_free, AreAllocations, EmptyAgrees}
+use Rattle.blk_format.specs.BlockFiles.{is_among, most_blocks, kind_among}
+use Rattle.blk_format.specs.Maps.{is_block_marked, are_free, AreAllocations, EmptyAgrees}
 use Rattle.blk_io.specs.declared.folder.FileId.TheVariants as names
 use Rattle.blk_io.specs.declared.fault.Damage.{Damage}
 use Rattle.blk_disk.specs.declared.tables.BlockFiles.{BlockFiles}
@@ -15,24 +15,24 @@ use Rattle.blk_alloc.specs.Changes.{map_of, updating_place, IsReady}
 use Rattle.blk_alloc.specs.Owning.{is_of}
 
 -- blocks that may be taken: they are free, and the counters of their file are true
-pub record IsTakeable (image : Image) (place : Blocks) : Type 0 where
+pub record CanBeMarked (image : Image) (place : Blocks) : Type 0 where
   pub ready : IsReady image place.file place.start place.count true
-  pub free : are_free (is_marked image place.file) place.start place.count ≡ true
+  pub free : are_free (is_block_marked image place.file) place.start place.count ≡ true
 
 -- what is touched: the length of the file, its map and its counters
 abbrev pub taking_of : ℕ → Footprint
 taking_of n = either (size_of (Block n)) (map_of n)
 
 -- a moment of it: nothing else differs, and where more than the length and updating differ, updating is 1
-pub record IsTaking (n : ℕ) (from image : Image) : Type 0 where
+pub record MarksUsedInProgress (n : ℕ) (from image : Image) : Type 0 where
   pub same : SameOutside (taking_of n) from image
   pub updating : (updating_of (byte image (Block n)) ≡ 1) ⊎ SameOutside (either (size_of (Block n)) (one_word (Block n) updating_place)) from image
 
 -- the blocks of an address are taken: they were free and are marked now, no other mark has changed, each file has its allocations and its file one more, the counters are true, and updating is 0
-pub record IsTaken (files : BlockFiles) (from : Image) (w : ℕ) (image : Image) : Type 0 where
+pub record MarksUsed (files : BlockFiles) (from : Image) (w : ℕ) (image : Image) : Type 0 where
   pub same : SameOutside (taking_of (file_selector w)) from image
-  pub free : (b : ℕ) → is_of w (file_selector w) b ≡ true → is_marked from (file_selector w) b ≡ false
-  pub marks : (n b : ℕ) → b < most_blocks → is_marked image n b ≡ (if is_of w n b then true else is_marked from n b)
+  pub free : (b : ℕ) → is_of w (file_selector w) b ≡ true → is_block_marked from (file_selector w) b ≡ false
+  pub marks : (n b : ℕ) → b < most_blocks → is_block_marked image n b ≡ (if is_of w n b then true else is_block_marked from n b)
   pub allocations : (words : List ℕ) → AreAllocations from (file_selector w) words → AreAllocations image (file_selector w) (w ∷ words)
   pub elsewhere : (n : ℕ) → is_among (all_files files) n ≡ true → n ≢ file_selector w → (words : List ℕ) → AreAllocations from n words → AreAllocations image n words
   pub empty : EmptyAgrees image (file_selector w)
@@ -44,9 +44,9 @@ abbrev pub blocks_place : ℕ
 blocks_place = 20
 
 -- blocks of a type don't stand among the files: the type of their file isn't theirs, or its number of blocks ends among them; the damage has the place of this number, and finds what is kept of it
-pub record IsAstray (files : BlockFiles) (kind : ℕ) (place : Blocks) (damage : Damage) : Type 0 where
-  pub astray : stands_among files (block_word kind place.file place.start place.count) ≡ false
-  pub why : (type_among (files_of files) place.file ≢ Some kind) ⊎ (blocks_of files place.file < place.start + place.count)
+pub record IsDangling (files : BlockFiles) (kind : ℕ) (place : Blocks) (damage : Damage) : Type 0 where
+  pub dangling : stands_among files (block_word kind place.file place.start place.count) ≡ false
+  pub why : (kind_among (files_of files) place.file ≢ Some kind) ⊎ (blocks_of files place.file < place.start + place.count)
   pub of_file : damage.file ≡ names.Block place.file
   pub at : damage.at ≡ blocks_place
   pub found : damage.found ≡ blocks_of files place.file

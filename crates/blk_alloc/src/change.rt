@@ -7,7 +7,7 @@ ghost use Rattle.blk_image.specs.Told.{Passes, PassesTo, Rises};
 ghost use Rattle.blk_format.specs.BlockFiles.{most_blocks};
 ghost use Rattle.blk_format.specs.Maps.{group_size};
 ghost use Rattle.blk_io.specs.Faults.{IfDamaged, IfDevice};
-ghost use Rattle.blk_alloc.specs.Changes.{map_of, IsReady, IsMidst, IsChanged};
+ghost use Rattle.blk_alloc.specs.Changes.{map_of, IsReady, IsMapInProgress, IsChanged};
 ghost use Rattle.blk_alloc.specs.Owning.{IsCause};
 
 use crate::plan::Plan;
@@ -28,7 +28,7 @@ pub(crate) fn change<F: Folder>(
     requires inside { ForSome (F.told f.old).files (λ image. start + count ≤ most_blocks) }
     ensures done { OnOk result (ForSome (F.told f.old).files (λ from. IsReady from file start count used → ForSome (F.told f.new).files (IsChanged from file start count used))) }
     ensures outside { ForSome (F.told f.old).files (λ from. Passes (F.told f.old) (F.told f.new) (SameOutside (map_of file) from)) }
-    ensures stops { ForSome (F.told f.old).files (λ from. IsReady from file start count used → PassesTo (F.told f.old) (F.told f.new) (IsMidst file from) (λ image. IsMidst file from image ⊎ IsChanged from file start count used image)) }
+    ensures stops { ForSome (F.told f.old).files (λ from. IsReady from file start count used → PassesTo (F.told f.old) (F.told f.new) (IsMapInProgress file from) (λ image. IsMapInProgress file from image ⊎ IsChanged from file start count used image)) }
     ensures silent { (F.told f.old).files ≡ None → (F.told f.new).files ≡ None }
     ensures cause { IfDamaged result (IsCause (F.told f.old) file start count used) }
     ensures untold { IfDamaged result (λ _. ForSome (F.told f.old).files (λ image. IsReady image file start count used) → (F.told f.old).files ≡ None) }

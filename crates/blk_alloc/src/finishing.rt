@@ -3,7 +3,7 @@ ghost use Rattle.std.specs.Prelude.{◌≡◌, ◌≤◌, length, OnOk, OnErr};
 ghost use Rattle.std.specs.Option.{ForSome};
 ghost use Rattle.blk_image.specs.Image.{Block as block, length_of};
 ghost use Rattle.blk_image.specs.Steps.{word_steps};
-ghost use Rattle.blk_image.specs.Told.{Grows, GrowsInPart, Rises};
+ghost use Rattle.blk_image.specs.Told.{Applies, AppliesPrefix, Rises};
 ghost use Rattle.blk_alloc.specs.Changes.{counter_words, finish_words};
 
 use blk_io::{Failed, FileId, Folder, write_run, write_word};
@@ -18,8 +18,8 @@ fn write_counters<F: Folder>(
 ) -> Result<(), Failed>
     requires four { length empty.now ≡ 4 }
     requires header { ForSome (F.told f.old).files (λ image. 8192 ≤ length_of image (block file)) }
-    ensures whole { OnOk result (Grows (F.told f.old) (F.told f.new) (word_steps (block file) (counter_words allocations empty.now))) }
-    ensures part { GrowsInPart (F.told f.old) (F.told f.new) (word_steps (block file) (counter_words allocations empty.now)) }
+    ensures steps { OnOk result (Applies (F.told f.old) (F.told f.new) (word_steps (block file) (counter_words allocations empty.now))) }
+    ensures prefix { AppliesPrefix (F.told f.old) (F.told f.new) (word_steps (block file) (counter_words allocations empty.now)) }
     ensures later { F.faults f.old ≤ F.faults f.new }
     ensures failed { OnErr result (Rises (F.faults f.old) (F.faults f.new)) }
 {
@@ -36,8 +36,8 @@ pub(crate) fn finish<F: Folder>(
 ) -> Result<(), Failed>
     requires four { length empty.now ≡ 4 }
     requires header { ForSome (F.told f.old).files (λ image. 8192 ≤ length_of image (block file)) }
-    ensures whole { OnOk result (Grows (F.told f.old) (F.told f.new) (word_steps (block file) (finish_words allocations empty.now))) }
-    ensures part { GrowsInPart (F.told f.old) (F.told f.new) (word_steps (block file) (finish_words allocations empty.now)) }
+    ensures steps { OnOk result (Applies (F.told f.old) (F.told f.new) (word_steps (block file) (finish_words allocations empty.now))) }
+    ensures prefix { AppliesPrefix (F.told f.old) (F.told f.new) (word_steps (block file) (finish_words allocations empty.now)) }
     ensures later { F.faults f.old ≤ F.faults f.new }
     ensures failed { OnErr result (Rises (F.faults f.old) (F.faults f.new)) }
 {

@@ -102,7 +102,7 @@ pub(crate) fn first_fit<F: Folder>(
     count: u32,
 ) -> Result<Option<Blocks>, Fault>
     requires few { count ≤ group_size }
-    requires blocky { kind_number kind ≢ external }
+    requires block_kind { kind_number kind ≢ external }
     requires agrees { ForSome (F.told f.old).files (Agrees files.now) }
     ensures fit { IfOk result (λ found. ForSome (F.told f.old).files (λ image. IsFitting image (files_of files.now (kind_number kind)) count found)) }
     ensures place { IfOk result (λ found. ForSome found (IsPlace files.now (kind_number kind) count)) }

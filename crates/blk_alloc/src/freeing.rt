@@ -8,7 +8,7 @@ ghost use Rattle.blk_format.specs.Maps.{EmptyAgrees};
 ghost use Rattle.blk_io.specs.Faults.{IfDamaged, IfDevice};
 ghost use Rattle.blk_disk.specs.Growth.{KeepsBlocks};
 ghost use Rattle.blk_disk.specs.Tables.{Agrees, stands_among};
-ghost use Rattle.blk_alloc.specs.Changes.{IsMidst};
+ghost use Rattle.blk_alloc.specs.Changes.{IsMapInProgress};
 ghost use Rattle.blk_alloc.specs.Owning.{IsAllocated, IsFreed, IsCause};
 
 use crate::blocks::blocks_of;
@@ -30,7 +30,7 @@ pub fn free<F: Folder>(f: &mut F, files: &BlockFiles, addr: Addr) -> Result<(), 
     ensures freed { OnOk result (ForSome (F.told f.old).files (λ from. ForSome (F.told f.new).files (IsFreed from addr))) }
 
     // At each word only map, counters and updating of the file have changed, and updating is 1 until all of it is done.
-    ensures stops { ForSome (F.told f.old).files (λ from. PassesTo (F.told f.old) (F.told f.new) (IsMidst (file_selector addr) from) (λ image. IsMidst (file_selector addr) from image ⊎ IsFreed from addr image)) }
+    ensures stops { ForSome (F.told f.old).files (λ from. PassesTo (F.told f.old) (F.told f.new) (IsMapInProgress (file_selector addr) from) (λ image. IsMapInProgress (file_selector addr) from image ⊎ IsFreed from addr image)) }
 
     // Each block that stood still stands with its bytes, and a well-formed folder is still well formed.
     ensures blocks { ForSome (F.told f.old).files (λ from. Passes (F.told f.old) (F.told f.new) (KeepsBlocks from)) }

@@ -13,7 +13,7 @@ ghost use Rattle.blk_disk.specs.Tables.{Agrees, files_of, stands_among};
 ghost use Rattle.blk_alloc.specs.Owning.{KeepsExternals};
 ghost use Rattle.blk_alloc.specs.Fitting.{IsPlace};
 ghost use Rattle.blk_alloc.specs.Making.{HasMostBlocks, KeepsAll, KeepsStanding};
-ghost use Rattle.blk_alloc.specs.Giving.{AreCounted, HaveNoRoom, IsAddedPlace, IsChosen, IsFitTaken, IsFull, IsGiven, IsGiving, IsGrownPlace, IsMade, IsMaking, IsMakingIn, IsRefusal};
+ghost use Rattle.blk_alloc.specs.Giving.{AreCounted, HaveNoRoom, IsAddedPlace, IsChosen, MarksFitUsed, IsFull, Allocates, AllocatesInProgress, IsGrownPlace, Extends, ExtendsInProgress, ExtendsInProgressIn, IsRefusal};
 
 use crate::blocks::Blocks;
 use crate::fitting::first_fit;
@@ -31,7 +31,7 @@ const LAST_PLACE: u64 = 8188;
 
 // The damage where a kind has 60 files and none may grow.
 fn full_damage<F: Folder>(f: &mut F, files: &BlockFiles, kind: Kind) -> Result<Damage, Fault>
-    requires blocky { kind_number kind ≢ external }
+    requires block_kind { kind_number kind ≢ external }
     requires number { most_files ≤ length (files_of files.now (kind_number kind)) }
     requires full { All (HasMostBlocks files.now) (files_of files.now (kind_number kind)) }
     ensures full { IfOk result (IsFull files.now (kind_number kind) (F.told f.old)) }
@@ -61,18 +61,18 @@ fn new_room<F: Folder>(
     count: u32,
 ) -> Result<Blocks, Fault>
     requires few { count ≤ group_size }
-    requires blocky { kind_number kind ≢ external }
+    requires block_kind { kind_number kind ≢ external }
     requires agrees { ForSome (F.told f.old).files (Agrees files.old) }
     requires counted { ForSome (F.told f.old).files (AreCounted files.old (kind_number kind)) }
     requires full { ForSome (F.told f.old).files (HaveNoRoom files.old (kind_number kind) count) }
     ensures fits { IfOk result (IsPlace files.new (kind_number kind) count) }
     ensures place { IfOk result (λ place. ForSome (F.told f.old).files (λ _. IsGrownPlace files.old (kind_number kind) place ⊎ IsAddedPlace files.old (kind_number kind) place)) }
-    ensures made { IfOk result (λ place. ForSome (F.told f.old).files (λ from. ForSome (F.told f.new).files (IsMade files.old from place))) }
-    ensures making { IfOk result (λ place. ForSome (F.told f.old).files (λ from. ForSome (F.told f.new).files (IsMakingIn files.old (kind_number kind) from place.file))) }
+    ensures made { IfOk result (λ place. ForSome (F.told f.old).files (λ from. ForSome (F.told f.new).files (Extends files.old from place))) }
+    ensures making { IfOk result (λ place. ForSome (F.told f.old).files (λ from. ForSome (F.told f.new).files (ExtendsInProgressIn files.old (kind_number kind) from place.file))) }
     ensures all { OnOk result (KeepsAll files.old files.new) }
     ensures standing { KeepsStanding files.old files.new }
     ensures agrees { OnOk result (ForSome (F.told f.new).files (Agrees files.new)) }
-    ensures stops { ForSome (F.told f.old).files (λ from. Passes (F.told f.old) (F.told f.new) (IsMaking files.old (kind_number kind) from)) }
+    ensures stops { ForSome (F.told f.old).files (λ from. Passes (F.told f.old) (F.told f.new) (ExtendsInProgress files.old (kind_number kind) from)) }
     ensures blocks { ForSome (F.told f.old).files (λ from. Passes (F.told f.old) (F.told f.new) (KeepsBlocks from)) }
     ensures formed { ForSome (F.told f.old).files (λ from. IsWellFormed from → Passes (F.told f.old) (F.told f.new) IsWellFormed) }
     ensures silent { (F.told f.old).files ≡ None → (F.told f.new).files ≡ None }
@@ -102,7 +102,7 @@ fn take_new<F: Folder>(
 ) -> Result<Addr, Fault>
     requires some { 0 < count }
     requires few { count ≤ group_size }
-    requires blocky { kind_number kind ≢ external }
+    requires block_kind { kind_number kind ≢ external }
     requires node { kind_number kind ≡ rankings → count ≡ 1 }
     requires agrees { ForSome (F.told f.old).files (Agrees files.old) }
     requires counted { ForSome (F.told f.old).files (AreCounted files.old (kind_number kind)) }
@@ -111,9 +111,9 @@ fn take_new<F: Folder>(
     ensures kind { IfOk result (λ addr. (kind_of addr ≡ kind_number kind) × (block_count addr ≡ count)) }
     ensures stands { IfOk result (λ addr. IsTrue (stands_among files.new addr)) }
     ensures keeps { KeepsStanding files.old files.new }
-    ensures given { IfOk result (λ addr. ForSome (F.told f.old).files (λ from. ForSome (F.told f.new).files (IsGiven files.old from addr))) }
+    ensures given { IfOk result (λ addr. ForSome (F.told f.old).files (λ from. ForSome (F.told f.new).files (Allocates files.old from addr))) }
     ensures agrees { OnOk result (ForSome (F.told f.new).files (Agrees files.new)) }
-    ensures stops { ForSome (F.told f.old).files (λ from. Passes (F.told f.old) (F.told f.new) (IsMaking files.old (kind_number kind) from)) }
+    ensures stops { ForSome (F.told f.old).files (λ from. Passes (F.told f.old) (F.told f.new) (ExtendsInProgress files.old (kind_number kind) from)) }
     ensures blocks { ForSome (F.told f.old).files (λ from. Passes (F.told f.old) (F.told f.new) (KeepsBlocks from)) }
     ensures formed { ForSome (F.told f.old).files (λ from. IsWellFormed from → Passes (F.told f.old) (F.told f.new) IsWellFormed) }
     ensures silent { (F.told f.old).files ≡ None → (F.told f.new).files ≡ None }
@@ -145,7 +145,7 @@ pub fn allocate<F: Folder>(
 ) -> Result<Addr, Fault>
     requires some { 0 < blocks }
     requires few { blocks ≤ group_size }
-    requires blocky { kind_number kind ≢ external }
+    requires block_kind { kind_number kind ≢ external }
     requires node { kind_number kind ≡ rankings → blocks ≡ 1 }
     requires agrees { ForSome (F.told f.old).files (Agrees files.old) }
     requires counted { ForSome (F.told f.old).files (AreCounted files.old (kind_number kind)) }
@@ -157,11 +157,11 @@ pub fn allocate<F: Folder>(
 
     // The first fit, or where no file of the kind has room, the first blocks of a growth, and of a new file only where none may grow.
     ensures chosen { IfOk result (λ addr. ForSome (F.told f.old).files (λ from. IsChosen files.old from (kind_number kind) blocks addr)) }
-    ensures given { IfOk result (λ addr. ForSome (F.told f.old).files (λ from. ForSome (F.told f.new).files (IsGiven files.old from addr))) }
+    ensures given { IfOk result (λ addr. ForSome (F.told f.old).files (λ from. ForSome (F.told f.new).files (Allocates files.old from addr))) }
     ensures agrees { OnOk result (ForSome (F.told f.new).files (Agrees files.new)) }
 
     // At each word only one file of the kind differs, in its length, map and counters, and where it grows or is added in what these touch; where none does, updating is 1 until map and counters are done.
-    ensures stops { ForSome (F.told f.old).files (λ from. PassesTo (F.told f.old) (F.told f.new) (IsGiving files.old (kind_number kind) blocks from) (λ image. IsGiving files.old (kind_number kind) blocks from image ⊎ IsFitTaken files.old (kind_number kind) blocks from image)) }
+    ensures stops { ForSome (F.told f.old).files (λ from. PassesTo (F.told f.old) (F.told f.new) (AllocatesInProgress files.old (kind_number kind) blocks from) (λ image. AllocatesInProgress files.old (kind_number kind) blocks from image ⊎ MarksFitUsed files.old (kind_number kind) blocks from image)) }
 
     // Each block that stood still stands with its bytes, each external file is as before, and a well-formed folder is still well formed.
     ensures blocks { ForSome (F.told f.old).files (λ from. Passes (F.told f.old) (F.told f.new) (KeepsBlocks from)) }

@@ -11,7 +11,7 @@ ghost use Rattle.blk_disk.specs.Tables.{Agrees, blocks_of, files_of};
 ghost use Rattle.blk_disk.specs.Growth.{IsLeastFree, KeepsBlocks, addition_of, free_number, growth_of};
 ghost use Rattle.blk_alloc.specs.Fitting.{IsPlace};
 ghost use Rattle.blk_alloc.specs.Making.{HasCounters, HasNoHints, IsGrowing, KeepsAll, KeepsFiles, KeepsMarks, KeepsStanding};
-ghost use Rattle.blk_alloc.specs.Taking.{IsTakeable};
+ghost use Rattle.blk_alloc.specs.Taking.{CanBeMarked};
 
 use crate::blocks::Blocks;
 use crate::fitting::blocks_in;
@@ -30,7 +30,7 @@ pub(crate) fn grow_room<F: Folder>(
     count: u32,
 ) -> Result<Blocks, Failed>
     requires few { count ≤ group_size }
-    requires blocky { kind_number kind ≢ external }
+    requires block_kind { kind_number kind ≢ external }
     requires linked { IsTrue (is_among (files_of files.old (kind_number kind)) file) }
     requires below { blocks_of files.old file < most_blocks }
     requires agrees { ForSome (F.told f.old).files (Agrees files.old) }
@@ -40,7 +40,7 @@ pub(crate) fn grow_room<F: Folder>(
     ensures all { OnOk result (KeepsAll files.old files.new) }
     ensures standing { KeepsStanding files.old files.new }
     ensures marks { OnOk result (ForSome (F.told f.old).files (λ from. ForSome (F.told f.new).files (KeepsMarks files.old from))) }
-    ensures takeable { IfOk result (λ place. ForSome (F.told f.old).files (λ from. ForSome (F.told f.new).files (λ image. IsTakeable image place))) }
+    ensures takeable { IfOk result (λ place. ForSome (F.told f.old).files (λ from. ForSome (F.told f.new).files (λ image. CanBeMarked image place))) }
     ensures keeps { OnOk result (ForSome (F.told f.old).files (λ from. ForSome (F.told f.new).files (KeepsFiles files.old from))) }
     ensures agrees { OnOk result (ForSome (F.told f.new).files (Agrees files.new)) }
     ensures same { OnErr result (files.new ≡ files.old) }
@@ -65,7 +65,7 @@ pub(crate) fn add_room<F: Folder>(
     count: u32,
 ) -> Result<Blocks, Failed>
     requires few { count ≤ group_size }
-    requires blocky { kind_number kind ≢ external }
+    requires block_kind { kind_number kind ≢ external }
     requires room { length (files_of files.old (kind_number kind)) < most_files }
     requires agrees { ForSome (F.told f.old).files (Agrees files.old) }
     ensures place { IfOk result (λ place. (place.file ≡ free_number files.old) × (place.start ≡ 0) × (place.count ≡ count)) }
@@ -76,7 +76,7 @@ pub(crate) fn add_room<F: Folder>(
     ensures fresh { OnOk result (ForSome (F.told f.old).files (λ from. ForSome (F.told f.new).files (λ image. AreAllocations image (free_number files.old) []))) }
     ensures hints { OnOk result (ForSome (F.told f.old).files (λ from. ForSome (F.told f.new).files (λ image. HasNoHints image (free_number files.old)))) }
     ensures least { OnOk result (IsLeastFree files.old (free_number files.old)) }
-    ensures takeable { IfOk result (λ place. ForSome (F.told f.old).files (λ from. ForSome (F.told f.new).files (λ image. IsTakeable image place))) }
+    ensures takeable { IfOk result (λ place. ForSome (F.told f.old).files (λ from. ForSome (F.told f.new).files (λ image. CanBeMarked image place))) }
     ensures keeps { OnOk result (ForSome (F.told f.old).files (λ from. ForSome (F.told f.new).files (KeepsFiles files.old from))) }
     ensures agrees { OnOk result (ForSome (F.told f.new).files (Agrees files.new)) }
     ensures outside { ForSome (F.told f.old).files (λ from. Passes (F.told f.old) (F.told f.new) (SameOutside (either (addition_of files.old (kind_number kind)) (growth_of (free_number files.old))) from)) }

@@ -3,7 +3,7 @@ ghost use Rattle.std.specs.Prelude.{◌≡◌, ◌≤◌, ◌<◌, ◌+◌, ◌*
 ghost use Rattle.std.specs.Option.{ForSome};
 ghost use Rattle.blk_image.specs.Image.{Block as block, length_of};
 ghost use Rattle.blk_image.specs.Steps.{word_steps};
-ghost use Rattle.blk_image.specs.Told.{Grows, GrowsInPart, Stays, Rises};
+ghost use Rattle.blk_image.specs.Told.{Applies, AppliesPrefix, Stays, Rises};
 ghost use Rattle.blk_format.specs.Maps.{group_size};
 ghost use Rattle.blk_io.specs.Faults.{IfDamaged, IfDevice};
 
@@ -66,8 +66,8 @@ impl Plan {
         requires aligned { self.now.at % 4 ≡ 0 }
         requires inside { ForSome (F.told f.old).files (λ image. self.now.at + 4 ≤ 8192) }
         requires header { ForSome (F.told f.old).files (λ image. 8192 ≤ length_of image (block file)) }
-        ensures whole { OnOk result (Grows (F.told f.old) (F.told f.new) (word_steps (block file) (plan_words self.now))) }
-        ensures part { GrowsInPart (F.told f.old) (F.told f.new) (word_steps (block file) (plan_words self.now)) }
+        ensures steps { OnOk result (Applies (F.told f.old) (F.told f.new) (word_steps (block file) (plan_words self.now))) }
+        ensures prefix { AppliesPrefix (F.told f.old) (F.told f.new) (word_steps (block file) (plan_words self.now)) }
         ensures later { F.faults f.old ≤ F.faults f.new }
         ensures failed { OnErr result (Rises (F.faults f.old) (F.faults f.new)) }
     {

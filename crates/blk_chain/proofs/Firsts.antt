@@ -4,7 +4,7 @@ use Rattle.std.specs.Prelude.{◌↔◌}
 use Rattle.std.specs.Option.{ForSome}
 use Rattle.blk_image.specs.Image.{AreBytes, Index, Block, Image, byte, length_of, word}
 use Rattle.blk_image.specs.Steps.{after, word_step}
-use Rattle.blk_image.specs.Told.{Told, TellsBytes, Grows, GrowsInPart, Passes, Until}
+use Rattle.blk_image.specs.Told.{Told, TellsBytes, Applies, AppliesPrefix, Passes, Until, Commits}
 use Rattle.blk_image.proofs.Footprints.{outside-refl}
 use Rattle.blk_image.proofs.Runs.{passes_none, passes_part, some_inj, told_whole}
 use Rattle.blk_image.proofs.Words.{word-fits}
@@ -13,33 +13,32 @@ use Rattle.blk_format.specs.Address.{file_selector, place}
 use Rattle.blk_format.specs.Records.{entry_in}
 use Rattle.blk_format.specs.Headers.{place_of_bucket}
 use Rattle.blk_volume.specs.ListView.{put}
-use Rattle.blk_volume.specs.View.{Stock, Core, stock_of}
+use Rattle.blk_volume.specs.View.{StoreView, RecordFields, store_of}
 use Rattle.blk_volume.specs.Chains.{chain, IsChain}
 use Rattle.blk_laws.proofs.ChainLinks.{first-leaves, others-stay}
 use Rattle.blk_laws.proofs.Changing.{at-itself}
-use Rattle.blk_laws.specs.IndexMoments.{IsIndexWord}
+use Rattle.blk_laws.specs.IndexWrites.{IsIndexWord}
 use Rattle.blk_laws.proofs.IndexWords.{buckets-written, buckets-unchecked}
 use Rattle.blk_disk.specs.declared.tables.BlockFiles.{BlockFiles}
 use Rattle.blk_disk.specs.Tables.{Agrees}
 use Rattle.blk_volume.specs.Entries.{key_of}
-use Rattle.blk_chain.specs.Naming.{HasName}
-use Rattle.blk_chain.specs.Turning.{Turns}
+use Rattle.blk_chain.specs.Naming.{HasKey}
 use Rattle.blk_chain.specs.Linking.{bucket_at, chained_with, place_of_front}
 use Rattle.blk_chain.specs.Unlinking.{CanBeUnlinked, IsStillLinked, IsUnlinked, IsUnlinking, next_of, unlink_range, unlink_steps}
 use Rattle.blk_chain.proofs.Links.{bucket_read, front_inside, index_agrees, index_word}
 use Rattle.blk_chain.proofs.Names.{IsShownOf, shown-of, shown-follow}
-use Rattle.blk_chain.proofs.Turns.{turns_none, turns_part, turns_word}
+use Rattle.blk_image.proofs.Commits.{commits_none, commits_prefix, commits_word}
 use Rattle.blk_chain.proofs.Unlinks.{next_read}
 
 -- no key is read in the table
-key-still : (stock : Stock) (table : ℕ → ℕ) (w : ℕ) (core : Core) → key_of (record stock { table = table }) w core ≡ key_of stock w core
+key-still : (store : StoreView) (table : ℕ → ℕ) (w : ℕ) (fields : RecordFields) → key_of (record store { table = table }) w fields ≡ key_of store w fields
 unfolding key_of
-key-still stock table w core = refl
+key-still store table w fields = refl
 
-pub named-table : (stock : Stock) (table : ℕ → ℕ) (name : List ℕ) (is_child : Bool) (w : ℕ) → HasName stock name is_child w ↔ HasName (record stock { table = table }) name is_child w
-named-table stock table name is_child w = (
-  λ named. record { core = named.core; here = named.here; hashed = named.hashed; key = key-still stock table w named.core ∙ named.key; flag = named.flag },
-  λ named. record { core = named.core; here = named.here; hashed = named.hashed; key = sym (key-still stock table w named.core) ∙ named.key; flag = named.flag },
+pub named-table : (store : StoreView) (table : ℕ → ℕ) (name : List ℕ) (is_child : Bool) (w : ℕ) → HasKey store name is_child w ↔ HasKey (record store { table = table }) name is_child w
+named-table store table name is_child w = (
+  λ named. record { fields = named.fields; here = named.here; hashed = named.hashed; key = key-still store table w named.fields ∙ named.key; flag = named.flag },
+  λ named. record { fields = named.fields; here = named.here; hashed = named.hashed; key = sym (key-still store table w named.fields) ∙ named.key; flag = named.flag },
 )
 
 -- nothing has changed
@@ -51,13 +50,13 @@ unchanged from entry before = record {
 
 module _ (from : Image) (entry : ℕ) (can : CanBeUnlinked entry None from) where
   -- the chain without its first record
-  chain-behind : (behind : List ℕ) → chained_with from entry ≡ entry ∷ behind → IsChain (record (stock_of from) { table = put (stock_of from).table (bucket_at from entry) (next_of from entry) }) (bucket_at from entry) behind
-  chain-behind behind is =
-      let v = stock_of from in
+  chain-behind : (suffix : List ℕ) → chained_with from entry ≡ entry ∷ suffix → IsChain (record (store_of from) { table = put (store_of from).table (bucket_at from entry) (next_of from entry) }) (bucket_at from entry) suffix
+  chain-behind suffix is =
+      let v = store_of from in
       let b : ℕ = bucket_at from entry in
-      let was : IsChain v b (entry ∷ behind) = subst (λ (ws : List ℕ). IsChain v b ws) is can.whole in
+      let was : IsChain v b (entry ∷ suffix) = subst (λ (ws : List ℕ). IsChain v b ws) is can.whole in
       let shown : IsShownOf v b entry = shown-of v b entry was.linked.1 in
-      first-leaves v (record v { table = put v.table b (next_of from entry) }) b entry behind (λ w among. (refl, refl)) (at-itself v.table b (next_of from entry) ∙ sym (shown-follow from entry shown.core shown.here)) was
+      first-leaves v (record v { table = put v.table b (next_of from entry) }) b entry suffix (λ w among. (refl, refl)) (at-itself v.table b (next_of from entry) ∙ sym (shown-follow from entry shown.fields shown.here)) was
 
   -- the word of the bucket is its next
   pub first_unlinked : (image : Image) → IsIndexWord (place_of_front from entry) (next_of from entry) from image → IsUnlinked from entry None image
@@ -65,9 +64,9 @@ module _ (from : Image) (entry : ℕ) (can : CanBeUnlinked entry None from) wher
       let b : ℕ = bucket_at from entry in
       let w = buckets-written from image b (next_of from entry) is in
       record {
-        keeps = record { list = w.0; records = λ u. ap (λ (s : Stock). s.entry u) w.1; names = λ u name is_child apart. subst (λ (s : Stock). HasName (stock_of from) name is_child u ↔ HasName s name is_child u) (sym w.1) (named-table (stock_of from) (put (stock_of from).table b (next_of from entry)) name is_child u); well_formed = buckets-unchecked from image b is.outside; outside = is.outside };
-        chain_now = λ front behind stands. subst (λ (s : Stock). IsChain s b behind) (sym w.1) (chain-behind behind stands.1);
-        others = λ other e. ap (λ (s : Stock). chain s other) w.1 ∙ others-stay (stock_of from) b other (next_of from entry) e;
+        keeps = record { list = w.0; records = λ u. ap (λ (s : StoreView). s.entry u) w.1; names = λ u name is_child apart. subst (λ (s : StoreView). HasKey (store_of from) name is_child u ↔ HasKey s name is_child u) (sym w.1) (named-table (store_of from) (put (store_of from).table b (next_of from entry)) name is_child u); well_formed = buckets-unchecked from image b is.outside; outside = is.outside };
+        chain_now = λ prefix suffix stands. subst (λ (s : StoreView). IsChain s b suffix) (sym w.1) (chain-behind suffix stands.1);
+        others = λ other e. ap (λ (s : StoreView). chain s other) w.1 ∙ others-stay (store_of from) b other (next_of from entry) e;
         links = w.1;
       }
 
@@ -77,9 +76,9 @@ next_small from entry bytes = word-fits (byte from (Block (file_selector entry))
 
 -- what the write of the bucket's word leaves, made or not
 pub record IsTaken (files : BlockFiles) (entry : ℕ) (a b : Told) : Type 0 where
-  pub part : ForSome a.files (λ from. GrowsInPart a b (unlink_steps from entry None))
+  pub part : ForSome a.files (λ from. AppliesPrefix a b (unlink_steps from entry None))
   pub stops : ForSome a.files (λ from. Passes a b (IsUnlinking from entry None))
-  pub turns : ForSome a.files (λ from. Turns 1 a b (IsStillLinked from entry None) (IsUnlinked from entry None))
+  pub commits : ForSome a.files (λ from. Commits 1 a b (IsStillLinked from entry None) (IsUnlinked from entry None))
   pub agrees : ForSome b.files (Agrees files)
 
 -- before the write
@@ -87,8 +86,8 @@ pub first_not_yet : (a b : Told) (entry : ℕ) → b ≡ a → ForSome a.files (
 first_not_yet a b entry stays from there =
     passes_none (IsUnlinking from entry None) stays (λ image here. subst (λ (i : Image). IsUnlinking from entry None i) (some_inj (sym there ∙ here)) (inl (unchanged from entry None)))
 
-pub first_turns_yet : (a b : Told) (entry : ℕ) → b ≡ a → ForSome a.files (λ from. Turns 1 a b (IsStillLinked from entry None) (IsUnlinked from entry None))
-first_turns_yet a b entry stays from there = turns_none 0 a b from (IsStillLinked from entry None) (IsUnlinked from entry None) there stays (unchanged from entry None)
+pub first_turns_yet : (a b : Told) (entry : ℕ) → b ≡ a → ForSome a.files (λ from. Commits 1 a b (IsStillLinked from entry None) (IsUnlinked from entry None))
+first_turns_yet a b entry stays from there = commits_none 0 a b from (IsStillLinked from entry None) (IsUnlinked from entry None) there stays (unchanged from entry None)
 
 module _ (files : BlockFiles) (a b : Told) (entry hash next : ℕ) (tells : TellsBytes a) (agrees : ForSome a.files (Agrees files)) (complete : ForSome a.files (λ image. length_of image Index ≡ 262512)) (can : ForSome a.files (CanBeUnlinked entry None))
     (read : ForSome a.files (λ image. next ≡ word image (Block (file_selector entry)) (place entry + 4)))
@@ -101,25 +100,25 @@ module _ (files : BlockFiles) (a b : Told) (entry hash next : ℕ) (tells : Tell
   after-first : (from : Image) → a.files ≡ Some from → IsUnlinked from entry None (after (unlink_steps from entry None) from)
   after-first from there = first_unlinked from entry (can from there) (after (unlink_steps from entry None) from) (index_word from (place_of_front from entry) (next_of from entry) (next_small from entry (tells from there)) (front_inside from entry (complete from there)))
 
-  pub first_left : GrowsInPart second b (word_step Index (place_of_bucket (hash % 65536)) next) → IsTaken files entry a b
+  pub first_left : AppliesPrefix second b (word_step Index (place_of_bucket (hash % 65536)) next) → IsTaken files entry a b
   first_left made =
-      let here : GrowsInPart a b (word_step Index (place_of_bucket (hash % 65536)) next) = subst (λ (t : Told). GrowsInPart t b (word_step Index (place_of_bucket (hash % 65536)) next)) (twice ∙ once) made in
-      let mine : ForSome a.files (λ from. GrowsInPart a b (unlink_steps from entry None)) = (λ from there. subst (GrowsInPart a b) (steps-are from there) here) in
+      let here : AppliesPrefix a b (word_step Index (place_of_bucket (hash % 65536)) next) = subst (λ (t : Told). AppliesPrefix t b (word_step Index (place_of_bucket (hash % 65536)) next)) (twice ∙ once) made in
+      let mine : ForSome a.files (λ from. AppliesPrefix a b (unlink_steps from entry None)) = (λ from there. subst (AppliesPrefix a b) (steps-are from there) here) in
       record {
         part = mine;
         stops = λ from there.
             passes_part (IsUnlinking from entry None) (IsUnlinking from entry None) (mine from there) (quiet-word_step Index (place_of_front from entry) (next_of from entry)) (λ image h. h)
             (λ image now. subst (λ (i : Image). Until (IsUnlinking from entry None) (IsUnlinking from entry None) i (unlink_steps from entry None)) (some_inj (sym there ∙ now))
             (until_word (IsUnlinking from entry None) (IsUnlinking from entry None) Index (place_of_front from entry) (next_of from entry) from (inl (unchanged from entry None)) (inr (after-first from there))));
-        turns = λ from there.
-            turns_part 1 a b from (IsStillLinked from entry None) (IsUnlinked from entry None) (unlink_steps from entry None) there (quiet-word_step Index (place_of_front from entry) (next_of from entry))
-            (turns_word (IsStillLinked from entry None) (IsUnlinked from entry None) Index (place_of_front from entry) (next_of from entry) from (unchanged from entry None) (after-first from there)) (mine from there);
+        commits = λ from there.
+            commits_prefix 1 a b from (IsStillLinked from entry None) (IsUnlinked from entry None) (unlink_steps from entry None) there (quiet-word_step Index (place_of_front from entry) (next_of from entry))
+            (commits_word (IsStillLinked from entry None) (IsUnlinked from entry None) Index (place_of_front from entry) (next_of from entry) from (unchanged from entry None) (after-first from there)) (mine from there);
         agrees = index_agrees files a b (place_of_bucket (hash % 65536)) next here agrees;
       }
 
-  pub first_whole : Grows second b (word_step Index (place_of_bucket (hash % 65536)) next) → ForSome a.files (λ from. Grows a b (unlink_steps from entry None))
-  first_whole made from there = subst (Grows a b) (steps-are from there) (subst (λ (t : Told). Grows t b (word_step Index (place_of_bucket (hash % 65536)) next)) (twice ∙ once) made)
+  pub first_whole : Applies second b (word_step Index (place_of_bucket (hash % 65536)) next) → ForSome a.files (λ from. Applies a b (unlink_steps from entry None))
+  first_whole made from there = subst (Applies a b) (steps-are from there) (subst (λ (t : Told). Applies t b (word_step Index (place_of_bucket (hash % 65536)) next)) (twice ∙ once) made)
 
-  pub first_done : Grows second b (word_step Index (place_of_bucket (hash % 65536)) next) → ForSome a.files (λ from. ForSome b.files (IsUnlinked from entry None))
+  pub first_done : Applies second b (word_step Index (place_of_bucket (hash % 65536)) next) → ForSome a.files (λ from. ForSome b.files (IsUnlinked from entry None))
   first_done made from there =
       told_whole (IsUnlinked from entry None) (first_whole made from there) (λ image now. subst (λ (i : Image). IsUnlinked from entry None (after (unlink_steps from entry None) i)) (some_inj (sym there ∙ now)) (after-first from there))

@@ -10,14 +10,14 @@ use Rattle.blk_format.specs.Address.{kind_of, is_address, external, external_num
 use Rattle.blk_format.specs.BlockFiles.{stands_in_blocks}
 use Rattle.blk_format.specs.Standing.{stands}
 use Rattle.blk_volume.specs.Entries.{is_key_length, key_of}
-use Rattle.blk_volume.specs.View.{Core, core_at, core_of, entry_at, stock_of}
+use Rattle.blk_volume.specs.View.{RecordFields, core_at, fields_of, entry_at, store_of}
 use Rattle.blk_disk.specs.declared.tables.BlockFiles.{BlockFiles}
 use Rattle.blk_format.specs.Sealed.{RecordChecks}
 use Rattle.blk_disk.specs.Tables.{Agrees, stands_among}
 use Rattle.blk_disk.proofs.Ranges.{stands_agree}
 use Rattle.blk_entry.specs.Keys.{HasKey, IsEntryOf, key_at}
 use Rattle.blk_laws.proofs.StillShown.{core-standing, standing-parts}
-use Rattle.blk_chain.specs.Naming.{HasName}
+use Rattle.blk_chain.specs.Naming.{HasKey}
 use Rattle.blk_chain.specs.Finding.{names_record, IsKeyed}
 use Rattle.blk_chain.proofs.Names.{shown-core, shown-kind}
 use Rattle.blk_chain.proofs.Unlinks.{record_checks}
@@ -34,10 +34,10 @@ names-parts files w e =
     (a.0, (eqb-true (kind_of w) 2 b.0, b.1))
 
 -- a record that is shown stands
-pub shown-names : (files : BlockFiles) (image : Image) (w : ℕ) (core : Core) → Agrees files image → (stock_of image).entry w ≡ Some core → names_record files w ≡ true
+pub shown-names : (files : BlockFiles) (image : Image) (w : ℕ) (fields : RecordFields) → Agrees files image → (store_of image).entry w ≡ Some fields → names_record files w ≡ true
 unfolding names_record stands
-shown-names files image w core agrees here =
-    let parts = standing-parts image blocks_256 w (core-standing image w core here) in
+shown-names files image w fields agrees here =
+    let parts = standing-parts image blocks_256 w (core-standing image w fields here) in
     let of = and_parts (is_address w) (if kind_of w == external then has_file image (External (external_number w)) else stands_in_blocks image w) parts.0 in
     let inside : stands_in_blocks image w ≡ true = by_kind (kind_of w) parts.1 of.1 in
     let kind : (kind_of w == 2) ≡ true = is_two (kind_of w) parts.1 in
@@ -52,47 +52,47 @@ shown-names files image w core agrees here =
 -- a record that a search meets checks in its bytes
 pub keyed-checks : (image : Image) (w : ℕ) → AreBytes image → IsKeyed w image → RecordChecks w image
 keyed-checks image w bytes keyed =
-    record_checks image w bytes (shown-kind image w keyed.core keyed.here) (ap (λ (c : Core). c.checks) (shown-core image w keyed.core keyed.here) ∙ keyed.good)
+    record_checks image w bytes (shown-kind image w keyed.fields keyed.here) (ap (λ (c : RecordFields). c.checks) (shown-core image w keyed.fields keyed.here) ∙ keyed.good)
 
 -- the key of a record that has one
-key-is : (image : Image) (w : ℕ) (core : Core) → (stock_of image).entry w ≡ Some core → HasKey w image → key_at image w ≡ key_of (stock_of image) w core
-unfolding key_at stock_of
-key-is image w core here has = by_core (core_at image w) here has.is
+key-is : (image : Image) (w : ℕ) (fields : RecordFields) → (store_of image).entry w ≡ Some fields → HasKey w image → key_at image w ≡ key_of (store_of image) w fields
+unfolding key_at store_of
+key-is image w fields here has = by_core (core_at image w) here has.is
   where
-    by_length : (t : Bool) → (if t then key_of (stock_of image) w core else None) ≡ Some has.key → (if t then key_of (stock_of image) w core else None) ≡ key_of (stock_of image) w core
+    by_length : (t : Bool) → (if t then key_of (store_of image) w fields else None) ≡ Some has.key → (if t then key_of (store_of image) w fields else None) ≡ key_of (store_of image) w fields
     by_length true e = refl
     by_length false e = absurd (never e)
       where
         never : None ≡ Some has.key → ⊥
         never c = cc
 
-    by_core : (o : Option Core) → o ≡ Some core → option_and_then (λ c. if is_key_length w c then key_of (stock_of image) w c else None) o ≡ Some has.key
-        → option_and_then (λ c. if is_key_length w c then key_of (stock_of image) w c else None) o ≡ key_of (stock_of image) w core
-    by_core o e h = rw e (by_length (is_key_length w core) (rw e at h))
+    by_core : (o : Option RecordFields) → o ≡ Some fields → option_and_then (λ c. if is_key_length w c then key_of (store_of image) w c else None) o ≡ Some has.key
+        → option_and_then (λ c. if is_key_length w c then key_of (store_of image) w c else None) o ≡ key_of (store_of image) w fields
+    by_core o e h = rw e (by_length (is_key_length w fields) (rw e at h))
 
 module _ (image : Image) (w : ℕ) (keyed : IsKeyed w image) (key : List ℕ) (is_child : Bool) where
-  here-core : core_of (entry_at image w) ≡ keyed.core
-  here-core = shown-core image w keyed.core keyed.here
+  here-core : fields_of (entry_at image w) ≡ keyed.fields
+  here-core = shown-core image w keyed.fields keyed.here
 
   -- a record with the key and the flag has the name
-  pub to-name : IsEntryOf key w image → ((entry_at image w).flags == 2) ≡ is_child → HasName (stock_of image) key is_child w
+  pub to-name : IsEntryOf key w image → ((entry_at image w).flags == 2) ≡ is_child → HasKey (store_of image) key is_child w
   to-name of flag = record {
-    core = keyed.core;
+    fields = keyed.fields;
     here = keyed.here;
-    hashed = sym (ap (λ (c : Core). c.hash) here-core) ∙ of.hash;
-    key = sym (key-is image w keyed.core keyed.here keyed.key) ∙ of.is;
-    flag = ap (λ (c : Core). c.flags == 2) (sym here-core) ∙ flag;
+    hashed = sym (ap (λ (c : RecordFields). c.hash) here-core) ∙ of.hash;
+    key = sym (key-is image w keyed.fields keyed.here keyed.key) ∙ of.is;
+    flag = ap (λ (c : RecordFields). c.flags == 2) (sym here-core) ∙ flag;
   }
 
   -- and one with the name has the key and the flag
-  pub of-name : HasName (stock_of image) key is_child w → IsEntryOf key w image
+  pub of-name : HasKey (store_of image) key is_child w → IsEntryOf key w image
   of-name named = record {
-    hash = ap (λ (c : Core). c.hash) (here-core ∙ some_inj (sym keyed.here ∙ named.here)) ∙ named.hashed;
-    is = key-is image w named.core named.here keyed.key ∙ named.key;
+    hash = ap (λ (c : RecordFields). c.hash) (here-core ∙ some_inj (sym keyed.here ∙ named.here)) ∙ named.hashed;
+    is = key-is image w named.fields named.here keyed.key ∙ named.key;
   }
 
-  pub flag-of-name : HasName (stock_of image) key is_child w → ((entry_at image w).flags == 2) ≡ is_child
-  flag-of-name named = ap (λ (c : Core). c.flags == 2) (here-core ∙ some_inj (sym keyed.here ∙ named.here)) ∙ named.flag
+  pub flag-of-name : HasKey (store_of image) key is_child w → ((entry_at image w).flags == 2) ≡ is_child
+  flag-of-name named = ap (λ (c : RecordFields). c.flags == 2) (here-core ∙ some_inj (sym keyed.here ∙ named.here)) ∙ named.flag
 
 -- two truths that are told apart, and two that are not
 pub differs : (a b : Bool) → not (beq a b) ≡ true → a ≡ b → ⊥

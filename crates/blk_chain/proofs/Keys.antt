@@ -7,15 +7,15 @@ use Rattle.blk_image.specs.Bytes.{range_at}
 use Rattle.blk_image.specs.Image.{Block, Image, byte, length_of}
 use Rattle.blk_image.specs.Footprint.{Footprint, SameOutside, range}
 use Rattle.blk_image.specs.Steps.{with_words}
-use Rattle.blk_format.specs.Address.{kind_of, block_count, block_size, block_word, file_selector, first_block, is_address, blocks_256, place, room}
+use Rattle.blk_format.specs.Address.{kind_of, block_count, block_size, block_word, file_selector, first_block, is_address, blocks_256, place, byte_size}
 use Rattle.blk_format.specs.Claims.{Claim, BlockOf, ExternalOf, same_claim, claims_of, has_claim}
 use Rattle.blk_format.specs.Standing.{is_linked_as, stands, stands_as_blocks}
 use Rattle.blk_format.specs.BlockFiles.{linked_as, max_entries_in, stands_in}
 use Rattle.blk_format.specs.Records.{entry_in, checks}
 use Rattle.blk_format.proofs.Words.{AreFields, AreFields-of, kind_of-block_word, block_count-block_word, file_selector-block_word, first_block-block_word, is_address-block_word}
 use Rattle.blk_volume.specs.Footprint.{IsClear}
-use Rattle.blk_volume.specs.View.{Core, core_of, core_at, entry_at, stands_as, stock_of}
-use Rattle.blk_format.specs.Sealed.{IsMoment, record_at, record_size, seal_place, size_by_kind, seal_by_kind}
+use Rattle.blk_volume.specs.View.{RecordFields, fields_of, core_at, entry_at, stands_as, store_of}
+use Rattle.blk_format.specs.Sealed.{IsMidUpdate, record_at, record_size, seal_place, size_by_kind, seal_by_kind}
 use Rattle.blk_laws.proofs.StillShown.{core-standing, standing-parts}
 use Rattle.blk_chain.proofs.Names.{record-at, shown-core, shown-kind}
 
@@ -82,7 +82,7 @@ fewer false linked s c most p long some h = cc
 
 -- it stands where the record does
 pub first-stands : (image : Image) (w : ℕ) → kind_of w ≡ 2 → stands_in image w ≡ true → stands_in image (first_word w) ≡ true
-unfolding stands stands_as_blocks room block_size
+unfolding stands stands_as_blocks byte_size block_size
 first-stands image w kind st =
     let is : kind_of (first_word w) ≡ 2 = first-kind w in
     let f = first-file w in let s = first-first w in let c = first-count w in let p = first-place w kind in let a = first-address w in
@@ -90,20 +90,20 @@ first-stands image w kind st =
     rw (a, is, f, s, c, p) (fewer (is_address w) (is_linked_as (linked_as image (file_selector w)) 2) (first_block w) (block_count w) (max_entries_in image (file_selector w)) (place w) (length_of image (Block (file_selector w))) (AreFields-of w).some was)
 
 -- the record that it names
-pub first-record : (image : Image) (w : ℕ) (core : Core) → (stock_of image).entry w ≡ Some core → (stock_of image).entry (first_word w) ≡ Some core
-unfolding stock_of core_at
-first-record image w core here =
-    let kind = shown-kind image w core here in
+pub first-record : (image : Image) (w : ℕ) (own_fields : RecordFields) → (store_of image).entry w ≡ Some own_fields → (store_of image).entry (first_word w) ≡ Some own_fields
+unfolding store_of core_at
+first-record image w own_fields here =
+    let kind = shown-kind image w own_fields here in
     let stands_first : stands_as image blocks_256 (first_word w) ≡ true =
-    both (stands_in image (first_word w)) (kind_of (first_word w)) (first-stands image w kind (standing-parts image blocks_256 w (core-standing image w core here)).0) (first-kind w) in
-    let same : core_of (entry_at image (first_word w)) ≡ core_of (entry_at image w) = ap₂ (λ (f i : ℕ). core_of (entry_in (byte image (Block f)) i)) (first-file w) (first-place w kind) in
-    rw stands_first (ap (λ (c : Core). Some c) (same ∙ shown-core image w core here))
+    both (stands_in image (first_word w)) (kind_of (first_word w)) (first-stands image w kind (standing-parts image blocks_256 w (core-standing image w own_fields here)).0) (first-kind w) in
+    let same : fields_of (entry_at image (first_word w)) ≡ fields_of (entry_at image w) = ap₂ (λ (f i : ℕ). fields_of (entry_in (byte image (Block f)) i)) (first-file w) (first-place w kind) in
+    rw stands_first (ap (λ (c : RecordFields). Some c) (same ∙ shown-core image w own_fields here))
   where
     both : (b : Bool) (k : ℕ) → b ≡ true → k ≡ 2 → (b && (k == 2)) ≡ true
     both b k e f = rw (e, f) refl
 
 -- a moment of the update of the record is one of that word's
-pub first-moment : (from image : Image) (w x : ℕ) → kind_of w ≡ 2 → IsMoment from w ((4, x) ∷ []) image → IsMoment from (first_word w) ((4, x) ∷ []) image
+pub first-moment : (from image : Image) (w x : ℕ) → kind_of w ≡ 2 → IsMidUpdate from w ((4, x) ∷ []) image → IsMidUpdate from (first_word w) ((4, x) ∷ []) image
 unfolding record_at size_by_kind seal_by_kind
 first-moment from image w x kind moment =
     let is : kind_of (first_word w) ≡ kind_of w = first-kind w ∙ sym kind in

@@ -1,6 +1,5 @@
 pub mod Words
 pub mod Names
-pub mod Turns
 pub mod Links
 pub mod Apart
 pub mod Follows

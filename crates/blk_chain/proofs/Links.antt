@@ -7,7 +7,7 @@ use Rattle.blk_image.specs.Bytes.{content, word_at, word_bytes}
 use Rattle.blk_image.specs.Image.{Index, Block, Image, bytes_of, length_of, word, word as word_of}
 use Rattle.blk_image.specs.Footprint.{one_word}
 use Rattle.blk_image.specs.Steps.{after, word_step}
-use Rattle.blk_image.specs.Told.{Told, Grows, GrowsInPart, Passes, Until}
+use Rattle.blk_image.specs.Told.{Told, Applies, AppliesPrefix, Passes, Until, Commits}
 use Rattle.blk_image.proofs.Footprints.{outside_write}
 use Rattle.blk_image.proofs.Images.{bytes_of-written}
 use Rattle.blk_image.proofs.Runs.{passes_part, some_inj, told_part, told_whole}
@@ -17,18 +17,17 @@ use Rattle.blk_format.specs.Address.{file_selector, is_address, is_initialized, 
 use Rattle.blk_format.specs.Records.{entry_in}
 use Rattle.blk_format.specs.Headers.{place_of_bucket}
 use Rattle.blk_format.specs.BlockFiles.{is_among}
-use Rattle.blk_volume.specs.View.{Stock, Core, stock_of}
+use Rattle.blk_volume.specs.View.{StoreView, RecordFields, store_of}
 use Rattle.blk_volume.specs.Chains.{bucket_of_hash, chain, file_and_block, is_of_bucket, IsChain}
 use Rattle.blk_laws.proofs.ChainLinks.{linked-front, others-stay}
-use Rattle.blk_laws.specs.IndexMoments.{IsIndexWord}
+use Rattle.blk_laws.specs.IndexWrites.{IsIndexWord}
 use Rattle.blk_laws.proofs.IndexWords.{buckets-written, buckets-unchecked}
 use Rattle.blk_disk.specs.declared.tables.BlockFiles.{BlockFiles}
 use Rattle.blk_disk.specs.Tables.{Agrees}
 use Rattle.blk_format.proofs.SpareHeaders.{SparesHeaders}
 use Rattle.blk_disk.proofs.Agreeing.{agrees_still}
 use Rattle.blk_chain.specs.Linking.{bucket_at, chained_with, place_of_front, CanBeLinked, link_steps, IsLinked, IsLinking}
-use Rattle.blk_chain.specs.Turning.{Turns}
-use Rattle.blk_chain.proofs.Turns.{turns_none, turns_part, turns_word}
+use Rattle.blk_image.proofs.Commits.{commits_none, commits_prefix, commits_word}
 use Rattle.blk_chain.proofs.Names.{shown-core, same-name, shown-of}
 use Rattle.blk_chain.proofs.Words.{linked-good, WithFirstBlock, with_first_block}
 
@@ -45,12 +44,12 @@ pub index_spares : (at : ℕ) → SparesHeaders (one_word Index at)
 index_spares at = record { bytes = λ n i small. refl }
 
 -- a core of the bucket
-core-of-bucket : (stock : Stock) (b w : ℕ) (core : Core) → stock.entry w ≡ Some core → core.checks ≡ true → bucket_of_hash core.hash ≡ b → is_of_bucket stock b w ≡ true
-core-of-bucket stock b w core here good is = rw (here, good) (eq-eqb (bucket_of_hash core.hash) b is)
+core-of-bucket : (store : StoreView) (b w : ℕ) (fields : RecordFields) → store.entry w ≡ Some fields → fields.checks ≡ true → bucket_of_hash fields.hash ≡ b → is_of_bucket store b w ≡ true
+core-of-bucket store b w fields here good is = rw (here, good) (eq-eqb (bucket_of_hash fields.hash) b is)
 
 module _ (from : Image) (entry : ℕ) (can : CanBeLinked entry from) where
-  in_bucket : is_of_bucket (stock_of from) (bucket_at from entry) entry ≡ true
-  in_bucket = core-of-bucket (stock_of from) (bucket_at from entry) entry can.core can.here can.good (ap (λ (c : Core). bucket_of_hash c.hash) (sym (shown-core from entry can.core can.here)))
+  in_bucket : is_of_bucket (store_of from) (bucket_at from entry) entry ≡ true
+  in_bucket = core-of-bucket (store_of from) (bucket_at from entry) entry can.fields can.here can.good (ap (λ (c : RecordFields). bucket_of_hash c.hash) (sym (shown-core from entry can.fields can.here)))
 
   -- no record of the chain has its first block, since it would have its name
   apart : is_among (map file_and_block (chained_with from entry)) (file_and_block entry) ≡ false
@@ -62,8 +61,8 @@ module _ (from : Image) (entry : ℕ) (can : CanBeLinked entry from) where
     where
       never : WithFirstBlock (chained_with from entry) (file_and_block entry) → ⊥
       never other =
-          let shown = shown-of (stock_of from) (bucket_at from entry) other.word (linked-good (stock_of from) (bucket_at from entry) ((stock_of from).table (bucket_at from entry)) (chained_with from entry) other.word can.whole.linked other.among) in
-          can.fresh other.word other.among (same-name from entry other.word can.core shown.core can.here shown.here (sym other.has) can.key (can.core.flags == 2) can.named)
+          let shown = shown-of (store_of from) (bucket_at from entry) other.word (linked-good (store_of from) (bucket_at from entry) ((store_of from).table (bucket_at from entry)) (chained_with from entry) other.word can.whole.linked other.among) in
+          can.fresh other.word other.among (same-name from entry other.word can.fields shown.fields can.here shown.here (sym other.has) can.key (can.fields.flags == 2) can.named)
 
   pub linked_at : (image : Image) → IsIndexWord (place_of_front from entry) entry from image → IsLinked from entry image
   linked_at image is =
@@ -71,9 +70,9 @@ module _ (from : Image) (entry : ℕ) (can : CanBeLinked entry from) where
       let w = buckets-written from image b entry is in
       record {
         list = w.0;
-        stock = w.1;
-        chain_now = subst (λ (s : Stock). IsChain s b (entry ∷ chained_with from entry)) (sym w.1) (linked-front (stock_of from) b entry (chained_with from entry) can.whole in_bucket can.next apart);
-        others = λ other e. ap (λ (s : Stock). chain s other) w.1 ∙ others-stay (stock_of from) b other entry e;
+        store = w.1;
+        chain_now = subst (λ (s : StoreView). IsChain s b (entry ∷ chained_with from entry)) (sym w.1) (linked-front (store_of from) b entry (chained_with from entry) can.whole in_bucket can.next apart);
+        others = λ other e. ap (λ (s : StoreView). chain s other) w.1 ∙ others-stay (store_of from) b other entry e;
         well_formed = buckets-unchecked from image b is.outside;
         outside = is.outside;
       }
@@ -90,7 +89,7 @@ pub front_inside : (from : Image) (entry : ℕ) → length_of from Index ≡ 262
 front_inside from entry complete = omega (arith, complete)
 
 -- a word of the index leaves what the block files agree with
-pub index_agrees : (files : BlockFiles) (a b : Told) (at x : ℕ) → GrowsInPart a b (word_step Index at x) → ForSome a.files (Agrees files) → ForSome b.files (Agrees files)
+pub index_agrees : (files : BlockFiles) (a b : Told) (at x : ℕ) → AppliesPrefix a b (word_step Index at x) → ForSome a.files (Agrees files) → ForSome b.files (Agrees files)
 unfolding word_step
 index_agrees files a b at x part agrees =
     told_part (Agrees files) part
@@ -98,37 +97,37 @@ index_agrees files a b at x part agrees =
 
 -- the write of the word of the bucket that was read
 module _ (a b : Told) (entry n : ℕ) (read : ForSome a.files (λ from. n ≡ bucket_at from entry)) where
-  pub link_part : GrowsInPart a b (word_step Index (place_of_bucket n) entry) → ForSome a.files (λ from. GrowsInPart a b (link_steps from entry))
-  link_part part from there = subst (λ (m : ℕ). GrowsInPart a b (word_step Index (place_of_bucket m) entry)) (read from there) part
+  pub link_part : AppliesPrefix a b (word_step Index (place_of_bucket n) entry) → ForSome a.files (λ from. AppliesPrefix a b (link_steps from entry))
+  link_part part from there = subst (λ (m : ℕ). AppliesPrefix a b (word_step Index (place_of_bucket m) entry)) (read from there) part
 
-  pub link_whole : Grows a b (word_step Index (place_of_bucket n) entry) → ForSome a.files (λ from. Grows a b (link_steps from entry))
-  link_whole whole from there = subst (λ (m : ℕ). Grows a b (word_step Index (place_of_bucket m) entry)) (read from there) whole
+  pub link_whole : Applies a b (word_step Index (place_of_bucket n) entry) → ForSome a.files (λ from. Applies a b (link_steps from entry))
+  link_whole whole from there = subst (λ (m : ℕ). Applies a b (word_step Index (place_of_bucket m) entry)) (read from there) whole
 
   module _ (small : entry < 2 ^ 32) (complete : ForSome a.files (λ image. length_of image Index ≡ 262512)) (can : ForSome a.files (CanBeLinked entry)) where
     after_link : (from : Image) → a.files ≡ Some from → IsLinked from entry (after (link_steps from entry) from)
     after_link from there = linked_at from entry (can from there) (after (link_steps from entry) from) (index_word from (place_of_front from entry) entry small (front_inside from entry (complete from there)))
 
-    pub link_stops : GrowsInPart a b (word_step Index (place_of_bucket n) entry) → ForSome a.files (λ from. Passes a b (IsLinking from entry))
+    pub link_stops : AppliesPrefix a b (word_step Index (place_of_bucket n) entry) → ForSome a.files (λ from. Passes a b (IsLinking from entry))
     link_stops part from there =
         let P : Image → Type 0 = IsLinking from entry in
         passes_part P P (link_part part from there) (quiet-word_step Index (place_of_front from entry) entry) (λ image h. h)
         (λ image here. subst (λ (i : Image). Until P P i (link_steps from entry)) (some_inj (sym there ∙ here))
         (until_word P P Index (place_of_front from entry) entry from (inl refl) (inr (after_link from there))))
 
-    pub link_turns : GrowsInPart a b (word_step Index (place_of_bucket n) entry) → ForSome a.files (λ from. Turns 1 a b (λ image. image ≡ from) (IsLinked from entry))
+    pub link_turns : AppliesPrefix a b (word_step Index (place_of_bucket n) entry) → ForSome a.files (λ from. Commits 1 a b (λ image. image ≡ from) (IsLinked from entry))
     link_turns part from there =
         let P : Image → Type 0 = (λ image. image ≡ from) in
-        turns_part 1 a b from P (IsLinked from entry) (link_steps from entry) there (quiet-word_step Index (place_of_front from entry) entry)
-        (turns_word P (IsLinked from entry) Index (place_of_front from entry) entry from refl (after_link from there)) (link_part part from there)
+        commits_prefix 1 a b from P (IsLinked from entry) (link_steps from entry) there (quiet-word_step Index (place_of_front from entry) entry)
+        (commits_word P (IsLinked from entry) Index (place_of_front from entry) entry from refl (after_link from there)) (link_part part from there)
 
-    pub link_done : Grows a b (word_step Index (place_of_bucket n) entry) → ForSome a.files (λ from. ForSome b.files (IsLinked from entry))
+    pub link_done : Applies a b (word_step Index (place_of_bucket n) entry) → ForSome a.files (λ from. ForSome b.files (IsLinked from entry))
     link_done whole from there =
         told_whole (IsLinked from entry) (link_whole whole from there)
         (λ image here. subst (λ (i : Image). IsLinked from entry (after (link_steps from entry) i)) (some_inj (sym there ∙ here)) (after_link from there))
 
 -- before the write
-pub link_not_yet : (a b : Told) (entry : ℕ) → b ≡ a → ForSome a.files (λ from. Turns 1 a b (λ image. image ≡ from) (IsLinked from entry))
-link_not_yet a b entry stays from there = turns_none 0 a b from (λ image. image ≡ from) (IsLinked from entry) there stays refl
+pub link_not_yet : (a b : Told) (entry : ℕ) → b ≡ a → ForSome a.files (λ from. Commits 1 a b (λ image. image ≡ from) (IsLinked from entry))
+link_not_yet a b entry stays from there = commits_none 0 a b from (λ image. image ≡ from) (IsLinked from entry) there stays refl
 
 -- an address is a word
 pub address_small : (w : ℕ) → is_address w ≡ true → w < 2 ^ 32
@@ -139,9 +138,9 @@ address_small w address =
 
 -- what the write of the bucket's word leaves, made or not
 pub record IsPut (files : BlockFiles) (entry : ℕ) (a b : Told) : Type 0 where
-  pub part : ForSome a.files (λ from. GrowsInPart a b (link_steps from entry))
+  pub part : ForSome a.files (λ from. AppliesPrefix a b (link_steps from entry))
   pub stops : ForSome a.files (λ from. Passes a b (IsLinking from entry))
-  pub turns : ForSome a.files (λ from. Turns 1 a b (λ image. image ≡ from) (IsLinked from entry))
+  pub commits : ForSome a.files (λ from. Commits 1 a b (λ image. image ≡ from) (IsLinked from entry))
   pub agrees : ForSome b.files (Agrees files)
 
 module _ (files : BlockFiles) (a b : Told) (entry hash word : ℕ) (is : word ≡ entry) (address : is_address word ≡ true) (agrees : ForSome a.files (Agrees files)) (complete : ForSome a.files (λ image. length_of image Index ≡ 262512)) (can : ForSome a.files (CanBeLinked entry))
@@ -149,23 +148,23 @@ module _ (files : BlockFiles) (a b : Told) (entry hash word : ℕ) (is : word �
   bucket_is : ForSome a.files (λ from. hash % 65536 ≡ bucket_at from entry)
   bucket_is from there = bucket_read from entry hash (hash % 65536) (read from there) refl
 
-  pub put_by : GrowsInPart between b (word_step Index (place_of_bucket (hash % 65536)) word) → IsPut files entry a b
+  pub put_by : AppliesPrefix between b (word_step Index (place_of_bucket (hash % 65536)) word) → IsPut files entry a b
   put_by part =
-      let here : GrowsInPart a b (word_step Index (place_of_bucket (hash % 65536)) entry) =
-      subst (λ (t : Told). GrowsInPart t b (word_step Index (place_of_bucket (hash % 65536)) entry)) stays (subst (λ (v : ℕ). GrowsInPart between b (word_step Index (place_of_bucket (hash % 65536)) v)) is part) in
+      let here : AppliesPrefix a b (word_step Index (place_of_bucket (hash % 65536)) entry) =
+      subst (λ (t : Told). AppliesPrefix t b (word_step Index (place_of_bucket (hash % 65536)) entry)) stays (subst (λ (v : ℕ). AppliesPrefix between b (word_step Index (place_of_bucket (hash % 65536)) v)) is part) in
       record {
         part = link_part a b entry (hash % 65536) bucket_is here;
         stops = link_stops a b entry (hash % 65536) bucket_is (address_small entry (subst (λ (v : ℕ). is_address v ≡ true) is address)) complete can here;
-        turns = link_turns a b entry (hash % 65536) bucket_is (address_small entry (subst (λ (v : ℕ). is_address v ≡ true) is address)) complete can here;
+        commits = link_turns a b entry (hash % 65536) bucket_is (address_small entry (subst (λ (v : ℕ). is_address v ≡ true) is address)) complete can here;
         agrees = index_agrees files a b (place_of_bucket (hash % 65536)) entry here agrees;
       }
 
-  whole_here : Grows between b (word_step Index (place_of_bucket (hash % 65536)) word) → Grows a b (word_step Index (place_of_bucket (hash % 65536)) entry)
+  whole_here : Applies between b (word_step Index (place_of_bucket (hash % 65536)) word) → Applies a b (word_step Index (place_of_bucket (hash % 65536)) entry)
   whole_here whole =
-      subst (λ (t : Told). Grows t b (word_step Index (place_of_bucket (hash % 65536)) entry)) stays (subst (λ (v : ℕ). Grows between b (word_step Index (place_of_bucket (hash % 65536)) v)) is whole)
+      subst (λ (t : Told). Applies t b (word_step Index (place_of_bucket (hash % 65536)) entry)) stays (subst (λ (v : ℕ). Applies between b (word_step Index (place_of_bucket (hash % 65536)) v)) is whole)
 
-  pub whole_by : Grows between b (word_step Index (place_of_bucket (hash % 65536)) word) → ForSome a.files (λ from. Grows a b (link_steps from entry))
+  pub whole_by : Applies between b (word_step Index (place_of_bucket (hash % 65536)) word) → ForSome a.files (λ from. Applies a b (link_steps from entry))
   whole_by whole = link_whole a b entry (hash % 65536) bucket_is (whole_here whole)
 
-  pub linked_by : Grows between b (word_step Index (place_of_bucket (hash % 65536)) word) → ForSome a.files (λ from. ForSome b.files (IsLinked from entry))
+  pub linked_by : Applies between b (word_step Index (place_of_bucket (hash % 65536)) word) → ForSome a.files (λ from. ForSome b.files (IsLinked from entry))
   linked_by whole = link_done a b entry (hash % 65536) bucket_is (address_small entry (subst (λ (v : ℕ). is_address v ≡ true) is address)) complete can (whole_here whole)

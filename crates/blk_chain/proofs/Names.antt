@@ -10,9 +10,9 @@ use Rattle.blk_format.specs.Address.{kind_of, file_selector, first_block, place,
 use Rattle.blk_format.specs.Records.{entry_in, entry_size}
 use Rattle.blk_volume.specs.Chains.{bucket_of_hash, file_and_block, is_of_bucket}
 use Rattle.blk_volume.specs.Entries.{key_of}
-use Rattle.blk_volume.specs.View.{Stock, Core, core_of, core_at, entry_at, follow_at, key_place_at, stands_as, stock_of}
+use Rattle.blk_volume.specs.View.{StoreView, RecordFields, fields_of, core_at, entry_at, follow_at, key_place_at, stands_as, store_of}
 use Rattle.blk_laws.proofs.StillShown.{standing-parts, core-standing}
-use Rattle.blk_chain.specs.Naming.{HasName}
+use Rattle.blk_chain.specs.Naming.{HasKey}
 
 pub same-file : (u w : ℕ) → file_and_block u ≡ file_and_block w → file_selector u ≡ file_selector w
 unfolding file_selector
@@ -30,19 +30,19 @@ pub same-place : (u w : ℕ) → kind_of u ≡ blocks_256 → kind_of w ≡ bloc
 same-place u w one other same = record-at u one ∙ ap (λ (b : ℕ). 8192 + b * 256) (same-first u w same) ∙ sym (record-at w other)
 
 -- what a word shows that names a record
-pub shown-core : (image : Image) (w : ℕ) (core : Core) → (stock_of image).entry w ≡ Some core → core_of (entry_at image w) ≡ core
-unfolding stock_of core_at
-shown-core image w core here = some_inj (sym (let s : stands_as image blocks_256 w ≡ true = core-standing image w core here in rw s refl) ∙ here)
+pub shown-core : (image : Image) (w : ℕ) (fields : RecordFields) → (store_of image).entry w ≡ Some fields → fields_of (entry_at image w) ≡ fields
+unfolding store_of core_at
+shown-core image w fields here = some_inj (sym (let s : stands_as image blocks_256 w ≡ true = core-standing image w fields here in rw s refl) ∙ here)
 
-pub shown-kind : (image : Image) (w : ℕ) (core : Core) → (stock_of image).entry w ≡ Some core → kind_of w ≡ blocks_256
-shown-kind image w core here = (standing-parts image blocks_256 w (core-standing image w core here)).1
+pub shown-kind : (image : Image) (w : ℕ) (fields : RecordFields) → (store_of image).entry w ≡ Some fields → kind_of w ≡ blocks_256
+shown-kind image w fields here = (standing-parts image blocks_256 w (core-standing image w fields here)).1
 
-pub shown-follow : (image : Image) (w : ℕ) (core : Core) → (stock_of image).entry w ≡ Some core → (stock_of image).follow w ≡ (entry_at image w).next
-unfolding stock_of follow_at
-shown-follow image w core here = let s : stands_as image blocks_256 w ≡ true = core-standing image w core here in rw s refl
+pub shown-follow : (image : Image) (w : ℕ) (fields : RecordFields) → (store_of image).entry w ≡ Some fields → (store_of image).chain_next w ≡ (entry_at image w).next
+unfolding store_of follow_at
+shown-follow image w fields here = let s : stands_as image blocks_256 w ≡ true = core-standing image w fields here in rw s refl
 
 -- two words of one first block
-module _ (image : Image) (u w : ℕ) (one other : Core) (first : (stock_of image).entry u ≡ Some one) (second : (stock_of image).entry w ≡ Some other) (same : file_and_block u ≡ file_and_block w) where
+module _ (image : Image) (u w : ℕ) (one other : RecordFields) (first : (store_of image).entry u ≡ Some one) (second : (store_of image).entry w ≡ Some other) (same : file_and_block u ≡ file_and_block w) where
   file : file_selector u ≡ file_selector w
   file = same-file u w same
 
@@ -50,43 +50,43 @@ module _ (image : Image) (u w : ℕ) (one other : Core) (first : (stock_of image
   at = same-place u w (shown-kind image u one first) (shown-kind image w other second) same
 
   pub same-core : one ≡ other
-  same-core = sym (shown-core image u one first) ∙ ap₂ (λ (f i : ℕ). core_of (entry_in (byte image (Block f)) i)) file at ∙ shown-core image w other second
+  same-core = sym (shown-core image u one first) ∙ ap₂ (λ (f i : ℕ). fields_of (entry_in (byte image (Block f)) i)) file at ∙ shown-core image w other second
 
-  pub same-follow : (stock_of image).follow u ≡ (stock_of image).follow w
+  pub same-follow : (store_of image).chain_next u ≡ (store_of image).chain_next w
   same-follow =
       shown-follow image u one first ∙ ap₂ (λ (f i : ℕ). (entry_in (byte image (Block f)) i).next) file at ∙ sym (shown-follow image w other second)
 
-  same-key_place : (n : ℕ) → (stock_of image).key_place u n ≡ (stock_of image).key_place w n
-  unfolding stock_of key_place_at
+  same-key_place : (n : ℕ) → (store_of image).key_place u n ≡ (store_of image).key_place w n
+  unfolding store_of key_place_at
   same-key_place n = ap₂ (λ (f i : ℕ). range_at (byte image (Block f)) (i + entry_size) n) file at
 
-  pub same-key : key_of (stock_of image) u one ≡ key_of (stock_of image) w other
+  pub same-key : key_of (store_of image) u one ≡ key_of (store_of image) w other
   unfolding key_of
   same-key =
-      let key : List ℕ → Option (List ℕ) = (λ short. if nat_le one.key_len 927 then (if one.long_key == 0 then Some short else None) else option_map (take one.key_len) ((stock_of image).stored (one.key_len + 1) one.long_key)) in
-      subst (λ (c : Core). key_of (stock_of image) u one ≡ key_of (stock_of image) w c) same-core (ap key (same-key_place one.key_len))
+      let key : List ℕ → Option (List ℕ) = (λ short. if nat_le one.key_len 927 then (if one.long_key == 0 then Some short else None) else option_map (take one.key_len) ((store_of image).stored (one.key_len + 1) one.long_key)) in
+      subst (λ (c : RecordFields). key_of (store_of image) u one ≡ key_of (store_of image) w c) same-core (ap key (same-key_place one.key_len))
 
-  pub same-name : (key : List ℕ) (is_child : Bool) → HasName (stock_of image) key is_child u → HasName (stock_of image) key is_child w
+  pub same-name : (key : List ℕ) (is_child : Bool) → HasKey (store_of image) key is_child u → HasKey (store_of image) key is_child w
   same-name key is_child named =
-      let core : one ≡ named.core = some_inj (sym first ∙ named.here) in
-      let all : other ≡ named.core = sym same-core ∙ core in
+      let fields : one ≡ named.fields = some_inj (sym first ∙ named.here) in
+      let all : other ≡ named.fields = sym same-core ∙ fields in
       record {
-        core = other;
+        fields = other;
         here = second;
-        hashed = ap (λ (c : Core). c.hash) all ∙ named.hashed;
-        key = sym same-key ∙ ap (λ (c : Core). key_of (stock_of image) u c) core ∙ named.key;
-        flag = ap (λ (c : Core). c.flags == 2) all ∙ named.flag;
+        hashed = ap (λ (c : RecordFields). c.hash) all ∙ named.hashed;
+        key = sym same-key ∙ ap (λ (c : RecordFields). key_of (store_of image) u c) fields ∙ named.key;
+        flag = ap (λ (c : RecordFields). c.flags == 2) all ∙ named.flag;
       }
 
 -- a word of a bucket names a record that checks
-pub record IsShownOf (stock : Stock) (bucket w : ℕ) : Type 0 where
-  pub core : Core
-  pub here : stock.entry w ≡ Some core
-  pub good : core.checks ≡ true
-  pub in_bucket : bucket_of_hash core.hash ≡ bucket
+pub record IsShownOf (store : StoreView) (bucket w : ℕ) : Type 0 where
+  pub fields : RecordFields
+  pub here : store.entry w ≡ Some fields
+  pub good : fields.checks ≡ true
+  pub in_bucket : bucket_of_hash fields.hash ≡ bucket
 
-pub shown-of : (stock : Stock) (bucket w : ℕ) → is_of_bucket stock bucket w ≡ true → IsShownOf stock bucket w
-shown-of stock bucket w holds = by (stock.entry w) refl holds where
-  by : (o : Option Core) → stock.entry w ≡ o → option_map_or (λ core. core.checks && (bucket_of_hash core.hash == bucket)) o false ≡ true → IsShownOf stock bucket w
+pub shown-of : (store : StoreView) (bucket w : ℕ) → is_of_bucket store bucket w ≡ true → IsShownOf store bucket w
+shown-of store bucket w holds = by (store.entry w) refl holds where
+  by : (o : Option RecordFields) → store.entry w ≡ o → option_map_or (λ fields. fields.checks && (bucket_of_hash fields.hash == bucket)) o false ≡ true → IsShownOf store bucket w
   by None e h = cc
-  by (Some core) e h = let p = and_parts core.checks (bucket_of_hash core.hash == bucket) h in record { core = core; here = e; good = p.0; in_bucket = eqb-true (bucket_of_hash core.hash) bucket p.1 }
+  by (Some fields) e h = let p = and_parts fields.checks (bucket_of_hash fields.hash == bucket) h in record { fields = fields; here = e; good = p.0; in_bucket = eqb-true (bucket_of_hash fields.hash) bucket p.1 }

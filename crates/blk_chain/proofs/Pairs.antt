@@ -9,10 +9,10 @@ use Rattle.blk_format.specs.BlockFiles.{is_among}
 use Rattle.blk_format.specs.Hash.{hash as hash_of}
 use Rattle.blk_volume.specs.Entries.{key_of}
 use Rattle.blk_volume.specs.ListView.{Distinct, put}
-use Rattle.blk_volume.specs.View.{Stock, Core, stock_of, entry_at}
+use Rattle.blk_volume.specs.View.{StoreView, RecordFields, store_of, entry_at}
 use Rattle.blk_volume.specs.Chains.{Chain, bucket_of_hash, chain, file_and_block, IsChain}
 use Rattle.blk_laws.proofs.Chains.{chain-is}
-use Rattle.blk_chain.specs.Naming.{HasName}
+use Rattle.blk_chain.specs.Naming.{HasKey}
 use Rattle.blk_chain.specs.Linking.{bucket_at, chained_with, CanBeLinked, IsLinked}
 use Rattle.blk_chain.specs.Unlinking.{CanBeUnlinked, IsUnlinked, KeyIsApart, StandsBehind, without}
 use Rattle.blk_chain.specs.Finding.{bucket_of_key, chained_for}
@@ -22,42 +22,42 @@ use Rattle.blk_chain.proofs.Firsts.{named-table}
 use Rattle.blk_chain.proofs.Names.{shown-core, shown-kind}
 
 -- the word 0 names no record
-not-zero : (image : Image) (core : Core) → (stock_of image).entry 0 ≡ Some core → ⊥
+not-zero : (image : Image) (fields : RecordFields) → (store_of image).entry 0 ≡ Some fields → ⊥
 unfolding kind_of
-not-zero image core here = let kind : kind_of 0 ≡ 2 = shown-kind image 0 core here in cc
+not-zero image fields here = let kind : kind_of 0 ≡ 2 = shown-kind image 0 fields here in cc
 
-zero-none : (image : Image) → (stock_of image).entry 0 ≡ None
-zero-none image = by ((stock_of image).entry 0) refl
+zero-none : (image : Image) → (store_of image).entry 0 ≡ None
+zero-none image = by ((store_of image).entry 0) refl
   where
-    by : (o : Option Core) → (stock_of image).entry 0 ≡ o → (stock_of image).entry 0 ≡ None
+    by : (o : Option RecordFields) → (store_of image).entry 0 ≡ o → (store_of image).entry 0 ≡ None
     by None e = e
-    by (Some core) e = absurd (not-zero image core e)
+    by (Some fields) e = absurd (not-zero image fields e)
 
 -- a whole chain is its records
-pub chain-words : (image : Image) (b : ℕ) (words : List ℕ) → IsChain (stock_of image) b words → (chain (stock_of image) b).reached ≡ words
-chain-words image b words is = ap (λ (c : Chain). c.reached) (chain-is (stock_of image) b words (zero-none image) is)
+pub chain-words : (image : Image) (b : ℕ) (words : List ℕ) → IsChain (store_of image) b words → (chain (store_of image) b).reached ≡ words
+chain-words image b words is = ap (λ (c : Chain). c.reached) (chain-is (store_of image) b words (zero-none image) is)
 
 -- the bucket of a record with a name is that of the key
-pub named-bucket : (image : Image) (key : List ℕ) (is_child : Bool) (w : ℕ) → HasName (stock_of image) key is_child w → bucket_at image w ≡ bucket_of_key key
-named-bucket image key is_child w named = ap bucket_of_hash (ap (λ (c : Core). c.hash) (shown-core image w named.core named.here) ∙ named.hashed)
+pub named-bucket : (image : Image) (key : List ℕ) (is_child : Bool) (w : ℕ) → HasKey (store_of image) key is_child w → bucket_at image w ≡ bucket_of_key key
+named-bucket image key is_child w named = ap bucket_of_hash (ap (λ (c : RecordFields). c.hash) (shown-core image w named.fields named.here) ∙ named.hashed)
 
 -- one record has one name
-pub one-name : (stock : Stock) (w : ℕ) (key other : List ℕ) (is_child flag : Bool) → HasName stock key is_child w → HasName stock other flag w → HasName stock other flag w × ((key ≡ other) × (is_child ≡ flag))
-one-name stock w key other is_child flag one two =
-    let core : one.core ≡ two.core = some_inj (sym one.here ∙ two.here) in
-    (two, (some_inj (sym one.key ∙ ap (λ (c : Core). key_of stock w c) core ∙ two.key), sym one.flag ∙ ap (λ (c : Core). c.flags == 2) core ∙ two.flag))
+pub one-name : (store : StoreView) (w : ℕ) (key other : List ℕ) (is_child flag : Bool) → HasKey store key is_child w → HasKey store other flag w → HasKey store other flag w × ((key ≡ other) × (is_child ≡ flag))
+one-name store w key other is_child flag one two =
+    let fields : one.fields ≡ two.fields = some_inj (sym one.here ∙ two.here) in
+    (two, (some_inj (sym one.key ∙ ap (λ (c : RecordFields). key_of store w c) fields ∙ two.key), sym one.flag ∙ ap (λ (c : RecordFields). c.flags == 2) fields ∙ two.flag))
 
 -- a word that isn't the first one is behind it
 not-first : (v w : ℕ) (words : List ℕ) → w ≢ v → is_among (v ∷ words) w ≡ true → is_among words w ≡ true
 not-first v w words apart among = ⊎_elim (λ (e : (v == w) ≡ true). absurd (apart (sym (eqb-true v w e)))) (λ (e : is_among words w ≡ true). e) (or_cases (v == w) (is_among words w) among)
 
 -- and one that isn't the one behind the middle is among the others
-not-behind : (front : List ℕ) (p c w : ℕ) (rest : List ℕ) → w ≢ c → is_among (front ++ p ∷ c ∷ rest) w ≡ true → is_among (front ++ p ∷ rest) w ≡ true
+not-behind : (prefix : List ℕ) (p c w : ℕ) (rest : List ℕ) → w ≢ c → is_among (prefix ++ p ∷ c ∷ rest) w ≡ true → is_among (prefix ++ p ∷ rest) w ≡ true
 not-behind [] p c w rest apart among =
     ⊎_elim (λ (e : (p == w) ≡ true). or_left (p == w) (is_among rest w) e) (λ (e : is_among (c ∷ rest) w ≡ true). or_right (p == w) (is_among rest w) (not-first c w rest apart e)) (or_cases (p == w) (is_among (c ∷ rest) w) among)
-not-behind (y ∷ front) p c w rest apart among =
-    ⊎_elim (λ (e : (y == w) ≡ true). or_left (y == w) (is_among (front ++ p ∷ rest) w) e)
-    (λ (e : is_among (front ++ p ∷ c ∷ rest) w ≡ true). or_right (y == w) (is_among (front ++ p ∷ rest) w) (not-behind front p c w rest apart e)) (or_cases (y == w) (is_among (front ++ p ∷ c ∷ rest) w) among)
+not-behind (y ∷ prefix) p c w rest apart among =
+    ⊎_elim (λ (e : (y == w) ≡ true). or_left (y == w) (is_among (prefix ++ p ∷ rest) w) e)
+    (λ (e : is_among (prefix ++ p ∷ c ∷ rest) w ≡ true). or_right (y == w) (is_among (prefix ++ p ∷ rest) w) (not-behind prefix p c w rest apart e)) (or_cases (y == w) (is_among (prefix ++ p ∷ c ∷ rest) w) among)
 
 clash : (b : Bool) → b ≡ true → b ≡ false → ⊥
 clash true t f = cc
@@ -67,30 +67,30 @@ clash false t f = cc
 first-once : (w : ℕ) (words : List ℕ) → Distinct (map file_and_block (w ∷ words)) → is_among words w ≡ true → ⊥
 first-once w words once among = clash (is_among (map file_and_block words) (file_and_block w)) (among-blocks words w among) once.0
 
-behind-once : (front : List ℕ) (p c : ℕ) (rest : List ℕ) → Distinct (map file_and_block (front ++ p ∷ c ∷ rest)) → is_among (front ++ p ∷ rest) c ≡ true → ⊥
+behind-once : (prefix : List ℕ) (p c : ℕ) (rest : List ℕ) → Distinct (map file_and_block (prefix ++ p ∷ c ∷ rest)) → is_among (prefix ++ p ∷ rest) c ≡ true → ⊥
 behind-once [] p c rest once among =
     ⊎_elim (λ (e : (p == c) ≡ true). first-once p (c ∷ rest) once (or_left (c == p) (is_among rest p) (eq-eqb c p (sym (eqb-true p c e))))) (λ (e : is_among rest c ≡ true). first-once c rest once.1 e) (or_cases (p == c) (is_among rest c) among)
-behind-once (y ∷ front) p c rest once among =
+behind-once (y ∷ prefix) p c rest once among =
     ⊎_elim
-    (λ (e : (y == c) ≡ true). first-once y (front ++ p ∷ c ∷ rest) once (subst (λ (x : ℕ). is_among (front ++ p ∷ c ∷ rest) x ≡ true) (sym (eqb-true y c e)) (there front)))
-    (λ (e : is_among (front ++ p ∷ rest) c ≡ true). behind-once front p c rest once.1 e) (or_cases (y == c) (is_among (front ++ p ∷ rest) c) among)
+    (λ (e : (y == c) ≡ true). first-once y (prefix ++ p ∷ c ∷ rest) once (subst (λ (x : ℕ). is_among (prefix ++ p ∷ c ∷ rest) x ≡ true) (sym (eqb-true y c e)) (there prefix)))
+    (λ (e : is_among (prefix ++ p ∷ rest) c ≡ true). behind-once prefix p c rest once.1 e) (or_cases (y == c) (is_among (prefix ++ p ∷ rest) c) among)
   where
-    there : (front : List ℕ) → is_among (front ++ p ∷ c ∷ rest) c ≡ true
+    there : (prefix : List ℕ) → is_among (prefix ++ p ∷ c ∷ rest) c ≡ true
     there [] = or_right (p == c) (is_among (c ∷ rest) c) (or_left (c == c) (is_among rest c) (eq-eqb c c refl))
     there (z ∷ more) = or_right (z == c) (is_among (more ++ p ∷ c ∷ rest) c) (there more)
 
 module _ (from image : Image) (entry : ℕ) (can : CanBeLinked entry from) (is : IsLinked from entry image) where
   -- the names are as they were
-  named-then : (key : List ℕ) (is_child : Bool) (w : ℕ) → HasName (stock_of image) key is_child w → HasName (stock_of from) key is_child w
-  named-then key is_child w named = (named-table (stock_of from) (put (stock_of from).table (bucket_at from entry) entry) key is_child w).1 (subst (λ (s : Stock). HasName s key is_child w) is.stock named)
+  named-then : (key : List ℕ) (is_child : Bool) (w : ℕ) → HasKey (store_of image) key is_child w → HasKey (store_of from) key is_child w
+  named-then key is_child w named = (named-table (store_of from) (put (store_of from).table (bucket_at from entry) entry) key is_child w).1 (subst (λ (s : StoreView). HasKey s key is_child w) is.store named)
 
-  named-now : (key : List ℕ) (is_child : Bool) (w : ℕ) → HasName (stock_of from) key is_child w → HasName (stock_of image) key is_child w
-  named-now key is_child w named = subst (λ (s : Stock). HasName s key is_child w) (sym is.stock) ((named-table (stock_of from) (put (stock_of from).table (bucket_at from entry) entry) key is_child w).0 named)
+  named-now : (key : List ℕ) (is_child : Bool) (w : ℕ) → HasKey (store_of from) key is_child w → HasKey (store_of image) key is_child w
+  named-now key is_child w named = subst (λ (s : StoreView). HasKey s key is_child w) (sym is.store) ((named-table (store_of from) (put (store_of from).table (bucket_at from entry) entry) key is_child w).0 named)
 
   -- the chains of the bucket and of the others
   here : (key : List ℕ) → bucket_at from entry ≡ bucket_of_key key → chained_for image key ≡ entry ∷ chained_for from key
   here key same =
-      subst (λ (b : ℕ). (chain (stock_of image) b).reached ≡ entry ∷ (chain (stock_of from) b).reached) same
+      subst (λ (b : ℕ). (chain (store_of image) b).reached ≡ entry ∷ (chain (store_of from) b).reached) same
       (chain-words image (bucket_at from entry) (entry ∷ chained_with from entry) is.chain_now)
 
   there : (key : List ℕ) → (bucket_at from entry == bucket_of_key key) ≡ false → chained_for image key ≡ chained_for from key
@@ -111,12 +111,12 @@ module _ (from image : Image) (entry : ℕ) (can : CanBeLinked entry from) (is :
       (cases_Bool (bucket_at from entry == bucket_of_key key))
 
   -- no other record has the name of the new one
-  fresh : (key : List ℕ) (is_child : Bool) (w : ℕ) → HasName (stock_of from) key is_child entry → IsRecordOf from key is_child w → ⊥
+  fresh : (key : List ℕ) (is_child : Bool) (w : ℕ) → HasKey (store_of from) key is_child entry → IsRecordOf from key is_child w → ⊥
   fresh key is_child w named of =
-      let own = one-name (stock_of from) entry key can.key is_child (can.core.flags == 2) named can.named in
+      let own = one-name (store_of from) entry key can.key is_child (can.fields.flags == 2) named can.named in
       let bucket : bucket_of_key key ≡ bucket_at from entry = sym (named-bucket from key is_child entry named) in
-      can.fresh w (subst (λ (b : ℕ). is_among (chain (stock_of from) b).reached w ≡ true) bucket of.0)
-      (subst (λ (flag : Bool). HasName (stock_of from) can.key flag w) own.1.1 (subst (λ (k : List ℕ). HasName (stock_of from) k is_child w) own.1.0 of.1))
+      can.fresh w (subst (λ (b : ℕ). is_among (chain (store_of from) b).reached w ≡ true) bucket of.0)
+      (subst (λ (flag : Bool). HasKey (store_of from) can.key flag w) own.1.1 (subst (λ (k : List ℕ). HasKey (store_of from) k is_child w) own.1.0 of.1))
 
   then-of : (key : List ℕ) (is_child : Bool) (w : ℕ) → w ≢ entry → IsRecordOf image key is_child w → IsRecordOf from key is_child w
   then-of key is_child w apart of = (among-then key w apart of.0, named-then key is_child w of.1)
@@ -130,40 +130,40 @@ module _ (from image : Image) (entry : ℕ) (can : CanBeLinked entry from) (is :
     others = λ key is_child w apart. (then-of key is_child w apart, λ of. (among-now key w of.0, named-now key is_child w of.1));
     map = λ are key is_child v w one two. ⊎_elim
         (λ (e : v ≡ entry). ⊎_elim (λ (f : w ≡ entry). e ∙ sym f)
-        (λ (f : w ≢ entry). absurd (fresh key is_child w (subst (λ (x : ℕ). HasName (stock_of from) key is_child x) e (named-then key is_child v one.1)) (then-of key is_child w f two))) (cases_eq w entry))
+        (λ (f : w ≢ entry). absurd (fresh key is_child w (subst (λ (x : ℕ). HasKey (store_of from) key is_child x) e (named-then key is_child v one.1)) (then-of key is_child w f two))) (cases_eq w entry))
         (λ (e : v ≢ entry). ⊎_elim
-        (λ (f : w ≡ entry). absurd (fresh key is_child v (subst (λ (x : ℕ). HasName (stock_of from) key is_child x) f (named-then key is_child w two.1)) (then-of key is_child v e one)))
+        (λ (f : w ≡ entry). absurd (fresh key is_child v (subst (λ (x : ℕ). HasKey (store_of from) key is_child x) f (named-then key is_child w two.1)) (then-of key is_child v e one)))
         (λ (f : w ≢ entry). are key is_child v w (then-of key is_child v e one) (then-of key is_child w f two)) (cases_eq w entry))
         (cases_eq v entry);
   }
 
 module _ (from image : Image) (entry : ℕ) (before : Option ℕ) (can : CanBeUnlinked entry before from) (is : IsUnlinked from entry before image) where
-  left-here : (key : List ℕ) → bucket_at from entry ≡ bucket_of_key key → chained_for image key ≡ without before can.front can.behind
+  left-here : (key : List ℕ) → bucket_at from entry ≡ bucket_of_key key → chained_for image key ≡ without before can.prefix can.suffix
   left-here key same =
-      subst (λ (b : ℕ). (chain (stock_of image) b).reached ≡ without before can.front can.behind) same
-      (chain-words image (bucket_at from entry) (without before can.front can.behind) (is.chain_now can.front can.behind can.stands))
+      subst (λ (b : ℕ). (chain (store_of image) b).reached ≡ without before can.prefix can.suffix) same
+      (chain-words image (bucket_at from entry) (without before can.prefix can.suffix) (is.chain_now can.prefix can.suffix can.stands))
 
   left-there : (key : List ℕ) → (bucket_at from entry == bucket_of_key key) ≡ false → chained_for image key ≡ chained_for from key
   left-there key apart = ap (λ (c : Chain). c.reached) (is.others (bucket_of_key key) apart)
 
   -- the words of the chain but for this one
-  less : (o : Option ℕ) (front behind words : List ℕ) (w : ℕ) → w ≢ entry → StandsBehind words entry o front behind → is_among (without o front behind) w ≡ true ↔ is_among words w ≡ true
-  less None front behind words w apart stands =
-      (λ among. subst (λ (l : List ℕ). is_among l w ≡ true) (sym stands.1) (or_right (entry == w) (is_among behind w) among), λ among. not-first entry w behind apart (subst (λ (l : List ℕ). is_among l w ≡ true) stands.1 among))
-  less (Some p) front behind words w apart stands =
-      (λ among. subst (λ (l : List ℕ). is_among l w ≡ true) (sym stands) (still-there front p entry behind w among), λ among. not-behind front p entry w behind apart (subst (λ (l : List ℕ). is_among l w ≡ true) stands among))
+  less : (o : Option ℕ) (prefix suffix words : List ℕ) (w : ℕ) → w ≢ entry → StandsBehind words entry o prefix suffix → is_among (without o prefix suffix) w ≡ true ↔ is_among words w ≡ true
+  less None prefix suffix words w apart stands =
+      (λ among. subst (λ (l : List ℕ). is_among l w ≡ true) (sym stands.1) (or_right (entry == w) (is_among suffix w) among), λ among. not-first entry w suffix apart (subst (λ (l : List ℕ). is_among l w ≡ true) stands.1 among))
+  less (Some p) prefix suffix words w apart stands =
+      (λ among. subst (λ (l : List ℕ). is_among l w ≡ true) (sym stands) (still-there prefix p entry suffix w among), λ among. not-behind prefix p entry w suffix apart (subst (λ (l : List ℕ). is_among l w ≡ true) stands among))
 
   -- which isn't among them
-  not-left : (o : Option ℕ) (front behind words : List ℕ) → StandsBehind words entry o front behind → Distinct (map file_and_block words) → is_among (without o front behind) entry ≡ true → ⊥
-  not-left None front behind words stands once among = first-once entry behind (subst (λ (l : List ℕ). Distinct (map file_and_block l)) stands.1 once) among
-  not-left (Some p) front behind words stands once among = behind-once front p entry behind (subst (λ (l : List ℕ). Distinct (map file_and_block l)) stands once) among
+  not-left : (o : Option ℕ) (prefix suffix words : List ℕ) → StandsBehind words entry o prefix suffix → Distinct (map file_and_block words) → is_among (without o prefix suffix) entry ≡ true → ⊥
+  not-left None prefix suffix words stands once among = first-once entry suffix (subst (λ (l : List ℕ). Distinct (map file_and_block l)) stands.1 once) among
+  not-left (Some p) prefix suffix words stands once among = behind-once prefix p entry suffix (subst (λ (l : List ℕ). Distinct (map file_and_block l)) stands once) among
 
   among-left : (key : List ℕ) (w : ℕ) → w ≢ entry → is_among (chained_for image key) w ≡ true ↔ is_among (chained_for from key) w ≡ true
   among-left key w apart = ⊎_elim
       (λ (e : (bucket_at from entry == bucket_of_key key) ≡ true).
       let same : bucket_at from entry ≡ bucket_of_key key = eqb-true (bucket_at from entry) (bucket_of_key key) e in
-      let both = less before can.front can.behind (chained_with from entry) w apart can.stands in
-      let then-words : chained_with from entry ≡ chained_for from key = ap (λ (b : ℕ). (chain (stock_of from) b).reached) same in (
+      let both = less before can.prefix can.suffix (chained_with from entry) w apart can.stands in
+      let then-words : chained_with from entry ≡ chained_for from key = ap (λ (b : ℕ). (chain (store_of from) b).reached) same in (
         λ among. subst (λ (l : List ℕ). is_among l w ≡ true) then-words (both.0 (subst (λ (l : List ℕ). is_among l w ≡ true) (left-here key same) among)),
         λ among. subst (λ (l : List ℕ). is_among l w ≡ true) (sym (left-here key same)) (both.1 (subst (λ (l : List ℕ). is_among l w ≡ true) (sym then-words) among)),
       ))
@@ -173,12 +173,12 @@ module _ (from image : Image) (entry : ℕ) (before : Option ℕ) (can : CanBeUn
 
   gone : (key : List ℕ) (is_child : Bool) → IsRecordOf image key is_child entry → ⊥
   gone key is_child of =
-      let here-then : (stock_of from).entry entry ≡ Some of.1.core = sym (is.keeps.records entry) ∙ of.1.here in
-      let hash : (entry_at from entry).hash ≡ hash_of key = ap (λ (c : Core). c.hash) (shown-core from entry of.1.core here-then) ∙ of.1.hashed in
+      let here-then : (store_of from).entry entry ≡ Some of.1.fields = sym (is.keeps.records entry) ∙ of.1.here in
+      let hash : (entry_at from entry).hash ≡ hash_of key = ap (λ (c : RecordFields). c.hash) (shown-core from entry of.1.fields here-then) ∙ of.1.hashed in
       let same : bucket_at from entry ≡ bucket_of_key key = ap bucket_of_hash hash in
-      not-left before can.front can.behind (chained_with from entry) can.stands can.whole.once (subst (λ (l : List ℕ). is_among l entry ≡ true) (left-here key same) of.0)
+      not-left before can.prefix can.suffix (chained_with from entry) can.stands can.whole.once (subst (λ (l : List ℕ). is_among l entry ≡ true) (left-here key same) of.0)
 
-  then-left : (key : List ℕ) (is_child : Bool) (w : ℕ) → KeyIsApart before (stock_of from) w → IsRecordOf image key is_child w → IsRecordOf from key is_child w
+  then-left : (key : List ℕ) (is_child : Bool) (w : ℕ) → KeyIsApart before (store_of from) w → IsRecordOf image key is_child w → IsRecordOf from key is_child w
   then-left key is_child w lies of =
       let apart : w ≢ entry = (λ e. gone key is_child (subst (λ (x : ℕ). IsRecordOf image key is_child x) e of)) in
       ((among-left key w apart).0 of.0, (is.keeps.names w key is_child lies).1 of.1)

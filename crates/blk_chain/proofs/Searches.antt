@@ -8,53 +8,53 @@ use Rattle.blk_format.specs.Address.{kind_of}
 use Rattle.blk_format.specs.BlockFiles.{is_among}
 use Rattle.blk_format.specs.Hash.{hash as hash_of}
 use Rattle.blk_format.specs.Headers.{bucket_of}
-use Rattle.blk_volume.specs.View.{Core, entry_at, stock_of}
+use Rattle.blk_volume.specs.View.{RecordFields, entry_at, store_of}
 use Rattle.blk_volume.specs.Chains.{bucket_of_hash, chain, is_of_bucket, IsChain, Linked}
 use Rattle.blk_format.proofs.Among.{is_among_more}
-use Rattle.blk_chain.specs.Naming.{HasName}
+use Rattle.blk_chain.specs.Naming.{HasKey}
 use Rattle.blk_chain.specs.Linking.{bucket_at}
 use Rattle.blk_chain.specs.Unlinking.{CanBeUnlinked, StandsBehind}
-use Rattle.blk_chain.specs.Finding.{bucket_of_key, chained_for, up_to, CanBeSearched, EndsWith, IsFound, IsKeyed, IsOnTheWay, NoneHasName}
+use Rattle.blk_chain.specs.Finding.{bucket_of_key, chained_for, up_to, CanBeSearched, EndsWith, IsFound, IsKeyed, IsOnTheWay, NoneHasKey}
 use Rattle.blk_chain.proofs.Apart.{middle-there}
 use Rattle.blk_chain.proofs.Names.{shown-core, shown-kind, shown-of}
 
 -- the front of the chain of a key
-pub front-is : (image : Image) (key : List ℕ) (hash word : ℕ) → hash ≡ hash_of key → word ≡ bucket_of (byte image Index) (hash % 65536) → word ≡ (stock_of image).table (bucket_of_key key)
-unfolding stock_of
+pub front-is : (image : Image) (key : List ℕ) (hash word : ℕ) → hash ≡ hash_of key → word ≡ bucket_of (byte image Index) (hash % 65536) → word ≡ (store_of image).table (bucket_of_key key)
+unfolding store_of
 front-is image key hash word same read = read ∙ ap (λ (h : ℕ). bucket_of (byte image Index) (h % 65536)) same
 
 -- the word 0 names no record
-zero-nothing : (image : Image) (b : ℕ) → is_of_bucket (stock_of image) b 0 ≡ true → ⊥
+zero-nothing : (image : Image) (b : ℕ) → is_of_bucket (store_of image) b 0 ≡ true → ⊥
 unfolding kind_of
 zero-nothing image b of =
-    let shown = shown-of (stock_of image) b 0 of in
-    let kind : kind_of 0 ≡ 2 = shown-kind image 0 shown.core shown.here in cc
+    let shown = shown-of (store_of image) b 0 of in
+    let kind : kind_of 0 ≡ 2 = shown-kind image 0 shown.fields shown.here in cc
 
 -- what is linked from a word that isn't 0
 record IsNext (image : Image) (b word : ℕ) (rest : List ℕ) : Type 0 where
-  behind : List ℕ
-  is : rest ≡ word ∷ behind
-  good : is_of_bucket (stock_of image) b word ≡ true
-  linked : Linked (stock_of image) b ((stock_of image).follow word) behind
+  suffix : List ℕ
+  is : rest ≡ word ∷ suffix
+  good : is_of_bucket (store_of image) b word ≡ true
+  linked : Linked (store_of image) b ((store_of image).chain_next word) suffix
 
-next-of : (image : Image) (b word : ℕ) (rest : List ℕ) → word ≢ 0 → Linked (stock_of image) b word rest → IsNext image b word rest
+next-of : (image : Image) (b word : ℕ) (rest : List ℕ) → word ≢ 0 → Linked (store_of image) b word rest → IsNext image b word rest
 next-of image b word [] some linked = absurd (some linked)
-next-of image b word (w ∷ behind) some linked = record {
-  behind = behind;
-  is = ap (λ (x : ℕ). x ∷ behind) (sym linked.0);
-  good = subst (λ (x : ℕ). is_of_bucket (stock_of image) b x ≡ true) (sym linked.0) linked.1;
-  linked = subst (λ (x : ℕ). Linked (stock_of image) b ((stock_of image).follow x) behind) (sym linked.0) linked.2;
+next-of image b word (w ∷ suffix) some linked = record {
+  suffix = suffix;
+  is = ap (λ (x : ℕ). x ∷ suffix) (sym linked.0);
+  good = subst (λ (x : ℕ). is_of_bucket (store_of image) b x ≡ true) (sym linked.0) linked.1;
+  linked = subst (λ (x : ℕ). Linked (store_of image) b ((store_of image).chain_next x) suffix) (sym linked.0) linked.2;
 }
 
 -- nothing is linked from the word 0
-none-next : (image : Image) (b word : ℕ) (rest : List ℕ) → word ≡ 0 → Linked (stock_of image) b word rest → rest ≡ []
+none-next : (image : Image) (b word : ℕ) (rest : List ℕ) → word ≡ 0 → Linked (store_of image) b word rest → rest ≡ []
 none-next image b word [] zero linked = refl
-none-next image b word (w ∷ behind) zero linked =
-    absurd (zero-nothing image b (subst (λ (x : ℕ). is_of_bucket (stock_of image) b x ≡ true) (sym linked.0 ∙ zero) linked.1))
+none-next image b word (w ∷ suffix) zero linked =
+    absurd (zero-nothing image b (subst (λ (x : ℕ). is_of_bucket (store_of image) b x ≡ true) (sym linked.0 ∙ zero) linked.1))
 
 -- the words up to one before are those that end with it
 ends : (passed : List ℕ) (before : Option ℕ) (rest reached : List ℕ) (w : ℕ) → EndsWith passed before → reached ≡ passed ++ w ∷ rest
-    → (front : List ℕ) × (StandsBehind reached w before front rest × (up_to front before ≡ passed))
+    → (prefix : List ℕ) × (StandsBehind reached w before prefix rest × (up_to prefix before ≡ passed))
 ends passed None rest reached w last all = ([], ((refl, all ∙ ap (λ (l : List ℕ). l ++ w ∷ rest) last), sym last))
 ends passed (Some before) rest reached w last all =
     (last.0, (all ∙ ap (λ (l : List ℕ). l ++ w ∷ rest) last.1 ∙ append_assoc last.0 (before ∷ []) (w ∷ rest), sym last.1))
@@ -64,14 +64,14 @@ module _ (image : Image) (key : List ℕ) (is_child : Bool) where
   b = bucket_of_key key
 
   -- at the front of the chain nothing is passed
-  pub way-begun : (word : ℕ) → CanBeSearched key image → word ≡ (stock_of image).table (bucket_of_key key) → IsOnTheWay key is_child word None 131073 image
-  way-begun word can front = record {
+  pub way-begun : (word : ℕ) → CanBeSearched key image → word ≡ (store_of image).table (bucket_of_key key) → IsOnTheWay key is_child word None 131073 image
+  way-begun word can prefix = record {
     passed = [];
     rest = chained_for image key;
     all = refl;
     last = refl;
     others = λ w among named. absurd (never among);
-    linked = subst (λ (x : ℕ). Linked (stock_of image) (bucket_of_key key) x (chained_for image key)) (sym front) can.whole.linked;
+    linked = subst (λ (x : ℕ). Linked (store_of image) (bucket_of_key key) x (chained_for image key)) (sym prefix) can.whole.linked;
     few = omega (arith, can.few);
   } where
     never : false ≡ true → ⊥
@@ -83,65 +83,65 @@ module _ (image : Image) (key : List ℕ) (is_child : Bool) where
     way-left none = let few = way.few in omega (arith, none, few)
 
     -- at the word 0 all is passed
-    pub way-ended : word ≡ 0 → NoneHasName (chained_for image key) key is_child image
+    pub way-ended : word ≡ 0 → NoneHasKey (chained_for image key) key is_child image
     way-ended zero =
         let nothing : way.rest ≡ [] = none-next image (bucket_of_key key) word way.rest zero way.linked in
-        subst (λ (words : List ℕ). NoneHasName words key is_child image) (sym (way.all ∙ ap (λ (l : List ℕ). way.passed ++ l) nothing ∙ append-nil way.passed)) way.others
+        subst (λ (words : List ℕ). NoneHasKey words key is_child image) (sym (way.all ∙ ap (λ (l : List ℕ). way.passed ++ l) nothing ∙ append-nil way.passed)) way.others
 
     module _ (some : word ≢ 0) where
       next : IsNext image (bucket_of_key key) word way.rest
       next = next-of image (bucket_of_key key) word way.rest some way.linked
 
-      all-here : chained_for image key ≡ way.passed ++ word ∷ next.behind
+      all-here : chained_for image key ≡ way.passed ++ word ∷ next.suffix
       all-here = way.all ∙ ap (λ (l : List ℕ). way.passed ++ l) next.is
 
       -- another word names a record that checks and has a key
       pub way-keyed : CanBeSearched key image → IsKeyed word image
       way-keyed can =
-          let shown = shown-of (stock_of image) (bucket_of_key key) word next.good in
+          let shown = shown-of (store_of image) (bucket_of_key key) word next.good in
           record {
-            core = shown.core;
+            fields = shown.fields;
             here = shown.here;
             good = shown.good;
-            key = can.keys word (subst (λ (words : List ℕ). is_among words word ≡ true) (sym all-here) (middle-there way.passed word next.behind));
+            key = can.keys word (subst (λ (words : List ℕ). is_among words word ≡ true) (sym all-here) (middle-there way.passed word next.suffix));
           }
 
       -- it is passed where it has another name
-      pub way-on : (link : ℕ) (fewer : ℕ) → link ≡ (stock_of image).follow word → (HasName (stock_of image) key is_child word → ⊥) → fewer + 1 ≡ left → IsOnTheWay key is_child link (Some word) fewer image
+      pub way-on : (link : ℕ) (fewer : ℕ) → link ≡ (store_of image).chain_next word → (HasKey (store_of image) key is_child word → ⊥) → fewer + 1 ≡ left → IsOnTheWay key is_child link (Some word) fewer image
       way-on link fewer follows other less = record {
         passed = way.passed ++ word ∷ [];
-        rest = next.behind;
-        all = all-here ∙ sym (append_assoc way.passed (word ∷ []) next.behind);
+        rest = next.suffix;
+        all = all-here ∙ sym (append_assoc way.passed (word ∷ []) next.suffix);
         last = (way.passed, refl);
         others = λ w among named. ⊎_elim
             (λ (e : is_among way.passed w ≡ true). way.others w e named)
-            (λ (e : (word == w) ≡ true). other (subst (λ (x : ℕ). HasName (stock_of image) key is_child x) (sym (eqb-true word w e)) named))
+            (λ (e : (word == w) ≡ true). other (subst (λ (x : ℕ). HasKey (store_of image) key is_child x) (sym (eqb-true word w e)) named))
             (or_cases (is_among way.passed w) (word == w) (sym (is_among_more way.passed word w) ∙ among));
-        linked = subst (λ (x : ℕ). Linked (stock_of image) (bucket_of_key key) x next.behind) (sym follows) next.linked;
-        few = let few = way.few in let size : length way.rest ≡ suc (length next.behind) = ap length next.is in omega (arith, few, size, less);
+        linked = subst (λ (x : ℕ). Linked (store_of image) (bucket_of_key key) x next.suffix) (sym follows) next.linked;
+        few = let few = way.few in let size : length way.rest ≡ suc (length next.suffix) = ap length next.is in omega (arith, few, size, less);
       }
 
       -- it is found where it has the name
-      pub way-found : HasName (stock_of image) key is_child word → IsFound key is_child word before image
+      pub way-found : HasKey (store_of image) key is_child word → IsFound key is_child word before image
       way-found named =
-          let place = ends way.passed before next.behind (chained_for image key) word way.last all-here in
+          let place = ends way.passed before next.suffix (chained_for image key) word way.last all-here in
           record {
             named = named;
-            front = place.0;
-            behind = next.behind;
+            prefix = place.0;
+            suffix = next.suffix;
             stands = place.1.0;
-            first = subst (λ (words : List ℕ). NoneHasName words key is_child image) (sym place.1.1) way.others;
+            first = subst (λ (words : List ℕ). NoneHasKey words key is_child image) (sym place.1.1) way.others;
           }
 
   -- what is found can be unlinked
   pub found-linked : (entry : ℕ) (before : Option ℕ) → CanBeSearched key image → IsFound key is_child entry before image → CanBeUnlinked entry before image
   found-linked entry before can found =
-      let core : Core = found.named.core in
-      let hash : (entry_at image entry).hash ≡ hash_of key = ap (λ (c : Core). c.hash) (shown-core image entry found.named.core found.named.here) ∙ found.named.hashed in
+      let fields : RecordFields = found.named.fields in
+      let hash : (entry_at image entry).hash ≡ hash_of key = ap (λ (c : RecordFields). c.hash) (shown-core image entry found.named.fields found.named.here) ∙ found.named.hashed in
       let bucket : bucket_at image entry ≡ bucket_of_key key = ap bucket_of_hash hash in
       record {
-        whole = subst (λ (n : ℕ). IsChain (stock_of image) n (chain (stock_of image) n).reached) (sym bucket) can.whole;
-        front = found.front;
-        behind = found.behind;
-        stands = subst (λ (n : ℕ). StandsBehind (chain (stock_of image) n).reached entry before found.front found.behind) (sym bucket) found.stands;
+        whole = subst (λ (n : ℕ). IsChain (store_of image) n (chain (store_of image) n).reached) (sym bucket) can.whole;
+        prefix = found.prefix;
+        suffix = found.suffix;
+        stands = subst (λ (n : ℕ). StandsBehind (chain (store_of image) n).reached entry before found.prefix found.suffix) (sym bucket) found.stands;
       }

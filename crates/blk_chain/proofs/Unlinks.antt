@@ -8,7 +8,7 @@ use Rattle.blk_image.specs.Bytes.{content, word_at, word_bytes}
 use Rattle.blk_image.specs.Image.{AreBytes, File, Index, Block, Image, byte, bytes_of, length_of, word}
 use Rattle.blk_image.specs.Steps.{Word, applied, word_step, with_word}
 use Rattle.blk_image.specs.Footprint.{SameOutside}
-use Rattle.blk_image.specs.Told.{Told, TellsBytes, GrowsInPart, IsQuiet, Passes, TurnsAt}
+use Rattle.blk_image.specs.Told.{Told, TellsBytes, AppliesPrefix, IsQuiet, Passes, CommitsAt, Commits}
 use Rattle.blk_image.proofs.Runs.{passes_none, passes_weaker, passes_end, some_inj}
 use Rattle.blk_image.proofs.Images.{bytes_of-written, length-after_write, word-after_same}
 use Rattle.blk_image.proofs.Words.{word-beside, word-fits}
@@ -16,30 +16,28 @@ use Rattle.blk_image.proofs.WordSteps.{quiet-word_steps}
 use Rattle.blk_format.specs.Address.{kind_of, file_selector, place, blocks_256}
 use Rattle.blk_format.specs.BlockFiles.{is_among, stands_in}
 use Rattle.blk_format.specs.Records.{entry_in, entry_checks, checks}
-use Rattle.blk_volume.specs.View.{Core, entry_at, stock_of}
+use Rattle.blk_volume.specs.View.{RecordFields, entry_at, store_of}
 use Rattle.blk_volume.specs.Chains.{bucket_of_hash, file_and_block, IsChain}
 use Rattle.blk_format.specs.Claims.{claims_of, has_claim}
 use Rattle.blk_volume.specs.Entries.{key_of}
 use Rattle.blk_laws.proofs.ChainLinks.{later-leaves}
-use Rattle.blk_laws.specs.Moments.{OnlyFollowChanges}
-use Rattle.blk_laws.specs.RecordMoments.{IsRecord}
+use Rattle.blk_volume.specs.ShownChanges.{OnlyChainNextChanges}
+use Rattle.blk_laws.specs.RecordUpdates.{IsRecord}
 use Rattle.blk_laws.proofs.Inside.{record-changes}
 use Rattle.blk_laws.proofs.Records.{follows-written}
 use Rattle.blk_laws.proofs.Nodes.{none-or-one}
 use Rattle.blk_laws.proofs.StillShown.{core-standing, standing-parts}
 use Rattle.blk_laws.proofs.Fronts.{AreSmall, small-take, small-range, entry_checks-front, entry_checks-by}
 use Rattle.blk_laws.proofs.Updates.{entry-seal, entry-here}
-use Rattle.blk_format.proofs.SealedRecords.{length-record, seal_last, moment_before, moments}
-use Rattle.blk_format.proofs.SealedRecords.{record_inside}
+use Rattle.blk_format.proofs.SealedRecords.{length-record, seal_last, moment_before, moments, record_inside}
 use Rattle.blk_disk.proofs.Ranges.{stands_range}
 use Rattle.blk_disk.specs.declared.tables.BlockFiles.{BlockFiles}
 use Rattle.blk_disk.specs.Tables.{Agrees, stands_among}
-use Rattle.blk_format.specs.Sealed.{RecordChecks, AreChanges, IsMoment, IsUpdated, new_seal, placed, record_at, record_range, record_size, seal_place, sealed_steps, size_by_kind, seal_by_kind, update_steps, update_words}
+use Rattle.blk_format.specs.Sealed.{RecordChecks, AreChanges, IsMidUpdate, IsUpdated, new_seal, placed, record_at, record_range, record_size, seal_place, sealed_steps, size_by_kind, seal_by_kind, update_steps, update_words}
 use Rattle.blk_format.proofs.SealedFields.{record_word, updated_is_new}
 use Rattle.blk_chain.specs.Linking.{bucket_at}
 use Rattle.blk_chain.specs.Unlinking.{CanBeUnlinked, first_claim, IsApart, NamesStay, IsStillLinked, IsUnlinked, IsUnlinking, KeepsRecords, next_of}
-use Rattle.blk_chain.specs.Turning.{Turns}
-use Rattle.blk_chain.proofs.Turns.{turns_none, turns_part}
+use Rattle.blk_image.proofs.Commits.{commits_none, commits_prefix}
 use Rattle.blk_chain.proofs.Names.{IsShownOf, shown-of, shown-core, shown-kind, shown-follow, same-core, same-follow}
 use Rattle.blk_chain.proofs.Words.{linked-good}
 use Rattle.blk_chain.proofs.Keys.{first_word, first-clear, first-record, first-moment}
@@ -67,120 +65,120 @@ module _ (from : Image) (bytes : AreBytes from) (entry before : ℕ) (can : CanB
   b = bucket_at from entry
 
   words : List ℕ
-  words = can.front ++ before ∷ entry ∷ can.behind
+  words = can.prefix ++ before ∷ entry ∷ can.suffix
 
-  chain-was : IsChain (stock_of from) (bucket_at from entry) (can.front ++ before ∷ entry ∷ can.behind)
-  chain-was = subst (λ (ws : List ℕ). IsChain (stock_of from) (bucket_at from entry) ws) can.stands can.whole
+  chain-was : IsChain (store_of from) (bucket_at from entry) (can.prefix ++ before ∷ entry ∷ can.suffix)
+  chain-was = subst (λ (ws : List ℕ). IsChain (store_of from) (bucket_at from entry) ws) can.stands can.whole
 
-  good : (w : ℕ) → is_among (can.front ++ before ∷ entry ∷ can.behind) w ≡ true → IsShownOf (stock_of from) (bucket_at from entry) w
-  good w among = shown-of (stock_of from) (bucket_at from entry) w (linked-good (stock_of from) (bucket_at from entry) ((stock_of from).table (bucket_at from entry)) (can.front ++ before ∷ entry ∷ can.behind) w chain-was.linked among)
+  good : (w : ℕ) → is_among (can.prefix ++ before ∷ entry ∷ can.suffix) w ≡ true → IsShownOf (store_of from) (bucket_at from entry) w
+  good w among = shown-of (store_of from) (bucket_at from entry) w (linked-good (store_of from) (bucket_at from entry) ((store_of from).table (bucket_at from entry)) (can.prefix ++ before ∷ entry ∷ can.suffix) w chain-was.linked among)
 
-  pub shown-before : IsShownOf (stock_of from) (bucket_at from entry) before
-  shown-before = good before (middle-there can.front before (entry ∷ can.behind))
+  pub shown-before : IsShownOf (store_of from) (bucket_at from entry) before
+  shown-before = good before (middle-there can.prefix before (entry ∷ can.suffix))
 
-  pub shown-entry : IsShownOf (stock_of from) (bucket_at from entry) entry
-  shown-entry = good entry (behind-there can.front before entry can.behind)
+  pub shown-entry : IsShownOf (store_of from) (bucket_at from entry) entry
+  shown-entry = good entry (behind-there can.prefix before entry can.suffix)
 
-  pub is-record : IsRecord from before shown-before.core
+  pub is-record : IsRecord from before shown-before.fields
   is-record = record { here = shown-before.here; good = shown-before.good; bytes = bytes }
 
   next-small : next_of from entry < 2 ^ 32
   unfolding entry_in
   next-small = word-fits (byte from (Block (file_selector entry))) (bytes (Block (file_selector entry))) (place entry + 4)
 
-  module _ (image : Image) (only : OnlyFollowChanges before from image) (outside : SameOutside (record_range before) from image) (names : NamesStay from (Some before) image) where
-    records : (w : ℕ) → (stock_of image).entry w ≡ (stock_of from).entry w
+  module _ (image : Image) (only : OnlyChainNextChanges before from image) (outside : SameOutside (record_range before) from image) (names : NamesStay from (Some before) image) where
+    records : (w : ℕ) → (store_of image).entry w ≡ (store_of from).entry w
     records w = sym (only.entry w)
 
-    here-now : (stock_of image).entry before ≡ Some shown-before.core
+    here-now : (store_of image).entry before ≡ Some shown-before.fields
     here-now = records before ∙ shown-before.here
 
     standing : stands_in from before ≡ true
-    standing = (standing-parts from blocks_256 before (core-standing from before shown-before.core shown-before.here)).0
+    standing = (standing-parts from blocks_256 before (core-standing from before shown-before.fields shown-before.here)).0
 
     keeps : KeepsRecords from (Some before) (record_range before) image
     keeps = record {
       list = only.rest.list;
       records = records;
       names = names;
-      well_formed = (record-changes from image before standing (inr (shown-kind from before shown-before.core shown-before.here)) outside).well_formed;
+      well_formed = (record-changes from image before standing (inr (shown-kind from before shown-before.fields shown-before.here)) outside).well_formed;
       outside = outside;
     }
 
     -- where the link of the record before is as it was, so is that of each record
-    still-linked : (stock_of image).follow before ≡ (stock_of from).follow before → IsStillLinked from entry (Some before) image
+    still-linked : (store_of image).chain_next before ≡ (store_of from).chain_next before → IsStillLinked from entry (Some before) image
     still-linked same = record {
       keeps = keeps;
-      chains = λ bucket. chain-same (stock_of from) (stock_of image) bucket records (λ w of. follow-same w (shown-of (stock_of from) bucket w of)) (sym (only.rest.table bucket));
+      chains = λ bucket. chain-same (store_of from) (store_of image) bucket records (λ w of. follow-same w (shown-of (store_of from) bucket w of)) (sym (only.rest.table bucket));
     } where
-      follow-same : {bucket : ℕ} (w : ℕ) → IsShownOf (stock_of from) bucket w → (stock_of image).follow w ≡ (stock_of from).follow w
+      follow-same : {bucket : ℕ} (w : ℕ) → IsShownOf (store_of from) bucket w → (store_of image).chain_next w ≡ (store_of from).chain_next w
       follow-same w shown = ⊎_elim
           (λ (e : file_and_block w ≡ file_and_block before).
-          same-follow image w before shown.core shown-before.core (records w ∙ shown.here) here-now e ∙ same ∙ sym (same-follow from w before shown.core shown-before.core shown.here shown-before.here e))
-          (λ (e : file_and_block w ≢ file_and_block before). sym (only.follow w e))
+          same-follow image w before shown.fields shown-before.fields (records w ∙ shown.here) here-now e ∙ same ∙ sym (same-follow from w before shown.fields shown-before.fields shown.here shown-before.here e))
+          (λ (e : file_and_block w ≢ file_and_block before). sym (only.chain_next w e))
           (cases_eq (file_and_block w) (file_and_block before))
 
     -- where it is the next of the record behind, that one is unlinked
-    now-unlinked : (stock_of image).follow before ≡ next_of from entry → IsUnlinked from entry (Some before) image
+    now-unlinked : (store_of image).chain_next before ≡ next_of from entry → IsUnlinked from entry (Some before) image
     now-unlinked link = record {
       keeps = keeps;
-      chain_now = λ front behind stands. chain-without front behind (subst (λ (ws : List ℕ). IsChain (stock_of from) (bucket_at from entry) ws) stands can.whole);
-      others = λ other apart. chain-same (stock_of from) (stock_of image) other records (λ w of. elsewhere other apart w (shown-of (stock_of from) other w of)) (sym (only.rest.table other));
-      links = record { link = link; table = λ bucket. sym (only.rest.table bucket); named = λ w. sym (only.rest.named w); follow = λ w apart. sym (only.follow w apart) };
+      chain_now = λ prefix suffix stands. chain-without prefix suffix (subst (λ (ws : List ℕ). IsChain (store_of from) (bucket_at from entry) ws) stands can.whole);
+      others = λ other apart. chain-same (store_of from) (store_of image) other records (λ w of. elsewhere other apart w (shown-of (store_of from) other w of)) (sym (only.rest.table other));
+      links = record { link = link; table = λ bucket. sym (only.rest.table bucket); named = λ w. sym (only.rest.node_fields w); chain_next = λ w apart. sym (only.chain_next w apart) };
     } where
-      elsewhere : (other : ℕ) → (bucket_at from entry == other) ≡ false → (w : ℕ) → IsShownOf (stock_of from) other w → (stock_of image).follow w ≡ (stock_of from).follow w
-      elsewhere other apart w shown = sym (only.follow w (λ e.
-          let core : shown.core ≡ shown-before.core = same-core from w before shown.core shown-before.core shown.here shown-before.here e in
-          let bucket : bucket_at from entry ≡ other = sym shown-before.in_bucket ∙ ap (λ (c : Core). bucket_of_hash c.hash) (sym core) ∙ shown.in_bucket in
+      elsewhere : (other : ℕ) → (bucket_at from entry == other) ≡ false → (w : ℕ) → IsShownOf (store_of from) other w → (store_of image).chain_next w ≡ (store_of from).chain_next w
+      elsewhere other apart w shown = sym (only.chain_next w (λ e.
+          let fields : shown.fields ≡ shown-before.fields = same-core from w before shown.fields shown-before.fields shown.here shown-before.here e in
+          let bucket : bucket_at from entry ≡ other = sym shown-before.in_bucket ∙ ap (λ (c : RecordFields). bucket_of_hash c.hash) (sym fields) ∙ shown.in_bucket in
           let no : true ≡ false = sym (eq-eqb (bucket_at from entry) other bucket) ∙ apart in cc))
 
-      chain-without : (front behind : List ℕ) → IsChain (stock_of from) (bucket_at from entry) (front ++ before ∷ entry ∷ behind) → IsChain (stock_of image) (bucket_at from entry) (front ++ before ∷ behind)
-      chain-without front behind was =
-          later-leaves (stock_of from) (stock_of image) (bucket_at from entry) before entry front behind
-          (λ x among. ap (λ (o : Option Core). option_map_or (λ core. core.checks && (bucket_of_hash core.hash == bucket_at from entry)) o false) (records x))
-          (λ x among. sym (only.follow x (front-apart front before (entry ∷ behind) was.once x among)))
-          (λ x among. sym (only.follow x (rest-apart front before (entry ∷ behind) was.once x (or_right (entry == x) (is_among behind x) among))))
-          (link ∙ sym (shown-follow from entry shown-entry.core shown-entry.here))
+      chain-without : (prefix suffix : List ℕ) → IsChain (store_of from) (bucket_at from entry) (prefix ++ before ∷ entry ∷ suffix) → IsChain (store_of image) (bucket_at from entry) (prefix ++ before ∷ suffix)
+      chain-without prefix suffix was =
+          later-leaves (store_of from) (store_of image) (bucket_at from entry) before entry prefix suffix
+          (λ x among. ap (λ (o : Option RecordFields). option_map_or (λ fields. fields.checks && (bucket_of_hash fields.hash == bucket_at from entry)) o false) (records x))
+          (λ x among. sym (only.chain_next x (front-apart prefix before (entry ∷ suffix) was.once x among)))
+          (λ x among. sym (only.chain_next x (rest-apart prefix before (entry ∷ suffix) was.once x (or_right (entry == x) (is_among suffix x) among))))
+          (link ∙ sym (shown-follow from entry shown-entry.fields shown-entry.here))
           (sym (only.rest.table (bucket_at from entry)))
           was
 
-  module _ (image : Image) (moment : IsMoment from before ((4, next_of from entry) ∷ []) image) where
-    written : OnlyFollowChanges before from image × ((stock_of image).follow before ≡ (if moment.made == 0 then (stock_of from).follow before else next_of from entry))
-    written = follows-written from image before (next_of from entry) shown-before.core is-record next-small moment
+  module _ (image : Image) (moment : IsMidUpdate from before ((4, next_of from entry) ∷ []) image) where
+    written : OnlyChainNextChanges before from image × ((store_of image).chain_next before ≡ (if moment.made == 0 then (store_of from).chain_next before else next_of from entry))
+    written = follows-written from image before (next_of from entry) shown-before.fields is-record next-small moment
 
     -- the update as one of the first block alone
-    of-first : OnlyFollowChanges (first_word before) from image
+    of-first : OnlyChainNextChanges (first_word before) from image
     of-first =
-        let kind : kind_of before ≡ 2 = shown-kind from before shown-before.core shown-before.here in
-        (follows-written from image (first_word before) (next_of from entry) shown-before.core (record { here = first-record from before shown-before.core shown-before.here; good = shown-before.good; bytes = bytes }) next-small
+        let kind : kind_of before ≡ 2 = shown-kind from before shown-before.fields shown-before.here in
+        (follows-written from image (first_word before) (next_of from entry) shown-before.fields (record { here = first-record from before shown-before.fields shown-before.here; good = shown-before.good; bytes = bytes }) next-small
         (first-moment from image before (next_of from entry) kind moment)).0
 
-    key-same : (w : ℕ) (apart : IsApart before (stock_of from) w) → key_of (stock_of from) w apart.core ≡ key_of (stock_of image) w apart.core
+    key-same : (w : ℕ) (apart : IsApart before (store_of from) w) → key_of (store_of from) w apart.fields ≡ key_of (store_of image) w apart.fields
     unfolding key_of
     key-same w apart = ⊎_elim
-        (λ (e : nat_le apart.core.key_len 927 ≡ true).
-        let place : (stock_of from).key_place w apart.core.key_len ≡ (stock_of image).key_place w apart.core.key_len =
-        ⊎_elim (λ (s : w ≡ before). written.0.rest.key_place w apart.core (inr s) apart.here apart.lengths e)
-        (λ (s : has_claim (claims_of w) (first_claim before) ≡ false). of-first.rest.key_place w apart.core (inl (first-clear before w s)) apart.here apart.lengths e) apart.record_apart in
-        rw e (ap (λ (l : List ℕ). if apart.core.long_key == 0 then Some l else None) place))
-        (λ (e : nat_le apart.core.key_len 927 ≡ false).
-        rw e (ap (λ (o : Option (List ℕ)). option_map (take apart.core.key_len) o) (of-first.rest.stored (apart.core.key_len + 1) apart.core.long_key (first-clear before apart.core.long_key (apart.key_apart e)))))
-        (cases_Bool (nat_le apart.core.key_len 927))
+        (λ (e : nat_le apart.fields.key_len 927 ≡ true).
+        let place : (store_of from).key_place w apart.fields.key_len ≡ (store_of image).key_place w apart.fields.key_len =
+        ⊎_elim (λ (s : w ≡ before). written.0.rest.key_place w apart.fields (inr s) apart.here apart.lengths e)
+        (λ (s : has_claim (claims_of w) (first_claim before) ≡ false). of-first.rest.key_place w apart.fields (inl (first-clear before w s)) apart.here apart.lengths e) apart.record_apart in
+        rw e (ap (λ (l : List ℕ). if apart.fields.long_key == 0 then Some l else None) place))
+        (λ (e : nat_le apart.fields.key_len 927 ≡ false).
+        rw e (ap (λ (o : Option (List ℕ)). option_map (take apart.fields.key_len) o) (of-first.rest.stored (apart.fields.key_len + 1) apart.fields.long_key (first-clear before apart.fields.long_key (apart.key_apart e)))))
+        (cases_Bool (nat_le apart.fields.key_len 927))
 
     names-stay : NamesStay from (Some before) image
     names-stay w name is_child apart = (
       λ named. record {
-        core = named.core;
+        fields = named.fields;
         here = sym (written.0.entry w) ∙ named.here;
         hashed = named.hashed;
-        key = subst (λ (c : Core). key_of (stock_of image) w c ≡ key_of (stock_of from) w c) (some_inj (sym apart.here ∙ named.here)) (sym (key-same w apart)) ∙ named.key;
+        key = subst (λ (c : RecordFields). key_of (store_of image) w c ≡ key_of (store_of from) w c) (some_inj (sym apart.here ∙ named.here)) (sym (key-same w apart)) ∙ named.key;
         flag = named.flag;
       },
       λ named. record {
-        core = named.core;
+        fields = named.fields;
         here = written.0.entry w ∙ named.here;
         hashed = named.hashed;
-        key = subst (λ (c : Core). key_of (stock_of from) w c ≡ key_of (stock_of image) w c) (some_inj (sym apart.here ∙ written.0.entry w ∙ named.here)) (key-same w apart) ∙ named.key;
+        key = subst (λ (c : RecordFields). key_of (store_of from) w c ≡ key_of (store_of image) w c) (some_inj (sym apart.here ∙ written.0.entry w ∙ named.here)) (key-same w apart) ∙ named.key;
         flag = named.flag;
       },
     )
@@ -188,37 +186,37 @@ module _ (from : Image) (bytes : AreBytes from) (entry before : ℕ) (can : CanB
     -- at each moment of the update the chains are as they were, or the record is unlinked
     pub unlinking_at : IsUnlinking from entry (Some before) image
     unlinking_at = ⊎_elim
-        (λ (e : moment.made ≡ 0). inl (still-linked image written.0 moment.outside names-stay (subst (λ (m : ℕ). (stock_of image).follow before ≡ (if m == 0 then (stock_of from).follow before else next_of from entry)) e written.1)))
-        (λ (e : moment.made ≡ 1). inr (now-unlinked image written.0 moment.outside names-stay (subst (λ (m : ℕ). (stock_of image).follow before ≡ (if m == 0 then (stock_of from).follow before else next_of from entry)) e written.1)))
+        (λ (e : moment.made ≡ 0). inl (still-linked image written.0 moment.outside names-stay (subst (λ (m : ℕ). (store_of image).chain_next before ≡ (if m == 0 then (store_of from).chain_next before else next_of from entry)) e written.1)))
+        (λ (e : moment.made ≡ 1). inr (now-unlinked image written.0 moment.outside names-stay (subst (λ (m : ℕ). (store_of image).chain_next before ≡ (if m == 0 then (store_of from).chain_next before else next_of from entry)) e written.1)))
         (none-or-one moment.made (let h : moment.made ≤ 1 = moment.within in h))
 
     -- after it the record is
     pub unlinked_at : IsUpdated from before ((4, next_of from entry) ∷ []) image → IsUnlinked from entry (Some before) image
     unfolding entry_in size_by_kind
     unlinked_at done =
-        let kind : kind_of before ≡ blocks_256 = shown-kind from before shown-before.core shown-before.here in
+        let kind : kind_of before ≡ blocks_256 = shown-kind from before shown-before.fields shown-before.here in
         let new : word_at (content (record_at image before)) 4 ≡ next_of from entry =
         updated_is_new from image before ((4, next_of from entry) ∷ []) (next_changes before (next_of from entry) kind) done 0 (4, next_of from entry) (omega arith) (All-cons (λ c. c.1 < 2 ^ 32) (4, next_of from entry) [] next-small (All-nil (λ c. c.1 < 2 ^ 32))) in
         let inside : 4 + 4 ≤ record_size before = rw kind (omega arith) in
         let there : (entry_at image before).next ≡ word_at (content (record_at image before)) 4 = sym (record_word image before 4 inside) in
-        now-unlinked image written.0 moment.outside names-stay (shown-follow image before shown-before.core (sym (written.0.entry before) ∙ shown-before.here) ∙ there ∙ new)
+        now-unlinked image written.0 moment.outside names-stay (shown-follow image before shown-before.fields (sym (written.0.entry before) ∙ shown-before.here) ∙ there ∙ new)
 
     -- the link of the record before is the word at its place
-    pub link-is : (stock_of image).follow before ≡ word image (Block (file_selector before)) (place before + 4)
+    pub link-is : (store_of image).chain_next before ≡ word image (Block (file_selector before)) (place before + 4)
     unfolding entry_in
-    link-is = shown-follow image before shown-before.core (sym (written.0.entry before) ∙ shown-before.here)
+    link-is = shown-follow image before shown-before.fields (sym (written.0.entry before) ∙ shown-before.here)
 
-    pub still-at : (stock_of image).follow before ≡ (stock_of from).follow before → IsStillLinked from entry (Some before) image
+    pub still-at : (store_of image).chain_next before ≡ (store_of from).chain_next before → IsStillLinked from entry (Some before) image
     still-at same = still-linked image written.0 moment.outside names-stay same
 
-    pub unlinked-by : (stock_of image).follow before ≡ next_of from entry → IsUnlinked from entry (Some before) image
+    pub unlinked-by : (store_of image).chain_next before ≡ next_of from entry → IsUnlinked from entry (Some before) image
     unlinked-by link = now-unlinked image written.0 moment.outside names-stay link
 
   kind-before : kind_of before ≡ blocks_256
-  kind-before = shown-kind from before shown-before.core shown-before.here
+  kind-before = shown-kind from before shown-before.fields shown-before.here
 
   -- the record is unlinked from the write of the next on
-  pub turns-with_next : RecordChecks before from → place before + record_size before ≤ length_of from (Block (file_selector before)) → TurnsAt 2 (IsStillLinked from entry (Some before)) (IsUnlinked from entry (Some before)) from (sealed_steps from before ((4, next_of from entry) ∷ []))
+  pub turns-with_next : RecordChecks before from → place before + record_size before ≤ length_of from (Block (file_selector before)) → CommitsAt 2 (IsStillLinked from entry (Some before)) (IsUnlinked from entry (Some before)) from (sealed_steps from before ((4, next_of from entry) ∷ []))
   unfolding update_steps word_step size_by_kind seal_by_kind
   turns-with_next checks fits =
       let f : File = Block (file_selector before) in
@@ -231,9 +229,9 @@ module _ (from : Image) (bytes : AreBytes from) (entry before : ℕ) (can : CanB
       let at_seal : seal_place before ≡ 92 = entry-seal before kind-before in
       let size : record_size before ≡ 96 = rw kind-before refl in
       let m = moments before from ((4, next_of from entry) ∷ []) fits checks (All-cons (λ c. c.0 + 4 ≤ seal_place before) (4, next_of from entry) [] (omega (arith, at_seal)) (All-nil (λ c. c.0 + 4 ≤ seal_place before))) in
-      let m1 : IsMoment from before ((4, next_of from entry) ∷ []) i1 = m.1.0 in
-      let m2 : IsMoment from before ((4, next_of from entry) ∷ []) i2 = m.1.1.0 in
-      let m3 : IsMoment from before ((4, next_of from entry) ∷ []) i3 = m.1.1.1 in
+      let m1 : IsMidUpdate from before ((4, next_of from entry) ∷ []) i1 = m.1.0 in
+      let m2 : IsMidUpdate from before ((4, next_of from entry) ∷ []) i2 = m.1.1.0 in
+      let m3 : IsMidUpdate from before ((4, next_of from entry) ∷ []) i3 = m.1.1.1 in
       let long : length_of i1 f ≡ length_of from f = length-after_write from f f (p + seal_place before) (word_bytes 0) in
       let w1 : word i1 f (p + 4) ≡ word from f (p + 4) = word-beside_write from f (p + seal_place before) 0 (p + 4) (inl (omega (arith, at_seal))) in
       let w2 : word i2 f (p + 4) ≡ x = word-after_same i1 f (p + 4) x next-small (omega (arith, fits, size, long)) in
@@ -260,7 +258,7 @@ record_checks image w bytes kind good =
 pub before_checks : (from : Image) (bytes : AreBytes from) (entry before : ℕ) → CanBeUnlinked entry (Some before) from → RecordChecks before from
 before_checks from bytes entry before can =
     let shown = shown-before from bytes entry before can in
-    record_checks from before bytes (shown-kind from before shown.core shown.here) (ap (λ (c : Core). c.checks) (shown-core from before shown.core shown.here) ∙ shown.good)
+    record_checks from before bytes (shown-kind from before shown.fields shown.here) (ap (λ (c : RecordFields). c.checks) (shown-core from before shown.fields shown.here) ∙ shown.good)
 
 -- the next that was read
 pub next_read : (image : Image) (entry next : ℕ) → next ≡ word image (Block (file_selector entry)) (place entry + 4) → next ≡ next_of image entry
@@ -288,30 +286,30 @@ module _ (a b : Told) (tells : TellsBytes a) (entry before : ℕ) (can : ForSome
       (λ image here. subst (λ (i : Image). IsUnlinking from entry (Some before) i) (some_inj (sym there ∙ here))
       (unlinking_at from (tells from there) entry before (can from there) from (moment_before before from (with_next (next_of from entry)) (before_checks from (tells from there) entry before (can from there)))))
 
-  pub turns_yet : b ≡ a → ForSome a.files (λ from. Turns 2 a b (IsStillLinked from entry (Some before)) (IsUnlinked from entry (Some before)))
+  pub turns_yet : b ≡ a → ForSome a.files (λ from. Commits 2 a b (IsStillLinked from entry (Some before)) (IsUnlinked from entry (Some before)))
   turns_yet stays from there =
       let checks : RecordChecks before from = before_checks from (tells from there) entry before (can from there) in
-      turns_none 1 a b from (IsStillLinked from entry (Some before)) (IsUnlinked from entry (Some before)) there stays
+      commits_none 1 a b from (IsStillLinked from entry (Some before)) (IsUnlinked from entry (Some before)) there stays
       (still-at from (tells from there) entry before (can from there) from (moment_before before from (with_next (next_of from entry)) checks) refl)
 
-  pub turns_then : (files : BlockFiles) → ForSome a.files (Agrees files) → stands_among files before ≡ true → ForSome a.files (λ from. GrowsInPart a b (sealed_steps from before (with_next (next_of from entry))))
-      → ForSome a.files (λ from. Turns 2 a b (IsStillLinked from entry (Some before)) (IsUnlinked from entry (Some before)))
+  pub turns_then : (files : BlockFiles) → ForSome a.files (Agrees files) → stands_among files before ≡ true → ForSome a.files (λ from. AppliesPrefix a b (sealed_steps from before (with_next (next_of from entry))))
+      → ForSome a.files (λ from. Commits 2 a b (IsStillLinked from entry (Some before)) (IsUnlinked from entry (Some before)))
   turns_then files agrees stands part from there =
       let checks : RecordChecks before from = before_checks from (tells from there) entry before (can from there) in
       let shown = shown-before from (tells from there) entry before (can from there) in
-      let inside = stands_range files from before 0 (record_size before) (agrees from there) stands (omega (arith, record_inside before (inr (shown-kind from before shown.core shown.here)))) in
-      turns_part 2 a b from (IsStillLinked from entry (Some before)) (IsUnlinked from entry (Some before)) (sealed_steps from before (with_next (next_of from entry))) there
+      let inside = stands_range files from before 0 (record_size before) (agrees from there) stands (omega (arith, record_inside before (inr (shown-kind from before shown.fields shown.here)))) in
+      commits_prefix 2 a b from (IsStillLinked from entry (Some before)) (IsUnlinked from entry (Some before)) (sealed_steps from before (with_next (next_of from entry))) there
       (quiet-sealed from before (with_next (next_of from entry)))
       (turns-with_next from (tells from there) entry before (can from there) checks (omega (arith, inside))) (part from there)
 
-  pub unlinking_stops : ForSome a.files (λ from. Passes a b (IsMoment from before (with_next (next_of from entry)))) → ForSome a.files (λ from. Passes a b (IsUnlinking from entry (Some before)))
+  pub unlinking_stops : ForSome a.files (λ from. Passes a b (IsMidUpdate from before (with_next (next_of from entry)))) → ForSome a.files (λ from. Passes a b (IsUnlinking from entry (Some before)))
   unlinking_stops stops from there =
       passes_weaker (stops from there) (λ image moment. unlinking_at from (tells from there) entry before (can from there) image moment) (λ image moment. unlinking_at from (tells from there) entry before (can from there) image moment)
 
-  pub unlinked_then : ForSome a.files (λ from. Passes a b (IsMoment from before (with_next (next_of from entry)))) → ForSome a.files (λ from. ForSome b.files (IsUpdated from before (with_next (next_of from entry))))
+  pub unlinked_then : ForSome a.files (λ from. Passes a b (IsMidUpdate from before (with_next (next_of from entry)))) → ForSome a.files (λ from. ForSome b.files (IsUpdated from before (with_next (next_of from entry))))
       → ForSome a.files (λ from. ForSome b.files (IsUnlinked from entry (Some before)))
   unlinked_then stops updated from there image now = unlinked_at from (tells from there) entry before (can from there) image (passes_end (stops from there) image now) (updated from there image now)
 
   -- no length changes
-  pub still_complete : ForSome a.files (λ image. length_of image Index ≡ 262512) → ForSome a.files (λ from. Passes a b (IsMoment from before (with_next (next_of from entry)))) → ForSome a.files (λ from. ForSome b.files (λ image. length_of image Index ≡ 262512))
+  pub still_complete : ForSome a.files (λ image. length_of image Index ≡ 262512) → ForSome a.files (λ from. Passes a b (IsMidUpdate from before (with_next (next_of from entry)))) → ForSome a.files (λ from. ForSome b.files (λ image. length_of image Index ≡ 262512))
   still_complete complete stops from there image now = let moment = passes_end (stops from there) image now in moment.outside.lengths Index refl ∙ complete from there

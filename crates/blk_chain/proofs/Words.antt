@@ -3,14 +3,14 @@ use Rattle.std.proofs.Common.{◌≡◌, ⊎_elim, ℕ, true, List, [], ◌∷�
 use Rattle.std.specs.Prelude.{◌==◌}
 use Rattle.std.proofs.lemmas.Bool.{or_left, or_right, or_cases, eq-eqb, eqb-true}
 use Rattle.blk_format.specs.BlockFiles.{is_among}
-use Rattle.blk_volume.specs.View.{Stock}
+use Rattle.blk_volume.specs.View.{StoreView}
 use Rattle.blk_volume.specs.Chains.{file_and_block, is_of_bucket, Linked}
 
 -- each word of a chain names a record of the bucket
-pub linked-good : (stock : Stock) (b w : ℕ) (words : List ℕ) (x : ℕ) → Linked stock b w words → is_among words x ≡ true → is_of_bucket stock b x ≡ true
-linked-good stock b w [] x linked among = cc
-linked-good stock b w (v ∷ words) x linked among =
-    ⊎_elim (λ (e : (v == x) ≡ true). subst (λ (z : ℕ). is_of_bucket stock b z ≡ true) (eqb-true v x e) linked.1) (λ (e : is_among words x ≡ true). linked-good stock b (stock.follow v) words x linked.2 e) (or_cases (v == x) (is_among words x) among)
+pub linked-good : (store : StoreView) (b w : ℕ) (words : List ℕ) (x : ℕ) → Linked store b w words → is_among words x ≡ true → is_of_bucket store b x ≡ true
+linked-good store b w [] x linked among = cc
+linked-good store b w (v ∷ words) x linked among =
+    ⊎_elim (λ (e : (v == x) ≡ true). subst (λ (z : ℕ). is_of_bucket store b z ≡ true) (eqb-true v x e) linked.1) (λ (e : is_among words x ≡ true). linked-good store b (store.chain_next v) words x linked.2 e) (or_cases (v == x) (is_among words x) among)
 
 -- a word of a list that has this first block
 pub record WithFirstBlock (words : List ℕ) (block : ℕ) : Type 0 where

@@ -13,7 +13,7 @@ use Rattle.blk_io.specs.declared.fault.Damage.{Damage}
 use Rattle.blk_io.specs.declared.fault.Fault.{Fault}
 use Rattle.blk_io.specs.declared.fault.Fault.TheVariants.{Damaged}
 use Rattle.blk_io.specs.Faults.{IsShort}
-use Rattle.blk_volume.specs.View.{Core, stock_of}
+use Rattle.blk_volume.specs.View.{RecordFields, store_of}
 use Rattle.blk_volume.specs.Chains.{bucket_of_hash, chain, Linked}
 use Rattle.blk_disk.specs.declared.tables.BlockFiles.{BlockFiles}
 use Rattle.blk_disk.specs.Tables.{stands_among}
@@ -21,7 +21,7 @@ use Rattle.blk_entry.specs.Keys.{HasKey, IsKeyDamage}
 use Rattle.blk_chain.specs.declared.found.Found.{Found}
 use Rattle.blk_chain.specs.declared.finding.Step.{Step}
 use Rattle.blk_chain.specs.declared.finding.Step.TheVariants.{Here, On}
-use Rattle.blk_chain.specs.Naming.{HasName, IsWhole}
+use Rattle.blk_chain.specs.Naming.{HasKey, IsWhole}
 use Rattle.blk_chain.specs.Unlinking.{StandsBehind}
 
 -- the bucket of a key
@@ -30,7 +30,7 @@ bucket_of_key key = bucket_of_hash (hash_of key)
 
 -- the records of its chain
 abbrev pub chained_for : Image → List ℕ → List ℕ
-chained_for image key = (chain (stock_of image) (bucket_of_key key)).reached
+chained_for image key = (chain (store_of image) (bucket_of_key key)).reached
 
 -- the most records of a chain that is searched
 abbrev pub most_searched : ℕ
@@ -38,30 +38,30 @@ most_searched = 131072
 
 -- the chain of a key's bucket can be searched: it ends at the word 0, it isn't too long, and each of its records has a key
 pub record CanBeSearched (key : List ℕ) (image : Image) : Type 0 where
-  pub whole : IsWhole (stock_of image) (bucket_of_key key)
+  pub whole : IsWhole (store_of image) (bucket_of_key key)
   pub few : length (chained_for image key) ≤ most_searched
   pub keys : (w : ℕ) → is_among (chained_for image key) w ≡ true → HasKey w image
 
 -- none of these words names a record with this key and child flag
-abbrev pub NoneHasName : List ℕ → List ℕ → Bool → Image → Type 0
-NoneHasName words key is_child image = (w : ℕ) → is_among words w ≡ true → HasName (stock_of image) key is_child w → ⊥
+abbrev pub NoneHasKey : List ℕ → List ℕ → Bool → Image → Type 0
+NoneHasKey words key is_child image = (w : ℕ) → is_among words w ≡ true → HasKey (store_of image) key is_child w → ⊥
 
 -- words up to one, if there is one
 abbrev pub up_to : List ℕ → Option ℕ → List ℕ
-up_to front None = front
-up_to front (Some before) = front ++ before ∷ []
+up_to prefix None = prefix
+up_to prefix (Some before) = prefix ++ before ∷ []
 
 -- a record has this key and child flag, it stands in the chain behind this one, and it is the first there that has
 pub record IsFound (key : List ℕ) (is_child : Bool) (entry : ℕ) (before : Option ℕ) (image : Image) : Type 0 where
-  pub named : HasName (stock_of image) key is_child entry
-  pub front : List ℕ
-  pub behind : List ℕ
-  pub stands : StandsBehind (chained_for image key) entry before front behind
-  pub first : NoneHasName (up_to front before) key is_child image
+  pub has_key : HasKey (store_of image) key is_child entry
+  pub prefix : List ℕ
+  pub suffix : List ℕ
+  pub stands : StandsBehind (chained_for image key) entry before prefix suffix
+  pub first : NoneHasKey (up_to prefix before) key is_child image
 
 -- what a search gives: a record that is found, or nothing where no record of the chain has the key and the child flag
 abbrev pub IsAnswer : List ℕ → Bool → Option Found → Image → Type 0
-IsAnswer key is_child None image = NoneHasName (chained_for image key) key is_child image
+IsAnswer key is_child None image = NoneHasKey (chained_for image key) key is_child image
 IsAnswer key is_child (Some found) image = IsFound key is_child found.entry found.before image
 
 -- The damages of a search.
@@ -80,12 +80,12 @@ abbrev pub StandsBefore : BlockFiles → Option ℕ → Type 0
 StandsBefore files before = IfSome before (λ w. names_record files w ≡ true)
 
 -- a word at which a chain goes on names no record that stands
-pub record IsAstray (files : BlockFiles) (bucket : ℕ) (damage : Damage) : Type 0 where
+pub record IsDangling (files : BlockFiles) (bucket : ℕ) (damage : Damage) : Type 0 where
   pub before : Option ℕ
   pub stands : StandsBefore files before
   pub link : IsOfLink bucket before damage
   pub some : damage.found ≢ 0
-  pub astray : names_record files damage.found ≡ false
+  pub dangling : names_record files damage.found ≡ false
 
 -- a chain goes on behind the last record that a search passes
 pub record IsLong (files : BlockFiles) (bucket : ℕ) (damage : Damage) : Type 0 where
@@ -102,7 +102,7 @@ pub record IsWrongRecord (files : BlockFiles) (told : Told) (key_len : ℕ) (dam
 
 -- a damage of a chain that is followed: a word that names no record, a wrong record, or a chain that is too long
 abbrev pub IsChainDamage : BlockFiles → Told → List ℕ → Damage → Type 0
-IsChainDamage files told key damage = IsAstray files (bucket_of_key key) damage ⊎ (IsWrongRecord files told (length key) damage ⊎ IsLong files (bucket_of_key key) damage)
+IsChainDamage files told key damage = IsDangling files (bucket_of_key key) damage ⊎ (IsWrongRecord files told (length key) damage ⊎ IsLong files (bucket_of_key key) damage)
 
 -- a damage of a search: too few bytes of the bucket's word, or one of the chain
 abbrev pub IsSearchDamage : BlockFiles → Told → List ℕ → Damage → Type 0
@@ -112,9 +112,9 @@ IsSearchDamage files told key damage = IsShort told names.Index (place_of_bucket
 
 -- a word names a record that checks and has a key
 pub record IsKeyed (w : ℕ) (image : Image) : Type 0 where
-  pub core : Core
-  pub here : (stock_of image).entry w ≡ Some core
-  pub good : core.checks ≡ true
+  pub fields : RecordFields
+  pub here : (store_of image).entry w ≡ Some fields
+  pub good : fields.checks ≡ true
   pub key : HasKey w image
 
 -- a fault is a damage of the word of a link
@@ -131,13 +131,13 @@ StandsAt files w (On link) = (link.before ≡ Some w) × (names_record files w �
 
 -- the record has the key and the child flag, or it hasn't and the search goes on at its next
 abbrev pub IsStep : List ℕ → Bool → ℕ → Step → Image → Type 0
-IsStep key is_child w (Here entry) image = HasName (stock_of image) key is_child w
-IsStep key is_child w (On link) image = (link.word ≡ (stock_of image).follow w) × (HasName (stock_of image) key is_child w → ⊥)
+IsStep key is_child w (Here entry) image = HasKey (store_of image) key is_child w
+IsStep key is_child w (On link) image = (link.word ≡ (store_of image).chain_next w) × (HasKey (store_of image) key is_child w → ⊥)
 
 -- words end with this one, or there is none
 abbrev pub EndsWith : List ℕ → Option ℕ → Type 0
 EndsWith words None = words ≡ []
-EndsWith words (Some w) = (front : List ℕ) × (words ≡ front ++ w ∷ [])
+EndsWith words (Some w) = (prefix : List ℕ) × (words ≡ prefix ++ w ∷ [])
 
 -- a search has passed some records, none of which is the one, and fewer than so many are linked from its word on
 pub record IsOnTheWay (key : List ℕ) (is_child : Bool) (word : ℕ) (before : Option ℕ) (left : ℕ) (image : Image) : Type 0 where
@@ -145,6 +145,6 @@ pub record IsOnTheWay (key : List ℕ) (is_child : Bool) (word : ℕ) (before : 
   pub rest : List ℕ
   pub all : chained_for image key ≡ passed ++ rest
   pub last : EndsWith passed before
-  pub others : NoneHasName passed key is_child image
-  pub linked : Linked (stock_of image) (bucket_of_key key) word rest
+  pub others : NoneHasKey passed key is_child image
+  pub linked : Linked (store_of image) (bucket_of_key key) word rest
   pub few : length rest < left

@@ -1,5 +1,4 @@
 pub mod Naming
-pub mod Turning
 pub mod Linking
 pub mod Unlinking
 pub mod Finding

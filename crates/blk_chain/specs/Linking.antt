@@ -8,9 +8,9 @@ use Rattle.blk_format.specs.Headers.{place_of_bucket}
 use Rattle.blk_format.specs.BlockFiles.{is_among, IsWellFormed}
 use Rattle.blk_format.specs.Records.{child}
 use Rattle.blk_volume.specs.ListView.{put}
-use Rattle.blk_volume.specs.View.{Core, entry_at, list_of, stock_of}
+use Rattle.blk_volume.specs.View.{RecordFields, entry_at, list_of, store_of}
 use Rattle.blk_volume.specs.Chains.{bucket_of_hash, chain, IsChain}
-use Rattle.blk_chain.specs.Naming.{HasName, IsWhole}
+use Rattle.blk_chain.specs.Naming.{HasKey, IsWhole}
 
 -- the bucket of the record that a word names
 abbrev pub bucket_at : Image → ℕ → ℕ
@@ -18,7 +18,7 @@ bucket_at image w = bucket_of_hash (entry_at image w).hash
 
 -- the records of its chain
 abbrev pub chained_with : Image → ℕ → List ℕ
-chained_with image w = (chain (stock_of image) (bucket_at image w)).reached
+chained_with image w = (chain (store_of image) (bucket_at image w)).reached
 
 -- the place of the bucket's word in the index
 abbrev pub place_of_front : Image → ℕ → ℕ
@@ -26,14 +26,14 @@ place_of_front image w = place_of_bucket (bucket_at image w)
 
 -- a record that checks can be linked: its next is the word of its bucket, its hash is that of its key, the chain is whole, and none of the chain's records has its key and child flag
 pub record CanBeLinked (entry : ℕ) (image : Image) : Type 0 where
-  pub core : Core
-  pub here : (stock_of image).entry entry ≡ Some core
-  pub good : core.checks ≡ true
-  pub next : (stock_of image).follow entry ≡ (stock_of image).table (bucket_at image entry)
+  pub fields : RecordFields
+  pub here : (store_of image).entry entry ≡ Some fields
+  pub good : fields.checks ≡ true
+  pub next : (store_of image).chain_next entry ≡ (store_of image).table (bucket_at image entry)
   pub key : List ℕ
-  pub named : HasName (stock_of image) key (core.flags == child) entry
-  pub whole : IsWhole (stock_of image) (bucket_at image entry)
-  pub fresh : (w : ℕ) → is_among (chained_with image entry) w ≡ true → HasName (stock_of image) key (core.flags == child) w → ⊥
+  pub has_key : HasKey (store_of image) key (fields.flags == child) entry
+  pub whole : IsWhole (store_of image) (bucket_at image entry)
+  pub fresh : (w : ℕ) → is_among (chained_with image entry) w ≡ true → HasKey (store_of image) key (fields.flags == child) w → ⊥
 
 -- the one step: the word of the bucket becomes the record
 abbrev pub link_steps : Image → ℕ → List TrailStep
@@ -42,9 +42,9 @@ link_steps image entry = word_step Index (place_of_front image entry) entry
 -- a record is linked: the word of its bucket is all that has changed, the record is in front of the old chain, and the other chains are as before
 pub record IsLinked (from : Image) (entry : ℕ) (image : Image) : Type 0 where
   pub list : list_of image ≡ list_of from
-  pub stock : stock_of image ≡ record (stock_of from) { table = put (stock_of from).table (bucket_at from entry) entry }
-  pub chain_now : IsChain (stock_of image) (bucket_at from entry) (entry ∷ chained_with from entry)
-  pub others : (other : ℕ) → (bucket_at from entry == other) ≡ false → chain (stock_of image) other ≡ chain (stock_of from) other
+  pub store : store_of image ≡ record (store_of from) { table = put (store_of from).table (bucket_at from entry) entry }
+  pub chain_now : IsChain (store_of image) (bucket_at from entry) (entry ∷ chained_with from entry)
+  pub others : (other : ℕ) → (bucket_at from entry == other) ≡ false → chain (store_of image) other ≡ chain (store_of from) other
   pub well_formed : IsWellFormed from → IsWellFormed image
   pub outside : SameOutside (one_word Index (place_of_front from entry)) from image
 

@@ -3,14 +3,14 @@ use Rattle.std.specs.Prelude.{◌≡◌, ◌≢◌, ◌↔◌, ℕ, List, Bool, 
 use Rattle.std.specs.declared.option.Option.{Option}
 use Rattle.blk_image.specs.Image.{Image}
 use Rattle.blk_format.specs.BlockFiles.{is_among}
-use Rattle.blk_volume.specs.View.{stock_of}
-use Rattle.blk_chain.specs.Naming.{HasName}
+use Rattle.blk_volume.specs.View.{store_of}
+use Rattle.blk_chain.specs.Naming.{HasKey}
 use Rattle.blk_chain.specs.Unlinking.{KeyIsApart}
 use Rattle.blk_chain.specs.Finding.{chained_for}
 
 -- a record is that of a key and a child flag: it has them, and it is in the chain of the key's bucket
 abbrev pub IsRecordOf : Image → List ℕ → Bool → ℕ → Type 0
-IsRecordOf image key is_child w = (is_among (chained_for image key) w ≡ true) × HasName (stock_of image) key is_child w
+IsRecordOf image key is_child w = (is_among (chained_for image key) w ≡ true) × HasKey (store_of image) key is_child w
 
 -- the chains are a map: no two records are those of one key and child flag
 abbrev pub AreMap : Image → Type 0
@@ -18,12 +18,12 @@ AreMap image = (key : List ℕ) (is_child : Bool) (v w : ℕ) → IsRecordOf ima
 
 -- the map has one record more: that of its own key and child flag; each other record is that of what it was, and the chains stay a map
 pub record GainsOne (from : Image) (entry : ℕ) (image : Image) : Type 0 where
-  pub added : (key : List ℕ) (is_child : Bool) → HasName (stock_of from) key is_child entry → IsRecordOf image key is_child entry
+  pub added : (key : List ℕ) (is_child : Bool) → HasKey (store_of from) key is_child entry → IsRecordOf image key is_child entry
   pub others : (key : List ℕ) (is_child : Bool) (w : ℕ) → w ≢ entry → IsRecordOf image key is_child w ↔ IsRecordOf from key is_child w
   pub map : AreMap from → AreMap image
 
 -- the map has one record less: it is that of no key; each other record whose key lies apart from the change is that of what it was, and where all do the chains stay a map
 pub record LosesOne (from : Image) (entry : ℕ) (before : Option ℕ) (image : Image) : Type 0 where
   pub taken : (key : List ℕ) (is_child : Bool) → IsRecordOf image key is_child entry → ⊥
-  pub others : (key : List ℕ) (is_child : Bool) (w : ℕ) → w ≢ entry → KeyIsApart before (stock_of from) w → IsRecordOf image key is_child w ↔ IsRecordOf from key is_child w
-  pub map : ((key : List ℕ) (is_child : Bool) (w : ℕ) → IsRecordOf image key is_child w → KeyIsApart before (stock_of from) w) → AreMap from → AreMap image
+  pub others : (key : List ℕ) (is_child : Bool) (w : ℕ) → w ≢ entry → KeyIsApart before (store_of from) w → IsRecordOf image key is_child w ↔ IsRecordOf from key is_child w
+  pub map : ((key : List ℕ) (is_child : Bool) (w : ℕ) → IsRecordOf image key is_child w → KeyIsApart before (store_of from) w) → AreMap from → AreMap image

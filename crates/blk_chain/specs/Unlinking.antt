@@ -13,30 +13,30 @@ use Rattle.blk_io.specs.declared.folder.FileId.TheVariants as names
 use Rattle.blk_io.specs.declared.fault.Damage.{Damage}
 use Rattle.blk_io.specs.Faults.{IsShort}
 use Rattle.blk_volume.specs.ListView.{put}
-use Rattle.blk_volume.specs.View.{Core, Stock, entry_at, list_of, stock_of}
+use Rattle.blk_volume.specs.View.{RecordFields, StoreView, entry_at, list_of, store_of}
 use Rattle.blk_volume.specs.Entries.{is_key_length, longest_short_key}
 use Rattle.blk_volume.specs.Chains.{chain, file_and_block, IsChain}
 use Rattle.blk_disk.specs.Unsealed.{IsUnsealed}
 use Rattle.blk_format.specs.Sealed.{IsUpdated, record_range, record_size, sealed_steps}
-use Rattle.blk_chain.specs.Naming.{HasName, IsWhole}
+use Rattle.blk_chain.specs.Naming.{HasKey, IsWhole}
 use Rattle.blk_chain.specs.Linking.{bucket_at, chained_with, place_of_front}
 
 -- words have this one, with the word before it, if there is one, so many before that, and these behind
 abbrev pub StandsBehind : List ℕ → ℕ → Option ℕ → List ℕ → List ℕ → Type 0
-StandsBehind words w None front behind = (front ≡ []) × (words ≡ w ∷ behind)
-StandsBehind words w (Some before) front behind = words ≡ front ++ before ∷ w ∷ behind
+StandsBehind words w None prefix suffix = (prefix ≡ []) × (words ≡ w ∷ suffix)
+StandsBehind words w (Some before) prefix suffix = words ≡ prefix ++ before ∷ w ∷ suffix
 
 -- those words without this one
 abbrev pub without : Option ℕ → List ℕ → List ℕ → List ℕ
-without None front behind = behind
-without (Some before) front behind = front ++ before ∷ behind
+without None prefix suffix = suffix
+without (Some before) prefix suffix = prefix ++ before ∷ suffix
 
 -- a record of a whole chain can be taken out, with the record before it in the chain
 pub record CanBeUnlinked (entry : ℕ) (before : Option ℕ) (image : Image) : Type 0 where
-  pub whole : IsWhole (stock_of image) (bucket_at image entry)
-  pub front : List ℕ
-  pub behind : List ℕ
-  pub stands : StandsBehind (chained_with image entry) entry before front behind
+  pub whole : IsWhole (store_of image) (bucket_at image entry)
+  pub prefix : List ℕ
+  pub suffix : List ℕ
+  pub stands : StandsBehind (chained_with image entry) entry before prefix suffix
 
 -- a record's next
 abbrev pub next_of : Image → ℕ → ℕ
@@ -57,26 +57,26 @@ abbrev pub first_claim : ℕ → Claim
 first_claim w = BlockOf (file_selector w) (first_block w)
 
 -- a record whose key has a right length is another one or this one, and the first block of this one is none of its blocks, nor of its long key's
-pub record IsApart (before : ℕ) (stock : Stock) (w : ℕ) : Type 0 where
-  pub core : Core
-  pub here : stock.entry w ≡ Some core
-  pub lengths : is_key_length w core ≡ true
+pub record IsApart (before : ℕ) (store : StoreView) (w : ℕ) : Type 0 where
+  pub fields : RecordFields
+  pub here : store.entry w ≡ Some fields
+  pub lengths : is_key_length w fields ≡ true
   pub record_apart : (w ≡ before) ⊎ (has_claim (claims_of w) (first_claim before) ≡ false)
-  pub key_apart : nat_le core.key_len longest_short_key ≡ false → has_claim (claims_of core.long_key) (first_claim before) ≡ false
+  pub key_apart : nat_le fields.key_len longest_short_key ≡ false → has_claim (claims_of fields.long_key) (first_claim before) ≡ false
 
 -- a record's key lies apart from what is changed: from the record before, or from the table
-abbrev pub KeyIsApart : Option ℕ → Stock → ℕ → Type 0
-KeyIsApart None stock w = Unit {0}
-KeyIsApart (Some before) stock w = IsApart before stock w
+abbrev pub KeyIsApart : Option ℕ → StoreView → ℕ → Type 0
+KeyIsApart None store w = Unit {0}
+KeyIsApart (Some before) store w = IsApart before store w
 
 -- each record whose key lies apart from the change has the key and the child flag that it had
 abbrev pub NamesStay : Image → Option ℕ → Image → Type 0
-NamesStay from before image = (w : ℕ) (name : List ℕ) (is_child : Bool) → KeyIsApart before (stock_of from) w → HasName (stock_of from) name is_child w ↔ HasName (stock_of image) name is_child w
+NamesStay from before image = (w : ℕ) (name : List ℕ) (is_child : Bool) → KeyIsApart before (store_of from) w → HasKey (store_of from) name is_child w ↔ HasKey (store_of image) name is_child w
 
 -- all records are as they were but for the links, each checks as before, and nothing else changes than these bytes
 pub record KeepsRecords (from : Image) (before : Option ℕ) (footprint : Footprint) (image : Image) : Type 0 where
   pub list : list_of image ≡ list_of from
-  pub records : (w : ℕ) → (stock_of image).entry w ≡ (stock_of from).entry w
+  pub records : (w : ℕ) → (store_of image).entry w ≡ (store_of from).entry w
   pub names : NamesStay from before image
   pub well_formed : IsWellFormed from → IsWellFormed image
   pub outside : SameOutside footprint from image
@@ -84,25 +84,25 @@ pub record KeepsRecords (from : Image) (before : Option ℕ) (footprint : Footpr
 -- all chains are as they were
 pub record IsStillLinked (from : Image) (entry : ℕ) (before : Option ℕ) (image : Image) : Type 0 where
   pub keeps : KeepsRecords from before (unlink_range from entry before) image
-  pub chains : (bucket : ℕ) → chain (stock_of image) bucket ≡ chain (stock_of from) bucket
+  pub chains : (bucket : ℕ) → chain (store_of image) bucket ≡ chain (store_of from) bucket
 
 -- the record before links to the next of the one behind it, and no other link has changed: the table, what the nodes say, and the link of each word of another file or first block are as they were
 pub record IsRelinked (from : Image) (entry : ℕ) (before : ℕ) (image : Image) : Type 0 where
-  pub link : (stock_of image).follow before ≡ next_of from entry
-  pub table : (bucket : ℕ) → (stock_of image).table bucket ≡ (stock_of from).table bucket
-  pub named : (w : ℕ) → (stock_of image).named w ≡ (stock_of from).named w
-  pub follow : (w : ℕ) → file_and_block w ≢ file_and_block before → (stock_of image).follow w ≡ (stock_of from).follow w
+  pub link : (store_of image).chain_next before ≡ next_of from entry
+  pub table : (bucket : ℕ) → (store_of image).table bucket ≡ (store_of from).table bucket
+  pub node_fields : (w : ℕ) → (store_of image).node_fields w ≡ (store_of from).node_fields w
+  pub chain_next : (w : ℕ) → file_and_block w ≢ file_and_block before → (store_of image).chain_next w ≡ (store_of from).chain_next w
 
 -- one link has become the record's next: the word of the bucket, or the link of the record before
 abbrev pub OneLinkChanges : Image → ℕ → Option ℕ → Image → Type 0
-OneLinkChanges from entry None image = stock_of image ≡ record (stock_of from) { table = put (stock_of from).table (bucket_at from entry) (next_of from entry) }
+OneLinkChanges from entry None image = store_of image ≡ record (store_of from) { table = put (store_of from).table (bucket_at from entry) (next_of from entry) }
 OneLinkChanges from entry (Some before) image = IsRelinked from entry before image
 
 -- a record is unlinked: its chain is whole without it, the other chains are as they were, and one link alone has changed
 pub record IsUnlinked (from : Image) (entry : ℕ) (before : Option ℕ) (image : Image) : Type 0 where
   pub keeps : KeepsRecords from before (unlink_range from entry before) image
-  pub chain_now : (front behind : List ℕ) → StandsBehind (chained_with from entry) entry before front behind → IsChain (stock_of image) (bucket_at from entry) (without before front behind)
-  pub others : (other : ℕ) → (bucket_at from entry == other) ≡ false → chain (stock_of image) other ≡ chain (stock_of from) other
+  pub chain_now : (prefix suffix : List ℕ) → StandsBehind (chained_with from entry) entry before prefix suffix → IsChain (store_of image) (bucket_at from entry) (without before prefix suffix)
+  pub others : (other : ℕ) → (bucket_at from entry == other) ≡ false → chain (store_of image) other ≡ chain (store_of from) other
   pub links : OneLinkChanges from entry before image
 
 -- the record before is the old one with the next of the record that is taken out, and sealed

@@ -7,12 +7,12 @@ ghost use Rattle.blk_format.specs.Hash.{hash as hash_of};
 ghost use Rattle.blk_format.specs.Headers.{HasWholeIndex};
 ghost use Rattle.blk_io.specs.Faults.{IfDamaged, IfDevice};
 ghost use Rattle.blk_volume.specs.Chains.{bucket_of_hash};
-ghost use Rattle.blk_volume.specs.View.{stock_of};
+ghost use Rattle.blk_volume.specs.View.{store_of};
 ghost use Rattle.blk_disk.specs.Tables.{Agrees, stands_among};
 ghost use Rattle.blk_entry.specs.Keys.{IsHead, IsPlaceDamage};
-ghost use Rattle.blk_chain.specs.Naming.{HasName};
+ghost use Rattle.blk_chain.specs.Naming.{HasKey};
 ghost use Rattle.blk_chain.specs.Unlinking.{CanBeUnlinked};
-ghost use Rattle.blk_chain.specs.Finding.{CanBeSearched, IsAnswer, IsAstray, IsChainDamage, IsKeyed, IsLinkDamage, IsOnTheWay, IsSearchDamage, IsStep, StandsAt, StandsBefore, bucket_of_key, most_searched, names_record};
+ghost use Rattle.blk_chain.specs.Finding.{CanBeSearched, IsAnswer, IsDangling, IsChainDamage, IsKeyed, IsLinkDamage, IsOnTheWay, IsSearchDamage, IsStep, StandsAt, StandsBefore, bucket_of_key, most_searched, names_record};
 
 use crate::found::Found;
 use blk_addr::{Addr, Kind};
@@ -101,10 +101,10 @@ fn search<F: Folder>(
     front: Link,
 ) -> Result<Option<Found>, Fault>
     requires hash { sought.now.hash ≡ hash_of key.now }
-    requires front { front.before ≡ None }
+    requires prefix { prefix.before ≡ None }
     requires agrees { ForSome (F.told f.old).files (Agrees files.now) }
     requires searchable { ForSome (F.told f.old).files (CanBeSearched key.now) }
-    requires way { ForSome (F.told f.old).files (IsOnTheWay key.now sought.now.child front.word None (most_searched + 1)) }
+    requires way { ForSome (F.told f.old).files (IsOnTheWay key.now sought.now.child prefix.word None (most_searched + 1)) }
     ensures found { IfOk result (λ answer. ForSome (F.told f.old).files (IsAnswer key.now sought.now.child answer)) }
     ensures kind { IfOk result (λ answer. IfSome answer (λ found. kind_of found.entry ≡ blocks_256)) }
     ensures stands { IfOk result (λ answer. IfSome answer (λ found. IsTrue (stands_among files.now found.entry))) }
@@ -185,7 +185,7 @@ fn has_name<F: Folder>(
     requires agrees { ForSome (F.told f.old).files (Agrees files.now) }
     requires keyed { ForSome (F.told f.old).files (IsKeyed entry) }
     requires head { ForSome (F.told f.old).files (λ image. IsHead image entry head.now) }
-    ensures named { IfOk result (λ same. ForSome (F.told f.old).files (λ image. IsTrue same ↔ HasName (stock_of image) key.now sought.now.child entry)) }
+    ensures has_key { IfOk result (λ same. ForSome (F.told f.old).files (λ image. IsTrue same ↔ HasKey (store_of image) key.now sought.now.child entry)) }
     ensures damaged { IfDamaged result (IsPlaceDamage files.now (F.told f.old) entry (length key.now) head.now.long_key) }
     ensures untold { IfDamaged result (λ _. (F.told f.old).files ≡ None) }
     ensures stays { Stays (F.told f.old) (F.told f.new) }
@@ -209,7 +209,7 @@ fn record_of(files: &BlockFiles, hash: u32, link: &Link) -> Result<Addr, Fault>
     ensures entry { IfOk result (λ entry. entry ≡ link.now.word) }
     ensures stands { IfOk result (λ entry. IsTrue (names_record files.now entry)) }
     ensures right { names_record files.now link.now.word ≡ true → IsOk result }
-    ensures damaged { IfDamaged result (IsAstray files.now (bucket_of_hash hash)) }
+    ensures damaged { IfDamaged result (IsDangling files.now (bucket_of_hash hash)) }
     ensures never { IfDevice result ⊥ }
 {
     match standing_record(files, link.word) {

@@ -1,7 +1,7 @@
 // Records that are linked in front of a chain.
 ghost use Rattle.std.specs.Prelude.{◌≡◌, ◌≤◌, IsTrue, None, OnOk};
 ghost use Rattle.std.specs.Option.{ForSome};
-ghost use Rattle.blk_image.specs.Told.{Grows, GrowsInPart, Passes, Rises};
+ghost use Rattle.blk_image.specs.Told.{Applies, AppliesPrefix, Passes, Rises, Commits};
 ghost use Rattle.blk_format.specs.Address.{blocks_256, file_selector, kind_of, place};
 ghost use Rattle.blk_format.specs.Headers.{HasWholeIndex};
 ghost use Rattle.blk_io.specs.declared.folder.FileId.TheVariants as FileId;
@@ -9,7 +9,6 @@ ghost use Rattle.blk_io.specs.Faults.{IfDamaged, IfDevice, IsShort};
 ghost use Rattle.blk_disk.specs.Tables.{Agrees, stands_among};
 ghost use Rattle.blk_chain.specs.Linking.{CanBeLinked, IsLinked, IsLinking, link_steps};
 ghost use Rattle.blk_chain.specs.Mapping.{GainsOne};
-ghost use Rattle.blk_chain.specs.Turning.{Turns};
 
 use blk_addr::Addr;
 use blk_disk::BlockFiles;
@@ -28,8 +27,8 @@ pub fn link_front<F: Folder>(f: &mut F, files: &BlockFiles, entry: Addr) -> Resu
     requires complete { ForSome (F.told f.old).files HasWholeIndex }
     requires agrees { ForSome (F.told f.old).files (Agrees files.now) }
     requires linkable { ForSome (F.told f.old).files (CanBeLinked entry) }
-    ensures whole { OnOk result (ForSome (F.told f.old).files (λ from. Grows (F.told f.old) (F.told f.new) (link_steps from entry))) }
-    ensures part { ForSome (F.told f.old).files (λ from. GrowsInPart (F.told f.old) (F.told f.new) (link_steps from entry)) }
+    ensures steps { OnOk result (ForSome (F.told f.old).files (λ from. Applies (F.told f.old) (F.told f.new) (link_steps from entry))) }
+    ensures prefix { ForSome (F.told f.old).files (λ from. AppliesPrefix (F.told f.old) (F.told f.new) (link_steps from entry)) }
     ensures linked { OnOk result (ForSome (F.told f.old).files (λ from. ForSome (F.told f.new).files (IsLinked from entry))) }
 
     // The chains, a map from keys and child flags to records, have one record more.
@@ -39,7 +38,7 @@ pub fn link_front<F: Folder>(f: &mut F, files: &BlockFiles, entry: Addr) -> Resu
     ensures stops { ForSome (F.told f.old).files (λ from. Passes (F.told f.old) (F.told f.new) (IsLinking from entry)) }
 
     // Until the word of the bucket is written all is as before, and from then on the record is linked.
-    ensures turns { ForSome (F.told f.old).files (λ from. Turns 1 (F.told f.old) (F.told f.new) (λ image. image ≡ from) (IsLinked from entry)) }
+    ensures commits { ForSome (F.told f.old).files (λ from. Commits 1 (F.told f.old) (F.told f.new) (λ image. image ≡ from) (IsLinked from entry)) }
 
     ensures complete { ForSome (F.told f.new).files HasWholeIndex }
     ensures agrees { ForSome (F.told f.new).files (Agrees files.now) }

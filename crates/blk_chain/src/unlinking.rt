@@ -1,7 +1,7 @@
 // Records that are taken out of a chain.
 ghost use Rattle.std.specs.Prelude.{◌≡◌, ◌+◌, ◌≤◌, ◌⊎◌, IfSome, IsTrue, None, OnOk, Some};
 ghost use Rattle.std.specs.Option.{ForSome};
-ghost use Rattle.blk_image.specs.Told.{Grows, GrowsInPart, Passes, Rises};
+ghost use Rattle.blk_image.specs.Told.{Applies, AppliesPrefix, Passes, Rises, Commits};
 ghost use Rattle.blk_format.specs.Address.{blocks_256, file_selector, kind_of, place};
 ghost use Rattle.blk_format.specs.Headers.{HasWholeIndex};
 ghost use Rattle.blk_io.specs.declared.folder.FileId.TheVariants as FileId;
@@ -10,7 +10,6 @@ ghost use Rattle.blk_disk.specs.Unsealed.{IsUnsealed};
 ghost use Rattle.blk_format.specs.Sealed.{record_size};
 ghost use Rattle.blk_disk.specs.Tables.{Agrees, stands_among};
 ghost use Rattle.blk_chain.specs.Mapping.{LosesOne};
-ghost use Rattle.blk_chain.specs.Turning.{Turns};
 ghost use Rattle.blk_chain.specs.Unlinking.{CanBeUnlinked, IsSealedAgain, IsStillLinked, IsUnlinkDamage, IsUnlinked, IsUnlinking, unlink_steps, words_to_unlink};
 
 use crate::found::Found;
@@ -35,12 +34,12 @@ fn unlink_behind<F: Folder>(
     requires complete { ForSome (F.told f.old).files HasWholeIndex }
     requires agrees { ForSome (F.told f.old).files (Agrees files.now) }
     requires linked { ForSome (F.told f.old).files (CanBeUnlinked entry (Some before)) }
-    ensures whole { OnOk result (ForSome (F.told f.old).files (λ from. Grows (F.told f.old) (F.told f.new) (unlink_steps from entry (Some before)))) }
-    ensures part { ForSome (F.told f.old).files (λ from. GrowsInPart (F.told f.old) (F.told f.new) (unlink_steps from entry (Some before))) }
+    ensures steps { OnOk result (ForSome (F.told f.old).files (λ from. Applies (F.told f.old) (F.told f.new) (unlink_steps from entry (Some before)))) }
+    ensures prefix { ForSome (F.told f.old).files (λ from. AppliesPrefix (F.told f.old) (F.told f.new) (unlink_steps from entry (Some before))) }
     ensures unlinked { OnOk result (ForSome (F.told f.old).files (λ from. ForSome (F.told f.new).files (IsUnlinked from entry (Some before)))) }
     ensures sealed { OnOk result (ForSome (F.told f.old).files (λ from. ForSome (F.told f.new).files (IsSealedAgain from entry (Some before)))) }
     ensures stops { ForSome (F.told f.old).files (λ from. Passes (F.told f.old) (F.told f.new) (IsUnlinking from entry (Some before))) }
-    ensures turns { ForSome (F.told f.old).files (λ from. Turns (words_to_unlink (Some before)) (F.told f.old) (F.told f.new) (IsStillLinked from entry (Some before)) (IsUnlinked from entry (Some before))) }
+    ensures commits { ForSome (F.told f.old).files (λ from. Commits (words_to_unlink (Some before)) (F.told f.old) (F.told f.new) (IsStillLinked from entry (Some before)) (IsUnlinked from entry (Some before))) }
     ensures complete { ForSome (F.told f.new).files HasWholeIndex }
     ensures agrees { ForSome (F.told f.new).files (Agrees files.now) }
     ensures silent { (F.told f.old).files ≡ None → (F.told f.new).files ≡ None }
@@ -60,11 +59,11 @@ fn unlink_first<F: Folder>(f: &mut F, files: &BlockFiles, entry: Addr) -> Result
     requires complete { ForSome (F.told f.old).files HasWholeIndex }
     requires agrees { ForSome (F.told f.old).files (Agrees files.now) }
     requires linked { ForSome (F.told f.old).files (CanBeUnlinked entry None) }
-    ensures whole { OnOk result (ForSome (F.told f.old).files (λ from. Grows (F.told f.old) (F.told f.new) (unlink_steps from entry None))) }
-    ensures part { ForSome (F.told f.old).files (λ from. GrowsInPart (F.told f.old) (F.told f.new) (unlink_steps from entry None)) }
+    ensures steps { OnOk result (ForSome (F.told f.old).files (λ from. Applies (F.told f.old) (F.told f.new) (unlink_steps from entry None))) }
+    ensures prefix { ForSome (F.told f.old).files (λ from. AppliesPrefix (F.told f.old) (F.told f.new) (unlink_steps from entry None)) }
     ensures unlinked { OnOk result (ForSome (F.told f.old).files (λ from. ForSome (F.told f.new).files (IsUnlinked from entry None))) }
     ensures stops { ForSome (F.told f.old).files (λ from. Passes (F.told f.old) (F.told f.new) (IsUnlinking from entry None)) }
-    ensures turns { ForSome (F.told f.old).files (λ from. Turns (words_to_unlink None) (F.told f.old) (F.told f.new) (IsStillLinked from entry None) (IsUnlinked from entry None)) }
+    ensures commits { ForSome (F.told f.old).files (λ from. Commits (words_to_unlink None) (F.told f.old) (F.told f.new) (IsStillLinked from entry None) (IsUnlinked from entry None)) }
     ensures complete { ForSome (F.told f.new).files HasWholeIndex }
     ensures agrees { ForSome (F.told f.new).files (Agrees files.now) }
     ensures silent { (F.told f.old).files ≡ None → (F.told f.new).files ≡ None }
@@ -93,8 +92,8 @@ pub fn unlink<F: Folder>(f: &mut F, files: &BlockFiles, found: &Found) -> Result
     requires complete { ForSome (F.told f.old).files HasWholeIndex }
     requires agrees { ForSome (F.told f.old).files (Agrees files.now) }
     requires linked { ForSome (F.told f.old).files (CanBeUnlinked found.now.entry found.now.before) }
-    ensures whole { OnOk result (ForSome (F.told f.old).files (λ from. Grows (F.told f.old) (F.told f.new) (unlink_steps from found.now.entry found.now.before))) }
-    ensures part { ForSome (F.told f.old).files (λ from. GrowsInPart (F.told f.old) (F.told f.new) (unlink_steps from found.now.entry found.now.before)) }
+    ensures steps { OnOk result (ForSome (F.told f.old).files (λ from. Applies (F.told f.old) (F.told f.new) (unlink_steps from found.now.entry found.now.before))) }
+    ensures prefix { ForSome (F.told f.old).files (λ from. AppliesPrefix (F.told f.old) (F.told f.new) (unlink_steps from found.now.entry found.now.before)) }
     ensures unlinked { OnOk result (ForSome (F.told f.old).files (λ from. ForSome (F.told f.new).files (IsUnlinked from found.now.entry found.now.before))) }
 
     // A record before is the old one with that next, sealed.
@@ -107,7 +106,7 @@ pub fn unlink<F: Folder>(f: &mut F, files: &BlockFiles, found: &Found) -> Result
     ensures stops { ForSome (F.told f.old).files (λ from. Passes (F.told f.old) (F.told f.new) (IsUnlinking from found.now.entry found.now.before)) }
 
     // Until that one word is written the chains are the old ones, and from then on the record is unlinked.
-    ensures turns { ForSome (F.told f.old).files (λ from. Turns (words_to_unlink found.now.before) (F.told f.old) (F.told f.new) (IsStillLinked from found.now.entry found.now.before) (IsUnlinked from found.now.entry found.now.before)) }
+    ensures commits { ForSome (F.told f.old).files (λ from. Commits (words_to_unlink found.now.before) (F.told f.old) (F.told f.new) (IsStillLinked from found.now.entry found.now.before) (IsUnlinked from found.now.entry found.now.before)) }
 
     ensures complete { ForSome (F.told f.new).files HasWholeIndex }
     ensures agrees { ForSome (F.told f.new).files (Agrees files.now) }

@@ -6,10 +6,10 @@ use Rattle.std.proofs.lemmas.Bool.Decides.{nat_tests}
 use Rattle.blk_image.specs.Image.{Block, Image, byte, length_of}
 use Rattle.blk_image.specs.Checks.{first_of}
 use Rattle.blk_format.specs.Address.{is_block_kind}
-use Rattle.blk_format.specs.BlockFiles.{next_file_in, files_along, linked, linked_up_to, is_among, is_link, file_checks, checks_along, checks_of_type, first_block_damage}
+use Rattle.blk_format.specs.BlockFiles.{next_file_in, files_along, linked, linked_up_to, is_among, is_link, file_checks, checks_along, checks_of_kind, first_block_damage}
 use Rattle.blk_format.proofs.Among.{is_among-append, is_among_more}
 use Rattle.blk_disk.proofs.Firsts.{length_passed}
-use Rattle.blk_format.proofs.Keeping.{none_parts, each_type, link_of}
+use Rattle.blk_format.proofs.Keeping.{none_parts, each_kind, link_of}
 
 differ : (b : Bool) → b ≡ true → b ≡ false → ⊥
 differ b e d = cc
@@ -91,25 +91,25 @@ module _ (image : Image) (kind : ℕ) where
       (first_or_behind k m (if next_file_in image k == 0 then [] else files_along (next_file_in image) left (next_file_in image k)) among)
 
 -- the checks of one type
-pub type_none : (image : Image) → first_block_damage image ≡ None → (kind : ℕ) → is_block_kind kind ≡ true → first_of (checks_of_type image kind) ≡ None
-type_none image none zero holds = cc
-type_none image none (suc zero) holds = let each = each_type image none in each.0
-type_none image none (suc (suc zero)) holds = let each = each_type image none in each.1
-type_none image none (suc (suc (suc zero))) holds = let each = each_type image none in each.2
-type_none image none (suc (suc (suc (suc zero)))) holds = let each = each_type image none in each.3
-type_none image none (suc (suc (suc (suc (suc kind))))) holds = absurd (grind (arith, nat_tests))
+pub kind_none : (image : Image) → first_block_damage image ≡ None → (kind : ℕ) → is_block_kind kind ≡ true → first_of (checks_of_kind image kind) ≡ None
+kind_none image none zero holds = cc
+kind_none image none (suc zero) holds = let each = each_kind image none in each.0
+kind_none image none (suc (suc zero)) holds = let each = each_kind image none in each.1
+kind_none image none (suc (suc (suc zero))) holds = let each = each_kind image none in each.2
+kind_none image none (suc (suc (suc (suc zero)))) holds = let each = each_kind image none in each.3
+kind_none image none (suc (suc (suc (suc (suc kind))))) holds = absurd (grind (arith, nat_tests))
 
 pub block_kind : (j : ℕ) → j < 4 → is_block_kind (suc j) ≡ true
 block_kind j small = let low : nat_le 1 (suc j) ≡ true = grind (arith, nat_tests) in let high : nat_le (suc j) 4 ≡ true = grind (arith, nat_tests) in rw (low, high) refl
 
 -- the files of all types, where no check fails
 module _ (image : Image) (none : first_block_damage image ≡ None) where
-  met_type : (j : ℕ) → j < 4 → is_among (linked_up_to image j) j ≡ false → (m : ℕ) → is_among (linked image (suc j)) m ≡ true → IsMet image (linked_up_to image j) j m
-  unfolding linked checks_of_type
-  met_type j small fresh m among =
+  met_kind : (j : ℕ) → j < 4 → is_among (linked_up_to image j) j ≡ false → (m : ℕ) → is_among (linked image (suc j)) m ≡ true → IsMet image (linked_up_to image j) j m
+  unfolding linked checks_of_kind
+  met_kind j small fresh m among =
       let e : suc j - 1 ≡ j = omega arith in
       met_along image (suc j) 59 j (linked_up_to image j) m fresh (subst (λ (i : ℕ). is_among (files_along (next_file_in image) 59 i) m ≡ true) e among)
-      (subst (λ (i : ℕ). first_of (checks_along image (suc j) (linked_up_to image i) 59 i) ≡ None) e (type_none image none (suc j) (block_kind j small)))
+      (subst (λ (i : ℕ). first_of (checks_along image (suc j) (linked_up_to image i) 59 i) ≡ None) e (kind_none image none (suc j) (block_kind j small)))
 
   -- the first file of a type wasn't met before
   early : (j k : ℕ) → j ≤ k → k < 4 → is_among (linked_up_to image j) k ≡ false
@@ -118,11 +118,11 @@ module _ (image : Image) (none : first_block_damage image ≡ None) where
   early (suc j) k upto small =
       let before : is_among (linked_up_to image j) k ≡ false = early j k (omega arith) small in
       let first : is_among (linked_up_to image j) j ≡ false = early j j (omega arith) (omega arith) in
-      let not_there : is_among (linked image (suc j)) k ≡ false = fails (is_among (linked image (suc j)) k) (λ among. let is = met_type j (omega arith) first k among in ⊎_elim (λ same. omega (arith, same)) (λ from. omega (arith, from)) is.far) in
+      let not_there : is_among (linked image (suc j)) k ≡ false = fails (is_among (linked image (suc j)) k) (λ among. let is = met_kind j (omega arith) first k among in ⊎_elim (λ same. omega (arith, same)) (λ from. omega (arith, from)) is.far) in
       is_among-append (linked_up_to image j) (linked image (suc j)) k ∙ rw (before, not_there) refl
 
   pub met_in : (j : ℕ) → j < 4 → (m : ℕ) → is_among (linked image (suc j)) m ≡ true → IsMet image (linked_up_to image j) j m
-  met_in j small m among = met_type j small (early j j (omega arith) small) m among
+  met_in j small m among = met_kind j small (early j j (omega arith) small) m among
 
   -- a file of a type is among those up to it and up to each later type
   pub up_to : (j i m : ℕ) → i < j → is_among (linked image (suc i)) m ≡ true → is_among (linked_up_to image j) m ≡ true
@@ -139,10 +139,10 @@ module _ (image : Image) (none : first_block_damage image ≡ None) where
       or_true false = refl
 
   -- no file is linked as of two types
-  types_apart : (i j m : ℕ) → i < j → j < 4 → is_among (linked image (suc i)) m ≡ true → is_among (linked image (suc j)) m ≡ true → ⊥
-  types_apart i j m below small one other = let is = met_in j small m other in differ (is_among (linked_up_to image j) m) (up_to j i m below one) is.fresh
+  kinds_apart : (i j m : ℕ) → i < j → j < 4 → is_among (linked image (suc i)) m ≡ true → is_among (linked image (suc j)) m ≡ true → ⊥
+  kinds_apart i j m below small one other = let is = met_in j small m other in differ (is_among (linked_up_to image j) m) (up_to j i m below one) is.fresh
 
   pub linked_once : (i j m : ℕ) → i ≢ j → i < 4 → j < 4 → is_among (linked image (suc i)) m ≡ true → is_among (linked image (suc j)) m ≡ true → ⊥
   linked_once i j m differs small small2 one other =
-      ⊎_elim (λ (less : i < j). types_apart i j m less small2 one other)
-      (λ (upto : j ≤ i). let less : j < i = omega (arith, differs) in types_apart j i m less small other one) (cases_lt i j)
+      ⊎_elim (λ (less : i < j). kinds_apart i j m less small2 one other)
+      (λ (upto : j ≤ i). let less : j < i = omega (arith, differs) in kinds_apart j i m less small other one) (cases_lt i j)

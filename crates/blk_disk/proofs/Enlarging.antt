@@ -9,7 +9,7 @@ use Rattle.blk_image.specs.Bytes.{word_bytes}
 use Rattle.blk_image.specs.Checks.{first_of}
 use Rattle.blk_image.specs.Image.{Index, Block, Image, byte, length_of, word, same_file}
 use Rattle.blk_image.specs.Steps.{TrailStep, Word, SetLength, applied, after, word_step, word_steps}
-use Rattle.blk_image.specs.Told.{Told, Grows, GrowsInPart, Passes, Along, Until, IsQuiet}
+use Rattle.blk_image.specs.Told.{Told, Applies, AppliesPrefix, Passes, Along, Until, IsQuiet}
 use Rattle.blk_image.specs.Footprint.{SameOutside, either, one_word, size_of}
 use Rattle.blk_image.proofs.Cuts.{after-append}
 use Rattle.blk_image.proofs.Footprints.{outside-refl, outside-trans, outside_wider, outside_write, outside_longer, same_word_outside, within_left, within_right}
@@ -19,7 +19,7 @@ use Rattle.blk_image.proofs.WordSteps.{quiet-word_steps}
 use Rattle.blk_image.proofs.Words.{same-word_at}
 use Rattle.blk_format.specs.Address.{file_selector}
 use Rattle.blk_format.specs.Headers.{head_checks, list_checks}
-use Rattle.blk_format.specs.BlockFiles.{is_among, linked, type_among, files_along, next_file_in, max_entries_in, is_block_count, block_checks, first_block_damage, IsWellFormed}
+use Rattle.blk_format.specs.BlockFiles.{is_among, linked, kind_among, files_along, next_file_in, max_entries_in, is_block_count, block_checks, first_block_damage, IsWellFormed}
 use Rattle.blk_disk.specs.declared.tables.BlockFiles.{BlockFiles}
 use Rattle.blk_disk.specs.Tables.{Agrees, Enlarges, all_files, blocks_of, files_of, length_in}
 use Rattle.blk_disk.specs.Growth.{KeepsBlocks, grown, grown_length, growth_of, grow_steps, lengthen_steps, new_groups, raise_steps, raised, size_as}
@@ -114,7 +114,7 @@ module _ (n : ℕ) (from image : Image) (growing : IsGrowing n from image) where
   grows_blocks = record {
     stand =
         λ w stands. let keeps = keeps_heads n from image growing (file_selector w) in
-        stands_more from image w (ap (λ (lists : ℕ → List ℕ). type_among lists (file_selector w)) linked_still) (more_blocks (file_selector w)) keeps.longer stands;
+        stands_more from image w (ap (λ (lists : ℕ → List ℕ). kind_among lists (file_selector w)) linked_still) (more_blocks (file_selector w)) keeps.longer stands;
     bytes =
         λ w i stands low high. let same = growing.outside in same.bytes (Block (file_selector w)) i (blocks_spared n (file_selector w) i (let past = past_header w in omega (arith, past, low)));
   }
@@ -313,7 +313,7 @@ module _ (n size : ℕ) (from : Image) (longer : length_of from (Block n) ≤ si
   longer_step : IsLonger n from from × IsLonger n from (applied (SetLength (Block n) size) from)
   longer_step = ((outside-refl (size_of (Block n)) from, growing_begins n from), (outside_longer (Block n) size from longer, growing_longer n from from size longer (growing_begins n from)))
 
-  pub passes_longer : {a b : Told} (P : Image → Type 0) → a.files ≡ Some from → ((i : Image) → IsLonger n from i → P i) → Grows a b (SetLength (Block n) size ∷ []) → Passes a b P
+  pub passes_longer : {a b : Told} (P : Image → Type 0) → a.files ≡ Some from → ((i : Image) → IsLonger n from i → P i) → Applies a b (SetLength (Block n) size ∷ []) → Passes a b P
   passes_longer P there holds grows =
       passes_step P grows tt
       (λ image here. let same : from ≡ image = some_inj (sym there ∙ here) in
@@ -330,24 +330,24 @@ module _ (files : BlockFiles) (n : ℕ) (a b d : Told) (agrees : ForSome a.files
   abbrev blocks : ℕ
   blocks = grown (blocks_of files n)
 
-  pub grow_room : Grows a b lengthened → ForSome b.files (λ image. 40 ≤ length_of image (Block n))
+  pub grow_room : Applies a b lengthened → ForSome b.files (λ image. 40 ≤ length_of image (Block n))
   grow_room first = told_whole (λ image. 40 ≤ length_of image (Block n)) first (λ image there. long_room files image n (agrees image there) among below)
 
-  long_there : Grows a b lengthened → (image : Image) → a.files ≡ Some image → b.files ≡ Some (after lengthened image)
+  long_there : Applies a b lengthened → (image : Image) → a.files ≡ Some image → b.files ≡ Some (after lengthened image)
   long_there first image there = first.files ∙ ap (option_map (after lengthened)) there
 
-  pub grow_part : Grows a b lengthened → ForSome b.files (λ image. GrowsInPart b d (raise_steps image n groups blocks)) → ForSome a.files (λ image. GrowsInPart a d (grow_steps files n image))
+  pub grow_part : Applies a b lengthened → ForSome b.files (λ image. AppliesPrefix b d (raise_steps image n groups blocks)) → ForSome a.files (λ image. AppliesPrefix a d (grow_steps files n image))
   grow_part first second image there =
       part_then first
-      (subst (λ (counter : ℕ). GrowsInPart b d (word_steps (Block n) ((36, counter) ∷ (20, blocks) ∷ []))) (counter_same files image n (agrees image there) among below groups) (second _ (long_there first image there)))
+      (subst (λ (counter : ℕ). AppliesPrefix b d (word_steps (Block n) ((36, counter) ∷ (20, blocks) ∷ []))) (counter_same files image n (agrees image there) among below groups) (second _ (long_there first image there)))
 
-  pub grow_whole : Grows a b lengthened → ForSome b.files (λ image. Grows b d (raise_steps image n groups blocks)) → ForSome a.files (λ image. Grows a d (grow_steps files n image))
+  pub grow_whole : Applies a b lengthened → ForSome b.files (λ image. Applies b d (raise_steps image n groups blocks)) → ForSome a.files (λ image. Applies a d (grow_steps files n image))
   grow_whole first second image there =
       grows_then first
-      (subst (λ (counter : ℕ). Grows b d (word_steps (Block n) ((36, counter) ∷ (20, blocks) ∷ []))) (counter_same files image n (agrees image there) among below groups) (second _ (long_there first image there)))
+      (subst (λ (counter : ℕ). Applies b d (word_steps (Block n) ((36, counter) ∷ (20, blocks) ∷ []))) (counter_same files image n (agrees image there) among below groups) (second _ (long_there first image there)))
 
   abbrev Part : Type 0
-  Part = ForSome a.files (λ image. GrowsInPart a d (grow_steps files n image))
+  Part = ForSome a.files (λ image. AppliesPrefix a d (grow_steps files n image))
 
   passing : (P : Image → Type 0) (from : Image) → ((image : Image) → IsGrowing n from image → P image) → a.files ≡ Some from → Part → Passes a d P
   passing P from holds there part =
@@ -364,7 +364,7 @@ module _ (files : BlockFiles) (n : ℕ) (a b d : Told) (agrees : ForSome a.files
   pub grow_formed : Part → ForSome a.files (λ from. IsWellFormed from → Passes a d IsWellFormed)
   grow_formed part from there formed = passing IsWellFormed from (λ image growing. grows_formed n from image growing formed) there part
 
-  pub grow_agrees : (new : BlockFiles) → ForSome a.files (λ image. Grows a d (grow_steps files n image)) → (a.files ≡ None → d.files ≡ None) → Enlarges files new n blocks (max (length_in files n) (grown_length files n)) → ForSome d.files (Agrees new)
+  pub grow_agrees : (new : BlockFiles) → ForSome a.files (λ image. Applies a d (grow_steps files n image)) → (a.files ≡ None → d.files ≡ None) → Enlarges files new n blocks (max (length_in files n) (grown_length files n)) → ForSome d.files (Agrees new)
   grow_agrees new whole untold enlarges = by_files a.files refl
     where
       none_some : (image : Image) → None ≡ Some image → ⊥
@@ -379,7 +379,7 @@ module _ (files : BlockFiles) (n : ℕ) (a b d : Told) (agrees : ForSome a.files
           subst (λ (i : Image). Agrees new (after (grow_steps files n from) i)) same (agrees_grown files from n (agrees from e) among below (raised from n groups) new enlarges))
 
   -- the numbers, as the call has them
-  module _ (old more long : ℕ) (old_is : old ≡ blocks_of files n) (more_is : more ≡ min (old + 1024) 64896) (long_is : long ≡ 8192 + more * size_as (type_among (files_of files) n)) where
+  module _ (old more long : ℕ) (old_is : old ≡ blocks_of files n) (more_is : more ≡ min (old + 1024) 64896) (long_is : long ≡ 8192 + more * size_as (kind_among (files_of files) n)) where
     blocks_is : more ≡ blocks
     blocks_is = more_is ∙ ap grown old_is
 
@@ -388,22 +388,22 @@ module _ (files : BlockFiles) (n : ℕ) (a b d : Told) (agrees : ForSome a.files
 
     length_is : long ≡ grown_length files n
     unfolding grown_length
-    length_is = long_is ∙ ap (λ (x : ℕ). 8192 + x * size_as (type_among (files_of files) n)) blocks_is
+    length_is = long_is ∙ ap (λ (x : ℕ). 8192 + x * size_as (kind_among (files_of files) n)) blocks_is
 
-    pub first_is : Grows a b (lengthen_steps files n long) → Grows a b lengthened
-    first_is first = subst (λ (x : ℕ). Grows a b (lengthen_steps files n x)) length_is first
+    pub first_is : Applies a b (lengthen_steps files n long) → Applies a b lengthened
+    first_is first = subst (λ (x : ℕ). Applies a b (lengthen_steps files n x)) length_is first
 
-    pub part_is : Grows a b (lengthen_steps files n long) → ForSome b.files (λ image. GrowsInPart b d (raise_steps image n ((more - old) / 4) more)) → Part
+    pub part_is : Applies a b (lengthen_steps files n long) → ForSome b.files (λ image. AppliesPrefix b d (raise_steps image n ((more - old) / 4) more)) → Part
     part_is first second =
         grow_part (first_is first)
-        (subst (λ (x : ℕ). ForSome b.files (λ image. GrowsInPart b d (raise_steps image n groups x))) blocks_is
-        (subst (λ (x : ℕ). ForSome b.files (λ image. GrowsInPart b d (raise_steps image n x more))) groups_is second))
+        (subst (λ (x : ℕ). ForSome b.files (λ image. AppliesPrefix b d (raise_steps image n groups x))) blocks_is
+        (subst (λ (x : ℕ). ForSome b.files (λ image. AppliesPrefix b d (raise_steps image n x more))) groups_is second))
 
-    pub whole_is : Grows a b (lengthen_steps files n long) → ForSome b.files (λ image. Grows b d (raise_steps image n ((more - old) / 4) more)) → ForSome a.files (λ image. Grows a d (grow_steps files n image))
+    pub whole_is : Applies a b (lengthen_steps files n long) → ForSome b.files (λ image. Applies b d (raise_steps image n ((more - old) / 4) more)) → ForSome a.files (λ image. Applies a d (grow_steps files n image))
     whole_is first second =
         grow_whole (first_is first)
-        (subst (λ (x : ℕ). ForSome b.files (λ image. Grows b d (raise_steps image n groups x))) blocks_is
-        (subst (λ (x : ℕ). ForSome b.files (λ image. Grows b d (raise_steps image n x more))) groups_is second))
+        (subst (λ (x : ℕ). ForSome b.files (λ image. Applies b d (raise_steps image n groups x))) blocks_is
+        (subst (λ (x : ℕ). ForSome b.files (λ image. Applies b d (raise_steps image n x more))) groups_is second))
 
     pub enlarges_is : (new : BlockFiles) (before size : ℕ) → before ≡ length_in files n → size ≡ max before long → Enlarges files new n more size → Enlarges files new n blocks (max (length_in files n) (grown_length files n))
     enlarges_is new before size is is2 enlarges =

@@ -10,7 +10,7 @@ use Rattle.blk_image.specs.Checks as checks
 use Rattle.blk_image.specs.Checks.{first_of}
 use Rattle.blk_image.specs.Told.{Told}
 use Rattle.blk_format.specs.Address.{is_block_kind}
-use Rattle.blk_format.specs.BlockFiles.{next_file_in, max_entries_in, files_along, linked, linked_up_to, is_among, is_link, file_checks, checks_along, checks_of_type, block_checks, first_block_damage}
+use Rattle.blk_format.specs.BlockFiles.{next_file_in, max_entries_in, files_along, linked, linked_up_to, is_among, is_link, file_checks, checks_along, checks_of_kind, block_checks, first_block_damage}
 use Rattle.blk_addr.specs.declared.kinds.Kind.{Kind}
 use Rattle.blk_addr.specs.declared.kinds.Kind.TheVariants.{External, Rankings, B256, B1K, B4K}
 use Rattle.blk_addr.specs.Kind.{kind_number}
@@ -58,14 +58,14 @@ damaged files image kind n d follows some =
 -- one more file of a type, where the types after it have none
 one_more : (k : Kind) (files new : BlockFiles) (n blocks size : ℕ) → kind_number k ≢ 0 → Joins files new (kind_number k) n blocks size → ((other : ℕ) → kind_number k < other → files_of files other ≡ []) → all_files new ≡ all_files files ++ n ∷ []
 unfolding all_files
-one_more External files new n blocks size blocky joins none = absurd (blocky refl)
-one_more Rankings files new n blocks size blocky joins none =
+one_more External files new n blocks size block_kind joins none = absurd (block_kind refl)
+one_more Rankings files new n blocks size block_kind joins none =
     rw (joins.last, joins.others 2 (omega arith), joins.others 3 (omega arith), joins.others 4 (omega arith), none 2 (omega arith), none 3 (omega arith), none 4 (omega arith)) (simp append-nil)
-one_more B256 files new n blocks size blocky joins none =
+one_more B256 files new n blocks size block_kind joins none =
     rw (joins.last, joins.others 1 (omega arith), joins.others 3 (omega arith), joins.others 4 (omega arith), none 3 (omega arith), none 4 (omega arith)) (simp (append-nil, append_assoc))
-one_more B1K files new n blocks size blocky joins none =
+one_more B1K files new n blocks size block_kind joins none =
     rw (joins.last, joins.others 1 (omega arith), joins.others 2 (omega arith), joins.others 4 (omega arith), none 4 (omega arith)) (simp (append-nil, append_assoc))
-one_more B4K files new n blocks size blocky joins none =
+one_more B4K files new n blocks size block_kind joins none =
     rw (joins.last, joins.others 1 (omega arith), joins.others 2 (omega arith), joins.others 3 (omega arith)) (simp append_assoc)
 
 -- the file that joined, and those before it, in the tables
@@ -94,7 +94,7 @@ module _ (new : BlockFiles) (image : Image) (kind : ℕ) (left next : ℕ) (is_l
   checks_next false = ap (λ (l : ℕ). checks_along image kind (all_files new) l next ++ checks_after image kind) (sym is_left)
 
 -- the next file of a type is taken up, where its checks hold
-module _ (k : Kind) (files new : BlockFiles) (image : Image) (n : ℕ) (head : Head) (blocky : kind_number k ≢ 0) (joins : Joins files new (kind_number k) n head.blocks head.size) (follows : Follows files image (kind_number k) (Some n))
+module _ (k : Kind) (files new : BlockFiles) (image : Image) (n : ℕ) (head : Head) (block_kind : kind_number k ≢ 0) (joins : Joins files new (kind_number k) n head.blocks head.size) (follows : Follows files image (kind_number k) (Some n))
     (none : first_of (next_checks files image (kind_number k) n) ≡ None) (is : IsHead (byte image (Block n)) (length_of image (Block n)) head) where
   abbrev left : ℕ
   left = files_left files (kind_number k)
@@ -103,7 +103,7 @@ module _ (k : Kind) (files new : BlockFiles) (image : Image) (n : ℕ) (head : H
   after_it = next_file_in image n
 
   all : all_files new ≡ all_files files ++ n ∷ []
-  all = one_more k files new n head.blocks head.size blocky joins follows.after
+  all = one_more k files new n head.blocks head.size block_kind joins follows.after
 
   link : is_link (all_files files ++ n ∷ []) left after_it ≡ true
   unfolding next_file_in
@@ -162,20 +162,20 @@ damaged_if A Device told files kind n follows reads = tt
 damaged_if A (Damaged d) told files kind n follows reads = λ image there. damaged files image kind n (damage_of d) (follows image there) (reads image there)
 
 blocks_kind : (k : Kind) → kind_number k ≢ 0 → is_block_kind (kind_number k) ≡ true
-blocks_kind External blocky = absurd (blocky refl)
-blocks_kind Rankings blocky = refl
-blocks_kind B256 blocky = refl
-blocks_kind B1K blocky = refl
-blocks_kind B4K blocky = refl
+blocks_kind External block_kind = absurd (block_kind refl)
+blocks_kind Rankings block_kind = refl
+blocks_kind B256 block_kind = refl
+blocks_kind B1K block_kind = refl
+blocks_kind B4K block_kind = refl
 
 -- a call that failed to take up the next file, whatever the folder tells
 pub caused_if : (A B : Type 0) (e : Fault) (a b : Told) (files : BlockFiles) (k : Kind) (n : ℕ) → kind_number k ≢ 0 → b ≡ a → IfDamaged {A = A} (Err e) (IsHeaderDamage b files (kind_number k) n) → IfDamaged {A = B} (Err e) (IsLoadDamage a)
-caused_if A B Device a b files k n blocky stays cause = tt
-caused_if A B (Damaged d) a b files k n blocky stays cause = record {
+caused_if A B Device a b files k n block_kind stays cause = tt
+caused_if A B (Damaged d) a b files k n block_kind stays cause = record {
   files = files;
   kind = kind_number k;
   n = n;
-  of_blocks = blocks_kind k blocky;
+  of_blocks = blocks_kind k block_kind;
   cause = subst (λ (t : Told). IsHeaderDamage t files (kind_number k) n d) stays cause;
 }
 
@@ -203,7 +203,7 @@ met_up_to files image (suc k) follows =
     ap (λ (l : List ℕ). linked_up_to image k ++ l) (follows.here (omega arith) ∙ append-nil (files_of files (suc k))) ∙ ap (λ (j : ℕ). linked_up_to image j ++ files_of files (suc k)) (sym (less_one k)) ∙ follows.met
 
 -- the next type begins with its first file
-module _ (files : BlockFiles) (image : Image) (k : ℕ) (more : checks_after image k ≡ checks_of_type image (suc k) ++ checks_after image (suc k)) (follows : Follows files image k None) where
+module _ (files : BlockFiles) (image : Image) (k : ℕ) (more : checks_after image k ≡ checks_of_kind image (suc k) ++ checks_after image (suc k)) (follows : Follows files image k None) where
   empty : files_of files (suc k) ≡ []
   empty = follows.after (suc k) (omega arith)
 
@@ -214,8 +214,8 @@ module _ (files : BlockFiles) (image : Image) (k : ℕ) (more : checks_after ima
   unfolding linked
   begin_here = rw (whole_left, empty, less_one k) refl
 
-  begin_checks : checks_of_type image (suc k) ≡ checks_along image (suc k) (all_files files) (files_left files (suc k)) k
-  unfolding checks_of_type
+  begin_checks : checks_of_kind image (suc k) ≡ checks_along image (suc k) (all_files files) (files_left files (suc k)) k
+  unfolding checks_of_kind
   begin_checks = rw (whole_left, less_one k, met_up_to files image k follows) refl
 
   pub follows_first : Follows files image (suc k) (Some k)
@@ -236,11 +236,11 @@ module _ (files : BlockFiles) (image : Image) (k : ℕ) (more : checks_after ima
 
 -- the first file of a type
 pub follows_kind : (k : Kind) (files : BlockFiles) (image : Image) → kind_number k ≢ 0 → Follows files image (kind_number k - 1) None → Follows files image (kind_number k) (Some (kind_number k - 1))
-follows_kind External files image blocky follows = absurd (blocky refl)
-follows_kind Rankings files image blocky follows = follows_first files image 0 refl follows
-follows_kind B256 files image blocky follows = follows_first files image 1 refl follows
-follows_kind B1K files image blocky follows = follows_first files image 2 refl follows
-follows_kind B4K files image blocky follows = follows_first files image 3 refl follows
+follows_kind External files image block_kind follows = absurd (block_kind refl)
+follows_kind Rankings files image block_kind follows = follows_first files image 0 refl follows
+follows_kind B256 files image block_kind follows = follows_first files image 1 refl follows
+follows_kind B1K files image block_kind follows = follows_first files image 2 refl follows
+follows_kind B4K files image block_kind follows = follows_first files image 3 refl follows
 
 some_kind : (kind : ℕ) → is_block_kind kind ≡ true → 0 < kind
 some_kind kind holds = grind (arith, nat_tests)

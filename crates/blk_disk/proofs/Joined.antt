@@ -10,7 +10,7 @@ use Rattle.blk_image.specs.Checks.{first_of}
 use Rattle.blk_image.specs.Footprint.{SameOutside, range, whole}
 use Rattle.blk_image.specs.Image.{Index, Block, Image, byte, bytes_of, length_of, same_file}
 use Rattle.blk_image.specs.Steps.{Word, applied, after}
-use Rattle.blk_image.specs.Told.{Told, Grows, GrowsInPart, Passes, Along, Until, IsQuiet}
+use Rattle.blk_image.specs.Told.{Told, Applies, AppliesPrefix, Passes, Along, Until, IsQuiet}
 use Rattle.blk_image.proofs.Cuts.{after-append}
 use Rattle.blk_image.proofs.Footprints.{outside-trans, outside_wider, outside_write, within_left, within_right}
 use Rattle.blk_image.proofs.Images.{bytes_of-written, other-word, with_file-same}
@@ -18,7 +18,7 @@ use Rattle.blk_image.proofs.Runs.{passes_part, quiet-append, some_inj, told_whol
 use Rattle.blk_image.proofs.Splices.{content-spliced_inside}
 use Rattle.blk_image.proofs.Words.{same-word_at}
 use Rattle.blk_format.specs.Address.{file_selector, is_block_kind}
-use Rattle.blk_format.specs.BlockFiles.{next_file_in, max_entries_in, files_along, linked, linked_as, linked_up_to, is_among, is_block_count, checks_along, checks_of_type, first_block_damage, stands_in_blocks, type_among, IsWellFormed}
+use Rattle.blk_format.specs.BlockFiles.{next_file_in, max_entries_in, files_along, linked, linked_as, linked_up_to, is_among, is_block_count, checks_along, checks_of_kind, first_block_damage, stands_in_blocks, kind_among, IsWellFormed}
 use Rattle.blk_addr.specs.declared.kinds.Kind.{Kind}
 use Rattle.blk_addr.specs.declared.kinds.Kind.TheVariants.{External, Rankings, B256, B1K, B4K}
 use Rattle.blk_addr.specs.Kind.{kind_number}
@@ -29,9 +29,9 @@ use Rattle.blk_disk.proofs.Additions.{IsNew, header_new, header_size_is, made_is
 use Rattle.blk_format.proofs.SpareHeaders.{other_file, past_header}
 use Rattle.blk_disk.proofs.Among.{all_files_among}
 use Rattle.blk_format.proofs.Among.{is_among-append, is_among_more}
-use Rattle.blk_disk.proofs.Chains.{block_kind, fails, linked_once, met_in, or_cases, type_none}
+use Rattle.blk_disk.proofs.Chains.{block_kind, fails, linked_once, met_in, or_cases, kind_none}
 use Rattle.blk_disk.proofs.Enlarging.{well_formed_still}
-use Rattle.blk_format.proofs.Keeping.{KeepsHead, all_types, along_kept, links_kept}
+use Rattle.blk_format.proofs.Keeping.{KeepsHead, all_kinds, along_kept, links_kept}
 use Rattle.blk_disk.proofs.Ranges.{stands_agree, stands_linked, stands_more}
 use Rattle.blk_disk.proofs.Linking.{checks_added, ends, links_added, some_along}
 
@@ -39,16 +39,16 @@ differ : (b : Bool) → b ≡ true → b ≡ false → ⊥
 differ b e d = cc
 
 -- the members of all lists are those of the four
-pub among_types : (files : BlockFiles) (m : ℕ) → is_among (all_files files) m ≡ (is_among (files_of files 1) m || is_among (files_of files 2) m || is_among (files_of files 3) m || is_among (files_of files 4) m)
+pub among_kinds : (files : BlockFiles) (m : ℕ) → is_among (all_files files) m ≡ (is_among (files_of files 1) m || is_among (files_of files 2) m || is_among (files_of files 3) m || is_among (files_of files 4) m)
 unfolding files_of
-among_types files m = all_files_among files m
+among_kinds files m = all_files_among files m
 
 -- a member of a list of a type is one of all
 member : (files : BlockFiles) (j m : ℕ) → j < 4 → is_among (files_of files (suc j)) m ≡ true → is_among (all_files files) m ≡ true
-member files j m small among = among_types files m ∙ or_type j small (λ kind. is_among (files_of files kind) m) among
+member files j m small among = among_kinds files m ∙ or_kind j small (λ kind. is_among (files_of files kind) m) among
   where
-    or_type : (j : ℕ) → j < 4 → (f : ℕ → Bool) → f (suc j) ≡ true → (f 1 || f 2 || f 3 || f 4) ≡ true
-    or_type j below f e = by_type j below e
+    or_kind : (j : ℕ) → j < 4 → (f : ℕ → Bool) → f (suc j) ≡ true → (f 1 || f 2 || f 3 || f 4) ≡ true
+    or_kind j below f e = by_kind j below e
       where
         by_tests : (a b c d : Bool) → (a ≡ true) ⊎ ((b ≡ true) ⊎ ((c ≡ true) ⊎ (d ≡ true))) → (a || b || c || d) ≡ true
         by_tests true true true true h = refl
@@ -68,12 +68,12 @@ member files j m small among = among_types files m ∙ or_type j small (λ kind.
         by_tests false false false true h = refl
         by_tests false false false false h = grind arith
 
-        by_type : (j : ℕ) → j < 4 → f (suc j) ≡ true → (f 1 || f 2 || f 3 || f 4) ≡ true
-        by_type zero small e = by_tests (f 1) (f 2) (f 3) (f 4) (inl e)
-        by_type (suc zero) small e = by_tests (f 1) (f 2) (f 3) (f 4) (inr (inl e))
-        by_type (suc (suc zero)) small e = by_tests (f 1) (f 2) (f 3) (f 4) (inr (inr (inl e)))
-        by_type (suc (suc (suc zero))) small e = by_tests (f 1) (f 2) (f 3) (f 4) (inr (inr (inr e)))
-        by_type (suc (suc (suc (suc j)))) small e = absurd (omega arith)
+        by_kind : (j : ℕ) → j < 4 → f (suc j) ≡ true → (f 1 || f 2 || f 3 || f 4) ≡ true
+        by_kind zero small e = by_tests (f 1) (f 2) (f 3) (f 4) (inl e)
+        by_kind (suc zero) small e = by_tests (f 1) (f 2) (f 3) (f 4) (inr (inl e))
+        by_kind (suc (suc zero)) small e = by_tests (f 1) (f 2) (f 3) (f 4) (inr (inr (inl e)))
+        by_kind (suc (suc (suc zero))) small e = by_tests (f 1) (f 2) (f 3) (f 4) (inr (inr (inr e)))
+        by_kind (suc (suc (suc (suc j)))) small e = absurd (omega arith)
 
 -- a header whose bytes are as before, but for the link
 keeps_from : (a b : Image) (m : ℕ) → length_of b (Block m) ≡ length_of a (Block m) → ((i : ℕ) → (i < 10) ⊎ (12 ≤ i) → byte b (Block m) i ≡ byte a (Block m) i) → KeepsHead a b m
@@ -91,9 +91,9 @@ keeps_from a b m size bytes =
     }
 
 -- the type of a file, where its membership in each list is as before
-same_type : (f g : ℕ → List ℕ) (m : ℕ) → is_among (f 1) m ≡ is_among (g 1) m → is_among (f 2) m ≡ is_among (g 2) m → is_among (f 3) m ≡ is_among (g 3) m → is_among (f 4) m ≡ is_among (g 4) m → type_among f m ≡ type_among g m
-unfolding type_among
-same_type f g m e1 e2 e3 e4 = λ i. if e1 i then Some 1 else if e2 i then Some 2 else if e3 i then Some 3 else if e4 i then Some 4 else None
+same_kind_of : (f g : ℕ → List ℕ) (m : ℕ) → is_among (f 1) m ≡ is_among (g 1) m → is_among (f 2) m ≡ is_among (g 2) m → is_among (f 3) m ≡ is_among (g 3) m → is_among (f 4) m ≡ is_among (g 4) m → kind_among f m ≡ kind_among g m
+unfolding kind_among
+same_kind_of f g m e1 e2 e3 e4 = λ i. if e1 i then Some 1 else if e2 i then Some 2 else if e3 i then Some 3 else if e4 i then Some 4 else None
 
 less_one : (n : ℕ) → suc n - 1 ≡ n
 less_one n = omega arith
@@ -157,11 +157,11 @@ module _ (files : BlockFiles) (image : Image) (p : ℕ) (small : p < 4) (agrees 
     unfolding linked
     chain_same j below nexts = links_kept image b (In j) (λ m among. heads m (not_new j m below among)) (suc j) nexts 59 (suc j - 1) (λ m among. among)
 
-    type_same : (j : ℕ) → j < 4 → Nexts j → ((m : ℕ) → In j m ≡ true → is_among (linked_up_to b (suc j - 1)) m ≡ is_among (linked_up_to image (suc j - 1)) m) → first_of (checks_of_type b (suc j)) ≡ None
-    unfolding linked checks_of_type
+    type_same : (j : ℕ) → j < 4 → Nexts j → ((m : ℕ) → In j m ≡ true → is_among (linked_up_to b (suc j - 1)) m ≡ is_among (linked_up_to image (suc j - 1)) m) → first_of (checks_of_kind b (suc j)) ≡ None
+    unfolding linked checks_of_kind
     type_same j below nexts same =
         along_kept image b (In j) (λ m among. heads m (not_new j m below among)) (suc j) nexts 59 (suc j - 1) (linked_up_to image (suc j - 1)) (linked_up_to b (suc j - 1)) same (λ m among. among)
-        (type_none image agrees.undamaged (suc j) (block_kind j below))
+        (kind_none image agrees.undamaged (suc j) (block_kind j below))
 
   -- an image in which each file but the new one is linked as before, and has its blocks
   keeps_blocks : (b : Image) → ((j m : ℕ) → j < 4 → m ≢ n → is_among (linked b (suc j)) m ≡ is_among (linked image (suc j)) m) → ((m : ℕ) → m ≢ n → max_entries_in b m ≡ max_entries_in image m) → ((m : ℕ) → m ≢ n → length_of b (Block m) ≡ length_of image (Block m))
@@ -172,7 +172,7 @@ module _ (files : BlockFiles) (image : Image) (p : ℕ) (small : p < 4) (agrees 
         let differs = standing_old w stands in
         let more = blocks m differs in
         let longer = lengths m differs in
-        stands_more image b w (type_same_of m differs) (omega (arith, more)) (omega (arith, longer)) stands;
+        stands_more image b w (kind_same_of m differs) (omega (arith, more)) (omega (arith, longer)) stands;
     bytes = λ w i stands low high. bytes (file_selector w) (standing_old w stands) i (let past = past_header w in omega (arith, past, low));
   }
     where
@@ -181,11 +181,11 @@ module _ (files : BlockFiles) (image : Image) (p : ℕ) (small : p < 4) (agrees 
           differ (is_among (all_files files) n)
           (ap (is_among (all_files files)) (sym same) ∙ stands_linked files w (stands_agree files image w agrees ∙ stands)) least.free
 
-      type_same_of : (m : ℕ) → m ≢ n → linked_as b m ≡ linked_as image m
-      type_same_of m differs = by_lists m (among 0 m (omega arith) differs) (among 1 m (omega arith) differs) (among 2 m (omega arith) differs) (among 3 m (omega arith) differs)
+      kind_same_of : (m : ℕ) → m ≢ n → linked_as b m ≡ linked_as image m
+      kind_same_of m differs = by_lists m (among 0 m (omega arith) differs) (among 1 m (omega arith) differs) (among 2 m (omega arith) differs) (among 3 m (omega arith) differs)
         where
           by_lists : (m : ℕ) → is_among (linked b 1) m ≡ is_among (linked image 1) m → is_among (linked b 2) m ≡ is_among (linked image 2) m → is_among (linked b 3) m ≡ is_among (linked image 3) m → is_among (linked b 4) m ≡ is_among (linked image 4) m → linked_as b m ≡ linked_as image m
-          by_lists m e1 e2 e3 e4 = same_type (linked b) (linked image) m e1 e2 e3 e4
+          by_lists m e1 e2 e3 e4 = same_kind_of (linked b) (linked image) m e1 e2 e3 e4
 
   -- an image while the new file is made
   module _ (b : Image) (same : SameOutside (whole (Block n)) image b) where
@@ -204,11 +204,11 @@ module _ (files : BlockFiles) (image : Image) (p : ℕ) (small : p < 4) (agrees 
     making_up zero upto = refl
     making_up (suc i) upto = ap₂ (λ (xs ys : List ℕ). xs ++ ys) (making_up i (omega arith)) (chain_same b making_heads i (omega arith) (making_nexts i (omega arith)))
 
-    making_type : (j : ℕ) → j < 4 → first_of (checks_of_type b (suc j)) ≡ None
-    making_type j below = type_same b making_heads j below (making_nexts j below) (λ m among. ap (λ (l : List ℕ). is_among l m) (making_up (suc j - 1) (omega arith)))
+    making_kind : (j : ℕ) → j < 4 → first_of (checks_of_kind b (suc j)) ≡ None
+    making_kind j below = type_same b making_heads j below (making_nexts j below) (λ m among. ap (λ (l : List ℕ). is_among l m) (making_up (suc j - 1) (omega arith)))
 
     making_undamaged : first_block_damage b ≡ None
-    making_undamaged = all_types b (making_type 0 (omega arith)) (making_type 1 (omega arith)) (making_type 2 (omega arith)) (making_type 3 (omega arith))
+    making_undamaged = all_kinds b (making_kind 0 (omega arith)) (making_kind 1 (omega arith)) (making_kind 2 (omega arith)) (making_kind 3 (omega arith))
 
     making_blocks_same : (m : ℕ) → m ≢ n → max_entries_in b m ≡ max_entries_in image m
     unfolding max_entries_in
@@ -344,8 +344,8 @@ module _ (files : BlockFiles) (image : Image) (p : ℕ) (small : p < 4) (agrees 
   own_fresh : is_among (linked_up_to done p) n ≡ false
   own_fresh = ap (λ (l : List ℕ). is_among l n) (up_below p (omega arith)) ∙ fails (is_among (linked_up_to image p) n) (λ among. differ (is_among (all_files files) n) (up_old p n (omega (arith, small)) among) least.free)
 
-  among_type : (i m : ℕ) → i < 4 → m ≢ n → is_among (linked done (suc i)) m ≡ is_among (linked image (suc i)) m
-  among_type i m below differs =
+  among_kind : (i m : ℕ) → i < 4 → m ≢ n → is_among (linked done (suc i)) m ≡ is_among (linked image (suc i)) m
+  among_kind i m below differs =
       ⊎_elim
       (λ same. subst (λ (j : ℕ). is_among (linked done (suc j)) m ≡ is_among (linked image (suc j)) m) (sym same)
       (let apart : (n == m) ≡ false = grind (arith, nat_tests) in
@@ -360,35 +360,35 @@ module _ (files : BlockFiles) (image : Image) (p : ℕ) (small : p < 4) (agrees 
   unfolding linked_up_to
   among_up zero m upto differs = refl
   among_up (suc i) m upto differs =
-      is_among-append (linked_up_to done i) (linked done (suc i)) m ∙ ap₂ (λ (x y : Bool). x || y) (among_up i m (omega arith) differs) (among_type i m (omega arith) differs)
+      is_among-append (linked_up_to done i) (linked done (suc i)) m ∙ ap₂ (λ (x y : Bool). x || y) (among_up i m (omega arith) differs) (among_kind i m (omega arith) differs)
       ∙ sym (is_among-append (linked_up_to image i) (linked image (suc i)) m)
 
-  own_type : first_of (checks_of_type done (suc p)) ≡ None
-  unfolding checks_of_type
-  own_type =
+  own_kind : first_of (checks_of_kind done (suc p)) ≡ None
+  unfolding checks_of_kind
+  own_kind =
       subst (λ (i : ℕ). first_of (checks_along done (suc p) (linked_up_to done i) 59 i) ≡ None) (sym (less_one p))
       (checks_added image done (In p) own_heads (suc p) last n p own_nexts last_ends done_names least.least_number below_256 (λ m among. not_new p m small among) new_next (new_passes (suc p) n (byte done (Block n)) (length_of done (Block n)) below_256 new_length new_fields) 59 p
       (linked_up_to image p) (linked_up_to done p) (λ m among. ap (λ (l : List ℕ). is_among l m) (up_below p (omega arith))) own_inside own_fresh last_is short
-      (subst (λ (i : ℕ). first_of (checks_along image (suc p) (linked_up_to image i) 59 i) ≡ None) (less_one p) (type_none image agrees.undamaged (suc p) (block_kind p small))))
+      (subst (λ (i : ℕ). first_of (checks_along image (suc p) (linked_up_to image i) 59 i) ≡ None) (less_one p) (kind_none image agrees.undamaged (suc p) (block_kind p small))))
 
-  done_type : (j : ℕ) → j < 4 → first_of (checks_of_type done (suc j)) ≡ None
-  done_type j below =
-      ⊎_elim (λ same. subst (λ (i : ℕ). first_of (checks_of_type done (suc i)) ≡ None) (sym same) own_type)
+  done_kind : (j : ℕ) → j < 4 → first_of (checks_of_kind done (suc j)) ≡ None
+  done_kind j below =
+      ⊎_elim (λ same. subst (λ (i : ℕ). first_of (checks_of_kind done (suc i)) ≡ None) (sym same) own_kind)
       (λ differs. type_same done done_heads j below (other_nexts j below differs) (λ m among. among_up (suc j - 1) m (omega arith) (not_new j m below among))) (cases_eq j p)
 
   done_undamaged : first_block_damage done ≡ None
-  done_undamaged = all_types done (done_type 0 (omega arith)) (done_type 1 (omega arith)) (done_type 2 (omega arith)) (done_type 3 (omega arith))
+  done_undamaged = all_kinds done (done_kind 0 (omega arith)) (done_kind 1 (omega arith)) (done_kind 2 (omega arith)) (done_kind 3 (omega arith))
 
   pub done_keeps : KeepsBlocks image done
-  done_keeps = keeps_blocks done (λ j m below differs. among_type j m below differs) done_blocks done_length (λ m differs i past. done_bytes m differs i (inr past))
+  done_keeps = keeps_blocks done (λ j m below differs. among_kind j m below differs) done_blocks done_length (λ m differs i past. done_bytes m differs i (inr past))
 
   pub done_formed : IsWellFormed image → IsWellFormed done
   done_formed formed = let same = done_outside in well_formed_still image done (λ i. same.bytes Index i refl) (same.lengths Index refl) (λ none. done_undamaged) formed
 
   -- what is kept once the new file is taken up
   module _ (new : BlockFiles) (joins : Joins files new (suc p) n 0 8192) where
-    joined_type : (j m : ℕ) → m ≢ n → is_among (files_of new (suc j)) m ≡ is_among (files_of files (suc j)) m
-    joined_type j m differs =
+    joined_kind : (j m : ℕ) → m ≢ n → is_among (files_of new (suc j)) m ≡ is_among (files_of files (suc j)) m
+    joined_kind j m differs =
         ⊎_elim
         (λ same. subst (λ (i : ℕ). is_among (files_of new (suc i)) m ≡ is_among (files_of files (suc i)) m) (sym same)
         (let apart : (n == m) ≡ false = grind (arith, nat_tests) in
@@ -401,7 +401,7 @@ module _ (files : BlockFiles) (image : Image) (p : ℕ) (small : p < 4) (agrees 
 
     joined : (m : ℕ) → m ≢ n → is_among (all_files new) m ≡ true → is_among (all_files files) m ≡ true
     joined m differs among =
-        among_types files m ∙ sym (λ i. joined_type 0 m differs i || joined_type 1 m differs i || joined_type 2 m differs i || joined_type 3 m differs i) ∙ sym (among_types new m) ∙ among
+        among_kinds files m ∙ sym (λ i. joined_kind 0 m differs i || joined_kind 1 m differs i || joined_kind 2 m differs i || joined_kind 3 m differs i) ∙ sym (among_kinds new m) ∙ among
 
     joined_links : (kind : ℕ) → is_block_kind kind ≡ true → files_of new kind ≡ linked done kind
     joined_links zero holds = absurd (differ false holds refl)
@@ -442,8 +442,8 @@ module _ (files : BlockFiles) (image : Image) (p : ℕ) (small : p < 4) (agrees 
     formed = making_formed files image p small agrees room least b same;
   }
 
-  along_type : Along (IsAdding files (suc p) image) image (add_steps files (suc p))
-  along_type =
+  along_kind : Along (IsAdding files (suc p) image) image (add_steps files (suc p))
+  along_kind =
       until-append (IsAdding files (suc p) image) (IsAdding files (suc p) image) (make_steps (suc p) (free_number files)) (link_steps (last_file files (suc p)) (free_number files)) image
       (until_weaker2 (SameOutside (whole (Block (free_number files))) image) (IsAdding files (suc p) image) (SameOutside (whole (Block (free_number files))) image) (IsAdding files (suc p) image) (make_steps (suc p) (free_number files)) image making_adds making_adds (making_outside (suc p) (free_number files) image)) (
         making_adds (after (make_steps (suc p) (free_number files)) image) (made_same files image p small agrees room least),
@@ -455,47 +455,47 @@ least_is files n same least = subst (IsLeastFree files) same least
 
 -- each type of blocks
 pub by_kind : (P : ℕ → Type 0) → ((p : ℕ) → p < 4 → P (suc p)) → (k : Kind) → kind_number k ≢ 0 → P (kind_number k)
-by_kind P each External blocky = absurd (blocky refl)
-by_kind P each Rankings blocky = each 0 (lit< tt)
-by_kind P each B256 blocky = each 1 (lit< tt)
-by_kind P each B1K blocky = each 2 (lit< tt)
-by_kind P each B4K blocky = each 3 (lit< tt)
+by_kind P each External block_kind = absurd (block_kind refl)
+by_kind P each Rankings block_kind = each 0 (lit< tt)
+by_kind P each B256 block_kind = each 1 (lit< tt)
+by_kind P each B1K block_kind = each 2 (lit< tt)
+by_kind P each B4K block_kind = each 3 (lit< tt)
 
 -- a call that made the file, and then linked it
-module _ (files : BlockFiles) (k : Kind) (blocky : kind_number k ≢ 0) (a : Told) (agrees : ForSome a.files (Agrees files)) (room : length (files_of files (kind_number k)) < 60) (least : IsLeastFree files (free_number files)) where
+module _ (files : BlockFiles) (k : Kind) (block_kind : kind_number k ≢ 0) (a : Told) (agrees : ForSome a.files (Agrees files)) (room : length (files_of files (kind_number k)) < 60) (least : IsLeastFree files (free_number files)) where
   abbrev kind : ℕ
   kind = kind_number k
 
   add_along : (image : Image) → Agrees files image → Along (IsAdding files kind image) image (add_steps files kind)
   add_along image agree =
-      by_kind (λ (j : ℕ). length (files_of files j) < 60 → Along (IsAdding files j image) image (add_steps files j)) (λ p small few. along_type files image p small agree few least) k blocky room
+      by_kind (λ (j : ℕ). length (files_of files j) < 60 → Along (IsAdding files j image) image (add_steps files j)) (λ p small few. along_kind files image p small agree few least) k block_kind room
 
   add_quiet : IsQuiet (add_steps files kind)
   add_quiet = quiet-append (make_steps kind (free_number files)) (link_steps (last_file files kind) (free_number files)) (making_quiet kind (free_number files)) tt
 
-  pub add_room : {b : Told} → Grows a b (make_steps kind (free_number files)) → ForSome b.files (λ image. 10 + 2 ≤ length_of image (Block (last_file files kind)))
+  pub add_room : {b : Told} → Applies a b (make_steps kind (free_number files)) → ForSome b.files (λ image. 10 + 2 ≤ length_of image (Block (last_file files kind)))
   add_room grows =
       told_whole (λ image. 10 + 2 ≤ length_of image (Block (last_file files kind))) grows
       (λ image there. by_kind (λ (j : ℕ). length (files_of files j) < 60 → 10 + 2 ≤ length_of (after (make_steps j (free_number files)) image) (Block (last_file files j)))
-      (λ p small few. let long = made_room files image p small (agrees image there) few least in omega (arith, long)) k blocky room)
+      (λ p small few. let long = made_room files image p small (agrees image there) few least in omega (arith, long)) k block_kind room)
 
-  passing : {d : Told} (P : Image → Type 0) (from : Image) → ((image : Image) → IsAdding files kind from image → P image) → a.files ≡ Some from → GrowsInPart a d (add_steps files kind) → Passes a d P
+  passing : {d : Told} (P : Image → Type 0) (from : Image) → ((image : Image) → IsAdding files kind from image → P image) → a.files ≡ Some from → AppliesPrefix a d (add_steps files kind) → Passes a d P
   passing P from holds there part =
       passes_part P P part add_quiet (λ image p. p)
       (λ image here. subst (λ (i : Image). Until P P i (add_steps files kind)) (some_inj (sym there ∙ here))
       (until_weaker2 (IsAdding files kind from) P (IsAdding files kind from) P (add_steps files kind) from holds holds (add_along from (agrees from there))))
 
-  pub add_outside : {d : Told} → GrowsInPart a d (add_steps files kind) → ForSome a.files (λ from. Passes a d (SameOutside (addition_of files kind) from))
+  pub add_outside : {d : Told} → AppliesPrefix a d (add_steps files kind) → ForSome a.files (λ from. Passes a d (SameOutside (addition_of files kind) from))
   add_outside part from there = passing (SameOutside (addition_of files kind) from) from (λ image adding. adding.outside) there part
 
-  pub add_blocks : {d : Told} → GrowsInPart a d (add_steps files kind) → ForSome a.files (λ from. Passes a d (KeepsBlocks from))
+  pub add_blocks : {d : Told} → AppliesPrefix a d (add_steps files kind) → ForSome a.files (λ from. Passes a d (KeepsBlocks from))
   add_blocks part from there = passing (KeepsBlocks from) from (λ image adding. adding.blocks) there part
 
-  pub add_formed : {d : Told} → GrowsInPart a d (add_steps files kind) → ForSome a.files (λ from. IsWellFormed from → Passes a d IsWellFormed)
+  pub add_formed : {d : Told} → AppliesPrefix a d (add_steps files kind) → ForSome a.files (λ from. IsWellFormed from → Passes a d IsWellFormed)
   add_formed part from there formed = passing IsWellFormed from (λ image adding. adding.formed formed) there part
 
-  pub add_agrees : {d : Told} (new : BlockFiles) → Grows a d (add_steps files kind) → Joins files new kind (free_number files) 0 8192 → ForSome d.files (Agrees new)
+  pub add_agrees : {d : Told} (new : BlockFiles) → Applies a d (add_steps files kind) → Joins files new kind (free_number files) 0 8192 → ForSome d.files (Agrees new)
   add_agrees new grows joins =
       told_whole (Agrees new) grows
       (λ image there. by_kind (λ (j : ℕ). length (files_of files j) < 60 → Joins files new j (free_number files) 0 8192 → Agrees new (after (add_steps files j) image))
-      (λ p small few joined. agrees_joined files image p small (agrees image there) few least new joined) k blocky room joins)
+      (λ p small few joined. agrees_joined files image p small (agrees image there) few least new joined) k block_kind room joins)

@@ -5,7 +5,7 @@ use Rattle.std.proofs.lemmas.List.Elements.{All-cons, All-push, All-map}
 use Rattle.blk_image.specs.Image.{Block, Image, HasRange, length_of}
 use Rattle.blk_image.specs.Steps.{after, word_steps, with_words}
 use Rattle.blk_image.specs.Footprint.{range}
-use Rattle.blk_image.specs.Told.{Told, Grows, GrowsInPart, Passes, Along, Until, IsQuiet}
+use Rattle.blk_image.specs.Told.{Told, Applies, AppliesPrefix, Passes, Along, Until, IsQuiet}
 use Rattle.blk_image.proofs.Runs.{passes_part, some_inj, told_part, told_whole, until_weaker2}
 use Rattle.blk_image.proofs.WordSteps.{quiet-word_steps}
 use Rattle.blk_format.specs.Address.{kind_of, file_selector, place, block_place, block_size, first_block}
@@ -15,7 +15,7 @@ use Rattle.blk_io.specs.declared.folder.FileId.TheVariants as names
 use Rattle.blk_io.specs.FileNames.{file_of}
 use Rattle.blk_disk.specs.declared.tables.BlockFiles.{BlockFiles}
 use Rattle.blk_disk.specs.Tables.{Agrees, stands_among}
-use Rattle.blk_format.specs.Sealed.{AreChanges, BeginsWithRecord, seal_by_kind, record_size, seal_place, record_at, record_range, RecordChecks, placed, update_words, update_steps, new_seal, sealed_steps, IsMoment, IsUpdated}
+use Rattle.blk_format.specs.Sealed.{AreChanges, BeginsWithRecord, seal_by_kind, record_size, seal_place, record_at, record_range, RecordChecks, placed, update_words, update_steps, new_seal, sealed_steps, IsMidUpdate, IsUpdated}
 use Rattle.blk_disk.proofs.Agreeing.{agrees_still}
 use Rattle.blk_format.proofs.SpareHeaders.{SparesHeaders, blocks_spare}
 use Rattle.blk_disk.proofs.Ranges.{stands_range}
@@ -74,39 +74,39 @@ module _ (files : BlockFiles) (w : ℕ) (changes : List (ℕ × ℕ)) (stands : 
   unfolding update_steps
   quiet seal = quiet-word_steps (Block (file_selector w)) (placed (place w) (update_words (seal_place w) changes seal))
 
-  along : (from : Image) → Agrees files from → RecordChecks w from → Along (IsMoment from w changes) from (sealed_steps from w changes)
+  along : (from : Image) → Agrees files from → RecordChecks w from → Along (IsMidUpdate from w changes) from (sealed_steps from w changes)
   along from agrees checks = moments w from changes (fits from agrees) checks (changes_before w changes are)
 
   module _ (a b : Told) (seal : ℕ) (agrees : ForSome a.files (Agrees files)) (checks : ForSome a.files (RecordChecks w)) (is : ForSome a.files (λ from. seal ≡ new_seal from w changes)) where
-    moments_of : (from : Image) → a.files ≡ Some from → Along (IsMoment from w changes) from (update_steps w changes seal)
-    moments_of from there = subst (λ (v : ℕ). Along (IsMoment from w changes) from (update_steps w changes v)) (sym (is from there)) (along from (agrees from there) (checks from there))
+    moments_of : (from : Image) → a.files ≡ Some from → Along (IsMidUpdate from w changes) from (update_steps w changes seal)
+    moments_of from there = subst (λ (v : ℕ). Along (IsMidUpdate from w changes) from (update_steps w changes v)) (sym (is from there)) (along from (agrees from there) (checks from there))
 
     -- the steps are those of the image
-    pub whole_is : Grows a b (update_steps w changes seal) → ForSome a.files (λ from. Grows a b (sealed_steps from w changes))
-    whole_is grows from there = subst (λ (v : ℕ). Grows a b (update_steps w changes v)) (is from there) grows
+    pub whole_is : Applies a b (update_steps w changes seal) → ForSome a.files (λ from. Applies a b (sealed_steps from w changes))
+    whole_is grows from there = subst (λ (v : ℕ). Applies a b (update_steps w changes v)) (is from there) grows
 
-    pub part_is : GrowsInPart a b (update_steps w changes seal) → ForSome a.files (λ from. GrowsInPart a b (sealed_steps from w changes))
-    part_is part from there = subst (λ (v : ℕ). GrowsInPart a b (update_steps w changes v)) (is from there) part
+    pub part_is : AppliesPrefix a b (update_steps w changes seal) → ForSome a.files (λ from. AppliesPrefix a b (sealed_steps from w changes))
+    part_is part from there = subst (λ (v : ℕ). AppliesPrefix a b (update_steps w changes v)) (is from there) part
 
     -- each moment is one of the update
-    pub stops : GrowsInPart a b (update_steps w changes seal) → ForSome a.files (λ from. Passes a b (IsMoment from w changes))
+    pub stops : AppliesPrefix a b (update_steps w changes seal) → ForSome a.files (λ from. Passes a b (IsMidUpdate from w changes))
     stops part from there =
-        let moment = IsMoment from w changes in
+        let moment = IsMidUpdate from w changes in
         passes_part moment moment part (quiet seal) (λ image m. m) (λ image here. subst (λ (i : Image). Until moment moment i (update_steps w changes seal)) (some_inj (sym there ∙ here)) (moments_of from there))
 
     -- what each moment has is there afterwards
-    after_part : (P : Image → Type 0) → ((from image : Image) → Agrees files from → IsMoment from w changes image → P image) → GrowsInPart a b (update_steps w changes seal) → ForSome b.files P
+    after_part : (P : Image → Type 0) → ((from image : Image) → Agrees files from → IsMidUpdate from w changes image → P image) → AppliesPrefix a b (update_steps w changes seal) → ForSome b.files P
     after_part P holds part =
         told_part P part
-        (λ from there. let moment = IsMoment from w changes in let kept : (i : Image) → moment i → P i = (λ i m. holds from i (agrees from there) m) in until_weaker2 moment P moment P (update_steps w changes seal) from kept kept (moments_of from there))
+        (λ from there. let moment = IsMidUpdate from w changes in let kept : (i : Image) → moment i → P i = (λ i m. holds from i (agrees from there) m) in until_weaker2 moment P moment P (update_steps w changes seal) from kept kept (moments_of from there))
 
-    pub agrees_after : GrowsInPart a b (update_steps w changes seal) → ForSome b.files (Agrees files)
+    pub agrees_after : AppliesPrefix a b (update_steps w changes seal) → ForSome b.files (Agrees files)
     agrees_after = after_part (Agrees files) (λ from image old moment. agrees_still (record_range w) from image (spares w) moment.outside files (λ n. refl) old)
 
-    pub checks_after : GrowsInPart a b (update_steps w changes seal) → ForSome b.files (RecordChecks w)
+    pub checks_after : AppliesPrefix a b (update_steps w changes seal) → ForSome b.files (RecordChecks w)
     checks_after = after_part (RecordChecks w) (λ from image old moment. moment.checks)
 
-    pub updated_after : Grows a b (update_steps w changes seal) → ForSome a.files (λ from. ForSome b.files (IsUpdated from w changes))
+    pub updated_after : Applies a b (update_steps w changes seal) → ForSome a.files (λ from. ForSome b.files (IsUpdated from w changes))
     updated_after grows from there =
         told_whole (IsUpdated from w changes) grows
         (λ image here. subst (λ (i : Image). IsUpdated from w changes (after (update_steps w changes seal) i)) (some_inj (sym there ∙ here))
@@ -114,8 +114,8 @@ module _ (files : BlockFiles) (w : ℕ) (changes : List (ℕ × ℕ)) (stands : 
 
 -- what an update leaves, whole or in part
 pub record IsLeft (files : BlockFiles) (w : ℕ) (changes : List (ℕ × ℕ)) (a b : Told) : Type 0 where
-  pub part : ForSome a.files (λ from. GrowsInPart a b (sealed_steps from w changes))
-  pub stops : ForSome a.files (λ from. Passes a b (IsMoment from w changes))
+  pub part : ForSome a.files (λ from. AppliesPrefix a b (sealed_steps from w changes))
+  pub stops : ForSome a.files (λ from. Passes a b (IsMidUpdate from w changes))
   pub agrees : ForSome b.files (Agrees files)
   pub checks : ForSome b.files (RecordChecks w)
 
@@ -130,9 +130,9 @@ module _ (files : BlockFiles) (w : ℕ) (changes : List (ℕ × ℕ)) (stands : 
   seal_here : ForSome a.files (λ from. seal ≡ new_seal from w changes)
   seal_here from there = new_seal_is from w changes kind seal bytes is_kind (read from there) is
 
-  pub left_by : GrowsInPart m b (update_steps w changes seal) → IsLeft files w changes a b
+  pub left_by : AppliesPrefix m b (update_steps w changes seal) → IsLeft files w changes a b
   left_by made =
-      let part : GrowsInPart a b (update_steps w changes seal) = subst (λ (t : Told). GrowsInPart t b (update_steps w changes seal)) stays made in
+      let part : AppliesPrefix a b (update_steps w changes seal) = subst (λ (t : Told). AppliesPrefix t b (update_steps w changes seal)) stays made in
       record {
         part = part_is files w changes stands begins are a b seal agrees checks seal_here part;
         stops = stops files w changes stands begins are a b seal agrees checks seal_here part;
@@ -140,8 +140,8 @@ module _ (files : BlockFiles) (w : ℕ) (changes : List (ℕ × ℕ)) (stands : 
         checks = checks_after files w changes stands begins are a b seal agrees checks seal_here part;
       }
 
-  pub whole_by : Grows m b (update_steps w changes seal) → ForSome a.files (λ from. Grows a b (sealed_steps from w changes))
-  whole_by made = whole_is files w changes stands begins are a b seal agrees checks seal_here (subst (λ (t : Told). Grows t b (update_steps w changes seal)) stays made)
+  pub whole_by : Applies m b (update_steps w changes seal) → ForSome a.files (λ from. Applies a b (sealed_steps from w changes))
+  whole_by made = whole_is files w changes stands begins are a b seal agrees checks seal_here (subst (λ (t : Told). Applies t b (update_steps w changes seal)) stays made)
 
-  pub updated_by : Grows m b (update_steps w changes seal) → ForSome a.files (λ from. ForSome b.files (IsUpdated from w changes))
-  updated_by made = updated_after files w changes stands begins are a b seal agrees checks seal_here (subst (λ (t : Told). Grows t b (update_steps w changes seal)) stays made)
+  pub updated_by : Applies m b (update_steps w changes seal) → ForSome a.files (λ from. ForSome b.files (IsUpdated from w changes))
+  updated_by made = updated_after files w changes stands begins are a b seal agrees checks seal_here (subst (λ (t : Told). Applies t b (update_steps w changes seal)) stays made)

@@ -5,9 +5,9 @@ use Rattle.std.specs.declared.option.Option.{Option}
 use Rattle.blk_image.specs.Image.{Image, Block, byte}
 use Rattle.blk_image.specs.Steps.{TrailStep, Word, SetLength, word_steps}
 use Rattle.blk_image.specs.Footprint.{Footprint, either, one_word, range, size_of, whole}
-use Rattle.blk_format.specs.Address.{block_size, file_selector, header_size, place, room}
+use Rattle.blk_format.specs.Address.{block_size, file_selector, header_size, place, byte_size}
 use Rattle.blk_format.specs.Headers.{block_magic, version, empty_of}
-use Rattle.blk_format.specs.BlockFiles.{type_among, is_among, blocks_a_growth, most_blocks, stands_in_blocks}
+use Rattle.blk_format.specs.BlockFiles.{kind_among, is_among, blocks_a_growth, most_blocks, stands_in_blocks}
 use Rattle.blk_disk.specs.declared.tables.BlockFiles.{BlockFiles}
 use Rattle.blk_disk.specs.Tables.{files_of, all_files, blocks_of, length_in}
 
@@ -18,7 +18,7 @@ size_as (Some kind) = block_size kind
 
 -- the length of a file with all its blocks
 unfoldable pub whole_length : BlockFiles → ℕ → ℕ
-whole_length files n = header_size + blocks_of files n * size_as (type_among (files_of files) n)
+whole_length files n = header_size + blocks_of files n * size_as (kind_among (files_of files) n)
 
 -- a file that is shorter than all its blocks gets as long as they are
 abbrev pub fit_steps : BlockFiles → ℕ → List TrailStep
@@ -27,7 +27,7 @@ fit_steps files n = if nat_lt (length_in files n) (whole_length files n) then Se
 -- each block that stood still stands, with the bytes that it had
 pub record KeepsBlocks (from image : Image) : Type 0 where
   pub stand : (w : ℕ) → stands_in_blocks from w ≡ true → stands_in_blocks image w ≡ true
-  pub bytes : (w i : ℕ) → stands_in_blocks from w ≡ true → place w ≤ i → i < place w + room w → byte image (Block (file_selector w)) i ≡ byte from (Block (file_selector w)) i
+  pub bytes : (w i : ℕ) → stands_in_blocks from w ≡ true → place w ≤ i → i < place w + byte_size w → byte image (Block (file_selector w)) i ≡ byte from (Block (file_selector w)) i
 
 -- A file grows.
 
@@ -41,7 +41,7 @@ new_groups blocks = (grown blocks - blocks) / 4
 
 -- the length of a file with all its blocks after a growth
 unfoldable pub grown_length : BlockFiles → ℕ → ℕ
-grown_length files n = header_size + grown (blocks_of files n) * size_as (type_among (files_of files) n)
+grown_length files n = header_size + grown (blocks_of files n) * size_as (kind_among (files_of files) n)
 
 -- the last of the four counters of empty groups, raised by so many modulo 2 ^ 32
 abbrev pub raised : Image → ℕ → ℕ → ℕ

@@ -8,7 +8,7 @@ use Rattle.blk_image.specs.Checks.{first_of}
 use Rattle.blk_image.specs.Told.{Told}
 use Rattle.blk_format.specs.Address.{header_size, is_block_kind}
 use Rattle.blk_format.specs.Headers.{next_file_of, max_entries_of, block_fields_length}
-use Rattle.blk_format.specs.BlockFiles.{most_files, next_file_in, max_entries_in, files_along, linked, linked_up_to, is_among, file_checks, checks_along, checks_of_type, block_types, block_checks, first_block_damage}
+use Rattle.blk_format.specs.BlockFiles.{most_files, next_file_in, max_entries_in, files_along, linked, linked_up_to, is_among, file_checks, checks_along, checks_of_kind, block_kinds, block_checks, first_block_damage}
 use Rattle.blk_io.specs.declared.folder.FileId.TheVariants as names
 use Rattle.blk_io.specs.declared.fault.Damage.{Damage}
 use Rattle.blk_io.specs.declared.fault.Fault.{Fault}
@@ -86,7 +86,7 @@ ReadsAs files image kind n (Err (Damaged damage)) = first_of (next_checks files 
 
 -- the checks of the types after one
 abbrev pub checks_after : Image → ℕ → List (Option checks.Damage)
-checks_after image kind = flat_map (checks_of_type image) (drop kind block_types)
+checks_after image kind = flat_map (checks_of_kind image) (drop kind block_kinds)
 
 -- the checks from the next file of a type on
 abbrev pub checks_from : BlockFiles → Image → ℕ → Option ℕ → List (Option checks.Damage)

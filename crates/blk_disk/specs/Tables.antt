@@ -2,7 +2,7 @@
 use Rattle.std.specs.Prelude.{ℕ, ◌≡◌, ◌≢◌, List, [], ◌∷◌, ◌++◌, Bool, false, true, slice_index, ◌==◌, if◌then◌else◌, None}
 use Rattle.blk_image.specs.Image.{Block, Image, length_of}
 use Rattle.blk_format.specs.Address.{rankings, blocks_256, blocks_1k, blocks_4k, is_block_kind}
-use Rattle.blk_format.specs.BlockFiles.{linked, max_entries_in, is_among, type_among, first_block_damage}
+use Rattle.blk_format.specs.BlockFiles.{linked, max_entries_in, is_among, kind_among, first_block_damage}
 use Rattle.blk_format.specs.Standing.{stands_as_blocks}
 use Rattle.blk_disk.specs.declared.tables.BlockFiles.{BlockFiles}
 
@@ -50,7 +50,7 @@ pub record Joins (old new : BlockFiles) (kind n blocks size : ℕ) : Type 0 wher
 
 -- a word is an address of blocks that are there: their file is linked and of its type, and all are below its number of blocks and end inside it
 abbrev pub stands_among : BlockFiles → ℕ → Bool
-stands_among files w = stands_as_blocks (type_among (files_of files)) (blocks_of files) (length_in files) (λ number. false) w
+stands_among files w = stands_as_blocks (kind_among (files_of files)) (blocks_of files) (length_in files) (λ number. false) w
 
 -- a file has this length now, and all else is as before
 pub record Resizes (old new : BlockFiles) (n size : ℕ) : Type 0 where

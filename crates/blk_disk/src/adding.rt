@@ -3,7 +3,7 @@ ghost use Rattle.std.specs.Prelude.{◌≡◌, ◌≢◌, ◌+◌, ◌<◌, ◌�
 ghost use Rattle.std.specs.Option.{ForSome};
 ghost use Rattle.blk_image.specs.Image.{HasRange, Block as block};
 ghost use Rattle.blk_image.specs.Footprint.{SameOutside};
-ghost use Rattle.blk_image.specs.Told.{Grows, GrowsInPart, Passes, Rises};
+ghost use Rattle.blk_image.specs.Told.{Applies, AppliesPrefix, Passes, Rises};
 ghost use Rattle.blk_format.specs.Address.{external, header_size};
 ghost use Rattle.blk_format.specs.BlockFiles.{most_files, IsWellFormed};
 ghost use Rattle.blk_addr.specs.Kind.{kind_number};
@@ -28,13 +28,13 @@ impl BlockFiles {
     /// 8192 and its header, and then the `next_file` of the last file of the kind names it. `Failed` comes
     /// only where the folder failed in this call; a front of the steps has then lasted.
     pub fn add_file<F: Folder>(&mut self, f: &mut F, kind: Kind) -> Result<u8, Failed>
-        requires of_blocks { kind_number kind ≢ external }
+        requires block_kind { kind_number kind ≢ external }
         requires room { length (files_of self.old (kind_number kind)) < most_files }
         requires agrees { ForSome (F.told f.old).files (Agrees self.old) }
         ensures number { IfOk result (λ n. n ≡ growth.free_number self.old) }
         ensures least { IfOk result (IsLeastFree self.old) }
-        ensures whole { OnOk result (Grows (F.told f.old) (F.told f.new) (add_steps self.old (kind_number kind))) }
-        ensures part { GrowsInPart (F.told f.old) (F.told f.new) (add_steps self.old (kind_number kind)) }
+        ensures steps { OnOk result (Applies (F.told f.old) (F.told f.new) (add_steps self.old (kind_number kind))) }
+        ensures prefix { AppliesPrefix (F.told f.old) (F.told f.new) (add_steps self.old (kind_number kind)) }
         ensures kept { IfOk result (λ n. Joins self.old self.new (kind_number kind) n 0 header_size) }
         ensures same { OnErr result (self.new ≡ self.old) }
         ensures agrees { OnOk result (ForSome (F.told f.new).files (Agrees self.new)) }
@@ -94,8 +94,8 @@ impl BlockFiles {
 // Makes a file with a header and no blocks. The four fields that aren't 0 stand side by side, and are written by one call.
 fn make_file<F: Folder>(f: &mut F, kind: Kind, n: u8) -> Result<(), Failed>
     requires { kind_number kind ≢ external }
-    ensures whole { OnOk result (Grows (F.told f.old) (F.told f.new) (make_steps (kind_number kind) n)) }
-    ensures part { GrowsInPart (F.told f.old) (F.told f.new) (make_steps (kind_number kind) n) }
+    ensures steps { OnOk result (Applies (F.told f.old) (F.told f.new) (make_steps (kind_number kind) n)) }
+    ensures prefix { AppliesPrefix (F.told f.old) (F.told f.new) (make_steps (kind_number kind) n) }
     ensures later { F.faults f.old ≤ F.faults f.new }
     ensures failed { OnErr result (Rises (F.faults f.old) (F.faults f.new)) }
 {
@@ -114,8 +114,8 @@ fn make_file<F: Folder>(f: &mut F, kind: Kind, n: u8) -> Result<(), Failed>
 // Writes the number of a file as the next one of another.
 fn link_file<F: Folder>(f: &mut F, last: u8, n: u8) -> Result<(), Failed>
     requires { ForSome (F.told f.old).files (λ image. HasRange image (block last) 10 2) }
-    ensures whole { OnOk result (Grows (F.told f.old) (F.told f.new) (link_steps last n)) }
-    ensures part { GrowsInPart (F.told f.old) (F.told f.new) (link_steps last n) }
+    ensures steps { OnOk result (Applies (F.told f.old) (F.told f.new) (link_steps last n)) }
+    ensures prefix { AppliesPrefix (F.told f.old) (F.told f.new) (link_steps last n) }
     ensures later { F.faults f.old ≤ F.faults f.new }
     ensures failed { OnErr result (Rises (F.faults f.old) (F.faults f.new)) }
 {

@@ -5,8 +5,8 @@ ghost use Rattle.blk_image.specs.Bytes.{range_at};
 ghost use Rattle.blk_image.specs.Image.{Block as block, byte};
 ghost use Rattle.blk_image.specs.Steps.{words};
 ghost use Rattle.blk_image.specs.Footprint.{SameOutside, range};
-ghost use Rattle.blk_image.specs.Told.{Grows, GrowsInPart, Passes, Rises, Stays};
-ghost use Rattle.blk_format.specs.Address.{file_selector, place, room};
+ghost use Rattle.blk_image.specs.Told.{Applies, AppliesPrefix, Passes, Rises, Stays};
+ghost use Rattle.blk_format.specs.Address.{file_selector, place, byte_size};
 ghost use Rattle.blk_io.specs.Faults.{IfDamaged, IfDevice, IsShort};
 ghost use Rattle.blk_disk.specs.Tables.{Agrees, stands_among};
 
@@ -28,7 +28,7 @@ impl BlockFiles {
         out: &mut [u8],
     ) -> Result<(), Fault>
         requires stands { IsTrue (stands_among self.now addr) }
-        requires inside { at + length out.old ≤ room addr }
+        requires inside { at + length out.old ≤ byte_size addr }
         requires agrees { ForSome (F.told f.old).files (Agrees self.now) }
         ensures bytes { OnOk result (ForSome (F.told f.old).files (λ image. out.new ≡ range_at (byte image (block (file_selector addr))) (place addr + at) (length out.old))) }
 
@@ -54,10 +54,10 @@ impl BlockFiles {
         bytes: &[u8],
     ) -> Result<(), Failed>
         requires stands { IsTrue (stands_among self.now addr) }
-        requires inside { at + length bytes.now ≤ room addr }
+        requires inside { at + length bytes.now ≤ byte_size addr }
         requires agrees { ForSome (F.told f.old).files (Agrees self.now) }
-        ensures whole { OnOk result (Grows (F.told f.old) (F.told f.new) (words (block (file_selector addr)) (place addr + at) bytes.now)) }
-        ensures part { GrowsInPart (F.told f.old) (F.told f.new) (words (block (file_selector addr)) (place addr + at) bytes.now) }
+        ensures steps { OnOk result (Applies (F.told f.old) (F.told f.new) (words (block (file_selector addr)) (place addr + at) bytes.now)) }
+        ensures prefix { AppliesPrefix (F.told f.old) (F.told f.new) (words (block (file_selector addr)) (place addr + at) bytes.now) }
 
         // At each word nothing else has changed.
         ensures outside { ForSome (F.told f.old).files (λ from. Passes (F.told f.old) (F.told f.new) (SameOutside (range (block (file_selector addr)) (place addr + at) (length bytes.now)) from)) }

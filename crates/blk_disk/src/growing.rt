@@ -3,9 +3,9 @@ ghost use Rattle.std.specs.Prelude.{◌≡◌, ◌+◌, ◌*◌, ◌<◌, ◌≤
 ghost use Rattle.std.specs.Option.{ForSome};
 ghost use Rattle.blk_image.specs.Image.{HasRange, Block as block};
 ghost use Rattle.blk_image.specs.Footprint.{SameOutside};
-ghost use Rattle.blk_image.specs.Told.{Grows, GrowsInPart, Passes, Rises, Stays};
+ghost use Rattle.blk_image.specs.Told.{Applies, AppliesPrefix, Passes, Rises, Stays};
 ghost use Rattle.blk_format.specs.Address.{header_size};
-ghost use Rattle.blk_format.specs.BlockFiles.{is_among, most_blocks, type_among, IsWellFormed};
+ghost use Rattle.blk_format.specs.BlockFiles.{is_among, most_blocks, kind_among, IsWellFormed};
 ghost use Rattle.blk_disk.specs.Tables.{Agrees, Enlarges, all_files, blocks_of, files_of, length_in};
 ghost use Rattle.blk_disk.specs.Growth as growth;
 ghost use Rattle.blk_disk.specs.Growth.{KeepsBlocks, grow_steps, growth_of, lengthen_steps, raise_steps, size_as};
@@ -32,8 +32,8 @@ impl BlockFiles {
         requires linked { IsTrue (is_among (all_files self.old) file) }
         requires below { blocks_of self.old file < most_blocks }
         requires agrees { ForSome (F.told f.old).files (Agrees self.old) }
-        ensures whole { OnOk result (ForSome (F.told f.old).files (λ image. Grows (F.told f.old) (F.told f.new) (grow_steps self.old file image))) }
-        ensures part { ForSome (F.told f.old).files (λ image. GrowsInPart (F.told f.old) (F.told f.new) (grow_steps self.old file image)) }
+        ensures steps { OnOk result (ForSome (F.told f.old).files (λ image. Applies (F.told f.old) (F.told f.new) (grow_steps self.old file image))) }
+        ensures prefix { ForSome (F.told f.old).files (λ image. AppliesPrefix (F.told f.old) (F.told f.new) (grow_steps self.old file image)) }
         ensures kept { OnOk result (Enlarges self.old self.new file (growth.grown (blocks_of self.old file)) (max (length_in self.old file) (growth.grown_length self.old file))) }
         ensures same { OnErr result (self.new ≡ self.old) }
         ensures agrees { OnOk result (ForSome (F.told f.new).files (Agrees self.new)) }
@@ -60,7 +60,7 @@ impl BlockFiles {
 
     // The length of a file with so many blocks.
     pub(crate) fn length_with(&self, file: u8, blocks: u32) -> u64
-        ensures { result ≡ header_size + blocks * size_as (type_among (files_of self.now) file) }
+        ensures { result ≡ header_size + blocks * size_as (kind_among (files_of self.now) file) }
     {
         let size = match self.linked_as(file) {
             Some(kind) => block_size(kind),
@@ -71,7 +71,7 @@ impl BlockFiles {
 
     // Makes a file as long as this, where it is shorter.
     fn lengthen<F: Folder>(&self, f: &mut F, file: u8, size: u64) -> Result<(), Failed>
-        ensures whole { OnOk result (Grows (F.told f.old) (F.told f.new) (lengthen_steps self.now file size)) }
+        ensures steps { OnOk result (Applies (F.told f.old) (F.told f.new) (lengthen_steps self.now file size)) }
         ensures undone { OnErr result (Stays (F.told f.old) (F.told f.new)) }
         ensures later { F.faults f.old ≤ F.faults f.new }
         ensures failed { OnErr result (Rises (F.faults f.old) (F.faults f.new)) }
@@ -88,8 +88,8 @@ impl BlockFiles {
 // Bytes of the counter that the folder doesn't give count as 0.
 fn raise<F: Folder>(f: &mut F, file: u8, groups: u32, blocks: u32) -> Result<(), Failed>
     requires { ForSome (F.told f.old).files (λ image. HasRange image (block file) 0 40) }
-    ensures whole { OnOk result (ForSome (F.told f.old).files (λ image. Grows (F.told f.old) (F.told f.new) (raise_steps image file groups blocks))) }
-    ensures part { ForSome (F.told f.old).files (λ image. GrowsInPart (F.told f.old) (F.told f.new) (raise_steps image file groups blocks)) }
+    ensures steps { OnOk result (ForSome (F.told f.old).files (λ image. Applies (F.told f.old) (F.told f.new) (raise_steps image file groups blocks))) }
+    ensures prefix { ForSome (F.told f.old).files (λ image. AppliesPrefix (F.told f.old) (F.told f.new) (raise_steps image file groups blocks)) }
     ensures untold { (F.told f.old).files ≡ None → (F.told f.new).files ≡ None }
     ensures later { F.faults f.old ≤ F.faults f.new }
     ensures failed { OnErr result (Rises (F.faults f.old) (F.faults f.new)) }

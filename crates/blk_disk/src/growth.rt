@@ -3,7 +3,7 @@ ghost use Rattle.std.specs.Prelude.{◌≡◌, ◌+◌, ◌*◌, ◌≤◌, IsTr
 ghost use Rattle.std.specs.Option.{ForSome};
 ghost use Rattle.blk_image.specs.Image.{Block as block};
 ghost use Rattle.blk_image.specs.Footprint.{SameOutside, size_of};
-ghost use Rattle.blk_image.specs.Told.{Grows, Passes, Rises, Stays};
+ghost use Rattle.blk_image.specs.Told.{Applies, Passes, Rises, Stays};
 ghost use Rattle.blk_format.specs.BlockFiles.{is_among, IsWellFormed};
 ghost use Rattle.blk_disk.specs.Tables.{Agrees, all_files, length_in, Resizes};
 ghost use Rattle.blk_disk.specs.Growth as growth;
@@ -19,7 +19,7 @@ impl BlockFiles {
     pub fn fit<F: Folder>(&mut self, f: &mut F, file: u8) -> Result<(), Failed>
         requires linked { IsTrue (is_among (all_files self.old) file) }
         requires agrees { ForSome (F.told f.old).files (Agrees self.old) }
-        ensures fitted { OnOk result (Grows (F.told f.old) (F.told f.new) (fit_steps self.old file)) }
+        ensures fitted { OnOk result (Applies (F.told f.old) (F.told f.new) (fit_steps self.old file)) }
         ensures undone { OnErr result (Stays (F.told f.old) (F.told f.new)) }
         ensures kept { OnOk result (Resizes self.old self.new file (max (length_in self.old file) (growth.whole_length self.old file))) }
         ensures same { OnErr result (self.new ≡ self.old) }

@@ -38,7 +38,7 @@ impl BlockFiles {
 
     // Takes up the files of a kind. Those of the kinds before it are taken up already.
     fn follow<F: Folder>(&mut self, f: &mut F, kind: Kind) -> Result<(), Fault>
-        requires of_blocks { kind_number kind ≢ external }
+        requires block_kind { kind_number kind ≢ external }
         requires empty { files_of self.old (kind_number kind) ≡ [] }
         requires begun { ForSome (F.told f.old).files (λ image. Follows self.old image (kind_number kind - 1) None) }
         ensures followed { OnOk result (ForSome (F.told f.new).files (λ image. Follows self.new image (kind_number kind) None)) }
@@ -58,7 +58,7 @@ impl BlockFiles {
 
     // Takes up the next file of a kind, and gives the one after it.
     fn link<F: Folder>(&mut self, f: &mut F, kind: Kind, n: u8) -> Result<Option<u8>, Fault>
-        requires of_blocks { kind_number kind ≢ external }
+        requires block_kind { kind_number kind ≢ external }
         requires room { length (files_of self.old (kind_number kind)) < most_files }
         requires next { ForSome (F.told f.old).files (λ image. Follows self.old image (kind_number kind) (Some n)) }
         ensures linked { IfOk result (λ next. ForSome (F.told f.new).files (λ image. Follows self.new image (kind_number kind) next)) }

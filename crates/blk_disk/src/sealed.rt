@@ -2,7 +2,7 @@
 ghost use Rattle.std.specs.Prelude.{◌≡◌, ◌+◌, ◌%◌, ◌^◌, ◌<◌, ◌≤◌, ◌⊎◌, All, IsTrue, None, OnErr, OnOk, length};
 ghost use Rattle.std.specs.Option.{ForSome};
 ghost use Rattle.blk_image.specs.Steps.{with_words};
-ghost use Rattle.blk_image.specs.Told.{Grows, GrowsInPart, Passes, Rises, Stays};
+ghost use Rattle.blk_image.specs.Told.{Applies, AppliesPrefix, Passes, Rises, Stays};
 ghost use Rattle.blk_format.specs.Address.{file_selector, kind_of, place};
 ghost use Rattle.blk_format.specs.Records as records;
 ghost use Rattle.blk_addr.specs.Kind.{kind_number};
@@ -11,7 +11,7 @@ ghost use Rattle.blk_io.specs.declared.folder.FileId.TheVariants as FileId;
 ghost use Rattle.blk_io.specs.Faults.{IfDamaged, IfDevice, IsShort};
 ghost use Rattle.blk_disk.specs.Tables.{Agrees, stands_among};
 ghost use Rattle.blk_disk.specs.Unsealed as unsealed;
-ghost use Rattle.blk_format.specs.Sealed.{AreChanges, BeginsWithRecord, IsMoment, IsUpdated, RecordChecks, placed, record_at, record_size, seal_by_kind, seal_place, sealed_steps, size_by_kind, update_steps, update_words};
+ghost use Rattle.blk_format.specs.Sealed.{AreChanges, BeginsWithRecord, IsMidUpdate, IsUpdated, RecordChecks, placed, record_at, record_size, seal_by_kind, seal_place, sealed_steps, size_by_kind, update_steps, update_words};
 ghost use Rattle.blk_disk.specs.Unsealed.{IsUnsealed};
 
 use crate::names::file_of;
@@ -45,12 +45,12 @@ impl BlockFiles {
         requires changes { AreChanges (seal_place addr) changes.now }
         requires agrees { ForSome (F.told f.old).files (Agrees self.now) }
         requires checks { ForSome (F.told f.old).files (RecordChecks addr) }
-        ensures whole { OnOk result (ForSome (F.told f.old).files (λ from. Grows (F.told f.old) (F.told f.new) (sealed_steps from addr changes.now))) }
-        ensures part { ForSome (F.told f.old).files (λ from. GrowsInPart (F.told f.old) (F.told f.new) (sealed_steps from addr changes.now)) }
+        ensures steps { OnOk result (ForSome (F.told f.old).files (λ from. Applies (F.told f.old) (F.told f.new) (sealed_steps from addr changes.now))) }
+        ensures prefix { ForSome (F.told f.old).files (λ from. AppliesPrefix (F.told f.old) (F.told f.new) (sealed_steps from addr changes.now)) }
         ensures updated { OnOk result (ForSome (F.told f.old).files (λ from. ForSome (F.told f.new).files (IsUpdated from addr changes.now))) }
 
         // At each word the record checks and has a front of the changes, and nothing else has changed.
-        ensures stops { ForSome (F.told f.old).files (λ from. Passes (F.told f.old) (F.told f.new) (IsMoment from addr changes.now)) }
+        ensures stops { ForSome (F.told f.old).files (λ from. Passes (F.told f.old) (F.told f.new) (IsMidUpdate from addr changes.now)) }
         ensures agrees { ForSome (F.told f.new).files (Agrees self.now) }
         ensures checks { ForSome (F.told f.new).files (RecordChecks addr) }
 
@@ -108,8 +108,8 @@ impl BlockFiles {
         requires begins { BeginsWithRecord addr }
         requires changes { AreChanges (seal_place addr) changes.now }
         requires agrees { ForSome (F.told f.old).files (Agrees self.now) }
-        ensures whole { OnOk result (Grows (F.told f.old) (F.told f.new) (update_steps addr changes.now seal)) }
-        ensures part { GrowsInPart (F.told f.old) (F.told f.new) (update_steps addr changes.now seal) }
+        ensures steps { OnOk result (Applies (F.told f.old) (F.told f.new) (update_steps addr changes.now seal)) }
+        ensures prefix { AppliesPrefix (F.told f.old) (F.told f.new) (update_steps addr changes.now seal) }
         ensures later { F.faults f.old ≤ F.faults f.new }
         ensures failed { OnErr result (Rises (F.faults f.old) (F.faults f.new)) }
     {

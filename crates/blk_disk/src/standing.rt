@@ -3,8 +3,8 @@ ghost use Rattle.std.specs.Prelude.{IfSome, IsTrue, ◌≡◌, ◌≢◌, ◌+�
 ghost use Rattle.std.specs.Option.{option_map};
 ghost use Rattle.blk_image.specs.Image.{Image};
 ghost use Rattle.blk_format.specs.Address as address;
-ghost use Rattle.blk_format.specs.Address.{external, file_selector, kind_of, place, room};
-ghost use Rattle.blk_format.specs.BlockFiles.{is_among, stands_in_blocks, type_among};
+ghost use Rattle.blk_format.specs.Address.{external, file_selector, kind_of, place, byte_size};
+ghost use Rattle.blk_format.specs.BlockFiles.{is_among, stands_in_blocks, kind_among};
 ghost use Rattle.blk_format.specs.Standing as standing;
 ghost use Rattle.blk_addr.specs.Kind.{kind_number};
 ghost use Rattle.blk_disk.specs.Tables.{Agrees, all_files, blocks_of, files_of, stands_among};
@@ -26,7 +26,7 @@ pub(crate) fn place_of(addr: Addr) -> u64
 // The number of bytes of the blocks of an address.
 pub(crate) fn room_of(addr: Addr) -> u64
     requires { kind_of addr ≢ external }
-    ensures room { result ≡ room addr }
+    ensures room { result ≡ byte_size addr }
     ensures small { result < 2 ^ 32 }
 {
     u64::from(addr.blocks()) * u64::from(block_size(addr.kind()))
@@ -62,7 +62,7 @@ impl BlockFiles {
     /// and all are below its number of blocks and end inside it.
     pub fn stands(&self, addr: Addr) -> bool
         ensures among { result ≡ stands_among self.now addr }
-        ensures of_blocks { IsTrue result → kind_of addr ≢ external }
+        ensures block_kind { IsTrue result → kind_of addr ≢ external }
         ensures in_folder { (image : Image) → Agrees self.now image → result ≡ stands_in_blocks image addr }
     {
         let FileId::Block(file) = addr.file() else {
@@ -86,7 +86,7 @@ impl BlockFiles {
 
     // Whether a file is linked as one of a kind.
     fn is_linked_as(&self, file: u8, kind: Kind) -> bool
-        ensures { result ≡ standing.is_linked_as (type_among (files_of self.now) file) (kind_number kind) }
+        ensures { result ≡ standing.is_linked_as (kind_among (files_of self.now) file) (kind_number kind) }
     {
         match self.linked_as(file) {
             Some(linked) => linked == kind,
@@ -96,8 +96,8 @@ impl BlockFiles {
 
     // The kind as which a file is linked.
     pub(crate) fn linked_as(&self, file: u8) -> Option<Kind>
-        ensures of_blocks { IfSome result (λ kind. kind_number kind ≢ external) }
-        ensures kind { option_map kind_number result ≡ type_among (files_of self.now) file }
+        ensures block_kind { IfSome result (λ kind. kind_number kind ≢ external) }
+        ensures kind { option_map kind_number result ≡ kind_among (files_of self.now) file }
     {
         let found = KINDS.iter().find(|kind| self.has_in(**kind, file));
         found.copied()

@@ -2,7 +2,7 @@
 ghost use Rattle.std.specs.Prelude.{◌≡◌, ◌≢◌, ◌<◌, ◌≤◌, ◌+◌, [], ◌∷◌, ◌++◌, ◌==◌, length, IsTrue, Some, None, slice_get, if◌then◌else◌};
 ghost use Rattle.std.specs.Option.{option_map};
 ghost use Rattle.blk_format.specs.Address.{external};
-ghost use Rattle.blk_format.specs.BlockFiles.{is_among, type_among, most_files};
+ghost use Rattle.blk_format.specs.BlockFiles.{is_among, kind_among, most_files};
 ghost use Rattle.blk_addr.specs.Kind.{kind_number};
 
 use arrayvec::ArrayVec;
@@ -112,7 +112,7 @@ impl BlockFiles {
 
     // Takes up a file as the last one of its type.
     pub(crate) fn join(&mut self, kind: Kind, file: u8, blocks: u32, size: u64)
-        requires of_blocks { kind_number kind ≢ external }
+        requires block_kind { kind_number kind ≢ external }
         requires room { length (files_of self.old (kind_number kind)) < most_files }
         ensures { Joins self.old self.new (kind_number kind) file blocks size }
     {

@@ -161,7 +161,7 @@ fn a_file_is_linked_once(rt: HostRuntime) -> Result<(), Fail> {
 }
 
 #[test]
-fn the_sixtieth_file_of_a_type_has_no_next_one(rt: HostRuntime) -> Result<(), Fail> {
+fn the_sixtieth_file_of_a_kind_has_no_next_one(rt: HostRuntime) -> Result<(), Fail> {
     let alloc = rt.alloc();
     let mut headers = Vec::new(alloc);
     headers.push((0u8, 4u16, 36u32, 0u32))?;

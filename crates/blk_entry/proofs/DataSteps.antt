@@ -6,7 +6,7 @@ use Rattle.std.specs.Option.{ForSome}
 use Rattle.blk_image.specs.Image.{Block, External, Image, length_of}
 use Rattle.blk_image.specs.Footprint.{SameOutside, range}
 use Rattle.blk_image.specs.Steps.{after, words}
-use Rattle.blk_image.specs.Told.{Told, Grows, GrowsInPart}
+use Rattle.blk_image.specs.Told.{Told, Applies, AppliesPrefix}
 use Rattle.blk_image.proofs.Footprints.{words_inside}
 use Rattle.blk_image.proofs.Runs.{told_part, told_whole, until_last, until_weaker2}
 use Rattle.blk_format.specs.Address.{kind_of, external, external_number, file_selector, place}
@@ -19,14 +19,14 @@ use Rattle.blk_entry.specs.Steps.{data_steps}
 
 pub steps_of_blocks : (w at : ℕ) (bytes : List ℕ) → kind_of w ≢ external → data_steps w at bytes ≡ words (Block (file_selector w)) (place w + at) bytes
 unfolding data_steps data_file data_start
-steps_of_blocks w at bytes blocky = let t : (kind_of w == external) ≡ false = grind (arith, nat_tests) in rw t refl
+steps_of_blocks w at bytes block_kind = let t : (kind_of w == external) ≡ false = grind (arith, nat_tests) in rw t refl
 
 pub steps_of_external : (w at : ℕ) (bytes : List ℕ) → kind_of w ≡ external → data_steps w at bytes ≡ words (External (external_number w)) at bytes
 unfolding data_steps data_file data_start
 steps_of_external w at bytes is = rw is (ap (λ (i : ℕ). words (External (external_number w)) i bytes) (let e : 0 + at ≡ at = omega arith in e))
 
 -- writes into an external file leave the headers
-pub agrees_outside : (files : BlockFiles) (a b : Told) (n at : ℕ) (bytes : List ℕ) → GrowsInPart a b (words (External n) at bytes) → ForSome a.files (Agrees files) → ForSome b.files (Agrees files)
+pub agrees_outside : (files : BlockFiles) (a b : Told) (n at : ℕ) (bytes : List ℕ) → AppliesPrefix a b (words (External n) at bytes) → ForSome a.files (Agrees files) → ForSome b.files (Agrees files)
 agrees_outside files a b n at bytes part agrees =
     told_part (Agrees files) part
     (λ image there. until_weaker2 (SameOutside (range (External n) at (length bytes)) image) (Agrees files) (SameOutside (range (External n) at (length bytes)) image) (Agrees files) (words (External n) at bytes) image
@@ -39,7 +39,7 @@ agrees_outside files a b n at bytes part agrees =
     kept from was image same = agrees_still (range (External n) at (length bytes)) from image spares same files (λ m. refl) was
 
 -- after a write of bytes there is still room for one more behind them
-pub room_kept : (a b : Told) (w at : ℕ) (bytes : List ℕ) → Grows a b (data_steps w at bytes) → ForSome a.files (IsInFile w at (length bytes + 1)) → ForSome b.files (IsInFile w (at + length bytes) 1)
+pub room_kept : (a b : Told) (w at : ℕ) (bytes : List ℕ) → Applies a b (data_steps w at bytes) → ForSome a.files (IsInFile w at (length bytes + 1)) → ForSome b.files (IsInFile w (at + length bytes) 1)
 unfolding data_steps
 room_kept a b w at bytes grown inside =
     told_whole (IsInFile w (at + length bytes) 1) grown

@@ -10,13 +10,13 @@ use Rattle.blk_image.specs.Bytes.{content, word_at, range_at}
 use Rattle.blk_image.specs.Image.{Block, External, Image, byte, has_file, length_of, word}
 use Rattle.blk_image.specs.Told.{Told}
 use Rattle.blk_image.proofs.Words.{length-range}
-use Rattle.blk_format.specs.Address.{kind_of, block_count, block_size, is_address, external, external_number, file_selector, place, room, blocks_256}
+use Rattle.blk_format.specs.Address.{kind_of, block_count, block_size, is_address, external, external_number, file_selector, place, byte_size, blocks_256}
 use Rattle.blk_format.specs.Records.{entry_in}
 use Rattle.blk_format.specs.Storage.{entry_blocks, is_storage, kind_for, blocks_for, divided_up}
 use Rattle.blk_format.specs.Standing.{stands}
 use Rattle.blk_format.specs.BlockFiles.{stands_in, stands_in_blocks}
 use Rattle.blk_format.proofs.Bodies.{range-add}
-use Rattle.blk_volume.specs.View.{Core, core_at, core_of, entry_at, key_place_at, stands_as, stored_at, stock_of}
+use Rattle.blk_volume.specs.View.{RecordFields, core_at, fields_of, entry_at, key_place_at, stands_as, stored_at, store_of}
 use Rattle.blk_volume.specs.Entries.{is_key_length, key_of, longest_key}
 use Rattle.blk_disk.specs.declared.tables.BlockFiles.{BlockFiles}
 use Rattle.blk_disk.specs.Tables.{Agrees, stands_among}
@@ -49,7 +49,7 @@ of_other a b e same = absurd (none (sym e ∙ ap (λ (k : ℕ). a == k) (sym sam
 -- the data of an address of blocks, and of an external one
 pub data_of_blocks : (image : Image) (w at n : ℕ) → kind_of w ≢ external → data_at image w at n ≡ range_at (byte image (Block (file_selector w))) (place w + at) n
 unfolding data_file data_start
-data_of_blocks image w at n blocky = let t : (kind_of w == external) ≡ false = grind (arith, nat_tests) in rw t refl
+data_of_blocks image w at n block_kind = let t : (kind_of w == external) ≡ false = grind (arith, nat_tests) in rw t refl
 
 pub data_of_external : (image : Image) (w at n : ℕ) → kind_of w ≡ external → data_at image w at n ≡ range_at (byte image (External (external_number w))) at n
 unfolding data_file data_start
@@ -95,17 +95,17 @@ short_blocks k short =
         clash h = cc
 
 -- a key in its record, and a zero byte behind it
-pub short_room : (w k : ℕ) → kind_of w ≡ blocks_256 → block_count w ≡ entry_blocks k → k ≤ 927 → 96 + k < room w
+pub short_room : (w k : ℕ) → kind_of w ≡ blocks_256 → block_count w ≡ entry_blocks k → k ≤ 927 → 96 + k < byte_size w
 short_room w k kind blocks short =
-    let room_is : room w ≡ 256 * entry_blocks k = entry_room w kind ∙ ap (λ (n : ℕ). 256 * n) blocks in
+    let room_is : byte_size w ≡ 256 * entry_blocks k = entry_room w kind ∙ ap (λ (n : ℕ). 256 * n) blocks in
     let h = short_blocks k short in
     omega (arith, h, room_is)
 
 pub short_inside : (files : BlockFiles) (w k : ℕ) → kind_of w ≡ blocks_256 → stands_among files w ≡ true → may_have w k ≡ true → k ≤ 927 → IsInside files w 96 k
 short_inside files w k kind stands has short =
     let parts = may_have_parts w k has in
-    let room_is : room w ≡ 256 * entry_blocks k = entry_room w kind ∙ ap (λ (n : ℕ). 256 * n) parts.2 in
-    record { small = omega (arith, short); stands = λ blocky. stands; room = λ blocky. let h = short_blocks k short in omega (arith, h, room_is) }
+    let room_is : byte_size w ≡ 256 * entry_blocks k = entry_room w kind ∙ ap (λ (n : ℕ). 256 * n) parts.2 in
+    record { small = omega (arith, short); stands = λ block_kind. stands; room = λ block_kind. let h = short_blocks k short in omega (arith, h, room_is) }
 
 -- data that has its storage
 both : (a b : Bool) → a ≡ true → b ≡ true → (a && b) ≡ true
@@ -123,7 +123,7 @@ storage_parts size w some e =
     let b = and_parts (is_address w) (kind_of w == kind_for size) a.0 in (
       b.0,
       eqb-true (kind_of w) (kind_for size) b.1,
-      λ blocky. let t : (kind_of w == external) ≡ false = grind (arith, nat_tests) in eqb-true (block_count w) (blocks_for size) (right_of (kind_of w == external) (block_count w == blocks_for size) t a.1),
+      λ block_kind. let t : (kind_of w == external) ≡ false = grind (arith, nat_tests) in eqb-true (block_count w) (blocks_for size) (right_of (kind_of w == external) (block_count w == blocks_for size) t a.1),
     )
 
 pub stores_is : (files : BlockFiles) (size w : ℕ) → is_address w ≡ true → 0 < size
@@ -140,14 +140,14 @@ stores_is files size w address some =
     by_tests false b c d = refl
 
 pub stores_stand : (files : BlockFiles) (size w : ℕ) → is_address w ≡ true → 0 < size → kind_of w ≡ kind_for size → kind_of w ≢ external → block_count w ≡ blocks_for size → stores files size w ≡ stands_among files w
-stores_stand files size w address some kind blocky count =
+stores_stand files size w address some kind block_kind count =
     let a : (kind_of w == kind_for size) ≡ true = grind (arith, nat_tests) in
     let b : (kind_of w == external) ≡ false = grind (arith, nat_tests) in
     let c : (block_count w == blocks_for size) ≡ true = grind (arith, nat_tests) in
     stores_is files size w address some ∙ (λ i. a i && (b i || (c i && stands_among files w)))
 
 pub stores_none : (files : BlockFiles) (size w : ℕ) → is_address w ≡ true → 0 < size → kind_of w ≢ external → block_count w ≢ blocks_for size → stores files size w ≡ false
-stores_none files size w address some blocky count =
+stores_none files size w address some block_kind count =
     let b : (kind_of w == external) ≡ false = grind (arith, nat_tests) in
     let c : (block_count w == blocks_for size) ≡ false = grind (arith, nat_tests) in
     stores_is files size w address some ∙ (λ i. (kind_of w == kind_for size) && (b i || (c i && stands_among files w))) ∙ none (kind_of w == kind_for size)
@@ -205,15 +205,15 @@ kind_by false false false some = absurd (some refl)
 
 kind_is : (size : ℕ) → kind_for size ≢ external → (kind_for size ≡ 2) ⊎ ((kind_for size ≡ 3) ⊎ (kind_for size ≡ 4))
 unfolding kind_for
-kind_is size blocky = kind_by (nat_le size 1023) (nat_le size 4095) (nat_le size 16384) blocky
+kind_is size block_kind = kind_by (nat_le size 1023) (nat_le size 4095) (nat_le size 16384) block_kind
 
-pub storage_room : (size w : ℕ) → 0 < size → is_storage size w ≡ true → kind_of w ≢ external → size ≤ room w
-unfolding room blocks_for
-storage_room size w some e blocky =
+pub storage_room : (size w : ℕ) → 0 < size → is_storage size w ≡ true → kind_of w ≢ external → size ≤ byte_size w
+unfolding byte_size blocks_for
+storage_room size w some e block_kind =
     let parts = storage_parts size w some e in
-    let kf : kind_for size ≢ external = λ z. blocky (parts.1 ∙ z) in
+    let kf : kind_for size ≢ external = λ z. block_kind (parts.1 ∙ z) in
     let t : (kind_for size == external) ≡ false = grind (arith, nat_tests) in
-    let blocks : block_count w ≡ divided_up size (block_size (kind_for size)) = parts.2 blocky ∙ ap (λ (b : Bool). if b then 0 else divided_up size (block_size (kind_for size))) t in
+    let blocks : block_count w ≡ divided_up size (block_size (kind_for size)) = parts.2 block_kind ∙ ap (λ (b : Bool). if b then 0 else divided_up size (block_size (kind_for size))) t in
     let fits = up_fits size (block_size (kind_for size)) (size_is (kind_for size) (kind_is size kf)) in
     subst (λ (n : ℕ). size ≤ n) (ap₂ (λ (a b : ℕ). a * block_size b) (sym blocks) (sym parts.1)) fits
 
@@ -223,8 +223,8 @@ long_inside files w k most holds =
     let p = and_parts (is_storage (k + 1) w) ((kind_of w == external) || stands_among files w) holds in
     record {
       small = omega (arith, most);
-      stands = λ blocky. let t : (kind_of w == external) ≡ false = grind (arith, nat_tests) in right_of (kind_of w == external) (stands_among files w) t p.1;
-      room = λ blocky. let h = storage_room (k + 1) w (omega arith) p.0 blocky in omega (arith, h);
+      stands = λ block_kind. let t : (kind_of w == external) ≡ false = grind (arith, nat_tests) in right_of (kind_of w == external) (stands_among files w) t p.1;
+      room = λ block_kind. let h = storage_room (k + 1) w (omega arith) p.0 block_kind in omega (arith, h);
     }
 
 -- The key of a record, as the view has it.
@@ -278,7 +278,7 @@ stored_is image size w bytes some e =
 
 blocks_stand : (files : BlockFiles) (image : Image) (w : ℕ) → Agrees files image → kind_of w ≢ external → stands_in image w ≡ true → stands_among files w ≡ true
 unfolding stands
-blocks_stand files image w agrees blocky st =
+blocks_stand files image w agrees block_kind st =
     let t : (kind_of w == external) ≡ false = grind (arith, nat_tests) in
     let b = (and_parts (is_address w) (if kind_of w == external then has_file image (External (external_number w)) else stands_in_blocks image w) st).1 in
     let c : stands_in_blocks image w ≡ true = rw t at b in
@@ -323,8 +323,8 @@ module _ (files : BlockFiles) (image : Image) (entry : ℕ) (key : List ℕ) (k 
       both (is_storage (k + 1) l) ((kind_of l == external) || stands_among files l) s.storage
       (⊎_elim (λ (e : (kind_of l == external) ≡ true). rw e refl)
       (λ (e : (kind_of l == external) ≡ false).
-      let blocky : kind_of l ≢ external = (λ same. let z : (kind_of l == external) ≡ true = grind (arith, nat_tests) in let y : true ≡ false = sym z ∙ e in cc) in
-      let h = blocks_stand files image l agrees blocky s.stands_there in rw (e, h) refl)
+      let block_kind : kind_of l ≢ external = (λ same. let z : (kind_of l == external) ≡ true = grind (arith, nat_tests) in let y : true ≡ false = sym z ∙ e in cc) in
+      let h = blocks_stand files image l agrees block_kind s.stands_there in rw (e, h) refl)
       (cases_Bool (kind_of l == external)))
 
   long_key : is_short k ≡ false → (bytes : List ℕ) → IsStored image (k + 1) l bytes → key ≡ take k bytes → IsKey files image entry key k l
@@ -351,38 +351,38 @@ module _ (files : BlockFiles) (image : Image) (entry : ℕ) (key : List ℕ) (k 
       by_test false z e h = let m = map_some (take k) (stored_at image (k + 1) l) key h in long_key e m.0 (stored_is image (k + 1) l m.0 (omega arith) m.1.0) m.1.1
 
 -- a length that is right for the record is one that it may have
-length_right : (entry : ℕ) (core : Core) → is_key_length entry core ≡ true → may_have entry core.key_len ≡ true
+length_right : (entry : ℕ) (fields : RecordFields) → is_key_length entry fields ≡ true → may_have entry fields.key_len ≡ true
 unfolding is_key_length may_have
-length_right entry core e =
-    let a = and_parts (nat_le 1 core.key_len && nat_le core.key_len (longest_key core)) (block_count entry == entry_blocks core.key_len) e in
-    let b = and_parts (nat_le 1 core.key_len) (nat_le core.key_len (longest_key core)) a.0 in
-    let most : nat_le core.key_len 32796 ≡ true = by_test (core.flags == 2) b.1 in
-    both (nat_le 1 core.key_len && nat_le core.key_len 32796) (block_count entry == entry_blocks core.key_len) (both (nat_le 1 core.key_len) (nat_le core.key_len 32796) b.0 most) a.1
+length_right entry fields e =
+    let a = and_parts (nat_le 1 fields.key_len && nat_le fields.key_len (longest_key fields)) (block_count entry == entry_blocks fields.key_len) e in
+    let b = and_parts (nat_le 1 fields.key_len) (nat_le fields.key_len (longest_key fields)) a.0 in
+    let most : nat_le fields.key_len 32796 ≡ true = by_test (fields.flags == 2) b.1 in
+    both (nat_le 1 fields.key_len && nat_le fields.key_len 32796) (block_count entry == entry_blocks fields.key_len) (both (nat_le 1 fields.key_len) (nat_le fields.key_len 32796) b.0 most) a.1
   where
-    by_test : (t : Bool) → nat_le core.key_len (if t then 32796 else 32768) ≡ true → nat_le core.key_len 32796 ≡ true
+    by_test : (t : Bool) → nat_le fields.key_len (if t then 32796 else 32768) ≡ true → nat_le fields.key_len 32796 ≡ true
     by_test true h = h
     by_test false h = grind (arith, nat_tests)
 
 pub key_facts : (files : BlockFiles) (image : Image) (entry : ℕ) (key : List ℕ) → Agrees files image → kind_of entry ≡ blocks_256 → key_at image entry ≡ Some key → IsKey files image entry key (entry_at image entry).key_len (entry_at image entry).long_key
-unfolding key_at core_at key_of stock_of key_place_at
+unfolding key_at core_at key_of store_of key_place_at
 key_facts files image entry key agrees kind e = by_stands (stands_as image blocks_256 entry) e
   where
     none_some : None ≡ Some key → ⊥
     none_some h = cc
 
-    by_length : (t : Bool) → is_key_length entry (core_of (entry_at image entry)) ≡ t → (if t then key_of (stock_of image) entry (core_of (entry_at image entry)) else None) ≡ Some key → IsKey files image entry key (entry_at image entry).key_len (entry_at image entry).long_key
-    by_length true l h = keyed files image entry key (entry_at image entry).key_len (entry_at image entry).long_key agrees kind (length_right entry (core_of (entry_at image entry)) l) h
+    by_length : (t : Bool) → is_key_length entry (fields_of (entry_at image entry)) ≡ t → (if t then key_of (store_of image) entry (fields_of (entry_at image entry)) else None) ≡ Some key → IsKey files image entry key (entry_at image entry).key_len (entry_at image entry).long_key
+    by_length true l h = keyed files image entry key (entry_at image entry).key_len (entry_at image entry).long_key agrees kind (length_right entry (fields_of (entry_at image entry)) l) h
     by_length false l h = absurd (none_some h)
 
-    by_stands : (t : Bool) → option_and_then (λ core. if is_key_length entry core then key_of (stock_of image) entry core else None) (if t then Some (core_of (entry_at image entry)) else None) ≡ Some key → IsKey files image entry key (entry_at image entry).key_len (entry_at image entry).long_key
-    by_stands true h = by_length (is_key_length entry (core_of (entry_at image entry))) refl h
+    by_stands : (t : Bool) → option_and_then (λ fields. if is_key_length entry fields then key_of (store_of image) entry fields else None) (if t then Some (fields_of (entry_at image entry)) else None) ≡ Some key → IsKey files image entry key (entry_at image entry).key_len (entry_at image entry).long_key
+    by_stands true h = by_length (is_key_length entry (fields_of (entry_at image entry))) refl h
     by_stands false h = absurd (none_some h)
 
 -- A read that gave too few bytes.
 
 pub short_is_cut : (told : Told) (w at n : ℕ) (d : Damage) → kind_of w ≢ external → IsShort told (names.Block (file_selector w)) (place w + at) n d → IsCut told w at n d
 unfolding data_name data_start
-short_is_cut told w at n d blocky short =
+short_is_cut told w at n d block_kind short =
     let t : (kind_of w == external) ≡ false = grind (arith, nat_tests) in
     rw t short
 

@@ -7,10 +7,10 @@ use Rattle.blk_format.specs.Address.{kind_of, file_selector, place, rankings}
 use Rattle.blk_format.specs.Hash.{hash}
 use Rattle.blk_format.specs.Records.{Node, node_in, node_body, node_seal, sealed_node, seal_of}
 use Rattle.blk_format.proofs.Bodies.{node_body-in}
-use Rattle.blk_format.specs.Sealed.{AreChanges, IsMoment, IsUpdated, record_at, record_size, seal_place}
+use Rattle.blk_format.specs.Sealed.{AreChanges, IsMidUpdate, IsUpdated, record_at, record_size, seal_place}
 use Rattle.blk_format.proofs.SealedRecords.{node_seal as seal_of_node, node_bytes}
 use Rattle.blk_format.proofs.SealedFields.{record_word, one_change, one_change_others, updated_seal, updated_stays, updated_is_new}
-use Rattle.blk_entry.specs.Marks.{dirty_change, plain_node, IsMarking, IsMarked}
+use Rattle.blk_entry.specs.Marks.{dirty_change, plain_node, SetsDirtyInProgress, HasDirtySet}
 
 -- one word before the seal of a node is changed
 pub mark_changes : (w mark : ℕ) → kind_of w ≡ rankings → AreChanges (seal_place w) (dirty_change mark)
@@ -87,7 +87,7 @@ module _ (from image : Image) (w mark : ℕ) (kind : kind_of w ≡ rankings) (sm
   here i q inside = let size : record_size w ≡ 36 = node_bytes w kind in record_word i w q (omega (arith, size, inside))
 
   -- a moment of a sealed update of the dirty word
-  pub marking_at : IsMoment from w (dirty_change mark) image → IsMarking from w mark image
+  pub marking_at : IsMidUpdate from w (dirty_change mark) image → SetsDirtyInProgress from w mark image
   unfolding node_in
   marking_at moment = record {
     checks = moment.checks;
@@ -102,7 +102,7 @@ module _ (from image : Image) (w mark : ℕ) (kind : kind_of w ≡ rankings) (sm
   }
 
   -- all of it
-  pub marked_at : IsUpdated from w (dirty_change mark) image → AreBytes image → IsMarked from w mark image
+  pub marked_at : IsUpdated from w (dirty_change mark) image → AreBytes image → HasDirtySet from w mark image
   unfolding record_at
   marked_at done below =
       let s : seal_place w ≡ 32 = seal_of_node w kind in

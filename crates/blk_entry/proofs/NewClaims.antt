@@ -6,7 +6,7 @@ use Rattle.std.proofs.lemmas.Bool.Decides.{nat_tests}
 use Rattle.blk_image.specs.Image.{Block, External, File, Image, same_file}
 use Rattle.blk_image.specs.Footprint.{Footprint, IsWithin, nothing, range, whole}
 use Rattle.blk_image.proofs.Footprints.{range_within}
-use Rattle.blk_format.specs.Address.{is_address, is_initialized, kind_of, external, external_number, file_selector, place, room}
+use Rattle.blk_format.specs.Address.{is_address, is_initialized, kind_of, external, external_number, file_selector, place, byte_size}
 use Rattle.blk_format.specs.Claims.{Claim, ExternalOf, claims_of, claims_of_all, has_claim, same_claim}
 use Rattle.blk_volume.specs.Footprint.{Covers}
 use Rattle.blk_volume.specs.Loads.{all_claims, record_claims}
@@ -67,16 +67,16 @@ module _ (files : BlockFiles) (new : NewEntry) (key : List ℕ) (image : Image) 
   touched = has_claim (all_claims (loaded_new new key))
 
   -- a range among the blocks of an address of which the claims are the entry's
-  in-blocks : (w p n : ℕ) → is_address w ≡ true → kind_of w ≢ external → stands_among files w ≡ true → place w ≤ p → p + n ≤ place w + room w → ((claim : Claim) → has_claim (claims_of w) claim ≡ true → touched claim ≡ true)
+  in-blocks : (w p n : ℕ) → is_address w ≡ true → kind_of w ≢ external → stands_among files w ≡ true → place w ≤ p → p + n ≤ place w + byte_size w → ((claim : Claim) → has_claim (claims_of w) claim ≡ true → touched claim ≡ true)
       → Covers image (range (Block (file_selector w)) p n) touched
-  in-blocks w p n address blocky st low high more =
-      let whole_blocks : Covers image (range (Block (file_selector w)) (place w) (room w)) (has_claim (claims_of w)) = blocks-covered image w (stands_here files image w agrees address blocky st) blocky in
+  in-blocks w p n address block_kind st low high more =
+      let whole_blocks : Covers image (range (Block (file_selector w)) (place w) (byte_size w)) (has_claim (claims_of w)) = blocks-covered image w (stands_here files image w agrees address block_kind st) block_kind in
       covers-more image (range (Block (file_selector w)) p n) (has_claim (claims_of w)) touched more
-      (covers-less image (range (Block (file_selector w)) p n) (range (Block (file_selector w)) (place w) (room w)) (has_claim (claims_of w)) (range_within (Block (file_selector w)) p n (place w) (room w) low high) whole_blocks)
+      (covers-less image (range (Block (file_selector w)) p n) (range (Block (file_selector w)) (place w) (byte_size w)) (has_claim (claims_of w)) (range_within (Block (file_selector w)) p n (place w) (byte_size w) low high) whole_blocks)
 
-  record-covered : Covers image (range (Block (file_selector new.entry)) (place new.entry) (room new.entry)) touched
+  record-covered : Covers image (range (Block (file_selector new.entry)) (place new.entry) (byte_size new.entry)) touched
   unfolding touched
-  record-covered = in-blocks new.entry (place new.entry) (room new.entry) are.entry (not_external new.entry fits.entry_kind) fits.entry_stands (omega arith) (omega arith) (contents-claims (loaded_new new key))
+  record-covered = in-blocks new.entry (place new.entry) (byte_size new.entry) are.entry (not_external new.entry fits.entry_kind) fits.entry_stands (omega arith) (omega arith) (contents-claims (loaded_new new key))
 
   node-covered : Covers image (record_range new.node) touched
   unfolding touched
@@ -90,7 +90,7 @@ module _ (files : BlockFiles) (new : NewEntry) (key : List ℕ) (image : Image) 
     where
       by_place : (o : Option ℕ) → IsLongPlace files (length key) o → IsInside files (address_of_key new.entry o) (before_key o) (length key + 1) → ((claim : Claim) → has_claim (claims_of (unwrap_or o 0)) claim ≡ true → touched claim ≡ true)
           → Covers image (long_range o (length key)) touched
-      by_place None is inside more = covers-less image nothing (range (Block (file_selector new.entry)) (place new.entry) (room new.entry)) touched (nothing-within _) record-covered
+      by_place None is inside more = covers-less image nothing (range (Block (file_selector new.entry)) (place new.entry) (byte_size new.entry)) touched (nothing-within _) record-covered
       by_place (Some w) is inside more =
           ⊎_elim
           (λ (e : (kind_of w == external) ≡ true).
@@ -102,9 +102,9 @@ module _ (files : BlockFiles) (new : NewEntry) (key : List ℕ) (image : Image) 
           (covers-less image (range (External n) 0 (length key + 1)) (whole (External n)) (λ claim. same_claim claim (ExternalOf n)) (range-whole (External n) 0 (length key + 1)) file) in
           rw (file_of_external w x, start_of_external w x) part)
           (λ (e : (kind_of w == external) ≡ false).
-          let blocky : kind_of w ≢ external = (λ same. let z : (kind_of w == external) ≡ true = grind (arith, nat_tests) in let y : true ≡ false = sym z ∙ e in cc) in
-          let room_there = inside.room blocky in
-          rw (file_of_blocks w blocky, start_of_blocks w blocky) (in-blocks w (place w) (length key + 1) address blocky (inside.stands blocky) (omega arith) (omega (arith, room_there)) more))
+          let block_kind : kind_of w ≢ external = (λ same. let z : (kind_of w == external) ≡ true = grind (arith, nat_tests) in let y : true ≡ false = sym z ∙ e in cc) in
+          let room_there = inside.room block_kind in
+          rw (file_of_blocks w block_kind, start_of_blocks w block_kind) (in-blocks w (place w) (length key + 1) address block_kind (inside.stands block_kind) (omega arith) (omega (arith, room_there)) more))
           (cases_Bool (kind_of w == external))
         where
           address : is_address w ≡ true

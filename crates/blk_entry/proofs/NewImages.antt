@@ -10,17 +10,17 @@ use Rattle.blk_image.specs.Bytes.{content, range_at, spliced}
 use Rattle.blk_image.specs.Image.{File, Block, Image, HasRange, byte, bytes_of, same_file}
 use Rattle.blk_image.specs.Steps.{TrailStep, after, words, written}
 use Rattle.blk_image.specs.Footprint.{Footprint, SameOutside, range}
-use Rattle.blk_image.specs.Told.{Told, Grows}
+use Rattle.blk_image.specs.Told.{Told, Applies}
 use Rattle.blk_image.proofs.Cuts.{after-append, after-words}
 use Rattle.blk_image.proofs.Footprints.{words_inside}
 use Rattle.blk_image.proofs.Images.{bytes-written, with_file-same}
 use Rattle.blk_image.proofs.Runs.{some_inj, told_whole, until_last}
 use Rattle.blk_image.proofs.Splices.{length-spliced, length-zeros, spliced-is}
 use Rattle.blk_image.proofs.Words.{range-is, same-range}
-use Rattle.blk_format.specs.Address.{is_address, is_initialized, kind_of, block_count, block_place, block_size, blocks_256, external, file_selector, first_block, place, rankings, room}
+use Rattle.blk_format.specs.Address.{is_address, is_initialized, kind_of, block_count, block_place, block_size, blocks_256, external, file_selector, first_block, place, rankings, byte_size}
 use Rattle.blk_format.specs.Storage.{kind_for}
 use Rattle.blk_format.specs.Standing.{is_linked_as, stands_as_blocks}
-use Rattle.blk_format.specs.BlockFiles.{type_among}
+use Rattle.blk_format.specs.BlockFiles.{kind_among}
 use Rattle.blk_disk.specs.declared.tables.BlockFiles.{BlockFiles}
 use Rattle.blk_disk.specs.Tables.{Agrees, files_of, stands_among}
 use Rattle.blk_format.specs.Sealed.{record_size}
@@ -82,9 +82,9 @@ apart_place f g p n k out = by_test (same_file f g)
 
 -- Files of two types are two.
 
-linked_kind : (files : BlockFiles) (w : ℕ) → stands_among files w ≡ true → type_among (files_of files) (file_selector w) ≡ Some (kind_of w)
+linked_kind : (files : BlockFiles) (w : ℕ) → stands_among files w ≡ true → kind_among (files_of files) (file_selector w) ≡ Some (kind_of w)
 unfolding stands_as_blocks
-linked_kind files w st = some_kind (type_among (files_of files) (file_selector w)) (and_parts _ _ (and_parts _ _ st).0).0
+linked_kind files w st = some_kind (kind_among (files_of files) (file_selector w)) (and_parts _ _ (and_parts _ _ st).0).0
   where
     clash : false ≡ true → ⊥
     clash h = cc
@@ -94,14 +94,14 @@ linked_kind files w st = some_kind (type_among (files_of files) (file_selector w
     some_kind (Some k) e = ap Some (eqb-true k (kind_of w) e)
 
 pub same_kind : (files : BlockFiles) (u w : ℕ) → stands_among files u ≡ true → stands_among files w ≡ true → file_selector u ≡ file_selector w → kind_of u ≡ kind_of w
-same_kind files u w su sw e = some_inj (sym (linked_kind files u su) ∙ ap (type_among (files_of files)) e ∙ linked_kind files w sw)
+same_kind files u w su sw e = some_inj (sym (linked_kind files u su) ∙ ap (kind_among (files_of files)) e ∙ linked_kind files w sw)
 
 two_files : (files : BlockFiles) (u w : ℕ) → stands_among files u ≡ true → stands_among files w ≡ true → kind_of u ≢ kind_of w → same_file (Block (file_selector u)) (Block (file_selector w)) ≡ false
 two_files files u w su sw differ = other_file (file_selector u) (file_selector w) (λ e. differ (same_kind files u w su sw (sym e)))
 
 -- two addresses of two types share no block
-pub apart_by_type : (files : BlockFiles) (u w : ℕ) → stands_among files u ≡ true → stands_among files w ≡ true → kind_of u ≢ kind_of w → ShareNoBlock u w
-apart_by_type files u w su sw differ e = absurd (differ (same_kind files u w su sw e))
+pub apart_by_kind : (files : BlockFiles) (u w : ℕ) → stands_among files u ≡ true → stands_among files w ≡ true → kind_of u ≢ kind_of w → ShareNoBlock u w
+apart_by_kind files u w su sw differ e = absurd (differ (same_kind files u w su sw e))
 
 -- no data is stored in nodes
 no_node : (size : ℕ) → kind_for size ≢ rankings
@@ -156,8 +156,8 @@ module _ (files : BlockFiles) (new : NewEntry) (key : List ℕ) (moment : ℕ) (
           ⊎_elim
           (λ (e : (kind_of w == external) ≡ true). let x : kind_of w ≡ external = eqb-true (kind_of w) external e in rw (file_of_external w x) refl)
           (λ (e : (kind_of w == external) ≡ false).
-          let blocky : kind_of w ≢ external = (λ same. let z : (kind_of w == external) ≡ true = grind (arith, nat_tests) in let y : true ≡ false = sym z ∙ e in cc) in
-          rw (file_of_blocks w blocky) (two_files files new.node w fits.node_stands (inside.stands blocky) (λ same. (long_storage w is.1).1 (sym same ∙ fits.node_kind))))
+          let block_kind : kind_of w ≢ external = (λ same. let z : (kind_of w == external) ≡ true = grind (arith, nat_tests) in let y : true ≡ false = sym z ∙ e in cc) in
+          rw (file_of_blocks w block_kind) (two_files files new.node w fits.node_stands (inside.stands block_kind) (λ same. (long_storage w is.1).1 (sym same ∙ fits.node_kind))))
           (cases_Bool (kind_of w == external))
 
   -- the record is apart from the key
@@ -181,29 +181,29 @@ module _ (files : BlockFiles) (new : NewEntry) (key : List ℕ) (moment : ℕ) (
           ⊎_elim
           (λ (e : (kind_of w == external) ≡ true). let x : kind_of w ≡ external = eqb-true (kind_of w) external e in apart_file B (data_file w) (place new.entry) (length (E ++ empty_key_place (Some w))) k (rw (file_of_external w x) refl))
           (λ (e : (kind_of w == external) ≡ false).
-          let blocky : kind_of w ≢ external = (λ same. let z : (kind_of w == external) ≡ true = grind (arith, nat_tests) in let y : true ≡ false = sym z ∙ e in cc) in
-          in_blocks blocky) (cases_Bool (kind_of w == external))
+          let block_kind : kind_of w ≢ external = (λ same. let z : (kind_of w == external) ≡ true = grind (arith, nat_tests) in let y : true ≡ false = sym z ∙ e in cc) in
+          in_blocks block_kind) (cases_Bool (kind_of w == external))
         where
           in_blocks : kind_of w ≢ external → (range B (place new.entry) (length (E ++ empty_key_place (Some w)))).bytes (data_file w) k ≡ false
-          in_blocks blocky =
+          in_blocks block_kind =
               ⊎_elim
               (λ (same : file_selector new.entry ≡ file_selector w).
-              let kind : kind_of w ≡ blocks_256 = sym (same_kind files new.entry w fits.entry_stands (inside.stands blocky) same) ∙ fits.entry_kind in
+              let kind : kind_of w ≡ blocks_256 = sym (same_kind files new.entry w fits.entry_stands (inside.stands block_kind) same) ∙ fits.entry_kind in
               let place_e = place_of_entry new.entry fits.entry_kind in
               let place_w = place_of_entry w kind in
               let room_e = entry_room new.entry fits.entry_kind in
               let room_w = entry_room w kind in
               let least = entry_room_least new.entry fits.entry_kind in
-              let start = start_of_blocks w blocky in
-              let enough = inside.room blocky in
+              let start = start_of_blocks w block_kind in
+              let enough = inside.room block_kind in
               let most : length (E ++ empty_key_place (Some w)) ≤ 256 = omega (arith, length-append E (empty_key_place (Some w)), record_length new key moment, length-zeros 160) in
               apart_place B (data_file w) (place new.entry) (length (E ++ empty_key_place (Some w))) k
               (⊎_elim
               (λ (first : first_block new.entry + block_count new.entry ≤ first_block w). inr (omega (arith, first, low, place_e, place_w, room_e, least, start, most)))
               (λ (last : first_block w + block_count w ≤ first_block new.entry). inl (omega (arith, last, high, place_e, place_w, room_w, start, enough)))
-              (apart blocky same)))
+              (apart block_kind same)))
               (λ (differ : file_selector new.entry ≢ file_selector w).
-              apart_file B (data_file w) (place new.entry) (length (E ++ empty_key_place (Some w))) k (rw (file_of_blocks w blocky) (other_file (file_selector new.entry) (file_selector w) (λ e. differ (sym e)))))
+              apart_file B (data_file w) (place new.entry) (length (E ++ empty_key_place (Some w))) k (rw (file_of_blocks w block_kind) (other_file (file_selector new.entry) (file_selector w) (λ e. differ (sym e)))))
               (cases_eq (file_selector new.entry) (file_selector w))
 
   module _ (from : Image) (agrees : Agrees files from) (has : HasItsLength new.long_key (length key) from) (apart : LiesApart new.entry new.long_key) where
@@ -249,8 +249,8 @@ module _ (files : BlockFiles) (new : NewEntry) (key : List ℕ) (moment : ℕ) (
             ⊎_elim
             (λ (e : (kind_of w == external) ≡ true). let x : kind_of w ≡ external = eqb-true (kind_of w) external e in rw (file_of_external w x, start_of_external w x) (let h = there x in omega (arith, h)))
             (λ (e : (kind_of w == external) ≡ false).
-            let blocky : kind_of w ≢ external = (λ same. let y : (kind_of w == external) ≡ true = grind (arith, nat_tests) in let q : true ≡ false = sym y ∙ e in cc) in
-            rw (file_of_blocks w blocky, start_of_blocks w blocky) (stands_range files from w before (length key + 1) agrees (inside.stands blocky) (inside.room blocky)))
+            let block_kind : kind_of w ≢ external = (λ same. let y : (kind_of w == external) ≡ true = grind (arith, nat_tests) in let q : true ≡ false = sym y ∙ e in cc) in
+            rw (file_of_blocks w block_kind, start_of_blocks w block_kind) (stands_range files from w before (length key + 1) agrees (inside.stands block_kind) (inside.room block_kind)))
             (cases_Bool (kind_of w == external))
 
     same1 : SameOutside (range A a (length key)) from i1
@@ -290,7 +290,7 @@ module _ (files : BlockFiles) (new : NewEntry) (key : List ℕ) (moment : ℕ) (
         ∙ there_after B (place new.entry) R i2
         (let one = same1.lengths B refl in let two = same2.lengths B refl in let room_there = stands_range files from new.entry 0 (length R) agrees fits.entry_stands (record_room new.long_key) in omega (arith, one, two, room_there))
       where
-        record_room : (o : Option ℕ) → 0 + length (entry_bytes (new_record new key moment) ++ empty_key_place o) ≤ room new.entry
+        record_room : (o : Option ℕ) → 0 + length (entry_bytes (new_record new key moment) ++ empty_key_place o) ≤ byte_size new.entry
         record_room None = let least = entry_room_least new.entry fits.entry_kind in omega (arith, least, length-append (entry_bytes (new_record new key moment)) [], record_length new key moment)
         record_room (Some w) = let least = entry_room_least new.entry fits.entry_kind in omega (arith, least, length-append (entry_bytes (new_record new key moment)) (empty_key_place (Some w)), record_length new key moment, length-zeros 160)
 
@@ -317,14 +317,14 @@ module _ (files : BlockFiles) (new : NewEntry) (key : List ℕ) (moment : ℕ) (
 
       written_here : IsWritten new key moment i4
       written_here =
-          let blocky = not_external new.entry fits.entry_kind in
+          let block_kind = not_external new.entry fits.entry_kind in
           let bytes = record_parts.0 in
           record {
             entry = entry_of_bytes new key moment are small few long_small (byte i4 B) (place new.entry) bytes;
             node = node_of_bytes new key moment are small few long_small (byte i4 C) (place new.node) node_last;
             key_there = key_last;
             zero_behind = zero_last;
-            empty_place = data_of_blocks i4 new.entry 96 (length (empty_key_place new.long_key)) blocky ∙ record_parts.1;
+            empty_place = data_of_blocks i4 new.entry 96 (length (empty_key_place new.long_key)) block_kind ∙ record_parts.1;
             entry_checks =
                 read_checks i4 new.entry 92 96 (range_at (byte i4 B) (place new.entry + 0) 96) (sym (entry_seal new.entry fits.entry_kind)) (sym (entry_size_is new.entry fits.entry_kind)) refl
                 (entry_bytes_check new key moment are small few long_small (range_at (byte i4 B) (place new.entry + 0) 96) (ap (λ (i : ℕ). range_at (byte i4 B) i 96) (add-zero (place new.entry)) ∙ bytes));
@@ -345,6 +345,6 @@ module _ (files : BlockFiles) (new : NewEntry) (key : List ℕ) (moment : ℕ) (
           subst (IsWritten new key moment) (sym last) written_here
 
   -- where the folder tells its files
-  module _ (b c : Told) (are : AreWords new) (small : moment < 2 ^ 64) (agrees : ForSome b.files (Agrees files)) (has : ForSome b.files (HasItsLength new.long_key (length key))) (apart : ForSome b.files (λ _. LiesApart new.entry new.long_key)) (grown : Grows b c (entry_steps new key moment)) where
+  module _ (b c : Told) (are : AreWords new) (small : moment < 2 ^ 64) (agrees : ForSome b.files (Agrees files)) (has : ForSome b.files (HasItsLength new.long_key (length key))) (apart : ForSome b.files (λ _. LiesApart new.entry new.long_key)) (grown : Applies b c (entry_steps new key moment)) where
     pub written_there : ForSome c.files (IsWritten new key moment)
     written_there = told_whole (IsWritten new key moment) grown (λ from there. written_after from (agrees from there) (has from there) (apart from there) are small)

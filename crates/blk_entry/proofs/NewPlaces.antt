@@ -7,11 +7,11 @@ use Rattle.std.specs.Option.{ForSome}
 use Rattle.blk_image.specs.Image.{File, Index, Block, External, Image, length_of, same_file}
 use Rattle.blk_image.specs.Steps.{TrailStep, after, words}
 use Rattle.blk_image.specs.Footprint.{Footprint, SameOutside, IsWithin, either, range, touched_by, touched_by_all}
-use Rattle.blk_image.specs.Told.{Told, Along, Until, IsQuiet, GrowsInPart, Passes}
+use Rattle.blk_image.specs.Told.{Told, Along, Until, IsQuiet, AppliesPrefix, Passes}
 use Rattle.blk_image.proofs.Footprints.{outside-refl, outside_steps, within_left, within_right, within_both, within_first, within_second, range_within, words_within}
 use Rattle.blk_image.proofs.Runs.{quiet-append, passes_part, passes_weaker, some_inj, until_last, until_weaker2, told_part}
 use Rattle.blk_image.proofs.WordSteps.{quiet-words}
-use Rattle.blk_format.specs.Address.{kind_of, block_count, external, external_number, file_selector, place, room, blocks_256}
+use Rattle.blk_format.specs.Address.{kind_of, block_count, external, external_number, file_selector, place, byte_size, blocks_256}
 use Rattle.blk_format.specs.Storage.{entry_blocks}
 use Rattle.blk_image.proofs.Splices.{length-zeros}
 use Rattle.blk_format.specs.BlockFiles.{IsWellFormed}
@@ -34,11 +34,11 @@ use Rattle.blk_entry.proofs.Windows.{entry_room_least, not_external}
 -- where data lies
 pub file_of_blocks : (w : ℕ) → kind_of w ≢ external → data_file w ≡ Block (file_selector w)
 unfolding data_file
-file_of_blocks w blocky = let t : (kind_of w == external) ≡ false = grind (arith, nat_tests) in rw t refl
+file_of_blocks w block_kind = let t : (kind_of w == external) ≡ false = grind (arith, nat_tests) in rw t refl
 
 pub start_of_blocks : (w : ℕ) → kind_of w ≢ external → data_start w ≡ place w
 unfolding data_start
-start_of_blocks w blocky = let t : (kind_of w == external) ≡ false = grind (arith, nat_tests) in rw t refl
+start_of_blocks w block_kind = let t : (kind_of w == external) ≡ false = grind (arith, nat_tests) in rw t refl
 
 pub file_of_external : (w : ℕ) → kind_of w ≡ external → data_file w ≡ External (external_number w)
 unfolding data_file
@@ -55,8 +55,8 @@ long_is_inside files w k most holds =
     let p = and_parts _ _ holds in
     record {
       small = omega (arith, most);
-      stands = λ blocky. ⊎_elim (λ (e : (kind_of w == external) ≡ true). absurd (blocky (grind (arith, nat_tests)))) (λ (e : (kind_of w == external) ≡ false). let h = p.1 in rw e at h) (cases_Bool (kind_of w == external));
-      room = λ blocky. let h = storage_room (k + 1) w (omega arith) p.0 blocky in omega (arith, h);
+      stands = λ block_kind. ⊎_elim (λ (e : (kind_of w == external) ≡ true). absurd (block_kind (grind (arith, nat_tests)))) (λ (e : (kind_of w == external) ≡ false). let h = p.1 in rw e at h) (cases_Bool (kind_of w == external));
+      room = λ block_kind. let h = storage_room (k + 1) w (omega arith) p.0 block_kind in omega (arith, h);
     }
 
 -- the same of a key in its record
@@ -64,7 +64,7 @@ pub short_is_inside : (files : BlockFiles) (w k : ℕ) → kind_of w ≡ blocks_
 short_is_inside files w k kind stands blocks short =
     let less : k ≤ 927 = grind (arith, nat_tests) in
     let h = short_room w k kind blocks less in
-    record { small = omega (arith, less); stands = λ blocky. stands; room = λ blocky. omega (arith, h) }
+    record { small = omega (arith, less); stands = λ block_kind. stands; room = λ block_kind. omega (arith, h) }
 
 -- a key and its zero byte are there
 pub key_is_inside : (files : BlockFiles) (new : NewEntry) (key : List ℕ) → FitsKey files new key → IsInside files (address_of_key new.entry new.long_key) (before_key new.long_key) (length key + 1)
@@ -99,7 +99,7 @@ within-append (x ∷ s) t F one other = within_both (touched_by x) (touched_by_a
 
 module _ (files : BlockFiles) (new : NewEntry) (key : List ℕ) (moment : ℕ) (fits : FitsKey files new key) where
   record_place : Footprint
-  record_place = range (Block (file_selector new.entry)) (place new.entry) (room new.entry)
+  record_place = range (Block (file_selector new.entry)) (place new.entry) (byte_size new.entry)
 
   in_record : IsWithin record_place (places_of new (length key))
   unfolding places_of record_place
@@ -124,11 +124,11 @@ module _ (files : BlockFiles) (new : NewEntry) (key : List ℕ) (moment : ℕ) (
       by_place : (o : Option ℕ) → IsInside files (address_of_key new.entry o) (before_key o) (length key + 1) → IsWithin (long_range o (length key)) (places_of new (length key))
           → IsWithin (range (data_file (address_of_key new.entry o)) (data_start (address_of_key new.entry o) + before_key o) (length key + 1)) (places_of new (length key))
       by_place None inside long =
-          let blocky = not_external new.entry fits.entry_kind in
-          let room = inside.room blocky in
-          let at_file = file_of_blocks new.entry blocky in
-          let at_start = start_of_blocks new.entry blocky in
-          rw (at_file, at_start) (within_trans (range (Block (file_selector new.entry)) (place new.entry + 96) (length key + 1)) record_place (places_of new (length key)) (range_within (Block (file_selector new.entry)) (place new.entry + 96) (length key + 1) (place new.entry) _ (omega arith) (omega (arith, room))) in_record)
+          let block_kind = not_external new.entry fits.entry_kind in
+          let room = inside.room block_kind in
+          let at_file = file_of_blocks new.entry block_kind in
+          let at_start = start_of_blocks new.entry block_kind in
+          rw (at_file, at_start) (within_trans (range (Block (file_selector new.entry)) (place new.entry + 96) (length key + 1)) record_place (places_of new (length key)) (range_within (Block (file_selector new.entry)) (place new.entry + 96) (length key + 1) (place new.entry) _ (omega arith) (omega (arith, byte_size))) in_record)
       by_place (Some w) inside long = subst (λ (i : ℕ). IsWithin (range (data_file w) i (length key + 1)) (places_of new (length key))) (sym (add-zero (data_start w))) long
 
   record_most : length (entry_bytes (new_record new key moment) ++ empty_key_place new.long_key) ≤ 256
@@ -138,7 +138,7 @@ module _ (files : BlockFiles) (new : NewEntry) (key : List ℕ) (moment : ℕ) (
       by_place None = omega (arith, length-append (entry_bytes (new_record new key moment)) (empty_key_place None), record_length new key moment)
       by_place (Some w) = omega (arith, length-append (entry_bytes (new_record new key moment)) (empty_key_place (Some w)), record_length new key moment, length-zeros 160)
 
-  record_fits : length (entry_bytes (new_record new key moment) ++ empty_key_place new.long_key) ≤ room new.entry
+  record_fits : length (entry_bytes (new_record new key moment) ++ empty_key_place new.long_key) ≤ byte_size new.entry
   record_fits = let least = entry_room_least new.entry fits.entry_kind in omega (arith, record_most, least)
 
   node_fits : length (node_bytes (new_node new moment)) ≡ record_size new.node
@@ -154,7 +154,7 @@ module _ (files : BlockFiles) (new : NewEntry) (key : List ℕ) (moment : ℕ) (
       (within_trans _ _ _ (words_within (data_file w) i i (length key + 1) key (omega arith) (omega arith)) in_key)
       (within_trans _ _ _ (words_within (data_file w) (data_start w + (before_key new.long_key + length key)) i (length key + 1) (0 ∷ []) (omega arith) (omega arith)) in_key))
       (within-append (record_steps new key moment) (node_steps new moment) _
-      (within_trans _ _ _ (words_within (Block (file_selector new.entry)) (place new.entry) (place new.entry) (room new.entry) (entry_bytes (new_record new key moment) ++ empty_key_place new.long_key) (omega arith) (omega (arith, record_fits))) in_record)
+      (within_trans _ _ _ (words_within (Block (file_selector new.entry)) (place new.entry) (place new.entry) (byte_size new.entry) (entry_bytes (new_record new key moment) ++ empty_key_place new.long_key) (omega arith) (omega (arith, record_fits))) in_record)
       (within_trans _ _ _ (words_within (Block (file_selector new.node)) (place new.node) (place new.node) (record_size new.node) (node_bytes (new_node new moment)) (omega arith) (omega (arith, node_fits))) in_node))
 
   steps_quiet : IsQuiet (entry_steps new key moment)
@@ -200,13 +200,13 @@ module _ (files : BlockFiles) (new : NewEntry) (key : List ℕ) (moment : ℕ) (
           ⊎_elim
           (λ (e : (kind_of w == external) ≡ true). let is : kind_of w ≡ external = grind (arith, nat_tests) in rw (file_of_external w is) refl)
           (λ (e : (kind_of w == external) ≡ false).
-          let blocky : kind_of w ≢ external = (λ same. let z : (kind_of w == external) ≡ true = grind (arith, nat_tests) in let y : true ≡ false = sym z ∙ e in cc) in
-          behind (same_file (data_file w) (Block n)) (data_start w) (length key + 1) i (let s = start_of_blocks w blocky in let past = past_header w in omega (arith, small, s, past)))
+          let block_kind : kind_of w ≢ external = (λ same. let z : (kind_of w == external) ≡ true = grind (arith, nat_tests) in let y : true ≡ false = sym z ∙ e in cc) in
+          behind (same_file (data_file w) (Block n)) (data_start w) (length key + 1) i (let s = start_of_blocks w block_kind in let past = past_header w in omega (arith, small, s, past)))
           (cases_Bool (kind_of w == external))
 
       by_parts : (n i : ℕ) → i < 8192 → (places_of new (length key)).bytes (Block n) i ≡ false
       by_parts n i small =
-          let one = behind (same_file (Block (file_selector new.entry)) (Block n)) (place new.entry) (room new.entry) i (let past = past_header new.entry in omega (arith, small, past)) in
+          let one = behind (same_file (Block (file_selector new.entry)) (Block n)) (place new.entry) (byte_size new.entry) i (let past = past_header new.entry in omega (arith, small, past)) in
           let two = behind (same_file (Block (file_selector new.node)) (Block n)) (place new.node) (record_size new.node) i (let past = past_header new.node in omega (arith, small, past)) in
           rw (one, two, of_long new.long_key n i small) refl
 
@@ -220,8 +220,8 @@ module _ (files : BlockFiles) (new : NewEntry) (key : List ℕ) (moment : ℕ) (
           ⊎_elim
           (λ (e : (kind_of w == external) ≡ true). let is : kind_of w ≡ external = grind (arith, nat_tests) in rw (file_of_external w is) refl)
           (λ (e : (kind_of w == external) ≡ false).
-          let blocky : kind_of w ≢ external = (λ same. let z : (kind_of w == external) ≡ true = grind (arith, nat_tests) in let y : true ≡ false = sym z ∙ e in cc) in
-          rw (file_of_blocks w blocky) refl)
+          let block_kind : kind_of w ≢ external = (λ same. let z : (kind_of w == external) ≡ true = grind (arith, nat_tests) in let y : true ≡ false = sym z ∙ e in cc) in
+          rw (file_of_blocks w block_kind) refl)
           (cases_Bool (kind_of w == external))
 
   module _ (from image : Image) (same : SameOutside (places_of new (length key)) from image) where
@@ -234,7 +234,7 @@ module _ (files : BlockFiles) (new : NewEntry) (key : List ℕ) (moment : ℕ) (
         (undamaged_still from image (next_same (places_of new (length key)) from image spared same) (heads_still (places_of new (length key)) from image spared same (λ m. let e = same.lengths (Block m) (no_sizes (Block m)) in omega (arith, e)))) formed
 
   -- whatever was done of the steps
-  module _ (a b : Told) (part : GrowsInPart a b (entry_steps new key moment)) where
+  module _ (a b : Told) (part : AppliesPrefix a b (entry_steps new key moment)) where
     pub stops : ForSome a.files (λ from. Passes a b (SameOutside (places_of new (length key)) from))
     stops from there =
         let P : Image → Type 0 = SameOutside (places_of new (length key)) from in

@@ -12,9 +12,9 @@ use Rattle.blk_format.specs.Records.{entry_checks, entry_is_sealed, node_checks,
 use Rattle.blk_format.specs.Storage.{entry_blocks, is_storage}
 use Rattle.blk_format.specs.Standing.{stands}
 use Rattle.blk_format.specs.BlockFiles.{stands_in, stands_in_blocks}
-use Rattle.blk_volume.specs.View.{Core, Stock, checks_at, core_at, core_of, follow_at, key_place_at, list_of, named_at, next_at, stands_as, stock_of, stored_at}
+use Rattle.blk_volume.specs.View.{RecordFields, StoreView, checks_at, core_at, fields_of, follow_at, key_place_at, list_of, node_fields_at, next_at, stands_as, store_of, stored_at}
 use Rattle.blk_volume.specs.Entries.{IsPlain, is_key_length, key_of, role_of, stream_of, streams_of}
-use Rattle.blk_volume.specs.Loads.{Loaded, alone, load, load_key, load_record}
+use Rattle.blk_volume.specs.Loads.{Loaded, unchained_rule, load, load_key, load_record}
 use Rattle.blk_volume.specs.Reasons.{Reason, ◌>>=◌, demand}
 use Rattle.blk_volume.specs.Reasons as reason
 use Rattle.blk_disk.specs.declared.tables.BlockFiles.{BlockFiles}
@@ -25,7 +25,7 @@ use Rattle.blk_entry.specs.Keys.{data_at, data_file, data_start, key_at, stores}
 use Rattle.blk_entry.specs.Writing.{AreWords, FitsKey, HasItsLength, IsLongPlace, IsShownNew, IsWritten, entry_steps, address_of_key, before_key, loaded_new, longest_of, new_node, new_record}
 use Rattle.blk_entry.proofs.KeyPlaces.{data_of_blocks, data_of_external, storage_parts, take-range}
 use Rattle.blk_image.specs.Steps.{after}
-use Rattle.blk_image.specs.Told.{Told, Grows}
+use Rattle.blk_image.specs.Told.{Told, Applies}
 use Rattle.blk_image.proofs.Runs.{told_whole}
 use Rattle.blk_entry.proofs.NewPlaces.{length_kept}
 use Rattle.blk_entry.proofs.Windows.{not_external}
@@ -42,7 +42,7 @@ node_is_good new moment = or_right ((new_node new moment).self_hash == 0) _ (eq-
 -- an address of blocks that are there stands
 pub stands_here : (files : BlockFiles) (image : Image) (w : ℕ) → Agrees files image → is_address w ≡ true → kind_of w ≢ external → stands_among files w ≡ true → stands_in image w ≡ true
 unfolding stands
-stands_here files image w agrees address blocky st =
+stands_here files image w agrees address block_kind st =
     let t : (kind_of w == external) ≡ false = grind (arith, nat_tests) in
     let s : stands_in_blocks image w ≡ true = sym (stands_agree files image w agrees) ∙ st in
     rw (address, t) s
@@ -84,9 +84,9 @@ unfolding new_record
 others_are new key moment = refl
 
 -- a record that checks loads as what it says
-checked_loads : (stock : Stock) (node contents dirty : ℕ) (core : Core) (answer : Result Loaded Reason) → core.checks ≡ true → load_record stock (alone normal) node contents dirty core ≡ answer
-    → (demand core.checks reason.Seal >>= (λ _. load_record stock (alone normal) node contents dirty core)) ≡ answer
-checked_loads stock node contents dirty core answer good is = ap (λ (b : Bool). demand b reason.Seal >>= (λ _. load_record stock (alone normal) node contents dirty core)) good ∙ is
+checked_loads : (store : StoreView) (node contents dirty : ℕ) (fields : RecordFields) (answer : Result Loaded Reason) → fields.checks ≡ true → load_record store (unchained_rule normal) node contents dirty fields ≡ answer
+    → (demand fields.checks reason.Seal >>= (λ _. load_record store (unchained_rule normal) node contents dirty fields)) ≡ answer
+checked_loads store node contents dirty fields answer good is = ap (λ (b : Bool). demand b reason.Seal >>= (λ _. load_record store (unchained_rule normal) node contents dirty fields)) good ∙ is
 
 -- data whose address is its storage, and stands
 stored_there : (image : Image) (size w : ℕ) → 0 < size → is_storage size w ≡ true → stands_in image w ≡ true → (kind_of w ≡ external → length_of image (External (external_number w)) ≡ size) → stored_at image size w ≡ Some (data_at image w 0 size)
@@ -98,8 +98,8 @@ stored_there image size w some storage st long =
     let l : (length_of image (External (external_number w)) == size) ≡ true = eq-eqb _ _ (long x) in
     rw (storage, none, st, e, l) (ap Some (sym (data_of_external image w 0 size x))))
     (λ (e : (kind_of w == external) ≡ false).
-    let blocky : kind_of w ≢ external = (λ same. let z : (kind_of w == external) ≡ true = grind (arith, nat_tests) in let y : true ≡ false = sym z ∙ e in cc) in
-    rw (storage, none, st, e) (ap Some (ap (λ (i : ℕ). range_at (byte image (Block (file_selector w))) i size) (sym (add-zero (place w))) ∙ sym (data_of_blocks image w 0 size blocky))))
+    let block_kind : kind_of w ≢ external = (λ same. let z : (kind_of w == external) ≡ true = grind (arith, nat_tests) in let y : true ≡ false = sym z ∙ e in cc) in
+    rw (storage, none, st, e) (ap Some (ap (λ (i : ℕ). range_at (byte image (Block (file_selector w))) i size) (sym (add-zero (place w))) ∙ sym (data_of_blocks image w 0 size block_kind))))
     (cases_Bool (kind_of w == external))
   where
     none : (size == 0) ≡ false
@@ -121,19 +121,19 @@ module _ (files : BlockFiles) (new : NewEntry) (key : List ℕ) (moment : ℕ) (
   unfolding next_at new_node
   node_next = λ i. if node_stands_as i then (done.node i).next else 0
 
-  node_named : named_at image new.node ≡ Some (record { contents = new.entry; dirty = new.dirty })
-  unfolding named_at new_node
+  node_named : node_fields_at image new.node ≡ Some (record { contents = new.entry; dirty = new.dirty })
+  unfolding node_fields_at new_node
   node_named = λ i. if node_stands_as i then Some (record { contents = (done.node i).contents; dirty = (done.node i).dirty }) else None
 
-  core_here : core_at image new.entry ≡ Some (core_of (new_record new key moment))
+  core_here : core_at image new.entry ≡ Some (fields_of (new_record new key moment))
   unfolding core_at
-  core_here = λ i. if entry_stands_as i then Some (core_of (done.entry i)) else None
+  core_here = λ i. if entry_stands_as i then Some (fields_of (done.entry i)) else None
 
   follow_here : follow_at image new.entry ≡ new.next
   unfolding follow_at new_record
   follow_here = λ i. if entry_stands_as i then (done.entry i).next else 0
 
-  length_right : is_key_length new.entry (core_of (new_record new key moment)) ≡ true
+  length_right : is_key_length new.entry (fields_of (new_record new key moment)) ≡ true
   unfolding is_key_length new_record
   length_right =
       let low : nat_le 1 (length key) ≡ true = (let some = fits.some in grind (arith, nat_tests)) in
@@ -144,8 +144,8 @@ module _ (files : BlockFiles) (new : NewEntry) (key : List ℕ) (moment : ℕ) (
       by_child true less = grind (arith, nat_tests)
       by_child false less = grind (arith, nat_tests)
 
-  key_found : key_of (stock_of image) new.entry (core_of (new_record new key moment)) ≡ Some key
-  unfolding key_of stock_of new_record key_place_at stores
+  key_found : key_of (store_of image) new.entry (fields_of (new_record new key moment)) ≡ Some key
+  unfolding key_of store_of new_record key_place_at stores
   key_found = by_place new.long_key fits.long has done.key_there
     where
       by_place : (o : Option ℕ) → IsLongPlace files (length key) o → HasItsLength o (length key) image → data_at image (address_of_key new.entry o) (before_key o) (length key) ≡ key
@@ -162,28 +162,28 @@ module _ (files : BlockFiles) (new : NewEntry) (key : List ℕ) (moment : ℕ) (
               ⊎_elim
               (λ (e : (kind_of w == external) ≡ true). let x : kind_of w ≡ external = eqb-true (kind_of w) external e in external_stands image w address x (let l = file x in omega (arith, l)))
               (λ (e : (kind_of w == external) ≡ false).
-              let blocky : kind_of w ≢ external = (λ same. let z : (kind_of w == external) ≡ true = grind (arith, nat_tests) in let y : true ≡ false = sym z ∙ e in cc) in
+              let block_kind : kind_of w ≢ external = (λ same. let z : (kind_of w == external) ≡ true = grind (arith, nat_tests) in let y : true ≡ false = sym z ∙ e in cc) in
               let among : stands_among files w ≡ true = rw e at there in
-              stands_here files image w agrees address blocky among)
+              stands_here files image w agrees address block_kind among)
               (cases_Bool (kind_of w == external))
 
   key_shown : key_at image new.entry ≡ Some key
   unfolding key_at
   key_shown =
-      ap (option_and_then (λ (core : Core). if is_key_length new.entry core then key_of (stock_of image) new.entry core else None)) core_here
-      ∙ ap (λ (b : Bool). if b then key_of (stock_of image) new.entry (core_of (new_record new key moment)) else None) length_right
+      ap (option_and_then (λ (fields : RecordFields). if is_key_length new.entry fields then key_of (store_of image) new.entry fields else None)) core_here
+      ∙ ap (λ (b : Bool). if b then key_of (store_of image) new.entry (fields_of (new_record new key moment)) else None) length_right
       ∙ key_found
 
-  streams_shown : streams_of (stock_of image) (core_of (new_record new key moment)) ≡ Some ([] ∷ [] ∷ [] ∷ [])
-  unfolding streams_of stream_of stock_of stored_at is_storage new_record
+  streams_shown : streams_of (store_of image) (fields_of (new_record new key moment)) ≡ Some ([] ∷ [] ∷ [] ∷ [])
+  unfolding streams_of stream_of store_of stored_at is_storage new_record
   streams_shown = refl
 
   shown_here : IsShownNew new key moment image
-  unfolding list_of stock_of
-  shown_here = record { checks = node_checks_here; next = node_next; named = node_named; core = core_here; follow = follow_here; key_is = key_shown; streams = streams_shown }
+  unfolding list_of store_of
+  shown_here = record { checks = node_checks_here; next = node_next; named = node_named; fields = core_here; chain_next = follow_here; key_is = key_shown; streams = streams_shown }
 
   -- a plain entry loads
-  key_loads : load_key (stock_of image) (alone normal) new.node new.entry new.dirty (core_of (new_record new key moment)) ≡ Ok key
+  key_loads : load_key (store_of image) (unchained_rule normal) new.node new.entry new.dirty (fields_of (new_record new key moment)) ≡ Ok key
   unfolding load_key
   key_loads =
       let back : ((new_record new key moment).rankings_node == new.node) ≡ true = record_back in
@@ -208,7 +208,7 @@ module _ (files : BlockFiles) (new : NewEntry) (key : List ℕ) (moment : ℕ) (
           by_child true = refl
           by_child false = refl
 
-  role_is : new.child ≡ false → role_of (core_of (new_record new key moment)) key ([] ∷ [] ∷ [] ∷ []) ≡ Some IsPlain
+  role_is : new.child ≡ false → role_of (fields_of (new_record new key moment)) key ([] ∷ [] ∷ [] ∷ []) ≡ Some IsPlain
   unfolding role_of
   role_is none =
       let flags : (new_record new key moment).flags ≡ 0 = flags_is new key moment ∙ ap (λ (b : Bool). if b then child else plain) none in
@@ -216,15 +216,15 @@ module _ (files : BlockFiles) (new : NewEntry) (key : List ℕ) (moment : ℕ) (
       let two : ((new_record new key moment).flags == child) ≡ false = ap (λ (n : ℕ). n == 2) flags in
       rw (one, two) refl
 
-  record_loads_here : new.child ≡ false → load_record (stock_of image) (alone normal) new.node new.entry new.dirty (core_of (new_record new key moment)) ≡ Ok (loaded_new new key)
+  record_loads_here : new.child ≡ false → load_record (store_of image) (unchained_rule normal) new.node new.entry new.dirty (fields_of (new_record new key moment)) ≡ Ok (loaded_new new key)
   unfolding load_record
   record_loads_here none = rw (key_loads, streams_shown, role_is none) (ap (λ (others : List ℕ). Ok (record { node = new.node; contents = new.entry; dirty = new.dirty; key = key; role = IsPlain; streams = [] ∷ [] ∷ [] ∷ []; others = others })) (others_are new key moment))
 
-  loads_here : new.child ≡ false → load (stock_of image) (alone normal) new.node ≡ Ok (loaded_new new key)
+  loads_here : new.child ≡ false → load (store_of image) (unchained_rule normal) new.node ≡ Ok (loaded_new new key)
   unfolding load
-  loads_here none = rw (shown_here.named, shown_here.core) (checked_loads (stock_of image) new.node new.entry new.dirty (core_of (new_record new key moment)) (Ok (loaded_new new key)) (record_is_good new key moment) (record_loads_here none))
+  loads_here none = rw (shown_here.named, shown_here.fields) (checked_loads (store_of image) new.node new.entry new.dirty (fields_of (new_record new key moment)) (Ok (loaded_new new key)) (record_is_good new key moment) (record_loads_here none))
 
-module _ (files : BlockFiles) (new : NewEntry) (key : List ℕ) (moment : ℕ) (fits : FitsKey files new key) (are : AreWords new) (b c : Told) (agrees : ForSome c.files (Agrees files)) (has : ForSome b.files (HasItsLength new.long_key (length key))) (grown : Grows b c (entry_steps new key moment)) (done : ForSome c.files (IsWritten new key moment)) where
+module _ (files : BlockFiles) (new : NewEntry) (key : List ℕ) (moment : ℕ) (fits : FitsKey files new key) (are : AreWords new) (b c : Told) (agrees : ForSome c.files (Agrees files)) (has : ForSome b.files (HasItsLength new.long_key (length key))) (grown : Applies b c (entry_steps new key moment)) (done : ForSome c.files (IsWritten new key moment)) where
   lengths_last : ForSome c.files (HasItsLength new.long_key (length key))
   lengths_last = told_whole (HasItsLength new.long_key (length key)) grown (λ from there. by_place new.long_key from (has from there))
     where
@@ -235,5 +235,5 @@ module _ (files : BlockFiles) (new : NewEntry) (key : List ℕ) (moment : ℕ) (
   pub shown_there : ForSome c.files (IsShownNew new key moment)
   shown_there image there = shown_here files new key moment fits are image (agrees image there) (lengths_last image there) (done image there)
 
-  pub loads_there : new.child ≡ false → ForSome c.files (λ image. load (stock_of image) (alone normal) new.node ≡ Ok (loaded_new new key))
+  pub loads_there : new.child ≡ false → ForSome c.files (λ image. load (store_of image) (unchained_rule normal) new.node ≡ Ok (loaded_new new key))
   loads_there none image there = loads_here files new key moment fits are image (agrees image there) (lengths_last image there) (done image there) none

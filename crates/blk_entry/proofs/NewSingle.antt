@@ -69,7 +69,7 @@ address_some w address =
 
 claims_are : (w : ℕ) → is_address w ≡ true → kind_of w ≢ external → claims_of w ≡ map (λ b. BlockOf (file_selector w) b) (range_with_len (first_block w) (block_count w))
 unfolding claims_of
-claims_are w address blocky = let k : (kind_of w == external) ≡ false = grind (arith, nat_tests) in rw (address_some w address, k) refl
+claims_are w address block_kind = let k : (kind_of w == external) ≡ false = grind (arith, nat_tests) in rw (address_some w address, k) refl
 
 external_claims : (w : ℕ) → is_address w ≡ true → kind_of w ≡ external → claims_of w ≡ ExternalOf (external_number w) ∷ []
 unfolding claims_of
@@ -80,10 +80,10 @@ unfolding claims_of
 no_claims = refl
 
 block_claim : (w : ℕ) (c : Claim) → is_address w ≡ true → kind_of w ≢ external → has_claim (claims_of w) c ≡ true → IsAmong (file_selector w) (first_block w) (block_count w) c
-block_claim w c address blocky e = among (file_selector w) (first_block w) (block_count w) c (ap (λ (l : List Claim). has_claim l c) (sym (claims_are w address blocky)) ∙ e)
+block_claim w c address block_kind e = among (file_selector w) (first_block w) (block_count w) c (ap (λ (l : List Claim). has_claim l c) (sym (claims_are w address block_kind)) ∙ e)
 
 block_once : (w : ℕ) → is_address w ≡ true → kind_of w ≢ external → repeats (claims_of w) ≡ false
-block_once w address blocky = ap repeats (claims_are w address blocky) ∙ once (file_selector w) (first_block w) (block_count w)
+block_once w address block_kind = ap repeats (claims_are w address block_kind) ∙ once (file_selector w) (first_block w) (block_count w)
 
 -- blocks of two addresses
 apart_blocks : (f first n g start m : ℕ) (c : Claim) → IsAmong f first n c → IsAmong g start m c → (f ≡ g → (first + n ≤ start) ⊎ (start + m ≤ first)) → ⊥
@@ -130,12 +130,12 @@ module _ (files : BlockFiles) (new : NewEntry) (key : List ℕ) (fits : FitsKey 
             ),
           ))
           (λ (e : (kind_of w == external) ≡ false).
-          let blocky : kind_of w ≢ external = (λ same. let z : (kind_of w == external) ≡ true = grind (arith, nat_tests) in let y : true ≡ false = sym z ∙ e in cc) in (
-            block_once w address blocky,
+          let block_kind : kind_of w ≢ external = (λ same. let z : (kind_of w == external) ≡ true = grind (arith, nat_tests) in let y : true ≡ false = sym z ∙ e in cc) in (
+            block_once w address block_kind,
             (
-              λ c a b. apart_blocks (file_selector new.entry) (first_block new.entry) (block_count new.entry) (file_selector w) (first_block w) (block_count w) c (block_claim new.entry c are.entry entry_blocky a) (block_claim w c address blocky b) (apart blocky),
-              λ c a b. apart_blocks (file_selector new.node) (first_block new.node) (block_count new.node) (file_selector w) (first_block w) (block_count w) c (block_claim new.node c are.node node_blocky a) (block_claim w c address blocky b)
-                  (λ same. absurd (storage.1 (sym (same_kind files new.node w fits.node_stands (inside.stands blocky) same) ∙ fits.node_kind))),
+              λ c a b. apart_blocks (file_selector new.entry) (first_block new.entry) (block_count new.entry) (file_selector w) (first_block w) (block_count w) c (block_claim new.entry c are.entry entry_blocky a) (block_claim w c address block_kind b) (apart block_kind),
+              λ c a b. apart_blocks (file_selector new.node) (first_block new.node) (block_count new.node) (file_selector w) (first_block w) (block_count w) c (block_claim new.node c are.node node_blocky a) (block_claim w c address block_kind b)
+                  (λ same. absurd (storage.1 (sym (same_kind files new.node w fits.node_stands (inside.stands block_kind) same) ∙ fits.node_kind))),
             ),
           ))
           (cases_Bool (kind_of w == external))

@@ -4,15 +4,15 @@ use Rattle.std.proofs.lemmas.List.{take_all}
 use Rattle.std.specs.Int.{from_le_bytes, w32}
 use Rattle.blk_image.specs.Bytes.{word_at, range_at}
 use Rattle.blk_image.proofs.Words.{length-range, word-from_bytes}
-use Rattle.blk_format.specs.Address.{kind_of, room, block_count, block_size, blocks_256, external}
+use Rattle.blk_format.specs.Address.{kind_of, byte_size, block_count, block_size, blocks_256, external}
 use Rattle.blk_format.proofs.Words.{AreFields-of}
 
 -- the bytes of the blocks of an entry record
-pub entry_room : (w : ℕ) → kind_of w ≡ blocks_256 → room w ≡ 256 * block_count w
-unfolding room block_size
+pub entry_room : (w : ℕ) → kind_of w ≡ blocks_256 → byte_size w ≡ 256 * block_count w
+unfolding byte_size block_size
 entry_room w kind = rw kind (let h : block_count w * 256 ≡ 256 * block_count w = omega arith in h)
 
-pub entry_room_least : (w : ℕ) → kind_of w ≡ blocks_256 → 256 ≤ room w
+pub entry_room_least : (w : ℕ) → kind_of w ≡ blocks_256 → 256 ≤ byte_size w
 entry_room_least w kind = let some = (AreFields-of w).some in omega (arith, entry_room w kind, some)
 
 -- the word of four bytes that were read

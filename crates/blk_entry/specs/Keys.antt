@@ -4,11 +4,11 @@ use Rattle.std.specs.Option.{option_and_then}
 use Rattle.blk_image.specs.Bytes.{range_at}
 use Rattle.blk_image.specs.Image.{File, Block, External, Image, HasRange, byte}
 use Rattle.blk_image.specs.Told.{Told}
-use Rattle.blk_format.specs.Address.{kind_of, block_count, external, external_number, file_selector, place, room}
+use Rattle.blk_format.specs.Address.{kind_of, block_count, external, external_number, file_selector, place, byte_size}
 use Rattle.blk_format.specs.Hash.{hash as hash_of}
 use Rattle.blk_format.specs.Records.{entry_size}
 use Rattle.blk_format.specs.Storage.{entry_blocks, is_storage}
-use Rattle.blk_volume.specs.View.{core_at, entry_at, stock_of}
+use Rattle.blk_volume.specs.View.{core_at, entry_at, store_of}
 use Rattle.blk_volume.specs.Entries.{is_key_length, key_of, longest_short_key}
 use Rattle.blk_io.specs.declared.folder.FileId.{FileId}
 use Rattle.blk_io.specs.declared.folder.FileId.TheVariants as names
@@ -24,7 +24,7 @@ use Rattle.blk_entry.specs.declared.keys.KeyPlace.{KeyPlace}
 
 -- the key of the record that a word names, where the length and the place of the key are right
 unfoldable pub key_at : Image → ℕ → Option (List ℕ)
-key_at image entry = option_and_then (λ core. if is_key_length entry core then key_of (stock_of image) entry core else None) (core_at image entry)
+key_at image entry = option_and_then (λ fields. if is_key_length entry fields then key_of (store_of image) entry fields else None) (core_at image entry)
 
 -- the bytes of the key's place in a record of one block
 abbrev pub key_place_bytes : ℕ
@@ -126,17 +126,17 @@ pub record IsUnfit (entry key_len : ℕ) (damage : Damage) : Type 0 where
   pub unfit : may_have entry key_len ≡ false
 
 -- the word of a long key, at place 36 of the record, is no address that stands and stores a key of so many bytes
-pub record IsAstray (files : BlockFiles) (entry key_len long_key : ℕ) (damage : Damage) : Type 0 where
+pub record IsDangling (files : BlockFiles) (entry key_len long_key : ℕ) (damage : Damage) : Type 0 where
   pub of_file : damage.file ≡ names.Block (file_selector entry)
   pub at_place : damage.at ≡ place entry + 36
   pub of_word : damage.found ≡ long_key
   pub has : may_have entry key_len ≡ true
   pub long : is_short key_len ≡ false
-  pub astray : may_hold files key_len long_key ≡ false
+  pub dangling : may_hold files key_len long_key ≡ false
 
 -- the key's length or the word of a long key is wrong
 abbrev pub IsMisplaced : BlockFiles → ℕ → ℕ → ℕ → Damage → Type 0
-IsMisplaced files entry key_len long_key damage = IsUnfit entry key_len damage ⊎ IsAstray files entry key_len long_key damage
+IsMisplaced files entry key_len long_key damage = IsUnfit entry key_len damage ⊎ IsDangling files entry key_len long_key damage
 
 -- a damage of a key where the words of its record are known: its length, and the word of a long key
 abbrev pub IsPlaceDamage : BlockFiles → Told → ℕ → ℕ → ℕ → Damage → Type 0
@@ -185,7 +185,7 @@ pub record IsPlaceOf (entry key_len long_key : ℕ) (place : KeyPlace) : Type 0 
 pub record IsInside (files : BlockFiles) (w before n : ℕ) : Type 0 where
   pub small : before + n ≤ most_key + entry_size
   pub stands : kind_of w ≢ external → stands_among files w ≡ true
-  pub room : kind_of w ≢ external → before + n ≤ room w
+  pub room : kind_of w ≢ external → before + n ≤ byte_size w
 
 -- the bytes of an external file are there
 abbrev pub IsInFile : ℕ → ℕ → ℕ → Image → Type 0

@@ -24,12 +24,12 @@ abbrev pub plain_node : Node → Node
 plain_node n = record n { dirty = 0; self_hash = 0 }
 
 -- a moment of marking: the node checks, its dirty word is the old one or the mark, its other fields are as before, and so is all else
-pub record IsMarking (from : Image) (node mark : ℕ) (image : Image) : Type 0 where
+pub record SetsDirtyInProgress (from : Image) (node mark : ℕ) (image : Image) : Type 0 where
   pub checks : RecordChecks node image
   pub dirty : ((node_at image node).dirty ≡ (node_at from node).dirty) ⊎ ((node_at image node).dirty ≡ mark)
   pub others : plain_node (node_at image node) ≡ plain_node (node_at from node)
   pub outside : SameOutside (record_range node) from image
 
 -- the node is marked: it is as before but for its dirty word, and it is sealed
-abbrev pub IsMarked : Image → ℕ → ℕ → Image → Type 0
-IsMarked from node mark image = node_at image node ≡ sealed_node (record (node_at from node) { dirty = mark })
+abbrev pub HasDirtySet : Image → ℕ → ℕ → Image → Type 0
+HasDirtySet from node mark image = node_at image node ≡ sealed_node (record (node_at from node) { dirty = mark })

@@ -4,11 +4,11 @@ use Rattle.blk_image.specs.Bytes.{word_bytes, zeros}
 use Rattle.blk_image.specs.Image.{Block, External, Image, length_of}
 use Rattle.blk_image.specs.Steps.{TrailStep, words}
 use Rattle.blk_image.specs.Footprint.{Footprint, either, nothing, range}
-use Rattle.blk_format.specs.Address.{is_address, kind_of, block_count, first_block, external, rankings, blocks_256, external_number, file_selector, place, room}
+use Rattle.blk_format.specs.Address.{is_address, kind_of, block_count, first_block, external, rankings, blocks_256, external_number, file_selector, place, byte_size}
 use Rattle.blk_format.specs.Hash.{hash as hash_of}
 use Rattle.blk_format.specs.Records.{Entry, Node, entry_body, entry_size, sealed_entry, node_body, sealed_node, normal, plain, child}
 use Rattle.blk_format.specs.Storage.{entry_blocks}
-use Rattle.blk_volume.specs.View.{entry_at, node_at, core_of, list_of, stock_of}
+use Rattle.blk_volume.specs.View.{entry_at, node_at, fields_of, list_of, store_of}
 use Rattle.blk_volume.specs.Entries.{IsPlain, streams_of}
 use Rattle.blk_volume.specs.Loads.{Loaded}
 use Rattle.blk_disk.specs.declared.tables.BlockFiles.{BlockFiles}
@@ -68,7 +68,7 @@ long_range (Some w) key_len = range (data_file w) (data_start w) (key_len + 1)
 
 -- the three places: the blocks of the record, the node, and the long key with its zero byte
 unfoldable pub places_of : NewEntry → ℕ → Footprint
-places_of new key_len = either (range (Block (file_selector new.entry)) (place new.entry) (room new.entry)) (either (record_range new.node) (long_range new.long_key key_len))
+places_of new key_len = either (range (Block (file_selector new.entry)) (place new.entry) (byte_size new.entry)) (either (record_range new.node) (long_range new.long_key key_len))
 
 -- What is written there.
 
@@ -170,8 +170,8 @@ loaded_new new key = record {
 pub record IsShownNew (new : NewEntry) (key : List ℕ) (moment : ℕ) (image : Image) : Type 0 where
   pub checks : (list_of image).checks new.node ≡ true
   pub next : (list_of image).next new.node ≡ 0
-  pub named : (stock_of image).named new.node ≡ Some (record { contents = new.entry; dirty = new.dirty })
-  pub core : (stock_of image).entry new.entry ≡ Some (core_of (new_record new key moment))
-  pub follow : (stock_of image).follow new.entry ≡ new.next
+  pub node_fields : (store_of image).node_fields new.node ≡ Some (record { contents = new.entry; dirty = new.dirty })
+  pub fields : (store_of image).entry new.entry ≡ Some (fields_of (new_record new key moment))
+  pub chain_next : (store_of image).chain_next new.entry ≡ new.next
   pub key_is : key_at image new.entry ≡ Some key
-  pub streams : streams_of (stock_of image) (core_of (new_record new key moment)) ≡ Some ([] ∷ [] ∷ [] ∷ [])
+  pub streams : streams_of (store_of image) (fields_of (new_record new key moment)) ≡ Some ([] ∷ [] ∷ [] ∷ [])

@@ -1,7 +1,7 @@
 // The bytes of data, which lie in blocks or in an external file.
 ghost use Rattle.std.specs.Prelude.{◌≡◌, ◌+◌, ◌≤◌, ◌==◌, None, OnErr, OnOk, length};
 ghost use Rattle.std.specs.Option.{ForSome};
-ghost use Rattle.blk_image.specs.Told.{Grows, GrowsInPart, Rises, Stays};
+ghost use Rattle.blk_image.specs.Told.{Applies, AppliesPrefix, Rises, Stays};
 ghost use Rattle.blk_format.specs.Address.{kind_of};
 ghost use Rattle.blk_addr.specs.Kind.{kind_number};
 ghost use Rattle.blk_io.specs.Faults.{IfDamaged, IfDevice};
@@ -49,8 +49,8 @@ pub(crate) fn write_ended<F: Folder>(
     requires inside { IsInside files.now addr at (length bytes.now + 1) }
     requires agrees { ForSome (F.told f.old).files (Agrees files.now) }
     requires external { ForSome (F.told f.old).files (IsInFile addr at (length bytes.now + 1)) }
-    ensures whole { OnOk result (Grows (F.told f.old) (F.told f.new) (ended_steps addr at bytes.now)) }
-    ensures part { GrowsInPart (F.told f.old) (F.told f.new) (ended_steps addr at bytes.now) }
+    ensures steps { OnOk result (Applies (F.told f.old) (F.told f.new) (ended_steps addr at bytes.now)) }
+    ensures prefix { AppliesPrefix (F.told f.old) (F.told f.new) (ended_steps addr at bytes.now) }
     ensures agrees { ForSome (F.told f.new).files (Agrees files.now) }
     ensures later { F.faults f.old ≤ F.faults f.new }
     ensures failed { OnErr result (Rises (F.faults f.old) (F.faults f.new)) }
@@ -70,8 +70,8 @@ fn write_data<F: Folder>(
     requires inside { IsInside files.now addr at (length bytes.now) }
     requires agrees { ForSome (F.told f.old).files (Agrees files.now) }
     requires external { ForSome (F.told f.old).files (IsInFile addr at (length bytes.now)) }
-    ensures whole { OnOk result (Grows (F.told f.old) (F.told f.new) (data_steps addr at bytes.now)) }
-    ensures part { GrowsInPart (F.told f.old) (F.told f.new) (data_steps addr at bytes.now) }
+    ensures steps { OnOk result (Applies (F.told f.old) (F.told f.new) (data_steps addr at bytes.now)) }
+    ensures prefix { AppliesPrefix (F.told f.old) (F.told f.new) (data_steps addr at bytes.now) }
     ensures agrees { ForSome (F.told f.new).files (Agrees files.now) }
     ensures later { F.faults f.old ≤ F.faults f.new }
     ensures failed { OnErr result (Rises (F.faults f.old) (F.faults f.new)) }

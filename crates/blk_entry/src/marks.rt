@@ -1,14 +1,14 @@
 // The dirty marks of nodes.
 ghost use Rattle.std.specs.Prelude.{◌≡◌, ◌≢◌, ◌≤◌, ◌⊎◌, IsTrue, None, OnOk};
 ghost use Rattle.std.specs.Option.{ForSome};
-ghost use Rattle.blk_image.specs.Told.{Grows, GrowsInPart, Passes, Rises};
+ghost use Rattle.blk_image.specs.Told.{Applies, AppliesPrefix, Passes, Rises};
 ghost use Rattle.blk_format.specs.Address.{file_selector, kind_of, place, rankings};
 ghost use Rattle.blk_io.specs.declared.folder.FileId.TheVariants as FileId;
 ghost use Rattle.blk_io.specs.Faults.{IfDamaged, IfDevice, IsShort};
 ghost use Rattle.blk_disk.specs.Tables.{Agrees, stands_among};
 ghost use Rattle.blk_disk.specs.Unsealed.{IsUnsealed};
 ghost use Rattle.blk_format.specs.Sealed.{RecordChecks, record_size};
-ghost use Rattle.blk_entry.specs.Marks.{IsMarked, IsMarking, mark_steps};
+ghost use Rattle.blk_entry.specs.Marks.{HasDirtySet, SetsDirtyInProgress, mark_steps};
 
 use blk_addr::Addr;
 use blk_disk::BlockFiles;
@@ -31,12 +31,12 @@ pub fn set_dirty<F: Folder>(
     requires stands { IsTrue (stands_among files.now node) }
     requires agrees { ForSome (F.told f.old).files (Agrees files.now) }
     requires checks { ForSome (F.told f.old).files (RecordChecks node) }
-    ensures whole { OnOk result (ForSome (F.told f.old).files (λ from. Grows (F.told f.old) (F.told f.new) (mark_steps from node mark))) }
-    ensures part { ForSome (F.told f.old).files (λ from. GrowsInPart (F.told f.old) (F.told f.new) (mark_steps from node mark)) }
-    ensures marked { OnOk result (ForSome (F.told f.old).files (λ from. ForSome (F.told f.new).files (IsMarked from node mark))) }
+    ensures steps { OnOk result (ForSome (F.told f.old).files (λ from. Applies (F.told f.old) (F.told f.new) (mark_steps from node mark))) }
+    ensures prefix { ForSome (F.told f.old).files (λ from. AppliesPrefix (F.told f.old) (F.told f.new) (mark_steps from node mark)) }
+    ensures marked { OnOk result (ForSome (F.told f.old).files (λ from. ForSome (F.told f.new).files (HasDirtySet from node mark))) }
 
     // At each word the node checks, its dirty word is the old one or the mark, and nothing else has changed.
-    ensures stops { ForSome (F.told f.old).files (λ from. Passes (F.told f.old) (F.told f.new) (IsMarking from node mark)) }
+    ensures stops { ForSome (F.told f.old).files (λ from. Passes (F.told f.old) (F.told f.new) (SetsDirtyInProgress from node mark)) }
     ensures agrees { ForSome (F.told f.new).files (Agrees files.now) }
     ensures checks { ForSome (F.told f.new).files (RecordChecks node) }
 
@@ -59,12 +59,12 @@ pub fn set_clean<F: Folder>(f: &mut F, files: &BlockFiles, node: Addr) -> Result
     requires stands { IsTrue (stands_among files.now node) }
     requires agrees { ForSome (F.told f.old).files (Agrees files.now) }
     requires checks { ForSome (F.told f.old).files (RecordChecks node) }
-    ensures whole { OnOk result (ForSome (F.told f.old).files (λ from. Grows (F.told f.old) (F.told f.new) (mark_steps from node 0))) }
-    ensures part { ForSome (F.told f.old).files (λ from. GrowsInPart (F.told f.old) (F.told f.new) (mark_steps from node 0)) }
-    ensures marked { OnOk result (ForSome (F.told f.old).files (λ from. ForSome (F.told f.new).files (IsMarked from node 0))) }
+    ensures steps { OnOk result (ForSome (F.told f.old).files (λ from. Applies (F.told f.old) (F.told f.new) (mark_steps from node 0))) }
+    ensures prefix { ForSome (F.told f.old).files (λ from. AppliesPrefix (F.told f.old) (F.told f.new) (mark_steps from node 0)) }
+    ensures marked { OnOk result (ForSome (F.told f.old).files (λ from. ForSome (F.told f.new).files (HasDirtySet from node 0))) }
 
     // At each word the node checks, its dirty word is the old one or 0, and nothing else has changed.
-    ensures stops { ForSome (F.told f.old).files (λ from. Passes (F.told f.old) (F.told f.new) (IsMarking from node 0)) }
+    ensures stops { ForSome (F.told f.old).files (λ from. Passes (F.told f.old) (F.told f.new) (SetsDirtyInProgress from node 0)) }
     ensures agrees { ForSome (F.told f.new).files (Agrees files.now) }
     ensures checks { ForSome (F.told f.new).files (RecordChecks node) }
 
@@ -87,10 +87,10 @@ fn write_mark<F: Folder>(f: &mut F, files: &BlockFiles, node: Addr, mark: u32) -
     requires stands { IsTrue (stands_among files.now node) }
     requires agrees { ForSome (F.told f.old).files (Agrees files.now) }
     requires checks { ForSome (F.told f.old).files (RecordChecks node) }
-    ensures whole { OnOk result (ForSome (F.told f.old).files (λ from. Grows (F.told f.old) (F.told f.new) (mark_steps from node mark))) }
-    ensures part { ForSome (F.told f.old).files (λ from. GrowsInPart (F.told f.old) (F.told f.new) (mark_steps from node mark)) }
-    ensures marked { OnOk result (ForSome (F.told f.old).files (λ from. ForSome (F.told f.new).files (IsMarked from node mark))) }
-    ensures stops { ForSome (F.told f.old).files (λ from. Passes (F.told f.old) (F.told f.new) (IsMarking from node mark)) }
+    ensures steps { OnOk result (ForSome (F.told f.old).files (λ from. Applies (F.told f.old) (F.told f.new) (mark_steps from node mark))) }
+    ensures prefix { ForSome (F.told f.old).files (λ from. AppliesPrefix (F.told f.old) (F.told f.new) (mark_steps from node mark)) }
+    ensures marked { OnOk result (ForSome (F.told f.old).files (λ from. ForSome (F.told f.new).files (HasDirtySet from node mark))) }
+    ensures stops { ForSome (F.told f.old).files (λ from. Passes (F.told f.old) (F.told f.new) (SetsDirtyInProgress from node mark)) }
     ensures agrees { ForSome (F.told f.new).files (Agrees files.now) }
     ensures checks { ForSome (F.told f.new).files (RecordChecks node) }
     ensures silent { (F.told f.old).files ≡ None → (F.told f.new).files ≡ None }

@@ -5,12 +5,12 @@ ghost use Rattle.std.specs.List.{All};
 ghost use Rattle.blk_image.specs.Bytes.{zeros};
 ghost use Rattle.blk_image.specs.Footprint.{SameOutside};
 ghost use Rattle.blk_image.specs.Steps.{with_words};
-ghost use Rattle.blk_image.specs.Told.{Grows, GrowsInPart, Passes, Rises};
+ghost use Rattle.blk_image.specs.Told.{Applies, AppliesPrefix, Passes, Rises};
 ghost use Rattle.blk_format.specs.Address.{kind_of, rankings};
 ghost use Rattle.blk_format.specs.BlockFiles.{IsWellFormed};
 ghost use Rattle.blk_format.specs.Records as records;
-ghost use Rattle.blk_volume.specs.Loads.{alone, load};
-ghost use Rattle.blk_volume.specs.View.{stock_of};
+ghost use Rattle.blk_volume.specs.Loads.{unchained_rule, load};
+ghost use Rattle.blk_volume.specs.View.{store_of};
 ghost use Rattle.blk_record.specs.Fields.{IsField};
 ghost use Rattle.blk_io.specs.Faults.{IfDamaged, IfDevice};
 ghost use Rattle.blk_format.specs.Sealed as sealed;
@@ -65,13 +65,13 @@ pub fn write_entry<F: Folder>(
     requires agrees { ForSome (F.told f.old).files (Agrees files.now) }
     requires external { ForSome (F.told f.old).files (HasItsLength new.now.long_key (length key.now)) }
     requires apart { ForSome (F.told f.old).files (λ _. LiesApart new.now.entry new.now.long_key) }
-    ensures whole { OnOk result (Grows (F.told f.old) (F.told f.new) (entry_steps new.now key.now moment)) }
-    ensures part { GrowsInPart (F.told f.old) (F.told f.new) (entry_steps new.now key.now moment) }
+    ensures steps { OnOk result (Applies (F.told f.old) (F.told f.new) (entry_steps new.now key.now moment)) }
+    ensures prefix { AppliesPrefix (F.told f.old) (F.told f.new) (entry_steps new.now key.now moment) }
     ensures written { OnOk result (ForSome (F.told f.new).files (IsWritten new.now key.now moment)) }
     ensures shown { OnOk result (ForSome (F.told f.new).files (IsShownNew new.now key.now moment)) }
 
     // A plain entry loads by itself. A part has no index yet.
-    ensures loads { OnOk result (new.now.child ≡ false → ForSome (F.told f.new).files (λ image. load (stock_of image) (alone records.normal) new.now.node ≡ Ok (loaded_new new.now key.now))) }
+    ensures loads { OnOk result (new.now.child ≡ false → ForSome (F.told f.new).files (λ image. load (store_of image) (unchained_rule records.normal) new.now.node ≡ Ok (loaded_new new.now key.now))) }
 
     // At each word no byte outside the three places has changed, and a well formed folder stays so.
     ensures stops { ForSome (F.told f.old).files (λ from. Passes (F.told f.old) (F.told f.new) (SameOutside (places_of new.now (length key.now)) from)) }
@@ -103,8 +103,8 @@ fn write_places<F: Folder>(
     requires fits { FitsKey files.now new key.now }
     requires agrees { ForSome (F.told f.old).files (Agrees files.now) }
     requires external { ForSome (F.told f.old).files (HasItsLength new.long_key (length key.now)) }
-    ensures whole { OnOk result (Grows (F.told f.old) (F.told f.new) (entry_steps new key.now moment)) }
-    ensures part { GrowsInPart (F.told f.old) (F.told f.new) (entry_steps new key.now moment) }
+    ensures steps { OnOk result (Applies (F.told f.old) (F.told f.new) (entry_steps new key.now moment)) }
+    ensures prefix { AppliesPrefix (F.told f.old) (F.told f.new) (entry_steps new key.now moment) }
     ensures words { AreWords new }
     ensures later { F.faults f.old ≤ F.faults f.new }
     ensures failed { OnErr result (Rises (F.faults f.old) (F.faults f.new)) }
@@ -123,8 +123,8 @@ fn write_key<F: Folder>(
     requires fits { FitsKey files.now new.now key.now }
     requires agrees { ForSome (F.told f.old).files (Agrees files.now) }
     requires external { ForSome (F.told f.old).files (HasItsLength new.now.long_key (length key.now)) }
-    ensures whole { OnOk result (Grows (F.told f.old) (F.told f.new) (key_steps new.now key.now)) }
-    ensures part { GrowsInPart (F.told f.old) (F.told f.new) (key_steps new.now key.now) }
+    ensures steps { OnOk result (Applies (F.told f.old) (F.told f.new) (key_steps new.now key.now)) }
+    ensures prefix { AppliesPrefix (F.told f.old) (F.told f.new) (key_steps new.now key.now) }
     ensures agrees { ForSome (F.told f.new).files (Agrees files.now) }
     ensures later { F.faults f.old ≤ F.faults f.new }
     ensures failed { OnErr result (Rises (F.faults f.old) (F.faults f.new)) }
@@ -145,8 +145,8 @@ fn write_records<F: Folder>(
 ) -> Result<(), Failed>
     requires fits { FitsKey files.now new.now key.now }
     requires agrees { ForSome (F.told f.old).files (Agrees files.now) }
-    ensures whole { OnOk result (Grows (F.told f.old) (F.told f.new) (record_steps new.now key.now moment ++ node_steps new.now moment)) }
-    ensures part { GrowsInPart (F.told f.old) (F.told f.new) (record_steps new.now key.now moment ++ node_steps new.now moment) }
+    ensures steps { OnOk result (Applies (F.told f.old) (F.told f.new) (record_steps new.now key.now moment ++ node_steps new.now moment)) }
+    ensures prefix { AppliesPrefix (F.told f.old) (F.told f.new) (record_steps new.now key.now moment ++ node_steps new.now moment) }
     ensures later { F.faults f.old ≤ F.faults f.new }
     ensures failed { OnErr result (Rises (F.faults f.old) (F.faults f.new)) }
 {
@@ -164,8 +164,8 @@ fn write_record<F: Folder>(
 ) -> Result<(), Failed>
     requires fits { FitsKey files.now new.now key.now }
     requires agrees { ForSome (F.told f.old).files (Agrees files.now) }
-    ensures whole { OnOk result (Grows (F.told f.old) (F.told f.new) (record_steps new.now key.now moment)) }
-    ensures part { GrowsInPart (F.told f.old) (F.told f.new) (record_steps new.now key.now moment) }
+    ensures steps { OnOk result (Applies (F.told f.old) (F.told f.new) (record_steps new.now key.now moment)) }
+    ensures prefix { AppliesPrefix (F.told f.old) (F.told f.new) (record_steps new.now key.now moment) }
     ensures agrees { ForSome (F.told f.new).files (Agrees files.now) }
     ensures later { F.faults f.old ≤ F.faults f.new }
     ensures failed { OnErr result (Rises (F.faults f.old) (F.faults f.new)) }
@@ -188,8 +188,8 @@ fn write_node<F: Folder>(
     requires kind { kind_of new.now.node ≡ rankings }
     requires stands { IsTrue (stands_among files.now new.now.node) }
     requires agrees { ForSome (F.told f.old).files (Agrees files.now) }
-    ensures whole { OnOk result (Grows (F.told f.old) (F.told f.new) (node_steps new.now moment)) }
-    ensures part { GrowsInPart (F.told f.old) (F.told f.new) (node_steps new.now moment) }
+    ensures steps { OnOk result (Applies (F.told f.old) (F.told f.new) (node_steps new.now moment)) }
+    ensures prefix { AppliesPrefix (F.told f.old) (F.told f.new) (node_steps new.now moment) }
     ensures later { F.faults f.old ≤ F.faults f.new }
     ensures failed { OnErr result (Rises (F.faults f.old) (F.faults f.new)) }
 {

@@ -3,7 +3,7 @@ use Rattle.std.specs.Prelude.{◌≡◌, ℕ, List, [], ◌∷◌, Some}
 use Rattle.std.specs.Option.{ForSome}
 use Rattle.blk_image.specs.Image.{Index, External, Image, byte}
 use Rattle.blk_image.specs.Steps.{TrailStep, SetLength, word_step}
-use Rattle.blk_image.specs.Told.{Told, GrowsInPart}
+use Rattle.blk_image.specs.Told.{Told, AppliesPrefix}
 use Rattle.blk_image.specs.Footprint.{Footprint, SameOutside, either, one_word, whole}
 use Rattle.blk_format.specs.Headers.{last_file_of}
 use Rattle.blk_io.specs.declared.folder.FileId.TheVariants as names
@@ -27,20 +27,20 @@ abbrev pub touched_by_making : ℕ → Footprint
 touched_by_making n = either (whole (External n)) (one_word Index last_file_place)
 
 -- some of the steps that make the file of the first free number were done, from the first on
-pub record MakesInPart (old new : Told) : Type 0 where
+pub record CreatesPrefix (old new : Told) : Type 0 where
   pub number : ℕ
   pub fits : IsNumber number
   pub first : ForSome old.files (λ image. IsFirstFree image (last_number image) number)
-  pub grows : GrowsInPart old new (making number)
+  pub applies : AppliesPrefix old new (making number)
 
 -- a moment of making: but for the file of the first free number and the word of the index all is as before
-pub record IsMaking (from image : Image) : Type 0 where
+pub record CreatesInProgress (from image : Image) : Type 0 where
   pub number : ℕ
   pub first : IsFirstFree from (last_number from) number
   pub same : SameOutside (touched_by_making number) from image
 
 -- the file of the number is there without bytes, and the index has the number
-pub record IsMade (image : Image) (number : ℕ) : Type 0 where
+pub record Creates (image : Image) (number : ℕ) : Type 0 where
   pub file : image (External number) ≡ Some []
   pub last : last_number image ≡ number
 

@@ -4,7 +4,7 @@ ghost use Rattle.std.specs.Option.{ForSome};
 ghost use Rattle.blk_image.specs.Bytes.{range_at, spliced, resized};
 ghost use Rattle.blk_image.specs.Image.{HasRange, bytes_of, byte};
 ghost use Rattle.blk_image.specs.Steps.{SetLength, Delete, words};
-ghost use Rattle.blk_image.specs.Told.{Grows, GrowsInPart, Stays, PassesTo, Rises};
+ghost use Rattle.blk_image.specs.Told.{Applies, AppliesPrefix, Stays, PassesTo, Rises};
 ghost use Rattle.blk_image.specs.Footprint.{SameOutside, range, whole};
 ghost use Rattle.blk_format.specs.Address.{kind_of, external, external_number};
 ghost use Rattle.blk_io.specs.FileNames.{file_of};
@@ -42,11 +42,11 @@ pub fn read<F: Folder>(f: &mut F, addr: Addr, at: u64, out: &mut [u8]) -> Result
 pub fn write<F: Folder>(f: &mut F, addr: Addr, at: u64, bytes: &[u8]) -> Result<(), Failed>
     requires kind { kind_of addr ≡ external }
     requires inside { ForSome (F.told f.old).files (λ image. HasRange image (named_file addr) at (length bytes.now)) }
-    ensures whole { OnOk result (Grows (F.told f.old) (F.told f.new) (words (named_file addr) at bytes.now)) }
+    ensures steps { OnOk result (Applies (F.told f.old) (F.told f.new) (words (named_file addr) at bytes.now)) }
     ensures file { OnOk result (ForSome (F.told f.old).files (λ from. ForSome (F.told f.new).files (λ image. bytes_of image (named_file addr) ≡ spliced at bytes.now (bytes_of from (named_file addr))))) }
 
     // Whatever the answer: a front of the words, and at each moment all other bytes as before.
-    ensures part { GrowsInPart (F.told f.old) (F.told f.new) (words (named_file addr) at bytes.now) }
+    ensures prefix { AppliesPrefix (F.told f.old) (F.told f.new) (words (named_file addr) at bytes.now) }
     ensures stops { ForSome (F.told f.old).files (λ from. PassesTo (F.told f.old) (F.told f.new) (SameOutside (range (named_file addr) at (length bytes.now)) from) (SameOutside (range (named_file addr) at (length bytes.now)) from)) }
 
     ensures later { F.faults f.old ≤ F.faults f.new }
@@ -58,7 +58,7 @@ pub fn write<F: Folder>(f: &mut F, addr: Addr, at: u64, bytes: &[u8]) -> Result<
 /// Gives the file this length, and makes it where there is none. New bytes are 0.
 pub fn resize<F: Folder>(f: &mut F, addr: Addr, length: u64) -> Result<(), Failed>
     requires kind { kind_of addr ≡ external }
-    ensures done { OnOk result (Grows (F.told f.old) (F.told f.new) (SetLength (named_file addr) length ∷ [])) }
+    ensures done { OnOk result (Applies (F.told f.old) (F.told f.new) (SetLength (named_file addr) length ∷ [])) }
     ensures undone { OnErr result (Stays (F.told f.old) (F.told f.new)) }
     ensures file { OnOk result (ForSome (F.told f.old).files (λ from. ForSome (F.told f.new).files (λ image. image (named_file addr) ≡ Some (resized length (bytes_of from (named_file addr)))))) }
 
@@ -74,7 +74,7 @@ pub fn resize<F: Folder>(f: &mut F, addr: Addr, length: u64) -> Result<(), Faile
 /// Removes the file, if it is there.
 pub fn delete<F: Folder>(f: &mut F, addr: Addr) -> Result<(), Failed>
     requires kind { kind_of addr ≡ external }
-    ensures done { OnOk result (Grows (F.told f.old) (F.told f.new) (Delete (named_file addr) ∷ [])) }
+    ensures done { OnOk result (Applies (F.told f.old) (F.told f.new) (Delete (named_file addr) ∷ [])) }
     ensures undone { OnErr result (Stays (F.told f.old) (F.told f.new)) }
     ensures file { OnOk result (ForSome (F.told f.new).files (λ image. image (named_file addr) ≡ None)) }
 

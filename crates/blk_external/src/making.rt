@@ -1,12 +1,12 @@
 // An external file is made, with the first free number.
 ghost use Rattle.std.specs.Prelude.{◌≡◌, ◌⊎◌, ◌+◌, ◌≤◌, ◌<◌, None, OnOk, OnErr, IfOk};
 ghost use Rattle.std.specs.Option.{ForSome};
-ghost use Rattle.blk_image.specs.Told.{Grows, GrowsInPart, Stays, PassesTo, Rises};
+ghost use Rattle.blk_image.specs.Told.{Applies, AppliesPrefix, Stays, PassesTo, Rises};
 ghost use Rattle.blk_format.specs.Address.{kind_of, external, external_number};
 ghost use Rattle.blk_format.specs.Headers.{HasWholeIndex};
 ghost use Rattle.blk_io.specs.Faults.{IfDamaged, IfDevice, IsShort};
 ghost use Rattle.blk_external.specs.Numbers.{IsNumber, HasFreeNumber, IsFirstFree, IsSearched, IsLeastFree, most_number};
-ghost use Rattle.blk_external.specs.Making.{making, last_number, last_file_place, MakesInPart, IsMaking, IsMade, IsFull};
+ghost use Rattle.blk_external.specs.Making.{making, last_number, last_file_place, CreatesPrefix, CreatesInProgress, Creates, IsFull};
 
 use blk_addr::Addr;
 use blk_io::{Damage, Failed, Fault, FileId, Folder, read_word, write_word};
@@ -22,17 +22,17 @@ const MOST_NUMBER: u32 = 0x0FFF_FFFF;
 /// Where the next number is free, two folder calls find it.
 pub fn create<F: Folder>(f: &mut F) -> Result<Addr, Fault>
     requires free { ForSome (F.told f.old).files HasFreeNumber }
-    requires whole { ForSome (F.told f.old).files HasWholeIndex }
+    requires complete { ForSome (F.told f.old).files HasWholeIndex }
     ensures kind { IfOk result (λ addr. kind_of addr ≡ external) }
     ensures number { IfOk result (λ addr. IsNumber (external_number addr)) }
     ensures first { IfOk result (λ addr. ForSome (F.told f.old).files (λ image. IsFirstFree image (last_number image) (external_number addr))) }
-    ensures steps { IfOk result (λ addr. Grows (F.told f.old) (F.told f.new) (making (external_number addr))) }
-    ensures made { IfOk result (λ addr. ForSome (F.told f.new).files (λ image. IsMade image (external_number addr))) }
+    ensures steps { IfOk result (λ addr. Applies (F.told f.old) (F.told f.new) (making (external_number addr))) }
+    ensures made { IfOk result (λ addr. ForSome (F.told f.new).files (λ image. Creates image (external_number addr))) }
 
     // Whatever the answer: a front of the steps, at each moment all else as before, and the index as long as it was.
-    ensures part { MakesInPart (F.told f.old) (F.told f.new) }
-    ensures stops { ForSome (F.told f.old).files (λ from. PassesTo (F.told f.old) (F.told f.new) (IsMaking from) (IsMaking from)) }
-    ensures whole { ForSome (F.told f.new).files HasWholeIndex }
+    ensures prefix { CreatesPrefix (F.told f.old) (F.told f.new) }
+    ensures stops { ForSome (F.told f.old).files (λ from. PassesTo (F.told f.old) (F.told f.new) (CreatesInProgress from) (CreatesInProgress from)) }
+    ensures complete { ForSome (F.told f.new).files HasWholeIndex }
 
     ensures damaged { IfDamaged result (λ damage. IsShort (F.told f.old) FileId.Index last_file_place 4 damage ⊎ IsFull (F.told f.old) damage) }
     ensures untold { IfDamaged result (λ _. (F.told f.old).files ≡ None) }
@@ -92,8 +92,8 @@ fn least_free<F: Folder>(f: &mut F, low: u32, end: u32) -> Result<Option<u32>, F
 // Makes the file of a number.
 fn make<F: Folder>(f: &mut F, number: u32) -> Result<(), Failed>
     requires { ForSome (F.told f.old).files HasWholeIndex }
-    ensures whole { OnOk result (Grows (F.told f.old) (F.told f.new) (making number)) }
-    ensures part { GrowsInPart (F.told f.old) (F.told f.new) (making number) }
+    ensures steps { OnOk result (Applies (F.told f.old) (F.told f.new) (making number)) }
+    ensures prefix { AppliesPrefix (F.told f.old) (F.told f.new) (making number) }
     ensures later { F.faults f.old ≤ F.faults f.new }
     ensures failed { OnErr result (Rises (F.faults f.old) (F.faults f.new)) }
 {

@@ -1,6 +1,6 @@
 -- Worked address words.
 use Rattle.std.proofs.Common.{◌≡◌, true, false, refl}
-use Rattle.blk_format.specs.Address.{is_address, is_initialized, names_external, names_blocks, kind_of, reserved_bits, block_count, file_selector, first_block, external_number, block_word, external_word, block_size, block_place, place, room}
+use Rattle.blk_format.specs.Address.{is_address, is_initialized, names_external, names_blocks, kind_of, reserved_bits, block_count, file_selector, first_block, external_number, block_word, external_word, block_size, block_place, place, byte_size}
 
 -- 0x90000000 is node 0 of data_0
 pub node_0 : (is_address 0x90000000 ≡ true) × (block_word 1 0 0 1 ≡ 0x90000000) × (kind_of 0x90000000 ≡ 1) × (file_selector 0x90000000 ≡ 0) × (first_block 0x90000000 ≡ 0) × (block_count 0x90000000 ≡ 1)
@@ -68,6 +68,6 @@ unfolding block_size
 block_sizes = (refl, refl, refl, refl)
 
 -- blocks 4 and 5 of data_1 are the 512 bytes from 9216 on
-pub place_of_blocks_4_and_5 : (place 0xA1010004 ≡ 9216) × (room 0xA1010004 ≡ 512)
-unfolding place block_place block_size room kind_of block_count first_block
+pub place_of_blocks_4_and_5 : (place 0xA1010004 ≡ 9216) × (byte_size 0xA1010004 ≡ 512)
+unfolding place block_place block_size byte_size kind_of block_count first_block
 place_of_blocks_4_and_5 = (refl, refl)

@@ -9,7 +9,7 @@ use Rattle.blk_image.specs.Checks.{Damage, first_of}
 use Rattle.blk_format.specs.Address.{block_size}
 use Rattle.blk_format.specs.Standing.{stands, stands_as_blocks}
 use Rattle.blk_format.specs.Address as address
-use Rattle.blk_format.specs.BlockFiles.{next_file_in, max_entries_in, files_along, linked, linked_up_to, type_among, stands_in, is_link, is_block_count, file_checks, checks_along, checks_of_type, first_block_damage}
+use Rattle.blk_format.specs.BlockFiles.{next_file_in, max_entries_in, files_along, linked, linked_up_to, kind_among, stands_in, is_link, is_block_count, file_checks, checks_along, checks_of_kind, first_block_damage}
 
 -- the words of a header: magic, version, this_file and next_file, entry_size, num_entries, max_entries
 fields : ℕ → ℕ → ℕ → ℕ → ℕ → ℕ → List ℕ
@@ -103,35 +103,35 @@ unfolding linked files_along next_file_in folder kinds by_six fields block_size 
 chain_of_three = (refl, refl)
 
 whole_chain : chain_to 4 ≡ None
-unfolding chain_to checks_of_type checks_along file_checks linked_up_to linked files_along next_file_in folder kinds by_six fields block_size zeros is_link is_block_count
+unfolding chain_to checks_of_kind checks_along file_checks linked_up_to linked files_along next_file_in folder kinds by_six fields block_size zeros is_link is_block_count
 whole_chain = refl
 
 -- a link to the file itself, to one that isn't there, to one of the first four, and to one that can't be
 link_to_itself : chain_to 6 ≡ damage 6 8 0x60006
-unfolding chain_to damage checks_of_type checks_along file_checks linked_up_to linked files_along next_file_in folder kinds by_six fields block_size zeros is_link is_block_count
+unfolding chain_to damage checks_of_kind checks_along file_checks linked_up_to linked files_along next_file_in folder kinds by_six fields block_size zeros is_link is_block_count
 link_to_itself = refl
 
 link_to_no_file : chain_to 5 ≡ damage 5 8192 0
-unfolding chain_to damage checks_of_type checks_along file_checks linked_up_to linked files_along next_file_in folder kinds by_six fields block_size zeros is_link is_block_count
+unfolding chain_to damage checks_of_kind checks_along file_checks linked_up_to linked files_along next_file_in folder kinds by_six fields block_size zeros is_link is_block_count
 link_to_no_file = refl
 
 link_to_a_first_file : chain_to 2 ≡ damage 6 8 0x20006
-unfolding chain_to damage checks_of_type checks_along file_checks linked_up_to linked files_along next_file_in folder kinds by_six fields block_size zeros is_link is_block_count
+unfolding chain_to damage checks_of_kind checks_along file_checks linked_up_to linked files_along next_file_in folder kinds by_six fields block_size zeros is_link is_block_count
 link_to_a_first_file = refl
 
 link_past_the_files : chain_to 256 ≡ damage 6 8 0x1000006
-unfolding chain_to damage checks_of_type checks_along file_checks linked_up_to linked files_along next_file_in folder kinds by_six fields block_size zeros is_link is_block_count
+unfolding chain_to damage checks_of_kind checks_along file_checks linked_up_to linked files_along next_file_in folder kinds by_six fields block_size zeros is_link is_block_count
 link_past_the_files = refl
 
 -- file 3 leads to a file that file 2 leads to
-link_to_another_type : first_block_damage (folder kinds (λ n. if n == 2 then 4 else if n == 3 then 4 else 0)) ≡ damage 3 8 0x40003
-unfolding damage checks_of_type checks_along file_checks linked_up_to linked files_along next_file_in folder kinds fields block_size zeros is_link is_block_count
-link_to_another_type = refl
+link_to_another_kind : first_block_damage (folder kinds (λ n. if n == 2 then 4 else if n == 3 then 4 else 0)) ≡ damage 3 8 0x40003
+unfolding damage checks_of_kind checks_along file_checks linked_up_to linked files_along next_file_in folder kinds fields block_size zeros is_link is_block_count
+link_to_another_kind = refl
 
 -- a file after file 0 has the size of its own type
-file_of_another_type : first_block_damage (folder kinds (λ n. if n == 0 then 4 else 0)) ≡ damage 4 12 1024
-unfolding damage checks_of_type checks_along file_checks linked_up_to linked files_along next_file_in folder kinds fields block_size zeros is_link is_block_count
-file_of_another_type = refl
+file_of_another_kind : first_block_damage (folder kinds (λ n. if n == 0 then 4 else 0)) ≡ damage 4 12 1024
+unfolding damage checks_of_kind checks_along file_checks linked_up_to linked files_along next_file_in folder kinds fields block_size zeros is_link is_block_count
+file_of_another_kind = refl
 
 -- the files of one type are data_0 and data_4 to data_62, sixty in all, and a next file of the last
 sixty : ℕ → ℕ → ℕ
@@ -141,7 +141,7 @@ of_sixty : ℕ → ℕ
 of_sixty n = if nat_lt n 4 then n + 1 else 1
 
 link_of_the_sixtieth : first_block_damage (folder of_sixty (sixty 63)) ≡ damage 62 8 0x3F003E
-unfolding damage checks_of_type checks_along file_checks linked_up_to linked files_along next_file_in folder of_sixty sixty fields block_size zeros is_link is_block_count
+unfolding damage checks_of_kind checks_along file_checks linked_up_to linked files_along next_file_in folder of_sixty sixty fields block_size zeros is_link is_block_count
 link_of_the_sixtieth = refl
 
 -- a folder of data_0 alone, with room for 1024 nodes
@@ -152,7 +152,7 @@ nodes (External n) = None
 
 -- nodes 0 and 1023 stand; there is no node 1024, no block of 256 bytes and no external file
 standing_nodes : map (stands_in nodes) (0x90000000 ∷ 0x900003FF ∷ 0x90000400 ∷ 0xA0000000 ∷ 0x80000001 ∷ []) ≡ true ∷ true ∷ false ∷ false ∷ false ∷ []
-unfolding nodes stands stands_as_blocks type_among linked files_along next_file_in max_entries_in fields block_size zeros address.is_address address.is_initialized address.names_external address.names_blocks address.kind_of address.reserved_bits address.block_count address.file_selector address.first_block address.external_number address.place address.room address.block_place
+unfolding nodes stands stands_as_blocks kind_among linked files_along next_file_in max_entries_in fields block_size zeros address.is_address address.is_initialized address.names_external address.names_blocks address.kind_of address.reserved_bits address.block_count address.file_selector address.first_block address.external_number address.place address.byte_size address.block_place
 standing_nodes = refl
 
 -- a byte less, and the last node doesn't stand
@@ -162,5 +162,5 @@ cut_nodes (Block n) = if n == 0 then Some (fields 0xC104CAC3 0x20000 0 0 36 1024
 cut_nodes (External n) = None
 
 cut_last_node : map (stands_in cut_nodes) (0x900003FE ∷ 0x900003FF ∷ []) ≡ true ∷ false ∷ []
-unfolding cut_nodes stands stands_as_blocks type_among linked files_along next_file_in max_entries_in fields block_size zeros address.is_address address.is_initialized address.names_external address.names_blocks address.kind_of address.reserved_bits address.block_count address.file_selector address.first_block address.external_number address.place address.room address.block_place
+unfolding cut_nodes stands stands_as_blocks kind_among linked files_along next_file_in max_entries_in fields block_size zeros address.is_address address.is_initialized address.names_external address.names_blocks address.kind_of address.reserved_bits address.block_count address.file_selector address.first_block address.external_number address.place address.byte_size address.block_place
 cut_last_node = refl

@@ -1,7 +1,7 @@
 -- Worked claims and standing addresses.
 use Rattle.std.proofs.Common.{◌≡◌, ℕ, Bool, [], ◌∷◌, true, false, refl, cond, Some, None}
 use Rattle.std.specs.Prelude.{◌==◌, ◌+◌, ◌*◌}
-use Rattle.blk_format.specs.Address.{is_address, is_initialized, names_external, names_blocks, kind_of, reserved_bits, block_count, file_selector, first_block, external_number, block_size, block_place, place, room}
+use Rattle.blk_format.specs.Address.{is_address, is_initialized, names_external, names_blocks, kind_of, reserved_bits, block_count, file_selector, first_block, external_number, block_size, block_place, place, byte_size}
 use Rattle.blk_format.specs.Claims.{BlockOf, ExternalOf, claims_of, has_claim, overlap, repeats}
 use Rattle.blk_format.specs.Standing.{stands, stands_as_blocks}
 
@@ -36,5 +36,5 @@ worked = stands (λ n. cond (n == 1) (Some 2) None) (λ n. 8) (λ n. 8192 + 6 * 
 
 -- what stands there: blocks inside the file, and that external file
 pub standing : (worked 0xA1010004 ≡ true) × (worked 0xA2010004 ≡ false) × (worked 0xA0010007 ≡ false) × (worked 0xA0020000 ≡ false) × (worked 0xB0010000 ≡ false) × (worked 0x80000001 ≡ true) × (worked 0x80000002 ≡ false) × (worked 0xA5010004 ≡ false)
-unfolding stands stands_as_blocks is_address is_initialized names_external names_blocks kind_of reserved_bits block_count file_selector first_block external_number block_size block_place place room
+unfolding stands stands_as_blocks is_address is_initialized names_external names_blocks kind_of reserved_bits block_count file_selector first_block external_number block_size block_place place byte_size
 standing = (refl, refl, refl, refl, refl, refl, refl, refl)

@@ -9,7 +9,7 @@ use Rattle.blk_image.specs.Checks as checks
 use Rattle.blk_image.specs.Checks.{first_of, check_found}
 use Rattle.blk_format.specs.Address.{block_size}
 use Rattle.blk_format.specs.Headers.{block_magic, version, magic_of, version_of, this_file_of, next_file_of, entry_size_of, max_entries_of}
-use Rattle.blk_format.specs.BlockFiles.{next_file_in, max_entries_in, files_along, linked, linked_up_to, is_among, is_link, is_block_count, file_checks, checks_along, checks_of_type, first_block_damage}
+use Rattle.blk_format.specs.BlockFiles.{next_file_in, max_entries_in, files_along, linked, linked_up_to, is_among, is_link, is_block_count, file_checks, checks_along, checks_of_kind, first_block_damage}
 use Rattle.blk_format.proofs.Among.{is_among_more}
 use Rattle.blk_image.proofs.FirstChecks.{append_none, all_none, passed}
 
@@ -194,31 +194,31 @@ module _ (a b : Image) (Old : ℕ → Bool) (heads : (m : ℕ) → Old m ≡ tru
         ∙ ap (λ (l : List ℕ). k ∷ l) (links_behind left k inside (links_kept left (next_file_in a k)))
 
 -- what a list of checks of all four types says of each
-pub each_type : (image : Image) → first_block_damage image ≡ None → (first_of (checks_of_type image 1) ≡ None) × (first_of (checks_of_type image 2) ≡ None) × (first_of (checks_of_type image 3) ≡ None) × (first_of (checks_of_type image 4) ≡ None)
-each_type image none =
-    let one = none_parts (checks_of_type image 1) _ none in
-    let two = none_parts (checks_of_type image 2) _ one.1 in
-    let three = none_parts (checks_of_type image 3) _ two.1 in
-    let four = none_parts (checks_of_type image 4) [] three.1 in
+pub each_kind : (image : Image) → first_block_damage image ≡ None → (first_of (checks_of_kind image 1) ≡ None) × (first_of (checks_of_kind image 2) ≡ None) × (first_of (checks_of_kind image 3) ≡ None) × (first_of (checks_of_kind image 4) ≡ None)
+each_kind image none =
+    let one = none_parts (checks_of_kind image 1) _ none in
+    let two = none_parts (checks_of_kind image 2) _ one.1 in
+    let three = none_parts (checks_of_kind image 3) _ two.1 in
+    let four = none_parts (checks_of_kind image 4) [] three.1 in
     (one.0, two.0, three.0, four.0)
 
-pub all_types : (image : Image) → first_of (checks_of_type image 1) ≡ None → first_of (checks_of_type image 2) ≡ None → first_of (checks_of_type image 3) ≡ None → first_of (checks_of_type image 4) ≡ None → first_block_damage image ≡ None
-all_types image one two three four =
-    none_both (checks_of_type image 1) _ one (none_both (checks_of_type image 2) _ two (none_both (checks_of_type image 3) _ three (none_both (checks_of_type image 4) [] four refl)))
+pub all_kinds : (image : Image) → first_of (checks_of_kind image 1) ≡ None → first_of (checks_of_kind image 2) ≡ None → first_of (checks_of_kind image 3) ≡ None → first_of (checks_of_kind image 4) ≡ None → first_block_damage image ≡ None
+all_kinds image one two three four =
+    none_both (checks_of_kind image 1) _ one (none_both (checks_of_kind image 2) _ two (none_both (checks_of_kind image 3) _ three (none_both (checks_of_kind image 4) [] four refl)))
 
 met_still : (a b : Image) → next_file_in b ≡ next_file_in a → (k : ℕ) → linked_up_to b k ≡ linked_up_to a k
 unfolding linked_up_to linked
 met_still a b same zero = refl
 met_still a b same (suc k) = λ i. met_still a b same k i ++ files_along (same i) 59 (suc k - 1)
 
-type_still : (a b : Image) → next_file_in b ≡ next_file_in a → ((m : ℕ) → KeepsHead a b m) → (kind : ℕ) → first_of (checks_of_type a kind) ≡ None → first_of (checks_of_type b kind) ≡ None
-unfolding checks_of_type
-type_still a b same keeps kind held =
+kind_still : (a b : Image) → next_file_in b ≡ next_file_in a → ((m : ℕ) → KeepsHead a b m) → (kind : ℕ) → first_of (checks_of_kind a kind) ≡ None → first_of (checks_of_kind b kind) ≡ None
+unfolding checks_of_kind
+kind_still a b same keeps kind held =
     along_kept a b (λ m. true) (λ m old. keeps m) kind (λ m old. ap (λ (next : ℕ → ℕ). next m) same) 59 (kind - 1) (linked_up_to a (kind - 1)) (linked_up_to b (kind - 1))
     (λ m old. ap (λ (l : List ℕ). is_among l m) (met_still a b same (kind - 1))) (λ m among. refl) held
 
 -- no check fails where all links are as before and each header keeps what its checks ask
 pub undamaged_still : (a b : Image) → next_file_in b ≡ next_file_in a → ((m : ℕ) → KeepsHead a b m) → first_block_damage a ≡ None → first_block_damage b ≡ None
 undamaged_still a b same keeps none =
-    let each = each_type a none in
-    all_types b (type_still a b same keeps 1 each.0) (type_still a b same keeps 2 each.1) (type_still a b same keeps 3 each.2) (type_still a b same keeps 4 each.3)
+    let each = each_kind a none in
+    all_kinds b (kind_still a b same keeps 1 each.0) (kind_still a b same keeps 2 each.1) (kind_still a b same keeps 3 each.2) (kind_still a b same keeps 4 each.3)

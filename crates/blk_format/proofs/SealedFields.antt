@@ -10,7 +10,7 @@ use Rattle.blk_image.proofs.Words.{same-word_at, content-range, length-with_word
 use Rattle.blk_format.specs.Address.{file_selector, kind_of, place}
 use Rattle.blk_format.specs.Hash.{hash}
 use Rattle.blk_format.specs.Records.{seal_of}
-use Rattle.blk_format.specs.Sealed.{AreChanges, AreDifferent, record_at, record_size, seal_place, sealed, IsMoment, IsUpdated}
+use Rattle.blk_format.specs.Sealed.{AreChanges, AreDifferent, record_at, record_size, seal_place, sealed, IsMidUpdate, IsUpdated}
 use Rattle.blk_format.proofs.RecordBytes.{take-before_word}
 use Rattle.blk_format.proofs.Seals.{hash-fits}
 use Rattle.blk_format.proofs.SealedRecords.{length-record, seal_aligned}
@@ -70,7 +70,7 @@ behind (suc n) zero d (c ∷ ws) low within different = absurd (omega arith)
 behind (suc n) (suc i) d (c ∷ ws) low within different =
     All-cons (λ o. o.0 ≢ (get_or ws i d).0) c (take n ws) (λ same. different.0 i d (omega arith) (sym same)) (behind n i d ws (omega arith) (omega arith) different.1)
 
-module _ (from image : Image) (w : ℕ) (changes : List (ℕ × ℕ)) (are : AreChanges (seal_place w) changes) (moment : IsMoment from w changes image) where
+module _ (from image : Image) (w : ℕ) (changes : List (ℕ × ℕ)) (are : AreChanges (seal_place w) changes) (moment : IsMidUpdate from w changes image) where
   -- the changes that are made
   made : List (ℕ × ℕ)
   made = take moment.made changes
@@ -110,7 +110,7 @@ module _ (from image : Image) (w : ℕ) (changes : List (ℕ × ℕ)) (are : Are
       ∙ ap (λ (c : ℕ × ℕ). c.1) same
 
 -- one change: at each moment the field has its old or its new word, and every other field is as before
-pub one_change : (from image : Image) (w p v : ℕ) → AreChanges (seal_place w) ((p, v) ∷ []) → v < 2 ^ 32 → IsMoment from w ((p, v) ∷ []) image
+pub one_change : (from image : Image) (w p v : ℕ) → AreChanges (seal_place w) ((p, v) ∷ []) → v < 2 ^ 32 → IsMidUpdate from w ((p, v) ∷ []) image
     → (word_at (content (record_at image w)) p ≡ word_at (content (record_at from w)) p) ⊎ (word_at (content (record_at image w)) p ≡ v)
 one_change from image w p v are small moment =
     ⊎_elim
@@ -118,7 +118,7 @@ one_change from image w p v are small moment =
     (λ (none : moment.made ≤ 0). inl (field_is_old from image w ((p, v) ∷ []) are moment 0 (p, v) none (omega arith)))
     (cases_lt 0 moment.made)
 
-pub one_change_others : (from image : Image) (w p v q : ℕ) → AreChanges (seal_place w) ((p, v) ∷ []) → IsMoment from w ((p, v) ∷ []) image → q % 4 ≡ 0 → q < seal_place w → p ≢ q
+pub one_change_others : (from image : Image) (w p v q : ℕ) → AreChanges (seal_place w) ((p, v) ∷ []) → IsMidUpdate from w ((p, v) ∷ []) image → q % 4 ≡ 0 → q < seal_place w → p ≢ q
     → word_at (content (record_at image w)) q ≡ word_at (content (record_at from w)) q
 one_change_others from image w p v q are moment aligned before apart = field_stays from image w ((p, v) ∷ []) are moment q aligned before (All-cons (λ c. c.0 ≢ q) (p, v) [] apart (All-nil (λ c. c.0 ≢ q)))
 

@@ -11,11 +11,11 @@ use Rattle.blk_image.specs.Told.{Along}
 use Rattle.blk_image.proofs.Images.{length-after_write}
 use Rattle.blk_image.proofs.Footprints.{outside-refl, outside-trans, outside_wider, outside_write, range_within}
 use Rattle.blk_image.proofs.Words.{length-range, length-with_word, length-with_words, word-beside, word-there}
-use Rattle.blk_format.specs.Address.{file_selector, kind_of, place, room, block_count, block_size}
+use Rattle.blk_format.specs.Address.{file_selector, kind_of, place, byte_size, block_count, block_size}
 use Rattle.blk_format.specs.Hash.{hash}
 use Rattle.blk_format.specs.Records.{checks, seal_of}
 use Rattle.blk_format.proofs.Seals.{sealed-checks, zero-checks}
-use Rattle.blk_format.specs.Sealed.{BeginsWithRecord, size_by_kind, seal_by_kind, record_size, seal_place, record_at, record_range, RecordChecks, placed, update_words, update_steps, new_seal, sealed_steps, IsMoment, IsUpdated}
+use Rattle.blk_format.specs.Sealed.{BeginsWithRecord, size_by_kind, seal_by_kind, record_size, seal_place, record_at, record_range, RecordChecks, placed, update_words, update_steps, new_seal, sealed_steps, IsMidUpdate, IsUpdated}
 use Rattle.blk_format.proofs.Words.{AreFields-of}
 use Rattle.blk_format.proofs.RecordBytes.{record-step, record-after, take-with_word, take-with_words, take-before_word, with_words-append, same-sealed}
 
@@ -64,7 +64,7 @@ module _ (w : ℕ) where
       (outside_wider (range file (place w + p) 4) (record_range w) image _ (range_within file (place w + p) 4 (place w) (record_size w) (omega arith) (omega (arith, inside, seal_last (kind_of w)))) (outside_write file (place w + p) (word_bytes v) image))
 
   -- before the update
-  pub moment_before : (from : Image) (changes : List (ℕ × ℕ)) → RecordChecks w from → IsMoment from w changes from
+  pub moment_before : (from : Image) (changes : List (ℕ × ℕ)) → RecordChecks w from → IsMidUpdate from w changes from
   moment_before from changes checks = record { made = 0; within = omega arith; fields = refl; checks = checks; outside = outside-refl (record_range w) from }
 
   module _ (from : Image) (changes : List (ℕ × ℕ)) where
@@ -76,7 +76,7 @@ module _ (w : ℕ) where
       pub outside : SameOutside (record_range w) from image
 
     -- it is a moment of the update, where they are its first
-    moment_unsealed : (done left : List (ℕ × ℕ)) (image : Image) → done ++ left ≡ changes → Unsealed done image → IsMoment from w changes image
+    moment_unsealed : (done left : List (ℕ × ℕ)) (image : Image) → done ++ left ≡ changes → Unsealed done image → IsMidUpdate from w changes image
     moment_unsealed done left image all state = record {
       made = length done;
       within = subst (λ (l : List (ℕ × ℕ)). length done ≤ length l) all (omega (arith, length-append done left));
@@ -106,7 +106,7 @@ module _ (w : ℕ) where
     }
 
     -- the seal becomes the hash of the changed record
-    moment_last : (image : Image) → Unsealed changes image → IsMoment from w changes (applied (step_of (seal_place w) (new_seal from w changes)) image)
+    moment_last : (image : Image) → Unsealed changes image → IsMidUpdate from w changes (applied (step_of (seal_place w) (new_seal from w changes)) image)
     unfolding new_seal
     moment_last image state =
         let s : ℕ = seal_place w in
@@ -124,7 +124,7 @@ module _ (w : ℕ) where
 
     -- the rest of the update
     moments_rest : (done left : List (ℕ × ℕ)) (image : Image) → done ++ left ≡ changes → All (λ c. c.0 + 4 ≤ seal_place w) left → Unsealed done image
-        → Along (IsMoment from w changes) image (word_steps (Block (file_selector w)) (placed (place w) (left ++ (seal_place w, (new_seal from w changes)) ∷ [])))
+        → Along (IsMidUpdate from w changes) image (word_steps (Block (file_selector w)) (placed (place w) (left ++ (seal_place w, (new_seal from w changes)) ∷ [])))
     unfolding word_step step_of
     moments_rest done [] image all before state =
         let whole : done ≡ changes = sym (append-nil done) ∙ all in
@@ -136,7 +136,7 @@ module _ (w : ℕ) where
         )
 
     -- each moment of the update
-    pub moments : Fits from → RecordChecks w from → All (λ c. c.0 + 4 ≤ seal_place w) changes → Along (IsMoment from w changes) from (sealed_steps from w changes)
+    pub moments : Fits from → RecordChecks w from → All (λ c. c.0 + 4 ≤ seal_place w) changes → Along (IsMidUpdate from w changes) from (sealed_steps from w changes)
     unfolding update_steps word_step step_of
     moments fits checks before = (moment_before from changes checks, moments_rest [] changes (applied (step_of (seal_place w) 0) from) refl before (unsealed_first fits))
 
@@ -172,8 +172,8 @@ unfolding size_by_kind
 entry_bytes w kind = rw kind refl
 
 -- the record is in the blocks
-pub record_inside : (w : ℕ) → BeginsWithRecord w → record_size w ≤ room w
-unfolding room block_size size_by_kind
+pub record_inside : (w : ℕ) → BeginsWithRecord w → record_size w ≤ byte_size w
+unfolding byte_size block_size size_by_kind
 record_inside w begins =
     let some = (AreFields-of w).some in
     ⊎_elim

@@ -9,9 +9,9 @@ unfolding entry_blocks
 blocks_of_records = (refl, refl, refl, refl, refl, refl, refl, refl, refl, refl)
 
 -- the types of sizes
-pub types_of_sizes : (kind_for 1 ≡ 2) × (kind_for 1023 ≡ 2) × (kind_for 1024 ≡ 3) × (kind_for 4095 ≡ 3) × (kind_for 4096 ≡ 4) × (kind_for 16384 ≡ 4) × (kind_for 16385 ≡ 0) × (kind_for 929 ≡ 2) × (kind_for 32769 ≡ 0) × (kind_for 5003 ≡ 4)
+pub kinds_of_sizes : (kind_for 1 ≡ 2) × (kind_for 1023 ≡ 2) × (kind_for 1024 ≡ 3) × (kind_for 4095 ≡ 3) × (kind_for 4096 ≡ 4) × (kind_for 16384 ≡ 4) × (kind_for 16385 ≡ 0) × (kind_for 929 ≡ 2) × (kind_for 32769 ≡ 0) × (kind_for 5003 ≡ 4)
 unfolding kind_for
-types_of_sizes = (refl, refl, refl, refl, refl, refl, refl, refl, refl, refl)
+kinds_of_sizes = (refl, refl, refl, refl, refl, refl, refl, refl, refl, refl)
 
 -- the numbers of blocks of sizes
 pub blocks_of_sizes : (blocks_for 1 ≡ 1) × (blocks_for 1023 ≡ 4) × (blocks_for 1024 ≡ 1) × (blocks_for 4095 ≡ 4) × (blocks_for 4096 ≡ 1) × (blocks_for 16384 ≡ 4) × (blocks_for 16385 ≡ 0) × (blocks_for 929 ≡ 4) × (blocks_for 32769 ≡ 0) × (blocks_for 5003 ≡ 2)

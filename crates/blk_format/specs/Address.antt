@@ -98,5 +98,5 @@ unfoldable pub place : ℕ → ℕ
 place w = block_place (kind_of w) (first_block w)
 
 -- the number of bytes of the blocks of an address
-unfoldable pub room : ℕ → ℕ
-room w = block_count w * block_size (kind_of w)
+unfoldable pub byte_size : ℕ → ℕ
+byte_size w = block_count w * block_size (kind_of w)

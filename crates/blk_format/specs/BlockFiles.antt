@@ -56,8 +56,8 @@ linked_up_to image zero = []
 linked_up_to image (suc kind) = linked_up_to image kind ++ linked image (suc kind)
 
 -- the type in whose list a file is, where there is a list for each type
-unfoldable pub type_among : (ℕ → List ℕ) → ℕ → Option ℕ
-type_among lists n =
+unfoldable pub kind_among : (ℕ → List ℕ) → ℕ → Option ℕ
+kind_among lists n =
     if is_among (lists rankings) n then Some rankings else
     if is_among (lists blocks_256) n then Some blocks_256 else
     if is_among (lists blocks_1k) n then Some blocks_1k else
@@ -66,7 +66,7 @@ type_among lists n =
 
 -- the type as which a file is linked, if it is
 abbrev pub linked_as : Image → ℕ → Option ℕ
-linked_as image n = type_among (linked image) n
+linked_as image n = kind_among (linked image) n
 
 -- a word is an address of blocks that are there: their file is linked and of its type, and all are below max_entries and end inside the file
 abbrev pub stands_in_blocks : Image → ℕ → Bool
@@ -107,16 +107,16 @@ checks_along image kind met (suc left) n =
     file_checks kind (met ++ n ∷ []) (suc left) n (byte image (Block n)) (length_of image (Block n)) ++ (if next_file_in image n == 0 then [] else more)
 
 -- the checks of the files of a type, in the order of the links; the files of the types before it were met
-unfoldable pub checks_of_type : Image → ℕ → List (Option Damage)
-checks_of_type image kind = checks_along image kind (linked_up_to image (kind - 1)) (most_files - 1) (kind - 1)
+unfoldable pub checks_of_kind : Image → ℕ → List (Option Damage)
+checks_of_kind image kind = checks_along image kind (linked_up_to image (kind - 1)) (most_files - 1) (kind - 1)
 
 -- the types of blocks, in the order of their numbers
-abbrev pub block_types : List ℕ
-block_types = rankings ∷ blocks_256 ∷ blocks_1k ∷ blocks_4k ∷ []
+abbrev pub block_kinds : List ℕ
+block_kinds = rankings ∷ blocks_256 ∷ blocks_1k ∷ blocks_4k ∷ []
 
 -- the checks of all block files, type after type
 abbrev pub block_checks : Image → List (Option Damage)
-block_checks image = flat_map (checks_of_type image) block_types
+block_checks image = flat_map (checks_of_kind image) block_kinds
 
 -- the first check of the block files that fails
 abbrev pub first_block_damage : Image → Option Damage

@@ -1,6 +1,6 @@
 -- The headers of the index and of the block files: each field by its place, and the checks of the index.
 -- A field is read from a content, a function that gives the byte at each place: of a file, or of a window of bytes.
-use Rattle.std.specs.Prelude.{ℕ, ◌+◌, ◌*◌, ◌<◌, ◌≡◌, ◌⊎◌, ◌↔◌, List, [], ◌∷◌, ◌++◌, map, Bool, not, ◌||◌, ◌==◌, nat_lt, IsTrue, IsNone}
+use Rattle.std.specs.Prelude.{ℕ, ◌+◌, ◌*◌, ◌<◌, ◌≡◌, ◌⊎◌, ◌↔◌, List, [], ◌∷◌, ◌++◌, map, Bool, not, ◌||◌, ◌&&◌, ◌==◌, nat_le, nat_lt, IsTrue, IsNone}
 use Rattle.std.specs.declared.option.Option.{Option}
 use Rattle.blk_image.specs.Bytes.{half_at, word_at, long_at}
 use Rattle.blk_image.specs.Image.{Index, Image, has_file, length_of, byte}
@@ -212,3 +212,15 @@ list_checks f = map (λ at. check_word Index f at (word_at f at == 0)) zero_plac
 -- the first check of a finished index that fails: of its header, and then of the words that are to be 0
 abbrev pub first_index_damage : Image → Option Damage
 first_index_damage image = first_of (head_checks (byte image Index) (length_of image Index) ++ list_checks (byte image Index))
+
+-- a place lies in the word there
+abbrev pub is_in_word : ℕ → ℕ → Bool
+is_in_word word i = nat_le word i && nat_lt i (word + 4)
+
+-- the places of the index that are compared here: the head, the tail, the transaction, and the table; the operation is not among them
+abbrev pub is_shown_place : ℕ → Bool
+is_shown_place i = is_in_word 288 i || is_in_word 308 i || is_in_word 328 i || nat_le 368 i
+
+-- the places of a block file's header that say which blocks there are: next_file and max_entries
+abbrev pub is_extent_place : ℕ → Bool
+is_extent_place i = (i == 10) || (i == 11) || is_in_word 20 i

@@ -8,6 +8,7 @@ pub mod Records
 pub mod Names
 pub mod SparseIndex
 pub mod BlockFiles
+pub mod Growth
 pub mod Maps
 pub mod Sealed
 pub mod NewFolder

@@ -20,12 +20,12 @@ abbrev pub groups_of : ℕ → ℕ
 groups_of blocks = blocks / group_size
 
 -- whether block b is marked in a header with this content: bit b of the map
-abbrev pub is_marked_at : (ℕ → ℕ) → ℕ → Bool
-is_marked_at f b = map_bit f map_place b
+abbrev pub is_block_marked_at : (ℕ → ℕ) → ℕ → Bool
+is_block_marked_at f b = map_bit f map_place b
 
 -- whether a block of a block file is marked
-abbrev pub is_marked : Image → ℕ → ℕ → Bool
-is_marked image n b = is_marked_at (byte image (Block n)) b
+abbrev pub is_block_marked : Image → ℕ → ℕ → Bool
+is_block_marked image n b = is_block_marked_at (byte image (Block n)) b
 
 -- Runs of free blocks, by a test that says which blocks are marked.
 
@@ -54,12 +54,12 @@ groups_with marked groups run = count_by (λ g. longest_run marked g == run) (ra
 
 -- `empty` agrees with the map: for each run of 1 to 4 it counts the groups whose longest free run is so long
 unfoldable pub EmptyAgrees : Image → ℕ → Type 0
-EmptyAgrees image n = (i : ℕ) → i < 4 → empty_of (byte image (Block n)) i ≡ groups_with (is_marked image n) (groups_of (max_entries_in image n)) (i + 1)
+EmptyAgrees image n = (i : ℕ) → i < 4 → empty_of (byte image (Block n)) i ≡ groups_with (is_block_marked image n) (groups_of (max_entries_in image n)) (i + 1)
 
 -- these address words are the allocations of a file: they stand in it and share no block, exactly their blocks are marked, and `num_entries` is their number
 pub record AreAllocations (image : Image) (n : ℕ) (words : List ℕ) : Type 0 where
   pub stand : All (λ w. stands_in image w ≡ true) words
   pub here : All (λ w. is_in_file n w ≡ true) words
   pub apart : repeats (claims_of_all words) ≡ false
-  pub marks : (b : ℕ) → b < most_blocks → is_marked image n b ≡ has_claim (claims_of_all words) (BlockOf n b)
+  pub marks : (b : ℕ) → b < most_blocks → is_block_marked image n b ≡ has_claim (claims_of_all words) (BlockOf n b)
   pub counted : allocations_of (byte image (Block n)) ≡ length words

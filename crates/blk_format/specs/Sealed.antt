@@ -77,7 +77,7 @@ abbrev pub record_range : ℕ → Footprint
 record_range w = range (Block (file_selector w)) (place w) (record_size w)
 
 -- at a moment of a sealed update the record checks, so many of the changes are made, in the order given, and all else is as before
-pub record IsMoment (from : Image) (w : ℕ) (changes : List (ℕ × ℕ)) (image : Image) : Type 0 where
+pub record IsMidUpdate (from : Image) (w : ℕ) (changes : List (ℕ × ℕ)) (image : Image) : Type 0 where
   pub made : ℕ
   pub within : made ≤ length changes
   pub fields : take (seal_place w) (record_at image w) ≡ take (seal_place w) (with_words (take made changes) (record_at from w))

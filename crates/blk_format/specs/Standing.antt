@@ -2,7 +2,7 @@
 use Rattle.std.specs.Prelude.{ℕ, ◌+◌, Bool, false, ◌&&◌, nat_le, ◌==◌, if◌then◌else◌}
 use Rattle.std.specs.declared.option.Option.{Option}
 use Rattle.std.specs.declared.option.Option.TheVariants.{None, Some}
-use Rattle.blk_format.specs.Address.{is_address, kind_of, block_count, file_selector, first_block, external_number, external, place, room}
+use Rattle.blk_format.specs.Address.{is_address, kind_of, block_count, file_selector, first_block, external_number, external, place, byte_size}
 
 -- whether a file is linked as one of a type
 abbrev pub is_linked_as : Option ℕ → ℕ → Bool
@@ -24,7 +24,7 @@ module _
     stands_as_blocks w =
         is_linked_as (linked_as (file_selector w)) (kind_of w)
         && nat_le (first_block w + block_count w) (max_entries (file_selector w))
-        && nat_le (place w + room w) (length_of_block (file_selector w))
+        && nat_le (place w + byte_size w) (length_of_block (file_selector w))
 
     -- an address stands where its external file is there, or its blocks stand
     unfoldable pub stands : ℕ → Bool

@@ -10,3 +10,4 @@ pub mod Footprints
 pub mod ByteSteps
 pub mod FirstChecks
 pub mod Examples
+pub mod Commits

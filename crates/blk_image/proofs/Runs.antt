@@ -4,7 +4,7 @@ use Rattle.std.specs.Option.{option_map, ForSome}
 use Rattle.std.proofs.lemmas.List.{append-nil, take_all}
 use Rattle.blk_image.specs.Image.{File, Image}
 use Rattle.blk_image.specs.Steps.{TrailStep, Word, SetLength, Delete, Note, applied, after, words}
-use Rattle.blk_image.specs.Told.{Told, Trail, Grows, GrowsInPart, Along, Until, IsQuiet, PassesTo, longer}
+use Rattle.blk_image.specs.Told.{Told, Trail, Applies, AppliesPrefix, Along, Until, IsQuiet, PassesTo, longer}
 use Rattle.blk_image.proofs.Cuts.{after-append, words-split}
 
 after_more : (s t : List TrailStep) (a b c : Option Image) → b ≡ option_map (after s) a → c ≡ option_map (after t) b → c ≡ option_map (after (s ++ t)) a
@@ -17,33 +17,33 @@ longer_more s t (Some trail) b c first second =
     second ∙ ap (option_map (longer t)) first ∙ ap (λ (steps : List TrailStep). Some (record { start = trail.start; steps = steps })) (append_assoc trail.steps s t)
 
 -- one call after another
-pub grows_then : {a b c : Told} {s t : List TrailStep} → Grows a b s → Grows b c t → Grows a c (s ++ t)
+pub grows_then : {a b c : Told} {s t : List TrailStep} → Applies a b s → Applies b c t → Applies a c (s ++ t)
 grows_then {a} {b} {c} {s} {t} first second = record {
   files = after_more s t a.files b.files c.files first.files second.files;
   trail = longer_more s t a.trail b.trail c.trail first.trail second.trail;
 }
 
 -- a call that was answered, and a part of what follows it
-pub part_then : {a b c : Told} {s t : List TrailStep} → Grows a b s → GrowsInPart b c t → GrowsInPart a c (s ++ t)
+pub part_then : {a b c : Told} {s t : List TrailStep} → Applies a b s → AppliesPrefix b c t → AppliesPrefix a c (s ++ t)
 part_then {a} {b} {c} {s} {t} first second = record {
   made = s ++ second.made;
   left = second.left;
   split = ap (λ (l : List TrailStep). s ++ l) second.split ∙ sym (append_assoc s second.made second.left);
-  grows = grows_then first second.grows;
+  applies = grows_then first second.applies;
 }
 
 -- a part of a call, and nothing of what would follow it
-pub part_only : {a b : Told} {s : List TrailStep} (t : List TrailStep) → GrowsInPart a b s → GrowsInPart a b (s ++ t)
+pub part_only : {a b : Told} {s : List TrailStep} (t : List TrailStep) → AppliesPrefix a b s → AppliesPrefix a b (s ++ t)
 part_only {a} {b} {s} t first = record {
   made = first.made;
   left = first.left ++ t;
   split = ap (λ (l : List TrailStep). l ++ t) first.split ∙ append_assoc first.made first.left t;
-  grows = first.grows;
+  applies = first.applies;
 }
 
 -- all of it is a part of it
-pub part_whole : {a b : Told} {s : List TrailStep} → Grows a b s → GrowsInPart a b s
-part_whole {a} {b} {s} all = record { made = s; left = []; split = sym (append-nil s); grows = all }
+pub part_whole : {a b : Told} {s : List TrailStep} → Applies a b s → AppliesPrefix a b s
+part_whole {a} {b} {s} all = record { made = s; left = []; split = sym (append-nil s); applies = all }
 
 -- each front of the steps leaves files that have P
 pub along_front : (P : Image → Type 0) (s t : List TrailStep) (image : Image) → Along P image (s ++ t) → P (after s image)
@@ -62,19 +62,19 @@ told_after P s t None b is all image there = absurd (elim_none (sym there ∙ is
 told_after P s t (Some from) b is all image there = subst P (some_inj (sym is ∙ there)) (along_front P s t from (all from refl))
 
 -- a part of the steps leaves files that have P, where each front of them does
-pub told_part : {a b : Told} {s : List TrailStep} (P : Image → Type 0) → GrowsInPart a b s → ForSome a.files (λ image. Along P image s) → ForSome b.files P
+pub told_part : {a b : Told} {s : List TrailStep} (P : Image → Type 0) → AppliesPrefix a b s → ForSome a.files (λ image. Along P image s) → ForSome b.files P
 told_part {a} {b} {s} P part all =
-    told_after P part.made part.left a.files b.files part.grows.files (λ image there. subst (Along P image) part.split (all image there))
+    told_after P part.made part.left a.files b.files part.applies.files (λ image there. subst (Along P image) part.split (all image there))
 
 -- a front of a write that ends where a word ends
-pub part_of_write : (a b : Told) (f : File) (at n : ℕ) (bs : List ℕ) → n ≤ length bs → (n ≡ length bs) ⊎ (((at + n) % 4 ≡ 0) ⊎ (n ≡ 0)) → Grows a b (words f at (take n bs)) → GrowsInPart a b (words f at bs)
+pub part_of_write : (a b : Told) (f : File) (at n : ℕ) (bs : List ℕ) → n ≤ length bs → (n ≡ length bs) ⊎ (((at + n) % 4 ≡ 0) ⊎ (n ≡ 0)) → Applies a b (words f at (take n bs)) → AppliesPrefix a b (words f at bs)
 unfolding words
-part_of_write a b f at n bs fits (inl all) grows = part_whole (subst (λ (l : List ℕ). Grows a b (words f at l)) (take_all n bs (omega arith)) grows)
-part_of_write a b f at n bs fits (inr (inl edge)) grows = record { made = words f at (take n bs); left = words f (at + n) (drop n bs); split = words-split f at n bs fits edge; grows = grows }
-part_of_write a b f at n bs fits (inr (inr none)) grows = record { made = []; left = words f at bs; split = refl; grows = subst (λ (m : ℕ). Grows a b (words f at (take m bs))) none grows }
+part_of_write a b f at n bs fits (inl all) grows = part_whole (subst (λ (l : List ℕ). Applies a b (words f at l)) (take_all n bs (omega arith)) grows)
+part_of_write a b f at n bs fits (inr (inl edge)) grows = record { made = words f at (take n bs); left = words f (at + n) (drop n bs); split = words-split f at n bs fits edge; applies = grows }
+part_of_write a b f at n bs fits (inr (inr none)) grows = record { made = []; left = words f at bs; split = refl; applies = subst (λ (m : ℕ). Applies a b (words f at (take m bs))) none grows }
 
 -- what holds between the files before the steps and those after each
-pub told_rel : {a b : Told} {s : List TrailStep} (P : Image → Image → Type 0) → GrowsInPart a b s → ((image : Image) → Along (P image) image s) → ForSome a.files (λ old. ForSome b.files (P old))
+pub told_rel : {a b : Told} {s : List TrailStep} (P : Image → Image → Type 0) → AppliesPrefix a b s → ((image : Image) → Along (P image) image s) → ForSome a.files (λ old. ForSome b.files (P old))
 told_rel {a} {b} {s} P part all old there new now =
     told_part (P old) part (λ image is. subst (λ (i : Image). Along (P old) i s) (some_inj (sym there ∙ is)) (all old)) new now
 
@@ -111,7 +111,7 @@ until_last P Q [] image all = all
 until_last P Q (x ∷ s) image all = until_last P Q s (applied x image) all.1
 
 -- no step was made
-pub grows_none : {a b : Told} → b ≡ a → Grows a b []
+pub grows_none : {a b : Told} → b ≡ a → Applies a b []
 grows_none {a} {b} same = record { files = ap (λ (t : Told). t.files) same ∙ files_none a.files; trail = ap (λ (t : Told). t.trail) same ∙ trail_none a.trail }
   where
     files_none : (o : Option Image) → o ≡ option_map (after []) o
@@ -124,13 +124,13 @@ grows_none {a} {b} same = record { files = ap (λ (t : Told). t.files) same ∙ 
 
 -- no call was made, or one that stayed
 pub passes_none : {a b : Told} (P : Image → Type 0) → b ≡ a → ForSome a.files P → PassesTo a b P P
-passes_none {a} {b} P same holds = record { steps = []; grows = grows_none same; quiet = tt; along = holds }
+passes_none {a} {b} P same holds = record { steps = []; applies = grows_none same; quiet = tt; along = holds }
 
 -- a call of which a part was done
-pub passes_part : {a b : Told} {s : List TrailStep} (P Q : Image → Type 0) → GrowsInPart a b s → IsQuiet s → ((image : Image) → P image → Q image) → ForSome a.files (λ image. Until P Q image s) → PassesTo a b P Q
+pub passes_part : {a b : Told} {s : List TrailStep} (P Q : Image → Type 0) → AppliesPrefix a b s → IsQuiet s → ((image : Image) → P image → Q image) → ForSome a.files (λ image. Until P Q image s) → PassesTo a b P Q
 passes_part {a} {b} {s} P Q part quiet weaker all = record {
   steps = part.made;
-  grows = part.grows;
+  applies = part.applies;
   quiet = quiet_front part.made part.left (subst IsQuiet part.split quiet);
   along = λ image there. until_front P Q part.made part.left image weaker (subst (Until P Q image) part.split (all image there));
 }
@@ -139,23 +139,23 @@ passes_part {a} {b} {s} P Q part quiet weaker all = record {
 pub passes_then : {a b c : Told} {P Q : Image → Type 0} → PassesTo a b P P → PassesTo b c P Q → PassesTo a c P Q
 passes_then {a} {b} {c} {P} {Q} first second = record {
   steps = first.steps ++ second.steps;
-  grows = grows_then first.grows second.grows;
+  applies = grows_then first.applies second.applies;
   quiet = quiet-append first.steps second.steps first.quiet second.quiet;
-  along = λ image there. until-append P Q first.steps second.steps image (first.along image there) (second.along _ (first.grows.files ∙ ap (option_map (after first.steps)) there));
+  along = λ image there. until-append P Q first.steps second.steps image (first.along image there) (second.along _ (first.applies.files ∙ ap (option_map (after first.steps)) there));
 }
 
 -- what holds after the last step may be weaker
 pub passes_to : {a b : Told} {P Q R : Image → Type 0} → PassesTo a b P Q → ((image : Image) → Q image → R image) → PassesTo a b P R
 passes_to {a} {b} {P} {Q} {R} first weaker = record {
   steps = first.steps;
-  grows = first.grows;
+  applies = first.applies;
   quiet = first.quiet;
   along = λ image there. until_weaker P Q R first.steps image weaker (first.along image there);
 }
 
 -- what holds after the last step
 pub passes_end : {a b : Told} {P Q : Image → Type 0} → PassesTo a b P Q → ForSome b.files Q
-passes_end {a} {b} {P} {Q} first = at_end a.files b.files first.grows.files first.along
+passes_end {a} {b} {P} {Q} first = at_end a.files b.files first.applies.files first.along
   where
     at_end : (x y : Option Image) → y ≡ option_map (after first.steps) x → ForSome x (λ image. Until P Q image first.steps) → ForSome y Q
     at_end None y is along image there = absurd (no_some (sym is ∙ there))
@@ -165,7 +165,7 @@ passes_end {a} {b} {P} {Q} first = at_end a.files b.files first.grows.files firs
     at_end (Some from) y is along image there = subst Q (some_inj (sym is ∙ there)) (until_last P Q first.steps from (along from refl))
 
 -- what holds after all of the steps
-pub told_whole : {a b : Told} {s : List TrailStep} (Q : Image → Type 0) → Grows a b s → ForSome a.files (λ image. Q (after s image)) → ForSome b.files Q
+pub told_whole : {a b : Told} {s : List TrailStep} (Q : Image → Type 0) → Applies a b s → ForSome a.files (λ image. Q (after s image)) → ForSome b.files Q
 told_whole {a} {b} {s} Q grows all = at_end a.files b.files grows.files all
   where
     at_end : (x y : Option Image) → y ≡ option_map (after s) x → ForSome x (λ image. Q (after s image)) → ForSome y Q
@@ -176,9 +176,9 @@ told_whole {a} {b} {s} Q grows all = at_end a.files b.files grows.files all
     at_end (Some from) y is holds image there = subst Q (some_inj (sym is ∙ there)) (holds from refl)
 
 -- one step that was made or not
-pub part_of_one : {T E : Type 0} {a b : Told} {s : List TrailStep} (r : Result T E) → OnOk r (Grows a b s) → OnErr r (b ≡ a) → GrowsInPart a b s
+pub part_of_one : {T E : Type 0} {a b : Told} {s : List TrailStep} (r : Result T E) → OnOk r (Applies a b s) → OnErr r (b ≡ a) → AppliesPrefix a b s
 part_of_one {T} {E} {a} {b} {s} (Ok x) whole none = part_whole whole
-part_of_one {T} {E} {a} {b} {s} (Err e) whole none = record { made = []; left = s; split = refl; grows = grows_none none }
+part_of_one {T} {E} {a} {b} {s} (Err e) whole none = record { made = []; left = s; split = refl; applies = grows_none none }
 
 pub until_weaker2 : (P P' Q Q' : Image → Type 0) (s : List TrailStep) (image : Image) → ((image : Image) → P image → P' image) → ((image : Image) → Q image → Q' image) → Until P Q image s → Until P' Q' image s
 until_weaker2 P P' Q Q' [] image before last all = last image all
@@ -188,7 +188,7 @@ until_weaker2 P P' Q Q' (x ∷ s) image before last all = (before image all.0, u
 pub passes_weaker : {a b : Told} {P P' Q Q' : Image → Type 0} → PassesTo a b P Q → ((image : Image) → P image → P' image) → ((image : Image) → Q image → Q' image) → PassesTo a b P' Q'
 passes_weaker {a} {b} {P} {P'} {Q} {Q'} first before last = record {
   steps = first.steps;
-  grows = first.grows;
+  applies = first.applies;
   quiet = first.quiet;
   along = λ image there. until_weaker2 P P' Q Q' first.steps image before last (first.along image there);
 }
@@ -198,19 +198,19 @@ pub passes_stayed : {a m b : Told} {P Q : Image → Type 0} → m ≡ a → Pass
 passes_stayed {a} {m} {b} {P} {Q} stays rest = subst (λ (t : Told). PassesTo t b P Q) stays rest
 
 -- a folder that tells nothing owes nothing
-pub part_untold : {a b : Told} (s : List TrailStep) → a.files ≡ None → a.trail ≡ None → b ≡ a → GrowsInPart a b s
-part_untold {a} {b} s files trail same = record { made = []; left = s; split = refl; grows = grows_none same }
+pub part_untold : {a b : Told} (s : List TrailStep) → a.files ≡ None → a.trail ≡ None → b ≡ a → AppliesPrefix a b s
+part_untold {a} {b} s files trail same = record { made = []; left = s; split = refl; applies = grows_none same }
 
 -- a part of a front of a write is a part of the write
-pub part_of_front : (a b : Told) (f : File) (at n : ℕ) (bs : List ℕ) → n ≤ length bs → (n ≡ length bs) ⊎ (((at + n) % 4 ≡ 0) ⊎ (n ≡ 0)) → GrowsInPart a b (words f at (take n bs)) → GrowsInPart a b (words f at bs)
+pub part_of_front : (a b : Told) (f : File) (at n : ℕ) (bs : List ℕ) → n ≤ length bs → (n ≡ length bs) ⊎ (((at + n) % 4 ≡ 0) ⊎ (n ≡ 0)) → AppliesPrefix a b (words f at (take n bs)) → AppliesPrefix a b (words f at bs)
 unfolding words
-part_of_front a b f at n bs fits (inl all) part = subst (λ (l : List ℕ). GrowsInPart a b (words f at l)) (take_all n bs (omega arith)) part
-part_of_front a b f at n bs fits (inr (inl edge)) part = subst (GrowsInPart a b) (sym (words-split f at n bs fits edge)) (part_only _ part)
-part_of_front a b f at n bs fits (inr (inr none)) part = part_only (words f at bs) (subst (λ (m : ℕ). GrowsInPart a b (words f at (take m bs))) none part)
+part_of_front a b f at n bs fits (inl all) part = subst (λ (l : List ℕ). AppliesPrefix a b (words f at l)) (take_all n bs (omega arith)) part
+part_of_front a b f at n bs fits (inr (inl edge)) part = subst (AppliesPrefix a b) (sym (words-split f at n bs fits edge)) (part_only _ part)
+part_of_front a b f at n bs fits (inr (inr none)) part = part_only (words f at bs) (subst (λ (m : ℕ). AppliesPrefix a b (words f at (take m bs))) none part)
 
 -- one step that was made
-pub passes_step : {a b : Told} {x : TrailStep} (P : Image → Type 0) → Grows a b (x ∷ []) → IsQuiet (x ∷ []) → ForSome a.files (λ image. P image × P (applied x image)) → PassesTo a b P P
-passes_step {a} {b} {x} P grows quiet both = record { steps = x ∷ []; grows = grows; quiet = quiet; along = both }
+pub passes_step : {a b : Told} {x : TrailStep} (P : Image → Type 0) → Applies a b (x ∷ []) → IsQuiet (x ∷ []) → ForSome a.files (λ image. P image × P (applied x image)) → PassesTo a b P P
+passes_step {a} {b} {x} P grows quiet both = record { steps = x ∷ []; applies = grows; quiet = quiet; along = both }
 
 -- what two facts say of each moment they say together
 pub until_both : (P P' Q Q' : Image → Type 0) (s : List TrailStep) (image : Image) → Until P Q image s → Until P' Q' image s → Until (λ i. P i × P' i) (λ i. Q i × Q' i) image s

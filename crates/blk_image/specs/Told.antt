@@ -28,7 +28,7 @@ abbrev pub longer : List TrailStep → Trail → Trail
 longer steps trail = record { start = trail.start; steps = trail.steps ++ steps }
 
 -- these steps were made: the files, where told, are those after them, and the trail, where told, has them at its end
-pub record Grows (old new : Told) (steps : List TrailStep) : Type 0 where
+pub record Applies (old new : Told) (steps : List TrailStep) : Type 0 where
   pub files : new.files ≡ option_map (after steps) old.files
   pub trail : new.trail ≡ option_map (longer steps) old.trail
 
@@ -37,11 +37,11 @@ abbrev pub Stays : Told → Told → Type 0
 Stays old new = new ≡ old
 
 -- some of these steps were made, from the first on
-pub record GrowsInPart (old new : Told) (steps : List TrailStep) : Type 0 where
+pub record AppliesPrefix (old new : Told) (steps : List TrailStep) : Type 0 where
   pub made : List TrailStep
   pub left : List TrailStep
   pub split : steps ≡ made ++ left
-  pub grows : Grows old new made
+  pub applies : Applies old new made
 
 -- P holds of the files before each step, and Q after the last
 abbrev pub Until : (Image → Type 0) → (Image → Type 0) → Image → List TrailStep → Type 0
@@ -53,10 +53,10 @@ abbrev pub Along : (Image → Type 0) → Image → List TrailStep → Type 0
 Along P image steps = Until P P image steps
 
 -- P holds of the files until so many steps are made, and Q of them from then on
-abbrev pub TurnsAt : ℕ → (P Q : Image → Type 0) → Image → List TrailStep → Type 0
-TurnsAt zero P Q image steps = Along Q image steps
-TurnsAt (suc count) P Q image [] = P image
-TurnsAt (suc count) P Q image (step ∷ steps) = P image × TurnsAt count P Q (applied step image) steps
+abbrev pub CommitsAt : ℕ → (P Q : Image → Type 0) → Image → List TrailStep → Type 0
+CommitsAt zero P Q image steps = Along Q image steps
+CommitsAt (suc count) P Q image [] = P image
+CommitsAt (suc count) P Q image (step ∷ steps) = P image × CommitsAt count P Q (applied step image) steps
 
 -- no step is a note
 abbrev pub IsQuiet : List TrailStep → Type 0
@@ -67,7 +67,7 @@ IsQuiet (step ∷ steps) = IsQuiet steps
 -- steps were made, none of them a note; P holds of the files before each of them, and Q after the last
 pub record PassesTo (old new : Told) (P Q : Image → Type 0) : Type 0 where
   pub steps : List TrailStep
-  pub grows : Grows old new steps
+  pub applies : Applies old new steps
   pub quiet : IsQuiet steps
   pub along : ForSome old.files (λ image. Until P Q image steps)
 
@@ -84,3 +84,10 @@ pub record GivesBytes (image : Image) (file : File) (place : ℕ) (old new : Lis
   pub many : count ≡ min (length old) (length_of image file - place)
   pub front : take count new ≡ range_at (byte image file) place count
   pub rest : drop count new ≡ drop count old
+
+-- steps were made, none of them a note; P holds until so many of them are made, and Q from then on
+pub record Commits (count : ℕ) (old new : Told) (P Q : Image → Type 0) : Type 0 where
+  pub steps : List TrailStep
+  pub applies : Applies old new steps
+  pub quiet : IsQuiet steps
+  pub commits : ForSome old.files (λ image. CommitsAt count P Q image steps)

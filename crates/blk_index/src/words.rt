@@ -4,7 +4,7 @@ ghost use Rattle.std.specs.Option.{ForSome};
 ghost use Rattle.blk_image.specs.Footprint.{SameOutside, one_word};
 ghost use Rattle.blk_image.specs.Image.{byte, word, Index as index};
 ghost use Rattle.blk_image.specs.Steps.{word_step};
-ghost use Rattle.blk_image.specs.Told.{Grows, GrowsInPart, Passes, Stays, Rises};
+ghost use Rattle.blk_image.specs.Told.{Applies, AppliesPrefix, Passes, Stays, Rises};
 ghost use Rattle.blk_format.specs.Headers.{HasWholeIndex, bucket_of, place_of_bucket, header_length};
 ghost use Rattle.blk_io.specs.Faults.{IfDamaged, IfDevice, IsShort};
 
@@ -15,7 +15,7 @@ use blk_record::IndexHead;
 pub fn word<F: Folder>(f: &mut F, at: u32) -> Result<u32, Fault>
     requires aligned { at % 4 ≡ 0 }
     requires inside { at < header_length }
-    requires whole { ForSome (F.told f.old).files HasWholeIndex }
+    requires complete { ForSome (F.told f.old).files HasWholeIndex }
     ensures word { IfOk result (λ w. ForSome (F.told f.old).files (λ image. w ≡ word image index at)) }
 
     // Too few bytes, which a folder that tells its files never gives.
@@ -54,8 +54,8 @@ pub fn set_word<F: Folder>(f: &mut F, at: u32, value: u32) -> Result<(), Failed>
     requires aligned { at % 4 ≡ 0 }
     requires inside { at < header_length }
     requires complete { ForSome (F.told f.old).files HasWholeIndex }
-    ensures whole { OnOk result (Grows (F.told f.old) (F.told f.new) (word_step index at value)) }
-    ensures part { GrowsInPart (F.told f.old) (F.told f.new) (word_step index at value) }
+    ensures steps { OnOk result (Applies (F.told f.old) (F.told f.new) (word_step index at value)) }
+    ensures prefix { AppliesPrefix (F.told f.old) (F.told f.new) (word_step index at value) }
 
     // Nothing but this word has changed before and after the step.
     ensures outside { ForSome (F.told f.old).files (λ from. Passes (F.told f.old) (F.told f.new) (SameOutside (one_word index at) from)) }
@@ -72,8 +72,8 @@ pub fn set_word<F: Folder>(f: &mut F, at: u32, value: u32) -> Result<(), Failed>
 /// `Failed` comes only where the folder failed in this call.
 pub fn set_bucket<F: Folder>(f: &mut F, number: u16, value: u32) -> Result<(), Failed>
     requires { ForSome (F.told f.old).files HasWholeIndex }
-    ensures whole { OnOk result (Grows (F.told f.old) (F.told f.new) (word_step index (place_of_bucket number) value)) }
-    ensures part { GrowsInPart (F.told f.old) (F.told f.new) (word_step index (place_of_bucket number) value) }
+    ensures steps { OnOk result (Applies (F.told f.old) (F.told f.new) (word_step index (place_of_bucket number) value)) }
+    ensures prefix { AppliesPrefix (F.told f.old) (F.told f.new) (word_step index (place_of_bucket number) value) }
 
     // Nothing but this word has changed before and after the step.
     ensures outside { ForSome (F.told f.old).files (λ from. Passes (F.told f.old) (F.told f.new) (SameOutside (one_word index (place_of_bucket number)) from)) }

@@ -4,7 +4,7 @@ use Rattle.std.specs.Prelude.{IsErrAnd}
 use Rattle.std.specs.Option.{ForSome, option_map}
 use Rattle.blk_image.specs.Image.{Image}
 use Rattle.blk_image.specs.Steps.{TrailStep, after}
-use Rattle.blk_image.specs.Told.{Told, GrowsInPart}
+use Rattle.blk_image.specs.Told.{Told, AppliesPrefix}
 use Rattle.blk_io.specs.declared.fault.Damage.{Damage}
 use Rattle.blk_io.specs.declared.fault.Fault.{Fault}
 use Rattle.blk_io.specs.declared.fault.Fault.TheVariants.{Device, Damaged}
@@ -38,8 +38,8 @@ untold_where None never = refl
 untold_where (Some image) never = absurd (never image refl)
 
 -- a part of some steps tells nothing where nothing was told
-pub silent_part : {a b : Told} {s : List TrailStep} → GrowsInPart a b s → a.files ≡ None → b.files ≡ None
-silent_part {a} {b} {s} part none = part.grows.files ∙ ap (option_map (after part.made)) none
+pub silent_part : {a b : Told} {s : List TrailStep} → AppliesPrefix a b s → a.files ≡ None → b.files ≡ None
+silent_part {a} {b} {s} part none = part.applies.files ∙ ap (option_map (after part.made)) none
 
 -- what holds of the files at the end, where they are told at the start, and where a folder that tells nothing goes on so
 pub told_at_end : (old new : Option Image) (P : Image → Type 0) → (old ≡ None → new ≡ None) → ForSome old (λ from. ForSome new P) → ForSome new P

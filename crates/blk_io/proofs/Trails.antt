@@ -4,7 +4,7 @@ use Rattle.std.specs.Option.{option_map, ForSome}
 use Rattle.blk_io.specs.declared.mem_files.MemFile.{MemFile}
 use Rattle.blk_image.specs.Image.{File, Image, AreBytes, with_file}
 use Rattle.blk_image.specs.Steps.{TrailStep, after, image_at}
-use Rattle.blk_image.specs.Told.{Told, Trail, Along, Grows, longer}
+use Rattle.blk_image.specs.Told.{Told, Trail, Along, Applies, longer}
 use Rattle.blk_image.proofs.Runs.{along_front}
 use Rattle.std.proofs.lemmas.Bool.Decides.{nat_tests}
 use Rattle.blk_io.specs.Files.{image_of}
@@ -27,7 +27,7 @@ trail_goes_on start files new w (Some old) k' agrees is on s there =
     let at_old : image_of files ≡ after old (image_of start) = (λ i f. agrees old refl f i) in
     λ file. ap (λ (image : Image). image file) (is ∙ ap (after w) at_old ∙ sym (after-append old w (image_of start)) ∙ ap (λ (l : List TrailStep). after l (image_of start)) e)
 
-pub told_grows : (start files new : List MemFile) (w : List TrailStep) (k k' : Option (List TrailStep)) → image_of new ≡ after w (image_of files) → k' ≡ option_map (λ (s : List TrailStep). s ++ w) k → Grows (told_of start files k) (told_of start new k') w
+pub told_grows : (start files new : List MemFile) (w : List TrailStep) (k k' : Option (List TrailStep)) → image_of new ≡ after w (image_of files) → k' ≡ option_map (λ (s : List TrailStep). s ++ w) k → Applies (told_of start files k) (told_of start new k') w
 told_grows start files new w k k' is on = record { files = ap Some is; trail = ap (option_map (λ (s : List TrailStep). record { start = image_of start; steps = s })) on ∙ longer_each k }
   where
     longer_each : (k : Option (List TrailStep)) → option_map (λ (s : List TrailStep). record { start = image_of start; steps = s }) (option_map (λ (s : List TrailStep). s ++ w) k) ≡ option_map (longer w) (option_map (λ (s : List TrailStep). record { start = image_of start; steps = s }) k)

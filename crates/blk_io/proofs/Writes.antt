@@ -4,12 +4,12 @@ use Rattle.std.proofs.lemmas.Bool.Decides.{nat_tests}
 use Rattle.std.proofs.lemmas.List.{take-append-drop, take_min}
 use Rattle.std.specs.Option.{ForSome}
 use Rattle.blk_image.specs.Steps.{TrailStep}
-use Rattle.blk_image.specs.Told.{Told, Grows, GrowsInPart}
+use Rattle.blk_image.specs.Told.{Told, Applies, AppliesPrefix}
 use Rattle.blk_io.specs.Counts.{lasting}
 
 -- the first of the steps are some of them
-pub part_of_first : {a b : Told} (s : List TrailStep) (n : ℕ) → Grows a b (take n s) → GrowsInPart a b s
-part_of_first s n grows = record { made = take n s; left = drop n s; split = sym (take-append-drop n s); grows = grows }
+pub part_of_first : {a b : Told} (s : List TrailStep) (n : ℕ) → Applies a b (take n s) → AppliesPrefix a b s
+part_of_first s n grows = record { made = take n s; left = drop n s; split = sym (take-append-drop n s); applies = grows }
 
 -- where as many are left as there are, none is cut off
 pub none_cut : (b : Bool) (m n : ℕ) → m ≡ n → (b || nat_lt m n) ≡ b
@@ -23,6 +23,6 @@ none_cut b m n same = ap (λ (t : Bool). b || t) enough ∙ or_false b
     or_false false = refl
 
 -- and as many last as are listed
-pub listed_last : {a b : Told} (s : List TrailStep) (listed : Option ℕ) (left : ℕ) → left ≡ length s → Grows a b (take (lasting listed left) s) → ForSome listed (λ count. Grows a b (take count s))
+pub listed_last : {a b : Told} (s : List TrailStep) (listed : Option ℕ) (left : ℕ) → left ≡ length s → Applies a b (take (lasting listed left) s) → ForSome listed (λ count. Applies a b (take count s))
 listed_last {a} {b} s listed left same grows = λ count there.
-    subst (Grows a b) (ap (λ (o : Option ℕ). take (lasting o left) s) there ∙ ap (λ (n : ℕ). take (min count n) s) same ∙ take_min count s) grows
+    subst (Applies a b) (ap (λ (o : Option ℕ). take (lasting o left) s) there ∙ ap (λ (n : ℕ). take (min count n) s) same ∙ take_min count s) grows

@@ -7,7 +7,7 @@ use Rattle.blk_io.specs.declared.mem_trail.Change.{Change}
 use Rattle.blk_io.specs.declared.mem_trail.Change.TheVariants.{Wrote, Sized, Deleted, Noted}
 use Rattle.blk_image.specs.Image.{File, AreBytes}
 use Rattle.blk_image.specs.Steps.{TrailStep, SetLength, Delete, Note, after, image_at, words}
-use Rattle.blk_image.specs.Told.{Told, Grows}
+use Rattle.blk_image.specs.Told.{Told, Applies}
 use Rattle.blk_io.specs.FileNames.{file_of}
 use Rattle.blk_io.specs.Files.{image_of}
 
@@ -57,6 +57,6 @@ words_in at n = if n == 0 then 0 else (at % 4 + n + 3) / 4
 -- so many of these steps were made, from the first on, and so many fewer are left than before
 pub record UsesUp (old new : Told) (steps : List TrailStep) (before now : ℕ) : Type 0 where
   pub made : ℕ
-  pub grows : Grows old new (take made steps)
+  pub applies : Applies old new (take made steps)
   pub within : made ≤ length steps
   pub uses : now + made ≡ before

@@ -4,7 +4,7 @@ ghost use Rattle.std.specs.Option.{ForSome, option_map};
 ghost use Rattle.blk_image.specs.Image.{same_file, HasRange};
 ghost use Rattle.blk_image.specs.Steps.{SetLength, Delete, Note, words};
 ghost use Rattle.blk_image.specs.Order.{IsNextFile, IsAfter, IsBefore, kind_of, number_of};
-ghost use Rattle.blk_image.specs.Told.{Told, Grows, Stays, GrowsInPart, Rises, Agrees, TellsBytes, GivesBytes};
+ghost use Rattle.blk_image.specs.Told.{Told, Applies, Stays, AppliesPrefix, Rises, Agrees, TellsBytes, GivesBytes};
 ghost use Rattle.blk_io.specs.FileNames.{file_of};
 
 use std::alloc::AllocError;
@@ -129,21 +129,21 @@ pub trait Folder {
     /// Writes over bytes of the file, one word after another.
     fn write_at(&mut self, file: FileId, at: u64, bytes: &[u8]) -> Result<(), Failed>
         requires { ForSome (told self.old).files (λ image. HasRange image (file_of file) at (length bytes.now)) }
-        ensures whole { OnOk result (Grows (told self.old) (told self.new) (words (file_of file) at bytes.now)) }
-        ensures part { GrowsInPart (told self.old) (told self.new) (words (file_of file) at bytes.now) }
+        ensures steps { OnOk result (Applies (told self.old) (told self.new) (words (file_of file) at bytes.now)) }
+        ensures prefix { AppliesPrefix (told self.old) (told self.new) (words (file_of file) at bytes.now) }
         ensures later { faults self.old ≤ faults self.new }
         ensures failed { OnErr result (Rises (faults self.old) (faults self.new)) };
 
     /// Gives the file this length, and makes it where there is none. New bytes are 0.
     fn set_len(&mut self, file: FileId, length: u64) -> Result<(), Failed>
-        ensures done { OnOk result (Grows (told self.old) (told self.new) (SetLength (file_of file) length ∷ [])) }
+        ensures done { OnOk result (Applies (told self.old) (told self.new) (SetLength (file_of file) length ∷ [])) }
         ensures undone { OnErr result (Stays (told self.old) (told self.new)) }
         ensures later { faults self.old ≤ faults self.new }
         ensures failed { OnErr result (Rises (faults self.old) (faults self.new)) };
 
     /// Removes the file, if it is there.
     fn delete(&mut self, file: FileId) -> Result<(), Failed>
-        ensures done { OnOk result (Grows (told self.old) (told self.new) (Delete (file_of file) ∷ [])) }
+        ensures done { OnOk result (Applies (told self.old) (told self.new) (Delete (file_of file) ∷ [])) }
         ensures undone { OnErr result (Stays (told self.old) (told self.new)) }
         ensures later { faults self.old ≤ faults self.new }
         ensures failed { OnErr result (Rises (faults self.old) (faults self.new)) };
@@ -158,7 +158,7 @@ pub trait Folder {
 
     /// Notes among the steps that so many commands are done.
     fn note(&mut self, answered: u64) -> Result<(), Failed>
-        ensures done { OnOk result (Grows (told self.old) (told self.new) (Note answered ∷ [])) }
+        ensures done { OnOk result (Applies (told self.old) (told self.new) (Note answered ∷ [])) }
         ensures undone { OnErr result (Stays (told self.old) (told self.new)) }
         ensures later { faults self.old ≤ faults self.new }
         ensures failed { OnErr result (Rises (faults self.old) (faults self.new)) };

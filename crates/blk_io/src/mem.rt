@@ -4,7 +4,7 @@ ghost use Rattle.std.specs.Option.{ForSome, option_map};
 ghost use Rattle.blk_image.specs.Image.{HasRange, empty_image, AreBytes};
 ghost use Rattle.blk_image.specs.Order.{IsAfter, IsNextFile};
 ghost use Rattle.blk_image.specs.Steps.{SetLength, Delete, Note, words, image_at};
-ghost use Rattle.blk_image.specs.Told.{Grows, GrowsInPart, Stays, Rises, GivesBytes};
+ghost use Rattle.blk_image.specs.Told.{Applies, AppliesPrefix, Stays, Rises, GivesBytes};
 ghost use Rattle.blk_io.specs.FileNames.{file_of};
 ghost use Rattle.blk_io.specs.Files.{image_of};
 ghost use Rattle.blk_io.specs.Trail.{IsTrailOf, AreBytesAlong, kept_steps, UsesUp};
@@ -156,7 +156,7 @@ impl MemFolder {
     // Writes bytes of a file.
     fn write_front(&mut self, file: FileId, at: u64, bytes: &[u8]) -> Result<(), AllocError>
         requires inside { HasRange (image_of self.old.files.items) (file_of file) at (length bytes.now) }
-        ensures done { OnOk result (Grows (mem_told self.old) (mem_told self.new) (words (file_of file) at bytes.now)) }
+        ensures done { OnOk result (Applies (mem_told self.old) (mem_told self.new) (words (file_of file) at bytes.now)) }
         ensures undone { OnErr result (mem_told self.new ≡ mem_told self.old) }
         ensures calls { self.new.calls ≡ self.old.calls }
     {
@@ -167,7 +167,7 @@ impl MemFolder {
 
     // Gives a file this length.
     fn resize_told(&mut self, file: FileId, length: u64) -> Result<(), AllocError>
-        ensures done { OnOk result (Grows (mem_told self.old) (mem_told self.new) (SetLength (file_of file) length ∷ [])) }
+        ensures done { OnOk result (Applies (mem_told self.old) (mem_told self.new) (SetLength (file_of file) length ∷ [])) }
         ensures undone { OnErr result (mem_told self.new ≡ mem_told self.old) }
         ensures calls { self.new.calls ≡ self.old.calls }
     {
@@ -183,7 +183,7 @@ impl MemFolder {
 
     // Removes a file.
     fn remove_told(&mut self, file: FileId) -> Result<(), AllocError>
-        ensures done { OnOk result (Grows (mem_told self.old) (mem_told self.new) (Delete (file_of file) ∷ [])) }
+        ensures done { OnOk result (Applies (mem_told self.old) (mem_told self.new) (Delete (file_of file) ∷ [])) }
         ensures undone { OnErr result (mem_told self.new ≡ mem_told self.old) }
         ensures calls { self.new.calls ≡ self.old.calls }
     {
@@ -201,12 +201,12 @@ impl MemFolder {
         bytes: &[u8],
     ) -> Result<(), Failed>
         requires { ForSome (mem_told self.old).files (λ image. HasRange image (file_of file) at (length bytes.now)) }
-        ensures whole { OnOk result (Grows (mem_told self.old) (mem_told self.new) (words (file_of file) at bytes.now)) }
-        ensures part { GrowsInPart (mem_told self.old) (mem_told self.new) (words (file_of file) at bytes.now) }
+        ensures steps { OnOk result (Applies (mem_told self.old) (mem_told self.new) (words (file_of file) at bytes.now)) }
+        ensures prefix { AppliesPrefix (mem_told self.old) (mem_told self.new) (words (file_of file) at bytes.now) }
         ensures later { (mem_counts self.old).faults ≤ (mem_counts self.new).faults }
         ensures failed { OnErr result (Rises (mem_counts self.old).faults (mem_counts self.new).faults) }
         ensures counted { CountsCall (mem_counts self.old) (mem_counts self.new) (is_err result) (fails_next (mem_counts self.old) || nat_lt left.old (length (words (file_of file) at bytes.now))) }
-        ensures lasted { FindsMemory (mem_counts self.old) (mem_counts self.new) → Grows (mem_told self.old) (mem_told self.new) (take (lasting (next_failure (mem_counts self.old)) left.old) (words (file_of file) at bytes.now)) }
+        ensures lasted { FindsMemory (mem_counts self.old) (mem_counts self.new) → Applies (mem_told self.old) (mem_told self.new) (take (lasting (next_failure (mem_counts self.old)) left.old) (words (file_of file) at bytes.now)) }
         ensures lacking { (mem_counts self.old).lacks < (mem_counts self.new).lacks → Stays (mem_told self.old) (mem_told self.new) }
         ensures used { UsesUp (mem_told self.old) (mem_told self.new) (words (file_of file) at bytes.now) left.old left.new }
     {
@@ -264,14 +264,14 @@ impl Folder for MemFolder {
 
     fn write_at(&mut self, file: FileId, at: u64, bytes: &[u8]) -> Result<(), Failed>
         requires { ForSome (mem_told self.old).files (λ image. HasRange image (file_of file) at (length bytes.now)) }
-        ensures whole { OnOk result (Grows (mem_told self.old) (mem_told self.new) (words (file_of file) at bytes.now)) }
-        ensures part { GrowsInPart (mem_told self.old) (mem_told self.new) (words (file_of file) at bytes.now) }
+        ensures steps { OnOk result (Applies (mem_told self.old) (mem_told self.new) (words (file_of file) at bytes.now)) }
+        ensures prefix { AppliesPrefix (mem_told self.old) (mem_told self.new) (words (file_of file) at bytes.now) }
         ensures later { (mem_counts self.old).faults ≤ (mem_counts self.new).faults }
         ensures failed { OnErr result (Rises (mem_counts self.old).faults (mem_counts self.new).faults) }
         ensures counted { CountsCall (mem_counts self.old) (mem_counts self.new) (is_err result) (fails_next (mem_counts self.old)) }
 
         // Where it is listed to fail, the listed number of its words has lasted.
-        ensures lasted { FindsMemory (mem_counts self.old) (mem_counts self.new) → ForSome (next_failure (mem_counts self.old)) (λ count. Grows (mem_told self.old) (mem_told self.new) (take count (words (file_of file) at bytes.now))) }
+        ensures lasted { FindsMemory (mem_counts self.old) (mem_counts self.new) → ForSome (next_failure (mem_counts self.old)) (λ count. Applies (mem_told self.old) (mem_told self.new) (take count (words (file_of file) at bytes.now))) }
         ensures lacking { (mem_counts self.old).lacks < (mem_counts self.new).lacks → Stays (mem_told self.old) (mem_told self.new) }
     {
         let mut left = word_count(at, bytes);
@@ -279,7 +279,7 @@ impl Folder for MemFolder {
     }
 
     fn set_len(&mut self, file: FileId, length: u64) -> Result<(), Failed>
-        ensures done { OnOk result (Grows (mem_told self.old) (mem_told self.new) (SetLength (file_of file) length ∷ [])) }
+        ensures done { OnOk result (Applies (mem_told self.old) (mem_told self.new) (SetLength (file_of file) length ∷ [])) }
         ensures undone { OnErr result (Stays (mem_told self.old) (mem_told self.new)) }
         ensures later { (mem_counts self.old).faults ≤ (mem_counts self.new).faults }
         ensures failed { OnErr result (Rises (mem_counts self.old).faults (mem_counts self.new).faults) }
@@ -293,7 +293,7 @@ impl Folder for MemFolder {
     }
 
     fn delete(&mut self, file: FileId) -> Result<(), Failed>
-        ensures done { OnOk result (Grows (mem_told self.old) (mem_told self.new) (Delete (file_of file) ∷ [])) }
+        ensures done { OnOk result (Applies (mem_told self.old) (mem_told self.new) (Delete (file_of file) ∷ [])) }
         ensures undone { OnErr result (Stays (mem_told self.old) (mem_told self.new)) }
         ensures later { (mem_counts self.old).faults ≤ (mem_counts self.new).faults }
         ensures failed { OnErr result (Rises (mem_counts self.old).faults (mem_counts self.new).faults) }
@@ -319,7 +319,7 @@ impl Folder for MemFolder {
     }
 
     fn note(&mut self, answered: u64) -> Result<(), Failed>
-        ensures done { OnOk result (Grows (mem_told self.old) (mem_told self.new) (Note answered ∷ [])) }
+        ensures done { OnOk result (Applies (mem_told self.old) (mem_told self.new) (Note answered ∷ [])) }
         ensures undone { OnErr result (Stays (mem_told self.old) (mem_told self.new)) }
         ensures later { (mem_counts self.old).faults ≤ (mem_counts self.new).faults }
         ensures failed { OnErr result (Rises (mem_counts self.old).faults (mem_counts self.new).faults) }

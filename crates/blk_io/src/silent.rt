@@ -4,7 +4,7 @@ ghost use Rattle.std.specs.Option.{ForSome, option_map};
 ghost use Rattle.blk_image.specs.Image.{length_of};
 ghost use Rattle.blk_image.specs.Order.{IsAfter, IsNextFile};
 ghost use Rattle.blk_image.specs.Steps.{SetLength, Delete, Note, words};
-ghost use Rattle.blk_image.specs.Told.{Grows, GrowsInPart, GivesBytes, Rises, Stays};
+ghost use Rattle.blk_image.specs.Told.{Applies, AppliesPrefix, GivesBytes, Rises, Stays};
 ghost use Rattle.blk_io.specs.Counts.{one_more};
 ghost use Rattle.blk_io.specs.FileNames.{file_of};
 
@@ -76,8 +76,8 @@ fn length<F: Folder>(f: &mut F, file: FileId) -> Result<u64, Failed>
 
 // Writes bytes of a file, where it has them.
 fn write_inside<F: Folder>(f: &mut F, file: FileId, at: u64, bytes: &[u8]) -> Result<(), Failed>
-    ensures whole { OnOk result (Grows (F.told f.old) (F.told f.new) (words (file_of file) at bytes.now)) }
-    ensures part { GrowsInPart (F.told f.old) (F.told f.new) (words (file_of file) at bytes.now) }
+    ensures steps { OnOk result (Applies (F.told f.old) (F.told f.new) (words (file_of file) at bytes.now)) }
+    ensures prefix { AppliesPrefix (F.told f.old) (F.told f.new) (words (file_of file) at bytes.now) }
 {
     let n = length(f, file)?;
     if at > n || bytes.len() as u64 > n - at {
@@ -124,8 +124,8 @@ impl<F: Folder> Folder for SilentFolder<F> {
         ensures later { faults_of self.old ≤ faults_of self.new }
         ensures failed { OnErr result (Rises (faults_of self.old) (faults_of self.new)) }
         ensures calls { calls_of self.new ≡ one_more (calls_of self.old) }
-        ensures inside { OnOk result (Grows (F.told (folder_of self.old)) (F.told (folder_of self.new)) (words (file_of file) at bytes.now)) }
-        ensures inside_part { GrowsInPart (F.told (folder_of self.old)) (F.told (folder_of self.new)) (words (file_of file) at bytes.now) }
+        ensures inside { OnOk result (Applies (F.told (folder_of self.old)) (F.told (folder_of self.new)) (words (file_of file) at bytes.now)) }
+        ensures inside_part { AppliesPrefix (F.told (folder_of self.old)) (F.told (folder_of self.new)) (words (file_of file) at bytes.now) }
     {
         self.calls = self.calls.saturating_add(1);
         counted(
@@ -138,7 +138,7 @@ impl<F: Folder> Folder for SilentFolder<F> {
         ensures later { faults_of self.old ≤ faults_of self.new }
         ensures failed { OnErr result (Rises (faults_of self.old) (faults_of self.new)) }
         ensures calls { calls_of self.new ≡ one_more (calls_of self.old) }
-        ensures inside { OnOk result (Grows (F.told (folder_of self.old)) (F.told (folder_of self.new)) (SetLength (file_of file) length ∷ [])) }
+        ensures inside { OnOk result (Applies (F.told (folder_of self.old)) (F.told (folder_of self.new)) (SetLength (file_of file) length ∷ [])) }
         ensures inside_undone { OnErr result (Stays (F.told (folder_of self.old)) (F.told (folder_of self.new))) }
     {
         self.calls = self.calls.saturating_add(1);
@@ -149,7 +149,7 @@ impl<F: Folder> Folder for SilentFolder<F> {
         ensures later { faults_of self.old ≤ faults_of self.new }
         ensures failed { OnErr result (Rises (faults_of self.old) (faults_of self.new)) }
         ensures calls { calls_of self.new ≡ one_more (calls_of self.old) }
-        ensures inside { OnOk result (Grows (F.told (folder_of self.old)) (F.told (folder_of self.new)) (Delete (file_of file) ∷ [])) }
+        ensures inside { OnOk result (Applies (F.told (folder_of self.old)) (F.told (folder_of self.new)) (Delete (file_of file) ∷ [])) }
         ensures inside_undone { OnErr result (Stays (F.told (folder_of self.old)) (F.told (folder_of self.new))) }
     {
         self.calls = self.calls.saturating_add(1);
@@ -172,7 +172,7 @@ impl<F: Folder> Folder for SilentFolder<F> {
         ensures later { faults_of self.old ≤ faults_of self.new }
         ensures failed { OnErr result (Rises (faults_of self.old) (faults_of self.new)) }
         ensures calls { calls_of self.new ≡ one_more (calls_of self.old) }
-        ensures inside { OnOk result (Grows (F.told (folder_of self.old)) (F.told (folder_of self.new)) (Note answered ∷ [])) }
+        ensures inside { OnOk result (Applies (F.told (folder_of self.old)) (F.told (folder_of self.new)) (Note answered ∷ [])) }
         ensures inside_undone { OnErr result (Stays (F.told (folder_of self.old)) (F.told (folder_of self.new))) }
     {
         self.calls = self.calls.saturating_add(1);

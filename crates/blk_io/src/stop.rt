@@ -4,7 +4,7 @@ ghost use Rattle.std.specs.Option.{ForSome, option_map};
 ghost use Rattle.blk_image.specs.Image.{HasRange};
 ghost use Rattle.blk_image.specs.Order.{IsAfter, IsNextFile};
 ghost use Rattle.blk_image.specs.Steps.{SetLength, Delete, Note, words};
-ghost use Rattle.blk_image.specs.Told.{Grows, GrowsInPart, Stays, Rises, GivesBytes};
+ghost use Rattle.blk_image.specs.Told.{Applies, AppliesPrefix, Stays, Rises, GivesBytes};
 ghost use Rattle.blk_io.specs.FileNames.{file_of};
 ghost use Rattle.blk_io.specs.Counts.{next_failure, fails_next, lasting, FindsMemory};
 ghost use Rattle.blk_io.specs.Trail.{UsesUp};
@@ -99,14 +99,14 @@ impl Folder for StopFolder {
 
     fn write_at(&mut self, file: FileId, at: u64, bytes: &[u8]) -> Result<(), Failed>
         requires { ForSome (stop_told self.old).files (λ image. HasRange image (file_of file) at (length bytes.now)) }
-        ensures whole { OnOk result (Grows (stop_told self.old) (stop_told self.new) (words (file_of file) at bytes.now)) }
-        ensures part { GrowsInPart (stop_told self.old) (stop_told self.new) (words (file_of file) at bytes.now) }
+        ensures steps { OnOk result (Applies (stop_told self.old) (stop_told self.new) (words (file_of file) at bytes.now)) }
+        ensures prefix { AppliesPrefix (stop_told self.old) (stop_told self.new) (words (file_of file) at bytes.now) }
         ensures later { stop_faults self.old ≤ stop_faults self.new }
         ensures failed { OnErr result (Rises (stop_faults self.old) (stop_faults self.new)) }
         ensures passes { PassesOn self.old self.new (is_err result) (fails_next (stop_counts self.old) || nat_lt (left_of self.old) (length (words (file_of file) at bytes.now))) }
 
         // The words that last are as many as are left, or fewer where a listed failure says so.
-        ensures lasted { FindsMemory (stop_counts self.old) (stop_counts self.new) → Grows (stop_told self.old) (stop_told self.new) (take (lasting (next_failure (stop_counts self.old)) (left_of self.old)) (words (file_of file) at bytes.now)) }
+        ensures lasted { FindsMemory (stop_counts self.old) (stop_counts self.new) → Applies (stop_told self.old) (stop_told self.new) (take (lasting (next_failure (stop_counts self.old)) (left_of self.old)) (words (file_of file) at bytes.now)) }
         ensures lacking { (stop_counts self.old).lacks < (stop_counts self.new).lacks → Stays (stop_told self.old) (stop_told self.new) }
         ensures left { UsesUp (stop_told self.old) (stop_told self.new) (words (file_of file) at bytes.now) (left_of self.old) (left_of self.new) }
     {
@@ -115,7 +115,7 @@ impl Folder for StopFolder {
     }
 
     fn set_len(&mut self, file: FileId, length: u64) -> Result<(), Failed>
-        ensures done { OnOk result (Grows (stop_told self.old) (stop_told self.new) (SetLength (file_of file) length ∷ [])) }
+        ensures done { OnOk result (Applies (stop_told self.old) (stop_told self.new) (SetLength (file_of file) length ∷ [])) }
         ensures undone { OnErr result (Stays (stop_told self.old) (stop_told self.new)) }
         ensures later { stop_faults self.old ≤ stop_faults self.new }
         ensures failed { OnErr result (Rises (stop_faults self.old) (stop_faults self.new)) }
@@ -129,7 +129,7 @@ impl Folder for StopFolder {
     }
 
     fn delete(&mut self, file: FileId) -> Result<(), Failed>
-        ensures done { OnOk result (Grows (stop_told self.old) (stop_told self.new) (Delete (file_of file) ∷ [])) }
+        ensures done { OnOk result (Applies (stop_told self.old) (stop_told self.new) (Delete (file_of file) ∷ [])) }
         ensures undone { OnErr result (Stays (stop_told self.old) (stop_told self.new)) }
         ensures later { stop_faults self.old ≤ stop_faults self.new }
         ensures failed { OnErr result (Rises (stop_faults self.old) (stop_faults self.new)) }
@@ -156,7 +156,7 @@ impl Folder for StopFolder {
     }
 
     fn note(&mut self, answered: u64) -> Result<(), Failed>
-        ensures done { OnOk result (Grows (stop_told self.old) (stop_told self.new) (Note answered ∷ [])) }
+        ensures done { OnOk result (Applies (stop_told self.old) (stop_told self.new) (Note answered ∷ [])) }
         ensures undone { OnErr result (Stays (stop_told self.old) (stop_told self.new)) }
         ensures later { stop_faults self.old ≤ stop_faults self.new }
         ensures failed { OnErr result (Rises (stop_faults self.old) (stop_faults self.new)) }

@@ -38,8 +38,8 @@ pub trait Sink {
 
     /// Writes all the bytes, or a front of them where it fails.
     fn put(&mut self, bytes: &[u8]) -> Result<(), Failed>
-        ensures whole { OnOk result (written self.new ≡ option_map (λ w. w ++ bytes.now) (written self.old)) }
-        ensures part { Appends (written self.old) (written self.new) bytes.now }
+        ensures steps { OnOk result (written self.new ≡ option_map (λ w. w ++ bytes.now) (written self.old)) }
+        ensures prefix { Appends (written self.old) (written self.new) bytes.now }
         ensures later { faults self.old ≤ faults self.new }
         ensures failed { OnErr result (Rises (faults self.old) (faults self.new)) };
 }

@@ -4,7 +4,7 @@ ghost use Rattle.std.specs.Option.{ForSome};
 ghost use Rattle.blk_image.specs.Bytes.{range_at, word_bytes};
 ghost use Rattle.blk_image.specs.Image.{HasRange, byte, word};
 ghost use Rattle.blk_image.specs.Steps.{word_step, word_steps};
-ghost use Rattle.blk_image.specs.Told.{Grows, GrowsInPart, Stays, Rises};
+ghost use Rattle.blk_image.specs.Told.{Applies, AppliesPrefix, Stays, Rises};
 ghost use Rattle.blk_io.specs.FileNames.{file_of};
 ghost use Rattle.blk_io.specs.Faults.{IfDamaged, IfDevice, IsShort};
 ghost use Rattle.blk_io.specs.Neighbours.{run_from};
@@ -15,8 +15,8 @@ use crate::{Damage, Failed, Fault, FileId, Folder};
 pub fn write_word<F: Folder>(f: &mut F, file: FileId, at: u64, value: u32) -> Result<(), Failed>
     requires aligned { at % 4 ≡ 0 }
     requires inside { ForSome (F.told f.old).files (λ image. HasRange image (file_of file) at 4) }
-    ensures whole { OnOk result (Grows (F.told f.old) (F.told f.new) (word_step (file_of file) at value)) }
-    ensures part { GrowsInPart (F.told f.old) (F.told f.new) (word_step (file_of file) at value) }
+    ensures steps { OnOk result (Applies (F.told f.old) (F.told f.new) (word_step (file_of file) at value)) }
+    ensures prefix { AppliesPrefix (F.told f.old) (F.told f.new) (word_step (file_of file) at value) }
     ensures later { F.faults f.old ≤ F.faults f.new }
     ensures failed { OnErr result (Rises (F.faults f.old) (F.faults f.new)) }
 {
@@ -28,8 +28,8 @@ pub fn write_word<F: Folder>(f: &mut F, file: FileId, at: u64, value: u32) -> Re
 pub fn write_words<F: Folder>(f: &mut F, file: FileId, words: &[(u64, u32)]) -> Result<(), Failed>
     requires aligned { All (λ w. w.0 % 4 ≡ 0) words.now }
     requires inside { ForSome (F.told f.old).files (λ image. All (λ w. HasRange image (file_of file) w.0 4) words.now) }
-    ensures whole { OnOk result (Grows (F.told f.old) (F.told f.new) (word_steps (file_of file) words.now)) }
-    ensures part { GrowsInPart (F.told f.old) (F.told f.new) (word_steps (file_of file) words.now) }
+    ensures steps { OnOk result (Applies (F.told f.old) (F.told f.new) (word_steps (file_of file) words.now)) }
+    ensures prefix { AppliesPrefix (F.told f.old) (F.told f.new) (word_steps (file_of file) words.now) }
     ensures later { F.faults f.old ≤ F.faults f.new }
     ensures failed { OnErr result (Rises (F.faults f.old) (F.faults f.new)) }
 {
@@ -49,8 +49,8 @@ pub fn write_run<F: Folder, const N: usize>(
 ) -> Result<(), Failed>
     requires aligned { at % 4 ≡ 0 }
     requires inside { ForSome (F.told f.old).files (λ image. HasRange image (file_of file) at (4 * length words.now)) }
-    ensures whole { OnOk result (Grows (F.told f.old) (F.told f.new) (word_steps (file_of file) (run_from at words.now))) }
-    ensures part { GrowsInPart (F.told f.old) (F.told f.new) (word_steps (file_of file) (run_from at words.now)) }
+    ensures steps { OnOk result (Applies (F.told f.old) (F.told f.new) (word_steps (file_of file) (run_from at words.now))) }
+    ensures prefix { AppliesPrefix (F.told f.old) (F.told f.new) (word_steps (file_of file) (run_from at words.now)) }
     ensures later { F.faults f.old ≤ F.faults f.new }
     ensures failed { OnErr result (Rises (F.faults f.old) (F.faults f.new)) }
 {

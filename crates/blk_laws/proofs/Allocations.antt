@@ -15,10 +15,10 @@ use Rattle.blk_format.specs.BlockFiles.{linked_as, stands_in}
 use Rattle.blk_format.specs.Claims.{Claim, BlockOf, ExternalOf, same_claim, claims_of, claims_of_all, has_claim, is_in_file, repeats}
 use Rattle.blk_format.specs.Headers.{allocations_of}
 use Rattle.blk_format.specs.Maps.{AreAllocations}
-use Rattle.blk_volume.specs.View.{Stock, Named, Core, stands_as, entry_at, core_of, named_at, core_at, stored_at, stock_of, view_of, size_of, address_of}
+use Rattle.blk_volume.specs.View.{StoreView, NodeFields, RecordFields, stands_as, entry_at, fields_of, node_fields_at, core_at, stored_at, store_of, view_of, size_of, address_of}
 use Rattle.blk_volume.specs.Entries.{key_of, stream_of, streams_of}
 use Rattle.blk_volume.specs.Reasons.{Reason}
-use Rattle.blk_volume.specs.Loads.{Rule, held, listed, alone, Loaded, load, all_claims, record_claims, claims_of_loaded}
+use Rattle.blk_volume.specs.Loads.{Rule, held_rule, listed_rule, unchained_rule, Loaded, load, all_claims, record_claims, claims_of_loaded}
 use Rattle.blk_volume.specs.Audit.{verdict, with_verdict, verdicts, verdict_on, kept_of, kept_among, kept_by, admit}
 use Rattle.blk_volume.specs.Found.{kept}
 use Rattle.blk_volume.specs.Sound.{words_of, AreOwned}
@@ -35,10 +35,10 @@ use Rattle.blk_laws.proofs.FrameLaw.{admit-then}
 -- ---- what is kept was loaded
 
 -- a node loads this by some rule
-abbrev IsLoadedBy : Stock → Loaded → Type 0
+abbrev IsLoadedBy : StoreView → Loaded → Type 0
 IsLoadedBy v l = (rule : Rule) × (w : ℕ) × (load v rule w ≡ Ok l)
 
-verdict-loads : (v : Stock) (rule : Rule) (kept : List Loaded) (ts : List ℕ) (w : ℕ) (l : Loaded) → verdict_on (verdicts v rule kept ts) w ≡ Some (Ok l) → IsLoadedBy v l
+verdict-loads : (v : StoreView) (rule : Rule) (kept : List Loaded) (ts : List ℕ) (w : ℕ) (l : Loaded) → verdict_on (verdicts v rule kept ts) w ≡ Some (Ok l) → IsLoadedBy v l
 unfolding verdicts
 verdict-loads v rule kept [] w l e = cc
 verdict-loads v rule kept (t ∷ ts) w l e = ⊎_elim
@@ -61,7 +61,7 @@ each-some P f all (w ∷ ws) = go (f w) refl (each-some P f all ws) where
   go None e rest = rest
   go (Some l) e rest = (all w l e, rest)
 
-pub kept-loads : (v : Stock) (rule : Rule) (ws : List ℕ) → AllByRecursion (IsLoadedBy v) (kept_among v rule ws)
+pub kept-loads : (v : StoreView) (rule : Rule) (ws : List ℕ) → AllByRecursion (IsLoadedBy v) (kept_among v rule ws)
 unfolding kept_among
 kept-loads v rule ws = each-some (IsLoadedBy v) _ (λ w l e. verdict-loads v rule [] _ w l (kept-some _ l e)) ws
 
@@ -78,18 +78,18 @@ nonzero image (x ∷ xs) all = ⊎_elim
     (λ (e : (x == 0) ≡ false). rw e (all.0 e, nonzero image xs all.1))
     (cases_Bool (x == 0))
 
-node-stands : (image : Image) (w : ℕ) (n : Named) → named_at image w ≡ Some n → stands_in image w ≡ true
-unfolding named_at
+node-stands : (image : Image) (w : ℕ) (n : NodeFields) → node_fields_at image w ≡ Some n → stands_in image w ≡ true
+unfolding node_fields_at
 node-stands image w n e = ⊎_elim
     (λ (s : stands_as image rankings w ≡ true). (and_parts (stands_in image w) (kind_of w == rankings) s).0)
-    (λ (s : stands_as image rankings w ≡ false). let none : ◌≡◌ {A = Option Named} None (Some n) = rw s at e in absurd (cc))
+    (λ (s : stands_as image rankings w ≡ false). let none : ◌≡◌ {A = Option NodeFields} None (Some n) = rw s at e in absurd (cc))
     (cases_Bool (stands_as image rankings w))
 
-core-stands : (image : Image) (c : ℕ) (e : Core) → core_at image c ≡ Some e → (stands_in image c ≡ true) × (core_of (entry_at image c) ≡ e)
+core-stands : (image : Image) (c : ℕ) (e : RecordFields) → core_at image c ≡ Some e → (stands_in image c ≡ true) × (fields_of (entry_at image c) ≡ e)
 unfolding core_at
 core-stands image c e is = ⊎_elim
-    (λ (s : stands_as image blocks_256 c ≡ true). let some : ◌≡◌ {A = Option Core} (Some (core_of (entry_at image c))) (Some e) = rw s at is in ((and_parts (stands_in image c) (kind_of c == blocks_256) s).0, cc))
-    (λ (s : stands_as image blocks_256 c ≡ false). let none : ◌≡◌ {A = Option Core} None (Some e) = rw s at is in absurd (cc))
+    (λ (s : stands_as image blocks_256 c ≡ true). let some : ◌≡◌ {A = Option RecordFields} (Some (fields_of (entry_at image c))) (Some e) = rw s at is in ((and_parts (stands_in image c) (kind_of c == blocks_256) s).0, cc))
+    (λ (s : stands_as image blocks_256 c ≡ false). let none : ◌≡◌ {A = Option RecordFields} None (Some e) = rw s at is in absurd (cc))
     (cases_Bool (stands_as image blocks_256 c))
 
 storage-of_none : (size x : ℕ) → (size == 0) ≡ true → is_storage size x ≡ true → (x == 0) ≡ true
@@ -106,35 +106,35 @@ stored-stands image size x bytes e some = go (is_storage size x) (size == 0) (st
   go true false false last is none stands h = cc
   go true false true last is none stands h = stands
 
-long_key-stands : (image : Image) (c : ℕ) (e : Core) (key : List ℕ) → key_of (stock_of image) c e ≡ Some key → StandsIf image e.long_key
-unfolding key_of stock_of
+long_key-stands : (image : Image) (c : ℕ) (e : RecordFields) (key : List ℕ) → key_of (store_of image) c e ≡ Some key → StandsIf image e.long_key
+unfolding key_of store_of
 long_key-stands image c e key is some = go (nat_le e.key_len 927) is where
   lone : (o : Option (List ℕ)) → stored_at image (e.key_len + 1) e.long_key ≡ o → option_map (take e.key_len) o ≡ Some key → stands_in image e.long_key ≡ true
   lone None at h = cc
   lone (Some bytes) at h = stored-stands image (e.key_len + 1) e.long_key bytes at some
 
-  go : (b : Bool) → (if b then (if e.long_key == 0 then Some ((stock_of image).key_place c e.key_len) else None) else option_map (take e.key_len) (stored_at image (e.key_len + 1) e.long_key)) ≡ Some key → stands_in image e.long_key ≡ true
+  go : (b : Bool) → (if b then (if e.long_key == 0 then Some ((store_of image).key_place c e.key_len) else None) else option_map (take e.key_len) (stored_at image (e.key_len + 1) e.long_key)) ≡ Some key → stands_in image e.long_key ≡ true
   go true h = let none : ◌≡◌ {A = Option (List ℕ)} None (Some key) = rw some at h in absurd (cc)
   go false h = lone (stored_at image (e.key_len + 1) e.long_key) refl h
 
-stream-stands : (image : Image) (e : Core) (i : ℕ) (bytes : List ℕ) → stream_of (stock_of image) e i ≡ Some bytes → StandsIf image (address_of e i)
-unfolding stream_of stock_of
+stream-stands : (image : Image) (e : RecordFields) (i : ℕ) (bytes : List ℕ) → stream_of (store_of image) e i ≡ Some bytes → StandsIf image (address_of e i)
+unfolding stream_of store_of
 stream-stands image e i bytes is = go (nat_le (size_of e i) 2147483647) is where
   go : (b : Bool) → (if b then stored_at image (size_of e i) (address_of e i) else None) ≡ Some bytes → StandsIf image (address_of e i)
   go true h = stored-stands image (size_of e i) (address_of e i) bytes h
   go false h = cc
 
 -- what the streams say
-record StreamsStand (image : Image) (e : Core) : Type 0 where
+record StreamsStand (image : Image) (e : RecordFields) : Type 0 where
   first : StandsIf image (address_of e 0)
   second : StandsIf image (address_of e 1)
   third : StandsIf image (address_of e 2)
   fourth : StandsIf image (address_of e 3)
 
-streams-stand : (image : Image) (e : Core) (streams : List (List ℕ)) → streams_of (stock_of image) e ≡ Some streams → StreamsStand image e
+streams-stand : (image : Image) (e : RecordFields) (streams : List (List ℕ)) → streams_of (store_of image) e ≡ Some streams → StreamsStand image e
 unfolding streams_of
-streams-stand image e streams is = go ((size_of e 3 == 0) && (address_of e 3 == 0)) (stream_of (stock_of image) e 0) (stream_of (stock_of image) e 1) (stream_of (stock_of image) e 2) refl refl refl refl is where
-  go : (b : Bool) (s0 s1 s2 : Option (List ℕ)) → ((size_of e 3 == 0) && (address_of e 3 == 0)) ≡ b → stream_of (stock_of image) e 0 ≡ s0 → stream_of (stock_of image) e 1 ≡ s1 → stream_of (stock_of image) e 2 ≡ s2
+streams-stand image e streams is = go ((size_of e 3 == 0) && (address_of e 3 == 0)) (stream_of (store_of image) e 0) (stream_of (store_of image) e 1) (stream_of (store_of image) e 2) refl refl refl refl is where
+  go : (b : Bool) (s0 s1 s2 : Option (List ℕ)) → ((size_of e 3 == 0) && (address_of e 3 == 0)) ≡ b → stream_of (store_of image) e 0 ≡ s0 → stream_of (store_of image) e 1 ≡ s1 → stream_of (store_of image) e 2 ≡ s2
       → (if not b then None else option_and_then (λ first. option_and_then (λ second. option_map (λ third. first ∷ second ∷ third ∷ []) s2) s1) s0) ≡ Some streams → StreamsStand image e
   go false s0 s1 s2 b0 e0 e1 e2 h = cc
   go true None s1 s2 b0 e0 e1 e2 h = cc
@@ -147,19 +147,19 @@ streams-stand image e streams is = go ((size_of e 3 == 0) && (address_of e 3 == 
     fourth = λ some. let z : (address_of e 3 == 0) ≡ true = (and_parts (size_of e 3 == 0) (address_of e 3 == 0) b0).1 in absurd (let q : true ≡ false = sym z ∙ some in cc);
   }
 
-addresses-stand : (image : Image) (c : ℕ) → StreamsStand image (core_of (entry_at image c)) → AllByRecursion (StandsIf image) (core_of (entry_at image c)).data_addr
+addresses-stand : (image : Image) (c : ℕ) → StreamsStand image (fields_of (entry_at image c)) → AllByRecursion (StandsIf image) (fields_of (entry_at image c)).data_addr
 unfolding words_at entry_in
 addresses-stand image c s = (s.first, (s.second, (s.third, (s.fourth, tt))))
 
-pub words-stand : (image : Image) (l : Loaded) → IsLoadedBy (stock_of image) l → AllByRecursion (λ x. stands_in image x ≡ true) (words_of l)
-unfolding stock_of
-words-stand image l by = load-then (stock_of image) by.0 by.1 l by.2 (λ n e f.
-    let core = core-stands image n.contents e f.entry in
+pub words-stand : (image : Image) (l : Loaded) → IsLoadedBy (store_of image) l → AllByRecursion (λ x. stands_in image x ≡ true) (words_of l)
+unfolding store_of
+words-stand image l by = load-then (store_of image) by.0 by.1 l by.2 (λ n e f.
+    let fields = core-stands image n.contents e f.entry in
     let node : stands_in image l.node ≡ true = subst (λ (x : ℕ). stands_in image x ≡ true) (sym f.facts.node_is) (node-stands image by.1 n f.node) in
-    let contents : stands_in image l.contents ≡ true = subst (λ (x : ℕ). stands_in image x ≡ true) (sym f.facts.contents_is) core.0 in
+    let contents : stands_in image l.contents ≡ true = subst (λ (x : ℕ). stands_in image x ≡ true) (sym f.facts.contents_is) fields.0 in
     let long : StandsIf image e.long_key = long_key-stands image n.contents e l.key f.facts.keyed.key in
     let streams : StreamsStand image e = streams-stand image e l.streams f.facts.streams in
-    let addresses : AllByRecursion (StandsIf image) e.data_addr = subst (λ (x : Core). AllByRecursion (StandsIf image) x.data_addr) core.1 (addresses-stand image n.contents (subst (StreamsStand image) (sym core.1) streams)) in
+    let addresses : AllByRecursion (StandsIf image) e.data_addr = subst (λ (x : RecordFields). AllByRecursion (StandsIf image) x.data_addr) fields.1 (addresses-stand image n.contents (subst (StreamsStand image) (sym fields.1) streams)) in
     nonzero image (l.node ∷ l.contents ∷ l.others) ((λ _. node), ((λ _. contents), subst (AllByRecursion (StandsIf image)) (sym f.facts.others_are) (long, addresses))))
 
 -- ---- the claims of these words
@@ -259,11 +259,11 @@ join : (P : ℕ → Type 0) (xs ys : List ℕ) → AllByRecursion P xs → AllBy
 join P [] ys a b = b
 join P (x ∷ xs) ys a b = (a.0, join P xs ys a.1 b)
 
-all-stand : (image : Image) (ls : List Loaded) → AllByRecursion (IsLoadedBy (stock_of image)) ls → AllByRecursion (λ x. stands_in image x ≡ true) (flat_map words_of ls)
+all-stand : (image : Image) (ls : List Loaded) → AllByRecursion (IsLoadedBy (store_of image)) ls → AllByRecursion (λ x. stands_in image x ≡ true) (flat_map words_of ls)
 all-stand image [] h = tt
 all-stand image (l ∷ ls) h = join (λ x. stands_in image x ≡ true) (words_of l) (flat_map words_of ls) (words-stand image l h.0) (all-stand image ls h.1)
 
-pub allocated : (image : Image) (ls : List Loaded) (n : ℕ) → AllByRecursion (IsLoadedBy (stock_of image)) ls → AreOwned image (claims_of_loaded ls) → is_some (linked_as image n) ≡ true
+pub allocated : (image : Image) (ls : List Loaded) (n : ℕ) → AllByRecursion (IsLoadedBy (store_of image)) ls → AreOwned image (claims_of_loaded ls) → is_some (linked_as image n) ≡ true
     → allocations_of (byte image (Block n)) ≡ count_by (is_in_file n) (flat_map words_of ls) → AreAllocations image n (filter (is_in_file n) (flat_map words_of ls))
 allocated image ls n loaded owned linked counted = record {
   stand = all-from (λ x. stands_in image x ≡ true) (filter (is_in_file n) (flat_map words_of ls)) (still (λ x. stands_in image x ≡ true) (is_in_file n) (flat_map words_of ls) (all-stand image ls loaded));
@@ -276,22 +276,22 @@ allocated image ls n loaded owned linked counted = record {
 pub sound-allocated : SoundFilesAreAllocated
 unfolding kept
 sound-allocated image sound n linked =
-    allocated image (kept image) n (kept-loads (stock_of image) held _) sound.owned linked
+    allocated image (kept image) n (kept-loads (store_of image) held_rule _) sound.owned linked
     ((sound.in_order.counted n linked).num_entries ∙ ap (λ (ls : List Loaded). count_by (is_in_file n) (flat_map words_of ls)) (append-nil (kept image)))
 
-doomed-loads : (image : Image) (state : State) (numbered : List (ℕ × Loaded)) → AllByRecursion (λ d. IsSomeAnd (object_at state d.0) (λ o. KeepsDoomed (view_of image) o d.1)) numbered → AllByRecursion (IsLoadedBy (stock_of image)) (map (λ (d : ℕ × Loaded). d.1) numbered)
+doomed-loads : (image : Image) (state : State) (numbered : List (ℕ × Loaded)) → AllByRecursion (λ d. IsSomeAnd (object_at state d.0) (λ o. KeepsDoomed (view_of image) o d.1)) numbered → AllByRecursion (IsLoadedBy (store_of image)) (map (λ (d : ℕ × Loaded). d.1) numbered)
 doomed-loads image state [] each = tt
 doomed-loads image state (d ∷ numbered) each = (go (object_at state d.0) each.0, doomed-loads image state numbered each.1) where
-  go : (o : Option Object) → IsSomeAnd o (λ o. KeepsDoomed (view_of image) o d.1) → IsLoadedBy (stock_of image) d.1
+  go : (o : Option Object) → IsSomeAnd o (λ o. KeepsDoomed (view_of image) o d.1) → IsLoadedBy (store_of image) d.1
   go None h = absurd h
-  go (Some o) h = (alone 2, d.1.node, h.loads)
+  go (Some o) h = (unchained_rule 2, d.1.node, h.loads)
 
-both-loads : (v : Stock) (xs ys : List Loaded) → AllByRecursion (IsLoadedBy v) xs → AllByRecursion (IsLoadedBy v) ys → AllByRecursion (IsLoadedBy v) (xs ++ ys)
+both-loads : (v : StoreView) (xs ys : List Loaded) → AllByRecursion (IsLoadedBy v) xs → AllByRecursion (IsLoadedBy v) ys → AllByRecursion (IsLoadedBy v) (xs ++ ys)
 both-loads v [] ys a b = b
 both-loads v (x ∷ xs) ys a b = (a.0, both-loads v xs ys a.1 b)
 
 pub stood-allocated : StoodForFilesAreAllocated
 stood-allocated image state s n linked =
-    allocated image (kept_by listed (view_of image) ++ map (λ (d : ℕ × Loaded). d.1) s.doomed) n
-    (both-loads (stock_of image) (kept_by listed (view_of image)) (map (λ (d : ℕ × Loaded). d.1) s.doomed) (kept-loads (stock_of image) listed _) (doomed-loads image state s.doomed s.are_doomed.each))
+    allocated image (kept_by listed_rule (view_of image) ++ map (λ (d : ℕ × Loaded). d.1) s.doomed) n
+    (both-loads (store_of image) (kept_by listed_rule (view_of image)) (map (λ (d : ℕ × Loaded). d.1) s.doomed) (kept-loads (store_of image) listed_rule _) (doomed-loads image state s.doomed s.are_doomed.each))
     s.owned linked (s.in_order.counted n linked).num_entries

@@ -1,27 +1,27 @@
 -- Operations on lists at rest.
 use Rattle.std.proofs.Common.{◌≡◌}
 use Rattle.blk_volume.specs.ListPlans.{completion_writes, outcome}
-use Rattle.blk_laws.specs.ListLaws.{InsertsTurnAtTwo, InsertsEnd, RemovalsTurnAtTwo, RemovalsEnd, TouchesTurnAtTwo, TouchesEnd, CompletionsEnd}
+use Rattle.blk_laws.specs.ListLaws.{InsertsCommitAtTwo, InsertsEnd, RemovalsCommitAtTwo, RemovalsEnd, TouchesCommitAtTwo, TouchesEnd, CompletionsEnd}
 use Rattle.blk_laws.proofs.ListWrites.{EachMoment-last, completion_keeps}
-use Rattle.blk_laws.proofs.ListMoments.{insert_turns, insert_ends, remove_turns, remove_ends, touch_turns, touch_ends, completion_ends}
+use Rattle.blk_laws.proofs.ListCompletions.{insert_turns, insert_ends, remove_turns, remove_ends, touch_turns, touch_ends, completion_ends}
 
-pub inserts-turn : InsertsTurnAtTwo
+pub inserts-turn : InsertsCommitAtTwo
 inserts-turn node list nodes can = insert_turns node list nodes can.rest.whole can.rest.idle can.lacks can.good can.few
 
 pub inserts-end : InsertsEnd
 inserts-end node list nodes can = let e = insert_ends node list nodes can.rest.whole can.rest.idle can.lacks can.good can.few in record { whole = e.0; idle = e.1 }
 
-pub removals-turn : RemovalsTurnAtTwo
-removals-turn node list front behind rest = remove_turns node list front behind rest.whole rest.idle
+pub removals-turn : RemovalsCommitAtTwo
+removals-turn node list prefix suffix rest = remove_turns node list prefix suffix rest.whole rest.idle
 
 pub removals-end : RemovalsEnd
-removals-end node list front behind rest = let e = remove_ends node list front behind rest.whole rest.idle in record { whole = e.0; idle = e.1 }
+removals-end node list prefix suffix rest = let e = remove_ends node list prefix suffix rest.whole rest.idle in record { whole = e.0; idle = e.1 }
 
-pub touches-turn : TouchesTurnAtTwo
-touches-turn node list front behind rest = touch_turns node list front behind rest.whole rest.idle
+pub touches-turn : TouchesCommitAtTwo
+touches-turn node list prefix suffix rest = touch_turns node list prefix suffix rest.whole rest.idle
 
 pub touches-end : TouchesEnd
-touches-end node list front behind rest = let e = touch_ends node list front behind rest.whole rest.idle in record { whole = e.0; idle = e.1 }
+touches-end node list prefix suffix rest = let e = touch_ends node list prefix suffix rest.whole rest.idle in record { whole = e.0; idle = e.1 }
 
 pub completions-end : CompletionsEnd
 completions-end list = (EachMoment-last (λ u. outcome u ≡ outcome list) (completion_writes list) list (completion_keeps list), (completion_ends list).1)

@@ -10,20 +10,20 @@ use Rattle.blk_format.specs.Address.{is_address, is_initialized, block_place}
 use Rattle.blk_format.specs.Standing.{stands}
 use Rattle.blk_format.specs.Claims.{has_claim, repeats}
 use Rattle.blk_format.specs.BlockFiles.{max_entries_in}
-use Rattle.blk_format.specs.Maps.{groups_with, groups_of, is_marked, EmptyAgrees}
+use Rattle.blk_format.specs.Maps.{groups_with, groups_of, is_block_marked, EmptyAgrees}
 use Rattle.blk_volume.specs.ListView.{ListView, IsList}
 use Rattle.blk_volume.specs.Walk.{walk}
 use Rattle.blk_volume.specs.Completion.{completed_list, counts, operated}
-use Rattle.blk_volume.specs.View.{View, list_of, checks_at, core_at, stock_of, view_of}
+use Rattle.blk_volume.specs.View.{View, list_of, checks_at, core_at, store_of, view_of}
 use Rattle.blk_volume.specs.Chains.{Chain}
-use Rattle.blk_volume.specs.Loads.{Rule, held, listed, Loaded, claims_of_loaded}
+use Rattle.blk_volume.specs.Loads.{Rule, held_rule, listed_rule, Loaded, claims_of_loaded}
 use Rattle.blk_volume.specs.Audit.{kept_among, dropped_among, kept_by, dropped_by, unlisted, unlisted_in}
 use Rattle.blk_volume.specs.Found.{completed, kept, dropped, found}
 use Rattle.blk_volume.specs.Layout.{Represents}
 use Rattle.blk_volume.specs.Emptiness.{no_layout}
 use Rattle.blk_volume.specs.Sound.{AreOwned, IsInOrder, IsSound}
 use Rattle.blk_volume.specs.StandsFor.{StandsFor, IsAllocated}
-use Rattle.blk_laws.specs.BareLaws.{IsBare, IsBareFile, BareFoldersHoldNothing}
+use Rattle.blk_laws.specs.BareLaws.{HasNoEntries, IsFileWithoutBlocks, FoldersWithoutEntriesHoldNothing}
 use Rattle.blk_laws.proofs.Empty.{no-object, empty-valid, empty-view}
 use Rattle.blk_laws.proofs.Chains.{chain-is}
 use Rattle.blk_laws.proofs.Central.{flat_map-none, walk-order, chain-end}
@@ -34,8 +34,8 @@ pub no-node : (image : Image) → checks_at image 0 ≡ false
 unfolding checks_at stands is_address is_initialized
 no-node image = refl
 
-pub no-record : (image : Image) → (stock_of image).entry 0 ≡ None
-unfolding stock_of core_at stands is_address is_initialized
+pub no-record : (image : Image) → (store_of image).entry 0 ≡ None
+unfolding store_of core_at stands is_address is_initialized
 no-record image = refl
 
 -- with no operation in flight nothing is completed
@@ -52,16 +52,16 @@ idle-list l e =
 any-limits : Bounds
 any-limits = record { max_bytes = 0; max_items = 0 }
 
-module _ (image : Image) (bare : IsBare image) where
+module _ (image : Image) (bare : HasNoEntries image) where
   idle : completed (view_of image) ≡ view_of image
-  idle = λ i. let v : View = record { list = idle-list (list_of image) bare.index.transaction i; stock = stock_of image } in v
+  idle = λ i. let v : View = record { list = idle-list (list_of image) bare.index.transaction i; store = store_of image } in v
 
   list-empty : IsList (list_of image) []
   unfolding list_of
   list-empty = record { head_is = bare.index.head; tail_is = bare.index.tail; linked = tt; distinct = tt; few = omega arith; no_zero = no-node image }
 
   pub represents-empty : (limits : Bounds) → Represents (view_of image) (open_state [] limits) no_layout
-  unfolding stock_of
+  unfolding store_of
   represents-empty limits = empty-view (view_of image) limits (no-record image) bare.index.table list-empty bare.index.transaction
 
   walk-empty : walk (list_of image) ≡ []
@@ -76,8 +76,8 @@ module _ (image : Image) (bare : IsBare image) where
   chain-none b below = record { reached = []; end = 0 }
 
   unlisted-none : unlisted (view_of image) ≡ []
-  unfolding unlisted stock_of
-  unlisted-none = flat_map-none (unlisted_in (view_of image)) 0 65536 (λ b low high. rw (chain-is (stock_of image) b [] (no-record image) (record { linked = bare.index.table b high; once = tt })) refl)
+  unfolding unlisted store_of
+  unlisted-none = flat_map-none (unlisted_in (view_of image)) 0 65536 (λ b low high. rw (chain-is (store_of image) b [] (no-record image) (record { linked = bare.index.table b high; once = tt })) refl)
 
   dropped-none : (rule : Rule) → dropped_by rule (view_of image) ≡ []
   unfolding dropped_among
@@ -85,17 +85,17 @@ module _ (image : Image) (bare : IsBare image) where
 
   found-none : kept image ≡ []
   unfolding kept
-  found-none = ap (kept_by held) idle ∙ kept-none held
+  found-none = ap (kept_by held_rule) idle ∙ kept-none held_rule
 
   none-dropped : dropped image ≡ []
   unfolding dropped
-  none-dropped = ap (dropped_by held) idle ∙ dropped-none held
+  none-dropped = ap (dropped_by held_rule) idle ∙ dropped-none held_rule
 
   owned : AreOwned image []
   unfolding has_claim repeats
   owned = record { one_owner = refl; maps = λ n b linked below. (bare.blocks n linked).map b below; only_claimed = bare.no_externals }
 
-  no-groups : (n i : ℕ) → max_entries_in image n ≡ 0 → groups_with (is_marked image n) (groups_of (max_entries_in image n)) (i + 1) ≡ 0
+  no-groups : (n i : ℕ) → max_entries_in image n ≡ 0 → groups_with (is_block_marked image n) (groups_of (max_entries_in image n)) (i + 1) ≡ 0
   unfolding groups_with
   no-groups n i none = rw none refl
 
@@ -103,8 +103,8 @@ module _ (image : Image) (bare : IsBare image) where
   unfolding EmptyAgrees block_place list_of
   in-order = record {
     only_linked = bare.only_linked;
-    long_enough = λ n kind linked. let f : IsBareFile image n = bare.blocks n (rw linked refl) in rw f.max_entries (omega (arith, f.long_enough));
-    counted = λ n linked. let f : IsBareFile image n = bare.blocks n linked in
+    long_enough = λ n kind linked. let f : IsFileWithoutBlocks image n = bare.blocks n (rw linked refl) in rw f.max_entries (omega (arith, f.long_enough));
+    counted = λ n linked. let f : IsFileWithoutBlocks image n = bare.blocks n linked in
         record { num_entries = f.allocations; empty = λ i small. f.empty i small ∙ sym (no-groups n i f.max_entries); updating = f.updating };
     index = record { tail = bare.index.tail; sizes = bare.index.sizes; num_entries = bare.index.num_entries; num_bytes = bare.index.num_bytes };
     sealed = tt;
@@ -115,7 +115,7 @@ module _ (image : Image) (bare : IsBare image) where
     well_formed = bare.well_formed;
     transaction = bare.index.transaction;
     list_end = inl (walk-empty, bare.index.head, bare.index.tail);
-    chain_ends = chain-end (stock_of image) (open_state [] any-limits) no_layout (represents-empty any-limits).holds (empty-valid any-limits);
+    chain_ends = chain-end (store_of image) (open_state [] any-limits) no_layout (represents-empty any-limits).holds (empty-valid any-limits);
     nothing_dropped = none-dropped;
     owned = subst (λ (ls : List Loaded). AreOwned image (claims_of_loaded ls)) (sym found-none) owned;
     in_order = subst (λ (ls : List Loaded). IsInOrder image ls []) (sym found-none) in-order;
@@ -133,9 +133,9 @@ module _ (image : Image) (bare : IsBare image) where
 
   pub bare-stands : (limits : Bounds) → StandsFor image (open_state [] limits)
   bare-stands limits = stands-for image (open_state [] limits) no_layout (represents-empty limits) (empty-valid limits) [] (allocated limits) bare.well_formed
-      (subst (λ (ls : List Loaded). IsInOrder image ls []) (sym (kept-none listed)) in-order)
+      (subst (λ (ls : List Loaded). IsInOrder image ls []) (sym (kept-none listed_rule)) in-order)
 
-pub bare-found : BareFoldersHoldNothing
+pub bare-found : FoldersWithoutEntriesHoldNothing
 unfolding found
 bare-found image bare = rw (found-none image bare) (either (unfinished image)) where
   either : (b : Bool) → ◌≡◌ {A = List Row} (if b then [] else []) []

@@ -4,7 +4,7 @@ use Rattle.std.specs.Prelude.{if◌then◌else◌, not, ◌==◌, nat_le}
 use Rattle.std.proofs.lemmas.Bool.{eq-eqb}
 use Rattle.std.proofs.lemmas.Bool.Decides.{nat_tests}
 use Rattle.blk_image.specs.Bytes.{word_at, words_at}
-use Rattle.blk_format.specs.Address.{kind_of, block_count, room, external, block_size}
+use Rattle.blk_format.specs.Address.{kind_of, block_count, byte_size, external, block_size}
 use Rattle.blk_format.specs.Storage.{is_storage, kind_for, blocks_for}
 use Rattle.blk_format.specs.Records.{node_in, entry_in}
 use Rattle.blk_image.proofs.Words.{SameFrom, same-word}
@@ -64,8 +64,8 @@ same_under true x y z same = same refl
 same_under false x y z same = refl
 
 -- the bytes of the blocks of a type
-pub room_is : (w type : ℕ) → kind_of w ≡ type → room w ≡ block_count w * block_size type
-unfolding room
+pub room_is : (w type : ℕ) → kind_of w ≡ type → byte_size w ≡ block_count w * block_size type
+unfolding byte_size
 room_is w type e = ap (λ (t : ℕ). block_count w * block_size t) e
 
 -- data fits into its blocks
@@ -86,8 +86,8 @@ unfolding is_storage
 storage_facts size w h apart = grind (arith, nat_tests)
 
 -- the bytes of data lie inside its blocks
-pub storage_inside : (size w : ℕ) → is_storage size w ≡ true → kind_of w ≢ external → size ≤ room w
-unfolding room
+pub storage_inside : (size w : ℕ) → is_storage size w ≡ true → kind_of w ≢ external → size ≤ byte_size w
+unfolding byte_size
 storage_inside size w h apart =
     ⊎_elim (λ (e : size ≡ 0). omega arith)
     (λ (e : (kind_of w ≡ kind_for size) × (block_count w ≡ blocks_for size)).

@@ -10,17 +10,19 @@ use Rattle.blk_image.specs.Image.{Index, Block, External, Image, byte, length_of
 use Rattle.blk_image.specs.Footprint as files
 use Rattle.blk_image.proofs.Words.{SameFrom, same-range}
 use Rattle.blk_image.proofs.Footprints.{same_file_outside}
-use Rattle.blk_format.specs.Address.{is_initialized, is_address, kind_of, block_count, file_selector, first_block, external_number, place, room, block_place, block_size, external, rankings, blocks_256}
+use Rattle.blk_format.specs.Address.{is_initialized, is_address, kind_of, block_count, file_selector, first_block, external_number, place, byte_size, block_place, block_size, external, rankings, blocks_256}
 use Rattle.blk_format.specs.Storage.{is_storage, entry_blocks}
 use Rattle.blk_format.specs.Standing.{is_linked_as, stands, stands_as_blocks}
 use Rattle.blk_format.specs.Records.{Node, Entry, node_checks}
-use Rattle.blk_format.specs.BlockFiles.{linked, files_along, next_file_in, max_entries_in, type_among, linked_as, stands_in, stands_in_blocks}
+use Rattle.blk_format.specs.BlockFiles.{linked, files_along, next_file_in, max_entries_in, kind_among, linked_as, stands_in, stands_in_blocks}
 use Rattle.blk_format.specs.Claims.{Claim, BlockOf, ExternalOf, same_claim, claims_of, has_claim}
-use Rattle.blk_volume.specs.View.{stands_as, block_bytes, node_at, entry_at, Named, Core, core_of, checks_at, next_at, prev_at, list_of, named_at, core_at, follow_at, key_place_at, stored_at, stock_of, view_of}
+use Rattle.blk_volume.specs.View.{stands_as, block_bytes, node_at, entry_at, NodeFields, RecordFields, fields_of, checks_at, next_at, prev_at, list_of, node_fields_at, core_at, follow_at, key_place_at, stored_at, store_of, view_of}
 use Rattle.blk_volume.specs.Entries.{is_key_length, longest_key}
-use Rattle.blk_volume.specs.Footprint.{IsClear, SameStock, SameLinks, SameBut, Covers, is_shown_place, is_extent_place}
+use Rattle.blk_volume.specs.Footprint.{IsClear, SameStore, SameLinks, SameBut, Covers, is_there, AgreeBut, is_past}
+use Rattle.blk_format.specs.Headers.{is_shown_place, is_extent_place}
 use Rattle.blk_volume.specs.Sound.{AreLongEnough}
-use Rattle.blk_laws.specs.ByteLaws.{is_there, BlocksStandByTheirLast, AgreeBut, HaveGrown, is_past}
+use Rattle.blk_laws.specs.ByteLaws.{BlocksStandByTheirLast}
+use Rattle.blk_format.specs.Growth.{HaveGrown}
 use Rattle.blk_laws.proofs.Laid.{same_claim-self}
 use Rattle.blk_laws.proofs.ClaimLists.{claim-head, some-blocks}
 use Rattle.blk_laws.proofs.BlockBytes.{part_of, same-node_in, same-entry_in, same_under, same_else, room_is, storage_inside, not_false, not_same}
@@ -68,10 +70,10 @@ and_under false x z f = refl
 
 -- the block of a size in which a place behind the header lies
 block-at : (size k : ℕ) → (size ≡ 36) ⊎ (size ≡ 256) ⊎ (size ≡ 1024) ⊎ (size ≡ 4096) → 8192 ≤ k → (8192 + (k - 8192) / size * size ≤ k) × (k < 8192 + ((k - 8192) / size + 1) * size)
-block-at size k (inl e) behind = rw e (omega arith, omega arith)
-block-at size k (inr (inl e)) behind = rw e (omega arith, omega arith)
-block-at size k (inr (inr (inl e))) behind = rw e (omega arith, omega arith)
-block-at size k (inr (inr (inr e))) behind = rw e (omega arith, omega arith)
+block-at size k (inl e) suffix = rw e (omega arith, omega arith)
+block-at size k (inr (inl e)) suffix = rw e (omega arith, omega arith)
+block-at size k (inr (inr (inl e))) suffix = rw e (omega arith, omega arith)
+block-at size k (inr (inr (inr e))) suffix = rw e (omega arith, omega arith)
 
 block-within : (size k first count : ℕ) → (size ≡ 36) ⊎ (size ≡ 256) ⊎ (size ≡ 1024) ⊎ (size ≡ 4096) → 8192 + first * size ≤ k → k < 8192 + first * size + count * size → (first ≤ (k - 8192) / size) × ((k - 8192) / size < first + count)
 block-within size k first count (inl e) low high = let l : 8192 + first * 36 ≤ k = rw e at low in let h : k < 8192 + first * 36 + count * 36 = rw e at high in rw e (omega arith, omega arith)
@@ -100,16 +102,16 @@ key_inside : (n b : ℕ) → n ≤ 927 → (b == entry_blocks n) ≡ true → 96
 unfolding entry_blocks
 key_inside n b short count = short_key n b short (cases_lt n 160) (eqb-true b _ count)
 
-key_blocks : (w : ℕ) (e : Core) → is_key_length w e ≡ true → (block_count w == entry_blocks e.key_len) ≡ true
+key_blocks : (w : ℕ) (e : RecordFields) → is_key_length w e ≡ true → (block_count w == entry_blocks e.key_len) ≡ true
 unfolding is_key_length
 key_blocks w e h = (and_parts (nat_le 1 e.key_len && nat_le e.key_len (longest_key e)) (block_count w == entry_blocks e.key_len) h).1
 
 -- what names a record stands
-record_stands : (image : Image) (w : ℕ) (e : Core) → core_at image w ≡ Some e → stands_as image blocks_256 w ≡ true
+record_stands : (image : Image) (w : ℕ) (e : RecordFields) → core_at image w ≡ Some e → stands_as image blocks_256 w ≡ true
 unfolding core_at
 record_stands image w e is = ⊎_elim
     (λ (s : stands_as image blocks_256 w ≡ true). s)
-    (λ (s : stands_as image blocks_256 w ≡ false). let none : ◌≡◌ {A = Option Core} None (Some e) = rw s at is in absurd (cc))
+    (λ (s : stands_as image blocks_256 w ≡ false). let none : ◌≡◌ {A = Option RecordFields} None (Some e) = rw s at is in absurd (cc))
     (cases_Bool (stands_as image blocks_256 w))
 
 -- a file is linked as the type of a standing address of blocks
@@ -137,7 +139,7 @@ module _ (image : Image) (w : ℕ) (st : stands_in image w ≡ true) where
   stands-linked apart = linked-some (linked_as image (file_selector w)) (kind_of w) (and_parts (is_linked_as (linked_as image (file_selector w)) (kind_of w)) _ (and_parts (is_linked_as (linked_as image (file_selector w)) (kind_of w) && nat_le (first_block w + block_count w) (max_entries_in image (file_selector w))) _ (stands-blocks apart)).0).0
 
 -- where the bytes of a standing address end
-ends-at : (w : ℕ) → place w + room w ≡ block_place (kind_of w) (first_block w + block_count w)
+ends-at : (w : ℕ) → place w + byte_size w ≡ block_place (kind_of w) (first_block w + block_count w)
 unfolding place block_place
 ends-at w = ap (λ (r : ℕ). 8192 + first_block w * block_size (kind_of w) + r) (room_is w (kind_of w) refl) ∙ spread (block_size (kind_of w)) (first_block w) (block_count w) (size-is (kind_of w)) where
   spread : (size first count : ℕ) → (size ≡ 36) ⊎ (size ≡ 256) ⊎ (size ≡ 1024) ⊎ (size ≡ 4096) → 8192 + first * size + count * size ≡ 8192 + (first + count) * size
@@ -166,9 +168,9 @@ all-there image w b st below =
     let p = and_parts (is_linked_as (linked_as image (file_selector w)) (kind_of w) && nat_le (first_block w + block_count w) (max_entries_in image (file_selector w))) _ st in
     let q = and_parts (is_linked_as (linked_as image (file_selector w)) (kind_of w)) (nat_le (first_block w + block_count w) (max_entries_in image (file_selector w))) p.0 in
     let most : first_block w + block_count w ≤ max_entries_in image (file_selector w) = leb-true _ _ q.1 in
-    let ends : place w + room w ≤ length_of image (Block (file_selector w)) = leb-true _ _ p.1 in
+    let ends : place w + byte_size w ≤ length_of image (Block (file_selector w)) = leb-true _ _ p.1 in
     let rises : block_place (kind_of w) (b + 1) ≤ block_place (kind_of w) (first_block w + block_count w) = places-rise (kind_of w) (b + 1) (first_block w + block_count w) (omega arith) in
-    let ends_at : place w + room w ≡ block_place (kind_of w) (first_block w + block_count w) = ends-at w in
+    let ends_at : place w + byte_size w ≡ block_place (kind_of w) (first_block w + block_count w) = ends-at w in
     both_true (both_true q.0 (le-leb (b + 1) (max_entries_in image (file_selector w)) (omega arith))) (le-leb (block_place (kind_of w) (b + 1)) (length_of image (Block (file_selector w))) (omega arith))
 
 module _ (touched : Claim → Bool) (old new : Image) (same : AgreeBut touched old new) where
@@ -191,13 +193,13 @@ module _ (touched : Claim → Bool) (old new : Image) (same : AgreeBut touched o
   stands_as-same kind w clear = ap (λ (b : Bool). b && (kind_of w == kind)) (stands-same w clear)
 
   -- the bytes of its blocks are the same
-  blocks-same : (w : ℕ) → stands_in old w ≡ true → kind_of w ≢ external → IsClear touched w → SameFrom (place w) (room w) (block_bytes old w) (block_bytes new w)
-  unfolding place room block_place
+  blocks-same : (w : ℕ) → stands_in old w ≡ true → kind_of w ≢ external → IsClear touched w → SameFrom (place w) (byte_size w) (block_bytes old w) (block_bytes new w)
+  unfolding place byte_size block_place
   blocks-same w st apart clear k low high =
       let size : ℕ = block_size (kind_of w) in
       let b : ℕ = (k - 8192) / block_size (kind_of w) in
-      let behind : 8192 ≤ k = omega (arith, low) in
-      let at = block-at (block_size (kind_of w)) k (size-is (kind_of w)) behind in
+      let suffix : 8192 ≤ k = omega (arith, low) in
+      let at = block-at (block_size (kind_of w)) k (size-is (kind_of w)) suffix in
       let within = block-within (block_size (kind_of w)) k (first_block w) (block_count w) (size-is (kind_of w)) low high in
       let free : touched (BlockOf (file_selector w) b) ≡ false = clear (BlockOf (file_selector w) b) (block-claim w b (stands-some old w st) apart within.0 within.1) in
       sym (same.bytes (file_selector w) (kind_of w) b k free (all-there old w b (stands-blocks old w st apart) within.1) at.0 at.1)
@@ -205,10 +207,10 @@ module _ (touched : Claim → Bool) (old new : Image) (same : AgreeBut touched o
   standing : (kind w : ℕ) → stands_as old kind w ≡ true → (stands_in old w ≡ true) × (kind_of w ≡ kind)
   standing kind w e = let p = and_parts (stands_in old w) (kind_of w == kind) e in (p.0, eqb-true (kind_of w) kind p.1)
 
-  room-for : (kind w n : ℕ) → stands_as old kind w ≡ true → n ≤ block_size kind → n ≤ room w
+  room-for : (kind w n : ℕ) → stands_as old kind w ≡ true → n ≤ block_size kind → n ≤ byte_size w
   room-for kind w n e fits =
       let s = standing kind w e in
-      let r : room w ≡ block_count w * block_size kind = room_is w kind s.1 in
+      let r : byte_size w ≡ block_count w * block_size kind = room_is w kind s.1 in
       let k : 0 < block_count w = some-blocks w in
       let p : block_size kind * 1 ≤ block_size kind * block_count w = mul-le-mul_left (block_size kind) k in omega arith
 
@@ -230,14 +232,14 @@ module _ (touched : Claim → Bool) (old new : Image) (same : AgreeBut touched o
   node-same : (w : ℕ) → stands_as old rankings w ≡ true → IsClear touched w → node_at new w ≡ node_at old w
   node-same w e clear =
       let s = standing rankings w e in
-      sym (same-node_in (place w) (block_bytes old w) (block_bytes new w) (part_of (place w) (room w) (place w) 36 (block_bytes old w) (block_bytes new w) (blocks-same w s.0 (λ x. node_apart (sym s.1 ∙ x)) clear) (omega arith)
-      (let b : 36 ≤ room w = room-for rankings w 36 e (omega (arith, node-size)) in omega arith)))
+      sym (same-node_in (place w) (block_bytes old w) (block_bytes new w) (part_of (place w) (byte_size w) (place w) 36 (block_bytes old w) (block_bytes new w) (blocks-same w s.0 (λ x. node_apart (sym s.1 ∙ x)) clear) (omega arith)
+      (let b : 36 ≤ byte_size w = room-for rankings w 36 e (omega (arith, node-size)) in omega arith)))
 
   entry-same : (w : ℕ) → stands_as old blocks_256 w ≡ true → IsClear touched w → entry_at new w ≡ entry_at old w
   entry-same w e clear =
       let s = standing blocks_256 w e in
-      sym (same-entry_in (place w) (block_bytes old w) (block_bytes new w) (part_of (place w) (room w) (place w) 96 (block_bytes old w) (block_bytes new w) (blocks-same w s.0 (λ x. entry_apart (sym s.1 ∙ x)) clear) (omega arith)
-      (let b : 96 ≤ room w = room-for blocks_256 w 96 e (omega (arith, entry-size)) in omega arith)))
+      sym (same-entry_in (place w) (block_bytes old w) (block_bytes new w) (part_of (place w) (byte_size w) (place w) 96 (block_bytes old w) (block_bytes new w) (blocks-same w s.0 (λ x. entry_apart (sym s.1 ∙ x)) clear) (omega arith)
+      (let b : 96 ≤ byte_size w = room-for blocks_256 w 96 e (omega (arith, entry-size)) in omega arith)))
 
   -- the words of the index that are shown
   index-byte : (i : ℕ) → is_shown_place i ≡ true → byte old Index i ≡ byte new Index i
@@ -247,7 +249,7 @@ module _ (touched : Claim → Bool) (old new : Image) (same : AgreeBut touched o
   index-word i a b c d = λ k. index-byte i a k + 256 * index-byte (i + 1) b k + 65536 * index-byte (i + 2) c k + 16777216 * index-byte (i + 3) d k
 
   table-shown : (i : ℕ) → 368 ≤ i → is_shown_place i ≡ true
-  table-shown i behind = or_right _ (nat_le 368 i) (le-leb 368 i behind)
+  table-shown i suffix = or_right _ (nat_le 368 i) (le-leb 368 i suffix)
 
   pub agreeing-list : SameLinks touched (list_of old) (list_of new)
   unfolding list_of checks_at next_at prev_at
@@ -260,16 +262,16 @@ module _ (touched : Claim → Bool) (old new : Image) (same : AgreeBut touched o
     prev = λ w clear. rw (stands_as-same rankings w clear) (same_under (stands_as old rankings w) _ _ _ (λ e. ap (λ (n : Node). n.prev) (sym (node-same w e clear))));
   }
 
-  key-place-same : (w : ℕ) (e : Core) → IsClear touched w → core_at old w ≡ Some e → is_key_length w e ≡ true → nat_le e.key_len 927 ≡ true
+  key-place-same : (w : ℕ) (e : RecordFields) → IsClear touched w → core_at old w ≡ Some e → is_key_length w e ≡ true → nat_le e.key_len 927 ≡ true
       → key_place_at old w e.key_len ≡ key_place_at new w e.key_len
   unfolding key_place_at
   key-place-same w e clear is long short =
       let st : stands_as old blocks_256 w ≡ true = record_stands old w e is in
       let s = standing blocks_256 w st in
-      let r : room w ≡ block_count w * block_size blocks_256 = room_is w blocks_256 s.1 in
+      let r : byte_size w ≡ block_count w * block_size blocks_256 = room_is w blocks_256 s.1 in
       let fits : 96 + e.key_len ≤ block_count w * 256 = key_inside e.key_len (block_count w) (leb-true e.key_len 927 short) (key_blocks w e long) in
-      let inside : 96 + e.key_len ≤ room w = subst (λ (x : ℕ). 96 + e.key_len ≤ x) (sym (r ∙ ap (λ (x : ℕ). block_count w * x) entry-size)) fits in
-      same-range e.key_len (place w + 96) (block_bytes old w) (block_bytes new w) (part_of (place w) (room w) (place w + 96) e.key_len (block_bytes old w) (block_bytes new w) (blocks-same w s.0 (λ x. entry_apart (sym s.1 ∙ x)) clear) (omega arith) (omega arith))
+      let inside : 96 + e.key_len ≤ byte_size w = subst (λ (x : ℕ). 96 + e.key_len ≤ x) (sym (r ∙ ap (λ (x : ℕ). block_count w * x) entry-size)) fits in
+      same-range e.key_len (place w + 96) (block_bytes old w) (block_bytes new w) (part_of (place w) (byte_size w) (place w + 96) e.key_len (block_bytes old w) (block_bytes new w) (blocks-same w s.0 (λ x. entry_apart (sym s.1 ∙ x)) clear) (omega arith) (omega arith))
 
   stored-same : (size w : ℕ) → IsClear touched w → stored_at old size w ≡ stored_at new size w
   unfolding stored_at
@@ -279,25 +281,25 @@ module _ (touched : Claim → Bool) (old new : Image) (same : AgreeBut touched o
       (λ (e : (kind_of w == external) ≡ true). rw (e, external-of w (stands-address old w (not_false (stands_in old w) st)) (eqb-true (kind_of w) external e) clear) refl)
       (λ (e : (kind_of w == external) ≡ false). rw e (
       let apart : kind_of w ≢ external = not_same (kind_of w) external e in
-      let inside : size ≤ room w = storage_inside size w (not_false (is_storage size w) is) apart in
-      ap Some (same-range size (place w) (block_bytes old w) (block_bytes new w) (part_of (place w) (room w) (place w) size _ _ (blocks-same w (not_false (stands_in old w) st) apart clear) (omega arith) (omega arith)))))
+      let inside : size ≤ byte_size w = storage_inside size w (not_false (is_storage size w) is) apart in
+      ap Some (same-range size (place w) (block_bytes old w) (block_bytes new w) (part_of (place w) (byte_size w) (place w) size _ _ (blocks-same w (not_false (stands_in old w) st) apart clear) (omega arith) (omega arith)))))
       (cases_Bool (kind_of w == external))))))
 
-  stock-same : SameStock touched (stock_of old) (stock_of new)
-  unfolding stock_of named_at core_at follow_at
+  stock-same : SameStore touched (store_of old) (store_of new)
+  unfolding store_of node_fields_at core_at follow_at
   stock-same = record {
-    named = λ w clear. rw (stands_as-same rankings w clear) (same_under (stands_as old rankings w) _ _ _ (λ e. ap (λ (n : Node). let said : Named = record { contents = n.contents; dirty = n.dirty } in Some said) (sym (node-same w e clear))));
-    entry = λ w clear. rw (stands_as-same blocks_256 w clear) (same_under (stands_as old blocks_256 w) _ _ _ (λ e. ap (λ (n : Entry). Some (core_of n)) (sym (entry-same w e clear))));
-    follow = λ w clear. rw (stands_as-same blocks_256 w clear) (same_under (stands_as old blocks_256 w) _ _ _ (λ e. ap (λ (n : Entry). n.next) (sym (entry-same w e clear))));
+    node_fields = λ w clear. rw (stands_as-same rankings w clear) (same_under (stands_as old rankings w) _ _ _ (λ e. ap (λ (n : Node). let said : NodeFields = record { contents = n.contents; dirty = n.dirty } in Some said) (sym (node-same w e clear))));
+    entry = λ w clear. rw (stands_as-same blocks_256 w clear) (same_under (stands_as old blocks_256 w) _ _ _ (λ e. ap (λ (n : Entry). Some (fields_of n)) (sym (entry-same w e clear))));
+    chain_next = λ w clear. rw (stands_as-same blocks_256 w clear) (same_under (stands_as old blocks_256 w) _ _ _ (λ e. ap (λ (n : Entry). n.next) (sym (entry-same w e clear))));
     key_place = key-place-same;
     stored = stored-same;
   }
 
   pub agreeing-views : SameBut touched (view_of old) (view_of new)
-  unfolding stock_of
+  unfolding store_of
   agreeing-views = record {
     links = agreeing-list;
-    stock = stock-same;
+    store = stock-same;
     table = λ b. index-word (368 + 4 * b) (table-shown (368 + 4 * b) (omega arith)) (table-shown (368 + 4 * b + 1) (omega arith)) (table-shown (368 + 4 * b + 2) (omega arith)) (table-shown (368 + 4 * b + 3) (omega arith));
   }
 
@@ -319,7 +321,7 @@ module _ (F : files.Footprint) (old new : Image) (touched : Claim → Bool) (sam
   linked-same = λ k kind. files_along (next-same k) 59 (kind - 1)
 
   linked_as-same : linked_as new ≡ linked_as old
-  linked_as-same = λ k n. type_among (linked-same k) n
+  linked_as-same = λ k n. kind_among (linked-same k) n
 
   lengths-same : ◌≡◌ {A = ℕ → ℕ} (λ n. length_of new (Block n)) (λ n. length_of old (Block n))
   lengths-same = λ k n. same.lengths (Block n) (covers.lengths n) k
@@ -339,7 +341,7 @@ module _ (F : files.Footprint) (old new : Image) (touched : Claim → Bool) (sam
   unfolding stands stands_as_blocks
   stands-if_clear w clear = and_under (is_address w) _ _ (λ address. ⊎_elim
       (λ (e : (kind_of w == external) ≡ true). rw e (ap (λ (f : Option (List ℕ)). is_some f) (external_file-same w address (eqb-true (kind_of w) external e) (clear (eqb-true (kind_of w) external e)))))
-      (λ (e : (kind_of w == external) ≡ false). rw e (rw (linked_as-same, count-same) (ap (λ (f : ℕ → ℕ). is_linked_as (linked_as old (file_selector w)) (kind_of w) && nat_le (first_block w + block_count w) (max_entries_in old (file_selector w)) && nat_le (place w + room w) (f (file_selector w))) lengths-same)))
+      (λ (e : (kind_of w == external) ≡ false). rw e (rw (linked_as-same, count-same) (ap (λ (f : ℕ → ℕ). is_linked_as (linked_as old (file_selector w)) (kind_of w) && nat_le (first_block w + block_count w) (max_entries_in old (file_selector w)) && nat_le (place w + byte_size w) (f (file_selector w))) lengths-same)))
       (cases_Bool (kind_of w == external)))
 
   -- the two images agree but there
@@ -378,7 +380,7 @@ block-there image n kind b long linked below =
 
 pub same-links : (old new : Image) → ((n : ℕ) → next_file_in new n ≡ next_file_in old n) → (n : ℕ) → linked_as new n ≡ linked_as old n
 unfolding linked
-same-links old new same n = λ k. type_among (λ kind. files_along (λ m. same m k) 59 (kind - 1)) n
+same-links old new same n = λ k. kind_among (λ kind. files_along (λ m. same m k) 59 (kind - 1)) n
 
 module _ (old new : Image) (long : AreLongEnough old) (grown : HaveGrown old new) where
   grown-there : (n kind b : ℕ) → is_past old (BlockOf n b) ≡ false → is_there new n kind b ≡ is_there old n kind b

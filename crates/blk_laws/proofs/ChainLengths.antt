@@ -6,9 +6,9 @@ use Rattle.std.proofs.lemmas.Bool.{or_cases, or_left, or_right, eq-eqb, eqb-true
 use Rattle.std.proofs.lemmas.List.{length-map}
 use Rattle.blk_image.specs.Image.{Image}
 use Rattle.blk_format.specs.Address.{kind_of, file_selector, external, rankings, blocks_256}
-use Rattle.blk_format.specs.BlockFiles.{is_among, linked, linked_as, next_file_in, type_among}
+use Rattle.blk_format.specs.BlockFiles.{is_among, linked, linked_as, next_file_in, kind_among}
 use Rattle.blk_format.proofs.Keeping.{first_along}
-use Rattle.blk_volume.specs.View.{Core, stands_as, stock_of}
+use Rattle.blk_volume.specs.View.{RecordFields, stands_as, store_of}
 use Rattle.blk_volume.specs.Chains.{bucket_of_hash, file_and_block, Linked}
 use Rattle.blk_laws.specs.ListLaws.{RecordsOfImagesAreFew, ChainsOfImagesAreShort}
 use Rattle.blk_laws.proofs.ByteChanges.{stands-linked}
@@ -17,7 +17,7 @@ use Rattle.blk_laws.proofs.ChainSizes.{at-most, below-all}
 
 -- the file 0 is linked as one of nodes
 nodes-first : (image : Image) → linked_as image 0 ≡ Some rankings
-unfolding type_among linked
+unfolding kind_among linked
 nodes-first image = rw (first_along (next_file_in image) 59 0) refl
 
 -- so no record is in it
@@ -45,15 +45,15 @@ records-few image words stands once =
       below x h = ⊎_elim (λ (e : (0 == x) ≡ true). let is : 0 ≡ x = eqb-true 0 x e in omega (arith, is)) (λ (e : is_among (map file_and_block words) x ≡ true). below-all words x e) (or_cases (0 == x) (is_among (map file_and_block words) x) h)
 
 -- each record of a chain stands
-pub all-stand : (image : Image) (b w : ℕ) (words : List ℕ) → Linked (stock_of image) b w words → (x : ℕ) → is_among words x ≡ true → stands_as image blocks_256 x ≡ true
+pub all-stand : (image : Image) (b w : ℕ) (words : List ℕ) → Linked (store_of image) b w words → (x : ℕ) → is_among words x ≡ true → stands_as image blocks_256 x ≡ true
 all-stand image b w [] linked x among = cc
 all-stand image b w (y ∷ words) linked x among = ⊎_elim
-    (λ (e : (y == x) ≡ true). subst (λ (z : ℕ). stands_as image blocks_256 z ≡ true) (eqb-true y x e) (by ((stock_of image).entry y) refl linked.1))
-    (λ (e : is_among words x ≡ true). all-stand image b ((stock_of image).follow y) words linked.2 x e)
+    (λ (e : (y == x) ≡ true). subst (λ (z : ℕ). stands_as image blocks_256 z ≡ true) (eqb-true y x e) (by ((store_of image).entry y) refl linked.1))
+    (λ (e : is_among words x ≡ true). all-stand image b ((store_of image).chain_next y) words linked.2 x e)
     (or_cases (y == x) (is_among words x) among) where
-      by : (o : Option Core) → (stock_of image).entry y ≡ o → option_map_or (λ core. core.checks && (bucket_of_hash core.hash == b)) o false ≡ true → stands_as image blocks_256 y ≡ true
+      by : (o : Option RecordFields) → (store_of image).entry y ≡ o → option_map_or (λ fields. fields.checks && (bucket_of_hash fields.hash == b)) o false ≡ true → stands_as image blocks_256 y ≡ true
       by None e h = cc
-      by (Some core) e h = core-standing image y core e
+      by (Some fields) e h = core-standing image y fields e
 
 pub image-chains-short : ChainsOfImagesAreShort
-image-chains-short image b words is = records-few image words (all-stand image b ((stock_of image).table b) words is.linked) is.once
+image-chains-short image b words is = records-few image words (all-stand image b ((store_of image).table b) words is.linked) is.once

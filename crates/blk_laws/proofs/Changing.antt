@@ -17,7 +17,7 @@ use Rattle.blk_volume.specs.Chains.{bucket_of_hash}
 use Rattle.blk_volume.specs.Loads.{Loaded, all_claims}
 use Rattle.blk_volume.specs.Audit.{is_parent_of}
 use Rattle.blk_volume.specs.Found.{row_of}
-use Rattle.blk_volume.specs.Layout.{Layout, is_listed, order, IsMarked, HasParentAt, IsPartAt, IsLaid, IsDoomedAt, IsListedRecord, Lies, OneChanged, changed_at, IsChange}
+use Rattle.blk_volume.specs.Layout.{Layout, is_listed, order, HasDirtyMark, HasParentAt, IsPartAt, IsPlacedAt, IsDoomedAt, IsListedRecord, IsLayoutOf, OneChanged, changed_at, IsChange}
 use Rattle.blk_laws.proofs.Laid.{item-row, is_among-node}
 
 pub apart-sym : (a b : ℕ) → (a == b) ≡ false → (b == a) ≡ false
@@ -32,9 +32,9 @@ unfolding put
 at-elsewhere f a x w e = rw (apart-sym a w e) refl
 
 -- two listed items with one place are one
-pub same-place : (m : State) (y : Layout) (r : Lies m y) (i j : Item) → is_listed m i ≡ true → is_listed m j ≡ true → y.place i ≡ y.place j → i ≡ j
+pub same-place : (m : State) (y : Layout) (r : IsLayoutOf m y) (i j : Item) → is_listed m i ≡ true → is_listed m j ≡ true → y.place i ≡ y.place j → i ≡ j
 same-place m y r i j here there e =
-    let a : IsLaid m y i = r.laid i here in let b : IsLaid m y j = r.laid j there in
+    let a : IsPlacedAt m y i = r.laid i here in let b : IsPlacedAt m y j = r.laid j there in
     let same : a.loaded ≡ b.loaded = let p : y.at (y.place i) ≡ Some a.loaded = a.here in let q : y.at (y.place j) ≡ Some b.loaded = b.here in let s : y.at (y.place i) ≡ y.at (y.place j) = ap y.at e in cc in
     sym (item-row m i (row_of a.loaded) a.row) ∙ ap (λ (x : Loaded). item_of (row_of x)) same ∙ item-row m j (row_of b.loaded) b.row
 
@@ -44,7 +44,7 @@ mark-same None o clean e p = tt
 mark-same (Some x) None clean e p = cc
 mark-same (Some x) (Some z) clean e p = let s : x.settled ≡ z.settled = cc in p ∙ sym s
 
-module _ (m : State) (objects : List (Option Object)) (y : Layout) (i : Item) (l k : Loaded) (owner : Claim → Option ℕ) (r : Lies m y) (one : OneChanged m objects i)
+module _ (m : State) (objects : List (Option Object)) (y : Layout) (i : Item) (l k : Loaded) (owner : Claim → Option ℕ) (r : IsLayoutOf m y) (one : OneChanged m objects i)
     (listed : is_listed m i ≡ true) (here : y.at (y.place i) ≡ Some l) (ch : IsChange m objects y i l k owner) where
   w0 : ℕ
   w0 = y.place i
@@ -76,15 +76,15 @@ module _ (m : State) (objects : List (Option Object)) (y : Layout) (i : Item) (l
   parent-next (main key) x p = p
   parent-next (part key n) x p = part-next key x p
 
-  mark-next : (j : Item) (x : Loaded) → same_item j i ≡ false → IsMarked m j x → IsMarked (record m { objects = objects }) j x
+  mark-next : (j : Item) (x : Loaded) → same_item j i ≡ false → HasDirtyMark m j x → HasDirtyMark (record m { objects = objects }) j x
   mark-next (main key) x e p = mark-same (owner_object (record m { objects = objects }) (main key)) (owner_object m (main key)) (x.dirty == 0) (one.settled key e) p
   mark-next (part key n) x e p = p
 
-  laid-next : (j : Item) → is_listed m j ≡ true → IsLaid (record m { objects = objects }) (changed_at y (y.place i) k owner) j
+  laid-next : (j : Item) → is_listed m j ≡ true → IsPlacedAt (record m { objects = objects }) (changed_at y (y.place i) k owner) j
   laid-next j there =
-      let a : IsLaid m y j = r.laid j there in
+      let a : IsPlacedAt m y j = r.laid j there in
       ⊎_elim
-      (λ (e : same_item j i ≡ true). subst (λ (x : Item). IsLaid (record m { objects = objects }) (changed_at y (y.place i) k owner) x) (sym (one_item j i e))
+      (λ (e : same_item j i ≡ true). subst (λ (x : Item). IsPlacedAt (record m { objects = objects }) (changed_at y (y.place i) k owner) x) (sym (one_item j i e))
       (record { loaded = k; here = at-place (y.place i) refl; row = ch.row; mark = ch.mark; parent = parent-next i k ch.parent }))
       (λ (e : same_item j i ≡ false).
       let apart : (y.place i == y.place j) ≡ false = ⊎_elim (λ (x : (eqb (y.place i) (y.place j) ≡ true) × (y.place i ≡ y.place j)).
@@ -96,7 +96,7 @@ module _ (m : State) (objects : List (Option Object)) (y : Layout) (i : Item) (l
   is-k : (w : ℕ) (x : Loaded) → y.place i ≡ w → put y.at (y.place i) (Some k) w ≡ Some x → x ≡ k
   is-k w x e is = let a : ◌≡◌ {A = Option Loaded} (Some x) (Some k) = sym is ∙ at-place w e in cc
 
-  pub lies-changed : Lies (record m { objects = objects }) (changed_at y (y.place i) k owner)
+  pub lies-changed : IsLayoutOf (record m { objects = objects }) (changed_at y (y.place i) k owner)
   lies-changed = record {
     laid = laid-next;
     normal = r.normal;

@@ -6,10 +6,10 @@ use Rattle.std.proofs.lemmas.Bool.Decides.{nat_tests}
 use Rattle.blk_image.specs.Image.{Index, Block, External, File, same_file}
 use Rattle.blk_image.specs.Footprint.{range}
 use Rattle.blk_image.proofs.Images.{same_file-true}
-use Rattle.blk_format.specs.Address.{kind_of, block_count, file_selector, first_block, place, room, block_place, block_size}
+use Rattle.blk_format.specs.Address.{kind_of, block_count, file_selector, first_block, place, byte_size, block_place, block_size}
 use Rattle.blk_format.specs.BlockFiles.{linked_as}
 use Rattle.blk_format.specs.Claims.{BlockOf, ExternalOf, claims_of, has_claim}
-use Rattle.blk_volume.specs.Footprint.{is_shown_place, is_extent_place}
+use Rattle.blk_format.specs.Headers.{is_shown_place, is_extent_place}
 use Rattle.blk_laws.specs.ByteLaws.{BlocksAreCovered, ExternalFilesAreCovered, HeadersNeedNoCover, HiddenWordsNeedNoCover, CoversOfLess, MoreCovers, CoversOfEither}
 use Rattle.blk_laws.proofs.ByteChanges.{block-claim, false_unless, stands-some, stands-linked, size-is}
 
@@ -45,8 +45,8 @@ place-behind : (w : ℕ) → 8192 ≤ place w
 unfolding place block_place
 place-behind w = omega arith
 
-in-blocks : (w kind b i : ℕ) → kind_of w ≡ kind → block_place kind b ≤ i → i < block_place kind (b + 1) → place w ≤ i → i < place w + room w → (first_block w ≤ b) × (b < first_block w + block_count w)
-unfolding place room block_place
+in-blocks : (w kind b i : ℕ) → kind_of w ≡ kind → block_place kind b ≤ i → i < block_place kind (b + 1) → place w ≤ i → i < place w + byte_size w → (first_block w ≤ b) × (b < first_block w + block_count w)
+unfolding place byte_size block_place
 in-blocks w kind b i kinds low high from to =
     subst (λ (k : ℕ). block_place k b ≤ i → i < block_place k (b + 1) → (first_block w ≤ b) × (b < first_block w + block_count w)) kinds
     (λ l h. meets (block_size (kind_of w)) (first_block w) (block_count w) b i (size-is (kind_of w)) l h from to) low high
@@ -54,10 +54,10 @@ in-blocks w kind b i kinds low high from to =
 pub blocks-covered : BlocksAreCovered
 blocks-covered image w st apart = record {
   index = λ i e. refl;
-  extents = λ n i e. out-range (Block (file_selector w)) (Block n) (place w) (room w) i (λ _ low high. let b = place-behind w in ⊎_elim (λ (x : i ≡ 10). omega arith) (λ x. ⊎_elim (λ (y : i ≡ 11). omega arith) (λ (y : (20 ≤ i) × (i < 24)). omega (arith, y.1)) x) (extent-small i e));
+  extents = λ n i e. out-range (Block (file_selector w)) (Block n) (place w) (byte_size w) i (λ _ low high. let b = place-behind w in ⊎_elim (λ (x : i ≡ 10). omega arith) (λ x. ⊎_elim (λ (y : i ≡ 11). omega arith) (λ (y : (20 ≤ i) × (i < 24)). omega (arith, y.1)) x) (extent-small i e));
   lengths = λ n. refl;
   blocks = λ n kind b i linked low high e.
-      let p = in-range (Block (file_selector w)) (Block n) (place w) (room w) i e in
+      let p = in-range (Block (file_selector w)) (Block n) (place w) (byte_size w) i e in
       let file : file_selector w ≡ n = block-of (file_selector w) n p.0 in
       let kinds : kind_of w ≡ kind = let a : linked_as image (file_selector w) ≡ Some (kind_of w) = stands-linked image w st apart in let c : linked_as image (file_selector w) ≡ Some kind = ap (linked_as image) file ∙ linked in cc in
       let within = in-blocks w kind b i kinds low high p.1 p.2 in
@@ -88,7 +88,7 @@ headers-covered image n at length inside where_at = record {
   index = λ i e. refl;
   extents = λ m i e. out-range (Block n) (Block m) at length i (λ _ low high. apart i (extent-small i e) where_at low high);
   lengths = λ m. refl;
-  blocks = λ m kind b i linked low high e. let p = in-range (Block n) (Block m) at length i e in let behind = block-behind kind b in absurd (omega (arith, p.2));
+  blocks = λ m kind b i linked low high e. let p = in-range (Block n) (Block m) at length i e in let suffix = block-behind kind b in absurd (omega (arith, p.2));
   external_bytes = λ m i e. cc;
   external_sizes = λ m e. cc;
 } where

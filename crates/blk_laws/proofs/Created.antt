@@ -6,7 +6,7 @@ use Rattle.blk_volume.specs.ListView.{IsList, after_writes}
 use Rattle.blk_volume.specs.Walk.{walk}
 use Rattle.blk_volume.specs.Completion.{completed_list}
 use Rattle.blk_volume.specs.ListPlans.{writes_of}
-use Rattle.blk_laws.proofs.ListMoments.{insert_turns, insert_ends}
+use Rattle.blk_laws.proofs.ListCompletions.{insert_turns, insert_ends}
 use Rattle.blk_model.specs.Items.{main}
 use Rattle.blk_model.specs.State.{State, Object, IsValidState, object_at}
 use Rattle.blk_model.specs.Request.{to_create}
@@ -18,7 +18,7 @@ use Rattle.blk_model.specs.Refusals.{refused, evicted}
 use Rattle.blk_model.specs.Stops.{StopOutcome, pick, picked, picked_by, is_live_and_settled, is_safe, is_turned}
 use Rattle.blk_format.specs.Claims.{Claim}
 use Rattle.blk_volume.specs.View.{View}
-use Rattle.blk_volume.specs.Loads.{held, Loaded}
+use Rattle.blk_volume.specs.Loads.{held_rule, Loaded}
 use Rattle.blk_volume.specs.Audit.{kept_among}
 use Rattle.blk_volume.specs.Found.{row_of}
 use Rattle.blk_volume.specs.Layout.{Layout, order, Represents}
@@ -34,32 +34,32 @@ use Rattle.blk_laws.proofs.Creating.{created-shows, created-lies, created-rest, 
 use Rattle.blk_model.specs.Holding as model
 
 module _ (v u : View) (m : State) (y : Layout) (r : Represents v m y) (valid : IsValidState m) (touched : Claim → Bool) (same : SameBut touched v u) (free : IsFree touched y)
-    (handle : ℕ) (key : List ℕ) (l : Loaded) (new : IsNewEntry u.stock y key l) (front : IsFrontOfChain u.stock y l) (good : u.list.checks l.node ≡ true) (few : length (order m y) < 131072) (none : model.owner m (main key) ≡ None) where
+    (handle : ℕ) (key : List ℕ) (l : Loaded) (new : IsNewEntry u.store y key l) (prefix : IsFrontOfChain u.store y l) (good : u.list.checks l.node ≡ true) (few : length (order m y) < 131072) (none : model.owner m (main key) ≡ None) where
   -- once the record and the node are written
   written : Represents u m y
   written = represents-outside touched v u m y same free r
 
   -- at each word of the insertion
-  pub insert-moments : (k : ℕ) → map row_of (kept_among u.stock held (walk (completed_list (after_writes (take k (writes_of 1 l.node u.list)) u.list)))) ≡ model.rest m
+  pub insert-moments : (k : ℕ) → map row_of (kept_among u.store held_rule (walk (completed_list (after_writes (take k (writes_of 1 l.node u.list)) u.list)))) ≡ model.rest m
   insert-moments k =
-      ap (λ (ws : List ℕ). map row_of (kept_among u.stock held ws)) (insert_turns l.node u.list (order m y) written.list written.idle (new-lacks u.stock m y written.holds valid key l new written.list.distinct) good few k) ∙ go (nat_lt k 2) where
-        go : (b : Bool) → map row_of (kept_among u.stock held (if b then order m y else l.node ∷ order m y)) ≡ model.rest m
-        go true = rest-found u.stock m y written.holds valid written.list.distinct
-        go false = inserted-rest u.stock m y written.holds valid key l new written.list.distinct
+      ap (λ (ws : List ℕ). map row_of (kept_among u.store held_rule ws)) (insert_turns l.node u.list (order m y) written.list written.idle (new-lacks u.store m y written.holds valid key l new written.list.distinct) good few k) ∙ go (nat_lt k 2) where
+        go : (b : Bool) → map row_of (kept_among u.store held_rule (if b then order m y else l.node ∷ order m y)) ≡ model.rest m
+        go true = rest-found u.store m y written.holds valid written.list.distinct
+        go false = inserted-rest u.store m y written.holds valid key l new written.list.distinct
 
   -- and once the record is linked
-  pub create-ends : Represents (record { list = after_writes (writes_of 1 l.node u.list) u.list; stock = linked_front u.stock l }) (created handle key m) (with_new y key l)
+  pub create-ends : Represents (record { list = after_writes (writes_of 1 l.node u.list) u.list; store = linked_front u.store l }) (created handle key m) (with_new y key l)
   create-ends =
-      let e = insert_ends l.node u.list (order m y) written.list written.idle (new-lacks u.stock m y written.holds valid key l new written.list.distinct) good few in
+      let e = insert_ends l.node u.list (order m y) written.list written.idle (new-lacks u.store m y written.holds valid key l new written.list.distinct) good few in
       record {
-        holds = record { shows = created-shows u.stock y written.holds.shows key l new front; lies = created-lies m y written.holds.lies u.stock handle key l new none };
-        list = subst (IsList (after_writes (writes_of 1 l.node u.list) u.list)) (sym (order-after m y written.holds.lies u.stock handle key l new none)) e.0;
+        holds = record { shows = created-shows u.store y written.holds.shows key l new prefix; lies = created-lies m y written.holds.lies u.store handle key l new none };
+        list = subst (IsList (after_writes (writes_of 1 l.node u.list) u.list)) (sym (order-after m y written.holds.lies u.store handle key l new none)) e.0;
         idle = e.1;
       }
 
   -- what is at rest, before and after, is a stop outcome
   pub create-rest : model.rest (created handle key m) ≡ model.rest m
-  create-rest = created-rest m y written.holds.lies u.stock handle key l new none
+  create-rest = created-rest m y written.holds.lies u.store handle key l new none
 
 -- what is at rest before a create is what is picked by it
 module _ (m : State) (handle : ℕ) (key : List ℕ) where
@@ -82,11 +82,11 @@ module _ (m : State) (handle : ℕ) (key : List ℕ) where
       (record { step_count = 0; within = omega arith; with_turned = false; picked_rows = pick-created })
 
 module _ (v u : View) (m : State) (y : Layout) (key : List ℕ) (l : Loaded) (w : IsWritten v u m y key l) where
-  pub creates-moments : (k : ℕ) → map row_of (kept_among u.stock held (walk (completed_list (after_writes (take k (writes_of 1 l.node u.list)) u.list)))) ≡ model.rest m
-  creates-moments = insert-moments v u m y w.represents w.valid w.touched w.same w.free 0 key l w.entry w.front w.good w.few w.missing
+  pub creates-moments : (k : ℕ) → map row_of (kept_among u.store held_rule (walk (completed_list (after_writes (take k (writes_of 1 l.node u.list)) u.list)))) ≡ model.rest m
+  creates-moments = insert-moments v u m y w.represents w.valid w.touched w.same w.free 0 key l w.entry w.prefix w.good w.few w.missing
 
-  pub creates-end : (handle : ℕ) → Represents (record { list = after_writes (writes_of 1 l.node u.list) u.list; stock = linked_front u.stock l }) (created handle key m) (with_new y key l)
-  creates-end handle = create-ends v u m y w.represents w.valid w.touched w.same w.free handle key l w.entry w.front w.good w.few w.missing
+  pub creates-end : (handle : ℕ) → Represents (record { list = after_writes (writes_of 1 l.node u.list) u.list; store = linked_front u.store l }) (created handle key m) (with_new y key l)
+  creates-end handle = create-ends v u m y w.represents w.valid w.touched w.same w.free handle key l w.entry w.prefix w.good w.few w.missing
 
   pub creates-rest : (handle : ℕ) → model.rest (created handle key m) ≡ model.rest m
-  creates-rest handle = create-rest v u m y w.represents w.valid w.touched w.same w.free handle key l w.entry w.front w.good w.few w.missing
+  creates-rest handle = create-rest v u m y w.represents w.valid w.touched w.same w.free handle key l w.entry w.prefix w.good w.few w.missing

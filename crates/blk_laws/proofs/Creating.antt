@@ -15,13 +15,13 @@ use Rattle.blk_model.proofs.Each.{push_at}
 use Rattle.blk_format.specs.Hash.{hash}
 use Rattle.blk_format.specs.BlockFiles.{is_among}
 use Rattle.blk_format.specs.Claims.{Claim, has_claim, repeats}
-use Rattle.blk_volume.specs.View.{Stock}
+use Rattle.blk_volume.specs.View.{StoreView}
 use Rattle.blk_volume.specs.Chains.{chain, bucket_of_hash, is_of_bucket, Linked, IsChain}
-use Rattle.blk_volume.specs.Loads.{Rule, held, Loaded, load, all_claims}
+use Rattle.blk_volume.specs.Loads.{Rule, held_rule, Loaded, load, all_claims}
 use Rattle.blk_volume.specs.Audit.{kept_among}
 use Rattle.blk_volume.specs.Entries.{key_of, stream_of, streams_of}
 use Rattle.blk_volume.specs.Found.{row_of}
-use Rattle.blk_volume.specs.Layout.{Layout, is_listed, nodes_of, order, rule_of, IsMarked, HasParentAt, IsLaid, IsDoomedAt, IsListedRecord, Shows, Lies, Holds, is_in}
+use Rattle.blk_volume.specs.Layout.{Layout, is_listed, nodes_of, order, rule_of, HasDirtyMark, HasParentAt, IsPlacedAt, IsDoomedAt, IsListedRecord, Shows, IsLayoutOf, Holds, is_in}
 use Rattle.blk_volume.specs.Shown.{IsShown, HasParentIn, IsOrphanIn}
 use Rattle.blk_volume.specs.Given.{given_by, is_settled}
 use Rattle.blk_volume.specs.Creation.{IsNewEntry, IsFrontOfChain, with_new, linked_front}
@@ -66,7 +66,7 @@ push-back (s ∷ slots) slot (suc k) o e = push-back slots slot k o e
 none-of : (a w : ℕ) (xs : List ℕ) → (a == w) ≡ false → is_among xs w ≡ false → is_among (a ∷ xs) w ≡ false
 none-of a w xs e f = rw (e, f) refl
 
-module _ (m : State) (y : Layout) (r : Lies m y) (v : Stock) (handle : ℕ) (key : List ℕ) (l : Loaded) (new : IsNewEntry v y key l) (none : model.owner m (main key) ≡ None) where
+module _ (m : State) (y : Layout) (r : IsLayoutOf m y) (v : StoreView) (handle : ℕ) (key : List ℕ) (l : Loaded) (new : IsNewEntry v y key l) (none : model.owner m (main key) ≡ None) where
   after : State
   after = created handle key m
 
@@ -74,7 +74,7 @@ module _ (m : State) (y : Layout) (r : Lies m y) (v : Stock) (handle : ℕ) (key
   unlisted : is_listed m (main key) ≡ false
   unfolding model.row_of
   unlisted = ⊎_elim
-      (λ (e : is_listed m (main key) ≡ true). let q : IsLaid m y (main key) = r.laid (main key) e in let no_row : model.row_of m (main key) ≡ None = rw none refl in
+      (λ (e : is_listed m (main key) ≡ true). let q : IsPlacedAt m y (main key) = r.laid (main key) e in let no_row : model.row_of m (main key) ≡ None = rw none refl in
       absurd (let c : ◌≡◌ {A = Option Row} (Some (row_of q.loaded)) None = sym q.row ∙ no_row in cc))
       (λ (e : is_listed m (main key) ≡ false). e)
       (cases_Bool (is_listed m (main key)))
@@ -161,7 +161,7 @@ module _ (m : State) (y : Layout) (r : Lies m y) (v : Stock) (handle : ℕ) (key
 
   -- ---- the layout
 
-  laid-new : IsLaid (created handle key m) (with_new y key l) (main key)
+  laid-new : IsPlacedAt (created handle key m) (with_new y key l) (main key)
   unfolding model.row_of created
   laid-new = record {
     loaded = l;
@@ -173,10 +173,10 @@ module _ (m : State) (y : Layout) (r : Lies m y) (v : Stock) (handle : ℕ) (key
     row : row_of l ≡ main_row key (new_object key).shape ([], [], [])
     row = rw (new.role, new.streams, new.key_is) refl
 
-  laid-old : (i : Item) → is_listed m i ≡ true → IsLaid (created handle key m) (with_new y key l) i
+  laid-old : (i : Item) → is_listed m i ≡ true → IsPlacedAt (created handle key m) (with_new y key l) i
   unfolding model.row_of
   laid-old i there =
-      let q : IsLaid m y i = r.laid i there in
+      let q : IsPlacedAt m y i = r.laid i there in
       let own = owner-of i (row_of q.loaded) q.row in
       record {
         loaded = q.loaded;
@@ -185,7 +185,7 @@ module _ (m : State) (y : Layout) (r : Lies m y) (v : Stock) (handle : ℕ) (key
         mark = mark i q.loaded own.0 own.1 q.mark;
         parent = parent i q.loaded q.parent;
       } where
-        mark : (i : Item) (x : Loaded) (j : ℕ) → model.owner m i ≡ Some j → IsMarked m i x → IsMarked (created handle key m) i x
+        mark : (i : Item) (x : Loaded) (j : ℕ) → model.owner m i ≡ Some j → HasDirtyMark m i x → HasDirtyMark (created handle key m) i x
         mark (main k) x j e h = subst (λ (o : Option Object). IfSome o (λ z. (x.dirty == 0) ≡ z.settled)) (sym (owner-object (main k) j e)) h
         mark (part k n) x j e h = h
 
@@ -238,15 +238,15 @@ module _ (m : State) (y : Layout) (r : Lies m y) (v : Stock) (handle : ℕ) (key
       (λ (e : has_claim (all_claims l) c ≡ false). rw e (r.own w x c is h))
       (cases_Bool (has_claim (all_claims l) c))
 
-  pub created-lies : Lies (created handle key m) (with_new y key l)
+  pub created-lies : IsLayoutOf (created handle key m) (with_new y key l)
   unfolding created
   created-lies = record {
-    laid = λ i h. ⊎_elim (λ (e : i ≡ main key). subst (IsLaid (created handle key m) (with_new y key l)) (sym e) laid-new) (λ (there : is_listed m i ≡ true). laid-old i there) (listed-after i h);
+    laid = λ i h. ⊎_elim (λ (e : i ≡ main key). subst (IsPlacedAt (created handle key m) (with_new y key l)) (sym e) laid-new) (λ (there : is_listed m i ≡ true). laid-old i there) (listed-after i h);
     normal = λ w h. ⊎_elim
         (λ (e : w ≡ l.node). ap (put y.state l.node 0) e ∙ at-itself y.state l.node 0)
         (λ (there : is_among (order m y) w ≡ true).
         let n : IsNodeOf y m.uses w = node-of y m.uses w there in
-        let q : IsLaid m y n.item = r.laid n.item n.among in
+        let q : IsPlacedAt m y n.item = r.laid n.item n.among in
         let o : (l.node == w) ≡ false = other-node w q.loaded (ap y.at (sym n.is) ∙ q.here) in
         at-elsewhere y.state l.node 0 w o ∙ r.normal w there)
         (node-after w h);
@@ -285,7 +285,7 @@ module _ (m : State) (y : Layout) (r : Lies m y) (v : Stock) (handle : ℕ) (key
   rest-item : (i : Item) → is_listed m i ≡ true → model.settled_row (created handle key m) i ≡ model.settled_row m i
   unfolding model.settled_row created
   rest-item i there =
-      let q : IsLaid m y i = r.laid i there in
+      let q : IsPlacedAt m y i = r.laid i there in
       let own = owner-of i (row_of q.loaded) q.row in
       ap (option_and_then (λ object. cond object.settled (model.row_in object i) None)) (owner-object i own.0 own.1)
 
@@ -302,7 +302,7 @@ module _ (m : State) (y : Layout) (r : Lies m y) (v : Stock) (handle : ℕ) (key
 
 -- ---- what is shown
 
-load-table : (v : Stock) (t : ℕ → ℕ) (rule : Rule) (w : ℕ) (l : Loaded) → rule.chained ≡ false → load v rule w ≡ Ok l → load (record v { table = t }) rule w ≡ Ok l
+load-table : (v : StoreView) (t : ℕ → ℕ) (rule : Rule) (w : ℕ) (l : Loaded) → rule.chained ≡ false → load v rule w ≡ Ok l → load (record v { table = t }) rule w ≡ Ok l
 unfolding key_of streams_of stream_of
 load-table v t rule w l free ok = load-then v rule w l ok (λ n e g.
     let r = g.facts in let k = r.keyed in
@@ -330,11 +330,11 @@ load-table v t rule w l free ok = load-then v rule w l ok (λ n e g.
       };
     }))
 
-pub linked-table : (v : Stock) (t : ℕ → ℕ) (b w : ℕ) (cs : List ℕ) → Linked v b w cs → Linked (record v { table = t }) b w cs
+pub linked-table : (v : StoreView) (t : ℕ → ℕ) (b w : ℕ) (cs : List ℕ) → Linked v b w cs → Linked (record v { table = t }) b w cs
 linked-table v t b w [] h = h
-linked-table v t b w (c ∷ cs) h = (h.0, h.1, linked-table v t b (v.follow c) cs h.2)
+linked-table v t b w (c ∷ cs) h = (h.0, h.1, linked-table v t b (v.chain_next c) cs h.2)
 
-module _ (v : Stock) (y : Layout) (r : Shows v y) (key : List ℕ) (l : Loaded) (new : IsNewEntry v y key l) (front : IsFrontOfChain v y l) where
+module _ (v : StoreView) (y : Layout) (r : Shows v y) (key : List ℕ) (l : Loaded) (new : IsNewEntry v y key l) (prefix : IsFrontOfChain v y l) where
   t : ℕ → ℕ
   t = put v.table (bucket_of_hash (hash l.key)) l.contents
 
@@ -351,9 +351,9 @@ module _ (v : Stock) (y : Layout) (r : Shows v y) (key : List ℕ) (l : Loaded) 
         linked = (
           at-itself v.table (bucket_of_hash (hash l.key)) l.contents,
           of_bucket,
-          linked-table v (put v.table (bucket_of_hash (hash l.key)) l.contents) (bucket_of_hash (hash l.key)) (v.follow l.contents) (y.chains (bucket_of_hash (hash l.key))) (subst (λ (x : ℕ). Linked v (bucket_of_hash (hash l.key)) x (y.chains (bucket_of_hash (hash l.key)))) (sym front.follows) c.linked),
+          linked-table v (put v.table (bucket_of_hash (hash l.key)) l.contents) (bucket_of_hash (hash l.key)) (v.chain_next l.contents) (y.chains (bucket_of_hash (hash l.key))) (subst (λ (x : ℕ). Linked v (bucket_of_hash (hash l.key)) x (y.chains (bucket_of_hash (hash l.key)))) (sym prefix.follows) c.linked),
         );
-        once = (front.fresh, c.once);
+        once = (prefix.fresh, c.once);
       }
 
   chains-after : (n : ℕ) → n < 65536 → IsChain (linked_front v l) n (put y.chains (bucket_of_hash (hash l.key)) (l.contents ∷ y.chains (bucket_of_hash (hash l.key))) n)
@@ -386,7 +386,7 @@ module _ (v : Stock) (y : Layout) (r : Shows v y) (key : List ℕ) (l : Loaded) 
 -- ---- with the new node in the list, before its record is linked
 
 -- one more walked node that does not load
-module _ (v : Stock) (rule : Rule) (ws : List ℕ) (given : ℕ → Option Loaded) (shown : IsShown v rule ws given) (w : ℕ) (lacks : is_among ws w ≡ false) (none : given w ≡ None) (unread : (k : Loaded) → load v rule w ≡ Ok k → ⊥) where
+module _ (v : StoreView) (rule : Rule) (ws : List ℕ) (given : ℕ → Option Loaded) (shown : IsShown v rule ws given) (w : ℕ) (lacks : is_among ws w ≡ false) (none : given w ≡ None) (unread : (k : Loaded) → load v rule w ≡ Ok k → ⊥) where
   older : (x : ℕ) (k : Loaded) → is_among (w ∷ ws) x ≡ true → given x ≡ Some k → is_among ws x ≡ true
   older x k there is = ⊎_elim
       (λ (e : (eqb w x ≡ true) × (w ≡ x)). let a : given x ≡ None = ap given (sym e.1) ∙ none in absurd (let z : ◌≡◌ {A = Option Loaded} (Some k) None = sym is ∙ a in cc))
@@ -409,29 +409,29 @@ module _ (v : Stock) (rule : Rule) (ws : List ℕ) (given : ℕ → Option Loade
         (eqb_tells w x);
   }
 
-module _ (v : Stock) (m : State) (y : Layout) (r : Holds v m y) (valid : IsValidState m) (key : List ℕ) (l : Loaded) (new : IsNewEntry v y key l) (once : Distinct (order m y)) where
+module _ (v : StoreView) (m : State) (y : Layout) (r : Holds v m y) (valid : IsValidState m) (key : List ℕ) (l : Loaded) (new : IsNewEntry v y key l) (once : Distinct (order m y)) where
   pub new-lacks : is_among (order m y) l.node ≡ false
   new-lacks = ⊎_elim
       (λ (e : is_among (order m y) l.node ≡ true).
-      let n : IsNodeOf y m.uses l.node = node-of y m.uses l.node e in let q : IsLaid m y n.item = r.lies.laid n.item n.among in
+      let n : IsNodeOf y m.uses l.node = node-of y m.uses l.node e in let q : IsPlacedAt m y n.item = r.lies.laid n.item n.among in
       let a : y.at l.node ≡ Some q.loaded = ap y.at (sym n.is) ∙ q.here in
       absurd (let z : ◌≡◌ {A = Option Loaded} (Some q.loaded) None = sym a ∙ new.nobody in cc))
       (λ (e : is_among (order m y) l.node ≡ false). e)
       (cases_Bool (is_among (order m y) l.node))
 
-  dirty-unread : (k : Loaded) → load v held l.node ≡ Ok k → ⊥
+  dirty-unread : (k : Loaded) → load v held_rule l.node ≡ Ok k → ⊥
   dirty-unread k ok =
-      let s : l ≡ k = load-one v (record { state = 0; clean = false; chained = false }) held l.node l k new.loads ok in
-      let a : (k.dirty == 0) ≡ true = load-clean v held l.node k ok in
+      let s : l ≡ k = load-one v (record { state = 0; clean = false; chained = false }) held_rule l.node l k new.loads ok in
+      let a : (k.dirty == 0) ≡ true = load-clean v held_rule l.node k ok in
       let z : (k.dirty == 0) ≡ false = ap (λ (q : Loaded). q.dirty == 0) (sym s) ∙ new.dirty in
       let c : true ≡ false = sym a ∙ z in cc
 
   -- what is found while the new node is listed and dirty is what was at rest
-  pub inserted-rest : map row_of (kept_among v held (l.node ∷ order m y)) ≡ model.rest m
+  pub inserted-rest : map row_of (kept_among v held_rule (l.node ∷ order m y)) ≡ model.rest m
   inserted-rest =
       let goes = settled-goes m y r.lies.laid m.uses (λ i h. h) in
-      let shown : IsShown v held (order m y) (given_by (is_settled y m.uses) y) = laid-shown v m y r held m.uses (is_settled y m.uses) refl (λ i h. h) once goes in
+      let shown : IsShown v held_rule (order m y) (given_by (is_settled y m.uses) y) = laid-shown v m y r held_rule m.uses (is_settled y m.uses) refl (λ i h. h) once goes in
       let none : given_by (is_settled y m.uses) y l.node ≡ None = rw new.nobody refl in
-      let more : IsShown v held (l.node ∷ order m y) (given_by (is_settled y m.uses) y) = shown-more v held (order m y) (given_by (is_settled y m.uses) y) shown l.node new-lacks none dirty-unread in
-      ap (map row_of) (kept-given v held (l.node ∷ order m y) (given_by (is_settled y m.uses) y) more ∙ rw none refl)
-      ∙ ap (map row_of) (sym (kept-given v held (order m y) (given_by (is_settled y m.uses) y) shown)) ∙ rest-found v m y r valid once
+      let more : IsShown v held_rule (l.node ∷ order m y) (given_by (is_settled y m.uses) y) = shown-more v held_rule (order m y) (given_by (is_settled y m.uses) y) shown l.node new-lacks none dirty-unread in
+      ap (map row_of) (kept-given v held_rule (l.node ∷ order m y) (given_by (is_settled y m.uses) y) more ∙ rw none refl)
+      ∙ ap (map row_of) (sym (kept-given v held_rule (order m y) (given_by (is_settled y m.uses) y) shown)) ∙ rest-found v m y r valid once

@@ -9,7 +9,7 @@ use Rattle.blk_format.specs.Claims.{claims_of, has_claim, overlap, repeats}
 use Rattle.blk_format.specs.Names.{read_name, split_last, child_name, hex_text}
 use Rattle.blk_format.specs.SparseIndex.{read_parent_index, read_part_index}
 use Rattle.blk_volume.specs.Walk.{walk, walk_from}
-use Rattle.blk_volume.specs.View.{View, Core}
+use Rattle.blk_volume.specs.View.{View, RecordFields}
 use Rattle.blk_volume.specs.Chains.{chain_from}
 use Rattle.blk_volume.specs.Entries.{is_key_length, key_of, stream_of, streams_of, role_of, parent_role, part_role, is_covered}
 use Rattle.blk_volume.specs.Reasons as reason
@@ -23,19 +23,19 @@ abbrev pub index_head : List ℕ
 index_head = word_bytes 5 ++ word_bytes 0 ++ word_bytes 0xC103CAC3 ++ word_bytes 1 ++ word_bytes 0xFFFFFFFF ++ word_bytes 0 ++ replicate 40 0
 
 -- the parent `a` has its index, with part 0, in stream 2
-abbrev pub parent_core : Core
+abbrev pub parent_core : RecordFields
 parent_core = record (plain_core 0x90000000) { data_size = 0 ∷ 0 ∷ 8256 ∷ 0 ∷ []; data_addr = 0 ∷ 0 ∷ 0xC2030000 ∷ 0 ∷ []; flags = 1 }
 
 -- the part has the name of part 0 as its key, no data, and its index in stream 2
-abbrev pub part_core : Core
+abbrev pub part_core : RecordFields
 part_core = record (plain_core 0x90000001) { hash = 0x148D945; key_len = 11; data_size = 0 ∷ 0 ∷ 192 ∷ 0 ∷ []; data_addr = 0 ∷ 0 ∷ 0xA0010008 ∷ 0 ∷ []; flags = 2 }
 
 -- a view of these records, where each is the first of its bucket; the bit of part 0 is in this first byte of the parent's bitmap
 abbrev pub sparse_view : ℕ → ℕ → List (ℕ × Row) → View
 sparse_view bits head nodes =
-    let plain : View = shown head 0xA0010000 nodes ((0xA0010000, record { follow = 0; core = parent_core }) ∷ (0xA0010001, record { follow = 0; core = part_core }) ∷ []) in
+    let plain : View = shown head 0xA0010000 nodes ((0xA0010000, record { chain_next = 0; fields = parent_core }) ∷ (0xA0010001, record { chain_next = 0; fields = part_core }) ∷ []) in
     record plain {
-      stock = record plain.stock {
+      store = record plain.store {
         table = λ b. if b == 0xA782 then 0xA0010000 else if b == 0xD945 then 0xA0010001 else 0;
         key_place = λ w n. if w == 0xA0010000 then codes "a" else codes "Range_a:5:0";
         stored = λ size w.
@@ -89,7 +89,7 @@ no_candidates = refl
 
 -- a record that doesn't check is no child: its node is a candidate, whatever the flags are, and is dropped for its seal
 unsealed : ℕ → View
-unsealed flags = shown 0x90000000 0xA0010000 ((0x90000000, node 0x90000000 0x90000000 0xA0010000) ∷ []) ((0xA0010000, record { follow = 0; core = record (plain_core 0x90000000) { checks = false; flags = flags } }) ∷ [])
+unsealed flags = shown 0x90000000 0xA0010000 ((0x90000000, node 0x90000000 0x90000000 0xA0010000) ∷ []) ((0xA0010000, record { chain_next = 0; fields = record (plain_core 0x90000000) { checks = false; flags = flags } }) ∷ [])
 
 unsealed_is_candidate : (flags : ℕ) → (candidates (unsealed flags) ≡ 0x90000000 ∷ []) × (dropped_nodes (unsealed flags) ≡ (0x90000000, reason.Seal) ∷ [])
 unfolding unsealed is_candidate dropped_among verdicts load walk walk_from

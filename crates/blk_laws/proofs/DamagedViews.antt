@@ -11,12 +11,12 @@ use Rattle.blk_format.specs.SparseIndex.{read_parent_index}
 use Rattle.blk_volume.specs.ListView.{ListView}
 use Rattle.blk_volume.specs.Walk.{walk, walk_from}
 use Rattle.blk_volume.specs.Completion.{counts, completed_list}
-use Rattle.blk_volume.specs.View.{View, Named, Core}
+use Rattle.blk_volume.specs.View.{View, NodeFields, RecordFields}
 use Rattle.blk_volume.specs.Chains.{chain_from, chain}
 use Rattle.blk_volume.specs.Entries.{is_key_length, key_of, stream_of, streams_of, role_of, parent_role, part_role}
 use Rattle.blk_volume.specs.Reasons.{Reason}
 use Rattle.blk_volume.specs.Reasons as reason
-use Rattle.blk_volume.specs.Loads.{held, load, load_key, load_record, record_claims, all_claims}
+use Rattle.blk_volume.specs.Loads.{held_rule, load, load_key, load_record, record_claims, all_claims}
 use Rattle.blk_volume.specs.Audit.{is_named, is_orphan, admit, verdicts, kept_among, dropped_among, kept_by, is_unlisted, unlisted_in}
 
 -- what stands at a word
@@ -37,11 +37,11 @@ node next prev contents = record { next = next; prev = prev; contents = contents
 
 -- a record with its next
 pub record Linked : Type 0 where
-  pub follow : ℕ
-  pub core : Core
+  pub chain_next : ℕ
+  pub fields : RecordFields
 
 -- a normal plain record of the key `a` that a node names, with no streams
-abbrev pub plain_core : ℕ → Core
+abbrev pub plain_core : ℕ → RecordFields
 plain_core w = record {
   checks = true;
   hash = 0x115EA782;
@@ -55,7 +55,7 @@ plain_core w = record {
 }
 
 abbrev pub entry : ℕ → ℕ → Linked
-entry follow w = record { follow = follow; core = plain_core w }
+entry chain_next w = record { chain_next = chain_next; fields = plain_core w }
 
 -- the field of what stands at a word, or 0
 abbrev field : {A : Type 0} → (A → ℕ) → List (ℕ × A) → ℕ → ℕ
@@ -73,11 +73,11 @@ shown head first nodes entries = record {
     next = field (λ n. n.next) nodes;
     prev = field (λ n. n.prev) nodes;
   };
-  stock = record {
-    named = λ w. option_map_or (λ n. let said : Named = record { contents = n.contents; dirty = n.dirty } in Some said) (at_word nodes w) None;
+  store = record {
+    node_fields = λ w. option_map_or (λ n. let said : NodeFields = record { contents = n.contents; dirty = n.dirty } in Some said) (at_word nodes w) None;
     table = λ b. if b == 0xA782 then first else 0;
-    follow = field (λ e. e.follow) entries;
-    entry = λ w. option_map_or (λ e. Some e.core) (at_word entries w) None;
+    chain_next = field (λ e. e.chain_next) entries;
+    entry = λ w. option_map_or (λ e. Some e.fields) (at_word entries w) None;
     key_place = λ w n. codes "a";
     stored = λ size w. if (size == 0) && (w == 0) then Some [] else if (size == 5) && (w == 0xA0010008) then Some (codes "hello") else None;
   };
@@ -85,11 +85,11 @@ shown head first nodes entries = record {
 
 -- the nodes that are kept
 abbrev pub kept_nodes : View → List ℕ
-kept_nodes view = map (λ l. l.node) (kept_by held view)
+kept_nodes view = map (λ l. l.node) (kept_by held_rule view)
 
 -- the nodes that are dropped, with their reasons
 abbrev pub dropped_nodes : View → List (ℕ × Reason)
-dropped_nodes view = dropped_among view.stock held (walk view.list)
+dropped_nodes view = dropped_among view.store held_rule (walk view.list)
 
 -- Lists and chains.
 
@@ -102,7 +102,7 @@ unfolding looped kept_among verdicts load load_record load_key admit is_key_leng
 looped_is_kept = refl
 
 -- and its chain ends at itself
-looped_chain : chain looped.stock 0xA782 ≡ record { reached = 0xA0010000 ∷ []; end = 0xA0010000 }
+looped_chain : chain looped.store 0xA782 ≡ record { reached = 0xA0010000 ∷ []; end = 0xA0010000 }
 unfolding looped chain_from
 looped_chain = refl
 
@@ -111,9 +111,9 @@ in_three : ℕ → View
 in_three prev =
     let plain : View = shown 0x90000002 0
     ((0x90000002, node 0x90000001 0x90000002 0xA0010002) ∷ (0x90000001, node 0x90000000 prev 0xA0010001) ∷ (0x90000000, node 0x90000000 0x90000001 0xA0010000) ∷ [])
-    ((0xA0010002, record { follow = 0; core = record (plain_core 0x90000002) { hash = 0xF4C73EBF } }) ∷ (0xA0010001, record { follow = 0; core = record (plain_core 0x90000001) { hash = 0x70C1A0E1 } }) ∷ (0xA0010000, entry 0 0x90000000) ∷ []) in
+    ((0xA0010002, record { chain_next = 0; fields = record (plain_core 0x90000002) { hash = 0xF4C73EBF } }) ∷ (0xA0010001, record { chain_next = 0; fields = record (plain_core 0x90000001) { hash = 0x70C1A0E1 } }) ∷ (0xA0010000, entry 0 0x90000000) ∷ []) in
     record plain {
-      stock = record plain.stock {
+      store = record plain.store {
         table = λ b. if b == 0x3EBF then 0xA0010002 else if b == 0xA0E1 then 0xA0010001 else if b == 0xA782 then 0xA0010000 else 0;
         key_place = λ w n. if w == 0xA0010002 then codes "c" else if w == 0xA0010001 then codes "b" else codes "a";
       };
@@ -227,7 +227,7 @@ twins_dropped = refl
 
 -- that claim one block, by a stream: the one nearer the front is kept, and the other has the reason claimed, which comes before name
 with_stream : ℕ → ℕ → Linked
-with_stream follow w = record { follow = follow; core = record (plain_core w) { data_size = 5 ∷ 0 ∷ 0 ∷ 0 ∷ []; data_addr = 0xA0010008 ∷ 0 ∷ 0 ∷ 0 ∷ [] } }
+with_stream chain_next w = record { chain_next = chain_next; fields = record (plain_core w) { data_size = 5 ∷ 0 ∷ 0 ∷ 0 ∷ []; data_addr = 0xA0010008 ∷ 0 ∷ 0 ∷ 0 ∷ [] } }
 
 rivals : View
 rivals = shown 0x90000000 0xA0010000
@@ -247,9 +247,9 @@ strangers : View
 strangers =
     let plain : View = shown 0x90000001 0
     ((0x90000001, node 0x90000000 0x90000001 0xA0010001) ∷ (0x90000000, node 0x90000000 0x90000001 0xA0010000) ∷ [])
-    ((0xA0010001, record { follow = 0; core = record (with_stream 0 0x90000001).core { hash = 0x70C1A0E1 } }) ∷ (0xA0010000, with_stream 0 0x90000000) ∷ []) in
+    ((0xA0010001, record { chain_next = 0; fields = record (with_stream 0 0x90000001).fields { hash = 0x70C1A0E1 } }) ∷ (0xA0010000, with_stream 0 0x90000000) ∷ []) in
     record plain {
-      stock = record plain.stock {
+      store = record plain.store {
         table = λ b. if b == 0xA0E1 then 0xA0010001 else if b == 0xA782 then 0xA0010000 else 0;
         key_place = λ w n. if w == 0xA0010001 then codes "b" else codes "a";
       };
@@ -266,12 +266,12 @@ strangers_dropped = refl
 -- One record for each reason.
 
 -- what is dropped where the one record is this, at this address and with this dirty word
-dropped_for : ℕ → ℕ → Core → List (ℕ × Reason)
-dropped_for contents dirty core =
-    dropped_nodes (shown 0x90000000 contents ((0x90000000, record { next = 0x90000000; prev = 0x90000000; contents = contents; dirty = dirty }) ∷ []) ((contents, record { follow = 0; core = core }) ∷ []))
+dropped_for : ℕ → ℕ → RecordFields → List (ℕ × Reason)
+dropped_for contents dirty fields =
+    dropped_nodes (shown 0x90000000 contents ((0x90000000, record { next = 0x90000000; prev = 0x90000000; contents = contents; dirty = dirty }) ∷ []) ((contents, record { chain_next = 0; fields = fields }) ∷ []))
 
 -- the record that is kept
-good : Core
+good : RecordFields
 good = plain_core 0x90000000
 
 nothing_dropped : dropped_for 0xA0010000 0 good ≡ []

@@ -8,9 +8,9 @@ use Rattle.blk_laws.proofs.Marking.{marked}
 use Rattle.blk_laws.proofs.Closing.{rest-before, rest-after}
 
 pub dirty-settles : DirtyWordsSettle
-dirty-settles v m y r valid number o l lies n d named = record {
+dirty-settles v m y r valid number o l lies n d node_fields = record {
   holds = record {
-    shows = shows-dirty v.stock y r.holds.shows (y.place (main o.key)) d l n y.owner lies.at named;
+    shows = shows-dirty v.store y r.holds.shows (y.place (main o.key)) d l n y.owner lies.at node_fields;
     lies = settle-lies m valid number o (d == 0) lies.here lies.live y r.holds.lies l lies.at d refl;
   };
   list = r.list;
@@ -18,7 +18,7 @@ dirty-settles v m y r valid number o l lies n d named = record {
 }
 
 pub written-settles : WrittenDirtyWordsSettle
-written-settles v u m y r valid number o l lies d same named links = marked v u m y r valid number o (d == 0) lies.here lies.live l d lies.at refl same named links
+written-settles v u m y r valid number o l lies d same node_fields links = marked v u m y r valid number o (d == 0) lies.here lies.live l d lies.at refl same node_fields links
 
 pub before-turning : RestBeforeTurning
 before-turning m valid number o b names here live = rest-before m valid number o b names here live

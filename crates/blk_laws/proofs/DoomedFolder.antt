@@ -10,18 +10,18 @@ use Rattle.blk_image.proofs.Words.{length-with_words}
 use Rattle.blk_model.specs.State.{Object, object_at}
 use Rattle.blk_model.specs.Holding.{rest}
 use Rattle.blk_format.specs.Hash.{of_four, of_three, of_two, of_one, of_bytes, mixed, hash}
-use Rattle.blk_format.specs.Address.{is_address, is_initialized, names_external, names_blocks, kind_of, reserved_bits, block_count, file_selector, first_block, external_number, block_size, block_place, place, room}
+use Rattle.blk_format.specs.Address.{is_address, is_initialized, names_external, names_blocks, kind_of, reserved_bits, block_count, file_selector, first_block, external_number, block_size, block_place, place, byte_size}
 use Rattle.blk_format.specs.Storage.{kind_for, blocks_for, entry_blocks, is_storage}
 use Rattle.blk_format.specs.Standing.{stands, stands_as_blocks}
 use Rattle.blk_format.specs.Records.{doomed, node_checks, node_is_sealed, entry_checks, entry_is_sealed, node_in, node_body, entry_in, entry_body}
 use Rattle.blk_format.specs.Claims.{BlockOf, ExternalOf, has_claim, is_in_file}
 use Rattle.blk_format.specs.Headers.{unfinished, head_checks, list_checks, index_length, bucket_of, empty_of}
-use Rattle.blk_format.specs.BlockFiles.{next_file_in, max_entries_in, files_along, linked, linked_up_to, type_among, is_link, is_block_count, file_checks, checks_along, checks_of_type, linked_as, is_among, IsWellFormed}
-use Rattle.blk_format.specs.Maps.{is_marked_at, is_marked, are_free, has_run, longest_run, groups_with, EmptyAgrees}
+use Rattle.blk_format.specs.BlockFiles.{next_file_in, max_entries_in, files_along, linked, linked_up_to, kind_among, is_link, is_block_count, file_checks, checks_along, checks_of_kind, linked_as, is_among, IsWellFormed}
+use Rattle.blk_format.specs.Maps.{is_block_marked_at, is_block_marked, are_free, has_run, longest_run, groups_with, EmptyAgrees}
 use Rattle.blk_volume.specs.ListView.{IsList}
-use Rattle.blk_volume.specs.View.{list_of, checks_at, stock_of, named_at, core_at, follow_at, key_place_at, stored_at, view_of}
+use Rattle.blk_volume.specs.View.{list_of, checks_at, store_of, node_fields_at, core_at, follow_at, key_place_at, stored_at, view_of}
 use Rattle.blk_volume.specs.Entries.{is_key_length, key_of, stream_of, streams_of, role_of}
-use Rattle.blk_volume.specs.Loads.{listed, alone, load, load_key, load_record, Loaded, all_claims}
+use Rattle.blk_volume.specs.Loads.{listed_rule, unchained_rule, load, load_key, load_record, Loaded, all_claims}
 use Rattle.blk_volume.specs.Audit.{kept_among, kept_by}
 use Rattle.blk_volume.specs.Found.{found}
 use Rattle.blk_volume.specs.Layout.{Represents}
@@ -59,19 +59,19 @@ doomed_folder _ = None
 
 -- no check fails
 doomed-is_well_formed : IsWellFormed doomed_folder
-unfolding doomed_folder head_checks list_checks checks_of_type checks_along file_checks next_file_in is_link is_block_count linked_up_to linked files_along zeros with_word spliced block_size
+unfolding doomed_folder head_checks list_checks checks_of_kind checks_along file_checks next_file_in is_link is_block_count linked_up_to linked files_along zeros with_word spliced block_size
 doomed-is_well_formed = refl
 
 -- ---- what it represents
 
 -- the node loads, with a record of state 2
-doomed-loads : load (stock_of doomed_folder) (alone doomed) one.node ≡ Ok (one.loaded 0)
-unfolding doomed_folder zeros with_word spliced next_file_in max_entries_in linked files_along type_among load load_record load_key is_key_length key_of stream_of streams_of role_of stock_of named_at core_at follow_at key_place_at stored_at stands stands_as_blocks is_address is_initialized names_external names_blocks kind_of reserved_bits block_count file_selector first_block external_number block_size block_place place room kind_for blocks_for entry_blocks is_storage node_checks node_is_sealed entry_checks entry_is_sealed node_in node_body entry_in entry_body range_at words_at hash mixed of_bytes of_four of_three of_two of_one
+doomed-loads : load (store_of doomed_folder) (unchained_rule doomed) one.node ≡ Ok (one.loaded 0)
+unfolding doomed_folder zeros with_word spliced next_file_in max_entries_in linked files_along kind_among load load_record load_key is_key_length key_of stream_of streams_of role_of store_of node_fields_at core_at follow_at key_place_at stored_at stands stands_as_blocks is_address is_initialized names_external names_blocks kind_of reserved_bits block_count file_selector first_block external_number block_size block_place place byte_size kind_for blocks_for entry_blocks is_storage node_checks node_is_sealed entry_checks entry_is_sealed node_in node_body entry_in entry_body range_at words_at hash mixed of_bytes of_four of_three of_two of_one
 doomed-loads = refl
 
 -- the list is empty
 doomed-list : IsList (list_of doomed_folder) []
-unfolding list_of checks_at doomed_folder zeros with_word spliced next_file_in max_entries_in linked files_along type_among stands stands_as_blocks is_address is_initialized names_external names_blocks kind_of reserved_bits block_count file_selector first_block external_number block_size block_place place room
+unfolding list_of checks_at doomed_folder zeros with_word spliced next_file_in max_entries_in linked files_along kind_among stands stands_as_blocks is_address is_initialized names_external names_blocks kind_of reserved_bits block_count file_selector first_block external_number block_size block_place place byte_size
 doomed-list = record { head_is = refl; tail_is = refl; linked = tt; distinct = tt; few = omega arith; no_zero = refl }
 
 doomed-idle : (list_of doomed_folder).transaction ≡ 0
@@ -85,12 +85,12 @@ no-bucket b below = ap (λ (o : Option (List ℕ)). bucket_of (content (unwrap_o
 
 -- the folder represents the state of the doomed object
 pub folder-is_represented : Represents (view_of doomed_folder) (doomed_state true) (doomed_layout 0)
-unfolding stock_of
+unfolding store_of
 folder-is_represented = record {
   holds = record {
     shows = record {
       no_record = no-record doomed_folder;
-      each = λ w l is. let p = one.at-node 0 w l is in subst (λ (x : ℕ). load (stock_of doomed_folder) (alone doomed) x ≡ Ok l) (sym p.0) (doomed-loads ∙ ap Ok p.1);
+      each = λ w l is. let p = one.at-node 0 w l is in subst (λ (x : ℕ). load (store_of doomed_folder) (unchained_rule doomed) x ≡ Ok l) (sym p.0) (doomed-loads ∙ ap Ok p.1);
       chains = λ b below. record { linked = no-bucket b below; once = tt };
     };
     lies = (doomed-is_represented 0).holds.lies;
@@ -126,7 +126,7 @@ same-header (suc (suc (suc zero))) k small early = refl
 same-header (suc (suc (suc (suc n)))) k small early = absurd (omega arith)
 
 -- so the same blocks are marked
-doomed-marks : (n b : ℕ) → n < 4 → b < 64896 → is_marked doomed_folder n b ≡ marks n b
+doomed-marks : (n b : ℕ) → n < 4 → b < 64896 → is_block_marked doomed_folder n b ≡ marks n b
 doomed-marks n b small few = ap (λ (x : ℕ). bit_at x (b % 8) == 1) (same-header n (80 + b / 8) small (omega arith)) ∙ whole-marks n b small few
 
 no-files : (n : ℕ) → has_file doomed_folder (External n) ≡ false
@@ -192,7 +192,7 @@ unfolding max_entries_in doomed_folder zeros with_word spliced
 most = (refl, refl)
 
 -- the counts of groups
-groups-0 : (i : ℕ) → i < 4 → empty_of (byte doomed_folder (Block 0)) i ≡ groups_with (is_marked_at (over_all node_words (over_all nodes_words (λ k. 0)))) 256 (i + 1)
+groups-0 : (i : ℕ) → i < 4 → empty_of (byte doomed_folder (Block 0)) i ≡ groups_with (is_block_marked_at (over_all node_words (over_all nodes_words (λ k. 0)))) 256 (i + 1)
 unfolding groups_with longest_run has_run are_free doomed_folder zeros with_word spliced
 groups-0 zero small = refl
 groups-0 (suc zero) small = refl
@@ -200,7 +200,7 @@ groups-0 (suc (suc zero)) small = refl
 groups-0 (suc (suc (suc zero))) small = refl
 groups-0 (suc (suc (suc (suc i)))) small = absurd (omega arith)
 
-groups-1 : (i : ℕ) → i < 4 → empty_of (byte doomed_folder (Block 1)) i ≡ groups_with (is_marked_at (over_all record_words (over_all records_words (λ k. 0)))) 256 (i + 1)
+groups-1 : (i : ℕ) → i < 4 → empty_of (byte doomed_folder (Block 1)) i ≡ groups_with (is_block_marked_at (over_all record_words (over_all records_words (λ k. 0)))) 256 (i + 1)
 unfolding groups_with longest_run has_run are_free doomed_folder zeros with_word spliced
 groups-1 zero small = refl
 groups-1 (suc zero) small = refl
@@ -240,7 +240,7 @@ folder-is_in_order = record { only_linked = folder-only; long_enough = folder-lo
 -- ---- what it stands for
 
 -- nothing is listed
-none-listed : kept_by listed (view_of doomed_folder) ≡ []
+none-listed : kept_by listed_rule (view_of doomed_folder) ≡ []
 unfolding kept_among
 none-listed = rw (walk-order (view_of doomed_folder) (doomed_state true) (doomed_layout 0) folder-is_represented) refl
 

@@ -15,10 +15,10 @@ use Rattle.blk_volume.specs.Walk.{walk}
 use Rattle.blk_volume.specs.Completion.{completed_list}
 use Rattle.blk_volume.specs.View.{View}
 use Rattle.blk_volume.specs.Chains.{Linked, IsChain}
-use Rattle.blk_volume.specs.Loads.{held, Loaded, load, all_claims}
+use Rattle.blk_volume.specs.Loads.{held_rule, Loaded, load, all_claims}
 use Rattle.blk_volume.specs.Audit.{kept_among}
 use Rattle.blk_volume.specs.Found.{row_of}
-use Rattle.blk_volume.specs.Layout.{Layout, is_listed, order, rule_of, IsMarked, HasParentAt, IsLaid, IsDoomedAt, IsListedRecord, Lies, Shows, Represents, HoldsBut}
+use Rattle.blk_volume.specs.Layout.{Layout, is_listed, order, rule_of, HasDirtyMark, HasParentAt, IsPlacedAt, IsDoomedAt, IsListedRecord, IsLayoutOf, Shows, Represents, HoldsExcept}
 use Rattle.blk_volume.specs.Footprint.{IsClear, SameBut, IsFreeBut}
 use Rattle.blk_laws.specs.CommandLaws.{ListedItemsAreAtRest}
 use Rattle.blk_laws.proofs.Owner.{IsOwned, owned, rest-picked}
@@ -76,7 +76,7 @@ pub record IsDead (m : State) (number : ℕ) : Type 0 where
 
 -- ---- something else, or nothing, at the node of a doomed object
 
-module _ (m : State) (y : Layout) (r : Lies m y) (number : ℕ) (o : Object) (here : object_at m number ≡ Some o) (gone : o.live ≡ false) where
+module _ (m : State) (y : Layout) (r : IsLayoutOf m y) (number : ℕ) (o : Object) (here : object_at m number ≡ Some o) (gone : o.live ≡ false) where
   d : IsDoomedAt m y number o
   d = r.doomed_objects number o here gone
 
@@ -109,7 +109,7 @@ module _ (m : State) (y : Layout) (r : Lies m y) (number : ℕ) (o : Object) (he
     by-node : (P : ℕ → Type 0) (w : ℕ) → (y.place_of_doomed number ≡ w → P w) → ((y.place_of_doomed number == w) ≡ false → P w) → P w
     by-node P w f g = ⊎_elim (λ (e : (eqb (y.place_of_doomed number) w ≡ true) × (y.place_of_doomed number ≡ w)). f e.1) (λ (e : (eqb (y.place_of_doomed number) w ≡ false) × _). g e.0) (eqb_tells (y.place_of_doomed number) w)
 
-    mark-next : (i : Item) (x : Loaded) → IsMarked m i x → IsMarked (record m { objects = set m.objects number slot }) i x
+    mark-next : (i : Item) (x : Loaded) → HasDirtyMark m i x → HasDirtyMark (record m { objects = set m.objects number slot }) i x
     mark-next (main key) x p = subst (λ (z : Option Object). IfSome z (λ q. (x.dirty == 0) ≡ q.settled)) (sym (object-aside m number slot (main key) (before (main key)) (after (main key)))) p
     mark-next (part key n) x p = p
 
@@ -158,9 +158,9 @@ module _ (m : State) (y : Layout) (r : Lies m y) (number : ℕ) (o : Object) (he
         })
         (eqb_tells k number)
 
-    pub lies-aside : Lies (record m { objects = set m.objects number slot }) (record y { at = put y.at (y.place_of_doomed number) there; owner = owner })
+    pub lies-aside : IsLayoutOf (record m { objects = set m.objects number slot }) (record y { at = put y.at (y.place_of_doomed number) there; owner = owner })
     lies-aside = record {
-      laid = λ i listed. let q : IsLaid m y i = r.laid i listed in
+      laid = λ i listed. let q : IsPlacedAt m y i = r.laid i listed in
           record { loaded = q.loaded; here = at-else (y.place i) (apart-item i listed) ∙ q.here; row = row-aside m number slot i (before i) (after i) ∙ q.row; mark = mark-next i q.loaded q.mark; parent = parent-next i q.loaded q.parent };
       normal = r.normal;
       chained = λ w x among is. r.chained w x among (sym (at-else w (apart-node w among)) ∙ is);
@@ -178,8 +178,8 @@ module _ (m : State) (y : Layout) (r : Lies m y) (number : ℕ) (o : Object) (he
 -- ---- what is kept while all items are listed
 
 pub listed-rest : ListedItemsAreAtRest
-listed-rest hole v m y r valid once sound =
-    found-but m y r.laid m.uses (λ i h. h) (λ n. is_live_and_settled (object_at m n)) (settled-is_test m y r.laid valid) hole v r once
+listed-rest except v m y r valid once sound =
+    found-but m y r.laid m.uses (λ i h. h) (λ n. is_live_and_settled (object_at m n)) (settled-is_test m y r.laid valid) except v r once
     (λ i x listed is passes. sound i listed)
     (λ i k listed broken ok. absurd (let z : true ≡ false = sym broken ∙ sound i listed in cc))
     ∙ picked-closed m y r.laid m.uses (λ i h. h) (λ n. is_live_and_settled (object_at m n)) (settled-is_test m y r.laid valid) (all-closed m y r.laid valid) ∙ sym (rest-picked m)
@@ -188,28 +188,28 @@ listed-rest hole v m y r valid once sound =
 
 module _ (touched : Claim → Bool) (v u : View) (m : State) (y : Layout) (r : Represents v m y) (number : ℕ) (o : Object) (here : object_at m number ≡ Some o) (gone : o.live ≡ false)
     (same : SameBut touched v u) (free : IsFreeBut (y.place_of_doomed number) touched y) where
-  lies : Lies m y
+  lies : IsLayoutOf m y
   lies = r.holds.lies
 
-  shows : Shows v.stock y
+  shows : Shows v.store y
   shows = r.holds.shows
 
   clear-other : (w : ℕ) (x : Loaded) → (y.place_of_doomed number == w) ≡ false → y.at w ≡ Some x → AreClear touched x
   clear-other w x apart is = all-clear touched x (λ c h. free c w (lies.own w x c is h) apart)
 
-  still-loads : (w : ℕ) (x : Loaded) → (y.place_of_doomed number == w) ≡ false → y.at w ≡ Some x → load u.stock (rule_of y w) w ≡ Ok x
-  still-loads w x apart is = load-outside touched v.stock u.stock same.stock (rule_of y w) w x refl (shows.each w x is) (clear-other w x apart is)
+  still-loads : (w : ℕ) (x : Loaded) → (y.place_of_doomed number == w) ≡ false → y.at w ≡ Some x → load u.store (rule_of y w) w ≡ Ok x
+  still-loads w x apart is = load-outside touched v.store u.store same.store (rule_of y w) w x refl (shows.each w x is) (clear-other w x apart is)
 
   clear-node : (w : ℕ) → is_among (order m y) w ≡ true → IsClear touched w
   clear-node w among =
       let n : IsNodeOf y m.uses w = node-of y m.uses w among in
-      let q : IsLaid m y n.item = lies.laid n.item n.among in
+      let q : IsPlacedAt m y n.item = lies.laid n.item n.among in
       let a : AreClear touched q.loaded = clear-other (y.place n.item) q.loaded (apart-item m y lies number o here gone n.item n.among) q.here in
-      subst (IsClear touched) (node-is v.stock (rule_of y (y.place n.item)) (y.place n.item) q.loaded (shows.each (y.place n.item) q.loaded q.here) ∙ n.is) a.node
+      subst (IsClear touched) (node-is v.store (rule_of y (y.place n.item)) (y.place n.item) q.loaded (shows.each (y.place n.item) q.loaded q.here) ∙ n.is) a.node
 
-  still-chained : (b : ℕ) → b < 65536 → IsChain u.stock b (y.chains b)
-  still-chained b below = let c : IsChain v.stock b (y.chains b) = shows.chains b below in record {
-    linked = subst (λ (x : ℕ). Linked u.stock b x (y.chains b)) (same.table b) (linked-same touched v.stock u.stock same.stock b (v.stock.table b) (y.chains b)
+  still-chained : (b : ℕ) → b < 65536 → IsChain u.store b (y.chains b)
+  still-chained b below = let c : IsChain v.store b (y.chains b) = shows.chains b below in record {
+    linked = subst (λ (x : ℕ). Linked u.store b x (y.chains b)) (same.table b) (linked-same touched v.store u.store same.store b (v.store.table b) (y.chains b)
         (λ w h. let q : IsListedRecord m y w = lies.unchained b w below h in subst (IsClear touched) q.record_is (clear-other q.node q.loaded (apart-node m y lies number o here gone q.node q.listed) q.here).contents) c.linked);
     once = c.once;
   }
@@ -217,17 +217,17 @@ module _ (touched : Claim → Bool) (v u : View) (m : State) (y : Layout) (r : R
   still-listed : IsList u.list (order m y)
   still-listed = list-outside touched v.list u.list (order m y) same.links clear-node r.list
 
-  nothing : u.stock.entry 0 ≡ None
-  nothing = sym (same.stock.entry 0 (clear-zero touched)) ∙ shows.no_record
+  nothing : u.store.entry 0 ≡ None
+  nothing = sym (same.store.entry 0 (clear-zero touched)) ∙ shows.no_record
 
   idle : u.list.transaction ≡ 0
   idle = sym same.links.transaction ∙ r.idle
 
   -- what is kept at a moment of this
-  pub aside-rest : IsValidState m → map row_of (kept_among u.stock held (walk (completed_list u.list))) ≡ model.rest m
-  aside-rest valid = ap (λ (ws : List ℕ). map row_of (kept_among u.stock held ws)) (walk-idle u.list idle ∙ walk_list u.list (order m y) still-listed) ∙
-      listed-rest (λ w. y.place_of_doomed number == w) u.stock m y but valid r.list.distinct (λ i listed. apart-item m y lies number o here gone i listed) where
-        but : HoldsBut (λ w. y.place_of_doomed number == w) u.stock m y
+  pub aside-rest : IsValidState m → map row_of (kept_among u.store held_rule (walk (completed_list u.list))) ≡ model.rest m
+  aside-rest valid = ap (λ (ws : List ℕ). map row_of (kept_among u.store held_rule ws)) (walk-idle u.list idle ∙ walk_list u.list (order m y) still-listed) ∙
+      listed-rest (λ w. y.place_of_doomed number == w) u.store m y but valid r.list.distinct (λ i listed. apart-item m y lies number o here gone i listed) where
+        but : HoldsExcept (λ w. y.place_of_doomed number == w) u.store m y
         but = record {
           no_record = nothing;
           each = λ w x is apart. still-loads w x apart is;
@@ -239,13 +239,13 @@ module _ (touched : Claim → Bool) (v u : View) (m : State) (y : Layout) (r : R
           single = lies.single;
         }
 
-  module _ (slot : Option Object) (there : Option Loaded) (owner : Claim → Option ℕ) (loads : (k : Loaded) → there ≡ Some k → load u.stock (rule_of y (y.place_of_doomed number)) (y.place_of_doomed number) ≡ Ok k)
-      (next : Lies (record m { objects = set m.objects number slot }) (record y { at = put y.at (y.place_of_doomed number) there; owner = owner })) where
-    each : (w : ℕ) (x : Loaded) → put y.at (y.place_of_doomed number) there w ≡ Some x → load u.stock (rule_of y w) w ≡ Ok x
+  module _ (slot : Option Object) (there : Option Loaded) (owner : Claim → Option ℕ) (loads : (k : Loaded) → there ≡ Some k → load u.store (rule_of y (y.place_of_doomed number)) (y.place_of_doomed number) ≡ Ok k)
+      (next : IsLayoutOf (record m { objects = set m.objects number slot }) (record y { at = put y.at (y.place_of_doomed number) there; owner = owner })) where
+    each : (w : ℕ) (x : Loaded) → put y.at (y.place_of_doomed number) there w ≡ Some x → load u.store (rule_of y w) w ≡ Ok x
     each w x is = ⊎_elim
         (λ (e : (eqb (y.place_of_doomed number) w ≡ true) × (y.place_of_doomed number ≡ w)).
         let p : there ≡ Some x = sym (at-itself y.at (y.place_of_doomed number) there) ∙ ap (put y.at (y.place_of_doomed number) there) e.1 ∙ is in
-        subst (λ (z : ℕ). load u.stock (rule_of y z) z ≡ Ok x) e.1 (loads x p))
+        subst (λ (z : ℕ). load u.store (rule_of y z) z ≡ Ok x) e.1 (loads x p))
         (λ (e : (eqb (y.place_of_doomed number) w ≡ false) × _). still-loads w x e.0 (sym (at-elsewhere y.at (y.place_of_doomed number) there w e.0) ∙ is))
         (eqb_tells (y.place_of_doomed number) w)
 

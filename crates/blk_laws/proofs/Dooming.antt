@@ -16,12 +16,12 @@ use Rattle.blk_model.proofs.Each.{some_within}
 use Rattle.blk_format.specs.BlockFiles.{is_among}
 use Rattle.blk_format.specs.Claims.{Claim}
 use Rattle.blk_volume.specs.ListView.{put}
-use Rattle.blk_volume.specs.Loads.{alone, Loaded, load}
+use Rattle.blk_volume.specs.Loads.{unchained_rule, Loaded, load}
 use Rattle.blk_volume.specs.Found.{row_of}
-use Rattle.blk_volume.specs.Layout.{Layout, is_listed, nodes_of, order, IsLaid, IsDoomedAt, Lies}
+use Rattle.blk_volume.specs.Layout.{Layout, is_listed, nodes_of, order, IsPlacedAt, IsDoomedAt, IsLayoutOf}
 use Rattle.blk_volume.specs.Given.{picked_with}
-use Rattle.blk_volume.specs.Removal.{is_of_another, laid_doomed, without_items}
-use Rattle.blk_laws.specs.CommandLaws.{DoomsKeepTheOthers, IsDoomedNow, DoomedIsLaid, DoomedIsRepresented}
+use Rattle.blk_volume.specs.Removal.{is_of_another, placed_doomed, without_items}
+use Rattle.blk_laws.specs.CommandLaws.{DoomsKeepTheOthers, IsDoomedNow, DoomedIsPlaced, DoomedIsRepresented}
 use Rattle.blk_laws.proofs.Owner.{its-key, settled-picked}
 use Rattle.blk_laws.proofs.Laid.{IsNodeOf, node-of, is_among-node}
 use Rattle.blk_laws.proofs.Central.{settled-is_test}
@@ -70,8 +70,8 @@ module _ (m : State) (number : ℕ) (o : Object) (here : object_at m number ≡ 
 -- ---- what is kept
 
 pub dooms-keep : DoomsKeepTheOthers
-dooms-keep hole v m y r valid number o here keep out others once sound =
-    removed-rows hole v m y r valid (λ n. is_live_and_settled (object_at m n)) (settled-is_test m y r.laid valid) keep once sound
+dooms-keep except v m y r valid number o here keep out others once sound =
+    removed-rows except v m y r valid (λ n. is_live_and_settled (object_at m n)) (settled-is_test m y r.laid valid) keep once sound
     ∙ ap (λ (p : Item → Bool). filter_map (picked_with m (λ n. is_live_and_settled (object_at m n))) (filter p m.uses)) (λ i x. same x i)
     ∙ sym (rest-doomed m number o here) where
       none : (b : Bool) → (b && false) ≡ false
@@ -90,14 +90,14 @@ dooms-keep hole v m y r valid number o here keep out others once sound =
 
 -- ---- what lies where
 
-module _ (m : State) (y : Layout) (r : Lies m y) (valid : IsValidState m) (number : ℕ) (o : Object) (l : Loaded) (at : ℕ → Option Loaded) (chains : ℕ → List ℕ) (owner : Claim → Option ℕ) (now : IsDoomedNow m y number o l at chains owner) where
+module _ (m : State) (y : Layout) (r : IsLayoutOf m y) (valid : IsValidState m) (number : ℕ) (o : Object) (l : Loaded) (at : ℕ → Option Loaded) (chains : ℕ → List ℕ) (owner : Claim → Option ℕ) (now : IsDoomedNow m y number o l at chains owner) where
   here : object_at m number ≡ Some o
   here = now.lies.here
 
   its-main : is_listed m (main o.key) ≡ true
   its-main = main-listed m valid number o true here now.lies.live
 
-  laid : IsLaid m y (main o.key)
+  laid : IsPlacedAt m y (main o.key)
   laid = r.laid (main o.key) its-main
 
   its-loaded : laid.loaded ≡ l
@@ -138,7 +138,7 @@ module _ (m : State) (y : Layout) (r : Lies m y) (valid : IsValidState m) (numbe
   at-number =
       let within : number < length m.objects = some_within m.objects number o here in
       let same : object_at (doomed number m (Some o)) number ≡ doomed_slot (is_named m number) o = rw get_or-set_same in
-      same ∙ ap (λ (held : Bool). doomed_slot held o) now.named
+      same ∙ ap (λ (held : Bool). doomed_slot held o) now.node_fields
 
   at-other : (k : ℕ) → k ≢ number → object_at (doomed number m (Some o)) k ≡ object_at m k
   unfolding doomed
@@ -180,14 +180,14 @@ module _ (m : State) (y : Layout) (r : Lies m y) (valid : IsValidState m) (numbe
       (λ (h : is_among (nodes_of y (filter (is_of_another o.key) m.uses)) (y.place (main o.key)) ≡ false). h)
       (cases_Bool (is_among (nodes_of y (filter (is_of_another o.key) m.uses)) (y.place (main o.key))))
 
-  dead : (k : ℕ) (x : Object) → object_at (doomed number m (Some o)) k ≡ Some x → x.live ≡ false → IsDoomedAt (doomed number m (Some o)) (laid_doomed y number (y.place (main o.key)) at chains owner) k x
+  dead : (k : ℕ) (x : Object) → object_at (doomed number m (Some o)) k ≡ Some x → x.live ≡ false → IsDoomedAt (doomed number m (Some o)) (placed_doomed y number (y.place (main o.key)) at chains owner) k x
   unfolding doomed
   dead k x is gone = ⊎_elim
       (λ (e : (eqb k number ≡ true) × (k ≡ number)).
       let p : ◌≡◌ {A = Option Object} (Some (record o { live = false; parts = [] })) (Some x) = sym at-number ∙ ap (object_at (doomed number m (Some o))) (sym e.1) ∙ is in
       let s : (let z : Object = record o { live = false; parts = [] } in z) ≡ x = cc in
-      subst (λ (z : ℕ). IsDoomedAt (doomed number m (Some o)) (laid_doomed y number (y.place (main o.key)) at chains owner) z x) (sym e.1)
-      (subst (IsDoomedAt (doomed number m (Some o)) (laid_doomed y number (y.place (main o.key)) at chains owner) number) s (record {
+      subst (λ (z : ℕ). IsDoomedAt (doomed number m (Some o)) (placed_doomed y number (y.place (main o.key)) at chains owner) z x) (sym e.1)
+      (subst (IsDoomedAt (doomed number m (Some o)) (placed_doomed y number (y.place (main o.key)) at chains owner) number) s (record {
         loaded = l;
         here = ap at (at-itself y.place_of_doomed number (y.place (main o.key))) ∙ now.stays;
         row = its-row;
@@ -215,18 +215,18 @@ module _ (m : State) (y : Layout) (r : Lies m y) (valid : IsValidState m) (numbe
       })
       (eqb_tells k number)
 
-  pub lies-doomed : Lies (doomed number m (Some o)) (laid_doomed y number (y.place (main o.key)) at chains owner)
+  pub lies-doomed : IsLayoutOf (doomed number m (Some o)) (placed_doomed y number (y.place (main o.key)) at chains owner)
   unfolding doomed
   lies-doomed = lies-without m (doomed number m (Some o)).objects (is_of_another o.key) y at chains owner (put y.place_of_doomed number (y.place (main o.key))) (put y.state (y.place (main o.key)) 2) r rows settled (λ key n k. k) now.less normal dead
 
-pub doomed-is-laid : DoomedIsLaid
+pub doomed-is-laid : DoomedIsPlaced
 doomed-is-laid m y r valid number o l at chains owner now = lies-doomed m y r valid number o l at chains owner now
 
 -- ---- what is represented
 
 pub doomed-is-represented : DoomedIsRepresented
 unfolding doomed
-doomed-is-represented hole v m y r valid number o l at chains owner now but left loads rest = record {
+doomed-is-represented except v m y r valid number o l at chains owner now but left loads rest = record {
   holds = record {
     shows = record { no_record = but.no_record; each = each; chains = but.chains };
     lies = lies-doomed m y r valid number o l at chains owner now;
@@ -234,17 +234,17 @@ doomed-is-represented hole v m y r valid number o l at chains owner now but left
   list = rest.whole;
   idle = rest.idle;
 } where
-  sound : (w : ℕ) (x : Loaded) → at w ≡ Some x → (y.place (main o.key) == w) ≡ false → hole w ≡ false
+  sound : (w : ℕ) (x : Loaded) → at w ≡ Some x → (y.place (main o.key) == w) ≡ false → except w ≡ false
   sound w x is apart = ⊎_elim
-      (λ (h : hole w ≡ true). absurd (let z : true ≡ false = sym (eq-eqb (y.place (main o.key)) w (left w x is h)) ∙ apart in cc))
-      (λ (h : hole w ≡ false). h)
-      (cases_Bool (hole w))
+      (λ (h : except w ≡ true). absurd (let z : true ≡ false = sym (eq-eqb (y.place (main o.key)) w (left w x is h)) ∙ apart in cc))
+      (λ (h : except w ≡ false). h)
+      (cases_Bool (except w))
 
-  each : (w : ℕ) (x : Loaded) → at w ≡ Some x → load v.stock (alone (put y.state (y.place (main o.key)) 2 w)) w ≡ Ok x
+  each : (w : ℕ) (x : Loaded) → at w ≡ Some x → load v.store (unchained_rule (put y.state (y.place (main o.key)) 2 w)) w ≡ Ok x
   each w x is = ⊎_elim
       (λ (e : (eqb (y.place (main o.key)) w ≡ true) × (y.place (main o.key) ≡ w)).
       let s : l ≡ x = let a : at (y.place (main o.key)) ≡ Some l = now.stays in let b : at (y.place (main o.key)) ≡ Some x = ap at e.1 ∙ is in cc in
-      subst (λ (z : ℕ). load v.stock (alone (put y.state (y.place (main o.key)) 2 z)) z ≡ Ok x) e.1
-      (ap (λ (s : ℕ). load v.stock (alone s) (y.place (main o.key))) (at-itself y.state (y.place (main o.key)) 2) ∙ loads ∙ ap (λ (z : Loaded). Ok z) s))
-      (λ (e : (eqb (y.place (main o.key)) w ≡ false) × _). ap (λ (s : ℕ). load v.stock (alone s) w) (at-elsewhere y.state (y.place (main o.key)) 2 w e.0) ∙ but.each w x (now.less.was w x is) (sound w x is e.0))
+      subst (λ (z : ℕ). load v.store (unchained_rule (put y.state (y.place (main o.key)) 2 z)) z ≡ Ok x) e.1
+      (ap (λ (s : ℕ). load v.store (unchained_rule s) (y.place (main o.key))) (at-itself y.state (y.place (main o.key)) 2) ∙ loads ∙ ap (λ (z : Loaded). Ok z) s))
+      (λ (e : (eqb (y.place (main o.key)) w ≡ false) × _). ap (λ (s : ℕ). load v.store (unchained_rule s) w) (at-elsewhere y.state (y.place (main o.key)) 2 w e.0) ∙ but.each w x (now.less.was w x is) (sound w x is e.0))
       (eqb_tells (y.place (main o.key)) w)

@@ -18,7 +18,7 @@ pub empty-valid : (limits : Bounds) → IsValidState (open_state [] limits)
 empty-valid limits = open_valid [] limits (record { once = λ item. omega arith; each = λ i d less. absurd (omega arith); parents = λ i d less. absurd (omega arith) })
 
 -- a view with no list and no chain
-pub empty-view : (v : View) (limits : Bounds) → v.stock.entry 0 ≡ None → ((b : ℕ) → b < 65536 → v.stock.table b ≡ 0) → IsList v.list [] → v.list.transaction ≡ 0 → Represents v (open_state [] limits) no_layout
+pub empty-view : (v : View) (limits : Bounds) → v.store.entry 0 ≡ None → ((b : ℕ) → b < 65536 → v.store.table b ≡ 0) → IsList v.list [] → v.list.transaction ≡ 0 → Represents v (open_state [] limits) no_layout
 unfolding open_state objects_in
 empty-view v limits record_0 table list idle = record {
   holds = record {

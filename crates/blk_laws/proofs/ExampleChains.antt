@@ -3,7 +3,7 @@ use Rattle.std.proofs.Common.{◌≡◌, ℕ, ◌<◌, ◌≤◌, length, [], �
 use Rattle.std.specs.Prelude.{◌==◌, ◌||◌}
 use Rattle.std.proofs.lemmas.Bool.Decides.{nat_tests}
 use Rattle.blk_volume.specs.ListView.{put}
-use Rattle.blk_volume.specs.View.{Stock, stock_of}
+use Rattle.blk_volume.specs.View.{StoreView, store_of}
 use Rattle.blk_volume.specs.Chains.{chain, most_records, Linked, IsChain}
 use Rattle.blk_laws.proofs.DamagedViews.{entry, shown}
 use Rattle.blk_laws.proofs.Chains.{chain-is}
@@ -18,8 +18,8 @@ abbrev bucket : ℕ
 bucket = 0xA782
 
 -- three records in a chain, and a fourth whose next is the first of them
-abbrev four_records : Stock
-four_records = (shown 0 0xA0010000 [] ((0xA0010000, entry 0xA0010001 0) ∷ (0xA0010001, entry 0xA0010002 0) ∷ (0xA0010002, entry 0 0) ∷ (0xA0010003, entry 0xA0010000 0) ∷ [])).stock
+abbrev four_records : StoreView
+four_records = (shown 0 0xA0010000 [] ((0xA0010000, entry 0xA0010001 0) ∷ (0xA0010001, entry 0xA0010002 0) ∷ (0xA0010002, entry 0 0) ∷ (0xA0010003, entry 0xA0010000 0) ∷ [])).store
 
 three-are_chained : IsChain four_records bucket (0xA0010000 ∷ 0xA0010001 ∷ 0xA0010002 ∷ [])
 three-are_chained = record { linked = (refl, refl, (refl, refl, (refl, refl, refl))); once = (refl, (refl, (refl, tt))) }
@@ -42,15 +42,15 @@ first-goes_out =
     unlink-first four_records (record four_records { table = put four_records.table bucket 0xA0010001 }) bucket 0xA0010000 0xA0010000 (0xA0010001 ∷ 0xA0010002 ∷ []) (λ w among. (refl, refl)) three-are_chained.linked
 
 -- the second goes out: the first has its next
-abbrev without_second : Stock
-without_second = record four_records { follow = put four_records.follow 0xA0010000 0xA0010002 }
+abbrev without_second : StoreView
+without_second = record four_records { chain_next = put four_records.chain_next 0xA0010000 0xA0010002 }
 
 -- the records before and behind it are linked
 pub second-goes_out : Linked without_second bucket 0xA0010000 (0xA0010000 ∷ 0xA0010002 ∷ [])
 unfolding put
 second-goes_out =
     unlink-behind four_records without_second bucket 0xA0010000 0xA0010000 0xA0010001 [] (0xA0010002 ∷ []) (λ w among. refl) (λ w among. absurd (let z : false ≡ true = among in cc))
-    (λ w among. let is : w ≡ 0xA0010002 = only w among in subst (λ (x : ℕ). without_second.follow x ≡ four_records.follow x) (sym is) refl) refl three-are_chained.linked where
+    (λ w among. let is : w ≡ 0xA0010002 = only w among in subst (λ (x : ℕ). without_second.chain_next x ≡ four_records.chain_next x) (sym is) refl) refl three-are_chained.linked where
       only : (w : ℕ) → ((0xA0010002 == w) || false) ≡ true → w ≡ 0xA0010002
       only w among = grind (arith, nat_tests)
 
@@ -63,7 +63,7 @@ pub second-leaves_chain : IsChain without_second bucket (0xA0010000 ∷ 0xA00100
 unfolding put
 second-leaves_chain =
     later-leaves four_records without_second bucket 0xA0010000 0xA0010001 [] (0xA0010002 ∷ []) (λ w among. refl) (λ w among. absurd (let z : false ≡ true = among in cc))
-    (λ w among. let is : w ≡ 0xA0010002 = only w among in subst (λ (x : ℕ). without_second.follow x ≡ four_records.follow x) (sym is) refl) refl refl three-are_chained where
+    (λ w among. let is : w ≡ 0xA0010002 = only w among in subst (λ (x : ℕ). without_second.chain_next x ≡ four_records.chain_next x) (sym is) refl) refl refl three-are_chained where
       only : (w : ℕ) → ((0xA0010002 == w) || false) ≡ true → w ≡ 0xA0010002
       only w among = grind (arith, nat_tests)
 
@@ -71,7 +71,7 @@ second-leaves_chain =
 pub three-are_short : length {A = ℕ} (0xA0010000 ∷ 0xA0010001 ∷ 0xA0010002 ∷ []) ≤ most_records
 three-are_short = chains-short four_records bucket (0xA0010000 ∷ 0xA0010001 ∷ 0xA0010002 ∷ []) three-are_chained
 
-whole-chain : IsChain (stock_of whole_folder) one.bucket ((one.layout 0).chains one.bucket)
+whole-chain : IsChain (store_of whole_folder) one.bucket ((one.layout 0).chains one.bucket)
 whole-chain = whole-chains one.bucket (lit≤ tt)
 
 pub whole-chain_is_short : length ((one.layout 0).chains one.bucket) < most_records
@@ -79,4 +79,4 @@ whole-chain_is_short = image-chains-short whole_folder one.bucket ((one.layout 0
 
 pub whole-records_are_few : length ((one.layout 0).chains one.bucket) < most_records
 whole-records_are_few =
-    records-few whole_folder ((one.layout 0).chains one.bucket) (all-stand whole_folder one.bucket ((stock_of whole_folder).table one.bucket) ((one.layout 0).chains one.bucket) whole-chain.linked) whole-chain.once
+    records-few whole_folder ((one.layout 0).chains one.bucket) (all-stand whole_folder one.bucket ((store_of whole_folder).table one.bucket) ((one.layout 0).chains one.bucket) whole-chain.linked) whole-chain.once

@@ -13,17 +13,17 @@ use Rattle.blk_format.specs.Address.{kind_of, block_count, file_selector, first_
 use Rattle.blk_format.specs.Storage.{entry_blocks}
 use Rattle.blk_format.specs.Claims.{Claim, BlockOf, ExternalOf, same_claim, claims_of, has_claim, repeats}
 use Rattle.blk_volume.specs.ListView.{put}
-use Rattle.blk_volume.specs.View.{View, Named}
+use Rattle.blk_volume.specs.View.{View, NodeFields}
 use Rattle.blk_volume.specs.Entries.{is_key_length, stream_of, streams_of, role_of}
 use Rattle.blk_volume.specs.Entries as entries
-use Rattle.blk_volume.specs.Loads.{alone, held, Loaded, load, load_key, load_record, record_claims, all_claims}
+use Rattle.blk_volume.specs.Loads.{unchained_rule, held_rule, Loaded, load, load_key, load_record, record_claims, all_claims}
 use Rattle.blk_volume.specs.Chains.{IsChain}
 use Rattle.blk_volume.specs.Audit.{kept_among, kept_by}
 use Rattle.blk_volume.specs.Found as volume
-use Rattle.blk_volume.specs.Layout.{Lies, HoldsBut, IsMidst, Represents, OneChanged, changed_at, IsChange}
+use Rattle.blk_volume.specs.Layout.{IsLayoutOf, HoldsExcept, IsInProgress, Represents, OneChanged, changed_at, IsChange}
 use Rattle.blk_volume.specs.Footprint.{IsClear, SameBut, IsFree, IsFreeBut, IsReplaced}
 use Rattle.blk_laws.specs.CommandLaws.{marked, dirtied, turned}
-use Rattle.blk_laws.proofs.OneEntry.{object, state, node, contents, bucket, loaded, layout, core, stock, view, choice, at-node, claims, represented, lies, midst}
+use Rattle.blk_laws.proofs.OneEntry.{object, state, node, contents, bucket, loaded, layout, fields, store, view, choice, at-node, claims, represented, lies, midst}
 use Rattle.blk_laws.proofs.Premises.{state_is_valid}
 use Rattle.blk_laws.proofs.Changing.{lies-changed}
 use Rattle.blk_laws.proofs.Replacing.{replaced}
@@ -69,8 +69,8 @@ touched = has_claim (BlockOf 1 0 ∷ BlockOf 1 1 ∷ BlockOf 1 2 ∷ [])
 -- the record has the new size and place, and there the view has this
 abbrev with_data : Option (List ℕ) → View
 with_data bytes = record (view 5) {
-  stock = record (stock contents 5) {
-    entry = λ w. if w == contents then Some (record core { data_size = 3 ∷ 0 ∷ 0 ∷ 0 ∷ []; data_addr = 0xA0010002 ∷ 0 ∷ 0 ∷ 0 ∷ [] }) else None;
+  store = record (store contents 5) {
+    entry = λ w. if w == contents then Some (record fields { data_size = 3 ∷ 0 ∷ 0 ∷ 0 ∷ []; data_addr = 0xA0010002 ∷ 0 ∷ 0 ∷ 0 ∷ [] }) else None;
     stored = λ size w. if (size == 0) && (w == 0) then Some [] else if (size == 3) && (w == 0xA0010002) then bytes else None;
   };
 }
@@ -83,11 +83,11 @@ touched-claims = (refl, refl, refl)
 same-but : (bytes : Option (List ℕ)) → SameBut touched (view 5) (with_data bytes)
 same-but bytes = record {
   links = record { head = refl; tail = refl; transaction = refl; checks = λ w clear. refl; next = λ w clear. refl; prev = λ w clear. refl };
-  stock = record {
-    named = λ w clear. refl;
+  store = record {
+    node_fields = λ w clear. refl;
     entry = λ w clear. let n : (w == contents) ≡ false = not-clear touched w contents (BlockOf 1 0) named-blocks.0 touched-claims.0 clear in rw n refl;
-    follow = λ w clear. refl;
-    key_place = λ w core clear is long short. refl;
+    chain_next = λ w clear. refl;
+    key_place = λ w fields clear is long short. refl;
     stored = λ size w clear.
         let a : (w == 0xA0010001) ≡ false = not-clear touched w 0xA0010001 (BlockOf 1 1) named-blocks.1 touched-claims.1 clear in
         let b : (w == 0xA0010002) ≡ false = not-clear touched w 0xA0010002 (BlockOf 1 2) named-blocks.2 touched-claims.2 clear in
@@ -96,7 +96,7 @@ same-but bytes = record {
   table = λ b. refl;
 }
 
-now-loads : load (with_data (Some (codes "yyy"))).stock (alone 0) node ≡ Ok now
+now-loads : load (with_data (Some (codes "yyy"))).store (unchained_rule 0) node ≡ Ok now
 unfolding load load_record load_key is_key_length entries.key_of stream_of streams_of role_of block_count entry_blocks hash mixed of_bytes of_one
 now-loads = refl
 
@@ -138,13 +138,13 @@ apart-but : IsFreeBut node touched (layout 5)
 apart-but c w owned apart = absurd (let z : true ≡ false = sym (eq-eqb node w (only-node 5 w c owned)) ∙ apart in cc)
 
 is-replaced : IsReplaced touched (view 5) (with_data (Some (codes "yyy"))) (layout 5) node (loaded 5) now
-is-replaced = record { apart = apart-but; loads = now-loads; bucket = λ b. refl; follow = refl; links = record { checks = refl; next = refl; prev = refl } }
+is-replaced = record { apart = apart-but; loads = now-loads; bucket = λ b. refl; chain_next = refl; links = record { checks = refl; next = refl; prev = refl } }
 
 abbrev written_state : State
 written_state = record (state false) { objects = Some written_object ∷ [] }
 
 -- a changed item is laid out
-pub written-is_laid : Lies written_state (changed_at (layout 5) node now owners_now)
+pub written-is_laid : IsLayoutOf written_state (changed_at (layout 5) node now owners_now)
 written-is_laid = lies-changed (state false) (Some written_object ∷ []) (layout 5) (main (codes "a")) (loaded 5) now owners_now (represented 5).holds.lies one-changed refl refl is-change
 
 -- and represented
@@ -153,21 +153,21 @@ written-is_represented =
     replaced touched (view 5) (with_data (Some (codes "yyy"))) (state false) (layout 5) (represented 5) (Some written_object ∷ []) (main (codes "a")) (loaded 5) now owners_now (same-but (Some (codes "yyy"))) one-changed refl refl is-change is-replaced
 
 -- at a moment when the record names the new place and the data isn't there yet, what is at rest is kept
-pub torn-is_at_rest : map volume.row_of (kept_by held (volume.completed (with_data None))) ≡ rest (state false)
+pub torn-is_at_rest : map volume.row_of (kept_by held_rule (volume.completed (with_data None))) ≡ rest (state false)
 torn-is_at_rest =
     moment-rest touched (view 5) (with_data None) (state false) (layout 5) (represented 5) (state_is_valid false) 0 (object false) (main (codes "a")) refl refl refl (loaded 5) refl (same-but None)
-    (record { apart = apart-but; named = refl; bucket = λ b. refl; follow = refl; links = record { checks = refl; next = refl; prev = refl } }) tt
+    (record { apart = apart-but; node_fields = refl; bucket = λ b. refl; chain_next = refl; links = record { checks = refl; next = refl; prev = refl } }) tt
 
 -- and so it is with the node's record in the midst of this
-torn-chains : (b : ℕ) → b < 65536 → IsChain (with_data None).stock b ((layout 5).chains b)
+torn-chains : (b : ℕ) → b < 65536 → IsChain (with_data None).store b ((layout 5).chains b)
 torn-chains b below = ⊎_elim
-    (λ (e : (b == bucket) ≡ true). subst (λ (x : ℕ). IsChain (with_data None).stock x ((layout 5).chains x)) (sym (eqb-true b bucket e)) (record { linked = (refl, refl, refl); once = (refl, tt) }))
+    (λ (e : (b == bucket) ≡ true). subst (λ (x : ℕ). IsChain (with_data None).store x ((layout 5).chains x)) (sym (eqb-true b bucket e)) (record { linked = (refl, refl, refl); once = (refl, tt) }))
     (λ (e : (b == bucket) ≡ false). record { linked = rw e refl; once = rw e tt })
     (cases_Bool (b == bucket))
 
-torn-holds : HoldsBut (λ w. w == node) (with_data None).stock (state false) (layout 5)
+torn-holds : HoldsExcept (λ w. w == node) (with_data None).store (state false) (layout 5)
 torn-holds =
-    let l : Lies (state false) (layout 5) = (represented 5).holds.lies in
+    let l : IsLayoutOf (state false) (layout 5) = (represented 5).holds.lies in
     record {
       no_record = refl;
       each = λ w l is out. let same = at-node 5 w l is in absurd (let z : true ≡ false = sym (eq-eqb w node same.0) ∙ out in cc);
@@ -179,13 +179,13 @@ torn-holds =
       single = l.single;
     }
 
-torn-midst : IsMidst (λ w. w == node) (with_data None).stock (state false) (layout 5) (codes "a")
+torn-midst : IsInProgress (λ w. w == node) (with_data None).store (state false) (layout 5) (codes "a")
 unfolding load load_record load_key
 torn-midst = record { of_key = midst.of_key; unsettled = midst.unsettled; dirty = λ l ok. cc; parts = λ n was now h is at ok. absurd (let z : false ≡ true = h in cc); names = midst.names }
 
 -- what is at rest is kept
-pub midst-is_at_rest : map volume.row_of (kept_among (with_data None).stock held (node ∷ [])) ≡ rest (state false)
-midst-is_at_rest = midst-rest (λ w. w == node) (with_data None).stock (state false) (layout 5) torn-holds (state_is_valid false) (codes "a") torn-midst (refl, tt)
+pub midst-is_at_rest : map volume.row_of (kept_among (with_data None).store held_rule (node ∷ [])) ≡ rest (state false)
+midst-is_at_rest = midst-rest (λ w. w == node) (with_data None).store (state false) (layout 5) torn-holds (state_is_valid false) (codes "a") torn-midst (refl, tt)
 
 -- Data is written at block 2 of data_1, which is nobody's.
 
@@ -195,7 +195,7 @@ new_block claim = same_claim claim (BlockOf 1 2)
 
 abbrev with_more : View
 with_more = record (view 0) {
-  stock = record (stock contents 0) {
+  store = record (store contents 0) {
     stored = λ size w. if (size == 0) && (w == 0) then Some [] else if (size == 2) && (w == 0xA0010001) then Some (codes "zz") else if (size == 3) && (w == 0xA0010002) then Some (codes "yyy") else None;
   };
 }
@@ -203,11 +203,11 @@ with_more = record (view 0) {
 same-but_more : SameBut new_block (view 0) with_more
 same-but_more = record {
   links = record { head = refl; tail = refl; transaction = refl; checks = λ w clear. refl; next = λ w clear. refl; prev = λ w clear. refl };
-  stock = record {
-    named = λ w clear. refl;
+  store = record {
+    node_fields = λ w clear. refl;
     entry = λ w clear. refl;
-    follow = λ w clear. refl;
-    key_place = λ w core clear is long short. refl;
+    chain_next = λ w clear. refl;
+    key_place = λ w fields clear is long short. refl;
     stored = λ size w clear. let b : (w == 0xA0010002) ≡ false = not-clear new_block w 0xA0010002 (BlockOf 1 2) named-blocks.2 refl clear in rw (b, and-false (size == 3)) refl;
   };
   table = λ b. refl;
@@ -230,11 +230,11 @@ more-is_represented = represents-outside new_block (view 0) with_more (state tru
 same-but_dirt : SameBut (has_claim (claims_of node)) (view 0) (view 5)
 same-but_dirt = record {
   links = record { head = refl; tail = refl; transaction = refl; checks = λ w clear. refl; next = λ w clear. refl; prev = λ w clear. refl };
-  stock = record {
-    named = λ w clear. let n : (w == node) ≡ false = not-clear (has_claim (claims_of node)) w node (BlockOf 0 0) named-blocks.3 named-blocks.3 clear in rw n refl;
+  store = record {
+    node_fields = λ w clear. let n : (w == node) ≡ false = not-clear (has_claim (claims_of node)) w node (BlockOf 0 0) named-blocks.3 named-blocks.3 clear in rw n refl;
     entry = λ w clear. refl;
-    follow = λ w clear. refl;
-    key_place = λ w core clear is long short. refl;
+    chain_next = λ w clear. refl;
+    key_place = λ w fields clear is long short. refl;
     stored = λ size w clear. refl;
   };
   table = λ b. refl;
@@ -244,7 +244,7 @@ same-but_dirt = record {
 pub dirtied-is_represented : Represents (view 5) (marked (state true) 0 (object true) false) (dirtied (layout 0) node (loaded 0) 5)
 dirtied-is_represented =
     written-settles (view 0) (view 5) (state true) (layout 0) (represented 0) (state_is_valid true) 0 (object true) (loaded 0) (lies 0) 5 same-but_dirt
-    (λ named is. let s : ◌≡◌ {A = Named} (record { contents = contents; dirty = 0 }) named = cc in ap (λ (n : Named). Some (record n { dirty = 5 })) s)
+    (λ node_fields is. let s : ◌≡◌ {A = NodeFields} (record { contents = contents; dirty = 0 }) node_fields = cc in ap (λ (n : NodeFields). Some (record n { dirty = 5 })) s)
     (record { checks = refl; next = refl; prev = refl })
 
 -- what is at rest before and after this is picked by it
@@ -253,5 +253,5 @@ pub turned-is_picked : (rest (state true) ≡ pick (state true) (turned (state t
 turned-is_picked = (before-turning (state true) (state_is_valid true) 0 (object true) false (state true).names refl refl, after-turning (state true) (state_is_valid true) 0 (object true) false (state true).names refl refl)
 
 -- and so it does where the word alone is another
-pub marked-is_represented : Represents (record (view 0) { stock = record (view 0).stock { named = put (view 0).stock.named node (Some (record { contents = contents; dirty = 5 })) } }) (marked (state true) 0 (object true) false) (dirtied (layout 0) node (loaded 0) 5)
+pub marked-is_represented : Represents (record (view 0) { store = record (view 0).store { node_fields = put (view 0).store.node_fields node (Some (record { contents = contents; dirty = 5 })) } }) (marked (state true) 0 (object true) false) (dirtied (layout 0) node (loaded 0) 5)
 marked-is_represented = dirty-settles (view 0) (state true) (layout 0) (represented 0) (state_is_valid true) 0 (object true) (loaded 0) (lies 0) (record { contents = contents; dirty = 0 }) 5 refl

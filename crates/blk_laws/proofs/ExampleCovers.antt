@@ -7,13 +7,12 @@ use Rattle.blk_image.specs.Image.{Index, Block, External, Image, same_file}
 use Rattle.blk_image.specs.Steps.{Word, applied, with_word}
 use Rattle.blk_image.specs.Footprint.{range, whole, either, SameOutside}
 use Rattle.blk_image.proofs.Footprints.{outside_write, range_within}
-use Rattle.blk_format.specs.Address.{is_address, is_initialized, names_external, names_blocks, kind_of, reserved_bits, block_count, file_selector, first_block, external_number, external, block_size, block_place, place, room}
+use Rattle.blk_format.specs.Address.{is_address, is_initialized, names_external, names_blocks, kind_of, reserved_bits, block_count, file_selector, first_block, external_number, external, block_size, block_place, place, byte_size}
 use Rattle.blk_format.specs.Standing.{stands, stands_as_blocks}
 use Rattle.blk_format.specs.Claims.{BlockOf, ExternalOf, same_claim, claims_of, has_claim}
-use Rattle.blk_format.specs.BlockFiles.{next_file_in, max_entries_in, files_along, linked, linked_as, type_among, stands_in}
+use Rattle.blk_format.specs.BlockFiles.{next_file_in, max_entries_in, files_along, linked, linked_as, kind_among, stands_in}
 use Rattle.blk_volume.specs.View.{view_of}
-use Rattle.blk_volume.specs.Footprint.{Covers, SameBut}
-use Rattle.blk_laws.specs.ByteLaws.{AgreeBut}
+use Rattle.blk_volume.specs.Footprint.{Covers, SameBut, AgreeBut}
 use Rattle.blk_laws.proofs.ByteChanges.{covered-agrees, views-same, same-links, agreement-goes_on, agreement-more}
 use Rattle.blk_laws.proofs.Covers.{blocks-covered, externals-covered, headers-covered, hidden-covered, covers-less, covers-more, covers-either}
 use Rattle.blk_laws.proofs.WholeFolder.{whole_folder}
@@ -23,24 +22,24 @@ abbrev its_stream : ℕ
 its_stream = 0xA0010001
 
 stream-stands : stands_in whole_folder its_stream ≡ true
-unfolding whole_folder zeros with_word spliced next_file_in max_entries_in linked files_along type_among stands stands_as_blocks is_address is_initialized names_external names_blocks kind_of reserved_bits block_count file_selector first_block external_number block_size block_place place room
+unfolding whole_folder zeros with_word spliced next_file_in max_entries_in linked files_along kind_among stands stands_as_blocks is_address is_initialized names_external names_blocks kind_of reserved_bits block_count file_selector first_block external_number block_size block_place place byte_size
 stream-stands = refl
 
-its-place : (kind_of its_stream ≡ 2) × (file_selector its_stream ≡ 1) × (place its_stream ≡ 8448) × (room its_stream ≡ 256)
-unfolding kind_of file_selector place room block_place block_size first_block block_count
+its-place : (kind_of its_stream ≡ 2) × (file_selector its_stream ≡ 1) × (place its_stream ≡ 8448) × (byte_size its_stream ≡ 256)
+unfolding kind_of file_selector place byte_size block_place block_size first_block block_count
 its-place = (refl, refl, refl, refl)
 
 not-external : kind_of its_stream ≡ external → ⊥
 not-external e = let two : 2 ≡ external = sym its-place.0 ∙ e in cc
 
 -- the blocks of the stream are covered by its claims
-pub stream-is_covered : Covers whole_folder (range (Block (file_selector its_stream)) (place its_stream) (room its_stream)) (has_claim (claims_of its_stream))
+pub stream-is_covered : Covers whole_folder (range (Block (file_selector its_stream)) (place its_stream) (byte_size its_stream)) (has_claim (claims_of its_stream))
 stream-is_covered = blocks-covered whole_folder its_stream stream-stands not-external
 
 -- so is each part of them
 pub part-is_covered : Covers whole_folder (range (Block 1) 8448 2) (has_claim (claims_of its_stream))
-unfolding kind_of file_selector place room block_place block_size first_block block_count
-part-is_covered = covers-less whole_folder (range (Block 1) 8448 2) (range (Block (file_selector its_stream)) (place its_stream) (room its_stream)) (has_claim (claims_of its_stream)) (range_within (Block 1) 8448 2 8448 256 (lit≤ tt) (lit≤ tt)) stream-is_covered
+unfolding kind_of file_selector place byte_size block_place block_size first_block block_count
+part-is_covered = covers-less whole_folder (range (Block 1) 8448 2) (range (Block (file_selector its_stream)) (place its_stream) (byte_size its_stream)) (has_claim (claims_of its_stream)) (range_within (Block 1) 8448 2 8448 256 (lit≤ tt) (lit≤ tt)) stream-is_covered
 
 -- the counter of the allocations of data_1 needs no cover
 pub counter-needs_no_cover : Covers whole_folder (range (Block 1) 16 4) (λ claim. false)

@@ -16,22 +16,21 @@ use Rattle.blk_format.specs.Storage.{entry_blocks}
 use Rattle.blk_format.specs.Records as records
 use Rattle.blk_format.specs.BlockFiles.{is_among}
 use Rattle.blk_format.specs.Claims.{Claim, BlockOf, ExternalOf, claims_of, has_claim, repeats}
-use Rattle.blk_volume.specs.ListView.{put, after_writes}
+use Rattle.blk_volume.specs.ListView.{put, after_writes, IsAtRest}
 use Rattle.blk_volume.specs.Completion.{insert, remove}
 use Rattle.blk_volume.specs.ListPlans.{writes_of}
-use Rattle.blk_volume.specs.View.{View, Stock}
+use Rattle.blk_volume.specs.View.{View, StoreView}
 use Rattle.blk_volume.specs.Chains.{bucket_of_hash, IsChain}
 use Rattle.blk_volume.specs.Entries.{IsPlain, is_key_length, key_of, stream_of, streams_of, role_of}
-use Rattle.blk_volume.specs.Loads.{alone, held, Loaded, load, load_key, load_record, record_claims, all_claims}
+use Rattle.blk_volume.specs.Loads.{unchained_rule, held_rule, Loaded, load, load_key, load_record, record_claims, all_claims}
 use Rattle.blk_volume.specs.Audit.{kept_among, kept_by}
 use Rattle.blk_volume.specs.Found as volume
-use Rattle.blk_volume.specs.Layout.{Layout, is_listed, IsListedRecord, Lies, HoldsBut, Represents}
-use Rattle.blk_volume.specs.Footprint.{IsClear, SameStock, SameBut, OnlyLinksChange, IsOnlyRecord}
+use Rattle.blk_volume.specs.Layout.{Layout, is_listed, IsListedRecord, IsLayoutOf, HoldsExcept, Represents}
+use Rattle.blk_volume.specs.Footprint.{IsClear, SameStore, SameBut, OnlyLinksChange, IsOnlyRecord}
 use Rattle.blk_volume.specs.Creation.{with_new, linked_front}
-use Rattle.blk_volume.specs.Removal.{without_items, laid_less, HasChains, is_of_another, laid_doomed}
-use Rattle.blk_laws.specs.ListLaws.{IsAtRest}
+use Rattle.blk_volume.specs.Removal.{without_items, placed_less, HasChains, is_of_another, placed_doomed}
 use Rattle.blk_laws.specs.CommandLaws.{IsWritten, IsDoomedNow, marked, dirtied}
-use Rattle.blk_laws.proofs.OneEntry.{object, state, node, contents, bucket, loaded, layout, core, list, stock, view, choice, claims, represented, once-claimed, among-one}
+use Rattle.blk_laws.proofs.OneEntry.{object, state, node, contents, bucket, loaded, layout, fields, list, store, view, choice, claims, represented, once-claimed, among-one}
 use Rattle.blk_laws.proofs.Premises.{bytes-small, state_is_valid}
 use Rattle.blk_laws.proofs.AtRest.{removals-end}
 use Rattle.blk_laws.proofs.Created.{creates-end}
@@ -39,7 +38,7 @@ use Rattle.blk_laws.proofs.DirtyWords.{dirty-settles}
 use Rattle.blk_laws.proofs.DoomedChanges.{handles-not_shown}
 use Rattle.blk_laws.proofs.DoomedObjects.{listed-rest}
 use Rattle.blk_laws.proofs.Dooming.{dooms-keep, doomed-is-laid, doomed-is-represented}
-use Rattle.blk_laws.proofs.DoomMoments.{dooms-moments}
+use Rattle.blk_laws.proofs.DoomWrites.{dooms-moments}
 use Rattle.blk_laws.proofs.OthersHold.{represented-but, more-left_out, others-outside, others-unlinked, chained-only, records-outside, records-unlinked, another-state}
 use Rattle.blk_laws.proofs.ExampleChanges.{not-clear}
 
@@ -62,15 +61,15 @@ second dirty = record { node = second_node; contents = second_contents; dirty = 
 abbrev with_second : View
 with_second = record {
   list = record list { checks = λ w. (w == node) || (w == second_node) };
-  stock = record (stock contents 0) {
-    named = λ w. if w == second_node then Some (record { contents = second_contents; dirty = 5 }) else (stock contents 0).named w;
-    follow = λ w. if w == second_contents then contents else 0;
-    entry = λ w. if w == second_contents then Some (record core { hash = 0x82BDA782; rankings_node = second_node; key_len = 4; data_size = 0 ∷ 0 ∷ 0 ∷ 0 ∷ []; data_addr = 0 ∷ 0 ∷ 0 ∷ 0 ∷ [] }) else (stock contents 0).entry w;
+  store = record (store contents 0) {
+    node_fields = λ w. if w == second_node then Some (record { contents = second_contents; dirty = 5 }) else (store contents 0).node_fields w;
+    chain_next = λ w. if w == second_contents then contents else 0;
+    entry = λ w. if w == second_contents then Some (record fields { hash = 0x82BDA782; rankings_node = second_node; key_len = 4; data_size = 0 ∷ 0 ∷ 0 ∷ 0 ∷ []; data_addr = 0 ∷ 0 ∷ 0 ∷ 0 ∷ [] }) else (store contents 0).entry w;
     key_place = λ w n. if w == second_contents then key else codes "a";
   };
 }
 
-second-loads : load with_second.stock (alone 0) second_node ≡ Ok (second 5)
+second-loads : load with_second.store (unchained_rule 0) second_node ≡ Ok (second 5)
 unfolding load load_record load_key is_key_length key_of stream_of streams_of role_of block_count entry_blocks hash mixed of_bytes of_four
 second-loads = refl
 
@@ -102,11 +101,11 @@ not_true false never = refl
 second-same : SameBut (has_claim (all_claims (second 5))) (view 0) with_second
 second-same = record {
   links = record { head = refl; tail = refl; transaction = refl; checks = λ w clear. let n : (w == second_node) ≡ false = not-node w clear in rw n (or-false (w == node)); next = λ w clear. refl; prev = λ w clear. refl };
-  stock = record {
-    named = λ w clear. let n : (w == second_node) ≡ false = not-node w clear in rw n refl;
+  store = record {
+    node_fields = λ w clear. let n : (w == second_node) ≡ false = not-node w clear in rw n refl;
     entry = λ w clear. let n : (w == second_contents) ≡ false = not-contents w clear in rw n refl;
-    follow = λ w clear. let n : (w == second_contents) ≡ false = not-contents w clear in rw n refl;
-    key_place = λ w core clear is long short. let n : (w == second_contents) ≡ false = not-contents w clear in rw n refl;
+    chain_next = λ w clear. let n : (w == second_contents) ≡ false = not-contents w clear in rw n refl;
+    key_place = λ w fields clear is long short. let n : (w == second_contents) ≡ false = not-contents w clear in rw n refl;
     stored = λ size w clear. refl;
   };
   table = λ b. refl;
@@ -139,14 +138,14 @@ second-is_written = record {
     free = λ claim h. let n : has_claim (all_claims (loaded 0)) claim ≡ false = not_true (has_claim (all_claims (loaded 0)) claim) (λ one. not_both claim one h) in rw n refl;
     single = second-once;
   };
-  front = record { follows = refl; fresh = refl };
+  prefix = record { follows = refl; fresh = refl };
   good = refl;
   few = omega arith;
   missing = refl;
 }
 
 abbrev made_view : View
-made_view = record { list = after_writes (writes_of insert second_node with_second.list) with_second.list; stock = linked_front with_second.stock (second 5) }
+made_view = record { list = after_writes (writes_of insert second_node with_second.list) with_second.list; store = linked_front with_second.store (second 5) }
 
 abbrev made_layout : Layout
 made_layout = with_new (layout 0) key (second 5)
@@ -169,7 +168,7 @@ unfolding created
 two-is_valid = state_closed (created 1 key (state true)) made-is_valid 1 refl
 
 abbrev two_view : View
-two_view = record made_view { stock = record made_view.stock { named = put made_view.stock.named second_node (Some (record { contents = second_contents; dirty = 0 })) } }
+two_view = record made_view { store = record made_view.store { node_fields = put made_view.store.node_fields second_node (Some (record { contents = second_contents; dirty = 0 })) } }
 
 abbrev two_layout : Layout
 two_layout = dirtied made_layout second_node (second 5) 0
@@ -184,17 +183,17 @@ two-is_represented =
 
 -- ---- both are at rest while the list has both
 
-whole-holds : HoldsBut (λ w. false) two_view.stock two two_layout
+whole-holds : HoldsExcept (λ w. false) two_view.store two two_layout
 whole-holds = represented-but (λ w. false) two_view two two_layout two-is_represented
 
-pub both-are_at_rest : map volume.row_of (kept_among two_view.stock held (second_node ∷ node ∷ [])) ≡ main_row key plain ([], [], []) ∷ main_row (codes "a") plain (codes "zz", [], []) ∷ []
+pub both-are_at_rest : map volume.row_of (kept_among two_view.store held_rule (second_node ∷ node ∷ [])) ≡ main_row key plain ([], [], []) ∷ main_row (codes "a") plain (codes "zz", [], []) ∷ []
 unfolding created closed rest settled_row
-both-are_at_rest = listed-rest (λ w. false) two_view.stock two two_layout whole-holds two-is_valid two-is_represented.list.distinct (λ item h. refl)
+both-are_at_rest = listed-rest (λ w. false) two_view.store two two_layout whole-holds two-is_valid two-is_represented.list.distinct (λ item h. refl)
 
 -- ---- the node of `a` is taken out of the list
 
 -- at each write of that what is kept is what is at rest before the doom, or after it
-pub doom-moments : (count : ℕ) → map volume.row_of (kept_by held (volume.completed (record two_view { list = after_writes (take count (writes_of remove node two_view.list)) two_view.list })))
+pub doom-moments : (count : ℕ) → map volume.row_of (kept_by held_rule (volume.completed (record two_view { list = after_writes (take count (writes_of remove node two_view.list)) two_view.list })))
     ≡ (if nat_lt count 2 then rest two else rest (doomed 0 two (Some (object true))))
 unfolding created closed
 doom-moments = dooms-moments two_view two two_layout two-is_represented two-is_valid 0 (object true) refl refl
@@ -207,23 +206,23 @@ unfolding created closed
 removed-is_at_rest = removals-end node two_view.list (second_node ∷ []) [] (record { whole = two-is_represented.list; idle = two-is_represented.idle })
 
 -- from its second write on `kmyb` alone is kept
-pub second-is_kept : map volume.row_of (kept_among two_view.stock held (second_node ∷ [])) ≡ main_row key plain ([], [], []) ∷ []
+pub second-is_kept : map volume.row_of (kept_among two_view.store held_rule (second_node ∷ [])) ≡ main_row key plain ([], [], []) ∷ []
 unfolding created closed rest settled_row doomed
-second-is_kept = dooms-keep (λ w. false) two_view.stock two two_layout whole-holds two-is_valid 0 (object true) refl others refl (λ item h. h) (refl, tt) (λ item h stays. refl)
+second-is_kept = dooms-keep (λ w. false) two_view.store two two_layout whole-holds two-is_valid 0 (object true) refl others refl (λ item h. h) (refl, tt) (λ item h stays. refl)
 
 -- ---- the record of `kmyb` takes the next of that of `a`
 
 abbrev gone : ℕ → Bool
 gone w = w == node
 
-abbrev unlinked : Stock
-unlinked = record two_view.stock { follow = λ w. 0 }
+abbrev unlinked : StoreView
+unlinked = record two_view.store { chain_next = λ w. 0 }
 
 abbrev one_chain : ℕ → List ℕ
 one_chain b = if b == bucket then second_contents ∷ [] else []
 
-only-links : OnlyLinksChange second_contents two_view.stock unlinked
-only-links = record { beside = record { named = λ w. refl; key_place = λ w core clear is long short. refl; stored = λ size w clear. refl }; entry = λ w. refl }
+only-links : OnlyLinksChange second_contents two_view.store unlinked
+only-links = record { beside = record { node_fields = λ w. refl; key_place = λ w fields clear is long short. refl; stored = λ size w clear. refl }; entry = λ w. refl }
 
 its-record : IsOnlyRecord second_contents two_layout
 unfolding created closed put hash mixed of_bytes of_four
@@ -253,8 +252,8 @@ has-chains = record {
       subst (λ (x : Loaded). is_among (one_chain (bucket_of_hash (hash x.key))) x.contents ≡ true) s second-in_chain;
 }
 
-unlinked-holds : HoldsBut gone unlinked two (record two_layout { chains = one_chain })
-unlinked-holds = others-unlinked gone two_view.stock unlinked two two_layout (more-left_out (λ w. false) gone two_view.stock two two_layout whole-holds (λ w h. absurd (let z : false ≡ true = h in cc))) second_contents only-links its-record one_chain has-chains
+unlinked-holds : HoldsExcept gone unlinked two (record two_layout { chains = one_chain })
+unlinked-holds = others-unlinked gone two_view.store unlinked two two_layout (more-left_out (λ w. false) gone two_view.store two two_layout whole-holds (λ w h. absurd (let z : false ≡ true = h in cc))) second_contents only-links its-record one_chain has-chains
 
 second-apart : (claim : Claim) → has_claim (all_claims (loaded 0)) claim ≡ true → has_claim (claims_of second_contents) claim ≡ false
 unfolding has_claim all_claims record_claims claims_of kind_of block_count file_selector first_block external_number
@@ -262,25 +261,25 @@ second-apart (BlockOf f b) h = grind (arith, nat_tests)
 second-apart (ExternalOf n) h = refl
 
 -- the record of `a` is as it was
-unlinked-loads : load unlinked (alone 0) node ≡ Ok (loaded 0)
+unlinked-loads : load unlinked (unchained_rule 0) node ≡ Ok (loaded 0)
 unfolding put
-unlinked-loads = records-unlinked two_view.stock unlinked 0 node second_contents (loaded 0) (two-is_represented.holds.shows.each node (loaded 0) refl) (once-claimed 0) only-links (inr second-apart)
+unlinked-loads = records-unlinked two_view.store unlinked 0 node second_contents (loaded 0) (two-is_represented.holds.shows.each node (loaded 0) refl) (once-claimed 0) only-links (inr second-apart)
 
 -- ---- its record gets state 2
 
-abbrev doomed_stock : Stock
-doomed_stock = record unlinked { entry = λ w. if w == contents then Some (record core { state = records.doomed }) else two_view.stock.entry w }
+abbrev doomed_stock : StoreView
+doomed_stock = record unlinked { entry = λ w. if w == contents then Some (record fields { state = records.doomed }) else two_view.store.entry w }
 
 first-block : (has_claim (claims_of contents) (BlockOf 1 0) ≡ true)
 unfolding has_claim claims_of kind_of block_count file_selector first_block external_number
 first-block = refl
 
-state-is_written : SameStock (has_claim (claims_of contents)) unlinked doomed_stock
+state-is_written : SameStore (has_claim (claims_of contents)) unlinked doomed_stock
 state-is_written = record {
-  named = λ w clear. refl;
+  node_fields = λ w clear. refl;
   entry = λ w clear. let n : (w == contents) ≡ false = not-clear (has_claim (claims_of contents)) w contents (BlockOf 1 0) first-block first-block clear in rw n refl;
-  follow = λ w clear. refl;
-  key_place = λ w core clear is long short. refl;
+  chain_next = λ w clear. refl;
+  key_place = λ w fields clear is long short. refl;
   stored = λ size w clear. refl;
 }
 
@@ -305,15 +304,15 @@ chain-is_clear b c true h claim mine = subst (λ (x : ℕ). has_claim (claims_of
   away (ExternalOf n) e = refl
 chain-is_clear b c false h claim mine = absurd (let z : false ≡ true = h in cc)
 
-doomed-holds : HoldsBut gone doomed_stock two (record two_layout { chains = one_chain })
+doomed-holds : HoldsExcept gone doomed_stock two (record two_layout { chains = one_chain })
 doomed-holds = others-outside (has_claim (claims_of contents)) gone unlinked doomed_stock two (record two_layout { chains = one_chain }) unlinked-holds state-is_written (λ b. refl) not-touched (λ b c below h. chain-is_clear b c (b == bucket) h)
 
 -- now it loads as one of that state
-doomed-loads : load doomed_stock (alone records.doomed) node ≡ Ok (loaded 0)
-doomed-loads = another-state unlinked doomed_stock 0 records.doomed node (loaded 0) core unlinked-loads (once-claimed 0) (record { named = λ w. refl; key_place = λ w core clear is long short. refl; stored = λ size w clear. refl }) refl refl
+doomed-loads : load doomed_stock (unchained_rule records.doomed) node ≡ Ok (loaded 0)
+doomed-loads = another-state unlinked doomed_stock 0 records.doomed node (loaded 0) fields unlinked-loads (once-claimed 0) (record { node_fields = λ w. refl; key_place = λ w fields clear is long short. refl; stored = λ size w clear. refl }) refl refl
 
 -- and the record of `kmyb` as it did
-second-stays : load doomed_stock (alone 0) second_node ≡ Ok (second 0)
+second-stays : load doomed_stock (unchained_rule 0) second_node ≡ Ok (second 0)
 unfolding put
 second-stays = records-outside (has_claim (claims_of contents)) unlinked doomed_stock 0 second_node (second 0) (unlinked-holds.each second_node (second 0) refl refl) state-is_written (second-touched)
   where
@@ -321,7 +320,7 @@ second-stays = records-outside (has_claim (claims_of contents)) unlinked doomed_
     second-touched claim h = not-touched claim second_node (two-is_represented.holds.lies.own second_node (second 0) claim refl h) refl
 
 -- `kmyb` alone is kept
-pub still-kept : map volume.row_of (kept_among doomed_stock held (second_node ∷ [])) ≡ main_row key plain ([], [], []) ∷ []
+pub still-kept : map volume.row_of (kept_among doomed_stock held_rule (second_node ∷ [])) ≡ main_row key plain ([], [], []) ∷ []
 unfolding created closed rest settled_row doomed
 still-kept = dooms-keep gone doomed_stock two (record two_layout { chains = one_chain }) doomed-holds two-is_valid 0 (object true) refl others refl (λ item h. h) (refl, tt) sound where
   sound : (item : Item) → is_listed two item ≡ true → others item ≡ true → gone (two_layout.place item) ≡ false
@@ -334,14 +333,14 @@ still-kept = dooms-keep gone doomed_stock two (record two_layout { chains = one_
 -- ---- the state after the doom
 
 abbrev doomed_view : View
-doomed_view = record { list = after_writes (writes_of remove node two_view.list) two_view.list; stock = doomed_stock }
+doomed_view = record { list = after_writes (writes_of remove node two_view.list) two_view.list; store = doomed_stock }
 
 -- no other item goes with it
 doomed-now : IsDoomedNow two two_layout 0 (object true) (loaded 0) two_layout.at one_chain two_layout.owner
 unfolding created closed put
 doomed-now = record {
   lies = record { here = refl; live = refl; at = refl };
-  named = refl;
+  node_fields = refl;
   less = record {
     stays = λ item l keeps h is. is;
     others = λ w l out is. is;
@@ -354,16 +353,16 @@ doomed-now = record {
   };
   stays = refl;
 } where
-  was : (b c : ℕ) (s : Bool) → is_among (if s then second_contents ∷ [] else []) c ≡ true → IsListedRecord (without_items two (doomed 0 two (Some (object true))).objects others) (laid_less two_layout two_layout.at one_chain two_layout.owner) c
+  was : (b c : ℕ) (s : Bool) → is_among (if s then second_contents ∷ [] else []) c ≡ true → IsListedRecord (without_items two (doomed 0 two (Some (object true))).objects others) (placed_less two_layout two_layout.at one_chain two_layout.owner) c
   was b c true h = record { node = second_node; loaded = second 0; listed = refl; here = refl; record_is = among-one second_contents c h }
   was b c false h = absurd (let z : false ≡ true = h in cc)
 
 -- is laid out
-pub doom-is_laid : Lies (doomed 0 two (Some (object true))) (laid_doomed two_layout 0 node two_layout.at one_chain two_layout.owner)
+pub doom-is_laid : IsLayoutOf (doomed 0 two (Some (object true))) (placed_doomed two_layout 0 node two_layout.at one_chain two_layout.owner)
 doom-is_laid = doomed-is-laid two two_layout two-is_represented.holds.lies two-is_valid 0 (object true) (loaded 0) two_layout.at one_chain two_layout.owner doomed-now
 
 -- and represented
-pub doom-is_represented : Represents doomed_view (doomed 0 two (Some (object true))) (laid_doomed two_layout 0 node two_layout.at one_chain two_layout.owner)
+pub doom-is_represented : Represents doomed_view (doomed 0 two (Some (object true))) (placed_doomed two_layout 0 node two_layout.at one_chain two_layout.owner)
 unfolding created closed
 doom-is_represented = doomed-is-represented gone doomed_view two two_layout two-is_represented.holds.lies two-is_valid 0 (object true) (loaded 0) two_layout.at one_chain two_layout.owner doomed-now doomed-holds
     (λ w l is h. sym (eqb-true w node h)) doomed-loads removed-is_at_rest

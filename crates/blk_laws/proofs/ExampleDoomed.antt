@@ -13,19 +13,19 @@ use Rattle.blk_format.specs.Storage.{entry_blocks}
 use Rattle.blk_format.specs.Claims.{BlockOf, claims_of, has_claim}
 use Rattle.blk_format.specs.Records.{doomed}
 use Rattle.blk_volume.specs.ListView.{put}
-use Rattle.blk_volume.specs.View.{View, Named}
+use Rattle.blk_volume.specs.View.{View, NodeFields}
 use Rattle.blk_volume.specs.Walk.{walk}
 use Rattle.blk_volume.specs.Entries.{is_key_length, key_of, stream_of, streams_of, role_of}
-use Rattle.blk_volume.specs.Loads.{alone, held, load, load_key, load_record}
+use Rattle.blk_volume.specs.Loads.{unchained_rule, held_rule, load, load_key, load_record}
 use Rattle.blk_volume.specs.Audit.{kept_by}
 use Rattle.blk_volume.specs.Found as volume
-use Rattle.blk_volume.specs.Layout.{Layout, IsDoomedAt, Lies, Represents, changed_at, emptied_at, IsDoomedChange}
+use Rattle.blk_volume.specs.Layout.{Layout, IsDoomedAt, IsLayoutOf, Represents, changed_at, emptied_at, IsDoomedChange}
 use Rattle.blk_volume.specs.Footprint.{SameBut, IsFreeBut}
 use Rattle.blk_laws.proofs.OneEntry as one
 use Rattle.blk_laws.proofs.Premises.{bytes-small, none-at}
 use Rattle.blk_laws.proofs.Central.{walk-order, found-rest}
 use Rattle.blk_laws.proofs.Outside.{represents-outside}
-use Rattle.blk_laws.specs.CommandLaws.{LiesAsDoomed, marked, dirtied}
+use Rattle.blk_laws.specs.CommandLaws.{IsPlacedAsDoomed, marked, dirtied}
 use Rattle.blk_laws.proofs.DoomedChanges.{changed-doomed-lies, changed-doomed, doomed-rest, gone-doomed, doomed-settles, written-doomed-settles}
 use Rattle.blk_laws.proofs.ExampleChanges.{not-clear, and-false, named-blocks, only-node, new_block, block-is_free, touched, touched-claims, now, now-once, owners_now}
 
@@ -43,13 +43,13 @@ doomed_layout dirty = record (one.layout dirty) { place = λ item. 0; place_of_d
 abbrev doomed_view : ℕ → Option (List ℕ) → View
 doomed_view dirty bytes = record {
   list = record one.list { head = 0; tail = 0 };
-  stock = record (one.stock 0 dirty) {
-    entry = λ w. if w == one.contents then Some (record one.core { state = doomed }) else None;
+  store = record (one.store 0 dirty) {
+    entry = λ w. if w == one.contents then Some (record one.fields { state = doomed }) else None;
     stored = λ size w. if (size == 0) && (w == 0) then Some [] else if (size == 2) && (w == 0xA0010001) then Some (codes "zz") else if (size == 3) && (w == 0xA0010002) then bytes else None;
   };
 }
 
-doomed-loads : (dirty : ℕ) → load (doomed_view dirty None).stock (alone doomed) one.node ≡ Ok (one.loaded dirty)
+doomed-loads : (dirty : ℕ) → load (doomed_view dirty None).store (unchained_rule doomed) one.node ≡ Ok (one.loaded dirty)
 unfolding load load_record load_key is_key_length key_of stream_of streams_of role_of block_count entry_blocks hash mixed of_bytes of_one
 doomed-loads dirty = refl
 
@@ -59,7 +59,7 @@ doomed-is_represented dirty = record {
   holds = record {
     shows = record {
       no_record = refl;
-      each = λ w l is. let p = one.at-node dirty w l is in subst (λ (x : ℕ). load (doomed_view dirty None).stock (alone doomed) x ≡ Ok l) (sym p.0) (doomed-loads dirty ∙ ap Ok p.1);
+      each = λ w l is. let p = one.at-node dirty w l is in subst (λ (x : ℕ). load (doomed_view dirty None).store (unchained_rule doomed) x ≡ Ok l) (sym p.0) (doomed-loads dirty ∙ ap Ok p.1);
       chains = λ b below. record { linked = none b; once = tt };
     };
     lies = record {
@@ -75,7 +75,7 @@ doomed-is_represented dirty = record {
   list = record { head_is = refl; tail_is = refl; linked = tt; distinct = tt; few = omega arith; no_zero = refl };
   idle = refl;
 } where
-  none : (b : ℕ) → (one.stock 0 dirty).table b ≡ 0
+  none : (b : ℕ) → (one.store 0 dirty).table b ≡ 0
   none b = go (b == one.bucket) where
     go : (t : Bool) → ◌≡◌ {A = ℕ} (if t then 0 else 0) 0
     go true = refl
@@ -125,18 +125,18 @@ pub doomed-is_not_walked : walk (doomed_view 0 None).list ≡ []
 doomed-is_not_walked = walk-order (doomed_view 0 None) (doomed_state true) (doomed_layout 0) (doomed-is_represented 0)
 
 -- and nothing is held
-pub doomed-is_not_held : map volume.row_of (kept_by held (volume.completed (doomed_view 0 None))) ≡ []
+pub doomed-is_not_held : map volume.row_of (kept_by held_rule (volume.completed (doomed_view 0 None))) ≡ []
 unfolding rest
 doomed-is_not_held = found-rest (doomed_view 0 None) (doomed_state true) (doomed_layout 0) (doomed-is_represented 0) (doomed-is_valid true)
 
 more-is_outside : (dirty : ℕ) (bytes : Option (List ℕ)) → SameBut new_block (doomed_view dirty None) (doomed_view dirty bytes)
 more-is_outside dirty bytes = record {
   links = record { head = refl; tail = refl; transaction = refl; checks = λ w clear. refl; next = λ w clear. refl; prev = λ w clear. refl };
-  stock = record {
-    named = λ w clear. refl;
+  store = record {
+    node_fields = λ w clear. refl;
     entry = λ w clear. refl;
-    follow = λ w clear. refl;
-    key_place = λ w core clear is long short. refl;
+    chain_next = λ w clear. refl;
+    key_place = λ w fields clear is long short. refl;
     stored = λ size w clear. let b : (w == 0xA0010002) ≡ false = not-clear new_block w 0xA0010002 (BlockOf 1 2) named-blocks.2 refl clear in rw (b, and-false (size == 3)) refl;
   };
   table = λ b. refl;
@@ -148,17 +148,17 @@ doomed-stays = represents-outside new_block (doomed_view 0 None) (doomed_view 0 
 
 -- ---- it is written to: first its dirty word becomes 5
 
-here-doomed : (dirty : ℕ) → LiesAsDoomed (doomed_state (dirty == 0)) (doomed_layout dirty) 0 (doomed_object (dirty == 0)) (one.loaded dirty)
+here-doomed : (dirty : ℕ) → IsPlacedAsDoomed (doomed_state (dirty == 0)) (doomed_layout dirty) 0 (doomed_object (dirty == 0)) (one.loaded dirty)
 here-doomed dirty = record { here = refl; dead = refl; at = refl }
 
 dirt-is_inside : SameBut (has_claim (claims_of one.node)) (doomed_view 0 None) (doomed_view 5 None)
 dirt-is_inside = record {
   links = record { head = refl; tail = refl; transaction = refl; checks = λ w clear. refl; next = λ w clear. refl; prev = λ w clear. refl };
-  stock = record {
-    named = λ w clear. let n : (w == one.node) ≡ false = not-clear (has_claim (claims_of one.node)) w one.node (BlockOf 0 0) named-blocks.3 named-blocks.3 clear in rw n refl;
+  store = record {
+    node_fields = λ w clear. let n : (w == one.node) ≡ false = not-clear (has_claim (claims_of one.node)) w one.node (BlockOf 0 0) named-blocks.3 named-blocks.3 clear in rw n refl;
     entry = λ w clear. refl;
-    follow = λ w clear. refl;
-    key_place = λ w core clear is long short. refl;
+    chain_next = λ w clear. refl;
+    key_place = λ w fields clear is long short. refl;
     stored = λ size w clear. refl;
   };
   table = λ b. refl;
@@ -167,10 +167,10 @@ dirt-is_inside = record {
 -- that unsettles it
 pub doomed-is_dirtied : Represents (doomed_view 5 None) (marked (doomed_state true) 0 (doomed_object true) false) (dirtied (doomed_layout 0) one.node (one.loaded 0) 5)
 doomed-is_dirtied = written-doomed-settles (doomed_view 0 None) (doomed_view 5 None) (doomed_state true) (doomed_layout 0) (doomed-is_represented 0) 0 (doomed_object true) (one.loaded 0) (here-doomed 0) 5 dirt-is_inside
-    (λ named is. let s : ◌≡◌ {A = Named} (record { contents = one.contents; dirty = 0 }) named = cc in ap (λ (n : Named). Some (record n { dirty = 5 })) s)
+    (λ node_fields is. let s : ◌≡◌ {A = NodeFields} (record { contents = one.contents; dirty = 0 }) node_fields = cc in ap (λ (n : NodeFields). Some (record n { dirty = 5 })) s)
 
 -- and so it does where the word alone is another
-pub doomed-is_marked : Represents (record (doomed_view 0 None) { stock = record (doomed_view 0 None).stock { named = put (doomed_view 0 None).stock.named one.node (Some (record { contents = one.contents; dirty = 5 })) } })
+pub doomed-is_marked : Represents (record (doomed_view 0 None) { store = record (doomed_view 0 None).store { node_fields = put (doomed_view 0 None).store.node_fields one.node (Some (record { contents = one.contents; dirty = 5 })) } })
     (marked (doomed_state true) 0 (doomed_object true) false) (dirtied (doomed_layout 0) one.node (one.loaded 0) 5)
 doomed-is_marked = doomed-settles (doomed_view 0 None) (doomed_state true) (doomed_layout 0) (doomed-is_represented 0) 0 (doomed_object true) (one.loaded 0) (here-doomed 0) (record { contents = one.contents; dirty = 0 }) 5 refl
 
@@ -182,17 +182,17 @@ written_object = record (doomed_object false) { streams = (codes "yyy", [], []) 
 -- the record has the new size and place, and there the view has this
 abbrev written_view : Option (List ℕ) → View
 written_view bytes = record (doomed_view 5 bytes) {
-  stock = record (doomed_view 5 bytes).stock { entry = λ w. if w == one.contents then Some (record one.core { state = doomed; data_size = 3 ∷ 0 ∷ 0 ∷ 0 ∷ []; data_addr = 0xA0010002 ∷ 0 ∷ 0 ∷ 0 ∷ [] }) else None };
+  store = record (doomed_view 5 bytes).store { entry = λ w. if w == one.contents then Some (record one.fields { state = doomed; data_size = 3 ∷ 0 ∷ 0 ∷ 0 ∷ []; data_addr = 0xA0010002 ∷ 0 ∷ 0 ∷ 0 ∷ [] }) else None };
 }
 
 written-is_inside : (bytes : Option (List ℕ)) → SameBut touched (doomed_view 5 None) (written_view bytes)
 written-is_inside bytes = record {
   links = record { head = refl; tail = refl; transaction = refl; checks = λ w clear. refl; next = λ w clear. refl; prev = λ w clear. refl };
-  stock = record {
-    named = λ w clear. refl;
+  store = record {
+    node_fields = λ w clear. refl;
     entry = λ w clear. let n : (w == one.contents) ≡ false = not-clear touched w one.contents (BlockOf 1 0) named-blocks.0 touched-claims.0 clear in rw n refl;
-    follow = λ w clear. refl;
-    key_place = λ w core clear is long short. refl;
+    chain_next = λ w clear. refl;
+    key_place = λ w fields clear is long short. refl;
     stored = λ size w clear. let b : (w == 0xA0010002) ≡ false = not-clear touched w 0xA0010002 (BlockOf 1 2) named-blocks.2 touched-claims.2 clear in rw (b, and-false (size == 3)) refl;
   };
   table = λ b. refl;
@@ -201,7 +201,7 @@ written-is_inside bytes = record {
 written-alone : IsFreeBut one.node touched (doomed_layout 5)
 written-alone c w owned apart = absurd (let z : true ≡ false = sym (eq-eqb one.node w (only-node 5 w c owned)) ∙ apart in cc)
 
-written-loads : load (written_view (Some (codes "yyy"))).stock (alone doomed) one.node ≡ Ok now
+written-loads : load (written_view (Some (codes "yyy"))).store (unchained_rule doomed) one.node ≡ Ok now
 unfolding load load_record load_key is_key_length key_of stream_of streams_of role_of block_count entry_blocks hash mixed of_bytes of_one
 written-loads = refl
 
@@ -216,7 +216,7 @@ written-change = record {
 }
 
 -- it is laid out
-pub written-is_laid : Lies (with_slot 0 (Some written_object) (doomed_state false)) (changed_at (doomed_layout 5) one.node now owners_now)
+pub written-is_laid : IsLayoutOf (with_slot 0 (Some written_object) (doomed_state false)) (changed_at (doomed_layout 5) one.node now owners_now)
 written-is_laid = changed-doomed-lies (doomed_state false) (doomed_layout 5) (doomed-is_represented 5).holds.lies 0 (doomed_object false) written_object (one.loaded 5) now owners_now (here-doomed 5) written-change
 
 -- and represented
@@ -226,23 +226,23 @@ written-is_represented =
     (written-is_inside (Some (codes "yyy"))) written-alone written-loads written-change
 
 -- where the data isn't there yet, nothing is held either
-pub torn-is_not_held : map volume.row_of (kept_by held (volume.completed (written_view None))) ≡ []
+pub torn-is_not_held : map volume.row_of (kept_by held_rule (volume.completed (written_view None))) ≡ []
 unfolding rest
 torn-is_not_held = doomed-rest touched (doomed_view 5 None) (written_view None) (doomed_state false) (doomed_layout 5) (doomed-is_represented 5) (doomed-is_valid false) 0 (doomed_object false) refl refl (written-is_inside None) written-alone
 
 -- ---- and then it goes, and its record and stream are overwritten
 
 abbrev emptied_view : View
-emptied_view = record (doomed_view 5 None) { stock = record (doomed_view 5 None).stock { entry = λ w. None; stored = λ size w. if (size == 0) && (w == 0) then Some [] else None } }
+emptied_view = record (doomed_view 5 None) { store = record (doomed_view 5 None).store { entry = λ w. None; stored = λ size w. if (size == 0) && (w == 0) then Some [] else None } }
 
 emptied-is_inside : SameBut touched (doomed_view 5 None) emptied_view
 emptied-is_inside = record {
   links = record { head = refl; tail = refl; transaction = refl; checks = λ w clear. refl; next = λ w clear. refl; prev = λ w clear. refl };
-  stock = record {
-    named = λ w clear. refl;
+  store = record {
+    node_fields = λ w clear. refl;
     entry = λ w clear. let n : (w == one.contents) ≡ false = not-clear touched w one.contents (BlockOf 1 0) named-blocks.0 touched-claims.0 clear in rw n refl;
-    follow = λ w clear. refl;
-    key_place = λ w core clear is long short. refl;
+    chain_next = λ w clear. refl;
+    key_place = λ w fields clear is long short. refl;
     stored = λ size w clear.
         let a : (w == 0xA0010001) ≡ false = not-clear touched w 0xA0010001 (BlockOf 1 1) named-blocks.1 touched-claims.1 clear in
         let b : (w == 0xA0010002) ≡ false = not-clear touched w 0xA0010002 (BlockOf 1 2) named-blocks.2 touched-claims.2 clear in

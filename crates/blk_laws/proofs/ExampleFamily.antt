@@ -16,11 +16,11 @@ use Rattle.blk_format.specs.BlockFiles.{is_among}
 use Rattle.blk_format.specs.Claims.{Claim, BlockOf, ExternalOf, claims_of, has_claim, repeats}
 use Rattle.blk_format.specs.Names.{Name, read_name, split_last, child_name, hex_text}
 use Rattle.blk_format.specs.SparseIndex.{ParentIndex, PartIndex, map_bit, read_parent_index, read_part_index}
-use Rattle.blk_volume.specs.View.{Stock}
+use Rattle.blk_volume.specs.View.{StoreView}
 use Rattle.blk_volume.specs.Entries.{IsParent, IsPart, is_key_length, key_of, stream_of, streams_of, role_of, parent_role, part_role, is_covered}
-use Rattle.blk_volume.specs.Loads.{alone, held, Loaded, load, load_key, load_record, record_claims, all_claims}
+use Rattle.blk_volume.specs.Loads.{unchained_rule, held_rule, Loaded, load, load_key, load_record, record_claims, all_claims}
 use Rattle.blk_volume.specs.Chains.{bucket_of_hash, IsChain}
-use Rattle.blk_volume.specs.Layout.{Layout, is_listed, IsLaid, IsListedRecord, Holds}
+use Rattle.blk_volume.specs.Layout.{Layout, is_listed, IsPlacedAt, IsListedRecord, Holds}
 use Rattle.blk_volume.specs.Audit.{kept_among}
 use Rattle.blk_volume.specs.Found as volume
 use Rattle.blk_volume.specs.Shown.{IsShown}
@@ -69,16 +69,16 @@ abbrev pub the_part : Loaded
 the_part = record { node = part_node; contents = 0xA0010001; dirty = 0; key = codes "Range_a:5:0"; role = IsPart part_name part_index; streams = [] ∷ [] ∷ part_bytes ∷ []; others = 0 ∷ 0 ∷ 0 ∷ 0xA0010008 ∷ 0 ∷ [] }
 
 -- what is shown of both, but for the list
-abbrev pub family_stock : Stock
-family_stock = (sparse_view 1 part_node both_nodes).stock
+abbrev pub family_stock : StoreView
+family_stock = (sparse_view 1 part_node both_nodes).store
 
 -- the parent's node loads
-pub parent-loads : load family_stock (alone 0) parent_node ≡ Ok the_parent
+pub parent-loads : load family_stock (unchained_rule 0) parent_node ≡ Ok the_parent
 unfolding load load_record load_key is_key_length key_of stream_of streams_of role_of parent_role read_parent_index words_at block_count entry_blocks hash mixed of_bytes of_one
 parent-loads = refl
 
 -- and the part's
-part-loads : load family_stock (alone 0) part_node ≡ Ok the_part
+part-loads : load family_stock (unchained_rule 0) part_node ≡ Ok the_part
 unfolding load load_record load_key is_key_length key_of stream_of streams_of role_of part_role is_covered read_part_index read_name split_last child_name hex_text words_at block_count entry_blocks hash mixed of_bytes of_four of_three
 part-loads = refl
 
@@ -169,7 +169,7 @@ which-item item h = go (same_item item (part (codes "a") 0)) (same_item item (ma
   go false false one two e = cc
 
 -- the part lies at its node
-pub part-laid : IsLaid family_state family_layout (part (codes "a") 0)
+pub part-laid : IsPlacedAt family_state family_layout (part (codes "a") 0)
 part-laid = record {
   loaded = the_part;
   here = refl;
@@ -179,7 +179,7 @@ part-laid = record {
 }
 
 -- and the parent
-pub parent-laid : IsLaid family_state family_layout (main (codes "a"))
+pub parent-laid : IsPlacedAt family_state family_layout (main (codes "a"))
 parent-laid = record { loaded = the_parent; here = refl; row = parent-row; mark = refl; parent = tt }
 
 -- the parent and the part are each alone in a chain
@@ -213,15 +213,15 @@ family-holds = record {
   shows = record {
     no_record = refl;
     each = λ w l is. ⊎_elim
-        (λ (p : (w ≡ parent_node) × (the_parent ≡ l)). subst (λ (x : ℕ). load family_stock (alone 0) x ≡ Ok l) (sym p.0) (parent-loads ∙ ap Ok p.1))
-        (λ (p : (w ≡ part_node) × (the_part ≡ l)). subst (λ (x : ℕ). load family_stock (alone 0) x ≡ Ok l) (sym p.0) (part-loads ∙ ap Ok p.1))
+        (λ (p : (w ≡ parent_node) × (the_parent ≡ l)). subst (λ (x : ℕ). load family_stock (unchained_rule 0) x ≡ Ok l) (sym p.0) (parent-loads ∙ ap Ok p.1))
+        (λ (p : (w ≡ part_node) × (the_part ≡ l)). subst (λ (x : ℕ). load family_stock (unchained_rule 0) x ≡ Ok l) (sym p.0) (part-loads ∙ ap Ok p.1))
         (at-either w l is);
     chains = family-chains;
   };
   lies = record {
     laid = λ item h. ⊎_elim
-        (λ (e : item ≡ part (codes "a") 0). subst (IsLaid family_state family_layout) (sym e) part-laid)
-        (λ (e : item ≡ main (codes "a")). subst (IsLaid family_state family_layout) (sym e) parent-laid)
+        (λ (e : item ≡ part (codes "a") 0). subst (IsPlacedAt family_state family_layout) (sym e) part-laid)
+        (λ (e : item ≡ main (codes "a")). subst (IsPlacedAt family_state family_layout) (sym e) parent-laid)
         (which-item item h);
     normal = λ w h. refl;
     chained = λ w l there is. ⊎_elim
@@ -258,7 +258,7 @@ pub main-listed : (key : List ℕ) (n : ℕ) → is_listed family_state (part ke
 main-listed key n h = subst (λ (k : List ℕ). is_listed family_state (main k) ≡ true) (sym (its-main key n h).0) refl
 
 -- a part that passes goes with its parent
-goes-with : GoesWith family_layout family_state.uses held is_clean
+goes-with : GoesWith family_layout family_state.uses held_rule is_clean
 goes-with = record {
   clean = λ item l h at passes. passes;
   main_out = λ key l h at fails. fails;
@@ -267,12 +267,12 @@ goes-with = record {
 }
 
 -- the part and its parent are shown to their walk
-pub family-is_shown : IsShown family_stock held (part_node ∷ parent_node ∷ []) (given_by is_clean family_layout)
-family-is_shown = laid-shown family_stock family_state family_layout family-holds held family_state.uses is_clean refl (λ item h. h) (refl, (refl, tt)) goes-with
+pub family-is_shown : IsShown family_stock held_rule (part_node ∷ parent_node ∷ []) (given_by is_clean family_layout)
+family-is_shown = laid-shown family_stock family_state family_layout family-holds held_rule family_state.uses is_clean refl (λ item h. h) (refl, (refl, tt)) goes-with
 
 -- so both are kept
-pub family-is_kept : kept_among family_stock held (part_node ∷ parent_node ∷ []) ≡ the_part ∷ the_parent ∷ []
-family-is_kept = kept-given family_stock held (part_node ∷ parent_node ∷ []) (given_by is_clean family_layout) family-is_shown
+pub family-is_kept : kept_among family_stock held_rule (part_node ∷ parent_node ∷ []) ≡ the_part ∷ the_parent ∷ []
+family-is_kept = kept-given family_stock held_rule (part_node ∷ parent_node ∷ []) (given_by is_clean family_layout) family-is_shown
 
 -- both are of one object, which passes
 is-test : IsTest family_state family_layout family_state.uses (λ number. true)
@@ -282,6 +282,6 @@ is-test = record {
 }
 
 -- and their rows are picked
-pub family-is_picked : map volume.row_of (kept_among family_stock held (part_node ∷ parent_node ∷ [])) ≡ part_row (codes "a") 0 part_value ∷ main_row (codes "a") (sparse 5) ([], [], []) ∷ []
+pub family-is_picked : map volume.row_of (kept_among family_stock held_rule (part_node ∷ parent_node ∷ [])) ≡ part_row (codes "a") 0 part_value ∷ main_row (codes "a") (sparse 5) ([], [], []) ∷ []
 unfolding row_of
 family-is_picked = found-picked family_state family_layout family-holds.lies.laid family_state.uses (λ item h. h) (λ number. true) is-test family_stock family-holds (refl, (refl, tt)) main-listed

@@ -16,8 +16,8 @@ use Rattle.blk_format.specs.Records.{node_is_sealed, node_in, node_body, entry_i
 use Rattle.blk_format.specs.Claims.{Claim, BlockOf, ExternalOf, has_claim, is_in_file}
 use Rattle.blk_format.specs.BlockFiles.{linked_as, max_entries_in}
 use Rattle.blk_format.specs.Maps.{AreAllocations}
-use Rattle.blk_volume.specs.View.{View, list_of, stock_of, view_of}
-use Rattle.blk_volume.specs.Loads.{held, listed, Loaded, all_claims, claims_of_loaded}
+use Rattle.blk_volume.specs.View.{View, list_of, store_of, view_of}
+use Rattle.blk_volume.specs.Loads.{held_rule, listed_rule, Loaded, all_claims, claims_of_loaded}
 use Rattle.blk_volume.specs.Audit.{kept_among, kept_by, dropped_by}
 use Rattle.blk_volume.specs.Found.{completed, kept, dropped, found}
 use Rattle.blk_volume.specs.Layout.{Represents}
@@ -142,24 +142,24 @@ whole-is_in_order = record { only_linked = whole-only; long_enough = whole-long;
 -- ---- what is kept
 
 -- also where dirty nodes are kept
-kept-listed : kept_by listed (view_of whole_folder) ≡ one.loaded 0 ∷ []
+kept-listed : kept_by listed_rule (view_of whole_folder) ≡ one.loaded 0 ∷ []
 kept-listed =
-    ap (kept_among (view_of whole_folder).stock listed) (walk-order (view_of whole_folder) (one.state true) (one.layout 0) whole-is_represented)
-    ∙ kept-given (view_of whole_folder).stock listed (one.node ∷ []) (given_by (λ _. true) (one.layout 0)) (all-shown (view_of whole_folder).stock (one.state true) (one.layout 0) whole-is_represented.holds (state_is_valid true) (refl, tt))
+    ap (kept_among (view_of whole_folder).store listed_rule) (walk-order (view_of whole_folder) (one.state true) (one.layout 0) whole-is_represented)
+    ∙ kept-given (view_of whole_folder).store listed_rule (one.node ∷ []) (given_by (λ _. true) (one.layout 0)) (all-shown (view_of whole_folder).store (one.state true) (one.layout 0) whole-is_represented.holds (state_is_valid true) (refl, tt))
 
 idle : completed (view_of whole_folder) ≡ view_of whole_folder
-idle = λ i. let v : View = record { list = idle-list (list_of whole_folder) whole-is_represented.idle i; stock = stock_of whole_folder } in v
+idle = λ i. let v : View = record { list = idle-list (list_of whole_folder) whole-is_represented.idle i; store = store_of whole_folder } in v
 
-entry-is_shown : IsShown (view_of whole_folder).stock held (one.node ∷ []) (given_by is_clean (one.layout 0))
-entry-is_shown = laid-shown (view_of whole_folder).stock (one.state true) (one.layout 0) whole-is_represented.holds held (one.state true).uses is_clean refl (λ item h. h) (refl, tt) goes-with
+entry-is_shown : IsShown (view_of whole_folder).store held_rule (one.node ∷ []) (given_by is_clean (one.layout 0))
+entry-is_shown = laid-shown (view_of whole_folder).store (one.state true) (one.layout 0) whole-is_represented.holds held_rule (one.state true).uses is_clean refl (λ item h. h) (refl, tt) goes-with
 
 -- what is kept is the entry
 pub whole-is_kept : kept whole_folder ≡ one.loaded 0 ∷ []
 unfolding kept
 whole-is_kept =
-    ap (kept_by held) idle
-    ∙ ap (kept_among (view_of whole_folder).stock held) (walk-order (view_of whole_folder) (one.state true) (one.layout 0) whole-is_represented)
-    ∙ kept-given (view_of whole_folder).stock held (one.node ∷ []) (given_by is_clean (one.layout 0)) entry-is_shown
+    ap (kept_by held_rule) idle
+    ∙ ap (kept_among (view_of whole_folder).store held_rule) (walk-order (view_of whole_folder) (one.state true) (one.layout 0) whole-is_represented)
+    ∙ kept-given (view_of whole_folder).store held_rule (one.node ∷ []) (given_by is_clean (one.layout 0)) entry-is_shown
 
 not-none : (w : ℕ) → ((one.node == w) || false) ≡ true → given_by is_clean (one.layout 0) w ≡ None → ⊥
 not-none w among none = let is : w ≡ one.node = grind (arith, nat_tests) in let c : ◌≡◌ {A = Option Loaded} (Some (one.loaded 0)) None = ap (given_by is_clean (one.layout 0)) (sym is) ∙ none in cc
@@ -167,9 +167,9 @@ not-none w among none = let is : w ≡ one.node = grind (arith, nat_tests) in le
 none-dropped : dropped whole_folder ≡ []
 unfolding dropped
 none-dropped =
-    ap (dropped_by held) idle
+    ap (dropped_by held_rule) idle
     ∙ rw (walk-order (view_of whole_folder) (one.state true) (one.layout 0) whole-is_represented)
-    (rw (dropped-none (view_of whole_folder).stock held (one.node ∷ []) (given_by is_clean (one.layout 0)) entry-is_shown not-none, none-unlisted (view_of whole_folder) (one.state true) (one.layout 0) whole-is_represented) refl)
+    (rw (dropped-none (view_of whole_folder).store held_rule (one.node ∷ []) (given_by is_clean (one.layout 0)) entry-is_shown not-none, none-unlisted (view_of whole_folder) (one.state true) (one.layout 0) whole-is_represented) refl)
 
 -- nothing is doomed
 none-doomed : (doomed : List (ℕ × Loaded)) → AreDoomed (view_of whole_folder) (one.state true) doomed → doomed ≡ []
@@ -193,7 +193,7 @@ whole-stands = stands-for whole_folder (one.state true) (one.layout 0) whole-is_
 whole-is_owned : AreOwned whole_folder (claims_of_loaded (one.loaded 0 ∷ []))
 whole-is_owned =
     subst (λ (ls : List Loaded). AreOwned whole_folder (claims_of_loaded (ls ++ []))) kept-listed
-    (subst (λ (ds : List (ℕ × Loaded)). AreOwned whole_folder (claims_of_loaded (kept_by listed (view_of whole_folder) ++ map (λ (d : ℕ × Loaded). d.1) ds))) (none-doomed whole-stands.doomed whole-stands.are_doomed) whole-stands.owned)
+    (subst (λ (ds : List (ℕ × Loaded)). AreOwned whole_folder (claims_of_loaded (kept_by listed_rule (view_of whole_folder) ++ map (λ (d : ℕ × Loaded). d.1) ds))) (none-doomed whole-stands.doomed whole-stands.are_doomed) whole-stands.owned)
 
 -- it is sound
 pub whole-is_sound : IsSound whole_folder
@@ -217,7 +217,7 @@ pub its-nodes : AreAllocations whole_folder 0 (one.node ∷ [])
 unfolding is_in_file kind_of file_selector
 its-nodes =
     subst (λ (ls : List Loaded). AreAllocations whole_folder 0 (filter (is_in_file 0) (flat_map words_of (ls ++ [])))) kept-listed
-    (subst (λ (ds : List (ℕ × Loaded)). AreAllocations whole_folder 0 (filter (is_in_file 0) (flat_map words_of (kept_by listed (view_of whole_folder) ++ map (λ (d : ℕ × Loaded). d.1) ds)))) (none-doomed whole-stands.doomed whole-stands.are_doomed)
+    (subst (λ (ds : List (ℕ × Loaded)). AreAllocations whole_folder 0 (filter (is_in_file 0) (flat_map words_of (kept_by listed_rule (view_of whole_folder) ++ map (λ (d : ℕ × Loaded). d.1) ds)))) (none-doomed whole-stands.doomed whole-stands.are_doomed)
     (stood-allocated whole_folder (one.state true) whole-stands 0 (linked-below 0)))
 
 -- A new folder is bare: it holds nothing, is sound, and represents the empty state and stands for it.

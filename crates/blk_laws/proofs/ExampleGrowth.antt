@@ -8,12 +8,12 @@ use Rattle.blk_image.proofs.Splices.{length-resized, content-resized}
 use Rattle.blk_image.proofs.Words.{length-with_words}
 use Rattle.blk_format.specs.Address.{header_size, block_size}
 use Rattle.blk_format.specs.Headers.{next_file_of, max_entries_of}
-use Rattle.blk_format.specs.BlockFiles.{next_file_in, max_entries_in, files_along, linked, linked_as, type_among}
+use Rattle.blk_format.specs.BlockFiles.{next_file_in, max_entries_in, files_along, linked, linked_as, kind_among}
 use Rattle.blk_volume.specs.View.{view_of}
-use Rattle.blk_volume.specs.Footprint.{SameBut}
+use Rattle.blk_volume.specs.Footprint.{SameBut, is_past, AgreeBut}
 use Rattle.blk_volume.specs.Layout.{Represents}
 use Rattle.blk_format.specs.NewFolder.{new_file_words}
-use Rattle.blk_laws.specs.ByteLaws.{is_past, AgreeBut, HaveGrown}
+use Rattle.blk_format.specs.Growth.{HaveGrown}
 use Rattle.blk_laws.proofs.OneEntry as one
 use Rattle.blk_laws.proofs.ByteChanges.{agreeing-views, growth-past}
 use Rattle.blk_laws.proofs.Growing.{growth-keeps, longer-grown}
@@ -66,7 +66,7 @@ records-links = two-along (next_file_in grown_folder) 57 1 4 grown-fields.0 refl
 
 -- the files that were linked are linked as before, and data_4 is linked as data_1
 pub grown-linked : (linked_as grown_folder 0 ≡ Some 1) × (linked_as grown_folder 1 ≡ Some 2) × (linked_as grown_folder 2 ≡ Some 3) × (linked_as grown_folder 3 ≡ Some 4) × (linked_as grown_folder 4 ≡ Some 2)
-unfolding type_among
+unfolding kind_among
 grown-linked = let l = grown-links in (rw l.0 refl, rw (l.0, records-links) refl, rw (l.0, records-links, l.1) refl, rw (l.0, records-links, l.1, l.2) refl, rw (l.0, records-links) refl)
 
 grown-as : (n : ℕ) → n < 4 → linked_as grown_folder n ≡ Some (n + 1)
@@ -82,13 +82,13 @@ whole-lengths = refl
 
 grown-bytes : (n i : ℕ) → n < 4 → header_size ≤ i → i < length_of whole_folder (Block n) → byte grown_folder (Block n) i ≡ byte whole_folder (Block n) i
 unfolding grown_folder whole_folder
-grown-bytes zero i small behind within = refl
-grown-bytes (suc zero) i small behind within =
+grown-bytes zero i small suffix within = refl
+grown-bytes (suc zero) i small suffix within =
     byte-outside grown_words (resized 532480 whole_records) i (inr (omega arith), (inr (omega arith), (inr (omega arith), tt)))
     ∙ content-resized 532480 whole_records i (let w : i < 270336 = subst (λ (n : ℕ). i < n) whole-lengths within in omega arith)
-grown-bytes (suc (suc zero)) i small behind within = refl
-grown-bytes (suc (suc (suc zero))) i small behind within = refl
-grown-bytes (suc (suc (suc (suc n)))) i small behind within = absurd (omega arith)
+grown-bytes (suc (suc zero)) i small suffix within = refl
+grown-bytes (suc (suc (suc zero))) i small suffix within = refl
+grown-bytes (suc (suc (suc (suc n)))) i small suffix within = absurd (omega arith)
 
 grown-length : length_of grown_folder (Block 1) ≡ 532480
 unfolding grown_folder
@@ -115,7 +115,7 @@ have-grown = record {
   index = λ i shown. refl;
   externals = λ n. refl;
   linked = λ n kind is. grown-as n (below n (ap is_some is)) ∙ ap (λ (k : ℕ). Some k) (its-type n kind is);
-  bytes = λ n kind i is behind within. grown-bytes n i (below n (ap is_some is)) behind within;
+  bytes = λ n kind i is suffix within. grown-bytes n i (below n (ap is_some is)) suffix within;
   longer = λ n kind is. (grown-longer n (below n (ap is_some is))).0;
   more = λ n kind is. (grown-longer n (below n (ap is_some is))).1;
 }

@@ -20,26 +20,26 @@ use Rattle.blk_format.specs.Address.{kind_of, block_count, file_selector, first_
 use Rattle.blk_format.specs.Storage.{entry_blocks}
 use Rattle.blk_format.specs.BlockFiles.{is_among}
 use Rattle.blk_format.specs.Claims.{Claim, BlockOf, ExternalOf, claims_of, has_claim, repeats}
-use Rattle.blk_volume.specs.View.{View, Stock}
+use Rattle.blk_volume.specs.View.{View, StoreView}
 use Rattle.blk_volume.specs.ListView.{put, after_writes}
 use Rattle.blk_volume.specs.Completion.{insert}
 use Rattle.blk_volume.specs.ListPlans.{writes_of, touch_writes}
 use Rattle.blk_volume.specs.Chains.{IsChain}
 use Rattle.blk_volume.specs.Entries.{IsPlain, is_key_length, stream_of, streams_of, role_of}
 use Rattle.blk_volume.specs.Entries as entries
-use Rattle.blk_volume.specs.Loads.{alone, held, listed, Loaded, load, load_key, load_record, record_claims, all_claims}
+use Rattle.blk_volume.specs.Loads.{unchained_rule, held_rule, listed_rule, Loaded, load, load_key, load_record, record_claims, all_claims}
 use Rattle.blk_volume.specs.Audit.{kept_among, dropped_among, kept_by, dropped_by}
 use Rattle.blk_volume.specs.Walk.{walk}
 use Rattle.blk_volume.specs.Sound.{ChainsEnd}
 use Rattle.blk_volume.specs.Found as volume
 use Rattle.blk_volume.specs.Shown.{IsShown}
-use Rattle.blk_volume.specs.Layout.{Layout, is_listed, IsListedRecord, Lies, HoldsBut, Represents}
-use Rattle.blk_volume.specs.Removal.{without_items, laid_less, ListsLess, HasLess}
+use Rattle.blk_volume.specs.Layout.{Layout, is_listed, IsListedRecord, IsLayoutOf, HoldsExcept, Represents}
+use Rattle.blk_volume.specs.Removal.{without_items, placed_less, ListsLess, HasLess}
 use Rattle.blk_volume.specs.Given.{given_by, GoesWith, IsTest}
 use Rattle.blk_volume.specs.Footprint.{IsClear, SameBut}
 use Rattle.blk_volume.specs.Creation.{with_new, linked_front}
 use Rattle.blk_laws.specs.CommandLaws.{IsWritten, touched_view}
-use Rattle.blk_laws.proofs.OneEntry.{object, state, node, contents, loaded, layout, core, list, stock, view, choice, at-node, claims, represented}
+use Rattle.blk_laws.proofs.OneEntry.{object, state, node, contents, loaded, layout, fields, list, store, view, choice, at-node, claims, represented}
 use Rattle.blk_laws.proofs.Premises.{bytes-small, state_is_valid}
 use Rattle.blk_laws.proofs.ExampleChanges.{not-clear}
 use Rattle.blk_laws.proofs.Shown.{kept-given, dropped-none}
@@ -58,7 +58,7 @@ abbrev pub is_clean : Loaded → Bool
 is_clean l = l.dirty == 0
 
 -- that goes with the rule of what is held
-pub goes-with : GoesWith (layout 0) (main (codes "a") ∷ []) held is_clean
+pub goes-with : GoesWith (layout 0) (main (codes "a") ∷ []) held_rule is_clean
 goes-with = record {
   clean = λ item l h at passes. passes;
   main_out = λ key l h at fails. fails;
@@ -67,16 +67,16 @@ goes-with = record {
 }
 
 -- the entry is shown to the walk of its node
-pub entry-is_shown : IsShown (stock contents 0) held (node ∷ []) (given_by is_clean (layout 0))
-entry-is_shown = laid-shown (stock contents 0) (state true) (layout 0) (represented 0).holds held (main (codes "a") ∷ []) is_clean refl (λ item h. h) (refl, tt) goes-with
+pub entry-is_shown : IsShown (store contents 0) held_rule (node ∷ []) (given_by is_clean (layout 0))
+entry-is_shown = laid-shown (store contents 0) (state true) (layout 0) (represented 0).holds held_rule (main (codes "a") ∷ []) is_clean refl (λ item h. h) (refl, tt) goes-with
 
 -- so it is kept
-pub entry-is_kept : kept_among (stock contents 0) held (node ∷ []) ≡ loaded 0 ∷ []
-entry-is_kept = kept-given (stock contents 0) held (node ∷ []) (given_by is_clean (layout 0)) entry-is_shown
+pub entry-is_kept : kept_among (store contents 0) held_rule (node ∷ []) ≡ loaded 0 ∷ []
+entry-is_kept = kept-given (store contents 0) held_rule (node ∷ []) (given_by is_clean (layout 0)) entry-is_shown
 
 -- and not dropped
-pub entry-is_not_dropped : dropped_among (stock contents 0) held (node ∷ []) ≡ []
-entry-is_not_dropped = dropped-none (stock contents 0) held (node ∷ []) (given_by is_clean (layout 0)) entry-is_shown (λ w among none. go w among none) where
+pub entry-is_not_dropped : dropped_among (store contents 0) held_rule (node ∷ []) ≡ []
+entry-is_not_dropped = dropped-none (store contents 0) held_rule (node ∷ []) (given_by is_clean (layout 0)) entry-is_shown (λ w among none. go w among none) where
   go : (w : ℕ) → ((node == w) || false) ≡ true → given_by is_clean (layout 0) w ≡ None → ⊥
   go w among none = let is : w ≡ node = grind (arith, nat_tests) in let c : ◌≡◌ {A = Option Loaded} (Some (loaded 0)) None = ap (given_by is_clean (layout 0)) (sym is) ∙ none in cc
 
@@ -88,10 +88,10 @@ entry-is_test = record {
 }
 
 -- and its row is picked
-pub entry-is_picked : map volume.row_of (kept_among (stock contents 0) held (node ∷ [])) ≡ main_row (codes "a") plain (codes "zz", [], []) ∷ []
+pub entry-is_picked : map volume.row_of (kept_among (store contents 0) held_rule (node ∷ [])) ≡ main_row (codes "a") plain (codes "zz", [], []) ∷ []
 unfolding row_of
 entry-is_picked =
-    found-picked (state true) (layout 0) (represented 0).holds.lies.laid (main (codes "a") ∷ []) (λ item h. h) (λ number. true) entry-is_test (stock contents 0) (represented 0).holds (refl, tt)
+    found-picked (state true) (layout 0) (represented 0).holds.lies.laid (main (codes "a") ∷ []) (λ item h. h) (λ number. true) entry-is_test (store contents 0) (represented 0).holds (refl, tt)
     (λ key n h. absurd (let z : false ≡ true = h in cc))
 
 -- A second entry, `b`, is written beside the first.
@@ -112,14 +112,14 @@ second = record { node = second_node; contents = second_contents; dirty = 5; key
 abbrev pub with_second : View
 with_second = record {
   list = record list { checks = λ w. (w == node) || (w == second_node) };
-  stock = record (stock contents 0) {
-    named = λ w. if w == second_node then Some (record { contents = second_contents; dirty = 5 }) else (stock contents 0).named w;
-    entry = λ w. if w == second_contents then Some (record core { hash = 0x70C1A0E1; rankings_node = second_node; data_size = 0 ∷ 0 ∷ 0 ∷ 0 ∷ []; data_addr = 0 ∷ 0 ∷ 0 ∷ 0 ∷ [] }) else (stock contents 0).entry w;
+  store = record (store contents 0) {
+    node_fields = λ w. if w == second_node then Some (record { contents = second_contents; dirty = 5 }) else (store contents 0).node_fields w;
+    entry = λ w. if w == second_contents then Some (record fields { hash = 0x70C1A0E1; rankings_node = second_node; data_size = 0 ∷ 0 ∷ 0 ∷ 0 ∷ []; data_addr = 0 ∷ 0 ∷ 0 ∷ 0 ∷ [] }) else (store contents 0).entry w;
     key_place = λ w n. if w == second_contents then codes "b" else codes "a";
   };
 }
 
-second-loads : load with_second.stock (alone 0) second_node ≡ Ok second
+second-loads : load with_second.store (unchained_rule 0) second_node ≡ Ok second
 unfolding load load_record load_key is_key_length entries.key_of stream_of streams_of role_of block_count entry_blocks hash mixed of_bytes of_one
 second-loads = refl
 
@@ -152,11 +152,11 @@ not_true false never = refl
 second-same : SameBut (has_claim (all_claims second)) (view 0) with_second
 second-same = record {
   links = record { head = refl; tail = refl; transaction = refl; checks = λ w clear. let n : (w == second_node) ≡ false = not-node w clear in rw n (or-false (w == node)); next = λ w clear. refl; prev = λ w clear. refl };
-  stock = record {
-    named = λ w clear. let n : (w == second_node) ≡ false = not-node w clear in rw n refl;
+  store = record {
+    node_fields = λ w clear. let n : (w == second_node) ≡ false = not-node w clear in rw n refl;
     entry = λ w clear. let n : (w == second_contents) ≡ false = not-contents w clear in rw n refl;
-    follow = λ w clear. refl;
-    key_place = λ w core clear is long short. let n : (w == second_contents) ≡ false = not-contents w clear in rw n refl;
+    chain_next = λ w clear. refl;
+    key_place = λ w fields clear is long short. let n : (w == second_contents) ≡ false = not-contents w clear in rw n refl;
     stored = λ size w clear. refl;
   };
   table = λ b. refl;
@@ -190,14 +190,14 @@ second-is_written = record {
     free = λ claim h. let n : has_claim (all_claims (loaded 0)) claim ≡ false = not_true (has_claim (all_claims (loaded 0)) claim) (λ one. not_both claim one h) in rw n refl;
     single = second-once;
   };
-  front = record { follows = refl; fresh = refl };
+  prefix = record { follows = refl; fresh = refl };
   good = refl;
   few = omega arith;
   missing = refl;
 }
 
 -- while its node is inserted, the first entry alone is kept
-pub second-is_created_at : (count : ℕ) → map volume.row_of (kept_by held (volume.completed (record with_second { list = after_writes (take count (writes_of insert second_node with_second.list)) with_second.list }))) ≡ rest (state true)
+pub second-is_created_at : (count : ℕ) → map volume.row_of (kept_by held_rule (volume.completed (record with_second { list = after_writes (take count (writes_of insert second_node with_second.list)) with_second.list }))) ≡ rest (state true)
 second-is_created_at = creates-moments (view 0) with_second (state true) (layout 0) (codes "b") second second-is_written
 
 -- the state, the view and the layout with both
@@ -210,7 +210,7 @@ both_layout = with_new (layout 0) (codes "b") second
 
 -- the view of both
 abbrev pub both_view : View
-both_view = record { list = after_writes (writes_of insert second_node with_second.list) with_second.list; stock = linked_front with_second.stock second }
+both_view = record { list = after_writes (writes_of insert second_node with_second.list) with_second.list; store = linked_front with_second.store second }
 
 -- in the end both are represented
 pub both-are_represented : Represents both_view both both_layout
@@ -244,7 +244,7 @@ unfolding refusals created
 open-is_not_refused = refl
 
 -- at each write of its touch what is kept may be left by a stop in it
-pub open-may_be_stopped : (count : ℕ) → StopOutcome both 7 (to_open 2 (codes "a")) (step both 7 (to_open 2 (codes "a"))).state (map volume.row_of (kept_by held (volume.completed (touched_view both_view node count))))
+pub open-may_be_stopped : (count : ℕ) → StopOutcome both 7 (to_open 2 (codes "a")) (step both 7 (to_open 2 (codes "a"))).state (map volume.row_of (kept_by held_rule (volume.completed (touched_view both_view node count))))
 open-may_be_stopped = open-moments both_view both both_layout both-are_represented both-are_valid 7 2 (codes "a") open-is_not_refused
 
 -- and in the end `a` is in front
@@ -256,10 +256,10 @@ open-is_represented = open-ends both_view both both_layout both-are_represented 
 abbrev is_not_second : Item → Bool
 is_not_second item = not (bytes_eq (key_of item) (codes "b"))
 
-abbrev without_node : Stock
-without_node = record both_view.stock { named = (stock contents 0).named }
+abbrev without_node : StoreView
+without_node = record both_view.store { node_fields = (store contents 0).node_fields }
 
-first-loads : load without_node (alone 0) node ≡ Ok (loaded 0)
+first-loads : load without_node (unchained_rule 0) node ≡ Ok (loaded 0)
 unfolding load load_record load_key is_key_length entries.key_of stream_of streams_of role_of block_count entry_blocks hash mixed of_bytes of_one
 first-loads = refl
 
@@ -271,15 +271,15 @@ put-elsewhere values place value other e = rw e refl
 first-at : (w : ℕ) (l : Loaded) → both_layout.at w ≡ Some l → (w == second_node) ≡ false → (w ≡ node) × (loaded 0 ≡ l)
 first-at w l is apart = at-node 0 w l (sym (put-elsewhere (layout 0).at second_node (Some second) w apart) ∙ is)
 
-removal-holds : HoldsBut (λ w. w == second_node) without_node both both_layout
+removal-holds : HoldsExcept (λ w. w == second_node) without_node both both_layout
 unfolding put
 removal-holds =
     let r : Represents both_view both both_layout = both-are_represented in
     record {
       no_record = refl;
-      each = λ w l is out. let p = first-at w l is out in subst (λ (x : ℕ). load without_node (alone (both_layout.state x)) x ≡ Ok l) (sym p.0) (first-loads ∙ ap Ok p.1);
-      chains = λ b below. let c : IsChain both_view.stock b (both_layout.chains b) = r.holds.shows.chains b below in
-          record { linked = linked-facts both_view.stock without_node b (both_view.stock.table b) (both_layout.chains b) (λ w h. (refl, refl)) c.linked; once = c.once };
+      each = λ w l is out. let p = first-at w l is out in subst (λ (x : ℕ). load without_node (unchained_rule (both_layout.state x)) x ≡ Ok l) (sym p.0) (first-loads ∙ ap Ok p.1);
+      chains = λ b below. let c : IsChain both_view.store b (both_layout.chains b) = r.holds.shows.chains b below in
+          record { linked = linked-facts both_view.store without_node b (both_view.store.table b) (both_layout.chains b) (λ w h. (refl, refl)) c.linked; once = c.once };
       laid = r.holds.lies.laid;
       normal = r.holds.lies.normal;
       chained = λ w l there is out. r.holds.lies.chained w l there is;
@@ -296,7 +296,7 @@ not-there (main key) stays = rw (not_second (bytes_eq key (codes "b")) stays) re
 not-there (part key n) stays = refl
 
 -- what is kept is the row of `a`
-pub first-stays : map volume.row_of (kept_among without_node held (node ∷ [])) ≡ main_row (codes "a") plain (codes "zz", [], []) ∷ []
+pub first-stays : map volume.row_of (kept_among without_node held_rule (node ∷ [])) ≡ main_row (codes "a") plain (codes "zz", [], []) ∷ []
 unfolding row_of created put
 first-stays =
     removed-rows (λ w. w == second_node) without_node both both_layout removal-holds both-are_valid (λ number. is_live_and_settled (object_at both number)) (settled-is_test both both_layout both-are_represented.holds.lies.laid both-are_valid)
@@ -343,12 +343,12 @@ has-less = record {
   among : (w : ℕ) → w ≡ node → is_among (node ∷ []) w ≡ true
   among w e = rw e refl
 
-  was : (b c : ℕ) → b < 65536 → is_among ((layout 0).chains b) c ≡ true → IsListedRecord (without_items both without_second is_not_second) (laid_less both_layout (layout 0).at (layout 0).chains (layout 0).owner) c
+  was : (b c : ℕ) → b < 65536 → is_among ((layout 0).chains b) c ≡ true → IsListedRecord (without_items both without_second is_not_second) (placed_less both_layout (layout 0).at (layout 0).chains (layout 0).owner) c
   was b c below h = let i : IsListedRecord (state true) (layout 0) c = (represented 0).holds.lies.unchained b c below h in
       record { node = i.node; loaded = i.loaded; listed = i.listed; here = i.here; record_is = i.record_is }
 
 -- the layout without `b` is laid out for the state without it
-pub less-is_laid : Lies (without_items both without_second is_not_second) (laid_less both_layout (layout 0).at (layout 0).chains (layout 0).owner)
+pub less-is_laid : IsLayoutOf (without_items both without_second is_not_second) (placed_less both_layout (layout 0).at (layout 0).chains (layout 0).owner)
 less-is_laid = lies-less both without_second is_not_second both_layout (layout 0).at (layout 0).chains (layout 0).owner both-are_represented.holds.lies lists-less has-less
 
 -- ---- what represents the state of both
@@ -359,19 +359,19 @@ unfolding created
 both-are_walked = walk-order both_view both both_layout both-are_represented
 
 -- what is listed are both rows
-pub both-are_listed : map volume.row_of (kept_by listed both_view) ≡ main_row (codes "b") plain ([], [], []) ∷ main_row (codes "a") plain (codes "zz", [], []) ∷ []
+pub both-are_listed : map volume.row_of (kept_by listed_rule both_view) ≡ main_row (codes "b") plain ([], [], []) ∷ main_row (codes "a") plain (codes "zz", [], []) ∷ []
 unfolding created rows row_of
 both-are_listed = rows-kept both_view both both_layout both-are_represented both-are_valid
 
 -- nothing is dropped but for dirt
-pub both-are_not_dropped : dropped_by listed both_view ≡ []
+pub both-are_not_dropped : dropped_by listed_rule both_view ≡ []
 both-are_not_dropped = none-dropped both_view both both_layout both-are_represented both-are_valid
 
 -- each chain ends
-pub both-chains_end : ChainsEnd both_view.stock
-both-chains_end = chain-end both_view.stock both both_layout both-are_represented.holds both-are_valid
+pub both-chains_end : ChainsEnd both_view.store
+both-chains_end = chain-end both_view.store both both_layout both-are_represented.holds both-are_valid
 
 -- and what is kept is `a` alone, which is settled
-pub both-keep_the_first : map volume.row_of (kept_by held (volume.completed both_view)) ≡ main_row (codes "a") plain (codes "zz", [], []) ∷ []
+pub both-keep_the_first : map volume.row_of (kept_by held_rule (volume.completed both_view)) ≡ main_row (codes "a") plain (codes "zz", [], []) ∷ []
 unfolding created rest settled_row
 both-keep_the_first = found-rest both_view both both_layout both-are_represented both-are_valid

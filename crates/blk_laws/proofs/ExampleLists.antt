@@ -1,12 +1,11 @@
 -- The laws of the use list, at a list of three nodes.
 use Rattle.std.proofs.Common.{◌≡◌, [], ◌∷◌}
-use Rattle.blk_volume.specs.ListView.{ListView, after_writes}
+use Rattle.blk_volume.specs.ListView.{ListView, after_writes, IsAtRest}
 use Rattle.blk_volume.specs.Walk.{walk}
 use Rattle.blk_volume.specs.Completion.{insert, remove}
-use Rattle.blk_volume.specs.ListPlans.{writes_of, touch_writes, completion_writes, outcome, TurnsAtTwo, stopped}
-use Rattle.blk_laws.specs.ListLaws.{IsAtRest}
+use Rattle.blk_volume.specs.ListPlans.{writes_of, touch_writes, completion_writes, outcome, CommitsAtTwo, stopped}
 use Rattle.blk_laws.proofs.Walks.{walk_list}
-use Rattle.blk_laws.proofs.ListMoments.{completing}
+use Rattle.blk_laws.proofs.ListCompletions.{completing}
 use Rattle.blk_laws.proofs.AtRest.{inserts-turn, inserts-end, removals-turn, removals-end, touches-turn, touches-end, completions-end}
 use Rattle.blk_laws.proofs.Premises.{three, three_at_rest, fourth}
 
@@ -15,15 +14,15 @@ pub three-are_walked : walk three ≡ 3 ∷ 2 ∷ 1 ∷ []
 three-are_walked = walk_list three (3 ∷ 2 ∷ 1 ∷ []) three_at_rest.whole
 
 -- a fourth is inserted
-pub fourth-is_inserted : TurnsAtTwo three (writes_of insert 4 three) (3 ∷ 2 ∷ 1 ∷ []) (4 ∷ 3 ∷ 2 ∷ 1 ∷ []) × IsAtRest (after_writes (writes_of insert 4 three) three) (4 ∷ 3 ∷ 2 ∷ 1 ∷ [])
+pub fourth-is_inserted : CommitsAtTwo three (writes_of insert 4 three) (3 ∷ 2 ∷ 1 ∷ []) (4 ∷ 3 ∷ 2 ∷ 1 ∷ []) × IsAtRest (after_writes (writes_of insert 4 three) three) (4 ∷ 3 ∷ 2 ∷ 1 ∷ [])
 fourth-is_inserted = (inserts-turn 4 three (3 ∷ 2 ∷ 1 ∷ []) fourth, inserts-end 4 three (3 ∷ 2 ∷ 1 ∷ []) fourth)
 
 -- the second is removed
-pub second-is_removed : TurnsAtTwo three (writes_of remove 2 three) (3 ∷ 2 ∷ 1 ∷ []) (3 ∷ 1 ∷ []) × IsAtRest (after_writes (writes_of remove 2 three) three) (3 ∷ 1 ∷ [])
+pub second-is_removed : CommitsAtTwo three (writes_of remove 2 three) (3 ∷ 2 ∷ 1 ∷ []) (3 ∷ 1 ∷ []) × IsAtRest (after_writes (writes_of remove 2 three) three) (3 ∷ 1 ∷ [])
 second-is_removed = (removals-turn 2 three (3 ∷ []) (1 ∷ []) three_at_rest, removals-end 2 three (3 ∷ []) (1 ∷ []) three_at_rest)
 
 -- the third is touched
-pub third-is_touched : TurnsAtTwo three (touch_writes 1 three) (3 ∷ 2 ∷ 1 ∷ []) (1 ∷ 3 ∷ 2 ∷ []) × IsAtRest (after_writes (touch_writes 1 three) three) (1 ∷ 3 ∷ 2 ∷ [])
+pub third-is_touched : CommitsAtTwo three (touch_writes 1 three) (3 ∷ 2 ∷ 1 ∷ []) (1 ∷ 3 ∷ 2 ∷ []) × IsAtRest (after_writes (touch_writes 1 three) three) (1 ∷ 3 ∷ 2 ∷ [])
 third-is_touched = (touches-turn 1 three (3 ∷ 2 ∷ []) [] three_at_rest, touches-end 1 three (3 ∷ 2 ∷ []) [] three_at_rest)
 
 -- an insert that was begun is completed, in three attempts

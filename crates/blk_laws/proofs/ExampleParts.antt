@@ -19,14 +19,14 @@ use Rattle.blk_format.specs.Storage.{entry_blocks}
 use Rattle.blk_format.specs.BlockFiles.{is_among}
 use Rattle.blk_format.specs.Claims.{Claim, BlockOf, ExternalOf, claims_of, has_claim, repeats}
 use Rattle.blk_format.specs.SparseIndex.{PartIndex, map_bit, read_parent_index}
-use Rattle.blk_volume.specs.View.{Stock}
+use Rattle.blk_volume.specs.View.{StoreView}
 use Rattle.blk_volume.specs.Chains.{bucket_of_hash, IsChain}
 use Rattle.blk_volume.specs.Entries.{IsPart, is_key_length, key_of, stream_of, streams_of, role_of, parent_role}
-use Rattle.blk_volume.specs.Loads.{alone, held, Loaded, load, load_key, load_record, record_claims, all_claims}
+use Rattle.blk_volume.specs.Loads.{unchained_rule, held_rule, Loaded, load, load_key, load_record, record_claims, all_claims}
 use Rattle.blk_volume.specs.Audit.{kept_among}
 use Rattle.blk_volume.specs.Found as volume
-use Rattle.blk_volume.specs.Layout.{IsListedRecord, Lies, HoldsBut, OneChanged, changed_at, IsChange}
-use Rattle.blk_volume.specs.Removal.{without_items, laid_less, ListsLess, HasLess}
+use Rattle.blk_volume.specs.Layout.{IsListedRecord, IsLayoutOf, HoldsExcept, OneChanged, changed_at, IsChange}
+use Rattle.blk_volume.specs.Removal.{without_items, placed_less, ListsLess, HasLess}
 use Rattle.blk_laws.proofs.Premises.{bytes-small, none-at}
 use Rattle.blk_laws.proofs.OneEntry.{choice}
 use Rattle.blk_laws.proofs.Central.{settled-is_test}
@@ -160,28 +160,28 @@ has-less = record {
       let mine : has_claim (all_claims the_parent) claim ≡ true = ap (λ (x : Loaded). has_claim (all_claims x) claim) p.1 ∙ h in
       rw mine (ap (λ (x : ℕ). Some x) (sym (eqb-true w parent_node p.0)));
 } where
-  of-a_chain : (b c : ℕ) (s : Bool) → is_among (if s then 0xA0010000 ∷ [] else []) c ≡ true → IsListedRecord (without_items family_state without_part stays) (laid_less family_layout parent_at parent_chains parent_owner) c
+  of-a_chain : (b c : ℕ) (s : Bool) → is_among (if s then 0xA0010000 ∷ [] else []) c ≡ true → IsListedRecord (without_items family_state without_part stays) (placed_less family_layout parent_at parent_chains parent_owner) c
   of-a_chain b c true e = record { node = parent_node; loaded = the_parent; listed = refl; here = refl; record_is = among-one 0xA0010000 c e }
   of-a_chain b c false e = absurd (let z : false ≡ true = e in cc)
 
 -- the layout without it is laid out for the state without it
-pub parent-is_laid : Lies (without_items family_state without_part stays) (laid_less family_layout parent_at parent_chains parent_owner)
+pub parent-is_laid : IsLayoutOf (without_items family_state without_part stays) (placed_less family_layout parent_at parent_chains parent_owner)
 parent-is_laid = lies-less family_state without_part stays family_layout parent_at parent_chains parent_owner family-holds.lies lists-less has-less
 
 -- the stock once its node is gone
-abbrev pub without_node : Stock
-without_node = record family_stock { named = λ w. if w == parent_node then family_stock.named parent_node else None }
+abbrev pub without_node : StoreView
+without_node = record family_stock { node_fields = λ w. if w == parent_node then family_stock.node_fields parent_node else None }
 
-still-loads : load without_node (alone 0) parent_node ≡ Ok the_parent
+still-loads : load without_node (unchained_rule 0) parent_node ≡ Ok the_parent
 unfolding load load_record load_key is_key_length key_of stream_of streams_of role_of parent_role read_parent_index words_at block_count entry_blocks hash mixed of_bytes of_one
 still-loads = refl
 
 -- the parent stays meanwhile
-pub without-holds : HoldsBut (λ w. w == part_node) without_node family_state family_layout
+pub without-holds : HoldsExcept (λ w. w == part_node) without_node family_state family_layout
 without-holds = record {
   no_record = refl;
   each = λ w l is out. ⊎_elim
-      (λ (p : (w ≡ parent_node) × (the_parent ≡ l)). subst (λ (x : ℕ). load without_node (alone 0) x ≡ Ok l) (sym p.0) (still-loads ∙ ap Ok p.1))
+      (λ (p : (w ≡ parent_node) × (the_parent ≡ l)). subst (λ (x : ℕ). load without_node (unchained_rule 0) x ≡ Ok l) (sym p.0) (still-loads ∙ ap Ok p.1))
       (λ (p : (w ≡ part_node) × (the_part ≡ l)). absurd (let c : true ≡ false = sym (eq-eqb w part_node p.0) ∙ out in cc))
       (at-either w l is);
   chains = λ b below. let c : IsChain family_stock b (family_layout.chains b) = family-holds.shows.chains b below in
@@ -194,7 +194,7 @@ without-holds = record {
 }
 
 -- what is kept is the row of the parent
-pub parent-is_kept : map volume.row_of (kept_among without_node held (parent_node ∷ [])) ≡ main_row (codes "a") (sparse 5) ([], [], []) ∷ []
+pub parent-is_kept : map volume.row_of (kept_among without_node held_rule (parent_node ∷ [])) ≡ main_row (codes "a") (sparse 5) ([], [], []) ∷ []
 unfolding row_of
 parent-is_kept =
     removed-rows (λ w. w == part_node) without_node family_state family_layout without-holds family-is_valid (λ number. is_live_and_settled (object_at family_state number)) (settled-is_test family_state family_layout family-holds.lies.laid family-is_valid)
@@ -277,5 +277,5 @@ part-change = record {
 }
 
 -- the changed part is laid out for the changed state
-pub part-is_laid : Lies (record family_state { objects = with_data }) (changed_at family_layout part_node now owners_now)
+pub part-is_laid : IsLayoutOf (record family_state { objects = with_data }) (changed_at family_layout part_node now owners_now)
 part-is_laid = lies-changed family_state with_data family_layout (part (codes "a") 0) the_part now owners_now family-holds.lies part-changed refl refl part-change

@@ -14,24 +14,23 @@ use Rattle.blk_format.specs.Records as records
 use Rattle.blk_format.specs.SparseIndex.{read_parent_index}
 use Rattle.blk_format.specs.BlockFiles.{is_among}
 use Rattle.blk_format.specs.Claims.{Claim, claims_of, has_claim}
-use Rattle.blk_volume.specs.ListView.{after_writes}
+use Rattle.blk_volume.specs.ListView.{after_writes, IsAtRest}
 use Rattle.blk_volume.specs.Completion.{remove}
 use Rattle.blk_volume.specs.ListPlans.{writes_of}
-use Rattle.blk_volume.specs.View.{View, Stock}
+use Rattle.blk_volume.specs.View.{View, StoreView}
 use Rattle.blk_volume.specs.Chains.{bucket_of_hash, IsChain}
 use Rattle.blk_volume.specs.Entries.{is_key_length, key_of, stream_of, streams_of, role_of, parent_role}
-use Rattle.blk_volume.specs.Loads.{alone, held, Loaded, load, load_key, load_record}
+use Rattle.blk_volume.specs.Loads.{unchained_rule, held_rule, Loaded, load, load_key, load_record}
 use Rattle.blk_volume.specs.Audit.{kept_among, kept_by}
 use Rattle.blk_volume.specs.Found as volume
-use Rattle.blk_volume.specs.Layout.{is_listed, HoldsBut, Represents}
-use Rattle.blk_volume.specs.Removal.{without_items, laid_less, HasChains, is_of_another, laid_doomed}
-use Rattle.blk_laws.specs.ListLaws.{IsAtRest}
+use Rattle.blk_volume.specs.Layout.{is_listed, HoldsExcept, Represents}
+use Rattle.blk_volume.specs.Removal.{without_items, placed_less, HasChains, is_of_another, placed_doomed}
 use Rattle.blk_laws.specs.CommandLaws.{IsDoomedNow}
 use Rattle.blk_laws.proofs.OneEntry.{choice}
 use Rattle.blk_laws.proofs.AtRest.{removals-end}
 use Rattle.blk_laws.proofs.Unlinking.{less-represented}
 use Rattle.blk_laws.proofs.Dooming.{dooms-keep, doomed-is-represented}
-use Rattle.blk_laws.proofs.DoomMoments.{doomed-parts}
+use Rattle.blk_laws.proofs.DoomWrites.{doomed-parts}
 use Rattle.blk_laws.proofs.OthersHold.{represented-but, laid-chained, others-unlinked}
 use Rattle.blk_laws.proofs.ExampleFamily.{part_node, parent_node, the_part, the_parent, family, family_state, family_layout, family_stock, family-holds, at-either, which-item}
 use Rattle.blk_laws.proofs.DamagedParts.{parent_core}
@@ -49,7 +48,7 @@ family-at_rest = record { whole = family-is_represented.list; idle = refl }
 -- ---- the part goes, and its parent stays
 
 -- the word of its bucket becomes 0
-abbrev part_unlinked : Stock
+abbrev part_unlinked : StoreView
 part_unlinked = record without_node { table = λ b. if b == 0xA782 then 0xA0010000 else 0 }
 
 parent-has_chains : HasChains (λ w. w == part_node) part_unlinked family_state family_layout parent_chains
@@ -67,14 +66,14 @@ parent-has_chains = record {
   parent-in_chain : is_among (parent_chains (bucket_of_hash (hash the_parent.key))) the_parent.contents ≡ true
   parent-in_chain = refl
 
-part-is_unlinked : HoldsBut (λ w. w == part_node) part_unlinked family_state (record family_layout { chains = parent_chains })
+part-is_unlinked : HoldsExcept (λ w. w == part_node) part_unlinked family_state (record family_layout { chains = parent_chains })
 part-is_unlinked = others-unlinked (λ w. w == part_node) without_node part_unlinked family_state family_layout without-holds 0
-    (record { beside = record { named = λ w. refl; key_place = λ w core clear is long short. refl; stored = λ size w clear. refl }; entry = λ w. refl })
+    (record { beside = record { node_fields = λ w. refl; key_place = λ w fields clear is long short. refl; stored = λ size w clear. refl }; entry = λ w. refl })
     (λ claim w l h owned is. absurd (nobody's claim h)) parent_chains parent-has_chains
 
 -- the state without it is represented
-pub part-is_removed : Represents (record { list = after_writes (writes_of remove part_node family_view.list) family_view.list; stock = part_unlinked }) (without_items family_state without_part stays) (laid_less family_layout parent_at parent_chains parent_owner)
-part-is_removed = less-represented (λ w. w == part_node) (record { list = after_writes (writes_of remove part_node family_view.list) family_view.list; stock = part_unlinked }) family_state without_part stays family_layout parent_at parent_chains parent_owner
+pub part-is_removed : Represents (record { list = after_writes (writes_of remove part_node family_view.list) family_view.list; store = part_unlinked }) (without_items family_state without_part stays) (placed_less family_layout parent_at parent_chains parent_owner)
+part-is_removed = less-represented (λ w. w == part_node) (record { list = after_writes (writes_of remove part_node family_view.list) family_view.list; store = part_unlinked }) family_state without_part stays family_layout parent_at parent_chains parent_owner
     family-holds.lies lists-less has-less part-is_unlinked
     (λ w l is. let p = choice (w == parent_node) the_parent l is in ap (λ (x : ℕ). x == part_node) (eqb-true w parent_node p.0))
     (removals-end part_node family_view.list [] (parent_node ∷ []) family-at_rest)
@@ -90,19 +89,19 @@ others-stay item other = ⊎_elim
     (λ (e : same_item item (main (codes "a")) ≡ false). ap not e)
     (cases_Bool (same_item item (main (codes "a"))))
 
-family-holds_but : HoldsBut (λ w. false) family_stock named_state family_layout
+family-holds_but : HoldsExcept (λ w. false) family_stock named_state family_layout
 family-holds_but = represented-but (λ w. false) family_view named_state family_layout family-is_represented
 
 -- nothing is kept
-pub part-is_not_kept : map volume.row_of (kept_among family_stock held (part_node ∷ [])) ≡ []
+pub part-is_not_kept : map volume.row_of (kept_among family_stock held_rule (part_node ∷ [])) ≡ []
 unfolding rest settled_row doomed
 part-is_not_kept = dooms-keep (λ w. false) family_stock named_state family_layout family-holds_but (named-is_valid true) 0 family refl not_main refl others-stay (refl, tt) (λ item h keeps. refl)
 
 -- nor at any write of the removal of the part's node, which is alone in the list then
 abbrev without_main : View
-without_main = record { list = after_writes (writes_of remove parent_node family_view.list) family_view.list; stock = family_stock }
+without_main = record { list = after_writes (writes_of remove parent_node family_view.list) family_view.list; store = family_stock }
 
-pub part-is_never_kept : (count : ℕ) → map volume.row_of (kept_by held (volume.completed (record without_main { list = after_writes (take count (writes_of remove part_node without_main.list)) without_main.list }))) ≡ []
+pub part-is_never_kept : (count : ℕ) → map volume.row_of (kept_by held_rule (volume.completed (record without_main { list = after_writes (take count (writes_of remove part_node without_main.list)) without_main.list }))) ≡ []
 unfolding rest settled_row doomed
 part-is_never_kept = doomed-parts (λ w. false) without_main named_state family_layout family-holds_but (named-is_valid true) 0 family refl not_main refl others-stay (λ item h keeps. refl)
     (removals-end parent_node family_view.list (part_node ∷ []) [] family-at_rest) 0 refl refl
@@ -111,18 +110,18 @@ part-is_never_kept = doomed-parts (λ w. false) without_main named_state family_
 abbrev both_gone : ℕ → Bool
 both_gone w = (w == parent_node) || (w == part_node)
 
-abbrev doomed_stock : Stock
+abbrev doomed_stock : StoreView
 doomed_stock = record family_stock {
-  named = λ w. if w == parent_node then family_stock.named parent_node else None;
+  node_fields = λ w. if w == parent_node then family_stock.node_fields parent_node else None;
   table = λ b. 0;
   entry = λ w. if w == 0xA0010000 then Some (record parent_core { state = records.doomed }) else family_stock.entry w;
 }
 
-doomed-loads : load doomed_stock (alone records.doomed) parent_node ≡ Ok the_parent
+doomed-loads : load doomed_stock (unchained_rule records.doomed) parent_node ≡ Ok the_parent
 unfolding load load_record load_key is_key_length key_of stream_of streams_of role_of parent_role read_parent_index words_at block_count entry_blocks hash mixed of_bytes of_one
 doomed-loads = refl
 
-doomed-holds : HoldsBut both_gone doomed_stock named_state (record family_layout { chains = λ b. [] })
+doomed-holds : HoldsExcept both_gone doomed_stock named_state (record family_layout { chains = λ b. [] })
 doomed-holds = record {
   no_record = refl;
   each = λ w l is out. absurd (none w l is out);
@@ -143,7 +142,7 @@ doomed-holds = record {
 doomed-now : IsDoomedNow named_state family_layout 0 family the_parent parent_at (λ b. []) parent_owner
 doomed-now = record {
   lies = record { here = refl; live = refl; at = refl };
-  named = refl;
+  node_fields = refl;
   less = record {
     stays = λ item l keeps h is. absurd (no-other item keeps h);
     others = λ w l out is. absurd (⊎_elim
@@ -167,13 +166,13 @@ doomed-now = record {
 abbrev emptied : View
 emptied = record {
   list = after_writes (writes_of remove part_node (after_writes (writes_of remove parent_node family_view.list) family_view.list)) (after_writes (writes_of remove parent_node family_view.list) family_view.list);
-  stock = doomed_stock;
+  store = doomed_stock;
 }
 
 list-is_empty : IsAtRest emptied.list []
 list-is_empty = removals-end part_node (after_writes (writes_of remove parent_node family_view.list) family_view.list) [] [] (removals-end parent_node family_view.list (part_node ∷ []) [] family-at_rest)
 
 -- that is represented
-pub family-is_doomed : Represents emptied (doomed 0 named_state (Some family)) (laid_doomed family_layout 0 parent_node parent_at (λ b. []) parent_owner)
+pub family-is_doomed : Represents emptied (doomed 0 named_state (Some family)) (placed_doomed family_layout 0 parent_node parent_at (λ b. []) parent_owner)
 family-is_doomed = doomed-is-represented both_gone emptied named_state family_layout family-is_represented.holds.lies (named-is_valid true) 0 family the_parent parent_at (λ b. []) parent_owner doomed-now doomed-holds
     (λ w l is h. let p = choice (w == parent_node) the_parent l is in sym (eqb-true w parent_node p.0)) doomed-loads list-is_empty

@@ -14,10 +14,10 @@ use Rattle.blk_format.specs.SparseIndex.{read_part_index}
 use Rattle.blk_format.specs.Address.{kind_of, block_count, file_selector, first_block, external_number}
 use Rattle.blk_format.specs.Claims.{Claim, BlockOf, ExternalOf, claims_of, has_claim}
 use Rattle.blk_volume.specs.ListView.{put}
-use Rattle.blk_volume.specs.View.{View, Core}
+use Rattle.blk_volume.specs.View.{View, RecordFields}
 use Rattle.blk_volume.specs.Chains.{chain_from}
 use Rattle.blk_volume.specs.Entries.{is_key_length, key_of, stream_of, streams_of, role_of, part_role, is_covered}
-use Rattle.blk_volume.specs.Loads.{held, load, load_key, load_record, all_claims}
+use Rattle.blk_volume.specs.Loads.{held_rule, load, load_key, load_record, all_claims}
 use Rattle.blk_volume.specs.Audit.{kept_by}
 use Rattle.blk_volume.specs.Found as volume
 use Rattle.blk_volume.specs.Layout.{Layout, Represents}
@@ -74,7 +74,7 @@ named-is_valid settled = record {
 
 -- the view of both nodes, with its tail
 abbrev pub family_view : View
-family_view = record { list = record (sparse_view 1 part_node both_nodes).list { tail = parent_node }; stock = family_stock }
+family_view = record { list = record (sparse_view 1 part_node both_nodes).list { tail = parent_node }; store = family_stock }
 
 -- represents it
 pub family-is_represented : Represents family_view named_state family_layout
@@ -93,7 +93,7 @@ family-is_represented = record {
 
 -- the parent's dirty word becomes 5
 abbrev dirty_view : View
-dirty_view = record family_view { stock = record family_stock { named = put family_stock.named parent_node (Some (record { contents = 0xA0010000; dirty = 5 })) } }
+dirty_view = record family_view { store = record family_stock { node_fields = put family_stock.node_fields parent_node (Some (record { contents = 0xA0010000; dirty = 5 })) } }
 
 abbrev dirty_state : State
 dirty_state = marked named_state 0 family false
@@ -106,13 +106,13 @@ dirty-is_represented = dirty-settles family_view named_state family_layout famil
 
 -- ---- the part's record names three bytes of data at block 12 of data_1
 
-abbrev written_core : Core
+abbrev written_core : RecordFields
 written_core = record part_core { data_size = 0 ∷ 3 ∷ 192 ∷ 0 ∷ []; data_addr = 0 ∷ 0xA001000C ∷ 0xA0010008 ∷ 0 ∷ [] }
 
 -- where this lies
 abbrev with_data : Option (List ℕ) → View
 with_data bytes = record dirty_view {
-  stock = record dirty_view.stock {
+  store = record dirty_view.store {
     entry = λ w. if w == 0xA0010001 then Some written_core else family_stock.entry w;
     stored = λ size w. if (size == 3) && (w == 0xA001000C) then bytes else family_stock.stored size w;
   };
@@ -133,11 +133,11 @@ named-blocks = (refl, refl)
 same-but : (bytes : Option (List ℕ)) → SameBut touched dirty_view (with_data bytes)
 same-but bytes = record {
   links = record { head = refl; tail = refl; transaction = refl; checks = λ w clear. refl; next = λ w clear. refl; prev = λ w clear. refl };
-  stock = record {
-    named = λ w clear. refl;
+  store = record {
+    node_fields = λ w clear. refl;
     entry = λ w clear. let n : (w == 0xA0010001) ≡ false = not-clear touched w 0xA0010001 (BlockOf 1 1) named-blocks.0 touched-claims.0 clear in rw n refl;
-    follow = λ w clear. refl;
-    key_place = λ w core clear is long short. refl;
+    chain_next = λ w clear. refl;
+    key_place = λ w fields clear is long short. refl;
     stored = λ size w clear. let n : (w == 0xA001000C) ≡ false = not-clear touched w 0xA001000C (BlockOf 1 12) named-blocks.1 touched-claims.1 clear in rw (n, and-false (size == 3)) refl;
   };
   table = λ b. refl;
@@ -159,20 +159,20 @@ apart-but claim w owned apart = go (has_claim (all_claims the_parent) claim) (ha
   go false false mine e = cc
 
 -- the record keeps its flags and its key
-keeps-name : (bytes : Option (List ℕ)) → KeepsName dirty_view.stock (with_data bytes).stock (part (codes "a") 0) 0xA0010001
+keeps-name : (bytes : Option (List ℕ)) → KeepsName dirty_view.store (with_data bytes).store (part (codes "a") 0) 0xA0010001
 unfolding key_of
 keeps-name bytes was now old new =
     let s : part_core ≡ was = cc in let t : written_core ≡ now = cc in
-    (ap (λ (c : Core). c.flags) (sym t) ∙ ap (λ (c : Core). c.flags) s, ap (key_of (with_data bytes).stock 0xA0010001) (sym t) ∙ ap (key_of dirty_view.stock 0xA0010001) s)
+    (ap (λ (c : RecordFields). c.flags) (sym t) ∙ ap (λ (c : RecordFields). c.flags) s, ap (key_of (with_data bytes).store 0xA0010001) (sym t) ∙ ap (key_of dirty_view.store 0xA0010001) s)
 
 -- where the data is there, the part's record loads at this moment
-torn-loads : load (with_data (Some (codes "yyy"))).stock held part_node ≡ Ok (record the_part { streams = [] ∷ codes "yyy" ∷ part_bytes ∷ []; others = 0 ∷ 0 ∷ 0xA001000C ∷ 0xA0010008 ∷ 0 ∷ [] })
+torn-loads : load (with_data (Some (codes "yyy"))).store held_rule part_node ≡ Ok (record the_part { streams = [] ∷ codes "yyy" ∷ part_bytes ∷ []; others = 0 ∷ 0 ∷ 0xA001000C ∷ 0xA0010008 ∷ 0 ∷ [] })
 unfolding put load load_record load_key is_key_length key_of stream_of streams_of role_of part_role is_covered read_part_index read_name split_last child_name hex_text words_at block_count entry_blocks chain_from hash mixed of_bytes of_four of_three
 torn-loads = refl
 
 -- nothing is kept, whether the part's data is there, so that its record loads, or not
-unsettled-are_at_rest : (bytes : Option (List ℕ)) → map volume.row_of (kept_by held (volume.completed (with_data bytes))) ≡ []
+unsettled-are_at_rest : (bytes : Option (List ℕ)) → map volume.row_of (kept_by held_rule (volume.completed (with_data bytes))) ≡ []
 unfolding rest settled_row put
 unsettled-are_at_rest bytes =
     moment-rest touched dirty_view (with_data bytes) dirty_state dirty_layout dirty-is_represented (named-is_valid false) 0 (record family { settled = false }) (part (codes "a") 0) refl refl refl the_part refl (same-but bytes)
-    (record { apart = apart-but; named = refl; bucket = λ b. refl; follow = refl; links = record { checks = refl; next = refl; prev = refl } }) (keeps-name bytes)
+    (record { apart = apart-but; node_fields = refl; bucket = λ b. refl; chain_next = refl; links = record { checks = refl; next = refl; prev = refl } }) (keeps-name bytes)

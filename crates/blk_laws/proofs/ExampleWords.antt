@@ -3,24 +3,23 @@ use Rattle.std.proofs.Common.{◌≡◌, ℕ, zero, suc, List, [], ◌∷◌, �
 use Rattle.blk_image.specs.Bytes.{spliced, zeros}
 use Rattle.blk_image.specs.Image.{File, Index, Block, External, Image, bytes_of, length_of}
 use Rattle.blk_image.specs.Steps.{with_word, with_words, after}
-use Rattle.blk_image.specs.Told.{Along, TurnsAt}
+use Rattle.blk_image.specs.Told.{Along, CommitsAt}
 use Rattle.blk_image.proofs.Splices.{length-zeros}
 use Rattle.blk_image.proofs.Words.{length-with_words}
-use Rattle.blk_format.specs.Address.{is_address, is_initialized, names_external, names_blocks, kind_of, reserved_bits, block_count, file_selector, first_block, external_number, block_size, block_place, place, room}
+use Rattle.blk_format.specs.Address.{is_address, is_initialized, names_external, names_blocks, kind_of, reserved_bits, block_count, file_selector, first_block, external_number, block_size, block_place, place, byte_size}
 use Rattle.blk_format.specs.Standing.{stands, stands_as_blocks}
 use Rattle.blk_format.specs.Headers.{header_length}
 use Rattle.blk_format.specs.Records.{node_in, node_checks}
-use Rattle.blk_format.specs.BlockFiles.{next_file_in, max_entries_in, files_along, linked, type_among}
-use Rattle.blk_volume.specs.ListView.{Next, Tail, Transaction}
+use Rattle.blk_format.specs.BlockFiles.{next_file_in, max_entries_in, files_along, linked, kind_among}
+use Rattle.blk_volume.specs.ListView.{Next, Tail, Transaction, IsAtRest, CanBeInserted}
 use Rattle.blk_volume.specs.Completion.{insert, remove, counts}
 use Rattle.blk_volume.specs.ListPlans.{writes_of, touch_writes, operation_writes, completion_writes}
 use Rattle.blk_volume.specs.View.{list_of, checks_at, next_at, prev_at}
 use Rattle.blk_format.specs.NewFolder.{new_index_words, new_file_words}
-use Rattle.blk_laws.specs.ListLaws.{IsAtRest, CanBeInserted}
-use Rattle.blk_laws.specs.ListSteps.{IsPartly, IsTouched, IsSealed, AreSealed, AreTimes}
-use Rattle.blk_laws.specs.ListWords.{IsWritable, CanBeMade, CompletesTo, CompletesAlike, Rests, IsCompleted, IsStopped, operation_steps, steps_of_touch, completion_steps, stopped_folder}
-use Rattle.blk_laws.specs.Moments.{OnlyListChanges}
-use Rattle.blk_laws.proofs.ExampleMoments.{small-zeros}
+use Rattle.blk_volume.specs.ListSteps.{IsPartly, IsTouched, IsSealed, AreSealed, AreTimes}
+use Rattle.blk_volume.specs.ListImages.{IsWritable, CanBeMade, CompletesTo, CompletesAlike, HasListAtRest, IsCompleted, IsStopped, operation_steps, steps_of_touch, completion_steps, stopped_folder}
+use Rattle.blk_volume.specs.ShownChanges.{OnlyListChanges}
+use Rattle.blk_laws.proofs.ExampleWrites.{small-zeros}
 use Rattle.blk_laws.proofs.Fronts.{AreSmall, small-words}
 use Rattle.blk_laws.proofs.Sealing.{writes-seal, touches-seal}
 use Rattle.blk_laws.proofs.WriteSteps.{writes-in_turn, writes-made, writes-go_on}
@@ -72,7 +71,7 @@ pair-writable more = record { bytes = λ file i. pair-small more file i; has_hea
 
 -- its list is at rest, and the third node can be put into it
 pub pair-at_rest : IsAtRest (list_of (pair_folder [])) (first ∷ last ∷ [])
-unfolding list_of checks_at next_at prev_at pair_folder zeros with_word spliced next_file_in max_entries_in linked files_along type_among stands stands_as_blocks is_address is_initialized names_external names_blocks kind_of reserved_bits block_count file_selector first_block external_number block_size block_place place room node_in node_checks
+unfolding list_of checks_at next_at prev_at pair_folder zeros with_word spliced next_file_in max_entries_in linked files_along kind_among stands stands_as_blocks is_address is_initialized names_external names_blocks kind_of reserved_bits block_count file_selector first_block external_number block_size block_place place byte_size node_in node_checks
 pair-at_rest = record {
   whole = record {
     head_is = refl;
@@ -86,17 +85,17 @@ pair-at_rest = record {
 }
 
 pub pair-can_be_more : CanBeInserted (list_of (pair_folder [])) (first ∷ last ∷ []) another
-unfolding list_of checks_at pair_folder zeros with_word spliced next_file_in max_entries_in linked files_along type_among stands stands_as_blocks is_address is_initialized names_external names_blocks kind_of reserved_bits block_count file_selector first_block external_number block_size block_place place room node_in node_checks
+unfolding list_of checks_at pair_folder zeros with_word spliced next_file_in max_entries_in linked files_along kind_among stands stands_as_blocks is_address is_initialized names_external names_blocks kind_of reserved_bits block_count file_selector first_block external_number block_size block_place place byte_size node_in node_checks
 pair-can_be_more = record { rest = pair-at_rest; lacks = refl; good = refl; few = omega arith }
 
 abbrev pair : Image
 pair = pair_folder []
 
 -- the third is inserted
-pub insert-turns : TurnsAt 2 (CompletesTo (first ∷ last ∷ [])) (CompletesTo (another ∷ first ∷ last ∷ [])) pair (operation_steps insert another pair)
+pub insert-turns : CommitsAt 2 (CompletesTo (first ∷ last ∷ [])) (CompletesTo (another ∷ first ∷ last ∷ [])) pair (operation_steps insert another pair)
 insert-turns = inserts-turn_words pair another (first ∷ last ∷ []) (pair-writable []) pair-can_be_more
 
-pub insert-ends : Rests (another ∷ first ∷ last ∷ []) (after (operation_steps insert another pair) pair)
+pub insert-ends : HasListAtRest (another ∷ first ∷ last ∷ []) (after (operation_steps insert another pair) pair)
 insert-ends = inserts-rest pair another (first ∷ last ∷ []) (pair-writable []) pair-can_be_more
 
 -- its writes are made in turn
@@ -119,10 +118,10 @@ insert-seals = writes-seal pair (writes_of insert another (list_of pair)) (pair-
 pub removal-can : CanBeMade pair (writes_of remove last (list_of pair))
 removal-can = removals-can pair last (first ∷ []) [] pair-at_rest
 
-pub removal-turns : TurnsAt 2 (CompletesTo (first ∷ last ∷ [])) (CompletesTo (first ∷ [])) pair (operation_steps remove last pair)
+pub removal-turns : CommitsAt 2 (CompletesTo (first ∷ last ∷ [])) (CompletesTo (first ∷ [])) pair (operation_steps remove last pair)
 removal-turns = removals-turn_words pair last (first ∷ []) [] (pair-writable []) pair-at_rest
 
-pub removal-ends : Rests (first ∷ []) (after (operation_steps remove last pair) pair)
+pub removal-ends : HasListAtRest (first ∷ []) (after (operation_steps remove last pair) pair)
 removal-ends = removals-rest pair last (first ∷ []) [] (pair-writable []) pair-at_rest
 
 -- it is touched
@@ -135,10 +134,10 @@ touch-can = touches-can pair last (first ∷ []) [] pair-at_rest
 pub touch-in_turn : Along (IsTouched pair last (touch_writes last (list_of pair))) pair (steps_of_touch last 70 pair)
 touch-in_turn = touches-in_turn pair last 70 (first ∷ []) [] (pair-writable []) pair-at_rest
 
-pub touch-turns : TurnsAt 2 (CompletesTo (first ∷ last ∷ [])) (CompletesTo (last ∷ first ∷ [])) pair (steps_of_touch last 70 pair)
+pub touch-turns : CommitsAt 2 (CompletesTo (first ∷ last ∷ [])) (CompletesTo (last ∷ first ∷ [])) pair (steps_of_touch last 70 pair)
 touch-turns = touches-turn_words pair last 70 (first ∷ []) [] (pair-writable []) pair-at_rest
 
-pub touch-ends : Rests (last ∷ first ∷ []) (after (steps_of_touch last 70 pair) pair)
+pub touch-ends : HasListAtRest (last ∷ first ∷ []) (after (steps_of_touch last 70 pair) pair)
 touch-ends = touches-rest pair last 70 (first ∷ []) [] (pair-writable []) pair-at_rest
 
 pub touch-times : AreTimes last 70 (after (steps_of_touch last 70 pair) pair)
@@ -148,7 +147,7 @@ pub touch-seals : AreSealed (touch_writes last (list_of pair)) (after (steps_of_
 touch-seals = touches-seal pair last 70 (first ∷ []) [] (pair-writable []) pair-at_rest
 
 -- so is the head, which stays where it is
-pub head-turns : TurnsAt 2 (CompletesTo (first ∷ last ∷ [])) (CompletesTo (first ∷ last ∷ [])) pair (steps_of_touch first 70 pair)
+pub head-turns : CommitsAt 2 (CompletesTo (first ∷ last ∷ [])) (CompletesTo (first ∷ last ∷ [])) pair (steps_of_touch first 70 pair)
 head-turns = touches-turn_words pair first 70 [] (last ∷ []) (pair-writable []) pair-at_rest
 
 -- the folder with the removal of the tail in flight
@@ -157,7 +156,7 @@ in_flight = pair_folder ((328, 0x90000000) ∷ (332, 2) ∷ [])
 
 -- a completion writes this: two sealed updates of three words each, the second write one word of the index, and the last one too
 pub completion-writes : completion_writes (list_of in_flight) ≡ Next first first ∷ Tail first ∷ Next last 0 ∷ Transaction 0 ∷ []
-unfolding completion_writes operation_writes counts list_of checks_at next_at prev_at pair_folder zeros with_word spliced next_file_in max_entries_in linked files_along type_among stands stands_as_blocks is_address is_initialized names_external names_blocks kind_of reserved_bits block_count file_selector first_block external_number block_size block_place place room node_in node_checks
+unfolding completion_writes operation_writes counts list_of checks_at next_at prev_at pair_folder zeros with_word spliced next_file_in max_entries_in linked files_along kind_among stands stands_as_blocks is_address is_initialized names_external names_blocks kind_of reserved_bits block_count file_selector first_block external_number block_size block_place place byte_size node_in node_checks
 completion-writes = refl
 
 pub completion-can : CanBeMade in_flight (completion_writes (list_of in_flight))

@@ -9,10 +9,10 @@ use Rattle.blk_format.specs.Names.{Name, read_name}
 use Rattle.std.specs.Str.{bytes_eq}
 use Rattle.blk_format.specs.SparseIndex.{ParentIndex, PartIndex, read_part_index}
 use Rattle.blk_format.specs.Claims.{repeats, overlap}
-use Rattle.blk_volume.specs.View.{View, Stock, Named, Core}
+use Rattle.blk_volume.specs.View.{View, StoreView, NodeFields, RecordFields}
 use Rattle.blk_format.specs.BlockFiles.{is_among}
 use Rattle.blk_volume.specs.Reasons.{Reason}
-use Rattle.blk_volume.specs.Loads.{Rule, held, Loaded, load, record_claims, all_claims}
+use Rattle.blk_volume.specs.Loads.{Rule, held_rule, Loaded, load, record_claims, all_claims}
 use Rattle.blk_volume.specs.Entries.{is_key_length, key_of, Role, IsPlain, IsParent, IsPart, parent_role, part_role, role_of}
 use Rattle.blk_volume.specs.Audit.{admit, is_parent_of, is_parent_role, is_orphan, is_orphan_role, is_named, is_child, verdict, with_verdict, verdicts, tried, kept_among, kept_by}
 use Rattle.blk_laws.specs.KeptLaws.{IsDroppedIfLeftOut, SameCandidatesHoldTheSame}
@@ -40,7 +40,7 @@ admit-then kept l k ok goes =
       not_true false e = refl
 
 -- a kept node is one of the tried that was loaded
-pub record IsLoadOf (v : Stock) (rule : Rule) (words : List ℕ) (k : Loaded) : Type 0 where
+pub record IsLoadOf (v : StoreView) (rule : Rule) (words : List ℕ) (k : Loaded) : Type 0 where
   pub among : is_among words k.node ≡ true
   pub loads : load v rule k.node ≡ Ok k
 
@@ -68,14 +68,14 @@ parent_is false (Some index) test role e = under (test index) e where
   under false e = cc
 
 -- a record with the child flag is loaded as a part
-role-child : (e : Core) (key : List ℕ) (streams : List (List ℕ)) (role : Role) → (e.flags == child) ≡ true → role_of e key streams ≡ Some role → (name : Name) × (index : PartIndex) × (role ≡ IsPart name index) × (read_name key ≡ Some name)
+role-child : (e : RecordFields) (key : List ℕ) (streams : List (List ℕ)) (role : Role) → (e.flags == child) ≡ true → role_of e key streams ≡ Some role → (name : Name) × (index : PartIndex) × (role ≡ IsPart name index) × (read_name key ≡ Some name)
 unfolding role_of part_role
 role-child e key streams role flag is =
     let two : e.flags ≡ 2 = eqb-true e.flags 2 flag in
     part_is _ _ (read_name key) (read_part_index _) _ role (rw two at is)
 
 -- what is loaded as a parent has the flag
-role-parent : (e : Core) (key : List ℕ) (streams : List (List ℕ)) (index : ParentIndex) → role_of e key streams ≡ Some (IsParent index) → (e.flags == parent) ≡ true
+role-parent : (e : RecordFields) (key : List ℕ) (streams : List (List ℕ)) (index : ParentIndex) → role_of e key streams ≡ Some (IsParent index) → (e.flags == parent) ≡ true
 unfolding role_of part_role
 role-parent e key streams index is = under (e.flags == parent) (e.flags == child) is where
   under : (a b : Bool) → (if a then parent_role e streams else if b then part_role key streams else Some IsPlain) ≡ Some (IsParent index) → a ≡ true
@@ -88,23 +88,23 @@ both : (a b : Bool) → (a && b) ≡ true → (a ≡ true) × (b ≡ true)
 both true b e = (refl, e)
 both false b e = cc
 
-clean-held : (d : ℕ) → (not held.clean || (d == 0)) ≡ true → (d == 0) ≡ true
+clean-held : (d : ℕ) → (not held_rule.clean || (d == 0)) ≡ true → (d == 0) ≡ true
 clean-held d e = e
 
 -- the key of a record for which those reasons don't hold
-sound-is : (v : Stock) (c : ℕ) (e : Core) (key : List ℕ) → e.checks ≡ true → is_key_length c e ≡ true → key_of v c e ≡ Some key → sound_key v c e ≡ Some key
+sound-is : (v : StoreView) (c : ℕ) (e : RecordFields) (key : List ℕ) → e.checks ≡ true → is_key_length c e ≡ true → key_of v c e ≡ Some key → sound_key v c e ≡ Some key
 sound-is v c e key checks long is = under e.checks (is_key_length c e) checks long where
   under : (a b : Bool) → a ≡ true → b ≡ true → (if a && b then key_of v c e else None) ≡ Some key
   under a b p q = rw (p, q) is
 
 -- a kept parent stands as one
-parent-at : (v : Stock) (words : List ℕ) (name : Name) (k : Loaded) → IsLoadOf v held words k → is_parent_of name k ≡ true → is_parent_at v name k.node ≡ true
+parent-at : (v : StoreView) (words : List ℕ) (name : Name) (k : Loaded) → IsLoadOf v held_rule words k → is_parent_of name k ≡ true → is_parent_at v name k.node ≡ true
 unfolding is_parent_at
 parent-at v words name k of is =
-    load-then v held k.node k of.loads (λ n e facts.
+    load-then v held_rule k.node k of.loads (λ n e facts.
     let clean : (n.dirty == 0) ≡ true = facts.facts.keyed.clean in
     rw (facts.node, clean, facts.entry) (by_role n e facts k.role refl)) where
-      by_role : (n : Named) (e : Core) → IsLoadedNode v held k.node k n e → (role : Role) → k.role ≡ role → is_parent_with v name n.contents e ≡ true
+      by_role : (n : NodeFields) (e : RecordFields) → IsLoadedNode v held_rule k.node k n e → (role : Role) → k.role ≡ role → is_parent_with v name n.contents e ≡ true
       by_role n e facts IsPlain r = let never : is_parent_role name k.key IsPlain ≡ true = rw r at is in cc
       by_role n e facts (IsPart other index) r = let never : is_parent_role name k.key (IsPart other index) ≡ true = rw r at is in cc
       by_role n e facts (IsParent index) r =
@@ -131,7 +131,7 @@ any-of test (y ∷ xs) x h e =
     ⊎_elim (λ (is : (y == x) ≡ true). rw (eqb-true y x is, e) refl) (λ (is : (y == x) ≡ false). rw (any-of test xs x (rw is at h) e) (or_true (test y))) (cases_Bool (y == x))
 
 -- the name of a loaded part
-name-at : (v : Stock) (w : ℕ) (m : Loaded) (n : Named) (e : Core) (name : Name) → IsLoadedNode v held w m n e → read_name m.key ≡ Some name → name_at v w ≡ Some name
+name-at : (v : StoreView) (w : ℕ) (m : Loaded) (n : NodeFields) (e : RecordFields) (name : Name) → IsLoadedNode v held_rule w m n e → read_name m.key ≡ Some name → name_at v w ≡ Some name
 unfolding name_at
 name-at v w m n e name facts is = rw (facts.node, facts.entry, sound-is v n.contents e m.key facts.checks facts.facts.keyed.key_length facts.facts.keyed.key) is
 
@@ -140,19 +140,19 @@ not_false true e = refl
 not_false false e = cc
 
 -- the parent of a part that is no orphan stands among the walked
-parent-among : (v : Stock) (words : List ℕ) (kept : List Loaded) (role : Role) (name : Name) (index : PartIndex) → AllByRecursion (IsLoadOf v held words) kept → role ≡ IsPart name index → is_orphan_role kept role ≡ false → list_any (is_parent_at v name) words ≡ true
+parent-among : (v : StoreView) (words : List ℕ) (kept : List Loaded) (role : Role) (name : Name) (index : PartIndex) → AllByRecursion (IsLoadOf v held_rule words) kept → role ≡ IsPart name index → is_orphan_role kept role ≡ false → list_any (is_parent_at v name) words ≡ true
 parent-among v words kept role name index loads is no_orphan =
     let none : is_orphan_role kept (IsPart name index) ≡ false = rw is at no_orphan in
-    let found : (k : Loaded) × IsLoadOf v held words k × (is_parent_of name k ≡ true) = any-in (is_parent_of name) (IsLoadOf v held words) kept loads (not_false _ none) in
+    let found : (k : Loaded) × IsLoadOf v held_rule words k × (is_parent_of name k ≡ true) = any-in (is_parent_of name) (IsLoadOf v held_rule words) kept loads (not_false _ none) in
     any-of (is_parent_at v name) words found.0.node found.1.among (parent-at v words name found.0 found.1 found.2)
 
 -- what is kept is a candidate
-kept-candidate : (v : Stock) (words : List ℕ) (kept : List Loaded) (w : ℕ) (l : Loaded) → AllByRecursion (IsLoadOf v held words) kept → verdict v held kept w ≡ Ok l → is_candidate v words w ≡ true
+kept-candidate : (v : StoreView) (words : List ℕ) (kept : List Loaded) (w : ℕ) (l : Loaded) → AllByRecursion (IsLoadOf v held_rule words) kept → verdict v held_rule kept w ≡ Ok l → is_candidate v words w ≡ true
 unfolding is_candidate is_orphan
 kept-candidate v words kept w l loads ok =
-    bind_then (load v held w) (admit kept) l ok (λ m loaded ok.
+    bind_then (load v held_rule w) (admit kept) l ok (λ m loaded ok.
     admit-then kept m l ok (λ same no_orphan.
-    load-then v held w m loaded (λ n e facts.
+    load-then v held_rule w m loaded (λ n e facts.
     let clean : (n.dirty == 0) ≡ true = facts.facts.keyed.clean in
     rw (facts.node, clean, facts.entry, facts.checks)
     (⊎_elim
@@ -163,29 +163,29 @@ kept-candidate v words kept w l loads ok =
     (λ (flag : (e.flags == child) ≡ false). rw flag refl)
     (cases_Bool (e.flags == child))))))
 
-loads-push : {v : Stock} {words : List ℕ} (kept : List Loaded) (l : Loaded) → AllByRecursion (IsLoadOf v held words) kept → IsLoadOf v held words l → AllByRecursion (IsLoadOf v held words) (kept ++ l ∷ [])
+loads-push : {v : StoreView} {words : List ℕ} (kept : List Loaded) (l : Loaded) → AllByRecursion (IsLoadOf v held_rule words) kept → IsLoadOf v held_rule words l → AllByRecursion (IsLoadOf v held_rule words) (kept ++ l ∷ [])
 loads-push [] l all one = (one, tt)
 loads-push (k ∷ kept) l all one = (all.0, loads-push kept l all.1 one)
 
 -- the verdicts on nodes that are no candidates
-verdicts-candidates : (v : Stock) (words : List ℕ) (kept : List Loaded) (ts : List ℕ) → AllByRecursion (λ w. is_among words w ≡ true) ts → AllByRecursion (IsLoadOf v held words) kept
-    → AllByRecursion (IsDroppedIfLeftOut (is_candidate v words)) (verdicts v held kept ts)
+verdicts-candidates : (v : StoreView) (words : List ℕ) (kept : List Loaded) (ts : List ℕ) → AllByRecursion (λ w. is_among words w ≡ true) ts → AllByRecursion (IsLoadOf v held_rule words) kept
+    → AllByRecursion (IsDroppedIfLeftOut (is_candidate v words)) (verdicts v held_rule kept ts)
 unfolding verdicts
 verdicts-candidates v words kept [] among loads = tt
 verdicts-candidates v words kept (w ∷ ts) among loads =
-    (dropped (verdict v held kept w) refl, verdicts-candidates v words (with_verdict kept (verdict v held kept w)) ts among.1 (still (verdict v held kept w) refl)) where
-      dropped : (r : Result Loaded Reason) → verdict v held kept w ≡ r → is_candidate v words w ≡ false → is_err r ≡ true
+    (dropped (verdict v held_rule kept w) refl, verdicts-candidates v words (with_verdict kept (verdict v held_rule kept w)) ts among.1 (still (verdict v held_rule kept w) refl)) where
+      dropped : (r : Result Loaded Reason) → verdict v held_rule kept w ≡ r → is_candidate v words w ≡ false → is_err r ≡ true
       dropped (Ok l) is left = let holds : is_candidate v words w ≡ true = kept-candidate v words kept w l loads is in cc
       dropped (Err reason) is left = refl
 
-      one : (l : Loaded) → verdict v held kept w ≡ Ok l → IsLoadOf v held words l
+      one : (l : Loaded) → verdict v held_rule kept w ≡ Ok l → IsLoadOf v held_rule words l
       one l is =
-          bind_then (load v held w) (admit kept) l is (λ m loaded ok. admit-then kept m l ok (λ same no_orphan. load-then v held w m loaded (λ n e facts.
+          bind_then (load v held_rule w) (admit kept) l is (λ m loaded ok. admit-then kept m l ok (λ same no_orphan. load-then v held_rule w m loaded (λ n e facts.
           let node : l.node ≡ w = ap (λ (x : Loaded). x.node) (sym same) ∙ facts.facts.node_is in
-          let whole : load v held w ≡ Ok l = loaded ∙ ap Ok same in
-          record { among = subst (λ (x : ℕ). is_among words x ≡ true) (sym node) among.0; loads = subst (λ (x : ℕ). load v held x ≡ Ok l) (sym node) whole })))
+          let whole : load v held_rule w ≡ Ok l = loaded ∙ ap Ok same in
+          record { among = subst (λ (x : ℕ). is_among words x ≡ true) (sym node) among.0; loads = subst (λ (x : ℕ). load v held_rule x ≡ Ok l) (sym node) whole })))
 
-      still : (r : Result Loaded Reason) → verdict v held kept w ≡ r → AllByRecursion (IsLoadOf v held words) (with_verdict kept r)
+      still : (r : Result Loaded Reason) → verdict v held_rule kept w ≡ r → AllByRecursion (IsLoadOf v held_rule words) (with_verdict kept r)
       still (Ok l) is = loads-push kept l loads (one l is)
       still (Err reason) is = loads
 
@@ -195,15 +195,15 @@ is_among-own [] = tt
 is_among-own (w ∷ words) = (rw (eq-eqb w w refl) refl, All-to (λ x. is_among words x ≡ true) (λ x. is_among (w ∷ words) x ≡ true) (λ x h. rw h (or_true (w == x))) words (is_among-own words))
 
 -- no other node than a candidate is kept
-pub only-candidates : (v : View) → kept_by held v ≡ kept_among v.stock held (candidates v)
+pub only-candidates : (v : View) → kept_by held_rule v ≡ kept_among v.store held_rule (candidates v)
 only-candidates v =
     let own : AllByRecursion (λ w. is_among (walk v.list) w ≡ true) (walk v.list) = is_among-own (walk v.list) in
-    let among : AllByRecursion (λ w. is_among (walk v.list) w ≡ true) (tried v.stock (walk v.list)) = All-both (λ w. is_among (walk v.list) w ≡ true) _ _ (All-filter (λ w. is_among (walk v.list) w ≡ true) (λ w. not (is_child v.stock w)) (walk v.list) own) (All-filter (λ w. is_among (walk v.list) w ≡ true) (is_child v.stock) (walk v.list) own) in
-    sym (leaving-out v.stock held (is_candidate v.stock (walk v.list)) (walk v.list) (verdicts-candidates v.stock (walk v.list) [] (tried v.stock (walk v.list)) among tt))
+    let among : AllByRecursion (λ w. is_among (walk v.list) w ≡ true) (tried v.store (walk v.list)) = All-both (λ w. is_among (walk v.list) w ≡ true) _ _ (All-filter (λ w. is_among (walk v.list) w ≡ true) (λ w. not (is_child v.store w)) (walk v.list) own) (All-filter (λ w. is_among (walk v.list) w ≡ true) (is_child v.store) (walk v.list) own) in
+    sym (leaving-out v.store held_rule (is_candidate v.store (walk v.list)) (walk v.list) (verdicts-candidates v.store (walk v.list) [] (tried v.store (walk v.list)) among tt))
 
 -- two views with the same candidates, which agree on what these name, keep the same
-pub frame-views : (v u : View) → candidates v ≡ candidates u → AllByRecursion (SameNamed v.stock u.stock) (candidates v) → kept_by held v ≡ kept_by held u
-frame-views v u same agree = only-candidates v ∙ kept_among-same v.stock u.stock held (candidates v) agree ∙ ap (kept_among u.stock held) same ∙ sym (only-candidates u)
+pub frame-views : (v u : View) → candidates v ≡ candidates u → AllByRecursion (SameNamed v.store u.store) (candidates v) → kept_by held_rule v ≡ kept_by held_rule u
+frame-views v u same agree = only-candidates v ∙ kept_among-same v.store u.store held_rule (candidates v) agree ∙ ap (kept_among u.store held_rule) same ∙ sym (only-candidates u)
 
 -- so do two well-formed images
 pub frame-law : SameCandidatesHoldTheSame

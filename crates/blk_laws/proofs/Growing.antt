@@ -15,7 +15,9 @@ use Rattle.blk_format.specs.BlockFiles.{linked_as, next_file_in, max_entries_in,
 use Rattle.blk_volume.specs.View.{view_of}
 use Rattle.blk_volume.specs.Layout.{rule_of}
 use Rattle.blk_volume.specs.Sound.{words_of}
-use Rattle.blk_laws.specs.ByteLaws.{is_past, HaveGrown, GrowthKeepsStates}
+use Rattle.blk_volume.specs.Footprint.{is_past}
+use Rattle.blk_format.specs.Growth.{HaveGrown}
+use Rattle.blk_laws.specs.ByteLaws.{GrowthKeepsStates}
 use Rattle.blk_laws.proofs.ClaimLists.{claim-append, claim-head, no-claim}
 use Rattle.blk_laws.proofs.ByteChanges.{agreeing-views, growth-past, same-links, stands-blocks, stands-linked, stands-some, false_unless}
 use Rattle.blk_laws.proofs.BlockBytes.{not_same}
@@ -101,7 +103,7 @@ module _ (image : Image) (m length : ℕ) (longer : length_of image (Block m) �
     index = λ i _. same.bytes Index i refl;
     externals = λ n. refl;
     linked = λ n kind at. same-links image grown next-same n ∙ at;
-    bytes = λ n kind i at behind below. same.bytes (Block n) i refl;
+    bytes = λ n kind i at suffix below. same.bytes (Block n) i refl;
     longer = λ n kind at. rises n;
     more = λ n kind at. let e = count-same n in omega arith;
   }

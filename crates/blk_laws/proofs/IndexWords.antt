@@ -14,9 +14,9 @@ use Rattle.blk_format.specs.Headers.{head_checks, list_checks, zero_places, inde
 use Rattle.blk_format.specs.Standing.{stands, stands_as_blocks}
 use Rattle.blk_format.specs.BlockFiles.{is_among, linked, next_file_in, max_entries_in, stands_in, IsWellFormed}
 use Rattle.blk_volume.specs.ListView.{ListView, put}
-use Rattle.blk_volume.specs.View.{Stock, list_of, checks_at, next_at, prev_at, stock_of, named_at, core_at, follow_at, key_place_at, stored_at}
-use Rattle.blk_laws.specs.Moments.{ShowsTheSame}
-use Rattle.blk_laws.specs.IndexMoments.{shown_words, checked_words, HeadsAreWritten, TailsAreWritten, TransactionsAreWritten, OperationsAreWritten, OtherWordsAreNotShown, BucketsAreWritten, OtherWordsAreNotChecked, BucketsAreNotChecked, IndexWordsStandApart}
+use Rattle.blk_volume.specs.View.{StoreView, list_of, checks_at, next_at, prev_at, store_of, node_fields_at, core_at, follow_at, key_place_at, stored_at}
+use Rattle.blk_volume.specs.ShownChanges.{ShowsTheSame}
+use Rattle.blk_laws.specs.IndexWrites.{shown_words, checked_words, HeadsAreWritten, TailsAreWritten, TransactionsAreWritten, OperationsAreWritten, OtherWordsAreNotShown, BucketsAreWritten, OtherWordsAreNotChecked, BucketsAreNotChecked, IndexWordsStandApart}
 use Rattle.blk_laws.proofs.WellFormed.{well_formed_still}
 
 -- an image with another index
@@ -33,17 +33,17 @@ list-indexed : (image : Image) (bytes : Option (List ℕ)) → list_of (with_ind
 unfolding with_index list_of checks_at next_at prev_at stands stands_as_blocks linked next_file_in max_entries_in
 list-indexed image bytes = refl
 
-stock-indexed : (image : Image) (bytes : Option (List ℕ)) → stock_of (with_index image bytes) ≡ record (stock_of image) { table = λ b. word_at (content (unwrap_or bytes [])) (368 + 4 * b) }
-unfolding with_index stock_of named_at core_at follow_at key_place_at stored_at stands stands_as_blocks linked next_file_in max_entries_in
+stock-indexed : (image : Image) (bytes : Option (List ℕ)) → store_of (with_index image bytes) ≡ record (store_of image) { table = λ b. word_at (content (unwrap_or bytes [])) (368 + 4 * b) }
+unfolding with_index store_of node_fields_at core_at follow_at key_place_at stored_at stands stands_as_blocks linked next_file_in max_entries_in
 stock-indexed image bytes = refl
 
 stands-indexed : (image : Image) (bytes : Option (List ℕ)) (u : ℕ) → stands_in (with_index image bytes) u ≡ stands_in image u
 unfolding with_index stands stands_as_blocks linked next_file_in max_entries_in
 stands-indexed image bytes u = refl
 
-pub same-shown : (stock : Stock) → ShowsTheSame stock stock
-same-shown stock = record {
-  stock = record { named = λ w clear. refl; entry = λ w clear. refl; follow = λ w clear. refl; key_place = λ w core clear is long short. refl; stored = λ size w clear. refl };
+pub same-shown : (store : StoreView) → ShowsTheSame store store
+same-shown store = record {
+  store = record { node_fields = λ w clear. refl; entry = λ w clear. refl; chain_next = λ w clear. refl; key_place = λ w fields clear is long short. refl; stored = λ size w clear. refl };
   table = λ b. refl;
 }
 
@@ -63,8 +63,8 @@ module _ (from image : Image) (at : ℕ) (same : SameOutside (one_word Index at)
   pub list-words : list_of image ≡ words_in (list_of from) (byte image Index)
   list-words = ap list_of is-indexed ∙ list-indexed from (image Index)
 
-  pub stock-words : stock_of image ≡ record (stock_of from) { table = λ b. word image Index (368 + 4 * b) }
-  stock-words = ap stock_of is-indexed ∙ stock-indexed from (image Index)
+  pub stock-words : store_of image ≡ record (store_of from) { table = λ b. word image Index (368 + 4 * b) }
+  stock-words = ap store_of is-indexed ∙ stock-indexed from (image Index)
 
   pub stands-still : (u : ℕ) → stands_in image u ≡ stands_in from u
   stands-still u = ap (λ (i : Image). stands_in i u) is-indexed ∙ stands-indexed from (image Index) u
@@ -73,11 +73,11 @@ module _ (from image : Image) (at : ℕ) (same : SameOutside (one_word Index at)
   word-still p apart = same_word_outside (one_word Index at) from image Index p same (λ k low high. apart-word at k (⊎_elim (λ (x : p + 4 ≤ at). inl (omega arith)) (λ (x : at + 4 ≤ p). inr (omega arith)) apart))
 
   -- a word of the header leaves the stock
-  stock-still : at + 4 ≤ 368 → ShowsTheSame (stock_of from) (stock_of image)
-  unfolding stock_of
+  stock-still : at + 4 ≤ 368 → ShowsTheSame (store_of from) (store_of image)
+  unfolding store_of
   stock-still before =
-      let e : stock_of image ≡ stock_of from = stock-words ∙ (λ i. record (stock_of from) { table = λ b. word-still (368 + 4 * b) (inr (omega arith)) i }) in
-      subst (λ (s : Stock). ShowsTheSame (stock_of from) s) (sym e) (same-shown (stock_of from))
+      let e : store_of image ≡ store_of from = stock-words ∙ (λ i. record (store_of from) { table = λ b. word-still (368 + 4 * b) (inr (omega arith)) i }) in
+      subst (λ (s : StoreView). ShowsTheSame (store_of from) s) (sym e) (same-shown (store_of from))
 
 pub heads-written : HeadsAreWritten
 unfolding list_of
@@ -85,7 +85,7 @@ heads-written from image x is =
     let s = word-still from image 288 is.outside in
     record {
       list = list-words from image 288 is.outside ∙ (λ i. record (list_of from) { head = is.there i; tail = s 308 (inr (omega arith)) i; transaction = s 328 (inr (omega arith)) i; operation = s 332 (inr (omega arith)) i });
-      stock = stock-still from image 288 is.outside (omega arith);
+      store = stock-still from image 288 is.outside (omega arith);
     }
 
 pub tails-written : TailsAreWritten
@@ -94,7 +94,7 @@ tails-written from image x is =
     let s = word-still from image 308 is.outside in
     record {
       list = list-words from image 308 is.outside ∙ (λ i. record (list_of from) { head = s 288 (inl (omega arith)) i; tail = is.there i; transaction = s 328 (inr (omega arith)) i; operation = s 332 (inr (omega arith)) i });
-      stock = stock-still from image 308 is.outside (omega arith);
+      store = stock-still from image 308 is.outside (omega arith);
     }
 
 pub transactions-written : TransactionsAreWritten
@@ -103,7 +103,7 @@ transactions-written from image x is =
     let s = word-still from image 328 is.outside in
     record {
       list = list-words from image 328 is.outside ∙ (λ i. record (list_of from) { head = s 288 (inl (omega arith)) i; tail = s 308 (inl (omega arith)) i; transaction = is.there i; operation = s 332 (inr (omega arith)) i });
-      stock = stock-still from image 328 is.outside (omega arith);
+      store = stock-still from image 328 is.outside (omega arith);
     }
 
 pub operations-written : OperationsAreWritten
@@ -112,7 +112,7 @@ operations-written from image x is =
     let s = word-still from image 332 is.outside in
     record {
       list = list-words from image 332 is.outside ∙ (λ i. record (list_of from) { head = s 288 (inl (omega arith)) i; tail = s 308 (inl (omega arith)) i; transaction = s 328 (inl (omega arith)) i; operation = is.there i });
-      stock = stock-still from image 332 is.outside (omega arith);
+      store = stock-still from image 332 is.outside (omega arith);
     }
 
 -- an aligned word that isn't in a list is apart from each in it
@@ -123,22 +123,22 @@ beside : (p at : ℕ) → p % 4 ≡ 0 → at % 4 ≡ 0 → p ≢ at → (p + 4 �
 beside p at one other apart = ⊎_elim (λ (x : p < at). inl (omega arith)) (λ (x : at ≤ p). inr (omega (arith, apart))) (cases_lt p at)
 
 pub others-hidden : OtherWordsAreNotShown
-unfolding list_of stock_of
+unfolding list_of store_of
 others-hidden from image at aligned inside lacks same =
     let s : (p : ℕ) → p % 4 ≡ 0 → is_among shown_words p ≡ true → word image Index p ≡ word from Index p = λ p even there. word-still from image at same p (beside p at even aligned (not-among shown_words p at there lacks)) in
     let lists : list_of image ≡ list_of from = list-words from image at same ∙ (λ i. record (list_of from) { head = s 288 refl refl i; tail = s 308 refl refl i; transaction = s 328 refl refl i; operation = s 332 refl refl i }) in
-    let stocks : stock_of image ≡ stock_of from = stock-words from image at same ∙ (λ i. record (stock_of from) { table = λ b. word-still from image at same (368 + 4 * b) (inr (omega arith)) i }) in
-    λ i. record { list = lists i; stock = stocks i }
+    let stocks : store_of image ≡ store_of from = stock-words from image at same ∙ (λ i. record (store_of from) { table = λ b. word-still from image at same (368 + 4 * b) (inr (omega arith)) i }) in
+    λ i. record { list = lists i; store = stocks i }
 
 pub buckets-written : BucketsAreWritten
-unfolding list_of stock_of put
+unfolding list_of store_of put
 buckets-written from image bucket x is =
     let s = word-still from image (place_of_bucket bucket) is.outside in (
       list-words from image (place_of_bucket bucket) is.outside
           ∙ (λ i. record (list_of from) { head = s 288 (inl (omega arith)) i; tail = s 308 (inl (omega arith)) i; transaction = s 328 (inl (omega arith)) i; operation = s 332 (inl (omega arith)) i }),
-      stock-words from image (place_of_bucket bucket) is.outside ∙ (λ i. record (stock_of from) { table = λ b. each b i }),
+      stock-words from image (place_of_bucket bucket) is.outside ∙ (λ i. record (store_of from) { table = λ b. each b i }),
     ) where
-      each : (b : ℕ) → word image Index (368 + 4 * b) ≡ put (stock_of from).table bucket x b
+      each : (b : ℕ) → word image Index (368 + 4 * b) ≡ put (store_of from).table bucket x b
       each b = ⊎_elim
           (λ (e : (eqb b bucket ≡ true) × (b ≡ bucket)). rw e.0 (ap (λ (c : ℕ). word image Index (368 + 4 * c)) e.1 ∙ is.there))
           (λ (e : (eqb b bucket ≡ false) × (b ≢ bucket)). rw e.0 (word-still from image (place_of_bucket bucket) is.outside (368 + 4 * b) (by (cases_lt b bucket) e.1)))

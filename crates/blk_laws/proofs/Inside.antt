@@ -7,7 +7,7 @@ use Rattle.blk_image.specs.Checks.{first_of}
 use Rattle.blk_image.specs.Image.{Index, Block, Image, byte, length_of, same_file}
 use Rattle.blk_image.specs.Footprint as files
 use Rattle.blk_image.proofs.Footprints.{range_within}
-use Rattle.blk_format.specs.Address.{kind_of, block_count, block_size, file_selector, first_block, external_number, place, room, block_place, external, rankings, blocks_256}
+use Rattle.blk_format.specs.Address.{kind_of, block_count, block_size, file_selector, first_block, external_number, place, byte_size, block_place, external, rankings, blocks_256}
 use Rattle.blk_format.specs.Headers.{head_checks, list_checks}
 use Rattle.blk_format.specs.BlockFiles.{stands_in, IsWellFormed}
 use Rattle.blk_format.specs.Claims.{Claim, BlockOf, ExternalOf, same_claim, claims_of, has_claim}
@@ -19,8 +19,8 @@ use Rattle.blk_laws.proofs.ClaimLists.{claim-head, no-claim, neither, some-block
 use Rattle.blk_laws.proofs.Covers.{blocks-covered, covers-less}
 use Rattle.blk_format.specs.Sealed.{BeginsWithRecord, record_range, record_size, size_by_kind}
 use Rattle.blk_format.proofs.SpareHeaders.{SparesHeaders}
-use Rattle.blk_laws.specs.Moments.{ChangesInside}
-use Rattle.blk_laws.specs.BlockMoments.{WritesStayInside, UpdatesStayInside}
+use Rattle.blk_volume.specs.ShownChanges.{ChangesInside}
+use Rattle.blk_laws.specs.BlockWrites.{WritesStayInside, UpdatesStayInside}
 use Rattle.blk_laws.proofs.WellFormed.{before_range, well_formed_still}
 
 -- a claim of a block of a file
@@ -69,13 +69,13 @@ behind-header : (w : ℕ) → 8192 ≤ place w
 unfolding place block_place
 behind-header w = omega arith
 
-module _ (from image : Image) (w at n : ℕ) (st : stands_in from w ≡ true) (blocky : kind_of w ≢ external) (low : place w ≤ at) (high : at + n ≤ place w + room w) (same : files.SameOutside (files.range (Block (file_selector w)) at n) from image) where
+module _ (from image : Image) (w at n : ℕ) (st : stands_in from w ≡ true) (block_kind : kind_of w ≢ external) (low : place w ≤ at) (high : at + n ≤ place w + byte_size w) (same : files.SameOutside (files.range (Block (file_selector w)) at n) from image) where
   F : files.Footprint
   F = files.range (Block (file_selector w)) at n
 
   covers : Covers from F (has_claim (claims_of w))
   unfolding F
-  covers = covers-less from F (files.range (Block (file_selector w)) (place w) (room w)) (has_claim (claims_of w)) (range_within (Block (file_selector w)) at n (place w) (room w) low high) (blocks-covered from w st blocky)
+  covers = covers-less from F (files.range (Block (file_selector w)) (place w) (byte_size w)) (has_claim (claims_of w)) (range_within (Block (file_selector w)) at n (place w) (byte_size w) low high) (blocks-covered from w st block_kind)
 
   covers-file : Covers from F (in_file (file_selector w))
   unfolding F in_file
@@ -114,20 +114,20 @@ module _ (from image : Image) (w at n : ℕ) (st : stands_in from w ≡ true) (b
   inside = record { shown = views-same F from image (has_claim (claims_of w)) same covers; stands = stands-all; well_formed = well-formed }
 
 pub writes-inside : WritesStayInside
-writes-inside from image w at n st blocky low high same = inside from image w at n st blocky low high same
+writes-inside from image w at n st block_kind low high same = inside from image w at n st block_kind low high same
 
 -- the record of an address lies in its blocks
 pub record-blocky : (w : ℕ) → BeginsWithRecord w → kind_of w ≢ external
 record-blocky w (inl e) x = let z : ◌≡◌ {A = ℕ} 1 0 = sym e ∙ x in cc
 record-blocky w (inr e) x = let z : ◌≡◌ {A = ℕ} 2 0 = sym e ∙ x in cc
 
-pub record-inside : (w : ℕ) → BeginsWithRecord w → record_size w ≤ room w
+pub record-inside : (w : ℕ) → BeginsWithRecord w → record_size w ≤ byte_size w
 unfolding size_by_kind block_size
-record-inside w (inl e) = let r : room w ≡ block_count w * block_size rankings = room_is w rankings e in let some : 0 < block_count w = some-blocks w in rw e (omega arith)
-record-inside w (inr e) = let r : room w ≡ block_count w * block_size blocks_256 = room_is w blocks_256 e in let some : 0 < block_count w = some-blocks w in rw e (omega arith)
+record-inside w (inl e) = let r : byte_size w ≡ block_count w * block_size rankings = room_is w rankings e in let some : 0 < block_count w = some-blocks w in rw e (omega arith)
+record-inside w (inr e) = let r : byte_size w ≡ block_count w * block_size blocks_256 = room_is w blocks_256 e in let some : 0 < block_count w = some-blocks w in rw e (omega arith)
 
 module _ (from image : Image) (w : ℕ) (st : stands_in from w ≡ true) (begins : BeginsWithRecord w) (same : files.SameOutside (record_range w) from image) where
-  fits : place w + record_size w ≤ place w + room w
+  fits : place w + record_size w ≤ place w + byte_size w
   fits = let h = record-inside w begins in omega arith
 
   pub record-changes : ChangesInside w from image

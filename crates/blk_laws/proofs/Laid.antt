@@ -16,14 +16,14 @@ use Rattle.blk_format.specs.Names.{Name, read_name}
 use Rattle.std.specs.Str.{bytes_eq}
 use Rattle.blk_format.specs.SparseIndex.{PartIndex}
 use Rattle.blk_format.specs.Claims.{Claim, BlockOf, ExternalOf, same_claim, has_claim, overlap, repeats, claims_of}
-use Rattle.blk_volume.specs.View.{Stock}
+use Rattle.blk_volume.specs.View.{StoreView}
 use Rattle.blk_volume.specs.Chains.{Chain, chain, bucket_of_hash}
-use Rattle.blk_volume.specs.Loads.{Rule, held, Loaded, load, is_part, is_part_role, record_claims, all_claims}
+use Rattle.blk_volume.specs.Loads.{Rule, held_rule, Loaded, load, is_part, is_part_role, record_claims, all_claims}
 use Rattle.blk_volume.specs.Audit.{kept_among, is_named, is_parent_of, is_parent_role}
 use Rattle.blk_volume.specs.Entries.{Role, IsPlain, IsParent, IsPart}
 use Rattle.blk_volume.specs.Found.{row_of}
 use Rattle.blk_volume.specs.Shown.{Apart, IsOrphanIn, HasParentIn, IsShown}
-use Rattle.blk_volume.specs.Layout.{Layout, is_listed, nodes_of, order, rule_of, IsPartAt, IsLaid, Holds, HoldsBut, is_in}
+use Rattle.blk_volume.specs.Layout.{Layout, is_listed, nodes_of, order, rule_of, IsPartAt, IsPlacedAt, Holds, HoldsExcept, is_in}
 use Rattle.blk_volume.specs.Given.{given_by, is_settled_role, is_settled, GoesWith, picked_with, picked_in, IsTest}
 use Rattle.blk_laws.proofs.Loads.{load-then}
 use Rattle.blk_laws.proofs.Loading.{load-rule, load-one, load-clean}
@@ -151,9 +151,9 @@ given-not good o l is none =
     (cases_Bool (good l))
 
 -- a laid item is that of its record
-pub item-of : (m : State) (y : Layout) → ((i : Item) → is_listed m i ≡ true → IsLaid m y i) → (i : Item) (l : Loaded) → is_listed m i ≡ true → y.at (y.place i) ≡ Some l → item_of (row_of l) ≡ i
+pub item-of : (m : State) (y : Layout) → ((i : Item) → is_listed m i ≡ true → IsPlacedAt m y i) → (i : Item) (l : Loaded) → is_listed m i ≡ true → y.at (y.place i) ≡ Some l → item_of (row_of l) ≡ i
 item-of m y lay i l there is =
-    let laid : IsLaid m y i = lay i there in
+    let laid : IsPlacedAt m y i = lay i there in
     let same : laid.loaded ≡ l = let a : y.at (y.place i) ≡ Some laid.loaded = laid.here in cc in
     ap (λ (x : Loaded). item_of (row_of x)) (sym same) ∙ item-row m i (row_of laid.loaded) laid.row
 
@@ -169,12 +169,12 @@ parent-main name k of = go k.role refl where
 
 -- ---- what is laid is shown
 
-module _ (hole : ℕ → Bool) (v : Stock) (m : State) (y : Layout) (r : HoldsBut hole v m y) (rule : Rule) (items : List Item) (good : Loaded → Bool)
+module _ (except : ℕ → Bool) (v : StoreView) (m : State) (y : Layout) (r : HoldsExcept except v m y) (rule : Rule) (items : List Item) (good : Loaded → Bool)
     (state : rule.state ≡ 0) (sub : (i : Item) → is_in items i ≡ true → is_listed m i ≡ true) (once : Distinct (nodes_of y items)) (goes : GoesWith y items rule good)
-    (whole : (i : Item) (l : Loaded) → is_in items i ≡ true → y.at (y.place i) ≡ Some l → good l ≡ true → hole (y.place i) ≡ false)
-    (broken : (i : Item) (k : Loaded) → is_in items i ≡ true → hole (y.place i) ≡ true → load v rule (y.place i) ≡ Ok k → IsOrphanIn (nodes_of y items) (given_by good y) k) where
+    (whole : (i : Item) (l : Loaded) → is_in items i ≡ true → y.at (y.place i) ≡ Some l → good l ≡ true → except (y.place i) ≡ false)
+    (broken : (i : Item) (k : Loaded) → is_in items i ≡ true → except (y.place i) ≡ true → load v rule (y.place i) ≡ Ok k → IsOrphanIn (nodes_of y items) (given_by good y) k) where
   -- a listed node's record loads by itself
-  loads-alone : (i : Item) (l : Loaded) → y.at (y.place i) ≡ Some l → hole (y.place i) ≡ false → load v (rule_of y (y.place i)) (y.place i) ≡ Ok l
+  loads-alone : (i : Item) (l : Loaded) → y.at (y.place i) ≡ Some l → except (y.place i) ≡ false → load v (rule_of y (y.place i)) (y.place i) ≡ Ok l
   loads-alone i l is sound = r.each (y.place i) l is sound
 
   -- its state is that of the rule
@@ -197,7 +197,7 @@ module _ (hole : ℕ → Bool) (v : Stock) (m : State) (y : Layout) (r : HoldsBu
   item-is : (i : Item) (l : Loaded) → is_in items i ≡ true → y.at (y.place i) ≡ Some l → item_at l ≡ i
   unfolding item_at
   item-is i l among is =
-      let laid : IsLaid m y i = r.laid i (sub i among) in
+      let laid : IsPlacedAt m y i = r.laid i (sub i among) in
       let same : laid.loaded ≡ l = let a : y.at (y.place i) ≡ Some laid.loaded = laid.here in cc in
       ap (λ (x : Loaded). item_of (row_of x)) (sym same) ∙ item-row m i (row_of laid.loaded) laid.row
 
@@ -241,7 +241,7 @@ module _ (hole : ℕ → Bool) (v : Stock) (m : State) (y : Layout) (r : HoldsBu
 
   laid-part : (key : List ℕ) (n : ℕ) (l : Loaded) → is_in items (part key n) ≡ true → y.at (y.place (part key n)) ≡ Some l → IsPartAt m y key l
   laid-part key n l among is =
-      let laid : IsLaid m y (part key n) = r.laid (part key n) (sub (part key n) among) in
+      let laid : IsPlacedAt m y (part key n) = r.laid (part key n) (sub (part key n) among) in
       let same : laid.loaded ≡ l = let a : y.at (y.place (part key n)) ≡ Some laid.loaded = laid.here in cc in
       subst (λ (x : Loaded). IsPartAt m y key x) same laid.parent
 
@@ -265,13 +265,13 @@ module _ (hole : ℕ → Bool) (v : Stock) (m : State) (y : Layout) (r : HoldsBu
   -- one that is not given is no item whose record loads, or an orphan
   out-item : (i : Item) (l : Loaded) → is_in items i ≡ true → given_by good y (y.place i) ≡ None → load v rule (y.place i) ≡ Ok l → IsOrphanIn (nodes_of y items) (given_by good y) l
   out-item i l among none ok = ⊎_elim
-      (λ (h : hole (y.place i) ≡ true). broken i l among h ok)
-      (λ (h : hole (y.place i) ≡ false).
-      let laid : IsLaid m y i = r.laid i (sub i among) in
+      (λ (h : except (y.place i) ≡ true). broken i l among h ok)
+      (λ (h : except (y.place i) ≡ false).
+      let laid : IsPlacedAt m y i = r.laid i (sub i among) in
       let same : laid.loaded ≡ l = load-one v (rule_of y (y.place i)) rule (y.place i) laid.loaded l (loads-alone i laid.loaded laid.here h) ok in
       let here : y.at (y.place i) ≡ Some l = laid.here ∙ ap Some same in
       go i among here (given-not good (y.at (y.place i)) l here none) ok)
-      (cases_Bool (hole (y.place i))) where
+      (cases_Bool (except (y.place i))) where
         go : (i : Item) → is_in items i ≡ true → y.at (y.place i) ≡ Some l → good l ≡ false → load v rule (y.place i) ≡ Ok l → IsOrphanIn (nodes_of y items) (given_by good y) l
         go (main key) among here bad ok =
             let a : (not rule.clean || (l.dirty == 0)) ≡ true = load-clean v rule (y.place (main key)) l ok in
@@ -314,7 +314,7 @@ module _ (hole : ℕ → Bool) (v : Stock) (m : State) (y : Layout) (r : HoldsBu
   }
 
 -- with no such node
-pub laid-shown : (v : Stock) (m : State) (y : Layout) (r : Holds v m y) (rule : Rule) (items : List Item) (good : Loaded → Bool) → rule.state ≡ 0 → ((i : Item) → is_in items i ≡ true → is_listed m i ≡ true)
+pub laid-shown : (v : StoreView) (m : State) (y : Layout) (r : Holds v m y) (rule : Rule) (items : List Item) (good : Loaded → Bool) → rule.state ≡ 0 → ((i : Item) → is_in items i ≡ true → is_listed m i ≡ true)
     → Distinct (nodes_of y items) → GoesWith y items rule good → IsShown v rule (nodes_of y items) (given_by good y)
 laid-shown v m y r rule items good state sub once goes =
     laid-but (λ w. false) v m y (record { no_record = r.shows.no_record; each = λ w l is _. r.shows.each w l is; chains = r.shows.chains; laid = r.lies.laid; normal = r.lies.normal; chained = λ w l there is _. r.lies.chained w l there is; own = r.lies.own; single = r.lies.single }) rule items good state sub once goes
@@ -322,11 +322,11 @@ laid-shown v m y r rule items good state sub once goes =
 
 -- ---- the test by dirty words goes with the rule of what a folder holds
 
-module _ (m : State) (y : Layout) (lay : (i : Item) → is_listed m i ≡ true → IsLaid m y i) (items : List Item) (sub : (i : Item) → is_in items i ≡ true → is_listed m i ≡ true) where
+module _ (m : State) (y : Layout) (lay : (i : Item) → is_listed m i ≡ true → IsPlacedAt m y i) (items : List Item) (sub : (i : Item) → is_in items i ≡ true → is_listed m i ≡ true) where
   -- the role of a main item's record, and of a part's
   role-item : (i : Item) (l : Loaded) → is_in items i ≡ true → y.at (y.place i) ≡ Some l → item_of (row_of l) ≡ i
   role-item i l among is =
-      let laid : IsLaid m y i = lay i (sub i among) in
+      let laid : IsPlacedAt m y i = lay i (sub i among) in
       let same : laid.loaded ≡ l = let a : y.at (y.place i) ≡ Some laid.loaded = laid.here in cc in
       ap (λ (x : Loaded). item_of (row_of x)) (sym same) ∙ item-row m i (row_of laid.loaded) laid.row
 
@@ -342,7 +342,7 @@ module _ (m : State) (y : Layout) (lay : (i : Item) → is_listed m i ≡ true �
 
   pub part-at : (key : List ℕ) (n : ℕ) (l : Loaded) → is_in items (part key n) ≡ true → y.at (y.place (part key n)) ≡ Some l → IsPartAt m y key l × (l.dirty ≡ 0)
   part-at key n l among is =
-      let laid : IsLaid m y (part key n) = lay (part key n) (sub (part key n) among) in
+      let laid : IsPlacedAt m y (part key n) = lay (part key n) (sub (part key n) among) in
       let same : laid.loaded ≡ l = let a : y.at (y.place (part key n)) ≡ Some laid.loaded = laid.here in cc in
       (subst (λ (x : Loaded). IsPartAt m y key x) same laid.parent, subst (λ (x : Loaded). x.dirty ≡ 0) same laid.mark)
 
@@ -353,7 +353,7 @@ module _ (m : State) (y : Layout) (lay : (i : Item) → is_listed m i ≡ true �
       ap (λ (a : Role). is_settled_role y items a l.dirty) q.role ∙ ap (λ (k : List ℕ). is_in items (main k) && option_map_or (λ (x : Loaded). x.dirty == 0) (y.at (y.place (main k))) false) q.of_key
       ∙ ap (λ (o : Option Loaded). is_in items (main key) && option_map_or (λ (x : Loaded). x.dirty == 0) o false) above
 
-  pub settled-goes : GoesWith y items held (is_settled y items)
+  pub settled-goes : GoesWith y items held_rule (is_settled y items)
   settled-goes = record {
     clean = λ i l among is good. of_item i l among is good;
     main_out = λ key l among is bad. sym (settled-main key l among is) ∙ bad;
@@ -383,13 +383,13 @@ rows-given y given picked (i ∷ items) same =
       one None p ls rs e f = rw (← e) f
       one (Some l) p ls rs e f = rw (← e) (ap (λ (xs : List Row). row_of l ∷ xs) f)
 
-module _ (m : State) (y : Layout) (lay : (i : Item) → is_listed m i ≡ true → IsLaid m y i) (items : List Item) (sub : (i : Item) → is_in items i ≡ true → is_listed m i ≡ true) (test : ℕ → Bool) (is_test : IsTest m y items test) where
+module _ (m : State) (y : Layout) (lay : (i : Item) → is_listed m i ≡ true → IsPlacedAt m y i) (items : List Item) (sub : (i : Item) → is_in items i ≡ true → is_listed m i ≡ true) (test : ℕ → Bool) (is_test : IsTest m y items test) where
   -- an item that is laid has an owner
   owner-of : (i : Item) (o : Option ℕ) → model.owner m i ≡ o → is_in items i ≡ true → (number : ℕ) × (o ≡ Some number)
   unfolding model.row_of
   owner-of i (Some number) e among = (number, refl)
   owner-of i None e among =
-      let laid : IsLaid m y i = lay i (sub i among) in
+      let laid : IsPlacedAt m y i = lay i (sub i among) in
       let none : model.row_of m i ≡ None = rw e refl in
       absurd (let c : ◌≡◌ {A = Option Row} (Some (row_of laid.loaded)) None = sym laid.row ∙ none in cc)
 
@@ -404,7 +404,7 @@ module _ (m : State) (y : Layout) (lay : (i : Item) → is_listed m i ≡ true �
 
   pub picked-given : (i : Item) → is_in items i ≡ true → option_map row_of (given_by (is_settled y items) y (y.place i)) ≡ picked_in m test items i
   picked-given i among =
-      let laid : IsLaid m y i = lay i (sub i among) in
+      let laid : IsPlacedAt m y i = lay i (sub i among) in
       let own = owner-of i (model.owner m i) refl among in
       let good : is_settled y items laid.loaded ≡ (is_in items (main (key_of i)) && test own.0) = settled-test i laid.loaded own.0 among laid.here own.1 in
       let left : option_map row_of (given_by (is_settled y items) y (y.place i)) ≡ cond (is_in items (main (key_of i))) (cond (test own.0) (Some (row_of laid.loaded)) None) None = rw (laid.here, good) (under (is_in items (main (key_of i))) (test own.0) laid.loaded) in
@@ -415,13 +415,13 @@ module _ (m : State) (y : Layout) (lay : (i : Item) → is_listed m i ≡ true �
         under false b l = refl
 
   -- what a walk of these items keeps, where some of the unsettled are in the midst of a change
-  pub found-but : (hole : ℕ → Bool) (v : Stock) (r : HoldsBut hole v m y) → Distinct (nodes_of y items)
-      → ((i : Item) (l : Loaded) → is_in items i ≡ true → y.at (y.place i) ≡ Some l → is_settled y items l ≡ true → hole (y.place i) ≡ false)
-      → ((i : Item) (k : Loaded) → is_in items i ≡ true → hole (y.place i) ≡ true → load v held (y.place i) ≡ Ok k → IsOrphanIn (nodes_of y items) (given_by (is_settled y items) y) k)
-      → map row_of (kept_among v held (nodes_of y items)) ≡ filter_map (picked_in m test items) items
-  found-but hole v h once whole broken =
-      let shown : IsShown v held (nodes_of y items) (given_by (is_settled y items) y) = laid-but hole v m y h held items (is_settled y items) refl sub once (settled-goes m y lay items sub) whole broken in
-      ap (map row_of) (kept-given v held (nodes_of y items) (given_by (is_settled y items) y) shown) ∙ rows-given y (given_by (is_settled y items) y) (picked_in m test items) items picked-given
+  pub found-but : (except : ℕ → Bool) (v : StoreView) (r : HoldsExcept except v m y) → Distinct (nodes_of y items)
+      → ((i : Item) (l : Loaded) → is_in items i ≡ true → y.at (y.place i) ≡ Some l → is_settled y items l ≡ true → except (y.place i) ≡ false)
+      → ((i : Item) (k : Loaded) → is_in items i ≡ true → except (y.place i) ≡ true → load v held_rule (y.place i) ≡ Ok k → IsOrphanIn (nodes_of y items) (given_by (is_settled y items) y) k)
+      → map row_of (kept_among v held_rule (nodes_of y items)) ≡ filter_map (picked_in m test items) items
+  found-but except v h once whole broken =
+      let shown : IsShown v held_rule (nodes_of y items) (given_by (is_settled y items) y) = laid-but except v m y h held_rule items (is_settled y items) refl sub once (settled-goes m y lay items sub) whole broken in
+      ap (map row_of) (kept-given v held_rule (nodes_of y items) (given_by (is_settled y items) y) shown) ∙ rows-given y (given_by (is_settled y items) y) (picked_in m test items) items picked-given
 
   -- where no part is without its main item, all are picked
   pub picked-closed : ((key : List ℕ) (n : ℕ) → is_in items (part key n) ≡ true → is_in items (main key) ≡ true) → filter_map (picked_in m test items) items ≡ filter_map (picked_with m test) items
@@ -435,8 +435,8 @@ module _ (m : State) (y : Layout) (lay : (i : Item) → is_listed m i ≡ true �
     same_on (i ∷ xs) sub = rw (one i (sub i (or_left (same_item i i) (is_in xs i) (same_item_self i)))) (ap (cons_option (picked_with m test i)) (same_on xs (λ j h. sub j (or_right (same_item j i) (is_in xs j) h))))
 
   -- and where no node is left out
-  pub found-picked : (v : Stock) (h : Holds v m y) → Distinct (nodes_of y items) → ((key : List ℕ) (n : ℕ) → is_in items (part key n) ≡ true → is_in items (main key) ≡ true)
-      → map row_of (kept_among v held (nodes_of y items)) ≡ filter_map (picked_with m test) items
+  pub found-picked : (v : StoreView) (h : Holds v m y) → Distinct (nodes_of y items) → ((key : List ℕ) (n : ℕ) → is_in items (part key n) ≡ true → is_in items (main key) ≡ true)
+      → map row_of (kept_among v held_rule (nodes_of y items)) ≡ filter_map (picked_with m test) items
   found-picked v h once closed =
-      let shown : IsShown v held (nodes_of y items) (given_by (is_settled y items) y) = laid-shown v m y h held items (is_settled y items) refl sub once (settled-goes m y lay items sub) in
-      ap (map row_of) (kept-given v held (nodes_of y items) (given_by (is_settled y items) y) shown) ∙ rows-given y (given_by (is_settled y items) y) (picked_in m test items) items picked-given ∙ picked-closed closed
+      let shown : IsShown v held_rule (nodes_of y items) (given_by (is_settled y items) y) = laid-shown v m y h held_rule items (is_settled y items) refl sub once (settled-goes m y lay items sub) in
+      ap (map row_of) (kept-given v held_rule (nodes_of y items) (given_by (is_settled y items) y) shown) ∙ rows-given y (given_by (is_settled y items) y) (picked_in m test items) items picked-given ∙ picked-closed closed

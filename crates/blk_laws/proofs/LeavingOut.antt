@@ -6,7 +6,7 @@ use Rattle.std.proofs.lemmas.Bool.{cases_Bool}
 use Rattle.std.proofs.lemmas.Bool.Decides.{eqb_tells}
 use Rattle.std.proofs.Math.Dec.{eqb}
 use Rattle.std.proofs.lemmas.List.Elements.{filter-append}
-use Rattle.blk_volume.specs.View.{Stock}
+use Rattle.blk_volume.specs.View.{StoreView}
 use Rattle.blk_volume.specs.Reasons.{Reason}
 use Rattle.blk_laws.specs.KeptLaws.{IsDroppedIfLeftOut}
 use Rattle.blk_volume.specs.Loads.{Rule, Loaded}
@@ -17,7 +17,7 @@ err_keeps kept (Ok l) e = cc
 err_keeps kept (Err reason) e = refl
 
 -- the verdicts on the others are the same
-pub verdicts-filter : (v : Stock) (rule : Rule) (keep : ℕ → Bool) (kept : List Loaded) (words : List ℕ)
+pub verdicts-filter : (v : StoreView) (rule : Rule) (keep : ℕ → Bool) (kept : List Loaded) (words : List ℕ)
     → AllByRecursion (IsDroppedIfLeftOut keep) (verdicts v rule kept words) → verdicts v rule kept (filter keep words) ≡ filter (λ g. keep g.0) (verdicts v rule kept words)
 unfolding verdicts
 verdicts-filter v rule keep kept [] h = refl
@@ -49,7 +49,7 @@ filter-filter p q (x ∷ xs) =
     (λ (a : p x ≡ false). ⊎_elim (λ (b : q x ≡ true). rw (a, b) (rw a (filter-filter p q xs))) (λ (b : q x ≡ false). rw (a, b) (filter-filter p q xs)) (cases_Bool (q x)))
     (cases_Bool (p x))
 
-tried-filter : (v : Stock) (keep : ℕ → Bool) (words : List ℕ) → tried v (filter keep words) ≡ filter keep (tried v words)
+tried-filter : (v : StoreView) (keep : ℕ → Bool) (words : List ℕ) → tried v (filter keep words) ≡ filter keep (tried v words)
 tried-filter v keep words = ap₂ (λ (xs ys : List ℕ). xs ++ ys) (filter-filter (λ w. not (is_child v w)) keep words) (filter-filter (is_child v) keep words) ∙ sym (filter-append keep (filter (λ w. not (is_child v w)) words) (filter (is_child v) words))
 
 -- what is left of a list of verdicts
@@ -75,7 +75,7 @@ left_out-not_kept keep (g ∷ given) h w e =
       none_kept (Err reason) err = refl
 
 -- the same nodes are kept
-pub leaving-out : (v : Stock) (rule : Rule) (keep : ℕ → Bool) (words : List ℕ) → AllByRecursion (IsDroppedIfLeftOut keep) (judged v rule words) → kept_among v rule (filter keep words) ≡ kept_among v rule words
+pub leaving-out : (v : StoreView) (rule : Rule) (keep : ℕ → Bool) (words : List ℕ) → AllByRecursion (IsDroppedIfLeftOut keep) (judged v rule words) → kept_among v rule (filter keep words) ≡ kept_among v rule words
 unfolding kept_among
 leaving-out v rule keep words h =
     let given : judged v rule (filter keep words) ≡ filter (λ g. keep g.0) (judged v rule words) = rw (tried-filter v keep words) (verdicts-filter v rule keep [] (tried v words) h) in

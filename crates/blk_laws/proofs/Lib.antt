@@ -1,7 +1,7 @@
 pub mod Walks
 pub mod ListWrites
 pub mod Lists
-pub mod ListMoments
+pub mod ListCompletions
 pub mod Loads
 pub mod Loading
 pub mod Shown
@@ -41,7 +41,7 @@ pub mod DoomedObjects
 pub mod DoomedChanges
 pub mod OthersHold
 pub mod Dooming
-pub mod DoomMoments
+pub mod DoomWrites
 pub mod Bare
 pub mod NewFolders
 pub mod DamagedViews
@@ -78,7 +78,7 @@ pub mod Updates
 pub mod Nodes
 pub mod Records
 pub mod IndexWords
-pub mod ExampleMoments
+pub mod ExampleWrites
 pub mod NodeRecords
 pub mod WriteSteps
 pub mod WriteWords

@@ -4,7 +4,7 @@ use Rattle.std.proofs.lemmas.Bool.Decides.{nat_tests}
 use Rattle.std.proofs.lemmas.Bool.{eq-eqb, and_parts, or_right}
 use Rattle.blk_volume.specs.ListView.{ListWrite, Next, Prev, Head, Tail, Transaction, Operation, ListView, put, with_write, after_writes}
 use Rattle.blk_volume.specs.Completion.{taking_out, putting_in_front, take_out, put_front, head_counts, links_count, counts, operated, completed_list}
-use Rattle.blk_volume.specs.ListPlans.{outcome, operation_writes, pending_writes, completion_writes, EachMoment}
+use Rattle.blk_volume.specs.ListPlans.{outcome, operation_writes, pending_writes, completion_writes, AtEachWrite}
 
 -- a view with no transaction and no operation
 abbrev pub rested : ListView → ListView
@@ -37,7 +37,7 @@ module _ (n h t : ℕ) (checks : ℕ → Bool) (next prev : ℕ → ℕ) (nz : e
   unfolding put_front
   target_full full = outcome_insert n h t checks next prev nz good head_good ∙ rw (ne, full)
 
-  into_full : eqb h 0 ≡ false → EachMoment (λ u. outcome u ≡ rested (inserting n n t checks (put next n h) (put (put prev n n) h n))) (Next n h ∷ Prev n n ∷ Prev h n ∷ Head n ∷ []) (inserting n h t checks next prev)
+  into_full : eqb h 0 ≡ false → AtEachWrite (λ u. outcome u ≡ rested (inserting n n t checks (put next n h) (put (put prev n n) h n))) (Next n h ∷ Prev n n ∷ Prev h n ∷ Head n ∷ []) (inserting n h t checks next prev)
   unfolding put_front
   into_full full = (
     target_full full,
@@ -53,7 +53,7 @@ module _ (n h t : ℕ) (checks : ℕ → Bool) (next prev : ℕ → ℕ) (nz : e
     ),
   )
 
-  into_empty : eqb h 0 ≡ true → EachMoment (λ u. outcome u ≡ rested (inserting n n n checks (put next n n) (put prev n n))) (Next n n ∷ Prev n n ∷ Tail n ∷ Head n ∷ []) (inserting n h t checks next prev)
+  into_empty : eqb h 0 ≡ true → AtEachWrite (λ u. outcome u ≡ rested (inserting n n n checks (put next n n) (put prev n n))) (Next n n ∷ Prev n n ∷ Tail n ∷ Head n ∷ []) (inserting n h t checks next prev)
   unfolding put_front
   into_empty empty = (
     outcome_insert n h t checks next prev nz good head_good ∙ rw (ne, empty),
@@ -77,11 +77,11 @@ pub put-else : (f : ℕ → ℕ) (a x k : ℕ) → eqb a k ≡ false → put f a
 unfolding put
 put-else f a x k e = grind (arith, nat_tests)
 
-pub EachMoment-map : (P Q : ListView → Type 0) → ((u : ListView) → P u → Q u) → (ws : List ListWrite) (l : ListView) → EachMoment P ws l → EachMoment Q ws l
+pub EachMoment-map : (P Q : ListView → Type 0) → ((u : ListView) → P u → Q u) → (ws : List ListWrite) (l : ListView) → AtEachWrite P ws l → AtEachWrite Q ws l
 EachMoment-map P Q f [] l each = f l each
 EachMoment-map P Q f (w ∷ ws) l each = (f l each.0, EachMoment-map P Q f ws (with_write l w) each.1)
 
-pub EachMoment-append : (P : ListView → Type 0) (ws vs : List ListWrite) (l : ListView) → EachMoment P ws l → EachMoment P vs (after_writes ws l) → EachMoment P (ws ++ vs) l
+pub EachMoment-append : (P : ListView → Type 0) (ws vs : List ListWrite) (l : ListView) → AtEachWrite P ws l → AtEachWrite P vs (after_writes ws l) → AtEachWrite P (ws ++ vs) l
 EachMoment-append P [] vs l each more = more
 EachMoment-append P (w ∷ ws) vs l each more = (each.0, EachMoment-append P ws vs (with_write l w) each.1 more)
 
@@ -106,7 +106,7 @@ module _ (o n h t : ℕ) (checks : ℕ → Bool) (next prev : ℕ → ℕ) (good
   some_good k e = or_right (eqb k 0) (checks k) e
 
   out_only : eqb (prev n) n ≡ true → eqb (next n) n ≡ true
-      → EachMoment (Keeps o n (eqb h 0 || checks h) (view o n 0 0 checks (put next n 0) prev)) (Head 0 ∷ Tail 0 ∷ Next n 0 ∷ []) (view o n h t checks next prev)
+      → AtEachWrite (Keeps o n (eqb h 0 || checks h) (view o n 0 0 checks (put next n 0) prev)) (Head 0 ∷ Tail 0 ∷ Next n 0 ∷ []) (view o n h t checks next prev)
   unfolding take_out
   out_only first last = (
     record { taken = rw (full, first, last); links = links_good; head_good = λ e. e; node_good = good; transaction_is = refl; operation_is = refl },
@@ -120,7 +120,7 @@ module _ (o n h t : ℕ) (checks : ℕ → Bool) (next prev : ℕ → ℕ) (good
   )
 
   out_first : eqb (prev n) n ≡ true → eqb (next n) n ≡ false
-      → EachMoment (Keeps o n (eqb h 0 || checks h) (view o n (next n) t checks (put next n 0) (put prev (next n) (next n)))) (Prev (next n) (next n) ∷ Head (next n) ∷ Next n 0 ∷ []) (view o n h t checks next prev)
+      → AtEachWrite (Keeps o n (eqb h 0 || checks h) (view o n (next n) t checks (put next n 0) (put prev (next n) (next n)))) (Prev (next n) (next n) ∷ Head (next n) ∷ Next n 0 ∷ []) (view o n h t checks next prev)
   unfolding take_out
   out_first first last = (
     record { taken = rw (full, first, last); links = links_good; head_good = λ e. e; node_good = good; transaction_is = refl; operation_is = refl },
@@ -134,7 +134,7 @@ module _ (o n h t : ℕ) (checks : ℕ → Bool) (next prev : ℕ → ℕ) (good
   )
 
   out_last : eqb (prev n) n ≡ false → eqb (next n) n ≡ true
-      → EachMoment (Keeps o n (eqb h 0 || checks h) (view o n h (prev n) checks (put (put next (prev n) (prev n)) n 0) prev)) (Next (prev n) (prev n) ∷ Tail (prev n) ∷ Next n 0 ∷ []) (view o n h t checks next prev)
+      → AtEachWrite (Keeps o n (eqb h 0 || checks h) (view o n h (prev n) checks (put (put next (prev n) (prev n)) n 0) prev)) (Next (prev n) (prev n) ∷ Tail (prev n) ∷ Next n 0 ∷ []) (view o n h t checks next prev)
   unfolding take_out
   out_last first last = (
     record { taken = rw (full, first, last); links = links_good; head_good = λ e. e; node_good = good; transaction_is = refl; operation_is = refl },
@@ -148,7 +148,7 @@ module _ (o n h t : ℕ) (checks : ℕ → Bool) (next prev : ℕ → ℕ) (good
   )
 
   out_middle : eqb (prev n) n ≡ false → eqb (next n) n ≡ false
-      → EachMoment (Keeps o n (eqb h 0 || checks h) (view o n h t checks (put (put next (prev n) (next n)) n 0) (put prev (next n) (prev n)))) (Next (prev n) (next n) ∷ Prev (next n) (prev n) ∷ Next n 0 ∷ []) (view o n h t checks next prev)
+      → AtEachWrite (Keeps o n (eqb h 0 || checks h) (view o n h t checks (put (put next (prev n) (next n)) n 0) (put prev (next n) (prev n)))) (Next (prev n) (next n) ∷ Prev (next n) (prev n) ∷ Next n 0 ∷ []) (view o n h t checks next prev)
   unfolding take_out
   out_middle first last = (
     record { taken = rw (full, first, last); links = links_good; head_good = λ e. e; node_good = good; transaction_is = refl; operation_is = refl },
@@ -162,14 +162,14 @@ module _ (o n h t : ℕ) (checks : ℕ → Bool) (next prev : ℕ → ℕ) (good
   )
 
 module _ (o n h t : ℕ) (checks : ℕ → Bool) (next prev : ℕ → ℕ) (good : checks n ≡ true) where
-  keeps_at : (ws : List ListWrite) (T : ListView) → taking_out n (next n) (prev n) ≡ ws → EachMoment (Keeps o n (eqb h 0 || checks h) T) ws (view o n h t checks next prev) → take_out n (view o n h t checks next prev) ≡ T
-      → EachMoment (Keeps o n (eqb h 0 || checks h) (take_out n (view o n h t checks next prev))) (taking_out n (next n) (prev n)) (view o n h t checks next prev)
+  keeps_at : (ws : List ListWrite) (T : ListView) → taking_out n (next n) (prev n) ≡ ws → AtEachWrite (Keeps o n (eqb h 0 || checks h) T) ws (view o n h t checks next prev) → take_out n (view o n h t checks next prev) ≡ T
+      → AtEachWrite (Keeps o n (eqb h 0 || checks h) (take_out n (view o n h t checks next prev))) (taking_out n (next n) (prev n)) (view o n h t checks next prev)
   keeps_at ws T e each taken =
-      subst (λ us. EachMoment (Keeps o n (eqb h 0 || checks h) (take_out n (view o n h t checks next prev))) us (view o n h t checks next prev)) (sym e)
-      (subst (λ S. EachMoment (Keeps o n (eqb h 0 || checks h) S) ws (view o n h t checks next prev)) (sym taken) each)
+      subst (λ us. AtEachWrite (Keeps o n (eqb h 0 || checks h) (take_out n (view o n h t checks next prev))) us (view o n h t checks next prev)) (sym e)
+      (subst (λ S. AtEachWrite (Keeps o n (eqb h 0 || checks h) S) ws (view o n h t checks next prev)) (sym taken) each)
 
   keeps_cases : (a b c : Bool) → eqb (next n) 0 ≡ a → eqb (prev n) n ≡ b → eqb (next n) n ≡ c → (eqb (next n) 0 || (checks (next n) && checks (prev n))) ≡ true
-      → EachMoment (Keeps o n (eqb h 0 || checks h) (take_out n (view o n h t checks next prev))) (taking_out n (next n) (prev n)) (view o n h t checks next prev)
+      → AtEachWrite (Keeps o n (eqb h 0 || checks h) (take_out n (view o n h t checks next prev))) (taking_out n (next n) (prev n)) (view o n h t checks next prev)
   unfolding take_out
   keeps_cases true b c empty first last links =
       keeps_at [] (view o n h t checks next prev) (rw empty) (record { taken = rw empty; links = links; head_good = λ e. e; node_good = good; transaction_is = refl; operation_is = refl }) (rw empty)
@@ -191,7 +191,7 @@ module _ (o n h t : ℕ) (checks : ℕ → Bool) (next prev : ℕ → ℕ) (good
       keeps_at (Next (prev n) (next n) ∷ Prev (next n) (prev n) ∷ Next n 0 ∷ []) _ (rw (full, first, last)) each each.0.taken
 
   pub keeps : (eqb (next n) 0 || (checks (next n) && checks (prev n))) ≡ true
-      → EachMoment (Keeps o n (eqb h 0 || checks h) (take_out n (view o n h t checks next prev))) (taking_out n (next n) (prev n)) (view o n h t checks next prev)
+      → AtEachWrite (Keeps o n (eqb h 0 || checks h) (take_out n (view o n h t checks next prev))) (taking_out n (next n) (prev n)) (view o n h t checks next prev)
   keeps links = keeps_cases (eqb (next n) 0) (eqb (prev n) n) (eqb (next n) n) refl refl refl links
 
 outcome_remove : (n : ℕ) (g : Bool) (T u : ListView) → eqb n 0 ≡ false → Keeps 2 n g T u → outcome u ≡ rested T
@@ -206,11 +206,11 @@ outcome_move n g T u nz k head_good =
     let e : outcome u ≡ rested (put_front n (take_out n u)) = rw (k.operation_is, k.transaction_is, nz, k.node_good, k.head_good head_good, k.links) in
     e ∙ ap (λ (v : ListView). rested (put_front n v)) k.taken
 
-pub EachMoment-last : (P : ListView → Type 0) (ws : List ListWrite) (l : ListView) → EachMoment P ws l → P (after_writes ws l)
+pub EachMoment-last : (P : ListView → Type 0) (ws : List ListWrite) (l : ListView) → AtEachWrite P ws l → P (after_writes ws l)
 EachMoment-last P [] l each = each
 EachMoment-last P (w ∷ ws) l each = EachMoment-last P ws (with_write l w) each.1
 
-pub EachMoment-first : (P : ListView → Type 0) (ws : List ListWrite) (l : ListView) → EachMoment P ws l → P l
+pub EachMoment-first : (P : ListView → Type 0) (ws : List ListWrite) (l : ListView) → AtEachWrite P ws l → P l
 EachMoment-first P [] l each = each
 EachMoment-first P (w ∷ ws) l each = each.0
 
@@ -220,22 +220,22 @@ unfolding outcome completed_list counts
 outcome_done l e = rw e
 
 module _ (n h t : ℕ) (checks : ℕ → Bool) (next prev : ℕ → ℕ) (nz : eqb n 0 ≡ false) (good : checks n ≡ true) (head_good : (eqb h 0 || checks h) ≡ true) where
-  same_outcome : (T : ListView) (ws : List ListWrite) → putting_in_front n h ≡ ws → EachMoment (λ u. outcome u ≡ T) ws (view 1 n h t checks next prev)
-      → EachMoment (λ u. outcome u ≡ outcome (view 1 n h t checks next prev)) (putting_in_front n h) (view 1 n h t checks next prev)
+  same_outcome : (T : ListView) (ws : List ListWrite) → putting_in_front n h ≡ ws → AtEachWrite (λ u. outcome u ≡ T) ws (view 1 n h t checks next prev)
+      → AtEachWrite (λ u. outcome u ≡ outcome (view 1 n h t checks next prev)) (putting_in_front n h) (view 1 n h t checks next prev)
   same_outcome T ws e each =
-      subst (λ us. EachMoment (λ u. outcome u ≡ outcome (view 1 n h t checks next prev)) us (view 1 n h t checks next prev)) (sym e)
+      subst (λ us. AtEachWrite (λ u. outcome u ≡ outcome (view 1 n h t checks next prev)) us (view 1 n h t checks next prev)) (sym e)
       (EachMoment-map (λ u. outcome u ≡ T) _ (λ u is. is ∙ sym (EachMoment-first (λ u. outcome u ≡ T) ws _ each)) ws _ each)
 
-  insert_cases : (a b : Bool) → eqb h n ≡ a → eqb h 0 ≡ b → EachMoment (λ u. outcome u ≡ outcome (view 1 n h t checks next prev)) (putting_in_front n h) (view 1 n h t checks next prev)
+  insert_cases : (a b : Bool) → eqb h n ≡ a → eqb h 0 ≡ b → AtEachWrite (λ u. outcome u ≡ outcome (view 1 n h t checks next prev)) (putting_in_front n h) (view 1 n h t checks next prev)
   insert_cases true b at_head empty = same_outcome (outcome (view 1 n h t checks next prev)) [] (rw at_head) refl
   insert_cases false true ne empty = same_outcome _ (Next n n ∷ Prev n n ∷ Tail n ∷ Head n ∷ []) (rw (ne, empty)) (into_empty n h t checks next prev nz good head_good ne empty)
   insert_cases false false ne full = same_outcome _ (Next n h ∷ Prev n n ∷ Prev h n ∷ Head n ∷ []) (rw (ne, full)) (into_full n h t checks next prev nz good head_good ne full)
 
 -- each write of an insert keeps the outcome
-pub insert_keeps : (n : ℕ) (l : ListView) → l.operation ≡ 1 → l.transaction ≡ n → eqb n 0 ≡ false → l.checks n ≡ true → (eqb l.head 0 || l.checks l.head) ≡ true → EachMoment (λ u. outcome u ≡ outcome l) (putting_in_front n l.head) l
+pub insert_keeps : (n : ℕ) (l : ListView) → l.operation ≡ 1 → l.transaction ≡ n → eqb n 0 ≡ false → l.checks n ≡ true → (eqb l.head 0 || l.checks l.head) ≡ true → AtEachWrite (λ u. outcome u ≡ outcome l) (putting_in_front n l.head) l
 insert_keeps n l o r nz good head_good =
     let same : view 1 n l.head l.tail l.checks l.next l.prev ≡ l = λ i. record { head = l.head; tail = l.tail; transaction = sym r i; operation = sym o i; checks = l.checks; next = l.next; prev = l.prev } in
-    subst (λ (v : ListView). EachMoment (λ u. outcome u ≡ outcome v) (putting_in_front n v.head) v) same
+    subst (λ (v : ListView). AtEachWrite (λ u. outcome u ≡ outcome v) (putting_in_front n v.head) v) same
     (insert_cases n l.head l.tail l.checks l.next l.prev nz good head_good (eqb l.head n) (eqb l.head 0) refl refl)
 
 pub outcome_front : (n : ℕ) (l : ListView) → l.operation ≡ 1 → l.transaction ≡ n → eqb n 0 ≡ false → l.checks n ≡ true → (eqb l.head 0 || l.checks l.head) ≡ true → outcome l ≡ rested (put_front n l)
@@ -251,26 +251,26 @@ rested_front n l false false ne empty = rw (ne, empty)
 
 -- taking n out, where the transaction and the operation are known by equations
 pub keeps_at_view : (o n : ℕ) (l : ListView) → l.operation ≡ o → l.transaction ≡ n → l.checks n ≡ true → (eqb (l.next n) 0 || (l.checks (l.next n) && l.checks (l.prev n))) ≡ true
-    → EachMoment (Keeps o n (eqb l.head 0 || l.checks l.head) (take_out n l)) (taking_out n (l.next n) (l.prev n)) l
+    → AtEachWrite (Keeps o n (eqb l.head 0 || l.checks l.head) (take_out n l)) (taking_out n (l.next n) (l.prev n)) l
 keeps_at_view o n l is_o is_n good links =
     let same : view o n l.head l.tail l.checks l.next l.prev ≡ l = λ i. record { head = l.head; tail = l.tail; transaction = sym is_n i; operation = sym is_o i; checks = l.checks; next = l.next; prev = l.prev } in
-    subst (λ (v : ListView). EachMoment (Keeps o n (eqb v.head 0 || v.checks v.head) (take_out n v)) (taking_out n (v.next n) (v.prev n)) v) same
+    subst (λ (v : ListView). AtEachWrite (Keeps o n (eqb v.head 0 || v.checks v.head) (take_out n v)) (taking_out n (v.next n) (v.prev n)) v) same
     (keeps o n l.head l.tail l.checks l.next l.prev good links)
 
 -- each write of a removal keeps the outcome
-pub remove_keeps : (n : ℕ) (l : ListView) → l.operation ≡ 2 → l.transaction ≡ n → eqb n 0 ≡ false → l.checks n ≡ true → (eqb (l.next n) 0 || (l.checks (l.next n) && l.checks (l.prev n))) ≡ true → EachMoment (λ u. outcome u ≡ rested (take_out n l)) (taking_out n (l.next n) (l.prev n)) l
+pub remove_keeps : (n : ℕ) (l : ListView) → l.operation ≡ 2 → l.transaction ≡ n → eqb n 0 ≡ false → l.checks n ≡ true → (eqb (l.next n) 0 || (l.checks (l.next n) && l.checks (l.prev n))) ≡ true → AtEachWrite (λ u. outcome u ≡ rested (take_out n l)) (taking_out n (l.next n) (l.prev n)) l
 remove_keeps n l o r nz good links =
     EachMoment-map (Keeps 2 n (eqb l.head 0 || l.checks l.head) (take_out n l)) (λ u. outcome u ≡ rested (take_out n l)) (λ u k. outcome_remove n (eqb l.head 0 || l.checks l.head) (take_out n l) u nz k) _ _ (keeps_at_view 2 n l o r good links)
 
 module _ (n : ℕ) (l : ListView) (o : l.operation ≡ 3) (r : l.transaction ≡ n) (nz : eqb n 0 ≡ false) (good : l.checks n ≡ true) (head_good : (eqb l.head 0 || l.checks l.head) ≡ true) (links : (eqb (l.next n) 0 || (l.checks (l.next n) && l.checks (l.prev n))) ≡ true) where
-  pub move_keeps : EachMoment (λ u. outcome u ≡ rested (put_front n (take_out n l))) (taking_out n (l.next n) (l.prev n) ++ Operation 1 ∷ putting_in_front n (take_out n l).head) l
+  pub move_keeps : AtEachWrite (λ u. outcome u ≡ rested (put_front n (take_out n l))) (taking_out n (l.next n) (l.prev n) ++ Operation 1 ∷ putting_in_front n (take_out n l).head) l
   unfolding take_out
   move_keeps =
       let T : ListView = take_out n l in
       let g : Bool = eqb l.head 0 || l.checks l.head in
-      let each : EachMoment (Keeps 3 n g T) (taking_out n (l.next n) (l.prev n)) l = keeps_at_view 3 n l o r good links in
+      let each : AtEachWrite (Keeps 3 n g T) (taking_out n (l.next n) (l.prev n)) l = keeps_at_view 3 n l o r good links in
       let k : Keeps 3 n g T T = EachMoment-last (Keeps 3 n g T) (taking_out n (l.next n) (l.prev n)) l each in
-      let before : EachMoment (λ u. outcome u ≡ rested (put_front n T)) (taking_out n (l.next n) (l.prev n)) l =
+      let before : AtEachWrite (λ u. outcome u ≡ rested (put_front n T)) (taking_out n (l.next n) (l.prev n)) l =
       EachMoment-map (Keeps 3 n g T) (λ u. outcome u ≡ rested (put_front n T)) (λ u q. outcome_move n g T u nz q head_good) _ _ each in
       let T1 : ListView = with_write T (Operation 1) in
       let turned : outcome T1 ≡ rested (put_front n T) = outcome_front n T1 refl k.transaction_is nz k.node_good (k.head_good head_good) ∙ rested_front n T (eqb T.head n) (eqb T.head 0) refl refl in
@@ -309,7 +309,7 @@ after_writes-append [] vs l = refl
 after_writes-append (w ∷ ws) vs l = after_writes-append ws vs (with_write l w)
 
 -- the transaction word becomes 0 at last
-finish : (ws : List ListWrite) (l T : ListView) → EachMoment (λ u. outcome u ≡ T) ws l → rested (after_writes ws l) ≡ T → EachMoment (λ u. outcome u ≡ outcome l) (ws ++ Transaction 0 ∷ []) l
+finish : (ws : List ListWrite) (l T : ListView) → AtEachWrite (λ u. outcome u ≡ T) ws l → rested (after_writes ws l) ≡ T → AtEachWrite (λ u. outcome u ≡ outcome l) (ws ++ Transaction 0 ∷ []) l
 finish ws l T each same =
     EachMoment-map (λ u. outcome u ≡ T) (λ u. outcome u ≡ outcome l) (λ u q. q ∙ sym (EachMoment-first (λ u. outcome u ≡ T) ws l each)) (ws ++ Transaction 0 ∷ []) l
     (EachMoment-append _ ws (Transaction 0 ∷ []) l each (EachMoment-last _ ws l each, outcome_done (with_write (after_writes ws l) (Transaction 0)) refl ∙ same))
@@ -330,30 +330,30 @@ pending_move l e = ap (λ o. (if eqb o 1 then putting_in_front l.transaction l.h
     else taking_out l.transaction (l.next l.transaction) (l.prev l.transaction) ++ Operation 1 ∷ putting_in_front l.transaction (take_out l.transaction l).head)) ++ Transaction 0 ∷ []) e
 
 -- each write of what is pending keeps the outcome
-pub pending_keeps : (l : ListView) → counts l ≡ true → EachMoment (λ u. outcome u ≡ outcome l) (pending_writes l) l
+pub pending_keeps : (l : ListView) → counts l ≡ true → AtEachWrite (λ u. outcome u ≡ outcome l) (pending_writes l) l
 unfolding put_front take_out
 pending_keeps l e = go (counting l e) (counting l e).known
   where
     stays : ListView → Type 0
     stays u = outcome u ≡ outcome l
 
-    go : Counting l → (l.operation ≡ 1) ⊎ (l.operation ≡ 2) ⊎ (l.operation ≡ 3) → EachMoment (λ u. outcome u ≡ outcome l) (pending_writes l) l
+    go : Counting l → (l.operation ≡ 1) ⊎ (l.operation ≡ 2) ⊎ (l.operation ≡ 3) → AtEachWrite (λ u. outcome u ≡ outcome l) (pending_writes l) l
     go c (inl one) =
         let n = l.transaction in
         let head_good : (eqb l.head 0 || l.checks l.head) ≡ true = rw one at c.head_good in
-        subst (λ ws. EachMoment (λ u. outcome u ≡ outcome l) ws l) (sym (pending_insert l one))
+        subst (λ ws. AtEachWrite (λ u. outcome u ≡ outcome l) ws l) (sym (pending_insert l one))
         (finish (putting_in_front n l.head) l (outcome l) (insert_keeps n l one refl c.not_zero c.good head_good) (sym (outcome_front n l one refl c.not_zero c.good head_good)))
     go c (inr (inl two)) =
         let n = l.transaction in
         let links : (eqb (l.next n) 0 || (l.checks (l.next n) && l.checks (l.prev n))) ≡ true = rw two at c.links in
-        subst (λ ws. EachMoment (λ u. outcome u ≡ outcome l) ws l) (sym (pending_remove l two))
+        subst (λ ws. AtEachWrite (λ u. outcome u ≡ outcome l) ws l) (sym (pending_remove l two))
         (finish (taking_out n (l.next n) (l.prev n)) l (rested (take_out n l)) (remove_keeps n l two refl c.not_zero c.good links) refl)
     go c (inr (inr three)) =
         let n = l.transaction in
         let head_good : (eqb l.head 0 || l.checks l.head) ≡ true = rw three at c.head_good in
         let links : (eqb (l.next n) 0 || (l.checks (l.next n) && l.checks (l.prev n))) ≡ true = rw three at c.links in
         let T : ListView = take_out n l in
-        subst (λ ws. EachMoment (λ u. outcome u ≡ outcome l) ws l) (sym (pending_move l three))
+        subst (λ ws. AtEachWrite (λ u. outcome u ≡ outcome l) ws l) (sym (pending_move l three))
         (finish (taking_out n (l.next n) (l.prev n) ++ Operation 1 ∷ putting_in_front n T.head) l (rested (put_front n T)) (move_keeps n l three refl c.not_zero c.good head_good links)
         (ap rested (after_writes-append (taking_out n (l.next n) (l.prev n)) (Operation 1 ∷ putting_in_front n T.head) l) ∙ rested_front n T (eqb T.head n) (eqb T.head 0) refl refl))
 
@@ -382,10 +382,10 @@ unfolding outcome completed_list
 outcome_not l e = rw e
 
 -- each write of completing keeps what it gives
-pub completion_keeps : (l : ListView) → EachMoment (λ u. outcome u ≡ outcome l) (completion_writes l) l
+pub completion_keeps : (l : ListView) → AtEachWrite (λ u. outcome u ≡ outcome l) (completion_writes l) l
 unfolding completion_writes
 completion_keeps l = go (counts l) refl
   where
-    go : (b : Bool) → counts l ≡ b → EachMoment (λ u. outcome u ≡ outcome l) (if b then pending_writes l else Transaction 0 ∷ []) l
+    go : (b : Bool) → counts l ≡ b → AtEachWrite (λ u. outcome u ≡ outcome l) (if b then pending_writes l else Transaction 0 ∷ []) l
     go true e = pending_keeps l e
     go false e = (refl, outcome_done (with_write l (Transaction 0)) refl ∙ sym (outcome_not l e))

@@ -4,26 +4,26 @@ use Rattle.std.specs.Prelude.{not, ◌||◌, ◌==◌}
 use Rattle.std.proofs.lemmas.Bool.{eqb-true}
 use Rattle.blk_format.specs.Hash.{hash}
 use Rattle.blk_format.specs.BlockFiles.{is_among}
-use Rattle.blk_volume.specs.View.{Stock, Named, Core}
+use Rattle.blk_volume.specs.View.{StoreView, NodeFields, RecordFields}
 use Rattle.blk_volume.specs.Chains.{chain, bucket_of_hash}
 use Rattle.blk_volume.specs.Loads.{Rule, Loaded, load, load_record, load_key}
 use Rattle.blk_volume.specs.Entries.{key_of, streams_of, role_of}
 use Rattle.blk_laws.proofs.Loads.{IsLoadedRecord, IsLoadedNode, load-then}
 
 -- what has all these facts loads
-record-from : (v : Stock) (rule : Rule) (w c d : ℕ) (l : Loaded) (e : Core) → IsLoadedRecord v rule w c d e l → load_record v rule w c d e ≡ Ok l
+record-from : (v : StoreView) (rule : Rule) (w c d : ℕ) (l : Loaded) (e : RecordFields) → IsLoadedRecord v rule w c d e l → load_record v rule w c d e ≡ Ok l
 unfolding load_record load_key
 record-from v rule w c d l e r =
     let k = r.keyed in
     rw (k.state, k.back, k.flags, k.clean, k.key_length, k.key, k.hashed, k.chained, r.streams, r.role)
     (ap Ok (λ i. record { node = sym r.node_is i; contents = sym r.contents_is i; dirty = sym r.dirty_is i; key = l.key; role = l.role; streams = l.streams; others = sym r.others_are i }))
 
-pub load-from : (v : Stock) (rule : Rule) (w : ℕ) (l : Loaded) (n : Named) (e : Core) → IsLoadedNode v rule w l n e → load v rule w ≡ Ok l
+pub load-from : (v : StoreView) (rule : Rule) (w : ℕ) (l : Loaded) (n : NodeFields) (e : RecordFields) → IsLoadedNode v rule w l n e → load v rule w ≡ Ok l
 unfolding load
 load-from v rule w l n e f = rw (f.node, f.entry, record-from v rule w n.contents n.dirty l e f.facts, f.checks) refl
 
 -- under another rule of the same state
-pub load-rule : (v : Stock) (a b : Rule) (w : ℕ) (l : Loaded) → load v a w ≡ Ok l → b.state ≡ a.state → (not b.clean || (l.dirty == 0)) ≡ true
+pub load-rule : (v : StoreView) (a b : Rule) (w : ℕ) (l : Loaded) → load v a w ≡ Ok l → b.state ≡ a.state → (not b.clean || (l.dirty == 0)) ≡ true
     → (not b.chained || is_among (chain v (bucket_of_hash (hash l.key))).reached l.contents) ≡ true → load v b w ≡ Ok l
 load-rule v a b w l ok state clean chained = load-then v a w l ok (λ n e f.
     let r = f.facts in let k = r.keyed in
@@ -53,7 +53,7 @@ load-rule v a b w l ok state clean chained = load-then v a w l ok (λ n e f.
     }))
 
 -- what loads under two rules is one
-one-record : (v : Stock) (a b : Rule) (w c d : ℕ) (e : Core) (l k : Loaded) → IsLoadedRecord v a w c d e l → IsLoadedRecord v b w c d e k → l ≡ k
+one-record : (v : StoreView) (a b : Rule) (w c d : ℕ) (e : RecordFields) (l k : Loaded) → IsLoadedRecord v a w c d e l → IsLoadedRecord v b w c d e k → l ≡ k
 one-record v a b w c d e l k p q =
     let key : l.key ≡ k.key = let x : key_of v c e ≡ Some l.key = p.keyed.key in let y : key_of v c e ≡ Some k.key = q.keyed.key in cc in
     let streams : l.streams ≡ k.streams = let x : streams_of v e ≡ Some l.streams = p.streams in let y : streams_of v e ≡ Some k.streams = q.streams in cc in
@@ -68,13 +68,13 @@ one-record v a b w c d e l k p q =
       others = (p.others_are ∙ sym q.others_are) i;
     }
 
-pub load-one : (v : Stock) (a b : Rule) (w : ℕ) (l k : Loaded) → load v a w ≡ Ok l → load v b w ≡ Ok k → l ≡ k
+pub load-one : (v : StoreView) (a b : Rule) (w : ℕ) (l k : Loaded) → load v a w ≡ Ok l → load v b w ≡ Ok k → l ≡ k
 load-one v a b w l k ok also = load-then v a w l ok (λ n e f. load-then v b w k also (λ m d g.
-    let named : m ≡ n = let x : ◌≡◌ (v.named w) (Some m) = g.node in let y : v.named w ≡ Some n = f.node in cc in
-    let core : d ≡ e = let x : v.entry m.contents ≡ v.entry n.contents = ap (λ (x : Named). v.entry x.contents) named in let s : v.entry n.contents ≡ Some e = f.entry in let t : v.entry m.contents ≡ Some d = g.entry in cc in
-    let q : IsLoadedRecord v b w n.contents n.dirty d k = subst (λ (x : Named). IsLoadedRecord v b w x.contents x.dirty d k) named g.facts in
-    one-record v a b w n.contents n.dirty e l k f.facts (subst (λ (x : Core). IsLoadedRecord v b w n.contents n.dirty x k) core q)))
+    let node_fields : m ≡ n = let x : ◌≡◌ (v.node_fields w) (Some m) = g.node in let y : v.node_fields w ≡ Some n = f.node in cc in
+    let fields : d ≡ e = let x : v.entry m.contents ≡ v.entry n.contents = ap (λ (x : NodeFields). v.entry x.contents) node_fields in let s : v.entry n.contents ≡ Some e = f.entry in let t : v.entry m.contents ≡ Some d = g.entry in cc in
+    let q : IsLoadedRecord v b w n.contents n.dirty d k = subst (λ (x : NodeFields). IsLoadedRecord v b w x.contents x.dirty d k) node_fields g.facts in
+    one-record v a b w n.contents n.dirty e l k f.facts (subst (λ (x : RecordFields). IsLoadedRecord v b w n.contents n.dirty x k) fields q)))
 
 -- its dirty word
-pub load-clean : (v : Stock) (a : Rule) (w : ℕ) (l : Loaded) → load v a w ≡ Ok l → (not a.clean || (l.dirty == 0)) ≡ true
+pub load-clean : (v : StoreView) (a : Rule) (w : ℕ) (l : Loaded) → load v a w ≡ Ok l → (not a.clean || (l.dirty == 0)) ≡ true
 load-clean v a w l ok = load-then v a w l ok (λ n e f. ap (λ (d : ℕ). not a.clean || (d == 0)) f.facts.dirty_is ∙ f.facts.keyed.clean)

@@ -4,11 +4,11 @@ use Rattle.std.specs.Prelude.{not, ◌||◌, ◌==◌, nat_le}
 use Rattle.std.specs.Option.{ok_or}
 use Rattle.std.proofs.lemmas.Bool.{eqb-true}
 use Rattle.blk_format.specs.Hash.{hash}
-use Rattle.blk_volume.specs.View.{Stock, Named, Core}
+use Rattle.blk_volume.specs.View.{StoreView, NodeFields, RecordFields}
 use Rattle.blk_format.specs.BlockFiles.{is_among}
 use Rattle.blk_volume.specs.Chains.{chain, bucket_of_hash}
 use Rattle.blk_volume.specs.Reasons.{Reason, ◌>>=◌, demand}
-use Rattle.blk_volume.specs.Loads.{Rule, held, Loaded, load, load_record, load_key}
+use Rattle.blk_volume.specs.Loads.{Rule, held_rule, Loaded, load, load_record, load_key}
 use Rattle.blk_volume.specs.Entries.{is_key_length, key_of, streams_of, role_of}
 use Rattle.blk_volume.specs.Reasons as reason
 
@@ -26,7 +26,7 @@ some_then None reason f y e goes = cc
 some_then (Some a) reason f y e goes = goes a refl e
 
 -- what holds of a record whose key was loaded
-pub record IsKeyed (v : Stock) (rule : Rule) (w contents dirty : ℕ) (e : Core) (key_is : List ℕ) : Type 0 where
+pub record IsKeyed (v : StoreView) (rule : Rule) (w contents dirty : ℕ) (e : RecordFields) (key_is : List ℕ) : Type 0 where
   pub state : (e.state == rule.state) ≡ true
   pub back : (e.rankings_node == w) ≡ true
   pub flags : nat_le e.flags 2 ≡ true
@@ -36,7 +36,7 @@ pub record IsKeyed (v : Stock) (rule : Rule) (w contents dirty : ℕ) (e : Core)
   pub hashed : (e.hash == hash key_is) ≡ true
   pub chained : (not rule.chained || is_among (chain v (bucket_of_hash e.hash)).reached contents) ≡ true
 
-pub load_key-facts : (v : Stock) (rule : Rule) (w contents dirty : ℕ) (e : Core) (key : List ℕ) → load_key v rule w contents dirty e ≡ Ok key → IsKeyed v rule w contents dirty e key
+pub load_key-facts : (v : StoreView) (rule : Rule) (w contents dirty : ℕ) (e : RecordFields) (key : List ℕ) → load_key v rule w contents dirty e ≡ Ok key → IsKeyed v rule w contents dirty e key
 unfolding load_key
 load_key-facts v rule w contents dirty e l ok =
     demand_then (e.state == rule.state) reason.State _ l ok (λ state ok.
@@ -51,7 +51,7 @@ load_key-facts v rule w contents dirty e l ok =
     subst (λ (k : List ℕ). IsKeyed v rule w contents dirty e k) one (record { state = state; back = back; flags = flags; clean = clean; key_length = key_length; key = key_is; hashed = hashed; chained = chained })))))))))
 
 -- what holds of a record that was loaded
-pub record IsLoadedRecord (v : Stock) (rule : Rule) (w contents dirty : ℕ) (e : Core) (l : Loaded) : Type 0 where
+pub record IsLoadedRecord (v : StoreView) (rule : Rule) (w contents dirty : ℕ) (e : RecordFields) (l : Loaded) : Type 0 where
   pub keyed : IsKeyed v rule w contents dirty e l.key
   pub streams : streams_of v e ≡ Some l.streams
   pub role : role_of e l.key l.streams ≡ Some l.role
@@ -60,7 +60,7 @@ pub record IsLoadedRecord (v : Stock) (rule : Rule) (w contents dirty : ℕ) (e 
   pub dirty_is : l.dirty ≡ dirty
   pub others_are : l.others ≡ e.long_key ∷ e.data_addr
 
-pub load_record-facts : (v : Stock) (rule : Rule) (w contents dirty : ℕ) (e : Core) (l : Loaded) → load_record v rule w contents dirty e ≡ Ok l → IsLoadedRecord v rule w contents dirty e l
+pub load_record-facts : (v : StoreView) (rule : Rule) (w contents dirty : ℕ) (e : RecordFields) (l : Loaded) → load_record v rule w contents dirty e ≡ Ok l → IsLoadedRecord v rule w contents dirty e l
 unfolding load_record
 load_record-facts v rule w contents dirty e l ok =
     bind_then (load_key v rule w contents dirty e) _ l ok (λ key loaded ok.
@@ -79,26 +79,26 @@ load_record-facts v rule w contents dirty e l ok =
     }))))
 
 -- what holds of a node that was loaded
-pub record IsLoadedNode (v : Stock) (rule : Rule) (w : ℕ) (l : Loaded) (n : Named) (e : Core) : Type 0 where
-  pub node : v.named w ≡ Some n
+pub record IsLoadedNode (v : StoreView) (rule : Rule) (w : ℕ) (l : Loaded) (n : NodeFields) (e : RecordFields) : Type 0 where
+  pub node : v.node_fields w ≡ Some n
   pub entry : v.entry n.contents ≡ Some e
   pub checks : e.checks ≡ true
   pub facts : IsLoadedRecord v rule w n.contents n.dirty e l
 
-pub load-then : {P : Type 0} (v : Stock) (rule : Rule) (w : ℕ) (l : Loaded) → load v rule w ≡ Ok l → ((n : Named) (e : Core) → IsLoadedNode v rule w l n e → P) → P
+pub load-then : {P : Type 0} (v : StoreView) (rule : Rule) (w : ℕ) (l : Loaded) → load v rule w ≡ Ok l → ((n : NodeFields) (e : RecordFields) → IsLoadedNode v rule w l n e → P) → P
 unfolding load
 load-then v rule w l ok goes =
-    some_then (v.named w) reason.Contents _ l ok (λ n node ok.
+    some_then (v.node_fields w) reason.Contents _ l ok (λ n node ok.
     some_then (v.entry n.contents) reason.Contents _ l ok (λ e entry ok.
     demand_then (e.checks) reason.Seal _ l ok (λ checks ok.
     goes n e (record { node = node; entry = entry; checks = checks; facts = load_record-facts v rule w n.contents n.dirty e l ok }))))
 
 -- two records with the same key, for which none of the reasons up to the chain holds, are in the chain of one bucket
-pub one-chain : (v : Stock) (w x c d m n : ℕ) (e f : Core) (key : List ℕ) → load_key v held w c m e ≡ Ok key → load_key v held x d n f ≡ Ok key
+pub one-chain : (v : StoreView) (w x c d m n : ℕ) (e f : RecordFields) (key : List ℕ) → load_key v held_rule w c m e ≡ Ok key → load_key v held_rule x d n f ≡ Ok key
     → (bucket_of_hash e.hash ≡ bucket_of_hash f.hash) × (is_among (chain v (bucket_of_hash (hash key))).reached c ≡ true) × (is_among (chain v (bucket_of_hash (hash key))).reached d ≡ true)
 one-chain v w x c d m n e f key a b =
-    let p : IsKeyed v held w c m e key = load_key-facts v held w c m e key a in
-    let q : IsKeyed v held x d n f key = load_key-facts v held x d n f key b in
+    let p : IsKeyed v held_rule w c m e key = load_key-facts v held_rule w c m e key a in
+    let q : IsKeyed v held_rule x d n f key = load_key-facts v held_rule x d n f key b in
     let he : e.hash ≡ hash key = eqb-true e.hash (hash key) p.hashed in
     let hf : f.hash ≡ hash key = eqb-true f.hash (hash key) q.hashed in
     (ap bucket_of_hash (he ∙ sym hf), subst (λ (h : ℕ). is_among (chain v (bucket_of_hash h)).reached c ≡ true) he p.chained, subst (λ (h : ℕ). is_among (chain v (bucket_of_hash h)).reached d ≡ true) hf q.chained)

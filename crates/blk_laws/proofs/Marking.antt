@@ -9,11 +9,11 @@ use Rattle.blk_model.specs.Items.{main}
 use Rattle.blk_model.specs.State.{State, Object, IsValidState, object_at}
 use Rattle.blk_format.specs.BlockFiles.{is_among}
 use Rattle.blk_format.specs.Claims.{Claim, BlockOf, ExternalOf, same_claim, claims_of, has_claim, repeats}
-use Rattle.blk_volume.specs.View.{View, Stock, Named, Core}
+use Rattle.blk_volume.specs.View.{View, StoreView, NodeFields, RecordFields}
 use Rattle.blk_volume.specs.Chains.{chain, bucket_of_hash}
 use Rattle.blk_volume.specs.Loads.{Rule, Loaded, load, all_claims, record_claims}
 use Rattle.blk_volume.specs.Layout.{Layout, rule_of, Represents, changed_at}
-use Rattle.blk_volume.specs.Footprint.{SameNodeLinks, IsClear, SameStock, SameBut, IsFreeBut}
+use Rattle.blk_volume.specs.Footprint.{SameNodeLinks, IsClear, SameStore, SameBut, IsFreeBut}
 use Rattle.blk_laws.proofs.Loads.{load-then}
 use Rattle.blk_laws.proofs.Loading.{load-from}
 use Rattle.blk_laws.proofs.Shown.{node-is}
@@ -42,8 +42,8 @@ repeats-apart (x ∷ xs) ys c e h =
     (cases_Bool (same_claim c x))
 
 -- a node with another dirty word, its record untouched
-load-marked : (touched : Claim → Bool) (v u : Stock) (same : SameStock touched v u) (rule : Rule) (w d : ℕ) (l : Loaded) → rule.clean ≡ false → rule.chained ≡ false
-    → ((n : Named) → v.named w ≡ Some n → u.named w ≡ Some (record n { dirty = d })) → IsClear touched l.contents → ((i : ℕ) → IsClear touched (slice_index l.others i))
+load-marked : (touched : Claim → Bool) (v u : StoreView) (same : SameStore touched v u) (rule : Rule) (w d : ℕ) (l : Loaded) → rule.clean ≡ false → rule.chained ≡ false
+    → ((n : NodeFields) → v.node_fields w ≡ Some n → u.node_fields w ≡ Some (record n { dirty = d })) → IsClear touched l.contents → ((i : ℕ) → IsClear touched (slice_index l.others i))
     → load v rule w ≡ Ok l → load u rule w ≡ Ok (record l { dirty = d })
 load-marked touched v u same rule w d l any free is contents others ok = load-then v rule w l ok (λ n e f.
     let r = f.facts in let k = r.keyed in
@@ -76,12 +76,12 @@ load-marked touched v u same rule w d l any free is contents others ok = load-th
 
 -- the dirty word of a node of a layout, from the footprint of its write
 module _ (v u : View) (m : State) (y : Layout) (r : Represents v m y) (w0 : ℕ) (l : Loaded) (at : y.at w0 ≡ Some l) (d : ℕ) (same : SameBut (has_claim (claims_of w0)) v u)
-    (named : (n : Named) → v.stock.named w0 ≡ Some n → u.stock.named w0 ≡ Some (record n { dirty = d })) where
-  loads : load v.stock (rule_of y w0) w0 ≡ Ok l
+    (node_fields : (n : NodeFields) → v.store.node_fields w0 ≡ Some n → u.store.node_fields w0 ≡ Some (record n { dirty = d })) where
+  loads : load v.store (rule_of y w0) w0 ≡ Ok l
   loads = r.holds.shows.each w0 l at
 
   node : l.node ≡ w0
-  node = node-is v.stock (rule_of y w0) w0 l loads
+  node = node-is v.store (rule_of y w0) w0 l loads
 
   -- the claims of the node are its own
   node-own : (c : Claim) → has_claim (claims_of w0) c ≡ true → y.owner c ≡ Some w0
@@ -113,24 +113,24 @@ module _ (v u : View) (m : State) (y : Layout) (r : Represents v m y) (w0 : ℕ)
   unfolding record_claims
   others-clear i c h = record-clear c (claim-append (claims_of l.contents) (flat_map claims_of l.others) c ∙ or_right (has_claim (claims_of l.contents) c) (has_claim (flat_map claims_of l.others) c) (index-claims l.others i c h))
 
-  pub loads-marked : load u.stock (rule_of y w0) w0 ≡ Ok (record l { dirty = d })
-  loads-marked = load-marked (has_claim (claims_of w0)) v.stock u.stock same.stock (rule_of y w0) w0 d l refl refl named contents-clear others-clear loads
+  pub loads-marked : load u.store (rule_of y w0) w0 ≡ Ok (record l { dirty = d })
+  loads-marked = load-marked (has_claim (claims_of w0)) v.store u.store same.store (rule_of y w0) w0 d l refl refl node_fields contents-clear others-clear loads
 
 module _ (v u : View) (m : State) (y : Layout) (r : Represents v m y) (valid : IsValidState m) (number : ℕ) (o : Object) (b : Bool) (here : object_at m number ≡ Some o) (live : o.live ≡ true)
     (l : Loaded) (d : ℕ) (at : y.at (y.place (main o.key)) ≡ Some l) (mark : (d == 0) ≡ b)
     (same : SameBut (has_claim (claims_of (y.place (main o.key)))) v u)
-    (named : (n : Named) → v.stock.named (y.place (main o.key)) ≡ Some n → u.stock.named (y.place (main o.key)) ≡ Some (record n { dirty = d }))
+    (node_fields : (n : NodeFields) → v.store.node_fields (y.place (main o.key)) ≡ Some n → u.store.node_fields (y.place (main o.key)) ≡ Some (record n { dirty = d }))
     (links : SameNodeLinks (y.place (main o.key)) v.list u.list) where
   clear : IsClear (has_claim (claims_of (y.place (main o.key)))) l.contents
-  clear = contents-clear v u m y r (y.place (main o.key)) l at d same named
+  clear = contents-clear v u m y r (y.place (main o.key)) l at d same node_fields
 
   pub marked : Represents u (record m { objects = set m.objects number (Some (record o { settled = b })) }) (changed_at y (y.place (main o.key)) (record l { dirty = d }) y.owner)
   marked = replaced (has_claim (claims_of (y.place (main o.key)))) v u m y r (set m.objects number (Some (record o { settled = b }))) (main o.key) l (record l { dirty = d }) y.owner same
       (settle-one m valid number o b here live) (main-listed m valid number o b here live) at (settle-change m valid number o b here live y r.holds.lies l at d mark)
       (record {
-        apart = node-alone v u m y r (y.place (main o.key)) l at d same named;
-        loads = loads-marked v u m y r (y.place (main o.key)) l at d same named;
-        bucket = λ n. ap (λ (x : Option Core). option_map_or (λ e. e.checks && (bucket_of_hash e.hash == n)) x false) (sym (same.stock.entry l.contents clear));
-        follow = sym (same.stock.follow l.contents clear);
+        apart = node-alone v u m y r (y.place (main o.key)) l at d same node_fields;
+        loads = loads-marked v u m y r (y.place (main o.key)) l at d same node_fields;
+        bucket = λ n. ap (λ (x : Option RecordFields). option_map_or (λ e. e.checks && (bucket_of_hash e.hash == n)) x false) (sym (same.store.entry l.contents clear));
+        chain_next = sym (same.store.chain_next l.contents clear);
         links = links;
       })

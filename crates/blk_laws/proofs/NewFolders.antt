@@ -12,10 +12,10 @@ use Rattle.blk_image.proofs.Splices.{length-zeros, content-zeros, content-splice
 use Rattle.blk_image.proofs.Words.{word-beside, word-zeros, length-with_words}
 use Rattle.blk_format.specs.Address.{block_size, header_size}
 use Rattle.blk_format.specs.Headers.{head_checks, list_checks, index_length, place_of_bucket}
-use Rattle.blk_format.specs.BlockFiles.{next_file_in, max_entries_in, files_along, linked, linked_as, type_among, is_link, is_block_count, file_checks, checks_along, checks_of_type, linked_up_to, IsWellFormed}
+use Rattle.blk_format.specs.BlockFiles.{next_file_in, max_entries_in, files_along, linked, linked_as, kind_among, is_link, is_block_count, file_checks, checks_along, checks_of_kind, linked_up_to, IsWellFormed}
 use Rattle.blk_volume.specs.View.{list_of}
 use Rattle.blk_format.specs.NewFolder.{new_index_words, new_file_words, IsMade}
-use Rattle.blk_laws.specs.BareLaws.{IsBareIndex, IsBareFile, IsBare, NewFoldersAreBare}
+use Rattle.blk_laws.specs.BareLaws.{IsIndexWithoutEntries, IsFileWithoutBlocks, HasNoEntries, NewFoldersHaveNoEntries}
 
 -- the new folder
 pub new_folder : ℕ → Image
@@ -35,22 +35,22 @@ is-new moment image new = λ i file. each file i where
   each (External n) = new.others (External n) (inl (omega arith))
 
 -- the words of the index
-abbrev pub Beside : ℕ → List (ℕ × ℕ) → Type 0
-Beside place [] = Unit {0}
-Beside place (w ∷ ws) = ((place + 4 ≤ w.0) ⊎ (w.0 + 4 ≤ place)) × Beside place ws
+abbrev pub Neighbours : ℕ → List (ℕ × ℕ) → Type 0
+Neighbours place [] = Unit {0}
+Neighbours place (w ∷ ws) = ((place + 4 ≤ w.0) ⊎ (w.0 + 4 ≤ place)) × Neighbours place ws
 
-pub words_beside : (place : ℕ) (ws : List (ℕ × ℕ)) (bytes : List ℕ) → Beside place ws → word_at (content (with_words ws bytes)) place ≡ word_at (content bytes) place
+pub words_beside : (place : ℕ) (ws : List (ℕ × ℕ)) (bytes : List ℕ) → Neighbours place ws → word_at (content (with_words ws bytes)) place ≡ word_at (content bytes) place
 words_beside place [] bytes beside = refl
 words_beside place (w ∷ ws) bytes beside = words_beside place ws (with_word w.0 w.1 bytes) beside.1 ∙ word-beside place w.0 w.1 bytes beside.0
 
-index-zero : (moment place : ℕ) → Beside place (new_index_words moment) → word_at (byte (new_folder moment) Index) place ≡ 0
+index-zero : (moment place : ℕ) → Neighbours place (new_index_words moment) → word_at (byte (new_folder moment) Index) place ≡ 0
 unfolding new_folder
 index-zero moment place beside = words_beside place (new_index_words moment) (zeros index_length) beside ∙ word-zeros index_length place
 
 index-later : (moment place : ℕ) → 48 ≤ place → word_at (byte (new_folder moment) Index) place ≡ 0
 index-later moment place later = index-zero moment place (inr (omega arith), (inr (omega arith), (inr (omega arith), (inr (omega arith), (inr (omega arith), tt)))))
 
-bare-index : (moment : ℕ) → IsBareIndex (new_folder moment)
+bare-index : (moment : ℕ) → IsIndexWithoutEntries (new_folder moment)
 unfolding list_of
 bare-index moment = record {
   head = index-later moment 288 (lit≤ tt);
@@ -68,10 +68,10 @@ unfolding new_folder linked files_along next_file_in zeros with_word spliced blo
 links moment = (refl, refl, refl, refl)
 
 linked-is : (moment n : ℕ) → is_some (linked_as (new_folder moment) n) ≡ nat_lt n 4
-unfolding type_among
+unfolding kind_among
 linked-is moment n =
     let l = links moment in rw (l.0, l.1, l.2, l.3) (go n) where
-      go : (n : ℕ) → is_some (type_among (λ kind. if kind == 1 then 0 ∷ [] else if kind == 2 then 1 ∷ [] else if kind == 3 then 2 ∷ [] else 3 ∷ []) n) ≡ nat_lt n 4
+      go : (n : ℕ) → is_some (kind_among (λ kind. if kind == 1 then 0 ∷ [] else if kind == 2 then 1 ∷ [] else if kind == 3 then 2 ∷ [] else 3 ∷ []) n) ≡ nat_lt n 4
       go zero = refl
       go (suc zero) = refl
       go (suc (suc zero)) = refl
@@ -92,8 +92,8 @@ Behind k (w ∷ ws) = (w.0 + 4 ≤ k) × Behind k ws
 
 -- a byte behind the words is 0
 pub byte-later : (ws : List (ℕ × ℕ)) (bytes : List ℕ) (k : ℕ) → Behind k ws → content (with_words ws bytes) k ≡ content bytes k
-byte-later [] bytes k behind = refl
-byte-later (w ∷ ws) bytes k behind = byte-later ws (with_word w.0 w.1 bytes) k behind.1 ∙ unfold with_word in content-spliced_outside w.0 _ bytes k (inr behind.0)
+byte-later [] bytes k suffix = refl
+byte-later (w ∷ ws) bytes k suffix = byte-later ws (with_word w.0 w.1 bytes) k suffix.1 ∙ unfold with_word in content-spliced_outside w.0 _ bytes k (inr suffix.0)
 
 file-byte : (moment n k : ℕ) → n < 4 → 16 ≤ k → byte (new_folder moment) (Block n) k ≡ 0
 unfolding zeros
@@ -106,7 +106,7 @@ file-word : (moment n k : ℕ) → n < 4 → 16 ≤ k → word_at (byte (new_fol
 file-word moment n k small later =
     omega (arith, file-byte moment n k small later, file-byte moment n (k + 1) small (omega arith), file-byte moment n (k + 2) small (omega arith), file-byte moment n (k + 3) small (omega arith))
 
-bare-file : (moment n : ℕ) → n < 4 → IsBareFile (new_folder moment) n
+bare-file : (moment n : ℕ) → n < 4 → IsFileWithoutBlocks (new_folder moment) n
 unfolding max_entries_in
 bare-file moment n small = record {
   long_enough = let l : length_of (new_folder moment) (Block n) ≡ header_size = ap length (bytes-are moment n small) ∙ length-with_words (new_file_words n) (zeros header_size) ∙ length-zeros header_size in omega arith;
@@ -118,10 +118,10 @@ bare-file moment n small = record {
 }
 
 well-formed : (moment : ℕ) → IsWellFormed (new_folder moment)
-unfolding new_folder head_checks list_checks checks_of_type checks_along file_checks next_file_in is_link is_block_count linked_up_to linked files_along zeros with_word spliced block_size
+unfolding new_folder head_checks list_checks checks_of_kind checks_along file_checks next_file_in is_link is_block_count linked_up_to linked files_along zeros with_word spliced block_size
 well-formed moment = refl
 
-bare : (moment : ℕ) → IsBare (new_folder moment)
+bare : (moment : ℕ) → HasNoEntries (new_folder moment)
 bare moment = record {
   well_formed = well-formed moment;
   index = bare-index moment;
@@ -135,8 +135,8 @@ bare moment = record {
       (λ (large : 4 ≤ n). unfold new_folder in rw (le-ltb n 4 large) refl)
       (cases_lt n 4)
 
-pub new-bare : NewFoldersAreBare
-new-bare moment image new = subst IsBare (sym (is-new moment image new)) (bare moment)
+pub new-bare : NewFoldersHaveNoEntries
+new-bare moment image new = subst HasNoEntries (sym (is-new moment image new)) (bare moment)
 
 -- and the new folder is new
 pub new-is_new : (moment : ℕ) → IsMade moment (new_folder moment)

@@ -60,8 +60,8 @@ node-claims : (image : Image) (w : ℕ) → IsNode image w → claims_of w ≡ B
 unfolding claims_of
 node-claims image w node =
     let some : (w == 0) ≡ false = not_equal w 0 (stands-some image w node.stands) in
-    let blocky : (kind_of w == external) ≡ false = not_equal (kind_of w) external (λ e. node_apart (sym node.kind ∙ e)) in
-    rw (some, blocky, node.one) refl
+    let block_kind : (kind_of w == external) ≡ false = not_equal (kind_of w) external (λ e. node_apart (sym node.kind ∙ e)) in
+    rw (some, block_kind, node.one) refl
 
 same_claim-true : (c d : Claim) → same_claim c d ≡ true → c ≡ d
 same_claim-true (BlockOf f b) (BlockOf g c) e = let p = and_parts (f == g) (b == c) e in ap₂ BlockOf (eqb-true f g p.0) (eqb-true b c p.1)

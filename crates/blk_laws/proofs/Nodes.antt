@@ -12,23 +12,23 @@ use Rattle.blk_format.specs.Records.{Node, node_in, node_checks}
 use Rattle.blk_format.specs.BlockFiles.{stands_in}
 use Rattle.blk_format.specs.Claims.{claims_of, has_claim}
 use Rattle.blk_volume.specs.ListView.{Next, Prev, put, after_writes}
-use Rattle.blk_volume.specs.View.{Named, stands_as, node_at, list_of, checks_at, next_at, prev_at, stock_of, named_at}
+use Rattle.blk_volume.specs.View.{NodeFields, stands_as, node_at, list_of, checks_at, next_at, prev_at, store_of, node_fields_at}
 use Rattle.blk_volume.specs.Footprint.{IsClear}
 use Rattle.blk_laws.proofs.Lists.{eqb-sym}
 use Rattle.blk_laws.proofs.ByteChanges.{not_equal}
 use Rattle.blk_laws.proofs.NodeWords.{is-node, other-clear}
-use Rattle.blk_format.specs.Sealed.{AreChanges, BeginsWithRecord, IsMoment, record_at, record_size, seal_place, size_by_kind}
+use Rattle.blk_format.specs.Sealed.{AreChanges, BeginsWithRecord, IsMidUpdate, record_at, record_size, seal_place, size_by_kind}
 use Rattle.blk_format.proofs.SealedRecords.{length-record}
 use Rattle.blk_format.proofs.SealedFields.{record_word, field_stays}
-use Rattle.blk_laws.specs.Moments.{ShowsTheSame, OnlyNamedChanges}
-use Rattle.blk_laws.specs.NodeMoments.{IsNode, NextsAreWritten, PrevsAreWritten, TimesAreNotShown, ContentsAreWritten, DirtyWordsAreWritten}
+use Rattle.blk_volume.specs.ShownChanges.{ShowsTheSame, OnlyNodeFieldsChange}
+use Rattle.blk_laws.specs.NodeUpdates.{IsNode, NextsAreWritten, PrevsAreWritten, TimesAreNotShown, ContentsAreWritten, DirtyWordsAreWritten}
 use Rattle.blk_laws.proofs.Fronts.{open_node}
 use Rattle.blk_laws.proofs.Inside.{record-changes}
 use Rattle.blk_laws.proofs.Updates.{node-seal, node-here, node-made, node-checks}
 use Rattle.blk_laws.proofs.StillShown.{standing-parts, stands_as-all, index-still, table-still, entries-still, follows-still, keys-still, stored-still}
 
 -- what a node says
-abbrev names_of : Node → Named
+abbrev names_of : Node → NodeFields
 names_of n = record { contents = n.contents; dirty = n.dirty }
 
 pub good-stands : (image : Image) (w : ℕ) → (list_of image).checks w ≡ true → stands_as image rankings w ≡ true
@@ -37,8 +37,8 @@ good-stands image w good = (and_parts (stands_as image rankings w) (node_checks 
 
 -- what a standing node shows
 shown-node : (image : Image) (w : ℕ) → stands_as image rankings w ≡ true
-    → (checks_at image w ≡ node_checks (node_at image w)) × (next_at image w ≡ (node_at image w).next) × (prev_at image w ≡ (node_at image w).prev) × (named_at image w ≡ Some (names_of (node_at image w)))
-unfolding checks_at next_at prev_at named_at
+    → (checks_at image w ≡ node_checks (node_at image w)) × (next_at image w ≡ (node_at image w).next) × (prev_at image w ≡ (node_at image w).prev) × (node_fields_at image w ≡ Some (names_of (node_at image w)))
+unfolding checks_at next_at prev_at node_fields_at
 shown-node image w st = (rw st refl, rw st refl, rw st refl, rw st refl)
 
 -- a value at one place and elsewhere
@@ -118,7 +118,7 @@ module _ (b : List ℕ) (x : ℕ) (long : length b ≡ 36) (small : x < 2 ^ 32) 
 pub none-or-one : (m : ℕ) → m ≤ 1 → (m ≡ 0) ⊎ (m ≡ 1)
 none-or-one m most = ⊎_elim (λ (e : m < 1). inl (omega arith)) (λ (e : 1 ≤ m). inr (omega arith)) (cases_lt m 1)
 
-module _ (from image : Image) (w : ℕ) (node : IsNode from w) (changes : List (ℕ × ℕ)) (moment : IsMoment from w changes image) where
+module _ (from image : Image) (w : ℕ) (node : IsNode from w) (changes : List (ℕ × ℕ)) (moment : IsMidUpdate from w changes image) where
   as-node : stands_as from rankings w ≡ true
   as-node = good-stands from w node.good
 
@@ -142,13 +142,13 @@ module _ (from image : Image) (w : ℕ) (node : IsNode from w) (changes : List (
   clear : (u : ℕ) → stands_as from rankings u ≡ true → (w == u) ≡ false → IsClear (has_claim (claims_of w)) u
   clear u e apart = other-clear from w u (is-node from w as-node) (is-node from u e) apart
 
-  others : (u : ℕ) → (w == u) ≡ false → (checks_at image u ≡ checks_at from u) × (next_at image u ≡ next_at from u) × (prev_at image u ≡ prev_at from u) × (named_at image u ≡ named_at from u)
-  unfolding list_of stock_of checks_at next_at prev_at named_at
+  others : (u : ℕ) → (w == u) ≡ false → (checks_at image u ≡ checks_at from u) × (next_at image u ≡ next_at from u) × (prev_at image u ≡ prev_at from u) × (node_fields_at image u ≡ node_fields_at from u)
+  unfolding list_of store_of checks_at next_at prev_at node_fields_at
   others u apart = ⊎_elim
       (λ (e : stands_as from rankings u ≡ true).
       let shown = (record-changes from image w standing begins moment.outside).shown in
       let c = clear u e apart in
-      (sym (shown.links.checks u c), sym (shown.links.next u c), sym (shown.links.prev u c), sym (shown.stock.named u c)))
+      (sym (shown.links.checks u c), sym (shown.links.next u c), sym (shown.links.prev u c), sym (shown.store.node_fields u c)))
       (λ (e : stands_as from rankings u ≡ false).
       let s : stands_as image rankings u ≡ false = stands_as-all from image w standing begins moment.outside rankings u ∙ e in
       (rw (s, e) refl, rw (s, e) refl, rw (s, e) refl, rw (s, e) refl))
@@ -183,48 +183,48 @@ module _ (from image : Image) (w : ℕ) (node : IsNode from w) (changes : List (
       list-for (next_at from) (prev_at from) (here ∙ sym was.1) (here2 ∙ sym was.2) (λ u e. refl) (λ u e. refl)
 
   -- all but what the nodes say
-  rest : ShowsTheSame (record (stock_of from) { named = (stock_of image).named }) (stock_of image)
+  rest : ShowsTheSame (record (store_of from) { node_fields = (store_of image).node_fields }) (store_of image)
   rest = record {
-    stock = record {
-      named = λ u c. refl;
+    store = record {
+      node_fields = λ u c. refl;
       entry = λ u c. entries-still from image w standing begins moment.outside kind u;
-      follow = λ u c. follows-still from image w standing begins moment.outside kind u;
-      key_place = λ u core c is long short. keys-still from image w standing begins moment.outside kind u core is long short;
+      chain_next = λ u c. follows-still from image w standing begins moment.outside kind u;
+      key_place = λ u fields c is long short. keys-still from image w standing begins moment.outside kind u fields is long short;
       stored = λ size u c. stored-still from image w standing begins moment.outside kind size u;
     };
     table = λ b. table-still from image w standing begins moment.outside b;
   }
 
   -- the stock, where the node says the same
-  stock-for : names_of (node_at image w) ≡ names_of (node_at from w) → ShowsTheSame (stock_of from) (stock_of image)
-  unfolding stock_of
+  stock-for : names_of (node_at image w) ≡ names_of (node_at from w) → ShowsTheSame (store_of from) (store_of image)
+  unfolding store_of
   stock-for here =
-      let named : (u : ℕ) → named_at from u ≡ named_at image u =
-      by-place (named_at from) (named_at image) w ((shown-node from w as-node).3 ∙ sym ((shown-node image w as-node-now).3 ∙ ap (λ (n : Named). Some n) here)) (λ u e. sym (others u e).3) in
+      let node_fields : (u : ℕ) → node_fields_at from u ≡ node_fields_at image u =
+      by-place (node_fields_at from) (node_fields_at image) w ((shown-node from w as-node).3 ∙ sym ((shown-node image w as-node-now).3 ∙ ap (λ (n : NodeFields). Some n) here)) (λ u e. sym (others u e).3) in
       record {
-        stock = record { named = λ u c. named u; entry = rest.stock.entry; follow = rest.stock.follow; key_place = rest.stock.key_place; stored = rest.stock.stored };
+        store = record { node_fields = λ u c. node_fields u; entry = rest.store.entry; chain_next = rest.store.chain_next; key_place = rest.store.key_place; stored = rest.store.stored };
         table = rest.table;
       }
 
   -- what the node says
-  named-is : (said : Named) → names_of (node_at image w) ≡ said → (stock_of image).named w ≡ Some said
-  unfolding stock_of
-  named-is said here = (shown-node image w as-node-now).3 ∙ ap (λ (n : Named). Some n) here
+  named-is : (said : NodeFields) → names_of (node_at image w) ≡ said → (store_of image).node_fields w ≡ Some said
+  unfolding store_of
+  named-is said here = (shown-node image w as-node-now).3 ∙ ap (λ (n : NodeFields). Some n) here
 
-  named-was : (named : Named) → (stock_of from).named w ≡ Some named → names_of (node_at from w) ≡ named
-  unfolding stock_of
-  named-was named is = some_inj (sym (shown-node from w as-node).3 ∙ is)
+  named-was : (node_fields : NodeFields) → (store_of from).node_fields w ≡ Some node_fields → names_of (node_at from w) ≡ node_fields
+  unfolding store_of
+  named-was node_fields is = some_inj (sym (shown-node from w as-node).3 ∙ is)
 
-  named-changes : (node_at image w).next ≡ (node_at from w).next → (node_at image w).prev ≡ (node_at from w).prev → OnlyNamedChanges w from image
-  unfolding stock_of
+  named-changes : (node_at image w).next ≡ (node_at from w).next → (node_at image w).prev ≡ (node_at from w).prev → OnlyNodeFieldsChange w from image
+  unfolding store_of
   named-changes here here2 = record {
     list = list-kept here here2;
-    named = λ u apart. sym (others u (not_equal w u (λ e. apart (sym e)))).3;
+    node_fields = λ u apart. sym (others u (not_equal w u (λ e. apart (sym e)))).3;
     rest = rest;
   }
 
 -- one word
-module _ (from image : Image) (w d x : ℕ) (node : IsNode from w) (moment : IsMoment from w ((d, x) ∷ []) image) where
+module _ (from image : Image) (w d x : ℕ) (node : IsNode from w) (moment : IsMidUpdate from w ((d, x) ∷ []) image) where
   kind-one : kind_of w ≡ rankings
   kind-one = kind from image w node ((d, x) ∷ []) moment
 
@@ -252,7 +252,7 @@ nexts-written from image w x node small moment = ⊎_elim
     let n = node-old from image w 16 x node moment e in
     record {
       list = subst (λ (m : ℕ). list_of image ≡ after_writes (take m (Next w x ∷ [])) (list_of from)) (sym e) (list-kept from image w node _ moment (ap (λ (a : Node). a.next) n) (ap (λ (a : Node). a.prev) n));
-      stock = stock-for from image w node _ moment (ap names_of n);
+      store = stock-for from image w node _ moment (ap names_of n);
     })
     (λ (e : moment.made ≡ 1).
     let n : open_node (node_at image w) ≡ record (open_node (node_at from w)) { next = x } =
@@ -261,7 +261,7 @@ nexts-written from image w x node small moment = ⊎_elim
     record {
       list = subst (λ (m : ℕ). list_of image ≡ after_writes (take m (Next w x ∷ [])) (list_of from)) (sym e)
           (list-for from image w node _ moment (put (next_at from) w x) (prev_at from) (ap (λ (a : Node). a.next) n ∙ put-there (next_at from) w x) (ap (λ (a : Node). a.prev) n ∙ sym was.2) (λ u apart. put-apart (next_at from) w x u apart) (λ u apart. refl));
-      stock = stock-for from image w node _ moment (ap names_of n);
+      store = stock-for from image w node _ moment (ap names_of n);
     })
     (made-cases from image w 16 x node moment)
 
@@ -272,7 +272,7 @@ prevs-written from image w x node small moment = ⊎_elim
     let n = node-old from image w 20 x node moment e in
     record {
       list = subst (λ (m : ℕ). list_of image ≡ after_writes (take m (Prev w x ∷ [])) (list_of from)) (sym e) (list-kept from image w node _ moment (ap (λ (a : Node). a.next) n) (ap (λ (a : Node). a.prev) n));
-      stock = stock-for from image w node _ moment (ap names_of n);
+      store = stock-for from image w node _ moment (ap names_of n);
     })
     (λ (e : moment.made ≡ 1).
     let n : open_node (node_at image w) ≡ record (open_node (node_at from w)) { prev = x } =
@@ -281,12 +281,12 @@ prevs-written from image w x node small moment = ⊎_elim
     record {
       list = subst (λ (m : ℕ). list_of image ≡ after_writes (take m (Prev w x ∷ [])) (list_of from)) (sym e)
           (list-for from image w node _ moment (next_at from) (put (prev_at from) w x) (ap (λ (a : Node). a.next) n ∙ sym was.1) (ap (λ (a : Node). a.prev) n ∙ put-there (prev_at from) w x) (λ u apart. refl) (λ u apart. put-apart (prev_at from) w x u apart));
-      stock = stock-for from image w node _ moment (ap names_of n);
+      store = stock-for from image w node _ moment (ap names_of n);
     })
     (made-cases from image w 20 x node moment)
 
 -- a field of a node that no change is of
-module _ (from image : Image) (w : ℕ) (changes : List (ℕ × ℕ)) (node : IsNode from w) (are : AreChanges (seal_place w) changes) (moment : IsMoment from w changes image) where
+module _ (from image : Image) (w : ℕ) (changes : List (ℕ × ℕ)) (node : IsNode from w) (are : AreChanges (seal_place w) changes) (moment : IsMidUpdate from w changes image) where
   word-kept : (d : ℕ) → d % 4 ≡ 0 → d < 32 → All (λ change. change.0 ≢ d) changes → word_at (byte image (Block (file_selector w))) (place w + d) ≡ word_at (byte from (Block (file_selector w))) (place w + d)
   unfolding size_by_kind
   word-kept d even inside other =
@@ -302,41 +302,41 @@ times-hidden from image w changes node are early moment =
     let k : (d : ℕ) → d % 4 ≡ 0 → 16 ≤ d → d < 32 → word_at (byte image (Block (file_selector w))) (place w + d) ≡ word_at (byte from (Block (file_selector w))) (place w + d) = λ d even low high. word-kept from image w changes node are moment d even high (other d low) in
     record {
       list = list-kept from image w node changes moment (k 16 refl (omega arith) (omega arith)) (k 20 refl (omega arith) (omega arith));
-      stock = stock-for from image w node changes moment (λ i. record { contents = k 24 refl (omega arith) (omega arith) i; dirty = k 28 refl (omega arith) (omega arith) i });
+      store = stock-for from image w node changes moment (λ i. record { contents = k 24 refl (omega arith) (omega arith) i; dirty = k 28 refl (omega arith) (omega arith) i });
     }
 
 pub contents-written : ContentsAreWritten
-contents-written from image w x node small moment named is =
-    let was : names_of (node_at from w) ≡ named = named-was from image w node _ moment named is in
+contents-written from image w x node small moment node_fields is =
+    let was : names_of (node_at from w) ≡ node_fields = named-was from image w node _ moment node_fields is in
     ⊎_elim
     (λ (e : moment.made ≡ 0).
     let n = node-old from image w 24 x node moment e in (
       named-changes from image w node _ moment (ap (λ (a : Node). a.next) n) (ap (λ (a : Node). a.prev) n),
-      subst (λ (m : ℕ). (stock_of image).named w ≡ Some (if m == 0 then named else record named { contents = x })) (sym e) (named-is from image w node _ moment named (ap names_of n ∙ was)),
+      subst (λ (m : ℕ). (store_of image).node_fields w ≡ Some (if m == 0 then node_fields else record node_fields { contents = x })) (sym e) (named-is from image w node _ moment node_fields (ap names_of n ∙ was)),
     ))
     (λ (e : moment.made ≡ 1).
     let n : open_node (node_at image w) ≡ record (open_node (node_at from w)) { contents = x } =
     node-new from image w 24 x node moment e ∙ with-contents (record_at from w) x (long from image w 24 x node moment) small ∙ ap (λ (a : Node). record a { contents = x }) (sym (node-here from w (kind-one from image w 24 x node moment))) in (
       named-changes from image w node _ moment (ap (λ (a : Node). a.next) n) (ap (λ (a : Node). a.prev) n),
-      subst (λ (m : ℕ). (stock_of image).named w ≡ Some (if m == 0 then named else record named { contents = x })) (sym e)
-          (named-is from image w node _ moment (record named { contents = x }) (ap names_of n ∙ ap (λ (a : Named). record a { contents = x }) was)),
+      subst (λ (m : ℕ). (store_of image).node_fields w ≡ Some (if m == 0 then node_fields else record node_fields { contents = x })) (sym e)
+          (named-is from image w node _ moment (record node_fields { contents = x }) (ap names_of n ∙ ap (λ (a : NodeFields). record a { contents = x }) was)),
     ))
     (made-cases from image w 24 x node moment)
 
 pub dirty-written : DirtyWordsAreWritten
-dirty-written from image w x node small moment named is =
-    let was : names_of (node_at from w) ≡ named = named-was from image w node _ moment named is in
+dirty-written from image w x node small moment node_fields is =
+    let was : names_of (node_at from w) ≡ node_fields = named-was from image w node _ moment node_fields is in
     ⊎_elim
     (λ (e : moment.made ≡ 0).
     let n = node-old from image w 28 x node moment e in (
       named-changes from image w node _ moment (ap (λ (a : Node). a.next) n) (ap (λ (a : Node). a.prev) n),
-      subst (λ (m : ℕ). (stock_of image).named w ≡ Some (if m == 0 then named else record named { dirty = x })) (sym e) (named-is from image w node _ moment named (ap names_of n ∙ was)),
+      subst (λ (m : ℕ). (store_of image).node_fields w ≡ Some (if m == 0 then node_fields else record node_fields { dirty = x })) (sym e) (named-is from image w node _ moment node_fields (ap names_of n ∙ was)),
     ))
     (λ (e : moment.made ≡ 1).
     let n : open_node (node_at image w) ≡ record (open_node (node_at from w)) { dirty = x } =
     node-new from image w 28 x node moment e ∙ with-dirty (record_at from w) x (long from image w 28 x node moment) small ∙ ap (λ (a : Node). record a { dirty = x }) (sym (node-here from w (kind-one from image w 28 x node moment))) in (
       named-changes from image w node _ moment (ap (λ (a : Node). a.next) n) (ap (λ (a : Node). a.prev) n),
-      subst (λ (m : ℕ). (stock_of image).named w ≡ Some (if m == 0 then named else record named { dirty = x })) (sym e)
-          (named-is from image w node _ moment (record named { dirty = x }) (ap names_of n ∙ ap (λ (a : Named). record a { dirty = x }) was)),
+      subst (λ (m : ℕ). (store_of image).node_fields w ≡ Some (if m == 0 then node_fields else record node_fields { dirty = x })) (sym e)
+          (named-is from image w node _ moment (record node_fields { dirty = x }) (ap names_of n ∙ ap (λ (a : NodeFields). record a { dirty = x }) was)),
     ))
     (made-cases from image w 28 x node moment)

@@ -13,15 +13,15 @@ use Rattle.blk_format.specs.Storage.{entry_blocks}
 use Rattle.blk_format.specs.Claims.{Claim, BlockOf, claims_of, has_claim, repeats}
 use Rattle.blk_format.specs.BlockFiles.{is_among}
 use Rattle.blk_volume.specs.ListView.{ListView}
-use Rattle.blk_volume.specs.View.{View, Stock, Core}
+use Rattle.blk_volume.specs.View.{View, StoreView, RecordFields}
 use Rattle.blk_volume.specs.Chains.{bucket_of_hash, IsChain}
 use Rattle.blk_volume.specs.Entries.{IsPlain, is_key_length, stream_of, streams_of, role_of}
 use Rattle.blk_volume.specs.Entries as entries
-use Rattle.blk_volume.specs.Loads.{alone, Loaded, load, load_key, load_record, record_claims, all_claims}
-use Rattle.blk_volume.specs.Layout.{Layout, is_listed, IsLaid, IsListedRecord, Represents, IsMidst}
+use Rattle.blk_volume.specs.Loads.{unchained_rule, Loaded, load, load_key, load_record, record_claims, all_claims}
+use Rattle.blk_volume.specs.Layout.{Layout, is_listed, IsPlacedAt, IsListedRecord, Represents, IsInProgress}
 use Rattle.blk_volume.specs.Footprint.{IsClear}
 use Rattle.blk_volume.specs.Emptiness.{no_view, no_layout}
-use Rattle.blk_laws.specs.CommandLaws.{LiesAsLive, IsWritten}
+use Rattle.blk_laws.specs.CommandLaws.{IsPlacedAsLive, IsWritten}
 use Rattle.blk_laws.proofs.Empty.{empty, empty-valid}
 
 -- the object, settled or not
@@ -57,25 +57,25 @@ layout dirty = record {
   owner = λ claim. if has_claim (all_claims (loaded 0)) claim then Some node else None;
 }
 
-abbrev pub core : Core
-core = record { checks = true; hash = 0x115EA782; rankings_node = node; state = 0; key_len = 1; long_key = 0; data_size = 2 ∷ 0 ∷ 0 ∷ 0 ∷ []; data_addr = 0xA0010001 ∷ 0 ∷ 0 ∷ 0 ∷ []; flags = 0 }
+abbrev pub fields : RecordFields
+fields = record { checks = true; hash = 0x115EA782; rankings_node = node; state = 0; key_len = 1; long_key = 0; data_size = 2 ∷ 0 ∷ 0 ∷ 0 ∷ []; data_addr = 0xA0010001 ∷ 0 ∷ 0 ∷ 0 ∷ []; flags = 0 }
 
 abbrev pub list : ListView
 list = record { head = node; tail = node; transaction = 0; operation = 0; checks = λ w. w == node; next = λ w. node; prev = λ w. node }
 
 -- all but the list, with this table word in the bucket of `a`
-abbrev pub stock : ℕ → ℕ → Stock
-stock first dirty = record {
-  named = λ w. if w == node then Some (record { contents = contents; dirty = dirty }) else None;
+abbrev pub store : ℕ → ℕ → StoreView
+store first dirty = record {
+  node_fields = λ w. if w == node then Some (record { contents = contents; dirty = dirty }) else None;
   table = λ b. if b == bucket then first else 0;
-  follow = λ w. 0;
-  entry = λ w. if w == contents then Some core else None;
+  chain_next = λ w. 0;
+  entry = λ w. if w == contents then Some fields else None;
   key_place = λ w n. codes "a";
   stored = λ size w. if (size == 0) && (w == 0) then Some [] else if (size == 2) && (w == 0xA0010001) then Some (codes "zz") else None;
 }
 
 abbrev pub view : ℕ → View
-view dirty = record { list = list; stock = stock contents dirty }
+view dirty = record { list = list; store = store contents dirty }
 
 -- what a test of places gives
 pub choice : {A : Type 0} (b : Bool) (x y : A) → (if b then Some x else None) ≡ Some y → (b ≡ true) × (x ≡ y)
@@ -86,7 +86,7 @@ pub at-node : (dirty w : ℕ) (l : Loaded) → (layout dirty).at w ≡ Some l �
 at-node dirty w l e = let c = choice (w == node) (loaded dirty) l e in (eqb-true w node c.0, c.1)
 
 -- the node loads by itself
-pub loads : (first dirty : ℕ) → load (stock first dirty) (alone 0) node ≡ Ok (loaded dirty)
+pub loads : (first dirty : ℕ) → load (store first dirty) (unchained_rule 0) node ≡ Ok (loaded dirty)
 unfolding load load_record load_key is_key_length entries.key_of stream_of streams_of role_of block_count entry_blocks hash mixed of_bytes of_one
 loads first dirty = refl
 
@@ -124,7 +124,7 @@ represented dirty = record {
   holds = record {
     shows = record { no_record = refl; each = each; chains = chains };
     lies = record {
-      laid = λ item h. subst (λ (i : Item). IsLaid (state (dirty == 0)) (layout dirty) i) (sym (is-a item h)) (record { loaded = loaded dirty; here = refl; row = row-of (dirty == 0); mark = refl; parent = tt });
+      laid = λ item h. subst (λ (i : Item). IsPlacedAt (state (dirty == 0)) (layout dirty) i) (sym (is-a item h)) (record { loaded = loaded dirty; here = refl; row = row-of (dirty == 0); mark = refl; parent = tt });
       normal = λ w h. refl;
       chained = λ w l h is. let p = at-node dirty w l is in subst (λ (x : Loaded). is_among ((layout dirty).chains (bucket_of_hash (hash x.key))) x.contents ≡ true) p.1 (rw its-bucket refl);
       unchained = unchained;
@@ -138,12 +138,12 @@ represented dirty = record {
   list = record { head_is = refl; tail_is = refl; linked = (record { good = refl; next_is = refl; prev_is = refl }, tt); distinct = (refl, tt); few = omega arith; no_zero = refl };
   idle = refl;
 } where
-  each : (w : ℕ) (l : Loaded) → (layout dirty).at w ≡ Some l → load (stock contents dirty) (alone 0) w ≡ Ok l
-  each w l is = let p = at-node dirty w l is in subst (λ (x : ℕ). load (stock contents dirty) (alone 0) x ≡ Ok l) (sym p.0) (loads contents dirty ∙ ap Ok p.1)
+  each : (w : ℕ) (l : Loaded) → (layout dirty).at w ≡ Some l → load (store contents dirty) (unchained_rule 0) w ≡ Ok l
+  each w l is = let p = at-node dirty w l is in subst (λ (x : ℕ). load (store contents dirty) (unchained_rule 0) x ≡ Ok l) (sym p.0) (loads contents dirty ∙ ap Ok p.1)
 
-  chains : (b : ℕ) → b < 65536 → IsChain (stock contents dirty) b ((layout dirty).chains b)
+  chains : (b : ℕ) → b < 65536 → IsChain (store contents dirty) b ((layout dirty).chains b)
   chains b below = ⊎_elim
-      (λ (e : (b == bucket) ≡ true). subst (λ (x : ℕ). IsChain (stock contents dirty) x ((layout dirty).chains x)) (sym (eqb-true b bucket e)) (record { linked = (refl, refl, refl); once = (refl, tt) }))
+      (λ (e : (b == bucket) ≡ true). subst (λ (x : ℕ). IsChain (store contents dirty) x ((layout dirty).chains x)) (sym (eqb-true b bucket e)) (record { linked = (refl, refl, refl); once = (refl, tt) }))
       (λ (e : (b == bucket) ≡ false). record { linked = rw e refl; once = rw e tt })
       (cases_Bool (b == bucket))
 
@@ -160,11 +160,11 @@ represented dirty = record {
       (cases_Bool (b == bucket))
 
 -- its object lies at its node
-pub lies : (dirty : ℕ) → LiesAsLive (state (dirty == 0)) (layout dirty) 0 (object (dirty == 0)) (loaded dirty)
+pub lies : (dirty : ℕ) → IsPlacedAsLive (state (dirty == 0)) (layout dirty) 0 (object (dirty == 0)) (loaded dirty)
 lies dirty = record { here = refl; live = refl; at = refl }
 
 -- its node is in the midst of a change
-pub midst : IsMidst (λ w. w == node) (stock contents 5) (state false) (layout 5) (codes "a")
+pub midst : IsInProgress (λ w. w == node) (store contents 5) (state false) (layout 5) (codes "a")
 unfolding load load_record load_key
 midst = record {
   of_key = λ item h is. key-of item h;
@@ -189,14 +189,14 @@ fresh = record { node = node; contents = contents; dirty = 5; key = codes "a"; r
 abbrev pub written_view : View
 written_view = record {
   list = record no_view.list { checks = λ w. w == node };
-  stock = record no_view.stock {
-    named = λ w. if w == node then Some (record { contents = contents; dirty = 5 }) else None;
-    entry = λ w. if w == contents then Some (record core { data_size = 0 ∷ 0 ∷ 0 ∷ 0 ∷ []; data_addr = 0 ∷ 0 ∷ 0 ∷ 0 ∷ [] }) else None;
+  store = record no_view.store {
+    node_fields = λ w. if w == node then Some (record { contents = contents; dirty = 5 }) else None;
+    entry = λ w. if w == contents then Some (record fields { data_size = 0 ∷ 0 ∷ 0 ∷ 0 ∷ []; data_addr = 0 ∷ 0 ∷ 0 ∷ 0 ∷ [] }) else None;
     key_place = λ w n. codes "a";
   };
 }
 
-fresh-loads : load written_view.stock (alone 0) node ≡ Ok fresh
+fresh-loads : load written_view.store (unchained_rule 0) node ≡ Ok fresh
 unfolding load load_record load_key is_key_length entries.key_of stream_of streams_of role_of block_count entry_blocks hash mixed of_bytes of_one
 fresh-loads = refl
 
@@ -204,13 +204,13 @@ fresh-once : repeats (all_claims fresh) ≡ false
 unfolding repeats has_claim all_claims record_claims claims_of kind_of block_count file_selector first_block external_number
 fresh-once = refl
 
-named-0 : (has_claim (claims_of node) (BlockOf 0 0) ≡ true) × (has_claim (all_claims fresh) (BlockOf 0 0) ≡ true)
+node_fields-0 : (has_claim (claims_of node) (BlockOf 0 0) ≡ true) × (has_claim (all_claims fresh) (BlockOf 0 0) ≡ true)
 unfolding has_claim all_claims record_claims claims_of kind_of block_count file_selector first_block external_number
-named-0 = (refl, refl)
+node_fields-0 = (refl, refl)
 
-named-1 : (has_claim (claims_of contents) (BlockOf 1 0) ≡ true) × (has_claim (all_claims fresh) (BlockOf 1 0) ≡ true)
+node_fields-1 : (has_claim (claims_of contents) (BlockOf 1 0) ≡ true) × (has_claim (all_claims fresh) (BlockOf 1 0) ≡ true)
 unfolding has_claim all_claims record_claims claims_of kind_of block_count file_selector first_block external_number
-named-1 = (refl, refl)
+node_fields-1 = (refl, refl)
 
 -- it is written beside nothing, and goes in front of the empty list and chain
 pub written : IsWritten no_view written_view (open_state [] (record { max_bytes = 1000; max_items = 10 })) no_layout (codes "a") fresh
@@ -221,18 +221,18 @@ written = record {
   touched = has_claim (all_claims fresh);
   same = record {
     links = record { head = refl; tail = refl; transaction = refl; checks = λ w clear. sym (not-node w clear); next = λ w clear. refl; prev = λ w clear. refl };
-    stock = record {
-      named = λ w clear. let n = not-node w clear in rw n refl;
+    store = record {
+      node_fields = λ w clear. let n = not-node w clear in rw n refl;
       entry = λ w clear. let n = not-contents w clear in rw n refl;
-      follow = λ w clear. refl;
-      key_place = λ w core clear is long short. absurd (cc);
+      chain_next = λ w clear. refl;
+      key_place = λ w fields clear is long short. absurd (cc);
       stored = λ size w clear. refl;
     };
     table = λ b. refl;
   };
   free = λ claim w owned. absurd (cc);
   entry = record { loads = fresh-loads; key_is = refl; role = refl; streams = refl; dirty = refl; nobody = refl; free = λ claim h. refl; single = fresh-once };
-  front = record { follows = refl; fresh = refl };
+  prefix = record { follows = refl; fresh = refl };
   good = refl;
   few = omega arith;
   missing = refl;
@@ -245,7 +245,7 @@ written = record {
       (cases_Bool (w == x))
 
   not-node : (w : ℕ) → IsClear (has_claim (all_claims fresh)) w → (w == node) ≡ false
-  not-node w clear = apart w node (BlockOf 0 0) named-0.0 named-0.1 clear
+  not-node w clear = apart w node (BlockOf 0 0) node_fields-0.0 node_fields-0.1 clear
 
   not-contents : (w : ℕ) → IsClear (has_claim (all_claims fresh)) w → (w == contents) ≡ false
-  not-contents w clear = apart w contents (BlockOf 1 0) named-1.0 named-1.1 clear
+  not-contents w clear = apart w contents (BlockOf 1 0) node_fields-1.0 node_fields-1.1 clear

@@ -7,7 +7,7 @@ use Rattle.blk_volume.specs.ListView.{IsList, Distinct, after_writes}
 use Rattle.blk_volume.specs.Walk.{walk}
 use Rattle.blk_volume.specs.Completion.{completed_list}
 use Rattle.blk_volume.specs.ListPlans.{touch_writes}
-use Rattle.blk_laws.proofs.ListMoments.{touch_turns, touch_ends}
+use Rattle.blk_laws.proofs.ListCompletions.{touch_turns, touch_ends}
 use Rattle.blk_model.specs.Items.{Item, main, part, same_item, times}
 use Rattle.blk_model.specs.State.{State, IsValidState, object_at, live_with, first_with, owners}
 use Rattle.blk_model.specs.declared.Refusal.{Refusal}
@@ -22,11 +22,11 @@ use Rattle.blk_model.proofs.Same.{one_item}
 use Rattle.blk_model.proofs.Times.{times-cons}
 use Rattle.blk_model.proofs.Slots.{first_with_has, owners-has}
 use Rattle.blk_format.specs.BlockFiles.{is_among}
-use Rattle.blk_volume.specs.View.{View, Stock}
-use Rattle.blk_volume.specs.Loads.{held, Loaded}
+use Rattle.blk_volume.specs.View.{View, StoreView}
+use Rattle.blk_volume.specs.Loads.{held_rule, Loaded}
 use Rattle.blk_volume.specs.Audit.{kept_among}
 use Rattle.blk_volume.specs.Found.{row_of}
-use Rattle.blk_volume.specs.Layout.{Layout, is_listed, nodes_of, order, IsLaid, IsMarked, HasParentAt, IsDoomedAt, IsListedRecord, Lies, Holds, Represents, is_in}
+use Rattle.blk_volume.specs.Layout.{Layout, is_listed, nodes_of, order, IsPlacedAt, HasDirtyMark, HasParentAt, IsDoomedAt, IsListedRecord, IsLayoutOf, Holds, Represents, is_in}
 use Rattle.blk_volume.specs.Given.{IsTest}
 use Rattle.blk_laws.proofs.Laid.{IsNodeOf, node-of, is_among-node, found-picked}
 use Rattle.blk_laws.proofs.Central.{settled-on}
@@ -49,11 +49,11 @@ same-has y a b same w = both (is_among (nodes_of y a) w) (is_among (nodes_of y b
   both false true f g = g refl
   both false false f g = refl
 
-module _ (m : State) (y : Layout) (uses : List Item) (names : List (Option ℕ)) (same : SameItems uses m.uses) (r : Lies m y) where
-  pub lies-reordered : Lies (record m { uses = uses; names = names }) y
+module _ (m : State) (y : Layout) (uses : List Item) (names : List (Option ℕ)) (same : SameItems uses m.uses) (r : IsLayoutOf m y) where
+  pub lies-reordered : IsLayoutOf (record m { uses = uses; names = names }) y
   unfolding model.row_of
   lies-reordered = record {
-    laid = λ i there. let l : IsLaid m y i = r.laid i (sym (same i) ∙ there) in record { loaded = l.loaded; here = l.here; row = l.row; mark = mark i l.loaded l.mark; parent = parent i l.loaded l.parent };
+    laid = λ i there. let l : IsPlacedAt m y i = r.laid i (sym (same i) ∙ there) in record { loaded = l.loaded; here = l.here; row = l.row; mark = mark i l.loaded l.mark; parent = parent i l.loaded l.parent };
     normal = λ w there. r.normal w (sym (same-has y uses m.uses same w) ∙ there);
     chained = λ w l there is. r.chained w l (sym (same-has y uses m.uses same w) ∙ there) is;
     unchained = λ b c below there. let q : IsListedRecord m y c = r.unchained b c below there in
@@ -63,7 +63,7 @@ module _ (m : State) (y : Layout) (uses : List Item) (names : List (Option ℕ))
     doomed_objects = λ number o is dead. let d : IsDoomedAt m y number o = r.doomed_objects number o is dead in
         record { loaded = d.loaded; here = d.here; row = d.row; mark = d.mark; unlisted = same-has y uses m.uses same (y.place_of_doomed number) ∙ d.unlisted; alone = λ other x at gone e. d.alone other x at gone e };
   } where
-    mark : (i : Item) (l : Loaded) → IsMarked m i l → IsMarked (record m { uses = uses; names = names }) i l
+    mark : (i : Item) (l : Loaded) → HasDirtyMark m i l → HasDirtyMark (record m { uses = uses; names = names }) i l
     mark (main key) l x = x
     mark (part key n) l x = x
 
@@ -76,9 +76,9 @@ module _ (m : State) (y : Layout) (uses : List Item) (names : List (Option ℕ))
 -- a list around an item that it has once
 pub record IsAround (i : Item) (items : List Item) : Type 0 where
   pub before : List Item
-  pub behind : List Item
-  pub is : items ≡ before ++ i ∷ behind
-  pub rest : filter (λ other. not (same_item i other)) items ≡ before ++ behind
+  pub suffix : List Item
+  pub is : items ≡ before ++ i ∷ suffix
+  pub rest : filter (λ other. not (same_item i other)) items ≡ before ++ suffix
 
 filter-absent : (i : Item) (items : List Item) → times i items ≡ 0 → filter (λ other. not (same_item i other)) items ≡ items
 filter-absent i [] e = refl
@@ -90,7 +90,7 @@ filter-absent i (j ∷ items) e =
     (cases_Bool (same_item i j))
 
 around-more : (i j : Item) (items : List Item) → same_item i j ≡ false → IsAround i items → IsAround i (j ∷ items)
-around-more i j items h a = record { before = j ∷ a.before; behind = a.behind; is = ap (λ (xs : List Item). j ∷ xs) a.is; rest = rw h (ap (λ (xs : List Item). j ∷ xs) a.rest) }
+around-more i j items h a = record { before = j ∷ a.before; suffix = a.suffix; is = ap (λ (xs : List Item). j ∷ xs) a.is; rest = rw h (ap (λ (xs : List Item). j ∷ xs) a.rest) }
 
 pub around : (i : Item) (items : List Item) → is_in items i ≡ true → times i items ≤ 1 → IsAround i items
 around i [] there few = absurd (let c : false ≡ true = there in cc)
@@ -100,7 +100,7 @@ around i (j ∷ items) there few =
     (λ (h : same_item i j ≡ true).
     let c : times i (j ∷ items) ≡ 1 + times i items = t ∙ ap (λ (b : Bool). cond b 1 0 + times i items) h in
     let s : i ≡ j = one_item i j h in
-    record { before = []; behind = items; is = ap (λ (x : Item). x ∷ items) (sym s); rest = rw h (filter-absent i items (omega arith)) })
+    record { before = []; suffix = items; is = ap (λ (x : Item). x ∷ items) (sym s); rest = rw h (filter-absent i items (omega arith)) })
     (λ (h : same_item i j ≡ false).
     let c : times i (j ∷ items) ≡ 0 + times i items = t ∙ ap (λ (b : Bool). cond b 1 0 + times i items) h in
     around-more i j items h (around i items (rw h at there) (omega arith)))
@@ -120,9 +120,9 @@ in-append (i ∷ a) b j = rw (in-append a b j) (assoc (same_item j i) (is_in a j
 -- the use of a listed item leaves the same items
 used-same : (i : Item) (items : List Item) → IsAround i items → SameItems (used i items) items
 used-same i items a j =
-    let left : is_in (used i items) j ≡ (same_item j i || (is_in a.before j || is_in a.behind j)) = ap (λ (xs : List Item). same_item j i || is_in xs j) a.rest ∙ ap (λ (b : Bool). same_item j i || b) (in-append a.before a.behind j) in
-    let right : is_in items j ≡ (is_in a.before j || (same_item j i || is_in a.behind j)) = ap (λ (xs : List Item). is_in xs j) a.is ∙ in-append a.before (i ∷ a.behind) j in
-    left ∙ swap (same_item j i) (is_in a.before j) (is_in a.behind j) ∙ sym right where
+    let left : is_in (used i items) j ≡ (same_item j i || (is_in a.before j || is_in a.suffix j)) = ap (λ (xs : List Item). same_item j i || is_in xs j) a.rest ∙ ap (λ (b : Bool). same_item j i || b) (in-append a.before a.suffix j) in
+    let right : is_in items j ≡ (is_in a.before j || (same_item j i || is_in a.suffix j)) = ap (λ (xs : List Item). is_in xs j) a.is ∙ in-append a.before (i ∷ a.suffix) j in
+    left ∙ swap (same_item j i) (is_in a.before j) (is_in a.suffix j) ∙ sym right where
       swap : (p q s : Bool) → (p || (q || s)) ≡ (q || (p || s))
       swap true true s = refl
       swap true false s = refl
@@ -142,32 +142,32 @@ listed-times i (j ∷ items) few =
 
 -- the touch of a listed item's node leads from one order to the other, at its second word
 module _ (v : View) (m : State) (y : Layout) (r : Represents v m y) (i : Item) (a : IsAround i m.uses) where
-  old-nodes : order m y ≡ nodes_of y a.before ++ y.place i ∷ nodes_of y a.behind
-  old-nodes = ap (nodes_of y) a.is ∙ nodes-append y a.before (i ∷ a.behind)
+  old-nodes : order m y ≡ nodes_of y a.before ++ y.place i ∷ nodes_of y a.suffix
+  old-nodes = ap (nodes_of y) a.is ∙ nodes-append y a.before (i ∷ a.suffix)
 
-  new-nodes : nodes_of y (used i m.uses) ≡ y.place i ∷ nodes_of y a.before ++ nodes_of y a.behind
-  new-nodes = ap (λ (xs : List ℕ). y.place i ∷ xs) (ap (nodes_of y) a.rest ∙ nodes-append y a.before a.behind)
+  new-nodes : nodes_of y (used i m.uses) ≡ y.place i ∷ nodes_of y a.before ++ nodes_of y a.suffix
+  new-nodes = ap (λ (xs : List ℕ). y.place i ∷ xs) (ap (nodes_of y) a.rest ∙ nodes-append y a.before a.suffix)
 
-  split-list : IsList v.list (nodes_of y a.before ++ y.place i ∷ nodes_of y a.behind)
+  split-list : IsList v.list (nodes_of y a.before ++ y.place i ∷ nodes_of y a.suffix)
   split-list = subst (λ (xs : List ℕ). IsList v.list xs) old-nodes r.list
 
   -- the nodes that are walked once what is in flight is completed
   pub touch-walks : (k : ℕ) → walk (completed_list (after_writes (take k (touch_writes (y.place i) v.list)) v.list)) ≡ nodes_of y (if nat_lt k 2 then m.uses else used i m.uses)
-  touch-walks k = touch_turns (y.place i) v.list (nodes_of y a.before) (nodes_of y a.behind) split-list r.idle k ∙ choose (nat_lt k 2) where
-    choose : (b : Bool) → (if b then nodes_of y a.before ++ y.place i ∷ nodes_of y a.behind else y.place i ∷ nodes_of y a.before ++ nodes_of y a.behind) ≡ nodes_of y (if b then m.uses else used i m.uses)
+  touch-walks k = touch_turns (y.place i) v.list (nodes_of y a.before) (nodes_of y a.suffix) split-list r.idle k ∙ choose (nat_lt k 2) where
+    choose : (b : Bool) → (if b then nodes_of y a.before ++ y.place i ∷ nodes_of y a.suffix else y.place i ∷ nodes_of y a.before ++ nodes_of y a.suffix) ≡ nodes_of y (if b then m.uses else used i m.uses)
     choose true = sym old-nodes
     choose false = sym new-nodes
 
   pub touched-list : IsList (after_writes (touch_writes (y.place i) v.list) v.list) (nodes_of y (used i m.uses)) × ((after_writes (touch_writes (y.place i) v.list) v.list).transaction ≡ 0)
   touched-list =
-      let e = touch_ends (y.place i) v.list (nodes_of y a.before) (nodes_of y a.behind) split-list r.idle in
+      let e = touch_ends (y.place i) v.list (nodes_of y a.before) (nodes_of y a.suffix) split-list r.idle in
       (subst (λ (xs : List ℕ). IsList (after_writes (touch_writes (y.place i) v.list) v.list) xs) (sym new-nodes) e.0, e.1)
 
   pub touched-once : Distinct (nodes_of y (used i m.uses))
   touched-once = touched-list.0.distinct
 
 -- what is kept of a walk of the same items is what is picked in their order, where an object stays settled or not
-module _ (v : Stock) (m : State) (y : Layout) (r : Holds v m y) (valid : IsValidState m) (uses : List Item) (same : SameItems uses m.uses) where
+module _ (v : StoreView) (m : State) (y : Layout) (r : Holds v m y) (valid : IsValidState m) (uses : List Item) (same : SameItems uses m.uses) where
   pub same-settled : IsTest m y uses (λ number. is_live_and_settled (object_at m number))
   same-settled = settled-on m y r.lies.laid valid uses (λ i there. sym (same i) ∙ there)
 
@@ -180,8 +180,8 @@ pub safe-same : (b x : Bool) → b ≡ ((b && (b || x)) || false)
 safe-same true x = refl
 safe-same false x = refl
 
-module _ (v : Stock) (m : State) (y : Layout) (r : Holds v m y) (valid : IsValidState m) (uses next : List Item) (names : List (Option ℕ)) (same : SameItems uses m.uses) (once : Distinct (nodes_of y uses)) where
-  pub picked-order : map row_of (kept_among v held (nodes_of y uses)) ≡ pick m (record m { uses = next; names = names }) false uses
+module _ (v : StoreView) (m : State) (y : Layout) (r : Holds v m y) (valid : IsValidState m) (uses next : List Item) (names : List (Option ℕ)) (same : SameItems uses m.uses) (once : Distinct (nodes_of y uses)) where
+  pub picked-order : map row_of (kept_among v held_rule (nodes_of y uses)) ≡ pick m (record m { uses = next; names = names }) false uses
   unfolding pick picked picked_by is_safe is_turned
   picked-order =
       let t : ℕ → Bool = λ number. is_safe m (record m { uses = next; names = names }) number || (false && is_turned m (record m { uses = next; names = names }) number) in
@@ -236,10 +236,10 @@ module _ (v : View) (m : State) (y : Layout) (r : Represents v m y) (valid : IsV
   steps-are = rw passed refl
 
   pub open-moments : (k : ℕ) → StopOutcome m moment (to_open handle key) (step m moment (to_open handle key)).state
-      (map row_of (kept_among v.stock held (walk (completed_list (after_writes (take k (touch_writes (y.place (main key)) v.list)) v.list)))))
+      (map row_of (kept_among v.store held_rule (walk (completed_list (after_writes (take k (touch_writes (y.place (main key)) v.list)) v.list)))))
   unfolding list_after opened
   open-moments k =
-      subst (λ (n : State). StopOutcome m moment (to_open handle key) n (map row_of (kept_among v.stock held (walk (completed_list (after_writes (take k (touch_writes (y.place (main key)) v.list)) v.list)))))) (sym opens)
+      subst (λ (n : State). StopOutcome m moment (to_open handle key) n (map row_of (kept_among v.store held_rule (walk (completed_list (after_writes (take k (touch_writes (y.place (main key)) v.list)) v.list)))))) (sym opens)
       (go (nat_lt k 2) (touch-walks v m y r (main key) a k)) where
         names : List (Option ℕ)
         names = slice_set m.names handle (live_with m key)
@@ -249,18 +249,18 @@ module _ (v : View) (m : State) (y : Layout) (r : Represents v m y) (valid : IsV
 
         go : (b : Bool) → walk (completed_list (after_writes (take k (touch_writes (y.place (main key)) v.list)) v.list)) ≡ nodes_of y (if b then m.uses else used (main key) m.uses)
             → StopOutcome m moment (to_open handle key) (record m { uses = used (main key) m.uses; names = names })
-            (map row_of (kept_among v.stock held (walk (completed_list (after_writes (take k (touch_writes (y.place (main key)) v.list)) v.list)))))
+            (map row_of (kept_among v.store held_rule (walk (completed_list (after_writes (take k (touch_writes (y.place (main key)) v.list)) v.list)))))
         go true e = record {
           step_count = 0;
           within = omega arith;
           with_turned = false;
-          picked_rows = ap (λ (ws : List ℕ). map row_of (kept_among v.stock held ws)) e ∙ picked-order v.stock m y r.holds valid m.uses (used (main key) m.uses) names (λ i. refl) r.list.distinct;
+          picked_rows = ap (λ (ws : List ℕ). map row_of (kept_among v.store held_rule ws)) e ∙ picked-order v.store m y r.holds valid m.uses (used (main key) m.uses) names (λ i. refl) r.list.distinct;
         }
         go false e = record {
           step_count = 1;
           within = rw steps-are (omega arith);
           with_turned = false;
-          picked_rows = ap (λ (ws : List ℕ). map row_of (kept_among v.stock held ws)) e
-              ∙ picked-order v.stock m y r.holds valid (used (main key) m.uses) (used (main key) m.uses) names (used-same (main key) m.uses a) (touched-once v m y r (main key) a)
+          picked_rows = ap (λ (ws : List ℕ). map row_of (kept_among v.store held_rule ws)) e
+              ∙ picked-order v.store m y r.holds valid (used (main key) m.uses) (used (main key) m.uses) names (used-same (main key) m.uses a) (touched-once v m y r (main key) a)
               ∙ ap (pick m (record m { uses = used (main key) m.uses; names = names }) false) listed-after;
         }

@@ -9,13 +9,13 @@ use Rattle.blk_model.specs.Items.{Item, main, part}
 use Rattle.blk_model.specs.State.{State}
 use Rattle.blk_format.specs.BlockFiles.{is_among}
 use Rattle.blk_format.specs.Claims.{Claim, claims_of, has_claim, repeats}
-use Rattle.blk_volume.specs.View.{Stock, Core, size_of, address_of}
+use Rattle.blk_volume.specs.View.{StoreView, RecordFields, size_of, address_of}
 use Rattle.blk_volume.specs.Chains.{chain, bucket_of_hash, Linked, IsChain}
 use Rattle.blk_volume.specs.Entries.{is_key_length, key_of, stream_of, streams_of, role_of, parent_role}
-use Rattle.blk_volume.specs.Loads.{Rule, alone, Loaded, load, all_claims, record_claims}
-use Rattle.blk_volume.specs.Layout.{Layout, IsListedRecord, HasParentAt, IsLaid, rule_of}
-use Rattle.blk_volume.specs.Footprint.{IsClear, SameBeside}
-use Rattle.blk_laws.specs.CommandLaws.{RepresentedHoldBut, MoreMayBeLeftOut, OthersHoldOutside, OthersHoldUnlinked, ChainedRecordsAreOnlyRecords, RecordsStayOutside, RecordsStayUnlinked, RecordsOfAnotherStateLoad}
+use Rattle.blk_volume.specs.Loads.{Rule, unchained_rule, Loaded, load, all_claims, record_claims}
+use Rattle.blk_volume.specs.Layout.{Layout, IsListedRecord, HasParentAt, IsPlacedAt, rule_of}
+use Rattle.blk_volume.specs.Footprint.{IsClear, SameExceptAt}
+use Rattle.blk_laws.specs.CommandLaws.{RepresentedHoldExcept, MoreMayBeLeftOut, OthersHoldOutside, OthersHoldUnlinked, ChainedRecordsAreOnlyRecords, RecordsStayOutside, RecordsStayUnlinked, RecordsOfAnotherStateLoad}
 use Rattle.blk_laws.proofs.Loads.{load-then}
 use Rattle.blk_laws.proofs.Loading.{load-from}
 use Rattle.blk_laws.proofs.ClaimLists.{claim-append}
@@ -25,8 +25,8 @@ use Rattle.blk_laws.proofs.Outside.{AreClear, all-clear, clear-zero, load-outsid
 
 -- ---- some nodes are left out
 
-pub represented-but : RepresentedHoldBut
-represented-but hole v m y r = record {
+pub represented-but : RepresentedHoldExcept
+represented-but except v m y r = record {
   no_record = r.holds.shows.no_record;
   each = λ w l is sound. r.holds.shows.each w l is;
   chains = r.holds.shows.chains;
@@ -38,7 +38,7 @@ represented-but hole v m y r = record {
 }
 
 pub more-left_out : MoreMayBeLeftOut
-more-left_out hole more v m y r larger = record {
+more-left_out except more v m y r larger = record {
   no_record = r.no_record;
   each = λ w l is sound. r.each w l is (smaller w sound);
   chains = r.chains;
@@ -48,16 +48,16 @@ more-left_out hole more v m y r larger = record {
   own = r.own;
   single = r.single;
 } where
-  smaller : (w : ℕ) → more w ≡ false → hole w ≡ false
-  smaller w out = ⊎_elim (λ (h : hole w ≡ true). absurd (let z : true ≡ false = sym (larger w h) ∙ out in cc)) (λ (h : hole w ≡ false). h) (cases_Bool (hole w))
+  smaller : (w : ℕ) → more w ≡ false → except w ≡ false
+  smaller w out = ⊎_elim (λ (h : except w ≡ true). absurd (let z : true ≡ false = sym (larger w h) ∙ out in cc)) (λ (h : except w ≡ false). h) (cases_Bool (except w))
 
 -- ---- a change that touches none of the others
 
 pub records-outside : RecordsStayOutside
-records-outside touched v u s w l ok same clear = load-outside touched v u same (alone s) w l refl ok (all-clear touched l clear)
+records-outside touched v u s w l ok same clear = load-outside touched v u same (unchained_rule s) w l refl ok (all-clear touched l clear)
 
 pub others-outside : OthersHoldOutside
-others-outside touched hole v u m y r same table free clear = record {
+others-outside touched except v u m y r same table free clear = record {
   no_record = sym (same.entry 0 (clear-zero touched)) ∙ r.no_record;
   each = λ w l is sound. load-outside touched v u same (rule_of y w) w l refl (r.each w l is sound) (all-clear touched l (λ c h. free c w (r.own w l c is h) sound));
   chains = λ b below. let c : IsChain v b (y.chains b) = r.chains b below in
@@ -82,8 +82,8 @@ others-clear l once i c h = ⊎_elim
     (λ (e : has_claim (claims_of l.contents) c ≡ false). e)
     (cases_Bool (has_claim (claims_of l.contents) c))
 
-module _ (w : ℕ) (v u : Stock) (same : SameBeside w v u) where
-  key-beside : (c s : ℕ) (e : Core) → IsClear (has_claim (claims_of w)) c ⊎ (c ≡ w) → IsClear (has_claim (claims_of w)) e.long_key → v.entry c ≡ Some e → is_key_length c e ≡ true → key_of u c (record e { state = s }) ≡ key_of v c e
+module _ (w : ℕ) (v u : StoreView) (same : SameExceptAt w v u) where
+  key-beside : (c s : ℕ) (e : RecordFields) → IsClear (has_claim (claims_of w)) c ⊎ (c ≡ w) → IsClear (has_claim (claims_of w)) e.long_key → v.entry c ≡ Some e → is_key_length c e ≡ true → key_of u c (record e { state = s }) ≡ key_of v c e
   unfolding key_of
   key-beside c s e clear long is fits =
       ⊎_elim
@@ -91,13 +91,13 @@ module _ (w : ℕ) (v u : Stock) (same : SameBeside w v u) where
       (λ (short : nat_le e.key_len 927 ≡ false). rw (short, same.stored (e.key_len + 1) e.long_key long) refl)
       (cases_Bool (nat_le e.key_len 927))
 
-  streams-beside : (s : ℕ) (e : Core) → ((i : ℕ) → IsClear (has_claim (claims_of w)) (slice_index e.data_addr i)) → streams_of u (record e { state = s }) ≡ streams_of v e
+  streams-beside : (s : ℕ) (e : RecordFields) → ((i : ℕ) → IsClear (has_claim (claims_of w)) (slice_index e.data_addr i)) → streams_of u (record e { state = s }) ≡ streams_of v e
   unfolding streams_of stream_of
   streams-beside s e clear = rw (same.stored (size_of e 0) (address_of e 0) (clear 0), same.stored (size_of e 1) (address_of e 1) (clear 1), same.stored (size_of e 2) (address_of e 2) (clear 2)) refl
 
   -- a node loads where its record is as before, or has another state that is asked for now
-  load-beside : (rule : Rule) (b : ℕ) (state : Core → ℕ) (node : ℕ) (l : Loaded) → rule.chained ≡ false → load v rule node ≡ Ok l → IsClear (has_claim (claims_of w)) l.contents ⊎ (l.contents ≡ w) → ((i : ℕ) → IsClear (has_claim (claims_of w)) (slice_index l.others i))
-      → ((e : Core) → v.entry l.contents ≡ Some e → u.entry l.contents ≡ Some (record e { state = state e })) → ((e : Core) → (e.state == rule.state) ≡ true → (state e == b) ≡ true) → load u (record rule { state = b }) node ≡ Ok l
+  load-beside : (rule : Rule) (b : ℕ) (state : RecordFields → ℕ) (node : ℕ) (l : Loaded) → rule.chained ≡ false → load v rule node ≡ Ok l → IsClear (has_claim (claims_of w)) l.contents ⊎ (l.contents ≡ w) → ((i : ℕ) → IsClear (has_claim (claims_of w)) (slice_index l.others i))
+      → ((e : RecordFields) → v.entry l.contents ≡ Some e → u.entry l.contents ≡ Some (record e { state = state e })) → ((e : RecordFields) → (e.state == rule.state) ≡ true → (state e == b) ≡ true) → load u (record rule { state = b }) node ≡ Ok l
   unfolding is_key_length role_of parent_role
   load-beside rule b state node l free ok contents others entry asked = load-then v rule node l ok (λ n e f.
       let r = f.facts in let k = r.keyed in
@@ -106,7 +106,7 @@ module _ (w : ℕ) (v u : Stock) (same : SameBeside w v u) where
       let long : IsClear (has_claim (claims_of w)) e.long_key = subst (λ (xs : List ℕ). IsClear (has_claim (claims_of w)) (slice_index xs 0)) r.others_are (others 0) in
       let data_clear : (i : ℕ) → IsClear (has_claim (claims_of w)) (slice_index e.data_addr i) = λ i. subst (λ (xs : List ℕ). IsClear (has_claim (claims_of w)) (slice_index xs (suc i))) r.others_are (others (suc i)) in
       load-from u (record rule { state = b }) node l n (record e { state = state e }) (record {
-        node = sym (same.named node) ∙ f.node;
+        node = sym (same.node_fields node) ∙ f.node;
         entry = ap u.entry (sym r.contents_is) ∙ entry e here;
         checks = f.checks;
         facts = record {
@@ -130,14 +130,14 @@ module _ (w : ℕ) (v u : Stock) (same : SameBeside w v u) where
       }))
 
 pub another-state : RecordsOfAnotherStateLoad
-another-state v u before after node l e ok once same here there = load-beside l.contents v u same (alone before) after (λ c. after) node l refl ok (inr refl) (others-clear l once)
-    (λ c is. let s : e ≡ c = cc in there ∙ ap (λ (z : Core). Some (record z { state = after })) s)
+another-state v u before after node l e ok once same here there = load-beside l.contents v u same (unchained_rule before) after (λ c. after) node l refl ok (inr refl) (others-clear l once)
+    (λ c is. let s : e ≡ c = cc in there ∙ ap (λ (z : RecordFields). Some (record z { state = after })) s)
     (λ c is. eq-eqb after after refl)
 
 -- ---- a link that is written
 
 -- with other chains an item lies where it lay
-pub laid-chained : (m : State) (y : Layout) (chains : ℕ → List ℕ) (i : Item) → IsLaid m y i → IsLaid m (record y { chains = chains }) i
+pub laid-chained : (m : State) (y : Layout) (chains : ℕ → List ℕ) (i : Item) → IsPlacedAt m y i → IsPlacedAt m (record y { chains = chains }) i
 laid-chained m y chains i q = record { loaded = q.loaded; here = q.here; row = q.row; mark = q.mark; parent = parent i q.loaded q.parent } where
   parent : (i : Item) (l : Loaded) → HasParentAt m y i l → HasParentAt m (record y { chains = chains }) i l
   parent (main key) l p = p
@@ -145,17 +145,17 @@ laid-chained m y chains i q = record { loaded = q.loaded; here = q.here; row = q
 
 pub records-unlinked : RecordsStayUnlinked
 records-unlinked v u s x w l ok once same apart = ⊎_elim
-    (λ (a : l.contents ≡ w). load-beside w v u same.beside (alone s) s (λ e. e.state) x l refl ok (inr a)
+    (λ (a : l.contents ≡ w). load-beside w v u same.beside (unchained_rule s) s (λ e. e.state) x l refl ok (inr a)
     (λ i. subst (λ (z : ℕ). IsClear (has_claim (claims_of z)) (slice_index l.others i)) a (others-clear l once i)) entry (λ e h. h))
     (λ (a : (c : Claim) → has_claim (all_claims l) c ≡ true → has_claim (claims_of w) c ≡ false).
     let clear : AreClear (has_claim (claims_of w)) l = all-clear (has_claim (claims_of w)) l a in
-    load-beside w v u same.beside (alone s) s (λ e. e.state) x l refl ok (inl clear.contents) clear.others entry (λ e h. h))
+    load-beside w v u same.beside (unchained_rule s) s (λ e. e.state) x l refl ok (inl clear.contents) clear.others entry (λ e h. h))
     apart where
-      entry : (e : Core) → v.entry l.contents ≡ Some e → u.entry l.contents ≡ Some (record e { state = e.state })
+      entry : (e : RecordFields) → v.entry l.contents ≡ Some e → u.entry l.contents ≡ Some (record e { state = e.state })
       entry e is = sym (same.entry l.contents) ∙ is
 
 pub others-unlinked : OthersHoldUnlinked
-others-unlinked hole v u m y r w same only chains now = record {
+others-unlinked except v u m y r w same only chains now = record {
   no_record = sym (same.entry 0) ∙ r.no_record;
   each = λ x l is sound. records-unlinked v u (y.state x) x w l (r.each x l is sound) (r.single x l is) same (apart x l is);
   chains = now.whole;

@@ -9,12 +9,12 @@ use Rattle.blk_volume.specs.ListView.{ListView, Segment, IsList, first_or, last_
 use Rattle.blk_model.specs.State.{State}
 use Rattle.blk_format.specs.BlockFiles.{is_among}
 use Rattle.blk_format.specs.Claims.{Claim, same_claim, claims_of, has_claim}
-use Rattle.blk_volume.specs.View.{View, Stock, Core, size_of, address_of}
+use Rattle.blk_volume.specs.View.{View, StoreView, RecordFields, size_of, address_of}
 use Rattle.blk_volume.specs.Chains.{bucket_of_hash, chain, Linked, IsChain}
 use Rattle.blk_volume.specs.Loads.{Rule, Loaded, load, all_claims, record_claims}
 use Rattle.blk_volume.specs.Entries.{is_key_length, key_of, stream_of, streams_of}
-use Rattle.blk_volume.specs.Layout.{Layout, order, rule_of, IsLaid, IsListedRecord, Lies, Shows, Represents}
-use Rattle.blk_volume.specs.Footprint.{IsClear, SameStock, SameLinks, SameBut, IsFree}
+use Rattle.blk_volume.specs.Layout.{Layout, order, rule_of, IsPlacedAt, IsListedRecord, IsLayoutOf, Shows, Represents}
+use Rattle.blk_volume.specs.Footprint.{IsClear, SameStore, SameLinks, SameBut, IsFree}
 use Rattle.blk_laws.proofs.Loads.{load-then}
 use Rattle.blk_laws.proofs.Loading.{load-from}
 use Rattle.blk_laws.proofs.Laid.{IsNodeOf, node-of}
@@ -56,8 +56,8 @@ all-clear touched l clear = record {
 
 -- ---- what loads
 
-module _ (touched : Claim → Bool) (v u : Stock) (same : SameStock touched v u) where
-  pub key-same : (w : ℕ) (e : Core) → IsClear touched w → IsClear touched e.long_key → v.entry w ≡ Some e → is_key_length w e ≡ true → key_of u w e ≡ key_of v w e
+module _ (touched : Claim → Bool) (v u : StoreView) (same : SameStore touched v u) where
+  pub key-same : (w : ℕ) (e : RecordFields) → IsClear touched w → IsClear touched e.long_key → v.entry w ≡ Some e → is_key_length w e ≡ true → key_of u w e ≡ key_of v w e
   unfolding key_of
   key-same w e clear long is fits =
       ⊎_elim
@@ -65,7 +65,7 @@ module _ (touched : Claim → Bool) (v u : Stock) (same : SameStock touched v u)
       (λ (short : nat_le e.key_len 927 ≡ false). rw (short, same.stored (e.key_len + 1) e.long_key long) refl)
       (cases_Bool (nat_le e.key_len 927))
 
-  pub streams-same : (e : Core) → ((i : ℕ) → IsClear touched (slice_index e.data_addr i)) → streams_of u e ≡ streams_of v e
+  pub streams-same : (e : RecordFields) → ((i : ℕ) → IsClear touched (slice_index e.data_addr i)) → streams_of u e ≡ streams_of v e
   unfolding streams_of stream_of
   streams-same e clear = rw (same.stored (size_of e 0) (address_of e 0) (clear 0), same.stored (size_of e 1) (address_of e 1) (clear 1), same.stored (size_of e 2) (address_of e 2) (clear 2)) refl
 
@@ -77,7 +77,7 @@ module _ (touched : Claim → Bool) (v u : Stock) (same : SameStock touched v u)
       let long : IsClear touched e.long_key = subst (λ (xs : List ℕ). IsClear touched (slice_index xs 0)) r.others_are (clear.others 0) in
       let data_clear : (i : ℕ) → IsClear touched (slice_index e.data_addr i) = λ i. subst (λ (xs : List ℕ). IsClear touched (slice_index xs (suc i))) r.others_are (clear.others (suc i)) in
       load-from u rule w l n e (record {
-        node = sym (same.named w (subst (IsClear touched) r.node_is clear.node)) ∙ f.node;
+        node = sym (same.node_fields w (subst (IsClear touched) r.node_is clear.node)) ∙ f.node;
         entry = entry;
         checks = f.checks;
         facts = record {
@@ -107,13 +107,13 @@ module _ (touched : Claim → Bool) (v u : Stock) (same : SameStock touched v u)
   linked-same b w (c ∷ cs) clear linked =
       let here : IsClear touched c = clear c (or_left (c == c) (is_among cs c) (eq-eqb c c refl)) in (
         linked.0,
-        ap (λ (o : Option Core). option_map_or (λ e. e.checks && (bucket_of_hash e.hash == b)) o false) (sym (same.entry c here)) ∙ linked.1,
-        subst (λ (x : ℕ). Linked u b x cs) (same.follow c here) (linked-same b (v.follow c) cs (λ d h. clear d (or_right (c == d) (is_among cs d) h)) linked.2),
+        ap (λ (o : Option RecordFields). option_map_or (λ e. e.checks && (bucket_of_hash e.hash == b)) o false) (sym (same.entry c here)) ∙ linked.1,
+        subst (λ (x : ℕ). Linked u b x cs) (same.chain_next c here) (linked-same b (v.chain_next c) cs (λ d h. clear d (or_right (c == d) (is_among cs d) h)) linked.2),
       )
 
 -- ---- the whole
 
-module _ (touched : Claim → Bool) (v u : Stock) (same : SameStock touched v u) (table : (b : ℕ) → v.table b ≡ u.table b) (y : Layout) (r : Shows v y) where
+module _ (touched : Claim → Bool) (v u : StoreView) (same : SameStore touched v u) (table : (b : ℕ) → v.table b ≡ u.table b) (y : Layout) (r : Shows v y) where
   -- what is shown stays where nothing of it is touched
   pub shows-outside : ((w : ℕ) (l : Loaded) → y.at w ≡ Some l → AreClear touched l) → ((b c : ℕ) → b < 65536 → is_among (y.chains b) c ≡ true → IsClear touched c) → Shows u y
   shows-outside clear chain_clear = record {
@@ -123,7 +123,7 @@ module _ (touched : Claim → Bool) (v u : Stock) (same : SameStock touched v u)
         record { linked = subst (λ (x : ℕ). Linked u b x (y.chains b)) (table b) (linked-same touched v u same b (v.table b) (y.chains b) (λ c there. chain_clear b c below there) is.linked); once = is.once };
   }
 
-module _ (touched : Claim → Bool) (m : State) (y : Layout) (free : IsFree touched y) (r : Lies m y) where
+module _ (touched : Claim → Bool) (m : State) (y : Layout) (free : IsFree touched y) (r : IsLayoutOf m y) where
   pub clear-at : (w : ℕ) (l : Loaded) → y.at w ≡ Some l → AreClear touched l
   clear-at w l is = all-clear touched l (λ c h. free c w (r.own w l c is h))
 
@@ -131,13 +131,13 @@ module _ (touched : Claim → Bool) (m : State) (y : Layout) (free : IsFree touc
   clear-chain b c below there = let q : IsListedRecord m y c = r.unchained b c below there in subst (IsClear touched) q.record_is (clear-at q.node q.loaded q.here).contents
 
 -- a whole list stays where its nodes are not touched
-segment-same : (touched : Claim → Bool) (l k : ListView) (same : SameLinks touched l k) (before behind : ℕ) (xs : List ℕ) → ((w : ℕ) → is_among xs w ≡ true → IsClear touched w)
-    → Segment l.checks l.next l.prev before xs behind → Segment k.checks k.next k.prev before xs behind
-segment-same touched l k same before behind [] clear s = tt
-segment-same touched l k same before behind (x ∷ xs) clear s =
+segment-same : (touched : Claim → Bool) (l k : ListView) (same : SameLinks touched l k) (before suffix : ℕ) (xs : List ℕ) → ((w : ℕ) → is_among xs w ≡ true → IsClear touched w)
+    → Segment l.checks l.next l.prev before xs suffix → Segment k.checks k.next k.prev before xs suffix
+segment-same touched l k same before suffix [] clear s = tt
+segment-same touched l k same before suffix (x ∷ xs) clear s =
     let here : IsClear touched x = clear x (or_left (x == x) (is_among xs x) (eq-eqb x x refl)) in (
       record { good = sym (same.checks x here) ∙ s.0.good; next_is = sym (same.next x here) ∙ s.0.next_is; prev_is = sym (same.prev x here) ∙ s.0.prev_is },
-      segment-same touched l k same x behind xs (λ w h. clear w (or_right (x == w) (is_among xs w) h)) s.1,
+      segment-same touched l k same x suffix xs (λ w h. clear w (or_right (x == w) (is_among xs w) h)) s.1,
     )
 
 pub list-outside : (touched : Claim → Bool) (l k : ListView) (nodes : List ℕ) → SameLinks touched l k → ((w : ℕ) → is_among nodes w ≡ true → IsClear touched w) → IsList l nodes → IsList k nodes
@@ -153,13 +153,13 @@ list-outside touched l k nodes same clear list = record {
 -- THE lemma: a change inside a footprint that is nobody's keeps everything
 pub represents-outside : (touched : Claim → Bool) (v u : View) (m : State) (y : Layout) → SameBut touched v u → IsFree touched y → Represents v m y → Represents u m y
 represents-outside touched v u m y same free r = record {
-  holds = record { shows = shows-outside touched v.stock u.stock same.stock same.table y r.holds.shows (clear-at touched m y free r.holds.lies) (clear-chain touched m y free r.holds.lies); lies = r.holds.lies };
+  holds = record { shows = shows-outside touched v.store u.store same.store same.table y r.holds.shows (clear-at touched m y free r.holds.lies) (clear-chain touched m y free r.holds.lies); lies = r.holds.lies };
   list = list-outside touched v.list u.list (order m y) same.links clear r.list;
   idle = sym same.links.transaction ∙ r.idle;
 } where
   clear : (w : ℕ) → is_among (order m y) w ≡ true → IsClear touched w
   clear w there =
       let n : IsNodeOf y m.uses w = node-of y m.uses w there in
-      let l : IsLaid m y n.item = r.holds.lies.laid n.item n.among in
+      let l : IsPlacedAt m y n.item = r.holds.lies.laid n.item n.among in
       let a : AreClear touched l.loaded = clear-at touched m y free r.holds.lies (y.place n.item) l.loaded l.here in
-      subst (IsClear touched) (node-is v.stock (rule_of y (y.place n.item)) (y.place n.item) l.loaded (r.holds.shows.each (y.place n.item) l.loaded l.here) ∙ n.is) a.node
+      subst (IsClear touched) (node-is v.store (rule_of y (y.place n.item)) (y.place n.item) l.loaded (r.holds.shows.each (y.place n.item) l.loaded l.here) ∙ n.is) a.node

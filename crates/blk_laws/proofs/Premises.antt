@@ -11,16 +11,15 @@ use Rattle.blk_format.specs.Hash.{of_one, of_bytes, mixed, hash}
 use Rattle.blk_format.specs.Address.{kind_of, block_count, file_selector, first_block, external_number}
 use Rattle.blk_format.specs.Storage.{entry_blocks}
 use Rattle.blk_format.specs.Claims.{claims_of, has_claim, overlap, repeats}
-use Rattle.blk_volume.specs.ListView.{ListView}
-use Rattle.blk_volume.specs.View.{Core, View}
+use Rattle.blk_volume.specs.ListView.{ListView, IsAtRest, CanBeInserted}
+use Rattle.blk_volume.specs.View.{RecordFields, View}
 use Rattle.blk_volume.specs.Chains.{chain_from}
 use Rattle.blk_volume.specs.Entries.{is_key_length, key_of, stream_of, streams_of, role_of}
-use Rattle.blk_volume.specs.Loads.{held, load, load_key, load_record, record_claims, all_claims}
+use Rattle.blk_volume.specs.Loads.{held_rule, load, load_key, load_record, record_claims, all_claims}
 use Rattle.blk_volume.specs.Audit.{judged, is_orphan, admit, verdicts}
 use Rattle.blk_volume.specs.Audit as audit
-use Rattle.blk_laws.specs.ListLaws.{IsAtRest, CanBeInserted}
 use Rattle.blk_laws.specs.KeptLaws.{IsDroppedIfLeftOut}
-use Rattle.blk_laws.specs.BareLaws.{IsBare}
+use Rattle.blk_laws.specs.BareLaws.{HasNoEntries}
 use Rattle.blk_laws.proofs.OneEntry as one
 use Rattle.blk_laws.proofs.DamagedViews.{node, entry, shown, plain_core}
 use Rattle.blk_laws.proofs.NewFolders.{new_folder, new-is_new, new-bare}
@@ -56,10 +55,10 @@ fourth = record { rest = three_at_rest; lacks = refl; good = refl; few = omega a
 
 -- Two records of one key: the node of the second may be left out, and both are in one chain.
 
-abbrev pub first_core : Core
+abbrev pub first_core : RecordFields
 first_core = plain_core 0x90000000
 
-abbrev pub second_core : Core
+abbrev pub second_core : RecordFields
 second_core = plain_core 0x90000001
 
 abbrev pub pair : View
@@ -67,17 +66,17 @@ pair = shown 0x90000000 0xA0010000
     ((0x90000000, node 0x90000001 0x90000000 0xA0010000) ∷ (0x90000001, node 0x90000001 0x90000000 0xA0010001) ∷ [])
     ((0xA0010000, entry 0xA0010001 0x90000000) ∷ (0xA0010001, entry 0 0x90000001) ∷ [])
 
-pub second_is_left_out : AllByRecursion (IsDroppedIfLeftOut (λ w. w == 0x90000000)) (judged pair.stock held (0x90000000 ∷ 0x90000001 ∷ []))
+pub second_is_left_out : AllByRecursion (IsDroppedIfLeftOut (λ w. w == 0x90000000)) (judged pair.store held_rule (0x90000000 ∷ 0x90000001 ∷ []))
 unfolding verdicts load load_record load_key admit is_key_length key_of stream_of streams_of role_of audit.is_named is_orphan record_claims all_claims claims_of has_claim overlap repeats kind_of block_count file_selector first_block external_number entry_blocks chain_from hash mixed of_bytes of_one
 second_is_left_out = (λ out. absurd (let c : true ≡ false = out in cc), (λ out. refl, tt))
 
-pub both_are_keyed : (load_key pair.stock held 0x90000000 0xA0010000 0 first_core ≡ Ok (codes "a")) × (load_key pair.stock held 0x90000001 0xA0010001 0 second_core ≡ Ok (codes "a"))
+pub both_are_keyed : (load_key pair.store held_rule 0x90000000 0xA0010000 0 first_core ≡ Ok (codes "a")) × (load_key pair.store held_rule 0x90000001 0xA0010001 0 second_core ≡ Ok (codes "a"))
 unfolding load_key is_key_length key_of block_count entry_blocks chain_from hash mixed of_bytes of_one
 both_are_keyed = (refl, refl)
 
 -- A new folder is bare.
 
-pub new_is_bare : IsBare (new_folder 50)
+pub new_is_bare : HasNoEntries (new_folder 50)
 new_is_bare = new-bare 50 (new_folder 50) (new-is_new 50)
 
 -- The state of one object is valid.

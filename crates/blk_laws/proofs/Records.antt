@@ -13,14 +13,14 @@ use Rattle.blk_format.specs.Address.{kind_of, file_selector, first_block, place,
 use Rattle.blk_format.specs.Records.{Entry, entry_in, entry_checks, entry_size}
 use Rattle.blk_format.specs.BlockFiles.{stands_in}
 use Rattle.blk_volume.specs.Chains.{file_and_block}
-use Rattle.blk_volume.specs.View.{Core, core_of, stands_as, block_bytes, entry_at, stock_of, core_at, follow_at, key_place_at}
+use Rattle.blk_volume.specs.View.{RecordFields, fields_of, stands_as, block_bytes, entry_at, store_of, core_at, follow_at, key_place_at}
 use Rattle.blk_laws.proofs.BlockBytes.{same-entry_in}
 use Rattle.blk_laws.proofs.ByteChanges.{false_unless}
-use Rattle.blk_format.specs.Sealed.{BeginsWithRecord, IsMoment, record_at, record_range, record_size, seal_place, size_by_kind}
+use Rattle.blk_format.specs.Sealed.{BeginsWithRecord, IsMidUpdate, record_at, record_range, record_size, seal_place, size_by_kind}
 use Rattle.blk_format.proofs.SealedRecords.{length-record}
 use Rattle.blk_format.proofs.SealedFields.{record_word, field_stays}
-use Rattle.blk_laws.specs.Moments.{SameBesideRecord, OnlyFollowChanges}
-use Rattle.blk_laws.specs.RecordMoments.{IsRecord, FollowsAreWritten, FieldsAreWritten}
+use Rattle.blk_volume.specs.ShownChanges.{SameExceptRecord, OnlyChainNextChanges}
+use Rattle.blk_laws.specs.RecordUpdates.{IsRecord, ChainNextsAreWritten, FieldsAreWritten}
 use Rattle.blk_laws.proofs.Fronts.{open_entry}
 use Rattle.blk_laws.proofs.Inside.{record-changes}
 use Rattle.blk_laws.proofs.Nodes.{none-or-one}
@@ -95,7 +95,7 @@ with-follow b x long small =
 -- ---- cores
 
 -- the core of a record but for its check
-core-by : (m n : Entry) (b : Bool) (x : ℕ) → entry_checks m ≡ b → open_entry m ≡ record (open_entry n) { next = x } → core_of m ≡ record (core_of n) { checks = b }
+core-by : (m n : Entry) (b : Bool) (x : ℕ) → entry_checks m ≡ b → open_entry m ≡ record (open_entry n) { next = x } → fields_of m ≡ record (fields_of n) { checks = b }
 core-by m n b x good rest = λ i. record {
   checks = good i;
   hash = (rest i).hash;
@@ -109,7 +109,7 @@ core-by m n b x good rest = λ i. record {
 }
 
 -- what a standing record shows
-shown-record : (image : Image) (u : ℕ) → stands_as image blocks_256 u ≡ true → (core_at image u ≡ Some (core_of (entry_at image u))) × (follow_at image u ≡ (entry_at image u).next)
+shown-record : (image : Image) (u : ℕ) → stands_as image blocks_256 u ≡ true → (core_at image u ≡ Some (fields_of (entry_at image u))) × (follow_at image u ≡ (entry_at image u).next)
 unfolding core_at follow_at
 shown-record image u st = (rw st refl, rw st refl)
 
@@ -119,9 +119,9 @@ unshown-record image u st = (rw st refl, rw st refl)
 
 -- ---- an update
 
-module _ (from image : Image) (w : ℕ) (core : Core) (is : IsRecord from w core) (changes : List (ℕ × ℕ)) (moment : IsMoment from w changes image) where
+module _ (from image : Image) (w : ℕ) (own_fields : RecordFields) (is : IsRecord from w own_fields) (changes : List (ℕ × ℕ)) (moment : IsMidUpdate from w changes image) where
   as-record : stands_as from blocks_256 w ≡ true
-  as-record = core-standing from w core is.here
+  as-record = core-standing from w own_fields is.here
 
   standing : stands_in from w ≡ true
   standing = (standing-parts from blocks_256 w as-record).0
@@ -139,12 +139,12 @@ module _ (from image : Image) (w : ℕ) (core : Core) (is : IsRecord from w core
   stands-now u = stands_as-all from image w standing begins moment.outside blocks_256 u
 
   -- the record before
-  core-was : core_of (entry_at from w) ≡ core
-  unfolding stock_of
+  core-was : fields_of (entry_at from w) ≡ own_fields
+  unfolding store_of
   core-was = some_inj (sym (shown-record from w as-record).0 ∙ is.here)
 
   good-was : entry_checks (entry_at from w) ≡ true
-  good-was = ap (λ (c : Core). c.checks) core-was ∙ is.good
+  good-was = ap (λ (c : RecordFields). c.checks) core-was ∙ is.good
 
   -- the key behind the record
   key-kept : (n : ℕ) → key_place_at from w n ≡ key_place_at image w n
@@ -152,19 +152,19 @@ module _ (from image : Image) (w : ℕ) (core : Core) (is : IsRecord from w core
   key-kept n = same-range n (place w + entry_size) (block_bytes from w) (block_bytes image w) (λ k low high.
       sym (moment.outside.bytes (Block (file_selector w)) k (out-of (Block (file_selector w)) (Block (file_selector w)) (place w) (record_size w) k (λ file above below. omega (arith, low, below, record-96 w kind)))))
 
-  beside : SameBesideRecord w from image
-  unfolding stock_of
+  beside : SameExceptRecord w from image
+  unfolding store_of
   beside =
       let shown = (record-changes from image w standing begins moment.outside).shown in
       record {
         list = list-still from image w standing begins moment.outside no-node;
-        named = λ u. named-still from image w standing begins moment.outside no-node u;
+        node_fields = λ u. named-still from image w standing begins moment.outside no-node u;
         table = λ b. table-still from image w standing begins moment.outside b;
         key_place = λ u c where_is here long short. ⊎_elim
-            (λ clear. shown.stock.key_place u c clear here long short)
+            (λ clear. shown.store.key_place u c clear here long short)
             (λ (e : u ≡ w). subst (λ (v : ℕ). key_place_at from v c.key_len ≡ key_place_at image v c.key_len) (sym e) (key-kept c.key_len))
             where_is;
-        stored = λ size u clear. shown.stock.stored size u clear;
+        stored = λ size u clear. shown.store.stored size u clear;
       }
 
   -- the other records
@@ -179,7 +179,7 @@ module _ (from image : Image) (w : ℕ) (core : Core) (is : IsRecord from w core
       let was = shown-record from u e in
       let now = shown-record image u (stands-now u ∙ e) in
       let same = entry-kept u e apart in
-      (was.0 ∙ ap (λ (n : Entry). Some (core_of n)) (sym same) ∙ sym now.0, was.1 ∙ ap (λ (n : Entry). n.next) (sym same) ∙ sym now.1))
+      (was.0 ∙ ap (λ (n : Entry). Some (fields_of n)) (sym same) ∙ sym now.0, was.1 ∙ ap (λ (n : Entry). n.next) (sym same) ∙ sym now.1))
       (λ (e : stands_as from blocks_256 u ≡ false).
       let was = unshown-record from u e in
       let now = unshown-record image u (stands-now u ∙ e) in
@@ -187,12 +187,12 @@ module _ (from image : Image) (w : ℕ) (core : Core) (is : IsRecord from w core
       (cases_Bool (stands_as from blocks_256 u))
 
   -- the core of each record, where that of this one is as before
-  cores : core_of (entry_at image w) ≡ core_of (entry_at from w) → (u : ℕ) → core_at from u ≡ core_at image u
+  cores : fields_of (entry_at image w) ≡ fields_of (entry_at from w) → (u : ℕ) → core_at from u ≡ core_at image u
   cores here u = ⊎_elim
       (λ (e : file_and_block u ≡ file_and_block w). ⊎_elim
       (λ (s : stands_as from blocks_256 u ≡ true).
       let k = (standing-parts from blocks_256 u s).1 in
-      (shown-record from u s).0 ∙ ap (λ (n : Entry). Some (core_of n)) (shared from u w k kind e) ∙ ap (λ (c : Core). Some c) (sym here) ∙ ap (λ (n : Entry). Some (core_of n)) (sym (shared image u w k kind e)) ∙ sym (shown-record image u (stands-now u ∙ s)).0)
+      (shown-record from u s).0 ∙ ap (λ (n : Entry). Some (fields_of n)) (shared from u w k kind e) ∙ ap (λ (c : RecordFields). Some c) (sym here) ∙ ap (λ (n : Entry). Some (fields_of n)) (sym (shared image u w k kind e)) ∙ sym (shown-record image u (stands-now u ∙ s)).0)
       (λ (s : stands_as from blocks_256 u ≡ false). (unshown-record from u s).0 ∙ sym (unshown-record image u (stands-now u ∙ s)).0)
       (cases_Bool (stands_as from blocks_256 u)))
       (λ (apart : file_and_block u ≢ file_and_block w). (others u apart).0)
@@ -214,70 +214,70 @@ module _ (from image : Image) (w : ℕ) (core : Core) (is : IsRecord from w core
   good-now = entry-checks from image w changes is.bytes moment kind
 
 -- its next
-module _ (from image : Image) (w x : ℕ) (core : Core) (is : IsRecord from w core) (small : x < 2 ^ 32) (moment : IsMoment from w ((4, x) ∷ []) image) where
+module _ (from image : Image) (w x : ℕ) (own_fields : RecordFields) (is : IsRecord from w own_fields) (small : x < 2 ^ 32) (moment : IsMidUpdate from w ((4, x) ∷ []) image) where
   long : length (record_at from w) ≡ 96
-  long = let s : seal_place w ≡ 92 = entry-seal w (kind from image w core is _ moment) in omega (arith, s, length-record w from)
+  long = let s : seal_place w ≡ 92 = entry-seal w (kind from image w own_fields is _ moment) in omega (arith, s, length-record w from)
 
   entry-now : (m : ℕ) → moment.made ≡ m → open_entry (entry_at image w) ≡ open_entry (entry_in (content (with_words (take m ((4, x) ∷ [])) (record_at from w))) 0)
   entry-now m e =
-      entry-made from image w ((4, x) ∷ []) is.bytes moment (kind from image w core is _ moment)
+      entry-made from image w ((4, x) ∷ []) is.bytes moment (kind from image w own_fields is _ moment)
       ∙ ap (λ (n : ℕ). open_entry (entry_in (content (with_words (take n ((4, x) ∷ [])) (record_at from w))) 0)) e
 
   entry-was : open_entry (entry_at from w) ≡ open_entry (entry_in (content (record_at from w)) 0)
-  entry-was = entry-here from w (kind from image w core is _ moment)
+  entry-was = entry-here from w (kind from image w own_fields is _ moment)
 
-  only-follow : (y : ℕ) → open_entry (entry_at image w) ≡ record (open_entry (entry_at from w)) { next = y } → OnlyFollowChanges w from image
-  unfolding stock_of
+  only-follow : (y : ℕ) → open_entry (entry_at image w) ≡ record (open_entry (entry_at from w)) { next = y } → OnlyChainNextChanges w from image
+  unfolding store_of
   only-follow y rest =
-      let same : core_of (entry_at image w) ≡ core_of (entry_at from w) =
-      core-by (entry_at image w) (entry_at from w) true y (good-now from image w core is _ moment) rest
-      ∙ ap (λ (b : Bool). record (core_of (entry_at from w)) { checks = b }) (sym (good-was from image w core is _ moment)) in
+      let same : fields_of (entry_at image w) ≡ fields_of (entry_at from w) =
+      core-by (entry_at image w) (entry_at from w) true y (good-now from image w own_fields is _ moment) rest
+      ∙ ap (λ (b : Bool). record (fields_of (entry_at from w)) { checks = b }) (sym (good-was from image w own_fields is _ moment)) in
       record {
-        rest = beside from image w core is _ moment;
-        entry = λ u. cores from image w core is _ moment same u;
-        follow = λ u apart. (others from image w core is _ moment u apart).1;
+        rest = beside from image w own_fields is _ moment;
+        entry = λ u. cores from image w own_fields is _ moment same u;
+        chain_next = λ u apart. (others from image w own_fields is _ moment u apart).1;
       }
 
-  follow-now : (stock_of image).follow w ≡ (entry_at image w).next
-  unfolding stock_of
-  follow-now = (shown-record image w (stands-now from image w core is _ moment w ∙ as-record from image w core is _ moment)).1
+  follow-now : (store_of image).chain_next w ≡ (entry_at image w).next
+  unfolding store_of
+  follow-now = (shown-record image w (stands-now from image w own_fields is _ moment w ∙ as-record from image w own_fields is _ moment)).1
 
-  follow-was : (stock_of from).follow w ≡ (entry_at from w).next
-  unfolding stock_of
-  follow-was = (shown-record from w (as-record from image w core is _ moment)).1
+  follow-was : (store_of from).chain_next w ≡ (entry_at from w).next
+  unfolding store_of
+  follow-was = (shown-record from w (as-record from image w own_fields is _ moment)).1
 
-  follows-is : OnlyFollowChanges w from image × ((stock_of image).follow w ≡ (if moment.made == 0 then (stock_of from).follow w else x))
+  follows-is : OnlyChainNextChanges w from image × ((store_of image).chain_next w ≡ (if moment.made == 0 then (store_of from).chain_next w else x))
   follows-is = ⊎_elim
       (λ (e : moment.made ≡ 0).
       let n : open_entry (entry_at image w) ≡ open_entry (entry_at from w) = entry-now 0 e ∙ sym entry-was in (
         only-follow (entry_at from w).next n,
-        subst (λ (m : ℕ). (stock_of image).follow w ≡ (if m == 0 then (stock_of from).follow w else x)) (sym e) (follow-now ∙ ap (λ (a : Entry). a.next) n ∙ sym follow-was),
+        subst (λ (m : ℕ). (store_of image).chain_next w ≡ (if m == 0 then (store_of from).chain_next w else x)) (sym e) (follow-now ∙ ap (λ (a : Entry). a.next) n ∙ sym follow-was),
       ))
       (λ (e : moment.made ≡ 1).
       let n : open_entry (entry_at image w) ≡ record (open_entry (entry_at from w)) { next = x } = entry-now 1 e ∙ with-follow (record_at from w) x long small ∙ ap (λ (a : Entry). record a { next = x }) (sym entry-was) in (
         only-follow x n,
-        subst (λ (m : ℕ). (stock_of image).follow w ≡ (if m == 0 then (stock_of from).follow w else x)) (sym e) (follow-now ∙ ap (λ (a : Entry). a.next) n),
+        subst (λ (m : ℕ). (store_of image).chain_next w ≡ (if m == 0 then (store_of from).chain_next w else x)) (sym e) (follow-now ∙ ap (λ (a : Entry). a.next) n),
       ))
       (none-or-one moment.made (let h : moment.made ≤ 1 = moment.within in h))
 
-pub follows-written : FollowsAreWritten
-follows-written from image w x core is small moment = follows-is from image w x core is small moment
+pub follows-written : ChainNextsAreWritten
+follows-written from image w x own_fields is small moment = follows-is from image w x own_fields is small moment
 
 -- the fields behind it
 pub fields-written : FieldsAreWritten
-unfolding stock_of entry_in size_by_kind
-fields-written from image w changes core is are later moment =
-    let k : kind_of w ≡ blocks_256 = kind from image w core is changes moment in
+unfolding store_of entry_in size_by_kind
+fields-written from image w changes own_fields is are later moment =
+    let k : kind_of w ≡ blocks_256 = kind from image w own_fields is changes moment in
     let s : seal_place w ≡ 92 = entry-seal w k in
     let other : All (λ change. change.0 ≢ 4) changes = λ i c within e. let h : 8 ≤ (get_or changes i c).0 = later i c within in omega (arith, h, e) in
     let fits : 4 + 4 ≤ record_size w = rw k (omega arith) in
     let link : (entry_at image w).next ≡ (entry_at from w).next = sym (record_word image w 4 fits) ∙ field_stays from image w changes are moment 4 refl (omega (arith, s)) other ∙ record_word from w 4 fits in
     let made = entry-made from image w changes is.bytes moment k in (
       record {
-        rest = beside from image w core is changes moment;
-        entry = λ u apart. (others from image w core is changes moment u apart).0;
-        follow = λ u. follows from image w core is changes moment link u;
+        rest = beside from image w own_fields is changes moment;
+        entry = λ u apart. (others from image w own_fields is changes moment u apart).0;
+        chain_next = λ u. follows from image w own_fields is changes moment link u;
       },
-      (shown-record image w (stands-now from image w core is changes moment w ∙ as-record from image w core is changes moment)).0
-          ∙ ap (λ (c : Core). Some c) (core-by (entry_at image w) (entry_in (content (with_words (take moment.made changes) (record_at from w))) 0) true (entry_in (content (with_words (take moment.made changes) (record_at from w))) 0).next (good-now from image w core is changes moment) made),
+      (shown-record image w (stands-now from image w own_fields is changes moment w ∙ as-record from image w own_fields is changes moment)).0
+          ∙ ap (λ (c : RecordFields). Some c) (core-by (entry_at image w) (entry_in (content (with_words (take moment.made changes) (record_at from w))) 0) true (entry_in (content (with_words (take moment.made changes) (record_at from w))) 0).next (good-now from image w own_fields is changes moment) made),
     )

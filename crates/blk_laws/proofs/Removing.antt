@@ -7,11 +7,11 @@ use Rattle.blk_volume.specs.ListView.{Distinct}
 use Rattle.blk_model.specs.Items.{Item, main, part, same_item, key_of}
 use Rattle.blk_model.specs.State.{State, IsValidState}
 use Rattle.blk_model.proofs.Same.{one_item, same_item_self}
-use Rattle.blk_volume.specs.View.{Stock}
-use Rattle.blk_volume.specs.Loads.{held}
+use Rattle.blk_volume.specs.View.{StoreView}
+use Rattle.blk_volume.specs.Loads.{held_rule}
 use Rattle.blk_volume.specs.Audit.{kept_among}
 use Rattle.blk_volume.specs.Found.{row_of}
-use Rattle.blk_volume.specs.Layout.{Layout, is_listed, nodes_of, HoldsBut, is_in}
+use Rattle.blk_volume.specs.Layout.{Layout, is_listed, nodes_of, HoldsExcept, is_in}
 use Rattle.blk_volume.specs.Given.{picked_with, picked_in, IsTest}
 use Rattle.blk_laws.proofs.Laid.{found-but}
 use Rattle.blk_laws.proofs.Central.{all-closed}
@@ -33,8 +33,8 @@ in-filter p (x ∷ xs) i = ⊎_elim
     (cases_Bool (same_item i x)))
     (cases_Bool (p x))
 
-module _ (hole : ℕ → Bool) (v : Stock) (m : State) (y : Layout) (r : HoldsBut hole v m y) (valid : IsValidState m) (test : ℕ → Bool) (is : IsTest m y m.uses test) (keep : Item → Bool)
-    (once : Distinct (nodes_of y (filter keep m.uses))) (sound : (i : Item) → is_listed m i ≡ true → keep i ≡ true → hole (y.place i) ≡ false) where
+module _ (except : ℕ → Bool) (v : StoreView) (m : State) (y : Layout) (r : HoldsExcept except v m y) (valid : IsValidState m) (test : ℕ → Bool) (is : IsTest m y m.uses test) (keep : Item → Bool)
+    (once : Distinct (nodes_of y (filter keep m.uses))) (sound : (i : Item) → is_listed m i ≡ true → keep i ≡ true → except (y.place i) ≡ false) where
   items : List Item
   items = filter keep m.uses
 
@@ -70,9 +70,9 @@ module _ (hole : ℕ → Bool) (v : Stock) (m : State) (y : Layout) (r : HoldsBu
         and_true true = refl
         and_true false = refl
 
-  pub removed-rows : map row_of (kept_among v held (nodes_of y (filter keep m.uses))) ≡ filter_map (picked_with m test) (filter (λ i. keep i && keep (main (key_of i))) m.uses)
+  pub removed-rows : map row_of (kept_among v held_rule (nodes_of y (filter keep m.uses))) ≡ filter_map (picked_with m test) (filter (λ i. keep i && keep (main (key_of i))) m.uses)
   removed-rows =
-      found-but m y r.laid (filter keep m.uses) (λ i h. (sub i h).1) test is-here hole v r once
+      found-but m y r.laid (filter keep m.uses) (λ i h. (sub i h).1) test is-here except v r once
       (λ i l h here passes. let s = sub i h in sound i s.1 s.0)
       (λ i k h broken ok. let s = sub i h in absurd (let c : true ≡ false = sym broken ∙ sound i s.1 s.0 in cc))
       ∙ rows-stay m.uses (λ i h. h)

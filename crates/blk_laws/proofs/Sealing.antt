@@ -15,16 +15,17 @@ use Rattle.blk_image.proofs.Words.{same-range}
 use Rattle.blk_format.specs.Address.{kind_of, rankings, file_selector, first_block, place, block_place, block_size}
 use Rattle.blk_format.specs.Hash.{hash}
 use Rattle.blk_format.specs.Records.{node_in, node_body, node_is_sealed, seal_of}
-use Rattle.blk_format.specs.Sealed.{AreChanges, IsMoment, IsUpdated, record_at, record_range, record_size, seal_place, sealed_steps}
+use Rattle.blk_format.specs.Sealed.{AreChanges, IsMidUpdate, IsUpdated, record_at, record_range, record_size, seal_place, sealed_steps}
 use Rattle.blk_format.proofs.Bodies.{node_body-in}
 use Rattle.blk_format.proofs.SealedFields.{record_word, updated_seal}
 use Rattle.blk_format.proofs.SealedRecords.{node_seal, node_bytes, moments, updated}
 use Rattle.blk_volume.specs.ListView.{ListWrite, Next, Prev, Head, Tail, Transaction, Operation}
 use Rattle.blk_volume.specs.ListPlans.{touch_writes}
 use Rattle.blk_volume.specs.View.{list_of, node_at}
-use Rattle.blk_laws.specs.ListSteps.{AreOf, AreSealed, IsSealed, steps_of, times_of, write_steps}
-use Rattle.blk_laws.specs.ListWords.{IsWritable, CanBeMade, WritesSealTheirNodes, TouchesSealTheirNodes}
-use Rattle.blk_laws.proofs.ListMoments.{listed}
+use Rattle.blk_volume.specs.ListSteps.{AreOf, AreSealed, IsSealed, steps_of, times_of, write_steps}
+use Rattle.blk_volume.specs.ListImages.{IsWritable, CanBeMade}
+use Rattle.blk_laws.specs.ListWords.{WritesSealTheirNodes, TouchesSealTheirNodes}
+use Rattle.blk_laws.proofs.ListCompletions.{listed}
 use Rattle.blk_laws.proofs.NodeRecords.{front_is, one_change, record_is}
 use Rattle.blk_laws.proofs.WordTurns.{each, still_checks, times_are, touches-can}
 use Rattle.blk_laws.proofs.WriteSteps.{good-node, checked-kind, first_can, one_write, rest_can, writable-after, writable-sealed, writable-writes}
@@ -129,7 +130,7 @@ reseals from ready w good changes are inside =
     let steps : List TrailStep = sealed_steps from w changes in
     let new : Image = after steps from in
     let done : IsUpdated from w changes new = updated w from changes node.fits in
-    let M : Image → Type 0 = IsMoment from w changes in
+    let M : Image → Type 0 = IsMidUpdate from w changes in
     let last : M new = until_last M M steps from (moments w from changes node.fits node.checks inside) in
     let bytes : AreBytes new = (until_last IsWritable IsWritable steps from (writable-sealed w changes from ready)).bytes in
     record {
@@ -200,10 +201,10 @@ pub writes-seal : WritesSealTheirNodes
 writes-seal image writes ready can = (writes_seal writes image ready can).sealed
 
 pub touches-seal : TouchesSealTheirNodes
-touches-seal image node moment front behind ready rest =
-    let good = (listed node (list_of image) front behind rest.whole).good in
+touches-seal image node moment prefix suffix ready rest =
+    let good = (listed node (list_of image) prefix suffix rest.whole).good in
     let ws : List ListWrite = touch_writes node (list_of image) in
-    let can = touches-can image node front behind rest in
+    let can = touches-can image node prefix suffix rest in
     let i : Image = after (steps_of ws image) image in
     let kind = checked-kind image node good in
     let seal = node_seal node kind in

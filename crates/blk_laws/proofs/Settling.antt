@@ -15,12 +15,12 @@ use Rattle.blk_model.proofs.Slots.{first_with_found}
 use Rattle.blk_model.proofs.States.{main_owner}
 use Rattle.blk_format.specs.BlockFiles.{is_among}
 use Rattle.blk_format.specs.Claims.{Claim}
-use Rattle.blk_volume.specs.View.{Stock, Named}
+use Rattle.blk_volume.specs.View.{StoreView, NodeFields}
 use Rattle.blk_volume.specs.Chains.{chain, bucket_of_hash, Linked, IsChain}
 use Rattle.blk_volume.specs.Loads.{Rule, Loaded, load, all_claims, record_claims}
 use Rattle.blk_volume.specs.Entries.{key_of, stream_of, streams_of}
 use Rattle.blk_volume.specs.Found.{row_of}
-use Rattle.blk_volume.specs.Layout.{Layout, is_listed, rule_of, IsLaid, Shows, Lies, OneChanged, changed_at, IsChange}
+use Rattle.blk_volume.specs.Layout.{Layout, is_listed, rule_of, IsPlacedAt, Shows, IsLayoutOf, OneChanged, changed_at, IsChange}
 use Rattle.blk_laws.proofs.Loads.{load-then}
 use Rattle.blk_laws.proofs.Loading.{load-from}
 use Rattle.blk_laws.proofs.Owner.{IsOwned, owned}
@@ -102,7 +102,7 @@ module _ (m : State) (valid : IsValidState m) (number : ℕ) (o : Object) (b : B
       first_with_found (main o.key) 0 number m.objects (ap (slot_has_item (main o.key)) here ∙ and_from o.live (bytes_eq o.key o.key) live (bytes_eq_self o.key)) (omega arith) ∙ ap Some (omega arith)
 
   -- the layout with the other dirty word
-  module _ (y : Layout) (r : Lies m y) (l : Loaded) (at : y.at (y.place (main o.key)) ≡ Some l) (d : ℕ) (mark : (d == 0) ≡ b) where
+  module _ (y : Layout) (r : IsLayoutOf m y) (l : Loaded) (at : y.at (y.place (main o.key)) ≡ Some l) (d : ℕ) (mark : (d == 0) ≡ b) where
     pub settle-change : IsChange m (set m.objects number (Some (record o { settled = b }))) y (main o.key) l (record l { dirty = d }) y.owner
     unfolding all_claims record_claims
     settle-change = record {
@@ -121,22 +121,22 @@ module _ (m : State) (valid : IsValidState m) (number : ℕ) (o : Object) (b : B
 
       laid-row : model.row_of m (main o.key) ≡ Some (row_of l)
       laid-row =
-          let q : IsLaid m y (main o.key) = r.laid (main o.key) main-listed in
+          let q : IsPlacedAt m y (main o.key) = r.laid (main o.key) main-listed in
           let s : q.loaded ≡ l = let z : y.at (y.place (main o.key)) ≡ Some q.loaded = q.here in let t : y.at (y.place (main o.key)) ≡ Some l = at in cc in
           q.row ∙ ap (λ (z : Loaded). Some (row_of z)) s
 
-    pub settle-lies : Lies (record m { objects = set m.objects number (Some (record o { settled = b })) }) (changed_at y (y.place (main o.key)) (record l { dirty = d }) y.owner)
+    pub settle-lies : IsLayoutOf (record m { objects = set m.objects number (Some (record o { settled = b })) }) (changed_at y (y.place (main o.key)) (record l { dirty = d }) y.owner)
     settle-lies = lies-changed m (set m.objects number (Some (record o { settled = b }))) y (main o.key) l (record l { dirty = d }) y.owner r settle-one main-listed at settle-change
 
 -- ---- what is shown
 
 -- a node with another dirty word loads so
-pub load-named : (v : Stock) (f : ℕ → Option Named) (rule : Rule) (w d : ℕ) (l : Loaded) → rule.clean ≡ false → rule.chained ≡ false → ((n : Named) → v.named w ≡ Some n → n.dirty ≡ l.dirty → f w ≡ Some (record n { dirty = d }))
-    → load v rule w ≡ Ok l → load (record v { named = f }) rule w ≡ Ok (record l { dirty = d })
+pub load-named : (v : StoreView) (f : ℕ → Option NodeFields) (rule : Rule) (w d : ℕ) (l : Loaded) → rule.clean ≡ false → rule.chained ≡ false → ((n : NodeFields) → v.node_fields w ≡ Some n → n.dirty ≡ l.dirty → f w ≡ Some (record n { dirty = d }))
+    → load v rule w ≡ Ok l → load (record v { node_fields = f }) rule w ≡ Ok (record l { dirty = d })
 unfolding key_of streams_of stream_of
 load-named v f rule w d l any free is ok = load-then v rule w l ok (λ n e g.
     let r = g.facts in let k = r.keyed in
-    load-from (record v { named = f }) rule w (record l { dirty = d }) (record n { dirty = d }) e (record {
+    load-from (record v { node_fields = f }) rule w (record l { dirty = d }) (record n { dirty = d }) e (record {
       node = is n g.node (sym r.dirty_is);
       entry = g.entry;
       checks = g.checks;
@@ -149,7 +149,7 @@ load-named v f rule w d l any free is ok = load-then v rule w l ok (λ n e g.
           key_length = k.key_length;
           key = k.key;
           hashed = k.hashed;
-          chained = or_left (not rule.chained) (is_among (chain (record v { named = f }) (bucket_of_hash e.hash)).reached n.contents) (ap not free);
+          chained = or_left (not rule.chained) (is_among (chain (record v { node_fields = f }) (bucket_of_hash e.hash)).reached n.contents) (ap not free);
         };
         streams = r.streams;
         role = r.role;
@@ -160,33 +160,33 @@ load-named v f rule w d l any free is ok = load-then v rule w l ok (λ n e g.
       };
     }))
 
-linked-named : (v : Stock) (f : ℕ → Option Named) (b w : ℕ) (cs : List ℕ) → Linked v b w cs → Linked (record v { named = f }) b w cs
+linked-named : (v : StoreView) (f : ℕ → Option NodeFields) (b w : ℕ) (cs : List ℕ) → Linked v b w cs → Linked (record v { node_fields = f }) b w cs
 linked-named v f b w [] h = h
-linked-named v f b w (c ∷ cs) h = (h.0, h.1, linked-named v f b (v.follow c) cs h.2)
+linked-named v f b w (c ∷ cs) h = (h.0, h.1, linked-named v f b (v.chain_next c) cs h.2)
 
 -- a stock with another dirty word at a node
-pub shows-dirty : (v : Stock) (y : Layout) (r : Shows v y) (w0 d : ℕ) (l : Loaded) (n : Named) (owner : Claim → Option ℕ) → y.at w0 ≡ Some l → v.named w0 ≡ Some n
-    → Shows (record v { named = put v.named w0 (Some (record n { dirty = d })) }) (changed_at y w0 (record l { dirty = d }) owner)
-shows-dirty v y r w0 d l n owner at named = record {
+pub shows-dirty : (v : StoreView) (y : Layout) (r : Shows v y) (w0 d : ℕ) (l : Loaded) (n : NodeFields) (owner : Claim → Option ℕ) → y.at w0 ≡ Some l → v.node_fields w0 ≡ Some n
+    → Shows (record v { node_fields = put v.node_fields w0 (Some (record n { dirty = d })) }) (changed_at y w0 (record l { dirty = d }) owner)
+shows-dirty v y r w0 d l n owner at node_fields = record {
   no_record = r.no_record;
   each = λ w x is. each w x is;
-  chains = λ b below. let c : IsChain v b (y.chains b) = r.chains b below in record { linked = linked-named v (put v.named w0 (Some (record n { dirty = d }))) b (v.table b) (y.chains b) c.linked; once = c.once };
+  chains = λ b below. let c : IsChain v b (y.chains b) = r.chains b below in record { linked = linked-named v (put v.node_fields w0 (Some (record n { dirty = d }))) b (v.table b) (y.chains b) c.linked; once = c.once };
 } where
-  f : ℕ → Option Named
-  f = put v.named w0 (Some (record n { dirty = d }))
+  f : ℕ → Option NodeFields
+  f = put v.node_fields w0 (Some (record n { dirty = d }))
 
-  each : (w : ℕ) (x : Loaded) → put y.at w0 (Some (record l { dirty = d })) w ≡ Some x → load (record v { named = put v.named w0 (Some (record n { dirty = d })) }) (rule_of y w) w ≡ Ok x
+  each : (w : ℕ) (x : Loaded) → put y.at w0 (Some (record l { dirty = d })) w ≡ Some x → load (record v { node_fields = put v.node_fields w0 (Some (record n { dirty = d })) }) (rule_of y w) w ≡ Ok x
   each w x is = ⊎_elim
       (λ (e : (eqb w0 w ≡ true) × (w0 ≡ w)).
       let a : put y.at w0 (Some (record l { dirty = d })) w0 ≡ Some x = ap (put y.at w0 (Some (record l { dirty = d }))) e.1 ∙ is in
       let b : ◌≡◌ {A = Option Loaded} (Some (record l { dirty = d })) (Some x) = sym (at-itself y.at w0 (Some (record l { dirty = d }))) ∙ a in
       let s : (let z : Loaded = record l { dirty = d } in z) ≡ x = cc in
-      subst (λ (z : ℕ). load (record v { named = put v.named w0 (Some (record n { dirty = d })) }) (rule_of y z) z ≡ Ok x) e.1
-      (load-named v (put v.named w0 (Some (record n { dirty = d }))) (rule_of y w0) w0 d l refl refl (λ k k_is _.
-      let t : n ≡ k = let p : v.named w0 ≡ Some n = named in let q : v.named w0 ≡ Some k = k_is in cc in
-      at-itself v.named w0 (Some (record n { dirty = d })) ∙ ap (λ (z : Named). Some (record z { dirty = d })) t) (r.each w0 l at) ∙ ap Ok s))
+      subst (λ (z : ℕ). load (record v { node_fields = put v.node_fields w0 (Some (record n { dirty = d })) }) (rule_of y z) z ≡ Ok x) e.1
+      (load-named v (put v.node_fields w0 (Some (record n { dirty = d }))) (rule_of y w0) w0 d l refl refl (λ k k_is _.
+      let t : n ≡ k = let p : v.node_fields w0 ≡ Some n = node_fields in let q : v.node_fields w0 ≡ Some k = k_is in cc in
+      at-itself v.node_fields w0 (Some (record n { dirty = d })) ∙ ap (λ (z : NodeFields). Some (record z { dirty = d })) t) (r.each w0 l at) ∙ ap Ok s))
       (λ (e : (eqb w0 w ≡ false) × _).
-      load-named v (put v.named w0 (Some (record n { dirty = d }))) (rule_of y w) w x.dirty x refl refl (λ k k_is dirty.
-      at-elsewhere v.named w0 (Some (record n { dirty = d })) w e.0 ∙ k_is ∙ ap (λ (z : ℕ). Some (record k { dirty = z })) dirty)
+      load-named v (put v.node_fields w0 (Some (record n { dirty = d }))) (rule_of y w) w x.dirty x refl refl (λ k k_is dirty.
+      at-elsewhere v.node_fields w0 (Some (record n { dirty = d })) w e.0 ∙ k_is ∙ ap (λ (z : ℕ). Some (record k { dirty = z })) dirty)
       (r.each w x (sym (at-elsewhere y.at w0 (Some (record l { dirty = d })) w e.0) ∙ is)))
       (eqb_tells w0 w)

@@ -12,7 +12,7 @@ use Rattle.blk_format.specs.BlockFiles.{is_among}
 use Rattle.blk_format.specs.Records.{child, parent}
 use Rattle.blk_format.specs.Names.{Name, read_name}
 use Rattle.blk_format.specs.SparseIndex.{ParentIndex, read_parent_index, PartIndex, read_part_index}
-use Rattle.blk_volume.specs.View.{Stock, Core}
+use Rattle.blk_volume.specs.View.{StoreView, RecordFields}
 use Rattle.blk_format.specs.Claims.{Claim, same_claim, has_claim, overlap, repeats}
 use Rattle.blk_volume.specs.Reasons.{Reason, ◌>>=◌, demand}
 use Rattle.blk_volume.specs.Loads.{Rule, Loaded, load, is_part, is_part_role, record_claims, all_claims}
@@ -25,7 +25,7 @@ use Rattle.blk_volume.specs.Reasons as reason
 
 -- ---- the role and the child flag
 
-parent_role-is : (e : Core) (streams : List (List ℕ)) (role : Role) → parent_role e streams ≡ Some role → is_part_role role ≡ false
+parent_role-is : (e : RecordFields) (streams : List (List ℕ)) (role : Role) → parent_role e streams ≡ Some role → is_part_role role ≡ false
 unfolding parent_role
 parent_role-is e streams role is = go (not (length (stream 1 streams) == 0)) (read_parent_index (stream 2 streams)) is where
   one : (index : ParentIndex) (t : Bool) → (if t then Some (IsParent index) else None) ≡ Some role → is_part_role role ≡ false
@@ -52,7 +52,7 @@ part_role-is key streams role is = go (not (length (stream 0 streams) == 0)) (na
   go false false (Some name) None is = cc
   go false false (Some name) (Some index) is = one name index ((index.signature == name.signature) && (index.key_len == length name.key) && is_covered index (length (stream 1 streams))) is
 
-pub role-part : (e : Core) (key : List ℕ) (streams : List (List ℕ)) (role : Role) → role_of e key streams ≡ Some role → (e.flags == child) ≡ is_part_role role
+pub role-part : (e : RecordFields) (key : List ℕ) (streams : List (List ℕ)) (role : Role) → role_of e key streams ≡ Some role → (e.flags == child) ≡ is_part_role role
 unfolding role_of
 role-part e key streams role is =
     ⊎_elim
@@ -80,7 +80,7 @@ part_role-name key streams name index is = go (not (length (stream 0 streams) ==
   go false false (Some n) None is = cc
   go false false (Some n) (Some i) is = one n i ((i.signature == n.signature) && (i.key_len == length n.key) && is_covered i (length (stream 1 streams))) is
 
-pub role-name : (e : Core) (key : List ℕ) (streams : List (List ℕ)) (name : Name) (index : PartIndex) → role_of e key streams ≡ Some (IsPart name index) → read_name key ≡ Some name
+pub role-name : (e : RecordFields) (key : List ℕ) (streams : List (List ℕ)) (name : Name) (index : PartIndex) → role_of e key streams ≡ Some (IsPart name index) → read_name key ≡ Some name
 unfolding role_of
 role-name e key streams name index is =
     ⊎_elim
@@ -93,10 +93,10 @@ role-name e key streams name index is =
     (cases_Bool (e.flags == parent))
 
 -- a loaded node is a child where its role is a part's
-pub child-part : (v : Stock) (rule : Rule) (w : ℕ) (l : Loaded) → load v rule w ≡ Ok l → is_child v w ≡ is_part l
+pub child-part : (v : StoreView) (rule : Rule) (w : ℕ) (l : Loaded) → load v rule w ≡ Ok l → is_child v w ≡ is_part l
 child-part v rule w l ok = load-then v rule w l ok (λ n e facts. rw (facts.node, facts.entry, facts.checks) (role-part e l.key l.streams l.role facts.facts.role))
 
-pub node-is : (v : Stock) (rule : Rule) (w : ℕ) (l : Loaded) → load v rule w ≡ Ok l → l.node ≡ w
+pub node-is : (v : StoreView) (rule : Rule) (w : ℕ) (l : Loaded) → load v rule w ≡ Ok l → l.node ≡ w
 node-is v rule w l ok = load-then v rule w l ok (λ n e facts. facts.facts.node_is)
 
 -- ---- claims
@@ -123,7 +123,7 @@ overlap-none (c ∷ zs) = overlap-none zs
 
 -- ---- the induction
 
-module _ (v : Stock) (rule : Rule) (ws : List ℕ) (given : ℕ → Option Loaded) (shown : IsShown v rule ws given) where
+module _ (v : StoreView) (rule : Rule) (ws : List ℕ) (given : ℕ → Option Loaded) (shown : IsShown v rule ws given) where
   -- one that is kept was given, and is not still to be tried
   record IsGivenBefore (ts : List ℕ) (k : Loaded) : Type 0 where
     among : is_among ws k.node ≡ true
@@ -325,7 +325,7 @@ all-has : (xs ys : List ℕ) → ((x : ℕ) → is_among xs x ≡ true → is_am
 all-has [] ys h = tt
 all-has (x ∷ xs) ys h = (h x (or_left (x == x) (is_among xs x) (eq-eqb x x refl)), all-has xs ys (λ y g. h y (or_right (x == y) (is_among xs y) g)))
 
-module _ (v : Stock) (ws : List ℕ) (once : Distinct ws) where
+module _ (v : StoreView) (ws : List ℕ) (once : Distinct ws) where
   is_among-tried : (w : ℕ) → is_among (tried v ws) w ≡ is_among ws w
   is_among-tried w = is_among-append (filter (λ x. not (is_child v x)) ws) (filter (is_child v) ws) w
       ∙ ap₂' (is_among-filter (λ x. not (is_child v x)) ws w) (is_among-filter (is_child v) ws w) ∙ two (is_child v w) (is_among ws w) where
@@ -348,7 +348,7 @@ module _ (v : Stock) (ws : List ℕ) (once : Distinct ws) where
 
 -- ---- what is kept and dropped
 
-module _ (v : Stock) (rule : Rule) (ws : List ℕ) (given : ℕ → Option Loaded) (shown : IsShown v rule ws given) where
+module _ (v : StoreView) (rule : Rule) (ws : List ℕ) (given : ℕ → Option Loaded) (shown : IsShown v rule ws given) where
   judged-tells : (w : ℕ) → is_among ws w ≡ true → Tells v rule ws given shown (given w) (verdict_on (judged v rule ws) w)
   judged-tells w here =
       tells v rule ws given shown [] (tried v ws)

@@ -10,27 +10,27 @@ use Rattle.blk_image.specs.Steps.{with_word, with_words}
 use Rattle.blk_image.proofs.Words.{word-zeros}
 use Rattle.blk_model.specs.Items.{main_row, plain}
 use Rattle.blk_format.specs.Hash.{of_four, of_three, of_two, of_one, of_bytes, mixed, hash}
-use Rattle.blk_format.specs.Address.{is_address, is_initialized, names_external, names_blocks, kind_of, reserved_bits, block_count, file_selector, first_block, external_number, block_size, block_place, place, room}
+use Rattle.blk_format.specs.Address.{is_address, is_initialized, names_external, names_blocks, kind_of, reserved_bits, block_count, file_selector, first_block, external_number, block_size, block_place, place, byte_size}
 use Rattle.blk_format.specs.Storage.{kind_for, blocks_for, entry_blocks, is_storage}
 use Rattle.blk_format.specs.Standing.{stands, stands_as_blocks}
 use Rattle.blk_format.specs.Records.{node_checks, node_is_sealed, entry_checks, entry_is_sealed, node_in, node_body, entry_in, entry_body}
 use Rattle.blk_format.specs.Headers.{unfinished, head_checks, list_checks, index_length, place_of_bucket, bucket_of}
-use Rattle.blk_format.specs.BlockFiles.{is_among, next_file_in, max_entries_in, files_along, linked, linked_up_to, type_among, is_link, is_block_count, file_checks, checks_along, checks_of_type, first_damage}
+use Rattle.blk_format.specs.BlockFiles.{is_among, next_file_in, max_entries_in, files_along, linked, linked_up_to, kind_among, is_link, is_block_count, file_checks, checks_along, checks_of_kind, first_damage}
 use Rattle.blk_format.specs.Claims.{claims_of, has_claim, overlap, repeats}
 use Rattle.blk_volume.specs.Walk.{walk, walk_from}
 use Rattle.blk_volume.specs.Completion.{counts, completed_list}
-use Rattle.blk_volume.specs.View.{view_of, list_of, checks_at, next_at, prev_at, stock_of, named_at, core_at, follow_at, key_place_at, stored_at}
+use Rattle.blk_volume.specs.View.{view_of, list_of, checks_at, next_at, prev_at, store_of, node_fields_at, core_at, follow_at, key_place_at, stored_at}
 use Rattle.blk_volume.specs.Chains.{chain, chain_from}
 use Rattle.blk_volume.specs.Entries.{IsPlain, is_key_length, key_of, stream_of, streams_of, role_of}
 use Rattle.blk_volume.specs.Reasons.{Reason}
 use Rattle.blk_volume.specs.Reasons as reason
-use Rattle.blk_volume.specs.Loads.{held, Loaded, load, load_key, load_record, record_claims, all_claims}
+use Rattle.blk_volume.specs.Loads.{held_rule, Loaded, load, load_key, load_record, record_claims, all_claims}
 use Rattle.blk_volume.specs.Audit.{judged, is_named, is_orphan, admit, verdicts, kept_among, dropped_among, is_unlisted, unlisted_in, unlisted}
 use Rattle.blk_volume.specs.Found.{completed, kept, dropped, found}
 use Rattle.blk_format.specs.NewFolder.{new_index_words, new_file_words}
 use Rattle.blk_laws.proofs.Chains.{chain-is}
 use Rattle.blk_laws.proofs.Central.{flat_map-none}
-use Rattle.blk_laws.proofs.NewFolders.{Beside, words_beside}
+use Rattle.blk_laws.proofs.NewFolders.{Neighbours, words_beside}
 use Rattle.blk_laws.proofs.Bare.{no-record}
 
 -- the index of a new folder, with node 0 of data_0 as head and tail, and the record at block 0 of data_1 in the bucket of `a`
@@ -56,12 +56,12 @@ folder_with records _ = None
 
 -- no check fails
 small_is_well_formed : first_damage (folder_with small_records) ≡ None
-unfolding folder_with head_checks list_checks checks_of_type checks_along file_checks next_file_in is_link is_block_count linked_up_to linked files_along zeros with_word spliced block_size
+unfolding folder_with head_checks list_checks checks_of_kind checks_along file_checks next_file_in is_link is_block_count linked_up_to linked files_along zeros with_word spliced block_size
 small_is_well_formed = refl
 
 -- it holds the entry
 pub small_is_found : found (folder_with small_records) ≡ main_row (codes "a") plain (codes "zz", [], []) ∷ []
-unfolding folder_with zeros with_word spliced unfinished next_file_in max_entries_in linked files_along type_among found kept kept_among verdicts load load_record load_key is_key_length key_of stream_of streams_of role_of is_named is_orphan record_claims all_claims claims_of has_claim overlap repeats admit walk walk_from chain_from completed_list counts list_of checks_at next_at prev_at stock_of named_at core_at follow_at key_place_at stored_at stands stands_as_blocks is_address is_initialized names_external names_blocks kind_of reserved_bits block_count file_selector first_block external_number block_size block_place place room kind_for blocks_for entry_blocks is_storage node_checks node_is_sealed entry_checks entry_is_sealed node_in node_body entry_in entry_body range_at words_at hash mixed of_bytes of_four of_three of_two of_one
+unfolding folder_with zeros with_word spliced unfinished next_file_in max_entries_in linked files_along kind_among found kept kept_among verdicts load load_record load_key is_key_length key_of stream_of streams_of role_of is_named is_orphan record_claims all_claims claims_of has_claim overlap repeats admit walk walk_from chain_from completed_list counts list_of checks_at next_at prev_at store_of node_fields_at core_at follow_at key_place_at stored_at stands stands_as_blocks is_address is_initialized names_external names_blocks kind_of reserved_bits block_count file_selector first_block external_number block_size block_place place byte_size kind_for blocks_for entry_blocks is_storage node_checks node_is_sealed entry_checks entry_is_sealed node_in node_body entry_in entry_body range_at words_at hash mixed of_bytes of_four of_three of_two of_one
 small_is_found = refl
 
 -- ---- a folder of two closed entries with no streams, `a` at block 0 of data_1 and `b` at block 1
@@ -92,7 +92,7 @@ cut_to size _ = None
 
 -- where block 1 isn't there, no check fails
 cut_is_well_formed : first_damage (cut_to 8448) ≡ None
-unfolding cut_to head_checks list_checks checks_of_type checks_along file_checks next_file_in is_link is_block_count linked_up_to linked files_along zeros with_word spliced block_size
+unfolding cut_to head_checks list_checks checks_of_kind checks_along file_checks next_file_in is_link is_block_count linked_up_to linked files_along zeros with_word spliced block_size
 cut_is_well_formed = refl
 
 -- what a node names, whose record is this, with a key and no streams
@@ -101,17 +101,17 @@ without_streams node contents key = record { node = node; contents = contents; d
 
 -- both nodes are walked
 cut_is_walked : walk (completed_list (list_of (cut_to 8448))) ≡ 0x90000000 ∷ 0x90000001 ∷ []
-unfolding cut_to zeros with_word spliced next_file_in max_entries_in linked files_along type_among walk walk_from completed_list counts list_of checks_at next_at prev_at stands stands_as_blocks is_address is_initialized names_external names_blocks kind_of reserved_bits block_count file_selector first_block external_number block_size block_place place room node_checks node_is_sealed node_in node_body words_at hash mixed of_bytes of_four
+unfolding cut_to zeros with_word spliced next_file_in max_entries_in linked files_along kind_among walk walk_from completed_list counts list_of checks_at next_at prev_at stands stands_as_blocks is_address is_initialized names_external names_blocks kind_of reserved_bits block_count file_selector first_block external_number block_size block_place place byte_size node_checks node_is_sealed node_in node_body words_at hash mixed of_bytes of_four
 cut_is_walked = refl
 
 -- that whose record is block 0 is kept, and the other is dropped, since its contents name no record
-cut_is_judged : judged (stock_of (cut_to 8448)) held (0x90000000 ∷ 0x90000001 ∷ []) ≡ (0x90000000, Ok (without_streams 0x90000000 0xA0010000 (codes "a"))) ∷ (0x90000001, Err reason.Contents) ∷ []
-unfolding cut_to zeros with_word spliced next_file_in max_entries_in linked files_along type_among verdicts load load_record load_key is_key_length key_of stream_of streams_of role_of is_named is_orphan record_claims all_claims claims_of has_claim overlap repeats admit chain_from stock_of named_at core_at follow_at key_place_at stored_at stands stands_as_blocks is_address is_initialized names_external names_blocks kind_of reserved_bits block_count file_selector first_block external_number block_size block_place place room kind_for blocks_for entry_blocks is_storage entry_checks entry_is_sealed node_in entry_in entry_body range_at words_at hash mixed of_bytes of_four of_three of_two of_one
+cut_is_judged : judged (store_of (cut_to 8448)) held_rule (0x90000000 ∷ 0x90000001 ∷ []) ≡ (0x90000000, Ok (without_streams 0x90000000 0xA0010000 (codes "a"))) ∷ (0x90000001, Err reason.Contents) ∷ []
+unfolding cut_to zeros with_word spliced next_file_in max_entries_in linked files_along kind_among verdicts load load_record load_key is_key_length key_of stream_of streams_of role_of is_named is_orphan record_claims all_claims claims_of has_claim overlap repeats admit chain_from store_of node_fields_at core_at follow_at key_place_at stored_at stands stands_as_blocks is_address is_initialized names_external names_blocks kind_of reserved_bits block_count file_selector first_block external_number block_size block_place place byte_size kind_for blocks_for entry_blocks is_storage entry_checks entry_is_sealed node_in entry_in entry_body range_at words_at hash mixed of_bytes of_four of_three of_two of_one
 cut_is_judged = refl
 
 -- with block 1 the other is loaded too
-whole_loads : load (stock_of (cut_to 8704)) held 0x90000001 ≡ Ok (without_streams 0x90000001 0xA0010001 (codes "b"))
-unfolding cut_to zeros with_word spliced next_file_in max_entries_in linked files_along type_among load load_record load_key is_key_length key_of stream_of streams_of role_of chain_from stock_of named_at core_at follow_at key_place_at stored_at stands stands_as_blocks is_address is_initialized names_external names_blocks kind_of reserved_bits block_count file_selector first_block external_number block_size block_place place room kind_for blocks_for entry_blocks is_storage entry_checks entry_is_sealed node_in entry_in entry_body range_at words_at hash mixed of_bytes of_four of_three of_two of_one
+whole_loads : load (store_of (cut_to 8704)) held_rule 0x90000001 ≡ Ok (without_streams 0x90000001 0xA0010001 (codes "b"))
+unfolding cut_to zeros with_word spliced next_file_in max_entries_in linked files_along kind_among load load_record load_key is_key_length key_of stream_of streams_of role_of chain_from store_of node_fields_at core_at follow_at key_place_at stored_at stands stands_as_blocks is_address is_initialized names_external names_blocks kind_of reserved_bits block_count file_selector first_block external_number block_size block_place place byte_size kind_for blocks_for entry_blocks is_storage entry_checks entry_is_sealed node_in entry_in entry_body range_at words_at hash mixed of_bytes of_four of_three of_two of_one
 whole_loads = refl
 
 cut_is_finished : unfinished (cut_to 8448) ≡ false
@@ -124,14 +124,14 @@ unfolding found kept kept_among
 cut_is_found = rw (cut_is_finished, cut_is_walked, cut_is_judged) refl
 
 -- no record is unlisted: that of the first is of a walked node, and the other isn't reached
-its_chains : ((chain (stock_of (cut_to 8448)) 0xA782).reached ≡ 0xA0010000 ∷ []) × ((chain (stock_of (cut_to 8448)) 0xA0E1).reached ≡ [])
-unfolding cut_to zeros with_word spliced next_file_in max_entries_in linked files_along type_among chain_from stock_of core_at follow_at stands stands_as_blocks is_address is_initialized names_external names_blocks kind_of reserved_bits block_count file_selector first_block external_number block_size block_place place room entry_checks entry_in words_at
+its_chains : ((chain (store_of (cut_to 8448)) 0xA782).reached ≡ 0xA0010000 ∷ []) × ((chain (store_of (cut_to 8448)) 0xA0E1).reached ≡ [])
+unfolding cut_to zeros with_word spliced next_file_in max_entries_in linked files_along kind_among chain_from store_of core_at follow_at stands stands_as_blocks is_address is_initialized names_external names_blocks kind_of reserved_bits block_count file_selector first_block external_number block_size block_place place byte_size entry_checks entry_in words_at
 its_chains = (refl, refl)
 
 its_record : is_unlisted (completed (view_of (cut_to 8448))) 0xA0010000 ≡ false
-unfolding cut_to zeros with_word spliced next_file_in max_entries_in linked files_along type_among is_unlisted stock_of named_at core_at stands stands_as_blocks is_address is_initialized names_external names_blocks kind_of reserved_bits block_count file_selector first_block external_number block_size block_place place room entry_checks node_in entry_in words_at
+unfolding cut_to zeros with_word spliced next_file_in max_entries_in linked files_along kind_among is_unlisted store_of node_fields_at core_at stands stands_as_blocks is_address is_initialized names_external names_blocks kind_of reserved_bits block_count file_selector first_block external_number block_size block_place place byte_size entry_checks node_in entry_in words_at
 its_record =
-    subst (λ (nodes : List ℕ). option_map_or (λ core. not (is_among nodes core.rankings_node && option_map_or (λ named. named.contents == 0xA0010000) (named_at (cut_to 8448) core.rankings_node) false)) (core_at (cut_to 8448) 0xA0010000) false ≡ false)
+    subst (λ (nodes : List ℕ). option_map_or (λ fields. not (is_among nodes fields.rankings_node && option_map_or (λ node_fields. node_fields.contents == 0xA0010000) (node_fields_at (cut_to 8448) fields.rankings_node) false)) (core_at (cut_to 8448) 0xA0010000) false ≡ false)
     (sym cut_is_walked) refl
 
 its_buckets : (unlisted_in (completed (view_of (cut_to 8448))) 0xA782 ≡ []) × (unlisted_in (completed (view_of (cut_to 8448))) 0xA0E1 ≡ [])
@@ -142,8 +142,8 @@ its_buckets =
 other_bucket : (b : ℕ) → (b == 0xA782) ≡ false → (b == 0xA0E1) ≡ false → bucket_of (byte (cut_to 8448) Index) b ≡ 0
 unfolding cut_to
 other_bucket b not_first not_second = words_beside (place_of_bucket b) pair_words (zeros index_length) beside ∙ word-zeros index_length (place_of_bucket b) where
-  behind : (place : ℕ) → place ≤ 312 → (368 + 4 * b + 4 ≤ place) ⊎ (place + 4 ≤ 368 + 4 * b)
-  behind place low = inr (omega arith)
+  suffix : (place : ℕ) → place ≤ 312 → (368 + 4 * b + 4 ≤ place) ⊎ (place + 4 ≤ 368 + 4 * b)
+  suffix place low = inr (omega arith)
 
   away : (c : ℕ) → (b == c) ≡ false → (368 + 4 * b + 4 ≤ 368 + 4 * c) ⊎ (368 + 4 * c + 4 ≤ 368 + 4 * b)
   away c apart = ⊎_elim
@@ -151,8 +151,8 @@ other_bucket b not_first not_second = words_beside (place_of_bucket b) pair_word
       (λ (over : c ≤ b). let more : c < b = let n : b ≢ c = λ e. (let z : true ≡ false = sym (eq-eqb b c e) ∙ apart in cc) in omega arith in inr (omega arith))
       (cases_lt b c)
 
-  beside : Beside (place_of_bucket b) pair_words
-  beside = (behind 4 (lit≤ tt), (behind 28 (lit≤ tt), (behind 40 (lit≤ tt), (behind 44 (lit≤ tt), (behind 0 (lit≤ tt), (behind 288 (lit≤ tt), (behind 308 (lit≤ tt), (away 0xA782 not_first, (away 0xA0E1 not_second, tt)))))))))
+  beside : Neighbours (place_of_bucket b) pair_words
+  beside = (suffix 4 (lit≤ tt), (suffix 28 (lit≤ tt), (suffix 40 (lit≤ tt), (suffix 44 (lit≤ tt), (suffix 0 (lit≤ tt), (suffix 288 (lit≤ tt), (suffix 308 (lit≤ tt), (away 0xA782 not_first, (away 0xA0E1 not_second, tt)))))))))
 
 none_unlisted : unlisted (completed (view_of (cut_to 8448))) ≡ []
 unfolding unlisted
@@ -160,7 +160,7 @@ none_unlisted = flat_map-none (unlisted_in (completed (view_of (cut_to 8448)))) 
   each : (b : ℕ) → ((b == 0xA782) ≡ true) ⊎ ((b == 0xA782) ≡ false) → ((b == 0xA0E1) ≡ true) ⊎ ((b == 0xA0E1) ≡ false) → unlisted_in (completed (view_of (cut_to 8448))) b ≡ []
   each b (inl first) other = subst (λ (x : ℕ). unlisted_in (completed (view_of (cut_to 8448))) x ≡ []) (sym (eqb-true b 0xA782 first)) its_buckets.0
   each b (inr apart) (inl second) = subst (λ (x : ℕ). unlisted_in (completed (view_of (cut_to 8448))) x ≡ []) (sym (eqb-true b 0xA0E1 second)) its_buckets.1
-  each b (inr not_first) (inr not_second) = rw (chain-is (stock_of (cut_to 8448)) b [] (no-record (cut_to 8448)) (record { linked = unfold stock_of in other_bucket b not_first not_second; once = tt })) refl
+  each b (inr not_first) (inr not_second) = rw (chain-is (store_of (cut_to 8448)) b [] (no-record (cut_to 8448)) (record { linked = unfold store_of in other_bucket b not_first not_second; once = tt })) refl
 
 -- and the other node is all that is dropped
 cut_is_dropped : dropped (cut_to 8448) ≡ (0x90000001, reason.Contents) ∷ []
@@ -169,5 +169,5 @@ cut_is_dropped = rw (cut_is_walked, cut_is_judged, none_unlisted) refl
 
 -- with one byte less neither is held
 less_is_found : found (cut_to 8447) ≡ []
-unfolding cut_to zeros with_word spliced unfinished next_file_in max_entries_in linked files_along type_among found kept kept_among verdicts load load_record load_key is_key_length key_of stream_of streams_of role_of is_named is_orphan record_claims all_claims claims_of has_claim overlap repeats admit walk walk_from chain_from completed_list counts list_of checks_at next_at prev_at stock_of named_at core_at follow_at key_place_at stored_at stands stands_as_blocks is_address is_initialized names_external names_blocks kind_of reserved_bits block_count file_selector first_block external_number block_size block_place place room kind_for blocks_for entry_blocks is_storage node_checks node_is_sealed entry_checks entry_is_sealed node_in node_body entry_in entry_body range_at words_at hash mixed of_bytes of_four of_three of_two of_one
+unfolding cut_to zeros with_word spliced unfinished next_file_in max_entries_in linked files_along kind_among found kept kept_among verdicts load load_record load_key is_key_length key_of stream_of streams_of role_of is_named is_orphan record_claims all_claims claims_of has_claim overlap repeats admit walk walk_from chain_from completed_list counts list_of checks_at next_at prev_at store_of node_fields_at core_at follow_at key_place_at stored_at stands stands_as_blocks is_address is_initialized names_external names_blocks kind_of reserved_bits block_count file_selector first_block external_number block_size block_place place byte_size kind_for blocks_for entry_blocks is_storage node_checks node_is_sealed entry_checks entry_is_sealed node_in node_body entry_in entry_body range_at words_at hash mixed of_bytes of_four of_three of_two of_one
 less_is_found = refl

@@ -14,12 +14,12 @@ use Rattle.blk_model.specs.State.{State, Object, IsValidState, object_at}
 use Rattle.blk_image.specs.Image.{Image}
 use Rattle.blk_format.specs.BlockFiles.{is_among, IsWellFormed}
 use Rattle.blk_format.specs.Claims.{Claim, BlockOf, ExternalOf, has_claim, claims_of, repeats}
-use Rattle.blk_volume.specs.View.{View, Core, view_of}
+use Rattle.blk_volume.specs.View.{View, RecordFields, view_of}
 use Rattle.blk_volume.specs.Chains.{Chain}
-use Rattle.blk_volume.specs.Loads.{Rule, listed, Loaded, load, all_claims, claims_of_loaded}
+use Rattle.blk_volume.specs.Loads.{Rule, listed_rule, Loaded, load, all_claims, claims_of_loaded}
 use Rattle.blk_volume.specs.Audit.{kept_by, kept_among}
 use Rattle.blk_volume.specs.Found.{row_of, kept, found}
-use Rattle.blk_volume.specs.Layout.{Layout, is_listed, order, rule_of, IsMarked, IsLaid, IsListedRecord, IsDoomedAt, Lies, Represents}
+use Rattle.blk_volume.specs.Layout.{Layout, is_listed, order, rule_of, HasDirtyMark, IsPlacedAt, IsListedRecord, IsDoomedAt, IsLayoutOf, Represents}
 use Rattle.blk_volume.specs.Given.{given_by}
 use Rattle.blk_volume.specs.StandsFor.{KeepsDoomed, AreDoomed, ShowsState, StandsFor, doomed_of, IsOwner, IsAllocated}
 use Rattle.blk_volume.specs.Sound.{EndsWhole, AreOwned, IsInOrder}
@@ -88,9 +88,9 @@ doomed-records y (n ∷ numbers) = go (y.at (y.place_of_doomed n)) (doomed_of y 
 
 -- ---- the end of the list
 
-last-next : (checks : ℕ → Bool) (next prev : ℕ → ℕ) (before behind x : ℕ) (xs : List ℕ) → Segment checks next prev before (x ∷ xs) behind → next (last_or x xs) ≡ behind
-last-next checks next prev before behind x [] s = s.0.next_is
-last-next checks next prev before behind x (z ∷ xs) s = last-next checks next prev x behind z xs s.1
+last-next : (checks : ℕ → Bool) (next prev : ℕ → ℕ) (before suffix x : ℕ) (xs : List ℕ) → Segment checks next prev before (x ∷ xs) suffix → next (last_or x xs) ≡ suffix
+last-next checks next prev before suffix x [] s = s.0.next_is
+last-next checks next prev before suffix x (z ∷ xs) s = last-next checks next prev x suffix z xs s.1
 
 ends-whole : (l : ListView) (nodes : List ℕ) → walk l ≡ nodes → IsList l nodes → EndsWhole l
 ends-whole l [] e list = inl (e, list.head_is, list.tail_is)
@@ -105,18 +105,18 @@ module _ (image : Image) (m : State) (y : Layout) (r : Represents (view_of image
   v : View
   v = view_of image
 
-  lies : Lies m y
+  lies : IsLayoutOf m y
   lies = r.holds.lies
 
-  kept-at : kept_by listed (view_of image) ≡ filter_map y.at (order m y)
-  kept-at = ap (kept_among (view_of image).stock listed) (walk-order (view_of image) m y r)
-      ∙ kept-given (view_of image).stock listed (order m y) (given_by (λ _. true) y) (all-shown (view_of image).stock m y r.holds valid r.list.distinct)
+  kept-at : kept_by listed_rule (view_of image) ≡ filter_map y.at (order m y)
+  kept-at = ap (kept_among (view_of image).store listed_rule) (walk-order (view_of image) m y r)
+      ∙ kept-given (view_of image).store listed_rule (order m y) (given_by (λ _. true) y) (all-shown (view_of image).store m y r.holds valid r.list.distinct)
       ∙ ap (λ (g : ℕ → Option Loaded). filter_map g (order m y)) (λ i w. same (y.at w) i) where
         same : (o : Option Loaded) → option_and_then (λ (l : Loaded). if true then Some l else None) o ≡ o
         same None = refl
         same (Some l) = refl
 
-  all-kept-at : kept_by listed (view_of image) ++ filter_map y.at (map y.place_of_doomed numbers) ≡ filter_map y.at (order m y ++ (map y.place_of_doomed numbers))
+  all-kept-at : kept_by listed_rule (view_of image) ++ filter_map y.at (map y.place_of_doomed numbers) ≡ filter_map y.at (order m y ++ (map y.place_of_doomed numbers))
   all-kept-at = ap (λ (ls : List Loaded). ls ++ filter_map y.at (map y.place_of_doomed numbers)) kept-at ∙ sym (filter_map-append y.at (order m y) (map y.place_of_doomed numbers))
 
   -- what is claimed is what has an owner
@@ -132,16 +132,16 @@ module _ (image : Image) (m : State) (y : Layout) (r : Represents (view_of image
             absurd (let z : true ≡ false = sym t ∙ e in cc)
 
   -- marks
-  mark-of : (i : Item) (l : Loaded) → is_listed m i ≡ true → y.at (y.place i) ≡ Some l → IsMarked m (item_of (row_of l)) l
+  mark-of : (i : Item) (l : Loaded) → is_listed m i ≡ true → y.at (y.place i) ≡ Some l → HasDirtyMark m (item_of (row_of l)) l
   mark-of i l there here =
-      let q : IsLaid m y i = lies.laid i there in
+      let q : IsPlacedAt m y i = lies.laid i there in
       let same : q.loaded ≡ l = let s : y.at (y.place i) ≡ Some q.loaded = q.here in let t : y.at (y.place i) ≡ Some l = here in cc in
-      subst (λ (j : Item). IsMarked m j l) (sym (item-of m y lies.laid i l there here)) (subst (IsMarked m i) same q.mark)
+      subst (λ (j : Item). HasDirtyMark m j l) (sym (item-of m y lies.laid i l there here)) (subst (HasDirtyMark m i) same q.mark)
 
-  marks-of : (ws : List ℕ) → ((w : ℕ) → is_among ws w ≡ true → is_among (order m y) w ≡ true) → AllByRecursion (λ k. IsMarked m (item_of (row_of k)) k) (filter_map y.at ws)
+  marks-of : (ws : List ℕ) → ((w : ℕ) → is_among ws w ≡ true → is_among (order m y) w ≡ true) → AllByRecursion (λ k. HasDirtyMark m (item_of (row_of k)) k) (filter_map y.at ws)
   marks-of [] sub = tt
   marks-of (w ∷ ws) sub = go (y.at w) refl (marks-of ws (λ x h. sub x (or_right (w == x) (is_among ws x) h))) where
-    go : (o : Option Loaded) → y.at w ≡ o → AllByRecursion (λ k. IsMarked m (item_of (row_of k)) k) (filter_map y.at ws) → AllByRecursion (λ k. IsMarked m (item_of (row_of k)) k) (cons_option o (filter_map y.at ws))
+    go : (o : Option Loaded) → y.at w ≡ o → AllByRecursion (λ k. HasDirtyMark m (item_of (row_of k)) k) (filter_map y.at ws) → AllByRecursion (λ k. HasDirtyMark m (item_of (row_of k)) k) (cons_option o (filter_map y.at ws))
     go None is rest = rest
     go (Some l) is rest =
         let n : IsNodeOf y m.uses w = node-of y m.uses w (sub w (or_left (w == w) (is_among ws w) (eq-eqb w w refl))) in
@@ -150,22 +150,22 @@ module _ (image : Image) (m : State) (y : Layout) (r : Represents (view_of image
   -- a doomed object
   keeps-doomed : (number : ℕ) (o : Object) → o.live ≡ false → (d : IsDoomedAt m y number o) → is_among numbers number ≡ true → KeepsDoomed (view_of image) o d.loaded
   keeps-doomed number o dead d among =
-      let loads : load (view_of image).stock (rule_of y (y.place_of_doomed number)) (y.place_of_doomed number) ≡ Ok d.loaded = r.holds.shows.each (y.place_of_doomed number) d.loaded d.here in
-      let node : d.loaded.node ≡ y.place_of_doomed number = node-is (view_of image).stock (rule_of y (y.place_of_doomed number)) (y.place_of_doomed number) d.loaded loads in
+      let loads : load (view_of image).store (rule_of y (y.place_of_doomed number)) (y.place_of_doomed number) ≡ Ok d.loaded = r.holds.shows.each (y.place_of_doomed number) d.loaded d.here in
+      let node : d.loaded.node ≡ y.place_of_doomed number = node-is (view_of image).store (rule_of y (y.place_of_doomed number)) (y.place_of_doomed number) d.loaded loads in
       let rule_is : rule_of y (y.place_of_doomed number) ≡ record { state = 2; clean = false; chained = false } = ap (λ (z : ℕ). let q : Rule = record { state = z; clean = false; chained = false } in q) (a.doomed.records number among) in
       record {
         doomed = dead;
-        loads = ap (load (view_of image).stock (record { state = 2; clean = false; chained = false })) node ∙ ap (λ (q : Rule). load (view_of image).stock q (y.place_of_doomed number)) (sym rule_is) ∙ loads;
+        loads = ap (load (view_of image).store (record { state = 2; clean = false; chained = false })) node ∙ ap (λ (q : Rule). load (view_of image).store q (y.place_of_doomed number)) (sym rule_is) ∙ loads;
         row = d.row;
         mark = d.mark;
         unlisted = ap (λ (ws : List ℕ). is_among ws d.loaded.node) (walk-order (view_of image) m y r) ∙ ap (is_among (order m y)) node ∙ d.unlisted;
-        unchained = λ b below. ap (λ (c : Chain). is_among c.reached d.loaded.contents) (chain-is (view_of image).stock b (y.chains b) r.holds.shows.no_record (r.holds.shows.chains b below)) ∙ not_chained b below (cases_Bool (is_among (y.chains b) d.loaded.contents));
+        unchained = λ b below. ap (λ (c : Chain). is_among c.reached d.loaded.contents) (chain-is (view_of image).store b (y.chains b) r.holds.shows.no_record (r.holds.shows.chains b below)) ∙ not_chained b below (cases_Bool (is_among (y.chains b) d.loaded.contents));
       } where
         some : d.loaded.contents ≡ 0 → ⊥
-        some zero_is = load-then (view_of image).stock (rule_of y (y.place_of_doomed number)) (y.place_of_doomed number) d.loaded (r.holds.shows.each (y.place_of_doomed number) d.loaded d.here) (λ n e f.
-            let p : (view_of image).stock.entry 0 ≡ Some e = ap (view_of image).stock.entry (sym zero_is ∙ f.facts.contents_is) ∙ f.entry in
-            let q : (view_of image).stock.entry 0 ≡ None = r.holds.shows.no_record in
-            let z : ◌≡◌ {A = Option Core} (Some e) None = sym p ∙ q in cc)
+        some zero_is = load-then (view_of image).store (rule_of y (y.place_of_doomed number)) (y.place_of_doomed number) d.loaded (r.holds.shows.each (y.place_of_doomed number) d.loaded d.here) (λ n e f.
+            let p : (view_of image).store.entry 0 ≡ Some e = ap (view_of image).store.entry (sym zero_is ∙ f.facts.contents_is) ∙ f.entry in
+            let q : (view_of image).store.entry 0 ≡ None = r.holds.shows.no_record in
+            let z : ◌≡◌ {A = Option RecordFields} (Some e) None = sym p ∙ q in cc)
 
         not_chained : (b : ℕ) → b < 65536 → (is_among (y.chains b) d.loaded.contents ≡ true) ⊎ (is_among (y.chains b) d.loaded.contents ≡ false) → is_among (y.chains b) d.loaded.contents ≡ false
         not_chained b below (inr e) = e
@@ -203,10 +203,10 @@ module _ (image : Image) (m : State) (y : Layout) (r : Represents (view_of image
       }
 
   -- what is listed and what is doomed
-  all-loaded : kept_by listed (view_of image) ++ map (λ (d : ℕ × Loaded). d.1) (doomed_of y numbers) ≡ filter_map y.at (order m y ++ map y.place_of_doomed numbers)
-  all-loaded = ap (λ (ls : List Loaded). kept_by listed (view_of image) ++ ls) (doomed-records y numbers) ∙ all-kept-at
+  all-loaded : kept_by listed_rule (view_of image) ++ map (λ (d : ℕ × Loaded). d.1) (doomed_of y numbers) ≡ filter_map y.at (order m y ++ map y.place_of_doomed numbers)
+  all-loaded = ap (λ (ls : List Loaded). kept_by listed_rule (view_of image) ++ ls) (doomed-records y numbers) ∙ all-kept-at
 
-  are-owned : AreOwned image (claims_of_loaded (kept_by listed (view_of image) ++ map (λ (d : ℕ × Loaded). d.1) (doomed_of y numbers)))
+  are-owned : AreOwned image (claims_of_loaded (kept_by listed_rule (view_of image) ++ map (λ (d : ℕ × Loaded). d.1) (doomed_of y numbers)))
   are-owned = subst (λ (ls : List Loaded). AreOwned image (claims_of_loaded ls)) (sym all-loaded) (record {
     one_owner = no-repeats y lies.own lies.single (order m y ++ map y.place_of_doomed numbers) a.once;
     maps = λ n b linked below. a.blocks n b linked below ∙ sym (exactly (BlockOf n b));
@@ -218,13 +218,13 @@ module _ (image : Image) (m : State) (y : Layout) (r : Represents (view_of image
     valid = valid;
     transaction = r.idle;
     list_end = ends-whole (view_of image).list (order m y) (walk-order (view_of image) m y r) r.list;
-    chain_ends = chain-end (view_of image).stock m y r.holds valid;
+    chain_ends = chain-end (view_of image).store m y r.holds valid;
     nothing_dropped = none-dropped (view_of image) m y r valid;
     rows = rows-kept (view_of image) m y r valid;
     marks = rw kept-at (marks-of (order m y) (λ w h. h));
   }
 
-  pub stands-for : IsWellFormed image → IsInOrder image (kept_by listed (view_of image)) (map (λ (d : ℕ × Loaded). d.1) (doomed_of y numbers)) → StandsFor image m
+  pub stands-for : IsWellFormed image → IsInOrder image (kept_by listed_rule (view_of image)) (map (λ (d : ℕ × Loaded). d.1) (doomed_of y numbers)) → StandsFor image m
   stands-for well in_order = record { well_formed = well; shows = shows-state; doomed = doomed_of y numbers; are_doomed = are-doomed; owned = are-owned; in_order = in_order }
 
 -- a finished folder that represents a state holds what is at rest

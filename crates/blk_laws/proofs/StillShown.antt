@@ -9,7 +9,7 @@ use Rattle.blk_image.specs.Footprint.{SameOutside}
 use Rattle.blk_format.specs.Address.{kind_of, file_selector, external, rankings, blocks_256}
 use Rattle.blk_format.specs.Storage.{is_storage, kind_for}
 use Rattle.blk_format.specs.BlockFiles.{linked_as, stands_in}
-use Rattle.blk_volume.specs.View.{Core, stands_as, list_of, checks_at, next_at, prev_at, stock_of, named_at, core_at, follow_at, stored_at}
+use Rattle.blk_volume.specs.View.{RecordFields, stands_as, list_of, checks_at, next_at, prev_at, store_of, node_fields_at, core_at, follow_at, stored_at}
 use Rattle.blk_volume.specs.Entries.{is_key_length, longest_short_key}
 use Rattle.blk_laws.proofs.ByteChanges.{stands-linked}
 use Rattle.blk_format.specs.Sealed.{BeginsWithRecord, record_range}
@@ -20,11 +20,11 @@ standing-parts image kind u e = let p = and_parts (stands_in image u) (kind_of u
 
 -- standing words of two types are of two files
 pub elsewhere-by : (image : Image) (u w : ℕ) → stands_in image u ≡ true → stands_in image w ≡ true → kind_of w ≢ external → kind_of u ≢ kind_of w → IsElsewhere (file_selector w) u
-elsewhere-by image u w up st blocky apart = ⊎_elim
+elsewhere-by image u w up st block_kind apart = ⊎_elim
     (λ (e : (kind_of u == external) ≡ true). inl (eqb-true (kind_of u) external e))
     (λ (e : (kind_of u == external) ≡ false). inr (λ same.
     let other : kind_of u ≢ external = (λ x. let y : (kind_of u == external) ≡ true = eq-eqb (kind_of u) external x in let c : true ≡ false = sym y ∙ e in cc) in
-    let a : linked_as image (file_selector w) ≡ Some (kind_of w) = stands-linked image w st blocky in
+    let a : linked_as image (file_selector w) ≡ Some (kind_of w) = stands-linked image w st block_kind in
     let b : linked_as image (file_selector w) ≡ Some (kind_of u) = ap (linked_as image) (sym same) ∙ stands-linked image u up other in
     apart (cc)))
     (cases_Bool (kind_of u == external))
@@ -45,16 +45,16 @@ unstood-stored : (image : Image) (size u : ℕ) → stands_in image u ≡ false 
 unfolding stored_at
 unstood-stored image size u none = rw none refl
 
-core-stands : (image : Image) (u : ℕ) (core : Core) → core_at image u ≡ Some core → stands_as image blocks_256 u ≡ true
+core-stands : (image : Image) (u : ℕ) (fields : RecordFields) → core_at image u ≡ Some fields → stands_as image blocks_256 u ≡ true
 unfolding core_at
-core-stands image u core is = ⊎_elim
+core-stands image u fields is = ⊎_elim
     (λ (s : stands_as image blocks_256 u ≡ true). s)
-    (λ (s : stands_as image blocks_256 u ≡ false). let none : ◌≡◌ {A = Option Core} None (Some core) = rw s at is in absurd (cc))
+    (λ (s : stands_as image blocks_256 u ≡ false). let none : ◌≡◌ {A = Option RecordFields} None (Some fields) = rw s at is in absurd (cc))
     (cases_Bool (stands_as image blocks_256 u))
 
-pub core-standing : (image : Image) (u : ℕ) (core : Core) → (stock_of image).entry u ≡ Some core → stands_as image blocks_256 u ≡ true
-unfolding stock_of
-core-standing image u core is = core-stands image u core is
+pub core-standing : (image : Image) (u : ℕ) (fields : RecordFields) → (store_of image).entry u ≡ Some fields → stands_as image blocks_256 u ≡ true
+unfolding store_of
+core-standing image u fields is = core-stands image u fields is
 
 module _ (from image : Image) (w : ℕ) (st : stands_in from w ≡ true) (begins : BeginsWithRecord w) (same : SameOutside (record_range w) from image) where
   pub stands_as-all : (kind u : ℕ) → stands_as image kind u ≡ stands_as from kind u
@@ -67,7 +67,7 @@ module _ (from image : Image) (w : ℕ) (st : stands_in from w ≡ true) (begins
   pub index-still : byte image Index ≡ byte from Index
   index-still = λ i k. same.bytes Index k refl i
 
-  pub table-still : (bucket : ℕ) → (stock_of from).table bucket ≡ (stock_of image).table bucket
+  pub table-still : (bucket : ℕ) → (store_of from).table bucket ≡ (store_of image).table bucket
   table-still bucket = (record-changes from image w st begins same).shown.table bucket
 
   -- the nodes, where it is none
@@ -93,10 +93,10 @@ module _ (from image : Image) (w : ℕ) (st : stands_in from w ≡ true) (begins
         (λ (e : stands_as from rankings u ≡ false). rw (stands_as-all rankings u ∙ e, e) refl)
         (cases_Bool (stands_as from rankings u))
 
-    pub named-still : (u : ℕ) → (stock_of from).named u ≡ (stock_of image).named u
-    unfolding named_at stock_of
+    pub named-still : (u : ℕ) → (store_of from).node_fields u ≡ (store_of image).node_fields u
+    unfolding node_fields_at store_of
     named-still u = ⊎_elim
-        (λ (e : stands_as from rankings u ≡ true). (record-elsewhere from image w st begins same).stock.named u (elsewhere-clear (file_selector w) u (away rankings u e apart)))
+        (λ (e : stands_as from rankings u ≡ true). (record-elsewhere from image w st begins same).store.node_fields u (elsewhere-clear (file_selector w) u (away rankings u e apart)))
         (λ (e : stands_as from rankings u ≡ false). rw (stands_as-all rankings u ∙ e, e) refl)
         (cases_Bool (stands_as from rankings u))
 
@@ -119,29 +119,29 @@ module _ (from image : Image) (w : ℕ) (st : stands_in from w ≡ true) (begins
     no-record : blocks_256 ≢ kind_of w
     no-record e = let z : ◌≡◌ {A = ℕ} 2 1 = e ∙ node in cc
 
-    pub entries-still : (u : ℕ) → (stock_of from).entry u ≡ (stock_of image).entry u
-    unfolding core_at stock_of
+    pub entries-still : (u : ℕ) → (store_of from).entry u ≡ (store_of image).entry u
+    unfolding core_at store_of
     entries-still u = ⊎_elim
-        (λ (e : stands_as from blocks_256 u ≡ true). (record-elsewhere from image w st begins same).stock.entry u (elsewhere-clear (file_selector w) u (away blocks_256 u e no-record)))
+        (λ (e : stands_as from blocks_256 u ≡ true). (record-elsewhere from image w st begins same).store.entry u (elsewhere-clear (file_selector w) u (away blocks_256 u e no-record)))
         (λ (e : stands_as from blocks_256 u ≡ false). rw (stands_as-all blocks_256 u ∙ e, e) refl)
         (cases_Bool (stands_as from blocks_256 u))
 
-    pub follows-still : (u : ℕ) → (stock_of from).follow u ≡ (stock_of image).follow u
-    unfolding follow_at stock_of
+    pub follows-still : (u : ℕ) → (store_of from).chain_next u ≡ (store_of image).chain_next u
+    unfolding follow_at store_of
     follows-still u = ⊎_elim
-        (λ (e : stands_as from blocks_256 u ≡ true). (record-elsewhere from image w st begins same).stock.follow u (elsewhere-clear (file_selector w) u (away blocks_256 u e no-record)))
+        (λ (e : stands_as from blocks_256 u ≡ true). (record-elsewhere from image w st begins same).store.chain_next u (elsewhere-clear (file_selector w) u (away blocks_256 u e no-record)))
         (λ (e : stands_as from blocks_256 u ≡ false). rw (stands_as-all blocks_256 u ∙ e, e) refl)
         (cases_Bool (stands_as from blocks_256 u))
 
-    pub keys-still : (u : ℕ) (core : Core) → (stock_of from).entry u ≡ Some core → is_key_length u core ≡ true → nat_le core.key_len longest_short_key ≡ true → (stock_of from).key_place u core.key_len ≡ (stock_of image).key_place u core.key_len
-    keys-still u core is long short = (record-elsewhere from image w st begins same).stock.key_place u core (elsewhere-clear (file_selector w) u (away blocks_256 u (core-standing from u core is) no-record)) is long short
+    pub keys-still : (u : ℕ) (fields : RecordFields) → (store_of from).entry u ≡ Some fields → is_key_length u fields ≡ true → nat_le fields.key_len longest_short_key ≡ true → (store_of from).key_place u fields.key_len ≡ (store_of image).key_place u fields.key_len
+    keys-still u fields is long short = (record-elsewhere from image w st begins same).store.key_place u fields (elsewhere-clear (file_selector w) u (away blocks_256 u (core-standing from u fields is) no-record)) is long short
 
-    pub stored-still : (size u : ℕ) → (stock_of from).stored size u ≡ (stock_of image).stored size u
-    unfolding stock_of
+    pub stored-still : (size u : ℕ) → (store_of from).stored size u ≡ (store_of image).stored size u
+    unfolding store_of
     stored-still size u = ⊎_elim
         (λ (e : (kind_of u == rankings) ≡ true). let k : kind_of u ≡ rankings = eqb-true (kind_of u) rankings e in none-stored from size u k ∙ sym (none-stored image size u k))
         (λ (e : (kind_of u == rankings) ≡ false). ⊎_elim
-        (λ (up : stands_in from u ≡ true). (record-elsewhere from image w st begins same).stock.stored size u (elsewhere-clear (file_selector w) u (elsewhere-by from u w up st (record-blocky w begins) (λ s. let y : (kind_of u == rankings) ≡ true = eq-eqb (kind_of u) rankings (s ∙ node) in let c : true ≡ false = sym y ∙ e in cc))))
+        (λ (up : stands_in from u ≡ true). (record-elsewhere from image w st begins same).store.stored size u (elsewhere-clear (file_selector w) u (elsewhere-by from u w up st (record-blocky w begins) (λ s. let y : (kind_of u == rankings) ≡ true = eq-eqb (kind_of u) rankings (s ∙ node) in let c : true ≡ false = sym y ∙ e in cc))))
         (λ (up : stands_in from u ≡ false). unstood-stored from size u up ∙ sym (unstood-stored image size u ((record-changes from image w st begins same).stands u ∙ up)))
         (cases_Bool (stands_in from u)))
         (cases_Bool (kind_of u == rankings))

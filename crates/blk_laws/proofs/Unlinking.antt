@@ -8,11 +8,11 @@ use Rattle.blk_model.specs.Holding.{owner_object, row_of}
 use Rattle.blk_model.specs.State.{State, Object, object_at}
 use Rattle.blk_format.specs.BlockFiles.{is_among}
 use Rattle.blk_format.specs.Claims.{Claim}
-use Rattle.blk_volume.specs.View.{Stock}
+use Rattle.blk_volume.specs.View.{StoreView}
 use Rattle.blk_volume.specs.Chains.{is_of_bucket, Linked}
 use Rattle.blk_volume.specs.Loads.{Loaded}
-use Rattle.blk_volume.specs.Layout.{Layout, is_listed, nodes_of, order, settled_with, IsMarked, HasParentAt, IsLaid, IsDoomedAt, IsListedRecord, Lies, is_in}
-use Rattle.blk_volume.specs.Removal.{without_items, laid_less, ListsLess, HasLess}
+use Rattle.blk_volume.specs.Layout.{Layout, is_listed, nodes_of, order, settled_with, HasDirtyMark, HasParentAt, IsPlacedAt, IsDoomedAt, IsListedRecord, IsLayoutOf, is_in}
+use Rattle.blk_volume.specs.Removal.{without_items, placed_less, ListsLess, HasLess}
 use Rattle.blk_laws.specs.CommandLaws.{LessIsRepresented}
 use Rattle.blk_laws.proofs.Laid.{IsNodeOf, node-of, is_among-node}
 use Rattle.blk_laws.proofs.Changing.{mark-same}
@@ -20,27 +20,27 @@ use Rattle.blk_laws.proofs.Removing.{in-filter}
 use Rattle.blk_laws.proofs.Replacing.{linked-facts}
 
 -- the first of a chain: the table takes its link
-pub unlink-first : (v u : Stock) (b w c : ℕ) (cs : List ℕ) → ((x : ℕ) → is_among cs x ≡ true → (is_of_bucket u b x ≡ is_of_bucket v b x) × (u.follow x ≡ v.follow x)) → Linked v b w (c ∷ cs) → Linked u b (v.follow c) cs
-unlink-first v u b w c cs same linked = linked-facts v u b (v.follow c) cs same linked.2
+pub unlink-first : (v u : StoreView) (b w c : ℕ) (cs : List ℕ) → ((x : ℕ) → is_among cs x ≡ true → (is_of_bucket u b x ≡ is_of_bucket v b x) × (u.chain_next x ≡ v.chain_next x)) → Linked v b w (c ∷ cs) → Linked u b (v.chain_next c) cs
+unlink-first v u b w c cs same linked = linked-facts v u b (v.chain_next c) cs same linked.2
 
 -- another: the record before takes its link
-pub unlink-behind : (v u : Stock) (b w p c : ℕ) (xs cs : List ℕ) → ((x : ℕ) → is_among (xs ++ p ∷ cs) x ≡ true → is_of_bucket u b x ≡ is_of_bucket v b x) → ((x : ℕ) → is_among xs x ≡ true → u.follow x ≡ v.follow x)
-    → ((x : ℕ) → is_among cs x ≡ true → u.follow x ≡ v.follow x) → u.follow p ≡ v.follow c → Linked v b w (xs ++ p ∷ c ∷ cs) → Linked u b w (xs ++ p ∷ cs)
-unlink-behind v u b w p c [] cs bucket front rest link linked = (
+pub unlink-behind : (v u : StoreView) (b w p c : ℕ) (xs cs : List ℕ) → ((x : ℕ) → is_among (xs ++ p ∷ cs) x ≡ true → is_of_bucket u b x ≡ is_of_bucket v b x) → ((x : ℕ) → is_among xs x ≡ true → u.chain_next x ≡ v.chain_next x)
+    → ((x : ℕ) → is_among cs x ≡ true → u.chain_next x ≡ v.chain_next x) → u.chain_next p ≡ v.chain_next c → Linked v b w (xs ++ p ∷ c ∷ cs) → Linked u b w (xs ++ p ∷ cs)
+unlink-behind v u b w p c [] cs bucket prefix rest link linked = (
   linked.0,
   bucket p (or_left (p == p) (is_among cs p) (eq-eqb p p refl)) ∙ linked.1,
-  subst (λ (z : ℕ). Linked u b z cs) (sym link) (linked-facts v u b (v.follow c) cs (λ x h. (bucket x (or_right (p == x) (is_among cs x) h), rest x h)) linked.2.2),
+  subst (λ (z : ℕ). Linked u b z cs) (sym link) (linked-facts v u b (v.chain_next c) cs (λ x h. (bucket x (or_right (p == x) (is_among cs x) h), rest x h)) linked.2.2),
 )
-unlink-behind v u b w p c (x ∷ xs) cs bucket front rest link linked = (
+unlink-behind v u b w p c (x ∷ xs) cs bucket prefix rest link linked = (
   linked.0,
   bucket x (or_left (x == x) (is_among (xs ++ p ∷ cs) x) (eq-eqb x x refl)) ∙ linked.1,
-  subst (λ (z : ℕ). Linked u b z (xs ++ p ∷ cs)) (sym (front x (or_left (x == x) (is_among xs x) (eq-eqb x x refl))))
-      (unlink-behind v u b (v.follow x) p c xs cs (λ z h. bucket z (or_right (x == z) (is_among (xs ++ p ∷ cs) z) h)) (λ z h. front z (or_right (x == z) (is_among xs z) h)) rest link linked.2),
+  subst (λ (z : ℕ). Linked u b z (xs ++ p ∷ cs)) (sym (prefix x (or_left (x == x) (is_among xs x) (eq-eqb x x refl))))
+      (unlink-behind v u b (v.chain_next x) p c xs cs (λ z h. bucket z (or_right (x == z) (is_among (xs ++ p ∷ cs) z) h)) (λ z h. prefix z (or_right (x == z) (is_among xs z) h)) rest link linked.2),
 )
 
 -- ---- a layout without some items, where other objects may be doomed
 
-module _ (m : State) (objects : List (Option Object)) (keep : Item → Bool) (y : Layout) (at : ℕ → Option Loaded) (chains : ℕ → List ℕ) (owner : Claim → Option ℕ) (doomed : ℕ → ℕ) (state : ℕ → ℕ) (r : Lies m y)
+module _ (m : State) (objects : List (Option Object)) (keep : Item → Bool) (y : Layout) (at : ℕ → Option Loaded) (chains : ℕ → List ℕ) (owner : Claim → Option ℕ) (doomed : ℕ → ℕ) (state : ℕ → ℕ) (r : IsLayoutOf m y)
     (rows : (i : Item) → keep i ≡ true → is_listed m i ≡ true → row_of (without_items m objects keep) i ≡ row_of m i) (settled : (key : List ℕ) → keep (main key) ≡ true → settled_with (without_items m objects keep) key ≡ settled_with m key)
     (closed : (key : List ℕ) (n : ℕ) → keep (part key n) ≡ true → keep (main key) ≡ true) (gone : HasLess m objects keep y at chains owner) where
   kept : (i : Item) → is_in (filter keep m.uses) i ≡ true → (keep i ≡ true) × (is_listed m i ≡ true)
@@ -67,27 +67,27 @@ module _ (m : State) (objects : List (Option Object)) (keep : Item → Bool) (y 
       let with_main : keep (main key) ≡ true = closed key n k in
       record { name = p.name; index = p.index; role = p.role; of_key = p.of_key; listed = still (main key) with_main p.listed; parent = p.parent; at_parent = gone.stays (main key) p.parent with_main p.listed p.at_parent; of = p.of }
 
-  mark-kept : (i : Item) (l : Loaded) → keep i ≡ true → IsMarked m i l → IsMarked (without_items m objects keep) i l
+  mark-kept : (i : Item) (l : Loaded) → keep i ≡ true → HasDirtyMark m i l → HasDirtyMark (without_items m objects keep) i l
   mark-kept (main key) l k p = mark-same (owner_object (without_items m objects keep) (main key)) (owner_object m (main key)) (l.dirty == 0) (settled key k) p
   mark-kept (part key n) l k p = p
 
   pub lies-without : ((w : ℕ) → is_among (nodes_of y (filter keep m.uses)) w ≡ true → state w ≡ 0)
       → ((number : ℕ) (o : Object) → object_at (without_items m objects keep) number ≡ Some o → o.live ≡ false → IsDoomedAt (without_items m objects keep) (record y { at = at; chains = chains; owner = owner; place_of_doomed = doomed; state = state }) number o)
-      → Lies (without_items m objects keep) (record y { at = at; chains = chains; owner = owner; place_of_doomed = doomed; state = state })
+      → IsLayoutOf (without_items m objects keep) (record y { at = at; chains = chains; owner = owner; place_of_doomed = doomed; state = state })
   lies-without normal dead = record {
-    laid = λ i h. let k = kept i h in let q : IsLaid m y i = r.laid i k.1 in
+    laid = λ i h. let k = kept i h in let q : IsPlacedAt m y i = r.laid i k.1 in
         record { loaded = q.loaded; here = gone.stays i q.loaded k.0 k.1 q.here; row = rows i k.0 k.1 ∙ q.row; mark = mark-kept i q.loaded k.0 q.mark; parent = parent-kept i q.loaded k.0 q.parent };
     normal = normal;
     chained = λ w l h is. gone.chain_stays w l h is (r.chained w l (node-kept w h) (gone.was w l is));
-    unchained = λ b c below h. let q : IsListedRecord (without_items m objects keep) (laid_less y at chains owner) c = gone.chain_was b c below h in
+    unchained = λ b c below h. let q : IsListedRecord (without_items m objects keep) (placed_less y at chains owner) c = gone.chain_was b c below h in
         record { node = q.node; loaded = q.loaded; listed = q.listed; here = q.here; record_is = q.record_is };
     own = λ w l c is h. gone.own w l c is h (r.own w l c (gone.was w l is) h);
     single = λ w l is. r.single w l (gone.was w l is);
     doomed_objects = dead;
   }
 
-module _ (m : State) (objects : List (Option Object)) (keep : Item → Bool) (y : Layout) (at : ℕ → Option Loaded) (chains : ℕ → List ℕ) (owner : Claim → Option ℕ) (r : Lies m y) (less : ListsLess m objects keep) (gone : HasLess m objects keep y at chains owner) where
-  pub lies-less : Lies (without_items m objects keep) (laid_less y at chains owner)
+module _ (m : State) (objects : List (Option Object)) (keep : Item → Bool) (y : Layout) (at : ℕ → Option Loaded) (chains : ℕ → List ℕ) (owner : Claim → Option ℕ) (r : IsLayoutOf m y) (less : ListsLess m objects keep) (gone : HasLess m objects keep y at chains owner) where
+  pub lies-less : IsLayoutOf (without_items m objects keep) (placed_less y at chains owner)
   lies-less = lies-without m objects keep y at chains owner y.place_of_doomed y.state r less.rows less.settled less.closed gone
       (λ w h. r.normal w (node-kept m objects keep y at chains owner y.place_of_doomed y.state r less.rows less.settled less.closed gone w h))
       (λ number o is dead. let d : IsDoomedAt m y number o = r.doomed_objects number o (less.doomed_same number o is dead) dead in
@@ -101,7 +101,7 @@ module _ (m : State) (objects : List (Option Object)) (keep : Item → Bool) (y 
       })
 
 pub less-represented : LessIsRepresented
-less-represented hole v m objects keep y at chains owner lies less gone but left rest = record {
+less-represented except v m objects keep y at chains owner lies less gone but left rest = record {
   holds = record {
     shows = record { no_record = but.no_record; each = λ w l is. but.each w l (gone.was w l is) (left w l is); chains = but.chains };
     lies = lies-less m objects keep y at chains owner lies less gone;

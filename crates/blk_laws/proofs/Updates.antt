@@ -6,7 +6,7 @@ use Rattle.blk_image.specs.Steps.{with_words}
 use Rattle.blk_format.specs.Address.{kind_of, file_selector, place, rankings, blocks_256}
 use Rattle.blk_format.specs.Records.{node_in, node_checks, entry_in, entry_checks, checks}
 use Rattle.blk_volume.specs.View.{node_at, entry_at}
-use Rattle.blk_format.specs.Sealed.{IsMoment, record_at, record_size, seal_place, seal_by_kind}
+use Rattle.blk_format.specs.Sealed.{IsMidUpdate, record_at, record_size, seal_place, seal_by_kind}
 use Rattle.blk_format.proofs.SealedRecords.{length-record, seal_aligned, seal_last}
 use Rattle.blk_format.proofs.SealedFields.{record_word}
 use Rattle.blk_laws.proofs.Fronts.{SameWords, AreSmall, open_node, open_entry, same-node, same-entry, small-take, small-range, small-words, front-words, node_checks-front, entry_checks-front, node_checks-by, entry_checks-by}
@@ -36,7 +36,7 @@ entry-here image w kind =
     same-entry (byte image (Block (file_selector w))) (place w) (content (record_at image w)) 0
     (subst (λ (s : ℕ). SameWords s (byte image (Block (file_selector w))) (place w) (content (record_at image w)) 0) (entry-seal w kind) (record-words image w))
 
-module _ (from image : Image) (w : ℕ) (changes : List (ℕ × ℕ)) (bytes : AreBytes from) (moment : IsMoment from w changes image) where
+module _ (from image : Image) (w : ℕ) (changes : List (ℕ × ℕ)) (bytes : AreBytes from) (moment : IsMidUpdate from w changes image) where
   -- the record with the changes that are made
   abbrev pub made_bytes : List ℕ
   made_bytes = with_words (take moment.made changes) (record_at from w)

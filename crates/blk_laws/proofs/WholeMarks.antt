@@ -12,13 +12,13 @@ use Rattle.blk_image.proofs.Splices.{length-zeros, content-spliced_inside, conte
 use Rattle.blk_image.proofs.Words.{length-with_word}
 use Rattle.blk_format.specs.Headers.{empty_of}
 use Rattle.blk_format.specs.BlockFiles.{max_entries_in}
-use Rattle.blk_format.specs.Maps.{is_marked_at, is_marked, are_free, has_run, longest_run, groups_with, groups_of, EmptyAgrees}
+use Rattle.blk_format.specs.Maps.{is_block_marked_at, is_block_marked, are_free, has_run, longest_run, groups_with, groups_of, EmptyAgrees}
 use Rattle.blk_format.specs.NewFolder.{new_file_words}
 use Rattle.blk_laws.proofs.NewFolders.{byte-later}
 use Rattle.blk_laws.proofs.WholeFolder.{whole_folder}
 
 -- where the first byte of a map is m and the others are 0, exactly its bits are marked
-marks-are : (f : ℕ → ℕ) (m b : ℕ) → f 80 ≡ m → ((k : ℕ) → 81 ≤ k → k < 8192 → f k ≡ 0) → b < 64896 → is_marked_at f b ≡ (if nat_lt b 8 then bit_at m b == 1 else false)
+marks-are : (f : ℕ → ℕ) (m b : ℕ) → f 80 ≡ m → ((k : ℕ) → 81 ≤ k → k < 8192 → f k ≡ 0) → b < 64896 → is_block_marked_at f b ≡ (if nat_lt b 8 then bit_at m b == 1 else false)
 marks-are f m b first later below = ⊎_elim
     (λ (small : b < 8). let at : 80 + b / 8 ≡ 80 = omega arith in let bit : b % 8 ≡ b = omega arith in rw (lt-ltb b 8 small, at, first, bit) refl)
     (λ (large : 8 ≤ b). rw (le-ltb b 8 large, later (80 + b / 8) (omega arith) (omega arith), bit_at-zero (b % 8)) refl)
@@ -130,7 +130,7 @@ two-bits (suc (suc (suc (suc (suc (suc (suc zero))))))) = refl
 two-bits (suc (suc (suc (suc (suc (suc (suc (suc b)))))))) = grind (arith, nat_tests)
 
 -- exactly these are marked
-pub whole-marks : (n b : ℕ) → n < 4 → b < 64896 → is_marked whole_folder n b ≡ marks n b
+pub whole-marks : (n b : ℕ) → n < 4 → b < 64896 → is_block_marked whole_folder n b ≡ marks n b
 unfolding whole_folder
 whole-marks zero b small below = marks-are (byte whole_folder (Block 0)) 1 b first-bytes.0 nodes-later below ∙ one-bit b
 whole-marks (suc zero) b small below = marks-are (byte whole_folder (Block 1)) 3 b first-bytes.1 records-later below ∙ two-bits b
@@ -162,7 +162,7 @@ content-word w bytes room = λ i k. at k i where
       (λ (before : k < w.0). let t : (nat_le w.0 k && nat_lt k (w.0 + 4)) ≡ false = grind (arith, nat_tests) in content-spliced_outside w.0 (word_bytes w.1) bytes k (inl before) ∙ rw t refl)
       (λ (from : w.0 ≤ k). ⊎_elim
       (λ (inside : k < w.0 + 4). let t : (nat_le w.0 k && nat_lt k (w.0 + 4)) ≡ true = grind (arith, nat_tests) in content-spliced_inside w.0 (word_bytes w.1) bytes (k - w.0) k (omega arith) (omega arith) (omega arith) ∙ rw t refl)
-      (λ (behind : w.0 + 4 ≤ k). let t : (nat_le w.0 k && nat_lt k (w.0 + 4)) ≡ false = grind (arith, nat_tests) in content-spliced_outside w.0 (word_bytes w.1) bytes k (inr behind) ∙ rw t refl)
+      (λ (suffix : w.0 + 4 ≤ k). let t : (nat_le w.0 k && nat_lt k (w.0 + 4)) ≡ false = grind (arith, nat_tests) in content-spliced_outside w.0 (word_bytes w.1) bytes k (inr suffix) ∙ rw t refl)
       (cases_lt k (w.0 + 4)))
       (cases_lt k w.0)
 
@@ -193,19 +193,19 @@ counts-1 : (max_entries_in whole_folder 1 ≡ 1024) × (empty_of (byte whole_fol
 unfolding max_entries_in whole_folder zeros with_word spliced
 counts-1 = (refl, refl, refl, refl, refl)
 
-groups-0 : (groups_with (is_marked_at (over_all nodes_words (λ k. 0))) 256 1 ≡ 0) × (groups_with (is_marked_at (over_all nodes_words (λ k. 0))) 256 2 ≡ 0) × (groups_with (is_marked_at (over_all nodes_words (λ k. 0))) 256 3 ≡ 1) × (groups_with (is_marked_at (over_all nodes_words (λ k. 0))) 256 4 ≡ 255)
+groups-0 : (groups_with (is_block_marked_at (over_all nodes_words (λ k. 0))) 256 1 ≡ 0) × (groups_with (is_block_marked_at (over_all nodes_words (λ k. 0))) 256 2 ≡ 0) × (groups_with (is_block_marked_at (over_all nodes_words (λ k. 0))) 256 3 ≡ 1) × (groups_with (is_block_marked_at (over_all nodes_words (λ k. 0))) 256 4 ≡ 255)
 unfolding groups_with longest_run has_run are_free
 groups-0 = (refl, refl, refl, refl)
 
-groups-1 : (groups_with (is_marked_at (over_all records_words (λ k. 0))) 256 1 ≡ 0) × (groups_with (is_marked_at (over_all records_words (λ k. 0))) 256 2 ≡ 1) × (groups_with (is_marked_at (over_all records_words (λ k. 0))) 256 3 ≡ 0) × (groups_with (is_marked_at (over_all records_words (λ k. 0))) 256 4 ≡ 255)
+groups-1 : (groups_with (is_block_marked_at (over_all records_words (λ k. 0))) 256 1 ≡ 0) × (groups_with (is_block_marked_at (over_all records_words (λ k. 0))) 256 2 ≡ 1) × (groups_with (is_block_marked_at (over_all records_words (λ k. 0))) 256 3 ≡ 0) × (groups_with (is_block_marked_at (over_all records_words (λ k. 0))) 256 4 ≡ 255)
 unfolding groups_with longest_run has_run are_free
 groups-1 = (refl, refl, refl, refl)
 
 -- the counts of the groups agree with the map
-pub empty-agrees : (image : Image) (n : ℕ) (f : ℕ → ℕ) → byte image (Block n) ≡ f → max_entries_in image n ≡ 1024 → ((i : ℕ) → i < 4 → empty_of (byte image (Block n)) i ≡ groups_with (is_marked_at f) 256 (i + 1)) → EmptyAgrees image n
+pub empty-agrees : (image : Image) (n : ℕ) (f : ℕ → ℕ) → byte image (Block n) ≡ f → max_entries_in image n ≡ 1024 → ((i : ℕ) → i < 4 → empty_of (byte image (Block n)) i ≡ groups_with (is_block_marked_at f) 256 (i + 1)) → EmptyAgrees image n
 unfolding EmptyAgrees
 empty-agrees image n f same most each i small =
-    each i small ∙ sym (ap (λ (g : ℕ → ℕ). groups_with (is_marked_at g) 256 (i + 1)) same) ∙ ap (λ (m : ℕ). groups_with (is_marked image n) (groups_of m) (i + 1)) (sym most)
+    each i small ∙ sym (ap (λ (g : ℕ → ℕ). groups_with (is_block_marked_at g) 256 (i + 1)) same) ∙ ap (λ (m : ℕ). groups_with (is_block_marked image n) (groups_of m) (i + 1)) (sym most)
 
 -- a file with no blocks has no groups
 no-groups : (n : ℕ) → max_entries_in whole_folder n ≡ 0 → ((i : ℕ) → i < 4 → empty_of (byte whole_folder (Block n)) i ≡ 0) → EmptyAgrees whole_folder n
@@ -235,14 +235,14 @@ no-words-3 = (refl, each) where
 -- the counts of each file agree with its map
 pub whole-empty : (n : ℕ) → n < 4 → EmptyAgrees whole_folder n
 whole-empty zero small = empty-agrees whole_folder 0 (over_all nodes_words (λ k. 0)) nodes-content counts-0.0 each where
-  each : (i : ℕ) → i < 4 → empty_of (byte whole_folder (Block 0)) i ≡ groups_with (is_marked_at (over_all nodes_words (λ k. 0))) 256 (i + 1)
+  each : (i : ℕ) → i < 4 → empty_of (byte whole_folder (Block 0)) i ≡ groups_with (is_block_marked_at (over_all nodes_words (λ k. 0))) 256 (i + 1)
   each zero small = counts-0.1 ∙ sym groups-0.0
   each (suc zero) small = counts-0.2 ∙ sym groups-0.1
   each (suc (suc zero)) small = counts-0.3 ∙ sym groups-0.2
   each (suc (suc (suc zero))) small = counts-0.4 ∙ sym groups-0.3
   each (suc (suc (suc (suc i)))) small = absurd (omega arith)
 whole-empty (suc zero) small = empty-agrees whole_folder 1 (over_all records_words (λ k. 0)) records-content counts-1.0 each where
-  each : (i : ℕ) → i < 4 → empty_of (byte whole_folder (Block 1)) i ≡ groups_with (is_marked_at (over_all records_words (λ k. 0))) 256 (i + 1)
+  each : (i : ℕ) → i < 4 → empty_of (byte whole_folder (Block 1)) i ≡ groups_with (is_block_marked_at (over_all records_words (λ k. 0))) 256 (i + 1)
   each zero small = counts-1.1 ∙ sym groups-1.0
   each (suc zero) small = counts-1.2 ∙ sym groups-1.1
   each (suc (suc zero)) small = counts-1.3 ∙ sym groups-1.2

@@ -7,13 +7,14 @@ use Rattle.blk_image.proofs.Runs.{until_weaker2}
 use Rattle.blk_volume.specs.ListView.{ListView, ListWrite}
 use Rattle.blk_volume.specs.Walk.{walk}
 use Rattle.blk_volume.specs.ListPlans.{completion_writes, outcome}
-use Rattle.blk_volume.specs.View.{list_of, stock_of}
-use Rattle.blk_laws.specs.ListSteps.{IsPartly, steps_of}
-use Rattle.blk_laws.specs.ListWords.{IsWritable, CompletesAlike, IsCompleted, IsStopped, CompletionsCanBeMade, CompletionsKeepTheOutcome, CompletionsAreDone, CompletionsMayBeStopped, completed_walk, completion_steps, stopped_folder}
-use Rattle.blk_laws.specs.Moments.{OnlyListChanges}
+use Rattle.blk_volume.specs.View.{list_of, store_of}
+use Rattle.blk_volume.specs.ListSteps.{IsPartly, steps_of}
+use Rattle.blk_volume.specs.ListImages.{IsWritable, CompletesAlike, IsCompleted, IsStopped, completed_walk, completion_steps, stopped_folder}
+use Rattle.blk_laws.specs.ListWords.{CompletionsCanBeMade, CompletionsKeepTheOutcome, CompletionsAreDone, CompletionsMayBeStopped}
+use Rattle.blk_volume.specs.ShownChanges.{OnlyListChanges}
 use Rattle.blk_laws.proofs.Adding.{shows-both}
 use Rattle.blk_laws.proofs.IndexWords.{same-shown}
-use Rattle.blk_laws.proofs.ListMoments.{at_moment, completion_ends, walk_outcome}
+use Rattle.blk_laws.proofs.ListCompletions.{at_moment, completion_ends, walk_outcome}
 use Rattle.blk_laws.proofs.ListWrites.{completion_keeps, rested}
 use Rattle.blk_laws.proofs.WriteSteps.{writes_show, writes-go_on}
 use Rattle.blk_laws.proofs.WriteWords.{completion_can}
@@ -52,7 +53,7 @@ made-completed from image shown =
       list = idle_is (list_of image) idle ∙ is;
       idle = idle;
       walk = sym (walk_rested (list_of image)) ∙ ap walk is ∙ sym (walk_outcome list);
-      stock = shown.stock;
+      store = shown.store;
     }
 
 pub completions-done : CompletionsAreDone
@@ -76,11 +77,11 @@ stop_once image count ready =
     let stopped : Image = after (take count (steps_of ws image)) image in
     let part : IsPartly image ws stopped = front_holds (IsPartly image ws) count (steps_of ws image) image (writes_show ws image ready (completion_can image)).along in (
       front_holds IsWritable count (steps_of ws image) image (writes-go_on image ws ready),
-      record { list = partly-alike image stopped part; walk = alike-walk image stopped (partly-alike image stopped part); stock = part.shown.stock; well_formed = part.well_formed },
+      record { list = partly-alike image stopped part; walk = alike-walk image stopped (partly-alike image stopped part); store = part.shown.store; well_formed = part.well_formed },
     )
 
 pub completions-stop : CompletionsMayBeStopped
-completions-stop image [] ready = record { list = refl; walk = refl; stock = same-shown (stock_of image); well_formed = λ well. well }
+completions-stop image [] ready = record { list = refl; walk = refl; store = same-shown (store_of image); well_formed = λ well. well }
 completions-stop image (count ∷ counts) ready =
     let once = stop_once image count ready in
     let between : Image = after (take count (steps_of (completion_writes (list_of image)) image)) image in
@@ -88,6 +89,6 @@ completions-stop image (count ∷ counts) ready =
     record {
       list = more.list ∙ once.1.list;
       walk = more.walk ∙ once.1.walk;
-      stock = shows-both (stock_of image) (stock_of between) (stock_of (stopped_folder counts between)) once.1.stock more.stock;
+      store = shows-both (store_of image) (store_of between) (store_of (stopped_folder counts between)) once.1.store more.store;
       well_formed = λ well. more.well_formed (once.1.well_formed well);
     }

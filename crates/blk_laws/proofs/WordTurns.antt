@@ -8,35 +8,35 @@ use Rattle.blk_image.specs.Bytes.{content, word_at}
 use Rattle.blk_image.specs.Image.{Image, Block, byte, word}
 use Rattle.blk_image.specs.Steps.{TrailStep, applied, after, word_step}
 use Rattle.blk_image.specs.Footprint.{Footprint, either}
-use Rattle.blk_image.specs.Told.{Along, IsQuiet, TurnsAt}
+use Rattle.blk_image.specs.Told.{Along, IsQuiet, CommitsAt}
 use Rattle.blk_image.proofs.Cuts.{after-append}
 use Rattle.blk_image.proofs.Footprints.{outside-trans, outside_wider, within_left, within_right}
 use Rattle.blk_image.proofs.Runs.{until-append, until_weaker2, until_last, quiet-append}
 use Rattle.blk_format.specs.Address.{kind_of, rankings, file_selector, place}
 use Rattle.blk_format.specs.Records.{node_in}
-use Rattle.blk_format.specs.Sealed.{AreChanges, IsMoment, IsUpdated, record_at, record_range, seal_place, sealed_steps}
+use Rattle.blk_format.specs.Sealed.{AreChanges, IsMidUpdate, IsUpdated, record_at, record_range, seal_place, sealed_steps}
 use Rattle.blk_format.proofs.SealedFields.{record_word, updated_is_new}
 use Rattle.blk_format.proofs.SealedRecords.{node_bytes, node_seal, moments, updated}
-use Rattle.blk_volume.specs.ListView.{ListView, ListWrite, Operation, Transaction, after_writes}
+use Rattle.blk_volume.specs.ListView.{ListView, ListWrite, Operation, Transaction, after_writes, IsAtRest}
 use Rattle.blk_volume.specs.Walk.{walk}
 use Rattle.blk_volume.specs.Completion.{insert, remove, move, completed_list}
-use Rattle.blk_volume.specs.ListPlans.{TurnsAtTwo, touch_writes, writes_of}
+use Rattle.blk_volume.specs.ListPlans.{CommitsAtTwo, touch_writes, writes_of}
 use Rattle.blk_volume.specs.View.{list_of}
-use Rattle.blk_laws.specs.ListLaws.{IsAtRest}
-use Rattle.blk_laws.specs.ListSteps.{IsPartly, IsTouched, AreTimes, steps_of, times_of, touch_steps, touched_by_writes, write_steps}
-use Rattle.blk_laws.specs.ListWords.{IsWritable, CanBeMade, CompletesTo, Rests, InsertsCanBeMade, InsertsTurnAtTheSecondWord, InsertsEndAtRest, RemovalsCanBeMade, RemovalsTurnAtTheSecondWord, RemovalsEndAtRest, TouchesCanBeMade, TouchesAreMadeInTurn, TouchesCanGoOn, TouchesTurnAtTheSecondWord, TouchesEndAtRest, TouchesSetTheTimes}
-use Rattle.blk_laws.specs.Moments.{OnlyListChanges}
+use Rattle.blk_volume.specs.ListSteps.{IsPartly, IsTouched, AreTimes, steps_of, times_of, touch_steps, touched_by_writes, write_steps}
+use Rattle.blk_volume.specs.ListImages.{IsWritable, CanBeMade, CompletesTo, HasListAtRest}
+use Rattle.blk_laws.specs.ListWords.{InsertsCanBeMade, InsertsCommitAtTheSecondWord, InsertsEndAtRest, RemovalsCanBeMade, RemovalsCommitAtTheSecondWord, RemovalsEndAtRest, TouchesCanBeMade, TouchesAreMadeInTurn, TouchesCanGoOn, TouchesCommitAtTheSecondWord, TouchesEndAtRest, TouchesSetTheTimes}
+use Rattle.blk_volume.specs.ShownChanges.{OnlyListChanges}
 use Rattle.blk_laws.proofs.Adding.{changes-add}
 use Rattle.blk_laws.proofs.AtRest.{inserts-turn, inserts-end, removals-turn, removals-end, touches-turn, touches-end}
 use Rattle.blk_laws.proofs.Inside.{updates-inside}
-use Rattle.blk_laws.proofs.ListMoments.{insert_counts, remove_counts, move_counts, listed}
+use Rattle.blk_laws.proofs.ListCompletions.{insert_counts, remove_counts, move_counts, listed}
 use Rattle.blk_laws.proofs.Nodes.{times-hidden}
 use Rattle.blk_laws.proofs.WriteSteps.{IsGood, good-node, one_write, first_can, rest_can, still_check, quiet-sealed, quiet-writes, writable-after, writable-sealed, writable-writes, writes_show, writes-go_on}
 use Rattle.blk_laws.proofs.WriteWords.{operation_can}
 
 -- an operation turns with its second write
-pub turns_whole : (from : Image) → IsWritable from → (code node : ℕ) (rest : List ListWrite) (before later : List ℕ) → CanBeMade from (Operation code ∷ Transaction node ∷ rest) → TurnsAtTwo (list_of from) (Operation code ∷ Transaction node ∷ rest) before later
-    → TurnsAt 2 (CompletesTo before) (CompletesTo later) from (steps_of (Operation code ∷ Transaction node ∷ rest) from)
+pub turns_whole : (from : Image) → IsWritable from → (code node : ℕ) (rest : List ListWrite) (before later : List ℕ) → CanBeMade from (Operation code ∷ Transaction node ∷ rest) → CommitsAtTwo (list_of from) (Operation code ∷ Transaction node ∷ rest) before later
+    → CommitsAt 2 (CompletesTo before) (CompletesTo later) from (steps_of (Operation code ∷ Transaction node ∷ rest) from)
 unfolding write_steps word_step
 turns_whole from ready code node rest before later can turn =
     let first = one_write (Operation code) from ready (first_can from (Operation code) (Transaction node ∷ rest) can) in
@@ -56,28 +56,28 @@ turns_whole from ready code node rest before later can turn =
     (turn 0, (ap done l1 ∙ turn 1, until_weaker2 (IsPartly i2 rest) Q (IsPartly i2 rest) Q (steps_of rest i2) i2 each each shows.along))
 
 -- and ends with its list at rest
-rests_after : (from : Image) → IsWritable from → (writes : List ListWrite) (nodes : List ℕ) → CanBeMade from writes → IsAtRest (after_writes writes (list_of from)) nodes → Rests nodes (after (steps_of writes from) from)
+rests_after : (from : Image) → IsWritable from → (writes : List ListWrite) (nodes : List ℕ) → CanBeMade from writes → IsAtRest (after_writes writes (list_of from)) nodes → HasListAtRest nodes (after (steps_of writes from) from)
 rests_after from ready writes nodes can rest = subst (λ (l : ListView). IsAtRest l nodes) (sym (writes_show writes from ready can).ends.list) rest
 
 pub inserts-can : InsertsCanBeMade
 inserts-can image node nodes can = operation_can insert node image (omega arith) (insert_counts node (list_of image) nodes can.rest.whole can.rest.idle can.lacks can.good can.few)
 
-pub inserts-turn_words : InsertsTurnAtTheSecondWord
+pub inserts-turn_words : InsertsCommitAtTheSecondWord
 inserts-turn_words image node nodes ready can = turns_whole image ready insert node _ nodes (node ∷ nodes) (inserts-can image node nodes can) (inserts-turn node (list_of image) nodes can)
 
 pub inserts-rest : InsertsEndAtRest
 inserts-rest image node nodes ready can = rests_after image ready (writes_of insert node (list_of image)) (node ∷ nodes) (inserts-can image node nodes can) (inserts-end node (list_of image) nodes can)
 
 pub removals-can : RemovalsCanBeMade
-removals-can image node front behind rest = operation_can remove node image (omega arith) (remove_counts node (list_of image) front behind rest.whole rest.idle)
+removals-can image node prefix suffix rest = operation_can remove node image (omega arith) (remove_counts node (list_of image) prefix suffix rest.whole rest.idle)
 
-pub removals-turn_words : RemovalsTurnAtTheSecondWord
-removals-turn_words image node front behind ready rest =
-    turns_whole image ready remove node _ (front ++ node ∷ behind) (front ++ behind) (removals-can image node front behind rest) (removals-turn node (list_of image) front behind rest)
+pub removals-turn_words : RemovalsCommitAtTheSecondWord
+removals-turn_words image node prefix suffix ready rest =
+    turns_whole image ready remove node _ (prefix ++ node ∷ suffix) (prefix ++ suffix) (removals-can image node prefix suffix rest) (removals-turn node (list_of image) prefix suffix rest)
 
 pub removals-rest : RemovalsEndAtRest
-removals-rest image node front behind ready rest =
-    rests_after image ready (writes_of remove node (list_of image)) (front ++ behind) (removals-can image node front behind rest) (removals-end node (list_of image) front behind rest)
+removals-rest image node prefix suffix ready rest =
+    rests_after image ready (writes_of remove node (list_of image)) (prefix ++ suffix) (removals-can image node prefix suffix rest) (removals-end node (list_of image) prefix suffix rest)
 
 -- A touch: its writes, and then the times of the node.
 
@@ -104,12 +104,12 @@ times_are node moment kind =
     }
 
 -- turning goes on
-turns_then : (count : ℕ) (P Q : Image → Type 0) (s t : List TrailStep) (image : Image) → count ≤ length s → TurnsAt count P Q image s → Along Q (after s image) t → TurnsAt count P Q image (s ++ t)
+turns_then : (count : ℕ) (P Q : Image → Type 0) (s t : List TrailStep) (image : Image) → count ≤ length s → CommitsAt count P Q image s → Along Q (after s image) t → CommitsAt count P Q image (s ++ t)
 turns_then zero P Q s t image low all more = until-append Q Q s t image all more
 turns_then (suc count) P Q [] t image low all more = absurd (omega arith)
 turns_then (suc count) P Q (x ∷ s) t image low all more = (all.0, turns_then count P Q s t (applied x image) (omega arith) all.1 more)
 
-turns_both : (count : ℕ) (P Q : Image → Type 0) (t : List TrailStep) (image : Image) → Along P image t → Along Q image t → TurnsAt count P Q image t
+turns_both : (count : ℕ) (P Q : Image → Type 0) (t : List TrailStep) (image : Image) → Along P image t → Along Q image t → CommitsAt count P Q image t
 turns_both zero P Q t image p q = q
 turns_both (suc count) P Q [] image p q = p
 turns_both (suc count) P Q (x ∷ t) image p q = (p.0, turns_both count P Q t (applied x image) p.1 q.1)
@@ -142,7 +142,7 @@ module _ (from : Image) (ready : IsWritable from) (node moment : ℕ) (good : (l
       let here : IsPartly from ws i = until_last (IsPartly from ws) (IsPartly from ws) (steps_of ws from) from shows.along in
       let F : Footprint = touched_by_writes ws in
       let G : Footprint = record_range node in
-      let M : Image → Type 0 = IsMoment i node changes in
+      let M : Image → Type 0 = IsMidUpdate i node changes in
       let R : Image → Type 0 = λ image. (list_of image ≡ after_writes ws (list_of from)) × IsTouched from node ws image in
       let step : (image : Image) → M image → R image = λ image m.
       let none : OnlyListChanges [] i image = times-hidden i image node changes (record { good = still_checks; bytes = (writable-writes ws from ready).bytes }) (times_are node moment is.kind) early m in
@@ -185,7 +185,7 @@ module _ (from : Image) (ready : IsWritable from) (node moment : ℕ) (good : (l
       subst (IsUpdated i node (times_of moment)) (sym (after-append (steps_of ws from) (sealed_steps i node (times_of moment)) from)) (updated node i (times_of moment) still_good.fits)
 
   -- the times, at which completing gives the new list
-  later_along : (before later : List ℕ) → TurnsAtTwo (list_of from) ws before later → Along (CompletesTo later) between times
+  later_along : (before later : List ℕ) → CommitsAtTwo (list_of from) ws before later → Along (CompletesTo later) between times
   later_along before later turn =
       let R : Image → Type 0 = λ image. (list_of image ≡ after_writes ws (list_of from)) × IsTouched from node ws image in
       let Q : Image → Type 0 = CompletesTo later in
@@ -233,7 +233,7 @@ times_set from image node moment kind small done =
 
 -- a touch turns with its second write, and where it has no writes the lists are one
 module _ (from : Image) (ready : IsWritable from) (node moment : ℕ) (good : (list_of from).checks node ≡ true) (before later : List ℕ) where
-  turns_none : CanBeMade from [] → TurnsAtTwo (list_of from) [] before later → TurnsAt 2 (CompletesTo before) (CompletesTo later) from (touch_steps node moment [] from)
+  turns_none : CanBeMade from [] → CommitsAtTwo (list_of from) [] before later → CommitsAt 2 (CompletesTo before) (CompletesTo later) from (touch_steps node moment [] from)
   turns_none can turn =
       let P : Image → Type 0 = CompletesTo before in
       let Q : Image → Type 0 = CompletesTo later in
@@ -245,8 +245,8 @@ module _ (from : Image) (ready : IsWritable from) (node moment : ℕ) (good : (l
   unfolding write_steps word_step
   two_steps code rest = omega arith
 
-  turns_some : (code : ℕ) (rest : List ListWrite) → CanBeMade from (Operation code ∷ Transaction node ∷ rest) → TurnsAtTwo (list_of from) (Operation code ∷ Transaction node ∷ rest) before later
-      → TurnsAt 2 (CompletesTo before) (CompletesTo later) from (touch_steps node moment (Operation code ∷ Transaction node ∷ rest) from)
+  turns_some : (code : ℕ) (rest : List ListWrite) → CanBeMade from (Operation code ∷ Transaction node ∷ rest) → CommitsAtTwo (list_of from) (Operation code ∷ Transaction node ∷ rest) before later
+      → CommitsAt 2 (CompletesTo before) (CompletesTo later) from (touch_steps node moment (Operation code ∷ Transaction node ∷ rest) from)
   turns_some code rest can turn =
       let P : Image → Type 0 = CompletesTo before in
       let Q : Image → Type 0 = CompletesTo later in
@@ -254,49 +254,49 @@ module _ (from : Image) (ready : IsWritable from) (node moment : ℕ) (good : (l
       turns_then 2 P Q (steps_of ws from) (sealed_steps (after (steps_of ws from) from) node (times_of moment)) from (two_steps code rest)
       (turns_whole from ready code node rest before later can turn) (later_along from ready node moment good ws can before later turn)
 
-  pub touch_turns_words : CanBeMade from (touch_writes node (list_of from)) → TurnsAtTwo (list_of from) (touch_writes node (list_of from)) before later
-      → TurnsAt 2 (CompletesTo before) (CompletesTo later) from (touch_steps node moment (touch_writes node (list_of from)) from)
+  pub touch_turns_words : CanBeMade from (touch_writes node (list_of from)) → CommitsAtTwo (list_of from) (touch_writes node (list_of from)) before later
+      → CommitsAt 2 (CompletesTo before) (CompletesTo later) from (touch_steps node moment (touch_writes node (list_of from)) from)
   touch_turns_words = go ((list_of from).head == node)
     where
       Turned : List ListWrite → Type 0
-      Turned w = CanBeMade from w → TurnsAtTwo (list_of from) w before later → TurnsAt 2 (CompletesTo before) (CompletesTo later) from (touch_steps node moment w from)
+      Turned w = CanBeMade from w → CommitsAtTwo (list_of from) w before later → CommitsAt 2 (CompletesTo before) (CompletesTo later) from (touch_steps node moment w from)
 
       go : (t : Bool) → Turned (if t then [] else writes_of move node (list_of from))
       go true = turns_none
       go false = turns_some move _
 
 -- what a move of a listed node writes can be made
-pub moves-can : (image : Image) (node : ℕ) (front behind : List ℕ) → Rests (front ++ node ∷ behind) image → CanBeMade image (writes_of move node (list_of image))
-moves-can image node front behind rest = operation_can move node image (omega arith) (move_counts node (list_of image) front behind rest.whole rest.idle)
+pub moves-can : (image : Image) (node : ℕ) (prefix suffix : List ℕ) → HasListAtRest (prefix ++ node ∷ suffix) image → CanBeMade image (writes_of move node (list_of image))
+moves-can image node prefix suffix rest = operation_can move node image (omega arith) (move_counts node (list_of image) prefix suffix rest.whole rest.idle)
 
 -- and so can what a touch writes
 pub touches-can : TouchesCanBeMade
-touches-can image node front behind rest = go ((list_of image).head == node)
+touches-can image node prefix suffix rest = go ((list_of image).head == node)
   where
     go : (t : Bool) → CanBeMade image (if t then [] else writes_of move node (list_of image))
     go true = record { nodes = tt; words = tt }
-    go false = moves-can image node front behind rest
+    go false = moves-can image node prefix suffix rest
 
 pub touches-in_turn : TouchesAreMadeInTurn
-touches-in_turn image node moment front behind ready rest =
-    touch_along image ready node moment (listed node (list_of image) front behind rest.whole).good (touch_writes node (list_of image)) (touches-can image node front behind rest)
+touches-in_turn image node moment prefix suffix ready rest =
+    touch_along image ready node moment (listed node (list_of image) prefix suffix rest.whole).good (touch_writes node (list_of image)) (touches-can image node prefix suffix rest)
 
 pub touches-go_on : TouchesCanGoOn
 touches-go_on image node moment ready = touch_goes_on image ready node moment (touch_writes node (list_of image))
 
-pub touches-turn_words : TouchesTurnAtTheSecondWord
-touches-turn_words image node moment front behind ready rest =
-    touch_turns_words image ready node moment (listed node (list_of image) front behind rest.whole).good (front ++ node ∷ behind) (node ∷ front ++ behind) (touches-can image node front behind rest) (touches-turn node (list_of image) front behind rest)
+pub touches-turn_words : TouchesCommitAtTheSecondWord
+touches-turn_words image node moment prefix suffix ready rest =
+    touch_turns_words image ready node moment (listed node (list_of image) prefix suffix rest.whole).good (prefix ++ node ∷ suffix) (node ∷ prefix ++ suffix) (touches-can image node prefix suffix rest) (touches-turn node (list_of image) prefix suffix rest)
 
 pub touches-rest : TouchesEndAtRest
-touches-rest image node moment front behind ready rest =
-    subst (λ (l : ListView). IsAtRest l (node ∷ front ++ behind))
-    (sym (touch_list image ready node moment (listed node (list_of image) front behind rest.whole).good (touch_writes node (list_of image)) (touches-can image node front behind rest)))
-    (touches-end node (list_of image) front behind rest)
+touches-rest image node moment prefix suffix ready rest =
+    subst (λ (l : ListView). IsAtRest l (node ∷ prefix ++ suffix))
+    (sym (touch_list image ready node moment (listed node (list_of image) prefix suffix rest.whole).good (touch_writes node (list_of image)) (touches-can image node prefix suffix rest)))
+    (touches-end node (list_of image) prefix suffix rest)
 
 pub touches-times : TouchesSetTheTimes
-touches-times image node moment front behind ready rest small =
-    let good = (listed node (list_of image) front behind rest.whole).good in
+touches-times image node moment prefix suffix ready rest small =
+    let good = (listed node (list_of image) prefix suffix rest.whole).good in
     let ws : List ListWrite = touch_writes node (list_of image) in
-    let can = touches-can image node front behind rest in
+    let can = touches-can image node prefix suffix rest in
     times_set (after (steps_of ws image) image) (after (touch_steps node moment ws image) image) node moment (still_good image ready node moment good ws can).kind small (touch_updated image ready node moment good ws can)

@@ -13,18 +13,19 @@ use Rattle.blk_image.proofs.WordSteps.{quiet-word_step, quiet-word_steps}
 use Rattle.blk_image.proofs.Cuts.{after-append}
 use Rattle.blk_image.proofs.Images.{word-after_same, length-after_write}
 use Rattle.blk_image.proofs.Footprints.{outside-refl, outside-trans, outside_wider, outside_write, within_left, within_right, within_both}
-use Rattle.blk_format.specs.Address.{is_address, is_initialized, names_external, names_blocks, kind_of, rankings, file_selector, first_block, block_count, place, room}
+use Rattle.blk_format.specs.Address.{is_address, is_initialized, names_external, names_blocks, kind_of, rankings, file_selector, first_block, block_count, place, byte_size}
 use Rattle.blk_format.specs.Standing.{is_linked_as, stands_as_blocks}
 use Rattle.blk_format.specs.BlockFiles.{is_among, linked_as, max_entries_in, stands_in}
-use Rattle.blk_format.specs.Sealed.{RecordChecks, IsMoment, IsUpdated, seal_place, record_size, record_at, record_range, sealed_steps, update_steps, update_words, placed, new_seal}
+use Rattle.blk_format.specs.Sealed.{RecordChecks, IsMidUpdate, IsUpdated, seal_place, record_size, record_at, record_range, sealed_steps, update_steps, update_words, placed, new_seal}
 use Rattle.blk_format.proofs.RecordBytes.{take-before_word}
 use Rattle.blk_format.proofs.SealedRecords.{node_seal, record_inside, moments, updated}
 use Rattle.blk_volume.specs.ListView.{ListView, ListWrite, Next, Prev, Head, Tail, Transaction, Operation}
 use Rattle.blk_volume.specs.View.{list_of}
-use Rattle.blk_laws.specs.Moments.{OnlyListChanges}
-use Rattle.blk_laws.specs.IndexMoments.{IsListWord, checked_words}
-use Rattle.blk_laws.specs.ListSteps.{IsPartly, AreOf, write_steps, steps_of, touched_by, touched_by_writes}
-use Rattle.blk_laws.specs.ListWords.{IsWritable, CanBeMade, WritesAreMadeInTurn, WritesAreMade, WritesCanGoOn}
+use Rattle.blk_volume.specs.ShownChanges.{OnlyListChanges}
+use Rattle.blk_laws.specs.IndexWrites.{IsListWord, checked_words}
+use Rattle.blk_volume.specs.ListSteps.{IsPartly, AreOf, write_steps, steps_of, touched_by, touched_by_writes}
+use Rattle.blk_volume.specs.ListImages.{IsWritable, CanBeMade}
+use Rattle.blk_laws.specs.ListWords.{WritesAreMadeInTurn, WritesAreMade, WritesCanGoOn}
 use Rattle.blk_laws.proofs.ByteChanges.{stands-address, stands-blocks}
 use Rattle.blk_laws.proofs.NodeWords.{initialized-fits, node_apart}
 use Rattle.blk_laws.proofs.Adding.{changes-begin, changes-add}
@@ -96,7 +97,7 @@ pub stands-small : (image : Image) (w : ℕ) → stands_in image w ≡ true → 
 unfolding is_address
 stands-small image w st = initialized-fits w (and_parts (is_initialized w) (names_external w || names_blocks w) (stands-address image w st)).0
 
-stands-inside : (image : Image) (w : ℕ) → stands_in image w ≡ true → kind_of w ≡ rankings → place w + room w ≤ length_of image (Block (file_selector w))
+stands-inside : (image : Image) (w : ℕ) → stands_in image w ≡ true → kind_of w ≡ rankings → place w + byte_size w ≤ length_of image (Block (file_selector w))
 unfolding stands_as_blocks
 stands-inside image w st kind =
     leb-true _ _ (and_parts (is_linked_as (linked_as image (file_selector w)) (kind_of w) && nat_le (first_block w + block_count w) (max_entries_in image (file_selector w))) _ (stands-blocks image w st (λ e. node_apart (sym kind ∙ e)))).1
@@ -112,7 +113,7 @@ good-node image w ready good =
     let p = standing-parts image rankings w (good-stands image w good) in
     let room = stands-inside image w p.0 p.1 in
     let inside = record_inside w (inl p.1) in
-    record { small = stands-small image w p.0; kind = p.1; stands = p.0; fits = omega (arith, room, inside); checks = record_checks image w ready.bytes p.1 good }
+    record { small = stands-small image w p.0; kind = p.1; stands = p.0; fits = omega (arith, byte_size, inside); checks = record_checks image w ready.bytes p.1 good }
 
 -- one write at each of its words, and what it leaves
 pub record WriteShows (from : Image) (write : ListWrite) : Type 0 where
@@ -139,7 +140,7 @@ index_word at x write from ready small inside aligned free law touched =
 
 -- a link of a node
 link_word : (w p x : ℕ) (write : ListWrite) (from : Image) → IsWritable from → (list_of from).checks w ≡ true → p + 4 ≤ 32
-    → ((image : Image) (moment : IsMoment from w ((p, x) ∷ []) image) → OnlyListChanges (take moment.made (write ∷ [])) from image) → touched_by write ≡ record_range w
+    → ((image : Image) (moment : IsMidUpdate from w ((p, x) ∷ []) image) → OnlyListChanges (take moment.made (write ∷ [])) from image) → touched_by write ≡ record_range w
     → Along (IsPartly from (write ∷ [])) from (sealed_steps from w ((p, x) ∷ [])) × OnlyListChanges (write ∷ []) from (after (sealed_steps from w ((p, x) ∷ [])) from)
 link_word w p x write from ready good inside law touched =
     let node = good-node from w ready good in
@@ -147,8 +148,8 @@ link_word w p x write from ready good inside law touched =
     let changes : List (ℕ × ℕ) = (p, x) ∷ [] in
     let steps : List TrailStep = sealed_steps from w changes in
     let all : All (λ c. c.0 + 4 ≤ seal_place w) changes = All-cons (λ c. c.0 + 4 ≤ seal_place w) (p, x) [] (omega (arith, inside, seal)) (All-nil (λ c. c.0 + 4 ≤ seal_place w)) in
-    let each : Along (IsMoment from w changes) from steps = moments w from changes node.fits node.checks all in
-    let part : (image : Image) → IsMoment from w changes image → IsPartly from (write ∷ []) image = λ image moment. record {
+    let each : Along (IsMidUpdate from w changes) from steps = moments w from changes node.fits node.checks all in
+    let part : (image : Image) → IsMidUpdate from w changes image → IsPartly from (write ∷ []) image = λ image moment. record {
       made = moment.made;
       within = moment.within;
       shown = law image moment;
@@ -156,16 +157,16 @@ link_word w p x write from ready good inside law touched =
       well_formed = (updates-inside from image w changes node.stands (inl node.kind) moment).well_formed;
     } in
     let new : Image = after steps from in
-    let last : IsMoment from w changes new = until_last (IsMoment from w changes) (IsMoment from w changes) steps from each in
+    let last : IsMidUpdate from w changes new = until_last (IsMidUpdate from w changes) (IsMidUpdate from w changes) steps from each in
     let done : IsUpdated from w changes new = updated w from changes node.fits in
-    let full : IsMoment from w changes new = record {
+    let full : IsMidUpdate from w changes new = record {
       made = 1;
       within = omega arith;
       fields = ap (take (seal_place w)) done ∙ take-before_word (seal_place w) _ (with_words changes (record_at from w));
       checks = last.checks;
       outside = last.outside;
     } in
-    (until_weaker2 (IsMoment from w changes) (IsPartly from (write ∷ [])) (IsMoment from w changes) (IsPartly from (write ∷ [])) steps from part part each, law new full)
+    (until_weaker2 (IsMidUpdate from w changes) (IsPartly from (write ∷ [])) (IsMidUpdate from w changes) (IsPartly from (write ∷ [])) steps from part part each, law new full)
 
 pub one_write : (write : ListWrite) (from : Image) → IsWritable from → CanBeMade from (write ∷ []) → WriteShows from write
 unfolding write_steps touched_by

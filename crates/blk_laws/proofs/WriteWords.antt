@@ -7,9 +7,9 @@ use Rattle.blk_volume.specs.ListView.{ListView, ListWrite, Next, Prev, Head, Tai
 use Rattle.blk_volume.specs.Completion.{counts, taking_out, putting_in_front, take_out}
 use Rattle.blk_volume.specs.ListPlans.{pending_writes, completion_writes, writes_of}
 use Rattle.blk_volume.specs.View.{list_of}
-use Rattle.blk_laws.specs.ListSteps.{AreOf, AreWords}
-use Rattle.blk_laws.specs.ListWords.{CanBeMade}
-use Rattle.blk_laws.proofs.ListMoments.{completion_true, completion_false}
+use Rattle.blk_volume.specs.ListSteps.{AreOf, AreWords}
+use Rattle.blk_volume.specs.ListImages.{CanBeMade}
+use Rattle.blk_laws.proofs.ListCompletions.{completion_true, completion_false}
 use Rattle.blk_laws.proofs.ListWrites.{Counting, counting, pending_insert, pending_remove, pending_move}
 use Rattle.blk_laws.proofs.WriteSteps.{checked-small}
 

@@ -13,13 +13,13 @@ use Rattle.blk_model.proofs.States.{one_owner}
 use Rattle.blk_format.specs.BlockFiles.{is_among}
 use Rattle.blk_format.specs.Claims.{Claim}
 use Rattle.blk_format.specs.Names.{Name, read_name}
-use Rattle.blk_volume.specs.View.{View, Stock, Named, Core}
+use Rattle.blk_volume.specs.View.{View, StoreView, NodeFields, RecordFields}
 use Rattle.blk_volume.specs.Chains.{is_of_bucket, bucket_of_hash, Linked, IsChain}
 use Rattle.blk_volume.specs.Entries as entries
-use Rattle.blk_volume.specs.Loads.{held, Rule, Loaded, load, is_part, is_part_role}
+use Rattle.blk_volume.specs.Loads.{held_rule, Rule, Loaded, load, is_part, is_part_role}
 use Rattle.blk_volume.specs.Audit.{kept_among}
 use Rattle.blk_volume.specs.Found.{row_of}
-use Rattle.blk_volume.specs.Layout.{Layout, is_listed, order, rule_of, IsPartAt, IsLaid, IsListedRecord, Lies, Shows, Represents, HoldsBut, IsMidst}
+use Rattle.blk_volume.specs.Layout.{Layout, is_listed, order, rule_of, IsPartAt, IsPlacedAt, IsListedRecord, IsLayoutOf, Shows, Represents, HoldsExcept, IsInProgress}
 use Rattle.blk_volume.specs.Footprint.{IsClear, SameNodeLinks, SameBut, IsInside, KeepsName}
 use Rattle.blk_laws.proofs.Loads.{load-then}
 use Rattle.blk_laws.proofs.Loading.{load-clean}
@@ -37,15 +37,15 @@ use Rattle.blk_laws.proofs.Midst.{midst-rest}
 use Rattle.blk_model.specs.Holding as model
 
 -- the dirty word of what loads is the node's
-dirty-of : (v : Stock) (a : Rule) (w : ℕ) (k : Loaded) (n : Named) → load v a w ≡ Ok k → v.named w ≡ Some n → k.dirty ≡ n.dirty
-dirty-of v a w k n ok is = load-then v a w k ok (λ x e f. f.facts.dirty_is ∙ ap (λ (z : Named). z.dirty) (let p : v.named w ≡ Some x = f.node in let q : v.named w ≡ Some n = is in let s : x ≡ n = cc in s))
+dirty-of : (v : StoreView) (a : Rule) (w : ℕ) (k : Loaded) (n : NodeFields) → load v a w ≡ Ok k → v.node_fields w ≡ Some n → k.dirty ≡ n.dirty
+dirty-of v a w k n ok is = load-then v a w k ok (λ x e f. f.facts.dirty_is ∙ ap (λ (z : NodeFields). z.dirty) (let p : v.node_fields w ≡ Some x = f.node in let q : v.node_fields w ≡ Some n = is in let s : x ≡ n = cc in s))
 
 module _ (touched : Claim → Bool) (v u : View) (m : State) (y : Layout) (r : Represents v m y) (valid : IsValidState m) (number : ℕ) (o : Object) (item : Item) (here : object_at m number ≡ Some o) (has : has_item o item ≡ true) (unsettled : o.settled ≡ false)
-    (l : Loaded) (at : y.at (y.place item) ≡ Some l) (same : SameBut touched v u) (inside : IsInside touched v u y (y.place item) l) (name : KeepsName v.stock u.stock item l.contents) where
-  lies : Lies m y
+    (l : Loaded) (at : y.at (y.place item) ≡ Some l) (same : SameBut touched v u) (inside : IsInside touched v u y (y.place item) l) (name : KeepsName v.store u.store item l.contents) where
+  lies : IsLayoutOf m y
   lies = r.holds.lies
 
-  shows : Shows v.stock y
+  shows : Shows v.store y
   shows = r.holds.shows
 
   clear-other : (w : ℕ) (x : Loaded) → (y.place item == w) ≡ false → y.at w ≡ Some x → AreClear touched x
@@ -54,25 +54,25 @@ module _ (touched : Claim → Bool) (v u : View) (m : State) (y : Layout) (r : R
   by-node : (P : ℕ → Type 0) (w : ℕ) → (y.place item ≡ w → P w) → ((y.place item == w) ≡ false → P w) → P w
   by-node P w f g = ⊎_elim (λ (e : (eqb (y.place item) w ≡ true) × (y.place item ≡ w)). f e.1) (λ (e : (eqb (y.place item) w ≡ false) × _). g e.0) (eqb_tells (y.place item) w)
 
-  chain-same : (b c : ℕ) → b < 65536 → is_among (y.chains b) c ≡ true → (is_of_bucket u.stock b c ≡ is_of_bucket v.stock b c) × (u.stock.follow c ≡ v.stock.follow c)
+  chain-same : (b c : ℕ) → b < 65536 → is_among (y.chains b) c ≡ true → (is_of_bucket u.store b c ≡ is_of_bucket v.store b c) × (u.store.chain_next c ≡ v.store.chain_next c)
   chain-same b c below there =
       let q : IsListedRecord m y c = lies.unchained b c below there in
-      by-node (λ z. z ≡ q.node → (is_of_bucket u.stock b c ≡ is_of_bucket v.stock b c) × (u.stock.follow c ≡ v.stock.follow c)) q.node
+      by-node (λ z. z ≡ q.node → (is_of_bucket u.store b c ≡ is_of_bucket v.store b c) × (u.store.chain_next c ≡ v.store.chain_next c)) q.node
       (λ e _.
       let s : l ≡ q.loaded = let a : y.at (y.place item) ≡ y.at q.node = ap y.at e in let p : y.at q.node ≡ Some q.loaded = q.here in let t : y.at (y.place item) ≡ Some l = at in cc in
       let c_is : l.contents ≡ c = ap (λ (z : Loaded). z.contents) s ∙ q.record_is in
-      subst (λ (z : ℕ). (is_of_bucket u.stock b z ≡ is_of_bucket v.stock b z) × (u.stock.follow z ≡ v.stock.follow z)) c_is (inside.bucket b, inside.follow))
+      subst (λ (z : ℕ). (is_of_bucket u.store b z ≡ is_of_bucket v.store b z) × (u.store.chain_next z ≡ v.store.chain_next z)) c_is (inside.bucket b, inside.chain_next))
       (λ e _.
       let clear : IsClear touched c = subst (IsClear touched) q.record_is (clear-other q.node q.loaded e q.here).contents in
-      (ap (λ (x : Option Core). option_map_or (λ e. e.checks && (bucket_of_hash e.hash == b)) x false) (sym (same.stock.entry c clear)), sym (same.stock.follow c clear)))
+      (ap (λ (x : Option RecordFields). option_map_or (λ e. e.checks && (bucket_of_hash e.hash == b)) x false) (sym (same.store.entry c clear)), sym (same.store.chain_next c clear)))
       refl
 
-  but : HoldsBut (λ w. y.place item == w) u.stock m y
+  but : HoldsExcept (λ w. y.place item == w) u.store m y
   but = record {
-    no_record = sym (same.stock.entry 0 (clear-zero touched)) ∙ shows.no_record;
-    each = λ w x is apart. load-outside touched v.stock u.stock same.stock (rule_of y w) w x refl (shows.each w x is) (clear-other w x apart is);
-    chains = λ b below. let c : IsChain v.stock b (y.chains b) = shows.chains b below in
-        record { linked = subst (λ (x : ℕ). Linked u.stock b x (y.chains b)) (same.table b) (linked-facts v.stock u.stock b (v.stock.table b) (y.chains b) (λ x there. chain-same b x below there) c.linked); once = c.once };
+    no_record = sym (same.store.entry 0 (clear-zero touched)) ∙ shows.no_record;
+    each = λ w x is apart. load-outside touched v.store u.store same.store (rule_of y w) w x refl (shows.each w x is) (clear-other w x apart is);
+    chains = λ b below. let c : IsChain v.store b (y.chains b) = shows.chains b below in
+        record { linked = subst (λ (x : ℕ). Linked u.store b x (y.chains b)) (same.table b) (linked-facts v.store u.store b (v.store.table b) (y.chains b) (λ x there. chain-same b x below there) c.linked); once = c.once };
     laid = lies.laid;
     normal = lies.normal;
     chained = λ w x there is _. lies.chained w x there is;
@@ -83,12 +83,12 @@ module _ (touched : Claim → Bool) (v u : View) (m : State) (y : Layout) (r : R
   node-same : (w : ℕ) → is_among (order m y) w ≡ true → SameNodeLinks w v.list u.list
   node-same w there =
       let n : IsNodeOf y m.uses w = node-of y m.uses w there in
-      let q : IsLaid m y n.item = lies.laid n.item n.among in
+      let q : IsPlacedAt m y n.item = lies.laid n.item n.among in
       let is : y.at w ≡ Some q.loaded = ap y.at (sym n.is) ∙ q.here in
       by-node (λ z. z ≡ w → SameNodeLinks w v.list u.list) w
       (λ e _. subst (λ (z : ℕ). SameNodeLinks z v.list u.list) e inside.links)
       (λ e _.
-      let clear : IsClear touched w = subst (IsClear touched) (node-is v.stock (rule_of y w) w q.loaded (shows.each w q.loaded is)) (clear-other w q.loaded e is).node in
+      let clear : IsClear touched w = subst (IsClear touched) (node-is v.store (rule_of y w) w q.loaded (shows.each w q.loaded is)) (clear-other w q.loaded e is).node in
       record { checks = same.links.checks w clear; next = same.links.next w clear; prev = same.links.prev w clear })
       refl
 
@@ -112,7 +112,7 @@ module _ (touched : Claim → Bool) (v u : View) (m : State) (y : Layout) (r : R
   there : is_listed m (main o.key) ≡ true
   there = main-listed m valid number o true here o-live
 
-  above : IsLaid m y (main o.key)
+  above : IsPlacedAt m y (main o.key)
   above = lies.laid (main o.key) there
 
   -- the dirty word of the main item is not 0
@@ -123,20 +123,20 @@ module _ (touched : Claim → Bool) (v u : View) (m : State) (y : Layout) (r : R
       mark ∙ unsettled
 
   -- its node says as before
-  named-above : u.stock.named (y.place (main o.key)) ≡ v.stock.named (y.place (main o.key))
-  named-above = by-node (λ w. w ≡ y.place (main o.key) → u.stock.named w ≡ v.stock.named w) (y.place (main o.key))
-      (λ e _. subst (λ (w : ℕ). u.stock.named w ≡ v.stock.named w) e inside.named)
+  named-above : u.store.node_fields (y.place (main o.key)) ≡ v.store.node_fields (y.place (main o.key))
+  named-above = by-node (λ w. w ≡ y.place (main o.key) → u.store.node_fields w ≡ v.store.node_fields w) (y.place (main o.key))
+      (λ e _. subst (λ (w : ℕ). u.store.node_fields w ≡ v.store.node_fields w) e inside.node_fields)
       (λ e _.
-      let clear : IsClear touched (y.place (main o.key)) = subst (IsClear touched) (node-is v.stock (rule_of y (y.place (main o.key))) (y.place (main o.key)) above.loaded (shows.each (y.place (main o.key)) above.loaded above.here)) (clear-other (y.place (main o.key)) above.loaded e above.here).node in
-      sym (same.stock.named (y.place (main o.key)) clear))
+      let clear : IsClear touched (y.place (main o.key)) = subst (IsClear touched) (node-is v.store (rule_of y (y.place (main o.key))) (y.place (main o.key)) above.loaded (shows.each (y.place (main o.key)) above.loaded above.here)) (clear-other (y.place (main o.key)) above.loaded e above.here).node in
+      sym (same.store.node_fields (y.place (main o.key)) clear))
       refl
 
-  still-dirty : (k : Loaded) → load u.stock held (y.place (main o.key)) ≡ Ok k → ⊥
-  still-dirty k ok = load-then u.stock held (y.place (main o.key)) k ok (λ n e f.
-      let a : k.dirty ≡ n.dirty = dirty-of u.stock held (y.place (main o.key)) k n ok f.node in
-      let was : v.stock.named (y.place (main o.key)) ≡ Some n = sym named-above ∙ f.node in
-      let b : above.loaded.dirty ≡ n.dirty = dirty-of v.stock (rule_of y (y.place (main o.key))) (y.place (main o.key)) above.loaded n (shows.each (y.place (main o.key)) above.loaded above.here) was in
-      let c : (k.dirty == 0) ≡ true = load-clean u.stock held (y.place (main o.key)) k ok in
+  still-dirty : (k : Loaded) → load u.store held_rule (y.place (main o.key)) ≡ Ok k → ⊥
+  still-dirty k ok = load-then u.store held_rule (y.place (main o.key)) k ok (λ n e f.
+      let a : k.dirty ≡ n.dirty = dirty-of u.store held_rule (y.place (main o.key)) k n ok f.node in
+      let was : v.store.node_fields (y.place (main o.key)) ≡ Some n = sym named-above ∙ f.node in
+      let b : above.loaded.dirty ≡ n.dirty = dirty-of v.store (rule_of y (y.place (main o.key))) (y.place (main o.key)) above.loaded n (shows.each (y.place (main o.key)) above.loaded above.here) was in
+      let c : (k.dirty == 0) ≡ true = load-clean u.store held_rule (y.place (main o.key)) k ok in
       let d : (k.dirty == 0) ≡ false = ap (λ (z : ℕ). z == 0) (a ∙ sym b) ∙ dirty-above in
       let z : true ≡ false = sym c ∙ d in cc)
 
@@ -148,34 +148,34 @@ module _ (touched : Claim → Bool) (v u : View) (m : State) (y : Layout) (r : R
       (eqb_tells (y.place item) (y.place i))
 
   -- what the node loads, if it does, has the flags and the key that it had
-  same-name : ((was now : Core) → v.stock.entry l.contents ≡ Some was → u.stock.entry l.contents ≡ Some now → (now.flags ≡ was.flags) × (entries.key_of u.stock l.contents now ≡ entries.key_of v.stock l.contents was))
-      → (k : Loaded) → load u.stock held (y.place item) ≡ Ok k → (is_part k ≡ is_part l) × (k.key ≡ l.key)
-  same-name keeps k ok = load-then u.stock held (y.place item) k ok (λ n e f. load-then v.stock (rule_of y (y.place item)) (y.place item) l (shows.each (y.place item) l at) (λ p d g.
-      let node : n ≡ p = let a : v.stock.named (y.place item) ≡ Some n = sym inside.named ∙ f.node in let b : v.stock.named (y.place item) ≡ Some p = g.node in cc in
-      let was : v.stock.entry l.contents ≡ Some d = ap v.stock.entry g.facts.contents_is ∙ g.entry in
-      let contents : l.contents ≡ n.contents = g.facts.contents_is ∙ ap (λ (z : Named). z.contents) (sym node) in
-      let kept = keeps d e was (ap u.stock.entry contents ∙ f.entry) in
-      let old_key : entries.key_of v.stock l.contents d ≡ Some l.key = ap (λ (w : ℕ). entries.key_of v.stock w d) g.facts.contents_is ∙ g.facts.keyed.key in
-      let new_key : entries.key_of u.stock l.contents e ≡ Some k.key = ap (λ (w : ℕ). entries.key_of u.stock w e) contents ∙ f.facts.keyed.key in
+  same-name : ((was now : RecordFields) → v.store.entry l.contents ≡ Some was → u.store.entry l.contents ≡ Some now → (now.flags ≡ was.flags) × (entries.key_of u.store l.contents now ≡ entries.key_of v.store l.contents was))
+      → (k : Loaded) → load u.store held_rule (y.place item) ≡ Ok k → (is_part k ≡ is_part l) × (k.key ≡ l.key)
+  same-name keeps k ok = load-then u.store held_rule (y.place item) k ok (λ n e f. load-then v.store (rule_of y (y.place item)) (y.place item) l (shows.each (y.place item) l at) (λ p d g.
+      let node : n ≡ p = let a : v.store.node_fields (y.place item) ≡ Some n = sym inside.node_fields ∙ f.node in let b : v.store.node_fields (y.place item) ≡ Some p = g.node in cc in
+      let was : v.store.entry l.contents ≡ Some d = ap v.store.entry g.facts.contents_is ∙ g.entry in
+      let contents : l.contents ≡ n.contents = g.facts.contents_is ∙ ap (λ (z : NodeFields). z.contents) (sym node) in
+      let kept = keeps d e was (ap u.store.entry contents ∙ f.entry) in
+      let old_key : entries.key_of v.store l.contents d ≡ Some l.key = ap (λ (w : ℕ). entries.key_of v.store w d) g.facts.contents_is ∙ g.facts.keyed.key in
+      let new_key : entries.key_of u.store l.contents e ≡ Some k.key = ap (λ (w : ℕ). entries.key_of u.store w e) contents ∙ f.facts.keyed.key in
       let keys : ◌≡◌ {A = Option (List ℕ)} (Some k.key) (Some l.key) = sym new_key ∙ kept.1 ∙ old_key in
       (sym (role-part e k.key k.streams k.role f.facts.role) ∙ ap (λ (z : ℕ). z == 2) kept.0 ∙ role-part d l.key l.streams l.role g.facts.role, (let s : k.key ≡ l.key = cc in s))))
 
   -- a part in the midst is this one
-  part-midst : (n : ℕ) → item ≡ part o.key n → (x k : Loaded) → y.at (y.place (part o.key n)) ≡ Some x → load u.stock held (y.place (part o.key n)) ≡ Ok k → (is_part k ≡ true) × (k.key ≡ x.key)
+  part-midst : (n : ℕ) → item ≡ part o.key n → (x k : Loaded) → y.at (y.place (part o.key n)) ≡ Some x → load u.store held_rule (y.place (part o.key n)) ≡ Ok k → (is_part k ≡ true) × (k.key ≡ x.key)
   part-midst n is x k at_x ok =
       let s : l ≡ x = let a : y.at (y.place item) ≡ Some l = at in let b : y.at (y.place item) ≡ Some x = ap (λ (i : Item). y.at (y.place i)) is ∙ at_x in cc in
-      let p = same-name (subst (λ (i : Item). KeepsName v.stock u.stock i l.contents) is name) k (ap (λ (i : Item). load u.stock held (y.place i)) is ∙ ok) in
+      let p = same-name (subst (λ (i : Item). KeepsName v.store u.store i l.contents) is name) k (ap (λ (i : Item). load u.store held_rule (y.place i)) is ∙ ok) in
       let child : is_part x ≡ true = ap is_part_role (part-at m y lies.laid m.uses (λ i h. h) o.key n x (subst (λ (i : Item). is_listed m i ≡ true) is item-there) at_x).0.role in
       (p.0 ∙ ap is_part s ∙ child, p.1 ∙ ap (λ (z : Loaded). z.key) s)
 
   part-name : (n : ℕ) (x : Loaded) (a : Name) → is_listed m (part o.key n) ≡ true → y.at (y.place (part o.key n)) ≡ Some x → read_name x.key ≡ Some a → a.key ≡ o.key
   part-name n x a h at_x read =
       let q : IsPartAt m y o.key x = (part-at m y lies.laid m.uses (λ i g. g) o.key n x h at_x).0 in
-      let named : read_name x.key ≡ Some q.name = load-then v.stock (rule_of y (y.place (part o.key n))) (y.place (part o.key n)) x (shows.each (y.place (part o.key n)) x at_x) (λ w e f. role-name e x.key x.streams q.name q.index (f.facts.role ∙ ap Some q.role)) in
+      let node_fields : read_name x.key ≡ Some q.name = load-then v.store (rule_of y (y.place (part o.key n))) (y.place (part o.key n)) x (shows.each (y.place (part o.key n)) x at_x) (λ w e f. role-name e x.key x.streams q.name q.index (f.facts.role ∙ ap Some q.role)) in
       let s : a ≡ q.name = cc in
       ap (λ (z : Name). z.key) s ∙ q.of_key
 
-  midst : IsMidst (λ w. y.place item == w) u.stock m y o.key
+  midst : IsInProgress (λ w. y.place item == w) u.store m y o.key
   midst = record {
     of_key = λ i h e. ap key_of (sym (only-item i h e)) ∙ its-key o item has;
     unsettled = λ x is. let s : above.loaded ≡ x = (let b : y.at (y.place (main o.key)) ≡ Some above.loaded = above.here in let c : y.at (y.place (main o.key)) ≡ Some x = is in cc) in ap (λ (z : Loaded). z.dirty == 0) (sym s) ∙ dirty-above;
@@ -184,7 +184,7 @@ module _ (touched : Claim → Bool) (v u : View) (m : State) (y : Layout) (r : R
     names = λ n x a h e is read. part-name n x a h is read;
   }
 
-  pub moment-rest : map row_of (kept_among u.stock held (walk (completed_list u.list))) ≡ model.rest m
+  pub moment-rest : map row_of (kept_among u.store held_rule (walk (completed_list u.list))) ≡ model.rest m
   moment-rest =
       let walks : walk (completed_list u.list) ≡ order m y = walk-idle u.list (sym same.links.transaction ∙ r.idle) ∙ walk_list u.list (order m y) list-still in
-      ap (λ (ws : List ℕ). map row_of (kept_among u.stock held ws)) walks ∙ midst-rest (λ w. y.place item == w) u.stock m y but valid o.key midst r.list.distinct
+      ap (λ (ws : List ℕ). map row_of (kept_among u.store held_rule ws)) walks ∙ midst-rest (λ w. y.place item == w) u.store m y but valid o.key midst r.list.distinct

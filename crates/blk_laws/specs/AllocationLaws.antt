@@ -7,7 +7,7 @@ use Rattle.blk_format.specs.Claims.{is_in_file}
 use Rattle.blk_format.specs.BlockFiles.{linked_as}
 use Rattle.blk_format.specs.Maps.{AreAllocations}
 use Rattle.blk_volume.specs.View.{view_of}
-use Rattle.blk_volume.specs.Loads.{listed}
+use Rattle.blk_volume.specs.Loads.{listed_rule}
 use Rattle.blk_volume.specs.Audit.{kept_by}
 use Rattle.blk_volume.specs.Found.{kept}
 use Rattle.blk_volume.specs.Sound.{words_of, IsSound}
@@ -20,4 +20,4 @@ SoundFilesAreAllocated = (image : Image) → IsSound image → (n : ℕ) → is_
 -- where an image stands for a state, they are those of what is listed or doomed
 abbrev pub StoodForFilesAreAllocated : Type 0
 StoodForFilesAreAllocated = (image : Image) (state : State) (stands : StandsFor image state) (n : ℕ) → is_some (linked_as image n) ≡ true
-    → AreAllocations image n (filter (is_in_file n) (flat_map words_of (kept_by listed (view_of image) ++ map (λ doomed. doomed.1) stands.doomed)))
+    → AreAllocations image n (filter (is_in_file n) (flat_map words_of (kept_by listed_rule (view_of image) ++ map (λ doomed. doomed.1) stands.doomed)))

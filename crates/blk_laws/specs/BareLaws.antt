@@ -7,7 +7,7 @@ use Rattle.blk_format.specs.Address.{header_size}
 use Rattle.blk_format.specs.Headers.{table_length, num_entries_of, num_bytes_of, sizes_of, bucket_of, allocations_of, empty_of, updating_of}
 use Rattle.blk_format.specs.NewFolder.{IsMade}
 use Rattle.blk_format.specs.BlockFiles.{linked_as, max_entries_in, most_blocks, IsWellFormed}
-use Rattle.blk_format.specs.Maps.{is_marked}
+use Rattle.blk_format.specs.Maps.{is_block_marked}
 use Rattle.blk_volume.specs.View.{list_of, view_of}
 use Rattle.blk_volume.specs.Found.{found}
 use Rattle.blk_volume.specs.Layout.{Represents}
@@ -20,7 +20,7 @@ abbrev pub NothingRepresentsTheEmptyState : Type 0
 NothingRepresentsTheEmptyState = (limits : Bounds) → Represents no_view (open_state [] limits) no_layout
 
 -- the index has no list, no chain and no counts
-pub record IsBareIndex (image : Image) : Type 0 where
+pub record IsIndexWithoutEntries (image : Image) : Type 0 where
   pub head : (list_of image).head ≡ 0
   pub tail : (list_of image).tail ≡ 0
   pub transaction : (list_of image).transaction ≡ 0
@@ -30,38 +30,38 @@ pub record IsBareIndex (image : Image) : Type 0 where
   pub num_bytes : num_bytes_of (byte image Index) ≡ 0
 
 -- a block file has its header, and no block
-pub record IsBareFile (image : Image) (n : ℕ) : Type 0 where
+pub record IsFileWithoutBlocks (image : Image) (n : ℕ) : Type 0 where
   pub long_enough : header_size ≤ length_of image (Block n)
   pub allocations : allocations_of (byte image (Block n)) ≡ 0
   pub max_entries : max_entries_in image n ≡ 0
   pub empty : (i : ℕ) → i < 4 → empty_of (byte image (Block n)) i ≡ 0
   pub updating : updating_of (byte image (Block n)) ≡ 0
-  pub map : (b : ℕ) → b < most_blocks → is_marked image n b ≡ false
+  pub map : (b : ℕ) → b < most_blocks → is_block_marked image n b ≡ false
 
 -- a well-formed folder of a bare index and bare block files, with no other files
-pub record IsBare (image : Image) : Type 0 where
+pub record HasNoEntries (image : Image) : Type 0 where
   pub well_formed : IsWellFormed image
-  pub index : IsBareIndex image
-  pub blocks : (n : ℕ) → is_some (linked_as image n) ≡ true → IsBareFile image n
+  pub index : IsIndexWithoutEntries image
+  pub blocks : (n : ℕ) → is_some (linked_as image n) ≡ true → IsFileWithoutBlocks image n
   pub only_linked : OnlyLinked image
   pub no_externals : (n : ℕ) → n < 2 ^ 32 → has_file image (External n) ≡ false
 
 -- a bare folder holds nothing
-abbrev pub BareFoldersHoldNothing : Type 0
-BareFoldersHoldNothing = (image : Image) → IsBare image → found image ≡ []
+abbrev pub FoldersWithoutEntriesHoldNothing : Type 0
+FoldersWithoutEntriesHoldNothing = (image : Image) → HasNoEntries image → found image ≡ []
 
 -- it is sound
-abbrev pub BareFoldersAreSound : Type 0
-BareFoldersAreSound = (image : Image) → IsBare image → IsSound image
+abbrev pub FoldersWithoutEntriesAreSound : Type 0
+FoldersWithoutEntriesAreSound = (image : Image) → HasNoEntries image → IsSound image
 
 -- it represents the empty state
-abbrev pub BareFoldersRepresentTheEmptyState : Type 0
-BareFoldersRepresentTheEmptyState = (image : Image) (limits : Bounds) → IsBare image → Represents (view_of image) (open_state [] limits) no_layout
+abbrev pub FoldersWithoutEntriesRepresentTheEmptyState : Type 0
+FoldersWithoutEntriesRepresentTheEmptyState = (image : Image) (limits : Bounds) → HasNoEntries image → Represents (view_of image) (open_state [] limits) no_layout
 
 -- it stands for the empty state
-abbrev pub BareFoldersStandForTheEmptyState : Type 0
-BareFoldersStandForTheEmptyState = (image : Image) (limits : Bounds) → IsBare image → StandsFor image (open_state [] limits)
+abbrev pub FoldersWithoutEntriesStandForTheEmptyState : Type 0
+FoldersWithoutEntriesStandForTheEmptyState = (image : Image) (limits : Bounds) → HasNoEntries image → StandsFor image (open_state [] limits)
 
 -- a new folder is bare
-abbrev pub NewFoldersAreBare : Type 0
-NewFoldersAreBare = (moment : ℕ) (image : Image) → IsMade moment image → IsBare image
+abbrev pub NewFoldersHaveNoEntries : Type 0
+NewFoldersHaveNoEntries = (moment : ℕ) (image : Image) → IsMade moment image → HasNoEntries image

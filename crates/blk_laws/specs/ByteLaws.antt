@@ -3,49 +3,26 @@ use Rattle.std.specs.Prelude.{◌≡◌, ◌≢◌, ◌⊎◌, ℕ, List, Some, 
 use Rattle.blk_image.specs.Image.{Index, Block, External, Image, byte, length_of}
 use Rattle.blk_image.specs.Steps.{SetLength, applied}
 use Rattle.blk_image.specs.Footprint.{Footprint, range, whole, either, IsWithin, SameOutside}
-use Rattle.blk_format.specs.Address.{kind_of, file_selector, first_block, block_count, place, room, block_place, external, header_size}
+use Rattle.blk_format.specs.Address.{kind_of, file_selector, first_block, block_count, place, byte_size, block_place, external, header_size}
 use Rattle.blk_format.specs.Standing.{is_linked_as}
 use Rattle.blk_format.specs.BlockFiles.{linked_as, max_entries_in, next_file_in, stands_in, stands_in_blocks}
+use Rattle.blk_format.specs.Growth.{HaveGrown}
 use Rattle.blk_format.specs.Claims.{Claim, BlockOf, ExternalOf, same_claim, claims_of, has_claim}
 use Rattle.blk_volume.specs.View.{view_of}
-use Rattle.blk_volume.specs.Footprint.{SameBut, Covers, is_shown_place}
+use Rattle.blk_volume.specs.Footprint.{SameBut, Covers, AgreeBut, is_there, is_past}
+use Rattle.blk_format.specs.Headers.{is_shown_place}
 use Rattle.blk_volume.specs.Sound.{AreLongEnough}
 use Rattle.blk_volume.specs.Layout.{Layout, Represents}
 use Rattle.blk_volume.specs.StandsFor.{IsOwner}
 use Rattle.blk_model.specs.State.{State}
 
--- a block is there as one of a type: its file is linked as that, and the block is below max_entries and ends inside the file
-unfoldable pub is_there : Image → ℕ → ℕ → ℕ → Bool
-is_there image n kind b = is_linked_as (linked_as image n) kind && nat_le (b + 1) (max_entries_in image n) && nat_le (block_place kind (b + 1)) (length_of image (Block n))
-
 -- so the blocks of a word stand exactly where the last of them is there
 abbrev pub BlocksStandByTheirLast : Type 0
 BlocksStandByTheirLast = (image : Image) (w : ℕ) → stands_in_blocks image w ≡ is_there image (file_selector w) (kind_of w) (first_block w + block_count w - 1)
 
--- two images agree on the index that is shown, and on each block and external file but these: it is there in both or in neither, with the same bytes
-pub record AgreeBut (touched : Claim → Bool) (old new : Image) : Type 0 where
-  pub index : (i : ℕ) → is_shown_place i ≡ true → byte new Index i ≡ byte old Index i
-  pub there : (n kind b : ℕ) → touched (BlockOf n b) ≡ false → is_there new n kind b ≡ is_there old n kind b
-  pub bytes : (n kind b i : ℕ) → touched (BlockOf n b) ≡ false → is_there old n kind b ≡ true → block_place kind b ≤ i → i < block_place kind (b + 1) → byte new (Block n) i ≡ byte old (Block n) i
-  pub externals : (n : ℕ) → touched (ExternalOf n) ≡ false → new (External n) ≡ old (External n)
-
 -- images that agree show the same
 abbrev pub AgreeingImagesShowTheSame : Type 0
 AgreeingImagesShowTheSame = (touched : Claim → Bool) (old new : Image) → AgreeBut touched old new → SameBut touched (view_of old) (view_of new)
-
--- block files have grown or been linked at most: a linked file stays linked as its type, keeps the bytes behind its header, and gets no shorter and no fewer blocks
-pub record HaveGrown (old new : Image) : Type 0 where
-  pub index : (i : ℕ) → is_shown_place i ≡ true → byte new Index i ≡ byte old Index i
-  pub externals : (n : ℕ) → new (External n) ≡ old (External n)
-  pub linked : (n kind : ℕ) → linked_as old n ≡ Some kind → linked_as new n ≡ Some kind
-  pub bytes : (n kind i : ℕ) → linked_as old n ≡ Some kind → header_size ≤ i → i < length_of old (Block n) → byte new (Block n) i ≡ byte old (Block n) i
-  pub longer : (n kind : ℕ) → linked_as old n ≡ Some kind → length_of old (Block n) ≤ length_of new (Block n)
-  pub more : (n kind : ℕ) → linked_as old n ≡ Some kind → max_entries_in old n ≤ max_entries_in new n
-
--- a claim is of a block that no linked file has
-abbrev pub is_past : Image → Claim → Bool
-is_past image (BlockOf n b) = not (is_some (linked_as image n)) || nat_le (max_entries_in image n) b
-is_past image (ExternalOf n) = false
 
 -- where the files are long enough, their growth touches the blocks past theirs alone
 abbrev pub GrowthIsPastTheBlocks : Type 0
@@ -82,7 +59,7 @@ CoveredChangesStayInside = (old new : Image) (footprint : Footprint) (touched : 
 
 -- the bytes of the blocks of a standing address are covered by its claims
 abbrev pub BlocksAreCovered : Type 0
-BlocksAreCovered = (image : Image) (w : ℕ) → stands_in image w ≡ true → kind_of w ≢ external → Covers image (range (Block (file_selector w)) (place w) (room w)) (has_claim (claims_of w))
+BlocksAreCovered = (image : Image) (w : ℕ) → stands_in image w ≡ true → kind_of w ≢ external → Covers image (range (Block (file_selector w)) (place w) (byte_size w)) (has_claim (claims_of w))
 
 -- an external file is covered by its number
 abbrev pub ExternalFilesAreCovered : Type 0

@@ -9,10 +9,10 @@ use Rattle.std.specs.declared.result.Result.TheVariants.{Ok}
 use Rattle.blk_image.specs.Image.{Image}
 use Rattle.blk_format.specs.Hash.{hash}
 use Rattle.blk_format.specs.BlockFiles.{is_among, IsWellFormed}
-use Rattle.blk_volume.specs.View.{View, Stock, Core, view_of}
+use Rattle.blk_volume.specs.View.{View, StoreView, RecordFields, view_of}
 use Rattle.blk_volume.specs.Chains.{chain, bucket_of_hash}
 use Rattle.blk_volume.specs.Reasons.{Reason}
-use Rattle.blk_volume.specs.Loads.{Rule, held, Loaded, load_key}
+use Rattle.blk_volume.specs.Loads.{Rule, held_rule, Loaded, load_key}
 use Rattle.blk_volume.specs.Audit.{judged, kept_among, dropped_among, kept_by}
 use Rattle.blk_volume.specs.Found.{completed, found}
 use Rattle.blk_volume.specs.Shown.{IsShown}
@@ -20,11 +20,11 @@ use Rattle.blk_volume.specs.Candidates.{candidates, SameNamed}
 
 -- what is given to a walk is kept of it, in the order of the walk
 abbrev pub KeptAreTheGiven : Type 0
-KeptAreTheGiven = (stock : Stock) (rule : Rule) (nodes : List ℕ) (given : ℕ → Option Loaded) → IsShown stock rule nodes given → kept_among stock rule nodes ≡ filter_map given nodes
+KeptAreTheGiven = (store : StoreView) (rule : Rule) (nodes : List ℕ) (given : ℕ → Option Loaded) → IsShown store rule nodes given → kept_among store rule nodes ≡ filter_map given nodes
 
 -- where something is given to each node, none is dropped
 abbrev pub NoneOfTheGivenIsDropped : Type 0
-NoneOfTheGivenIsDropped = (stock : Stock) (rule : Rule) (nodes : List ℕ) (given : ℕ → Option Loaded) → IsShown stock rule nodes given → ((node : ℕ) → is_among nodes node ≡ true → given node ≢ None) → dropped_among stock rule nodes ≡ []
+NoneOfTheGivenIsDropped = (store : StoreView) (rule : Rule) (nodes : List ℕ) (given : ℕ → Option Loaded) → IsShown store rule nodes given → ((node : ℕ) → is_among nodes node ≡ true → given node ≢ None) → dropped_among store rule nodes ≡ []
 
 -- a node that is left out was dropped
 abbrev pub IsDroppedIfLeftOut : (ℕ → Bool) → ℕ × Result Loaded Reason → Type 0
@@ -32,18 +32,18 @@ IsDroppedIfLeftOut keep judgement = keep judgement.0 ≡ false → is_err judgem
 
 -- a dropped node claims nothing: a walk without some or all of its dropped nodes keeps the same
 abbrev pub LeavingOutKeepsTheSame : Type 0
-LeavingOutKeepsTheSame = (stock : Stock) (rule : Rule) (keep : ℕ → Bool) (nodes : List ℕ) → AllByRecursion (IsDroppedIfLeftOut keep) (judged stock rule nodes) → kept_among stock rule (filter keep nodes) ≡ kept_among stock rule nodes
+LeavingOutKeepsTheSame = (store : StoreView) (rule : Rule) (keep : ℕ → Bool) (nodes : List ℕ) → AllByRecursion (IsDroppedIfLeftOut keep) (judged store rule nodes) → kept_among store rule (filter keep nodes) ≡ kept_among store rule nodes
 
 -- two records with the same key, for which none of the reasons up to the chain holds, are in the chain of one bucket
 abbrev pub SameKeyIsOneChain : Type 0
-SameKeyIsOneChain = (stock : Stock) (node other contents others dirty dirt : ℕ) (one two : Core) (key : List ℕ) → load_key stock held node contents dirty one ≡ Ok key → load_key stock held other others dirt two ≡ Ok key
-    → (bucket_of_hash one.hash ≡ bucket_of_hash two.hash) × (is_among (chain stock (bucket_of_hash (hash key))).reached contents ≡ true) × (is_among (chain stock (bucket_of_hash (hash key))).reached others ≡ true)
+SameKeyIsOneChain = (store : StoreView) (node other contents others dirty dirt : ℕ) (one two : RecordFields) (key : List ℕ) → load_key store held_rule node contents dirty one ≡ Ok key → load_key store held_rule other others dirt two ≡ Ok key
+    → (bucket_of_hash one.hash ≡ bucket_of_hash two.hash) × (is_among (chain store (bucket_of_hash (hash key))).reached contents ≡ true) × (is_among (chain store (bucket_of_hash (hash key))).reached others ≡ true)
 
 -- no node but a candidate is kept
 abbrev pub OnlyCandidatesAreKept : Type 0
-OnlyCandidatesAreKept = (view : View) → kept_by held view ≡ kept_among view.stock held (candidates view)
+OnlyCandidatesAreKept = (view : View) → kept_by held_rule view ≡ kept_among view.store held_rule (candidates view)
 
 -- two well-formed images with the same candidates, which agree on what these name, hold the same
 abbrev pub SameCandidatesHoldTheSame : Type 0
 SameCandidatesHoldTheSame = (old new : Image) → IsWellFormed old → IsWellFormed new → candidates (completed (view_of old)) ≡ candidates (completed (view_of new))
-    → AllByRecursion (SameNamed (completed (view_of old)).stock (completed (view_of new)).stock) (candidates (completed (view_of old))) → found old ≡ found new
+    → AllByRecursion (SameNamed (completed (view_of old)).store (completed (view_of new)).store) (candidates (completed (view_of old))) → found old ≡ found new

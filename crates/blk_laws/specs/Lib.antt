@@ -5,10 +5,8 @@ pub mod CommandLaws
 pub mod ByteLaws
 pub mod BareLaws
 pub mod AllocationLaws
-pub mod Moments
-pub mod BlockMoments
-pub mod NodeMoments
-pub mod RecordMoments
-pub mod IndexMoments
-pub mod ListSteps
+pub mod BlockWrites
+pub mod NodeUpdates
+pub mod RecordUpdates
+pub mod IndexWrites
 pub mod ListWords

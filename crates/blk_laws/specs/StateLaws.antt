@@ -12,12 +12,12 @@ use Rattle.blk_format.specs.Claims.{Claim}
 use Rattle.blk_format.specs.BlockFiles.{IsWellFormed}
 use Rattle.blk_volume.specs.ListView.{Distinct}
 use Rattle.blk_volume.specs.Walk.{walk}
-use Rattle.blk_volume.specs.View.{View, Stock, view_of}
-use Rattle.blk_volume.specs.Loads.{Rule, held, listed, Loaded}
+use Rattle.blk_volume.specs.View.{View, StoreView, view_of}
+use Rattle.blk_volume.specs.Loads.{Rule, held_rule, listed_rule, Loaded}
 use Rattle.blk_volume.specs.Audit.{kept_among, kept_by, dropped_by}
 use Rattle.blk_volume.specs.Found.{row_of, completed, found}
 use Rattle.blk_volume.specs.Shown.{IsShown}
-use Rattle.blk_volume.specs.Layout.{Layout, is_in, is_listed, nodes_of, order, Lies, Holds, Represents, OneChanged, changed_at, IsChange}
+use Rattle.blk_volume.specs.Layout.{Layout, is_in, is_listed, nodes_of, order, IsLayoutOf, Holds, Represents, OneChanged, changed_at, IsChange}
 use Rattle.blk_volume.specs.Given.{given_by, GoesWith, picked_with, IsTest}
 use Rattle.blk_volume.specs.Footprint.{SameBut, IsFree, IsReplaced}
 use Rattle.blk_volume.specs.Sound.{ChainsEnd, IsInOrder}
@@ -31,19 +31,19 @@ WalksAreTheOrder = (view : View) (state : State) (layout : Layout) → Represent
 
 -- the rows that are kept where dirty nodes are kept too are its rows
 abbrev pub ListedAreTheRows : Type 0
-ListedAreTheRows = (view : View) (state : State) (layout : Layout) → Represents view state layout → IsValidState state → map row_of (kept_by listed view) ≡ rows state
+ListedAreTheRows = (view : View) (state : State) (layout : Layout) → Represents view state layout → IsValidState state → map row_of (kept_by listed_rule view) ≡ rows state
 
 -- nothing is dropped but for dirt
 abbrev pub NothingListedIsDropped : Type 0
-NothingListedIsDropped = (view : View) (state : State) (layout : Layout) → Represents view state layout → IsValidState state → dropped_by listed view ≡ []
+NothingListedIsDropped = (view : View) (state : State) (layout : Layout) → Represents view state layout → IsValidState state → dropped_by listed_rule view ≡ []
 
 -- each chain ends at the word 0
 abbrev pub RepresentedChainsEnd : Type 0
-RepresentedChainsEnd = (view : View) (state : State) (layout : Layout) → Represents view state layout → IsValidState state → ChainsEnd view.stock
+RepresentedChainsEnd = (view : View) (state : State) (layout : Layout) → Represents view state layout → IsValidState state → ChainsEnd view.store
 
 -- what is kept is what is at rest
 abbrev pub KeptAreAtRest : Type 0
-KeptAreAtRest = (view : View) (state : State) (layout : Layout) → Represents view state layout → IsValidState state → map row_of (kept_by held (completed view)) ≡ rest state
+KeptAreAtRest = (view : View) (state : State) (layout : Layout) → Represents view state layout → IsValidState state → map row_of (kept_by held_rule (completed view)) ≡ rest state
 
 -- so a finished folder holds what is at rest
 abbrev pub FoundIsAtRest : Type 0
@@ -56,7 +56,7 @@ RepresentedStatesAreShown = (image : Image) (state : State) (layout : Layout) (n
 -- and an image stands for it where it is well formed, its maps are exact, and its files, counters and seals are in order
 abbrev pub RepresentedStatesAreStoodFor : Type 0
 RepresentedStatesAreStoodFor = (image : Image) (state : State) (layout : Layout) (numbers : List ℕ) → Represents (view_of image) state layout → IsValidState state → IsAllocated image state layout numbers → IsWellFormed image
-    → IsInOrder image (kept_by listed (view_of image)) (map (λ d. d.1) (doomed_of layout numbers)) → StandsFor image state
+    → IsInOrder image (kept_by listed_rule (view_of image)) (map (λ d. d.1) (doomed_of layout numbers)) → StandsFor image state
 
 -- What a walk of some items of a layout keeps.
 
@@ -65,14 +65,14 @@ abbrev pub AreItemsOf : List Item → State → Type 0
 AreItemsOf items state = (item : Item) → is_in items item ≡ true → is_listed state item ≡ true
 
 -- what passes a test that goes with a rule is shown
-abbrev pub LaidIsShown : Type 0
-LaidIsShown = (stock : Stock) (state : State) (layout : Layout) → Holds stock state layout → (rule : Rule) (items : List Item) (good : Loaded → Bool) → rule.state ≡ 0
-    → AreItemsOf items state → Distinct (nodes_of layout items) → GoesWith layout items rule good → IsShown stock rule (nodes_of layout items) (given_by good layout)
+abbrev pub PlacedItemsAreShown : Type 0
+PlacedItemsAreShown = (store : StoreView) (state : State) (layout : Layout) → Holds store state layout → (rule : Rule) (items : List Item) (good : Loaded → Bool) → rule.state ≡ 0
+    → AreItemsOf items state → Distinct (nodes_of layout items) → GoesWith layout items rule good → IsShown store rule (nodes_of layout items) (given_by good layout)
 
 -- what is kept are the rows of the objects that pass a test, where no part is without its main item
 abbrev pub KeptArePicked : Type 0
-KeptArePicked = (stock : Stock) (state : State) (layout : Layout) → Holds stock state layout → (items : List Item) → AreItemsOf items state → (test : ℕ → Bool) → IsTest state layout items test
-    → Distinct (nodes_of layout items) → ((key : List ℕ) (n : ℕ) → is_in items (part key n) ≡ true → is_in items (main key) ≡ true) → map row_of (kept_among stock held (nodes_of layout items)) ≡ filter_map (picked_with state test) items
+KeptArePicked = (store : StoreView) (state : State) (layout : Layout) → Holds store state layout → (items : List Item) → AreItemsOf items state → (test : ℕ → Bool) → IsTest state layout items test
+    → Distinct (nodes_of layout items) → ((key : List ℕ) (n : ℕ) → is_in items (part key n) ≡ true → is_in items (main key) ≡ true) → map row_of (kept_among store held_rule (nodes_of layout items)) ≡ filter_map (picked_with state test) items
 
 -- Changes of a view.
 
@@ -81,9 +81,9 @@ abbrev pub FreeFootprintsKeepStates : Type 0
 FreeFootprintsKeepStates = (touched : Claim → Bool) (old new : View) (state : State) (layout : Layout) → SameBut touched old new → IsFree touched layout → Represents old state layout → Represents new state layout
 
 -- something else at the node of one item is laid out for the changed state
-abbrev pub ChangedItemsAreLaid : Type 0
-ChangedItemsAreLaid = (state : State) (objects : List (Option Object)) (layout : Layout) (item : Item) (was now : Loaded) (owner : Claim → Option ℕ) → Lies state layout → OneChanged state objects item → is_listed state item ≡ true
-    → layout.at (layout.place item) ≡ Some was → IsChange state objects layout item was now owner → Lies (record state { objects = objects }) (changed_at layout (layout.place item) now owner)
+abbrev pub ChangedItemsArePlaced : Type 0
+ChangedItemsArePlaced = (state : State) (objects : List (Option Object)) (layout : Layout) (item : Item) (was now : Loaded) (owner : Claim → Option ℕ) → IsLayoutOf state layout → OneChanged state objects item → is_listed state item ≡ true
+    → layout.at (layout.place item) ≡ Some was → IsChange state objects layout item was now owner → IsLayoutOf (record state { objects = objects }) (changed_at layout (layout.place item) now owner)
 
 -- one object changed inside its own footprint: what is represented is the changed state
 abbrev pub ChangedItemsAreRepresented : Type 0

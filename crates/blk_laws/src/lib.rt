@@ -4,21 +4,21 @@
 #![tactic(auto)]
 
 ghost use Rattle.blk_laws.specs.AllocationLaws.{SoundFilesAreAllocated, StoodForFilesAreAllocated};
-ghost use Rattle.blk_laws.specs.BareLaws.{NothingRepresentsTheEmptyState, BareFoldersHoldNothing, BareFoldersAreSound, BareFoldersRepresentTheEmptyState, BareFoldersStandForTheEmptyState, NewFoldersAreBare};
+ghost use Rattle.blk_laws.specs.BareLaws.{NothingRepresentsTheEmptyState, FoldersWithoutEntriesHoldNothing, FoldersWithoutEntriesAreSound, FoldersWithoutEntriesRepresentTheEmptyState, FoldersWithoutEntriesStandForTheEmptyState, NewFoldersHaveNoEntries};
 ghost use Rattle.blk_laws.specs.ByteLaws.{BlocksStandByTheirLast, CoveredChangesStayInside, BlocksAreCovered, ExternalFilesAreCovered, HeadersNeedNoCover, HiddenWordsNeedNoCover, CoversOfLess, MoreCovers, CoversOfEither, AgreeingImagesShowTheSame, CoveredChangesAgree, GrowthIsPastTheBlocks, SameLinksLinkTheSame, AgreementGoesOn, AgreementButMore, LongerFilesHaveGrown, GrowthKeepsStates};
-ghost use Rattle.blk_laws.specs.CommandLaws.{UnsettledObjectsMayChange, EachMomentIsAtRest, RemovalsKeepTheOthers, LessIsLaid, LessIsRepresented, DirtyWordsSettle, WrittenDirtyWordsSettle, ChangedDoomedObjectsAreLaid, ChangedDoomedObjectsAreRepresented, EachDoomedMomentIsAtRest, GoneDoomedObjectsAreRepresented, DoomedDirtyWordsSettle, WrittenDoomedDirtyWordsSettle, RepresentedHoldBut, MoreMayBeLeftOut, OthersHoldOutside, OthersHoldUnlinked, ChainedRecordsAreOnlyRecords, RecordsStayOutside, RecordsStayUnlinked, RecordsOfAnotherStateLoad, ListedItemsAreAtRest, DoomsKeepTheOthers, DoomsAtEachWrite, DoomedPartsAtEachWrite, DoomedIsLaid, DoomedIsRepresented, HandlesAreNotShown, RestBeforeTurning, RestAfterTurning, OpensAtEachWrite, OpensEnd, CreatesAtEachWrite, CreatesEnd, CreatesLeaveTheRest, CreatesMayLeaveWhatWas};
+ghost use Rattle.blk_laws.specs.CommandLaws.{UnsettledObjectsMayChange, UnsettledChangesAreAtRest, RemovalsKeepTheOthers, LessIsPlaced, LessIsRepresented, DirtyWordsSettle, WrittenDirtyWordsSettle, ChangedDoomedObjectsArePlaced, ChangedDoomedObjectsAreRepresented, DoomedChangesAreAtRest, GoneDoomedObjectsAreRepresented, DoomedDirtyWordsSettle, WrittenDoomedDirtyWordsSettle, RepresentedHoldExcept, MoreMayBeLeftOut, OthersHoldOutside, OthersHoldUnlinked, ChainedRecordsAreOnlyRecords, RecordsStayOutside, RecordsStayUnlinked, RecordsOfAnotherStateLoad, ListedItemsAreAtRest, DoomsKeepTheOthers, DoomsAtEachWrite, DoomedPartsAtEachWrite, DoomedIsPlaced, DoomedIsRepresented, HandlesAreNotShown, RestBeforeTurning, RestAfterTurning, OpensAtEachWrite, OpensEnd, CreatesAtEachWrite, CreatesEnd, CreatesLeaveTheRest, CreatesMayLeaveWhatWas};
 ghost use Rattle.blk_laws.specs.KeptLaws.{KeptAreTheGiven, NoneOfTheGivenIsDropped, LeavingOutKeepsTheSame, SameKeyIsOneChain, OnlyCandidatesAreKept, SameCandidatesHoldTheSame};
-ghost use Rattle.blk_laws.specs.ListLaws.{WalksAreTheLists, InsertsTurnAtTwo, InsertsEnd, RemovalsTurnAtTwo, RemovalsEnd, TouchesTurnAtTwo, TouchesEnd, CompletingAgainIsTheSame, CompletionsEnd, ChainsAreTheirRecords, RecordsAreLinkedInFront, WholeChainsAreShort, RecordsOfImagesAreFew, ChainsOfImagesAreShort, OtherChainsStay, FirstRecordsAreUnlinked, FirstRecordsLeaveChains, LaterRecordsAreUnlinked, LaterRecordsLeaveChains};
-ghost use Rattle.blk_laws.specs.StateLaws.{WalksAreTheOrder, ListedAreTheRows, NothingListedIsDropped, RepresentedChainsEnd, KeptAreAtRest, FoundIsAtRest, RepresentedStatesAreShown, RepresentedStatesAreStoodFor, LaidIsShown, KeptArePicked, FreeFootprintsKeepStates, ChangedItemsAreLaid, ChangedItemsAreRepresented};
+ghost use Rattle.blk_laws.specs.ListLaws.{WalksAreTheLists, InsertsCommitAtTwo, InsertsEnd, RemovalsCommitAtTwo, RemovalsEnd, TouchesCommitAtTwo, TouchesEnd, CompletingAgainIsTheSame, CompletionsEnd, ChainsAreTheirRecords, RecordsAreLinkedInFront, WholeChainsAreShort, RecordsOfImagesAreFew, ChainsOfImagesAreShort, OtherChainsStay, FirstRecordsAreUnlinked, FirstRecordsLeaveChains, LaterRecordsAreUnlinked, LaterRecordsLeaveChains};
+ghost use Rattle.blk_laws.specs.StateLaws.{WalksAreTheOrder, ListedAreTheRows, NothingListedIsDropped, RepresentedChainsEnd, KeptAreAtRest, FoundIsAtRest, RepresentedStatesAreShown, RepresentedStatesAreStoodFor, PlacedItemsAreShown, KeptArePicked, FreeFootprintsKeepStates, ChangedItemsArePlaced, ChangedItemsAreRepresented};
 
 mod list_words;
-mod moments;
+mod mid_updates;
 
 pub use list_words::{
     completions_at_each_word, inserts_at_each_word, removals_at_each_word, touches_at_each_word,
     writes_are_made_in_turn,
 };
-pub use moments::{
+pub use mid_updates::{
     blocks_change_inside, index_words_are_written, links_are_written, names_are_written,
     records_are_written,
 };
@@ -30,19 +30,19 @@ pub fn whole_lists_are_walked()
 
 /// An insert, stopped after any of its writes and completed, gives the old list before the second, and the new one from then on.
 pub fn inserts_at_each_write()
-    ensures turns { InsertsTurnAtTwo }
+    ensures commits { InsertsCommitAtTwo }
     ensures ends { InsertsEnd }
 {}
 
 /// A removal, stopped after any of its writes and completed, gives the old list before the second, and the new one from then on.
 pub fn removals_at_each_write()
-    ensures turns { RemovalsTurnAtTwo }
+    ensures commits { RemovalsCommitAtTwo }
     ensures ends { RemovalsEnd }
 {}
 
 /// A touch, stopped after any of its writes and completed, gives the old list before the second, and the new one from then on.
 pub fn touches_at_each_write()
-    ensures turns { TouchesTurnAtTwo }
+    ensures commits { TouchesCommitAtTwo }
     ensures ends { TouchesEnd }
 {}
 
@@ -58,7 +58,7 @@ pub fn chains_are_linked()
     ensures short { WholeChainsAreShort }
     ensures few { RecordsOfImagesAreFew }
     ensures of_images { ChainsOfImagesAreShort }
-    ensures front { RecordsAreLinkedInFront }
+    ensures prefix { RecordsAreLinkedInFront }
     ensures others { OtherChainsStay }
     ensures first { FirstRecordsAreUnlinked }
     ensures later { LaterRecordsAreUnlinked }
@@ -110,21 +110,21 @@ pub fn nothing_represents_the_empty_state()
 {}
 
 /// A folder with no list, no chain and no block holds nothing, is sound, and represents the empty state and stands for it.
-pub fn bare_folders_are_sound()
-    ensures held { BareFoldersHoldNothing }
-    ensures sound { BareFoldersAreSound }
-    ensures represented { BareFoldersRepresentTheEmptyState }
-    ensures stands { BareFoldersStandForTheEmptyState }
+pub fn folders_without_entries_are_sound()
+    ensures held { FoldersWithoutEntriesHoldNothing }
+    ensures sound { FoldersWithoutEntriesAreSound }
+    ensures represented { FoldersWithoutEntriesRepresentTheEmptyState }
+    ensures stands { FoldersWithoutEntriesStandForTheEmptyState }
 {}
 
 /// A new folder has no list, no chain and no block.
-pub fn new_folders_are_bare()
-    ensures { NewFoldersAreBare }
+pub fn new_folders_have_no_entries()
+    ensures { NewFoldersHaveNoEntries }
 {}
 
 /// What a layout has of some items is shown to their walk, and its rows are kept.
-pub fn laid_items_are_kept()
-    ensures shown { LaidIsShown }
+pub fn placed_items_are_kept()
+    ensures shown { PlacedItemsAreShown }
     ensures picked { KeptArePicked }
 {}
 
@@ -135,20 +135,20 @@ pub fn free_footprints_keep_states()
 
 /// Something else at the node of one item is laid out and represented for the changed state.
 pub fn changed_items_are_represented()
-    ensures laid { ChangedItemsAreLaid }
+    ensures laid { ChangedItemsArePlaced }
     ensures represented { ChangedItemsAreRepresented }
 {}
 
 /// While an unsettled object is in the midst of a change, what is kept is what is at rest.
 pub fn unsettled_objects_may_change()
     ensures midst { UnsettledObjectsMayChange }
-    ensures moments { EachMomentIsAtRest }
+    ensures at_each_word { UnsettledChangesAreAtRest }
 {}
 
 /// While items are taken out of the list, what is kept is what stays, and the layout without them is laid out and represented for the state without them.
 pub fn removals_keep_the_others()
     ensures kept { RemovalsKeepTheOthers }
-    ensures laid { LessIsLaid }
+    ensures laid { LessIsPlaced }
     ensures represented { LessIsRepresented }
 {}
 
@@ -160,9 +160,9 @@ pub fn dirty_words_settle()
 
 /// A doomed object may change at its node, and its dirty word settles and unsettles it, and it may go; at each moment what is kept is what is at rest.
 pub fn doomed_objects_change()
-    ensures laid { ChangedDoomedObjectsAreLaid }
+    ensures laid { ChangedDoomedObjectsArePlaced }
     ensures represented { ChangedDoomedObjectsAreRepresented }
-    ensures moments { EachDoomedMomentIsAtRest }
+    ensures at_each_word { DoomedChangesAreAtRest }
     ensures gone { GoneDoomedObjectsAreRepresented }
     ensures put { DoomedDirtyWordsSettle }
     ensures written { WrittenDoomedDirtyWordsSettle }
@@ -170,7 +170,7 @@ pub fn doomed_objects_change()
 
 /// While some records are in the midst of a change or gone, the others stay through changes of what is not theirs and of links.
 pub fn others_hold_meanwhile()
-    ensures begin { RepresentedHoldBut }
+    ensures begin { RepresentedHoldExcept }
     ensures more { MoreMayBeLeftOut }
     ensures outside { OthersHoldOutside }
     ensures unlinked { OthersHoldUnlinked }
@@ -184,9 +184,9 @@ pub fn others_hold_meanwhile()
 pub fn dooms_keep_the_others()
     ensures before { ListedItemsAreAtRest }
     ensures after { DoomsKeepTheOthers }
-    ensures moments { DoomsAtEachWrite }
+    ensures at_each_word { DoomsAtEachWrite }
     ensures parts { DoomedPartsAtEachWrite }
-    ensures laid { DoomedIsLaid }
+    ensures laid { DoomedIsPlaced }
     ensures represented { DoomedIsRepresented }
 {}
 
@@ -203,13 +203,13 @@ pub fn turning_objects_are_picked()
 
 /// At each write of an Open what is kept may be left by a stop in it, and in the end the new state is represented.
 pub fn opens_at_each_write()
-    ensures moments { OpensAtEachWrite }
+    ensures at_each_word { OpensAtEachWrite }
     ensures ends { OpensEnd }
 {}
 
 /// At each write of a Create what is kept is what is at rest, in the end the new state is represented, and it has the same at rest, which may be left by a stop.
 pub fn creates_at_each_write()
-    ensures moments { CreatesAtEachWrite }
+    ensures at_each_word { CreatesAtEachWrite }
     ensures ends { CreatesEnd }
     ensures rests { CreatesLeaveTheRest }
     ensures stops { CreatesMayLeaveWhatWas }

@@ -1,12 +1,12 @@
 // The laws of the use list in bytes.
 //
 // Each write into the list is a sealed update of a node or one word of the index; a folder may be stopped at each word of an operation.
-ghost use Rattle.blk_laws.specs.ListWords.{WritesAreMadeInTurn, WritesAreMade, WritesCanGoOn, WritesSealTheirNodes, InsertsCanBeMade, InsertsTurnAtTheSecondWord, InsertsEndAtRest, RemovalsCanBeMade, RemovalsTurnAtTheSecondWord, RemovalsEndAtRest};
-ghost use Rattle.blk_laws.specs.ListWords.{TouchesCanBeMade, TouchesAreMadeInTurn, TouchesCanGoOn, TouchesTurnAtTheSecondWord, TouchesEndAtRest, TouchesSetTheTimes, TouchesSealTheirNodes, CompletionsCanBeMade, CompletionsKeepTheOutcome, CompletionsAreDone, CompletionsMayBeStopped};
+ghost use Rattle.blk_laws.specs.ListWords.{WritesAreMadeInTurn, WritesAreMade, WritesCanGoOn, WritesSealTheirNodes, InsertsCanBeMade, InsertsCommitAtTheSecondWord, InsertsEndAtRest, RemovalsCanBeMade, RemovalsCommitAtTheSecondWord, RemovalsEndAtRest};
+ghost use Rattle.blk_laws.specs.ListWords.{TouchesCanBeMade, TouchesAreMadeInTurn, TouchesCanGoOn, TouchesCommitAtTheSecondWord, TouchesEndAtRest, TouchesSetTheTimes, TouchesSealTheirNodes, CompletionsCanBeMade, CompletionsKeepTheOutcome, CompletionsAreDone, CompletionsMayBeStopped};
 
 /// At each word of writes into the list a front of them is made and nothing else is shown to change; in the end all are made, their nodes are sealed, and more can be written.
 pub fn writes_are_made_in_turn()
-    ensures moments { WritesAreMadeInTurn }
+    ensures at_each_word { WritesAreMadeInTurn }
     ensures ends { WritesAreMade }
     ensures writable { WritesCanGoOn }
     ensures sealed { WritesSealTheirNodes }
@@ -15,23 +15,23 @@ pub fn writes_are_made_in_turn()
 /// An insert, stopped at any of its words and completed, gives the old list before the second word, and the new one from then on.
 pub fn inserts_at_each_word()
     ensures can { InsertsCanBeMade }
-    ensures turns { InsertsTurnAtTheSecondWord }
+    ensures commits { InsertsCommitAtTheSecondWord }
     ensures ends { InsertsEndAtRest }
 {}
 
 /// A removal, stopped at any of its words and completed, gives the old list before the second word, and the new one from then on.
 pub fn removals_at_each_word()
     ensures can { RemovalsCanBeMade }
-    ensures turns { RemovalsTurnAtTheSecondWord }
+    ensures commits { RemovalsCommitAtTheSecondWord }
     ensures ends { RemovalsEndAtRest }
 {}
 
 /// A touch, stopped at any of its words and completed, gives the old list before the second word, and the new one from then on; in the end the node has its times, and is sealed.
 pub fn touches_at_each_word()
     ensures can { TouchesCanBeMade }
-    ensures moments { TouchesAreMadeInTurn }
+    ensures at_each_word { TouchesAreMadeInTurn }
     ensures writable { TouchesCanGoOn }
-    ensures turns { TouchesTurnAtTheSecondWord }
+    ensures commits { TouchesCommitAtTheSecondWord }
     ensures ends { TouchesEndAtRest }
     ensures times { TouchesSetTheTimes }
     ensures sealed { TouchesSealTheirNodes }
@@ -40,7 +40,7 @@ pub fn touches_at_each_word()
 /// A completion may be stopped at any of its words and begun again, as often as one likes, on every list.
 pub fn completions_at_each_word()
     ensures can { CompletionsCanBeMade }
-    ensures moments { CompletionsKeepTheOutcome }
+    ensures at_each_word { CompletionsKeepTheOutcome }
     ensures ends { CompletionsAreDone }
     ensures stops { CompletionsMayBeStopped }
 {}

@@ -4,13 +4,12 @@ use Rattle.std.specs.Option.{ForSome}
 use Rattle.blk_image.specs.Image.{Image}
 use Rattle.blk_image.specs.Told.{Told}
 use Rattle.blk_image.proofs.Runs.{some_inj}
-use Rattle.blk_volume.specs.ListView.{ListView, first_or, IsList}
+use Rattle.blk_volume.specs.ListView.{ListView, first_or, IsList, IsAtRest}
 use Rattle.blk_volume.specs.View.{list_of}
 use Rattle.blk_volume.specs.Walk.{walk}
 use Rattle.blk_volume.specs.Completion.{completed_list}
-use Rattle.blk_laws.specs.ListLaws.{IsAtRest}
-use Rattle.blk_laws.proofs.ListMoments.{walk_at_rest}
-use Rattle.blk_laws.specs.ListWords.{Rests, walked}
+use Rattle.blk_laws.proofs.ListCompletions.{walk_at_rest}
+use Rattle.blk_volume.specs.ListImages.{HasListAtRest, walked}
 use Rattle.blk_disk.specs.declared.tables.BlockFiles.{BlockFiles}
 use Rattle.blk_disk.specs.Tables.{Agrees}
 use Rattle.blk_lru.specs.Lists.{IsListed, first_of}
@@ -41,27 +40,27 @@ told_now image stays there = ap (λ (t : Told). t.files) stays ∙ there
 pub next_names : (files : BlockFiles) (image : Image) (node : ℕ) → Agrees files image → is_node files node ≡ true → IsListed node image → is_node files (link_at image node 16) ≡ true
 next_names files image node agrees stands is =
     let s = splits (walked image) node is.listed in
-    let whole : IsList (list_of image) (s.front ++ node ∷ s.behind) = subst (IsList (list_of image)) s.is is.rest.whole in
-    subst (λ (w : ℕ). is_node files w ≡ true) (next_link image node (stands_as_node files image agrees node stands)) (checked_names files image agrees _ (linked (list_of image) s.front node s.behind whole).next_good)
+    let whole : IsList (list_of image) (s.prefix ++ node ∷ s.suffix) = subst (IsList (list_of image)) s.is is.rest.whole in
+    subst (λ (w : ℕ). is_node files w ≡ true) (next_link image node (stands_as_node files image agrees node stands)) (checked_names files image agrees _ (linked (list_of image) s.prefix node s.suffix whole).next_good)
 
 pub prev_names : (files : BlockFiles) (image : Image) (node : ℕ) → Agrees files image → is_node files node ≡ true → IsListed node image → is_node files (link_at image node 20) ≡ true
 prev_names files image node agrees stands is =
     let s = splits (walked image) node is.listed in
-    let whole : IsList (list_of image) (s.front ++ node ∷ s.behind) = subst (IsList (list_of image)) s.is is.rest.whole in
-    subst (λ (w : ℕ). is_node files w ≡ true) (prev_link image node (stands_as_node files image agrees node stands)) (checked_names files image agrees _ (linked (list_of image) s.front node s.behind whole).prev_good)
+    let whole : IsList (list_of image) (s.prefix ++ node ∷ s.suffix) = subst (IsList (list_of image)) s.is is.rest.whole in
+    subst (λ (w : ℕ). is_node files w ≡ true) (prev_link image node (stands_as_node files image agrees node stands)) (checked_names files image agrees _ (linked (list_of image) s.prefix node s.suffix whole).prev_good)
 
 -- completing a list at rest gives it
 pub rested_walk : (list : ListView) (nodes : List ℕ) → IsAtRest list nodes → walk (completed_list list) ≡ nodes
 rested_walk list nodes rest = walk_at_rest list nodes rest.idle rest.whole
 
 -- the list around a listed node
-pub around : (node : ℕ) (image : Image) → IsListed node image → (front : List ℕ) × (behind : List ℕ) × Rests (front ++ node ∷ behind) image
+pub around : (node : ℕ) (image : Image) → IsListed node image → (prefix : List ℕ) × (suffix : List ℕ) × HasListAtRest (prefix ++ node ∷ suffix) image
 around node image is =
     let s = splits (walked image) node is.listed in
-    (s.front, s.behind, subst (λ (nodes : List ℕ). Rests nodes image) s.is is.rest)
+    (s.prefix, s.suffix, subst (λ (nodes : List ℕ). HasListAtRest nodes image) s.is is.rest)
 
-pub rests_as : (node : ℕ) (image : Image) → IsListed node image → (front behind : List ℕ) → walked image ≡ front ++ node ∷ behind → Rests (front ++ node ∷ behind) image
-rests_as node image listed front behind is = subst (λ (nodes : List ℕ). Rests nodes image) is listed.rest
+pub rests_as : (node : ℕ) (image : Image) → IsListed node image → (prefix suffix : List ℕ) → walked image ≡ prefix ++ node ∷ suffix → HasListAtRest (prefix ++ node ∷ suffix) image
+rests_as node image listed prefix suffix is = subst (λ (nodes : List ℕ). HasListAtRest nodes image) is listed.rest
 
 -- a listed node checks
 pub listed_checks : (from : Image) (node : ℕ) → IsListed node from → (list_of from).checks node ≡ true

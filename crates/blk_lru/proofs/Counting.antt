@@ -9,9 +9,9 @@ use Rattle.blk_laws.proofs.ListWrites.{counting}
 use Rattle.blk_disk.specs.declared.tables.BlockFiles.{BlockFiles}
 use Rattle.blk_lru.specs.declared.completing.InFlight.{InFlight}
 use Rattle.blk_lru.specs.declared.completing.Part.TheVariants.{Counts}
-use Rattle.blk_lru.specs.declared.plans.Beside.{Beside}
+use Rattle.blk_lru.specs.declared.plans.Neighbours.{Neighbours}
 use Rattle.blk_lru.specs.declared.plans.Operation.TheVariants as operations
-use Rattle.blk_lru.specs.Completing.{Finds, FindsBeside, FindsHead, IsInFlight, finishing_writes}
+use Rattle.blk_lru.specs.Completing.{Finds, FindsNeighbours, FindsHead, IsInFlight, finishing_writes}
 use Rattle.blk_lru.specs.declared.nodes.Links.{Links}
 use Rattle.blk_lru.specs.Nodes.{is_node, AreLinksOf, FindsNode}
 use Rattle.blk_lru.specs.Plans.{pending}
@@ -103,11 +103,11 @@ module _ (files : BlockFiles) (list : ListView) (links : Links) (stands : is_nod
   pub insert_found : list.operation ≡ 1 → (head : Option ℕ) → FindsHead list (Counts head) → Finds list (Some (record { node = links.node; operation = operations.Insert head }))
   insert_found one head first = (insert_counts list some_transaction are.good one first.0, record { node = are.node; operation = sym one; goes_by = first.1 })
 
-  pub removal_found : list.operation ≡ 2 → (beside : Option Beside) → FindsBeside list list.transaction (Counts beside) → Finds list (Some (record { node = links.node; operation = operations.Remove beside }))
-  removal_found two beside found = (removal_counts list some_transaction are.good two found.0, record { node = are.node; operation = sym two; goes_by = found.1 })
+  pub removal_found : list.operation ≡ 2 → (neighbours : Option Neighbours) → FindsNeighbours list list.transaction (Counts neighbours) → Finds list (Some (record { node = links.node; operation = operations.Remove neighbours }))
+  removal_found two neighbours found = (removal_counts list some_transaction are.good two found.0, record { node = are.node; operation = sym two; goes_by = found.1 })
 
-  pub move_found : list.operation ≡ 3 → (head : Option ℕ) (beside : Option Beside) → FindsHead list (Counts head) → FindsBeside list list.transaction (Counts beside) → Finds list (Some (record { node = links.node; operation = operations.Move beside head }))
-  move_found three head beside first found = (move_counts list some_transaction are.good three first.0 found.0, record { node = are.node; operation = sym three; goes_by = (found.1, first.1) })
+  pub move_found : list.operation ≡ 3 → (head : Option ℕ) (neighbours : Option Neighbours) → FindsHead list (Counts head) → FindsNeighbours list list.transaction (Counts neighbours) → Finds list (Some (record { node = links.node; operation = operations.Move neighbours head }))
+  move_found three head neighbours first found = (move_counts list some_transaction are.good three first.0 found.0, record { node = are.node; operation = sym three; goes_by = (found.1, first.1) })
 
 some_writes : (list : ListView) → counts list ≡ true → completion_writes list ≡ pending_writes list
 unfolding completion_writes

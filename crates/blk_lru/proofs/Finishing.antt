@@ -6,9 +6,9 @@ use Rattle.blk_image.proofs.Runs.{some_inj}
 use Rattle.blk_volume.specs.ListView.{ListView}
 use Rattle.blk_volume.specs.Walk.{walk}
 use Rattle.blk_volume.specs.View.{list_of}
-use Rattle.blk_laws.specs.ListWords.{IsCompleted}
+use Rattle.blk_volume.specs.ListImages.{IsCompleted}
 use Rattle.blk_laws.proofs.Adding.{changes-begin}
-use Rattle.blk_laws.proofs.ListMoments.{walk_outcome}
+use Rattle.blk_laws.proofs.ListCompletions.{walk_outcome}
 use Rattle.blk_laws.proofs.ListWrites.{outcome_done}
 use Rattle.blk_laws.proofs.WordStops.{idle_is, walk_rested}
 
@@ -18,4 +18,4 @@ completed_none old now from image there here stays zero =
     let same : from ≡ image = some_inj (sym there ∙ ap (λ (t : Told). t.files) (sym stays) ∙ here) in
     let list : ListView = list_of from in
     subst (IsCompleted from) same
-    (record { list = idle_is list zero ∙ sym (outcome_done list zero); idle = zero; walk = sym (walk_rested list) ∙ ap walk (sym (outcome_done list zero)) ∙ sym (walk_outcome list); stock = (changes-begin from).stock })
+    (record { list = idle_is list zero ∙ sym (outcome_done list zero); idle = zero; walk = sym (walk_rested list) ∙ ap walk (sym (outcome_done list zero)) ∙ sym (walk_outcome list); store = (changes-begin from).store })

@@ -17,6 +17,6 @@ read_link image node at bytes found read is =
     is ∙ word-from_bytes bytes (place node + at) f (take_all 4 bytes (omega arith) ∙ read)
 
 -- a folder that tells its files gives no such word
-pub astray_untold : (files : Option Image) (P : Image → Type 0) → ((image : Image) → files ≡ Some image → P image → ⊥) → ForSome files P → files ≡ None
-astray_untold None P never holds = refl
-astray_untold (Some image) P never holds = absurd (never image refl (holds image refl))
+pub dangling_untold : (files : Option Image) (P : Image → Type 0) → ((image : Image) → files ≡ Some image → P image → ⊥) → ForSome files P → files ≡ None
+dangling_untold None P never holds = refl
+dangling_untold (Some image) P never holds = absurd (never image refl (holds image refl))

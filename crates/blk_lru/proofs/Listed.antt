@@ -4,19 +4,19 @@ use Rattle.std.specs.Prelude.{◌==◌, ◌⊎◌}
 use Rattle.std.proofs.lemmas.Bool.{eq-eqb, eqb-true, or_parts}
 use Rattle.blk_format.specs.BlockFiles.{is_among}
 use Rattle.blk_volume.specs.ListView.{ListView, first_or, last_or, Distinct, Segment, IsList}
-use Rattle.blk_laws.proofs.ListMoments.{last_good}
+use Rattle.blk_laws.proofs.ListCompletions.{last_good}
 use Rattle.blk_laws.proofs.Lists.{split, last-append, not_zero, apart_right, Distinct-right, eqb-sym}
 use Rattle.blk_lru.specs.Lists.{first_of, last_of}
 
 -- a list around one of its words
 pub record Splits (words : List ℕ) (word : ℕ) : Type 0 where
-  pub front : List ℕ
-  pub behind : List ℕ
-  pub is : words ≡ front ++ word ∷ behind
+  pub prefix : List ℕ
+  pub suffix : List ℕ
+  pub is : words ≡ prefix ++ word ∷ suffix
 
 splits_at : (w : ℕ) (words : List ℕ) (word : ℕ) → (is_among words word ≡ true → Splits words word) → (t : Bool) → (w == word) ≡ t → (t || is_among words word) ≡ true → Splits (w ∷ words) word
-splits_at w words word more true t e = record { front = []; behind = words; is = ap (λ (v : ℕ). v ∷ words) (eqb-true w word t) }
-splits_at w words word more false t e = let s = more e in record { front = w ∷ s.front; behind = s.behind; is = ap (λ (ws : List ℕ). w ∷ ws) s.is }
+splits_at w words word more true t e = record { prefix = []; suffix = words; is = ap (λ (v : ℕ). v ∷ words) (eqb-true w word t) }
+splits_at w words word more false t e = let s = more e in record { prefix = w ∷ s.prefix; suffix = s.suffix; is = ap (λ (ws : List ℕ). w ∷ ws) s.is }
 
 pub splits : (words : List ℕ) (word : ℕ) → is_among words word ≡ true → Splits words word
 splits [] word e = absurd (let z : false ≡ true = e in cc)
@@ -62,12 +62,12 @@ tail_checks list [] is = inl is.tail_is
 tail_checks list (x ∷ xs) is = inr (ap list.checks is.tail_is ∙ last_good list.checks list.next list.prev x x xs (last_or x xs) is.linked)
 
 -- the links of a node
-pub record Linked (list : ListView) (front : List ℕ) (node : ℕ) (behind : List ℕ) : Type 0 where
+pub record Linked (list : ListView) (prefix : List ℕ) (node : ℕ) (suffix : List ℕ) : Type 0 where
   pub good : list.checks node ≡ true
   pub next_good : list.checks (list.next node) ≡ true
   pub prev_good : list.checks (list.prev node) ≡ true
-  pub next_is : (if list.next node == node then None else Some (list.next node)) ≡ first_of behind
-  pub prev_is : (if list.prev node == node then None else Some (list.prev node)) ≡ last_of front
+  pub next_is : (if list.next node == node then None else Some (list.next node)) ≡ first_of suffix
+  pub prev_is : (if list.prev node == node then None else Some (list.prev node)) ≡ last_of prefix
 
 self : (word node : ℕ) → word ≡ node → (if word == node then None else Some word) ≡ None
 self word node e = let t : (word == node) ≡ true = eq-eqb word node e in rw t refl
@@ -75,12 +75,12 @@ self word node e = let t : (word == node) ≡ true = eq-eqb word node e in rw t 
 other : (word node w : ℕ) → word ≡ w → (w == node) ≡ false → (if word == node then None else Some word) ≡ Some w
 other word node w e apart = rw (e, apart) refl
 
-pub linked : (list : ListView) (front : List ℕ) (node : ℕ) (behind : List ℕ) → IsList list (front ++ node ∷ behind) → Linked list front node behind
-linked list front node behind is = go front behind is.distinct (split list.checks list.next list.prev (first_or 0 (front ++ node ∷ behind)) front (node ∷ behind) (last_or 0 (front ++ node ∷ behind)) is.linked)
+pub linked : (list : ListView) (prefix : List ℕ) (node : ℕ) (suffix : List ℕ) → IsList list (prefix ++ node ∷ suffix) → Linked list prefix node suffix
+linked list prefix node suffix is = go prefix suffix is.distinct (split list.checks list.next list.prev (first_or 0 (prefix ++ node ∷ suffix)) prefix (node ∷ suffix) (last_or 0 (prefix ++ node ∷ suffix)) is.linked)
   where
-    go : (front behind : List ℕ) → Distinct (front ++ node ∷ behind)
-        → Segment list.checks list.next list.prev (first_or 0 (front ++ node ∷ behind)) front node × Segment list.checks list.next list.prev (last_or (first_or 0 (front ++ node ∷ behind)) front) (node ∷ behind) (last_or 0 (front ++ node ∷ behind))
-        → Linked list front node behind
+    go : (prefix suffix : List ℕ) → Distinct (prefix ++ node ∷ suffix)
+        → Segment list.checks list.next list.prev (first_or 0 (prefix ++ node ∷ suffix)) prefix node × Segment list.checks list.next list.prev (last_or (first_or 0 (prefix ++ node ∷ suffix)) prefix) (node ∷ suffix) (last_or 0 (prefix ++ node ∷ suffix))
+        → Linked list prefix node suffix
     go [] [] d s = record {
       good = s.1.0.good;
       next_good = ap list.checks s.1.0.next_is ∙ s.1.0.good;

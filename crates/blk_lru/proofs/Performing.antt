@@ -6,7 +6,7 @@ use Rattle.std.specs.Prelude.{◌||◌}
 use Rattle.blk_image.specs.Image.{File, Index, Block, Image, AreBytes}
 use Rattle.blk_image.specs.Footprint.{Footprint, range}
 use Rattle.blk_image.specs.Steps.{TrailStep, after}
-use Rattle.blk_image.specs.Told.{Told, Grows, GrowsInPart, Passes, Until}
+use Rattle.blk_image.specs.Told.{Told, Applies, AppliesPrefix, Passes, Until}
 use Rattle.blk_image.proofs.Cuts.{after-append}
 use Rattle.blk_image.proofs.Runs.{grows_none, grows_then, part_then, part_only, part_whole, passes_part, passes_end, some_inj, until_last}
 use Rattle.blk_format.specs.Address.{file_selector, place}
@@ -15,9 +15,9 @@ use Rattle.blk_format.proofs.SpareHeaders.{SparesHeaders, blocks_spare}
 use Rattle.blk_format.specs.Headers.{HasWholeIndex}
 use Rattle.blk_volume.specs.ListView.{ListWrite, Next, Prev, Head, Tail, Transaction, Operation}
 use Rattle.blk_volume.specs.View.{list_of}
-use Rattle.blk_laws.specs.Moments.{OnlyListChanges}
-use Rattle.blk_laws.specs.ListSteps.{write_steps, steps_of, touched_by, touched_by_writes, IsPartly, AreOf, AreWords}
-use Rattle.blk_laws.specs.ListWords.{IsWritable, CanBeMade}
+use Rattle.blk_volume.specs.ShownChanges.{OnlyListChanges}
+use Rattle.blk_volume.specs.ListSteps.{write_steps, steps_of, touched_by, touched_by_writes, IsPartly, AreOf, AreWords}
+use Rattle.blk_volume.specs.ListImages.{IsWritable, CanBeMade}
 use Rattle.blk_laws.proofs.WriteSteps.{WritesShow, writes_show, writable-after, writable-writes, rest_can, first_can, one_write, quiet-writes}
 use Rattle.blk_disk.proofs.Agreeing.{agrees_still}
 use Rattle.blk_disk.specs.declared.tables.BlockFiles.{BlockFiles}
@@ -37,7 +37,7 @@ ready_writable {files} {image} ready = record { bytes = ready.bytes; has_header 
 
 -- all of some writes were made
 pub record Wrote (old now : Told) (writes : List ListWrite) : Type 0 where
-  pub grows : ForSome old.files (λ from. Grows old now (steps_of writes from))
+  pub applies : ForSome old.files (λ from. Applies old now (steps_of writes from))
   pub silent : old.files ≡ None → now.files ≡ None
 
 -- a front of the writes was made, and these are left
@@ -61,7 +61,7 @@ no_some x e = cc
 -- what is there after all of the writes
 pub at_now : {old now : Told} {writes : List ListWrite} (Q : Image → Image → Type 0) → Wrote old now writes → ((from : Image) → old.files ≡ Some from → Q from (after (steps_of writes from) from)) → ForSome old.files (λ from. ForSome now.files (Q from))
 at_now {old} {now} {writes} Q wrote all from there image here =
-    let is : now.files ≡ Some (after (steps_of writes from) from) = (wrote.grows from there).files ∙ ap (option_map (after (steps_of writes from))) there in
+    let is : now.files ≡ Some (after (steps_of writes from) from) = (wrote.applies from there).files ∙ ap (option_map (after (steps_of writes from))) there in
     subst (Q from) (some_inj (sym is ∙ here)) (all from there)
 
 -- and what doesn't name the old files
@@ -77,7 +77,7 @@ pub nothing : (old now : Told) (writes : List ListWrite) → now ≡ old → Rea
 nothing old now writes same = record {
   done = [];
   split = refl;
-  wrote = record { grows = λ from there. grows_none same; silent = λ none. ap (λ (t : Told). t.files) same ∙ none };
+  wrote = record { applies = λ from there. grows_none same; silent = λ none. ap (λ (t : Told). t.files) same ∙ none };
 }
 
 -- the writes touch no header and no length
@@ -163,31 +163,31 @@ module _ (files : BlockFiles) (old : Told) (writes : List ListWrite) (ready : Fo
       (λ from there. let p = parts from there r.done left r.split in (ready_after files from r.done (ready from there) p.0, p.1))
 
   -- one more
-  pub one_more : (now next : Told) (write : ListWrite) (left : List ListWrite) → Reached old now writes (write ∷ left) → ForSome now.files (λ from. Grows now next (write_steps write from)) → (now.files ≡ None → next.files ≡ None) → Reached old next writes left
+  pub one_more : (now next : Told) (write : ListWrite) (left : List ListWrite) → Reached old now writes (write ∷ left) → ForSome now.files (λ from. Applies now next (write_steps write from)) → (now.files ≡ None → next.files ≡ None) → Reached old next writes left
   one_more now next write left r grows silent = record {
     done = r.done ++ write ∷ [];
     split = r.split ∙ sym (append_assoc r.done (write ∷ []) left);
     wrote = record {
-      grows = λ from there.
+      applies = λ from there.
           let between : Image = after (steps_of r.done from) from in
-          let here : now.files ≡ Some between = (r.wrote.grows from there).files ∙ ap (option_map (after (steps_of r.done from))) there in
-          subst (Grows old next) (ap (λ (s : List TrailStep). steps_of r.done from ++ s) (sym (append-nil (write_steps write between))) ∙ sym (steps-append r.done (write ∷ []) from)) (grows_then (r.wrote.grows from there) (grows between here));
+          let here : now.files ≡ Some between = (r.wrote.applies from there).files ∙ ap (option_map (after (steps_of r.done from))) there in
+          subst (Applies old next) (ap (λ (s : List TrailStep). steps_of r.done from ++ s) (sym (append-nil (write_steps write between))) ∙ sym (steps-append r.done (write ∷ []) from)) (grows_then (r.wrote.applies from there) (grows between here));
       silent = λ none. silent (r.wrote.silent none);
     };
   }
 
   -- what a failed write leaves
-  pub in_part : (now next : Told) (write : ListWrite) (left : List ListWrite) → Reached old now writes (write ∷ left) → ForSome now.files (λ from. GrowsInPart now next (write_steps write from)) → ForSome old.files (λ from. GrowsInPart old next (steps_of writes from))
+  pub in_part : (now next : Told) (write : ListWrite) (left : List ListWrite) → Reached old now writes (write ∷ left) → ForSome now.files (λ from. AppliesPrefix now next (write_steps write from)) → ForSome old.files (λ from. AppliesPrefix old next (steps_of writes from))
   in_part now next write left r part from there =
       let between : Image = after (steps_of r.done from) from in
-      let here : now.files ≡ Some between = (r.wrote.grows from there).files ∙ ap (option_map (after (steps_of r.done from))) there in
-      subst (GrowsInPart old next) (sym (ap (λ (ws : List ListWrite). steps_of ws from) r.split ∙ steps-append r.done (write ∷ left) from)) (part_then (r.wrote.grows from there) (part_only _ (part between here)))
+      let here : now.files ≡ Some between = (r.wrote.applies from there).files ∙ ap (option_map (after (steps_of r.done from))) there in
+      subst (AppliesPrefix old next) (sym (ap (λ (ws : List ListWrite). steps_of ws from) r.split ∙ steps-append r.done (write ∷ left) from)) (part_then (r.wrote.applies from there) (part_only _ (part between here)))
 
   pub done_all : (now : Told) → Reached old now writes [] → Wrote old now writes
   done_all now r = subst (Wrote old now) (sym (r.split ∙ append-nil r.done)) r.wrote
 
   -- what a part of the writes leaves
-  module _ (now : Told) (part : ForSome old.files (λ from. GrowsInPart old now (steps_of writes from))) where
+  module _ (now : Told) (part : ForSome old.files (λ from. AppliesPrefix old now (steps_of writes from))) where
     shows : (from : Image) → old.files ≡ Some from → WritesShow from writes
     shows from there = writes_show writes from (ready_writable (ready from there)) (can from there)
 
@@ -214,8 +214,8 @@ pub told_can : (told : Told) (writes : List ListWrite) → AreWords writes → F
 told_can told writes words check image there = record { nodes = check image there; words = words }
 
 -- all of the writes are a part of them
-pub wrote_part : {old now : Told} {writes : List ListWrite} → Wrote old now writes → ForSome old.files (λ from. GrowsInPart old now (steps_of writes from))
-wrote_part wrote from there = part_whole (wrote.grows from there)
+pub wrote_part : {old now : Told} {writes : List ListWrite} → Wrote old now writes → ForSome old.files (λ from. AppliesPrefix old now (steps_of writes from))
+wrote_part wrote from there = part_whole (wrote.applies from there)
 
 -- the write of this number, and those behind it
 pub at_item : (ws : List Write) (i : ℕ) (d item : Write) → i < length ws → get_or ws i d ≡ item → map meant (drop i ws) ≡ meant item ∷ map meant (drop (i + 1) ws)
@@ -254,7 +254,7 @@ back_untold {old} {now} {writes} wrote none = by_files old.files refl
   where
     by_files : (o : Option Image) → old.files ≡ o → old.files ≡ None
     by_files None there = there
-    by_files (Some from) there = absurd (no_some _ (sym none ∙ (wrote.grows from there).files ∙ ap (option_map (after (steps_of writes from))) there))
+    by_files (Some from) there = absurd (no_some _ (sym none ∙ (wrote.applies from there).files ∙ ap (option_map (after (steps_of writes from))) there))
 
 -- what all of the writes leave
 module _ (files : BlockFiles) (old now : Told) (writes : List ListWrite) (ready : ForSome old.files (IsReady files)) (can : ForSome old.files (λ image. CanBeMade image writes)) where

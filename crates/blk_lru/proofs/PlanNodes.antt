@@ -8,7 +8,7 @@ use Rattle.blk_volume.specs.Completion.{putting_in_front}
 use Rattle.blk_laws.proofs.WriteWords.{Each, Good, Each-append, front_good, out_good}
 use Rattle.blk_disk.specs.declared.tables.BlockFiles.{BlockFiles}
 use Rattle.blk_disk.specs.Tables.{stands_among}
-use Rattle.blk_lru.specs.declared.plans.Beside.{Beside}
+use Rattle.blk_lru.specs.declared.plans.Neighbours.{Neighbours}
 use Rattle.blk_lru.specs.declared.plans.Operation as code
 use Rattle.blk_lru.specs.declared.plans.Operation.TheVariants as operations
 use Rattle.blk_lru.specs.Nodes.{is_node}
@@ -39,34 +39,34 @@ module _ (files : BlockFiles) (node : ℕ) (stands : is_node files node ≡ true
   abbrev Stands : ℕ → Type 0
   Stands n = is_node files n ≡ true
 
-  front : (head : Option ℕ) → IfSome head Stands → Each (Good Stands) (putting_in_front node (word_or_zero head))
-  front None head = front_good Stands (node_small files) node stands 0 (λ some. absurd (clash some))
+  prefix : (head : Option ℕ) → IfSome head Stands → Each (Good Stands) (putting_in_front node (word_or_zero head))
+  prefix None head = front_good Stands (node_small files) node stands 0 (λ some. absurd (clash some))
     where
       clash : (0 == 0) ≡ false → ⊥
       clash e = let z : true ≡ false = e in cc
-  front (Some w) head = front_good Stands (node_small files) node stands w (λ some. head)
+  prefix (Some w) head = front_good Stands (node_small files) node stands w (λ some. head)
 
-  out : (beside : Option Beside) → IfSome beside (StandBeside files) → Each (Good Stands) (leaving node beside)
-  out None beside = tt
-  out (Some b) beside =
-      subst (Each (Good Stands)) (leaving_is node b.next b.prev (Some b) (node_apart files b.next beside.0, (refl, refl)))
-      (out_good Stands (node_small files) node stands b.next b.prev (λ some. beside))
+  out : (neighbours : Option Neighbours) → IfSome neighbours (StandBeside files) → Each (Good Stands) (leaving node neighbours)
+  out None neighbours = tt
+  out (Some b) neighbours =
+      subst (Each (Good Stands)) (leaving_is node b.next b.prev (Some b) (node_apart files b.next neighbours.0, (refl, refl)))
+      (out_good Stands (node_small files) node stands b.next b.prev (λ some. neighbours))
 
-  left : (beside : Option Beside) (head : Option ℕ) → IfSome beside (StandBeside files) → IfSome head Stands → IfSome (head_without node beside head) Stands
+  left : (neighbours : Option Neighbours) (head : Option ℕ) → IfSome neighbours (StandBeside files) → IfSome head Stands → IfSome (head_without node neighbours head) Stands
   left None head none first = first
-  left (Some b) head beside first = by_tests (b.prev == node) (b.next == node)
+  left (Some b) head neighbours first = by_tests (b.prev == node) (b.next == node)
     where
       by_tests : (p n : Bool) → IfSome (if p then (if n then None else Some b.next) else head) Stands
       by_tests true true = tt
-      by_tests true false = beside.0
+      by_tests true false = neighbours.0
       by_tests false n = first
 
   planned_good : (operation : code.Operation) → StandsBy files operation → Each (Good Stands) (planned node operation)
-  planned_good (operations.Insert head) first = front head first
-  planned_good (operations.Remove beside) links = out beside links
-  planned_good (operations.Move beside head) both =
-      Each-append (Good Stands) (leaving node beside) (Operation 1 ∷ putting_in_front node (word_or_zero (head_without node beside head))) (out beside both.0)
-      (omega arith, front (head_without node beside head) (left beside head both.0 both.1))
+  planned_good (operations.Insert head) first = prefix head first
+  planned_good (operations.Remove neighbours) links = out neighbours links
+  planned_good (operations.Move neighbours head) both =
+      Each-append (Good Stands) (leaving node neighbours) (Operation 1 ∷ putting_in_front node (word_or_zero (head_without node neighbours head))) (out neighbours both.0)
+      (omega arith, prefix (head_without node neighbours head) (left neighbours head both.0 both.1))
 
   pub pending_good : (operation : code.Operation) → StandsBy files operation → Each (Good Stands) (pending node operation)
   pending_good operation by = Each-append (Good Stands) (planned node operation) (Transaction 0 ∷ []) (planned_good operation by) (omega arith, tt)
@@ -76,5 +76,5 @@ module _ (files : BlockFiles) (node : ℕ) (stands : is_node files node ≡ true
     where
       code_small : (o : code.Operation) → code_of o < 2 ^ 32
       code_small (operations.Insert head) = omega arith
-      code_small (operations.Remove beside) = omega arith
-      code_small (operations.Move beside head) = omega arith
+      code_small (operations.Remove neighbours) = omega arith
+      code_small (operations.Move neighbours head) = omega arith

@@ -8,7 +8,7 @@ use Rattle.blk_volume.specs.ListView.{ListView, after_writes, ListWrite, Next, P
 use Rattle.blk_volume.specs.Completion.{taking_out, putting_in_front, take_out, unlinking}
 use Rattle.blk_volume.specs.ListPlans.{pending_writes, writes_of}
 use Rattle.blk_laws.proofs.ListWrites.{pending_insert, pending_remove, pending_move}
-use Rattle.blk_lru.specs.declared.plans.Beside.{Beside}
+use Rattle.blk_lru.specs.declared.plans.Neighbours.{Neighbours}
 use Rattle.blk_lru.specs.declared.plans.Operation as code
 use Rattle.blk_lru.specs.declared.plans.Operation.TheVariants as operations
 use Rattle.blk_lru.specs.declared.writes.Write.{Write}
@@ -47,9 +47,9 @@ pub added : (old new more : List Write) (writes : List ListWrite) → new ≡ ol
 added old new more writes is are = ap (map meant) is ∙ map-append meant old more ∙ ap (λ (ws : List ListWrite). map meant old ++ ws) are
 
 -- taking a node out by the nodes beside it is taking it out by its links
-pub leaving_is : (node next prev : ℕ) (beside : Option Beside) → AreBeside next prev beside → taking_out node next prev ≡ leaving node beside
+pub leaving_is : (node next prev : ℕ) (neighbours : Option Neighbours) → AreBeside next prev neighbours → taking_out node next prev ≡ leaving node neighbours
 leaving_is node next prev None zero = ap (λ (n : ℕ). taking_out node n prev) zero
-leaving_is node next prev (Some beside) (some, (n, p)) =
+leaving_is node next prev (Some neighbours) (some, (n, p)) =
     let t : (next == 0) ≡ false = ne_eqb next 0 some in
     let out : taking_out node next prev ≡ unlinking node next prev ++ Next node 0 ∷ [] = rw t refl in
     out ∙ ap₂ (λ (n p : ℕ). unlinking node n p ++ Next node 0 ∷ []) (sym n) (sym p)
@@ -69,15 +69,15 @@ head_after node list = by_tests (list.next node == 0) (list.prev node == node) (
     by_tests false false true = refl
     by_tests false false false = refl
 
-head_left : (node next prev : ℕ) (beside : Option Beside) (head : Option ℕ) → AreBeside next prev beside → left_head node next prev (word_or_zero head) ≡ word_or_zero (head_without node beside head)
+head_left : (node next prev : ℕ) (neighbours : Option Neighbours) (head : Option ℕ) → AreBeside next prev neighbours → left_head node next prev (word_or_zero head) ≡ word_or_zero (head_without node neighbours head)
 unfolding left_head
 head_left node next prev None head zero = ap (λ (n : ℕ). left_head node n prev (word_or_zero head)) zero
-head_left node next prev (Some beside) head (some, (n, p)) =
+head_left node next prev (Some neighbours) head (some, (n, p)) =
     let t : (next == 0) ≡ false = ne_eqb next 0 some in
     let in_list : left_head node next prev (word_or_zero head) ≡ (if prev == node then (if next == node then 0 else next) else word_or_zero head) = rw t refl in
-    in_list ∙ ap₂ (λ (n p : ℕ). if p == node then (if n == node then 0 else n) else word_or_zero head) (sym n) (sym p) ∙ by_tests (beside.prev == node) (beside.next == node)
+    in_list ∙ ap₂ (λ (n p : ℕ). if p == node then (if n == node then 0 else n) else word_or_zero head) (sym n) (sym p) ∙ by_tests (neighbours.prev == node) (neighbours.next == node)
   where
-    by_tests : (a b : Bool) → (if a then (if b then 0 else beside.next) else word_or_zero head) ≡ word_or_zero (if a then (if b then None else Some beside.next) else head)
+    by_tests : (a b : Bool) → (if a then (if b then 0 else neighbours.next) else word_or_zero head) ≡ word_or_zero (if a then (if b then None else Some neighbours.next) else head)
     by_tests true true = refl
     by_tests true false = refl
     by_tests false b = refl
@@ -86,15 +86,15 @@ head_left node next prev (Some beside) head (some, (n, p)) =
 pub pending_is : (list : ListView) (operation : code.Operation) → code_of operation ≡ list.operation → GoesBy list list.transaction operation → pending list.transaction operation ≡ pending_writes list
 pending_is list (operations.Insert head) is by =
     ap (λ (h : ℕ). putting_in_front list.transaction h ++ Transaction 0 ∷ []) by ∙ sym (pending_insert list (sym is))
-pending_is list (operations.Remove beside) is by =
+pending_is list (operations.Remove neighbours) is by =
     let node = list.transaction in
-    sym (pending_remove list (sym is) ∙ ap (λ (ws : List ListWrite). ws ++ Transaction 0 ∷ []) (leaving_is node (list.next node) (list.prev node) beside by))
-pending_is list (operations.Move beside head) is by =
+    sym (pending_remove list (sym is) ∙ ap (λ (ws : List ListWrite). ws ++ Transaction 0 ∷ []) (leaving_is node (list.next node) (list.prev node) neighbours by))
+pending_is list (operations.Move neighbours head) is by =
     let node = list.transaction in
-    let left : (take_out node list).head ≡ word_or_zero (head_without node beside head) =
-    head_after node list ∙ ap (left_head node (list.next node) (list.prev node)) (sym by.1) ∙ head_left node (list.next node) (list.prev node) beside head by.0 in
+    let left : (take_out node list).head ≡ word_or_zero (head_without node neighbours head) =
+    head_after node list ∙ ap (left_head node (list.next node) (list.prev node)) (sym by.1) ∙ head_left node (list.next node) (list.prev node) neighbours head by.0 in
     sym (pending_move list (sym is)
-    ∙ ap₂ (λ (ws : List ListWrite) (h : ℕ). (ws ++ Operation 1 ∷ putting_in_front node h) ++ Transaction 0 ∷ []) (leaving_is node (list.next node) (list.prev node) beside by.0) left)
+    ∙ ap₂ (λ (ws : List ListWrite) (h : ℕ). (ws ++ Operation 1 ∷ putting_in_front node h) ++ Transaction 0 ∷ []) (leaving_is node (list.next node) (list.prev node) neighbours by.0) left)
 
 -- all of an operation on a node of a list
 pub whole_is : (list : ListView) (node : ℕ) (operation : code.Operation) → GoesBy list node operation → whole_plan node operation ≡ writes_of (code_of operation) node list
@@ -104,8 +104,8 @@ whole_is list node operation by =
   where
     named_by : (o : code.Operation) → GoesBy list node o → GoesBy (record list { operation = code_of operation; transaction = node }) node o
     named_by (operations.Insert head) by = by
-    named_by (operations.Remove beside) by = by
-    named_by (operations.Move beside head) by = by
+    named_by (operations.Remove neighbours) by = by
+    named_by (operations.Move neighbours head) by = by
 
 -- no word
 pub none_word : (o : Option ℕ) → ((w : ℕ) → o ≡ Some w → ⊥) → word_or_zero o ≡ 0

@@ -7,7 +7,7 @@ use Rattle.blk_disk.specs.declared.tables.BlockFiles.{BlockFiles}
 use Rattle.blk_lru.specs.declared.completing.InFlight.{InFlight}
 use Rattle.blk_lru.specs.declared.completing.Part.{Part}
 use Rattle.blk_lru.specs.declared.completing.Part.TheVariants.{Counts, Fails}
-use Rattle.blk_lru.specs.declared.plans.Beside.{Beside}
+use Rattle.blk_lru.specs.declared.plans.Neighbours.{Neighbours}
 use Rattle.blk_lru.specs.Nodes.{is_node}
 use Rattle.blk_lru.specs.Plans.{code_of, word_or_zero, AreBeside, GoesBy, StandBeside, StandsBy}
 
@@ -21,9 +21,9 @@ FindsHead list Fails = head_counts list ≡ false
 FindsHead list (Counts head) = (head_counts list ≡ true) × (word_or_zero head ≡ list.head)
 
 -- the nodes beside one are found where its links count
-abbrev pub FindsBeside : ListView → ℕ → Part (Option Beside) → Type 0
-FindsBeside list node Fails = links_count list node ≡ false
-FindsBeside list node (Counts beside) = (links_count list node ≡ true) × AreBeside (list.next node) (list.prev node) beside
+abbrev pub FindsNeighbours : ListView → ℕ → Part (Option Neighbours) → Type 0
+FindsNeighbours list node Fails = links_count list node ≡ false
+FindsNeighbours list node (Counts neighbours) = (links_count list node ≡ true) × AreBeside (list.next node) (list.prev node) neighbours
 
 -- the head that is found stands
 abbrev pub FoundHeadStands : BlockFiles → Part (Option ℕ) → Type 0
@@ -31,9 +31,9 @@ FoundHeadStands files Fails = Unit {0}
 FoundHeadStands files (Counts head) = IfSome head (λ n. is_node files n ≡ true)
 
 -- and so do the nodes that are found beside one
-abbrev pub FoundBesideStands : BlockFiles → Part (Option Beside) → Type 0
-FoundBesideStands files Fails = Unit {0}
-FoundBesideStands files (Counts beside) = IfSome beside (StandBeside files)
+abbrev pub FoundNeighboursStand : BlockFiles → Part (Option Neighbours) → Type 0
+FoundNeighboursStand files Fails = Unit {0}
+FoundNeighboursStand files (Counts neighbours) = IfSome neighbours (StandBeside files)
 
 -- an operation in flight is the one of the list
 pub record IsInFlight (list : ListView) (found : InFlight) : Type 0 where

@@ -9,7 +9,7 @@ use Rattle.blk_io.specs.Faults.{IsShort}
 use Rattle.blk_io.specs.SilentFolder.{untold}
 use Rattle.blk_disk.specs.declared.tables.BlockFiles.{BlockFiles}
 use Rattle.blk_disk.specs.Unsealed.{IsUnsealed}
-use Rattle.blk_lru.specs.Nodes.{is_node, IsAstray}
+use Rattle.blk_lru.specs.Nodes.{is_node, IsDangling}
 
 -- No folder that tells its files gives one of these damages, so they are told as of one that tells none.
 
@@ -19,7 +19,7 @@ IsTooShort file at count damage = IsShort untold file at count damage
 
 -- the word at a place of a file was to name a node, and doesn't: the damage finds the word
 abbrev pub NamesNone : BlockFiles → FileId → (at : ℕ) → Damage → Type 0
-NamesNone files file at damage = IsAstray files untold file at damage
+NamesNone files file at damage = IsDangling files untold file at damage
 
 -- a node doesn't check: the damage finds its seal, which isn't 0
 abbrev pub IsBroken : (node : ℕ) → Damage → Type 0

@@ -21,7 +21,7 @@ abbrev pub node_of : BlockFiles → ℕ → Option ℕ
 node_of files w = if is_node files w then Some w else None
 
 -- the word at a place of a file was to name a node, and doesn't: the damage has the place, and finds the word
-pub record IsAstray (files : BlockFiles) (told : Told) (file : FileId) (at : ℕ) (damage : Damage) : Type 0 where
+pub record IsDangling (files : BlockFiles) (told : Told) (file : FileId) (at : ℕ) (damage : Damage) : Type 0 where
   pub of_file : damage.file ≡ file
   pub at_place : damage.at ≡ at
   pub unlike : is_node files damage.found ≡ false
@@ -36,8 +36,8 @@ abbrev pub link_at : Image → ℕ → ℕ → ℕ
 link_at image node at = word image (Block (file_selector node)) (place node + at)
 
 -- a word is 0 or names a node
-abbrev pub NamesNode : BlockFiles → ℕ → Type 0
-NamesNode files w = (w ≡ 0) ⊎ (is_node files w ≡ true)
+abbrev pub IsNodeOrNone : BlockFiles → ℕ → Type 0
+IsNodeOrNone files w = (w ≡ 0) ⊎ (is_node files w ≡ true)
 
 -- a word names a node that checks, and these are the node and its links
 pub record AreLinksOf (list : ListView) (w : ℕ) (links : Links) : Type 0 where

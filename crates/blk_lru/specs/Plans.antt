@@ -3,7 +3,7 @@ use Rattle.std.specs.Prelude.{ℕ, ◌≡◌, ◌≢◌, ◌==◌, if◌then◌e
 use Rattle.blk_volume.specs.ListView.{ListView, ListWrite, Next, Operation, Transaction}
 use Rattle.blk_volume.specs.Completion.{insert, remove, move, unlinking, putting_in_front}
 use Rattle.blk_disk.specs.declared.tables.BlockFiles.{BlockFiles}
-use Rattle.blk_lru.specs.declared.plans.Beside.{Beside}
+use Rattle.blk_lru.specs.declared.plans.Neighbours.{Neighbours}
 use Rattle.blk_lru.specs.declared.plans.Operation as code
 use Rattle.blk_lru.specs.declared.plans.Operation.TheVariants as operations
 use Rattle.blk_lru.specs.Nodes.{is_node}
@@ -14,21 +14,21 @@ word_or_zero None = 0
 word_or_zero (Some word) = word
 
 -- taking a node out, by the nodes beside it: nothing where there are none; else those change, and at last its next becomes 0
-abbrev pub leaving : (node : ℕ) → Option Beside → List ListWrite
+abbrev pub leaving : (node : ℕ) → Option Neighbours → List ListWrite
 leaving node None = []
-leaving node (Some beside) = unlinking node beside.next beside.prev ++ Next node 0 ∷ []
+leaving node (Some neighbours) = unlinking node neighbours.next neighbours.prev ++ Next node 0 ∷ []
 
 -- the first node once a node is out: where it was the first, the next one if there is one
-abbrev pub head_without : (node : ℕ) → Option Beside → (head : Option ℕ) → Option ℕ
+abbrev pub head_without : (node : ℕ) → Option Neighbours → (head : Option ℕ) → Option ℕ
 head_without node None head = head
-head_without node (Some beside) head =
-    if beside.prev == node then (if beside.next == node then None else Some beside.next) else head
+head_without node (Some neighbours) head =
+    if neighbours.prev == node then (if neighbours.next == node then None else Some neighbours.next) else head
 
 -- what an operation in flight writes; a move turns into an insert once its node is out
 abbrev pub planned : (node : ℕ) → code.Operation → List ListWrite
 planned node (operations.Insert head) = putting_in_front node (word_or_zero head)
-planned node (operations.Remove beside) = leaving node beside
-planned node (operations.Move beside head) = leaving node beside ++ Operation insert ∷ putting_in_front node (word_or_zero (head_without node beside head))
+planned node (operations.Remove neighbours) = leaving node neighbours
+planned node (operations.Move neighbours head) = leaving node neighbours ++ Operation insert ∷ putting_in_front node (word_or_zero (head_without node neighbours head))
 
 -- and then the transaction ends
 abbrev pub pending : (node : ℕ) → code.Operation → List ListWrite
@@ -37,30 +37,30 @@ pending node operation = planned node operation ++ Transaction 0 ∷ []
 -- the code of an operation
 abbrev pub code_of : code.Operation → ℕ
 code_of (operations.Insert head) = insert
-code_of (operations.Remove beside) = remove
-code_of (operations.Move beside head) = move
+code_of (operations.Remove neighbours) = remove
+code_of (operations.Move neighbours head) = move
 
 -- all of an operation
 abbrev pub whole_plan : (node : ℕ) → code.Operation → List ListWrite
 whole_plan node operation = Operation (code_of operation) ∷ Transaction node ∷ pending node operation
 
 -- the nodes beside one that has these links: none where its next is 0
-abbrev pub AreBeside : (next prev : ℕ) → Option Beside → Type 0
+abbrev pub AreBeside : (next prev : ℕ) → Option Neighbours → Type 0
 AreBeside next prev None = next ≡ 0
-AreBeside next prev (Some beside) = (next ≢ 0) × ((beside.next ≡ next) × (beside.prev ≡ prev))
+AreBeside next prev (Some neighbours) = (next ≢ 0) × ((neighbours.next ≡ next) × (neighbours.prev ≡ prev))
 
 -- an operation on a node goes by the nodes of the list
 abbrev pub GoesBy : ListView → (node : ℕ) → code.Operation → Type 0
 GoesBy list node (operations.Insert head) = word_or_zero head ≡ list.head
-GoesBy list node (operations.Remove beside) = AreBeside (list.next node) (list.prev node) beside
-GoesBy list node (operations.Move beside head) = AreBeside (list.next node) (list.prev node) beside × (word_or_zero head ≡ list.head)
+GoesBy list node (operations.Remove neighbours) = AreBeside (list.next node) (list.prev node) neighbours
+GoesBy list node (operations.Move neighbours head) = AreBeside (list.next node) (list.prev node) neighbours × (word_or_zero head ≡ list.head)
 
 -- the nodes beside one stand
-abbrev pub StandBeside : BlockFiles → Beside → Type 0
-StandBeside files beside = (is_node files beside.next ≡ true) × (is_node files beside.prev ≡ true)
+abbrev pub StandBeside : BlockFiles → Neighbours → Type 0
+StandBeside files neighbours = (is_node files neighbours.next ≡ true) × (is_node files neighbours.prev ≡ true)
 
 -- the nodes that an operation goes by stand
 abbrev pub StandsBy : BlockFiles → code.Operation → Type 0
 StandsBy files (operations.Insert head) = IfSome head (λ n. is_node files n ≡ true)
-StandsBy files (operations.Remove beside) = IfSome beside (StandBeside files)
-StandsBy files (operations.Move beside head) = IfSome beside (StandBeside files) × IfSome head (λ n. is_node files n ≡ true)
+StandsBy files (operations.Remove neighbours) = IfSome neighbours (StandBeside files)
+StandsBy files (operations.Move neighbours head) = IfSome neighbours (StandBeside files) × IfSome head (λ n. is_node files n ≡ true)

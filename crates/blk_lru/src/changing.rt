@@ -1,24 +1,24 @@
 // Changes of the use list, each a transaction.
 ghost use Rattle.std.specs.Prelude.{◌≡◌, ◌==◌, ◌++◌, ◌∷◌, ◌≤◌, ℕ, List, IfOk, IfSome, IsTrue, None, OnOk, Some, true};
 ghost use Rattle.std.specs.Option.{ForSome};
-ghost use Rattle.blk_image.specs.Told.{Grows, GrowsInPart, Passes, Rises, Stays};
+ghost use Rattle.blk_image.specs.Told.{Applies, AppliesPrefix, Commits, Passes, Rises, Stays};
 ghost use Rattle.blk_format.specs.Sealed.{sealed_steps};
 ghost use Rattle.blk_format.specs.Headers.{HasWholeIndex};
 ghost use Rattle.blk_volume.specs.Completion.{insert, move, remove as removal};
 ghost use Rattle.blk_volume.specs.ListPlans.{touch_writes, writes_of};
 ghost use Rattle.blk_volume.specs.View.{list_of};
-ghost use Rattle.blk_laws.specs.ListLaws.{CanBeInserted, IsAtRest};
-ghost use Rattle.blk_laws.specs.ListSteps.{AreSealed, AreTimes, IsPartly, IsSealed, IsTouched, steps_of, times_of, touch_steps};
-ghost use Rattle.blk_laws.specs.ListWords.{walked};
+ghost use Rattle.blk_volume.specs.ListView.{CanBeInserted, IsAtRest};
+ghost use Rattle.blk_volume.specs.ListSteps.{AreSealed, AreTimes, IsPartly, IsSealed, IsTouched, steps_of, times_of, touch_steps};
+ghost use Rattle.blk_volume.specs.ListImages.{CompletesTo, walked};
 ghost use Rattle.blk_io.specs.Faults.{IfDamaged, IfDevice};
 ghost use Rattle.blk_disk.specs.Tables.{Agrees};
 ghost use Rattle.blk_lru.specs.Plans.{AreBeside, StandBeside};
 ghost use Rattle.blk_lru.specs.Damages.{IsInsertDamage, IsNodeDamage, IsRemovalDamage, IsTouchDamage};
 ghost use Rattle.blk_lru.specs.Nodes.{is_node};
-ghost use Rattle.blk_lru.specs.Lists.{IsListed, Turns, first_of};
+ghost use Rattle.blk_lru.specs.Lists.{IsListed, first_of};
 
 use crate::nodes::link;
-use crate::plans::{Beside, Operation, plan_of};
+use crate::plans::{Neighbours, Operation, plan_of};
 use crate::reading::first;
 use crate::writes::perform;
 use blk_addr::Addr;
@@ -40,13 +40,13 @@ pub fn insert_front<F: Folder>(f: &mut F, files: &BlockFiles, node: Addr) -> Res
     requires complete { ForSome (F.told f.old).files HasWholeIndex }
     requires agrees { ForSome (F.told f.old).files (Agrees files.now) }
     requires apart { ForSome (F.told f.old).files (λ image. CanBeInserted (list_of image) (walked image) node) }
-    ensures whole { OnOk result (ForSome (F.told f.old).files (λ from. Grows (F.told f.old) (F.told f.new) (steps_of (writes_of insert node (list_of from)) from))) }
-    ensures part { ForSome (F.told f.old).files (λ from. GrowsInPart (F.told f.old) (F.told f.new) (steps_of (writes_of insert node (list_of from)) from)) }
+    ensures steps { OnOk result (ForSome (F.told f.old).files (λ from. Applies (F.told f.old) (F.told f.new) (steps_of (writes_of insert node (list_of from)) from))) }
+    ensures prefix { ForSome (F.told f.old).files (λ from. AppliesPrefix (F.told f.old) (F.told f.new) (steps_of (writes_of insert node (list_of from)) from)) }
     ensures inserted { OnOk result (ForSome (F.told f.old).files (λ from. ForSome (F.told f.new).files (λ image. IsAtRest (list_of image) (node ∷ walked from)))) }
     ensures sealed { OnOk result (ForSome (F.told f.old).files (λ from. ForSome (F.told f.new).files (AreSealed (writes_of insert node (list_of from))))) }
 
     // At each word completing gives the old list, or from the transaction word on the new one; nothing but the list changes.
-    ensures turns { ForSome (F.told f.old).files (λ from. Turns (F.told f.old) (F.told f.new) (walked from) (node ∷ walked from)) }
+    ensures commits { ForSome (F.told f.old).files (λ from. Commits 2 (F.told f.old) (F.told f.new) (CompletesTo (walked from)) (CompletesTo (node ∷ walked from))) }
     ensures stops { ForSome (F.told f.old).files (λ from. Passes (F.told f.old) (F.told f.new) (IsPartly from (writes_of insert node (list_of from)))) }
     ensures complete { ForSome (F.told f.new).files HasWholeIndex }
     ensures agrees { ForSome (F.told f.new).files (Agrees files.now) }
@@ -76,13 +76,13 @@ pub fn remove<F: Folder>(f: &mut F, files: &BlockFiles, node: Addr) -> Result<()
     requires complete { ForSome (F.told f.old).files HasWholeIndex }
     requires agrees { ForSome (F.told f.old).files (Agrees files.now) }
     requires listed { ForSome (F.told f.old).files (IsListed node) }
-    ensures whole { OnOk result (ForSome (F.told f.old).files (λ from. Grows (F.told f.old) (F.told f.new) (steps_of (writes_of removal node (list_of from)) from))) }
-    ensures part { ForSome (F.told f.old).files (λ from. GrowsInPart (F.told f.old) (F.told f.new) (steps_of (writes_of removal node (list_of from)) from)) }
-    ensures removed { OnOk result (ForSome (F.told f.old).files (λ from. ForSome (F.told f.new).files (λ image. (front behind : List ℕ) → walked from ≡ front ++ node ∷ behind → IsAtRest (list_of image) (front ++ behind)))) }
+    ensures steps { OnOk result (ForSome (F.told f.old).files (λ from. Applies (F.told f.old) (F.told f.new) (steps_of (writes_of removal node (list_of from)) from))) }
+    ensures prefix { ForSome (F.told f.old).files (λ from. AppliesPrefix (F.told f.old) (F.told f.new) (steps_of (writes_of removal node (list_of from)) from)) }
+    ensures removed { OnOk result (ForSome (F.told f.old).files (λ from. ForSome (F.told f.new).files (λ image. (prefix suffix : List ℕ) → walked from ≡ prefix ++ node ∷ suffix → IsAtRest (list_of image) (prefix ++ suffix)))) }
     ensures sealed { OnOk result (ForSome (F.told f.old).files (λ from. ForSome (F.told f.new).files (AreSealed (writes_of removal node (list_of from))))) }
 
     // At each word completing gives the old list, or from the transaction word on the new one; nothing but the list changes.
-    ensures turns { ForSome (F.told f.old).files (λ from. (front behind : List ℕ) → walked from ≡ front ++ node ∷ behind → Turns (F.told f.old) (F.told f.new) (walked from) (front ++ behind)) }
+    ensures commits { ForSome (F.told f.old).files (λ from. (prefix suffix : List ℕ) → walked from ≡ prefix ++ node ∷ suffix → Commits 2 (F.told f.old) (F.told f.new) (CompletesTo (walked from)) (CompletesTo (prefix ++ suffix))) }
     ensures stops { ForSome (F.told f.old).files (λ from. Passes (F.told f.old) (F.told f.new) (IsPartly from (writes_of removal node (list_of from)))) }
     ensures complete { ForSome (F.told f.new).files HasWholeIndex }
     ensures agrees { ForSome (F.told f.new).files (Agrees files.now) }
@@ -96,9 +96,9 @@ pub fn remove<F: Folder>(f: &mut F, files: &BlockFiles, node: Addr) -> Result<()
     ensures device { IfDevice result (Rises (F.faults f.old) (F.faults f.new)) }
 {
     blk_laws::removals_at_each_word();
-    let beside = beside(f, files, node)?;
-    let beside = Some(beside);
-    let plan = plan_of(node, &Operation::Remove { beside });
+    let neighbours = neighbours(f, files, node)?;
+    let neighbours = Some(neighbours);
+    let plan = plan_of(node, &Operation::Remove { neighbours });
     perform(f, files, &plan)
 }
 
@@ -113,14 +113,14 @@ pub fn touch<F: Folder>(f: &mut F, files: &BlockFiles, node: Addr, moment: u64) 
     requires complete { ForSome (F.told f.old).files HasWholeIndex }
     requires agrees { ForSome (F.told f.old).files (Agrees files.now) }
     requires listed { ForSome (F.told f.old).files (IsListed node) }
-    ensures whole { OnOk result (ForSome (F.told f.old).files (λ from. Grows (F.told f.old) (F.told f.new) (touch_steps node moment (touch_writes node (list_of from)) from))) }
-    ensures part { ForSome (F.told f.old).files (λ from. GrowsInPart (F.told f.old) (F.told f.new) (touch_steps node moment (touch_writes node (list_of from)) from)) }
-    ensures touched { OnOk result (ForSome (F.told f.old).files (λ from. ForSome (F.told f.new).files (λ image. (front behind : List ℕ) → walked from ≡ front ++ node ∷ behind → IsAtRest (list_of image) (node ∷ front ++ behind)))) }
+    ensures steps { OnOk result (ForSome (F.told f.old).files (λ from. Applies (F.told f.old) (F.told f.new) (touch_steps node moment (touch_writes node (list_of from)) from))) }
+    ensures prefix { ForSome (F.told f.old).files (λ from. AppliesPrefix (F.told f.old) (F.told f.new) (touch_steps node moment (touch_writes node (list_of from)) from)) }
+    ensures touched { OnOk result (ForSome (F.told f.old).files (λ from. ForSome (F.told f.new).files (λ image. (prefix suffix : List ℕ) → walked from ≡ prefix ++ node ∷ suffix → IsAtRest (list_of image) (node ∷ prefix ++ suffix)))) }
     ensures times { OnOk result (ForSome (F.told f.old).files (λ _. ForSome (F.told f.new).files (AreTimes node moment))) }
     ensures sealed { OnOk result (ForSome (F.told f.old).files (λ from. ForSome (F.told f.new).files (λ image. AreSealed (touch_writes node (list_of from)) image × IsSealed image node))) }
 
     // At each word completing gives the old list, or from the transaction word on the new one; nothing but the list and the times changes.
-    ensures turns { ForSome (F.told f.old).files (λ from. (front behind : List ℕ) → walked from ≡ front ++ node ∷ behind → Turns (F.told f.old) (F.told f.new) (walked from) (node ∷ front ++ behind)) }
+    ensures commits { ForSome (F.told f.old).files (λ from. (prefix suffix : List ℕ) → walked from ≡ prefix ++ node ∷ suffix → Commits 2 (F.told f.old) (F.told f.new) (CompletesTo (walked from)) (CompletesTo (node ∷ prefix ++ suffix))) }
     ensures stops { ForSome (F.told f.old).files (λ from. Passes (F.told f.old) (F.told f.new) (IsTouched from node (touch_writes node (list_of from)))) }
     ensures complete { ForSome (F.told f.new).files HasWholeIndex }
     ensures agrees { ForSome (F.told f.new).files (Agrees files.now) }
@@ -143,8 +143,8 @@ fn set_times<F: Folder>(f: &mut F, files: &BlockFiles, node: Addr, moment: u64) 
     requires stands { is_node files.now node ≡ true }
     requires agrees { ForSome (F.told f.old).files (Agrees files.now) }
     requires check { ForSome (F.told f.old).files (λ image. (list_of image).checks node ≡ true) }
-    ensures whole { OnOk result (ForSome (F.told f.old).files (λ from. Grows (F.told f.old) (F.told f.new) (sealed_steps from node (times_of moment)))) }
-    ensures part { ForSome (F.told f.old).files (λ from. GrowsInPart (F.told f.old) (F.told f.new) (sealed_steps from node (times_of moment))) }
+    ensures steps { OnOk result (ForSome (F.told f.old).files (λ from. Applies (F.told f.old) (F.told f.new) (sealed_steps from node (times_of moment)))) }
+    ensures prefix { ForSome (F.told f.old).files (λ from. AppliesPrefix (F.told f.old) (F.told f.new) (sealed_steps from node (times_of moment))) }
     ensures agrees { ForSome (F.told f.new).files (Agrees files.now) }
     ensures damaged { IfDamaged result (IsNodeDamage files.now) }
     ensures untold { IfDamaged result (λ _. (F.told f.old).files ≡ None) }
@@ -169,8 +169,8 @@ fn move_front<F: Folder>(f: &mut F, files: &BlockFiles, node: Addr) -> Result<()
     requires complete { ForSome (F.told f.old).files HasWholeIndex }
     requires agrees { ForSome (F.told f.old).files (Agrees files.now) }
     requires listed { ForSome (F.told f.old).files (IsListed node) }
-    ensures whole { OnOk result (ForSome (F.told f.old).files (λ from. Grows (F.told f.old) (F.told f.new) (steps_of (touch_writes node (list_of from)) from))) }
-    ensures part { ForSome (F.told f.old).files (λ from. GrowsInPart (F.told f.old) (F.told f.new) (steps_of (touch_writes node (list_of from)) from)) }
+    ensures steps { OnOk result (ForSome (F.told f.old).files (λ from. Applies (F.told f.old) (F.told f.new) (steps_of (touch_writes node (list_of from)) from))) }
+    ensures prefix { ForSome (F.told f.old).files (λ from. AppliesPrefix (F.told f.old) (F.told f.new) (steps_of (touch_writes node (list_of from)) from)) }
     ensures stops { ForSome (F.told f.old).files (λ from. Passes (F.told f.old) (F.told f.new) (IsPartly from (touch_writes node (list_of from)))) }
     ensures complete { ForSome (F.told f.new).files HasWholeIndex }
     ensures agrees { ForSome (F.told f.new).files (Agrees files.now) }
@@ -200,8 +200,8 @@ fn move_behind<F: Folder>(
     requires agrees { ForSome (F.told f.old).files (Agrees files.now) }
     requires listed { ForSome (F.told f.old).files (IsListed node) }
     requires head { ForSome (F.told f.old).files (λ image. head ≡ first_of (walked image)) }
-    ensures whole { OnOk result (ForSome (F.told f.old).files (λ from. Grows (F.told f.old) (F.told f.new) (steps_of (writes_of move node (list_of from)) from))) }
-    ensures part { ForSome (F.told f.old).files (λ from. GrowsInPart (F.told f.old) (F.told f.new) (steps_of (writes_of move node (list_of from)) from)) }
+    ensures steps { OnOk result (ForSome (F.told f.old).files (λ from. Applies (F.told f.old) (F.told f.new) (steps_of (writes_of move node (list_of from)) from))) }
+    ensures prefix { ForSome (F.told f.old).files (λ from. AppliesPrefix (F.told f.old) (F.told f.new) (steps_of (writes_of move node (list_of from)) from)) }
     ensures stops { ForSome (F.told f.old).files (λ from. Passes (F.told f.old) (F.told f.new) (IsPartly from (writes_of move node (list_of from)))) }
     ensures complete { ForSome (F.told f.new).files HasWholeIndex }
     ensures agrees { ForSome (F.told f.new).files (Agrees files.now) }
@@ -211,18 +211,18 @@ fn move_behind<F: Folder>(
     ensures later { F.faults f.old ≤ F.faults f.new }
     ensures device { IfDevice result (Rises (F.faults f.old) (F.faults f.new)) }
 {
-    let beside = beside(f, files, node)?;
-    let beside = Some(beside);
-    let plan = plan_of(node, &Operation::Move { beside, head });
+    let neighbours = neighbours(f, files, node)?;
+    let neighbours = Some(neighbours);
+    let plan = plan_of(node, &Operation::Move { neighbours, head });
     perform(f, files, &plan)
 }
 
 // The nodes beside a listed one, by two folder calls.
-fn beside<F: Folder>(f: &mut F, files: &BlockFiles, node: Addr) -> Result<Beside, Fault>
+fn neighbours<F: Folder>(f: &mut F, files: &BlockFiles, node: Addr) -> Result<Neighbours, Fault>
     requires stands { IsTrue (is_node files.now node) }
     requires agrees { ForSome (F.told f.old).files (Agrees files.now) }
     requires listed { ForSome (F.told f.old).files (IsListed node) }
-    ensures words { IfOk result (λ beside. ForSome (F.told f.old).files (λ image. AreBeside ((list_of image).next node) ((list_of image).prev node) (Some beside))) }
+    ensures words { IfOk result (λ neighbours. ForSome (F.told f.old).files (λ image. AreBeside ((list_of image).next node) ((list_of image).prev node) (Some neighbours))) }
     ensures stand { IfOk result (StandBeside files.now) }
     ensures damaged { IfDamaged result (IsRemovalDamage files.now node) }
     ensures untold { IfDamaged result (λ _. (F.told f.old).files ≡ None) }
@@ -232,5 +232,5 @@ fn beside<F: Folder>(f: &mut F, files: &BlockFiles, node: Addr) -> Result<Beside
 {
     let next = link(f, files, node, NodeView::NEXT)?;
     let prev = link(f, files, node, NodeView::PREV)?;
-    Ok(Beside { next, prev })
+    Ok(Neighbours { next, prev })
 }

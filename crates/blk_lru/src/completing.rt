@@ -1,21 +1,21 @@
 // The operation in flight, completed.
 ghost use Rattle.std.specs.Prelude.{◌≡◌, ◌≤◌, None, IfOk, IfSome, OnOk, map, true};
 ghost use Rattle.std.specs.Option.{ForSome};
-ghost use Rattle.blk_image.specs.Told.{Grows, GrowsInPart, Passes, Rises, Stays};
+ghost use Rattle.blk_image.specs.Told.{Applies, AppliesPrefix, Passes, Rises, Stays};
 ghost use Rattle.blk_format.specs.Headers.{HasWholeIndex};
 ghost use Rattle.blk_volume.specs.ListPlans.{completion_writes};
 ghost use Rattle.blk_volume.specs.View.{list_of};
-ghost use Rattle.blk_laws.specs.ListSteps.{AreOf, AreSealed, AreWords, IsPartly, steps_of};
-ghost use Rattle.blk_laws.specs.ListWords.{CompletesAlike, IsCompleted};
+ghost use Rattle.blk_volume.specs.ListSteps.{AreOf, AreSealed, AreWords, IsPartly, steps_of};
+ghost use Rattle.blk_volume.specs.ListImages.{CompletesAlike, IsCompleted};
 ghost use Rattle.blk_io.specs.Faults.{IfDamaged, IfDevice};
 ghost use Rattle.blk_disk.specs.Tables.{Agrees};
 ghost use Rattle.blk_lru.specs.Damages.{IsCompletingDamage, IsNodeDamage};
 ghost use Rattle.blk_lru.specs.Nodes.{is_node, AreLinksOf};
 ghost use Rattle.blk_lru.specs.Writes.{meant};
-ghost use Rattle.blk_lru.specs.Completing.{AreNodes, Finds, FindsBeside, FindsHead, FoundBesideStands, FoundHeadStands, finishing_writes};
+ghost use Rattle.blk_lru.specs.Completing.{AreNodes, Finds, FindsNeighbours, FindsHead, FoundNeighboursStand, FoundHeadStands, finishing_writes};
 
 use crate::nodes::{Links, checked};
-use crate::plans::{Beside, INSERT, MOVE, Operation, Plan, REMOVE, ending, pending_of};
+use crate::plans::{Neighbours, INSERT, MOVE, Operation, Plan, REMOVE, ending, pending_of};
 use crate::reading::HEAD;
 use crate::writes::{OPERATION, TRANSACTION, perform};
 use blk_addr::Addr;
@@ -47,8 +47,8 @@ pub(crate) enum Part<T> {
 pub fn complete<F: Folder>(f: &mut F, files: &BlockFiles) -> Result<(), Fault>
     requires complete { ForSome (F.told f.old).files HasWholeIndex }
     requires agrees { ForSome (F.told f.old).files (Agrees files.now) }
-    ensures whole { OnOk result (ForSome (F.told f.old).files (λ from. Grows (F.told f.old) (F.told f.new) (steps_of (finishing_writes (list_of from)) from))) }
-    ensures part { ForSome (F.told f.old).files (λ from. GrowsInPart (F.told f.old) (F.told f.new) (steps_of (finishing_writes (list_of from)) from)) }
+    ensures steps { OnOk result (ForSome (F.told f.old).files (λ from. Applies (F.told f.old) (F.told f.new) (steps_of (finishing_writes (list_of from)) from))) }
+    ensures prefix { ForSome (F.told f.old).files (λ from. AppliesPrefix (F.told f.old) (F.told f.new) (steps_of (finishing_writes (list_of from)) from)) }
     ensures done { OnOk result (ForSome (F.told f.old).files (λ from. ForSome (F.told f.new).files (IsCompleted from))) }
     ensures sealed { OnOk result (ForSome (F.told f.old).files (λ from. ForSome (F.told f.new).files (AreSealed (finishing_writes (list_of from))))) }
 
@@ -149,20 +149,20 @@ fn counting<F: Folder>(
             Ok(Some(InFlight { node, operation }))
         }
         REMOVE => {
-            let Part::Counts(beside) = usable_links(f, files, links)? else {
+            let Part::Counts(neighbours) = usable_links(f, files, links)? else {
                 return Ok(None);
             };
-            let operation = Operation::Remove { beside };
+            let operation = Operation::Remove { neighbours };
             Ok(Some(InFlight { node, operation }))
         }
         MOVE => {
             let Part::Counts(head) = usable_head(f, files)? else {
                 return Ok(None);
             };
-            let Part::Counts(beside) = usable_links(f, files, links)? else {
+            let Part::Counts(neighbours) = usable_links(f, files, links)? else {
                 return Ok(None);
             };
-            let operation = Operation::Move { beside, head };
+            let operation = Operation::Move { neighbours, head };
             Ok(Some(InFlight { node, operation }))
         }
         _ => Ok(None),
@@ -196,12 +196,12 @@ fn usable_links<F: Folder>(
     f: &mut F,
     files: &BlockFiles,
     links: &Links,
-) -> Result<Part<Option<Beside>>, Fault>
+) -> Result<Part<Option<Neighbours>>, Fault>
     requires agrees { ForSome (F.told f.old).files (Agrees files.now) }
     requires stands { is_node files.now links.now.node ≡ true }
     requires links { ForSome (F.told f.old).files (λ image. AreLinksOf (list_of image) (list_of image).transaction links.now) }
-    ensures found { IfOk result (λ found. ForSome (F.told f.old).files (λ image. FindsBeside (list_of image) (list_of image).transaction found)) }
-    ensures stand { IfOk result (FoundBesideStands files.now) }
+    ensures found { IfOk result (λ found. ForSome (F.told f.old).files (λ image. FindsNeighbours (list_of image) (list_of image).transaction found)) }
+    ensures stand { IfOk result (FoundNeighboursStand files.now) }
     ensures damaged { IfDamaged result (IsNodeDamage files.now) }
     ensures untold { IfDamaged result (λ _. (F.told f.old).files ≡ None) }
     ensures stays { Stays (F.told f.old) (F.told f.new) }
@@ -218,5 +218,5 @@ fn usable_links<F: Folder>(
         return Ok(Part::Fails);
     };
     let (next, prev) = (next.node, prev.node);
-    Ok(Part::Counts(Some(Beside { next, prev })))
+    Ok(Part::Counts(Some(Neighbours { next, prev })))
 }

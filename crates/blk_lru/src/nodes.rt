@@ -12,7 +12,7 @@ ghost use Rattle.blk_io.specs.Faults.{IfDamaged, IfDevice, IsShort};
 ghost use Rattle.blk_disk.specs.Tables.{Agrees};
 ghost use Rattle.blk_lru.specs.Damages.{IsNodeDamage};
 ghost use Rattle.blk_lru.specs.Nodes as nodes;
-ghost use Rattle.blk_lru.specs.Nodes.{is_node, link_at, FindsNode, IsAstray, IsLinkPlace};
+ghost use Rattle.blk_lru.specs.Nodes.{is_node, link_at, FindsNode, IsDangling, IsLinkPlace};
 
 use blk_addr::{Addr, Kind};
 use blk_disk::{BlockFiles, file_of};
@@ -55,7 +55,7 @@ pub(crate) fn link<F: Folder>(
     requires named { ForSome (F.told f.old).files (λ image. is_node files.now (link_at image node at) ≡ true) }
     ensures word { IfOk result (λ found. ForSome (F.told f.old).files (λ image. found ≡ link_at image node at)) }
     ensures stands { IfOk result (λ found. IsTrue (is_node files.now found)) }
-    ensures damaged { IfDamaged result (λ damage. IsShort (F.told f.old) (names.Block (file_selector node)) (place node + at) 4 damage ⊎ IsAstray files.now (F.told f.old) (names.Block (file_selector node)) (place node + at) damage) }
+    ensures damaged { IfDamaged result (λ damage. IsShort (F.told f.old) (names.Block (file_selector node)) (place node + at) 4 damage ⊎ IsDangling files.now (F.told f.old) (names.Block (file_selector node)) (place node + at) damage) }
     ensures untold { IfDamaged result (λ _. (F.told f.old).files ≡ None) }
     ensures stays { Stays (F.told f.old) (F.told f.new) }
     ensures later { F.faults f.old ≤ F.faults f.new }

@@ -26,7 +26,7 @@ pub(crate) const MOVE: u32 = 3;
 
 // The nodes beside one, by its links: the next and the previous. At an end of the list that is the node itself.
 #[derive(Clone, Copy, Debug)]
-pub(crate) struct Beside {
+pub(crate) struct Neighbours {
     pub(crate) next: Addr,
     pub(crate) prev: Addr,
 }
@@ -39,10 +39,10 @@ pub(crate) enum Operation {
         head: Option<Addr>,
     },
     Remove {
-        beside: Option<Beside>,
+        neighbours: Option<Neighbours>,
     },
     Move {
-        beside: Option<Beside>,
+        neighbours: Option<Neighbours>,
         head: Option<Addr>,
     },
 }
@@ -101,11 +101,11 @@ fn add_pending(plan: &mut Plan, node: Addr, operation: &Operation)
 {
     match operation {
         Operation::Insert { head } => put_front(plan, node, *head),
-        Operation::Remove { beside } => take_out(plan, node, beside),
-        Operation::Move { beside, head } => {
-            take_out(plan, node, beside);
+        Operation::Remove { neighbours } => take_out(plan, node, neighbours),
+        Operation::Move { neighbours, head } => {
+            take_out(plan, node, neighbours);
             add(plan, &[Write::Operation(INSERT)]);
-            put_front(plan, node, head_without(node, beside, *head));
+            put_front(plan, node, head_without(node, neighbours, *head));
         }
     }
     add(plan, &[Write::Transaction(0)]);
@@ -145,12 +145,12 @@ fn put_front(plan: &mut Plan, node: Addr, head: Option<Addr>)
 }
 
 // Adds what takes a node out, which is nothing where there are none beside it.
-fn take_out(plan: &mut Plan, node: Addr, beside: &Option<Beside>)
+fn take_out(plan: &mut Plan, node: Addr, neighbours: &Option<Neighbours>)
     requires room { length plan.old.items ≤ 2 }
-    ensures writes { map meant plan.new.items ≡ map meant plan.old.items ++ leaving node beside.now }
+    ensures writes { map meant plan.new.items ≡ map meant plan.old.items ++ leaving node neighbours.now }
     ensures few { length plan.new.items ≤ length plan.old.items + 3 }
 {
-    let Some(Beside { next, prev }) = *beside else {
+    let Some(Neighbours { next, prev }) = *neighbours else {
         return;
     };
     let (next_word, prev_word) = (next.word(), prev.word());
@@ -177,10 +177,10 @@ fn take_out(plan: &mut Plan, node: Addr, beside: &Option<Beside>)
 }
 
 // The first node once a node is out, where this one was the first.
-fn head_without(node: Addr, beside: &Option<Beside>, head: Option<Addr>) -> Option<Addr>
-    ensures { result ≡ plans.head_without node beside.now head }
+fn head_without(node: Addr, neighbours: &Option<Neighbours>, head: Option<Addr>) -> Option<Addr>
+    ensures { result ≡ plans.head_without node neighbours.now head }
 {
-    let Some(Beside { next, prev }) = *beside else {
+    let Some(Neighbours { next, prev }) = *neighbours else {
         return head;
     };
     if prev != node {

@@ -5,12 +5,12 @@ ghost use Rattle.blk_image.specs.Image.{word as image_word, Index as index};
 ghost use Rattle.blk_image.specs.Told.{Rises, Stays};
 ghost use Rattle.blk_format.specs.Address.{file_selector, place};
 ghost use Rattle.blk_format.specs.Headers.{header_length, HasWholeIndex};
-ghost use Rattle.blk_laws.specs.ListWords.{walked};
+ghost use Rattle.blk_volume.specs.ListImages.{walked};
 ghost use Rattle.blk_io.specs.declared.folder.FileId.TheVariants as names;
 ghost use Rattle.blk_io.specs.Faults.{IfDamaged, IfDevice, IsShort};
 ghost use Rattle.blk_disk.specs.Tables.{Agrees};
-ghost use Rattle.blk_lru.specs.Nodes.{is_node, IsAstray, NamesNode};
-ghost use Rattle.blk_lru.specs.Lists.{IsListed, IsRested, first_of, last_of};
+ghost use Rattle.blk_lru.specs.Nodes.{is_node, IsDangling, IsNodeOrNone};
+ghost use Rattle.blk_lru.specs.Lists.{IsListed, IsListAtRest, first_of, last_of};
 
 use crate::nodes::{link, node_of};
 use blk_addr::Addr;
@@ -28,12 +28,12 @@ pub(crate) const TAIL: u32 = 308;
 pub fn first<F: Folder>(f: &mut F, files: &BlockFiles) -> Result<Option<Addr>, Fault>
     requires complete { ForSome (F.told f.old).files HasWholeIndex }
     requires agrees { ForSome (F.told f.old).files (Agrees files.now) }
-    requires rest { ForSome (F.told f.old).files IsRested }
+    requires rest { ForSome (F.told f.old).files IsListAtRest }
     ensures node { IfOk result (λ node. ForSome (F.told f.old).files (λ image. node ≡ first_of (walked image))) }
     ensures stands { IfOk result (λ node. IfSome node (λ n. IsTrue (is_node files.now n))) }
 
     // Too few bytes, or a word that names no node, which a folder that tells its files never gives.
-    ensures damaged { IfDamaged result (λ damage. IsShort (F.told f.old) names.Index 288 4 damage ⊎ IsAstray files.now (F.told f.old) names.Index 288 damage) }
+    ensures damaged { IfDamaged result (λ damage. IsShort (F.told f.old) names.Index 288 4 damage ⊎ IsDangling files.now (F.told f.old) names.Index 288 damage) }
     ensures untold { IfDamaged result (λ _. (F.told f.old).files ≡ None) }
 
     ensures stays { Stays (F.told f.old) (F.told f.new) }
@@ -47,12 +47,12 @@ pub fn first<F: Folder>(f: &mut F, files: &BlockFiles) -> Result<Option<Addr>, F
 pub fn last<F: Folder>(f: &mut F, files: &BlockFiles) -> Result<Option<Addr>, Fault>
     requires complete { ForSome (F.told f.old).files HasWholeIndex }
     requires agrees { ForSome (F.told f.old).files (Agrees files.now) }
-    requires rest { ForSome (F.told f.old).files IsRested }
+    requires rest { ForSome (F.told f.old).files IsListAtRest }
     ensures node { IfOk result (λ node. ForSome (F.told f.old).files (λ image. node ≡ last_of (walked image))) }
     ensures stands { IfOk result (λ node. IfSome node (λ n. IsTrue (is_node files.now n))) }
 
     // Too few bytes, or a word that names no node, which a folder that tells its files never gives.
-    ensures damaged { IfDamaged result (λ damage. IsShort (F.told f.old) names.Index 308 4 damage ⊎ IsAstray files.now (F.told f.old) names.Index 308 damage) }
+    ensures damaged { IfDamaged result (λ damage. IsShort (F.told f.old) names.Index 308 4 damage ⊎ IsDangling files.now (F.told f.old) names.Index 308 damage) }
     ensures untold { IfDamaged result (λ _. (F.told f.old).files ≡ None) }
 
     ensures stays { Stays (F.told f.old) (F.told f.new) }
@@ -67,11 +67,11 @@ pub fn before<F: Folder>(f: &mut F, files: &BlockFiles, node: Addr) -> Result<Op
     requires stands { IsTrue (is_node files.now node) }
     requires agrees { ForSome (F.told f.old).files (Agrees files.now) }
     requires listed { ForSome (F.told f.old).files (IsListed node) }
-    ensures node { IfOk result (λ found. ForSome (F.told f.old).files (λ image. (front behind : List ℕ) → walked image ≡ front ++ node ∷ behind → found ≡ last_of front)) }
+    ensures node { IfOk result (λ found. ForSome (F.told f.old).files (λ image. (prefix suffix : List ℕ) → walked image ≡ prefix ++ node ∷ suffix → found ≡ last_of prefix)) }
     ensures stands { IfOk result (λ found. IfSome found (λ n. IsTrue (is_node files.now n))) }
 
     // Too few bytes, or a word that names no node, which a folder that tells its files never gives.
-    ensures damaged { IfDamaged result (λ damage. IsShort (F.told f.old) (names.Block (file_selector node)) (place node + 20) 4 damage ⊎ IsAstray files.now (F.told f.old) (names.Block (file_selector node)) (place node + 20) damage) }
+    ensures damaged { IfDamaged result (λ damage. IsShort (F.told f.old) (names.Block (file_selector node)) (place node + 20) 4 damage ⊎ IsDangling files.now (F.told f.old) (names.Block (file_selector node)) (place node + 20) damage) }
     ensures untold { IfDamaged result (λ _. (F.told f.old).files ≡ None) }
 
     ensures stays { Stays (F.told f.old) (F.told f.new) }
@@ -87,11 +87,11 @@ pub fn after<F: Folder>(f: &mut F, files: &BlockFiles, node: Addr) -> Result<Opt
     requires stands { IsTrue (is_node files.now node) }
     requires agrees { ForSome (F.told f.old).files (Agrees files.now) }
     requires listed { ForSome (F.told f.old).files (IsListed node) }
-    ensures node { IfOk result (λ found. ForSome (F.told f.old).files (λ image. (front behind : List ℕ) → walked image ≡ front ++ node ∷ behind → found ≡ first_of behind)) }
+    ensures node { IfOk result (λ found. ForSome (F.told f.old).files (λ image. (prefix suffix : List ℕ) → walked image ≡ prefix ++ node ∷ suffix → found ≡ first_of suffix)) }
     ensures stands { IfOk result (λ found. IfSome found (λ n. IsTrue (is_node files.now n))) }
 
     // Too few bytes, or a word that names no node, which a folder that tells its files never gives.
-    ensures damaged { IfDamaged result (λ damage. IsShort (F.told f.old) (names.Block (file_selector node)) (place node + 16) 4 damage ⊎ IsAstray files.now (F.told f.old) (names.Block (file_selector node)) (place node + 16) damage) }
+    ensures damaged { IfDamaged result (λ damage. IsShort (F.told f.old) (names.Block (file_selector node)) (place node + 16) 4 damage ⊎ IsDangling files.now (F.told f.old) (names.Block (file_selector node)) (place node + 16) damage) }
     ensures untold { IfDamaged result (λ _. (F.told f.old).files ≡ None) }
 
     ensures stays { Stays (F.told f.old) (F.told f.new) }
@@ -118,10 +118,10 @@ pub(crate) fn end_of_list<F: Folder>(
     requires aligned { at % 4 ≡ 0 }
     requires inside { at < header_length }
     requires complete { ForSome (F.told f.old).files HasWholeIndex }
-    requires named { ForSome (F.told f.old).files (λ image. NamesNode files.now (image_word image index at)) }
+    requires named { ForSome (F.told f.old).files (λ image. IsNodeOrNone files.now (image_word image index at)) }
     ensures node { IfOk result (λ node. ForSome (F.told f.old).files (λ image. node ≡ (if image_word image index at == 0 then None else Some (image_word image index at)))) }
     ensures stands { IfOk result (λ node. IfSome node (λ n. IsTrue (is_node files.now n))) }
-    ensures damaged { IfDamaged result (λ damage. IsShort (F.told f.old) names.Index at 4 damage ⊎ IsAstray files.now (F.told f.old) names.Index at damage) }
+    ensures damaged { IfDamaged result (λ damage. IsShort (F.told f.old) names.Index at 4 damage ⊎ IsDangling files.now (F.told f.old) names.Index at damage) }
     ensures untold { IfDamaged result (λ _. (F.told f.old).files ≡ None) }
     ensures stays { Stays (F.told f.old) (F.told f.new) }
     ensures later { F.faults f.old ≤ F.faults f.new }

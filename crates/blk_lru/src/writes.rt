@@ -3,12 +3,12 @@ ghost use Rattle.std.specs.Prelude.{◌≡◌, ◌<◌, ◌≤◌, ◌^◌, ◌%
 ghost use Rattle.std.specs.Option.{ForSome};
 ghost use Rattle.blk_image.specs.Image.{Index as index};
 ghost use Rattle.blk_image.specs.Steps.{word_step};
-ghost use Rattle.blk_image.specs.Told.{Grows, GrowsInPart, Passes, Rises};
+ghost use Rattle.blk_image.specs.Told.{Applies, AppliesPrefix, Passes, Rises};
 ghost use Rattle.blk_format.specs.Headers.{header_length, HasWholeIndex};
 ghost use Rattle.blk_format.specs.Sealed.{sealed_steps};
 ghost use Rattle.blk_volume.specs.View.{list_of};
-ghost use Rattle.blk_laws.specs.Moments.{OnlyListChanges};
-ghost use Rattle.blk_laws.specs.ListSteps.{AreOf, AreWords, IsPartly, steps_of, write_steps};
+ghost use Rattle.blk_volume.specs.ShownChanges.{OnlyListChanges};
+ghost use Rattle.blk_volume.specs.ListSteps.{AreOf, AreWords, IsPartly, steps_of, write_steps};
 ghost use Rattle.blk_io.specs.Faults.{IfDamaged, IfDevice};
 ghost use Rattle.blk_disk.specs.Tables.{Agrees};
 ghost use Rattle.blk_lru.specs.Damages.{IsNodeDamage};
@@ -50,8 +50,8 @@ pub(crate) fn perform<F: Folder>(
     requires complete { ForSome (F.told f.old).files HasWholeIndex }
     requires agrees { ForSome (F.told f.old).files (Agrees files.now) }
     requires check { ForSome (F.told f.old).files (λ image. AreOf (λ n. (list_of image).checks n ≡ true) (map meant writes.now)) }
-    ensures whole { OnOk result (ForSome (F.told f.old).files (λ from. Grows (F.told f.old) (F.told f.new) (steps_of (map meant writes.now) from))) }
-    ensures part { ForSome (F.told f.old).files (λ from. GrowsInPart (F.told f.old) (F.told f.new) (steps_of (map meant writes.now) from)) }
+    ensures steps { OnOk result (ForSome (F.told f.old).files (λ from. Applies (F.told f.old) (F.told f.new) (steps_of (map meant writes.now) from))) }
+    ensures prefix { ForSome (F.told f.old).files (λ from. AppliesPrefix (F.told f.old) (F.told f.new) (steps_of (map meant writes.now) from)) }
     ensures stops { ForSome (F.told f.old).files (λ from. Passes (F.told f.old) (F.told f.new) (IsPartly from (map meant writes.now))) }
     ensures made { OnOk result (ForSome (F.told f.old).files (λ from. ForSome (F.told f.new).files (OnlyListChanges (map meant writes.now) from))) }
     ensures complete { ForSome (F.told f.new).files HasWholeIndex }
@@ -69,14 +69,14 @@ pub(crate) fn perform<F: Folder>(
 }
 
 // Makes a write, by one folder call for a word of the index and four for a link.
-#[tactic(auto, unfolding(blk_laws::specs::ListSteps::write_steps))]
+#[tactic(auto, unfolding(blk_volume::specs::ListSteps::write_steps))]
 fn write_one<F: Folder>(f: &mut F, files: &BlockFiles, write: Write) -> Result<(), Fault>
     requires stand { AreOf (λ n. is_node files.now n ≡ true) (meant write ∷ []) }
     requires complete { ForSome (F.told f.old).files HasWholeIndex }
     requires agrees { ForSome (F.told f.old).files (Agrees files.now) }
     requires check { ForSome (F.told f.old).files (λ image. AreOf (λ n. (list_of image).checks n ≡ true) (meant write ∷ [])) }
-    ensures whole { OnOk result (ForSome (F.told f.old).files (λ from. Grows (F.told f.old) (F.told f.new) (write_steps (meant write) from))) }
-    ensures part { ForSome (F.told f.old).files (λ from. GrowsInPart (F.told f.old) (F.told f.new) (write_steps (meant write) from)) }
+    ensures steps { OnOk result (ForSome (F.told f.old).files (λ from. Applies (F.told f.old) (F.told f.new) (write_steps (meant write) from))) }
+    ensures prefix { ForSome (F.told f.old).files (λ from. AppliesPrefix (F.told f.old) (F.told f.new) (write_steps (meant write) from)) }
     ensures silent { (F.told f.old).files ≡ None → (F.told f.new).files ≡ None }
     ensures damaged { IfDamaged result (IsNodeDamage files.now) }
     ensures untold { IfDamaged result (λ _. (F.told f.old).files ≡ None) }
@@ -105,8 +105,8 @@ fn set_link<F: Folder>(
     requires stands { is_node files.now node ≡ true }
     requires agrees { ForSome (F.told f.old).files (Agrees files.now) }
     requires check { ForSome (F.told f.old).files (λ image. (list_of image).checks node ≡ true) }
-    ensures whole { OnOk result (ForSome (F.told f.old).files (λ from. Grows (F.told f.old) (F.told f.new) (sealed_steps from node ((at, word) ∷ [])))) }
-    ensures part { ForSome (F.told f.old).files (λ from. GrowsInPart (F.told f.old) (F.told f.new) (sealed_steps from node ((at, word) ∷ []))) }
+    ensures steps { OnOk result (ForSome (F.told f.old).files (λ from. Applies (F.told f.old) (F.told f.new) (sealed_steps from node ((at, word) ∷ [])))) }
+    ensures prefix { ForSome (F.told f.old).files (λ from. AppliesPrefix (F.told f.old) (F.told f.new) (sealed_steps from node ((at, word) ∷ []))) }
     ensures silent { (F.told f.old).files ≡ None → (F.told f.new).files ≡ None }
     ensures damaged { IfDamaged result (IsNodeDamage files.now) }
     ensures untold { IfDamaged result (λ _. (F.told f.old).files ≡ None) }
@@ -121,8 +121,8 @@ fn set_index<F: Folder>(f: &mut F, at: u32, word: u32) -> Result<(), Fault>
     requires aligned { at % 4 ≡ 0 }
     requires inside { at < header_length }
     requires complete { ForSome (F.told f.old).files HasWholeIndex }
-    ensures whole { OnOk result (Grows (F.told f.old) (F.told f.new) (word_step index at word)) }
-    ensures part { GrowsInPart (F.told f.old) (F.told f.new) (word_step index at word) }
+    ensures steps { OnOk result (Applies (F.told f.old) (F.told f.new) (word_step index at word)) }
+    ensures prefix { AppliesPrefix (F.told f.old) (F.told f.new) (word_step index at word) }
     ensures silent { (F.told f.old).files ≡ None → (F.told f.new).files ≡ None }
     ensures damaged { IfDamaged result (λ _. ⊥) }
     ensures later { F.faults f.old ≤ F.faults f.new }

@@ -13,7 +13,7 @@ use itoa::Buffer;
 
 // Prints these pieces, one after another.
 fn print_all<K: Sink>(out: &mut K, pieces: &[&[u8]]) -> Result<(), Failed>
-    ensures whole { OnOk result (K.written out.new ≡ option_map (λ w. w ++ flat_map (λ piece. piece.now) pieces.now) (K.written out.old)) }
+    ensures steps { OnOk result (K.written out.new ≡ option_map (λ w. w ++ flat_map (λ piece. piece.now) pieces.now) (K.written out.old)) }
     ensures front { Appends (K.written out.old) (K.written out.new) (flat_map (λ piece. piece.now) pieces.now) }
     ensures later { K.faults out.old ≤ K.faults out.new }
     ensures failed { OnErr result (Rises (K.faults out.old) (K.faults out.new)) }

@@ -102,7 +102,7 @@ fn first_in_table<F: Folder>(f: &mut F) -> Result<Option<Used>, Fault>
 // The first word of a piece of the table that isn't 0.
 fn first_in_piece<F: Folder>(f: &mut F, number: u32) -> Result<Option<Used>, Fault>
     requires piece { number < 64 }
-    requires whole { ForSome (F.told f.old).files HasWholeIndex }
+    requires complete { ForSome (F.told f.old).files HasWholeIndex }
     ensures first { IfOk result (λ used. ForSome (F.told f.old).files (λ image. FirstUsed (λ j. place_of_bucket (1024 * number + j)) 1024 image used)) }
     ensures named { IfOk result (λ used. ForSome used (IsNamed (λ j. place_of_bucket (1024 * number + j)) 1024)) }
     ensures short { IfDamaged result (IsShort (F.told f.old) FileId.Index (header_length + 4096 * number) 4096) }

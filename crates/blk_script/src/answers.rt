@@ -16,8 +16,8 @@ use blk_model::Answer;
 #[tactic(auto, unfolding(crate::specs::Reply::reply_text))]
 pub fn print_reply<K: Sink>(out: &mut K, answer: &Answer) -> Result<(), Failed>
     requires { (n : ℕ) → answer.now ≢ Answer.Bytes n }
-    ensures whole { OnOk result (K.written out.new ≡ option_map (λ w. w ++ reply_text (answered answer.now)) (K.written out.old)) }
-    ensures part { Appends (K.written out.old) (K.written out.new) (reply_text (answered answer.now)) }
+    ensures steps { OnOk result (K.written out.new ≡ option_map (λ w. w ++ reply_text (answered answer.now)) (K.written out.old)) }
+    ensures prefix { Appends (K.written out.old) (K.written out.new) (reply_text (answered answer.now)) }
     ensures later { K.faults out.old ≤ K.faults out.new }
     ensures failed { OnErr result (Rises (K.faults out.old) (K.faults out.new)) }
 {

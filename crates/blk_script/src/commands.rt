@@ -14,8 +14,8 @@ use blk_model::Command;
 /// Prints a command in its one spelling, with the end of its line.
 #[tactic(auto, unfolding(crate::specs::Spelling::line_of))]
 pub fn print_line<K: Sink>(out: &mut K, command: &Command) -> Result<(), Failed>
-    ensures whole { OnOk result (K.written out.new ≡ option_map (λ w. w ++ (line_of (request_of command.now) ++ 10 ∷ [])) (K.written out.old)) }
-    ensures part { Appends (K.written out.old) (K.written out.new) (line_of (request_of command.now) ++ 10 ∷ []) }
+    ensures steps { OnOk result (K.written out.new ≡ option_map (λ w. w ++ (line_of (request_of command.now) ++ 10 ∷ [])) (K.written out.old)) }
+    ensures prefix { Appends (K.written out.old) (K.written out.new) (line_of (request_of command.now) ++ 10 ∷ []) }
     ensures later { K.faults out.old ≤ K.faults out.new }
     ensures failed { OnErr result (Rises (K.faults out.old) (K.faults out.new)) }
 {

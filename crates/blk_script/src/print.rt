@@ -40,8 +40,8 @@ pub enum Field<'a> {
 
 /// Prints a number in decimal.
 pub fn print_number<K: Sink>(out: &mut K, number: u64) -> Result<(), Failed>
-    ensures whole { OnOk result (K.written out.new ≡ option_map (λ w. w ++ number_text number) (K.written out.old)) }
-    ensures part { Appends (K.written out.old) (K.written out.new) (number_text number) }
+    ensures steps { OnOk result (K.written out.new ≡ option_map (λ w. w ++ number_text number) (K.written out.old)) }
+    ensures prefix { Appends (K.written out.old) (K.written out.new) (number_text number) }
     ensures later { K.faults out.old ≤ K.faults out.new }
     ensures failed { OnErr result (Rises (K.faults out.old) (K.faults out.new)) }
 {
@@ -52,8 +52,8 @@ pub fn print_number<K: Sink>(out: &mut K, number: u64) -> Result<(), Failed>
 /// Prints a key, each byte but letters, digits and `-`, `.`, `_`, `~`, `/`, `:` as `%` and two
 /// upper-case digits.
 pub fn print_key<K: Sink>(out: &mut K, key: &[u8]) -> Result<(), Failed>
-    ensures whole { OnOk result (K.written out.new ≡ option_map (λ w. w ++ key_text key.now) (K.written out.old)) }
-    ensures part { Appends (K.written out.old) (K.written out.new) (key_text key.now) }
+    ensures steps { OnOk result (K.written out.new ≡ option_map (λ w. w ++ key_text key.now) (K.written out.old)) }
+    ensures prefix { Appends (K.written out.old) (K.written out.new) (key_text key.now) }
     ensures later { K.faults out.old ≤ K.faults out.new }
     ensures failed { OnErr result (Rises (K.faults out.old) (K.faults out.new)) }
 {
@@ -65,8 +65,8 @@ pub fn print_key<K: Sink>(out: &mut K, key: &[u8]) -> Result<(), Failed>
 
 /// Prints two lower-case hexadecimal digits for each byte, and nothing for no byte.
 pub fn print_bytes<K: Sink>(out: &mut K, bytes: &[u8]) -> Result<(), Failed>
-    ensures whole { OnOk result (K.written out.new ≡ option_map (λ w. w ++ encode_lower bytes.now) (K.written out.old)) }
-    ensures part { Appends (K.written out.old) (K.written out.new) (encode_lower bytes.now) }
+    ensures steps { OnOk result (K.written out.new ≡ option_map (λ w. w ++ encode_lower bytes.now) (K.written out.old)) }
+    ensures prefix { Appends (K.written out.old) (K.written out.new) (encode_lower bytes.now) }
     ensures later { K.faults out.old ≤ K.faults out.new }
     ensures failed { OnErr result (Rises (K.faults out.old) (K.faults out.new)) }
 {
@@ -82,8 +82,8 @@ pub fn print_bytes<K: Sink>(out: &mut K, bytes: &[u8]) -> Result<(), Failed>
 // Prints the digits of a few bytes.
 fn print_piece<K: Sink>(out: &mut K, piece: &[u8]) -> Result<(), Failed>
     requires { length piece.now ≤ 256 }
-    ensures whole { OnOk result (K.written out.new ≡ option_map (λ w. w ++ encode_lower piece.now) (K.written out.old)) }
-    ensures part { Appends (K.written out.old) (K.written out.new) (encode_lower piece.now) }
+    ensures steps { OnOk result (K.written out.new ≡ option_map (λ w. w ++ encode_lower piece.now) (K.written out.old)) }
+    ensures prefix { Appends (K.written out.old) (K.written out.new) (encode_lower piece.now) }
     ensures later { K.faults out.old ≤ K.faults out.new }
     ensures failed { OnErr result (Rises (K.faults out.old) (K.faults out.new)) }
 {
@@ -95,8 +95,8 @@ fn print_piece<K: Sink>(out: &mut K, piece: &[u8]) -> Result<(), Failed>
 
 /// Prints the fields with one space between each two, and the end of the line.
 pub fn print_fields<K: Sink>(out: &mut K, fields: &[Field]) -> Result<(), Failed>
-    ensures whole { OnOk result (K.written out.new ≡ option_map (λ w. w ++ line (map field_text fields.now)) (K.written out.old)) }
-    ensures part { Appends (K.written out.old) (K.written out.new) (line (map field_text fields.now)) }
+    ensures steps { OnOk result (K.written out.new ≡ option_map (λ w. w ++ line (map field_text fields.now)) (K.written out.old)) }
+    ensures prefix { Appends (K.written out.old) (K.written out.new) (line (map field_text fields.now)) }
     ensures later { K.faults out.old ≤ K.faults out.new }
     ensures failed { OnErr result (Rises (K.faults out.old) (K.faults out.new)) }
 {
@@ -112,8 +112,8 @@ pub fn print_fields<K: Sink>(out: &mut K, fields: &[Field]) -> Result<(), Failed
 
 // Prints one more field, behind a space.
 fn print_further<K: Sink>(out: &mut K, field: &Field) -> Result<(), Failed>
-    ensures whole { OnOk result (K.written out.new ≡ option_map (λ w. w ++ 32 ∷ field_text field.now) (K.written out.old)) }
-    ensures part { Appends (K.written out.old) (K.written out.new) (32 ∷ field_text field.now) }
+    ensures steps { OnOk result (K.written out.new ≡ option_map (λ w. w ++ 32 ∷ field_text field.now) (K.written out.old)) }
+    ensures prefix { Appends (K.written out.old) (K.written out.new) (32 ∷ field_text field.now) }
     ensures later { K.faults out.old ≤ K.faults out.new }
     ensures failed { OnErr result (Rises (K.faults out.old) (K.faults out.new)) }
 {
@@ -123,8 +123,8 @@ fn print_further<K: Sink>(out: &mut K, field: &Field) -> Result<(), Failed>
 
 // Prints one field.
 fn print_field<K: Sink>(out: &mut K, field: &Field) -> Result<(), Failed>
-    ensures whole { OnOk result (K.written out.new ≡ option_map (λ w. w ++ field_text field.now) (K.written out.old)) }
-    ensures part { Appends (K.written out.old) (K.written out.new) (field_text field.now) }
+    ensures steps { OnOk result (K.written out.new ≡ option_map (λ w. w ++ field_text field.now) (K.written out.old)) }
+    ensures prefix { Appends (K.written out.old) (K.written out.new) (field_text field.now) }
     ensures later { K.faults out.old ≤ K.faults out.new }
     ensures failed { OnErr result (Rises (K.faults out.old) (K.faults out.new)) }
 {
@@ -138,8 +138,8 @@ fn print_field<K: Sink>(out: &mut K, field: &Field) -> Result<(), Failed>
 
 // Prints data, `-` where there is none.
 fn print_data<K: Sink>(out: &mut K, bytes: &[u8]) -> Result<(), Failed>
-    ensures whole { OnOk result (K.written out.new ≡ option_map (λ w. w ++ data_text bytes.now) (K.written out.old)) }
-    ensures part { Appends (K.written out.old) (K.written out.new) (data_text bytes.now) }
+    ensures steps { OnOk result (K.written out.new ≡ option_map (λ w. w ++ data_text bytes.now) (K.written out.old)) }
+    ensures prefix { Appends (K.written out.old) (K.written out.new) (data_text bytes.now) }
     ensures later { K.faults out.old ≤ K.faults out.new }
     ensures failed { OnErr result (Rises (K.faults out.old) (K.faults out.new)) }
 {

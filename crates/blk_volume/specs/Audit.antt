@@ -13,7 +13,7 @@ use Rattle.blk_format.specs.Claims.{overlap, repeats}
 use Rattle.blk_format.specs.Headers.{table_length}
 use Rattle.blk_format.specs.BlockFiles.{is_among}
 use Rattle.blk_volume.specs.Walk.{walk}
-use Rattle.blk_volume.specs.View.{View, Stock}
+use Rattle.blk_volume.specs.View.{View, StoreView}
 use Rattle.blk_volume.specs.Chains.{chain}
 use Rattle.blk_volume.specs.Entries.{Role, IsPlain, IsParent, IsPart}
 use Rattle.blk_volume.specs.Reasons.{Reason, ◌>>=◌, demand}
@@ -65,8 +65,8 @@ admit kept loaded = do
 -- The two passes.
 
 -- the verdict on a node, against those that are kept so far: it is kept as this, or dropped for the first reason that holds
-abbrev pub verdict : Stock → Rule → List Loaded → ℕ → Result Loaded Reason
-verdict stock rule kept node = load stock rule node >>= admit kept
+abbrev pub verdict : StoreView → Rule → List Loaded → ℕ → Result Loaded Reason
+verdict store rule kept node = load store rule node >>= admit kept
 
 -- those kept so far, with one more where the verdict is so
 abbrev pub with_verdict : List Loaded → Result Loaded Reason → List Loaded
@@ -74,23 +74,23 @@ with_verdict kept (Ok loaded) = kept ++ loaded ∷ []
 with_verdict kept (Err reason) = kept
 
 -- the verdicts on nodes that are tried in order
-unfoldable pub verdicts : Stock → Rule → List Loaded → List ℕ → List (ℕ × Result Loaded Reason)
-verdicts stock rule kept [] = []
-verdicts stock rule kept (node ∷ nodes) =
-    let given = verdict stock rule kept node in
-    (node, given) ∷ verdicts stock rule (with_verdict kept given) nodes
+unfoldable pub verdicts : StoreView → Rule → List Loaded → List ℕ → List (ℕ × Result Loaded Reason)
+verdicts store rule kept [] = []
+verdicts store rule kept (node ∷ nodes) =
+    let given = verdict store rule kept node in
+    (node, given) ∷ verdicts store rule (with_verdict kept given) nodes
 
 -- whether a node names a record that checks and has the child flag
-abbrev pub is_child : Stock → ℕ → Bool
-is_child stock node = option_map_or (λ named. option_map_or (λ core. core.checks && (core.flags == child)) (stock.entry named.contents) false) (stock.named node) false
+abbrev pub is_child : StoreView → ℕ → Bool
+is_child store node = option_map_or (λ node_fields. option_map_or (λ fields. fields.checks && (fields.flags == child)) (store.entry node_fields.contents) false) (store.node_fields node) false
 
 -- the nodes in the order of the two passes: first those whose record is not a child, then the children
-abbrev pub tried : Stock → List ℕ → List ℕ
-tried stock nodes = filter (λ node. not (is_child stock node)) nodes ++ filter (is_child stock) nodes
+abbrev pub tried : StoreView → List ℕ → List ℕ
+tried store nodes = filter (λ node. not (is_child store node)) nodes ++ filter (is_child store) nodes
 
 -- the verdicts on the nodes of a walk, in the order in which they are tried
-abbrev pub judged : Stock → Rule → List ℕ → List (ℕ × Result Loaded Reason)
-judged stock rule nodes = verdicts stock rule [] (tried stock nodes)
+abbrev pub judged : StoreView → Rule → List ℕ → List (ℕ × Result Loaded Reason)
+judged store rule nodes = verdicts store rule [] (tried store nodes)
 
 -- the verdict on one of the nodes
 abbrev pub verdict_on : List (ℕ × Result Loaded Reason) → ℕ → Option (Result Loaded Reason)
@@ -110,27 +110,27 @@ dropped_of node (Some (Ok loaded)) = None
 dropped_of node (Some (Err reason)) = Some (node, reason)
 
 -- those of a walk that are kept, in the order of the walk
-unfoldable pub kept_among : Stock → Rule → List ℕ → List Loaded
-kept_among stock rule nodes = filter_map (λ node. kept_of (verdict_on (judged stock rule nodes) node)) nodes
+unfoldable pub kept_among : StoreView → Rule → List ℕ → List Loaded
+kept_among store rule nodes = filter_map (λ node. kept_of (verdict_on (judged store rule nodes) node)) nodes
 
 -- those that are dropped, each with its reason, in that order
-unfoldable pub dropped_among : Stock → Rule → List ℕ → List (ℕ × Reason)
-dropped_among stock rule nodes = filter_map (λ node. dropped_of node (verdict_on (judged stock rule nodes) node)) nodes
+unfoldable pub dropped_among : StoreView → Rule → List ℕ → List (ℕ × Reason)
+dropped_among store rule nodes = filter_map (λ node. dropped_of node (verdict_on (judged store rule nodes) node)) nodes
 
 -- The whole audit.
 
 -- the kept of the walked nodes
 abbrev pub kept_by : Rule → View → List Loaded
-kept_by rule view = kept_among view.stock rule (walk view.list)
+kept_by rule view = kept_among view.store rule (walk view.list)
 
 -- the reason 16: a record whose node isn't walked or doesn't name it
 unfoldable pub is_unlisted : View → ℕ → Bool
 is_unlisted view contents =
-    option_map_or (λ core. not (is_among (walk view.list) core.rankings_node && option_map_or (λ named. named.contents == contents) (view.stock.named core.rankings_node) false)) (view.stock.entry contents) false
+    option_map_or (λ fields. not (is_among (walk view.list) fields.rankings_node && option_map_or (λ node_fields. node_fields.contents == contents) (view.store.node_fields fields.rankings_node) false)) (view.store.entry contents) false
 
 -- the unlisted records of a bucket's chain, in its order
 abbrev pub unlisted_in : View → ℕ → List (ℕ × Reason)
-unlisted_in view bucket = map (λ contents. (contents, reason.Unlisted)) (filter (is_unlisted view) (chain view.stock bucket).reached)
+unlisted_in view bucket = map (λ contents. (contents, reason.Unlisted)) (filter (is_unlisted view) (chain view.store bucket).reached)
 
 -- those of all buckets
 unfoldable pub unlisted : View → List (ℕ × Reason)
@@ -138,4 +138,4 @@ unlisted view = flat_map (unlisted_in view) (range_with_len 0 table_length)
 
 -- the dropped of the walked nodes, in the order of the walk, and then the unlisted records
 abbrev pub dropped_by : Rule → View → List (ℕ × Reason)
-dropped_by rule view = dropped_among view.stock rule (walk view.list) ++ unlisted view
+dropped_by rule view = dropped_among view.store rule (walk view.list) ++ unlisted view

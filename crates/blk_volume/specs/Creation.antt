@@ -8,15 +8,15 @@ use Rattle.blk_format.specs.Records.{normal}
 use Rattle.blk_format.specs.Claims.{Claim, has_claim, repeats}
 use Rattle.blk_format.specs.BlockFiles.{is_among}
 use Rattle.blk_volume.specs.ListView.{put}
-use Rattle.blk_volume.specs.View.{Stock}
+use Rattle.blk_volume.specs.View.{StoreView}
 use Rattle.blk_volume.specs.Chains.{bucket_of_hash, file_and_block}
 use Rattle.blk_volume.specs.Entries.{IsPlain}
-use Rattle.blk_volume.specs.Loads.{alone, Loaded, load, all_claims}
+use Rattle.blk_volume.specs.Loads.{unchained_rule, Loaded, load, all_claims}
 use Rattle.blk_volume.specs.Layout.{Layout}
 
 -- a dirty plain record with a key and no streams, which loads by itself and is nobody's
-pub record IsNewEntry (stock : Stock) (layout : Layout) (key : List ℕ) (loaded : Loaded) : Type 0 where
-  pub loads : load stock (alone normal) loaded.node ≡ Ok loaded
+pub record IsNewEntry (store : StoreView) (layout : Layout) (key : List ℕ) (loaded : Loaded) : Type 0 where
+  pub loads : load store (unchained_rule normal) loaded.node ≡ Ok loaded
   pub key_is : loaded.key ≡ key
   pub role : loaded.role ≡ IsPlain
   pub streams : loaded.streams ≡ [] ∷ [] ∷ [] ∷ []
@@ -26,8 +26,8 @@ pub record IsNewEntry (stock : Stock) (layout : Layout) (key : List ℕ) (loaded
   pub single : repeats (all_claims loaded) ≡ false
 
 -- its record goes in front of its chain
-pub record IsFrontOfChain (stock : Stock) (layout : Layout) (loaded : Loaded) : Type 0 where
-  pub follows : stock.follow loaded.contents ≡ stock.table (bucket_of_hash (hash loaded.key))
+pub record IsFrontOfChain (store : StoreView) (layout : Layout) (loaded : Loaded) : Type 0 where
+  pub follows : store.chain_next loaded.contents ≡ store.table (bucket_of_hash (hash loaded.key))
   pub fresh : is_among (map file_and_block (layout.chains (bucket_of_hash (hash loaded.key)))) (file_and_block loaded.contents) ≡ false
 
 -- the layout with it
@@ -41,5 +41,5 @@ with_new layout key loaded = record layout {
 }
 
 -- the stock with the record in front of its chain
-abbrev pub linked_front : Stock → Loaded → Stock
-linked_front stock loaded = record stock { table = put stock.table (bucket_of_hash (hash loaded.key)) loaded.contents }
+abbrev pub linked_front : StoreView → Loaded → StoreView
+linked_front store loaded = record store { table = put store.table (bucket_of_hash (hash loaded.key)) loaded.contents }

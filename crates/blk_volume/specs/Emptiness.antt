@@ -2,7 +2,7 @@
 use Rattle.std.specs.Prelude.{[], false, ◌&&◌, ◌==◌, if◌then◌else◌}
 use Rattle.std.specs.declared.option.Option.TheVariants.{None, Some}
 use Rattle.blk_volume.specs.ListView.{ListView}
-use Rattle.blk_volume.specs.View.{Stock, View}
+use Rattle.blk_volume.specs.View.{StoreView, View}
 use Rattle.blk_volume.specs.Layout.{Layout}
 
 -- a use list of no node
@@ -10,12 +10,12 @@ abbrev pub no_list : ListView
 no_list = record { head = 0; tail = 0; transaction = 0; operation = 0; checks = λ w. false; next = λ w. 0; prev = λ w. 0 }
 
 -- no node, no record and no data, but for data of no bytes
-abbrev pub no_stock : Stock
-no_stock = record { named = λ w. None; table = λ bucket. 0; follow = λ w. 0; entry = λ w. None; key_place = λ w n. []; stored = λ size w. if (size == 0) && (w == 0) then Some [] else None }
+abbrev pub no_store : StoreView
+no_store = record { node_fields = λ w. None; table = λ bucket. 0; chain_next = λ w. 0; entry = λ w. None; key_place = λ w n. []; stored = λ size w. if (size == 0) && (w == 0) then Some [] else None }
 
 -- both
 abbrev pub no_view : View
-no_view = record { list = no_list; stock = no_stock }
+no_view = record { list = no_list; store = no_store }
 
 -- nothing lies anywhere
 abbrev pub no_layout : Layout

@@ -9,7 +9,7 @@ use Rattle.blk_format.specs.Storage.{entry_blocks}
 use Rattle.blk_format.specs.Records.{parent, child}
 use Rattle.blk_format.specs.Names.{Name, read_name}
 use Rattle.blk_format.specs.SparseIndex.{ParentIndex, read_parent_index, PartIndex, read_part_index}
-use Rattle.blk_volume.specs.View.{Stock, Core, size_of, address_of}
+use Rattle.blk_volume.specs.View.{StoreView, RecordFields, size_of, address_of}
 
 -- what the flags and the streams of a record make it: a plain entry, the parent of an index, or a part with its name and index
 pub data Role : Type 0 where
@@ -18,8 +18,8 @@ pub data Role : Type 0 where
   IsPart : Name → PartIndex → Role
 
 -- the longest key of a record; a child's key is a name
-abbrev pub longest_key : Core → ℕ
-longest_key core = if core.flags == child then 32796 else 32768
+abbrev pub longest_key : RecordFields → ℕ
+longest_key fields = if fields.flags == child then 32796 else 32768
 
 -- the longest key that lies in its record
 abbrev pub longest_short_key : ℕ
@@ -30,25 +30,25 @@ abbrev pub most_stream_bytes : ℕ
 most_stream_bytes = 2147483647
 
 -- the length of the key is right, and so is the number of blocks of the record's address
-unfoldable pub is_key_length : ℕ → Core → Bool
-is_key_length contents core = nat_le 1 core.key_len && nat_le core.key_len (longest_key core) && (block_count contents == entry_blocks core.key_len)
+unfoldable pub is_key_length : ℕ → RecordFields → Bool
+is_key_length contents fields = nat_le 1 fields.key_len && nat_le fields.key_len (longest_key fields) && (block_count contents == entry_blocks fields.key_len)
 
 -- the key: in its place in the record, or stored with one zero byte behind it
-unfoldable pub key_of : Stock → ℕ → Core → Option (List ℕ)
-key_of stock contents core =
-    if nat_le core.key_len longest_short_key
-    then (if core.long_key == 0 then Some (stock.key_place contents core.key_len) else None)
-    else option_map (take core.key_len) (stock.stored (core.key_len + 1) core.long_key)
+unfoldable pub key_of : StoreView → ℕ → RecordFields → Option (List ℕ)
+key_of store contents fields =
+    if nat_le fields.key_len longest_short_key
+    then (if fields.long_key == 0 then Some (store.key_place contents fields.key_len) else None)
+    else option_map (take fields.key_len) (store.stored (fields.key_len + 1) fields.long_key)
 
 -- the bytes of stream i
-unfoldable pub stream_of : Stock → Core → ℕ → Option (List ℕ)
-stream_of stock core i = if nat_le (size_of core i) most_stream_bytes then stock.stored (size_of core i) (address_of core i) else None
+unfoldable pub stream_of : StoreView → RecordFields → ℕ → Option (List ℕ)
+stream_of store fields i = if nat_le (size_of fields i) most_stream_bytes then store.stored (size_of fields i) (address_of fields i) else None
 
 -- the three streams, where stream 3 is 0
-unfoldable pub streams_of : Stock → Core → Option (List (List ℕ))
-streams_of stock core =
-    if not ((size_of core 3 == 0) && (address_of core 3 == 0)) then None else
-    option_and_then (λ first. option_and_then (λ second. option_map (λ third. first ∷ second ∷ third ∷ []) (stream_of stock core 2)) (stream_of stock core 1)) (stream_of stock core 0)
+unfoldable pub streams_of : StoreView → RecordFields → Option (List (List ℕ))
+streams_of store fields =
+    if not ((size_of fields 3 == 0) && (address_of fields 3 == 0)) then None else
+    option_and_then (λ first. option_and_then (λ second. option_map (λ third. first ∷ second ∷ third ∷ []) (stream_of store fields 2)) (stream_of store fields 1)) (stream_of store fields 0)
 
 -- stream i of some
 abbrev pub stream : ℕ → List (List ℕ) → List ℕ
@@ -67,10 +67,10 @@ is_covered index size =
     && option_map_or (λ p. nat_le (1024 * p.0 + p.1) size) index.partial true
 
 -- a parent has nothing in stream 1, and in stream 2 an index with the length of its key
-unfoldable pub parent_role : Core → List (List ℕ) → Option Role
-parent_role core streams =
+unfoldable pub parent_role : RecordFields → List (List ℕ) → Option Role
+parent_role fields streams =
     if not (length (stream 1 streams) == 0) then None else
-    option_and_then (λ index. if index.key_len == core.key_len then Some (IsParent index) else None) (read_parent_index (stream 2 streams))
+    option_and_then (λ index. if index.key_len == fields.key_len then Some (IsParent index) else None) (read_parent_index (stream 2 streams))
 
 -- a part has a name as its key, nothing in stream 0, at most 1048576 bytes of data in stream 1, and in stream 2 an index with the name's signature
 -- and key length, whose present bytes lie inside the data
@@ -83,5 +83,5 @@ part_role key streams =
     (read_part_index (stream 2 streams))) (read_name key)
 
 -- what the flags say
-unfoldable pub role_of : Core → List ℕ → List (List ℕ) → Option Role
-role_of core key streams = if core.flags == parent then parent_role core streams else if core.flags == child then part_role key streams else Some IsPlain
+unfoldable pub role_of : RecordFields → List ℕ → List (List ℕ) → Option Role
+role_of fields key streams = if fields.flags == parent then parent_role fields streams else if fields.flags == child then part_role key streams else Some IsPlain

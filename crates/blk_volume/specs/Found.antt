@@ -8,7 +8,7 @@ use Rattle.blk_volume.specs.Completion.{completed_list}
 use Rattle.blk_volume.specs.View.{View, view_of}
 use Rattle.blk_volume.specs.Entries.{Role, IsPlain, IsParent, IsPart, stream}
 use Rattle.blk_volume.specs.Reasons.{Reason}
-use Rattle.blk_volume.specs.Loads.{held, Loaded}
+use Rattle.blk_volume.specs.Loads.{held_rule, Loaded}
 use Rattle.blk_volume.specs.Audit.{kept_by, dropped_by}
 
 -- the row of a key, a role and streams; the index of a parent is no stream
@@ -31,11 +31,11 @@ completed view = record view { list = completed_list view.list }
 
 -- the kept of a finished folder
 unfoldable pub kept : Image → List Loaded
-kept image = kept_by held (completed (view_of image))
+kept image = kept_by held_rule (completed (view_of image))
 
 -- the dropped of a finished folder, each with its reason
 unfoldable pub dropped : Image → List (ℕ × Reason)
-dropped image = dropped_by held (completed (view_of image))
+dropped image = dropped_by held_rule (completed (view_of image))
 
 -- the rows of the kept, in the order of the walk; an unfinished folder holds nothing
 unfoldable pub found : Image → List Row

@@ -15,10 +15,10 @@ use Rattle.blk_format.specs.SparseIndex.{PartIndex}
 use Rattle.blk_format.specs.Claims.{Claim, has_claim, repeats}
 use Rattle.blk_format.specs.BlockFiles.{is_among}
 use Rattle.blk_volume.specs.ListView.{IsList, put}
-use Rattle.blk_volume.specs.View.{View, Stock}
+use Rattle.blk_volume.specs.View.{View, StoreView}
 use Rattle.blk_volume.specs.Chains.{bucket_of_hash, IsChain}
 use Rattle.blk_volume.specs.Entries.{IsPart}
-use Rattle.blk_volume.specs.Loads.{Rule, held, alone, is_part, Loaded, load, all_claims}
+use Rattle.blk_volume.specs.Loads.{Rule, held_rule, unchained_rule, is_part, Loaded, load, all_claims}
 use Rattle.blk_volume.specs.Audit.{is_parent_of}
 use Rattle.blk_volume.specs.Found.{row_of}
 
@@ -50,16 +50,16 @@ order state layout = nodes_of layout state.uses
 
 -- the rule for the record of a node by itself
 abbrev pub rule_of : Layout → ℕ → Rule
-rule_of layout node = alone (layout.state node)
+rule_of layout node = unchained_rule (layout.state node)
 
 -- whether the live object with a key is settled, if there is one
 abbrev pub settled_with : State → List ℕ → Option Bool
 settled_with state key = option_map (λ object. object.settled) (model.owner_object state (main key))
 
 -- the dirty word of a main item is 0 exactly where its object is settled, and that of a part is 0
-abbrev pub IsMarked : State → Item → Loaded → Type 0
-IsMarked state (main key) loaded = IfSome (model.owner_object state (main key)) (λ object. (loaded.dirty == 0) ≡ object.settled)
-IsMarked state (part key n) loaded = loaded.dirty ≡ 0
+abbrev pub HasDirtyMark : State → Item → Loaded → Type 0
+HasDirtyMark state (main key) loaded = IfSome (model.owner_object state (main key)) (λ object. (loaded.dirty == 0) ≡ object.settled)
+HasDirtyMark state (part key n) loaded = loaded.dirty ≡ 0
 
 -- a part's parent is the main item of its key
 pub record IsPartAt (state : State) (layout : Layout) (key : List ℕ) (loaded : Loaded) : Type 0 where
@@ -78,11 +78,11 @@ HasParentAt state layout (main key) loaded = Unit {0}
 HasParentAt state layout (part key n) loaded = IsPartAt state layout key loaded
 
 -- an item lies at its node with its value
-pub record IsLaid (state : State) (layout : Layout) (item : Item) : Type 0 where
+pub record IsPlacedAt (state : State) (layout : Layout) (item : Item) : Type 0 where
   pub loaded : Loaded
   pub here : layout.at (layout.place item) ≡ Some loaded
   pub row : model.row_of state item ≡ Some (row_of loaded)
-  pub mark : IsMarked state item loaded
+  pub mark : HasDirtyMark state item loaded
   pub parent : HasParentAt state layout item loaded
 
 -- a doomed object lies at its node, and no other does
@@ -103,8 +103,8 @@ pub record IsListedRecord (state : State) (layout : Layout) (contents : ℕ) : T
   pub record_is : loaded.contents ≡ contents
 
 -- the layout is that of a state: this speaks of no image
-pub record Lies (state : State) (layout : Layout) : Type 0 where
-  pub laid : (item : Item) → is_listed state item ≡ true → IsLaid state layout item
+pub record IsLayoutOf (state : State) (layout : Layout) : Type 0 where
+  pub laid : (item : Item) → is_listed state item ≡ true → IsPlacedAt state layout item
   pub normal : (node : ℕ) → is_among (order state layout) node ≡ true → layout.state node ≡ 0
   pub chained : (node : ℕ) (loaded : Loaded) → is_among (order state layout) node ≡ true → layout.at node ≡ Some loaded → is_among (layout.chains (bucket_of_hash (hash loaded.key))) loaded.contents ≡ true
   pub unchained : (bucket contents : ℕ) → bucket < table_length → is_among (layout.chains bucket) contents ≡ true → IsListedRecord state layout contents
@@ -113,42 +113,42 @@ pub record Lies (state : State) (layout : Layout) : Type 0 where
   pub doomed_objects : (number : ℕ) (object : Object) → object_at state number ≡ Some object → object.live ≡ false → IsDoomedAt state layout number object
 
 -- an image shows the layout: this speaks of no state, and of each node and each chain by itself
-pub record Shows (stock : Stock) (layout : Layout) : Type 0 where
-  pub no_record : stock.entry 0 ≡ None
-  pub each : (node : ℕ) (loaded : Loaded) → layout.at node ≡ Some loaded → load stock (rule_of layout node) node ≡ Ok loaded
-  pub chains : (bucket : ℕ) → bucket < table_length → IsChain stock bucket (layout.chains bucket)
+pub record Shows (store : StoreView) (layout : Layout) : Type 0 where
+  pub no_record : store.entry 0 ≡ None
+  pub each : (node : ℕ) (loaded : Loaded) → layout.at node ≡ Some loaded → load store (rule_of layout node) node ≡ Ok loaded
+  pub chains : (bucket : ℕ) → bucket < table_length → IsChain store bucket (layout.chains bucket)
 
 -- both
-pub record Holds (stock : Stock) (state : State) (layout : Layout) : Type 0 where
-  pub shows : Shows stock layout
-  pub lies : Lies state layout
+pub record Holds (store : StoreView) (state : State) (layout : Layout) : Type 0 where
+  pub shows : Shows store layout
+  pub lies : IsLayoutOf state layout
 
 -- and the use list is whole, with the items' nodes in the order of the state, and no operation is in flight
 pub record Represents (view : View) (state : State) (layout : Layout) : Type 0 where
-  pub holds : Holds view.stock state layout
+  pub holds : Holds view.store state layout
   pub list : IsList view.list (order state layout)
   pub idle : view.list.transaction ≡ 0
 
 -- Records in the midst of a change.
 
 -- what of this is needed to say what is found, but for some nodes, whose records are in the midst of a change or gone
-pub record HoldsBut (hole : ℕ → Bool) (stock : Stock) (state : State) (layout : Layout) : Type 0 where
-  pub no_record : stock.entry 0 ≡ None
-  pub each : (node : ℕ) (loaded : Loaded) → layout.at node ≡ Some loaded → hole node ≡ false → load stock (rule_of layout node) node ≡ Ok loaded
-  pub chains : (bucket : ℕ) → bucket < table_length → IsChain stock bucket (layout.chains bucket)
-  pub laid : (item : Item) → is_listed state item ≡ true → IsLaid state layout item
+pub record HoldsExcept (except : ℕ → Bool) (store : StoreView) (state : State) (layout : Layout) : Type 0 where
+  pub no_record : store.entry 0 ≡ None
+  pub each : (node : ℕ) (loaded : Loaded) → layout.at node ≡ Some loaded → except node ≡ false → load store (rule_of layout node) node ≡ Ok loaded
+  pub chains : (bucket : ℕ) → bucket < table_length → IsChain store bucket (layout.chains bucket)
+  pub laid : (item : Item) → is_listed state item ≡ true → IsPlacedAt state layout item
   pub normal : (node : ℕ) → is_among (order state layout) node ≡ true → layout.state node ≡ 0
-  pub chained : (node : ℕ) (loaded : Loaded) → is_among (order state layout) node ≡ true → layout.at node ≡ Some loaded → hole node ≡ false → is_among (layout.chains (bucket_of_hash (hash loaded.key))) loaded.contents ≡ true
+  pub chained : (node : ℕ) (loaded : Loaded) → is_among (order state layout) node ≡ true → layout.at node ≡ Some loaded → except node ≡ false → is_among (layout.chains (bucket_of_hash (hash loaded.key))) loaded.contents ≡ true
   pub own : (node : ℕ) (loaded : Loaded) (claim : Claim) → layout.at node ≡ Some loaded → has_claim (all_claims loaded) claim ≡ true → layout.owner claim ≡ Some node
   pub single : (node : ℕ) (loaded : Loaded) → layout.at node ≡ Some loaded → repeats (all_claims loaded) ≡ false
 
 -- the records in the midst are those of the unsettled object of a key: its node is dirty, and its parts keep their keys
-pub record IsMidst (hole : ℕ → Bool) (stock : Stock) (state : State) (layout : Layout) (key : List ℕ) : Type 0 where
-  pub of_key : (item : Item) → is_listed state item ≡ true → hole (layout.place item) ≡ true → key_of item ≡ key
+pub record IsInProgress (except : ℕ → Bool) (store : StoreView) (state : State) (layout : Layout) (key : List ℕ) : Type 0 where
+  pub of_key : (item : Item) → is_listed state item ≡ true → except (layout.place item) ≡ true → key_of item ≡ key
   pub unsettled : (loaded : Loaded) → layout.at (layout.place (main key)) ≡ Some loaded → (loaded.dirty == 0) ≡ false
-  pub dirty : (loaded : Loaded) → load stock held (layout.place (main key)) ≡ Ok loaded → ⊥
-  pub parts : (n : ℕ) (was now : Loaded) → is_listed state (part key n) ≡ true → hole (layout.place (part key n)) ≡ true → layout.at (layout.place (part key n)) ≡ Some was → load stock held (layout.place (part key n)) ≡ Ok now → (is_part now ≡ true) × (now.key ≡ was.key)
-  pub names : (n : ℕ) (was : Loaded) (name : Name) → is_listed state (part key n) ≡ true → hole (layout.place (part key n)) ≡ true → layout.at (layout.place (part key n)) ≡ Some was → read_name was.key ≡ Some name → name.key ≡ key
+  pub dirty : (loaded : Loaded) → load store held_rule (layout.place (main key)) ≡ Ok loaded → ⊥
+  pub parts : (n : ℕ) (was now : Loaded) → is_listed state (part key n) ≡ true → except (layout.place (part key n)) ≡ true → layout.at (layout.place (part key n)) ≡ Some was → load store held_rule (layout.place (part key n)) ≡ Ok now → (is_part now ≡ true) × (now.key ≡ was.key)
+  pub names : (n : ℕ) (was : Loaded) (name : Name) → is_listed state (part key n) ≡ true → except (layout.place (part key n)) ≡ true → layout.at (layout.place (part key n)) ≡ Some was → read_name was.key ≡ Some name → name.key ≡ key
 
 -- One object changed.
 
@@ -167,7 +167,7 @@ pub record IsChange (state : State) (objects : List (Option Object)) (layout : L
   pub key : now.key ≡ was.key
   pub contents : now.contents ≡ was.contents
   pub row : model.row_of (record state { objects = objects }) item ≡ Some (row_of now)
-  pub mark : IsMarked (record state { objects = objects }) item now
+  pub mark : HasDirtyMark (record state { objects = objects }) item now
   pub parent : HasParentAt state layout item now
   pub of : (name : Name) → is_parent_of name was ≡ true → is_parent_of name now ≡ true
   pub own : (claim : Claim) → has_claim (all_claims now) claim ≡ true → owner claim ≡ Some (layout.place item)

@@ -13,6 +13,9 @@ pub mod Shown
 pub mod Layout
 pub mod Given
 pub mod Footprint
+pub mod ShownChanges
+pub mod ListSteps
+pub mod ListImages
 pub mod Creation
 pub mod Removal
 pub mod Emptiness

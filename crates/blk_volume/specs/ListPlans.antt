@@ -33,13 +33,13 @@ unfoldable pub outcome : ListView → ListView
 outcome list = record (completed_list list) { operation = 0 }
 
 -- P holds before each of these writes and after the last
-abbrev pub EachMoment : (ListView → Type 0) → List ListWrite → ListView → Type 0
-EachMoment P [] list = P list
-EachMoment P (write ∷ writes) list = P list × EachMoment P writes (with_write list write)
+abbrev pub AtEachWrite : (ListView → Type 0) → List ListWrite → ListView → Type 0
+AtEachWrite P [] list = P list
+AtEachWrite P (write ∷ writes) list = P list × AtEachWrite P writes (with_write list write)
 
 -- after any number of these writes completing gives the one list, before the second, and the other list from then on
-abbrev pub TurnsAtTwo : ListView → List ListWrite → (old new : List ℕ) → Type 0
-TurnsAtTwo list writes old new = (count : ℕ) → walk (completed_list (after_writes (take count writes) list)) ≡ (if nat_lt count 2 then old else new)
+abbrev pub CommitsAtTwo : ListView → List ListWrite → (old new : List ℕ) → Type 0
+CommitsAtTwo list writes old new = (count : ℕ) → walk (completed_list (after_writes (take count writes) list)) ≡ (if nat_lt count 2 then old else new)
 
 -- completing, stopped after so many writes, and begun again, as often as there are numbers
 abbrev pub stopped : List ℕ → ListView → ListView

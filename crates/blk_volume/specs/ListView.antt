@@ -1,5 +1,5 @@
 -- The use list as an image shows it, what is written into it, and lists that are whole.
-use Rattle.std.specs.Prelude.{◌≡◌, ℕ, ◌≤◌, Bool, true, false, ◌==◌, if◌then◌else◌, List, [], ◌∷◌, length}
+use Rattle.std.specs.Prelude.{◌≡◌, ℕ, ◌≤◌, ◌<◌, Bool, true, false, ◌==◌, if◌then◌else◌, List, [], ◌∷◌, length}
 use Rattle.blk_format.specs.BlockFiles.{is_among}
 
 -- what the list needs of an image; a word that names no node that stands and checks has `checks` false
@@ -59,15 +59,15 @@ Distinct [] = Unit {0}
 Distinct (word ∷ words) = (is_among words word ≡ false) × Distinct words
 
 -- a node that checks, with these words as prev and next
-pub record Joined (checks : ℕ → Bool) (next prev : ℕ → ℕ) (before node behind : ℕ) : Type 0 where
+pub record Joined (checks : ℕ → Bool) (next prev : ℕ → ℕ) (before node following : ℕ) : Type 0 where
   pub good : checks node ≡ true
-  pub next_is : next node ≡ behind
+  pub next_is : next node ≡ following
   pub prev_is : prev node ≡ before
 
 -- nodes that are linked both ways, the first with `before` as its prev and the last with `behind` as its next
-abbrev pub Segment : (checks : ℕ → Bool) (next prev : ℕ → ℕ) (before : ℕ) → List ℕ → (behind : ℕ) → Type 0
-Segment checks next prev before [] behind = Unit {0}
-Segment checks next prev before (node ∷ nodes) behind = Joined checks next prev before node (first_or behind nodes) × Segment checks next prev node nodes behind
+abbrev pub Segment : (checks : ℕ → Bool) (next prev : ℕ → ℕ) (before : ℕ) → List ℕ → (following : ℕ) → Type 0
+Segment checks next prev before [] following = Unit {0}
+Segment checks next prev before (node ∷ nodes) following = Joined checks next prev before node (first_or following nodes) × Segment checks next prev node nodes following
 
 -- the list is whole, with these nodes: the head's prev and the tail's next name the node itself
 pub record IsList (list : ListView) (nodes : List ℕ) : Type 0 where
@@ -77,3 +77,15 @@ pub record IsList (list : ListView) (nodes : List ℕ) : Type 0 where
   pub distinct : Distinct nodes
   pub few : length nodes ≤ most_nodes
   pub no_zero : list.checks 0 ≡ false
+
+-- a list is whole, and no operation is in flight
+pub record IsAtRest (list : ListView) (nodes : List ℕ) : Type 0 where
+  pub whole : IsList list nodes
+  pub idle : list.transaction ≡ 0
+
+-- a node that checks and isn't in a list at rest, which has room for one more
+pub record CanBeInserted (list : ListView) (nodes : List ℕ) (node : ℕ) : Type 0 where
+  pub rest : IsAtRest list nodes
+  pub lacks : is_among nodes node ≡ false
+  pub good : list.checks node ≡ true
+  pub few : length nodes < most_nodes

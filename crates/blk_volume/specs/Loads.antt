@@ -8,7 +8,7 @@ use Rattle.blk_format.specs.Hash.{hash}
 use Rattle.blk_format.specs.Records as records
 use Rattle.blk_format.specs.Claims.{Claim, claims_of, claims_of_all}
 use Rattle.blk_format.specs.BlockFiles.{is_among}
-use Rattle.blk_volume.specs.View.{Stock, Core}
+use Rattle.blk_volume.specs.View.{StoreView, RecordFields}
 use Rattle.blk_volume.specs.Chains.{chain, bucket_of_hash}
 use Rattle.blk_volume.specs.Entries.{Role, IsPlain, IsParent, IsPart, is_key_length, key_of, streams_of, role_of}
 use Rattle.blk_volume.specs.Reasons.{Reason, ◌>>=◌, demand}
@@ -21,16 +21,16 @@ pub record Rule : Type 0 where
   pub chained : Bool
 
 -- what a folder holds
-abbrev pub held : Rule
-held = record { state = records.normal; clean = true; chained = true }
+abbrev pub held_rule : Rule
+held_rule = record { state = records.normal; clean = true; chained = true }
 
 -- the same, where the reason Dirty is left out
-abbrev pub listed : Rule
-listed = record { state = records.normal; clean = false; chained = true }
+abbrev pub listed_rule : Rule
+listed_rule = record { state = records.normal; clean = false; chained = true }
 
 -- a record by itself, with the dirty word and the chain left out
-abbrev pub alone : ℕ → Rule
-alone state = record { state = state; clean = false; chained = false }
+abbrev pub unchained_rule : ℕ → Rule
+unchained_rule state = record { state = state; clean = false; chained = false }
 
 -- what is known of a node for which none of the first twelve reasons holds; others are the address words of its long key and streams
 pub record Loaded : Type 0 where
@@ -43,33 +43,33 @@ pub record Loaded : Type 0 where
   pub others : List ℕ
 
 -- the reasons 3 to 10 in their order for a record that checks, or its key
-unfoldable pub load_key : Stock → Rule → ℕ → ℕ → ℕ → Core → Result (List ℕ) Reason
-load_key stock rule node contents dirty core = do
-  _ ← demand (core.state == rule.state) reason.State
-  _ ← demand (core.rankings_node == node) reason.Back
-  _ ← demand (nat_le core.flags 2) reason.Flags
+unfoldable pub load_key : StoreView → Rule → ℕ → ℕ → ℕ → RecordFields → Result (List ℕ) Reason
+load_key store rule node contents dirty fields = do
+  _ ← demand (fields.state == rule.state) reason.State
+  _ ← demand (fields.rankings_node == node) reason.Back
+  _ ← demand (nat_le fields.flags 2) reason.Flags
   _ ← demand (not rule.clean || (dirty == 0)) reason.Dirty
-  _ ← demand (is_key_length contents core) reason.KeyLength
-  key ← ok_or (key_of stock contents core) reason.KeyPlace
-  _ ← demand (core.hash == hash key) reason.Hash
-  _ ← demand (not rule.chained || is_among (chain stock (bucket_of_hash core.hash)).reached contents) reason.Chain
+  _ ← demand (is_key_length contents fields) reason.KeyLength
+  key ← ok_or (key_of store contents fields) reason.KeyPlace
+  _ ← demand (fields.hash == hash key) reason.Hash
+  _ ← demand (not rule.chained || is_among (chain store (bucket_of_hash fields.hash)).reached contents) reason.Chain
   Ok key
 
 -- the reasons 3 to 12, or what the record is
-unfoldable pub load_record : Stock → Rule → ℕ → ℕ → ℕ → Core → Result Loaded Reason
-load_record stock rule node contents dirty core = do
-  key ← load_key stock rule node contents dirty core
-  streams ← ok_or (streams_of stock core) reason.Streams
-  role ← ok_or (role_of core key streams) reason.Sparse
-  Ok (record { node = node; contents = contents; dirty = dirty; key = key; role = role; streams = streams; others = core.long_key ∷ core.data_addr })
+unfoldable pub load_record : StoreView → Rule → ℕ → ℕ → ℕ → RecordFields → Result Loaded Reason
+load_record store rule node contents dirty fields = do
+  key ← load_key store rule node contents dirty fields
+  streams ← ok_or (streams_of store fields) reason.Streams
+  role ← ok_or (role_of fields key streams) reason.Sparse
+  Ok (record { node = node; contents = contents; dirty = dirty; key = key; role = role; streams = streams; others = fields.long_key ∷ fields.data_addr })
 
 -- the reasons 1 to 12 in their order, or what a node names
-unfoldable pub load : Stock → Rule → ℕ → Result Loaded Reason
-load stock rule node = do
-  named ← ok_or (stock.named node) reason.Contents
-  core ← ok_or (stock.entry named.contents) reason.Contents
-  _ ← demand (core.checks) reason.Seal
-  load_record stock rule node named.contents named.dirty core
+unfoldable pub load : StoreView → Rule → ℕ → Result Loaded Reason
+load store rule node = do
+  node_fields ← ok_or (store.node_fields node) reason.Contents
+  fields ← ok_or (store.entry node_fields.contents) reason.Contents
+  _ ← demand (fields.checks) reason.Seal
+  load_record store rule node node_fields.contents node_fields.dirty fields
 
 -- whether a role is a part's
 abbrev pub is_part_role : Role → Bool

@@ -13,7 +13,7 @@ use Rattle.blk_format.specs.Records as records
 use Rattle.blk_format.specs.Claims.{Claim, has_claim}
 use Rattle.blk_format.specs.BlockFiles.{is_among}
 use Rattle.blk_volume.specs.ListView.{put}
-use Rattle.blk_volume.specs.View.{Stock}
+use Rattle.blk_volume.specs.View.{StoreView}
 use Rattle.blk_volume.specs.Chains.{bucket_of_hash, IsChain}
 use Rattle.blk_volume.specs.Loads.{Loaded, all_claims}
 use Rattle.blk_volume.specs.Layout.{Layout, settled_with, is_listed, nodes_of, order, IsListedRecord}
@@ -30,8 +30,8 @@ pub record ListsLess (state : State) (objects : List (Option Object)) (keep : It
   pub doomed_same : (number : ℕ) (object : Object) → object_at (without_items state objects keep) number ≡ Some object → object.live ≡ false → object_at state number ≡ Some object
 
 -- the layout with other contents, chains and owners
-abbrev pub laid_less : Layout → (ℕ → Option Loaded) → (ℕ → List ℕ) → (Claim → Option ℕ) → Layout
-laid_less layout at chains owner = record layout { at = at; chains = chains; owner = owner }
+abbrev pub placed_less : Layout → (ℕ → Option Loaded) → (ℕ → List ℕ) → (Claim → Option ℕ) → Layout
+placed_less layout at chains owner = record layout { at = at; chains = chains; owner = owner }
 
 -- it has what is kept, in its chains, and nothing that was not there
 pub record HasLess (state : State) (objects : List (Option Object)) (keep : Item → Bool) (layout : Layout) (at : ℕ → Option Loaded) (chains : ℕ → List ℕ) (owner : Claim → Option ℕ) : Type 0 where
@@ -39,7 +39,7 @@ pub record HasLess (state : State) (objects : List (Option Object)) (keep : Item
   pub others : (node : ℕ) (loaded : Loaded) → is_among (order state layout) node ≡ false → layout.at node ≡ Some loaded → at node ≡ Some loaded
   pub was : (node : ℕ) (loaded : Loaded) → at node ≡ Some loaded → layout.at node ≡ Some loaded
   pub chain_stays : (node : ℕ) (loaded : Loaded) → is_among (nodes_of layout (filter keep state.uses)) node ≡ true → at node ≡ Some loaded → is_among (layout.chains (bucket_of_hash (hash loaded.key))) loaded.contents ≡ true → is_among (chains (bucket_of_hash (hash loaded.key))) loaded.contents ≡ true
-  pub chain_was : (bucket contents : ℕ) → bucket < table_length → is_among (chains bucket) contents ≡ true → IsListedRecord (without_items state objects keep) (laid_less layout at chains owner) contents
+  pub chain_was : (bucket contents : ℕ) → bucket < table_length → is_among (chains bucket) contents ≡ true → IsListedRecord (without_items state objects keep) (placed_less layout at chains owner) contents
   pub own : (node : ℕ) (loaded : Loaded) (claim : Claim) → at node ≡ Some loaded → has_claim (all_claims loaded) claim ≡ true → layout.owner claim ≡ Some node → owner claim ≡ Some node
 
 -- An object that is doomed.
@@ -49,10 +49,10 @@ abbrev pub is_of_another : List ℕ → Item → Bool
 is_of_another key item = not (bytes_eq key (key_of item))
 
 -- the layout without some items, where a node is that of the doomed object of a number, with a record of state 2
-abbrev pub laid_doomed : Layout → ℕ → ℕ → (ℕ → Option Loaded) → (ℕ → List ℕ) → (Claim → Option ℕ) → Layout
-laid_doomed layout number node at chains owner = record (laid_less layout at chains owner) { place_of_doomed = put layout.place_of_doomed number node; state = put layout.state node records.doomed }
+abbrev pub placed_doomed : Layout → ℕ → ℕ → (ℕ → Option Loaded) → (ℕ → List ℕ) → (Claim → Option ℕ) → Layout
+placed_doomed layout number node at chains owner = record (placed_less layout at chains owner) { place_of_doomed = put layout.place_of_doomed number node; state = put layout.state node records.doomed }
 
 -- whole chains, in which the records of the nodes that stay are
-pub record HasChains (hole : ℕ → Bool) (stock : Stock) (state : State) (layout : Layout) (chains : ℕ → List ℕ) : Type 0 where
-  pub whole : (bucket : ℕ) → bucket < table_length → IsChain stock bucket (chains bucket)
-  pub chained : (node : ℕ) (loaded : Loaded) → is_among (order state layout) node ≡ true → layout.at node ≡ Some loaded → hole node ≡ false → is_among (chains (bucket_of_hash (hash loaded.key))) loaded.contents ≡ true
+pub record HasChains (except : ℕ → Bool) (store : StoreView) (state : State) (layout : Layout) (chains : ℕ → List ℕ) : Type 0 where
+  pub whole : (bucket : ℕ) → bucket < table_length → IsChain store bucket (chains bucket)
+  pub chained : (node : ℕ) (loaded : Loaded) → is_among (order state layout) node ≡ true → layout.at node ≡ Some loaded → except node ≡ false → is_among (chains (bucket_of_hash (hash loaded.key))) loaded.contents ≡ true

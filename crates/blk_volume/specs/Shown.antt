@@ -8,7 +8,7 @@ use Rattle.blk_format.specs.SparseIndex.{PartIndex}
 use Rattle.blk_format.specs.Claims.{overlap, repeats}
 use Rattle.blk_format.specs.BlockFiles.{is_among}
 use Rattle.blk_volume.specs.ListView.{Distinct}
-use Rattle.blk_volume.specs.View.{Stock}
+use Rattle.blk_volume.specs.View.{StoreView}
 use Rattle.blk_volume.specs.Entries.{IsPart}
 use Rattle.blk_volume.specs.Loads.{Rule, Loaded, load, record_claims, all_claims}
 use Rattle.blk_volume.specs.Audit.{is_named, is_parent_of}
@@ -35,10 +35,10 @@ pub record HasParentIn (nodes : List ℕ) (given : ℕ → Option Loaded) (name 
 
 -- of the nodes of a walk those with something given are kept as this, and the others are dropped:
 -- what is given loads, is apart from all else that is given, and has its parent; what is not given is dropped already, or an orphan
-pub record IsShown (stock : Stock) (rule : Rule) (nodes : List ℕ) (given : ℕ → Option Loaded) : Type 0 where
+pub record IsShown (store : StoreView) (rule : Rule) (nodes : List ℕ) (given : ℕ → Option Loaded) : Type 0 where
   pub once : Distinct nodes
-  pub loads : (node : ℕ) (loaded : Loaded) → is_among nodes node ≡ true → given node ≡ Some loaded → load stock rule node ≡ Ok loaded
+  pub loads : (node : ℕ) (loaded : Loaded) → is_among nodes node ≡ true → given node ≡ Some loaded → load store rule node ≡ Ok loaded
   pub single : (node : ℕ) (loaded : Loaded) → is_among nodes node ≡ true → given node ≡ Some loaded → repeats (record_claims loaded) ≡ false
   pub apart : (one other : ℕ) (loaded others : Loaded) → is_among nodes one ≡ true → is_among nodes other ≡ true → (one == other) ≡ false → given one ≡ Some loaded → given other ≡ Some others → Apart loaded others
   pub parents : (node : ℕ) (loaded : Loaded) (name : Name) (index : PartIndex) → is_among nodes node ≡ true → given node ≡ Some loaded → loaded.role ≡ IsPart name index → HasParentIn nodes given name
-  pub out : (node : ℕ) (loaded : Loaded) → is_among nodes node ≡ true → given node ≡ None → load stock rule node ≡ Ok loaded → IsOrphanIn nodes given loaded
+  pub out : (node : ℕ) (loaded : Loaded) → is_among nodes node ≡ true → given node ≡ None → load store rule node ≡ Ok loaded → IsOrphanIn nodes given loaded

@@ -8,10 +8,10 @@ use Rattle.blk_format.specs.Headers.{table_length, num_entries_of, num_bytes_of,
 use Rattle.blk_format.specs.Records.{node_is_sealed, entry_is_sealed}
 use Rattle.blk_format.specs.Claims.{Claim, BlockOf, ExternalOf, has_claim, is_in_file, repeats}
 use Rattle.blk_format.specs.BlockFiles.{linked_as, max_entries_in, most_blocks, IsWellFormed}
-use Rattle.blk_format.specs.Maps.{is_marked, EmptyAgrees}
+use Rattle.blk_format.specs.Maps.{is_block_marked, EmptyAgrees}
 use Rattle.blk_volume.specs.ListView.{ListView, last_or}
 use Rattle.blk_volume.specs.Walk.{walk}
-use Rattle.blk_volume.specs.View.{Stock, view_of, node_at, entry_at}
+use Rattle.blk_volume.specs.View.{StoreView, view_of, node_at, entry_at}
 use Rattle.blk_volume.specs.Chains.{chain}
 use Rattle.blk_volume.specs.Loads.{Loaded, claims_of_loaded}
 use Rattle.blk_volume.specs.Found.{charge_of, kept, dropped}
@@ -23,14 +23,14 @@ abbrev pub EndsWhole : ListView → Type 0
 EndsWhole list = ((walk list ≡ []) × (list.head ≡ 0) × (list.tail ≡ 0)) ⊎ ((0 < length (walk list)) × (list.next (last_or 0 (walk list)) ≡ last_or 0 (walk list)))
 
 -- each chain ends at the word 0
-abbrev pub ChainsEnd : Stock → Type 0
-ChainsEnd stock = (bucket : ℕ) → bucket < table_length → (chain stock bucket).end ≡ 0
+abbrev pub ChainsEnd : StoreView → Type 0
+ChainsEnd store = (bucket : ℕ) → bucket < table_length → (chain store bucket).end ≡ 0
 
 -- Owners.
 
 -- each map marks exactly the blocks that are claimed, also past the file's number of blocks
 abbrev pub MapsAre : Image → List Claim → Type 0
-MapsAre image claims = (n b : ℕ) → is_some (linked_as image n) ≡ true → b < most_blocks → is_marked image n b ≡ has_claim claims (BlockOf n b)
+MapsAre image claims = (n b : ℕ) → is_some (linked_as image n) ≡ true → b < most_blocks → is_block_marked image n b ≡ has_claim claims (BlockOf n b)
 
 -- the external files that are there are the claimed ones
 abbrev pub OnlyClaimed : Image → List Claim → Type 0
@@ -87,7 +87,7 @@ pub record IsSound (image : Image) : Type 0 where
   pub well_formed : IsWellFormed image
   pub transaction : (view_of image).list.transaction ≡ 0
   pub list_end : EndsWhole (view_of image).list
-  pub chain_ends : ChainsEnd (view_of image).stock
+  pub chain_ends : ChainsEnd (view_of image).store
   pub nothing_dropped : dropped image ≡ []
   pub owned : AreOwned image (claims_of_loaded (kept image))
   pub in_order : IsInOrder image (kept image) []

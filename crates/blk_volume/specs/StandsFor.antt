@@ -12,25 +12,25 @@ use Rattle.blk_format.specs.Headers.{table_length}
 use Rattle.blk_format.specs.Records as records
 use Rattle.blk_format.specs.Claims.{Claim, BlockOf, ExternalOf, has_claim}
 use Rattle.blk_format.specs.BlockFiles.{is_among, linked_as, most_blocks, IsWellFormed}
-use Rattle.blk_format.specs.Maps.{is_marked}
+use Rattle.blk_format.specs.Maps.{is_block_marked}
 use Rattle.blk_volume.specs.ListView.{Distinct}
 use Rattle.blk_volume.specs.Walk.{walk}
 use Rattle.blk_volume.specs.View.{View, view_of}
 use Rattle.blk_volume.specs.Chains.{chain}
-use Rattle.blk_volume.specs.Loads.{listed, alone, Loaded, load, all_claims, claims_of_loaded}
+use Rattle.blk_volume.specs.Loads.{listed_rule, unchained_rule, Loaded, load, all_claims, claims_of_loaded}
 use Rattle.blk_volume.specs.Audit.{kept_by, dropped_by}
 use Rattle.blk_volume.specs.Found.{row_of}
 use Rattle.blk_volume.specs.Sound.{EndsWhole, ChainsEnd, AreOwned, IsInOrder}
-use Rattle.blk_volume.specs.Layout.{Layout, order, IsMarked}
+use Rattle.blk_volume.specs.Layout.{Layout, order, HasDirtyMark}
 
 -- a node and a record of state 2 keep a doomed object with its key, shape and streams, neither listed nor chained
 pub record KeepsDoomed (view : View) (object : Object) (loaded : Loaded) : Type 0 where
   pub doomed : object.live ≡ false
-  pub loads : load view.stock (alone records.doomed) loaded.node ≡ Ok loaded
+  pub loads : load view.store (unchained_rule records.doomed) loaded.node ≡ Ok loaded
   pub row : row_of loaded ≡ main_row object.key object.shape object.streams
   pub mark : (loaded.dirty == 0) ≡ object.settled
   pub unlisted : is_among (walk view.list) loaded.node ≡ false
-  pub unchained : (bucket : ℕ) → bucket < table_length → is_among (chain view.stock bucket).reached loaded.contents ≡ false
+  pub unchained : (bucket : ℕ) → bucket < table_length → is_among (chain view.store bucket).reached loaded.contents ≡ false
 
 -- nodes and records, each by the number of a doomed object: one for each
 pub record AreDoomed (view : View) (state : State) (numbered : List (ℕ × Loaded)) : Type 0 where
@@ -43,10 +43,10 @@ pub record ShowsState (view : View) (state : State) : Type 0 where
   pub valid : IsValidState state
   pub transaction : view.list.transaction ≡ 0
   pub list_end : EndsWhole view.list
-  pub chain_ends : ChainsEnd view.stock
-  pub nothing_dropped : dropped_by listed view ≡ []
-  pub rows : map row_of (kept_by listed view) ≡ model.rows state
-  pub marks : AllByRecursion (λ loaded. IsMarked state (item_of (row_of loaded)) loaded) (kept_by listed view)
+  pub chain_ends : ChainsEnd view.store
+  pub nothing_dropped : dropped_by listed_rule view ≡ []
+  pub rows : map row_of (kept_by listed_rule view) ≡ model.rows state
+  pub marks : AllByRecursion (λ loaded. HasDirtyMark state (item_of (row_of loaded)) loaded) (kept_by listed_rule view)
 
 -- an image stands for a state
 pub record StandsFor (image : Image) (state : State) : Type 0 where
@@ -54,8 +54,8 @@ pub record StandsFor (image : Image) (state : State) : Type 0 where
   pub shows : ShowsState (view_of image) state
   pub doomed : List (ℕ × Loaded)
   pub are_doomed : AreDoomed (view_of image) state doomed
-  pub owned : AreOwned image (claims_of_loaded (kept_by listed (view_of image) ++ map (λ d. d.1) doomed))
-  pub in_order : IsInOrder image (kept_by listed (view_of image)) (map (λ d. d.1) doomed)
+  pub owned : AreOwned image (claims_of_loaded (kept_by listed_rule (view_of image) ++ map (λ d. d.1) doomed))
+  pub in_order : IsInOrder image (kept_by listed_rule (view_of image)) (map (λ d. d.1) doomed)
 
 -- What of a layout is asked for that.
 
@@ -79,7 +79,7 @@ pub record AreNumbers (state : State) (layout : Layout) (numbers : List ℕ) : T
 
 -- the blocks that are marked and the external files that are there are the owned ones, and each owner is a node of the layout, listed or of a doomed object of these numbers
 pub record IsAllocated (image : Image) (state : State) (layout : Layout) (numbers : List ℕ) : Type 0 where
-  pub blocks : (n b : ℕ) → is_some (linked_as image n) ≡ true → b < most_blocks → is_marked image n b ≡ is_some (layout.owner (BlockOf n b))
+  pub blocks : (n b : ℕ) → is_some (linked_as image n) ≡ true → b < most_blocks → is_block_marked image n b ≡ is_some (layout.owner (BlockOf n b))
   pub files : (n : ℕ) → n < 2 ^ 32 → has_file image (External n) ≡ is_some (layout.owner (ExternalOf n))
   pub exact : (claim : Claim) (node : ℕ) → layout.owner claim ≡ Some node → IsOwner state layout (map layout.place_of_doomed numbers) claim node
   pub once : Distinct (order state layout ++ map layout.place_of_doomed numbers)

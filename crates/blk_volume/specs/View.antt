@@ -57,16 +57,16 @@ list_of image = record {
 -- All but the use list.
 
 -- what a node says of its record
-pub record Named : Type 0 where
+pub record NodeFields : Type 0 where
   pub contents : ℕ
   pub dirty : ℕ
 
 -- what the node says that a word names
-unfoldable pub named_at : Image → ℕ → Option Named
-named_at image w = if stands_as image rankings w then Some (record { contents = (node_at image w).contents; dirty = (node_at image w).dirty }) else None
+unfoldable pub node_fields_at : Image → ℕ → Option NodeFields
+node_fields_at image w = if stands_as image rankings w then Some (record { contents = (node_at image w).contents; dirty = (node_at image w).dirty }) else None
 
 -- a record without its link and its seal: whether it checks, and its fields
-pub record Core : Type 0 where
+pub record RecordFields : Type 0 where
   pub checks : Bool
   pub hash : ℕ
   pub rankings_node : ℕ
@@ -78,8 +78,8 @@ pub record Core : Type 0 where
   pub flags : ℕ
 
 -- what is said of a record
-abbrev pub core_of : Entry → Core
-core_of e = record {
+abbrev pub fields_of : Entry → RecordFields
+fields_of e = record {
   checks = entry_checks e;
   hash = e.hash;
   rankings_node = e.rankings_node;
@@ -92,16 +92,16 @@ core_of e = record {
 }
 
 -- the size of stream i
-abbrev pub size_of : Core → ℕ → ℕ
-size_of core i = slice_index core.data_size i
+abbrev pub size_of : RecordFields → ℕ → ℕ
+size_of fields i = slice_index fields.data_size i
 
 -- its address
-abbrev pub address_of : Core → ℕ → ℕ
-address_of core i = slice_index core.data_addr i
+abbrev pub address_of : RecordFields → ℕ → ℕ
+address_of fields i = slice_index fields.data_addr i
 
 -- the record that a word names
-unfoldable pub core_at : Image → ℕ → Option Core
-core_at image w = if stands_as image blocks_256 w then Some (core_of (entry_at image w)) else None
+unfoldable pub core_at : Image → ℕ → Option RecordFields
+core_at image w = if stands_as image blocks_256 w then Some (fields_of (entry_at image w)) else None
 
 -- a record's next, or 0 where no record stands
 unfoldable pub follow_at : Image → ℕ → ℕ
@@ -122,20 +122,20 @@ stored_at image size w =
     else Some (range_at (block_bytes image w) (place w) size)
 
 -- all but the use list: what each node says, the table, each record's next, each record, its key place, and data by size and address word
-pub record Stock : Type 0 where
-  pub named : ℕ → Option Named
+pub record StoreView : Type 0 where
+  pub node_fields : ℕ → Option NodeFields
   pub table : ℕ → ℕ
-  pub follow : ℕ → ℕ
-  pub entry : ℕ → Option Core
+  pub chain_next : ℕ → ℕ
+  pub entry : ℕ → Option RecordFields
   pub key_place : ℕ → ℕ → List ℕ
   pub stored : ℕ → ℕ → Option (List ℕ)
 
 -- what an image shows of that
-unfoldable pub stock_of : Image → Stock
-stock_of image = record {
-  named = named_at image;
+unfoldable pub store_of : Image → StoreView
+store_of image = record {
+  node_fields = node_fields_at image;
   table = bucket_of (byte image Index);
-  follow = follow_at image;
+  chain_next = follow_at image;
   entry = core_at image;
   key_place = key_place_at image;
   stored = stored_at image;
@@ -144,7 +144,7 @@ stock_of image = record {
 -- all of it
 pub record View : Type 0 where
   pub list : ListView
-  pub stock : Stock
+  pub store : StoreView
 
 abbrev pub view_of : Image → View
-view_of image = record { list = list_of image; stock = stock_of image }
+view_of image = record { list = list_of image; store = store_of image }

@@ -1,4 +1,4 @@
-use Rattle.blk_laws.proofs.ListMoments.{completing}
+use Rattle.blk_laws.proofs.ListCompletions.{completing}
 use Rattle.blk_laws.proofs.AtRest.{completions-end}
 use Rattle.blk_laws.proofs.completions_at_each_write.Goals as goal
 

@@ -5,7 +5,7 @@ pub returns : goal.returns
 returns c = record {
   laid = changed-doomed-lies;
   represented = changed-doomed;
-  moments = doomed-rest;
+  at_each_word = doomed-rest;
   gone = gone-doomed;
   put = doomed-settles;
   written = written-doomed-settles;

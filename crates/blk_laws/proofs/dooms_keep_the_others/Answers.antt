@@ -1,13 +1,13 @@
 use Rattle.blk_laws.proofs.DoomedObjects.{listed-rest}
 use Rattle.blk_laws.proofs.Dooming.{dooms-keep, doomed-is-laid, doomed-is-represented}
-use Rattle.blk_laws.proofs.DoomMoments.{dooms-moments, doomed-parts}
+use Rattle.blk_laws.proofs.DoomWrites.{dooms-moments, doomed-parts}
 use Rattle.blk_laws.proofs.dooms_keep_the_others.Goals as goal
 
 pub returns : goal.returns
 returns c = record {
   before = listed-rest;
   after = dooms-keep;
-  moments = dooms-moments;
+  at_each_word = dooms-moments;
   parts = doomed-parts;
   laid = doomed-is-laid;
   represented = doomed-is-represented;

@@ -3,6 +3,6 @@ use Rattle.blk_laws.proofs.inserts_at_each_write.Goals as goal
 
 pub returns : goal.returns
 returns c = record {
-  turns = inserts-turn;
+  commits = inserts-turn;
   ends = inserts-end;
 }

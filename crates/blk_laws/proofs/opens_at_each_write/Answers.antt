@@ -3,6 +3,6 @@ use Rattle.blk_laws.proofs.opens_at_each_write.Goals as goal
 
 pub returns : goal.returns
 returns c = record {
-  moments = open-moments;
+  at_each_word = open-moments;
   ends = open-ends;
 }

@@ -3,6 +3,6 @@ use Rattle.blk_laws.proofs.removals_at_each_write.Goals as goal
 
 pub returns : goal.returns
 returns c = record {
-  turns = removals-turn;
+  commits = removals-turn;
   ends = removals-end;
 }

@@ -7,7 +7,7 @@ returns c = record {
   walks = walk-order;
   rows = rows-kept;
   dropped = none-dropped;
-  ends = λ view state layout r valid. chain-end view.stock state layout r.holds valid;
+  ends = λ view state layout r valid. chain-end view.store state layout r.holds valid;
   kept = found-rest;
   found = found-at_rest;
 }

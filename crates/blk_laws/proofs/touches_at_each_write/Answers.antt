@@ -3,6 +3,6 @@ use Rattle.blk_laws.proofs.touches_at_each_write.Goals as goal
 
 pub returns : goal.returns
 returns c = record {
-  turns = touches-turn;
+  commits = touches-turn;
   ends = touches-end;
 }

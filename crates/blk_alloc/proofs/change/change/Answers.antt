@@ -3,7 +3,7 @@ use Rattle.blk_image.specs.Footprint.{SameOutside}
 use Rattle.blk_image.proofs.Footprints.{outside-refl}
 use Rattle.blk_image.specs.Told.{Told}
 use Rattle.blk_image.proofs.Runs.{passes_none, passes_stayed, passes_to, part_whole, some_inj}
-use Rattle.blk_alloc.specs.Changes.{IsMidst, map_of}
+use Rattle.blk_alloc.specs.Changes.{IsMapInProgress, map_of}
 use Rattle.blk_io.proofs.Carried.{silent_part}
 use Rattle.blk_alloc.proofs.Changing.{midst_begin}
 use Rattle.blk_alloc.proofs.Changed.{change_stops, change_done, change_outside}
@@ -14,25 +14,25 @@ write-requires-clause-header g c image there = c.requires.header image (ap (λ (
 
 pub returns-in_err-plan-clause-stops : goal.returns-in_err-plan-clause-stops
 returns-in_err-plan-clause-stops g c from there ready =
-    passes_to (passes_none (IsMidst c.args.file from) c.in_err-plan.ensures.stays (λ image is. subst (IsMidst c.args.file from) (some_inj (sym there ∙ is)) (midst_begin c.args.file from)))
+    passes_to (passes_none (IsMapInProgress c.args.file from) c.in_err-plan.ensures.stays (λ image is. subst (IsMapInProgress c.args.file from) (some_inj (sym there ∙ is)) (midst_begin c.args.file from)))
     (λ image midst. inl midst)
 
 pub returns-in_err-write-clause-stops : goal.returns-in_err-write-clause-stops
 returns-in_err-write-clause-stops g c from there ready =
     passes_stayed c.in_ok-plan.ensures.stays
     (change_stops from c.args.file c.args.start c.args.count c.args.used c.in_ok-plan.plan ready c.requires.some c.requires.group (c.in_ok-plan.ensures.plan from there) c.in_ok-plan.ensures.fits
-    (ap (λ (t : Told). t.files) c.in_ok-plan.ensures.stays ∙ there) c.in_err-write.ensures.part)
+    (ap (λ (t : Told). t.files) c.in_ok-plan.ensures.stays ∙ there) c.in_err-write.ensures.prefix)
 
 pub returns-clause-done : goal.returns-clause-done
 returns-clause-done g c from there ready =
     change_done from c.args.file c.args.start c.args.count c.args.used c.in_ok-plan.plan ready c.requires.some c.requires.group (c.in_ok-plan.ensures.plan from there) c.in_ok-plan.ensures.fits
-    (ap (λ (t : Told). t.files) c.in_ok-plan.ensures.stays ∙ there) c.in_ok-write.ensures.whole
+    (ap (λ (t : Told). t.files) c.in_ok-plan.ensures.stays ∙ there) c.in_ok-write.ensures.steps
 
 pub returns-clause-stops : goal.returns-clause-stops
 returns-clause-stops g c from there ready =
     passes_stayed c.in_ok-plan.ensures.stays
     (change_stops from c.args.file c.args.start c.args.count c.args.used c.in_ok-plan.plan ready c.requires.some c.requires.group (c.in_ok-plan.ensures.plan from there) c.in_ok-plan.ensures.fits
-    (ap (λ (t : Told). t.files) c.in_ok-plan.ensures.stays ∙ there) (part_whole c.in_ok-write.ensures.whole))
+    (ap (λ (t : Told). t.files) c.in_ok-plan.ensures.stays ∙ there) (part_whole c.in_ok-write.ensures.steps))
 
 at_inside : (at start count : ℕ) → at ≡ 80 + 4 * (start / 32) → 0 < count → start + count ≤ 64896 → at + 4 ≤ 8192
 at_inside at start count is some small = omega (arith, is, some, small)
@@ -54,17 +54,17 @@ returns-in_err-write-clause-outside g c from there =
     let is = (c.in_ok-plan.ensures.plan from there).at in
     passes_stayed c.in_ok-plan.ensures.stays
     (change_outside from c.args.file c.in_ok-plan.plan (low_place c.in_ok-plan.plan.at c.args.start is) (at_inside c.in_ok-plan.plan.at c.args.start c.args.count is c.requires.some (c.requires.inside from there)) (c.requires.header from there)
-    (ap (λ (t : Told). t.files) c.in_ok-plan.ensures.stays ∙ there) c.in_err-write.ensures.part)
+    (ap (λ (t : Told). t.files) c.in_ok-plan.ensures.stays ∙ there) c.in_err-write.ensures.prefix)
 
 pub returns-clause-outside : goal.returns-clause-outside
 returns-clause-outside g c from there =
     let is = (c.in_ok-plan.ensures.plan from there).at in
     passes_stayed c.in_ok-plan.ensures.stays
     (change_outside from c.args.file c.in_ok-plan.plan (low_place c.in_ok-plan.plan.at c.args.start is) (at_inside c.in_ok-plan.plan.at c.args.start c.args.count is c.requires.some (c.requires.inside from there)) (c.requires.header from there)
-    (ap (λ (t : Told). t.files) c.in_ok-plan.ensures.stays ∙ there) (part_whole c.in_ok-write.ensures.whole))
+    (ap (λ (t : Told). t.files) c.in_ok-plan.ensures.stays ∙ there) (part_whole c.in_ok-write.ensures.steps))
 
 pub returns-in_err-write-clause-silent : goal.returns-in_err-write-clause-silent
-returns-in_err-write-clause-silent g c none = silent_part c.in_err-write.ensures.part (ap (λ (t : Told). t.files) c.in_ok-plan.ensures.stays ∙ none)
+returns-in_err-write-clause-silent g c none = silent_part c.in_err-write.ensures.prefix (ap (λ (t : Told). t.files) c.in_ok-plan.ensures.stays ∙ none)
 
 pub returns-clause-silent : goal.returns-clause-silent
-returns-clause-silent g c none = silent_part c.in_ok-write.ensures.part (ap (λ (t : Told). t.files) c.in_ok-plan.ensures.stays ∙ none)
+returns-clause-silent g c none = silent_part c.in_ok-write.ensures.prefix (ap (λ (t : Told). t.files) c.in_ok-plan.ensures.stays ∙ none)

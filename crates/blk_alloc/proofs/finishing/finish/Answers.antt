@@ -2,7 +2,7 @@ use Rattle.std.proofs.Common.{◌≡◌, ℕ, List, [], ◌∷◌, ◌++◌, sym
 use Rattle.std.proofs.lemmas.Result.{on_ok_weaker}
 use Rattle.blk_image.specs.Image.{Block}
 use Rattle.blk_image.specs.Steps.{TrailStep, word_step, word_steps}
-use Rattle.blk_image.specs.Told.{Grows, GrowsInPart}
+use Rattle.blk_image.specs.Told.{Applies, AppliesPrefix}
 use Rattle.blk_image.proofs.Cuts.{word_steps-append}
 use Rattle.blk_image.proofs.Runs.{grows_then, part_only, part_then}
 use Rattle.blk_alloc.specs.Changes.{counter_words, finish_words}
@@ -14,19 +14,19 @@ both : (n a : ℕ) (empty : List ℕ) → word_steps (Block n) (counter_words a 
 both n a empty = ap (λ (s : List TrailStep). word_steps (Block n) (counter_words a empty) ++ s) (last_word n) ∙ sym (word_steps-append (Block n) (counter_words a empty) ((56, 0) ∷ []))
 
 pub write_word-requires-clause-inside : goal.write_word-requires-clause-inside
-write_word-requires-clause-inside g c mid now = let long = counters_kept c.args.file c.args.allocations _ _ _ _ c.in_ok-write_counters.ensures.whole c.requires.header mid now in omega (arith, long)
+write_word-requires-clause-inside g c mid now = let long = counters_kept c.args.file c.args.allocations _ _ _ _ c.in_ok-write_counters.ensures.steps c.requires.header mid now in omega (arith, long)
 
-pub returns-in_err-write_counters-clause-part : goal.returns-in_err-write_counters-clause-part
-returns-in_err-write_counters-clause-part g c =
-    subst (λ (s : List TrailStep). GrowsInPart (g.F.Folder.told c.args.f.now) (g.F.Folder.told c.write_counters.new.f) s) (both c.args.file c.args.allocations c.args.empty.now)
-    (part_only (word_step (Block c.args.file) 56 0) c.in_err-write_counters.ensures.part)
+pub returns-in_err-write_counters-clause-prefix : goal.returns-in_err-write_counters-clause-prefix
+returns-in_err-write_counters-clause-prefix g c =
+    subst (λ (s : List TrailStep). AppliesPrefix (g.F.Folder.told c.args.f.now) (g.F.Folder.told c.write_counters.new.f) s) (both c.args.file c.args.allocations c.args.empty.now)
+    (part_only (word_step (Block c.args.file) 56 0) c.in_err-write_counters.ensures.prefix)
 
-pub returns-clause-whole : goal.returns-clause-whole
-returns-clause-whole g c =
+pub returns-clause-steps : goal.returns-clause-steps
+returns-clause-steps g c =
     on_ok_weaker c.write_word.result
-    (λ whole. subst (λ (s : List TrailStep). Grows (g.F.Folder.told c.args.f.now) (g.F.Folder.told c.write_word.new.f) s) (both c.args.file c.args.allocations c.args.empty.now) (grows_then c.in_ok-write_counters.ensures.whole whole))
-    c.write_word.ensures.whole
+    (λ whole. subst (λ (s : List TrailStep). Applies (g.F.Folder.told c.args.f.now) (g.F.Folder.told c.write_word.new.f) s) (both c.args.file c.args.allocations c.args.empty.now) (grows_then c.in_ok-write_counters.ensures.steps whole))
+    c.write_word.ensures.steps
 
-pub returns-clause-part : goal.returns-clause-part
-returns-clause-part g c =
-    subst (λ (s : List TrailStep). GrowsInPart (g.F.Folder.told c.args.f.now) (g.F.Folder.told c.write_word.new.f) s) (both c.args.file c.args.allocations c.args.empty.now) (part_then c.in_ok-write_counters.ensures.whole c.write_word.ensures.part)
+pub returns-clause-prefix : goal.returns-clause-prefix
+returns-clause-prefix g c =
+    subst (λ (s : List TrailStep). AppliesPrefix (g.F.Folder.told c.args.f.now) (g.F.Folder.told c.write_word.new.f) s) (both c.args.file c.args.allocations c.args.empty.now) (part_then c.in_ok-write_counters.ensures.steps c.write_word.ensures.prefix)

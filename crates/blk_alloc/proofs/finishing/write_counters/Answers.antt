@@ -2,7 +2,7 @@ use Rattle.std.proofs.Common.{◌≡◌, ℕ, List, ◌++◌, length, refl, lit<
 use Rattle.std.proofs.lemmas.Result.{on_ok_weaker}
 use Rattle.blk_image.specs.Image.{Block}
 use Rattle.blk_image.specs.Steps.{TrailStep, word_step, word_steps}
-use Rattle.blk_image.specs.Told.{Grows, GrowsInPart}
+use Rattle.blk_image.specs.Told.{Applies, AppliesPrefix}
 use Rattle.blk_image.proofs.Runs.{grows_then, part_only, part_then}
 use Rattle.blk_io.specs.Neighbours.{run_from}
 use Rattle.blk_alloc.specs.Changes.{counter_words}
@@ -20,22 +20,22 @@ write_run-requires g c = (
   (
     refl,
     λ mid now.
-        let long = word_kept c.args.file 16 c.args.allocations c.in_ok-write_word.ensures.whole c.requires.header mid now in
+        let long = word_kept c.args.file 16 c.args.allocations c.in_ok-write_word.ensures.steps c.requires.header mid now in
         omega (arith, long, c.requires.four),
   ),
 )
 
-pub returns-in_err-write_word-clause-part : goal.returns-in_err-write_word-clause-part
-returns-in_err-write_word-clause-part g c =
-    subst (λ (s : List TrailStep). GrowsInPart (g.F.Folder.told c.args.f.now) (g.F.Folder.told c.write_word.new.f) s) (both c.args.file c.args.allocations c.args.empty.now c.requires.four)
-    (part_only (word_steps (Block c.args.file) (run_from 24 c.args.empty.now)) c.in_err-write_word.ensures.part)
+pub returns-in_err-write_word-clause-prefix : goal.returns-in_err-write_word-clause-prefix
+returns-in_err-write_word-clause-prefix g c =
+    subst (λ (s : List TrailStep). AppliesPrefix (g.F.Folder.told c.args.f.now) (g.F.Folder.told c.write_word.new.f) s) (both c.args.file c.args.allocations c.args.empty.now c.requires.four)
+    (part_only (word_steps (Block c.args.file) (run_from 24 c.args.empty.now)) c.in_err-write_word.ensures.prefix)
 
-pub returns-clause-whole : goal.returns-clause-whole
-returns-clause-whole g c =
+pub returns-clause-steps : goal.returns-clause-steps
+returns-clause-steps g c =
     on_ok_weaker c.write_run.result
-    (λ whole. subst (λ (s : List TrailStep). Grows (g.F.Folder.told c.args.f.now) (g.F.Folder.told c.write_run.new.f) s) (both c.args.file c.args.allocations c.args.empty.now c.requires.four) (grows_then c.in_ok-write_word.ensures.whole whole))
-    c.write_run.ensures.whole
+    (λ whole. subst (λ (s : List TrailStep). Applies (g.F.Folder.told c.args.f.now) (g.F.Folder.told c.write_run.new.f) s) (both c.args.file c.args.allocations c.args.empty.now c.requires.four) (grows_then c.in_ok-write_word.ensures.steps whole))
+    c.write_run.ensures.steps
 
-pub returns-clause-part : goal.returns-clause-part
-returns-clause-part g c =
-    subst (λ (s : List TrailStep). GrowsInPart (g.F.Folder.told c.args.f.now) (g.F.Folder.told c.write_run.new.f) s) (both c.args.file c.args.allocations c.args.empty.now c.requires.four) (part_then c.in_ok-write_word.ensures.whole c.write_run.ensures.part)
+pub returns-clause-prefix : goal.returns-clause-prefix
+returns-clause-prefix g c =
+    subst (λ (s : List TrailStep). AppliesPrefix (g.F.Folder.told c.args.f.now) (g.F.Folder.told c.write_run.new.f) s) (both c.args.file c.args.allocations c.args.empty.now c.requires.four) (part_then c.in_ok-write_word.ensures.steps c.write_run.ensures.prefix)

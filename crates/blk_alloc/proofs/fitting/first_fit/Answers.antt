@@ -22,7 +22,7 @@ returns-in_err-start-clause-cause g c =
     (λ damage short. record {
       file = c.in-Some.file;
       linked = there;
-      short = subst (λ (k : ℕ). IsShortPiece (g.F.Folder.told c.args.f.now) c.in-Some.file k damage) (c.blocks_in-end.ensures.blocks (member_all c.args.files.now c.args.kind c.in-Some.file c.requires.blocky there))
+      short = subst (λ (k : ℕ). IsShortPiece (g.F.Folder.told c.args.f.now) c.in-Some.file k damage) (c.blocks_in-end.ensures.blocks (member_all c.args.files.now c.args.kind c.in-Some.file c.requires.block_kind there))
           (subst (λ (t : Told). IsShortPiece t c.in-Some.file c.blocks_in-end.result damage) c.loop-i.invariant.stays short);
     }) c.least_in_file.ensures.cause)
 
@@ -33,7 +33,7 @@ returns-in_err-start-clause-untold g c =
     carried c.least_in_file.result c.from_residual.result c.in_err-start.field-0.0 _ c.in_err-start.was c.from_residual.ensures.1
     (if_damaged_weaker c.least_in_file.result _ (λ _. (g.F.Folder.told c.args.f.now).files ≡ None)
     (λ damage none. ap (λ (t : Told). t.files) (sym c.loop-i.invariant.stays)
-    ∙ none (λ image told. (member_head c.args.files.now image c.args.kind c.in-Some.file c.requires.blocky (c.requires.agrees image (ap (λ (t : Told). t.files) (sym c.loop-i.invariant.stays) ∙ told)) there).header)) c.least_in_file.ensures.untold)
+    ∙ none (λ image told. (member_head c.args.files.now image c.args.kind c.in-Some.file c.requires.block_kind (c.requires.agrees image (ap (λ (t : Told). t.files) (sym c.loop-i.invariant.stays) ∙ told)) there).header)) c.least_in_file.ensures.untold)
 
 pub returns-in-Some-2-clause-fit : goal.returns-in-Some-2-clause-fit
 returns-in-Some-2-clause-fit g c image told =
@@ -41,8 +41,8 @@ returns-in-Some-2-clause-fit g c image told =
     let at = sym c.file_at.ensures ∙ c.in-Some.is in
     let agrees = c.requires.agrees image told in
     let there : is_among files c.in-Some.file ≡ true = member_at files c.loop-i.i c.in-Some.file at in
-    let all = member_all c.args.files.now c.args.kind c.in-Some.file c.requires.blocky there in
-    let most = (count_whole _ (member_head c.args.files.now image c.args.kind c.in-Some.file c.requires.blocky agrees there).count).1 in
+    let all = member_all c.args.files.now c.args.kind c.in-Some.file c.requires.block_kind there in
+    let most = (count_whole _ (member_head c.args.files.now image c.args.kind c.in-Some.file c.requires.block_kind agrees there).count).1 in
     let blocks : c.blocks_in-end.result ≡ max_entries_in image c.in-Some.file =
     (let e = c.blocks_in-end.ensures.blocks all in let d = agrees.blocks c.in-Some.file all in omega (arith, e, d, most)) in
     let least = subst (λ (o : Option ℕ). IsLeastFrom image c.in-Some.file c.args.count 0 c.blocks_in-end.result o) c.in-Some-2.is (c.in_ok-start.ensures.least image (ap (λ (t : Told). t.files) c.loop-i.invariant.stays ∙ told)) in
@@ -64,7 +64,7 @@ returns-in-Some-2-clause-place g c place is =
       linked = member_at files c.loop-i.i c.in-Some.file (sym c.file_at.ensures ∙ c.in-Some.is);
       number = c.blocks_in-end.ensures.number;
       small = let below = inside.1 in let most = c.blocks_in-end.ensures.most in omega (arith, below, most);
-      below = let below = inside.1 in let is = c.blocks_in-end.ensures.blocks (member_all c.args.files.now c.args.kind c.in-Some.file c.requires.blocky (member_at files c.loop-i.i c.in-Some.file (sym c.file_at.ensures ∙ c.in-Some.is))) in omega (arith, below, is);
+      below = let below = inside.1 in let is = c.blocks_in-end.ensures.blocks (member_all c.args.files.now c.args.kind c.in-Some.file c.requires.block_kind (member_at files c.loop-i.i c.in-Some.file (sym c.file_at.ensures ∙ c.in-Some.is))) in omega (arith, below, is);
       group = inside.0;
       counted = refl;
     })
@@ -77,8 +77,8 @@ loop-i-preserved g c = record {
       let place = at_place files c.loop-i.i c.in-Some.file at in
       let agrees = c.requires.agrees image told in
       let there : is_among files c.in-Some.file ≡ true = member_at files c.loop-i.i c.in-Some.file at in
-      let all = member_all c.args.files.now c.args.kind c.in-Some.file c.requires.blocky there in
-      let most = (count_whole _ (member_head c.args.files.now image c.args.kind c.in-Some.file c.requires.blocky agrees there).count).1 in
+      let all = member_all c.args.files.now c.args.kind c.in-Some.file c.requires.block_kind there in
+      let most = (count_whole _ (member_head c.args.files.now image c.args.kind c.in-Some.file c.requires.block_kind agrees there).count).1 in
       let blocks : c.blocks_in-end.result ≡ max_entries_in image c.in-Some.file =
       (let e = c.blocks_in-end.ensures.blocks all in let d = agrees.blocks c.in-Some.file all in omega (arith, e, d, most)) in
       let none : HasNoRoom image c.args.count c.in-Some.file =

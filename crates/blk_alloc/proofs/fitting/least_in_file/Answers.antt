@@ -1,6 +1,6 @@
 use Rattle.std.proofs.Common.{◌≡◌, ℕ, ◌+◌, ◌*◌, ◌/◌, ◌%◌, ◌-◌, min, Option, None, Some, refl, sym, ◌∙◌, ap, subst, arith}
 use Rattle.blk_image.specs.Told.{Told}
-use Rattle.blk_format.specs.Maps.{is_marked}
+use Rattle.blk_format.specs.Maps.{is_block_marked}
 use Rattle.blk_alloc.specs.Places.{AreNoPlaces}
 use Rattle.blk_alloc.specs.Fitting.{IsLeastFrom, IsShortPiece}
 use Rattle.blk_io.specs.declared.folder.FileId.TheVariants as names
@@ -22,7 +22,7 @@ loop-piece-preserved g c = record {
       let blocks : c.min-blocks.result ≡ min (c.args.end - first) 8192 = c.min-blocks.ensures in
       let before : first ≡ min c.args.end first = omega (arith, ends, c.loop-piece-test.true) in
       let behind : first + c.min-blocks.result ≡ min c.args.end ((c.loop-piece.piece + 1) * 8192) = omega (arith, ends, blocks, c.loop-piece-test.true) in
-      let marked = is_marked image c.args.file in
+      let marked = is_block_marked image c.args.file in
       no_places-append marked c.args.count 0 first (min c.args.end ((c.loop-piece.piece + 1) * 8192))
       (subst (AreNoPlaces marked c.args.count 0) (sym before) (c.loop-piece.invariant.none image there))
       (subst (AreNoPlaces marked c.args.count first) behind

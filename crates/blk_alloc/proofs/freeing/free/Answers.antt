@@ -8,7 +8,7 @@ use Rattle.blk_format.specs.BlockFiles.{IsWellFormed}
 use Rattle.blk_disk.specs.Growth.{KeepsBlocks}
 use Rattle.blk_disk.specs.Tables.{Agrees}
 use Rattle.blk_disk.proofs.Ranges.{stands_blocky}
-use Rattle.blk_alloc.specs.Changes.{IsMidst, IsReady, IsChanged, map_of}
+use Rattle.blk_alloc.specs.Changes.{IsMapInProgress, IsReady, IsChanged, map_of}
 use Rattle.std.specs.Option.{ForSome}
 use Rattle.blk_image.specs.Footprint.{SameOutside}
 use Rattle.blk_format.specs.BlockFiles.{max_entries_in}
@@ -61,8 +61,8 @@ returns-clause-freed g c =
 pub returns-clause-stops : goal.returns-clause-stops
 returns-clause-stops g c from there =
     let b = c.blocks_of-blocks in
-    let stops : PassesTo (g.F.Folder.told c.args.f.now) (g.F.Folder.told c.change.new.f) (IsMidst (file_selector c.args.addr) from) (λ image. IsMidst (file_selector c.args.addr) from image ⊎ IsChanged from (file_selector c.args.addr) (first_block c.args.addr) (block_count c.args.addr) false image) =
-    back (λ n s k. PassesTo (g.F.Folder.told c.args.f.now) (g.F.Folder.told c.change.new.f) (IsMidst n from) (λ image. IsMidst n from image ⊎ IsChanged from n s k false image)) c.args.addr b.result.file b.result.start b.result.count b.ensures.file b.ensures.start b.ensures.count (c.change.ensures.stops from there (moved (λ n s k. IsReady from n s k false) c.args.addr b.result.file b.result.start b.result.count b.ensures.file b.ensures.start b.ensures.count
+    let stops : PassesTo (g.F.Folder.told c.args.f.now) (g.F.Folder.told c.change.new.f) (IsMapInProgress (file_selector c.args.addr) from) (λ image. IsMapInProgress (file_selector c.args.addr) from image ⊎ IsChanged from (file_selector c.args.addr) (first_block c.args.addr) (block_count c.args.addr) false image) =
+    back (λ n s k. PassesTo (g.F.Folder.told c.args.f.now) (g.F.Folder.told c.change.new.f) (IsMapInProgress n from) (λ image. IsMapInProgress n from image ⊎ IsChanged from n s k false image)) c.args.addr b.result.file b.result.start b.result.count b.ensures.file b.ensures.start b.ensures.count (c.change.ensures.stops from there (moved (λ n s k. IsReady from n s k false) c.args.addr b.result.file b.result.start b.result.count b.ensures.file b.ensures.start b.ensures.count
     (free_ready from c.args.addr (stands_blocky c.args.files.now c.args.addr c.requires.stands) (c.requires.agrees from there).undamaged (c.requires.allocated from there) (c.requires.empty from there)))) in
     passes_to stops (λ image. ⊎_elim (λ midst. inl midst) (λ changed. inr (freed_is from image c.args.addr (allocated_blocks from c.args.addr (stands_blocky c.args.files.now c.args.addr c.requires.stands) (c.requires.allocated from there)) changed)))
 

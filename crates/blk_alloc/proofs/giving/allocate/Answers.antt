@@ -7,12 +7,12 @@ use Rattle.blk_addr.specs.Kind.{kind_number}
 use Rattle.blk_disk.specs.Growth.{KeepsBlocks}
 use Rattle.blk_disk.specs.Tables.{Agrees, files_of}
 use Rattle.blk_alloc.specs.Fitting.{IsFitting, IsFirstFit, IsPlace}
-use Rattle.blk_alloc.specs.Giving.{AreCounted, HaveNoRoom, IsFitTaken, IsGiven, IsGiving, IsMaking, IsRefusal}
+use Rattle.blk_alloc.specs.Giving.{AreCounted, HaveNoRoom, MarksFitUsed, Allocates, AllocatesInProgress, ExtendsInProgress, IsRefusal}
 use Rattle.std.specs.Prelude.{IfOk}
 use Rattle.blk_format.specs.Address.{block_count, block_word, file_selector, kind_of}
 use Rattle.blk_format.specs.BlockFiles.{is_among}
 use Rattle.blk_alloc.specs.declared.blocks.Blocks.{Blocks}
-use Rattle.blk_alloc.specs.Taking.{IsAstray, IsTakeable, IsTaken, IsTaking}
+use Rattle.blk_alloc.specs.Taking.{IsDangling, CanBeMarked, MarksUsed, MarksUsedInProgress}
 use Rattle.std.proofs.lemmas.Result.{IfOk-weaker}
 use Rattle.blk_alloc.specs.Owning.{IsCause}
 use Rattle.blk_io.proofs.Carried.{if_damaged_weaker}
@@ -25,7 +25,7 @@ use Rattle.blk_alloc.proofs.giving.allocate.Goals as goal
 
 pub returns-in_err-place-clause-stops : goal.returns-in_err-place-clause-stops
 returns-in_err-place-clause-stops g c from there =
-    passes_to (passes_none (IsGiving c.args.files.now (kind_number c.args.kind) c.args.blocks from) c.in_err-place.ensures.stays (λ image is. inl (some_inj (sym is ∙ there)))) (λ image giving. inl giving)
+    passes_to (passes_none (AllocatesInProgress c.args.files.now (kind_number c.args.kind) c.args.blocks from) c.in_err-place.ensures.stays (λ image is. inl (some_inj (sym is ∙ there)))) (λ image giving. inl giving)
 
 pub take-requires-clause-some : goal.take-requires-clause-some
 take-requires-clause-some g c = subst (λ (k : ℕ). 0 < k) (sym (c.in_ok-place.ensures.place c.in-Some.place c.in-Some.is).counted) c.requires.some
@@ -58,14 +58,14 @@ returns-in-Some-clause-given g c =
     let place = c.in_ok-place.ensures.place c.in-Some.place c.in-Some.is in
     let fits : (i : Image) → (g.F.Folder.told c.args.f.now).files ≡ Some i → IsFirstFit i (files_of c.args.files.now (kind_number c.args.kind)) c.args.blocks c.in-Some.place =
     (λ i told. subst (λ (o : Option Blocks). IsFitting i (files_of c.args.files.now (kind_number c.args.kind)) c.args.blocks o) c.in-Some.is (c.in_ok-place.ensures.fit i told)) in
-    let takeable : (i : Image) → (g.F.Folder.told c.args.f.now).files ≡ Some i → IsTakeable i c.in-Some.place =
-    (λ i told. fit_takeable c.args.files.now i c.args.kind c.args.blocks c.in-Some.place c.requires.blocky c.requires.few (c.requires.agrees i told) (c.requires.counted i told) place (fits i told)) in
+    let takeable : (i : Image) → (g.F.Folder.told c.args.f.now).files ≡ Some i → CanBeMarked i c.in-Some.place =
+    (λ i told. fit_takeable c.args.files.now i c.args.kind c.args.blocks c.in-Some.place c.requires.block_kind c.requires.few (c.requires.agrees i told) (c.requires.counted i told) place (fits i told)) in
     if_ok_both c.take.result (λ addr. addr ≡ block_word kind c.in-Some.place.file c.in-Some.place.start c.in-Some.place.count)
-    (λ addr. ForSome (g.F.Folder.told c.first_fit.new.f).files (λ from. IsTakeable from c.in-Some.place → ForSome (g.F.Folder.told c.take.new.f).files (IsTaken c.args.files.now from addr)))
-    (λ addr. ForSome (g.F.Folder.told c.args.f.now).files (λ from. ForSome (g.F.Folder.told c.take.new.f).files (IsGiven c.args.files.now from addr)))
+    (λ addr. ForSome (g.F.Folder.told c.first_fit.new.f).files (λ from. CanBeMarked from c.in-Some.place → ForSome (g.F.Folder.told c.take.new.f).files (MarksUsed c.args.files.now from addr)))
+    (λ addr. ForSome (g.F.Folder.told c.args.f.now).files (λ from. ForSome (g.F.Folder.told c.take.new.f).files (Allocates c.args.files.now from addr)))
     (λ addr word taken from there image now.
     let file = ap file_selector word ∙ word_file c.args.files.now c.args.kind c.args.blocks c.in-Some.place c.requires.some place in
-    given_fit c.args.files.now from image addr (member_all c.args.files.now c.args.kind (file_selector addr) c.requires.blocky (ap (is_among (files_of c.args.files.now kind)) file ∙ place.linked))
+    given_fit c.args.files.now from image addr (member_all c.args.files.now c.args.kind (file_selector addr) c.requires.block_kind (ap (is_among (files_of c.args.files.now kind)) file ∙ place.linked))
     (taken from (ap (λ (t : Told). t.files) c.in_ok-place.ensures.stays ∙ there) (takeable from there) image now))
     c.take.ensures.word c.take.ensures.taken
 
@@ -75,25 +75,25 @@ returns-in-Some-clause-stops g c from there =
     let place = c.in_ok-place.ensures.place c.in-Some.place c.in-Some.is in
     let fits : (i : Image) → (g.F.Folder.told c.args.f.now).files ≡ Some i → IsFirstFit i (files_of c.args.files.now (kind_number c.args.kind)) c.args.blocks c.in-Some.place =
     (λ i told. subst (λ (o : Option Blocks). IsFitting i (files_of c.args.files.now (kind_number c.args.kind)) c.args.blocks o) c.in-Some.is (c.in_ok-place.ensures.fit i told)) in
-    let takeable : (i : Image) → (g.F.Folder.told c.args.f.now).files ≡ Some i → IsTakeable i c.in-Some.place =
-    (λ i told. fit_takeable c.args.files.now i c.args.kind c.args.blocks c.in-Some.place c.requires.blocky c.requires.few (c.requires.agrees i told) (c.requires.counted i told) place (fits i told)) in
+    let takeable : (i : Image) → (g.F.Folder.told c.args.f.now).files ≡ Some i → CanBeMarked i c.in-Some.place =
+    (λ i told. fit_takeable c.args.files.now i c.args.kind c.args.blocks c.in-Some.place c.requires.block_kind c.requires.few (c.requires.agrees i told) (c.requires.counted i told) place (fits i told)) in
     let told = ap (λ (t : Told). t.files) c.in_ok-place.ensures.stays ∙ there in
     let fit : IsFirstFit from (files_of c.args.files.now kind) c.args.blocks c.in-Some.place = subst (λ (o : Option Blocks). IsFitting from (files_of c.args.files.now kind) c.args.blocks o) c.in-Some.is (c.in_ok-place.ensures.fit from there) in
-    let keeps : (i : Image) → IsTaking c.in-Some.place.file from i → IsGiving c.args.files.now kind c.args.blocks from i = λ i taking. inr (inl (c.in-Some.place, fit, taking)) in
-    let ends : (i : Image) → IsTaken c.args.files.now from (block_word kind c.in-Some.place.file c.in-Some.place.start c.in-Some.place.count) i → IsFitTaken c.args.files.now kind c.args.blocks from i =
-    (λ i taken. (c.in-Some.place, fit, subst (λ (k : ℕ). IsTaken c.args.files.now from (block_word kind c.in-Some.place.file c.in-Some.place.start k) i) fit.counted taken)) in
+    let keeps : (i : Image) → MarksUsedInProgress c.in-Some.place.file from i → AllocatesInProgress c.args.files.now kind c.args.blocks from i = λ i taking. inr (inl (c.in-Some.place, fit, taking)) in
+    let ends : (i : Image) → MarksUsed c.args.files.now from (block_word kind c.in-Some.place.file c.in-Some.place.start c.in-Some.place.count) i → MarksFitUsed c.args.files.now kind c.args.blocks from i =
+    (λ i taken. (c.in-Some.place, fit, subst (λ (k : ℕ). MarksUsed c.args.files.now from (block_word kind c.in-Some.place.file c.in-Some.place.start k) i) fit.counted taken)) in
     passes_stayed c.in_ok-place.ensures.stays (passes_weaker (c.take.ensures.stops from told (takeable from there)) keeps (λ i. ⊎_elim (λ taking. inl (keeps i taking)) (λ taken. inr (ends i taken))))
 
 pub returns-in-None-clause-given : goal.returns-in-None-clause-given
 returns-in-None-clause-given g c =
-    subst (λ (t : Told). IfOk c.take_new.result (λ addr. ForSome t.files (λ from. ForSome (g.F.Folder.told c.take_new.new.f).files (IsGiven c.args.files.now from addr)))) c.in_ok-place.ensures.stays c.take_new.ensures.given
+    subst (λ (t : Told). IfOk c.take_new.result (λ addr. ForSome t.files (λ from. ForSome (g.F.Folder.told c.take_new.new.f).files (Allocates c.args.files.now from addr)))) c.in_ok-place.ensures.stays c.take_new.ensures.given
 
 pub returns-in-None-clause-stops : goal.returns-in-None-clause-stops
 returns-in-None-clause-stops g c from there =
     let kind : ℕ = kind_number c.args.kind in
     let told = ap (λ (t : Told). t.files) c.in_ok-place.ensures.stays ∙ there in
     let none : HaveNoRoom c.args.files.now kind c.args.blocks from = subst (λ (o : Option Blocks). IsFitting from (files_of c.args.files.now kind) c.args.blocks o) c.in-None.is (c.in_ok-place.ensures.fit from there) in
-    let keeps : (i : Image) → IsMaking c.args.files.now kind from i → IsGiving c.args.files.now kind c.args.blocks from i = λ i making. inr (inr (none, making)) in
+    let keeps : (i : Image) → ExtendsInProgress c.args.files.now kind from i → AllocatesInProgress c.args.files.now kind c.args.blocks from i = λ i making. inr (inr (none, making)) in
     passes_stayed c.in_ok-place.ensures.stays (passes_weaker (c.take_new.ensures.stops from told) keeps (λ i making. inl (keeps i making)))
 
 pub returns-in-Some-clause-kind : goal.returns-in-Some-clause-kind
@@ -107,8 +107,8 @@ returns-in-Some-clause-formed g c from there formed =
     let place = c.in_ok-place.ensures.place c.in-Some.place c.in-Some.is in
     let fits : (i : Image) → (g.F.Folder.told c.args.f.now).files ≡ Some i → IsFirstFit i (files_of c.args.files.now (kind_number c.args.kind)) c.args.blocks c.in-Some.place =
     (λ i told. subst (λ (o : Option Blocks). IsFitting i (files_of c.args.files.now (kind_number c.args.kind)) c.args.blocks o) c.in-Some.is (c.in_ok-place.ensures.fit i told)) in
-    let takeable : (i : Image) → (g.F.Folder.told c.args.f.now).files ≡ Some i → IsTakeable i c.in-Some.place =
-    (λ i told. fit_takeable c.args.files.now i c.args.kind c.args.blocks c.in-Some.place c.requires.blocky c.requires.few (c.requires.agrees i told) (c.requires.counted i told) place (fits i told)) in
+    let takeable : (i : Image) → (g.F.Folder.told c.args.f.now).files ≡ Some i → CanBeMarked i c.in-Some.place =
+    (λ i told. fit_takeable c.args.files.now i c.args.kind c.args.blocks c.in-Some.place c.requires.block_kind c.requires.few (c.requires.agrees i told) (c.requires.counted i told) place (fits i told)) in
     passes_stayed c.in_ok-place.ensures.stays (c.take.ensures.formed from (ap (λ (t : Told). t.files) c.in_ok-place.ensures.stays ∙ there) (takeable from there) formed)
 
 pub returns-in-Some-clause-untold : goal.returns-in-Some-clause-untold
@@ -116,9 +116,9 @@ returns-in-Some-clause-untold g c =
     let place = c.in_ok-place.ensures.place c.in-Some.place c.in-Some.is in
     let fits : (i : Image) → (g.F.Folder.told c.args.f.now).files ≡ Some i → IsFirstFit i (files_of c.args.files.now (kind_number c.args.kind)) c.args.blocks c.in-Some.place =
     (λ i told. subst (λ (o : Option Blocks). IsFitting i (files_of c.args.files.now (kind_number c.args.kind)) c.args.blocks o) c.in-Some.is (c.in_ok-place.ensures.fit i told)) in
-    let takeable : (i : Image) → (g.F.Folder.told c.args.f.now).files ≡ Some i → IsTakeable i c.in-Some.place =
-    (λ i told. fit_takeable c.args.files.now i c.args.kind c.args.blocks c.in-Some.place c.requires.blocky c.requires.few (c.requires.agrees i told) (c.requires.counted i told) place (fits i told)) in
-    if_damaged_weaker c.take.result (λ _. ForSome (g.F.Folder.told c.first_fit.new.f).files (λ image. IsTakeable image c.in-Some.place) → (g.F.Folder.told c.first_fit.new.f).files ≡ None) (λ _. (g.F.Folder.told c.args.f.now).files ≡ None)
+    let takeable : (i : Image) → (g.F.Folder.told c.args.f.now).files ≡ Some i → CanBeMarked i c.in-Some.place =
+    (λ i told. fit_takeable c.args.files.now i c.args.kind c.args.blocks c.in-Some.place c.requires.block_kind c.requires.few (c.requires.agrees i told) (c.requires.counted i told) place (fits i told)) in
+    if_damaged_weaker c.take.result (λ _. ForSome (g.F.Folder.told c.first_fit.new.f).files (λ image. CanBeMarked image c.in-Some.place) → (g.F.Folder.told c.first_fit.new.f).files ≡ None) (λ _. (g.F.Folder.told c.args.f.now).files ≡ None)
     (λ damage none. ap (λ (t : Told). t.files) (sym c.in_ok-place.ensures.stays) ∙ none (λ i now. takeable i (ap (λ (t : Told). t.files) (sym c.in_ok-place.ensures.stays) ∙ now))) c.take.ensures.untold
 
 pub returns-in-Some-clause-cause : goal.returns-in-Some-clause-cause
@@ -126,12 +126,12 @@ returns-in-Some-clause-cause g c =
     let place = c.in_ok-place.ensures.place c.in-Some.place c.in-Some.is in
     let fits : (i : Image) → (g.F.Folder.told c.args.f.now).files ≡ Some i → IsFirstFit i (files_of c.args.files.now (kind_number c.args.kind)) c.args.blocks c.in-Some.place =
     (λ i told. subst (λ (o : Option Blocks). IsFitting i (files_of c.args.files.now (kind_number c.args.kind)) c.args.blocks o) c.in-Some.is (c.in_ok-place.ensures.fit i told)) in
-    let takeable : (i : Image) → (g.F.Folder.told c.args.f.now).files ≡ Some i → IsTakeable i c.in-Some.place =
-    (λ i told. fit_takeable c.args.files.now i c.args.kind c.args.blocks c.in-Some.place c.requires.blocky c.requires.few (c.requires.agrees i told) (c.requires.counted i told) place (fits i told)) in
-    if_damaged_both c.take.result (λ damage. ((told : Told) → told.files ≡ None → IsCause told c.in-Some.place.file c.in-Some.place.start c.in-Some.place.count true damage) ⊎ IsAstray c.take.new.files (kind_number c.args.kind) c.in-Some.place damage)
-    (λ _. ForSome (g.F.Folder.told c.first_fit.new.f).files (λ image. IsTakeable image c.in-Some.place) → (g.F.Folder.told c.first_fit.new.f).files ≡ None) (IsRefusal c.args.files.now c.take.new.files (kind_number c.args.kind) c.args.blocks (g.F.Folder.told c.args.f.now))
+    let takeable : (i : Image) → (g.F.Folder.told c.args.f.now).files ≡ Some i → CanBeMarked i c.in-Some.place =
+    (λ i told. fit_takeable c.args.files.now i c.args.kind c.args.blocks c.in-Some.place c.requires.block_kind c.requires.few (c.requires.agrees i told) (c.requires.counted i told) place (fits i told)) in
+    if_damaged_both c.take.result (λ damage. ((told : Told) → told.files ≡ None → IsCause told c.in-Some.place.file c.in-Some.place.start c.in-Some.place.count true damage) ⊎ IsDangling c.take.new.files (kind_number c.args.kind) c.in-Some.place damage)
+    (λ _. ForSome (g.F.Folder.told c.first_fit.new.f).files (λ image. CanBeMarked image c.in-Some.place) → (g.F.Folder.told c.first_fit.new.f).files ≡ None) (IsRefusal c.args.files.now c.take.new.files (kind_number c.args.kind) c.args.blocks (g.F.Folder.told c.args.f.now))
     (λ damage cause none. ⊎_elim (λ (why : (told : Told) → told.files ≡ None → IsCause told c.in-Some.place.file c.in-Some.place.start c.in-Some.place.count true damage). inl (record { place = c.in-Some.place; is = place_counted c.take.new.files (kind_number c.args.kind) c.args.blocks c.in-Some.place place.counted c.take.ensures.place; cause = why (g.F.Folder.told c.args.f.now) (ap (λ (t : Told). t.files) (sym c.in_ok-place.ensures.stays) ∙ none (λ i now. takeable i (ap (λ (t : Told). t.files) (sym c.in_ok-place.ensures.stays) ∙ now))) }))
-    (λ astray. inr (inr (inr (record { place = c.in-Some.place; is = place_counted c.take.new.files (kind_number c.args.kind) c.args.blocks c.in-Some.place place.counted c.take.ensures.place; astray = astray })))) cause)
+    (λ dangling. inr (inr (inr (record { place = c.in-Some.place; is = place_counted c.take.new.files (kind_number c.args.kind) c.args.blocks c.in-Some.place place.counted c.take.ensures.place; dangling = dangling })))) cause)
     c.take.ensures.cause c.take.ensures.untold
 
 pub returns-in_err-place-clause-blocks : goal.returns-in_err-place-clause-blocks

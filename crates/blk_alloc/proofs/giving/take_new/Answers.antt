@@ -9,8 +9,8 @@ use Rattle.blk_format.specs.Address.{block_count, block_word, file_selector, kin
 use Rattle.blk_addr.specs.Kind.{kind_number}
 use Rattle.blk_disk.specs.Growth.{KeepsBlocks}
 use Rattle.blk_alloc.specs.Owning.{IsCause}
-use Rattle.blk_alloc.specs.Taking.{IsAstray, IsTakeable, IsTaken, IsTaking, taking_of}
-use Rattle.blk_alloc.specs.Giving.{IsChosen, IsGiven, IsMaking, IsRefusal}
+use Rattle.blk_alloc.specs.Taking.{IsDangling, CanBeMarked, MarksUsed, MarksUsedInProgress, taking_of}
+use Rattle.blk_alloc.specs.Giving.{IsChosen, Allocates, ExtendsInProgress, IsRefusal}
 use Rattle.blk_alloc.proofs.Causes.{if_damaged_both}
 use Rattle.blk_io.proofs.Carried.{if_damaged_weaker}
 use Rattle.blk_alloc.proofs.Rooms.{given_made, if_ok_both, making_taken, place_counted, told_later, untold_before, word_file, word_kind}
@@ -40,8 +40,8 @@ returns-clause-keeps g c w is = c.take.ensures.keeps w (c.new_room.ensures.stand
 pub returns-clause-given : goal.returns-clause-given
 returns-clause-given g c =
     if_ok_both c.take.result (λ addr. addr ≡ block_word (kind_number c.args.kind) c.in_ok-place.place.file c.in_ok-place.place.start c.in_ok-place.place.count)
-    (λ addr. ForSome (g.F.Folder.told c.new_room.new.f).files (λ mid. IsTakeable mid c.in_ok-place.place → ForSome (g.F.Folder.told c.take.new.f).files (IsTaken c.new_room.new.files mid addr)))
-    (λ addr. ForSome (g.F.Folder.told c.args.f.now).files (λ from. ForSome (g.F.Folder.told c.take.new.f).files (IsGiven c.args.files.now from addr)))
+    (λ addr. ForSome (g.F.Folder.told c.new_room.new.f).files (λ mid. CanBeMarked mid c.in_ok-place.place → ForSome (g.F.Folder.told c.take.new.f).files (MarksUsed c.new_room.new.files mid addr)))
+    (λ addr. ForSome (g.F.Folder.told c.args.f.now).files (λ from. ForSome (g.F.Folder.told c.take.new.f).files (Allocates c.args.files.now from addr)))
     (λ addr word taken from there image now.
     let mid = told_later (c.in_ok-place.ensures.stops from there) there in
     let file = ap file_selector word ∙ word_file c.new_room.new.files c.args.kind c.args.count c.in_ok-place.place c.requires.some c.in_ok-place.ensures.fits in
@@ -56,8 +56,8 @@ returns-clause-stops g c from there =
     let made = c.in_ok-place.ensures.making from there mid.0 mid.1 in
     let file = word_file c.new_room.new.files c.args.kind c.args.count c.in_ok-place.place c.requires.some c.in_ok-place.ensures.fits in
     let w : ℕ = block_word kind n c.in_ok-place.place.start c.in_ok-place.place.count in
-    let keeps : (i : Image) → IsTaking n mid.0 i → IsMaking c.args.files.now kind from i = λ i taking. record { file = n; making = making_taken c.args.files.now kind n from mid.0 i made taking.same } in
-    let ends : (i : Image) → IsTaken c.new_room.new.files mid.0 w i → IsMaking c.args.files.now kind from i =
+    let keeps : (i : Image) → MarksUsedInProgress n mid.0 i → ExtendsInProgress c.args.files.now kind from i = λ i taking. record { file = n; making = making_taken c.args.files.now kind n from mid.0 i made taking.same } in
+    let ends : (i : Image) → MarksUsed c.new_room.new.files mid.0 w i → ExtendsInProgress c.args.files.now kind from i =
     (λ i taken. record { file = n; making = making_taken c.args.files.now kind n from mid.0 i made (subst (λ (m : ℕ). SameOutside (taking_of m) mid.0 i) file taken.same) }) in
     passes_then (c.in_ok-place.ensures.stops from there) (passes_weaker (c.take.ensures.stops mid.0 mid.1 (c.in_ok-place.ensures.made from there mid.0 mid.1).takeable) keeps (λ i. ⊎_elim (keeps i) (ends i)))
 
@@ -78,19 +78,19 @@ silent_start {old} {mid} P T stops made none = by_files old.files refl
 pub returns-clause-cause : goal.returns-clause-cause
 returns-clause-cause g c =
     let kind : ℕ = kind_number c.args.kind in
-    let start : (ForSome (g.F.Folder.told c.new_room.new.f).files (λ mid. IsTakeable mid c.in_ok-place.place) → (g.F.Folder.told c.new_room.new.f).files ≡ None) → (g.F.Folder.told c.args.f.now).files ≡ None =
-    silent_start (IsMaking c.args.files.now kind) (λ mid. IsTakeable mid c.in_ok-place.place) c.in_ok-place.ensures.stops (λ from there mid now. (c.in_ok-place.ensures.made from there mid now).takeable) in
-    if_damaged_both c.take.result (λ damage. ((told : Told) → told.files ≡ None → IsCause told c.in_ok-place.place.file c.in_ok-place.place.start c.in_ok-place.place.count true damage) ⊎ IsAstray c.take.new.files kind c.in_ok-place.place damage)
-    (λ _. ForSome (g.F.Folder.told c.new_room.new.f).files (λ mid. IsTakeable mid c.in_ok-place.place) → (g.F.Folder.told c.new_room.new.f).files ≡ None) (IsRefusal c.args.files.now c.take.new.files kind c.args.count (g.F.Folder.told c.args.f.now))
-    (λ damage cause none. ⊎_elim (λ (why : (told : Told) → told.files ≡ None → IsCause told c.in_ok-place.place.file c.in_ok-place.place.start c.in_ok-place.place.count true damage). inl (record { place = c.in_ok-place.place; is = place_counted c.take.new.files kind c.args.count c.in_ok-place.place c.in_ok-place.ensures.fits.counted c.take.ensures.place; cause = why (g.F.Folder.told c.args.f.now) (start none) })) (λ astray. inr (inr (inr (record { place = c.in_ok-place.place; is = place_counted c.take.new.files kind c.args.count c.in_ok-place.place c.in_ok-place.ensures.fits.counted c.take.ensures.place; astray = astray })))) cause)
+    let start : (ForSome (g.F.Folder.told c.new_room.new.f).files (λ mid. CanBeMarked mid c.in_ok-place.place) → (g.F.Folder.told c.new_room.new.f).files ≡ None) → (g.F.Folder.told c.args.f.now).files ≡ None =
+    silent_start (ExtendsInProgress c.args.files.now kind) (λ mid. CanBeMarked mid c.in_ok-place.place) c.in_ok-place.ensures.stops (λ from there mid now. (c.in_ok-place.ensures.made from there mid now).takeable) in
+    if_damaged_both c.take.result (λ damage. ((told : Told) → told.files ≡ None → IsCause told c.in_ok-place.place.file c.in_ok-place.place.start c.in_ok-place.place.count true damage) ⊎ IsDangling c.take.new.files kind c.in_ok-place.place damage)
+    (λ _. ForSome (g.F.Folder.told c.new_room.new.f).files (λ mid. CanBeMarked mid c.in_ok-place.place) → (g.F.Folder.told c.new_room.new.f).files ≡ None) (IsRefusal c.args.files.now c.take.new.files kind c.args.count (g.F.Folder.told c.args.f.now))
+    (λ damage cause none. ⊎_elim (λ (why : (told : Told) → told.files ≡ None → IsCause told c.in_ok-place.place.file c.in_ok-place.place.start c.in_ok-place.place.count true damage). inl (record { place = c.in_ok-place.place; is = place_counted c.take.new.files kind c.args.count c.in_ok-place.place c.in_ok-place.ensures.fits.counted c.take.ensures.place; cause = why (g.F.Folder.told c.args.f.now) (start none) })) (λ dangling. inr (inr (inr (record { place = c.in_ok-place.place; is = place_counted c.take.new.files kind c.args.count c.in_ok-place.place c.in_ok-place.ensures.fits.counted c.take.ensures.place; dangling = dangling })))) cause)
     c.take.ensures.cause c.take.ensures.untold
 
 pub returns-clause-untold : goal.returns-clause-untold
 returns-clause-untold g c =
     let kind : ℕ = kind_number c.args.kind in
-    let start : (ForSome (g.F.Folder.told c.new_room.new.f).files (λ mid. IsTakeable mid c.in_ok-place.place) → (g.F.Folder.told c.new_room.new.f).files ≡ None) → (g.F.Folder.told c.args.f.now).files ≡ None =
-    silent_start (IsMaking c.args.files.now kind) (λ mid. IsTakeable mid c.in_ok-place.place) c.in_ok-place.ensures.stops (λ from there mid now. (c.in_ok-place.ensures.made from there mid now).takeable) in
-    if_damaged_weaker c.take.result (λ _. ForSome (g.F.Folder.told c.new_room.new.f).files (λ mid. IsTakeable mid c.in_ok-place.place) → (g.F.Folder.told c.new_room.new.f).files ≡ None) (λ _. (g.F.Folder.told c.args.f.now).files ≡ None)
+    let start : (ForSome (g.F.Folder.told c.new_room.new.f).files (λ mid. CanBeMarked mid c.in_ok-place.place) → (g.F.Folder.told c.new_room.new.f).files ≡ None) → (g.F.Folder.told c.args.f.now).files ≡ None =
+    silent_start (ExtendsInProgress c.args.files.now kind) (λ mid. CanBeMarked mid c.in_ok-place.place) c.in_ok-place.ensures.stops (λ from there mid now. (c.in_ok-place.ensures.made from there mid now).takeable) in
+    if_damaged_weaker c.take.result (λ _. ForSome (g.F.Folder.told c.new_room.new.f).files (λ mid. CanBeMarked mid c.in_ok-place.place) → (g.F.Folder.told c.new_room.new.f).files ≡ None) (λ _. (g.F.Folder.told c.args.f.now).files ≡ None)
     (λ damage none. start none) c.take.ensures.untold
 
 pub returns-clause-blocks : goal.returns-clause-blocks

@@ -20,10 +20,10 @@ zeros_at (suc (suc (suc (suc i)))) small = absurd (omega arith)
 pub returns-in_err-write_at-clause-outside : goal.returns-in_err-write_at-clause-outside
 returns-in_err-write_at-clause-outside g c from there =
     subst (λ (k : ℕ). PassesTo (g.F.Folder.told c.args.f.now) (g.F.Folder.told c.write_at.new.self) (SameOutside (range (Block c.args.file) 80 k) from) (SameOutside (range (Block c.args.file) 80 k) from)) c.mark_claimed.ensures.length
-    (map_outside (Block c.args.file) 80 c.mark_claimed.new.bytes from there c.in_err-write_at.ensures.part)
+    (map_outside (Block c.args.file) 80 c.mark_claimed.new.bytes from there c.in_err-write_at.ensures.prefix)
 
 pub returns-in_err-write_at-clause-silent : goal.returns-in_err-write_at-clause-silent
-returns-in_err-write_at-clause-silent g c none = silent_part c.in_err-write_at.ensures.part none
+returns-in_err-write_at-clause-silent g c none = silent_part c.in_err-write_at.ensures.prefix none
 
 pub returns-clause-counts : goal.returns-clause-counts
 returns-clause-counts g c i small =
@@ -35,12 +35,12 @@ returns-clause-counts g c i small =
 
 pub returns-clause-marks : goal.returns-clause-marks
 returns-clause-marks g c =
-    map_written c.args.claims.now c.args.file c.mark_claimed.new.bytes c.mark_claimed.ensures.length (λ m few. c.mark_claimed.ensures.marks m (omega (arith, few))) c.in_ok-write_at.ensures.whole c.requires.header
+    map_written c.args.claims.now c.args.file c.mark_claimed.new.bytes c.mark_claimed.ensures.length (λ m few. c.mark_claimed.ensures.marks m (omega (arith, few))) c.in_ok-write_at.ensures.steps c.requires.header
 
 pub returns-clause-outside : goal.returns-clause-outside
 returns-clause-outside g c from there =
     subst (λ (k : ℕ). PassesTo (g.F.Folder.told c.args.f.now) (g.F.Folder.told c.write_at.new.self) (SameOutside (range (Block c.args.file) 80 k) from) (SameOutside (range (Block c.args.file) 80 k) from)) c.mark_claimed.ensures.length
-    (map_outside (Block c.args.file) 80 c.mark_claimed.new.bytes from there c.write_at.ensures.part)
+    (map_outside (Block c.args.file) 80 c.mark_claimed.new.bytes from there c.write_at.ensures.prefix)
 
 pub returns-clause-silent : goal.returns-clause-silent
-returns-clause-silent g c none = silent_part c.write_at.ensures.part none
+returns-clause-silent g c none = silent_part c.write_at.ensures.prefix none

@@ -26,13 +26,13 @@ pub returns-clause-done : goal.returns-clause-done
 returns-clause-done g c =
     let counts = c.in_ok-empty.ensures.counts in
     on_ok_weaker c.finish.result
-    (λ whole. told_at_end (g.F.Folder.told c.args.f.now).files (g.F.Folder.told c.finish.new.f).files (λ image. IsRebuilt c.args.claims.now image c.args.file) (λ none. silent_part c.finish.ensures.part (c.write_map.ensures.silent none))
+    (λ whole. told_at_end (g.F.Folder.told c.args.f.now).files (g.F.Folder.told c.finish.new.f).files (λ image. IsRebuilt c.args.claims.now image c.args.file) (λ none. silent_part c.finish.ensures.prefix (c.write_map.ensures.silent none))
     (λ from there.
     let found = mid_after from there (c.write_map.ensures.outside from there) in
     let e = found.2.lengths (Block c.args.file) refl in
     let long = c.requires.header from there in
     finish_done c.args.claims.now c.args.file c.args.groups c.allocations.result _ _ _ _ from found.0 (wider c.args.file from found.0 found.2) (omega (arith, e, long)) c.requires.few (c.requires.groups from there)
-    (c.in_ok-empty.ensures.marks found.0 found.1) c.allocations.ensures.count (omega arith) (counts 0 (omega arith)) (counts 1 (omega arith)) (counts 2 (omega arith)) (counts 3 (omega arith)) found.1 whole)) c.finish.ensures.whole
+    (c.in_ok-empty.ensures.marks found.0 found.1) c.allocations.ensures.count (omega arith) (counts 0 (omega arith)) (counts 1 (omega arith)) (counts 2 (omega arith)) (counts 3 (omega arith)) found.1 whole)) c.finish.ensures.steps
 
 pub returns-clause-stops : goal.returns-clause-stops
 returns-clause-stops g c from there =
@@ -42,4 +42,4 @@ returns-clause-stops g c from there =
     let long = c.requires.header from there in
     passes_then (passes_weaker (c.write_map.ensures.outside from there) (wider c.args.file from) (wider c.args.file from))
     (finish_stops c.args.claims.now c.args.file c.args.groups c.allocations.result _ _ _ _ from found.0 (wider c.args.file from found.0 found.2) (omega (arith, e, long)) c.requires.few (c.requires.groups from there)
-    (c.in_ok-empty.ensures.marks found.0 found.1) c.allocations.ensures.count (omega arith) (counts 0 (omega arith)) (counts 1 (omega arith)) (counts 2 (omega arith)) (counts 3 (omega arith)) found.1 c.finish.ensures.part)
+    (c.in_ok-empty.ensures.marks found.0 found.1) c.allocations.ensures.count (omega arith) (counts 0 (omega arith)) (counts 1 (omega arith)) (counts 2 (omega arith)) (counts 3 (omega arith)) found.1 c.finish.ensures.prefix)

@@ -1,15 +1,15 @@
 use Rattle.std.proofs.Common.{◌≡◌, ℕ, length, None, Some, inl, inr, sym, ◌∙◌, ap, subst}
 use Rattle.std.specs.Option.{ForSome}
 use Rattle.blk_image.specs.Told.{Told}
-use Rattle.blk_volume.specs.View.{stock_of}
+use Rattle.blk_volume.specs.View.{store_of}
 use Rattle.blk_format.specs.Sealed.{RecordChecks}
 use Rattle.blk_disk.specs.Tables.{Agrees}
 use Rattle.blk_io.proofs.Carried.{carried, if_damaged_weaker, untold_where}
 use Rattle.blk_volume.specs.Chains.{bucket_of_hash}
 use Rattle.blk_entry.specs.Keys.{IsPlaceDamage}
-use Rattle.blk_chain.specs.Finding.{IsAstray, IsChainDamage}
+use Rattle.blk_chain.specs.Finding.{IsDangling, IsChainDamage}
 use Rattle.blk_entry.proofs.KeyPlaces.{clash, damaged_any}
-use Rattle.blk_chain.specs.Naming.{HasName}
+use Rattle.blk_chain.specs.Naming.{HasKey}
 use Rattle.blk_chain.proofs.Names.{shown-follow}
 use Rattle.blk_chain.proofs.Heads.{keyed-checks, names-parts, shown-names}
 use Rattle.blk_chain.proofs.finding.look_at.Goals as goal
@@ -19,7 +19,7 @@ returns-in_err-entry-clause-untold g c =
     damaged_any c.from_residual.result ((g.F.Folder.told c.args.f.now).files ≡ None)
     (untold_where (g.F.Folder.told c.args.f.now).files
     (λ image there. let keyed = c.requires.keyed image there in
-    clash (c.in_err-entry.ensures.right (shown-names c.args.files.now image c.args.link.now.word keyed.core (c.requires.agrees image there) keyed.here))))
+    clash (c.in_err-entry.ensures.right (shown-names c.args.files.now image c.args.link.now.word keyed.fields (c.requires.agrees image there) keyed.here))))
 
 pub read_head-requires-clause-kind : goal.read_head-requires-clause-kind
 read_head-requires-clause-kind g c = (names-parts c.args.files.now c.in_ok-entry.entry c.in_ok-entry.ensures.stands).1.0
@@ -46,15 +46,15 @@ returns-clause-step g c image there =
     let now : (g.F.Folder.told c.read_head.new.f).files ≡ Some image = ap (λ (t : Told). t.files) c.in_ok-head.ensures.stays ∙ there in
     let words = c.in_ok-head.ensures.head image there in
     let is = c.in_ok-entry.ensures.entry in (
-      subst (λ (w : ℕ). c.in_ok-head.head.next ≡ (stock_of image).follow w) is
-          (words.next ∙ sym (shown-follow image c.in_ok-entry.entry keyed.core (subst (λ (w : ℕ). (stock_of image).entry w ≡ Some keyed.core) (sym is) keyed.here))),
-      λ named. absurd (clash (sym c.if-branch.false ∙ (c.in_ok-has_name.ensures.named image now).1 (subst (λ (w : ℕ). HasName (stock_of image) c.args.key.now c.args.sought.now.child w) (sym is) named))),
+      subst (λ (w : ℕ). c.in_ok-head.head.next ≡ (store_of image).chain_next w) is
+          (words.next ∙ sym (shown-follow image c.in_ok-entry.entry keyed.fields (subst (λ (w : ℕ). (store_of image).entry w ≡ Some keyed.fields) (sym is) keyed.here))),
+      λ named. absurd (clash (sym c.if-branch.false ∙ (c.in_ok-has_name.ensures.has_key image now).1 (subst (λ (w : ℕ). HasKey (store_of image) c.args.key.now c.args.sought.now.child w) (sym is) named))),
     )
 
 pub returns-in_err-entry-clause-damaged : goal.returns-in_err-entry-clause-damaged
 returns-in_err-entry-clause-damaged g c =
     carried c.record_of.result c.from_residual.result c.in_err-entry.field-0.0 (IsChainDamage c.args.files.now (g.F.Folder.told c.args.f.now) c.args.key.now) c.in_err-entry.was c.from_residual.ensures.1
-    (if_damaged_weaker c.record_of.result _ _ (λ damage astray. inl (subst (λ (h : ℕ). IsAstray c.args.files.now (bucket_of_hash h) damage) c.requires.hash astray)) c.record_of.ensures.damaged)
+    (if_damaged_weaker c.record_of.result _ _ (λ damage dangling. inl (subst (λ (h : ℕ). IsDangling c.args.files.now (bucket_of_hash h) damage) c.requires.hash dangling)) c.record_of.ensures.damaged)
 
 pub returns-in_err-head-clause-damaged : goal.returns-in_err-head-clause-damaged
 returns-in_err-head-clause-damaged g c =

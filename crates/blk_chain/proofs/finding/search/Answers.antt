@@ -4,13 +4,13 @@ use Rattle.std.specs.Option.{ForSome}
 use Rattle.blk_image.specs.Told.{Told}
 use Rattle.blk_format.specs.Address.{kind_of}
 use Rattle.blk_volume.specs.Chains.{bucket_of_hash}
-use Rattle.blk_volume.specs.View.{stock_of}
+use Rattle.blk_volume.specs.View.{store_of}
 use Rattle.blk_disk.specs.Tables.{Agrees, stands_among}
 use Rattle.blk_io.proofs.Carried.{untold_where}
 use Rattle.blk_entry.proofs.KeyPlaces.{err_damaged}
 use Rattle.blk_chain.specs.declared.found.Found.{Found}
 use Rattle.blk_chain.specs.declared.finding.Step.{Step}
-use Rattle.blk_chain.specs.Naming.{HasName}
+use Rattle.blk_chain.specs.Naming.{HasKey}
 use Rattle.blk_chain.specs.Finding.{bucket_of_key, IsChainDamage, IsLong, IsOfLink, IsFound, IsOnTheWay, IsStep, StandsAt, StandsBefore, names_record}
 use Rattle.blk_chain.proofs.Heads.{names-parts}
 use Rattle.blk_chain.proofs.Searches.{way-left, way-ended, way-keyed, way-on, way-found, found-linked}
@@ -59,7 +59,7 @@ stands-here g c = subst (λ (s : Step). StandsAt c.args.files.now c.loop-link.li
 named-here : (g : given.Over) (c : goal.In-Here g) → ForSome (g.F.Folder.told c.args.f.now).files (IsFound c.args.key.now c.args.sought.now.child c.in-Here.entry c.loop-link.link.before)
 named-here g c image there =
     let now : (g.F.Folder.told c.loop-link.f).files ≡ Some image = ap (λ (t : Told). t.files) c.loop-link.invariant.told ∙ there in
-    let named : HasName (stock_of image) c.args.key.now c.args.sought.now.child c.loop-link.link.word = subst (λ (s : Step). IsStep c.args.key.now c.args.sought.now.child c.loop-link.link.word s image) c.in-Here.is (c.in_ok-entry.ensures.step image now) in
+    let named : HasKey (store_of image) c.args.key.now c.args.sought.now.child c.loop-link.link.word = subst (λ (s : Step). IsStep c.args.key.now c.args.sought.now.child c.loop-link.link.word s image) c.in-Here.is (c.in_ok-entry.ensures.step image now) in
     subst (λ (w : ℕ). IsFound c.args.key.now c.args.sought.now.child w c.loop-link.link.before image) (sym (stands-here g c).0)
     (way-found image c.args.key.now c.args.sought.now.child c.loop-link.link.word c.loop-link.link.before c.loop-link.left (c.loop-link.invariant.way image there) c.loop-link-test.true named)
 
@@ -91,7 +91,7 @@ loop-link-preserved g c =
       begun = λ none. absurd (some-none (sym stands.0 ∙ none));
       way = λ image there.
           let now : (g.F.Folder.told c.loop-link.f).files ≡ Some image = ap (λ (t : Told). t.files) c.loop-link.invariant.told ∙ there in
-          let step : (c.in-On.next.word ≡ (stock_of image).follow c.loop-link.link.word) × (HasName (stock_of image) c.args.key.now c.args.sought.now.child c.loop-link.link.word → ⊥) =
+          let step : (c.in-On.next.word ≡ (store_of image).chain_next c.loop-link.link.word) × (HasKey (store_of image) c.args.key.now c.args.sought.now.child c.loop-link.link.word → ⊥) =
           subst (λ (s : Step). IsStep c.args.key.now c.args.sought.now.child c.loop-link.link.word s image) c.in-On.is (c.in_ok-entry.ensures.step image now) in
           let some = c.if-left-eq0.false in
           let one : c.loop-link.left - 1 + 1 ≡ c.loop-link.left = omega (arith, some) in

@@ -1,7 +1,7 @@
 use Rattle.std.proofs.Common.{ℕ, Option, sym, subst}
 use Rattle.std.specs.Option.{ForSome}
 use Rattle.std.specs.Prelude.{OnOk}
-use Rattle.blk_image.specs.Told.{Grows}
+use Rattle.blk_image.specs.Told.{Applies}
 use Rattle.blk_chain.specs.Unlinking.{CanBeUnlinked, IsSealedAgain, IsUnlinked, unlink_steps}
 use Rattle.std.proofs.lemmas.Result.{on_ok_weaker}
 use Rattle.blk_chain.proofs.Pairs.{loses-one}
@@ -13,20 +13,20 @@ unlink_first-requires-clause-linked g c from there = subst (λ (o : Option ℕ).
 pub unlink_behind-requires-clause-linked : goal.unlink_behind-requires-clause-linked
 unlink_behind-requires-clause-linked g c from there = subst (λ (o : Option ℕ). CanBeUnlinked c.args.found.now.entry o from) c.in-Some.is (c.requires.linked from there)
 
-pub returns-in-None-clause-whole : goal.returns-in-None-clause-whole
-returns-in-None-clause-whole g c =
-    subst (λ (o : Option ℕ). OnOk c.unlink_first.result (ForSome (g.F.Folder.told c.args.f.now).files (λ from. Grows (g.F.Folder.told c.args.f.now) (g.F.Folder.told c.unlink_first.new.f) (unlink_steps from c.args.found.now.entry o))))
-    (sym c.in-None.is) c.unlink_first.ensures.whole
+pub returns-in-None-clause-steps : goal.returns-in-None-clause-steps
+returns-in-None-clause-steps g c =
+    subst (λ (o : Option ℕ). OnOk c.unlink_first.result (ForSome (g.F.Folder.told c.args.f.now).files (λ from. Applies (g.F.Folder.told c.args.f.now) (g.F.Folder.told c.unlink_first.new.f) (unlink_steps from c.args.found.now.entry o))))
+    (sym c.in-None.is) c.unlink_first.ensures.steps
 
 pub returns-in-None-clause-unlinked : goal.returns-in-None-clause-unlinked
 returns-in-None-clause-unlinked g c =
     subst (λ (o : Option ℕ). OnOk c.unlink_first.result (ForSome (g.F.Folder.told c.args.f.now).files (λ from. ForSome (g.F.Folder.told c.unlink_first.new.f).files (IsUnlinked from c.args.found.now.entry o))))
     (sym c.in-None.is) c.unlink_first.ensures.unlinked
 
-pub returns-in-Some-clause-whole : goal.returns-in-Some-clause-whole
-returns-in-Some-clause-whole g c =
-    subst (λ (o : Option ℕ). OnOk c.unlink_behind.result (ForSome (g.F.Folder.told c.args.f.now).files (λ from. Grows (g.F.Folder.told c.args.f.now) (g.F.Folder.told c.unlink_behind.new.f) (unlink_steps from c.args.found.now.entry o))))
-    (sym c.in-Some.is) c.unlink_behind.ensures.whole
+pub returns-in-Some-clause-steps : goal.returns-in-Some-clause-steps
+returns-in-Some-clause-steps g c =
+    subst (λ (o : Option ℕ). OnOk c.unlink_behind.result (ForSome (g.F.Folder.told c.args.f.now).files (λ from. Applies (g.F.Folder.told c.args.f.now) (g.F.Folder.told c.unlink_behind.new.f) (unlink_steps from c.args.found.now.entry o))))
+    (sym c.in-Some.is) c.unlink_behind.ensures.steps
 
 pub returns-in-Some-clause-unlinked : goal.returns-in-Some-clause-unlinked
 returns-in-Some-clause-unlinked g c =

@@ -4,8 +4,8 @@ use Rattle.std.proofs.lemmas.Result.{on_ok_weaker}
 use Rattle.blk_image.specs.Image.{Image, Index, length_of}
 use Rattle.blk_format.specs.Headers.{index_length}
 use Rattle.blk_io.proofs.Carried.{told_at_end}
-use Rattle.blk_image.specs.Told.{Told, Grows, GrowsInPart, Passes}
-use Rattle.blk_format.specs.Sealed.{IsMoment, IsUpdated, RecordChecks, sealed_steps}
+use Rattle.blk_image.specs.Told.{Told, Applies, AppliesPrefix, Passes}
+use Rattle.blk_format.specs.Sealed.{IsMidUpdate, IsUpdated, RecordChecks, sealed_steps}
 use Rattle.blk_disk.specs.Tables.{Agrees}
 use Rattle.blk_chain.specs.Unlinking.{next_of}
 use Rattle.blk_chain.proofs.Unlinks.{next_changes, before_checks, moved, with_next, not_yet, turns_yet, turns_then, unlinking_stops, unlinked_then, still_complete}
@@ -20,8 +20,8 @@ pub returns-in_err-next-clause-stops : goal.returns-in_err-next-clause-stops
 returns-in_err-next-clause-stops g c =
     not_yet (g.F.Folder.told c.args.f.now) (g.F.Folder.told c.field.new.f) (g.met.F.Folder.are_bytes c.args.f.now) c.args.entry c.args.before c.requires.linked c.in_err-next.ensures.stays
 
-pub returns-in_err-next-clause-turns : goal.returns-in_err-next-clause-turns
-returns-in_err-next-clause-turns g c =
+pub returns-in_err-next-clause-commits : goal.returns-in_err-next-clause-commits
+returns-in_err-next-clause-commits g c =
     turns_yet (g.F.Folder.told c.args.f.now) (g.F.Folder.told c.field.new.f) (g.met.F.Folder.are_bytes c.args.f.now) c.args.entry c.args.before c.requires.linked c.in_err-next.ensures.stays
 
 pub update_sealed-requires-clause-agrees : goal.update_sealed-requires-clause-agrees
@@ -40,23 +40,23 @@ said : (g : given.Over) (c : goal.After-update_sealed g) (P : Told → Image →
     → ForSome (g.F.Folder.told c.args.f.now).files (λ from. P (g.F.Folder.told c.args.f.now) from (next_of from c.args.entry))
 said g c P = moved (g.F.Folder.told c.args.f.now) (g.F.Folder.told c.field.new.f) c.args.entry c.in_ok-next.next P c.in_ok-next.ensures.value c.in_ok-next.ensures.stays
 
-pub returns-clause-whole : goal.returns-clause-whole
-returns-clause-whole g c =
-    on_ok_weaker c.update_sealed.result (λ whole. said g c (λ (t : Told) (from : Image) (n : ℕ). Grows t (g.F.Folder.told c.update_sealed.new.f) (sealed_steps from c.args.before (with_next n))) whole) c.update_sealed.ensures.whole
+pub returns-clause-steps : goal.returns-clause-steps
+returns-clause-steps g c =
+    on_ok_weaker c.update_sealed.result (λ whole. said g c (λ (t : Told) (from : Image) (n : ℕ). Applies t (g.F.Folder.told c.update_sealed.new.f) (sealed_steps from c.args.before (with_next n))) whole) c.update_sealed.ensures.steps
 
-pub returns-clause-part : goal.returns-clause-part
-returns-clause-part g c = said g c (λ (t : Told) (from : Image) (n : ℕ). GrowsInPart t (g.F.Folder.told c.update_sealed.new.f) (sealed_steps from c.args.before (with_next n))) c.update_sealed.ensures.part
+pub returns-clause-prefix : goal.returns-clause-prefix
+returns-clause-prefix g c = said g c (λ (t : Told) (from : Image) (n : ℕ). AppliesPrefix t (g.F.Folder.told c.update_sealed.new.f) (sealed_steps from c.args.before (with_next n))) c.update_sealed.ensures.prefix
 
-pub returns-clause-turns : goal.returns-clause-turns
-returns-clause-turns g c =
-    turns_then (g.F.Folder.told c.args.f.now) (g.F.Folder.told c.update_sealed.new.f) (g.met.F.Folder.are_bytes c.args.f.now) c.args.entry c.args.before c.requires.linked c.args.files.now c.requires.agrees c.requires.stands_before (returns-clause-part g c)
+pub returns-clause-commits : goal.returns-clause-commits
+returns-clause-commits g c =
+    turns_then (g.F.Folder.told c.args.f.now) (g.F.Folder.told c.update_sealed.new.f) (g.met.F.Folder.are_bytes c.args.f.now) c.args.entry c.args.before c.requires.linked c.args.files.now c.requires.agrees c.requires.stands_before (returns-clause-prefix g c)
 
 pub returns-clause-sealed : goal.returns-clause-sealed
 returns-clause-sealed g c =
     on_ok_weaker c.update_sealed.result (λ updated. said g c (λ (t : Told) (from : Image) (n : ℕ). ForSome (g.F.Folder.told c.update_sealed.new.f).files (IsUpdated from c.args.before (with_next n))) updated) c.update_sealed.ensures.updated
 
-moments : (g : given.Over) (c : goal.After-update_sealed g) → ForSome (g.F.Folder.told c.args.f.now).files (λ from. Passes (g.F.Folder.told c.args.f.now) (g.F.Folder.told c.update_sealed.new.f) (IsMoment from c.args.before (with_next (next_of from c.args.entry))))
-moments g c = said g c (λ (t : Told) (from : Image) (n : ℕ). Passes t (g.F.Folder.told c.update_sealed.new.f) (IsMoment from c.args.before (with_next n))) c.update_sealed.ensures.stops
+moments : (g : given.Over) (c : goal.After-update_sealed g) → ForSome (g.F.Folder.told c.args.f.now).files (λ from. Passes (g.F.Folder.told c.args.f.now) (g.F.Folder.told c.update_sealed.new.f) (IsMidUpdate from c.args.before (with_next (next_of from c.args.entry))))
+moments g c = said g c (λ (t : Told) (from : Image) (n : ℕ). Passes t (g.F.Folder.told c.update_sealed.new.f) (IsMidUpdate from c.args.before (with_next n))) c.update_sealed.ensures.stops
 
 pub returns-clause-stops : goal.returns-clause-stops
 returns-clause-stops g c =

@@ -1,16 +1,16 @@
 use Rattle.std.proofs.Common.{List, subst}
 use Rattle.std.specs.Prelude.{OnOk}
 use Rattle.blk_image.specs.Steps.{TrailStep}
-use Rattle.blk_image.specs.Told.{Grows, GrowsInPart}
+use Rattle.blk_image.specs.Told.{Applies, AppliesPrefix}
 use Rattle.blk_disk.proofs.Additions.{link_is}
 use Rattle.blk_disk.proofs.adding.link_file.Goals as goal
 
-pub returns-clause-whole : goal.returns-clause-whole
-returns-clause-whole g c =
+pub returns-clause-steps : goal.returns-clause-steps
+returns-clause-steps g c =
     let is = link_is c.args.last c.args.n c.from.result c.to_le_bytes.result c.from.ensures c.to_le_bytes.ensures in
-    subst (λ (steps : List TrailStep). OnOk c.write_at.result (Grows (g.F.Folder.told c.args.f.now) (g.F.Folder.told c.write_at.new.self) steps)) is c.write_at.ensures.whole
+    subst (λ (steps : List TrailStep). OnOk c.write_at.result (Applies (g.F.Folder.told c.args.f.now) (g.F.Folder.told c.write_at.new.self) steps)) is c.write_at.ensures.steps
 
-pub returns-clause-part : goal.returns-clause-part
-returns-clause-part g c =
+pub returns-clause-prefix : goal.returns-clause-prefix
+returns-clause-prefix g c =
     let is = link_is c.args.last c.args.n c.from.result c.to_le_bytes.result c.from.ensures c.to_le_bytes.ensures in
-    subst (GrowsInPart (g.F.Folder.told c.args.f.now) (g.F.Folder.told c.write_at.new.self)) is c.write_at.ensures.part
+    subst (AppliesPrefix (g.F.Folder.told c.args.f.now) (g.F.Folder.told c.write_at.new.self)) is c.write_at.ensures.prefix

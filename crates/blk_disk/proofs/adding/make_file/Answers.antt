@@ -2,7 +2,7 @@ use Rattle.std.proofs.Common.{◌≡◌, ℕ, List, [], ◌∷◌, refl, lit<, s
 use Rattle.std.proofs.lemmas.Result.{on_ok_weaker}
 use Rattle.blk_image.specs.Image.{Block, length_of}
 use Rattle.blk_image.specs.Steps.{word_steps}
-use Rattle.blk_image.specs.Told.{Grows, GrowsInPart}
+use Rattle.blk_image.specs.Told.{Applies, AppliesPrefix}
 use Rattle.blk_image.proofs.Images.{length-after_set_len}
 use Rattle.blk_image.proofs.Runs.{grows_then, part_then, told_whole}
 use Rattle.blk_addr.specs.Kind.{kind_number}
@@ -25,15 +25,15 @@ write_run-requires g c = (
   ),
 )
 
-pub returns-clause-whole : goal.returns-clause-whole
-returns-clause-whole g c =
+pub returns-clause-steps : goal.returns-clause-steps
+returns-clause-steps g c =
     let same = head_is (kind_number c.args.kind) c.args.n c.from.result c.block_size.result c.from.ensures c.block_size.ensures.size in
     on_ok_weaker c.write_run.result
-    (λ grows. grows_then (grows_then c.in_ok-set_len.ensures.done c.in_ok-set_len-2.ensures.done) (subst (λ (ws : List (ℕ × ℕ)). Grows (g.F.Folder.told c.set_len-2.new.self) (g.F.Folder.told c.write_run.new.f) (word_steps (Block c.args.n) ws)) same grows))
-    c.write_run.ensures.whole
+    (λ grows. grows_then (grows_then c.in_ok-set_len.ensures.done c.in_ok-set_len-2.ensures.done) (subst (λ (ws : List (ℕ × ℕ)). Applies (g.F.Folder.told c.set_len-2.new.self) (g.F.Folder.told c.write_run.new.f) (word_steps (Block c.args.n) ws)) same grows))
+    c.write_run.ensures.steps
 
-pub returns-clause-part : goal.returns-clause-part
-returns-clause-part g c =
+pub returns-clause-prefix : goal.returns-clause-prefix
+returns-clause-prefix g c =
     let same = head_is (kind_number c.args.kind) c.args.n c.from.result c.block_size.result c.from.ensures c.block_size.ensures.size in
     part_then (grows_then c.in_ok-set_len.ensures.done c.in_ok-set_len-2.ensures.done)
-    (subst (λ (ws : List (ℕ × ℕ)). GrowsInPart (g.F.Folder.told c.set_len-2.new.self) (g.F.Folder.told c.write_run.new.f) (word_steps (Block c.args.n) ws)) same c.write_run.ensures.part)
+    (subst (λ (ws : List (ℕ × ℕ)). AppliesPrefix (g.F.Folder.told c.set_len-2.new.self) (g.F.Folder.told c.write_run.new.f) (word_steps (Block c.args.n) ws)) same c.write_run.ensures.prefix)

@@ -46,7 +46,7 @@ loop-rest-preserved g c = record {
   inside = let i = c.loop-rest.invariant.inside in record {
     small = let h = i.small in omega (arith, h, sizes);
     stands = i.stands;
-    room = λ blocky. let h = i.room blocky in omega (arith, h, sizes);
+    room = λ block_kind. let h = i.room block_kind in omega (arith, h, sizes);
   };
   outside = λ image there e. let h = c.loop-rest.invariant.outside image there e in omega (arith, h, sizes);
   same =

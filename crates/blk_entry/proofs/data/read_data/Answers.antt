@@ -19,8 +19,8 @@ returns-then-is_of-clause-bytes g c =
 
 pub returns-else-is_of-clause-bytes : goal.returns-else-is_of-clause-bytes
 returns-else-is_of-clause-bytes g c =
-    let blocky : kind_of c.args.addr ≢ external = of_other (kind_of c.args.addr) external (sym c.is_of.ensures ∙ c.if-is_of.false) in
-    on_ok_weaker c.read_block.result (λ h image there. h image there ∙ sym (data_of_blocks image c.args.addr c.args.at (length c.args.out.now) blocky)) c.read_block.ensures.bytes
+    let block_kind : kind_of c.args.addr ≢ external = of_other (kind_of c.args.addr) external (sym c.is_of.ensures ∙ c.if-is_of.false) in
+    on_ok_weaker c.read_block.result (λ h image there. h image there ∙ sym (data_of_blocks image c.args.addr c.args.at (length c.args.out.now) block_kind)) c.read_block.ensures.bytes
 
 pub returns-then-is_of-clause-short : goal.returns-then-is_of-clause-short
 returns-then-is_of-clause-short g c =
@@ -33,5 +33,5 @@ returns-then-is_of-clause-short g c =
 
 pub returns-else-is_of-clause-short : goal.returns-else-is_of-clause-short
 returns-else-is_of-clause-short g c =
-    let blocky : kind_of c.args.addr ≢ external = of_other (kind_of c.args.addr) external (sym c.is_of.ensures ∙ c.if-is_of.false) in
-    if_damaged_weaker c.read_block.result _ _ (λ damage short. short_is_cut (g.F.Folder.told c.args.f.now) c.args.addr c.args.at (length c.args.out.now) damage blocky short) c.read_block.ensures.short
+    let block_kind : kind_of c.args.addr ≢ external = of_other (kind_of c.args.addr) external (sym c.is_of.ensures ∙ c.if-is_of.false) in
+    if_damaged_weaker c.read_block.result _ _ (λ damage short. short_is_cut (g.F.Folder.told c.args.f.now) c.args.addr c.args.at (length c.args.out.now) damage block_kind short) c.read_block.ensures.short

@@ -26,16 +26,16 @@ returns-then-is_of c =
 pub returns-then-blocks-blocks_for : goal.returns-then-blocks-blocks_for
 returns-then-blocks-blocks_for c =
     let k : kind_of c.args.addr ≡ kind_for c.args.size = eqb-true (kind_of c.args.addr) (kind_for c.args.size) (ap (λ (k : ℕ). kind_of c.args.addr == k) (sym c.kind_for.ensures) ∙ sym c.is_of.ensures ∙ c.if-not-is_of.false) in
-    let blocky : kind_of c.args.addr ≢ external = of_other (kind_of c.args.addr) external (sym c.is_of-2.ensures ∙ c.if-is_of.false) in
-    let count = count_is c.args.addr c.blocks-else-is_of.result blocky c.blocks-else-is_of.ensures in
+    let block_kind : kind_of c.args.addr ≢ external = of_other (kind_of c.args.addr) external (sym c.is_of-2.ensures ∙ c.if-is_of.false) in
+    let count = count_is c.args.addr c.blocks-else-is_of.result block_kind c.blocks-else-is_of.ensures in
     let n : block_count c.args.addr ≡ blocks_for c.args.size = sym count ∙ c.if-blocks-blocks_for.true ∙ c.blocks_for.ensures in
-    c.stands.ensures.among ∙ sym (stores_stand c.args.files.now c.args.size c.args.addr c.requires.address c.requires.some k blocky n)
+    c.stands.ensures.among ∙ sym (stores_stand c.args.files.now c.args.size c.args.addr c.requires.address c.requires.some k block_kind n)
 
 pub returns-else-blocks-blocks_for : goal.returns-else-blocks-blocks_for
 returns-else-blocks-blocks_for c =
-    let blocky : kind_of c.args.addr ≢ external = of_other (kind_of c.args.addr) external (sym c.is_of-2.ensures ∙ c.if-is_of.false) in
-    let count = count_is c.args.addr c.blocks-else-is_of.result blocky c.blocks-else-is_of.ensures in
+    let block_kind : kind_of c.args.addr ≢ external = of_other (kind_of c.args.addr) external (sym c.is_of-2.ensures ∙ c.if-is_of.false) in
+    let count = count_is c.args.addr c.blocks-else-is_of.result block_kind c.blocks-else-is_of.ensures in
     let n : block_count c.args.addr ≢ blocks_for c.args.size = λ e. c.if-blocks-blocks_for.false (count ∙ e ∙ sym c.blocks_for.ensures) in
     let other : c.blocks-else-is_of.result ≢ c.blocks_for.result = c.if-blocks-blocks_for.false in
     let t : (c.blocks-else-is_of.result == c.blocks_for.result) ≡ false = grind (arith, nat_tests) in
-    t ∙ sym (stores_none c.args.files.now c.args.size c.args.addr c.requires.address c.requires.some blocky n)
+    t ∙ sym (stores_none c.args.files.now c.args.size c.args.addr c.requires.address c.requires.some block_kind n)

@@ -1,7 +1,7 @@
 use Rattle.std.proofs.Common.{◌≡◌, inl, List, length, ◌∙◌, ap, subst, arith}
 use Rattle.std.proofs.lemmas.Result.{on_ok_weaker}
 use Rattle.blk_image.specs.Steps.{TrailStep}
-use Rattle.blk_image.specs.Told.{Grows, GrowsInPart}
+use Rattle.blk_image.specs.Told.{Applies, AppliesPrefix}
 use Rattle.blk_format.proofs.SealedRecords.{node_bytes as node_size_is, record_inside}
 use Rattle.blk_entry.proofs.NewSteps.{node_length, steps_of_node}
 use Rattle.blk_entry.proofs.writing.write_node.Goals as goal
@@ -13,10 +13,10 @@ write_block-requires-clause-inside g c =
     let long : length c.node_of-bytes.result ≡ 36 = ap length c.node_of-bytes.ensures ∙ node_length c.args.new.now c.args.moment in
     omega (arith, size, inside, long)
 
-pub returns-clause-whole : goal.returns-clause-whole
-returns-clause-whole g c =
+pub returns-clause-steps : goal.returns-clause-steps
+returns-clause-steps g c =
     on_ok_weaker c.write_block.result
-    (λ grown. subst (λ (s : List TrailStep). Grows (g.F.Folder.told c.args.f.now) (g.F.Folder.told c.write_block.new.f) s) (steps_of_node c.args.new.now c.args.moment c.node_of-bytes.result c.node_of-bytes.ensures) grown) c.write_block.ensures.whole
+    (λ grown. subst (λ (s : List TrailStep). Applies (g.F.Folder.told c.args.f.now) (g.F.Folder.told c.write_block.new.f) s) (steps_of_node c.args.new.now c.args.moment c.node_of-bytes.result c.node_of-bytes.ensures) grown) c.write_block.ensures.steps
 
-pub returns-clause-part : goal.returns-clause-part
-returns-clause-part g c = subst (GrowsInPart (g.F.Folder.told c.args.f.now) (g.F.Folder.told c.write_block.new.f)) (steps_of_node c.args.new.now c.args.moment c.node_of-bytes.result c.node_of-bytes.ensures) c.write_block.ensures.part
+pub returns-clause-prefix : goal.returns-clause-prefix
+returns-clause-prefix g c = subst (AppliesPrefix (g.F.Folder.told c.args.f.now) (g.F.Folder.told c.write_block.new.f)) (steps_of_node c.args.new.now c.args.moment c.node_of-bytes.result c.node_of-bytes.ensures) c.write_block.ensures.prefix

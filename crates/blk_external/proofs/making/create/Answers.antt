@@ -7,14 +7,14 @@ use Rattle.blk_io.proofs.Shorts.{untold_if}
 use Rattle.blk_image.proofs.Runs.{told_whole, part_whole}
 use Rattle.blk_format.specs.Headers.{index_length}
 use Rattle.blk_external.specs.Numbers.{IsSearched}
-use Rattle.blk_external.specs.Making.{IsMade}
+use Rattle.blk_external.specs.Making.{Creates}
 use Rattle.blk_io.proofs.Carried.{carried, untold_where}
 use Rattle.blk_external.proofs.Makings.{passes_making, makes_none, makes_part, made_is, size_kept}
 use Rattle.blk_external.proofs.Searches.{not_all_taken}
 use Rattle.blk_external.proofs.making.create.Goals as goal
 
-pub returns-in_err-last-clause-part : goal.returns-in_err-last-clause-part
-returns-in_err-last-clause-part g c = makes_none c.in_err-last.ensures.stays c.requires.free
+pub returns-in_err-last-clause-prefix : goal.returns-in_err-last-clause-prefix
+returns-in_err-last-clause-prefix g c = makes_none c.in_err-last.ensures.stays c.requires.free
 
 pub returns-in_err-last-clause-stops : goal.returns-in_err-last-clause-stops
 returns-in_err-last-clause-stops g c = passes_making (makes_none c.in_err-last.ensures.stays c.requires.free)
@@ -23,16 +23,16 @@ pub returns-in_err-last-clause-untold : goal.returns-in_err-last-clause-untold
 returns-in_err-last-clause-untold g c =
     carried c.read_word.result c.from_residual.result c.in_err-last.field-0.0 _ c.in_err-last.was c.from_residual.ensures.1
     (untold_if c.read_word.result (g.F.Folder.told c.args.f.now) names.Index 16 4 c.read_word.ensures.short
-    (λ image there. let size = c.requires.whole image there in omega (arith, size)))
+    (λ image there. let size = c.requires.complete image there in omega (arith, size)))
 
-pub returns-in_err-number-clause-part : goal.returns-in_err-number-clause-part
-returns-in_err-number-clause-part g c = makes_none (c.in_err-number.ensures.stays ∙ c.in_ok-last.ensures.stays) c.requires.free
+pub returns-in_err-number-clause-prefix : goal.returns-in_err-number-clause-prefix
+returns-in_err-number-clause-prefix g c = makes_none (c.in_err-number.ensures.stays ∙ c.in_ok-last.ensures.stays) c.requires.free
 
 pub returns-in_err-number-clause-stops : goal.returns-in_err-number-clause-stops
 returns-in_err-number-clause-stops g c = passes_making (makes_none (c.in_err-number.ensures.stays ∙ c.in_ok-last.ensures.stays) c.requires.free)
 
-pub returns-in_default-clause-part : goal.returns-in_default-clause-part
-returns-in_default-clause-part g c = makes_none (c.in_ok-number.ensures.stays ∙ c.in_ok-last.ensures.stays) c.requires.free
+pub returns-in_default-clause-prefix : goal.returns-in_default-clause-prefix
+returns-in_default-clause-prefix g c = makes_none (c.in_ok-number.ensures.stays ∙ c.in_ok-last.ensures.stays) c.requires.free
 
 pub returns-in_default-clause-stops : goal.returns-in_default-clause-stops
 returns-in_default-clause-stops g c = passes_making (makes_none (c.in_ok-number.ensures.stays ∙ c.in_ok-last.ensures.stays) c.requires.free)
@@ -49,10 +49,10 @@ returns-in_default-clause-untold g c =
     let none = none_of c.in_ok-number.field-0 c.in_default.not-Some in
     not_all_taken image (c.requires.free image there) (subst (IsSearched image c.in_ok-last.last) none (c.in_ok-number.ensures.first image there_then)))
 
-pub returns-in_err-make-clause-whole : goal.returns-in_err-make-clause-whole
-returns-in_err-make-clause-whole g c =
+pub returns-in_err-make-clause-complete : goal.returns-in_err-make-clause-complete
+returns-in_err-make-clause-complete g c =
     let stays = c.in_ok-number.ensures.stays ∙ c.in_ok-last.ensures.stays in
-    size_kept c.in-Some.number c.in_err-make.ensures.part (subst (λ (t : Told). ForSome t.files (λ image. length_of image Index ≡ index_length)) (sym stays) c.requires.whole)
+    size_kept c.in-Some.number c.in_err-make.ensures.prefix (subst (λ (t : Told). ForSome t.files (λ image. length_of image Index ≡ index_length)) (sym stays) c.requires.complete)
 
 pub returns-in_err-make-clause-stops : goal.returns-in_err-make-clause-stops
 returns-in_err-make-clause-stops g c =
@@ -61,15 +61,15 @@ returns-in_err-make-clause-stops g c =
     passes_making
     (makes_part c.in_ok-last.last c.in-Some.number stays c.in_ok-last.ensures.word fits
     (λ image there. subst (IsSearched image c.in_ok-last.last) c.in-Some.is (c.in_ok-number.ensures.first image (ap (λ (t : Told). t.files) (sym c.in_ok-number.ensures.stays) ∙ there)))
-    c.in_err-make.ensures.part)
+    c.in_err-make.ensures.prefix)
 
 pub returns-clause-made : goal.returns-clause-made
 returns-clause-made g c =
     let stays = c.in_ok-number.ensures.stays ∙ c.in_ok-last.ensures.stays in
     let fits = c.in_ok-number.ensures.number c.in-Some.number c.in-Some.is in
-    let made : ForSome (g.F.Folder.told c.make.new.f).files (λ image. IsMade image c.in-Some.number) =
-    told_whole (λ image. IsMade image c.in-Some.number) c.in_ok-make.ensures.whole (λ image there. made_is image c.in-Some.number (omega (arith, fits.1)) (c.requires.whole image (ap (λ (t : Told). t.files) (sym stays) ∙ there))) in
-    subst (λ (n : ℕ). ForSome (g.F.Folder.told c.make.new.f).files (λ image. IsMade image n)) (sym c.address_of.ensures.number) made
+    let made : ForSome (g.F.Folder.told c.make.new.f).files (λ image. Creates image c.in-Some.number) =
+    told_whole (λ image. Creates image c.in-Some.number) c.in_ok-make.ensures.steps (λ image there. made_is image c.in-Some.number (omega (arith, fits.1)) (c.requires.complete image (ap (λ (t : Told). t.files) (sym stays) ∙ there))) in
+    subst (λ (n : ℕ). ForSome (g.F.Folder.told c.make.new.f).files (λ image. Creates image n)) (sym c.address_of.ensures.number) made
 
 pub returns-clause-stops : goal.returns-clause-stops
 returns-clause-stops g c =
@@ -78,9 +78,9 @@ returns-clause-stops g c =
     passes_making
     (makes_part c.in_ok-last.last c.in-Some.number stays c.in_ok-last.ensures.word fits
     (λ image there. subst (IsSearched image c.in_ok-last.last) c.in-Some.is (c.in_ok-number.ensures.first image (ap (λ (t : Told). t.files) (sym c.in_ok-number.ensures.stays) ∙ there)))
-    (part_whole c.in_ok-make.ensures.whole))
+    (part_whole c.in_ok-make.ensures.steps))
 
-pub returns-clause-whole : goal.returns-clause-whole
-returns-clause-whole g c =
+pub returns-clause-complete : goal.returns-clause-complete
+returns-clause-complete g c =
     let stays = c.in_ok-number.ensures.stays ∙ c.in_ok-last.ensures.stays in
-    size_kept c.in-Some.number (part_whole c.in_ok-make.ensures.whole) (subst (λ (t : Told). ForSome t.files (λ image. length_of image Index ≡ index_length)) (sym stays) c.requires.whole)
+    size_kept c.in-Some.number (part_whole c.in_ok-make.ensures.steps) (subst (λ (t : Told). ForSome t.files (λ image. length_of image Index ≡ index_length)) (sym stays) c.requires.complete)

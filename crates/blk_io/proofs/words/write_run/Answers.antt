@@ -3,7 +3,7 @@ use Rattle.std.specs.List.{flat_map}
 use Rattle.std.proofs.lemmas.Result.{on_ok_weaker}
 use Rattle.blk_image.specs.Bytes.{word_bytes}
 use Rattle.blk_image.specs.Image.{File}
-use Rattle.blk_image.specs.Told.{Grows, GrowsInPart}
+use Rattle.blk_image.specs.Told.{Applies, AppliesPrefix}
 use Rattle.blk_image.specs.Steps.{words, word_steps}
 use Rattle.blk_io.specs.FileNames.{file_of}
 use Rattle.blk_io.specs.Neighbours.{run_from}
@@ -20,10 +20,10 @@ same_steps : (f : File) (at : ℕ) (values : List ℕ) (arrays : List (List ℕ)
 same_steps f at values arrays bytes aligned each all =
     ap (words f at) (all ∙ ap (flat_map (λ (x : List ℕ). x)) each ∙ joined values) ∙ words-run f at values aligned
 
-pub returns-clause-whole : goal.returns-clause-whole
-returns-clause-whole g c =
-    on_ok_weaker c.write_at.result (λ grows. subst (Grows _ _) (same_steps (file_of c.args.file) c.args.at c.args.words.now _ _ c.requires.aligned c.bytes_of-bytes.ensures c.as_flattened.ensures.value) grows) c.write_at.ensures.whole
+pub returns-clause-steps : goal.returns-clause-steps
+returns-clause-steps g c =
+    on_ok_weaker c.write_at.result (λ grows. subst (Applies _ _) (same_steps (file_of c.args.file) c.args.at c.args.words.now _ _ c.requires.aligned c.bytes_of-bytes.ensures c.as_flattened.ensures.value) grows) c.write_at.ensures.steps
 
-pub returns-clause-part : goal.returns-clause-part
-returns-clause-part g c =
-    subst (GrowsInPart _ _) (same_steps (file_of c.args.file) c.args.at c.args.words.now _ _ c.requires.aligned c.bytes_of-bytes.ensures c.as_flattened.ensures.value) c.write_at.ensures.part
+pub returns-clause-prefix : goal.returns-clause-prefix
+returns-clause-prefix g c =
+    subst (AppliesPrefix _ _) (same_steps (file_of c.args.file) c.args.at c.args.words.now _ _ c.requires.aligned c.bytes_of-bytes.ensures c.as_flattened.ensures.value) c.write_at.ensures.prefix

@@ -2,4 +2,4 @@ use Rattle.blk_laws.proofs.WordStops.{completions-can, completions-keep, complet
 use Rattle.blk_laws.proofs.list_words.completions_at_each_word.Goals as goal
 
 pub returns : goal.returns
-returns c = record { can = completions-can; moments = completions-keep; ends = completions-done; stops = completions-stop }
+returns c = record { can = completions-can; at_each_word = completions-keep; ends = completions-done; stops = completions-stop }

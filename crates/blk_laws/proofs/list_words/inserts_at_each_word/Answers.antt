@@ -2,4 +2,4 @@ use Rattle.blk_laws.proofs.WordTurns.{inserts-can, inserts-turn_words, inserts-r
 use Rattle.blk_laws.proofs.list_words.inserts_at_each_word.Goals as goal
 
 pub returns : goal.returns
-returns c = record { can = inserts-can; turns = inserts-turn_words; ends = inserts-rest }
+returns c = record { can = inserts-can; commits = inserts-turn_words; ends = inserts-rest }

@@ -2,4 +2,4 @@ use Rattle.blk_laws.proofs.WordTurns.{removals-can, removals-turn_words, removal
 use Rattle.blk_laws.proofs.list_words.removals_at_each_word.Goals as goal
 
 pub returns : goal.returns
-returns c = record { can = removals-can; turns = removals-turn_words; ends = removals-rest }
+returns c = record { can = removals-can; commits = removals-turn_words; ends = removals-rest }

@@ -2,12 +2,12 @@ use Rattle.std.proofs.Common.{◌≡◌, List, ◌∷◌, Some, map, sym, ap, �
 use Rattle.std.specs.Option.{ForSome}
 use Rattle.std.proofs.lemmas.Result.{on_ok_weaker}
 use Rattle.blk_image.specs.Image.{Image}
-use Rattle.blk_image.specs.Told.{GrowsInPart}
+use Rattle.blk_image.specs.Told.{AppliesPrefix}
 use Rattle.blk_volume.specs.ListView.{ListWrite}
 use Rattle.blk_volume.specs.ListPlans.{writes_of}
 use Rattle.blk_volume.specs.View.{list_of}
-use Rattle.blk_laws.specs.ListWords.{IsWritable, CanBeMade, Rests, walked}
-use Rattle.blk_laws.specs.ListSteps.{AreOf, AreSealed, IsPartly, steps_of}
+use Rattle.blk_volume.specs.ListImages.{IsWritable, CanBeMade, HasListAtRest, walked}
+use Rattle.blk_volume.specs.ListSteps.{AreOf, AreSealed, IsPartly, steps_of}
 use Rattle.blk_laws.proofs.Sealing.{writes-seal}
 use Rattle.blk_laws.proofs.WordTurns.{inserts-can}
 use Rattle.blk_laws.proofs.WriteSteps.{quiet-writes, writes-in_turn}
@@ -18,16 +18,16 @@ use Rattle.blk_lru.specs.Nodes.{is_node}
 use Rattle.blk_lru.specs.Plans.{whole_plan}
 use Rattle.blk_lru.specs.Writes.{meant}
 use Rattle.blk_lru.proofs.Conditions.{head_read, told_before, told_stays, rested_walk}
-use Rattle.blk_lru.proofs.Operating.{all_made, part_as, part_passes, part_turns, stops_none, turns_none, whole_as}
+use Rattle.blk_lru.proofs.Operating.{all_made, part_as, part_passes, part_commits, stops_none, commits_yet, whole_as}
 use Rattle.blk_lru.proofs.Performing.{ready_writable, told_ready}
 use Rattle.blk_lru.proofs.PlanNodes.{whole_good}
 use Rattle.blk_lru.proofs.PlanWords.{whole_is}
 use Rattle.blk_lru.proofs.changing.insert_front.Given as given
 use Rattle.blk_lru.proofs.changing.insert_front.Goals as goal
 
-pub returns-in_err-head-clause-turns : goal.returns-in_err-head-clause-turns
-returns-in_err-head-clause-turns g c from there =
-    turns_none (g.F.Folder.told c.args.f.now) (g.F.Folder.told c.first.new.f) from (walked from) (c.args.node ∷ walked from) there c.in_err-head.ensures.stays
+pub returns-in_err-head-clause-commits : goal.returns-in_err-head-clause-commits
+returns-in_err-head-clause-commits g c from there =
+    commits_yet (g.F.Folder.told c.args.f.now) (g.F.Folder.told c.first.new.f) from (walked from) (c.args.node ∷ walked from) there c.in_err-head.ensures.stays
     (rested_walk (list_of from) (walked from) (c.requires.apart from there).rest)
 
 pub returns-in_err-head-clause-stops : goal.returns-in_err-head-clause-stops
@@ -65,19 +65,19 @@ perform-requires-clause-check g c image there =
     let here = told_before image c.in_ok-head.ensures.stays there in
     subst (AreOf (λ n. (list_of image).checks n ≡ true)) (sym (plan_is g c image here)) (can_here g c image here).nodes
 
-pub returns-clause-whole : goal.returns-clause-whole
-returns-clause-whole g c =
-    whole_as (g.F.Folder.told c.args.f.now) (g.F.Folder.told c.first.new.f) (g.F.Folder.told c.perform.new.f) c.in_ok-head.ensures.stays (map meant c.deref.result.now) (λ from. writes_of 1 c.args.node (list_of from)) (plan_is g c.before) c.perform.result c.perform.ensures.whole
+pub returns-clause-steps : goal.returns-clause-steps
+returns-clause-steps g c =
+    whole_as (g.F.Folder.told c.args.f.now) (g.F.Folder.told c.first.new.f) (g.F.Folder.told c.perform.new.f) c.in_ok-head.ensures.stays (map meant c.deref.result.now) (λ from. writes_of 1 c.args.node (list_of from)) (plan_is g c.before) c.perform.result c.perform.ensures.steps
 
-part_here : (g : given.Over) (c : goal.After-perform g) → ForSome (g.F.Folder.told c.args.f.now).files (λ from. GrowsInPart (g.F.Folder.told c.args.f.now) (g.F.Folder.told c.perform.new.f) (steps_of (writes_of 1 c.args.node (list_of from)) from))
+part_here : (g : given.Over) (c : goal.After-perform g) → ForSome (g.F.Folder.told c.args.f.now).files (λ from. AppliesPrefix (g.F.Folder.told c.args.f.now) (g.F.Folder.told c.perform.new.f) (steps_of (writes_of 1 c.args.node (list_of from)) from))
 part_here g c =
-    part_as (g.F.Folder.told c.args.f.now) (g.F.Folder.told c.first.new.f) (g.F.Folder.told c.perform.new.f) c.in_ok-head.ensures.stays (map meant c.deref.result.now) (λ from. writes_of 1 c.args.node (list_of from)) (plan_is g c.before) c.perform.ensures.part
+    part_as (g.F.Folder.told c.args.f.now) (g.F.Folder.told c.first.new.f) (g.F.Folder.told c.perform.new.f) c.in_ok-head.ensures.stays (map meant c.deref.result.now) (λ from. writes_of 1 c.args.node (list_of from)) (plan_is g c.before) c.perform.ensures.prefix
 
 writable_here : (g : given.Over) (c : goal.After-perform g) (from : Image) → (g.F.Folder.told c.args.f.now).files ≡ Some from → IsWritable from
 writable_here g c from there = ready_writable (told_ready c.args.files.now (g.F.Folder.told c.args.f.now) c.requires.agrees c.requires.complete (g.met.F.Folder.are_bytes c.args.f.now) from there)
 
-pub returns-clause-part : goal.returns-clause-part
-returns-clause-part g c = part_here g c
+pub returns-clause-prefix : goal.returns-clause-prefix
+returns-clause-prefix g c = part_here g c
 
 pub returns-clause-stops : goal.returns-clause-stops
 returns-clause-stops g c from there =
@@ -89,15 +89,15 @@ pub returns-clause-inserted : goal.returns-clause-inserted
 returns-clause-inserted g c =
     on_ok_weaker c.perform.result
     (λ grows from there image here.
-    all_made (g.F.Folder.told c.args.f.now) (g.F.Folder.told c.perform.new.f) from there (steps_of (writes_of 1 c.args.node (list_of from)) from) (Rests (c.args.node ∷ walked from)) (grows from there) image here
+    all_made (g.F.Folder.told c.args.f.now) (g.F.Folder.told c.perform.new.f) from there (steps_of (writes_of 1 c.args.node (list_of from)) from) (HasListAtRest (c.args.node ∷ walked from)) (grows from there) image here
     (c.inserts_at_each_word.ensures.ends from c.args.node (walked from) (writable_here g c from there) (c.requires.apart from there)))
-    (returns-clause-whole g c)
+    (returns-clause-steps g c)
 
-pub returns-clause-turns : goal.returns-clause-turns
-returns-clause-turns g c from there =
+pub returns-clause-commits : goal.returns-clause-commits
+returns-clause-commits g c from there =
     let ws : List ListWrite = writes_of 1 c.args.node (list_of from) in
-    part_turns (g.F.Folder.told c.args.f.now) (g.F.Folder.told c.perform.new.f) from there (steps_of ws from) (quiet-writes ws from) (part_here g c from there) (walked from) (c.args.node ∷ walked from)
-    (c.inserts_at_each_word.ensures.turns from c.args.node (walked from) (writable_here g c from there) (c.requires.apart from there))
+    part_commits (g.F.Folder.told c.args.f.now) (g.F.Folder.told c.perform.new.f) from there (steps_of ws from) (quiet-writes ws from) (part_here g c from there) (walked from) (c.args.node ∷ walked from)
+    (c.inserts_at_each_word.ensures.commits from c.args.node (walked from) (writable_here g c from there) (c.requires.apart from there))
 
 pub returns-clause-sealed : goal.returns-clause-sealed
 returns-clause-sealed g c =
@@ -105,4 +105,4 @@ returns-clause-sealed g c =
     (λ grows from there image here.
     let ws : List ListWrite = writes_of 1 c.args.node (list_of from) in
     all_made (g.F.Folder.told c.args.f.now) (g.F.Folder.told c.perform.new.f) from there (steps_of ws from) (AreSealed ws) (grows from there) image here (writes-seal from ws (writable_here g c from there) (can_here g c.before from there)))
-    (returns-clause-whole g c)
+    (returns-clause-steps g c)

@@ -1,12 +1,12 @@
 use Rattle.std.proofs.Common.{◌≡◌, List, Some, map, sym, ap, ◌∙◌, subst, true}
 use Rattle.std.specs.Option.{ForSome}
 use Rattle.blk_image.specs.Image.{Image}
-use Rattle.blk_image.specs.Told.{GrowsInPart}
+use Rattle.blk_image.specs.Told.{AppliesPrefix}
 use Rattle.blk_volume.specs.ListView.{ListWrite}
 use Rattle.blk_volume.specs.ListPlans.{writes_of}
 use Rattle.blk_volume.specs.View.{list_of}
-use Rattle.blk_laws.specs.ListWords.{IsWritable, CanBeMade, walked}
-use Rattle.blk_laws.specs.ListSteps.{AreOf, IsPartly, steps_of}
+use Rattle.blk_volume.specs.ListImages.{IsWritable, CanBeMade, walked}
+use Rattle.blk_volume.specs.ListSteps.{AreOf, IsPartly, steps_of}
 use Rattle.blk_laws.proofs.WordTurns.{moves-can}
 use Rattle.blk_laws.proofs.WriteSteps.{quiet-writes, writes-in_turn}
 use Rattle.blk_laws.proofs.WriteWords.{Each, Good, each_nodes, each_words}
@@ -23,21 +23,21 @@ use Rattle.blk_lru.proofs.PlanWords.{whole_is}
 use Rattle.blk_lru.proofs.changing.move_behind.Given as given
 use Rattle.blk_lru.proofs.changing.move_behind.Goals as goal
 
-pub returns-in_err-beside-clause-stops : goal.returns-in_err-beside-clause-stops
-returns-in_err-beside-clause-stops g c from there = stops_none (g.F.Folder.told c.args.f.now) (g.F.Folder.told c.beside.new.f) from (writes_of 3 c.args.node (list_of from)) there c.in_err-beside.ensures.stays
+pub returns-in_err-neighbours-clause-stops : goal.returns-in_err-neighbours-clause-stops
+returns-in_err-neighbours-clause-stops g c from there = stops_none (g.F.Folder.told c.args.f.now) (g.F.Folder.told c.neighbours.new.f) from (writes_of 3 c.args.node (list_of from)) there c.in_err-neighbours.ensures.stays
 
-pub returns-in_err-beside-clause-agrees : goal.returns-in_err-beside-clause-agrees
-returns-in_err-beside-clause-agrees g c = told_stays (Agrees c.args.files.now) c.in_err-beside.ensures.stays c.requires.agrees
+pub returns-in_err-neighbours-clause-agrees : goal.returns-in_err-neighbours-clause-agrees
+returns-in_err-neighbours-clause-agrees g c = told_stays (Agrees c.args.files.now) c.in_err-neighbours.ensures.stays c.requires.agrees
 
 -- the plan
-words_are : (g : given.Over) (c : goal.After-deref g) → map meant c.deref.result.now ≡ whole_plan c.args.node (operations.Move (Some c.in_ok-beside.beside) c.args.head)
+words_are : (g : given.Over) (c : goal.After-deref g) → map meant c.deref.result.now ≡ whole_plan c.args.node (operations.Move (Some c.in_ok-neighbours.neighbours) c.args.head)
 words_are g c = ap (map meant) c.deref.ensures.0 ∙ c.plan_of-plan.ensures
 
 plan_is : (g : given.Over) (c : goal.After-deref g) → ForSome (g.F.Folder.told c.args.f.now).files (λ from. map meant c.deref.result.now ≡ writes_of 3 c.args.node (list_of from))
-plan_is g c from there = words_are g c ∙ whole_is (list_of from) c.args.node (operations.Move (Some c.in_ok-beside.beside) c.args.head) (c.in_ok-beside.ensures.words from there, sym (head_read (list_of from) (walked from) c.args.head (c.requires.listed from there).rest.whole (c.requires.head from there)))
+plan_is g c from there = words_are g c ∙ whole_is (list_of from) c.args.node (operations.Move (Some c.in_ok-neighbours.neighbours) c.args.head) (c.in_ok-neighbours.ensures.words from there, sym (head_read (list_of from) (walked from) c.args.head (c.requires.listed from there).rest.whole (c.requires.head from there)))
 
 good_here : (g : given.Over) (c : goal.After-deref g) → Each (Good (λ n. is_node c.args.files.now n ≡ true)) (map meant c.deref.result.now)
-good_here g c = subst (Each (Good (λ n. is_node c.args.files.now n ≡ true))) (sym (words_are g c)) (whole_good c.args.files.now c.args.node c.requires.stands (operations.Move (Some c.in_ok-beside.beside) c.args.head) (c.in_ok-beside.ensures.stand, c.requires.first))
+good_here g c = subst (Each (Good (λ n. is_node c.args.files.now n ≡ true))) (sym (words_are g c)) (whole_good c.args.files.now c.args.node c.requires.stands (operations.Move (Some c.in_ok-neighbours.neighbours) c.args.head) (c.in_ok-neighbours.ensures.stand, c.requires.first))
 
 can_here : (g : given.Over) (c : goal.After-deref g) (from : Image) → (g.F.Folder.told c.args.f.now).files ≡ Some from → CanBeMade from (writes_of 3 c.args.node (list_of from))
 can_here g c from there = (let a = around c.args.node from (c.requires.listed from there) in moves-can from c.args.node a.0 a.1 a.2)
@@ -49,24 +49,24 @@ pub perform-requires-clause-words : goal.perform-requires-clause-words
 perform-requires-clause-words g c = each_words (λ n. is_node c.args.files.now n ≡ true) (map meant c.deref.result.now) (good_here g c)
 
 pub perform-requires-clause-agrees : goal.perform-requires-clause-agrees
-perform-requires-clause-agrees g c = told_stays (Agrees c.args.files.now) c.in_ok-beside.ensures.stays c.requires.agrees
+perform-requires-clause-agrees g c = told_stays (Agrees c.args.files.now) c.in_ok-neighbours.ensures.stays c.requires.agrees
 
 pub perform-requires-clause-check : goal.perform-requires-clause-check
 perform-requires-clause-check g c image there =
-    let here = told_before image c.in_ok-beside.ensures.stays there in
+    let here = told_before image c.in_ok-neighbours.ensures.stays there in
     subst (AreOf (λ n. (list_of image).checks n ≡ true)) (sym (plan_is g c image here)) (can_here g c image here).nodes
 
-pub returns-clause-whole : goal.returns-clause-whole
-returns-clause-whole g c = whole_as (g.F.Folder.told c.args.f.now) (g.F.Folder.told c.beside.new.f) (g.F.Folder.told c.perform.new.f) c.in_ok-beside.ensures.stays (map meant c.deref.result.now) (λ from. writes_of 3 c.args.node (list_of from)) (plan_is g c.before) c.perform.result c.perform.ensures.whole
+pub returns-clause-steps : goal.returns-clause-steps
+returns-clause-steps g c = whole_as (g.F.Folder.told c.args.f.now) (g.F.Folder.told c.neighbours.new.f) (g.F.Folder.told c.perform.new.f) c.in_ok-neighbours.ensures.stays (map meant c.deref.result.now) (λ from. writes_of 3 c.args.node (list_of from)) (plan_is g c.before) c.perform.result c.perform.ensures.steps
 
-part_here : (g : given.Over) (c : goal.After-perform g) → ForSome (g.F.Folder.told c.args.f.now).files (λ from. GrowsInPart (g.F.Folder.told c.args.f.now) (g.F.Folder.told c.perform.new.f) (steps_of (writes_of 3 c.args.node (list_of from)) from))
-part_here g c = part_as (g.F.Folder.told c.args.f.now) (g.F.Folder.told c.beside.new.f) (g.F.Folder.told c.perform.new.f) c.in_ok-beside.ensures.stays (map meant c.deref.result.now) (λ from. writes_of 3 c.args.node (list_of from)) (plan_is g c.before) c.perform.ensures.part
+part_here : (g : given.Over) (c : goal.After-perform g) → ForSome (g.F.Folder.told c.args.f.now).files (λ from. AppliesPrefix (g.F.Folder.told c.args.f.now) (g.F.Folder.told c.perform.new.f) (steps_of (writes_of 3 c.args.node (list_of from)) from))
+part_here g c = part_as (g.F.Folder.told c.args.f.now) (g.F.Folder.told c.neighbours.new.f) (g.F.Folder.told c.perform.new.f) c.in_ok-neighbours.ensures.stays (map meant c.deref.result.now) (λ from. writes_of 3 c.args.node (list_of from)) (plan_is g c.before) c.perform.ensures.prefix
 
 writable_here : (g : given.Over) (c : goal.After-perform g) (from : Image) → (g.F.Folder.told c.args.f.now).files ≡ Some from → IsWritable from
 writable_here g c from there = ready_writable (told_ready c.args.files.now (g.F.Folder.told c.args.f.now) c.requires.agrees c.requires.complete (g.met.F.Folder.are_bytes c.args.f.now) from there)
 
-pub returns-clause-part : goal.returns-clause-part
-returns-clause-part g c = part_here g c
+pub returns-clause-prefix : goal.returns-clause-prefix
+returns-clause-prefix g c = part_here g c
 
 pub returns-clause-stops : goal.returns-clause-stops
 returns-clause-stops g c from there =

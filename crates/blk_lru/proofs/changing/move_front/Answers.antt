@@ -3,12 +3,12 @@ use Rattle.std.specs.Prelude.{◌==◌}
 use Rattle.std.specs.Option.{option_eq}
 use Rattle.std.proofs.lemmas.Bool.{ne_eqb}
 use Rattle.std.proofs.lemmas.Result.{on_ok_weaker}
-use Rattle.blk_image.specs.Told.{Told, Grows}
+use Rattle.blk_image.specs.Told.{Told, Applies}
 use Rattle.blk_volume.specs.ListPlans.{touch_writes, writes_of}
 use Rattle.blk_volume.specs.ListView.{ListView, ListWrite}
 use Rattle.blk_volume.specs.View.{list_of}
-use Rattle.blk_laws.specs.ListWords.{walked}
-use Rattle.blk_laws.specs.ListSteps.{steps_of}
+use Rattle.blk_volume.specs.ListImages.{walked}
+use Rattle.blk_volume.specs.ListSteps.{steps_of}
 use Rattle.blk_disk.specs.declared.tables.BlockFiles.{BlockFiles}
 use Rattle.blk_disk.specs.Tables.{Agrees}
 use Rattle.blk_lru.specs.Nodes.{is_node}
@@ -41,12 +41,12 @@ returns-then-eq-clause-agrees g c = told_stays (Agrees c.args.files.now) c.in_ok
 pub move_behind-requires-clause-agrees : goal.move_behind-requires-clause-agrees
 move_behind-requires-clause-agrees g c = told_stays (Agrees c.args.files.now) c.in_ok-head.ensures.stays c.requires.agrees
 
-pub returns-clause-whole : goal.returns-clause-whole
-returns-clause-whole g c =
+pub returns-clause-steps : goal.returns-clause-steps
+returns-clause-steps g c =
     on_ok_weaker c.move_behind.result
     (λ grows from there.
     let head = head_read (list_of from) (walked from) c.in_ok-head.head (c.requires.listed from there).rest.whole (c.in_ok-head.ensures.node from there) in
     let other : ((list_of from).head == c.args.node) ≡ false = ap (λ (w : ℕ). w == c.args.node) head ∙ apart c.args.files.now c.args.node c.requires.stands c.in_ok-head.head (sym c.eq.ensures ∙ c.if-eq.false) in
-    subst (λ (ws : List ListWrite). Grows (g.F.Folder.told c.args.f.now) (g.F.Folder.told c.move_behind.new.f) (steps_of ws from)) (some_touch (list_of from) c.args.node other)
-    (subst (λ (t : Told). Grows t (g.F.Folder.told c.move_behind.new.f) (steps_of (writes_of 3 c.args.node (list_of from)) from)) c.in_ok-head.ensures.stays (grows from (ap (λ (t : Told). t.files) c.in_ok-head.ensures.stays ∙ there))))
-    c.move_behind.ensures.whole
+    subst (λ (ws : List ListWrite). Applies (g.F.Folder.told c.args.f.now) (g.F.Folder.told c.move_behind.new.f) (steps_of ws from)) (some_touch (list_of from) c.args.node other)
+    (subst (λ (t : Told). Applies t (g.F.Folder.told c.move_behind.new.f) (steps_of (writes_of 3 c.args.node (list_of from)) from)) c.in_ok-head.ensures.stays (grows from (ap (λ (t : Told). t.files) c.in_ok-head.ensures.stays ∙ there))))
+    c.move_behind.ensures.steps

@@ -3,13 +3,13 @@ use Rattle.std.specs.Option.{ForSome}
 use Rattle.std.proofs.lemmas.Bool.{ne_eqb}
 use Rattle.std.proofs.lemmas.Result.{on_ok_weaker}
 use Rattle.blk_image.specs.Image.{Image}
-use Rattle.blk_image.specs.Told.{Grows, GrowsInPart}
+use Rattle.blk_image.specs.Told.{Applies, AppliesPrefix}
 use Rattle.blk_image.proofs.Runs.{grows_none}
 use Rattle.blk_volume.specs.ListView.{ListWrite}
 use Rattle.blk_volume.specs.View.{list_of}
 use Rattle.blk_volume.specs.ListPlans.{completion_writes}
-use Rattle.blk_laws.specs.ListSteps.{AreSealed, IsPartly, steps_of}
-use Rattle.blk_laws.specs.ListWords.{IsWritable, CanBeMade, CompletesAlike, IsCompleted, completion_steps}
+use Rattle.blk_volume.specs.ListSteps.{AreSealed, IsPartly, steps_of}
+use Rattle.blk_volume.specs.ListImages.{IsWritable, CanBeMade, CompletesAlike, IsCompleted, completion_steps}
 use Rattle.blk_laws.proofs.Sealing.{writes-seal}
 use Rattle.blk_laws.proofs.WordStops.{completions-can, completions-done, completions-keep}
 use Rattle.blk_laws.proofs.WriteSteps.{quiet-writes, writes-in_turn}
@@ -30,10 +30,10 @@ returns-in_err-transaction-clause-stops g c from there = stops_none (g.F.Folder.
 pub returns-in_err-transaction-clause-agrees : goal.returns-in_err-transaction-clause-agrees
 returns-in_err-transaction-clause-agrees g c = told_stays (Agrees c.args.files.now) c.in_err-transaction.ensures.stays c.requires.agrees
 
-pub returns-then-transaction-eq0-clause-whole : goal.returns-then-transaction-eq0-clause-whole
+pub returns-then-transaction-eq0-clause-steps : goal.returns-then-transaction-eq0-clause-steps
 unfolding list_of
-returns-then-transaction-eq0-clause-whole g c from there =
-    subst (λ (ws : List ListWrite). Grows (g.F.Folder.told c.args.f.now) (g.F.Folder.told c.word.new.f) (steps_of ws from))
+returns-then-transaction-eq0-clause-steps g c from there =
+    subst (λ (ws : List ListWrite). Applies (g.F.Folder.told c.args.f.now) (g.F.Folder.told c.word.new.f) (steps_of ws from))
     (sym (nothing_finishes (list_of from) (sym (c.in_ok-transaction.ensures.word from there) ∙ c.if-transaction-eq0.true))) (grows_none c.in_ok-transaction.ensures.stays)
 
 pub returns-then-transaction-eq0-clause-done : goal.returns-then-transaction-eq0-clause-done
@@ -80,13 +80,13 @@ finishes g c from there = some_finishes (list_of from) (ne_eqb _ 0 (λ zero. c.i
 plan_is : (g : given.Over) (c : goal.After-deref g) → ForSome (g.F.Folder.told c.args.f.now).files (λ from. map meant c.deref.result.now ≡ finishing_writes (list_of from))
 plan_is g c from there = ap (map meant) c.deref.ensures.0 ∙ c.in_ok-plan.ensures.plan from (told_now from c.in_ok-transaction.ensures.stays there) ∙ sym (finishes g c from there)
 
-pub returns-clause-whole : goal.returns-clause-whole
-returns-clause-whole g c =
-    whole_as (g.F.Folder.told c.args.f.now) (g.F.Folder.told c.completion.new.f) (g.F.Folder.told c.perform.new.f) (stays_here g c.before) (map meant c.deref.result.now) (λ from. finishing_writes (list_of from)) (plan_is g c.before) c.perform.result c.perform.ensures.whole
+pub returns-clause-steps : goal.returns-clause-steps
+returns-clause-steps g c =
+    whole_as (g.F.Folder.told c.args.f.now) (g.F.Folder.told c.completion.new.f) (g.F.Folder.told c.perform.new.f) (stays_here g c.before) (map meant c.deref.result.now) (λ from. finishing_writes (list_of from)) (plan_is g c.before) c.perform.result c.perform.ensures.steps
 
-pub returns-clause-part : goal.returns-clause-part
-returns-clause-part g c =
-    part_as (g.F.Folder.told c.args.f.now) (g.F.Folder.told c.completion.new.f) (g.F.Folder.told c.perform.new.f) (stays_here g c.before) (map meant c.deref.result.now) (λ from. finishing_writes (list_of from)) (plan_is g c.before) c.perform.ensures.part
+pub returns-clause-prefix : goal.returns-clause-prefix
+returns-clause-prefix g c =
+    part_as (g.F.Folder.told c.args.f.now) (g.F.Folder.told c.completion.new.f) (g.F.Folder.told c.perform.new.f) (stays_here g c.before) (map meant c.deref.result.now) (λ from. finishing_writes (list_of from)) (plan_is g c.before) c.perform.ensures.prefix
 
 writable_here : (g : given.Over) (c : goal.After-perform g) (from : Image) → (g.F.Folder.told c.args.f.now).files ≡ Some from → IsWritable from
 writable_here g c from there = ready_writable (told_ready c.args.files.now (g.F.Folder.told c.args.f.now) c.requires.agrees c.requires.complete (g.met.F.Folder.are_bytes c.args.f.now) from there)
@@ -100,21 +100,21 @@ returns-clause-done g c =
     (λ grows from there image here.
     let old = g.F.Folder.told c.args.f.now in
     let now = g.F.Folder.told c.perform.new.f in
-    all_made old now from there (completion_steps from) (IsCompleted from) (subst (λ (ws : List ListWrite). Grows old now (steps_of ws from)) (finishes g c.before from there) (grows from there)) image here
+    all_made old now from there (completion_steps from) (IsCompleted from) (subst (λ (ws : List ListWrite). Applies old now (steps_of ws from)) (finishes g c.before from there) (grows from there)) image here
     (completions-done from (writable_here g c from there)))
-    (returns-clause-whole g c)
+    (returns-clause-steps g c)
 
 pub returns-clause-stops : goal.returns-clause-stops
 returns-clause-stops g c from there =
     let ws : List ListWrite = finishing_writes (list_of from) in
-    part_passes (g.F.Folder.told c.args.f.now) (g.F.Folder.told c.perform.new.f) from there (steps_of ws from) (quiet-writes ws from) (returns-clause-part g c from there) (IsPartly from ws) (writes-in_turn from ws (writable_here g c from there) (can_here g c from there))
+    part_passes (g.F.Folder.told c.args.f.now) (g.F.Folder.told c.perform.new.f) from there (steps_of ws from) (quiet-writes ws from) (returns-clause-prefix g c from there) (IsPartly from ws) (writes-in_turn from ws (writable_here g c from there) (can_here g c from there))
 
 pub returns-clause-keeps : goal.returns-clause-keeps
 returns-clause-keeps g c from there =
     let old = g.F.Folder.told c.args.f.now in
     let now = g.F.Folder.told c.perform.new.f in
     part_passes old now from there (completion_steps from) (quiet-writes (completion_writes (list_of from)) from)
-    (subst (λ (ws : List ListWrite). GrowsInPart old now (steps_of ws from)) (finishes g c.before from there) (returns-clause-part g c from there)) (CompletesAlike from)
+    (subst (λ (ws : List ListWrite). AppliesPrefix old now (steps_of ws from)) (finishes g c.before from there) (returns-clause-prefix g c from there)) (CompletesAlike from)
     (completions-keep from (writable_here g c from there))
 
 pub returns-clause-sealed : goal.returns-clause-sealed
@@ -123,4 +123,4 @@ returns-clause-sealed g c =
     (λ grows from there image here.
     let ws : List ListWrite = finishing_writes (list_of from) in
     all_made (g.F.Folder.told c.args.f.now) (g.F.Folder.told c.perform.new.f) from there (steps_of ws from) (AreSealed ws) (grows from there) image here (writes-seal from ws (writable_here g c from there) (can_here g c from there)))
-    (returns-clause-whole g c)
+    (returns-clause-steps g c)

@@ -1,7 +1,7 @@
 use Rattle.std.proofs.Common.{rules, ◌≡◌, ◌∙◌, ℕ, Some, true, sym, subst}
 use Rattle.blk_image.specs.Image.{Image}
 use Rattle.blk_volume.specs.View.{list_of}
-use Rattle.blk_laws.specs.ListSteps.{AreOf, AreWords}
+use Rattle.blk_volume.specs.ListSteps.{AreOf, AreWords}
 use Rattle.blk_laws.proofs.WriteWords.{Each, Good, completion_can, each_nodes, each_words}
 use Rattle.blk_lru.specs.Completing.{AreNodes, Finds}
 use Rattle.blk_lru.specs.Nodes.{is_node}

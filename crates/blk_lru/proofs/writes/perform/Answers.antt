@@ -47,8 +47,8 @@ write_one-requires-clause-check g c image there =
     let reached : Reached old now ws (meant c.write-item.result ∷ left) = subst (Reached old now ws) (at_item c.args.writes.now c.loop-write.write-index c.write-item.result c.write-item.result c.loop-write-test.true (sym c.write-item.is)) c.loop-write.invariant.reached in
     first_checks (list_of image).checks c.write-item.result left (midst c.args.files.now old ws ready can now (meant c.write-item.result ∷ left) reached image there).1.nodes
 
-pub returns-in_err-write_one-clause-part : goal.returns-in_err-write_one-clause-part
-returns-in_err-write_one-clause-part g c =
+pub returns-in_err-write_one-clause-prefix : goal.returns-in_err-write_one-clause-prefix
+returns-in_err-write_one-clause-prefix g c =
     let old = g.F.Folder.told c.args.f.now in
     let ws : List ListWrite = map meant c.args.writes.now in
     let ready = told_ready c.args.files.now old c.requires.agrees c.requires.complete (g.met.F.Folder.are_bytes c.args.f.now) in
@@ -57,7 +57,7 @@ returns-in_err-write_one-clause-part g c =
     let left : List ListWrite = map meant (drop (c.loop-write.write-index + 1) c.args.writes.now) in
     let reached : Reached old now ws (meant c.write-item.result ∷ left) = subst (Reached old now ws) (at_item c.args.writes.now c.loop-write.write-index c.write-item.result c.write-item.result c.loop-write-test.true (sym c.write-item.is)) c.loop-write.invariant.reached in
     let next = g.F.Folder.told c.write_one.new.f in
-    in_part c.args.files.now old ws ready can now next (meant c.write-item.result) left reached c.in_err-write_one.ensures.part
+    in_part c.args.files.now old ws ready can now next (meant c.write-item.result) left reached c.in_err-write_one.ensures.prefix
 
 pub returns-in_err-write_one-clause-stops : goal.returns-in_err-write_one-clause-stops
 returns-in_err-write_one-clause-stops g c =
@@ -69,7 +69,7 @@ returns-in_err-write_one-clause-stops g c =
     let left : List ListWrite = map meant (drop (c.loop-write.write-index + 1) c.args.writes.now) in
     let reached : Reached old now ws (meant c.write-item.result ∷ left) = subst (Reached old now ws) (at_item c.args.writes.now c.loop-write.write-index c.write-item.result c.write-item.result c.loop-write-test.true (sym c.write-item.is)) c.loop-write.invariant.reached in
     let next = g.F.Folder.told c.write_one.new.f in
-    let part = in_part c.args.files.now old ws ready can now next (meant c.write-item.result) left reached c.in_err-write_one.ensures.part in
+    let part = in_part c.args.files.now old ws ready can now next (meant c.write-item.result) left reached c.in_err-write_one.ensures.prefix in
     let silent : old.files ≡ None → next.files ≡ None = λ none. c.in_err-write_one.ensures.silent (reached.wrote.silent none) in
     passes c.args.files.now old ws ready can next part
 
@@ -83,7 +83,7 @@ returns-in_err-write_one-clause-complete g c image there =
     let left : List ListWrite = map meant (drop (c.loop-write.write-index + 1) c.args.writes.now) in
     let reached : Reached old now ws (meant c.write-item.result ∷ left) = subst (Reached old now ws) (at_item c.args.writes.now c.loop-write.write-index c.write-item.result c.write-item.result c.loop-write-test.true (sym c.write-item.is)) c.loop-write.invariant.reached in
     let next = g.F.Folder.told c.write_one.new.f in
-    let part = in_part c.args.files.now old ws ready can now next (meant c.write-item.result) left reached c.in_err-write_one.ensures.part in
+    let part = in_part c.args.files.now old ws ready can now next (meant c.write-item.result) left reached c.in_err-write_one.ensures.prefix in
     let silent : old.files ≡ None → next.files ≡ None = λ none. c.in_err-write_one.ensures.silent (reached.wrote.silent none) in
     (part_ready c.args.files.now old ws ready can next part silent image there).1
 
@@ -97,7 +97,7 @@ returns-in_err-write_one-clause-agrees g c image there =
     let left : List ListWrite = map meant (drop (c.loop-write.write-index + 1) c.args.writes.now) in
     let reached : Reached old now ws (meant c.write-item.result ∷ left) = subst (Reached old now ws) (at_item c.args.writes.now c.loop-write.write-index c.write-item.result c.write-item.result c.loop-write-test.true (sym c.write-item.is)) c.loop-write.invariant.reached in
     let next = g.F.Folder.told c.write_one.new.f in
-    let part = in_part c.args.files.now old ws ready can now next (meant c.write-item.result) left reached c.in_err-write_one.ensures.part in
+    let part = in_part c.args.files.now old ws ready can now next (meant c.write-item.result) left reached c.in_err-write_one.ensures.prefix in
     let silent : old.files ≡ None → next.files ≡ None = λ none. c.in_err-write_one.ensures.silent (reached.wrote.silent none) in
     (part_ready c.args.files.now old ws ready can next part silent image there).0
 
@@ -122,20 +122,20 @@ loop-write-preserved g c =
     let left : List ListWrite = map meant (drop (c.loop-write.write-index + 1) c.args.writes.now) in
     let reached : Reached old now ws (meant c.write-item.result ∷ left) = subst (Reached old now ws) (at_item c.args.writes.now c.loop-write.write-index c.write-item.result c.write-item.result c.loop-write-test.true (sym c.write-item.is)) c.loop-write.invariant.reached in
     let next = g.F.Folder.told c.write_one.new.f in
-    record { reached = one_more c.args.files.now old ws ready can now next (meant c.write-item.result) left reached c.in_ok-write_one.ensures.whole c.in_ok-write_one.ensures.silent; later = omega (arith, c.loop-write.invariant.later, c.in_ok-write_one.ensures.later) }
+    record { reached = one_more c.args.files.now old ws ready can now next (meant c.write-item.result) left reached c.in_ok-write_one.ensures.steps c.in_ok-write_one.ensures.silent; later = omega (arith, c.loop-write.invariant.later, c.in_ok-write_one.ensures.later) }
 
-pub returns-clause-whole : goal.returns-clause-whole
-returns-clause-whole g c =
+pub returns-clause-steps : goal.returns-clause-steps
+returns-clause-steps g c =
     let old = g.F.Folder.told c.args.f.now in
     let ws : List ListWrite = map meant c.args.writes.now in
     let ready = told_ready c.args.files.now old c.requires.agrees c.requires.complete (g.met.F.Folder.are_bytes c.args.f.now) in
     let can = told_can old ws c.requires.words c.requires.check in
     let now = g.F.Folder.told c.loop-write.f in
     let wrote : Wrote old now ws = done_all c.args.files.now old ws ready can now (subst (Reached old now ws) (all_done c.args.writes.now c.loop-write.write-index c.loop-write-test.false) c.loop-write.invariant.reached) in
-    wrote.grows
+    wrote.applies
 
-pub returns-clause-part : goal.returns-clause-part
-returns-clause-part g c =
+pub returns-clause-prefix : goal.returns-clause-prefix
+returns-clause-prefix g c =
     let old = g.F.Folder.told c.args.f.now in
     let ws : List ListWrite = map meant c.args.writes.now in
     let ready = told_ready c.args.files.now old c.requires.agrees c.requires.complete (g.met.F.Folder.are_bytes c.args.f.now) in

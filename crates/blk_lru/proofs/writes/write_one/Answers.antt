@@ -1,9 +1,9 @@
 use Rattle.std.proofs.Common.{◌≡◌, ◌∷◌, [], sym, subst, true}
 use Rattle.std.specs.Prelude.{OnOk}
 use Rattle.std.specs.Option.{ForSome}
-use Rattle.blk_image.specs.Told.{Grows}
+use Rattle.blk_image.specs.Told.{Applies}
 use Rattle.blk_volume.specs.View.{list_of}
-use Rattle.blk_laws.specs.ListSteps.{AreOf, write_steps}
+use Rattle.blk_volume.specs.ListSteps.{AreOf, write_steps}
 use Rattle.blk_lru.specs.declared.writes.Write.{Write}
 use Rattle.blk_lru.specs.Writes.{meant}
 use Rattle.blk_lru.proofs.writes.write_one.Goals as goal
@@ -14,10 +14,10 @@ set_link-requires-clause-check g c image there = (subst (λ (v : Write). AreOf (
 pub set_link-requires-in-Prev-clause-check : goal.set_link-requires-in-Prev-clause-check
 set_link-requires-in-Prev-clause-check g c image there = (subst (λ (v : Write). AreOf (λ n. (list_of image).checks n ≡ true) (meant v ∷ [])) c.in-Prev.is (c.requires.check image there)).0
 
-pub returns-in-Next-clause-whole : goal.returns-in-Next-clause-whole
+pub returns-in-Next-clause-steps : goal.returns-in-Next-clause-steps
 unfolding write_steps
-returns-in-Next-clause-whole g c = subst (λ (v : Write). OnOk c.set_link.result (ForSome (g.F.Folder.told c.args.f.now).files (λ from. Grows (g.F.Folder.told c.args.f.now) (g.F.Folder.told c.set_link.new.f) (write_steps (meant v) from)))) (sym c.in-Next.is) c.set_link.ensures.whole
+returns-in-Next-clause-steps g c = subst (λ (v : Write). OnOk c.set_link.result (ForSome (g.F.Folder.told c.args.f.now).files (λ from. Applies (g.F.Folder.told c.args.f.now) (g.F.Folder.told c.set_link.new.f) (write_steps (meant v) from)))) (sym c.in-Next.is) c.set_link.ensures.steps
 
-pub returns-in-Prev-clause-whole : goal.returns-in-Prev-clause-whole
+pub returns-in-Prev-clause-steps : goal.returns-in-Prev-clause-steps
 unfolding write_steps
-returns-in-Prev-clause-whole g c = subst (λ (v : Write). OnOk c.set_link-in-Prev.result (ForSome (g.F.Folder.told c.args.f.now).files (λ from. Grows (g.F.Folder.told c.args.f.now) (g.F.Folder.told c.set_link-in-Prev.new.f) (write_steps (meant v) from)))) (sym c.in-Prev.is) c.set_link-in-Prev.ensures.whole
+returns-in-Prev-clause-steps g c = subst (λ (v : Write). OnOk c.set_link-in-Prev.result (ForSome (g.F.Folder.told c.args.f.now).files (λ from. Applies (g.F.Folder.told c.args.f.now) (g.F.Folder.told c.set_link-in-Prev.new.f) (write_steps (meant v) from)))) (sym c.in-Prev.is) c.set_link-in-Prev.ensures.steps

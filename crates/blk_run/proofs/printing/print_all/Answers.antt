@@ -8,13 +8,13 @@ use Rattle.blk_run.proofs.printing.print_all.Goals as goal
 
 pub returns-in_err-put-clause-front : goal.returns-in_err-put-clause-front
 returns-in_err-put-clause-front g c =
-    let part = then_part _ _ _ _ _ c.loop-piece.invariant.written c.in_err-put.ensures.part in
+    let part = then_part _ _ _ _ _ c.loop-piece.invariant.written c.in_err-put.ensures.prefix in
     subst (Appends _ _) (sym (pieces_split (λ piece. piece.now) c.args.pieces.now c.loop-piece.piece-index (record { ref_ptr = (0, 0); now = [] }) c.loop-piece-test.true)) (part_of _ _ _ _ part)
 
 pub loop-piece-preserved : goal.loop-piece-preserved
 loop-piece-preserved g c = record {
   written =
-      then_more _ _ _ _ _ c.loop-piece.invariant.written c.in_ok-put.ensures.whole
+      then_more _ _ _ _ _ c.loop-piece.invariant.written c.in_ok-put.ensures.steps
       ∙ ap (λ (t : List ℕ). option_map (λ (w : List ℕ). w ++ t) (g.K.Sink.written c.args.out.now)) (sym (one_more (λ piece. piece.now) c.args.pieces.now c.loop-piece.piece-index (record { ref_ptr = (0, 0); now = [] }) c.loop-piece-test.true));
   later = omega arith;
 }

@@ -13,7 +13,7 @@ pub returns-in_err-read_exact-clause-untold : goal.returns-in_err-read_exact-cla
 returns-in_err-read_exact-clause-untold g c =
     carried c.read_exact.result c.from_residual.result c.in_err-read_exact.field-0.0 _ c.in_err-read_exact.was c.from_residual.ensures.1
     (untold_if c.read_exact.result (g.F.Folder.told c.args.f.now) names.Index c.from.result 4096 c.read_exact.ensures.short
-    (λ image there. let size = c.requires.whole image there in omega (arith, size, c.from.ensures, c.requires.piece)))
+    (λ image there. let size = c.requires.complete image there in omega (arith, size, c.from.ensures, c.requires.piece)))
 
 pub returns-in-Some-clause-first : goal.returns-in-Some-clause-first
 returns-in-Some-clause-first g c image there =

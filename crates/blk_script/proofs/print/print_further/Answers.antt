@@ -5,13 +5,13 @@ use Rattle.blk_script.specs.Spelling.{field_text}
 use Rattle.blk_script.proofs.Putting.{not_yet, put_more, put_partly, put_whole}
 use Rattle.blk_script.proofs.print.print_further.Goals as goal
 
-pub returns-clause-whole : goal.returns-clause-whole
-returns-clause-whole g c =
+pub returns-clause-steps : goal.returns-clause-steps
+returns-clause-steps g c =
     on_ok_weaker c.print_field.result
-    (λ put. put_whole _ _ (32 ∷ field_text c.args.field.now) (put_more _ _ _ _ _ (field_text c.args.field.now) [] (put_more _ _ _ _ _ (32 ∷ []) (field_text c.args.field.now) (not_yet _ _) refl c.in_ok-put.ensures.whole) (sym (append-nil _)) put))
-    c.print_field.ensures.whole
+    (λ put. put_whole _ _ (32 ∷ field_text c.args.field.now) (put_more _ _ _ _ _ (field_text c.args.field.now) [] (put_more _ _ _ _ _ (32 ∷ []) (field_text c.args.field.now) (not_yet _ _) refl c.in_ok-put.ensures.steps) (sym (append-nil _)) put))
+    c.print_field.ensures.steps
 
-pub returns-clause-part : goal.returns-clause-part
-returns-clause-part g c =
+pub returns-clause-prefix : goal.returns-clause-prefix
+returns-clause-prefix g c =
     put_partly _ _ _ (32 ∷ field_text c.args.field.now) _ (field_text c.args.field.now) []
-    (put_more _ _ _ _ _ (32 ∷ []) (field_text c.args.field.now) (not_yet _ _) refl c.in_ok-put.ensures.whole) (sym (append-nil _)) c.print_field.ensures.part
+    (put_more _ _ _ _ _ (32 ∷ []) (field_text c.args.field.now) (not_yet _ _) refl c.in_ok-put.ensures.steps) (sym (append-nil _)) c.print_field.ensures.prefix

@@ -16,10 +16,10 @@ loop-piece-init g c =
 
 pub loop-piece-preserved : goal.loop-piece-preserved
 loop-piece-preserved g c = record {
-  put = put_more _ _ _ _ _ c.as_bytes.result.now (encoded_text c.next.new.self) c.loop-piece.invariant.put (c.in-Some.ensures.steps ∙ ap (λ (p : List ℕ). p ++ encoded_text c.next.new.self) (sym c.as_bytes.ensures.value)) c.in_ok-put.ensures.whole;
+  put = put_more _ _ _ _ _ c.as_bytes.result.now (encoded_text c.next.new.self) c.loop-piece.invariant.put (c.in-Some.ensures.steps ∙ ap (λ (p : List ℕ). p ++ encoded_text c.next.new.self) (sym c.as_bytes.ensures.value)) c.in_ok-put.ensures.steps;
   later = omega (arith, c.loop-piece.invariant.later, c.put.ensures.later);
 }
 
-pub returns-in_err-put-clause-part : goal.returns-in_err-put-clause-part
-returns-in_err-put-clause-part g c =
-    put_partly _ _ _ _ _ c.as_bytes.result.now (encoded_text c.next.new.self) c.loop-piece.invariant.put (c.in-Some.ensures.steps ∙ ap (λ (p : List ℕ). p ++ encoded_text c.next.new.self) (sym c.as_bytes.ensures.value)) c.put.ensures.part
+pub returns-in_err-put-clause-prefix : goal.returns-in_err-put-clause-prefix
+returns-in_err-put-clause-prefix g c =
+    put_partly _ _ _ _ _ c.as_bytes.result.now (encoded_text c.next.new.self) c.loop-piece.invariant.put (c.in-Some.ensures.steps ∙ ap (λ (p : List ℕ). p ++ encoded_text c.next.new.self) (sym c.as_bytes.ensures.value)) c.put.ensures.prefix

@@ -2,7 +2,7 @@ use Rattle.std.proofs.Common.{◌≡◌, ℕ, zero, suc, ◌+◌, ◌<◌, ◌�
 use Rattle.std.proofs.lemmas.Result.{on_ok_weaker}
 use Rattle.blk_image.specs.Image.{Block, length_of}
 use Rattle.blk_image.specs.Steps.{TrailStep, word_steps}
-use Rattle.blk_image.specs.Told.{Grows, GrowsInPart}
+use Rattle.blk_image.specs.Told.{Applies, AppliesPrefix}
 use Rattle.blk_image.proofs.Cuts.{word_steps-append}
 use Rattle.blk_image.proofs.Runs.{grows_then, part_only, part_then}
 use Rattle.blk_alloc.specs.Changes.{finish_words}
@@ -23,21 +23,21 @@ pub write_words-requires-clause-inside : goal.write_words-requires-clause-inside
 write_words-requires-clause-inside g c image there = each_inside c.args.self.now.at c.args.self.now.word (length_of image (Block c.args.file)) (c.requires.inside image there) (c.requires.header image there)
 
 pub finish-requires-clause-header : goal.finish-requires-clause-header
-finish-requires-clause-header g c = two_kept c.args.file 56 1 c.args.self.now.at c.args.self.now.word c.in_ok-write_words.ensures.whole c.requires.header
+finish-requires-clause-header g c = two_kept c.args.file 56 1 c.args.self.now.at c.args.self.now.word c.in_ok-write_words.ensures.steps c.requires.header
 
-pub returns-in_err-write_words-clause-part : goal.returns-in_err-write_words-clause-part
-returns-in_err-write_words-clause-part g c =
-    subst (λ (s : List TrailStep). GrowsInPart (g.F.Folder.told c.args.f.now) (g.F.Folder.told c.write_words.new.f) s) (both c.args.file c.args.self.now.at c.args.self.now.word c.args.self.now.counters.allocations c.args.self.now.counters.empty)
-    (part_only (word_steps (Block c.args.file) (finish_words c.args.self.now.counters.allocations c.args.self.now.counters.empty)) c.in_err-write_words.ensures.part)
+pub returns-in_err-write_words-clause-prefix : goal.returns-in_err-write_words-clause-prefix
+returns-in_err-write_words-clause-prefix g c =
+    subst (λ (s : List TrailStep). AppliesPrefix (g.F.Folder.told c.args.f.now) (g.F.Folder.told c.write_words.new.f) s) (both c.args.file c.args.self.now.at c.args.self.now.word c.args.self.now.counters.allocations c.args.self.now.counters.empty)
+    (part_only (word_steps (Block c.args.file) (finish_words c.args.self.now.counters.allocations c.args.self.now.counters.empty)) c.in_err-write_words.ensures.prefix)
 
-pub returns-clause-whole : goal.returns-clause-whole
-returns-clause-whole g c =
+pub returns-clause-steps : goal.returns-clause-steps
+returns-clause-steps g c =
     on_ok_weaker c.finish.result
-    (λ whole. subst (λ (s : List TrailStep). Grows (g.F.Folder.told c.args.f.now) (g.F.Folder.told c.finish.new.f) s) (both c.args.file c.args.self.now.at c.args.self.now.word c.args.self.now.counters.allocations c.args.self.now.counters.empty)
-    (grows_then c.in_ok-write_words.ensures.whole whole))
-    c.finish.ensures.whole
+    (λ whole. subst (λ (s : List TrailStep). Applies (g.F.Folder.told c.args.f.now) (g.F.Folder.told c.finish.new.f) s) (both c.args.file c.args.self.now.at c.args.self.now.word c.args.self.now.counters.allocations c.args.self.now.counters.empty)
+    (grows_then c.in_ok-write_words.ensures.steps whole))
+    c.finish.ensures.steps
 
-pub returns-clause-part : goal.returns-clause-part
-returns-clause-part g c =
-    subst (λ (s : List TrailStep). GrowsInPart (g.F.Folder.told c.args.f.now) (g.F.Folder.told c.finish.new.f) s) (both c.args.file c.args.self.now.at c.args.self.now.word c.args.self.now.counters.allocations c.args.self.now.counters.empty)
-    (part_then c.in_ok-write_words.ensures.whole c.finish.ensures.part)
+pub returns-clause-prefix : goal.returns-clause-prefix
+returns-clause-prefix g c =
+    subst (λ (s : List TrailStep). AppliesPrefix (g.F.Folder.told c.args.f.now) (g.F.Folder.told c.finish.new.f) s) (both c.args.file c.args.self.now.at c.args.self.now.word c.args.self.now.counters.allocations c.args.self.now.counters.empty)
+    (part_then c.in_ok-write_words.ensures.steps c.finish.ensures.prefix)

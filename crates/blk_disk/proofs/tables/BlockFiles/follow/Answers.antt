@@ -11,7 +11,7 @@ loop-next-init g c = record {
   room = let none = ap (λ (l : List ℕ). length l) c.requires.empty in omega (arith, none);
   follows =
       λ image there. subst (λ (n : ℕ). Follows c.args.self.now image (kind_number c.args.kind) (Some n)) (sym c.first_file.ensures)
-      (follows_kind c.args.kind c.args.self.now image c.requires.of_blocks (c.requires.begun image there));
+      (follows_kind c.args.kind c.args.self.now image c.requires.block_kind (c.requires.begun image there));
   others = λ other differs. refl;
   stays = refl;
   later = omega arith;
@@ -27,4 +27,4 @@ pub returns-in_err-next-clause-cause : goal.returns-in_err-next-clause-cause
 returns-in_err-next-clause-cause g c =
     let p = err_from_is_err_and c.from_residual.result c.from_residual.ensures.1 in
     rw (p.1, p.2)
-    (caused_if (Option ℕ) Unit c.in_err-next.field-0.0 (g.F.Folder.told c.args.f.now) (g.F.Folder.told c.loop-next.f) c.loop-next.self c.args.kind c.in-Some.n c.requires.of_blocks c.loop-next.invariant.stays c.in_err-next.ensures.cause)
+    (caused_if (Option ℕ) Unit c.in_err-next.field-0.0 (g.F.Folder.told c.args.f.now) (g.F.Folder.told c.loop-next.f) c.loop-next.self c.args.kind c.in-Some.n c.requires.block_kind c.loop-next.invariant.stays c.in_err-next.ensures.cause)

@@ -19,40 +19,40 @@ returns-in_err-lengthen-clause-blocks g c from there =
 pub raise-requires : goal.raise-requires
 raise-requires g c =
     grow_room c.args.self.now c.args.file (g.F.Folder.told c.args.f.now) (g.F.Folder.told c.lengthen.new.f) (g.F.Folder.told c.lengthen.new.f) c.requires.agrees c.requires.linked c.requires.below
-    (first_is c.args.self.now c.args.file (g.F.Folder.told c.args.f.now) (g.F.Folder.told c.lengthen.new.f) (g.F.Folder.told c.lengthen.new.f) c.requires.agrees c.requires.linked c.requires.below c.blocks-old.result c.min-blocks.result c.length_with-size.result c.blocks-old.ensures c.min-blocks.ensures c.length_with-size.ensures c.in_ok-lengthen.ensures.whole)
+    (first_is c.args.self.now c.args.file (g.F.Folder.told c.args.f.now) (g.F.Folder.told c.lengthen.new.f) (g.F.Folder.told c.lengthen.new.f) c.requires.agrees c.requires.linked c.requires.below c.blocks-old.result c.min-blocks.result c.length_with-size.result c.blocks-old.ensures c.min-blocks.ensures c.length_with-size.ensures c.in_ok-lengthen.ensures.steps)
 
-pub returns-in_err-raise-clause-part : goal.returns-in_err-raise-clause-part
-returns-in_err-raise-clause-part g c = part_is c.args.self.now c.args.file (g.F.Folder.told c.args.f.now) (g.F.Folder.told c.lengthen.new.f) (g.F.Folder.told c.raise.new.f) c.requires.agrees c.requires.linked c.requires.below c.blocks-old.result c.min-blocks.result c.length_with-size.result c.blocks-old.ensures c.min-blocks.ensures c.length_with-size.ensures c.in_ok-lengthen.ensures.whole c.raise.ensures.part
+pub returns-in_err-raise-clause-prefix : goal.returns-in_err-raise-clause-prefix
+returns-in_err-raise-clause-prefix g c = part_is c.args.self.now c.args.file (g.F.Folder.told c.args.f.now) (g.F.Folder.told c.lengthen.new.f) (g.F.Folder.told c.raise.new.f) c.requires.agrees c.requires.linked c.requires.below c.blocks-old.result c.min-blocks.result c.length_with-size.result c.blocks-old.ensures c.min-blocks.ensures c.length_with-size.ensures c.in_ok-lengthen.ensures.steps c.raise.ensures.prefix
 
 pub returns-in_err-raise-clause-outside : goal.returns-in_err-raise-clause-outside
-returns-in_err-raise-clause-outside g c = grow_outside c.args.self.now c.args.file (g.F.Folder.told c.args.f.now) (g.F.Folder.told c.lengthen.new.f) (g.F.Folder.told c.raise.new.f) c.requires.agrees c.requires.linked c.requires.below (returns-in_err-raise-clause-part g c)
+returns-in_err-raise-clause-outside g c = grow_outside c.args.self.now c.args.file (g.F.Folder.told c.args.f.now) (g.F.Folder.told c.lengthen.new.f) (g.F.Folder.told c.raise.new.f) c.requires.agrees c.requires.linked c.requires.below (returns-in_err-raise-clause-prefix g c)
 
 pub returns-in_err-raise-clause-well_formed : goal.returns-in_err-raise-clause-well_formed
-returns-in_err-raise-clause-well_formed g c = grow_formed c.args.self.now c.args.file (g.F.Folder.told c.args.f.now) (g.F.Folder.told c.lengthen.new.f) (g.F.Folder.told c.raise.new.f) c.requires.agrees c.requires.linked c.requires.below (returns-in_err-raise-clause-part g c)
+returns-in_err-raise-clause-well_formed g c = grow_formed c.args.self.now c.args.file (g.F.Folder.told c.args.f.now) (g.F.Folder.told c.lengthen.new.f) (g.F.Folder.told c.raise.new.f) c.requires.agrees c.requires.linked c.requires.below (returns-in_err-raise-clause-prefix g c)
 
-pub returns-clause-whole : goal.returns-clause-whole
-returns-clause-whole g c = whole_is c.args.self.now c.args.file (g.F.Folder.told c.args.f.now) (g.F.Folder.told c.lengthen.new.f) (g.F.Folder.told c.raise.new.f) c.requires.agrees c.requires.linked c.requires.below c.blocks-old.result c.min-blocks.result c.length_with-size.result c.blocks-old.ensures c.min-blocks.ensures c.length_with-size.ensures c.in_ok-lengthen.ensures.whole c.in_ok-raise.ensures.whole
+pub returns-clause-steps : goal.returns-clause-steps
+returns-clause-steps g c = whole_is c.args.self.now c.args.file (g.F.Folder.told c.args.f.now) (g.F.Folder.told c.lengthen.new.f) (g.F.Folder.told c.raise.new.f) c.requires.agrees c.requires.linked c.requires.below c.blocks-old.result c.min-blocks.result c.length_with-size.result c.blocks-old.ensures c.min-blocks.ensures c.length_with-size.ensures c.in_ok-lengthen.ensures.steps c.in_ok-raise.ensures.steps
 
-pub returns-clause-part : goal.returns-clause-part
-returns-clause-part g c = part_is c.args.self.now c.args.file (g.F.Folder.told c.args.f.now) (g.F.Folder.told c.lengthen.new.f) (g.F.Folder.told c.raise.new.f) c.requires.agrees c.requires.linked c.requires.below c.blocks-old.result c.min-blocks.result c.length_with-size.result c.blocks-old.ensures c.min-blocks.ensures c.length_with-size.ensures c.in_ok-lengthen.ensures.whole c.raise.ensures.part
+pub returns-clause-prefix : goal.returns-clause-prefix
+returns-clause-prefix g c = part_is c.args.self.now c.args.file (g.F.Folder.told c.args.f.now) (g.F.Folder.told c.lengthen.new.f) (g.F.Folder.told c.raise.new.f) c.requires.agrees c.requires.linked c.requires.below c.blocks-old.result c.min-blocks.result c.length_with-size.result c.blocks-old.ensures c.min-blocks.ensures c.length_with-size.ensures c.in_ok-lengthen.ensures.steps c.raise.ensures.prefix
 
 pub returns-clause-kept : goal.returns-clause-kept
 returns-clause-kept g c = enlarges_is c.args.self.now c.args.file (g.F.Folder.told c.args.f.now) (g.F.Folder.told c.lengthen.new.f) (g.F.Folder.told c.raise.new.f) c.requires.agrees c.requires.linked c.requires.below c.blocks-old.result c.min-blocks.result c.length_with-size.result c.blocks-old.ensures c.min-blocks.ensures c.length_with-size.ensures c.enlarge.new.self c.length.result c.max-size.result c.length.ensures c.max-size.ensures c.enlarge.ensures
 
 pub returns-clause-agrees : goal.returns-clause-agrees
 returns-clause-agrees g c =
-    grow_agrees c.args.self.now c.args.file (g.F.Folder.told c.args.f.now) (g.F.Folder.told c.lengthen.new.f) (g.F.Folder.told c.raise.new.f) c.requires.agrees c.requires.linked c.requires.below c.enlarge.new.self (returns-clause-whole g c)
-    (λ none. c.in_ok-raise.ensures.untold (let grows = c.in_ok-lengthen.ensures.whole in grows.files ∙ ap (option_map (after (lengthen_steps c.args.self.now c.args.file c.length_with-size.result))) none))
+    grow_agrees c.args.self.now c.args.file (g.F.Folder.told c.args.f.now) (g.F.Folder.told c.lengthen.new.f) (g.F.Folder.told c.raise.new.f) c.requires.agrees c.requires.linked c.requires.below c.enlarge.new.self (returns-clause-steps g c)
+    (λ none. c.in_ok-raise.ensures.untold (let grows = c.in_ok-lengthen.ensures.steps in grows.files ∙ ap (option_map (after (lengthen_steps c.args.self.now c.args.file c.length_with-size.result))) none))
     (returns-clause-kept g c)
 
 pub returns-clause-outside : goal.returns-clause-outside
-returns-clause-outside g c = grow_outside c.args.self.now c.args.file (g.F.Folder.told c.args.f.now) (g.F.Folder.told c.lengthen.new.f) (g.F.Folder.told c.raise.new.f) c.requires.agrees c.requires.linked c.requires.below (returns-clause-part g c)
+returns-clause-outside g c = grow_outside c.args.self.now c.args.file (g.F.Folder.told c.args.f.now) (g.F.Folder.told c.lengthen.new.f) (g.F.Folder.told c.raise.new.f) c.requires.agrees c.requires.linked c.requires.below (returns-clause-prefix g c)
 
 pub returns-clause-well_formed : goal.returns-clause-well_formed
-returns-clause-well_formed g c = grow_formed c.args.self.now c.args.file (g.F.Folder.told c.args.f.now) (g.F.Folder.told c.lengthen.new.f) (g.F.Folder.told c.raise.new.f) c.requires.agrees c.requires.linked c.requires.below (returns-clause-part g c)
+returns-clause-well_formed g c = grow_formed c.args.self.now c.args.file (g.F.Folder.told c.args.f.now) (g.F.Folder.told c.lengthen.new.f) (g.F.Folder.told c.raise.new.f) c.requires.agrees c.requires.linked c.requires.below (returns-clause-prefix g c)
 
 pub returns-in_err-raise-clause-blocks : goal.returns-in_err-raise-clause-blocks
-returns-in_err-raise-clause-blocks g c = grow_blocks c.args.self.now c.args.file (g.F.Folder.told c.args.f.now) (g.F.Folder.told c.lengthen.new.f) (g.F.Folder.told c.raise.new.f) c.requires.agrees c.requires.linked c.requires.below (returns-in_err-raise-clause-part g c)
+returns-in_err-raise-clause-blocks g c = grow_blocks c.args.self.now c.args.file (g.F.Folder.told c.args.f.now) (g.F.Folder.told c.lengthen.new.f) (g.F.Folder.told c.raise.new.f) c.requires.agrees c.requires.linked c.requires.below (returns-in_err-raise-clause-prefix g c)
 
 pub returns-clause-blocks : goal.returns-clause-blocks
-returns-clause-blocks g c = grow_blocks c.args.self.now c.args.file (g.F.Folder.told c.args.f.now) (g.F.Folder.told c.lengthen.new.f) (g.F.Folder.told c.raise.new.f) c.requires.agrees c.requires.linked c.requires.below (returns-clause-part g c)
+returns-clause-blocks g c = grow_blocks c.args.self.now c.args.file (g.F.Folder.told c.args.f.now) (g.F.Folder.told c.lengthen.new.f) (g.F.Folder.told c.raise.new.f) c.requires.agrees c.requires.linked c.requires.below (returns-clause-prefix g c)

@@ -5,7 +5,7 @@ use Rattle.std.proofs.lemmas.Iterator.{YieldsList-from_slice}
 use Rattle.std.proofs.lemmas.Iterator.Search.{find_from_yields_List}
 use Rattle.blk_addr.specs.declared.kinds.Kind.TheVariants.{Rankings, B256, B1K, B4K}
 use Rattle.blk_addr.specs.Kind.{kind_number}
-use Rattle.blk_format.specs.BlockFiles.{is_among, type_among}
+use Rattle.blk_format.specs.BlockFiles.{is_among, kind_among}
 use Rattle.blk_disk.specs.Tables.{files_of}
 use Rattle.blk_disk.specs.declared.tables.BlockFiles.{BlockFiles}
 use Rattle.blk_disk.proofs.Among.{kinds}
@@ -19,8 +19,8 @@ first_of false false true d = refl
 first_of false false false true = refl
 first_of false false false false = refl
 
-as_defined : (files : BlockFiles) (n : ℕ) → option_map kind_number (find (λ k. is_among (files_of files (kind_number k)) n) kinds) ≡ type_among (files_of files) n
-unfolding type_among
+as_defined : (files : BlockFiles) (n : ℕ) → option_map kind_number (find (λ k. is_among (files_of files (kind_number k)) n) kinds) ≡ kind_among (files_of files) n
+unfolding kind_among
 as_defined files n = first_of (is_among (files_of files 1) n) (is_among (files_of files 2) n) (is_among (files_of files 3) n) (is_among (files_of files 4) n)
 
 pub returns-clause-kind : goal.returns-clause-kind

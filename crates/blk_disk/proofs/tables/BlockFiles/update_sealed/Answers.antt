@@ -5,7 +5,7 @@ use Rattle.blk_image.specs.Told.{Told}
 use Rattle.blk_image.proofs.Runs.{passes_none, some_inj}
 use Rattle.blk_io.proofs.Carried.{silent_part}
 use Rattle.blk_addr.specs.Kind.{kind_number}
-use Rattle.blk_format.specs.Sealed.{IsMoment}
+use Rattle.blk_format.specs.Sealed.{IsMidUpdate}
 use Rattle.blk_disk.specs.Tables.{Agrees}
 use Rattle.blk_format.proofs.SealedRecords.{moment_before}
 use Rattle.blk_disk.proofs.SealedWrites.{IsLeft, left_by, whole_by, updated_by}
@@ -14,8 +14,8 @@ use Rattle.blk_disk.proofs.tables.BlockFiles.update_sealed.Goals as goal
 
 pub returns-in_err-read_record-clause-stops : goal.returns-in_err-read_record-clause-stops
 returns-in_err-read_record-clause-stops g c from there =
-    passes_none (IsMoment from c.args.addr c.args.changes.now) c.in_err-read_record.ensures.stays
-    (λ image here. subst (λ (i : Image). IsMoment from c.args.addr c.args.changes.now i) (some_inj (sym there ∙ here)) (moment_before c.args.addr from c.args.changes.now (c.requires.checks from there)))
+    passes_none (IsMidUpdate from c.args.addr c.args.changes.now) c.in_err-read_record.ensures.stays
+    (λ image here. subst (λ (i : Image). IsMidUpdate from c.args.addr c.args.changes.now i) (some_inj (sym there ∙ here)) (moment_before c.args.addr from c.args.changes.now (c.requires.checks from there)))
 
 -- what a failed write leaves
 left_failed : (g : given.Over) (c : goal.After-from_residual-in_err-write_update g) → IsLeft c.args.self.now c.args.addr c.args.changes.now (g.F.Folder.told c.args.f.now) (g.F.Folder.told c.write_update.new.f)
@@ -23,7 +23,7 @@ left_failed g c =
     left_by c.args.self.now c.args.addr c.args.changes.now c.requires.stands c.requires.begins c.requires.changes
     (g.F.Folder.told c.args.f.now) (g.F.Folder.told c.read_record.new.f) (g.F.Folder.told c.write_update.new.f) c.requires.agrees c.requires.checks c.in_ok-read_record.ensures.stays
     (kind_number c.kind-kind.result) c.seal_after-seal.result c.read_record.new.bytes c.kind-kind.ensures c.in_ok-read_record.ensures.bytes c.seal_after-seal.ensures
-    c.in_err-write_update.ensures.part
+    c.in_err-write_update.ensures.prefix
 
 -- what all of the writes leave
 left_done : (g : given.Over) (c : goal.In_ok-write_update g) → IsLeft c.args.self.now c.args.addr c.args.changes.now (g.F.Folder.told c.args.f.now) (g.F.Folder.told c.write_update.new.f)
@@ -31,10 +31,10 @@ left_done g c =
     left_by c.args.self.now c.args.addr c.args.changes.now c.requires.stands c.requires.begins c.requires.changes
     (g.F.Folder.told c.args.f.now) (g.F.Folder.told c.read_record.new.f) (g.F.Folder.told c.write_update.new.f) c.requires.agrees c.requires.checks c.in_ok-read_record.ensures.stays
     (kind_number c.kind-kind.result) c.seal_after-seal.result c.read_record.new.bytes c.kind-kind.ensures c.in_ok-read_record.ensures.bytes c.seal_after-seal.ensures
-    c.in_ok-write_update.ensures.part
+    c.in_ok-write_update.ensures.prefix
 
-pub returns-in_err-write_update-clause-part : goal.returns-in_err-write_update-clause-part
-returns-in_err-write_update-clause-part g c = (left_failed g c).part
+pub returns-in_err-write_update-clause-prefix : goal.returns-in_err-write_update-clause-prefix
+returns-in_err-write_update-clause-prefix g c = (left_failed g c).part
 
 pub returns-in_err-write_update-clause-stops : goal.returns-in_err-write_update-clause-stops
 returns-in_err-write_update-clause-stops g c = (left_failed g c).stops
@@ -45,22 +45,22 @@ returns-in_err-write_update-clause-agrees g c = (left_failed g c).agrees
 pub returns-in_err-write_update-clause-checks : goal.returns-in_err-write_update-clause-checks
 returns-in_err-write_update-clause-checks g c = (left_failed g c).checks
 
-pub returns-clause-whole : goal.returns-clause-whole
-returns-clause-whole g c =
+pub returns-clause-steps : goal.returns-clause-steps
+returns-clause-steps g c =
     whole_by c.args.self.now c.args.addr c.args.changes.now c.requires.stands c.requires.begins c.requires.changes
     (g.F.Folder.told c.args.f.now) (g.F.Folder.told c.read_record.new.f) (g.F.Folder.told c.write_update.new.f) c.requires.agrees c.requires.checks c.in_ok-read_record.ensures.stays
     (kind_number c.kind-kind.result) c.seal_after-seal.result c.read_record.new.bytes c.kind-kind.ensures c.in_ok-read_record.ensures.bytes c.seal_after-seal.ensures
-    c.in_ok-write_update.ensures.whole
+    c.in_ok-write_update.ensures.steps
 
 pub returns-clause-updated : goal.returns-clause-updated
 returns-clause-updated g c =
     updated_by c.args.self.now c.args.addr c.args.changes.now c.requires.stands c.requires.begins c.requires.changes
     (g.F.Folder.told c.args.f.now) (g.F.Folder.told c.read_record.new.f) (g.F.Folder.told c.write_update.new.f) c.requires.agrees c.requires.checks c.in_ok-read_record.ensures.stays
     (kind_number c.kind-kind.result) c.seal_after-seal.result c.read_record.new.bytes c.kind-kind.ensures c.in_ok-read_record.ensures.bytes c.seal_after-seal.ensures
-    c.in_ok-write_update.ensures.whole
+    c.in_ok-write_update.ensures.steps
 
-pub returns-clause-part : goal.returns-clause-part
-returns-clause-part g c = (left_done g c).part
+pub returns-clause-prefix : goal.returns-clause-prefix
+returns-clause-prefix g c = (left_done g c).part
 
 pub returns-clause-stops : goal.returns-clause-stops
 returns-clause-stops g c = (left_done g c).stops
@@ -82,7 +82,7 @@ pub returns-in_err-read_record-clause-silent : goal.returns-in_err-read_record-c
 returns-in_err-read_record-clause-silent g c none = ap (λ (t : Told). t.files) c.in_err-read_record.ensures.stays ∙ none
 
 pub returns-in_err-write_update-clause-silent : goal.returns-in_err-write_update-clause-silent
-returns-in_err-write_update-clause-silent g c none = silent_part c.in_err-write_update.ensures.part (ap (λ (t : Told). t.files) c.in_ok-read_record.ensures.stays ∙ none)
+returns-in_err-write_update-clause-silent g c none = silent_part c.in_err-write_update.ensures.prefix (ap (λ (t : Told). t.files) c.in_ok-read_record.ensures.stays ∙ none)
 
 pub returns-clause-silent : goal.returns-clause-silent
-returns-clause-silent g c none = silent_part c.in_ok-write_update.ensures.part (ap (λ (t : Told). t.files) c.in_ok-read_record.ensures.stays ∙ none)
+returns-clause-silent g c none = silent_part c.in_ok-write_update.ensures.prefix (ap (λ (t : Told). t.files) c.in_ok-read_record.ensures.stays ∙ none)

@@ -1,7 +1,7 @@
 use Rattle.std.proofs.Common.{◌≡◌, ℕ, List, ap₂, ap, subst, ◌∙◌}
 use Rattle.std.specs.Prelude.{OnOk}
 use Rattle.blk_image.specs.Steps.{TrailStep, word_steps}
-use Rattle.blk_image.specs.Told.{Grows, GrowsInPart}
+use Rattle.blk_image.specs.Told.{Applies, AppliesPrefix}
 use Rattle.blk_format.specs.Address.{place, file_selector}
 use Rattle.blk_io.specs.FileNames.{file_of}
 use Rattle.blk_io.specs.declared.folder.FileId.TheVariants as names
@@ -21,11 +21,11 @@ name_here g c = name_is c.args.addr c.file_of.result (stands_blocky c.args.self.
 plan_here : (g : given.Over) (c : goal.After-write_words g) → word_steps (file_of c.file_of.result) c.deref.result.now ≡ update_steps c.args.addr c.args.changes.now c.args.seal
 plan_here g c = plan_is c.args.addr c.args.seal c.args.changes.now c.deref.result.now c.file_of.result (name_here g c) (words_here g c)
 
-pub returns-clause-whole : goal.returns-clause-whole
-returns-clause-whole g c = subst (λ (steps : List TrailStep). OnOk c.write_words.result (Grows (g.F.Folder.told c.args.f.now) (g.F.Folder.told c.write_words.new.f) steps)) (plan_here g c) c.write_words.ensures.whole
+pub returns-clause-steps : goal.returns-clause-steps
+returns-clause-steps g c = subst (λ (steps : List TrailStep). OnOk c.write_words.result (Applies (g.F.Folder.told c.args.f.now) (g.F.Folder.told c.write_words.new.f) steps)) (plan_here g c) c.write_words.ensures.steps
 
-pub returns-clause-part : goal.returns-clause-part
-returns-clause-part g c = subst (λ (steps : List TrailStep). GrowsInPart (g.F.Folder.told c.args.f.now) (g.F.Folder.told c.write_words.new.f) steps) (plan_here g c) c.write_words.ensures.part
+pub returns-clause-prefix : goal.returns-clause-prefix
+returns-clause-prefix g c = subst (λ (steps : List TrailStep). AppliesPrefix (g.F.Folder.told c.args.f.now) (g.F.Folder.told c.write_words.new.f) steps) (plan_here g c) c.write_words.ensures.prefix
 
 pub write_words-requires-clause-aligned : goal.write_words-requires-clause-aligned
 write_words-requires-clause-aligned g c =

@@ -2,19 +2,19 @@
 use Rattle.std.specs.Prelude.{◌≡◌, ◌≢◌, ℕ, ◌+◌, ◌≤◌, true, List, [], ◌++◌}
 use Rattle.blk_image.specs.Image.{Block, Image}
 use Rattle.blk_image.specs.Footprint.{SameOutside, range}
-use Rattle.blk_format.specs.Address.{kind_of, file_selector, place, room, external}
+use Rattle.blk_format.specs.Address.{kind_of, file_selector, place, byte_size, external}
 use Rattle.blk_format.specs.BlockFiles.{stands_in}
 use Rattle.blk_volume.specs.ListView.{ListWrite}
-use Rattle.blk_format.specs.Sealed.{BeginsWithRecord, IsMoment}
-use Rattle.blk_laws.specs.Moments.{ChangesInside, OnlyListChanges}
+use Rattle.blk_format.specs.Sealed.{BeginsWithRecord, IsMidUpdate}
+use Rattle.blk_volume.specs.ShownChanges.{ChangesInside, OnlyListChanges}
 
 -- a write of n bytes into the blocks of a standing address changes only these blocks
 abbrev pub WritesStayInside : Type 0
-WritesStayInside = (from image : Image) (w at n : ℕ) → stands_in from w ≡ true → kind_of w ≢ external → place w ≤ at → at + n ≤ place w + room w → SameOutside (range (Block (file_selector w)) at n) from image → ChangesInside w from image
+WritesStayInside = (from image : Image) (w at n : ℕ) → stands_in from w ≡ true → kind_of w ≢ external → place w ≤ at → at + n ≤ place w + byte_size w → SameOutside (range (Block (file_selector w)) at n) from image → ChangesInside w from image
 
 -- and so does the update of the record at their front
 abbrev pub UpdatesStayInside : Type 0
-UpdatesStayInside = (from image : Image) (w : ℕ) (changes : List (ℕ × ℕ)) → stands_in from w ≡ true → BeginsWithRecord w → IsMoment from w changes image → ChangesInside w from image
+UpdatesStayInside = (from image : Image) (w : ℕ) (changes : List (ℕ × ℕ)) → stands_in from w ≡ true → BeginsWithRecord w → IsMidUpdate from w changes image → ChangesInside w from image
 
 -- no write into the list leaves what is shown
 abbrev pub ListChangesBegin : Type 0

@@ -3,14 +3,14 @@ use Rattle.std.proofs.Common.{◌≡◌, ℕ, zero, suc, ◌<◌, Bool, true, fa
 use Rattle.std.proofs.lemmas.Bool.{cond_above, cond_both, eq-eqb, or_parts, or_right}
 use Rattle.blk_volume.specs.ListView.{ListWrite, Transaction, Operation, ListView, with_write, after_writes, first_or, last_or, Segment, IsList}
 use Rattle.blk_volume.specs.Completion.{counts, completed_list, take_out, put_front}
-use Rattle.blk_volume.specs.ListPlans.{outcome, pending_writes, completion_writes, writes_of, touch_writes, TurnsAtTwo, EachMoment, stopped}
+use Rattle.blk_volume.specs.ListPlans.{outcome, pending_writes, completion_writes, writes_of, touch_writes, CommitsAtTwo, AtEachWrite, stopped}
 use Rattle.blk_volume.specs.Walk.{walk}
 use Rattle.blk_format.specs.BlockFiles.{is_among}
 use Rattle.blk_laws.proofs.ListWrites.{rested, pending_keeps, outcome_front, remove_keeps, move_keeps, checks_out, pending_ends, completion_keeps, EachMoment-map, EachMoment-first, EachMoment-last, outcome_done}
 use Rattle.blk_laws.proofs.Walks.{walk_list}
 use Rattle.blk_laws.proofs.Lists.{list_front, list_out, not_zero, split, last-append, has_not}
 
-pub at_moment : (P : ListView → Type 0) (ws : List ListWrite) (l : ListView) (k : ℕ) → EachMoment P ws l → P (after_writes (take k ws) l)
+pub at_moment : (P : ListView → Type 0) (ws : List ListWrite) (l : ListView) (k : ℕ) → AtEachWrite P ws l → P (after_writes (take k ws) l)
 at_moment P [] l zero each = each
 at_moment P [] l (suc k) each = each
 at_moment P (w ∷ ws) l zero each = each.0
@@ -28,7 +28,7 @@ walk_at_rest l nodes e list = walk_outcome l ∙ ap walk (outcome_done l e) ∙ 
 
 -- one operation, whatever it is
 turns : (l : ListView) (code n : ℕ) (old new : List ℕ) → l.transaction ≡ 0 → IsList l old → counts (record l { operation = code; transaction = n }) ≡ true
-    → walk (outcome (record l { operation = code; transaction = n })) ≡ new → TurnsAtTwo l (writes_of code n l) old new
+    → walk (outcome (record l { operation = code; transaction = n })) ≡ new → CommitsAtTwo l (writes_of code n l) old new
 turns l code n old new e list c is zero = walk_at_rest l old e list
 turns l code n old new e list c is (suc zero) = walk_at_rest (with_write l (Operation code)) old e (IsList-pending l old code l.transaction list)
 turns l code n old new e list c is (suc (suc k)) =
@@ -87,7 +87,7 @@ module _ (n : ℕ) (l : ListView) (nodes : List ℕ) (list : IsList l nodes) (e 
   pub insert_counts : counts (record l { operation = 1; transaction = n }) ≡ true
   insert_counts = counts_insert n l (not_zero l n list.no_zero good) good (head_good l nodes list)
 
-  pub insert_turns : TurnsAtTwo l (writes_of 1 n l) nodes (n ∷ nodes)
+  pub insert_turns : CommitsAtTwo l (writes_of 1 n l) nodes (n ∷ nodes)
   insert_turns = turns l 1 n nodes (n ∷ nodes) e list insert_counts (walk_list (outcome (record l { operation = 1; transaction = n })) (n ∷ nodes) inserted)
 
   pub insert_ends : IsList (after_writes (writes_of 1 n l) l) (n ∷ nodes) × ((after_writes (writes_of 1 n l) l).transaction ≡ 0)
@@ -107,7 +107,7 @@ module _ (n : ℕ) (l : ListView) (xs ys : List ℕ) (list : IsList l (xs ++ n �
   pub remove_counts : counts (record l { operation = 2; transaction = n }) ≡ true
   remove_counts = let g = listed n l xs ys list in counts_remove n l (not_zero l n list.no_zero g.good) g.good g.next_good g.prev_good
 
-  pub remove_turns : TurnsAtTwo l (writes_of 2 n l) (xs ++ n ∷ ys) (xs ++ ys)
+  pub remove_turns : CommitsAtTwo l (writes_of 2 n l) (xs ++ n ∷ ys) (xs ++ ys)
   remove_turns = turns l 2 n (xs ++ n ∷ ys) (xs ++ ys) e list remove_counts (walk_list (outcome (record l { operation = 2; transaction = n })) (xs ++ ys) removed)
 
   pub remove_ends : IsList (after_writes (writes_of 2 n l) l) (xs ++ ys) × ((after_writes (writes_of 2 n l) l).transaction ≡ 0)
@@ -126,7 +126,7 @@ module _ (n : ℕ) (l : ListView) (xs ys : List ℕ) (list : IsList l (xs ++ n �
   pub move_counts : counts (record l { operation = 3; transaction = n }) ≡ true
   move_counts = let g = listed n l xs ys list in counts_move n l (not_zero l n list.no_zero g.good) g.good g.next_good g.prev_good (head_good l (xs ++ n ∷ ys) list)
 
-  pub move_turns : TurnsAtTwo l (writes_of 3 n l) (xs ++ n ∷ ys) (n ∷ xs ++ ys)
+  pub move_turns : CommitsAtTwo l (writes_of 3 n l) (xs ++ n ∷ ys) (n ∷ xs ++ ys)
   move_turns = turns l 3 n (xs ++ n ∷ ys) (n ∷ xs ++ ys) e list move_counts (walk_list (outcome (record l { operation = 3; transaction = n })) (n ∷ xs ++ ys) moved)
 
   pub move_ends : IsList (after_writes (writes_of 3 n l) l) (n ∷ xs ++ ys) × ((after_writes (writes_of 3 n l) l).transaction ≡ 0)
@@ -141,16 +141,16 @@ some_touch l n h = rw h
 pub not_first : (n : ℕ) (l : ListView) (x : ℕ) (xs ys : List ℕ) → IsList l (x ∷ xs ++ n ∷ ys) → eqb l.head n ≡ false
 not_first n l x xs ys list = rw list.head_is (or_parts (eqb x n) (is_among (xs ++ ys) n) (has_not (x ∷ xs) n ys list.distinct)).0
 
-pub touch_turns : (n : ℕ) (l : ListView) (xs ys : List ℕ) → IsList l (xs ++ n ∷ ys) → l.transaction ≡ 0 → TurnsAtTwo l (touch_writes n l) (xs ++ n ∷ ys) (n ∷ xs ++ ys)
-touch_turns n l [] ys list e = subst (λ ws. TurnsAtTwo l ws (n ∷ ys) (n ∷ ys)) (sym (no_touch l n list.head_is)) stays
+pub touch_turns : (n : ℕ) (l : ListView) (xs ys : List ℕ) → IsList l (xs ++ n ∷ ys) → l.transaction ≡ 0 → CommitsAtTwo l (touch_writes n l) (xs ++ n ∷ ys) (n ∷ xs ++ ys)
+touch_turns n l [] ys list e = subst (λ ws. CommitsAtTwo l ws (n ∷ ys) (n ∷ ys)) (sym (no_touch l n list.head_is)) stays
   where
     same : (k : ℕ) (old : List ℕ) → old ≡ cond (ltb k 2) old old
     same k old = cond_both (ltb k 2) old old (λ x. old ≡ x) (λ _. refl) (λ _. refl)
 
-    stays : TurnsAtTwo l [] (n ∷ ys) (n ∷ ys)
+    stays : CommitsAtTwo l [] (n ∷ ys) (n ∷ ys)
     stays zero = walk_at_rest l (n ∷ ys) e list
     stays (suc k) = walk_at_rest l (n ∷ ys) e list ∙ same (suc k) (n ∷ ys)
-touch_turns n l (x ∷ xs) ys list e = subst (λ ws. TurnsAtTwo l ws (x ∷ xs ++ n ∷ ys) (n ∷ x ∷ xs ++ ys)) (sym (some_touch l n (not_first n l x xs ys list))) (move_turns n l (x ∷ xs) ys list e)
+touch_turns n l (x ∷ xs) ys list e = subst (λ ws. CommitsAtTwo l ws (x ∷ xs ++ n ∷ ys) (n ∷ x ∷ xs ++ ys)) (sym (some_touch l n (not_first n l x xs ys list))) (move_turns n l (x ∷ xs) ys list e)
 
 pub touch_ends : (n : ℕ) (l : ListView) (xs ys : List ℕ) → IsList l (xs ++ n ∷ ys) → l.transaction ≡ 0 → IsList (after_writes (touch_writes n l) l) (n ∷ xs ++ ys) × ((after_writes (touch_writes n l) l).transaction ≡ 0)
 touch_ends n l [] ys list e = subst (λ ws. IsList (after_writes ws l) (n ∷ ys) × ((after_writes ws l).transaction ≡ 0)) (sym (no_touch l n list.head_is)) (list, e)

@@ -1,10 +1,10 @@
 // The laws of what a folder shows at each moment of a write.
 //
 // They lead from the bytes that a write changes to what is shown: the use list, what each node says, the table, the chains, the records and data.
-ghost use Rattle.blk_laws.specs.BlockMoments.{WritesStayInside, UpdatesStayInside, ListChangesBegin, ListChangesAdd};
-ghost use Rattle.blk_laws.specs.IndexMoments.{HeadsAreWritten, TailsAreWritten, TransactionsAreWritten, OperationsAreWritten, OtherWordsAreNotShown, BucketsAreWritten, OtherWordsAreNotChecked, BucketsAreNotChecked, IndexWordsStandApart};
-ghost use Rattle.blk_laws.specs.NodeMoments.{NextsAreWritten, PrevsAreWritten, TimesAreNotShown, ContentsAreWritten, DirtyWordsAreWritten};
-ghost use Rattle.blk_laws.specs.RecordMoments.{FollowsAreWritten, FieldsAreWritten};
+ghost use Rattle.blk_laws.specs.BlockWrites.{WritesStayInside, UpdatesStayInside, ListChangesBegin, ListChangesAdd};
+ghost use Rattle.blk_laws.specs.IndexWrites.{HeadsAreWritten, TailsAreWritten, TransactionsAreWritten, OperationsAreWritten, OtherWordsAreNotShown, BucketsAreWritten, OtherWordsAreNotChecked, BucketsAreNotChecked, IndexWordsStandApart};
+ghost use Rattle.blk_laws.specs.NodeUpdates.{NextsAreWritten, PrevsAreWritten, TimesAreNotShown, ContentsAreWritten, DirtyWordsAreWritten};
+ghost use Rattle.blk_laws.specs.RecordUpdates.{ChainNextsAreWritten, FieldsAreWritten};
 
 /// Writes into the blocks of an address, and updates of the record at their front, change what is shown only there.
 pub fn blocks_change_inside()
@@ -29,7 +29,7 @@ pub fn names_are_written()
 
 /// At each moment of an update of a record it checks, with its fields or its link as far as they are written, and nothing else changes.
 pub fn records_are_written()
-    ensures follow { FollowsAreWritten }
+    ensures chain_next { ChainNextsAreWritten }
     ensures fields { FieldsAreWritten }
 {}
 

@@ -11,21 +11,21 @@ use Rattle.blk_image.proofs.Images.{bytes_of-written}
 use Rattle.blk_image.proofs.Runs.{along_front}
 use Rattle.blk_image.proofs.Splices.{length-zeros, content-zeros}
 use Rattle.blk_image.proofs.Words.{word-written, length-with_words}
-use Rattle.blk_format.specs.Address.{is_address, is_initialized, names_external, names_blocks, kind_of, reserved_bits, block_count, file_selector, first_block, external_number, block_size, block_place, place, room}
+use Rattle.blk_format.specs.Address.{is_address, is_initialized, names_external, names_blocks, kind_of, reserved_bits, block_count, file_selector, first_block, external_number, block_size, block_place, place, byte_size}
 use Rattle.blk_format.specs.Standing.{stands, stands_as_blocks}
 use Rattle.blk_format.specs.Records.{node_in, node_checks, entry_in, entry_checks}
 use Rattle.blk_format.specs.Headers.{index_length}
-use Rattle.blk_format.specs.BlockFiles.{next_file_in, max_entries_in, files_along, linked, type_among, IsWellFormed}
-use Rattle.blk_volume.specs.View.{core_of, entry_at, list_of, stock_of, checks_at, named_at, core_at}
+use Rattle.blk_format.specs.BlockFiles.{next_file_in, max_entries_in, files_along, linked, kind_among, IsWellFormed}
+use Rattle.blk_volume.specs.View.{fields_of, entry_at, list_of, store_of, checks_at, node_fields_at, core_at}
 use Rattle.blk_format.specs.NewFolder.{new_index_words, new_file_words}
 use Rattle.blk_laws.proofs.Premises.{new_is_bare}
 use Rattle.blk_laws.proofs.NewFolders.{new_folder}
 use Rattle.blk_laws.proofs.SmallFolder.{small_records, folder_with}
-use Rattle.blk_format.specs.Sealed.{AreChanges, IsMoment, RecordChecks, record_at, seal_place, size_by_kind, seal_by_kind, sealed_steps}
+use Rattle.blk_format.specs.Sealed.{AreChanges, IsMidUpdate, RecordChecks, record_at, seal_place, size_by_kind, seal_by_kind, sealed_steps}
 use Rattle.blk_format.proofs.SealedRecords.{moments, Fits}
-use Rattle.blk_laws.specs.IndexMoments.{IsIndexWord}
-use Rattle.blk_laws.specs.NodeMoments.{IsNode}
-use Rattle.blk_laws.specs.RecordMoments.{IsRecord}
+use Rattle.blk_laws.specs.IndexWrites.{IsIndexWord}
+use Rattle.blk_laws.specs.NodeUpdates.{IsNode}
+use Rattle.blk_laws.specs.RecordUpdates.{IsRecord}
 use Rattle.blk_laws.proofs.Fronts.{AreSmall, small-words}
 
 -- the small folder, its node, and its record
@@ -62,18 +62,18 @@ small_bytes file i = small-file file i
 pub blocks_are_written : SameOutside (range (Block (file_selector entry)) 8292 4) small (applied (Word (Block (file_selector entry)) 8292 (word_bytes 5)) small)
 blocks_are_written = outside_write (Block (file_selector entry)) 8292 (word_bytes 5) small
 
-pub blocks_are_inside : (place entry ≤ 8292) × (8292 + 4 ≤ place entry + room entry)
-unfolding place room block_place block_size block_count kind_of first_block
+pub blocks_are_inside : (place entry ≤ 8292) × (8292 + 4 ≤ place entry + byte_size entry)
+unfolding place byte_size block_place block_size block_count kind_of first_block
 blocks_are_inside = (lit≤ tt, lit≤ tt)
 
 -- ---- the node
 
 pub node_is_good : IsNode small node
-unfolding list_of checks_at folder_with zeros with_word spliced next_file_in max_entries_in linked files_along type_among stands stands_as_blocks is_address is_initialized names_external names_blocks kind_of reserved_bits block_count file_selector first_block external_number block_size block_place place room node_in node_checks
+unfolding list_of checks_at folder_with zeros with_word spliced next_file_in max_entries_in linked files_along kind_among stands stands_as_blocks is_address is_initialized names_external names_blocks kind_of reserved_bits block_count file_selector first_block external_number block_size block_place place byte_size node_in node_checks
 node_is_good = record { good = refl; bytes = small_bytes }
 
-pub node_is_named : (stock_of small).named node ≡ Some (record { contents = 0xA0010000; dirty = 0 })
-unfolding stock_of named_at folder_with zeros with_word spliced next_file_in max_entries_in linked files_along type_among stands stands_as_blocks is_address is_initialized names_external names_blocks kind_of reserved_bits block_count file_selector first_block external_number block_size block_place place room node_in
+pub node_is_named : (store_of small).node_fields node ≡ Some (record { contents = 0xA0010000; dirty = 0 })
+unfolding store_of node_fields_at folder_with zeros with_word spliced next_file_in max_entries_in linked files_along kind_among stands stands_as_blocks is_address is_initialized names_external names_blocks kind_of reserved_bits block_count file_selector first_block external_number block_size block_place place byte_size node_in
 node_is_named = refl
 
 node_fits : Fits node small
@@ -89,22 +89,22 @@ unfolding seal_by_kind kind_of
 node_seal = refl
 
 -- the record of a word is updated: all changes are made
-updated : (w : ℕ) (changes : List (ℕ × ℕ)) → Fits w small → RecordChecks w small → All (λ c. c.0 + 4 ≤ seal_place w) changes → IsMoment small w changes (after (sealed_steps small w changes) small)
+updated : (w : ℕ) (changes : List (ℕ × ℕ)) → Fits w small → RecordChecks w small → All (λ c. c.0 + 4 ≤ seal_place w) changes → IsMidUpdate small w changes (after (sealed_steps small w changes) small)
 updated w changes fits checks before =
-    along_front (IsMoment small w changes) (sealed_steps small w changes) [] small
-    (subst (λ (steps : List TrailStep). Along (IsMoment small w changes) small steps) (sym (append-nil (sealed_steps small w changes))) (moments w small changes fits checks before))
+    along_front (IsMidUpdate small w changes) (sealed_steps small w changes) [] small
+    (subst (λ (steps : List TrailStep). Along (IsMidUpdate small w changes) small steps) (sym (append-nil (sealed_steps small w changes))) (moments w small changes fits checks before))
 
 one : (s d x : ℕ) → d + 4 ≤ s → All (λ (c : ℕ × ℕ). c.0 + 4 ≤ s) ((d, x) ∷ [])
 one s d x inside = All-cons (λ (c : ℕ × ℕ). c.0 + 4 ≤ s) (d, x) [] inside (All-nil (λ (c : ℕ × ℕ). c.0 + 4 ≤ s))
 
 -- a word of the node: a time, its next, its prev, its contents or its dirty word
-pub node_is_updated : (d x : ℕ) → d + 4 ≤ 32 → IsMoment small node ((d, x) ∷ []) (after (sealed_steps small node ((d, x) ∷ [])) small)
+pub node_is_updated : (d x : ℕ) → d + 4 ≤ 32 → IsMidUpdate small node ((d, x) ∷ []) (after (sealed_steps small node ((d, x) ∷ [])) small)
 node_is_updated d x inside = updated node ((d, x) ∷ []) node_fits node_checked (one (seal_place node) d x (omega (arith, inside, node_seal)))
 
 -- ---- the record
 
-pub entry_is_good : IsRecord small entry (core_of (entry_at small entry))
-unfolding stock_of core_at folder_with zeros with_word spliced next_file_in max_entries_in linked files_along type_among stands stands_as_blocks is_address is_initialized names_external names_blocks kind_of reserved_bits block_count file_selector first_block external_number block_size block_place place room entry_in entry_checks
+pub entry_is_good : IsRecord small entry (fields_of (entry_at small entry))
+unfolding store_of core_at folder_with zeros with_word spliced next_file_in max_entries_in linked files_along kind_among stands stands_as_blocks is_address is_initialized names_external names_blocks kind_of reserved_bits block_count file_selector first_block external_number block_size block_place place byte_size entry_in entry_checks
 entry_is_good = record { here = refl; good = refl; bytes = small_bytes }
 
 entry_fits : Fits entry small
@@ -120,7 +120,7 @@ unfolding seal_by_kind kind_of
 entry_seal = refl
 
 -- a word of the record: its next, or another field
-pub entry_is_updated : (d x : ℕ) → d + 4 ≤ 92 → IsMoment small entry ((d, x) ∷ []) (after (sealed_steps small entry ((d, x) ∷ [])) small)
+pub entry_is_updated : (d x : ℕ) → d + 4 ≤ 92 → IsMidUpdate small entry ((d, x) ∷ []) (after (sealed_steps small entry ((d, x) ∷ [])) small)
 entry_is_updated d x inside = updated entry ((d, x) ∷ []) entry_fits entry_checked (one (seal_place entry) d x (omega (arith, inside, entry_seal)))
 
 -- such a change is one of a record

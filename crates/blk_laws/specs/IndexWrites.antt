@@ -5,8 +5,8 @@ use Rattle.blk_image.specs.Footprint.{SameOutside, one_word}
 use Rattle.blk_format.specs.Headers.{header_length, place_of_bucket, zero_places}
 use Rattle.blk_format.specs.BlockFiles.{is_among, stands_in, IsWellFormed}
 use Rattle.blk_volume.specs.ListView.{ListWrite, Head, Tail, Transaction, Operation, put}
-use Rattle.blk_volume.specs.View.{list_of, stock_of, view_of}
-use Rattle.blk_laws.specs.Moments.{OnlyListChanges}
+use Rattle.blk_volume.specs.View.{list_of, store_of, view_of}
+use Rattle.blk_volume.specs.ShownChanges.{OnlyListChanges}
 
 -- one word of the index is this, and all else is as before
 pub record IsIndexWord (at x : ℕ) (from image : Image) : Type 0 where
@@ -40,7 +40,7 @@ OtherWordsAreNotShown = (from image : Image) (at : ℕ) → at % 4 ≡ 0 → at 
 -- the word of a bucket is all that changes where it is written
 abbrev pub BucketsAreWritten : Type 0
 BucketsAreWritten = (from image : Image) (bucket x : ℕ) → IsIndexWord (place_of_bucket bucket) x from image
-    → (list_of image ≡ list_of from) × (stock_of image ≡ record (stock_of from) { table = put (stock_of from).table bucket x })
+    → (list_of image ≡ list_of from) × (store_of image ≡ record (store_of from) { table = put (store_of from).table bucket x })
 
 -- the places of the index's words that a check reads
 abbrev pub checked_words : List ℕ

@@ -4,7 +4,7 @@ use Rattle.blk_disk.specs.Tables.{Agrees}
 use Rattle.blk_lru.proofs.Conditions.{next_names, prev_names, told_before, told_now, told_stays}
 use Rattle.blk_lru.proofs.NodeWords.{stands_as_node, next_link, prev_link}
 use Rattle.blk_lru.proofs.PlanNodes.{node_apart}
-use Rattle.blk_lru.proofs.changing.beside.Goals as goal
+use Rattle.blk_lru.proofs.changing.neighbours.Goals as goal
 
 pub link-requires-clause-named : goal.link-requires-clause-named
 link-requires-clause-named g c image there = next_names c.args.files.now image c.args.node (c.requires.agrees image there) c.requires.stands (c.requires.listed image there)

@@ -1,6 +1,6 @@
 use Rattle.blk_laws.proofs.Adding.{changes-begin, changes-add}
 use Rattle.blk_laws.proofs.Nodes.{nexts-written, prevs-written, times-hidden}
-use Rattle.blk_laws.proofs.moments.links_are_written.Goals as goal
+use Rattle.blk_laws.proofs.mid_updates.links_are_written.Goals as goal
 
 pub returns : goal.returns
 returns c = record { next = nexts-written; prev = prevs-written; times = times-hidden; begin = changes-begin; add = changes-add }

@@ -1,5 +1,5 @@
 use Rattle.blk_laws.proofs.Bare.{bare-found, bare-sound, represents-empty, bare-stands}
-use Rattle.blk_laws.proofs.bare_folders_are_sound.Goals as goal
+use Rattle.blk_laws.proofs.folders_without_entries_are_sound.Goals as goal
 
 pub returns : goal.returns
 returns c = record {

@@ -7,16 +7,15 @@ use Rattle.blk_model.specs.Items.{Item, main, part, same_item, key_of, times}
 use Rattle.blk_model.specs.Effects.{doomed}
 use Rattle.blk_model.proofs.Same.{one_item, same_item_self, bytes_eq_self}
 use Rattle.blk_model.proofs.Times.{times-filter}
-use Rattle.blk_volume.specs.ListView.{ListView, Distinct, after_writes}
+use Rattle.blk_volume.specs.ListView.{ListView, Distinct, after_writes, IsAtRest}
 use Rattle.blk_volume.specs.Walk.{walk}
 use Rattle.blk_volume.specs.Completion.{remove, completed_list}
 use Rattle.blk_volume.specs.ListPlans.{writes_of}
-use Rattle.blk_volume.specs.Loads.{held}
+use Rattle.blk_volume.specs.Loads.{held_rule}
 use Rattle.blk_volume.specs.Audit.{kept_among}
 use Rattle.blk_volume.specs.Found.{row_of}
 use Rattle.blk_volume.specs.Layout.{Layout, is_in, is_listed, nodes_of}
 use Rattle.blk_volume.specs.Removal.{is_of_another}
-use Rattle.blk_laws.specs.ListLaws.{IsAtRest}
 use Rattle.blk_laws.specs.CommandLaws.{DoomsAtEachWrite, DoomedPartsAtEachWrite}
 use Rattle.blk_laws.proofs.AtRest.{removals-turn, removals-end}
 use Rattle.blk_laws.proofs.Opening.{IsAround, around, nodes-append}
@@ -30,24 +29,24 @@ use Rattle.blk_model.specs.Holding as model
 -- ---- the removal of an item's node
 
 module _ (l : ListView) (y : Layout) (items : List Item) (i : Item) (a : IsAround i items) (rest : IsAtRest l (nodes_of y items)) where
-  old-nodes : nodes_of y items ≡ nodes_of y a.before ++ y.place i ∷ nodes_of y a.behind
-  old-nodes = ap (nodes_of y) a.is ∙ nodes-append y a.before (i ∷ a.behind)
+  old-nodes : nodes_of y items ≡ nodes_of y a.before ++ y.place i ∷ nodes_of y a.suffix
+  old-nodes = ap (nodes_of y) a.is ∙ nodes-append y a.before (i ∷ a.suffix)
 
-  new-nodes : nodes_of y (filter (λ other. not (same_item i other)) items) ≡ nodes_of y a.before ++ nodes_of y a.behind
-  new-nodes = ap (nodes_of y) a.rest ∙ nodes-append y a.before a.behind
+  new-nodes : nodes_of y (filter (λ other. not (same_item i other)) items) ≡ nodes_of y a.before ++ nodes_of y a.suffix
+  new-nodes = ap (nodes_of y) a.rest ∙ nodes-append y a.before a.suffix
 
-  split : IsAtRest l (nodes_of y a.before ++ y.place i ∷ nodes_of y a.behind)
+  split : IsAtRest l (nodes_of y a.before ++ y.place i ∷ nodes_of y a.suffix)
   split = subst (IsAtRest l) old-nodes rest
 
   -- the nodes that are walked once what is in flight is completed
   pub removal-walks : (k : ℕ) → walk (completed_list (after_writes (take k (writes_of remove (y.place i) l)) l)) ≡ nodes_of y (if nat_lt k 2 then items else filter (λ other. not (same_item i other)) items)
-  removal-walks k = removals-turn (y.place i) l (nodes_of y a.before) (nodes_of y a.behind) split k ∙ choose (nat_lt k 2) where
-    choose : (b : Bool) → (if b then nodes_of y a.before ++ y.place i ∷ nodes_of y a.behind else nodes_of y a.before ++ nodes_of y a.behind) ≡ nodes_of y (if b then items else filter (λ other. not (same_item i other)) items)
+  removal-walks k = removals-turn (y.place i) l (nodes_of y a.before) (nodes_of y a.suffix) split k ∙ choose (nat_lt k 2) where
+    choose : (b : Bool) → (if b then nodes_of y a.before ++ y.place i ∷ nodes_of y a.suffix else nodes_of y a.before ++ nodes_of y a.suffix) ≡ nodes_of y (if b then items else filter (λ other. not (same_item i other)) items)
     choose true = sym old-nodes
     choose false = sym new-nodes
 
   pub removed-once : Distinct (nodes_of y (filter (λ other. not (same_item i other)) items))
-  removed-once = subst Distinct (sym new-nodes) (removals-end (y.place i) l (nodes_of y a.before) (nodes_of y a.behind) split).whole.distinct
+  removed-once = subst Distinct (sym new-nodes) (removals-end (y.place i) l (nodes_of y a.before) (nodes_of y a.suffix) split).whole.distinct
 
 -- an item of a key is none of another
 another-is : (key : List ℕ) (i j : Item) → key_of i ≡ key → is_of_another key j ≡ true → not (same_item i j) ≡ true
@@ -65,11 +64,11 @@ dooms-moments v m y r valid number o here live k =
     let there : is_listed m (main o.key) ≡ true = main-listed m valid number o true here live in
     let a : IsAround (main o.key) m.uses = around (main o.key) m.uses there (valid.once (main o.key)) in
     let rest : IsAtRest v.list (nodes_of y m.uses) = record { whole = r.list; idle = r.idle } in
-    ap (λ (ws : List ℕ). map row_of (kept_among v.stock held ws)) (removal-walks v.list y m.uses (main o.key) a rest k) ∙ go (nat_lt k 2) (removed-once v.list y m.uses (main o.key) a rest) where
+    ap (λ (ws : List ℕ). map row_of (kept_among v.store held_rule ws)) (removal-walks v.list y m.uses (main o.key) a rest k) ∙ go (nat_lt k 2) (removed-once v.list y m.uses (main o.key) a rest) where
       go : (b : Bool) → Distinct (nodes_of y (filter (λ other. not (same_item (main o.key) other)) m.uses))
-          → map row_of (kept_among v.stock held (nodes_of y (if b then m.uses else filter (λ other. not (same_item (main o.key) other)) m.uses))) ≡ (if b then model.rest m else model.rest (doomed number m (Some o)))
-      go true once = listed-rest (λ w. false) v.stock m y (represented-but (λ w. false) v m y r) valid r.list.distinct (λ i h. refl)
-      go false once = dooms-keep (λ w. false) v.stock m y (represented-but (λ w. false) v m y r) valid number o here (λ other. not (same_item (main o.key) other)) (ap not (same_item_self (main o.key)))
+          → map row_of (kept_among v.store held_rule (nodes_of y (if b then m.uses else filter (λ other. not (same_item (main o.key) other)) m.uses))) ≡ (if b then model.rest m else model.rest (doomed number m (Some o)))
+      go true once = listed-rest (λ w. false) v.store m y (represented-but (λ w. false) v m y r) valid r.list.distinct (λ i h. refl)
+      go false once = dooms-keep (λ w. false) v.store m y (represented-but (λ w. false) v m y r) valid number o here (λ other. not (same_item (main o.key) other)) (ap not (same_item_self (main o.key)))
           (λ i other. another-is o.key (main o.key) i refl other) once (λ i h stays. refl)
 
 -- ---- a part
@@ -85,11 +84,11 @@ filter-twice p q (x ∷ xs) = ⊎_elim
     (cases_Bool (p x))
 
 pub doomed-parts : DoomedPartsAtEachWrite
-doomed-parts hole v m y r valid number o here keep out others sound rest n there stays k =
+doomed-parts except v m y r valid number o here keep out others sound rest n there stays k =
     let among : is_in (filter keep m.uses) (part o.key n) ≡ true = in-filter keep m.uses (part o.key n) ∙ both keep (part o.key n) stays there in
     let few : times (part o.key n) (filter keep m.uses) ≤ 1 = fewer (keep (part o.key n)) (times (part o.key n) m.uses) (times (part o.key n) (filter keep m.uses)) (times-filter keep (part o.key n) m.uses) (valid.once (part o.key n)) in
     let a : IsAround (part o.key n) (filter keep m.uses) = around (part o.key n) (filter keep m.uses) among few in
-    ap (λ (ws : List ℕ). map row_of (kept_among v.stock held ws)) (removal-walks v.list y (filter keep m.uses) (part o.key n) a rest k) ∙ go (nat_lt k 2) (removed-once v.list y (filter keep m.uses) (part o.key n) a rest) where
+    ap (λ (ws : List ℕ). map row_of (kept_among v.store held_rule ws)) (removal-walks v.list y (filter keep m.uses) (part o.key n) a rest k) ∙ go (nat_lt k 2) (removed-once v.list y (filter keep m.uses) (part o.key n) a rest) where
       both : (keep : Item → Bool) (i : Item) → keep i ≡ true → is_listed m i ≡ true → (keep i && is_listed m i) ≡ true
       both keep i p q = rw (p, q) refl
 
@@ -101,12 +100,12 @@ doomed-parts hole v m y r valid number o here keep out others sound rest n there
       less i = keep i && not (same_item (part o.key n) i)
 
       go : (b : Bool) → Distinct (nodes_of y (filter (λ other. not (same_item (part o.key n) other)) (filter keep m.uses)))
-          → map row_of (kept_among v.stock held (nodes_of y (if b then filter keep m.uses else filter (λ other. not (same_item (part o.key n) other)) (filter keep m.uses)))) ≡ model.rest (doomed number m (Some o))
-      go true once = dooms-keep hole v.stock m y r valid number o here keep out others rest.whole.distinct sound
+          → map row_of (kept_among v.store held_rule (nodes_of y (if b then filter keep m.uses else filter (λ other. not (same_item (part o.key n) other)) (filter keep m.uses)))) ≡ model.rest (doomed number m (Some o))
+      go true once = dooms-keep except v.store m y r valid number o here keep out others rest.whole.distinct sound
       go false once =
           let e : filter (λ other. not (same_item (part o.key n) other)) (filter keep m.uses) ≡ filter (λ i. keep i && not (same_item (part o.key n) i)) m.uses = filter-twice keep (λ other. not (same_item (part o.key n) other)) m.uses in
-          ap (λ (xs : List Item). map row_of (kept_among v.stock held (nodes_of y xs))) e
-          ∙ dooms-keep hole v.stock m y r valid number o here (λ i. keep i && not (same_item (part o.key n) i)) (rw out refl)
+          ap (λ (xs : List Item). map row_of (kept_among v.store held_rule (nodes_of y xs))) e
+          ∙ dooms-keep except v.store m y r valid number o here (λ i. keep i && not (same_item (part o.key n) i)) (rw out refl)
           (λ i other. let p : keep i ≡ true = others i other in let q : not (same_item (part o.key n) i) ≡ true = another-is o.key (part o.key n) i refl other in rw (p, q) refl)
           (subst (λ (xs : List Item). Distinct (nodes_of y xs)) e once)
           (λ i h p. sound i h (and_parts (keep i) (not (same_item (part o.key n) i)) p).0)

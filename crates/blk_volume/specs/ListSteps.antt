@@ -8,7 +8,7 @@ use Rattle.blk_format.specs.BlockFiles.{IsWellFormed}
 use Rattle.blk_format.specs.Sealed.{sealed_steps, record_range}
 use Rattle.blk_volume.specs.ListView.{ListWrite, Next, Prev, Head, Tail, Transaction, Operation}
 use Rattle.blk_volume.specs.View.{node_at}
-use Rattle.blk_laws.specs.Moments.{OnlyListChanges}
+use Rattle.blk_volume.specs.ShownChanges.{OnlyListChanges}
 
 -- the steps of a write: one word of the index, or the sealed update of the next or the prev of a node
 unfoldable pub write_steps : ListWrite → Image → List TrailStep

@@ -1,5 +1,5 @@
 use Rattle.blk_laws.proofs.Inside.{writes-inside, updates-inside}
-use Rattle.blk_laws.proofs.moments.blocks_change_inside.Goals as goal
+use Rattle.blk_laws.proofs.mid_updates.blocks_change_inside.Goals as goal
 
 pub returns : goal.returns
 returns c = record { writes = writes-inside; updates = updates-inside }

@@ -1,5 +1,5 @@
 use Rattle.blk_laws.proofs.IndexWords.{heads-written, tails-written, transactions-written, operations-written, others-hidden, buckets-written, others-unchecked, buckets-unchecked, index-stands}
-use Rattle.blk_laws.proofs.moments.index_words_are_written.Goals as goal
+use Rattle.blk_laws.proofs.mid_updates.index_words_are_written.Goals as goal
 
 pub returns : goal.returns
 returns c = record {

@@ -1,5 +1,5 @@
 use Rattle.blk_laws.proofs.Nodes.{contents-written, dirty-written}
-use Rattle.blk_laws.proofs.moments.names_are_written.Goals as goal
+use Rattle.blk_laws.proofs.mid_updates.names_are_written.Goals as goal
 
 pub returns : goal.returns
 returns c = record { contents = contents-written; dirty = dirty-written }

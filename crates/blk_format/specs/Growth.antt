@@ -1,0 +1,15 @@
+-- Block files that grow and are added.
+use Rattle.std.specs.Prelude.{ℕ, ◌≡◌, ◌<◌, ◌≤◌, true, Some}
+use Rattle.blk_image.specs.Image.{Index, Block, External, Image, byte, length_of}
+use Rattle.blk_format.specs.Address.{header_size}
+use Rattle.blk_format.specs.Headers.{is_shown_place}
+use Rattle.blk_format.specs.BlockFiles.{linked_as, max_entries_in}
+
+-- block files have grown or been linked at most: a linked file stays linked as its type, keeps the bytes behind its header, and gets no shorter and no fewer blocks
+pub record HaveGrown (old new : Image) : Type 0 where
+  pub index : (i : ℕ) → is_shown_place i ≡ true → byte new Index i ≡ byte old Index i
+  pub externals : (n : ℕ) → new (External n) ≡ old (External n)
+  pub linked : (n kind : ℕ) → linked_as old n ≡ Some kind → linked_as new n ≡ Some kind
+  pub bytes : (n kind i : ℕ) → linked_as old n ≡ Some kind → header_size ≤ i → i < length_of old (Block n) → byte new (Block n) i ≡ byte old (Block n) i
+  pub longer : (n kind : ℕ) → linked_as old n ≡ Some kind → length_of old (Block n) ≤ length_of new (Block n)
+  pub more : (n kind : ℕ) → linked_as old n ≡ Some kind → max_entries_in old n ≤ max_entries_in new n

@@ -1,0 +1,46 @@
+-- Changes that take effect at one step.
+use Rattle.std.proofs.Common.{◌≡◌, ℕ, zero, suc, List, [], ◌∷◌, ◌++◌, Some, sym, ◌∙◌, subst}
+use Rattle.blk_image.specs.Image.{File, Image}
+use Rattle.blk_image.specs.Steps.{TrailStep, Word, SetLength, Delete, Note, applied, after, word_step}
+use Rattle.blk_image.specs.Told.{Told, AppliesPrefix, IsQuiet, CommitsAt, Commits}
+use Rattle.blk_image.proofs.Runs.{grows_none, some_inj, until_front}
+
+-- the steps from the first on commit at the same step
+commits_front : (count : ℕ) (P Q : Image → Type 0) (s t : List TrailStep) (image : Image) → CommitsAt count P Q image (s ++ t) → CommitsAt count P Q image s
+commits_front zero P Q s t image all = until_front Q Q s t image (λ i q. q) all
+commits_front (suc count) P Q [] [] image all = all
+commits_front (suc count) P Q [] (x ∷ t) image all = all.0
+commits_front (suc count) P Q (x ∷ s) t image all = (all.0, commits_front count P Q s t (applied x image) all.1)
+
+-- a front of quiet steps is quiet
+pub quiet_front : (s t : List TrailStep) → IsQuiet (s ++ t) → IsQuiet s
+quiet_front [] t quiet = tt
+quiet_front (Word f at bs ∷ s) t quiet = quiet_front s t quiet
+quiet_front (SetLength f n ∷ s) t quiet = quiet_front s t quiet
+quiet_front (Delete f ∷ s) t quiet = quiet_front s t quiet
+quiet_front (Note n ∷ s) t quiet = absurd quiet
+
+-- a call that wrote nothing
+pub commits_none : (count : ℕ) (old new : Told) (from : Image) (P Q : Image → Type 0) → old.files ≡ Some from → new ≡ old → P from → Commits (suc count) old new P Q
+commits_none count old new from P Q there stays before = record {
+  steps = [];
+  applies = grows_none stays;
+  quiet = tt;
+  commits = λ image here. subst P (some_inj (sym there ∙ here)) before;
+}
+
+-- a call of which a part was done
+pub commits_prefix : (count : ℕ) (old new : Told) (from : Image) (P Q : Image → Type 0) (steps : List TrailStep) → old.files ≡ Some from → IsQuiet steps → CommitsAt count P Q from steps → AppliesPrefix old new steps → Commits count old new P Q
+commits_prefix count old new from P Q steps there quiet whole part = record {
+  steps = part.made;
+  applies = part.applies;
+  quiet = quiet_front part.made part.left (subst IsQuiet part.split quiet);
+  commits = λ image here.
+      subst (λ (i : Image). CommitsAt count P Q i part.made) (some_inj (sym there ∙ here))
+      (commits_front count P Q part.made part.left from (subst (CommitsAt count P Q from) part.split whole));
+}
+
+-- one word, before which P holds and after which Q
+pub commits_word : (P Q : Image → Type 0) (f : File) (place value : ℕ) (image : Image) → P image → Q (after (word_step f place value) image) → CommitsAt 1 P Q image (word_step f place value)
+unfolding word_step
+commits_word P Q f place value image before last = (before, last)
