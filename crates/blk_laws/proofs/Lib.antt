@@ -29,7 +29,6 @@ pub mod Writing
 pub mod ByteChanges
 pub mod LeavingOut
 pub mod FoundFrames
-pub mod Finished
 pub mod FrameLaw
 pub mod AtRest
 pub mod ChainLinks
