@@ -85,3 +85,7 @@ pub mod WordTurns
 pub mod WordStops
 pub mod Sealing
 pub mod ExampleWords
+pub mod NewItems
+pub mod Touches
+pub mod ShortChains
+pub mod Searches

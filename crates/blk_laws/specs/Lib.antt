@@ -10,3 +10,5 @@ pub mod NodeUpdates
 pub mod RecordUpdates
 pub mod IndexWrites
 pub mod ListWords
+pub mod ItemLaws
+pub mod SearchLaws
