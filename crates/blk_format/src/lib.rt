@@ -6,6 +6,7 @@
 ghost use Rattle.blk_format.specs.Headers.{UnfinishedAgrees};
 ghost use Rattle.blk_format.specs.BlockFiles.{WellFormedIsFinished, WellFormedHasWholeIndex};
 ghost use Rattle.blk_format.specs.Names.{ReadsNames};
+ghost use Rattle.blk_format.specs.Sealed.{WholeUpdatesAreMade};
 
 /// The test for an unfinished index agrees with what it tests.
 pub fn unfinished_agrees()
@@ -21,4 +22,9 @@ pub fn reads_names()
 pub fn well_formed_is_finished()
     ensures finished { WellFormedIsFinished }
     ensures whole { WellFormedHasWholeIndex }
+{}
+
+/// A whole sealed update is one with all its changes made.
+pub fn whole_updates_are_made()
+    ensures { WholeUpdatesAreMade }
 {}

@@ -1,7 +1,7 @@
 -- A new object: its record and node written, its node inserted, its record linked.
 use Rattle.std.proofs.Common.{◌≡◌, ℕ, zero, suc, ◌+◌, ◌<◌, List, [], ◌∷◌, ◌++◌, length, map, refl, ap, sym, ◌∙◌, subst, Bool, true, false, arith, cond, get_or, Option, Some, None, Ok, ⊎_elim, ◌⊎◌, inl, inr}
 use Rattle.std.specs.Str.{bytes_eq}
-use Rattle.std.specs.Prelude.{not, ◌&&◌, ◌||◌, ◌==◌, IfSome, if◌then◌else◌}
+use Rattle.std.specs.Prelude.{not, ◌&&◌, ◌==◌}
 use Rattle.std.specs.Option.{option_and_then, option_map}
 use Rattle.std.specs.List.{filter, filter_map, cons_option}
 use Rattle.std.proofs.lemmas.Bool.{cases_Bool, eq-eqb, eqb-true, or_left, or_right, or_parts}
@@ -11,18 +11,17 @@ use Rattle.blk_volume.specs.ListView.{put, Distinct}
 use Rattle.blk_model.specs.Items.{Item, main, part, Row, main_row, same_item}
 use Rattle.blk_model.specs.State.{State, Object, IsValidState, object_at, slot_has_item, first_with}
 use Rattle.blk_model.specs.Effects.{created, new_object}
-use Rattle.blk_model.proofs.Same.{one_item, same_item_self, bytes_eq_self}
+use Rattle.blk_model.proofs.Same.{same_item_self, bytes_eq_self}
 use Rattle.blk_model.proofs.Each.{push_at}
 use Rattle.blk_format.specs.Hash.{hash}
 use Rattle.blk_format.specs.BlockFiles.{is_among}
-use Rattle.blk_format.specs.Claims.{Claim, has_claim, repeats}
 use Rattle.blk_volume.specs.View.{StoreView}
 use Rattle.blk_volume.specs.Chains.{chain, bucket_of_hash, is_of_bucket, Linked, IsChain}
-use Rattle.blk_volume.specs.Loads.{Rule, held_rule, Loaded, load, all_claims}
+use Rattle.blk_volume.specs.Loads.{Rule, held_rule, Loaded, load}
 use Rattle.blk_volume.specs.Audit.{kept_among}
 use Rattle.blk_volume.specs.Entries.{key_of, stream_of, streams_of}
 use Rattle.blk_volume.specs.Found.{row_of}
-use Rattle.blk_volume.specs.Layout.{Layout, is_listed, nodes_of, order, rule_of, HasDirtyMark, HasParentAt, IsPlacedAt, IsDoomedAt, IsListedRecord, Shows, IsLayoutOf, Holds, OneChanged, is_in}
+use Rattle.blk_volume.specs.Layout.{Layout, is_listed, nodes_of, order, rule_of, IsPlacedAt, Shows, IsLayoutOf, Holds, OneChanged, is_in}
 use Rattle.blk_volume.specs.Shown.{IsShown, HasParentIn, IsOrphanIn}
 use Rattle.blk_volume.specs.Given.{given_by, is_settled}
 use Rattle.blk_volume.specs.Creation.{with_first, IsNewItem, IsNewEntry, IsFrontOfChain, with_new, linked_front}

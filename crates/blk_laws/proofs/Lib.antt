@@ -89,3 +89,5 @@ pub mod NewItems
 pub mod Touches
 pub mod ShortChains
 pub mod Searches
+pub mod Files
+pub mod TidyOrder

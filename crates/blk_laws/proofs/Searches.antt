@@ -1,5 +1,5 @@
 -- What a search for a key finds in the chains of what represents a state.
-use Rattle.std.proofs.Common.{◌≡◌, ℕ, ◌≤◌, ◌<◌, List, map, length, refl, sym, ◌∙◌, ap, subst, Bool, true, false, arith, Option, Some, None}
+use Rattle.std.proofs.Common.{◌≡◌, ℕ, ◌≤◌, ◌<◌, List, length, refl, sym, ◌∙◌, ap, subst, Bool, true, false, arith, Option, Some, None}
 use Rattle.std.specs.Prelude.{◌==◌}
 use Rattle.std.proofs.lemmas.Bool.{eqb-true}
 use Rattle.blk_image.proofs.Runs.{some_inj}
@@ -16,7 +16,7 @@ use Rattle.blk_volume.specs.Entries.{Role, IsPlain, IsParent, IsPart, is_key_len
 use Rattle.blk_volume.specs.Loads.{Loaded, is_part, is_part_role}
 use Rattle.blk_volume.specs.Found.{row_of}
 use Rattle.blk_volume.specs.Layout.{Layout, is_listed, order, rule_of, IsPlacedAt, IsListedRecord, Represents}
-use Rattle.blk_volume.specs.Searches.{bucket_of_key, chained_for, IsWholeChain, HasKey, NoneHasKey, HasReadableKey, IsOfLive}
+use Rattle.blk_volume.specs.Searches.{bucket_of_key, chained_for, HasKey, NoneHasKey, HasReadableKey, IsOfLive}
 use Rattle.blk_laws.specs.SearchLaws.{ChainsAreTheLayouts, RepresentedChainsCanBeSearched, FoundRecordsAreLive, NoneFoundIsMissing}
 use Rattle.blk_laws.proofs.Chains.{chain-is}
 use Rattle.blk_laws.proofs.Laid.{IsNodeOf, node-of, is_among-node, item-of, item-row}

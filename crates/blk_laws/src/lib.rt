@@ -5,11 +5,11 @@
 
 ghost use Rattle.blk_laws.specs.AllocationLaws.{SoundFilesAreAllocated, StoodForFilesAreAllocated};
 ghost use Rattle.blk_laws.specs.BareLaws.{NothingRepresentsTheEmptyState, FoldersWithoutEntriesHoldNothing, FoldersWithoutEntriesAreSound, FoldersWithoutEntriesRepresentTheEmptyState, FoldersWithoutEntriesStandForTheEmptyState, NewFoldersHaveNoEntries};
-ghost use Rattle.blk_laws.specs.ByteLaws.{BlocksStandByTheirLast, CoveredChangesStayInside, BlocksAreCovered, ExternalFilesAreCovered, HeadersNeedNoCover, HiddenWordsNeedNoCover, CoversOfLess, MoreCovers, CoversOfEither, AgreeingImagesShowTheSame, CoveredChangesAgree, GrowthIsPastTheBlocks, SameLinksLinkTheSame, AgreementGoesOn, AgreementButMore, LongerFilesHaveGrown, GrowthKeepsStates};
+ghost use Rattle.blk_laws.specs.ByteLaws.{BlocksStandByTheirLast, CoveredChangesStayInside, BlocksAreCovered, ExternalFilesAreCovered, HeadersNeedNoCover, HiddenWordsNeedNoCover, CoversOfLess, MoreCovers, CoversOfEither, AgreeingImagesShowTheSame, CoveredChangesAgree, GrowthIsPastTheBlocks, SameLinksLinkTheSame, AgreementGoesOn, AgreementButMore, LongerFilesHaveGrown, GrowthIsOfAbsentBlocks, ChangedHeadersHaveGrown, GrowthKeepsStates, UnlinkedFilesMayGo};
 ghost use Rattle.blk_laws.specs.CommandLaws.{UnsettledObjectsMayChange, UnsettledChangesAreAtRest, RemovalsKeepTheOthers, LessIsPlaced, LessIsRepresented, DirtyWordsSettle, WrittenDirtyWordsSettle, ChangedDoomedObjectsArePlaced, ChangedDoomedObjectsAreRepresented, DoomedChangesAreAtRest, GoneDoomedObjectsAreRepresented, DoomedDirtyWordsSettle, WrittenDoomedDirtyWordsSettle, RepresentedHoldExcept, MoreMayBeLeftOut, OthersHoldOutside, OthersHoldUnlinked, ChainedRecordsAreOnlyRecords, RecordsStayOutside, RecordsStayUnlinked, RecordsOfAnotherStateLoad, ListedItemsAreAtRest, DoomsKeepTheOthers, DoomsAtEachWrite, DoomedPartsAtEachWrite, DoomedIsPlaced, DoomedIsRepresented, HandlesAreNotShown, RestBeforeTurning, RestAfterTurning, OpensAtEachWrite, OpensEnd, WrittenEntriesStay, CreatesBeforeTheInsert, CreatesAtEachWrite, CreatesEnd, CreatesAfterTheLink, CreatesEndAtTheStep, CreatesLeaveTheRest, CreatesMayLeaveWhatWas};
 ghost use Rattle.blk_laws.specs.KeptLaws.{KeptAreTheGiven, NoneOfTheGivenIsDropped, LeavingOutKeepsTheSame, SameKeyIsOneChain, OnlyCandidatesAreKept, SameCandidatesHoldTheSame};
 ghost use Rattle.blk_laws.specs.ListLaws.{WalksAreTheLists, InsertsCommitAtTwo, InsertsEnd, RemovalsCommitAtTwo, RemovalsEnd, TouchesCommitAtTwo, TouchesEnd, CompletingAgainIsTheSame, CompletionsEnd, ChainsAreTheirRecords, RecordsAreLinkedInFront, WholeChainsAreShort, RecordsOfImagesAreFew, ChainsOfImagesAreShort, OtherChainsStay, FirstRecordsAreUnlinked, FirstRecordsLeaveChains, LaterRecordsAreUnlinked, LaterRecordsLeaveChains};
-ghost use Rattle.blk_laws.specs.StateLaws.{WalksAreTheOrder, ListedAreTheRows, NothingListedIsDropped, RepresentedChainsEnd, KeptAreAtRest, FoundIsAtRest, RepresentedStatesAreShown, RepresentedStatesAreStoodFor, PlacedItemsAreShown, KeptArePicked, FreeFootprintsKeepStates, ChangedItemsArePlaced, ChangedItemsAreRepresented};
+ghost use Rattle.blk_laws.specs.StateLaws.{WalksAreTheOrder, ListedAreTheRows, NothingListedIsDropped, RepresentedChainsEnd, KeptAreAtRest, FoundIsAtRest, RepresentedStatesAreShown, TidyIsInOrder, RepresentedStatesAreStoodFor, TidyStatesAreStoodFor, PlacedItemsAreShown, KeptArePicked, FreeFootprintsKeepStates, ChangedItemsArePlaced, ChangedItemsAreRepresented};
 ghost use Rattle.blk_laws.specs.ItemLaws.{SameStoresRepresent, TouchedItemsAtEachWrite, TouchedItemsEnd, NewItemsArePlaced};
 ghost use Rattle.blk_laws.specs.SearchLaws.{ChainsAreTheLayouts, RepresentedChainsAreShort, RepresentedChainsCanBeSearched, FoundRecordsAreLive, NoneFoundIsMissing};
 
@@ -100,10 +100,12 @@ pub fn represented_states_are_found()
     ensures found { FoundIsAtRest }
 {}
 
-/// An image that represents a state with exact maps shows it, and stands for it where all else is in order.
+/// An image that represents a state with exact maps shows it, and stands for it where all else is in order, which is so where it is tidy by its layout.
 pub fn represented_states_are_stood_for()
     ensures shown { RepresentedStatesAreShown }
+    ensures in_order { TidyIsInOrder }
     ensures stands { RepresentedStatesAreStoodFor }
+    ensures tidy { TidyStatesAreStoodFor }
 {}
 
 /// A folder that shows nothing represents the empty state.
@@ -271,8 +273,11 @@ pub fn agreeing_images_show_the_same()
     ensures more { AgreementButMore }
 {}
 
-/// A longer block file has grown, and the growth or linking of block files keeps what is represented.
+/// A longer block file has grown, and so have files whose headers change but for what says which blocks there are; growth or linking touches blocks alone that were not there, and keeps what is represented; a block file that isn't linked may go.
 pub fn growth_keeps_states()
     ensures longer { LongerFilesHaveGrown }
+    ensures absent { GrowthIsOfAbsentBlocks }
+    ensures headers { ChangedHeadersHaveGrown }
     ensures kept { GrowthKeepsStates }
+    ensures gone { UnlinkedFilesMayGo }
 {}
