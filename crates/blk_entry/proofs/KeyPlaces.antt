@@ -33,7 +33,7 @@ use Rattle.blk_io.specs.Faults.{IfDamaged, IsShort}
 use Rattle.blk_external.specs.Reading.{IsFew}
 use Rattle.blk_entry.specs.declared.keys.Head.{Head}
 use Rattle.blk_entry.specs.declared.keys.KeyPlace.{KeyPlace}
-use Rattle.blk_entry.specs.Keys.{IsCut, IsCutKey, IsCutPart, IsCutPiece, IsPlaced, data_name, IsPiece, IsPlaceOf, data_file, data_start, data_at, held, key_at, key_address, bytes_before, is_short, may_have, may_hold, stores, IsInside, IsInFile, IsHead, HasKey}
+use Rattle.blk_entry.specs.Keys.{IsCut, IsCutKey, IsCutPart, IsCutPiece, IsPlaced, data_name, IsPiece, IsPlaceOf, data_file, data_start, data_at, held, key_at, key_address, bytes_before, is_short, may_have, may_hold, stores, IsInside, IsInFile, IsHead, HasReadableKey}
 use Rattle.blk_entry.proofs.Windows.{entry_room}
 
 -- two numbers that a test tells apart
@@ -529,7 +529,7 @@ whole_there files image entry k l key place n known at all e =
     omega (arith, h, at.skip, at.len, all)
 
 -- a key is that of a record exactly where its bytes lie there
-pub key_by_place : (files : BlockFiles) (image : Image) (entry : ℕ) (head : Head) (key : List ℕ) (place : KeyPlace) → Agrees files image → kind_of entry ≡ blocks_256 → IsHead image entry head → HasKey entry image → IsPlaceOf entry head.key_len head.long_key place
+pub key_by_place : (files : BlockFiles) (image : Image) (entry : ℕ) (head : Head) (key : List ℕ) (place : KeyPlace) → Agrees files image → kind_of entry ≡ blocks_256 → IsHead image entry head → HasReadableKey entry image → IsPlaceOf entry head.key_len head.long_key place
     → head.key_len ≡ length key → (key ≡ data_at image place.addr place.skip (length key)) ↔ (key_at image entry ≡ Some key)
 key_by_place files image entry head key place agrees kind words has at size = (
   λ same. has.is ∙ ap Some (key_in_place files image entry head.key_len head.long_key has.key place (head_facts files image entry head has.key agrees kind words has.is) at ∙ ap (data_at image place.addr place.skip) all ∙ sym same),

@@ -31,7 +31,7 @@ abbrev pub key_place_bytes : ℕ
 key_place_bytes = 160
 
 -- a word names a record with a key
-pub record HasKey (entry : ℕ) (image : Image) : Type 0 where
+pub record HasReadableKey (entry : ℕ) (image : Image) : Type 0 where
   pub key : List ℕ
   pub is : key_at image entry ≡ Some key
 
@@ -126,7 +126,7 @@ pub record IsUnfit (entry key_len : ℕ) (damage : Damage) : Type 0 where
   pub unfit : may_have entry key_len ≡ false
 
 -- the word of a long key, at place 36 of the record, is no address that stands and stores a key of so many bytes
-pub record IsDangling (files : BlockFiles) (entry key_len long_key : ℕ) (damage : Damage) : Type 0 where
+pub record IsDanglingKey (files : BlockFiles) (entry key_len long_key : ℕ) (damage : Damage) : Type 0 where
   pub of_file : damage.file ≡ names.Block (file_selector entry)
   pub at_place : damage.at ≡ place entry + 36
   pub of_word : damage.found ≡ long_key
@@ -136,7 +136,7 @@ pub record IsDangling (files : BlockFiles) (entry key_len long_key : ℕ) (damag
 
 -- the key's length or the word of a long key is wrong
 abbrev pub IsMisplaced : BlockFiles → ℕ → ℕ → ℕ → Damage → Type 0
-IsMisplaced files entry key_len long_key damage = IsUnfit entry key_len damage ⊎ IsDangling files entry key_len long_key damage
+IsMisplaced files entry key_len long_key damage = IsUnfit entry key_len damage ⊎ IsDanglingKey files entry key_len long_key damage
 
 -- a damage of a key where the words of its record are known: its length, and the word of a long key
 abbrev pub IsPlaceDamage : BlockFiles → Told → ℕ → ℕ → ℕ → Damage → Type 0

@@ -6,7 +6,7 @@ ghost use Rattle.blk_format.specs.Address.{blocks_256, kind_of};
 ghost use Rattle.blk_io.specs.Faults.{IfDamaged, IfDevice};
 ghost use Rattle.blk_disk.specs.Tables.{Agrees, stands_among};
 ghost use Rattle.blk_format.specs.Sealed.{RecordChecks};
-ghost use Rattle.blk_entry.specs.Keys.{HasKey, IsCut, IsCutPiece, IsEntryOf, IsHead, IsInFile, IsInside, IsKeyDamage, IsPlaceDamage, data_at, key_at};
+ghost use Rattle.blk_entry.specs.Keys.{HasReadableKey, IsCut, IsCutPiece, IsEntryOf, IsHead, IsInFile, IsInside, IsKeyDamage, IsPlaceDamage, data_at, key_at};
 
 use crate::data::read_data;
 use crate::keys::{Head, key_place, read_head};
@@ -33,7 +33,7 @@ pub fn key_equals<F: Folder>(
     requires stands { IsTrue (stands_among files.now entry) }
     requires agrees { ForSome (F.told f.old).files (Agrees files.now) }
     requires checks { ForSome (F.told f.old).files (RecordChecks entry) }
-    requires key { ForSome (F.told f.old).files (HasKey entry) }
+    requires key { ForSome (F.told f.old).files (HasReadableKey entry) }
     ensures equal { IfOk result (λ same. ForSome (F.told f.old).files (λ image. IsTrue same ↔ IsEntryOf key.now entry image)) }
     ensures damaged { IfDamaged result (IsKeyDamage files.now (F.told f.old) entry (length key.now)) }
     ensures untold { IfDamaged result (λ _. (F.told f.old).files ≡ None) }
@@ -66,7 +66,7 @@ pub fn key_is<F: Folder>(
     requires stands { IsTrue (stands_among files.now entry) }
     requires agrees { ForSome (F.told f.old).files (Agrees files.now) }
     requires head { ForSome (F.told f.old).files (λ image. IsHead image entry head.now) }
-    requires key { ForSome (F.told f.old).files (HasKey entry) }
+    requires key { ForSome (F.told f.old).files (HasReadableKey entry) }
     ensures equal { IfOk result (λ same. ForSome (F.told f.old).files (λ image. IsTrue same ↔ (key_at image entry ≡ Some key.now))) }
     ensures damaged { IfDamaged result (IsPlaceDamage files.now (F.told f.old) entry (length key.now) head.now.long_key) }
     ensures untold { IfDamaged result (λ _. (F.told f.old).files ≡ None) }

@@ -10,7 +10,7 @@ ghost use Rattle.blk_disk.specs.Tables.{Agrees, stands_among};
 ghost use Rattle.blk_disk.specs.Unsealed.{IsUnsealed};
 ghost use Rattle.blk_format.specs.Sealed.{RecordChecks};
 ghost use Rattle.blk_entry.specs.Keys as keys;
-ghost use Rattle.blk_entry.specs.Keys.{HasKey, IsHead, IsHeadDamage, IsInside, IsMisplaced, IsPiece, IsPlaceOf, is_short, key_at, key_address, bytes_before};
+ghost use Rattle.blk_entry.specs.Keys.{HasReadableKey, IsHead, IsHeadDamage, IsInside, IsMisplaced, IsPiece, IsPlaceOf, is_short, key_at, key_address, bytes_before};
 
 use crate::data::{is_of, read_data};
 use blk_addr::{Addr, Kind, blocks_for, entry_blocks, kind_for};
@@ -69,7 +69,7 @@ pub fn key_piece<F: Folder>(
     requires stands { IsTrue (stands_among files.now entry) }
     requires agrees { ForSome (F.told f.old).files (Agrees files.now) }
     requires checks { ForSome (F.told f.old).files (RecordChecks entry) }
-    requires key { ForSome (F.told f.old).files (HasKey entry) }
+    requires key { ForSome (F.told f.old).files (HasReadableKey entry) }
     ensures within { IfOk result (λ n. n ≤ length out.old) }
     ensures piece { IfOk result (λ n. ForSome (F.told f.old).files (λ image. ForSome (key_at image entry) (λ key. IsPiece key at out.old out.new n))) }
     ensures damaged { IfDamaged result (keys.IsPartDamage files.now (F.told f.old) entry at (length out.old)) }
