@@ -19,3 +19,4 @@ pub mod RecordBytes
 pub mod Seals
 pub mod SealedRecords
 pub mod SealedFields
+pub mod Growths
