@@ -1,4 +1,4 @@
-// Blocks are given.
+// Blocks are allocated.
 ghost use Rattle.std.specs.Prelude.{◌≡◌, ◌≢◌, ◌⊎◌, ◌≤◌, ◌<◌, None, IfOk, OnOk, IsTrue, length};
 ghost use Rattle.std.specs.List.{All};
 ghost use Rattle.std.specs.Option.{ForSome};
@@ -12,13 +12,13 @@ ghost use Rattle.blk_disk.specs.Growth.{KeepsBlocks};
 ghost use Rattle.blk_disk.specs.Tables.{Agrees, files_of, stands_among};
 ghost use Rattle.blk_alloc.specs.Owning.{KeepsExternals};
 ghost use Rattle.blk_alloc.specs.Fitting.{IsPlace};
-ghost use Rattle.blk_alloc.specs.Making.{HasMostBlocks, KeepsAll, KeepsStanding};
-ghost use Rattle.blk_alloc.specs.Giving.{AreCounted, HaveNoRoom, IsAddedPlace, IsChosen, MarksFitUsed, IsFull, Allocates, AllocatesInProgress, IsGrownPlace, Extends, ExtendsInProgress, ExtendsInProgressIn, IsRefusal};
+ghost use Rattle.blk_alloc.specs.Extending.{HasMostBlocks, KeepsAll, KeepsStanding};
+ghost use Rattle.blk_alloc.specs.Allocating.{AreCounted, HaveNoRoom, IsAddedPlace, IsChosen, MarksFitUsed, IsFull, Allocates, AllocatesInProgress, IsGrownPlace, Extends, ExtendsInProgress, ExtendsInProgressIn, IsRefusal};
 
 use crate::blocks::Blocks;
 use crate::fitting::first_fit;
-use crate::making::{add_room, grow_room, growing_file};
-use crate::taking::take;
+use crate::extending::{add_room, grow_room, growing_file};
+use crate::marking::mark;
 use blk_addr::{Addr, Kind};
 use blk_disk::BlockFiles;
 use blk_io::{Damage, Fault, FileId, Folder, read_word};
@@ -93,8 +93,8 @@ fn new_room<F: Folder>(
     Ok(place)
 }
 
-// Takes blocks where no file of a kind has room for them.
-fn take_new<F: Folder>(
+// Gives blocks where no file of a kind has room for them.
+fn allocate_new<F: Folder>(
     f: &mut F,
     files: &mut BlockFiles,
     kind: Kind,
@@ -123,7 +123,7 @@ fn take_new<F: Folder>(
     ensures device { IfDevice result (Rises (F.faults f.old) (F.faults f.new)) }
 {
     let place = new_room(f, files, kind, count)?;
-    take(f, files, kind, place)
+    mark(f, files, kind, place)
 }
 
 /// Gives 1 to 4 blocks of a block kind, and 1 of `Rankings`, which nobody owned, and marks them.
@@ -175,7 +175,7 @@ pub fn allocate<F: Folder>(
     ensures device { IfDevice result (Rises (F.faults f.old) (F.faults f.new)) }
 {
     match first_fit(f, files, kind, blocks)? {
-        Some(place) => take(f, files, kind, place),
-        None => take_new(f, files, kind, blocks),
+        Some(place) => mark(f, files, kind, place),
+        None => allocate_new(f, files, kind, blocks),
     }
 }

@@ -8,7 +8,7 @@ use Rattle.blk_image.proofs.Runs.{passes_end, passes_then, passes_weaker}
 use Rattle.blk_addr.specs.Kind.{kind_number}
 use Rattle.blk_disk.specs.Tables.{Joins}
 use Rattle.blk_disk.specs.Growth.{IsLeastFree, KeepsBlocks, addition_of, free_number, growth_of, add_steps, last_file}
-use Rattle.blk_alloc.specs.Making.{HasCounters}
+use Rattle.blk_alloc.specs.Extending.{HasCounters}
 use Rattle.blk_alloc.proofs.Adding.{added_file, new_allocations, new_hints, new_counters, new_among, join_keeps, join_widens, all_kept}
 use Rattle.blk_alloc.proofs.Hints.{grown_hints}
 use Rattle.blk_alloc.proofs.Kept.{join_larger, standing_kept, standing_same}
@@ -17,7 +17,7 @@ use Rattle.blk_io.proofs.Carried.{silent_part}
 use Rattle.blk_alloc.proofs.Causes.{told_before}
 use Rattle.blk_alloc.proofs.Sparing.{blocks_then}
 use Rattle.blk_alloc.proofs.Written.{passes_on}
-use Rattle.blk_alloc.proofs.making.add_room.Goals as goal
+use Rattle.blk_alloc.proofs.extending.add_room.Goals as goal
 
 -- no files
 no_image : Image

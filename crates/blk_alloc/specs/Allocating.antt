@@ -17,8 +17,8 @@ use Rattle.blk_disk.specs.Growth.{IsLeastFree, addition_of, free_number, growth_
 use Rattle.blk_alloc.specs.declared.blocks.Blocks.{Blocks}
 use Rattle.blk_alloc.specs.Owning.{is_of, IsCause, KeepsFile}
 use Rattle.blk_alloc.specs.Fitting.{HasNoRoom, IsFirstFit, IsPlace, IsShortOf}
-use Rattle.blk_alloc.specs.Taking.{taking_of, IsDangling, CanBeMarked, MarksUsed, MarksUsedInProgress}
-use Rattle.blk_alloc.specs.Making.{HasMostBlocks, HasNoHints, IsFirstGrowing, KeepsFiles, KeepsMarks}
+use Rattle.blk_alloc.specs.Marking.{taking_of, IsDangling, CanBeMarked, MarksUsed, MarksUsedInProgress}
+use Rattle.blk_alloc.specs.Extending.{HasMostBlocks, HasNoHints, IsFirstGrowing, KeepsFiles, KeepsMarks}
 
 -- What is asked of the files.
 

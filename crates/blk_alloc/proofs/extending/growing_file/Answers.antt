@@ -4,9 +4,9 @@ use Rattle.std.proofs.lemmas.List.{take_all}
 use Rattle.std.proofs.lemmas.List.Elements.{All-more}
 use Rattle.blk_addr.specs.Kind.{kind_number}
 use Rattle.blk_disk.specs.Tables.{files_of, blocks_of}
-use Rattle.blk_alloc.specs.Making.{HasMostBlocks}
+use Rattle.blk_alloc.specs.Extending.{HasMostBlocks}
 use Rattle.blk_alloc.proofs.Members.{member_all, member_at, split_at, at_place}
-use Rattle.blk_alloc.proofs.making.growing_file.Goals as goal
+use Rattle.blk_alloc.proofs.extending.growing_file.Goals as goal
 
 below_is : (n blocks : ℕ) → n ≡ min blocks 64896 → n < 64896 → blocks < 64896
 below_is n blocks is small = omega (arith, is, small)

@@ -1,4 +1,4 @@
-// Blocks of a file are taken.
+// Blocks of a file are marked as used.
 ghost use Rattle.std.specs.Prelude.{◌≡◌, ◌≢◌, ◌⊎◌, ◌≤◌, ◌<◌, true, None, IfOk, IsTrue};
 ghost use Rattle.std.specs.Option.{ForSome};
 ghost use Rattle.blk_image.specs.Told.{Passes, PassesTo, Rises, Told};
@@ -10,9 +10,9 @@ ghost use Rattle.blk_io.specs.Faults.{IfDamaged, IfDevice};
 ghost use Rattle.blk_disk.specs.Growth.{KeepsBlocks};
 ghost use Rattle.blk_disk.specs.Tables.{Agrees, all_files, blocks_of, stands_among};
 ghost use Rattle.blk_alloc.specs.Fitting.{IsPlace};
-ghost use Rattle.blk_alloc.specs.Making.{KeepsStanding};
+ghost use Rattle.blk_alloc.specs.Extending.{KeepsStanding};
 ghost use Rattle.blk_alloc.specs.Owning.{IsCause};
-ghost use Rattle.blk_alloc.specs.Taking.{blocks_place, IsDangling, CanBeMarked, MarksUsedInProgress, MarksUsed};
+ghost use Rattle.blk_alloc.specs.Marking.{blocks_place, IsDangling, CanBeMarked, MarksUsedInProgress, MarksUsed};
 
 use crate::blocks::Blocks;
 use crate::change::change;
@@ -36,8 +36,8 @@ fn dangling(files: &BlockFiles, file: u8) -> Damage
     }
 }
 
-// Takes blocks of a file: lengthens the file to all its blocks, where it is shorter, and marks them.
-pub(crate) fn take<F: Folder>(
+// Marks blocks of a file as used: lengthens the file to all its blocks, where it is shorter, and marks them.
+pub(crate) fn mark<F: Folder>(
     f: &mut F,
     files: &mut BlockFiles,
     kind: Kind,

@@ -14,7 +14,7 @@ use Rattle.blk_alloc.proofs.Formed.{count_whole}
 use Rattle.blk_alloc.proofs.Growing.{grow_widens}
 use Rattle.blk_alloc.proofs.Kept.{grow_larger, standing_kept, standing_same}
 use Rattle.blk_alloc.proofs.Grown.{grown_ready, grown_free, grown_keeps}
-use Rattle.blk_alloc.proofs.making.grow_room.Goals as goal
+use Rattle.blk_alloc.proofs.extending.grow_room.Goals as goal
 
 pub grow-requires-clause-linked : goal.grow-requires-clause-linked
 grow-requires-clause-linked g c = member_all c.args.files.now c.args.kind c.args.file c.requires.block_kind c.requires.linked

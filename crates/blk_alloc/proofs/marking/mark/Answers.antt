@@ -8,7 +8,7 @@ use Rattle.blk_image.specs.Footprint.{SameOutside, size_of}
 use Rattle.blk_image.proofs.Runs.{passes_to, passes_none, passes_end, passes_weaker, some_inj}
 use Rattle.blk_disk.specs.Growth.{KeepsBlocks, fit_steps}
 use Rattle.blk_disk.specs.declared.tables.BlockFiles.{BlockFiles}
-use Rattle.blk_alloc.specs.Taking.{IsDangling, CanBeMarked, MarksUsedInProgress, MarksUsed}
+use Rattle.blk_alloc.specs.Marking.{IsDangling, CanBeMarked, MarksUsedInProgress, MarksUsed}
 use Rattle.blk_alloc.specs.Changes.{IsReady, map_of}
 use Rattle.blk_alloc.proofs.Formed.{agrees_kept}
 use Rattle.blk_alloc.proofs.Members.{member_all, member_head}
@@ -27,7 +27,7 @@ use Rattle.blk_io.proofs.Carried.{carried, if_damaged_weaker, told_at_end, untol
 use Rattle.blk_alloc.proofs.Causes.{cause_before, none_before}
 use Rattle.blk_alloc.proofs.Externals.{fit_then_blocks}
 use Rattle.blk_alloc.proofs.Sparing.{blocks_same}
-use Rattle.blk_alloc.proofs.taking.take.Goals as goal
+use Rattle.blk_alloc.proofs.marking.mark.Goals as goal
 
 pub fit-requires-clause-linked : goal.fit-requires-clause-linked
 fit-requires-clause-linked g c = member_all c.args.files.now c.args.kind c.args.place.file c.requires.block_kind c.requires.place.linked

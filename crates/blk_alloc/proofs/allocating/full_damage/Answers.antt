@@ -4,8 +4,8 @@ use Rattle.blk_io.specs.declared.folder.FileId.TheVariants as names
 use Rattle.blk_io.specs.Faults.{IsShort}
 use Rattle.blk_io.proofs.Carried.{carried, if_damaged_weaker}
 use Rattle.blk_addr.specs.Kind.{kind_number}
-use Rattle.blk_alloc.specs.Giving.{IsFull}
-use Rattle.blk_alloc.proofs.giving.full_damage.Goals as goal
+use Rattle.blk_alloc.specs.Allocating.{IsFull}
+use Rattle.blk_alloc.proofs.allocating.full_damage.Goals as goal
 
 none_some : {image : Image} → None ≡ Some image → ⊥
 none_some {image} e = cc

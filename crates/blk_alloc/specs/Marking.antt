@@ -1,6 +1,6 @@
 -- Blocks of a file are taken: the file is lengthened to its blocks, and the blocks are marked.
-use Rattle.std.specs.Prelude.{◌≡◌, ◌≢◌, ◌⊎◌, ℕ, ◌+◌, ◌<◌, List, ◌∷◌, true, false, if◌then◌else◌, Some}
-use Rattle.blk_image.specs.Image.{Block, Image, byte}
+use Rattle.std.specs.Prelude.{◌≡◌, ◌≢◌, ◌⊎◌, ℕ, ◌+◌, ◌<◌, ◌≤◌, List, ◌∷◌, true, false, if◌then◌else◌, Some}
+use Rattle.blk_image.specs.Image.{Block, Image, byte, length_of}
 use Rattle.blk_image.specs.Footprint.{Footprint, SameOutside, either, one_word, size_of}
 use Rattle.blk_format.specs.Address.{block_word, file_selector}
 use Rattle.blk_format.specs.Headers.{updating_of}
@@ -23,14 +23,16 @@ pub record CanBeMarked (image : Image) (place : Blocks) : Type 0 where
 abbrev pub taking_of : ℕ → Footprint
 taking_of n = either (size_of (Block n)) (map_of n)
 
--- a moment of it: nothing else differs, and where more than the length and updating differ, updating is 1
+-- a moment of it: nothing else differs, the file is no shorter, and where more than the length and updating differ, updating is 1
 pub record MarksUsedInProgress (n : ℕ) (from image : Image) : Type 0 where
   pub same : SameOutside (taking_of n) from image
+  pub longer : length_of from (Block n) ≤ length_of image (Block n)
   pub updating : (updating_of (byte image (Block n)) ≡ 1) ⊎ SameOutside (either (size_of (Block n)) (one_word (Block n) updating_place)) from image
 
 -- the blocks of an address are taken: they were free and are marked now, no other mark has changed, each file has its allocations and its file one more, the counters are true, and updating is 0
 pub record MarksUsed (files : BlockFiles) (from : Image) (w : ℕ) (image : Image) : Type 0 where
   pub same : SameOutside (taking_of (file_selector w)) from image
+  pub longer : length_of from (Block (file_selector w)) ≤ length_of image (Block (file_selector w))
   pub free : (b : ℕ) → is_of w (file_selector w) b ≡ true → is_block_marked from (file_selector w) b ≡ false
   pub marks : (n b : ℕ) → b < most_blocks → is_block_marked image n b ≡ (if is_of w n b then true else is_block_marked from n b)
   pub allocations : (words : List ℕ) → AreAllocations from (file_selector w) words → AreAllocations image (file_selector w) (w ∷ words)

@@ -10,8 +10,8 @@ ghost use Rattle.blk_format.specs.Maps.{group_size, AreAllocations};
 ghost use Rattle.blk_disk.specs.Tables.{Agrees, blocks_of, files_of};
 ghost use Rattle.blk_disk.specs.Growth.{IsLeastFree, KeepsBlocks, addition_of, free_number, growth_of};
 ghost use Rattle.blk_alloc.specs.Fitting.{IsPlace};
-ghost use Rattle.blk_alloc.specs.Making.{HasCounters, HasNoHints, IsGrowing, KeepsAll, KeepsFiles, KeepsMarks, KeepsStanding};
-ghost use Rattle.blk_alloc.specs.Taking.{CanBeMarked};
+ghost use Rattle.blk_alloc.specs.Extending.{HasCounters, HasNoHints, IsGrowing, KeepsAll, KeepsFiles, KeepsMarks, KeepsStanding};
+ghost use Rattle.blk_alloc.specs.Marking.{CanBeMarked};
 
 use crate::blocks::Blocks;
 use crate::fitting::blocks_in;

@@ -7,13 +7,13 @@ use Rattle.blk_format.specs.BlockFiles.{is_among}
 use Rattle.blk_format.specs.Maps.{AreAllocations}
 use Rattle.blk_disk.specs.Tables.{all_files, files_of, blocks_of}
 use Rattle.blk_disk.specs.Growth.{IsLeastFree, addition_of, free_number, growth_of}
-use Rattle.blk_alloc.specs.Making.{HasNoHints, IsFirstGrowing}
-use Rattle.blk_alloc.specs.Giving.{IsFull, ExtendsInProgress, ExtendsInProgressIn, IsRefusal}
+use Rattle.blk_alloc.specs.Extending.{HasNoHints, IsFirstGrowing}
+use Rattle.blk_alloc.specs.Allocating.{IsFull, ExtendsInProgress, ExtendsInProgressIn, IsRefusal}
 use Rattle.blk_io.proofs.Carried.{carried, if_damaged_weaker, untold_where}
 use Rattle.blk_alloc.proofs.Formed.{count_whole}
 use Rattle.blk_alloc.proofs.Members.{member_all, member_head, member_split}
 use Rattle.blk_alloc.proofs.Rooms.{has_counters, if_damaged_any, making_added, making_grown, never_full}
-use Rattle.blk_alloc.proofs.giving.new_room.Goals as goal
+use Rattle.blk_alloc.proofs.allocating.new_room.Goals as goal
 
 whole_start : (old : ℕ) → old % 4 ≡ 0 → old / 4 * 4 ≡ old
 whole_start old whole = omega (arith, whole)
