@@ -1,0 +1,16 @@
+use Rattle.std.proofs.Common.{◌≡◌, ℕ, List, length, ◌+◌, ◌<◌, ◌≤◌, ◌/◌, ◌&&◌, Bool, true, Some, None, take, ◌++◌, arith, ap, ap₂, sym, subst, refl, ◌∙◌}
+use Rattle.std.proofs.Common.{[], append-nil}
+use Rattle.blk_image.specs.Bytes.{content}
+use Rattle.blk_format.specs.Records.{bytes_of_words}
+use Rattle.blk_ranges.specs.ParentMaps.{head_bytes, read_parent_head}
+use Rattle.blk_ranges.proofs.HeadBytes.{written-words}
+use Rattle.blk_ranges.proofs.ParentIndexes.{head-read}
+use Rattle.blk_ranges.proofs.parent_map.ParentHead.print.Goals as goal
+
+pub returns-clause-printed : goal.returns-clause-printed
+unfolding head_bytes
+returns-clause-printed c = c.write_u32_into.ensures ∙ written-words c.words.result ∙ ap bytes_of_words c.words.ensures
+
+pub returns-clause-read_back : goal.returns-clause-read_back
+returns-clause-read_back c =
+    ap (λ (bs : List ℕ). read_parent_head (content bs)) (returns-clause-printed c ∙ sym (append-nil (head_bytes c.args.self.now))) ∙ head-read c.args.self.now [] c.requires

@@ -1,0 +1,6 @@
+use Rattle.std.proofs.Common.{◌≡◌, ℕ, List, length, ◌+◌, ◌<◌, ◌≤◌, ◌/◌, ◌&&◌, Bool, true, Some, None, take, ◌++◌, arith, ap, ap₂, sym, subst, refl, ◌∙◌}
+use Rattle.blk_ranges.proofs.ParentIndexes.{adds-a-part}
+use Rattle.blk_ranges.proofs.parent_map.one_byte_adds_a_part.Goals as goal
+
+pub returns : goal.returns
+returns c = adds-a-part
