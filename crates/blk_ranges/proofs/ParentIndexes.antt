@@ -1,7 +1,7 @@
 -- The index of a parent: its head, and the bits of its parts.
 use Rattle.std.proofs.Common.{◌≡◌, ◌≢◌, ℕ, ℤ, negsuc, subst, zero, suc, ◌+◌, ◌-◌, ◌*◌, ◌/◌, ◌%◌, ◌^◌, ◌<◌, ◌≤◌, List, [], ◌∷◌, ◌++◌, length, take, drop, replicate, get_or, set, Bool, true, false, ◌&&◌, ◌||◌, refl, sym, ap, ap₂, ◌∙◌, arith, bit_or, w8, inl, inr, ⊎_elim, length-append, append_assoc, append-nil, eqb, length-drop, length-take}
 use Rattle.std.proofs.Math.ListN.{length-set}
-use Rattle.std.proofs.lemmas.List.{get_or-set_same, get_or-set_other, get_or-append_right, take-append-drop, length-take-le, take_all}
+use Rattle.std.proofs.lemmas.List.{get_or-set_same, get_or-set_other, get_or-append_right, take-append-drop, length-take-le, take_all, length-replicate}
 use Rattle.std.specs.Prelude.{nat_lt, nat_le, ◌==◌, if◌then◌else◌, Option, Some, None, slice_index}
 use Rattle.std.specs.Option.{option_map}
 use Rattle.std.specs.Int.{bit_at, cast_signed, cast_unsigned, w32, w64}
@@ -9,16 +9,17 @@ use Rattle.std.proofs.lemmas.Int.{of_z-to_z}
 use Rattle.blk_ranges.proofs.Indexes.{there_and_back}
 use Rattle.std.proofs.lemmas.Bool.{cases_lt, lt-ltb, le-ltb, le-leb, eq-eqb, eqb-true}
 use Rattle.std.proofs.lemmas.Bool.Decides.{eqb_tells}
-use Rattle.std.proofs.lemmas.Nat.Bits.{bit_at_set_same, bit_at_set_other}
+use Rattle.std.proofs.lemmas.Nat.Bits.{bit_at_set_same, bit_at_set_other, bit_at-zero}
 use Rattle.std.proofs.lemmas.Option.{cond_some}
-use Rattle.blk_image.specs.Bytes.{content, word_at, long_at, words_at}
+use Rattle.blk_image.proofs.Splices.{content-zeros}
+use Rattle.blk_image.specs.Bytes.{zeros, content, word_at, long_at, words_at}
 use Rattle.blk_model.specs.Bytes.{overwritten}
 use Rattle.blk_format.specs.Records.{bytes_of_words}
 use Rattle.blk_format.specs.SparseIndex.{signature_of as signature_said, last_block_of, ParentIndex, read_parent_index, is_index_head, minus_one, map_bit, parent_key_len_of, last_block_len_of}
 use Rattle.blk_ranges.specs.declared.parent_map.ParentHead.{ParentHead}
 use Rattle.blk_ranges.specs.declared.parent_map.ParentMap.{ParentMap}
 use Rattle.blk_ranges.specs.PartMaps.{head_words}
-use Rattle.blk_ranges.specs.ParentMaps.{IsParentHead, OneByteAddsAPart, has_part_bit, head_bytes, head_fields, head_signature, parent_bytes, parent_index_of, read_parent_head, with_part, with_part_bit}
+use Rattle.blk_ranges.specs.ParentMaps.{IsParentHead, OneByteAddsAPart, has_part_bit, head_bytes, head_fields, head_signature, no_parts, parent_bytes, parent_index_of, read_parent_head, with_part, with_part_bit}
 use Rattle.blk_ranges.proofs.HeadBytes.{SaysHead, front-words, head-known, head-said, head-right, put-behind}
 use borrow.Rule.Slice.PartMut.{put_mid, mid_of}
 
@@ -144,6 +145,25 @@ pub parts-long : (m : ParentMap) (words dst out parts : List ℕ) → dst ≡ by
 parts-long m words dst out parts is_dst is_words long size is =
     let front : length dst ≡ 64 = ap length (is_dst ∙ ap bytes_of_words is_words) in
     ap length (sym is) ∙ size ∙ omega (arith, length-take 8192 (drop 64 (dst ++ drop 64 (drop 0 out))), length-drop 64 (dst ++ drop 64 (drop 0 out)), length-append dst (drop 64 (drop 0 out)), length-drop 64 out, front)
+
+-- a head with zeros behind it
+abbrev bare : ParentHead → ℕ → ParentMap
+bare head n = record { head = head; parts = replicate n 0 }
+
+bare-index : (head : ParentHead) (n : ℕ) → parent_index_of (bare head n) ≡ no_parts (head_signature head) head.key_len
+unfolding parent_index_of zeros
+bare-index head n =
+    let part : (k : ℕ) → (nat_lt k 65536 && has_part_bit (slice_index (replicate n 0) (k / 8)) k) ≡ false = λ k. no-bit (nat_lt k 65536) (slice_index (replicate n 0) (k / 8)) (k % 8) (content-zeros n (k / 8)) in
+    λ j. record { signature = head_signature head; key_len = head.key_len; has_part = λ k. part k j }
+  where
+    no-bit : (b : Bool) (x k : ℕ) → x ≡ 0 → (b && (bit_at x k == 1)) ≡ false
+    no-bit true x k e = ap (λ (z : ℕ). bit_at z k == 1) e ∙ ap (λ (z : ℕ). z == 1) (bit_at-zero k)
+    no-bit false x k e = refl
+
+-- has no parts
+pub no-parts : (head : ParentHead) → IsParentHead head → read_parent_index (head_bytes head ++ replicate 8192 0) ≡ Some (no_parts (head_signature head) head.key_len)
+unfolding parent_bytes
+no-parts head valid = index-printed (bare head 8192) valid (length-replicate {A = ℕ} 8192 0) ∙ ap Some (bare-index head 8192)
 
 -- A part that is added.
 
