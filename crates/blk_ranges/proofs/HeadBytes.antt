@@ -1,12 +1,12 @@
 -- Words in bytes, and the heads of indexes.
-use Rattle.std.proofs.Common.{◌≡◌, ℕ, zero, suc, ◌+◌, ◌-◌, ◌*◌, ◌/◌, ◌%◌, ◌^◌, ◌<◌, ◌≤◌, List, [], ◌∷◌, ◌++◌, length, take, drop, get_or, replicate, Bool, true, false, ◌&&◌, refl, sym, ap, ap₂, ◌∙◌, arith, length-drop, append-nil}
-use Rattle.std.specs.Prelude.{◌==◌, nat_lt, nat_le, slice_index, Some, None}
+use Rattle.std.proofs.Common.{◌≡◌, ℕ, zero, suc, ◌+◌, ◌-◌, ◌*◌, ◌/◌, ◌%◌, ◌^◌, ◌<◌, ◌≤◌, List, [], ◌∷◌, ◌++◌, length, take, drop, replicate, Bool, true, false, ◌&&◌, refl, sym, ap, ap₂, ◌∙◌, arith, length-drop, append-nil}
+use Rattle.std.specs.Prelude.{◌==◌, nat_lt, nat_le, slice_index}
 use Rattle.std.specs.List.{list_all, flat_map}
 use Rattle.std.proofs.lemmas.Bool.{eqb-true, eq-eqb, lt-ltb, le-leb}
 use Rattle.std.proofs.lemmas.List.{get_or-drop, ext_get_or, drop_all, take_all}
 use borrow.Rule.Slice.PartMut.{put_mid}
 use Rattle.byteorder.specs.Endian.{little_bytes, little_number}
-use Rattle.blk_image.specs.Bytes.{content, word_at, long_at, words_at, word_bytes, range_at}
+use Rattle.blk_image.specs.Bytes.{content, word_at, long_at, words_at, word_bytes}
 use Rattle.blk_image.proofs.Words.{range-is}
 use Rattle.blk_format.specs.Headers.{index_magic}
 use Rattle.blk_format.specs.Records.{bytes_of_words}

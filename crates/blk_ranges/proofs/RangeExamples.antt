@@ -1,5 +1,5 @@
 -- Worked writes: what the model says is present after them. The expected values come from a reading of the rule that is not this project's.
-use Rattle.std.proofs.Common.{◌≡◌, ℕ, List, [], ◌∷◌, map, refl, false, replicate, Some, None}
+use Rattle.std.proofs.Common.{◌≡◌, ℕ, List, [], ◌∷◌, map, refl, replicate, Some, None}
 use Rattle.std.specs.List.{range_with_len}
 use Rattle.blk_model.specs.Bytes.{numbers_from}
 use Rattle.blk_model.specs.Items.{Presence}

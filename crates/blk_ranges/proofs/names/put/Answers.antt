@@ -1,4 +1,4 @@
-use Rattle.std.proofs.Common.{ℕ, List, length, ◌+◌, ◌-◌, arith, ap, ◌∙◌}
+use Rattle.std.proofs.Common.{length, ◌+◌, ◌-◌, arith, ap, ◌∙◌}
 use Rattle.std.proofs.lemmas.Slice.{drop-put_mid}
 use Rattle.blk_ranges.proofs.names.put.Goals as goal
 

@@ -1,4 +1,3 @@
-use Rattle.std.proofs.Common.{◌≡◌, ℕ, List, length, ◌+◌, ◌<◌, ◌≤◌, ◌/◌, ◌&&◌, Bool, true, Some, None, take, ◌++◌, arith, ap, ap₂, sym, subst, refl, ◌∙◌}
 use Rattle.blk_ranges.proofs.ParentIndexes.{adds-a-part}
 use Rattle.blk_ranges.proofs.parent_map.one_byte_adds_a_part.Goals as goal
 

@@ -1,4 +1,4 @@
-use Rattle.std.proofs.Common.{arith, refl}
+use Rattle.std.proofs.Common.{arith}
 use Rattle.blk_ranges.proofs.WordBits.{left-out}
 use Rattle.blk_ranges.proofs.words.bits_that.Goals as goal
 

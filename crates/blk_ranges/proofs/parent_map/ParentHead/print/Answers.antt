@@ -1,4 +1,4 @@
-use Rattle.std.proofs.Common.{◌≡◌, ℕ, List, length, ◌+◌, ◌<◌, ◌≤◌, ◌/◌, ◌&&◌, Bool, true, Some, None, take, ◌++◌, arith, ap, ap₂, sym, subst, refl, ◌∙◌}
+use Rattle.std.proofs.Common.{ℕ, List, ◌++◌, ap, sym, ◌∙◌}
 use Rattle.std.proofs.Common.{[], append-nil}
 use Rattle.blk_image.specs.Bytes.{content}
 use Rattle.blk_format.specs.Records.{bytes_of_words}

@@ -1,4 +1,4 @@
-use Rattle.std.proofs.Common.{◌≡◌, ℕ, List, length, ◌+◌, ◌<◌, ◌≤◌, ◌/◌, ◌&&◌, Bool, true, Some, None, take, ◌++◌, arith, ap, ap₂, sym, subst, refl, ◌∙◌}
+use Rattle.std.proofs.Common.{arith}
 use Rattle.blk_ranges.proofs.ParentIndexes.{part-added}
 use Rattle.blk_ranges.proofs.parent_map.ParentMap.insert.Goals as goal
 

@@ -1,6 +1,5 @@
-use Rattle.std.proofs.Common.{◌≡◌, ℕ, List, length, ◌+◌, ◌<◌, ◌≤◌, ◌/◌, ◌&&◌, Bool, true, Some, None, take, ◌++◌, arith, ap, ap₂, sym, subst, refl, ◌∙◌}
+use Rattle.std.proofs.Common.{ℕ, List, ◌++◌, ap, ◌∙◌}
 use Rattle.blk_format.specs.SparseIndex.{read_parent_index}
-use Rattle.blk_ranges.specs.ParentMaps.{parent_bytes}
 use Rattle.blk_ranges.proofs.ParentIndexes.{index-printed, parts-long, put-index}
 use Rattle.std.proofs.Common.{drop}
 use borrow.Rule.Slice.PartMut.{put_mid}

@@ -1,4 +1,4 @@
-use Rattle.std.proofs.Common.{◌≡◌, ℕ, List, length, ◌+◌, ◌<◌, ◌≤◌, ◌/◌, ◌&&◌, Bool, true, Some, None, take, ◌++◌, arith, ap, ap₂, sym, subst, refl, ◌∙◌}
+use Rattle.std.proofs.Common.{ℕ, List, ◌++◌, ap, ap₂, sym, ◌∙◌}
 use Rattle.std.specs.Prelude.{option_map}
 use Rattle.std.proofs.lemmas.Bool.{ne_eqb}
 use Rattle.blk_ranges.specs.ParentMaps.{parent_index_of, parent_bytes}

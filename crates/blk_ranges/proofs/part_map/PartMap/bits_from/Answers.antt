@@ -1,6 +1,5 @@
-use Rattle.std.proofs.Common.{◌≡◌, ℕ, ◌+◌, ◌*◌, ◌<◌, ◌&&◌, true, ap, ◌∙◌, refl, arith, Bool, inl, inr}
-use Rattle.std.specs.Prelude.{nat_le, nat_lt, ◌==◌, not, if◌then◌else◌}
-use Rattle.std.specs.Int.{bit_at}
+use Rattle.std.proofs.Common.{◌≡◌, ◌+◌, ◌*◌, ◌&&◌, true, ap, ◌∙◌, arith, Bool}
+use Rattle.std.specs.Prelude.{nat_le, nat_lt, not, if◌then◌else◌}
 use Rattle.std.proofs.lemmas.Bool.{lt-ltb}
 use Rattle.blk_ranges.specs.PartMaps.{has_block}
 use Rattle.blk_ranges.proofs.WordBits.{has_block-word, both-bits}
