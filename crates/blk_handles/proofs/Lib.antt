@@ -1,0 +1,2 @@
+pub mod KeyMapLemmas
+pub mod ObjectsLemmas

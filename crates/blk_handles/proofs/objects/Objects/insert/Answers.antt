@@ -1,0 +1,12 @@
+use Rattle.std.proofs.Common.{subst, sym, arith}
+use Rattle.blk_handles.specs.Objects.{IsClosed}
+use Rattle.blk_handles.proofs.ObjectsLemmas.{absent, index-insert}
+use Rattle.blk_handles.proofs.objects.Objects.insert.Goals as goal
+
+pub insert-requires-clause-absent : goal.insert-requires-clause-absent
+insert-requires-clause-absent c = absent _ _ c.self.invariant.0 _ (rw c.self.view_is c.requires.closed)
+
+pub invariant_of-self : goal.invariant_of-self
+invariant_of-self c =
+    let added = c.insert_reserved-key.ensures in
+    (index-insert _ _ c.self.invariant.0 _ _ _ _ (rw c.self.view_is c.requires.closed) added.was_vacant added.updates c.insert.ensures.sets c.insert.ensures.len added.len, omega (arith, c.self.invariant.1, added.capacity))

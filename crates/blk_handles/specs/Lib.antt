@@ -1,0 +1,2 @@
+pub mod KeyMap
+pub mod Objects
