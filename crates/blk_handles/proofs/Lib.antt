@@ -1,2 +1,4 @@
 pub mod KeyMapLemmas
 pub mod ObjectsLemmas
+pub mod SlotLemmas
+pub mod StoredLemmas

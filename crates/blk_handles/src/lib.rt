@@ -1,8 +1,13 @@
-//! Handles.
+//! The handle names, the objects that they are bound to, and which objects are pinned by them.
+//!
+//! [`Handles`] is seen as a finite map from names to objects, which the names of one record share.
+//! All room is taken by `Handles::new`: no later call takes memory.
 #![tactic(auto)]
 
+mod handles;
 mod key_map;
 mod objects;
 mod open_object;
 
+pub use handles::Handles;
 pub use open_object::{OpenObject, Released};

@@ -56,19 +56,26 @@ impl Objects {
     pub fn key_of(&self, entry: Addr) -> Option<usize>
         ensures found { IfSome result (IsStoredAt self.now entry) }
         ensures absent { IfNone result (IsClosed self.now entry) }
-        ensures distinct { AreDistinct self.now }
     {
-        let _ = &self.slab;
         self.keys.key_of(entry)
     }
 
     // The object under a key, if there is one.
     pub fn get(&self, key: usize) -> Option<OpenObject>
-        ensures here { result ≡ get self.now key }
-        ensures distinct { AreDistinct self.now }
+        ensures { result ≡ get self.now key }
     {
-        let _ = &self.keys;
         self.slab.get(key).copied()
+    }
+
+    // The object under a key that has one.
+    pub fn at(&self, key: usize) -> OpenObject
+        requires { ContainsKey self.now key }
+        ensures { get self.now key ≡ Some result }
+    {
+        match self.get(key) {
+            Some(object) => object,
+            None => unreachable!(),
+        }
     }
 
     // Puts an object in the place of the one with its record.
@@ -76,6 +83,7 @@ impl Objects {
         requires { IsStoredAt self.old object.entry key }
         ensures updates { Updates self.old self.new key (Some object) }
         ensures len { slab_len self.new ≡ slab_len self.old }
+        ensures distinct { AreDistinct self.new }
     {
         if let Some(stored) = self.slab.get_mut(key) {
             *stored = object;
@@ -89,6 +97,7 @@ impl Objects {
         ensures vacant { get self.old result ≡ None }
         ensures updates { Updates self.old self.new result (Some object) }
         ensures len { slab_len self.new ≡ slab_len self.old + 1 }
+        ensures distinct { AreDistinct self.new }
     {
         let entry = object.entry;
         let key = self.slab.insert_reserved(object);
@@ -102,6 +111,7 @@ impl Objects {
         ensures here { get self.old key ≡ Some result }
         ensures updates { Updates self.old self.new key None }
         ensures len { slab_len self.new + 1 ≡ slab_len self.old }
+        ensures distinct { AreDistinct self.new }
     {
         let object = self.slab.remove(key);
         self.keys.remove(object.entry);

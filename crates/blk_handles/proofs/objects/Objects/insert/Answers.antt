@@ -1,6 +1,6 @@
 use Rattle.std.proofs.Common.{subst, sym, arith}
 use Rattle.blk_handles.specs.Objects.{IsClosed}
-use Rattle.blk_handles.proofs.ObjectsLemmas.{absent, index-insert}
+use Rattle.blk_handles.proofs.ObjectsLemmas.{distinct, absent, index-insert}
 use Rattle.blk_handles.proofs.objects.Objects.insert.Goals as goal
 
 pub insert-requires-clause-absent : goal.insert-requires-clause-absent
@@ -10,3 +10,6 @@ pub invariant_of-self : goal.invariant_of-self
 invariant_of-self c =
     let added = c.insert_reserved-key.ensures in
     (index-insert _ _ c.self.invariant.0 _ _ _ _ (rw c.self.view_is c.requires.closed) added.was_vacant added.updates c.insert.ensures.sets c.insert.ensures.len added.len, omega (arith, c.self.invariant.1, added.capacity))
+
+pub returns-clause-distinct : goal.returns-clause-distinct
+returns-clause-distinct c = distinct _ _ (index-insert _ _ c.self.invariant.0 _ _ _ _ (rw c.self.view_is c.requires.closed) c.insert_reserved-key.ensures.was_vacant c.insert_reserved-key.ensures.updates c.insert.ensures.sets c.insert.ensures.len c.insert_reserved-key.ensures.len)
