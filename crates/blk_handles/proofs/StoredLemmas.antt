@@ -1,22 +1,22 @@
 -- What handles keep, and what they are seen as.
-use Rattle.std.proofs.Common.{◌≡◌, ◌≢◌, ◌⊎◌, ℕ, zero, suc, ◌+◌, ◌<◌, ◌≤◌, eqb, Bool, true, false, List, [], ◌∷◌, length, set, get_or, map, replicate, Option, Some, None, IsSome, cond, count_by, refl, sym, ap, subst, ◌∙◌, inl, inr, arith}
-use Rattle.std.specs.Prelude.{◌||◌, ◌==◌, is_some, position, if◌then◌else◌}
+use Rattle.std.proofs.Common.{◌≡◌, ◌≢◌, ℕ, zero, suc, ◌+◌, ◌<◌, ◌≤◌, eqb, Bool, true, false, List, [], ◌∷◌, length, set, get_or, replicate, Option, Some, None, IsSome, cond, count_by, refl, sym, ap, subst, ◌∙◌, inl, inr, arith}
+use Rattle.std.specs.Prelude.{◌==◌, is_some, if◌then◌else◌}
 use Rattle.std.specs.Option.{option_map, option_map_or, IfSome, IfNone}
 use Rattle.std.specs.List.{list_any}
-use Rattle.std.proofs.lemmas.Bool.{cases_eq, cases_Bool}
+use Rattle.std.proofs.lemmas.Bool.{cases_eq}
 use Rattle.std.proofs.lemmas.Bool.Decides.{nat_tests}
-use Rattle.std.proofs.lemmas.List.{map-set, length-map, length-replicate, get_or-map, get_or_past, length-set, get_or-set_same, get_or-set_other, set-set, set-get_or}
+use Rattle.std.proofs.lemmas.List.{map-set, length-map, length-replicate, get_or_past, length-set, get_or-set_same, set-set, set-get_or}
 use Rattle.std.proofs.lemmas.List.Sums.{sum_by-cons, count_by-le-length}
 use Rattle.slab.specs.Slab.{Slab, get, slab_len, Updates}
 use Rattle.blk_model.specs.Sizes.{handle_names}
 use Rattle.blk_model.specs.State.{is_number}
 use Rattle.blk_handles.specs.declared.open_object.OpenObject.{OpenObject}
 use Rattle.blk_handles.specs.declared.open_object.Released.TheVariants.{Last, More}
-use Rattle.blk_handles.specs.Bindings.{Binding, Bindings, AreShared, binding_of, has_entry, is_open, name_count, open_with, object_for, with_change, distinct_count, entries_of, open_count, told_object}
+use Rattle.blk_handles.specs.Bindings.{Binding, AreShared, binding_of, has_entry, is_open, name_count, open_with, object_for, with_change, distinct_count, entries_of, open_count, open_object}
 use Rattle.blk_handles.specs.Stored.{binding, shown, bindings_of, names_under, IsSound}
 use Rattle.blk_handles.specs.Objects.{IsStoredAt, IsClosed, AreDistinct}
 use Rattle.blk_handles.proofs.ObjectsLemmas.{some-inj, none-is-some}
-use Rattle.blk_handles.proofs.SlotLemmas.{same-slots, list_any-map, count_by-map, list_any-same, count_by-same, count_by-zero, list_any-counted, list_any-uncounted, not-counted, counted, count_by-set, list_any-set, distinct_count-set, distinct_count-free}
+use Rattle.blk_handles.proofs.SlotLemmas.{same-slots, list_any-map, count_by-map, list_any-same, count_by-same, list_any-counted, list_any-uncounted, not-counted, counted, count_by-set, distinct_count-set, distinct_count-free}
 
 -- what is there
 pub there : {A : Type 0} (o : Option A) → IsSome o → (a : A) × (o ≡ Some a)
@@ -123,7 +123,7 @@ module _ (s : Slab OpenObject) where
       let entry = λ (z : Binding). z.entry in
       let number-is : (y : Option Binding) → is_number o.entry (option_map entry y) ≡ has_entry o.entry y = is-entry o.entry in
       let any : list_any (is_number o.entry) (entries_of (bindings_of ns s)) ≡ list_any (is_number k) ns =
-            list_any-map (is_number o.entry) (option_map entry) (bindings_of ns s) ∙ list_any-same (λ y. is_number o.entry (option_map entry y)) (has_entry o.entry) (bindings_of ns s) number-is ∙ open-names distinct k o here ns in
+      list_any-map (is_number o.entry) (option_map entry) (bindings_of ns s) ∙ list_any-same (λ y. is_number o.entry (option_map entry y)) (has_entry o.entry) (bindings_of ns s) number-is ∙ open-names distinct k o here ns in
       rw (here, any, rest) refl
     where
       is-entry : (e : ℕ) (y : Option Binding) → is_number e (option_map (λ z. z.entry) y) ≡ has_entry e y
@@ -183,6 +183,7 @@ module _ (ns : List (Option ℕ)) (s : Slab OpenObject) (sound : IsSound ns s) w
   stored name key is = by (get s key) refl where
     some : 0 < names_under s key
     some = omega (arith, sound.counted key, counted (is_number key) ns name refl (rw is (own-key key)))
+
     by : (o : Option OpenObject) → get s key ≡ o → IsSome o
     by None e = absurd (let zero : names_under s key ≡ 0 = ap (λ o. option_map_or (λ (x : OpenObject). x.names) o 0) e in omega (arith, some, zero))
     by (Some o) e = refl
@@ -201,7 +202,7 @@ module _ (ns : List (Option ℕ)) (s : Slab OpenObject) (sound : IsSound ns s) w
 
   -- an object has a name, and no more names than there are
   pub object-named : (k : ℕ) (o : OpenObject) → get s k ≡ Some o → list_any (is_number k) ns ≡ true
-  object-named k o here = list_any-counted (is_number k) ns (omega (arith, names-are k o here, sound.named k o here))
+  object-named k o here = list_any-counted (is_number k) ns (omega (arith, names-are k o here, sound.some_name k o here))
 
   pub few-names : (k : ℕ) (o : OpenObject) → get s k ≡ Some o → o.names ≤ handle_names
   few-names k o here = omega (arith, names-are k o here, sound.all_names, count_by-le-length (is_number k) ns)
@@ -210,7 +211,7 @@ module _ (ns : List (Option ℕ)) (s : Slab OpenObject) (sound : IsSound ns s) w
     named-later : (key : ℕ) (o : OpenObject) → get t key ≡ Some o → 0 < o.names
     named-later key o here = elim (cases_eq key k) [
       | inl same ↦ named o (sym updates.changed ∙ ap (get t) (sym same) ∙ here)
-      | inr other ↦ sound.named key o (sym (updates.others key other) ∙ here)
+      | inr other ↦ sound.some_name key o (sym (updates.others key other) ∙ here)
     ]
 
     other-names : (key : ℕ) → key ≢ k → names_under t key ≡ names_under s key
@@ -228,7 +229,7 @@ module _ (ns : List (Option ℕ)) (s : Slab OpenObject) (sound : IsSound ns s) w
         | inl is ↦ rw is (names-here ∙ same ∙ sound.counted k)
         | inr other ↦ other-names key other ∙ sound.counted key
       ];
-      named = named-later;
+      some_name = named-later;
       object_count = len ∙ sound.object_count;
     }
 
@@ -245,7 +246,7 @@ module _ (ns : List (Option ℕ)) (s : Slab OpenObject) (sound : IsSound ns s) w
         | inl is ↦ by j is recount
         | inr other ↦ omega (arith, other-names j other, sound.counted j, recount, ap {B = ℕ} (λ b. cond b 1 0) (others j other))
       ];
-      named = named-later;
+      some_name = named-later;
       object_count = count;
     } where
       by : (j : ℕ) → j ≡ k → count_by (is_number j) (set ns name key) + cond (is_number j (get_or ns name None)) 1 0 ≡ count_by (is_number j) ns + cond (is_number j key) 1 0 → names_under t j ≡ count_by (is_number j) (set ns name key)
@@ -346,7 +347,7 @@ module _ (ns : List (Option ℕ)) (s : Slab OpenObject) (sound : IsSound ns s) w
     by (x ∷ xs) = rw (by xs, changed-shown s t k o new here updates sound.distinct change is x) refl
 
   -- the object that is told
-  pub told : (k : ℕ) (o : OpenObject) → get s k ≡ Some o → told_object (bindings_of ns s) (binding o) ≡ o
+  pub told : (k : ℕ) (o : OpenObject) → get s k ≡ Some o → open_object (bindings_of ns s) (binding o) ≡ o
   told k o here = ap (λ n. record o { names = n }) (names-counted s sound.distinct k o here ns ∙ sym (names-are k o here))
 
   -- a name that is free has no key
@@ -389,19 +390,19 @@ module _ (ns : List (Option ℕ)) (s : Slab OpenObject) (sound : IsSound ns s) (
 
 module _ (ns : List (Option ℕ)) (s : Slab OpenObject) (sound : IsSound ns s) where
   -- the object that a name is bound to, as it is told
-  pub object-free : (name : ℕ) → get_or ns name None ≡ None → None ≡ option_map (told_object (bindings_of ns s)) (binding_of (bindings_of ns s) name)
+  pub object-free : (name : ℕ) → get_or ns name None ≡ None → None ≡ option_map (open_object (bindings_of ns s)) (binding_of (bindings_of ns s) name)
   object-free name free = rw (binding-at s ns name, free) refl
 
-  pub object-bound : (name k : ℕ) → get_or ns name None ≡ Some k → get s k ≡ option_map (told_object (bindings_of ns s)) (binding_of (bindings_of ns s) name)
+  pub object-bound : (name k : ℕ) → get_or ns name None ≡ Some k → get s k ≡ option_map (open_object (bindings_of ns s)) (binding_of (bindings_of ns s) name)
   object-bound name k is =
       let (o, here) = there (get s k) (stored ns s sound name k is) in
       rw (bound-slot ns s sound name k o is here) (here ∙ ap Some (sym (told ns s sound k o here)))
 
   -- the open object with a record, as it is told
-  pub object-closed : (entry : ℕ) → IsClosed s entry → None ≡ option_map (told_object (bindings_of ns s)) (open_with (bindings_of ns s) entry)
+  pub object-closed : (entry : ℕ) → IsClosed s entry → None ≡ option_map (open_object (bindings_of ns s)) (open_with (bindings_of ns s) entry)
   object-closed entry closed = rw (closed-with s entry closed ns) refl
 
-  pub object-open : (entry k : ℕ) → IsStoredAt s entry k → get s k ≡ option_map (told_object (bindings_of ns s)) (open_with (bindings_of ns s) entry)
+  pub object-open : (entry k : ℕ) → IsStoredAt s entry k → get s k ≡ option_map (open_object (bindings_of ns s)) (open_with (bindings_of ns s) entry)
   object-open entry k at = rw (opened ns s sound entry k at at.object at.here) (at.here ∙ ap Some (sym (told ns s sound k at.object at.here)))
 
   -- a record is pinned exactly where the map has a key for it
@@ -439,7 +440,7 @@ sound-free s n all empty = record {
   all_names = length-replicate n None ∙ all;
   distinct = λ j k a b at-j at-k same. absurd (none-is-some (get s j) (vacant j) at-j);
   counted = λ key. rw (empty) (sym (count-free key n));
-  named = λ key o here. absurd (none-is-some (get s key) (vacant key) here);
+  some_name = λ key o here. absurd (none-is-some (get s key) (vacant key) here);
   object_count = rw empty (sym (distinct-free n));
 } where
   vacant : (key : ℕ) → get s key ≡ None
@@ -449,12 +450,12 @@ module _ (ns : List (Option ℕ)) (s : Slab OpenObject) (sound : IsSound ns s) (
   -- an object with as many names as before
   pub sound-marked : (k : ℕ) (o new : OpenObject) → get s k ≡ Some o → Updates s t k (Some new) → new.names ≡ o.names → slab_len t ≡ slab_len s → IsSound ns t
   sound-marked k o new here updates same len =
-      sound-change ns s sound t k (Some new) updates distinct (λ p is. rw (← some-inj is) (omega (arith, same, sound.named k o here))) (same ∙ ap (λ p. option_map_or (λ (x : OpenObject). x.names) p 0) (sym here)) len
+      sound-change ns s sound t k (Some new) updates distinct (λ p is. rw (← some-inj is) (omega (arith, same, sound.some_name k o here))) (same ∙ ap (λ p. option_map_or (λ (x : OpenObject). x.names) p 0) (sym here)) len
 
   module _ (name k : ℕ) (is : get_or ns name None ≡ Some k) (o : OpenObject) (here : get s k ≡ Some o) where
     -- the object is told where its last name is released
     pub told-last : Updates s t k None → (r : OpenObject) → get s k ≡ Some r
-        → IfSome (binding_of (bindings_of ns s) name) (λ object. Last r ≡ (if is_open (bindings_of (set ns name None) t) object.entry then More else Last (told_object (bindings_of ns s) object)))
+        → IfSome (binding_of (bindings_of ns s) name) (λ object. Last r ≡ (if is_open (bindings_of (set ns name None) t) object.entry then More else Last (open_object (bindings_of ns s) object)))
     told-last updates r here-r = rw (bound-slot ns s sound name k o is here, closed-open t o.entry closed (set ns name None)) (ap Last (some-inj (sym here-r ∙ here) ∙ sym (told ns s sound k o here))) where
       closed : IsClosed t o.entry
       closed key p at-key same = elim (cases_eq key k) [
@@ -464,5 +465,5 @@ module _ (ns : List (Option ℕ)) (s : Slab OpenObject) (sound : IsSound ns s) (
 
     -- and not where one is left
     pub told-more : (new : OpenObject) → Updates s t k (Some new) → new.entry ≡ o.entry → new.names + 1 ≡ o.names → 0 < new.names
-        → IfSome (binding_of (bindings_of ns s) name) (λ object. More ≡ (if is_open (bindings_of (set ns name None) t) object.entry then More else Last (told_object (bindings_of ns s) object)))
+        → IfSome (binding_of (bindings_of ns s) name) (λ object. More ≡ (if is_open (bindings_of (set ns name None) t) object.entry then More else Last (open_object (bindings_of ns s) object)))
     told-more new updates same less some = rw (bound-slot ns s sound name k o is here, left-leave ns s sound name k is o here t distinct new updates.changed same less some) refl

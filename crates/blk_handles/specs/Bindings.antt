@@ -77,6 +77,6 @@ entries_of bindings = map (option_map (λ object. object.entry)) bindings
 abbrev pub open_count : Bindings → ℕ
 open_count bindings = distinct_count (entries_of bindings)
 
--- an open object, as it is told: with the number of its names
-abbrev pub told_object : Bindings → Binding → OpenObject
-told_object bindings object = record { entry = object.entry; node = object.node; names = name_count bindings object.entry; doomed = object.doomed; dirty = object.dirty }
+-- an open object, as calls give it: with the number of its names
+abbrev pub open_object : Bindings → Binding → OpenObject
+open_object bindings object = record { entry = object.entry; node = object.node; names = name_count bindings object.entry; doomed = object.doomed; dirty = object.dirty }

@@ -30,5 +30,5 @@ pub record IsSound (names : List (Option ℕ)) (objects : Slab OpenObject) : Typ
   pub all_names : length names ≡ handle_names
   pub distinct : AreDistinct objects
   pub counted : (key : ℕ) → names_under objects key ≡ count_by (is_number key) names
-  pub named : (key : ℕ) (object : OpenObject) → get objects key ≡ Some object → 0 < object.names
+  pub some_name : (key : ℕ) (object : OpenObject) → get objects key ≡ Some object → 0 < object.names
   pub object_count : slab_len objects ≡ distinct_count names

@@ -2,21 +2,23 @@
 ghost use Rattle.std.specs.Prelude.{◌≡◌, ◌<◌, Some, None, IsSome, IfSome, IfOk, is_some, position, slice_set, slice_index_or, if◌then◌else◌};
 ghost use Rattle.std.specs.Option.{option_map, ForSome};
 ghost use Rattle.blk_model.specs.Sizes.{handle_names};
-ghost use Rattle.blk_handles.specs.Bindings.{AreShared, all_free, binding_of, is_open, open_with, object_for, with_change, with_marks, with_doom, open_count, told_object};
+ghost use Rattle.blk_handles.specs.Bindings.{AreShared, all_free, binding_of, is_open, open_with, object_for, with_change, with_marks, with_doom, open_count, open_object};
 
-use crate::key_map::ROOM;
 use crate::objects::Objects;
 use crate::open_object::{OpenObject, Released};
 use blk_addr::{Addr, NoMemory};
 use std::alloc::Global;
 use std::marker::Model;
 
+/// How many handle names there are: they are 0 to 4095.
+pub const NAMES: u16 = 4096;
+
 /// The handle names, 0 to 4095, and the objects that they are bound to.
 ///
 /// They are seen as a finite map: what each name is bound to, if it is bound. Names of one record
 /// share one object, so a mark that is set by one of them is seen by all. An object is open, and
 /// its record pinned, as long as a name is bound to it.
-#[derive(Drop)]
+#[derive(Debug, Drop)]
 pub struct Handles {
     // the key of the object that each name is bound to
     names: Vec<Option<usize>>,
@@ -45,15 +47,15 @@ impl Handles {
         ensures { IfOk result (λ handles. handles ≡ all_free) }
     {
         let mut names = Vec::new(alloc);
-        names.resize(ROOM, None)?;
+        names.resize(usize::from(NAMES), None)?;
         Ok(Handles {
             names,
             objects: Objects::new(alloc)?,
         })
     }
 
-    /// Binds a free name to the object with a record. Where it is open, the name joins it, and its
-    /// marks stay. Else it is opened with its node and the dirty mark, and isn't doomed.
+    /// Binds a free name to the object with a record. Where the object is open, the name joins it,
+    /// and its marks stay. Else it is opened, with its node and this dirty mark, and isn't doomed.
     pub fn bind(&mut self, name: u16, entry: Addr, node: Addr, dirty: bool)
         requires known { name < handle_names }
         requires free { binding_of self.old name ≡ None }
@@ -84,7 +86,7 @@ impl Handles {
 
     /// The object that a name is bound to. `None` where the name is free, or 4096 or more.
     pub fn object(&self, name: u16) -> Option<OpenObject>
-        ensures object { result ≡ option_map (told_object self.now) (binding_of self.now name) }
+        ensures object { result ≡ option_map (open_object self.now) (binding_of self.now name) }
         ensures shared { AreShared self.now }
     {
         let key = key_at(&self.names, name)?;
@@ -94,7 +96,7 @@ impl Handles {
     /// The open object with a record. `None` where no name is bound to it. This doesn't go over the
     /// names.
     pub fn object_of(&self, entry: Addr) -> Option<OpenObject>
-        ensures object { result ≡ option_map (told_object self.now) (open_with self.now entry) }
+        ensures object { result ≡ option_map (open_object self.now) (open_with self.now entry) }
         ensures shared { AreShared self.now }
     {
         let key = self.objects.key_of(entry)?;
@@ -141,7 +143,7 @@ impl Handles {
     pub fn release(&mut self, name: u16) -> Released
         requires bound { IsSome (binding_of self.old name) }
         ensures frees { self.new ≡ slice_set self.old name None }
-        ensures told { IfSome (binding_of self.old name) (λ object. result ≡ (if is_open self.new object.entry then Released.More else Released.Last (told_object self.old object))) }
+        ensures answer { IfSome (binding_of self.old name) (λ object. result ≡ (if is_open self.new object.entry then Released.More else Released.Last (open_object self.old object))) }
         ensures shared { AreShared self.new }
     {
         match key_at(&self.names, name) {
@@ -186,9 +188,6 @@ impl Handles {
         self.objects.len()
     }
 }
-
-// How many handle names there are.
-const NAMES: u16 = 4096;
 
 // The key of a name, if it is bound. A name past the last is not.
 fn key_at(names: &[Option<usize>], name: u16) -> Option<usize>

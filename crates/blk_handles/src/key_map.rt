@@ -3,12 +3,10 @@ ghost use Rattle.std.specs.Prelude.{◌≡◌, ◌≢◌, ℕ, ◌+◌, ◌<◌,
 ghost use Rattle.blk_model.specs.Sizes.{handle_names};
 ghost use Rattle.blk_handles.specs.KeyMap.{key_of, IsAt, IsGapFor, SetsOnly};
 
+use crate::handles::NAMES;
 use blk_addr::{Addr, NoMemory};
 use std::alloc::Global;
 use std::marker::Model;
-
-// No more objects are open than there are handle names.
-pub const ROOM: usize = 4096;
 
 // The key of the object with a record.
 #[derive(Clone, Copy, Debug)]
@@ -46,7 +44,7 @@ impl KeyMap {
         ensures { IfOk result (λ m. m ≡ []) }
     {
         Ok(KeyMap {
-            places: Vec::with_capacity(alloc, ROOM)?,
+            places: Vec::with_capacity(alloc, usize::from(NAMES))?,
         })
     }
 
@@ -63,7 +61,7 @@ impl KeyMap {
     // Adds a record with its key.
     pub fn insert(&mut self, entry: Addr, key: usize)
         requires absent { key_of self.old entry ≡ None }
-        requires room { length self.old < handle_names }
+        requires fits { length self.old < handle_names }
         ensures sets { SetsOnly self.old self.new entry (Some key) }
         ensures len { length self.new ≡ length self.old + 1 }
     {

@@ -4,7 +4,8 @@ ghost use Rattle.slab.specs.Slab.{get, slab_len, ContainsKey, Updates};
 ghost use Rattle.blk_model.specs.Sizes.{handle_names};
 ghost use Rattle.blk_handles.specs.Objects.{IsStoredAt, IsClosed, AreDistinct};
 
-use crate::key_map::{KeyMap, ROOM};
+use crate::handles::NAMES;
+use crate::key_map::KeyMap;
 use crate::open_object::OpenObject;
 use blk_addr::{Addr, NoMemory};
 use slab::Slab;
@@ -13,7 +14,7 @@ use std::marker::Model;
 
 /// The open objects, with room for as many as there are handle names. They are seen as a slab, in
 /// which no two have one record.
-#[derive(Drop)]
+#[derive(Debug, Drop)]
 pub struct Objects {
     slab: Slab<OpenObject>,
     keys: KeyMap,
@@ -40,7 +41,7 @@ impl Objects {
         ensures { IfOk result (λ objects. objects.slots ≡ []) }
     {
         Ok(Objects {
-            slab: Slab::with_capacity(alloc, ROOM)?,
+            slab: Slab::with_capacity(alloc, usize::from(NAMES))?,
             keys: KeyMap::new(alloc)?,
         })
     }
@@ -93,7 +94,7 @@ impl Objects {
     // Adds an object with a record of its own, and gives its key.
     pub fn insert(&mut self, object: OpenObject) -> usize
         requires closed { IsClosed self.old object.entry }
-        requires room { slab_len self.old < handle_names }
+        requires fits { slab_len self.old < handle_names }
         ensures vacant { get self.old result ≡ None }
         ensures updates { Updates self.old self.new result (Some object) }
         ensures len { slab_len self.new ≡ slab_len self.old + 1 }

@@ -1,6 +1,5 @@
-use Rattle.std.proofs.Common.{refl, sym, ◌∙◌, ap, arith}
-use Rattle.blk_handles.specs.Bindings.{binding_of}
-use Rattle.blk_handles.proofs.StoredLemmas.{free-slot, has-room, few-names, sound-join, sound-add, binds-open, binds-new, are-shared}
+use Rattle.std.proofs.Common.{refl}
+use Rattle.blk_handles.proofs.StoredLemmas.{free-slot, has-room, sound-join, sound-add, binds-open, binds-new, are-shared}
 use Rattle.blk_handles.proofs.handles.Handles.bind.Goals as goal
 
 -- the name joins the open object
@@ -16,8 +15,8 @@ pub returns-in-Some-clause-shared : goal.returns-in-Some-clause-shared
 returns-in-Some-clause-shared c = are-shared _ _ (invariant_of-self c)
 
 -- the name opens an object
-pub insert-requires-clause-room : goal.insert-requires-clause-room
-insert-requires-clause-room c = has-room _ _ c.self.invariant _ c.requires.known (free-slot _ _ c.self.invariant _ (rw c.self.view_is c.requires.free))
+pub insert-requires-clause-fits : goal.insert-requires-clause-fits
+insert-requires-clause-fits c = has-room _ _ c.self.invariant _ c.requires.known (free-slot _ _ c.self.invariant _ (rw c.self.view_is c.requires.free))
 
 pub invariant_of-self-in-None : goal.invariant_of-self-in-None
 invariant_of-self-in-None c =

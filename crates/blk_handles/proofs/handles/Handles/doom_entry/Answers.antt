@@ -1,5 +1,5 @@
 use Rattle.std.proofs.Common.{refl, sym, subst}
-use Rattle.blk_handles.specs.Bindings.{AreShared, with_change, with_doom}
+use Rattle.blk_handles.specs.Bindings.{AreShared, with_doom}
 use Rattle.blk_handles.proofs.StoredLemmas.{are-shared, is-opened, entry-is, closed-open, closed-change, shown-change, sound-marked}
 use Rattle.blk_handles.proofs.handles.Handles.doom_entry.Goals as goal
 

@@ -1,6 +1,6 @@
-use Rattle.std.proofs.Common.{sym, ◌∙◌, subst}
+use Rattle.std.proofs.Common.{subst}
 use Rattle.blk_handles.specs.Bindings.{AreShared}
-use Rattle.blk_handles.proofs.StoredLemmas.{are-shared, object-free, object-bound}
+use Rattle.blk_handles.proofs.StoredLemmas.{are-shared, object-bound}
 use Rattle.blk_handles.proofs.handles.Handles.object.Goals as goal
 
 pub returns-in_err-key-clause-shared : goal.returns-in_err-key-clause-shared

@@ -1,4 +1,4 @@
-use Rattle.std.proofs.Common.{sym, ◌∙◌, subst}
+use Rattle.std.proofs.Common.{subst}
 use Rattle.blk_handles.specs.Bindings.{AreShared}
 use Rattle.blk_handles.proofs.StoredLemmas.{are-shared, object-closed, object-open}
 use Rattle.blk_handles.proofs.handles.Handles.object_of.Goals as goal

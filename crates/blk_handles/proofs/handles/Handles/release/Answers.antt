@@ -11,8 +11,8 @@ pub returns-then-object-eq1-clause-frees : goal.returns-then-object-eq1-clause-f
 returns-then-object-eq1-clause-frees c =
     rw (c.from.ensures, ← c.self.view_is) (shown-last _ _ c.self.invariant _ _ (rw (← c.deref.ensures.value, ← c.key_at.ensures) c.in-Some.is) _ c.at-object.ensures _ c.remove.ensures.distinct c.if-object-eq1.true c.remove.ensures.updates)
 
-pub returns-then-object-eq1-clause-told : goal.returns-then-object-eq1-clause-told
-returns-then-object-eq1-clause-told c =
+pub returns-then-object-eq1-clause-answer : goal.returns-then-object-eq1-clause-answer
+returns-then-object-eq1-clause-answer c =
     rw (c.from.ensures, ← c.self.view_is) (told-last _ _ c.self.invariant _ c.remove.ensures.distinct _ _ (rw (← c.deref.ensures.value, ← c.key_at.ensures) c.in-Some.is) _ c.at-object.ensures c.remove.ensures.updates _ c.remove.ensures.here)
 
 pub returns-then-object-eq1-clause-shared : goal.returns-then-object-eq1-clause-shared
@@ -21,16 +21,16 @@ returns-then-object-eq1-clause-shared c = are-shared _ _ (invariant_of-self c)
 -- one of several names: the object counts one less
 pub invariant_of-self-in-Some : goal.invariant_of-self-in-Some
 invariant_of-self-in-Some c =
-    let some = c.self.invariant.named _ _ c.at-object.ensures in
+    let some = c.self.invariant.some_name _ _ c.at-object.ensures in
     rw c.from.ensures (sound-leave _ _ c.self.invariant _ _ (rw (← c.deref.ensures.value, ← c.key_at.ensures) c.in-Some.is) _ c.at-object.ensures _ c.set.ensures.distinct _ c.set.ensures.updates (omega (arith, some)) (omega (arith, some, c.if-object-eq1.false)) c.set.ensures.len)
 
 pub returns-clause-frees : goal.returns-clause-frees
 returns-clause-frees c =
     rw (c.from.ensures, ← c.self.view_is) (shown-leave _ _ c.self.invariant _ _ _ _ _ c.at-object.ensures c.set.ensures.updates refl)
 
-pub returns-clause-told : goal.returns-clause-told
-returns-clause-told c =
-    let some = c.self.invariant.named _ _ c.at-object.ensures in
+pub returns-clause-answer : goal.returns-clause-answer
+returns-clause-answer c =
+    let some = c.self.invariant.some_name _ _ c.at-object.ensures in
     rw (c.from.ensures, ← c.self.view_is) (told-more _ _ c.self.invariant _ c.set.ensures.distinct _ _ (rw (← c.deref.ensures.value, ← c.key_at.ensures) c.in-Some.is) _ c.at-object.ensures _ c.set.ensures.updates refl (omega (arith, some)) (omega (arith, some, c.if-object-eq1.false)))
 
 pub returns-clause-shared : goal.returns-clause-shared

@@ -1,5 +1,4 @@
-use Rattle.std.proofs.Common.{subst, sym, arith}
-use Rattle.blk_handles.specs.Objects.{IsClosed}
+use Rattle.std.proofs.Common.{arith}
 use Rattle.blk_handles.proofs.ObjectsLemmas.{distinct, absent, index-insert}
 use Rattle.blk_handles.proofs.objects.Objects.insert.Goals as goal
 

@@ -1,4 +1,4 @@
-use Rattle.std.proofs.Common.{◌≡◌, ◌≤◌, Some, sym, ap, ◌∙◌, subst, arith}
+use Rattle.std.proofs.Common.{◌≡◌, ◌≤◌, Some, sym, ap, ◌∙◌, subst}
 use Rattle.blk_model.specs.Sizes.{handle_names}
 use Rattle.slab.specs.Slab.{Slab, get}
 use Rattle.blk_handles.specs.declared.open_object.OpenObject.{OpenObject}
