@@ -1,3 +1,5 @@
+pub mod Basics
+pub mod BindingLemmas
 pub mod KeyMapLemmas
 pub mod ObjectsLemmas
 pub mod SlotLemmas

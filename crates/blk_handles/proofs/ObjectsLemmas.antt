@@ -7,13 +7,8 @@ use Rattle.slab.proofs.SlabLemmas.{Updates-with_value}
 use Rattle.blk_handles.specs.declared.open_object.OpenObject.{OpenObject}
 use Rattle.blk_handles.specs.declared.key_map.Place.{Place}
 use Rattle.blk_handles.specs.KeyMap.{key_of, SetsOnly}
+use Rattle.blk_handles.proofs.Basics.{some-inj, none-is-some}
 use Rattle.blk_handles.specs.Objects.{IsStoredAt, IsClosed, AreDistinct, IsIndexOf}
-
-pub some-inj : {A : Type 0} {a b : A} → Some a ≡ Some b → a ≡ b
-some-inj e = cc
-
-pub none-is-some : {A : Type 0} {x : A} (o : Option A) → o ≡ None → o ≡ Some x → ⊥
-none-is-some o n s = let e = sym n ∙ s in cc
 
 -- a value written over a value leaves as many
 pub count-over : {T : Type 0} (slots : List (Option T)) (key : ℕ) (old new : T) → get_or slots key None ≡ Some old → count_by is_some (set slots key (Some new)) ≡ count_by is_some slots

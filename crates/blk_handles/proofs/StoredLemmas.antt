@@ -15,7 +15,7 @@ use Rattle.blk_handles.specs.declared.open_object.Released.TheVariants.{Last, Mo
 use Rattle.blk_handles.specs.Bindings.{Binding, AreShared, binding_of, has_entry, is_open, name_count, open_with, object_for, with_change, distinct_count, entries_of, open_count, open_object}
 use Rattle.blk_handles.specs.Stored.{binding, shown, bindings_of, names_under, IsSound}
 use Rattle.blk_handles.specs.Objects.{IsStoredAt, IsClosed, AreDistinct}
-use Rattle.blk_handles.proofs.ObjectsLemmas.{some-inj, none-is-some}
+use Rattle.blk_handles.proofs.Basics.{some-inj, none-is-some, same-number, apart}
 use Rattle.blk_handles.proofs.SlotLemmas.{same-slots, list_any-map, count_by-map, list_any-same, count_by-same, list_any-counted, list_any-uncounted, not-counted, counted, count_by-set, distinct_count-set, distinct_count-free}
 
 -- what is there
@@ -25,10 +25,6 @@ there (Some a) is = (a, refl)
 
 pub has : {A : Type 0} (o : Option A) (a : A) → o ≡ Some a → IsSome o
 has o a e = rw e refl
-
--- different numbers
-apart : (j k : ℕ) → j ≢ k → eqb j k ≡ false
-apart j k other = grind (arith, nat_tests)
 
 -- what a name is bound to, by its key
 pub binding-at : (s : Slab OpenObject) (ns : List (Option ℕ)) (name : ℕ) → binding_of (bindings_of ns s) name ≡ shown s (get_or ns name None)
@@ -153,8 +149,7 @@ module _ (s t : Slab OpenObject) (k : ℕ) (o new : OpenObject) (here : get s k 
   changed-shown distinct change is None = refl
   changed-shown distinct change is (Some j) = elim (cases_eq j k) [
     | inl same ↦
-        let self : eqb o.entry o.entry ≡ true = grind (arith, nat_tests) in
-        rw (same, updates.changed, here, self) (ap Some is)
+        rw (same, updates.changed, here, same-number o.entry) (ap Some is)
     | inr other ↦ rw (updates.others j other) (by (get s j) refl other)
   ] where
     by : (p : Option OpenObject) → get s j ≡ p → j ≢ k → option_map binding p ≡ option_map (λ object. if o.entry == object.entry then change object else object) (option_map binding p)
@@ -166,9 +161,6 @@ module _ (s t : Slab OpenObject) (k : ℕ) (o new : OpenObject) (here : get s k 
 -- the key of one object is not that of another
 other-key : (j k : ℕ) → j ≢ k → is_number j None ≡ is_number j (Some k)
 other-key j k other = sym (apart j k other)
-
-own-key : (k : ℕ) → eqb k k ≡ true
-own-key k = grind (arith, nat_tests)
 
 module _ (ns : List (Option ℕ)) (s : Slab OpenObject) (sound : IsSound ns s) where
   -- a name that is bound
@@ -182,7 +174,7 @@ module _ (ns : List (Option ℕ)) (s : Slab OpenObject) (sound : IsSound ns s) w
   pub stored : (name key : ℕ) → get_or ns name None ≡ Some key → IsSome (get s key)
   stored name key is = by (get s key) refl where
     some : 0 < names_under s key
-    some = omega (arith, sound.counted key, counted (is_number key) ns name refl (rw is (own-key key)))
+    some = omega (arith, sound.counted key, counted (is_number key) ns name refl (rw is (same-number key)))
 
     by : (o : Option OpenObject) → get s key ≡ o → IsSome o
     by None e = absurd (let zero : names_under s key ≡ 0 = ap (λ o. option_map_or (λ (x : OpenObject). x.names) o 0) e in omega (arith, some, zero))
@@ -258,7 +250,7 @@ module _ (ns : List (Option ℕ)) (s : Slab OpenObject) (sound : IsSound ns s) w
     sound-join o here more len =
         sound-written t k (Some new) updates distinct (λ p is. rw (← some-inj is) (omega (arith, more))) name (Some k) small
         (λ j other. rw free (other-key j k other))
-        (rw (free, here, own-key k) (omega (arith, more)))
+        (rw (free, here, same-number k) (omega (arith, more)))
         (omega (arith, len, sound.object_count, distinct_count-set ns name k (within name small) free, ap {B = ℕ} (λ b. cond b 0 1) (object-named k o here)))
 
     -- a free name opens an object
@@ -266,7 +258,7 @@ module _ (ns : List (Option ℕ)) (s : Slab OpenObject) (sound : IsSound ns s) w
     sound-add vacant one len =
         sound-written t k (Some new) updates distinct (λ p is. rw (← some-inj is) (omega (arith, one))) name (Some k) small
         (λ j other. rw free (other-key j k other))
-        (rw (free, vacant, own-key k) (omega (arith, one)))
+        (rw (free, vacant, same-number k) (omega (arith, one)))
         (omega (arith, len, sound.object_count, distinct_count-set ns name k (within name small) free, ap {B = ℕ} (λ b. cond b 0 1) none))
       where
         none : list_any (is_number k) ns ≡ false
@@ -284,7 +276,7 @@ module _ (ns : List (Option ℕ)) (s : Slab OpenObject) (sound : IsSound ns s) w
     freed = get_or-set_same ns name None None (within name small)
 
     recounted : count_by (is_number k) (set ns name None) + 1 ≡ o.names
-    recounted = omega (arith, names-are k o here, count_by-set (is_number k) ns name None None (within name small), ap {B = ℕ} (λ b. cond b 1 0) (ap (is_number k) is ∙ own-key k))
+    recounted = omega (arith, names-are k o here, count_by-set (is_number k) ns name None None (within name small), ap {B = ℕ} (λ b. cond b 1 0) (ap (is_number k) is ∙ same-number k))
 
     keys-left : distinct_count ns ≡ cond (list_any (is_number k) (set ns name None)) 0 1 + distinct_count (set ns name None)
     keys-left = ap distinct_count (sym written-back) ∙ distinct_count-set (set ns name None) name k (omega (arith, length-set ns name None, within name small)) freed
@@ -294,7 +286,7 @@ module _ (ns : List (Option ℕ)) (s : Slab OpenObject) (sound : IsSound ns s) w
     sound-leave new updates less some len =
         sound-written t k (Some new) updates distinct (λ p e. rw (← some-inj e) some) name None small
         (λ j other. rw is (sym (other-key j k other)))
-        (rw (is, here, own-key k) (omega (arith, less)))
+        (rw (is, here, same-number k) (omega (arith, less)))
         (omega (arith, len, sound.object_count, keys-left, ap {B = ℕ} (λ b. cond b 0 1) (list_any-counted (is_number k) (set ns name None) (omega (arith, recounted, less, some)))))
 
     -- the last name of an object is released, and the object is taken out
@@ -302,7 +294,7 @@ module _ (ns : List (Option ℕ)) (s : Slab OpenObject) (sound : IsSound ns s) w
     sound-last one updates len =
         sound-written t k None updates distinct (λ p e. absurd (none-is-some {A = OpenObject} None refl e)) name None small
         (λ j other. rw is (sym (other-key j k other)))
-        (rw (is, here, own-key k) (omega (arith, one)))
+        (rw (is, here, same-number k) (omega (arith, one)))
         (omega (arith, len, sound.object_count, keys-left, ap {B = ℕ} (λ b. cond b 0 1) (list_any-uncounted (is_number k) (set ns name None) (omega (arith, recounted, one)))))
 
     -- and no other name shows it
@@ -311,7 +303,7 @@ module _ (ns : List (Option ℕ)) (s : Slab OpenObject) (sound : IsSound ns s) w
       other : (i j : ℕ) → get_or (set ns name None) i None ≡ Some j → j ≢ k
       other i j at same =
           let no = not-counted (is_number k) (set ns name None) refl (omega (arith, recounted, one)) i in
-          let yes : is_number k (get_or (set ns name None) i None) ≡ true = rw (at, same) (own-key k) in
+          let yes : is_number k (get_or (set ns name None) i None) ≡ true = rw (at, same) (same-number k) in
           let e = sym no ∙ yes in cc
 
     -- another name of the object is left, or none

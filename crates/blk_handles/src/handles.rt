@@ -109,15 +109,13 @@ impl Handles {
         ensures marks { IfSome (binding_of self.old name) (λ object. self.new ≡ with_change (with_marks doomed dirty) object.entry self.old) }
         ensures shared { AreShared self.new }
     {
-        match key_at(&self.names, name) {
-            Some(key) => {
-                let mut object = self.objects.at(key);
-                object.doomed = doomed;
-                object.dirty = dirty;
-                self.objects.set(key, object);
-            }
-            None => unreachable!(),
-        }
+        let Some(key) = key_at(&self.names, name) else {
+            unreachable!();
+        };
+        let mut object = self.objects.at(key);
+        object.doomed = doomed;
+        object.dirty = dirty;
+        self.objects.set(key, object);
     }
 
     /// Marks the open object with a record as doomed, for all its names. Gives whether it is open;
@@ -127,15 +125,13 @@ impl Handles {
         ensures dooms { self.new ≡ with_change with_doom entry self.old }
         ensures shared { AreShared self.new }
     {
-        match self.objects.key_of(entry) {
-            Some(key) => {
-                let mut object = self.objects.at(key);
-                object.doomed = true;
-                self.objects.set(key, object);
-                true
-            }
-            None => false,
-        }
+        let Some(key) = self.objects.key_of(entry) else {
+            return false;
+        };
+        let mut object = self.objects.at(key);
+        object.doomed = true;
+        self.objects.set(key, object);
+        true
     }
 
     /// Frees a name. Gives the object as it was, where no other name is bound to it: it is closed
@@ -146,26 +142,26 @@ impl Handles {
         ensures answer { IfSome (binding_of self.old name) (λ object. result ≡ (if is_open self.new object.entry then Released.More else Released.Last (open_object self.old object))) }
         ensures shared { AreShared self.new }
     {
-        match key_at(&self.names, name) {
-            Some(key) => {
-                self.names[usize::from(name)] = None;
-                let mut object = self.objects.at(key);
-                if object.names == 1 {
-                    return Released::Last(self.objects.remove(key));
-                }
-                object.names -= 1;
-                self.objects.set(key, object);
-                Released::More
-            }
-            None => unreachable!(),
+        let Some(key) = key_at(&self.names, name) else {
+            unreachable!();
+        };
+        self.names[usize::from(name)] = None;
+        let mut object = self.objects.at(key);
+        let is_last = object.names == 1;
+        if is_last {
+            return Released::Last(self.objects.remove(key));
         }
+        object.names -= 1;
+        self.objects.set(key, object);
+        Released::More
     }
 
     /// Whether a name is bound to the object with a record. This doesn't go over the names.
+    #[tactic(auto, using(crate::proofs::BindingLemmas::open_with_told))]
     pub fn is_pinned(&self, entry: Addr) -> bool
         ensures { result ≡ is_open self.now entry }
     {
-        self.objects.key_of(entry).is_some()
+        self.object_of(entry).is_some()
     }
 
     /// The least name that is bound. `None` where none is.

@@ -1,14 +1,12 @@
-use Rattle.std.proofs.Common.{◌≡◌, Option, Some, None, subst, sym, ◌∙◌, arith}
+use Rattle.std.proofs.Common.{subst, sym, ◌∙◌, arith}
 use Rattle.blk_handles.specs.KeyMap.{IsRising}
+use Rattle.blk_handles.proofs.Basics.{none-is-some}
 use Rattle.blk_handles.proofs.KeyMapLemmas.{key_of-at, rising-insert, sets-only-insert}
 use Rattle.blk_handles.proofs.key_map.KeyMap.insert.Goals as goal
 
-none-is-some : {A : Type 0} {x : A} {o : Option A} → o ≡ None → o ≡ Some x → ⊥
-none-is-some n s = let e = sym n ∙ s in cc
-
 -- the record is not there yet
 pub unreachable-requires : goal.unreachable-requires
-unreachable-requires c = none-is-some c.requires.absent (key_of-at _ (subst IsRising c.self.view_is c.self.invariant.0) _ _ c.in-Ok.ensures.found)
+unreachable-requires c = none-is-some _ c.requires.absent (key_of-at _ (subst IsRising c.self.view_is c.self.invariant.0) _ _ c.in-Ok.ensures.found)
 
 -- there is room, so the place goes into the gap
 pub invariant_of-self : goal.invariant_of-self

@@ -3,7 +3,8 @@ use Rattle.blk_model.specs.Sizes.{handle_names}
 use Rattle.slab.specs.Slab.{Slab, get}
 use Rattle.blk_handles.specs.declared.open_object.OpenObject.{OpenObject}
 use Rattle.blk_handles.specs.Objects.{IsStoredAt, IsIndexOf}
-use Rattle.blk_handles.proofs.ObjectsLemmas.{distinct, none-is-some, index-written}
+use Rattle.blk_handles.proofs.Basics.{none-is-some}
+use Rattle.blk_handles.proofs.ObjectsLemmas.{distinct, index-written}
 use Rattle.blk_handles.proofs.objects.Objects.set.Goals as goal
 use Rattle.blk_handles.proofs.objects.Objects.set.Goals.{in-Some, in_default}
 
