@@ -1,4 +1,5 @@
 // The files of a folder that are kept open.
+use crate::again::again;
 use crate::spelling::name_of;
 use blk_io::FileId;
 use std::alloc::{AllocError, Global};
@@ -83,13 +84,13 @@ impl<R: Files<File = File> + Drop> Disk<R> {
         }
     }
 
-    /// Makes a file that is not there, with no bytes.
+    /// Makes a file that is not there, with no bytes. It fails where there is one.
     pub fn create(&mut self, file: FileId) -> io::Result<&File> {
         let path = path_of(self.alloc, self.path.as_str(), file)?;
         let open = OpenOptions::new()
             .read(true)
             .write(true)
-            .create(true)
+            .create_new(true)
             .open(&self.rt, path)?;
         Ok(self.open.place(file).insert(open))
     }
@@ -97,7 +98,7 @@ impl<R: Files<File = File> + Drop> Disk<R> {
     /// Removes a file that is there, and closes it.
     pub fn remove(&mut self, file: FileId) -> io::Result<()> {
         let path = path_of(self.alloc, self.path.as_str(), file)?;
-        fs::remove_file(&self.rt, path)?;
+        again(|| fs::remove_file(&self.rt, path.as_str()))?;
         *self.open.place(file) = None;
         Ok(())
     }
