@@ -50,30 +50,35 @@ done
 
 # Open streams are left alone: a second process that shares them goes on to use them.
 mkdir "$room/shared"
-both=$({ "$program" "$room/shared" count && echo after; } 2>&1)
-is 'an open output is used on' "$empty_line"$'\n'after "$both"
+said=$({ "$program" "$room/shared" count && echo after; } 2>&1)
+is 'an open output is used on' "$empty_line"$'\n'after "$said"
 
 # Without /dev/null a closed stream can't be filled: then nothing is touched. Where all are open it isn't needed.
 # A folder with the program's libraries alone is made, which the program sees as the whole machine.
 machine=$room/machine
 loader=/lib64/ld-linux-x86-64.so.2
-mkdir -p "$machine/cache" "$machine/lib64"
+mkdir -p "$machine/cache" "$machine/empty" "$machine/lib64"
 cp "$program" "$machine/blkcache"
-if [ "$(id -u)" != 0 ] || [ ! -x "$loader" ]; then
-    skip 'a stream that cannot be filled' 'only root can hide /dev/null, and the loader has to be where it is'
-else
+if [ -x "$loader" ]; then
     cp "$loader" "$machine/lib64"
     for it in $("$loader" --list "$program"); do
         case $it in /*) mkdir -p "$machine${it%/*}" && cp "$it" "$machine$it" ;; esac
     done
-    before=$(both "$machine/cache")
-    for closed in '0' '1' '2' '0 1 2'; do
-        "$BASH" -c 'for it in $2; do eval "exec $it>&-"; done; exec chroot "$1" /blkcache /cache count' \
-            -- "$machine" "$closed" <"$room/input" >"$room/said" 2>"$room/complained"
-        is "with [$closed] closed and not filled" '3 ' "$? $(cat "$room/said" "$room/complained")"
-        is "with [$closed] closed and not filled, the folder" "$before" "$(both "$machine/cache")"
+fi
+chroot "$machine" /blkcache /cache count <"$room/input" >"$room/said" 2>"$room/complained"
+status=$?
+if [ "$status" -ge 125 ]; then
+    skip 'a stream that cannot be filled' "no program without a /dev/null can be run here: $(head -n 1 "$room/complained")"
+else
+    is 'open streams need no /dev/null' "0 $empty_line" "$status $(cat "$room/said" "$room/complained")"
+    for folder in cache empty; do
+        before=$(both "$machine/$folder")
+        for closed in '0' '1' '2' '0 1 2'; do
+            "$BASH" -c 'for it in $3; do eval "exec $it>&-"; done; exec chroot "$1" /blkcache "/$2" count' \
+                -- "$machine" "$folder" "$closed" <"$room/input" >"$room/said" 2>"$room/complained"
+            is "with [$closed] closed and not filled ($folder)" '3 ' "$? $(cat "$room/said" "$room/complained")"
+            is "with [$closed] closed and not filled, the folder ($folder)" "$before" "$(both "$machine/$folder")"
+        done
     done
-    chroot "$machine" /blkcache /cache count <"$room/input" >"$room/said" 2>&1
-    is 'open streams need no /dev/null' "0 $empty_line" "$? $(cat "$room/said")"
 fi
 finish
