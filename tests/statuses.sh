@@ -43,7 +43,7 @@ chmod 711 "$room"
 chmod 755 "$room/bin/blkcache"
 [ "$(id -u)" != 0 ] || as_nobody=(chroot --userspec=65534:65534 /)
 make finished "$room/shut"
-chmod 644 "$room/shut/"*
+chmod 444 "$room/shut/"*
 if [ "$("${as_nobody[@]}" cat "$room/bin/blkcache" 2>/dev/null | cksum)" != "$(cksum <"$program")" ]; then
     skip 'a folder that cannot be read or written' 'the program cannot be run as nobody here'
 else
