@@ -29,6 +29,8 @@ answers 'a folder with a file of another name' "$room/others" "0 $empty_line"
 is 'that file stays' kept "$(cat "$room/others/readme")"
 
 answers 'a folder that is not there' "$room/nowhere" '3 '
+run "$room/nowhere" session
+is 'it goes before words that are not built' '3 ' "$status $said$complained"
 printf x >"$room/file"
 answers 'a file in place of the folder' "$room/file" '3 '
 is 'that file stays as it is' x "$(cat "$room/file")"
