@@ -25,13 +25,13 @@ few_digits (suc turns) n few = ⊎_elim
     (cases_lt n 1)
 
 -- a text without `:` is not split
-no_colon : (xs : List ℕ) → AllByRecursion (λ x. (x == colon) ≡ false) xs → split_last xs ≡ None
+pub no_colon : (xs : List ℕ) → AllByRecursion (λ x. (x == colon) ≡ false) xs → split_last xs ≡ None
 unfolding split_last
 no_colon [] h = refl
 no_colon (x ∷ xs) h = rw (no_colon xs h.1, h.0) refl
 
 -- the last `:` splits
-split : (xs ys : List ℕ) → split_last ys ≡ None → split_last (xs ++ colon ∷ ys) ≡ Some (xs, ys)
+pub split : (xs ys : List ℕ) → split_last ys ≡ None → split_last (xs ++ colon ∷ ys) ≡ Some (xs, ys)
 unfolding split_last
 split [] ys none = rw none refl
 split (x ∷ xs) ys none = rw (split xs ys none) refl
@@ -68,7 +68,7 @@ digits-no_colon (d ∷ ds) h = (digit-no_colon d h.0, digits-no_colon ds h.1)
 chosen : (n turns : ℕ) → (n == 0) ≡ false → (if n == 0 then 48 ∷ [] else map hex_byte (digits_with_fuel 16 turns n)) ≡ map hex_byte (digits_with_fuel 16 turns n)
 chosen n turns some = ap (λ (test : Bool). if test then 48 ∷ [] else map hex_byte (digits_with_fuel 16 turns n)) some
 
-text-of : (n : ℕ) → n < 2 ^ 64 → (n == 0) ≡ false → hex_text n ≡ map hex_byte (digits_of 16 n)
+pub text-of : (n : ℕ) → n < 2 ^ 64 → (n == 0) ≡ false → hex_text n ≡ map hex_byte (digits_of 16 n)
 unfolding hex_text
 text-of n fits some = chosen n most_digits some ∙ ap (map hex_byte) (few_digits most_digits n (let small : n < 16 ^ 16 = omega arith in small))
 
@@ -79,7 +79,7 @@ hex_number-hex_text n fits = ⊎_elim
     (λ (some : (n == 0) ≡ false). ap hex_number (text-of n fits some) ∙ ap (number_from_digits 16) (digits-back (digits_of 16 n) (all_below_base_digits_of 16 n (omega arith))) ∙ number_digits_of 16 n (omega arith))
     (cases_Bool (n == 0))
 
-hex_text-no_colon : (n : ℕ) → n < 2 ^ 64 → split_last (hex_text n) ≡ None
+pub hex_text-no_colon : (n : ℕ) → n < 2 ^ 64 → split_last (hex_text n) ≡ None
 hex_text-no_colon n fits = ⊎_elim
     (λ (none : (n == 0) ≡ true). let is = eqb-true n 0 none in rw is (unfold hex_text in no_colon (48 ∷ []) (refl, tt)))
     (λ (some : (n == 0) ≡ false). ap split_last (text-of n fits some) ∙ no_colon (map hex_byte (digits_of 16 n)) (digits-no_colon (digits_of 16 n) (all_below_base_digits_of 16 n (omega arith))))
