@@ -8,7 +8,7 @@ use Rattle.std.specs.Int.{bytes_high_first, byte_at}
 use Rattle.std.specs.Int.Count.{count_leading_zeros, leading_of_zero}
 use Rattle.std.specs.Int.Digits.{digits_of, number_from_digits, AllBelowBase}
 use Rattle.std.proofs.lemmas.Int.Digits.{digits_of_step, all_below_base_digits_of, number_digits_of, digits_value_is}
-use Rattle.std.proofs.lemmas.Bool.{cases_lt, agree_below_at, eqb-true}
+use Rattle.std.proofs.lemmas.Bool.{ne_eqb, cases_lt, agree_below_at, eqb-true}
 use Rattle.std.proofs.lemmas.Nat.{pow-add, mul-pow, leading_top}
 use Rattle.std.proofs.Math.Nat.{pow-suc, pow-zero, div-div-eq-div-mul}
 use Rattle.std.proofs.Math.Pow.{pow_mono}
@@ -16,7 +16,7 @@ use Rattle.std.proofs.lemmas.Str.Ascii.{IsAscii-nil, IsAscii-cons}
 use Rattle.std.proofs.lemmas.Result.{Ok-from_Ok_iff}
 use Rattle.hex.specs.Hex.{encode_with, lower_digits}
 use Rattle.blk_format.specs.Names.{hex_byte, hex_text}
-use Rattle.blk_ranges.proofs.Spelling.{text-of}
+use Rattle.blk_format.proofs.NameLemmas.{text-of}
 
 -- so many digits of a number, the highest first
 abbrev digits_high : ℕ → ℕ → List ℕ
@@ -99,8 +99,8 @@ sixteen : (q : ℕ) → 16 ^ q ≡ 2 ^ (q + q + (q + q))
 sixteen q = mul-pow 4 4 q ∙ ap (λ (p : ℕ). p * p) (mul-pow 2 2 q ∙ sym (pow-add 2 q q)) ∙ sym (pow-add 2 (q + q) (q + q))
 
 -- behind the leading zeros of its sixteen digits stands the text of a number
-pub text-behind-zeros : (n z : ℕ) (room : List ℕ) → n < 2 ^ 64 → room ≡ encode_with lower_digits (bytes_high_first 8 n) → z ≡ min (count_leading_zeros 64 n / 4) 15 → drop z room ≡ hex_text n
-text-behind-zeros n z room fits is is_z = elim (cases_lt 0 n) [
+pub text-behind-zeros : (n z : ℕ) (digits : List ℕ) → n < 2 ^ 64 → digits ≡ encode_with lower_digits (bytes_high_first 8 n) → z ≡ min (count_leading_zeros 64 n / 4) 15 → drop z digits ≡ hex_text n
+text-behind-zeros n z digits fits is is_z = elim (cases_lt 0 n) [
   | inl some ↦
       let top = leading_top 64 n some fits in
       let j : ℕ = top.0 in
@@ -109,7 +109,7 @@ text-behind-zeros n z room fits is is_z = elim (cases_lt 0 n) [
       let all : 16 ≡ z + suc q = omega (arith, at, top.1) in
       let lowest : 16 ^ q ≤ n = below-top q j n (omega arith) top.2 in
       let few : n < 16 ^ suc q = above-top q j n (omega arith) top.3 in
-      ap (drop z) (is ∙ encoded 8 n ∙ ap (λ (k : ℕ). digits_high k n) all) ∙ behind-digits z (suc q) n ∙ own-digits (suc q) n some few (omega (arith, lowest, pow-suc 16 q)) ∙ sym (text-of n fits some)
+      ap (drop z) (is ∙ encoded 8 n ∙ ap (λ (k : ℕ). digits_high k n) all) ∙ behind-digits z (suc q) n ∙ own-digits (suc q) n some few (omega (arith, lowest, pow-suc 16 q)) ∙ sym (text-of n fits (ne_eqb n 0 (omega arith)))
   | inr none ↦ let zero_is : n ≡ 0 = omega arith in of-zero n zero_is is is_z
 ]
   where
@@ -122,7 +122,7 @@ text-behind-zeros n z room fits is is_z = elim (cases_lt 0 n) [
     one_zero : drop 15 (encode_with lower_digits (bytes_high_first 8 0)) ≡ hex_text 0
     one_zero = unfold hex_text encode_with in refl
 
-    of-zero : (n : ℕ) → n ≡ 0 → room ≡ encode_with lower_digits (bytes_high_first 8 n) → z ≡ min (count_leading_zeros 64 n / 4) 15 → drop z room ≡ hex_text n
+    of-zero : (n : ℕ) → n ≡ 0 → digits ≡ encode_with lower_digits (bytes_high_first 8 n) → z ≡ min (count_leading_zeros 64 n / 4) 15 → drop z digits ≡ hex_text n
     of-zero n e is at =
         let all : count_leading_zeros 64 n ≡ 64 = ap (count_leading_zeros 64) e ∙ leading_of_zero 64 in
         let last : z ≡ 15 = omega (arith, at, all) in
@@ -172,7 +172,7 @@ is-text n fits = elim (cases_lt 0 n) [
   | inl some ↦
       let ds : List ℕ = digits_of 16 n in
       let below : AllBelowBase 16 ds = all_below_base_digits_of 16 n (omega arith) in
-      subst (IsText n) (sym (text-of n fits some)) (record {
+      subst (IsText n) (sym (text-of n fits (ne_eqb n 0 (omega arith)))) (record {
         ascii = ascii ds below;
         numeral = (some-digits n some, all-digits ds below);
         value = digits_value_is 16 (map hex_byte ds) ∙ ap (number_from_digits 16) (digits-back ds below) ∙ number_digits_of 16 n (omega arith);
