@@ -91,3 +91,4 @@ pub mod ShortChains
 pub mod Searches
 pub mod Files
 pub mod TidyOrder
+pub mod Charges

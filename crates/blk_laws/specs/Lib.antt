@@ -12,3 +12,4 @@ pub mod IndexWrites
 pub mod ListWords
 pub mod ItemLaws
 pub mod SearchLaws
+pub mod ChargeLaws

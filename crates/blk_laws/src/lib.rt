@@ -12,6 +12,7 @@ ghost use Rattle.blk_laws.specs.ListLaws.{WalksAreTheLists, InsertsCommitAtTwo, 
 ghost use Rattle.blk_laws.specs.StateLaws.{WalksAreTheOrder, ListedAreTheRows, NothingListedIsDropped, RepresentedChainsEnd, KeptAreAtRest, FoundIsAtRest, RepresentedStatesAreShown, TidyIsInOrder, RepresentedStatesAreStoodFor, TidyStatesAreStoodFor, PlacedItemsAreShown, KeptArePicked, FreeFootprintsKeepStates, ChangedItemsArePlaced, ChangedItemsAreRepresented};
 ghost use Rattle.blk_laws.specs.ItemLaws.{SameStoresRepresent, TouchedItemsAtEachWrite, TouchedItemsEnd, NewItemsArePlaced};
 ghost use Rattle.blk_laws.specs.SearchLaws.{ChainsAreTheLayouts, RepresentedChainsAreShort, RepresentedChainsCanBeSearched, FoundRecordsAreLive, NoneFoundIsMissing};
+ghost use Rattle.blk_laws.specs.ChargeLaws.{PartNamesAreNames, ItemsAreChargedAsRows, ListedChargesAreTheRows, ListedChargesAreTheTotals, OpenedChargesAreTheTotals};
 
 mod list_words;
 mod mid_updates;
@@ -280,4 +281,13 @@ pub fn growth_keeps_states()
     ensures headers { ChangedHeadersHaveGrown }
     ensures kept { GrowthKeepsStates }
     ensures gone { UnlinkedFilesMayGo }
+{}
+
+/// The name of a part in the model is its name in the formats; what is listed is charged what its rows are, which is, with the doomed objects, the totals of the state.
+pub fn charges_are_the_totals()
+    ensures names { PartNamesAreNames }
+    ensures items { ItemsAreChargedAsRows }
+    ensures rows { ListedChargesAreTheRows }
+    ensures totals { ListedChargesAreTheTotals }
+    ensures opened { OpenedChargesAreTheTotals }
 {}
