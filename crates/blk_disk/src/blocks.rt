@@ -1,8 +1,8 @@
 // The bytes of blocks.
-ghost use Rattle.std.specs.Prelude.{◌≡◌, ◌+◌, ◌≤◌, IsTrue, None, length, OnOk, OnErr};
+ghost use Rattle.std.specs.Prelude.{◌≡◌, ◌⊎◌, ◌+◌, ◌≤◌, IsTrue, None, length, OnOk, OnErr};
 ghost use Rattle.std.specs.Option.{ForSome};
 ghost use Rattle.blk_image.specs.Bytes.{range_at};
-ghost use Rattle.blk_image.specs.Image.{Block as block, byte};
+ghost use Rattle.blk_image.specs.Image.{Block as block, HasRange, byte};
 ghost use Rattle.blk_image.specs.Steps.{words};
 ghost use Rattle.blk_image.specs.Footprint.{SameOutside, range};
 ghost use Rattle.blk_image.specs.Told.{Applies, AppliesPrefix, Passes, Rises, Stays};
@@ -19,6 +19,7 @@ use blk_io::{Failed, Fault, FileId, Folder, read_exact};
 impl BlockFiles {
     /// Reads bytes of the blocks of an address, from a place among them on.
     ///
+    /// Too few bytes are a damage: it has the place of the read, and finds how many bytes there were.
     /// `Device` comes only where the folder failed in this call.
     pub fn read_block<F: Folder>(
         &self,
@@ -29,14 +30,14 @@ impl BlockFiles {
     ) -> Result<(), Fault>
         requires stands { IsTrue (stands_among self.now addr) }
         requires inside { at + length out.old ≤ byte_size addr }
-        requires agrees { ForSome (F.told f.old).files (Agrees self.now) }
         ensures bytes { OnOk result (ForSome (F.told f.old).files (λ image. out.new ≡ range_at (byte image (block (file_selector addr))) (place addr + at) (length out.old))) }
-
-        // Too few bytes, which a folder that tells its files never gives.
-        ensures short { IfDamaged result (IsShort (F.told f.old) (FileId.Block (file_selector addr)) (place addr + at) (length out.old)) }
-        ensures untold { IfDamaged result (λ _. (F.told f.old).files ≡ None) }
-
+        ensures checked { OnOk result (ForSome (F.told f.old).files (λ image. HasRange image (block (file_selector addr)) (place addr + at) (length out.old) ⊎ (length out.old ≡ 0))) }
         ensures stays { Stays (F.told f.old) (F.told f.new) }
+
+        // Too few bytes, which a folder that tells its files gives only where the block files don't agree with it.
+        ensures short { IfDamaged result (IsShort (F.told f.old) (FileId.Block (file_selector addr)) (place addr + at) (length out.old)) }
+        ensures untold { ForSome (F.told f.old).files (Agrees self.now) → IfDamaged result (λ _. (F.told f.old).files ≡ None) }
+
         ensures later { F.faults f.old ≤ F.faults f.new }
         ensures device { IfDevice result (Rises (F.faults f.old) (F.faults f.new)) }
     {

@@ -44,22 +44,23 @@ impl BlockFiles {
         requires begins { BeginsWithRecord addr }
         requires changes { AreChanges (seal_place addr) changes.now }
         requires agrees { ForSome (F.told f.old).files (Agrees self.now) }
-        requires checks { ForSome (F.told f.old).files (RecordChecks addr) }
+        ensures checked { OnOk result (ForSome (F.told f.old).files (RecordChecks addr)) }
+        ensures updated { OnOk result (ForSome (F.told f.old).files (λ from. ForSome (F.told f.new).files (IsUpdated from addr changes.now))) }
+        ensures checks { ForSome (F.told f.old).files (RecordChecks addr) → ForSome (F.told f.new).files (RecordChecks addr) }
+        ensures agrees { ForSome (F.told f.new).files (Agrees self.now) }
         ensures steps { OnOk result (ForSome (F.told f.old).files (λ from. Applies (F.told f.old) (F.told f.new) (sealed_steps from addr changes.now))) }
         ensures prefix { ForSome (F.told f.old).files (λ from. AppliesPrefix (F.told f.old) (F.told f.new) (sealed_steps from addr changes.now)) }
-        ensures updated { OnOk result (ForSome (F.told f.old).files (λ from. ForSome (F.told f.new).files (IsUpdated from addr changes.now))) }
 
-        // At each word the record checks and has a front of the changes, and nothing else has changed.
-        ensures stops { ForSome (F.told f.old).files (λ from. Passes (F.told f.old) (F.told f.new) (IsMidUpdate from addr changes.now)) }
-        ensures agrees { ForSome (F.told f.new).files (Agrees self.now) }
-        ensures checks { ForSome (F.told f.new).files (RecordChecks addr) }
+        // At each word of an update of a record that checks, it still checks and has a front of the changes, and nothing else has changed.
+        ensures stops { ForSome (F.told f.old).files (λ from. RecordChecks addr from → Passes (F.told f.old) (F.told f.new) (IsMidUpdate from addr changes.now)) }
+
+        // A damage is a short read or a record that doesn't check, and nothing was written. A folder that tells its files gives one only for a record that doesn't check.
+        ensures damaged { IfDamaged result (λ damage. IsShort (F.told f.old) (FileId.Block (file_selector addr)) (place addr) (record_size addr) damage ⊎ IsUnsealed (F.told f.old) addr damage) }
+        ensures unwritten { IfDamaged result (λ _. Stays (F.told f.old) (F.told f.new)) }
+        ensures untold { ForSome (F.told f.old).files (RecordChecks addr) → IfDamaged result (λ _. (F.told f.old).files ≡ None) }
 
         // A folder that tells no files goes on telling none.
         ensures silent { (F.told f.old).files ≡ None → (F.told f.new).files ≡ None }
-
-        // A damage is a short read or a record that doesn't check. A folder that tells its files never gives one.
-        ensures damaged { IfDamaged result (λ damage. IsShort (F.told f.old) (FileId.Block (file_selector addr)) (place addr) (record_size addr) damage ⊎ IsUnsealed (F.told f.old) addr damage) }
-        ensures untold { IfDamaged result (λ _. (F.told f.old).files ≡ None) }
 
         ensures later { F.faults f.old ≤ F.faults f.new }
         ensures device { IfDevice result (Rises (F.faults f.old) (F.faults f.new)) }
@@ -79,10 +80,10 @@ impl BlockFiles {
         requires begins { BeginsWithRecord addr }
         requires size { length bytes.old ≡ record_size addr }
         requires agrees { ForSome (F.told f.old).files (Agrees self.now) }
-        requires checks { ForSome (F.told f.old).files (RecordChecks addr) }
         ensures bytes { OnOk result (ForSome (F.told f.old).files (λ image. bytes.new ≡ record_at image addr)) }
+        ensures checked { OnOk result (ForSome (F.told f.old).files (RecordChecks addr)) }
         ensures damaged { IfDamaged result (λ damage. IsShort (F.told f.old) (FileId.Block (file_selector addr)) (place addr) (record_size addr) damage ⊎ IsUnsealed (F.told f.old) addr damage) }
-        ensures untold { IfDamaged result (λ _. (F.told f.old).files ≡ None) }
+        ensures untold { ForSome (F.told f.old).files (RecordChecks addr) → IfDamaged result (λ _. (F.told f.old).files ≡ None) }
         ensures stays { Stays (F.told f.old) (F.told f.new) }
         ensures later { F.faults f.old ≤ F.faults f.new }
         ensures device { IfDevice result (Rises (F.faults f.old) (F.faults f.new)) }

@@ -2,7 +2,7 @@
 ghost use Rattle.std.specs.Prelude.{◌≡◌, ◌+◌, ◌*◌, ◌%◌, ◌<◌, ◌≤◌, IfOk, None, OnErr, OnOk};
 ghost use Rattle.std.specs.Option.{ForSome};
 ghost use Rattle.blk_image.specs.Footprint.{SameOutside, one_word};
-ghost use Rattle.blk_image.specs.Image.{byte, word, Index as index};
+ghost use Rattle.blk_image.specs.Image.{HasRange, byte, word, Index as index};
 ghost use Rattle.blk_image.specs.Steps.{word_step};
 ghost use Rattle.blk_image.specs.Told.{Applies, AppliesPrefix, Passes, Stays, Rises};
 ghost use Rattle.blk_format.specs.Headers.{HasWholeIndex, bucket_of, place_of_bucket, header_length};
@@ -11,18 +11,20 @@ ghost use Rattle.blk_io.specs.Faults.{IfDamaged, IfDevice, IsShort};
 use blk_io::{Failed, Fault, FileId, Folder, read_word, write_word};
 use blk_record::IndexHead;
 
-/// Reads the word of the header at a place in bytes. `Device` comes only where the folder failed in this call.
+/// Reads the word of the header at a place in bytes.
+///
+/// Too few bytes are a damage. `Device` comes only where the folder failed in this call.
 pub fn word<F: Folder>(f: &mut F, at: u32) -> Result<u32, Fault>
     requires aligned { at % 4 ≡ 0 }
     requires inside { at < header_length }
-    requires complete { ForSome (F.told f.old).files HasWholeIndex }
     ensures word { IfOk result (λ w. ForSome (F.told f.old).files (λ image. w ≡ word image index at)) }
-
-    // Too few bytes, which a folder that tells its files never gives.
-    ensures short { IfDamaged result (IsShort (F.told f.old) FileId.Index at 4) }
-    ensures untold { IfDamaged result (λ _. (F.told f.old).files ≡ None) }
-
+    ensures checked { OnOk result (ForSome (F.told f.old).files (λ image. HasRange image index at 4)) }
     ensures stays { Stays (F.told f.old) (F.told f.new) }
+
+    // Too few bytes, which a folder that tells its files gives only where the index is too short.
+    ensures short { IfDamaged result (IsShort (F.told f.old) FileId.Index at 4) }
+    ensures untold { ForSome (F.told f.old).files HasWholeIndex → IfDamaged result (λ _. (F.told f.old).files ≡ None) }
+
     ensures later { F.faults f.old ≤ F.faults f.new }
     ensures device { IfDevice result (Rises (F.faults f.old) (F.faults f.new)) }
 {
@@ -31,16 +33,16 @@ pub fn word<F: Folder>(f: &mut F, at: u32) -> Result<u32, Fault>
 
 /// Reads the word of a bucket: the first address of its chain, or 0.
 ///
-/// `Device` comes only where the folder failed in this call.
+/// Too few bytes are a damage. `Device` comes only where the folder failed in this call.
 pub fn bucket<F: Folder>(f: &mut F, number: u16) -> Result<u32, Fault>
-    requires { ForSome (F.told f.old).files HasWholeIndex }
     ensures word { IfOk result (λ w. ForSome (F.told f.old).files (λ image. w ≡ bucket_of (byte image index) number)) }
-
-    // Too few bytes, which a folder that tells its files never gives.
-    ensures short { IfDamaged result (IsShort (F.told f.old) FileId.Index (place_of_bucket number) 4) }
-    ensures untold { IfDamaged result (λ _. (F.told f.old).files ≡ None) }
-
+    ensures checked { OnOk result (ForSome (F.told f.old).files (λ image. HasRange image index (place_of_bucket number) 4)) }
     ensures stays { Stays (F.told f.old) (F.told f.new) }
+
+    // Too few bytes, which a folder that tells its files gives only where the index is too short.
+    ensures short { IfDamaged result (IsShort (F.told f.old) FileId.Index (place_of_bucket number) 4) }
+    ensures untold { ForSome (F.told f.old).files HasWholeIndex → IfDamaged result (λ _. (F.told f.old).files ≡ None) }
+
     ensures later { F.faults f.old ≤ F.faults f.new }
     ensures device { IfDevice result (Rises (F.faults f.old) (F.faults f.new)) }
 {

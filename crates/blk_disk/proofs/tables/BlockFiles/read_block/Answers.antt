@@ -1,8 +1,8 @@
-use Rattle.std.proofs.Common.{◌≡◌, ◌+◌, ℕ, length, ap₂, subst, arith}
+use Rattle.std.proofs.Common.{◌≡◌, ◌⊎◌, ◌+◌, ℕ, length, ap₂, subst, arith}
 use Rattle.std.specs.Prelude.{OnOk}
 use Rattle.std.specs.Option.{ForSome}
 use Rattle.blk_image.specs.Bytes.{range_at}
-use Rattle.blk_image.specs.Image.{Block, byte}
+use Rattle.blk_image.specs.Image.{Block, HasRange, byte}
 use Rattle.blk_format.specs.Address.{file_selector, place}
 use Rattle.blk_io.specs.declared.folder.FileId.{FileId}
 use Rattle.blk_io.specs.declared.folder.FileId.TheVariants as folder
@@ -33,6 +33,13 @@ returns-clause-short g c =
     (subst (λ (name : FileId). IfDamaged c.read_exact.result (IsShort (g.F.Folder.told c.args.f.now) name (c.place_of.result + c.from.result) (length c.args.out.now))) name c.read_exact.ensures.short)
 
 pub returns-clause-untold : goal.returns-clause-untold
-returns-clause-untold g c =
+returns-clause-untold g c agrees =
     untold_if c.read_exact.result (g.F.Folder.told c.args.f.now) (folder.Block (file_selector c.args.addr)) (place c.args.addr + c.args.at) (length c.args.out.now) (returns-clause-short g c)
-    (λ image there. stands_range c.args.self.now image c.args.addr c.args.at (length c.args.out.now) (c.requires.agrees image there) c.requires.stands c.requires.inside)
+    (λ image there. stands_range c.args.self.now image c.args.addr c.args.at (length c.args.out.now) (agrees image there) c.requires.stands c.requires.inside)
+
+pub returns-clause-checked : goal.returns-clause-checked
+returns-clause-checked g c =
+    let name = name_is c.args.addr c.file_of.result (stands_blocky c.args.self.now c.args.addr c.requires.stands) c.file_of.ensures in
+    let at : c.place_of.result + c.from.result ≡ place c.args.addr + c.args.at = ap₂ (λ (a b : ℕ). a + b) c.place_of.ensures.place c.from.ensures in
+    subst (λ (n : ℕ). OnOk c.read_exact.result (ForSome (g.F.Folder.told c.args.f.now).files (λ image. HasRange image (Block (file_selector c.args.addr)) n (length c.args.out.now) ⊎ (length c.args.out.now ≡ 0)))) at
+    (subst (λ (name : FileId). OnOk c.read_exact.result (ForSome (g.F.Folder.told c.args.f.now).files (λ image. HasRange image (file_of name) (c.place_of.result + c.from.result) (length c.args.out.now) ⊎ (length c.args.out.now ≡ 0)))) name c.read_exact.ensures.inside)

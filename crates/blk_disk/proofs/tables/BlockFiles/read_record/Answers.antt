@@ -1,4 +1,7 @@
-use Rattle.std.proofs.Common.{◌+◌, ℕ, inr, length, ap, sym, ◌∙◌, arith, refl}
+use Rattle.std.proofs.Common.{◌≡◌, ◌+◌, ℕ, List, Bool, true, false, None, Some, if◌then◌else◌, inr, length, ap, sym, subst, ◌∙◌, arith, refl}
+use Rattle.blk_image.specs.Bytes.{content, word_at}
+use Rattle.blk_format.specs.Records.{checks}
+use Rattle.blk_format.specs.Sealed.{seal_place}
 use Rattle.blk_disk.specs.Unsealed.{IsUnsealed, wrong_seal}
 use Rattle.blk_format.specs.Sealed.{seal_by_kind}
 use Rattle.blk_disk.proofs.Ranges.{stands_blocky, name_is}
@@ -27,4 +30,21 @@ pub returns-clause-damaged : goal.returns-clause-damaged
 returns-clause-damaged g c = inr (unsealed_here g c)
 
 pub returns-clause-untold : goal.returns-clause-untold
-returns-clause-untold g c = untold_unsealed _ _ _ (unsealed_here g c) c.requires.checks
+returns-clause-untold g c checks = untold_unsealed _ _ _ (unsealed_here g c) checks
+
+-- a record whose seal isn't wrong checks
+right_seal : (seal : ℕ) (bytes : List ℕ) → wrong_seal seal bytes ≡ None → checks seal bytes ≡ true
+right_seal seal bytes none = by_test (checks seal bytes) refl
+  where
+    clash : (w : ℕ) → Some w ≡ None → ⊥
+    clash w e = cc
+
+    by_test : (t : Bool) → checks seal bytes ≡ t → checks seal bytes ≡ true
+    by_test true e = e
+    by_test false e = absurd (clash (word_at (content bytes) seal) (sym (ap (λ (t : Bool). if t then None else Some (word_at (content bytes) seal)) e) ∙ none))
+
+pub returns-in_default-clause-checked : goal.returns-in_default-clause-checked
+returns-in_default-clause-checked g c image there =
+    let same = record_read image c.args.addr (length c.args.bytes.now) c.read_block.new.out c.requires.size (c.in_ok-read_block.ensures.bytes image there) in
+    subst (λ (bytes : List ℕ). checks (seal_place c.args.addr) bytes ≡ true) same
+    (right_seal (seal_place c.args.addr) c.read_block.new.out (ap (λ (s : ℕ). wrong_seal s c.read_block.new.out) (ap seal_by_kind (sym c.kind.ensures)) ∙ sym c.wrong_seal.ensures ∙ c.in_default.is))

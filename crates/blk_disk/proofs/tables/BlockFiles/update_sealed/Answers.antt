@@ -13,15 +13,15 @@ use Rattle.blk_disk.proofs.tables.BlockFiles.update_sealed.Given as given
 use Rattle.blk_disk.proofs.tables.BlockFiles.update_sealed.Goals as goal
 
 pub returns-in_err-read_record-clause-stops : goal.returns-in_err-read_record-clause-stops
-returns-in_err-read_record-clause-stops g c from there =
+returns-in_err-read_record-clause-stops g c from there good =
     passes_none (IsMidUpdate from c.args.addr c.args.changes.now) c.in_err-read_record.ensures.stays
-    (λ image here. subst (λ (i : Image). IsMidUpdate from c.args.addr c.args.changes.now i) (some_inj (sym there ∙ here)) (moment_before c.args.addr from c.args.changes.now (c.requires.checks from there)))
+    (λ image here. subst (λ (i : Image). IsMidUpdate from c.args.addr c.args.changes.now i) (some_inj (sym there ∙ here)) (moment_before c.args.addr from c.args.changes.now good))
 
 -- what a failed write leaves
 left_failed : (g : given.Over) (c : goal.After-from_residual-in_err-write_update g) → IsLeft c.args.self.now c.args.addr c.args.changes.now (g.F.Folder.told c.args.f.now) (g.F.Folder.told c.write_update.new.f)
 left_failed g c =
     left_by c.args.self.now c.args.addr c.args.changes.now c.requires.stands c.requires.begins c.requires.changes
-    (g.F.Folder.told c.args.f.now) (g.F.Folder.told c.read_record.new.f) (g.F.Folder.told c.write_update.new.f) c.requires.agrees c.requires.checks c.in_ok-read_record.ensures.stays
+    (g.F.Folder.told c.args.f.now) (g.F.Folder.told c.read_record.new.f) (g.F.Folder.told c.write_update.new.f) c.requires.agrees c.in_ok-read_record.ensures.checked c.in_ok-read_record.ensures.stays
     (kind_number c.kind-kind.result) c.seal_after-seal.result c.read_record.new.bytes c.kind-kind.ensures c.in_ok-read_record.ensures.bytes c.seal_after-seal.ensures
     c.in_err-write_update.ensures.prefix
 
@@ -29,7 +29,7 @@ left_failed g c =
 left_done : (g : given.Over) (c : goal.In_ok-write_update g) → IsLeft c.args.self.now c.args.addr c.args.changes.now (g.F.Folder.told c.args.f.now) (g.F.Folder.told c.write_update.new.f)
 left_done g c =
     left_by c.args.self.now c.args.addr c.args.changes.now c.requires.stands c.requires.begins c.requires.changes
-    (g.F.Folder.told c.args.f.now) (g.F.Folder.told c.read_record.new.f) (g.F.Folder.told c.write_update.new.f) c.requires.agrees c.requires.checks c.in_ok-read_record.ensures.stays
+    (g.F.Folder.told c.args.f.now) (g.F.Folder.told c.read_record.new.f) (g.F.Folder.told c.write_update.new.f) c.requires.agrees c.in_ok-read_record.ensures.checked c.in_ok-read_record.ensures.stays
     (kind_number c.kind-kind.result) c.seal_after-seal.result c.read_record.new.bytes c.kind-kind.ensures c.in_ok-read_record.ensures.bytes c.seal_after-seal.ensures
     c.in_ok-write_update.ensures.prefix
 
@@ -37,25 +37,25 @@ pub returns-in_err-write_update-clause-prefix : goal.returns-in_err-write_update
 returns-in_err-write_update-clause-prefix g c = (left_failed g c).part
 
 pub returns-in_err-write_update-clause-stops : goal.returns-in_err-write_update-clause-stops
-returns-in_err-write_update-clause-stops g c = (left_failed g c).stops
+returns-in_err-write_update-clause-stops g c from there good = (left_failed g c).stops from there
 
 pub returns-in_err-write_update-clause-agrees : goal.returns-in_err-write_update-clause-agrees
 returns-in_err-write_update-clause-agrees g c = (left_failed g c).agrees
 
 pub returns-in_err-write_update-clause-checks : goal.returns-in_err-write_update-clause-checks
-returns-in_err-write_update-clause-checks g c = (left_failed g c).checks
+returns-in_err-write_update-clause-checks g c good = (left_failed g c).checks
 
 pub returns-clause-steps : goal.returns-clause-steps
 returns-clause-steps g c =
     whole_by c.args.self.now c.args.addr c.args.changes.now c.requires.stands c.requires.begins c.requires.changes
-    (g.F.Folder.told c.args.f.now) (g.F.Folder.told c.read_record.new.f) (g.F.Folder.told c.write_update.new.f) c.requires.agrees c.requires.checks c.in_ok-read_record.ensures.stays
+    (g.F.Folder.told c.args.f.now) (g.F.Folder.told c.read_record.new.f) (g.F.Folder.told c.write_update.new.f) c.requires.agrees c.in_ok-read_record.ensures.checked c.in_ok-read_record.ensures.stays
     (kind_number c.kind-kind.result) c.seal_after-seal.result c.read_record.new.bytes c.kind-kind.ensures c.in_ok-read_record.ensures.bytes c.seal_after-seal.ensures
     c.in_ok-write_update.ensures.steps
 
 pub returns-clause-updated : goal.returns-clause-updated
 returns-clause-updated g c =
     updated_by c.args.self.now c.args.addr c.args.changes.now c.requires.stands c.requires.begins c.requires.changes
-    (g.F.Folder.told c.args.f.now) (g.F.Folder.told c.read_record.new.f) (g.F.Folder.told c.write_update.new.f) c.requires.agrees c.requires.checks c.in_ok-read_record.ensures.stays
+    (g.F.Folder.told c.args.f.now) (g.F.Folder.told c.read_record.new.f) (g.F.Folder.told c.write_update.new.f) c.requires.agrees c.in_ok-read_record.ensures.checked c.in_ok-read_record.ensures.stays
     (kind_number c.kind-kind.result) c.seal_after-seal.result c.read_record.new.bytes c.kind-kind.ensures c.in_ok-read_record.ensures.bytes c.seal_after-seal.ensures
     c.in_ok-write_update.ensures.steps
 
@@ -63,13 +63,13 @@ pub returns-clause-prefix : goal.returns-clause-prefix
 returns-clause-prefix g c = (left_done g c).part
 
 pub returns-clause-stops : goal.returns-clause-stops
-returns-clause-stops g c = (left_done g c).stops
+returns-clause-stops g c from there good = (left_done g c).stops from there
 
 pub returns-clause-agrees : goal.returns-clause-agrees
 returns-clause-agrees g c = (left_done g c).agrees
 
 pub returns-clause-checks : goal.returns-clause-checks
-returns-clause-checks g c = (left_done g c).checks
+returns-clause-checks g c good = (left_done g c).checks
 
 -- the read leaves what the block files agree with
 pub returns-in_err-read_record-clause-agrees : goal.returns-in_err-read_record-clause-agrees
