@@ -81,7 +81,7 @@ fn an_object_closes_with_the_last_of_4096_names(rt: HostRuntime) -> Result<(), F
 #[test]
 fn as_many_objects_as_names_are_open_at_once(rt: HostRuntime) -> Result<(), Fail> {
     let mut handles = Handles::new(rt.alloc())?;
-    // three times, so that the room of what was closed is taken again
+    // three times, so that the memory of closed objects is used again
     for start in [0, 30000, 10000] {
         for name in 0..NAMES {
             bind(&mut handles, name, start + name)?;
