@@ -15,7 +15,7 @@ use Rattle.blk_disk.specs.declared.tables.BlockFiles.{BlockFiles}
 use Rattle.blk_format.specs.Sealed.{RecordChecks}
 use Rattle.blk_disk.specs.Tables.{Agrees, stands_among}
 use Rattle.blk_disk.proofs.Ranges.{stands_agree}
-use Rattle.blk_entry.specs.Keys.{HasKey, IsEntryOf, key_at}
+use Rattle.blk_entry.specs.Keys.{HasReadableKey, IsEntryOf, key_at}
 use Rattle.blk_laws.proofs.StillShown.{core-standing, standing-parts}
 use Rattle.blk_chain.specs.Naming.{HasKey}
 use Rattle.blk_chain.specs.Finding.{names_record, IsKeyed}
@@ -55,7 +55,7 @@ keyed-checks image w bytes keyed =
     record_checks image w bytes (shown-kind image w keyed.fields keyed.here) (ap (λ (c : RecordFields). c.checks) (shown-core image w keyed.fields keyed.here) ∙ keyed.good)
 
 -- the key of a record that has one
-key-is : (image : Image) (w : ℕ) (fields : RecordFields) → (store_of image).entry w ≡ Some fields → HasKey w image → key_at image w ≡ key_of (store_of image) w fields
+key-is : (image : Image) (w : ℕ) (fields : RecordFields) → (store_of image).entry w ≡ Some fields → HasReadableKey w image → key_at image w ≡ key_of (store_of image) w fields
 unfolding key_at store_of
 key-is image w fields here has = by_core (core_at image w) here has.is
   where

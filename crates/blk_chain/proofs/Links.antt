@@ -62,7 +62,7 @@ module _ (from : Image) (entry : ℕ) (can : CanBeLinked entry from) where
       never : WithFirstBlock (chained_with from entry) (file_and_block entry) → ⊥
       never other =
           let shown = shown-of (store_of from) (bucket_at from entry) other.word (linked-good (store_of from) (bucket_at from entry) ((store_of from).table (bucket_at from entry)) (chained_with from entry) other.word can.whole.linked other.among) in
-          can.fresh other.word other.among (same-name from entry other.word can.fields shown.fields can.here shown.here (sym other.has) can.key (can.fields.flags == 2) can.named)
+          can.fresh other.word other.among (same-name from entry other.word can.fields shown.fields can.here shown.here (sym other.has) can.key (can.fields.flags == 2) can.has_key)
 
   pub linked_at : (image : Image) → IsIndexWord (place_of_front from entry) entry from image → IsLinked from entry image
   linked_at image is =

@@ -113,7 +113,7 @@ module _ (from image : Image) (entry : ℕ) (can : CanBeLinked entry from) (is :
   -- no other record has the name of the new one
   fresh : (key : List ℕ) (is_child : Bool) (w : ℕ) → HasKey (store_of from) key is_child entry → IsRecordOf from key is_child w → ⊥
   fresh key is_child w named of =
-      let own = one-name (store_of from) entry key can.key is_child (can.fields.flags == 2) named can.named in
+      let own = one-name (store_of from) entry key can.key is_child (can.fields.flags == 2) named can.has_key in
       let bucket : bucket_of_key key ≡ bucket_at from entry = sym (named-bucket from key is_child entry named) in
       can.fresh w (subst (λ (b : ℕ). is_among (chain (store_of from) b).reached w ≡ true) bucket of.0)
       (subst (λ (flag : Bool). HasKey (store_of from) can.key flag w) own.1.1 (subst (λ (k : List ℕ). HasKey (store_of from) k is_child w) own.1.0 of.1))

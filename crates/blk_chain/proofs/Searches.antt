@@ -126,7 +126,7 @@ module _ (image : Image) (key : List ℕ) (is_child : Bool) where
       way-found named =
           let place = ends way.passed before next.suffix (chained_for image key) word way.last all-here in
           record {
-            named = named;
+            has_key = named;
             prefix = place.0;
             suffix = next.suffix;
             stands = place.1.0;
@@ -136,8 +136,8 @@ module _ (image : Image) (key : List ℕ) (is_child : Bool) where
   -- what is found can be unlinked
   pub found-linked : (entry : ℕ) (before : Option ℕ) → CanBeSearched key image → IsFound key is_child entry before image → CanBeUnlinked entry before image
   found-linked entry before can found =
-      let fields : RecordFields = found.named.fields in
-      let hash : (entry_at image entry).hash ≡ hash_of key = ap (λ (c : RecordFields). c.hash) (shown-core image entry found.named.fields found.named.here) ∙ found.named.hashed in
+      let fields : RecordFields = found.has_key.fields in
+      let hash : (entry_at image entry).hash ≡ hash_of key = ap (λ (c : RecordFields). c.hash) (shown-core image entry found.has_key.fields found.has_key.here) ∙ found.has_key.hashed in
       let bucket : bucket_at image entry ≡ bucket_of_key key = ap bucket_of_hash hash in
       record {
         whole = subst (λ (n : ℕ). IsChain (store_of image) n (chain (store_of image) n).reached) (sym bucket) can.whole;

@@ -123,7 +123,7 @@ module _ (from : Image) (bytes : AreBytes from) (entry before : ℕ) (can : CanB
       keeps = keeps;
       chain_now = λ prefix suffix stands. chain-without prefix suffix (subst (λ (ws : List ℕ). IsChain (store_of from) (bucket_at from entry) ws) stands can.whole);
       others = λ other apart. chain-same (store_of from) (store_of image) other records (λ w of. elsewhere other apart w (shown-of (store_of from) other w of)) (sym (only.rest.table other));
-      links = record { link = link; table = λ bucket. sym (only.rest.table bucket); named = λ w. sym (only.rest.node_fields w); chain_next = λ w apart. sym (only.chain_next w apart) };
+      links = record { link = link; table = λ bucket. sym (only.rest.table bucket); node_fields = λ w. sym (only.rest.node_fields w); chain_next = λ w apart. sym (only.chain_next w apart) };
     } where
       elsewhere : (other : ℕ) → (bucket_at from entry == other) ≡ false → (w : ℕ) → IsShownOf (store_of from) other w → (store_of image).chain_next w ≡ (store_of from).chain_next w
       elsewhere other apart w shown = sym (only.chain_next w (λ e.

@@ -17,7 +17,7 @@ use Rattle.blk_volume.specs.View.{RecordFields, store_of}
 use Rattle.blk_volume.specs.Chains.{bucket_of_hash, chain, Linked}
 use Rattle.blk_disk.specs.declared.tables.BlockFiles.{BlockFiles}
 use Rattle.blk_disk.specs.Tables.{stands_among}
-use Rattle.blk_entry.specs.Keys.{HasKey, IsKeyDamage}
+use Rattle.blk_entry.specs.Keys.{HasReadableKey, IsKeyDamage}
 use Rattle.blk_chain.specs.declared.found.Found.{Found}
 use Rattle.blk_chain.specs.declared.finding.Step.{Step}
 use Rattle.blk_chain.specs.declared.finding.Step.TheVariants.{Here, On}
@@ -40,7 +40,7 @@ most_searched = 131072
 pub record CanBeSearched (key : List ℕ) (image : Image) : Type 0 where
   pub whole : IsWhole (store_of image) (bucket_of_key key)
   pub few : length (chained_for image key) ≤ most_searched
-  pub keys : (w : ℕ) → is_among (chained_for image key) w ≡ true → HasKey w image
+  pub keys : (w : ℕ) → is_among (chained_for image key) w ≡ true → HasReadableKey w image
 
 -- none of these words names a record with this key and child flag
 abbrev pub NoneHasKey : List ℕ → List ℕ → Bool → Image → Type 0
@@ -80,7 +80,7 @@ abbrev pub StandsBefore : BlockFiles → Option ℕ → Type 0
 StandsBefore files before = IfSome before (λ w. names_record files w ≡ true)
 
 -- a word at which a chain goes on names no record that stands
-pub record IsDangling (files : BlockFiles) (bucket : ℕ) (damage : Damage) : Type 0 where
+pub record IsDanglingLink (files : BlockFiles) (bucket : ℕ) (damage : Damage) : Type 0 where
   pub before : Option ℕ
   pub stands : StandsBefore files before
   pub link : IsOfLink bucket before damage
@@ -102,7 +102,7 @@ pub record IsWrongRecord (files : BlockFiles) (told : Told) (key_len : ℕ) (dam
 
 -- a damage of a chain that is followed: a word that names no record, a wrong record, or a chain that is too long
 abbrev pub IsChainDamage : BlockFiles → Told → List ℕ → Damage → Type 0
-IsChainDamage files told key damage = IsDangling files (bucket_of_key key) damage ⊎ (IsWrongRecord files told (length key) damage ⊎ IsLong files (bucket_of_key key) damage)
+IsChainDamage files told key damage = IsDanglingLink files (bucket_of_key key) damage ⊎ (IsWrongRecord files told (length key) damage ⊎ IsLong files (bucket_of_key key) damage)
 
 -- a damage of a search: too few bytes of the bucket's word, or one of the chain
 abbrev pub IsSearchDamage : BlockFiles → Told → List ℕ → Damage → Type 0
@@ -115,7 +115,7 @@ pub record IsKeyed (w : ℕ) (image : Image) : Type 0 where
   pub fields : RecordFields
   pub here : (store_of image).entry w ≡ Some fields
   pub good : fields.checks ≡ true
-  pub key : HasKey w image
+  pub key : HasReadableKey w image
 
 -- a fault is a damage of the word of a link
 pub record IsLinkDamage (bucket : ℕ) (before : Option ℕ) (found : ℕ) (fault : Fault) : Type 0 where

@@ -12,7 +12,7 @@ ghost use Rattle.blk_disk.specs.Tables.{Agrees, stands_among};
 ghost use Rattle.blk_entry.specs.Keys.{IsHead, IsPlaceDamage};
 ghost use Rattle.blk_chain.specs.Naming.{HasKey};
 ghost use Rattle.blk_chain.specs.Unlinking.{CanBeUnlinked};
-ghost use Rattle.blk_chain.specs.Finding.{CanBeSearched, IsAnswer, IsDangling, IsChainDamage, IsKeyed, IsLinkDamage, IsOnTheWay, IsSearchDamage, IsStep, StandsAt, StandsBefore, bucket_of_key, most_searched, names_record};
+ghost use Rattle.blk_chain.specs.Finding.{CanBeSearched, IsAnswer, IsDanglingLink, IsChainDamage, IsKeyed, IsLinkDamage, IsOnTheWay, IsSearchDamage, IsStep, StandsAt, StandsBefore, bucket_of_key, most_searched, names_record};
 
 use crate::found::Found;
 use blk_addr::{Addr, Kind};
@@ -101,10 +101,10 @@ fn search<F: Folder>(
     front: Link,
 ) -> Result<Option<Found>, Fault>
     requires hash { sought.now.hash ≡ hash_of key.now }
-    requires prefix { prefix.before ≡ None }
+    requires front { front.before ≡ None }
     requires agrees { ForSome (F.told f.old).files (Agrees files.now) }
     requires searchable { ForSome (F.told f.old).files (CanBeSearched key.now) }
-    requires way { ForSome (F.told f.old).files (IsOnTheWay key.now sought.now.child prefix.word None (most_searched + 1)) }
+    requires way { ForSome (F.told f.old).files (IsOnTheWay key.now sought.now.child front.word None (most_searched + 1)) }
     ensures found { IfOk result (λ answer. ForSome (F.told f.old).files (IsAnswer key.now sought.now.child answer)) }
     ensures kind { IfOk result (λ answer. IfSome answer (λ found. kind_of found.entry ≡ blocks_256)) }
     ensures stands { IfOk result (λ answer. IfSome answer (λ found. IsTrue (stands_among files.now found.entry))) }
@@ -209,7 +209,7 @@ fn record_of(files: &BlockFiles, hash: u32, link: &Link) -> Result<Addr, Fault>
     ensures entry { IfOk result (λ entry. entry ≡ link.now.word) }
     ensures stands { IfOk result (λ entry. IsTrue (names_record files.now entry)) }
     ensures right { names_record files.now link.now.word ≡ true → IsOk result }
-    ensures damaged { IfDamaged result (IsDangling files.now (bucket_of_hash hash)) }
+    ensures damaged { IfDamaged result (IsDanglingLink files.now (bucket_of_hash hash)) }
     ensures never { IfDevice result ⊥ }
 {
     match standing_record(files, link.word) {

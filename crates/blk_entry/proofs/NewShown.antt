@@ -47,7 +47,7 @@ stands_here files image w agrees address block_kind st =
     let s : stands_in_blocks image w ≡ true = sym (stands_agree files image w agrees) ∙ st in
     rw (address, t) s
 
-stands_as_kind : (image : Image) (w kind : ℕ) → stands_in image w ≡ true → kind_of w ≡ kind → stands_as image kind w ≡ true
+pub stands_as_kind : (image : Image) (w kind : ℕ) → stands_in image w ≡ true → kind_of w ≡ kind → stands_as image kind w ≡ true
 stands_as_kind image w kind st is = let e : (kind_of w == kind) ≡ true = eq-eqb (kind_of w) kind is in rw (st, e) refl
 
 -- an external file with bytes is there
@@ -180,7 +180,7 @@ module _ (files : BlockFiles) (new : NewEntry) (key : List ℕ) (moment : ℕ) (
 
   shown_here : IsShownNew new key moment image
   unfolding list_of store_of
-  shown_here = record { checks = node_checks_here; next = node_next; named = node_named; fields = core_here; chain_next = follow_here; key_is = key_shown; streams = streams_shown }
+  shown_here = record { checks = node_checks_here; next = node_next; node_fields = node_named; fields = core_here; chain_next = follow_here; key_is = key_shown; streams = streams_shown }
 
   -- a plain entry loads
   key_loads : load_key (store_of image) (unchained_rule normal) new.node new.entry new.dirty (fields_of (new_record new key moment)) ≡ Ok key
@@ -222,7 +222,7 @@ module _ (files : BlockFiles) (new : NewEntry) (key : List ℕ) (moment : ℕ) (
 
   loads_here : new.child ≡ false → load (store_of image) (unchained_rule normal) new.node ≡ Ok (loaded_new new key)
   unfolding load
-  loads_here none = rw (shown_here.named, shown_here.fields) (checked_loads (store_of image) new.node new.entry new.dirty (fields_of (new_record new key moment)) (Ok (loaded_new new key)) (record_is_good new key moment) (record_loads_here none))
+  loads_here none = rw (shown_here.node_fields, shown_here.fields) (checked_loads (store_of image) new.node new.entry new.dirty (fields_of (new_record new key moment)) (Ok (loaded_new new key)) (record_is_good new key moment) (record_loads_here none))
 
 module _ (files : BlockFiles) (new : NewEntry) (key : List ℕ) (moment : ℕ) (fits : FitsKey files new key) (are : AreWords new) (b c : Told) (agrees : ForSome c.files (Agrees files)) (has : ForSome b.files (HasItsLength new.long_key (length key))) (grown : Applies b c (entry_steps new key moment)) (done : ForSome c.files (IsWritten new key moment)) where
   lengths_last : ForSome c.files (HasItsLength new.long_key (length key))

@@ -98,3 +98,7 @@ is_sealed seal bytes = word_at (content bytes) seal == seal_of seal bytes
 -- the steps that seal the record of an address: its seal becomes the hash, by one word, where it isn't that
 unfoldable pub seal_steps : Image → ℕ → List TrailStep
 seal_steps image w = if is_sealed (seal_place w) (record_at image w) then [] else word_step (Block (file_selector w)) (place w + seal_place w) (seal_of (seal_place w) (record_at image w))
+
+-- once the record is the updated one, it checks, and all changes are made
+abbrev pub WholeUpdatesAreMade : Type 0
+WholeUpdatesAreMade = (from image : Image) (w : ℕ) (changes : List (ℕ × ℕ)) → IsUpdated from w changes image → SameOutside (record_range w) from image → (moment : IsMidUpdate from w changes image) × (moment.made ≡ length changes)

@@ -7,7 +7,7 @@ use Rattle.blk_disk.specs.Tables.{Agrees}
 use Rattle.blk_io.proofs.Carried.{carried, if_damaged_weaker, untold_where}
 use Rattle.blk_volume.specs.Chains.{bucket_of_hash}
 use Rattle.blk_entry.specs.Keys.{IsPlaceDamage}
-use Rattle.blk_chain.specs.Finding.{IsDangling, IsChainDamage}
+use Rattle.blk_chain.specs.Finding.{IsDanglingLink, IsChainDamage}
 use Rattle.blk_entry.proofs.KeyPlaces.{clash, damaged_any}
 use Rattle.blk_chain.specs.Naming.{HasKey}
 use Rattle.blk_chain.proofs.Names.{shown-follow}
@@ -54,7 +54,7 @@ returns-clause-step g c image there =
 pub returns-in_err-entry-clause-damaged : goal.returns-in_err-entry-clause-damaged
 returns-in_err-entry-clause-damaged g c =
     carried c.record_of.result c.from_residual.result c.in_err-entry.field-0.0 (IsChainDamage c.args.files.now (g.F.Folder.told c.args.f.now) c.args.key.now) c.in_err-entry.was c.from_residual.ensures.1
-    (if_damaged_weaker c.record_of.result _ _ (λ damage dangling. inl (subst (λ (h : ℕ). IsDangling c.args.files.now (bucket_of_hash h) damage) c.requires.hash dangling)) c.record_of.ensures.damaged)
+    (if_damaged_weaker c.record_of.result _ _ (λ damage dangling. inl (subst (λ (h : ℕ). IsDanglingLink c.args.files.now (bucket_of_hash h) damage) c.requires.hash dangling)) c.record_of.ensures.damaged)
 
 pub returns-in_err-head-clause-damaged : goal.returns-in_err-head-clause-damaged
 returns-in_err-head-clause-damaged g c =

@@ -33,7 +33,7 @@ pub returns-in_err-set_bucket-clause-stops : goal.returns-in_err-set_bucket-clau
 returns-in_err-set_bucket-clause-stops g c = (left_failed g c).stops
 
 pub returns-in_err-set_bucket-clause-commits : goal.returns-in_err-set_bucket-clause-commits
-returns-in_err-set_bucket-clause-commits g c = (left_failed g c).turns
+returns-in_err-set_bucket-clause-commits g c = (left_failed g c).commits
 
 pub returns-in_err-set_bucket-clause-agrees : goal.returns-in_err-set_bucket-clause-agrees
 returns-in_err-set_bucket-clause-agrees g c = (left_failed g c).agrees
@@ -55,7 +55,7 @@ pub returns-clause-stops : goal.returns-clause-stops
 returns-clause-stops g c = (left_done g c).stops
 
 pub returns-clause-commits : goal.returns-clause-commits
-returns-clause-commits g c = (left_done g c).turns
+returns-clause-commits g c = (left_done g c).commits
 
 pub returns-clause-agrees : goal.returns-clause-agrees
 returns-clause-agrees g c = (left_done g c).agrees
