@@ -22,7 +22,7 @@ use Rattle.blk_format.proofs.SealedRecords.{node_seal, node_bytes, moments, upda
 use Rattle.blk_volume.specs.ListView.{ListWrite, Next, Prev, Head, Tail, Transaction, Operation}
 use Rattle.blk_volume.specs.ListPlans.{touch_writes}
 use Rattle.blk_volume.specs.View.{list_of, node_at}
-use Rattle.blk_volume.specs.ListSteps.{AreOf, AreSealed, IsSealed, steps_of, times_of, write_steps}
+use Rattle.blk_volume.specs.ListSteps.{AreOf, AreSealed, IsSealed, KeepsSealed, Seals, steps_of, times_of, touch_steps, write_steps}
 use Rattle.blk_volume.specs.ListImages.{IsWritable, CanBeMade}
 use Rattle.blk_laws.specs.ListWords.{WritesSealTheirNodes, TouchesSealTheirNodes}
 use Rattle.blk_laws.proofs.ListCompletions.{listed}
@@ -115,10 +115,6 @@ module _ (from image : Image) (w u : ℕ) (changes : List (ℕ × ℕ)) (bytes_f
 
 -- Writes.
 
--- nodes that are sealed stay so
-abbrev KeepsSealed : Image → Image → Type 0
-KeepsSealed from image = (u : ℕ) → kind_of u ≡ rankings → IsSealed from u → IsSealed image u
-
 -- after an update a node is sealed, and so are those that were
 record Reseals (from : Image) (w : ℕ) (image : Image) : Type 0 where
   pub sealed : IsSealed image w
@@ -150,11 +146,6 @@ unfolding word_step
 word_keeps from at x bytes_from bytes_image u kind sealed =
     let image : Image = applied (Word Index at (word_bytes x)) from in
     stays_sealed (one_word Index at) from image u bytes_from bytes_image kind (outside_write Index at (word_bytes x) from) (λ i low high. index_apart at u i) sealed
-
--- after writes their nodes are sealed, and so are those that were
-record Seals (from : Image) (writes : List ListWrite) (image : Image) : Type 0 where
-  pub sealed : AreSealed writes image
-  pub keeps : KeepsSealed from image
 
 write_seals : (write : ListWrite) (from : Image) → IsWritable from → CanBeMade from (write ∷ []) → AreBytes (after (write_steps write from) from) → Seals from (write ∷ []) (after (write_steps write from) from)
 unfolding write_steps
@@ -198,18 +189,22 @@ writes_seal (write ∷ writes) from ready can =
     (record { sealed = and_first write writes last (still_sealed from (write ∷ []) between last one.nodes first.sealed rest.keeps) rest.sealed; keeps = λ u kind sealed. rest.keeps u kind (first.keeps u kind sealed) })
 
 pub writes-seal : WritesSealTheirNodes
-writes-seal image writes ready can = (writes_seal writes image ready can).sealed
+writes-seal image writes ready can = writes_seal writes image ready can
 
-pub touches-seal : TouchesSealTheirNodes
-touches-seal image node moment prefix suffix ready rest =
-    let good = (listed node (list_of image) prefix suffix rest.whole).good in
-    let ws : List ListWrite = touch_writes node (list_of image) in
-    let can = touches-can image node prefix suffix rest in
+-- so after writes and the times of a node
+pub touch_seals : (image : Image) (node moment : ℕ) → IsWritable image → (list_of image).checks node ≡ true → (ws : List ListWrite) → CanBeMade image ws
+    → Seals image ws (after (touch_steps node moment ws image) image) × IsSealed (after (touch_steps node moment ws image) image) node
+touch_seals image node moment ready good ws can =
     let i : Image = after (steps_of ws image) image in
     let kind = checked-kind image node good in
     let seal = node_seal node kind in
     let first = writes_seal ws image ready can in
     let all : All (λ c. c.0 + 4 ≤ seal_place node) (times_of moment) = each (λ c. c.0 + 4 ≤ seal_place node) (0, moment % 2 ^ 32) (4, moment / 2 ^ 32) (8, moment % 2 ^ 32) (12, moment / 2 ^ 32) (omega (arith, seal)) (omega (arith, seal)) (omega (arith, seal)) (omega (arith, seal)) in
     let times = reseals i (writable-writes ws image ready) node (still_checks image ready node moment good ws can) (times_of moment) (times_are node moment kind) all in
-    subst (λ (last : Image). AreSealed ws last × IsSealed last node) (sym (after-append (steps_of ws image) (sealed_steps i node (times_of moment)) image))
-    (still_sealed image ws i (after (sealed_steps i node (times_of moment)) i) can.nodes first.sealed times.keeps, times.sealed)
+    let last : Image = after (sealed_steps i node (times_of moment)) i in
+    subst (λ (last : Image). Seals image ws last × IsSealed last node) (sym (after-append (steps_of ws image) (sealed_steps i node (times_of moment)) image))
+    (record { sealed = still_sealed image ws i last can.nodes first.sealed times.keeps; keeps = λ u kind sealed. times.keeps u kind (first.keeps u kind sealed) }, times.sealed)
+
+pub touches-seal : TouchesSealTheirNodes
+touches-seal image node moment prefix suffix ready rest =
+    touch_seals image node moment ready (listed node (list_of image) prefix suffix rest.whole).good (touch_writes node (list_of image)) (touches-can image node prefix suffix rest)

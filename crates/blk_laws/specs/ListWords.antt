@@ -7,7 +7,7 @@ use Rattle.blk_volume.specs.ListView.{ListWrite, CanBeInserted}
 use Rattle.blk_volume.specs.Completion.{insert, remove}
 use Rattle.blk_volume.specs.ListPlans.{writes_of, touch_writes, completion_writes}
 use Rattle.blk_volume.specs.View.{list_of}
-use Rattle.blk_volume.specs.ListSteps.{IsPartly, IsTouched, IsSealed, AreSealed, AreTimes, steps_of}
+use Rattle.blk_volume.specs.ListSteps.{IsPartly, IsTouched, IsSealed, AreTimes, Seals, steps_of}
 use Rattle.blk_volume.specs.ListImages.{IsWritable, CanBeMade, CompletesTo, HasListAtRest, operation_steps, steps_of_touch, completion_steps, CompletesAlike, IsCompleted, stopped_folder, IsStopped}
 use Rattle.blk_volume.specs.ShownChanges.{OnlyListChanges}
 
@@ -25,9 +25,9 @@ WritesAreMade = (image : Image) (writes : List ListWrite) → IsWritable image �
 abbrev pub WritesCanGoOn : Type 0
 WritesCanGoOn = (image : Image) (writes : List ListWrite) → IsWritable image → Along IsWritable image (steps_of writes image)
 
--- in the end each node that is written is sealed
+-- in the end each node that is written is sealed, and so is each that was
 abbrev pub WritesSealTheirNodes : Type 0
-WritesSealTheirNodes = (image : Image) (writes : List ListWrite) → IsWritable image → CanBeMade image writes → AreSealed writes (after (steps_of writes image) image)
+WritesSealTheirNodes = (image : Image) (writes : List ListWrite) → IsWritable image → CanBeMade image writes → Seals image writes (after (steps_of writes image) image)
 
 -- Operations.
 
@@ -83,10 +83,10 @@ TouchesEndAtRest = (image : Image) (node moment : ℕ) (prefix suffix : List ℕ
 abbrev pub TouchesSetTheTimes : Type 0
 TouchesSetTheTimes = (image : Image) (node moment : ℕ) (prefix suffix : List ℕ) → IsWritable image → HasListAtRest (prefix ++ node ∷ suffix) image → moment < 2 ^ 64 → AreTimes node moment (after (steps_of_touch node moment image) image)
 
--- and with seals on the node and on all that its writes are of
+-- and with seals on the node, on all that its writes are of, and on all that had one
 abbrev pub TouchesSealTheirNodes : Type 0
 TouchesSealTheirNodes = (image : Image) (node moment : ℕ) (prefix suffix : List ℕ) → IsWritable image → HasListAtRest (prefix ++ node ∷ suffix) image
-    → AreSealed (touch_writes node (list_of image)) (after (steps_of_touch node moment image) image) × IsSealed (after (steps_of_touch node moment image) image) node
+    → Seals image (touch_writes node (list_of image)) (after (steps_of_touch node moment image) image) × IsSealed (after (steps_of_touch node moment image) image) node
 
 -- Completions, on every list.
 

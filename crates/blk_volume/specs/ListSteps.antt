@@ -3,6 +3,7 @@ use Rattle.std.specs.Prelude.{ℕ, ◌≡◌, ◌≤◌, ◌<◌, ◌^◌, ◌/�
 use Rattle.blk_image.specs.Image.{Index, Image}
 use Rattle.blk_image.specs.Steps.{TrailStep, word_step, after}
 use Rattle.blk_image.specs.Footprint.{Footprint, SameOutside, nothing, one_word, either}
+use Rattle.blk_format.specs.Address.{kind_of, rankings}
 use Rattle.blk_format.specs.Records.{node_is_sealed}
 use Rattle.blk_format.specs.BlockFiles.{IsWellFormed}
 use Rattle.blk_format.specs.Sealed.{sealed_steps, record_range}
@@ -63,6 +64,15 @@ IsSealed image node = node_is_sealed (node_at image node) ≡ true
 -- each node that is written is sealed
 abbrev pub AreSealed : List ListWrite → Image → Type 0
 AreSealed writes image = AreOf (IsSealed image) writes
+
+-- each node that was sealed is so still
+abbrev pub KeepsSealed : Image → Image → Type 0
+KeepsSealed from image = (node : ℕ) → kind_of node ≡ rankings → IsSealed from node → IsSealed image node
+
+-- the nodes that are written are sealed, and so is each that was
+pub record Seals (from : Image) (writes : List ListWrite) (image : Image) : Type 0 where
+  pub sealed : AreSealed writes image
+  pub keeps : KeepsSealed from image
 
 -- both times of a node are a moment
 pub record AreTimes (node moment : ℕ) (image : Image) : Type 0 where
