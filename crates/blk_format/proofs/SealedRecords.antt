@@ -15,7 +15,7 @@ use Rattle.blk_format.specs.Address.{file_selector, kind_of, place, byte_size, b
 use Rattle.blk_format.specs.Hash.{hash}
 use Rattle.blk_format.specs.Records.{checks, seal_of}
 use Rattle.blk_format.proofs.Seals.{sealed-checks, zero-checks}
-use Rattle.blk_format.specs.Sealed.{BeginsWithRecord, size_by_kind, seal_by_kind, record_size, seal_place, record_at, record_range, RecordChecks, placed, update_words, update_steps, new_seal, sealed_steps, IsMidUpdate, IsUpdated}
+use Rattle.blk_format.specs.Sealed.{BeginsWithRecord, size_by_kind, seal_by_kind, record_size, seal_place, record_at, record_range, RecordChecks, placed, update_words, update_steps, new_seal, sealed_steps, IsMidUpdate, IsUpdated, WholeUpdatesAreMade}
 use Rattle.blk_format.proofs.Words.{AreFields-of}
 use Rattle.blk_format.proofs.RecordBytes.{record-step, record-after, take-with_word, take-with_words, take-before_word, with_words-append, same-sealed}
 
@@ -153,6 +153,20 @@ module _ (w : ℕ) where
         (length-with_words changes (with_word s 0 old) ∙ length-with_word s 0 old ∙ length-record from)
         (length-with_words changes old ∙ length-record from)
         (take-with_words s changes (with_word s 0 old) ∙ ap (with_words changes) (take-before_word s 0 old) ∙ sym (take-with_words s changes old))
+
+-- a whole update is one with all changes made
+pub whole_update : WholeUpdatesAreMade
+whole_update from image w changes done outside =
+    let s : ℕ = seal_place w in
+    let made : List ℕ = with_words changes (record_at from w) in
+    let long : s + 4 ≤ length made = (let a = length-with_words changes (record_at from w) in let b = length-record w from in omega (arith, a, b)) in
+    (record {
+      made = length changes;
+      within = omega arith;
+      fields = ap (take s) done ∙ take-before_word s (seal_of s made) made ∙ ap (λ (l : List (ℕ × ℕ)). take s (with_words l (record_at from w))) (sym (take_all (length changes) changes (omega arith)));
+      checks = sealed-checks s made (record_at image w) done long;
+      outside = outside;
+    }, refl)
 
 -- the records of the two types
 pub node_seal : (w : ℕ) → kind_of w ≡ 1 → seal_place w ≡ 32

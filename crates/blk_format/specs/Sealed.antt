@@ -87,3 +87,7 @@ pub record IsMidUpdate (from : Image) (w : ℕ) (changes : List (ℕ × ℕ)) (i
 -- after a sealed update all changes are made, and the seal is the hash
 abbrev pub IsUpdated : Image → ℕ → List (ℕ × ℕ) → Image → Type 0
 IsUpdated from w changes image = record_at image w ≡ sealed (seal_place w) (with_words changes (record_at from w))
+
+-- once the record is the updated one, it checks, and all changes are made
+abbrev pub WholeUpdatesAreMade : Type 0
+WholeUpdatesAreMade = (from image : Image) (w : ℕ) (changes : List (ℕ × ℕ)) → IsUpdated from w changes image → SameOutside (record_range w) from image → (moment : IsMidUpdate from w changes image) × (moment.made ≡ length changes)

@@ -16,7 +16,7 @@ use Rattle.blk_volume.specs.Completion.{insert, remove, counts}
 use Rattle.blk_volume.specs.ListPlans.{writes_of, touch_writes, operation_writes, completion_writes}
 use Rattle.blk_volume.specs.View.{list_of, checks_at, next_at, prev_at}
 use Rattle.blk_format.specs.NewFolder.{new_index_words, new_file_words}
-use Rattle.blk_volume.specs.ListSteps.{IsPartly, IsTouched, IsSealed, Seals, AreTimes}
+use Rattle.blk_volume.specs.ListSteps.{IsPartly, IsTouched, IsSealed, AreSealed, AreTimes}
 use Rattle.blk_volume.specs.ListImages.{IsWritable, CanBeMade, CompletesTo, CompletesAlike, HasListAtRest, IsCompleted, IsStopped, operation_steps, steps_of_touch, completion_steps, stopped_folder}
 use Rattle.blk_volume.specs.ShownChanges.{OnlyListChanges}
 use Rattle.blk_laws.proofs.ExampleWrites.{small-zeros}
@@ -111,7 +111,7 @@ insert-made = writes-made pair (writes_of insert another (list_of pair)) (pair-w
 pub insert-goes_on : Along IsWritable pair (operation_steps insert another pair)
 insert-goes_on = writes-go_on pair (writes_of insert another (list_of pair)) (pair-writable [])
 
-pub insert-seals : Seals pair (writes_of insert another (list_of pair)) (after (operation_steps insert another pair) pair)
+pub insert-seals : AreSealed (writes_of insert another (list_of pair)) (after (operation_steps insert another pair) pair)
 insert-seals = writes-seal pair (writes_of insert another (list_of pair)) (pair-writable []) insert-can
 
 -- the tail is removed
@@ -143,7 +143,7 @@ touch-ends = touches-rest pair last 70 (first ∷ []) [] (pair-writable []) pair
 pub touch-times : AreTimes last 70 (after (steps_of_touch last 70 pair) pair)
 touch-times = touches-times pair last 70 (first ∷ []) [] (pair-writable []) pair-at_rest (omega arith)
 
-pub touch-seals : Seals pair (touch_writes last (list_of pair)) (after (steps_of_touch last 70 pair) pair) × IsSealed (after (steps_of_touch last 70 pair) pair) last
+pub touch-seals : AreSealed (touch_writes last (list_of pair)) (after (steps_of_touch last 70 pair) pair) × IsSealed (after (steps_of_touch last 70 pair) pair) last
 touch-seals = touches-seal pair last 70 (first ∷ []) [] (pair-writable []) pair-at_rest
 
 -- so is the head, which stays where it is

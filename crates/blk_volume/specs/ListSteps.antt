@@ -61,13 +61,13 @@ AreOf P (Operation word ∷ writes) = AreOf P writes
 abbrev pub IsSealed : Image → ℕ → Type 0
 IsSealed image node = node_is_sealed (node_at image node) ≡ true
 
+-- nodes that were sealed are so still
+abbrev pub KeepsSealed : Image → Image → Type 0
+KeepsSealed from image = (node : ℕ) → kind_of node ≡ rankings → IsSealed from node → IsSealed image node
+
 -- each node that is written is sealed
 abbrev pub AreSealed : List ListWrite → Image → Type 0
 AreSealed writes image = AreOf (IsSealed image) writes
-
--- each node that was sealed is so still
-abbrev pub KeepsSealed : Image → Image → Type 0
-KeepsSealed from image = (node : ℕ) → kind_of node ≡ rankings → IsSealed from node → IsSealed image node
 
 -- the nodes that are written are sealed, and so is each that was
 pub record Seals (from : Image) (writes : List ListWrite) (image : Image) : Type 0 where

@@ -7,7 +7,7 @@ use Rattle.blk_volume.specs.ListPlans.{writes_of}
 use Rattle.blk_volume.specs.View.{list_of}
 use Rattle.blk_volume.specs.ListImages.{CanBeMade, HasListAtRest, walked}
 use Rattle.blk_volume.specs.ListSteps.{Seals, steps_of}
-use Rattle.blk_laws.proofs.Sealing.{writes-seal}
+use Rattle.blk_laws.proofs.Sealing.{writes_seal}
 use Rattle.blk_laws.proofs.WriteSteps.{quiet-writes, writes-in_turn}
 use Rattle.blk_laws.proofs.WriteWords.{Each, Good, each_nodes, each_words}
 use Rattle.blk_io.proofs.Carried.{carried}
@@ -92,7 +92,7 @@ returns-clause-sealed g c =
     on_ok_both c.perform.result
     (λ grows can from there.
     let ws : List ListWrite = writes_of 1 c.args.node (list_of from) in
-    all_made (g.F.Folder.told c.args.f.now) (g.F.Folder.told c.perform.new.f) from there (steps_of ws from) (Seals from ws) (grows from there) (writes-seal from ws (ready_writable (ready_here g c from there)) (can from there)))
+    all_made (g.F.Folder.told c.args.f.now) (g.F.Folder.told c.perform.new.f) from there (steps_of ws from) (Seals from ws) (grows from there) (writes_seal ws from (ready_writable (ready_here g c from there)) (can from there)))
     (returns-clause-steps g c) (checked_here g c)
 
 pub returns-clause-stops : goal.returns-clause-stops

@@ -9,7 +9,7 @@ use Rattle.blk_volume.specs.View.{list_of}
 use Rattle.blk_volume.specs.ListPlans.{completion_writes}
 use Rattle.blk_volume.specs.ListSteps.{AreOf, AreWords, Seals}
 use Rattle.blk_volume.specs.ListImages.{IsCompleted, completion_steps}
-use Rattle.blk_laws.proofs.Sealing.{writes-seal}
+use Rattle.blk_laws.proofs.Sealing.{writes_seal}
 use Rattle.blk_laws.proofs.WordStops.{completions-can, completions-done}
 use Rattle.blk_laws.proofs.WriteSteps.{quiet-writes, writes-in_turn}
 use Rattle.blk_disk.specs.Tables.{Agrees}
@@ -67,7 +67,7 @@ pub returns-clause-done : goal.returns-clause-done
 returns-clause-done g c = made g c IsCompleted (λ from ready. completions-done from (ready_writable ready))
 
 pub returns-clause-sealed : goal.returns-clause-sealed
-returns-clause-sealed g c = made g c (λ from. Seals from (completion_writes (list_of from))) (λ from ready. writes-seal from (completion_writes (list_of from)) (ready_writable ready) (completions-can from))
+returns-clause-sealed g c = made g c (λ from. Seals from (completion_writes (list_of from))) (λ from ready. writes_seal (completion_writes (list_of from)) from (ready_writable ready) (completions-can from))
 
 pub returns-clause-stops : goal.returns-clause-stops
 returns-clause-stops g c from there =
