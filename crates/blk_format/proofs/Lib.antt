@@ -4,6 +4,7 @@ pub mod StorageExamples
 pub mod ClaimsExamples
 pub mod HeaderExamples
 pub mod HeaderLemmas
+pub mod Finished
 pub mod Bodies
 pub mod HashExamples
 pub mod RecordLemmas
@@ -19,3 +20,4 @@ pub mod RecordBytes
 pub mod Seals
 pub mod SealedRecords
 pub mod SealedFields
+pub mod Growths

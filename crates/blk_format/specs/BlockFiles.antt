@@ -6,7 +6,7 @@ use Rattle.std.specs.declared.option.Option.{Option}
 use Rattle.blk_image.specs.Image.{Index, Block, External, Image, has_file, length_of, byte}
 use Rattle.blk_image.specs.Checks.{Damage, first_of, check_word, check_length}
 use Rattle.blk_format.specs.Address.{rankings, blocks_256, blocks_1k, blocks_4k, block_size, header_size}
-use Rattle.blk_format.specs.Headers.{block_magic, version, magic_of, version_of, this_file_of, next_file_of, entry_size_of, max_entries_of, head_checks, list_checks}
+use Rattle.blk_format.specs.Headers.{block_magic, version, magic_of, version_of, this_file_of, next_file_of, entry_size_of, max_entries_of, HasWholeIndex, IsUnfinished, head_checks, list_checks}
 use Rattle.blk_format.specs.Standing.{stands, stands_as_blocks}
 
 -- the most files of one type
@@ -129,3 +129,16 @@ first_damage image = first_of (head_checks (byte image Index) (length_of image I
 -- no check fails
 abbrev pub IsWellFormed : Image → Type 0
 IsWellFormed image = first_damage image ≡ None
+
+-- a finished folder of which no check fails
+pub record IsWhole (image : Image) : Type 0 where
+  pub finished : IsUnfinished image → ⊥
+  pub well_formed : IsWellFormed image
+
+-- a well-formed folder is finished, so it is whole: an unfinished index fails the check of its magic or of its length
+abbrev pub WellFormedIsFinished : Type 0
+WellFormedIsFinished = (image : Image) → IsWellFormed image → IsWhole image
+
+-- and its index has all its bytes
+abbrev pub WellFormedHasWholeIndex : Type 0
+WellFormedHasWholeIndex = (image : Image) → IsWellFormed image → HasWholeIndex image

@@ -19,7 +19,7 @@ use Rattle.blk_laws.specs.KeptLaws.{IsDroppedIfLeftOut, SameCandidatesHoldTheSam
 use Rattle.blk_volume.specs.Walk.{walk}
 use Rattle.blk_volume.specs.Found.{found, kept, completed, row_of}
 use Rattle.blk_volume.specs.View.{view_of}
-use Rattle.blk_laws.proofs.Finished.{well_formed-finished}
+use Rattle.blk_format.proofs.Finished.{well_formed-finished}
 use Rattle.std.specs.Prelude.{map}
 use Rattle.blk_volume.specs.Candidates.{sound_key, SameNamed, name_at, is_parent_with, is_parent_at, is_candidate, candidates}
 use Rattle.blk_laws.proofs.Loads.{bind_then, demand_then, IsLoadedNode, load-then}

@@ -29,7 +29,6 @@ pub mod Writing
 pub mod ByteChanges
 pub mod LeavingOut
 pub mod FoundFrames
-pub mod Finished
 pub mod FrameLaw
 pub mod AtRest
 pub mod ChainLinks
@@ -86,3 +85,10 @@ pub mod WordTurns
 pub mod WordStops
 pub mod Sealing
 pub mod ExampleWords
+pub mod NewItems
+pub mod Touches
+pub mod ShortChains
+pub mod Searches
+pub mod Files
+pub mod TidyOrder
+pub mod Charges

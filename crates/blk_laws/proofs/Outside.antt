@@ -54,6 +54,16 @@ all-clear touched l clear = record {
   others = λ i c h. clear c (claim-right (claims_of l.node) (record_claims l) c (claim-right (claims_of l.contents) (flat_map claims_of l.others) c (index-claims l.others i c h)));
 }
 
+-- what is the same outside, and everywhere after that, is the same outside
+pub then-same : (touched : Claim → Bool) (v u s : StoreView) → SameStore touched v u → SameStore (λ c. false) u s → SameStore touched v s
+then-same touched v u s one two = record {
+  node_fields = λ w clear. one.node_fields w clear ∙ two.node_fields w (λ c h. refl);
+  entry = λ w clear. one.entry w clear ∙ two.entry w (λ c h. refl);
+  chain_next = λ w clear. one.chain_next w clear ∙ two.chain_next w (λ c h. refl);
+  key_place = λ w e clear is fits short. one.key_place w e clear is fits short ∙ two.key_place w e (λ c h. refl) (sym (one.entry w clear) ∙ is) fits short;
+  stored = λ size w clear. one.stored size w clear ∙ two.stored size w (λ c h. refl);
+}
+
 -- ---- what loads
 
 module _ (touched : Claim → Bool) (v u : StoreView) (same : SameStore touched v u) where

@@ -3,6 +3,7 @@ use Rattle.std.specs.Prelude.{ℕ, ◌≡◌, ◌≤◌, ◌<◌, ◌^◌, ◌/�
 use Rattle.blk_image.specs.Image.{Index, Image}
 use Rattle.blk_image.specs.Steps.{TrailStep, word_step, after}
 use Rattle.blk_image.specs.Footprint.{Footprint, SameOutside, nothing, one_word, either}
+use Rattle.blk_format.specs.Address.{kind_of, rankings}
 use Rattle.blk_format.specs.Records.{node_is_sealed}
 use Rattle.blk_format.specs.BlockFiles.{IsWellFormed}
 use Rattle.blk_format.specs.Sealed.{sealed_steps, record_range}
@@ -59,6 +60,10 @@ AreOf P (Operation word ∷ writes) = AreOf P writes
 -- a node has the hash as its seal
 abbrev pub IsSealed : Image → ℕ → Type 0
 IsSealed image node = node_is_sealed (node_at image node) ≡ true
+
+-- nodes that were sealed are so still
+abbrev pub KeepsSealed : Image → Image → Type 0
+KeepsSealed from image = (node : ℕ) → kind_of node ≡ rankings → IsSealed from node → IsSealed image node
 
 -- each node that is written is sealed
 abbrev pub AreSealed : List ListWrite → Image → Type 0
