@@ -34,3 +34,4 @@ pub mod Fitted
 pub mod Owned
 pub mod Rebuilt
 pub mod Externals
+pub mod Links
