@@ -1,11 +1,11 @@
 // Files get room for blocks.
 ghost use Rattle.std.specs.Prelude.{◌≡◌, ◌≢◌, ◌*◌, ◌/◌, ◌≤◌, ◌<◌, [], None, length, IfOk, OnOk, OnErr, IsTrue};
 ghost use Rattle.std.specs.Option.{ForSome};
-ghost use Rattle.blk_image.specs.Footprint.{SameOutside, either};
+ghost use Rattle.blk_image.specs.Footprint.{either};
 ghost use Rattle.blk_image.specs.Told.{Passes, Rises};
-ghost use Rattle.blk_format.specs.BlockFiles.{is_among, most_blocks, most_files, IsWellFormed};
+ghost use Rattle.blk_format.specs.BlockFiles.{is_among, most_blocks, most_files};
 ghost use Rattle.blk_format.specs.Address.{external};
-ghost use Rattle.blk_format.specs.Growth.{HaveGrown};
+ghost use Rattle.blk_format.specs.Growth.{StaysWholeOutside};
 ghost use Rattle.blk_addr.specs.Kind.{kind_number};
 ghost use Rattle.blk_format.specs.Maps.{group_size, AreAllocations};
 ghost use Rattle.blk_disk.specs.Tables.{Agrees, blocks_of, files_of};
@@ -45,9 +45,7 @@ pub(crate) fn grow_room<F: Folder>(
     ensures keeps { OnOk result (ForSome (F.told f.old).files (λ from. HasCounters from file → ForSome (F.told f.new).files (KeepsFiles files.old from))) }
     ensures agrees { OnOk result (ForSome (F.told f.new).files (Agrees files.new)) }
     ensures same { OnErr result (files.new ≡ files.old) }
-    ensures outside { ForSome (F.told f.old).files (λ from. Passes (F.told f.old) (F.told f.new) (SameOutside (growth_of file) from)) }
-    ensures grown { ForSome (F.told f.old).files (λ from. Passes (F.told f.old) (F.told f.new) (HaveGrown from)) }
-    ensures formed { ForSome (F.told f.old).files (λ from. IsWellFormed from → Passes (F.told f.old) (F.told f.new) IsWellFormed) }
+    ensures stops { ForSome (F.told f.old).files (λ from. Passes (F.told f.old) (F.told f.new) (StaysWholeOutside (growth_of file) from)) }
     ensures silent { (F.told f.old).files ≡ None → (F.told f.new).files ≡ None }
     ensures later { F.faults f.old ≤ F.faults f.new }
     ensures failed { OnErr result (Rises (F.faults f.old) (F.faults f.new)) }
@@ -81,9 +79,7 @@ pub(crate) fn add_room<F: Folder>(
     ensures markable { IfOk result (λ place. ForSome (F.told f.old).files (λ from. ForSome (F.told f.new).files (λ image. CanBeMarked image place))) }
     ensures keeps { OnOk result (ForSome (F.told f.old).files (λ from. ForSome (F.told f.new).files (KeepsFiles files.old from))) }
     ensures agrees { OnOk result (ForSome (F.told f.new).files (Agrees files.new)) }
-    ensures outside { ForSome (F.told f.old).files (λ from. Passes (F.told f.old) (F.told f.new) (SameOutside (either (addition_of files.old (kind_number kind)) (growth_of (free_number files.old))) from)) }
-    ensures grown { ForSome (F.told f.old).files (λ from. Passes (F.told f.old) (F.told f.new) (HaveGrown from)) }
-    ensures formed { ForSome (F.told f.old).files (λ from. IsWellFormed from → Passes (F.told f.old) (F.told f.new) IsWellFormed) }
+    ensures stops { ForSome (F.told f.old).files (λ from. Passes (F.told f.old) (F.told f.new) (StaysWholeOutside (either (addition_of files.old (kind_number kind)) (growth_of (free_number files.old))) from)) }
     ensures silent { (F.told f.old).files ≡ None → (F.told f.new).files ≡ None }
     ensures later { F.faults f.old ≤ F.faults f.new }
     ensures failed { OnErr result (Rises (F.faults f.old) (F.faults f.new)) }

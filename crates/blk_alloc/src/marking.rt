@@ -1,7 +1,7 @@
 // Blocks of a file are marked as used.
 ghost use Rattle.std.specs.Prelude.{◌≡◌, ◌≢◌, ◌⊎◌, ◌≤◌, ◌<◌, true, None, IfOk, OnOk, IsTrue};
 ghost use Rattle.std.specs.Option.{ForSome};
-ghost use Rattle.blk_image.specs.Told.{PassesTo, Rises, Told};
+ghost use Rattle.blk_image.specs.Told.{PassesTo, Rises};
 ghost use Rattle.blk_format.specs.Address as address;
 ghost use Rattle.blk_format.specs.Address.{external, rankings};
 ghost use Rattle.blk_format.specs.BlockFiles.{is_among};
@@ -60,7 +60,7 @@ pub(crate) fn mark<F: Folder>(
     ensures stops { ForSome (F.told f.old).files (λ from. CanBeMarked from place → PassesTo (F.told f.old) (F.told f.new) (MarksUsedInProgress place.file from) (λ image. MarksUsedInProgress place.file from image ⊎ MarksUsed files.old from (address.block_word (kind_number kind) place.file place.start place.count) image)) }
     ensures silent { (F.told f.old).files ≡ None → (F.told f.new).files ≡ None }
     ensures place { IsPlace files.new (kind_number kind) place.count place }
-    ensures cause { IfDamaged result (λ damage. ((told : Told) → told.files ≡ None → IsCause told place.file place.start place.count true damage) ⊎ IsDangling files.new (kind_number kind) place damage) }
+    ensures cause { IfDamaged result (λ damage. IsCause (F.told f.new) place.file place.start place.count true damage ⊎ IsDangling files.new (kind_number kind) place damage) }
     ensures untold { IfDamaged result (λ _. ForSome (F.told f.old).files (λ image. CanBeMarked image place) → (F.told f.old).files ≡ None) }
     ensures later { F.faults f.old ≤ F.faults f.new }
     ensures device { IfDevice result (Rises (F.faults f.old) (F.faults f.new)) }

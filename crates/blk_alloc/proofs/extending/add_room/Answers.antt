@@ -2,70 +2,25 @@ use Rattle.std.proofs.Common.{ℕ, [], None, sym, ◌∙◌, ap, subst}
 use Rattle.std.specs.Option.{option_map}
 use Rattle.blk_image.specs.Image.{Image}
 use Rattle.blk_image.specs.Steps.{after}
-use Rattle.blk_image.specs.Footprint.{SameOutside, either}
-use Rattle.blk_image.proofs.Footprints.{outside-refl, outside-trans, outside_wider, within_left, within_right}
-use Rattle.blk_image.proofs.Runs.{passes_end, passes_then, passes_weaker}
+use Rattle.blk_image.specs.Footprint.{either}
+use Rattle.blk_image.proofs.Footprints.{outside-refl, within_left}
+use Rattle.blk_image.proofs.Runs.{passes_end, passes_weaker}
 use Rattle.blk_addr.specs.Kind.{kind_number}
 use Rattle.blk_disk.specs.Tables.{Joins}
 use Rattle.blk_disk.specs.Growth.{IsLeastFree, addition_of, free_number, growth_of, add_steps, last_file}
 use Rattle.blk_alloc.specs.Extending.{HasCounters}
 use Rattle.blk_alloc.proofs.Adding.{added_counters, added_file, new_allocations, new_hints, new_among, join_keeps, join_widens, all_kept}
 use Rattle.blk_alloc.proofs.Links.{joined_links, links_then}
+use Rattle.blk_alloc.proofs.Staying.{added_then, whole_wider}
 use Rattle.blk_alloc.proofs.Hints.{grown_hints}
 use Rattle.blk_alloc.proofs.Kept.{join_larger, standing_kept, standing_same}
 use Rattle.blk_alloc.proofs.Members.{member_all}
 use Rattle.blk_io.proofs.Carried.{silent_part}
-use Rattle.blk_format.specs.Growth.{HaveGrown}
-use Rattle.blk_format.proofs.Growths.{grown_then}
-use Rattle.blk_alloc.proofs.Written.{passes_on}
 use Rattle.blk_alloc.proofs.extending.add_room.Goals as goal
 
 -- no files
 no_image : Image
 no_image file = None
-
-pub returns-in_err-file-clause-outside : goal.returns-in_err-file-clause-outside
-returns-in_err-file-clause-outside g c from there =
-    let A = addition_of c.args.files.now (kind_number c.args.kind) in
-    let G = growth_of (free_number c.args.files.now) in
-    let wider : (i : Image) → SameOutside A from i → SameOutside (either A G) from i = λ i same. outside_wider A (either A G) from i (within_left A G) same in
-    passes_weaker (c.in_err-file.ensures.outside from there) wider wider
-
-pub returns-in_err-place-clause-outside : goal.returns-in_err-place-clause-outside
-returns-in_err-place-clause-outside g c from there =
-    let A = addition_of c.args.files.now (kind_number c.args.kind) in
-    let G = growth_of (free_number c.args.files.now) in
-    let wider : (i : Image) → SameOutside A from i → SameOutside (either A G) from i = λ i same. outside_wider A (either A G) from i (within_left A G) same in
-    let first = passes_weaker (c.in_ok-file.ensures.outside from there) wider wider in
-    let now = c.in_ok-file.ensures.steps.files ∙ ap (option_map (after (add_steps c.args.files.now (kind_number c.args.kind)))) there in
-    let mid : Image = after (add_steps c.args.files.now (kind_number c.args.kind)) from in
-    let moved : (i : Image) → SameOutside (growth_of c.in_ok-file.file) mid i → SameOutside (either A G) from i =
-    (λ i same. outside-trans (either A G) from mid i (passes_end first mid now) (outside_wider G (either A G) mid i (within_right A G) (subst (λ (n : ℕ). SameOutside (growth_of n) mid i) c.in_ok-file.ensures.number same))) in
-    passes_then first (passes_weaker (c.in_err-place.ensures.outside mid now) moved moved)
-
-pub returns-clause-outside : goal.returns-clause-outside
-returns-clause-outside g c from there =
-    let A = addition_of c.args.files.now (kind_number c.args.kind) in
-    let G = growth_of (free_number c.args.files.now) in
-    let wider : (i : Image) → SameOutside A from i → SameOutside (either A G) from i = λ i same. outside_wider A (either A G) from i (within_left A G) same in
-    let first = passes_weaker (c.in_ok-file.ensures.outside from there) wider wider in
-    let now = c.in_ok-file.ensures.steps.files ∙ ap (option_map (after (add_steps c.args.files.now (kind_number c.args.kind)))) there in
-    let mid : Image = after (add_steps c.args.files.now (kind_number c.args.kind)) from in
-    let moved : (i : Image) → SameOutside (growth_of c.in_ok-file.file) mid i → SameOutside (either A G) from i =
-    (λ i same. outside-trans (either A G) from mid i (passes_end first mid now) (outside_wider G (either A G) mid i (within_right A G) (subst (λ (n : ℕ). SameOutside (growth_of n) mid i) c.in_ok-file.ensures.number same))) in
-    passes_then first (passes_weaker (c.in_ok-place.ensures.outside mid now) moved moved)
-
-pub returns-in_err-place-clause-formed : goal.returns-in_err-place-clause-formed
-returns-in_err-place-clause-formed g c from there formed =
-    let first = c.in_ok-file.ensures.well_formed from there formed in
-    let now = c.in_ok-file.ensures.steps.files ∙ ap (option_map (after (add_steps c.args.files.now (kind_number c.args.kind)))) there in
-    passes_then first (c.in_err-place.ensures.formed _ now (passes_end first _ now))
-
-pub returns-clause-formed : goal.returns-clause-formed
-returns-clause-formed g c from there formed =
-    let first = c.in_ok-file.ensures.well_formed from there formed in
-    let now = c.in_ok-file.ensures.steps.files ∙ ap (option_map (after (add_steps c.args.files.now (kind_number c.args.kind)))) there in
-    passes_then first (c.in_ok-place.ensures.formed _ now (passes_end first _ now))
 
 pub returns-clause-markable : goal.returns-clause-markable
 returns-clause-markable g c from there image last =
@@ -81,7 +36,7 @@ returns-clause-keeps g c from there image last m among =
     let mid : Image = after (add_steps c.args.files.now kind) from in
     let joins : Joins c.args.files.now c.add_file.new.self kind n 0 8192 = subst (λ (k : ℕ). Joins c.args.files.now c.add_file.new.self kind k 0 8192) c.in_ok-file.ensures.number c.in_ok-file.ensures.kept in
     let least : IsLeastFree c.args.files.now n = subst (IsLeastFree c.args.files.now) c.in_ok-file.ensures.number c.in_ok-file.ensures.least in
-    let same = passes_end (c.in_ok-file.ensures.outside from there) mid now in
+    let same = (passes_end (c.in_ok-file.ensures.stops from there) mid now).outside in
     let first = join_keeps c.args.files.now c.add_file.new.self from mid kind n (last_file c.args.files.now kind) least.free joins same (c.requires.agrees from there) (c.in_ok-file.ensures.agrees mid now) m among in
     let counters : HasCounters mid c.in_ok-file.file = subst (HasCounters mid) (sym c.in_ok-file.ensures.number) (added_counters c.args.files.now from c.args.kind c.requires.block_kind (c.requires.agrees from there) c.requires.room least) in
     let second = c.in_ok-place.ensures.keeps mid now counters image last m (all_kept c.args.files.now c.add_file.new.self from mid kind n (last_file c.args.files.now kind) least.free joins same m among) in
@@ -103,7 +58,7 @@ returns-clause-marks g c from there image last m b among =
     let mid : Image = after (add_steps c.args.files.now kind) from in
     let joins : Joins c.args.files.now c.add_file.new.self kind n 0 8192 = subst (λ (k : ℕ). Joins c.args.files.now c.add_file.new.self kind k 0 8192) c.in_ok-file.ensures.number c.in_ok-file.ensures.kept in
     let least : IsLeastFree c.args.files.now n = subst (IsLeastFree c.args.files.now) c.in_ok-file.ensures.number c.in_ok-file.ensures.least in
-    let same = passes_end (c.in_ok-file.ensures.outside from there) mid now in
+    let same = (passes_end (c.in_ok-file.ensures.stops from there) mid now).outside in
     c.in_ok-place.ensures.marks mid now image last m b (all_kept c.args.files.now c.add_file.new.self from mid kind n (last_file c.args.files.now kind) least.free joins same m among)
     ∙ (join_widens c.args.files.now c.add_file.new.self from mid kind n (last_file c.args.files.now kind) least.free joins same).marks m b among
 
@@ -115,7 +70,7 @@ returns-clause-fresh g c from there image last =
     let mid : Image = after (add_steps c.args.files.now kind) from in
     let joins : Joins c.args.files.now c.add_file.new.self kind n 0 8192 = subst (λ (k : ℕ). Joins c.args.files.now c.add_file.new.self kind k 0 8192) c.in_ok-file.ensures.number c.in_ok-file.ensures.kept in
     let least : IsLeastFree c.args.files.now n = subst (IsLeastFree c.args.files.now) c.in_ok-file.ensures.number c.in_ok-file.ensures.least in
-    let same = passes_end (c.in_ok-file.ensures.outside from there) mid now in
+    let same = (passes_end (c.in_ok-file.ensures.stops from there) mid now).outside in
     let file = added_file c.args.files.now from c.args.kind c.requires.block_kind (c.requires.agrees from there) c.requires.room least in
     let linked = member_all c.add_file.new.self c.args.kind n c.requires.block_kind (new_among c.args.files.now c.add_file.new.self from mid kind n (last_file c.args.files.now kind) least.free joins same) in
     let counters : HasCounters mid c.in_ok-file.file = subst (HasCounters mid) (sym c.in_ok-file.ensures.number) (added_counters c.args.files.now from c.args.kind c.requires.block_kind (c.requires.agrees from there) c.requires.room least) in
@@ -129,19 +84,7 @@ returns-clause-hints g c from there image last =
     let mid : Image = after (add_steps c.args.files.now kind) from in
     let least : IsLeastFree c.args.files.now n = subst (IsLeastFree c.args.files.now) c.in_ok-file.ensures.number c.in_ok-file.ensures.least in
     let file = added_file c.args.files.now from c.args.kind c.requires.block_kind (c.requires.agrees from there) c.requires.room least in
-    grown_hints c.in_ok-file.file n mid image (passes_end (c.in_ok-place.ensures.outside mid now) image last) (new_hints mid kind n file)
-
-pub returns-in_err-place-clause-grown : goal.returns-in_err-place-clause-grown
-returns-in_err-place-clause-grown g c from there =
-    passes_on from there (c.in_ok-file.ensures.grown from there)
-    (λ mid now keeps. let later : (i : Image) → HaveGrown mid i → HaveGrown from i = λ i more. grown_then from mid i keeps more in
-    passes_weaker (c.in_err-place.ensures.grown mid now) later later)
-
-pub returns-clause-grown : goal.returns-clause-grown
-returns-clause-grown g c from there =
-    passes_on from there (c.in_ok-file.ensures.grown from there)
-    (λ mid now keeps. let later : (i : Image) → HaveGrown mid i → HaveGrown from i = λ i more. grown_then from mid i keeps more in
-    passes_weaker (c.in_ok-place.ensures.grown mid now) later later)
+    grown_hints c.in_ok-file.file n mid image (passes_end (c.in_ok-place.ensures.stops mid now) image last).outside (new_hints mid kind n file)
 
 pub returns-in_err-file-clause-silent : goal.returns-in_err-file-clause-silent
 returns-in_err-file-clause-silent g c none = silent_part c.in_err-file.ensures.prefix none
@@ -168,3 +111,15 @@ returns-clause-links g c =
     let n : ℕ = free_number c.args.files.now in
     let joins : Joins c.args.files.now c.add_file.new.self (kind_number c.args.kind) n 0 8192 = subst (λ (k : ℕ). Joins c.args.files.now c.add_file.new.self (kind_number c.args.kind) k 0 8192) c.in_ok-file.ensures.number c.in_ok-file.ensures.kept in
     links_then c.args.files.now c.add_file.new.self c.grow_room.new.files n (joined_links c.args.files.now c.add_file.new.self (kind_number c.args.kind) n 0 8192 joins) c.in_ok-place.ensures.links
+
+pub returns-in_err-file-clause-stops : goal.returns-in_err-file-clause-stops
+returns-in_err-file-clause-stops g c from there =
+    let A = addition_of c.args.files.now (kind_number c.args.kind) in
+    let wider = whole_wider A (either A (growth_of (free_number c.args.files.now))) (within_left A (growth_of (free_number c.args.files.now))) from in
+    passes_weaker (c.in_err-file.ensures.stops from there) wider wider
+
+pub returns-in_err-place-clause-stops : goal.returns-in_err-place-clause-stops
+returns-in_err-place-clause-stops g c = added_then c.args.files.now (kind_number c.args.kind) c.in_ok-file.file c.in_ok-file.ensures.number c.in_ok-file.ensures.stops c.in_err-place.ensures.stops
+
+pub returns-clause-stops : goal.returns-clause-stops
+returns-clause-stops g c = added_then c.args.files.now (kind_number c.args.kind) c.in_ok-file.file c.in_ok-file.ensures.number c.in_ok-file.ensures.stops c.in_ok-place.ensures.stops

@@ -1,6 +1,6 @@
 use Rattle.std.proofs.Common.{◌≡◌, ◌⊎◌, ⊎_elim, inl, inr, Bool, ℕ, ◌+◌, ◌%◌, ◌<◌, ◌≤◌, List, true, false, None, sym, ◌∙◌, ap, subst, arith}
 use Rattle.std.specs.Option.{ForSome}
-use Rattle.blk_image.specs.Told.{Told}
+use Rattle.blk_image.specs.Told.{Stays, Told}
 use Rattle.blk_format.specs.BlockFiles.{is_among}
 use Rattle.blk_addr.specs.Kind.{kind_number}
 use Rattle.blk_image.specs.Image.{Image, Block}
@@ -25,7 +25,7 @@ use Rattle.blk_alloc.proofs.TakenAfter.{counted_after, ready_after, stops_after,
 use Rattle.blk_image.specs.Steps.{after}
 use Rattle.blk_alloc.specs.Owning.{IsCause}
 use Rattle.blk_io.proofs.Carried.{carried, if_damaged_weaker, told_at_end, untold_where}
-use Rattle.blk_alloc.proofs.Causes.{cause_before, none_before}
+use Rattle.blk_alloc.proofs.Causes.{if_damaged_both, none_before}
 use Rattle.blk_alloc.proofs.marking.mark.Goals as goal
 
 pub fit-requires-clause-linked : goal.fit-requires-clause-linked
@@ -113,8 +113,9 @@ returns-clause-keeps g c = standing_kept c.args.files.now c.fit.new.self (fit_la
 pub returns-in_err-change-clause-cause : goal.returns-in_err-change-clause-cause
 returns-in_err-change-clause-cause g c =
     carried c.change.result c.from_residual-in_err-change.result c.in_err-change.field-0.0 _ c.in_err-change.was c.from_residual-in_err-change.ensures.1
-    (if_damaged_weaker c.change.result (IsCause (g.F.Folder.told c.fit.new.f) c.args.place.file c.args.place.start c.args.place.count true) (λ damage. ((told : Told) → told.files ≡ None → IsCause told c.args.place.file c.args.place.start c.args.place.count true damage) ⊎ IsDangling c.fit.new.self (kind_number c.args.kind) c.args.place damage)
-    (λ damage cause. inl (λ told none. cause_before (g.F.Folder.told c.fit.new.f) told c.args.place.file c.args.place.start c.args.place.count true damage none cause)) c.change.ensures.cause)
+    (if_damaged_both c.change.result (IsCause (g.F.Folder.told c.fit.new.f) c.args.place.file c.args.place.start c.args.place.count true) (λ _. Stays (g.F.Folder.told c.fit.new.f) (g.F.Folder.told c.change.new.f))
+    (λ damage. IsCause (g.F.Folder.told c.change.new.f) c.args.place.file c.args.place.start c.args.place.count true damage ⊎ IsDangling c.fit.new.self (kind_number c.args.kind) c.args.place damage)
+    (λ damage cause stays. inl (subst (λ (t : Told). IsCause t c.args.place.file c.args.place.start c.args.place.count true damage) (sym stays) cause)) c.change.ensures.cause c.change.ensures.unwritten)
 
 pub returns-in_err-change-clause-untold : goal.returns-in_err-change-clause-untold
 returns-in_err-change-clause-untold g c =
