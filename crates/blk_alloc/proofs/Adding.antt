@@ -72,7 +72,7 @@ module _ (mid : Image) (kind n : ℕ) (file : mid (Block n) ≡ Some (new_header
   unfolding max_entries_in
   no_blocks = ap (λ (l : List ℕ). max_entries_of (content l)) bytes_new ∙ zero_word kind n 20 (omega arith)
 
-  new_empty : EmptyAgrees mid n
+  pub new_empty : EmptyAgrees mid n
   unfolding EmptyAgrees groups_with
   new_empty i small =
       let none : empty_of (byte mid (Block n)) i ≡ 0 = ap (λ (l : List ℕ). empty_of (content l) i) bytes_new ∙ zero_word kind n (24 + 4 * i) (omega arith) in

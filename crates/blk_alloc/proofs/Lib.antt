@@ -36,3 +36,4 @@ pub mod Rebuilt
 pub mod Links
 pub mod Staying
 pub mod Moments
+pub mod Spared
