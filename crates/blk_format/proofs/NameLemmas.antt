@@ -48,13 +48,13 @@ unfolding digits
 turns-64 turns n is = ap (λ (t : ℕ). digits_onto t 16 false n []) (sym is)
 
 -- a text without `:` is not split
-no_colon : (xs : List ℕ) → AllByRecursion (λ x. (x == colon) ≡ false) xs → split_last xs ≡ None
+pub no_colon : (xs : List ℕ) → AllByRecursion (λ x. (x == colon) ≡ false) xs → split_last xs ≡ None
 unfolding split_last
 no_colon [] h = refl
 no_colon (x ∷ xs) h = rw (no_colon xs h.1, h.0) refl
 
 -- the last `:` splits
-split : (xs ys : List ℕ) → split_last ys ≡ None → split_last (xs ++ colon ∷ ys) ≡ Some (xs, ys)
+pub split : (xs ys : List ℕ) → split_last ys ≡ None → split_last (xs ++ colon ∷ ys) ≡ Some (xs, ys)
 unfolding split_last
 split [] ys none = rw none refl
 split (x ∷ xs) ys none = rw (split xs ys none) refl
@@ -88,7 +88,7 @@ digits-no_colon [] h = tt
 digits-no_colon (d ∷ ds) h = (digit-no_colon d h.0, digits-no_colon ds h.1)
 
 -- the text of a number other than 0
-text-of : (n : ℕ) → n < 2 ^ 64 → 0 < n → hexadecimal n ≡ map (digit_glyph false) (digits_of 16 n)
+pub text-of : (n : ℕ) → n < 2 ^ 64 → 0 < n → hexadecimal n ≡ map (digit_glyph false) (digits_of 16 n)
 text-of n fits some = turns-64 64 n refl ∙ few_digits 64 n [] (let small : n < 16 ^ 64 = omega arith in small) some ∙ append-nil (map (digit_glyph false) (digits_of 16 n))
 
 -- the text of a number says the number
@@ -98,7 +98,7 @@ hex_number-hexadecimal n fits = ⊎_elim
     (λ (some : (n == 0) ≡ false). ap hex_number (text-of n fits (grind (arith, nat_tests))) ∙ ap (number_from_digits 16) (digits-back (digits_of 16 n) (all_below_base_digits_of 16 n (omega arith))) ∙ number_digits_of 16 n (omega arith))
     (cases_Bool (n == 0))
 
-hexadecimal-no_colon : (n : ℕ) → n < 2 ^ 64 → split_last (hexadecimal n) ≡ None
+pub hexadecimal-no_colon : (n : ℕ) → n < 2 ^ 64 → split_last (hexadecimal n) ≡ None
 hexadecimal-no_colon n fits = ⊎_elim
     (λ (none : (n == 0) ≡ true). let is = eqb-true n 0 none in rw is (unfold digits in no_colon (48 ∷ []) (refl, tt)))
     (λ (some : (n == 0) ≡ false). ap split_last (text-of n fits (grind (arith, nat_tests))) ∙ no_colon (map (digit_glyph false) (digits_of 16 n)) (digits-no_colon (digits_of 16 n) (all_below_base_digits_of 16 n (omega arith))))

@@ -189,7 +189,7 @@ module _ (m : State) (y : Layout) (r : IsLayoutOf m y) (v : StoreView) (handle :
 
 -- ---- what is shown
 
-load-table : (v : StoreView) (t : ℕ → ℕ) (rule : Rule) (w : ℕ) (l : Loaded) → rule.chained ≡ false → load v rule w ≡ Ok l → load (record v { table = t }) rule w ≡ Ok l
+pub load-table : (v : StoreView) (t : ℕ → ℕ) (rule : Rule) (w : ℕ) (l : Loaded) → rule.chained ≡ false → load v rule w ≡ Ok l → load (record v { table = t }) rule w ≡ Ok l
 unfolding key_of streams_of stream_of
 load-table v t rule w l free ok = load-then v rule w l ok (λ n e g.
     let r = g.facts in let k = r.keyed in

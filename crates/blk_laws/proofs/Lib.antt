@@ -92,3 +92,6 @@ pub mod Searches
 pub mod Files
 pub mod TidyOrder
 pub mod Charges
+pub mod Kept
+pub mod StoodFor
+pub mod Walked
