@@ -27,7 +27,7 @@ use Rattle.blk_disk.proofs.Joined.{among_kinds, by_kind, last_apart}
 use Rattle.blk_disk.proofs.Additions.{new_header, made_is}
 use Rattle.blk_format.proofs.SpareHeaders.{other_file}
 use Rattle.blk_format.proofs.Among.{is_among_more}
-use Rattle.blk_alloc.specs.Making.{HasCounters, HasNoHints, KeepsFiles}
+use Rattle.blk_alloc.specs.Extending.{HasCounters, HasNoHints, KeepsFiles}
 use Rattle.blk_alloc.proofs.Changing.{byte_beside}
 use Rattle.blk_alloc.proofs.Kept.{apart, join_larger, kinds_kept}
 use Rattle.blk_alloc.proofs.Widening.{Widens, allocations_more, mark_kept}

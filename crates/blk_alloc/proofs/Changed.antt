@@ -1,5 +1,5 @@
 -- What a change of marks leaves.
-use Rattle.std.proofs.Common.{◌≡◌, ◌≢◌, ℕ, zero, suc, ◌+◌, ◌*◌, ◌/◌, ◌%◌, ◌^◌, ◌<◌, ◌≤◌, ◌⊎◌, inl, inr, List, length, Bool, true, false, if◌then◌else◌, sym, ◌∙◌, ap, ap₂, subst, arith, ⊎_elim, Some}
+use Rattle.std.proofs.Common.{◌≡◌, ◌≢◌, ℕ, zero, suc, ◌+◌, ◌*◌, ◌/◌, ◌%◌, ◌^◌, ◌<◌, ◌≤◌, ◌⊎◌, inl, inr, List, length, Bool, false, if◌then◌else◌, sym, ◌∙◌, ap, ap₂, subst, arith, ⊎_elim, Some}
 use Rattle.std.specs.Prelude.{◌==◌, slice_index}
 use Rattle.std.specs.List.{count_by, range_with_len}
 use Rattle.std.specs.Int.{bit_at}
@@ -13,7 +13,7 @@ use Rattle.blk_image.proofs.Words.{word-beside, word-there, length-with_word}
 use Rattle.blk_image.proofs.Footprints.{same_word_outside}
 use Rattle.std.specs.Option.{ForSome}
 use Rattle.blk_image.specs.Told.{Told, Applies, AppliesPrefix, PassesTo, Until}
-use Rattle.blk_image.proofs.Runs.{passes_weaker, passes_part, some_inj, told_whole}
+use Rattle.blk_image.proofs.Runs.{passes_part, some_inj, told_whole}
 use Rattle.blk_image.proofs.WordSteps.{quiet-word_steps}
 use Rattle.blk_format.specs.Headers.{allocations_of, empty_of, updating_of}
 use Rattle.blk_format.specs.Maps.{is_block_marked, longest_run, groups_with, groups_of, EmptyAgrees}
@@ -21,9 +21,8 @@ use Rattle.blk_format.specs.BlockFiles.{max_entries_in, most_blocks}
 use Rattle.blk_addr.specs.Bits.{has_bit, is_between}
 use Rattle.blk_alloc.specs.declared.plan.Plan.{Plan}
 use Rattle.blk_alloc.specs.Counting.{counted}
-use Rattle.blk_alloc.specs.Changes.{map_of, plan_words, with_marks, IsPlan, IsReady, IsMapInProgress, IsChanged}
-use Rattle.blk_alloc.proofs.Groups.{longest_run-same, count-changed, counted_most, one}
-use Rattle.blk_alloc.proofs.Plans.{group_there}
+use Rattle.blk_alloc.specs.Changes.{map_of, plan_words, with_marks, HasBlocks, IsPlan, IsMapInProgress, IsChanged}
+use Rattle.blk_alloc.proofs.Groups.{longest_run-same, count-changed, one}
 use Rattle.blk_alloc.proofs.Changing.{bytes_after, byte_beside, byte_there, ended, ended_is, ended_same, plan_until}
 
 -- blocks that are marked or freed lie in one word of the map
@@ -126,8 +125,8 @@ module _ (plan : Plan) (q : ℕ) (at : plan.at ≡ 80 + 4 * q) (few : q < 2028) 
   pub updating_is : updating_of (content all) ≡ 0
   updating_is = word-there 56 0 b7 (omega arith) (omega (arith, long7))
 
-module _ (from : Image) (n start count : ℕ) (used : Bool) (plan : Plan) (ready : IsReady from n start count used) (some : 0 < count) (group : start % 4 + count ≤ 4) (is : IsPlan from n start count used plan)
-    (fits : plan.counters.allocations < 2 ^ 32) where
+module _ (from : Image) (n start count : ℕ) (used : Bool) (plan : Plan) (long : 8192 ≤ length_of from (Block n)) (inside : start + count ≤ most_blocks) (some : 0 < count) (group : start % 4 + count ≤ 4) (is : IsPlan from n start count used plan)
+    (fits : plan.counters.allocations < 2 ^ 32) (runs_fit : (i : ℕ) → i < 4 → slice_index plan.counters.empty i < 2 ^ 32) where
   abbrev pub f : File
   f = Block n
 
@@ -135,10 +134,10 @@ module _ (from : Image) (n start count : ℕ) (used : Bool) (plan : Plan) (ready
   low = let at = is.at in omega (arith, at)
 
   pub high : plan.at + 4 ≤ 8192
-  high = let at = is.at in let below = ready.below in let most = ready.most in omega (arith, at, below, most, some)
+  high = let at = is.at in omega (arith, at, inside, some)
 
   few : start / 32 < 2028
-  few = let below = ready.below in let most = ready.most in omega (arith, below, most, some)
+  few = omega (arith, inside, some)
 
   abbrev pub image : Image
   image = ended n plan low high from
@@ -154,16 +153,16 @@ module _ (from : Image) (n start count : ℕ) (used : Bool) (plan : Plan) (ready
     where
       here : b / 32 ≡ start / 32 → (bit_at (new (80 + b / 8)) (b % 8) == 1) ≡ with_marks (is_block_marked from n) start count used b
       here e =
-          sym (bit_here plan (start / 32) is.at few (bytes_of from f) ready.header b e) ∙ is.bits (b % 32) (omega arith)
+          sym (bit_here plan (start / 32) is.at few (bytes_of from f) long b e) ∙ is.bits (b % 32) (omega arith)
           ∙ ap (with_marks (is_block_marked from n) start count used) {x = 32 * (start / 32) + b % 32} {y = b} (omega (arith, e))
 
       elsewhere : b / 32 ≢ start / 32 → (bit_at (new (80 + b / 8)) (b % 8) == 1) ≡ with_marks (is_block_marked from n) start count used b
       elsewhere apart =
-          ap (λ (x : ℕ). x == 1) (bit_elsewhere plan (start / 32) is.at few (bytes_of from f) ready.header b apart)
+          ap (λ (x : ℕ). x == 1) (bit_elsewhere plan (start / 32) is.at few (bytes_of from f) long b apart)
           ∙ ap (λ (t : Bool). if t then used else is_block_marked from n b) (sym (outside_word start count b group apart))
 
   same : SameOutside (map_of n) from image
-  same = ended_same n plan low high from ready.header
+  same = ended_same n plan low high from long
 
   -- the number of blocks stays
   blocks_same : max_entries_in image n ≡ max_entries_in from n
@@ -180,54 +179,51 @@ module _ (from : Image) (n start count : ℕ) (used : Bool) (plan : Plan) (ready
   later = longest_run (with_marks (is_block_marked from n) start count used) (start / 4)
 
   later_is : longest_run (is_block_marked image n) (start / 4) ≡ later
-  later_is = longest_run-same (is_block_marked image n) (with_marks (is_block_marked from n) start count used) (start / 4) (start / 4) (λ i small. marks_are (4 * (start / 4) + i) (let below = ready.below in let most = ready.most in omega (arith, below, most, some, group)))
+  later_is = longest_run-same (is_block_marked image n) (with_marks (is_block_marked from n) start count used) (start / 4) (start / 4) (λ i small. marks_are (4 * (start / 4) + i) (omega (arith, inside, some, group)))
 
-  other_group : (g : ℕ) → g < groups → g ≢ start / 4 → longest_run (is_block_marked from n) g ≡ longest_run (is_block_marked image n) g
-  other_group g there apart =
+  other_group : max_entries_in from n ≤ most_blocks → (g : ℕ) → g < groups → g ≢ start / 4 → longest_run (is_block_marked from n) g ≡ longest_run (is_block_marked image n) g
+  other_group most g there apart =
       longest_run-same (is_block_marked from n) (is_block_marked image n) g g
       (λ i small.
       let out : is_between start (start + count) (4 * g + i) ≡ false = grind (arith, nat_tests) in
-      sym (marks_are (4 * g + i) (let most = ready.most in omega (arith, most, there)) ∙ ap (λ (t : Bool). if t then used else is_block_marked from n (4 * g + i)) out))
+      sym (marks_are (4 * g + i) (omega (arith, most, there)) ∙ ap (λ (t : Bool). if t then used else is_block_marked from n (4 * g + i)) out))
 
-  counted_once : (run i : ℕ) → counted run i ≤ 1
-  counted_once run i = by_test (run == i + 1)
-    where
-      by_test : (t : Bool) → one t ≤ 1
-      by_test true = omega arith
-      by_test false = omega arith
+  empty_is : (i : ℕ) → i < 4 → empty_of (byte image f) i ≡ slice_index plan.counters.empty i
+  empty_is i small = ap (λ (l : List ℕ). empty_of (content l) i) bytes_are ∙ empty_are plan (start / 32) is.at few (bytes_of from f) long runs_fit i small
 
-  empty_true : EmptyAgrees image n
+  counts_are : (i : ℕ) → i < 4 → empty_of (byte image f) i + counted before i ≡ empty_of (byte from f) i + counted (longest_run (is_block_marked image n) (start / 4)) i
+  counts_are i small =
+      let now = empty_is i small in
+      let moved = is.empty i small in
+      let last : counted (longest_run (is_block_marked image n) (start / 4)) i ≡ counted later i = ap (λ (r : ℕ). counted r i) later_is in
+      omega (arith, now, moved, last)
+
+  empty_true : HasBlocks from n start count → EmptyAgrees from n → EmptyAgrees image n
   unfolding EmptyAgrees groups_with
-  empty_true i small =
+  empty_true has were i small =
       let p : ℕ → Bool = λ g. longest_run (is_block_marked from n) g == i + 1 in
       let q : ℕ → Bool = λ g. longest_run (is_block_marked image n) g == i + 1 in
+      let whole = has.whole in
+      let below = has.below in
+      let there : start / 4 < groups = omega (arith, whole, below, some) in
       let changed : count_by q (range_with_len 0 groups) + one (p (start / 4)) ≡ count_by p (range_with_len 0 groups) + one (q (start / 4)) =
-      count-changed p q (start / 4) 0 groups (omega arith) (omega (arith, group_there from n start count used ready some)) (λ g low there apart. ap (λ (r : ℕ). r == i + 1) (other_group g (omega (arith, there)) apart)) in
-      let was : empty_of (byte from f) i ≡ count_by p (range_with_len 0 groups) = ready.empty i small in
-      let moved = is.empty i small in
-      let last : one (q (start / 4)) ≡ counted later i = ap (λ (r : ℕ). one (r == i + 1)) later_is in
-      let now : empty_of (byte image f) i ≡ slice_index plan.counters.empty i = ap (λ (l : List ℕ). empty_of (content l) i) bytes_are ∙ empty_are plan (start / 32) is.at few (bytes_of from f) ready.header fitting i small in
-      let total : empty_of (byte image f) i ≡ count_by q (range_with_len 0 groups) = omega (arith, changed, was, moved, last, now) in
+      count-changed p q (start / 4) 0 groups (omega arith) (omega (arith, there)) (λ g low high apart. ap (λ (r : ℕ). r == i + 1) (other_group has.most g (omega (arith, high)) apart)) in
+      let was : empty_of (byte from f) i ≡ count_by p (range_with_len 0 groups) = were i small in
+      let moved = counts_are i small in
+      let total : empty_of (byte image f) i ≡ count_by q (range_with_len 0 groups) = omega (arith, changed, was, moved) in
       total ∙ ap (λ (m : ℕ). count_by q (range_with_len 0 (groups_of m))) (sym blocks_same)
-    where
-      fitting : (i : ℕ) → i < 4 → slice_index plan.counters.empty i < 2 ^ 32
-      fitting i small =
-          let was = ready.empty i small in
-          let most = counted_most (λ g. longest_run (is_block_marked from n) g == i + 1) 0 groups in
-          let moved = is.empty i small in
-          let blocks = ready.most in
-          omega (arith, was, most, moved, blocks, counted_once later i)
 
   pub changed_is : IsChanged from n start count used image
   changed_is = record {
     same = same;
     marks = marks_are;
     allocations =
-        let now : allocations_of (byte image f) ≡ plan.counters.allocations = ap (λ (l : List ℕ). allocations_of (content l)) bytes_are ∙ allocations_are plan (start / 32) is.at few (bytes_of from f) ready.header fits in
+        let now : allocations_of (byte image f) ≡ plan.counters.allocations = ap (λ (l : List ℕ). allocations_of (content l)) bytes_are ∙ allocations_are plan (start / 32) is.at few (bytes_of from f) long fits in
         let counted = is.allocations in
         omega (arith, now, counted);
+    counts = counts_are;
     empty = empty_true;
-    updating = ap (λ (l : List ℕ). updating_of (content l)) bytes_are ∙ updating_is plan (start / 32) is.at few (bytes_of from f) ready.header;
+    updating = ap (λ (l : List ℕ). updating_of (content l)) bytes_are ∙ updating_is plan (start / 32) is.at few (bytes_of from f) long;
   }
 
   -- what a front of the plan's words leaves at each moment
@@ -235,18 +231,10 @@ module _ (from : Image) (n start count : ℕ) (used : Bool) (plan : Plan) (ready
   change_stops {a} {b} there part =
       let Q : Image → Type 0 = λ i. IsMapInProgress n from i ⊎ IsChanged from n start count used i in
       passes_part (IsMapInProgress n from) Q part (quiet-word_steps f (plan_words plan)) (λ i midst. inl midst)
-      (λ i is_. subst (λ (j : Image). Until (IsMapInProgress n from) Q j (word_steps f (plan_words plan))) (some_inj (sym there ∙ is_)) (plan_until n plan low high from Q ready.header (inr changed_is)))
+      (λ i is_. subst (λ (j : Image). Until (IsMapInProgress n from) Q j (word_steps f (plan_words plan))) (some_inj (sym there ∙ is_)) (plan_until n plan low high from Q long (inr changed_is)))
 
   -- all of its words make the change
   pub change_done : {a b : Told} → a.files ≡ Some from → Applies a b (word_steps f (plan_words plan)) → ForSome b.files (IsChanged from n start count used)
   change_done {a} {b} there grows =
       told_whole (IsChanged from n start count used) grows
       (λ i is_. subst (λ (j : Image). IsChanged from n start count used (after (word_steps f (plan_words plan)) j)) (some_inj (sym there ∙ is_)) (subst (IsChanged from n start count used) (sym (ended_is n plan low high from)) changed_is))
-
--- at each moment of the plan only map and counters differ
-pub change_outside : (from : Image) (n : ℕ) (plan : Plan) → 80 ≤ plan.at → plan.at + 4 ≤ 8192 → 8192 ≤ length_of from (Block n) → {a b : Told} → a.files ≡ Some from → AppliesPrefix a b (word_steps (Block n) (plan_words plan)) → PassesTo a b (SameOutside (map_of n) from) (SameOutside (map_of n) from)
-change_outside from n plan low high long {a} {b} there part =
-    passes_weaker
-    (passes_part (IsMapInProgress n from) (SameOutside (map_of n) from) part (quiet-word_steps (Block n) (plan_words plan)) (λ i midst. midst.same)
-    (λ i is. subst (λ (j : Image). Until (IsMapInProgress n from) (SameOutside (map_of n) from) j (word_steps (Block n) (plan_words plan))) (some_inj (sym there ∙ is)) (plan_until n plan low high from (SameOutside (map_of n) from) long (ended_same n plan low high from long))))
-    (λ i midst. midst.same) (λ i same. same)

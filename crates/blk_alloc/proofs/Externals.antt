@@ -15,8 +15,8 @@ use Rattle.blk_disk.specs.Growth.{KeepsBlocks, fit_steps}
 use Rattle.blk_format.proofs.SpareHeaders.{other_file}
 use Rattle.blk_alloc.specs.Changes.{map_of}
 use Rattle.blk_alloc.specs.Owning.{KeepsExternals}
-use Rattle.blk_alloc.specs.Taking.{taking_of}
-use Rattle.blk_alloc.specs.Giving.{added_of, grown_of, MarksFitUsed, AllocatesInProgress, ExtendsInProgressIn}
+use Rattle.blk_alloc.specs.Marking.{taking_of}
+use Rattle.blk_alloc.specs.Allocating.{added_of, grown_of, MarksFitUsed, AllocatesInProgress, ExtendsInProgressIn}
 use Rattle.blk_alloc.proofs.Sparing.{blocks_then, keeps_blocks, map_spares, size_spares}
 use Rattle.blk_alloc.proofs.Taken.{fit_passes}
 use Rattle.blk_alloc.proofs.Written.{passes_on}

@@ -1,21 +1,28 @@
 -- Blocks that are freed.
-use Rattle.std.proofs.Common.{◌≡◌, ◌≢◌, ℕ, ◌+◌, ◌<◌, List, [], ◌∷◌, length, Bool, true, false, ◌&&◌, not, if◌then◌else◌, Option, None, sym, ◌∙◌, ap, ap₂, subst, arith, ⊎_elim}
+use Rattle.std.proofs.Common.{◌≡◌, ◌≢◌, ℕ, ◌+◌, ◌<◌, ◌≤◌, ◌⊎◌, nat_le, refl, List, [], ◌∷◌, length, Bool, true, false, ◌&&◌, not, if◌then◌else◌, Option, None, sym, ◌∙◌, ap, ap₂, subst, arith, ⊎_elim}
 use Rattle.std.specs.Prelude.{◌==◌}
 use Rattle.std.specs.List.{All}
 use Rattle.std.proofs.lemmas.List.Elements.{All-filter}
-use Rattle.std.proofs.lemmas.Bool.{cases_eq}
+use Rattle.std.proofs.lemmas.Bool.{cases_eq, and_parts, leb-true}
 use Rattle.std.proofs.lemmas.Bool.Decides.{nat_tests}
-use Rattle.blk_image.specs.Image.{Image}
-use Rattle.blk_format.specs.Address.{kind_of, external, file_selector, first_block, block_count}
+use Rattle.blk_image.specs.Image.{Image, Block, length_of}
+use Rattle.blk_format.specs.Address.{kind_of, external, file_selector, first_block, block_count, place, byte_size}
 use Rattle.blk_format.specs.Claims.{BlockOf, is_in_file}
-use Rattle.blk_format.specs.BlockFiles.{is_among, stands_in, most_blocks, first_block_damage}
-use Rattle.blk_format.specs.Maps.{is_block_marked, AreAllocations, EmptyAgrees}
+use Rattle.blk_format.specs.BlockFiles.{is_among, kind_among, stands_in, most_blocks, first_block_damage}
+use Rattle.blk_format.specs.Maps.{is_block_marked, AreAllocations}
 use Rattle.blk_addr.specs.Bits.{is_between}
-use Rattle.blk_alloc.specs.Changes.{with_marks, IsReady, IsChanged}
-use Rattle.blk_alloc.specs.Owning.{is_of, others, IsAllocated, IsFreed}
+use Rattle.blk_alloc.specs.Changes.{map_of, with_marks, HasBlocks, IsReady, IsMapInProgress, IsChanged}
+use Rattle.blk_alloc.specs.Owning.{is_of, others, CanBeFreed, FreesInProgress, IsAllocated, IsFreed}
 use Rattle.blk_alloc.proofs.Lists.{IsBlocks, LeavesOut, leaves_out, claims_blocks}
 use Rattle.blk_alloc.proofs.Formed.{HasHead, linked_checked, count_whole, stands_kept, other_kept, file_kept}
 use Rattle.blk_alloc.proofs.Standing.{StandsHere, stands_here, all_among}
+use Rattle.blk_alloc.proofs.Members.{all_head}
+use Rattle.blk_alloc.proofs.Sparing.{formed_spared, grown_spared, map_spares}
+use Rattle.blk_disk.proofs.Ranges.{stands_linked}
+use Rattle.blk_disk.specs.declared.tables.BlockFiles.{BlockFiles}
+use Rattle.blk_disk.specs.Tables.{Agrees, all_files, blocks_of, files_of, length_in, stands_among}
+use Rattle.blk_format.specs.Standing.{is_linked_as, stands_as_blocks}
+use Rattle.blk_image.specs.Footprint.{SameOutside}
 
 some_there : (words : List ℕ) (w : ℕ) → is_among words w ≡ true → 0 < length words
 some_there [] w among = absurd (clash among)
@@ -25,8 +32,9 @@ some_there [] w among = absurd (clash among)
 some_there (x ∷ words) w among = omega arith
 
 -- an allocation may be freed
-pub free_ready : (image : Image) (w : ℕ) → kind_of w ≢ external → first_block_damage image ≡ None → IsAllocated image w → EmptyAgrees image (file_selector w) → IsReady image (file_selector w) (first_block w) (block_count w) false
-free_ready image w block_kind undamaged allocated empty =
+pub free_ready : (image : Image) (w : ℕ) → kind_of w ≢ external → first_block_damage image ≡ None → CanBeFreed image w → IsReady image (file_selector w) (first_block w) (block_count w) false
+free_ready image w block_kind undamaged may =
+    let allocated = may.allocated in
     let here : StandsHere image w = stands_here image w block_kind (all_among (λ x. stands_in image x ≡ true) allocated.words w allocated.are.stand allocated.there) in
     let head : HasHead image (file_selector w) = linked_checked image (kind_of w) (file_selector w) undamaged here.block_kind here.linked in
     let count = count_whole _ head.count in
@@ -35,7 +43,7 @@ free_ready image w block_kind undamaged allocated empty =
       whole = count.0;
       most = count.1;
       below = here.below;
-      empty = empty;
+      empty = may.empty;
       more = λ e. absurd (clash e);
       less = λ e. let some = some_there allocated.words w allocated.there in let counted = allocated.are.counted in omega (arith, some, counted);
     }
@@ -47,7 +55,7 @@ free_ready image w block_kind undamaged allocated empty =
 pub allocated_blocks : (image : Image) (w : ℕ) → kind_of w ≢ external → IsAllocated image w → IsBlocks w
 allocated_blocks image w block_kind allocated = (stands_here image w block_kind (all_among (λ x. stands_in image x ≡ true) allocated.words w allocated.are.stand allocated.there)).blocks
 
-module _ (from image : Image) (w : ℕ) (blocks : IsBlocks w) (changed : IsChanged from (file_selector w) (first_block w) (block_count w) false image) where
+module _ (from image : Image) (w : ℕ) (block_kind : kind_of w ≢ external) (has : HasBlocks from (file_selector w) (first_block w) (block_count w)) (changed : IsChanged from (file_selector w) (first_block w) (block_count w) false image) where
   n : ℕ
   n = file_selector w
 
@@ -69,6 +77,7 @@ module _ (from image : Image) (w : ℕ) (blocks : IsBlocks w) (changed : IsChang
 
   allocations_are : (words : List ℕ) → AreAllocations from (file_selector w) words → is_among words w ≡ true → AreAllocations image (file_selector w) (others w words)
   allocations_are words are among =
+      let blocks : IsBlocks w = allocated_blocks from w block_kind (record { words = words; are = are; there = among }) in
       let left : LeavesOut words w = leaves_out words w blocks among are.apart in
       record {
         stand = All-filter (λ x. not (x == w)) (λ x. stands_in image x ≡ true) words (subst (λ (f : ℕ → Bool). All (λ x. f x ≡ true) words) (sym (stands_kept (file_selector w) from image changed.same)) are.stand);
@@ -90,7 +99,31 @@ module _ (from image : Image) (w : ℕ) (blocks : IsBlocks w) (changed : IsChang
     same = changed.same;
     marks = marks_are;
     allocations = allocations_are;
-    empty = changed.empty;
+    counted = changed.allocations;
+    counts = changed.counts;
+    empty = changed.empty has;
     updating = changed.updating;
     elsewhere = λ m differs. file_kept (file_selector w) from image changed.same m differs;
   }
+
+-- the blocks of an address that stands are among those of its file
+pub standing_blocks : (files : BlockFiles) (image : Image) (w : ℕ) → Agrees files image → stands_among files w ≡ true → HasBlocks image (file_selector w) (first_block w) (block_count w)
+unfolding stands_as_blocks
+standing_blocks files image w agrees stands =
+    let n : ℕ = file_selector w in
+    let among : is_among (all_files files) n ≡ true = stands_linked files w stands in
+    let whole = count_whole _ (all_head files image n agrees among).count in
+    let two = and_parts (is_linked_as (kind_among (files_of files) n) (kind_of w) && nat_le (first_block w + block_count w) (blocks_of files n)) (nat_le (place w + byte_size w) (length_in files n)) stands in
+    let below : first_block w + block_count w ≤ blocks_of files n = leb-true _ _ (and_parts (is_linked_as (kind_among (files_of files) n) (kind_of w)) (nat_le (first_block w + block_count w) (blocks_of files n)) two.0).1 in
+    let same = agrees.blocks n among in
+    record { whole = whole.0; most = whole.1; below = omega (arith, below, same) }
+
+-- a moment while blocks are freed
+pub frees_moment : (from image : Image) (w : ℕ) → SameOutside (map_of (file_selector w)) from image → IsMapInProgress (file_selector w) from image ⊎ IsFreed from w image → FreesInProgress w from image
+frees_moment from image w same marks =
+    let longer : (m : ℕ) → length_of from (Block m) ≤ length_of image (Block m) = (λ m. let e = same.lengths (Block m) refl in omega (arith, e)) in
+    record {
+      marks = marks;
+      grown = grown_spared (map_of (file_selector w)) from image (map_spares (file_selector w)) same longer;
+      formed = formed_spared (map_of (file_selector w)) from image (map_spares (file_selector w)) same longer;
+    }

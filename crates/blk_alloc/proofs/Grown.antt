@@ -17,7 +17,7 @@ use Rattle.blk_disk.specs.Tables.{Agrees, Enlarges, all_files, blocks_of, length
 use Rattle.blk_disk.specs.Growth.{grown, new_groups, grown_length, growth_of, grow_steps, lengthen_steps, raised}
 use Rattle.blk_format.proofs.SpareHeaders.{other_file}
 use Rattle.blk_disk.proofs.Enlarging.{long_room}
-use Rattle.blk_alloc.specs.Making.{HasCounters, KeepsFiles}
+use Rattle.blk_alloc.specs.Extending.{HasCounters, KeepsFiles}
 use Rattle.blk_alloc.specs.Changes.{IsReady}
 use Rattle.blk_alloc.proofs.Changing.{bytes_after}
 use Rattle.blk_alloc.proofs.Formed.{HasHead, count_whole}

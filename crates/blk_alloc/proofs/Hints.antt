@@ -5,8 +5,8 @@ use Rattle.blk_image.specs.Image.{Image, Block, same_file}
 use Rattle.blk_image.specs.Footprint.{Footprint, SameOutside}
 use Rattle.blk_image.proofs.Footprints.{same_word_outside}
 use Rattle.blk_disk.specs.Growth.{growth_of}
-use Rattle.blk_alloc.specs.Making.{HasNoHints}
-use Rattle.blk_alloc.specs.Taking.{taking_of}
+use Rattle.blk_alloc.specs.Extending.{HasNoHints}
+use Rattle.blk_alloc.specs.Marking.{taking_of}
 
 growth_spares : (n f k : ℕ) → 40 ≤ k → k < 56 → (growth_of n).bytes (Block f) k ≡ false
 growth_spares n f k low high = by_test (same_file (Block n) (Block f))

@@ -11,7 +11,7 @@ use Rattle.blk_disk.specs.declared.tables.BlockFiles.{BlockFiles}
 use Rattle.blk_disk.specs.Tables.{Enlarges, Joins, Resizes, files_of, all_files, blocks_of, length_in, stands_among}
 use Rattle.blk_disk.specs.Growth.{grown, grown_length}
 use Rattle.blk_disk.proofs.Ranges.{stands_linked}
-use Rattle.blk_alloc.specs.Making.{KeepsStanding}
+use Rattle.blk_alloc.specs.Extending.{KeepsStanding}
 
 -- each file that was kept has its type, and no fewer blocks and bytes
 pub record IsLarger (old new : BlockFiles) : Type 0 where

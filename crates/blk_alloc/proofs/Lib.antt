@@ -1,4 +1,4 @@
-pub mod Marking
+pub mod MapBits
 pub mod SideBySide
 pub mod Groups
 pub mod Headers

@@ -28,9 +28,9 @@ use Rattle.blk_alloc.specs.declared.blocks.Blocks.{Blocks}
 use Rattle.blk_alloc.specs.Fitting.{HasNoRoom, IsFirstFit, IsPlace}
 use Rattle.blk_alloc.specs.Owning.{is_of}
 use Rattle.blk_alloc.specs.Places.{is_place}
-use Rattle.blk_alloc.specs.Making.{HasCounters, HasMostBlocks, HasNoHints, IsFirstGrowing, KeepsAll}
-use Rattle.blk_alloc.specs.Taking.{CanBeMarked, MarksUsed, taking_of}
-use Rattle.blk_alloc.specs.Giving.{AreCounted, HaveNoRoom, Allocates, Extends, ExtendsInProgressIn, added_of, grown_of}
+use Rattle.blk_alloc.specs.Extending.{HasCounters, HasMostBlocks, HasNoHints, IsFirstGrowing, KeepsAll}
+use Rattle.blk_alloc.specs.Marking.{CanBeMarked, MarksUsed, taking_of}
+use Rattle.blk_alloc.specs.Allocating.{AreCounted, HaveNoRoom, Allocates, Extends, ExtendsInProgressIn, added_of, grown_of}
 use Rattle.blk_alloc.proofs.Formed.{count_whole}
 use Rattle.blk_alloc.proofs.Fullness.{full_counts, many_full}
 use Rattle.blk_alloc.proofs.Hints.{taken_hints}

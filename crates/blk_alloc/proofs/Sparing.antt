@@ -1,15 +1,13 @@
 -- Changes that spare the fields of headers that say what is linked, and all blocks.
 use Rattle.std.proofs.Common.{◌≡◌, ℕ, ◌+◌, ◌-◌, ◌*◌, ◌<◌, ◌≤◌, ◌⊎◌, inl, inr, List, Bool, true, false, ◌&&◌, ◌||◌, nat_le, nat_lt, refl, ◌∙◌, ap, arith}
 use Rattle.std.proofs.lemmas.Bool.Decides.{nat_tests}
-use Rattle.blk_image.specs.Image.{Image, Index, Block, byte, length_of, same_file}
+use Rattle.blk_image.specs.Image.{Image, Index, Block, External, byte, length_of, same_file}
 use Rattle.blk_image.specs.Footprint.{Footprint, SameOutside, size_of}
-use Rattle.blk_format.specs.Address.{file_selector}
 use Rattle.blk_format.specs.BlockFiles.{linked, kind_among, files_along, next_file_in, max_entries_in, is_block_count, IsWellFormed}
-use Rattle.blk_disk.specs.Growth.{KeepsBlocks}
-use Rattle.blk_format.proofs.SpareHeaders.{past_header}
+use Rattle.blk_format.specs.Growth.{HaveGrown}
+use Rattle.blk_image.proofs.Footprints.{same_file_outside}
 use Rattle.blk_format.proofs.Keeping.{KeepsHead, undamaged_still}
 use Rattle.blk_disk.proofs.Enlarging.{well_formed_still}
-use Rattle.blk_disk.proofs.Ranges.{stands_more}
 use Rattle.blk_alloc.specs.Changes.{map_of}
 
 -- of a header only num_entries and what lies behind max_entries is touched, of blocks nothing, and of the index nothing
@@ -18,6 +16,8 @@ pub record SparesFields (F : Footprint) : Type 0 where
   pub blocks : (m i : ℕ) → 8192 ≤ i → F.bytes (Block m) i ≡ false
   pub index : (i : ℕ) → F.bytes Index i ≡ false
   pub index_size : F.sizes Index ≡ false
+  pub externals : (m i : ℕ) → F.bytes (External m) i ≡ false
+  pub external_sizes : (m : ℕ) → F.sizes (External m) ≡ false
 
 pub map_spares : (n : ℕ) → SparesFields (map_of n)
 map_spares n = record {
@@ -25,6 +25,8 @@ map_spares n = record {
   blocks = λ m i past. blocks_of i past (same_file (Block n) (Block m));
   index = λ i. refl;
   index_size = refl;
+  externals = λ m i. refl;
+  external_sizes = λ m. refl;
 }
   where
     fields_of : (i : ℕ) → (i < 16) ⊎ ((20 ≤ i) × (i < 24)) → (t : Bool)
@@ -38,7 +40,7 @@ map_spares n = record {
     blocks_of i past false = refl
 
 pub size_spares : (n : ℕ) → SparesFields (size_of (Block n))
-size_spares n = record { fields = λ m i field. refl; blocks = λ m i past. refl; index = λ i. refl; index_size = refl }
+size_spares n = record { fields = λ m i field. refl; blocks = λ m i past. refl; index = λ i. refl; index_size = refl; externals = λ m i. refl; external_sizes = λ m. refl }
 
 module _ (F : Footprint) (from image : Image) (spares : SparesFields F) (same : SameOutside F from image) (longer : (m : ℕ) → length_of from (Block m) ≤ length_of image (Block m)) where
   kept : (m i : ℕ) → (i < 16) ⊎ ((20 ≤ i) × (i < 24)) → byte image (Block m) i ≡ byte from (Block m) i
@@ -70,22 +72,13 @@ module _ (F : Footprint) (from image : Image) (spares : SparesFields F) (same : 
   pub formed_spared : IsWellFormed from → IsWellFormed image
   formed_spared formed = well_formed_still from image (λ i. same.bytes Index i (spares.index i)) (same.lengths Index spares.index_size) (undamaged_still from image next_spared heads_spared) formed
 
-  -- each block still stands, with its bytes
-  pub keeps_blocks : KeepsBlocks from image
-  keeps_blocks = record {
-    stand = λ w stands.
-        let blocks = blocks_spared (file_selector w) in
-        stands_more from image w (ap (λ (lists : ℕ → List ℕ). kind_among lists (file_selector w)) linked_spared) (omega (arith, blocks)) (longer (file_selector w)) stands;
-    bytes = λ w i stands low high. same.bytes (Block (file_selector w)) i (spares.blocks (file_selector w) i (let past = past_header w in omega (arith, past, low)));
+  -- files have grown at most
+  pub grown_spared : HaveGrown from image
+  grown_spared = record {
+    index = λ i shown. same.bytes Index i (spares.index i);
+    externals = λ m. same_file_outside F from image (External m) same (spares.externals m) (spares.external_sizes m);
+    linked = λ m kind at. ap (λ (lists : ℕ → List ℕ). kind_among lists m) linked_spared ∙ at;
+    bytes = λ m kind i at past below. same.bytes (Block m) i (spares.blocks m i past);
+    longer = λ m kind at. longer m;
+    more = λ m kind at. let blocks = blocks_spared m in omega (arith, blocks);
   }
-
--- no change
-pub blocks_same : (image : Image) → KeepsBlocks image image
-blocks_same image = record { stand = λ w stands. stands; bytes = λ w i stands low high. refl }
-
--- one change after another
-pub blocks_then : (a b c : Image) → KeepsBlocks a b → KeepsBlocks b c → KeepsBlocks a c
-blocks_then a b c one other = record {
-  stand = λ w stands. other.stand w (one.stand w stands);
-  bytes = λ w i stands low high. other.bytes w i (one.stand w stands) low high ∙ one.bytes w i stands low high;
-}

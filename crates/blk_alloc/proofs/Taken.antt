@@ -22,7 +22,7 @@ use Rattle.blk_disk.specs.Tables.{Agrees, files_of, all_files, length_in}
 use Rattle.blk_disk.specs.Growth.{fit_steps, whole_length}
 use Rattle.blk_disk.proofs.Chains.{linked_once}
 use Rattle.blk_alloc.specs.Changes.{map_of, IsReady, IsMapInProgress}
-use Rattle.blk_alloc.specs.Taking.{taking_of, MarksUsedInProgress}
+use Rattle.blk_alloc.specs.Marking.{taking_of, MarksUsedInProgress}
 use Rattle.blk_alloc.proofs.Members.{kind_blocky}
 
 clash : true ≡ false → ⊥

@@ -23,7 +23,7 @@ use Rattle.blk_format.proofs.Keeping.{undamaged_still}
 use Rattle.blk_alloc.specs.declared.blocks.Blocks.{Blocks}
 use Rattle.blk_alloc.specs.Changes.{IsMapInProgress, IsReady, IsChanged}
 use Rattle.blk_alloc.specs.Fitting.{IsPlace}
-use Rattle.blk_alloc.specs.Taking.{CanBeMarked, MarksUsedInProgress, MarksUsed}
+use Rattle.blk_alloc.specs.Marking.{CanBeMarked, MarksUsedInProgress, MarksUsed}
 use Rattle.blk_alloc.proofs.Formed.{formed_kept}
 use Rattle.blk_alloc.proofs.Lists.{IsBlocks}
 use Rattle.blk_alloc.proofs.Members.{kind_blocky, kind_small}

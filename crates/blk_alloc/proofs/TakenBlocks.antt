@@ -26,7 +26,7 @@ use Rattle.blk_disk.specs.Growth.{whole_length, size_as}
 use Rattle.blk_disk.proofs.Ranges.{stands_agree}
 use Rattle.blk_alloc.specs.Changes.{map_of, with_marks, IsChanged}
 use Rattle.blk_alloc.specs.Owning.{is_of}
-use Rattle.blk_alloc.specs.Taking.{taking_of, MarksUsed}
+use Rattle.blk_alloc.specs.Marking.{taking_of, MarksUsed}
 use Rattle.blk_alloc.proofs.Formed.{stands_kept, other_kept, file_kept}
 use Rattle.blk_alloc.proofs.Lists.{IsBlocks, claims_blocks, claims_no_external, one_more_once}
 use Rattle.blk_alloc.proofs.Members.{member_all}

@@ -58,15 +58,23 @@ pub record IsReady (image : Image) (n start count : ℕ) (used : Bool) : Type 0 
   pub more : used ≡ true → allocations_of (byte image (Block n)) < largest
   pub less : used ≡ false → 0 < allocations_of (byte image (Block n))
 
+-- these blocks are among those of a file, which has whole groups, and no more blocks than a map has room for
+pub record HasBlocks (image : Image) (n start count : ℕ) : Type 0 where
+  pub whole : max_entries_in image n % 4 ≡ 0
+  pub most : max_entries_in image n ≤ most_blocks
+  pub below : start + count ≤ max_entries_in image n
+
 -- a moment of a change: only map, counters and updating of the file differ, and where another of its bytes than updating differs, updating is 1
 pub record IsMapInProgress (n : ℕ) (from image : Image) : Type 0 where
   pub same : SameOutside (map_of n) from image
   pub updating : (updating_of (byte image (Block n)) ≡ 1) ⊎ SameOutside (one_word (Block n) updating_place) from image
 
--- the change is done: the blocks have their new marks, all others the old ones, the counters are true, and updating is 0
+-- the change is done: the blocks have their new marks, all others the old ones; num_entries counts one allocation more or less, and `empty` the new longest free run of the group in place of the old one; updating is 0; and counters that were true are true
 pub record IsChanged (from : Image) (n start count : ℕ) (used : Bool) (image : Image) : Type 0 where
   pub same : SameOutside (map_of n) from image
   pub marks : (b : ℕ) → b < most_blocks → is_block_marked image n b ≡ with_marks (is_block_marked from n) start count used b
   pub allocations : IsCounted used (allocations_of (byte from (Block n))) (allocations_of (byte image (Block n)))
-  pub empty : EmptyAgrees image n
+  pub counts : (i : ℕ) → i < 4 → empty_of (byte image (Block n)) i + counted (longest_run (is_block_marked from n) (start / 4)) i
+      ≡ empty_of (byte from (Block n)) i + counted (longest_run (is_block_marked image n) (start / 4)) i
+  pub empty : HasBlocks from n start count → EmptyAgrees from n → EmptyAgrees image n
   pub updating : updating_of (byte image (Block n)) ≡ 0

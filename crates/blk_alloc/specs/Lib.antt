@@ -3,7 +3,7 @@ pub mod Counting
 pub mod Changes
 pub mod Owning
 pub mod Fitting
-pub mod Taking
-pub mod Making
-pub mod Giving
+pub mod Marking
+pub mod Extending
+pub mod Allocating
 pub mod Rebuilding

@@ -2,20 +2,21 @@
 use Rattle.std.specs.Prelude.{◌≡◌, ◌≢◌, ◌⊎◌, ℕ, ◌+◌, ◌*◌, ◌/◌, ◌%◌, ◌<◌, List, filter, Bool, true, false, not, ◌&&◌, ◌==◌, if◌then◌else◌}
 use Rattle.std.specs.Option.{ForSome}
 use Rattle.blk_image.specs.Bytes.{range_at}
-use Rattle.blk_image.specs.Image.{Block, External, Image, byte}
+use Rattle.blk_image.specs.Image.{Block, Image, byte}
 use Rattle.blk_image.specs.Told.{Told}
 use Rattle.blk_image.specs.Footprint.{SameOutside}
 use Rattle.blk_format.specs.Address.{file_selector, first_block, block_count}
-use Rattle.blk_format.specs.Headers.{block_fields_length, updating_of}
-use Rattle.blk_format.specs.BlockFiles.{is_among, most_blocks}
+use Rattle.blk_format.specs.Headers.{allocations_of, block_fields_length, empty_of, updating_of}
+use Rattle.blk_format.specs.BlockFiles.{is_among, most_blocks, IsWellFormed}
+use Rattle.blk_format.specs.Growth.{HaveGrown}
 use Rattle.blk_format.specs.Maps.{is_block_marked, longest_run, map_place, AreAllocations, EmptyAgrees}
 use Rattle.blk_addr.specs.Bits.{has_bit, is_between}
 use Rattle.blk_io.specs.declared.folder.FileId.TheVariants as names
 use Rattle.blk_io.specs.declared.fault.Damage.{Damage}
 use Rattle.blk_io.specs.Faults.{IsShort}
 use Rattle.blk_alloc.specs.declared.counters.Counters.{Counters}
-use Rattle.blk_alloc.specs.Counting.{AreCounters, IsAtEnd}
-use Rattle.blk_alloc.specs.Changes.{map_of, with_marks}
+use Rattle.blk_alloc.specs.Counting.{AreCounters, IsAtEnd, IsCounted, counted as counted_run}
+use Rattle.blk_alloc.specs.Changes.{map_of, with_marks, IsMapInProgress}
 
 -- whether a block of a file is one of an address
 unfoldable pub is_of : ℕ → ℕ → ℕ → Bool
@@ -36,18 +37,28 @@ pub record KeepsFile (from image : Image) (n : ℕ) : Type 0 where
   pub allocations : (words : List ℕ) → AreAllocations from n words → AreAllocations image n words
   pub empty : EmptyAgrees from n → EmptyAgrees image n
 
--- each external file is as before
-abbrev pub KeepsExternals : Image → Image → Type 0
-KeepsExternals from image = (m : ℕ) → image (External m) ≡ from (External m)
+-- an address may be freed: it is one of the allocations of its file, and `empty` agrees with the map
+pub record CanBeFreed (image : Image) (w : ℕ) : Type 0 where
+  pub allocated : IsAllocated image w
+  pub empty : EmptyAgrees image (file_selector w)
 
--- the blocks of an address are freed: their marks are cleared and no other, the counters of its file are true, updating is 0, and all other files are as before
+-- the blocks of an address are freed: their marks are cleared and no other, and the counters of its file go with them, true where they were true; updating is 0, and all other files are as before
 pub record IsFreed (from : Image) (w : ℕ) (image : Image) : Type 0 where
   pub same : SameOutside (map_of (file_selector w)) from image
   pub marks : (n b : ℕ) → b < most_blocks → is_block_marked image n b ≡ (if is_of w n b then false else is_block_marked from n b)
   pub allocations : (words : List ℕ) → AreAllocations from (file_selector w) words → is_among words w ≡ true → AreAllocations image (file_selector w) (others w words)
-  pub empty : EmptyAgrees image (file_selector w)
+  pub counted : IsCounted false (allocations_of (byte from (Block (file_selector w)))) (allocations_of (byte image (Block (file_selector w))))
+  pub counts : (i : ℕ) → i < 4 → empty_of (byte image (Block (file_selector w))) i + counted_run (longest_run (is_block_marked from (file_selector w)) (first_block w / 4)) i
+      ≡ empty_of (byte from (Block (file_selector w))) i + counted_run (longest_run (is_block_marked image (file_selector w)) (first_block w / 4)) i
+  pub empty : EmptyAgrees from (file_selector w) → EmptyAgrees image (file_selector w)
   pub updating : updating_of (byte image (Block (file_selector w))) ≡ 0
   pub elsewhere : (n : ℕ) → n ≢ file_selector w → KeepsFile from image n
+
+-- at each word of a free: only map, counters and updating of the file differ, and updating is 1 from the first to the last; block files have grown at most, so each block still stands with its bytes, and a well-formed folder is well formed
+pub record FreesInProgress (w : ℕ) (from image : Image) : Type 0 where
+  pub marks : IsMapInProgress (file_selector w) from image ⊎ IsFreed from w image
+  pub grown : HaveGrown from image
+  pub formed : IsWellFormed from → IsWellFormed image
 
 -- a counter of a file would leave its range where so many blocks from one on, in one group, come into use or go out of it: by the fields of the header that were read, and the four bytes of the map that have the blocks
 pub record IsCount (told : Told) (n start count : ℕ) (used : Bool) (damage : Damage) : Type 0 where

@@ -2,12 +2,11 @@
 ghost use Rattle.std.specs.Prelude.{◌≡◌, ◌⊎◌, ◌≤◌, ◌<◌, ◌+◌, ◌%◌, ◌^◌, None, OnOk};
 ghost use Rattle.std.specs.Option.{ForSome};
 ghost use Rattle.blk_image.specs.Image.{Block as block, length_of};
-ghost use Rattle.blk_image.specs.Footprint.{SameOutside};
-ghost use Rattle.blk_image.specs.Told.{Passes, PassesTo, Rises};
+ghost use Rattle.blk_image.specs.Told.{PassesTo, Rises, Stays};
 ghost use Rattle.blk_format.specs.BlockFiles.{most_blocks};
 ghost use Rattle.blk_format.specs.Maps.{group_size};
 ghost use Rattle.blk_io.specs.Faults.{IfDamaged, IfDevice};
-ghost use Rattle.blk_alloc.specs.Changes.{map_of, IsReady, IsMapInProgress, IsChanged};
+ghost use Rattle.blk_alloc.specs.Changes.{IsReady, IsMapInProgress, IsChanged};
 ghost use Rattle.blk_alloc.specs.Owning.{IsCause};
 
 use crate::plan::Plan;
@@ -26,11 +25,11 @@ pub(crate) fn change<F: Folder>(
     requires small { start + count < 2 ^ 32 }
     requires header { ForSome (F.told f.old).files (λ image. 8192 ≤ length_of image (block file)) }
     requires inside { ForSome (F.told f.old).files (λ image. start + count ≤ most_blocks) }
-    ensures done { OnOk result (ForSome (F.told f.old).files (λ from. IsReady from file start count used → ForSome (F.told f.new).files (IsChanged from file start count used))) }
-    ensures outside { ForSome (F.told f.old).files (λ from. Passes (F.told f.old) (F.told f.new) (SameOutside (map_of file) from)) }
-    ensures stops { ForSome (F.told f.old).files (λ from. IsReady from file start count used → PassesTo (F.told f.old) (F.told f.new) (IsMapInProgress file from) (λ image. IsMapInProgress file from image ⊎ IsChanged from file start count used image)) }
+    ensures changed { OnOk result (ForSome (F.told f.old).files (λ from. ForSome (F.told f.new).files (IsChanged from file start count used))) }
+    ensures stops { ForSome (F.told f.old).files (λ from. PassesTo (F.told f.old) (F.told f.new) (IsMapInProgress file from) (λ image. IsMapInProgress file from image ⊎ IsChanged from file start count used image)) }
     ensures silent { (F.told f.old).files ≡ None → (F.told f.new).files ≡ None }
     ensures cause { IfDamaged result (IsCause (F.told f.old) file start count used) }
+    ensures unwritten { IfDamaged result (λ _. Stays (F.told f.old) (F.told f.new)) }
     ensures untold { IfDamaged result (λ _. ForSome (F.told f.old).files (λ image. IsReady image file start count used) → (F.told f.old).files ≡ None) }
     ensures later { F.faults f.old ≤ F.faults f.new }
     ensures device { IfDevice result (Rises (F.faults f.old) (F.faults f.new)) }

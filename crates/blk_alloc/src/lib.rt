@@ -8,16 +8,16 @@ mod counters;
 mod finishing;
 mod fitting;
 mod freeing;
-mod giving;
+mod allocating;
 mod layout;
-mod making;
+mod extending;
 mod map;
 mod plan;
 mod rebuilding;
-mod taking;
+mod marking;
 
 pub use freeing::free;
-pub use giving::allocate;
+pub use allocating::allocate;
 pub use rebuilding::rebuild;
 
 #[cfg(test)]

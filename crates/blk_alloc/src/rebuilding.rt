@@ -10,7 +10,7 @@ ghost use Rattle.blk_io.specs.Faults.{IfDamaged, IfDevice};
 ghost use Rattle.blk_disk.specs.Growth.{KeepsBlocks, whole_length};
 ghost use Rattle.blk_disk.specs.Tables.{Agrees, Resizes, all_files, files_of, length_in};
 ghost use Rattle.blk_alloc.specs.Changes.{map_length, map_of};
-ghost use Rattle.blk_alloc.specs.Making.{KeepsStanding};
+ghost use Rattle.blk_alloc.specs.Extending.{KeepsStanding};
 ghost use Rattle.blk_alloc.specs.Rebuilding.{AreFitted, AreItsAllocations, AreMarked, IsInHand, IsRebuilding, IsRebuilt, counts_of, is_block_claimed};
 
 use crate::claimed::{count_runs, mark_claimed};

@@ -7,12 +7,12 @@ use Rattle.std.proofs.lemmas.Bool.{cases_eq, cases_lt}
 use Rattle.std.proofs.lemmas.Bool.Decides.{nat_tests}
 use Rattle.blk_image.specs.Bytes.{word_bytes}
 use Rattle.blk_image.specs.Checks.{first_of}
-use Rattle.blk_image.specs.Image.{Index, Block, Image, byte, length_of, word, same_file}
+use Rattle.blk_image.specs.Image.{Index, Block, External, Image, byte, length_of, word, same_file}
 use Rattle.blk_image.specs.Steps.{TrailStep, Word, SetLength, applied, after, word_step, word_steps}
 use Rattle.blk_image.specs.Told.{Told, Applies, AppliesPrefix, Passes, Along, Until, IsQuiet}
 use Rattle.blk_image.specs.Footprint.{SameOutside, either, one_word, size_of}
 use Rattle.blk_image.proofs.Cuts.{after-append}
-use Rattle.blk_image.proofs.Footprints.{outside-refl, outside-trans, outside_wider, outside_write, outside_longer, same_word_outside, within_left, within_right}
+use Rattle.blk_image.proofs.Footprints.{same_file_outside, outside-refl, outside-trans, outside_wider, outside_write, outside_longer, same_word_outside, within_left, within_right}
 use Rattle.blk_image.proofs.Images.{word-after_same, word-after_other, length-after_set_len, length-after_word}
 use Rattle.blk_image.proofs.Runs.{until-append, until_last, until_weaker2, quiet-append, grows_then, part_then, passes_part, passes_step, some_inj, told_whole}
 use Rattle.blk_image.proofs.WordSteps.{quiet-word_steps}
@@ -22,7 +22,8 @@ use Rattle.blk_format.specs.Headers.{head_checks, list_checks}
 use Rattle.blk_format.specs.BlockFiles.{is_among, linked, kind_among, files_along, next_file_in, max_entries_in, is_block_count, block_checks, first_block_damage, IsWellFormed}
 use Rattle.blk_disk.specs.declared.tables.BlockFiles.{BlockFiles}
 use Rattle.blk_disk.specs.Tables.{Agrees, Enlarges, all_files, blocks_of, files_of, length_in}
-use Rattle.blk_disk.specs.Growth.{KeepsBlocks, grown, grown_length, growth_of, grow_steps, lengthen_steps, new_groups, raise_steps, raised, size_as}
+use Rattle.blk_format.specs.Growth.{HaveGrown}
+use Rattle.blk_disk.specs.Growth.{grown, grown_length, growth_of, grow_steps, lengthen_steps, new_groups, raise_steps, raised, size_as}
 use Rattle.blk_format.proofs.SpareHeaders.{blocks_same, sizes_spare, other_file, past_header}
 use Rattle.blk_disk.proofs.Ranges.{stands_more}
 use Rattle.blk_format.proofs.Keeping.{KeepsHead, none_parts, none_both, undamaged_still}
@@ -109,14 +110,15 @@ module _ (n : ℕ) (from image : Image) (growing : IsGrowing n from image) where
       ⊎_elim (λ same. subst (λ (k : ℕ). max_entries_in from k ≤ max_entries_in image k) (sym same) growing.more)
       (λ differs. let e = other_blocks n from image growing m differs in omega (arith, e)) (cases_eq m n)
 
-  -- each block still stands
-  pub grows_blocks : KeepsBlocks from image
-  grows_blocks = record {
-    stand =
-        λ w stands. let keeps = keeps_heads n from image growing (file_selector w) in
-        stands_more from image w (ap (λ (lists : ℕ → List ℕ). kind_among lists (file_selector w)) linked_still) (more_blocks (file_selector w)) keeps.longer stands;
-    bytes =
-        λ w i stands low high. let same = growing.outside in same.bytes (Block (file_selector w)) i (blocks_spared n (file_selector w) i (let past = past_header w in omega (arith, past, low)));
+  -- the file has grown, and no other has changed
+  pub grows_grown : HaveGrown from image
+  grows_grown = let same = growing.outside in record {
+    index = λ i shown. same.bytes Index i refl;
+    externals = λ m. same_file_outside (growth_of n) from image (External m) same (λ i. refl) refl;
+    linked = λ m kind at. ap (λ (lists : ℕ → List ℕ). kind_among lists m) linked_still ∙ at;
+    bytes = λ m kind i at past below. same.bytes (Block m) i (blocks_spared n m i past);
+    longer = λ m kind at. let keeps = keeps_heads n from image growing m in keeps.longer;
+    more = λ m kind at. more_blocks m;
   }
 
 -- the number of blocks after a growth is one that a file may have
@@ -358,8 +360,8 @@ module _ (files : BlockFiles) (n : ℕ) (a b d : Told) (agrees : ForSome a.files
   pub grow_outside : Part → ForSome a.files (λ from. Passes a d (SameOutside (growth_of n) from))
   grow_outside part from there = passing (SameOutside (growth_of n) from) from (λ image growing. growing.outside) there part
 
-  pub grow_blocks : Part → ForSome a.files (λ from. Passes a d (KeepsBlocks from))
-  grow_blocks part from there = passing (KeepsBlocks from) from (λ image growing. grows_blocks n from image growing) there part
+  pub grow_grown : Part → ForSome a.files (λ from. Passes a d (HaveGrown from))
+  grow_grown part from there = passing (HaveGrown from) from (λ image growing. grows_grown n from image growing) there part
 
   pub grow_formed : Part → ForSome a.files (λ from. IsWellFormed from → Passes a d IsWellFormed)
   grow_formed part from there formed = passing IsWellFormed from (λ image growing. grows_formed n from image growing formed) there part

@@ -8,11 +8,11 @@ use Rattle.std.proofs.lemmas.List.Folds.{list_any_at}
 use Rattle.blk_image.specs.Bytes.{content}
 use Rattle.blk_image.specs.Checks.{first_of}
 use Rattle.blk_image.specs.Footprint.{SameOutside, range, whole}
-use Rattle.blk_image.specs.Image.{Index, Block, Image, byte, bytes_of, length_of, same_file}
+use Rattle.blk_image.specs.Image.{Index, Block, External as external_file, Image, byte, bytes_of, length_of, same_file}
 use Rattle.blk_image.specs.Steps.{Word, applied, after}
 use Rattle.blk_image.specs.Told.{Told, Applies, AppliesPrefix, Passes, Along, Until, IsQuiet}
 use Rattle.blk_image.proofs.Cuts.{after-append}
-use Rattle.blk_image.proofs.Footprints.{outside-trans, outside_wider, outside_write, within_left, within_right}
+use Rattle.blk_image.proofs.Footprints.{same_file_outside, outside-trans, outside_wider, outside_write, within_left, within_right}
 use Rattle.blk_image.proofs.Images.{bytes_of-written, other-word, with_file-same}
 use Rattle.blk_image.proofs.Runs.{passes_part, quiet-append, some_inj, told_whole, until-append, until_last, until_weaker2}
 use Rattle.blk_image.proofs.Splices.{content-spliced_inside}
@@ -24,7 +24,8 @@ use Rattle.blk_addr.specs.declared.kinds.Kind.TheVariants.{External, Rankings, B
 use Rattle.blk_addr.specs.Kind.{kind_number}
 use Rattle.blk_disk.specs.declared.tables.BlockFiles.{BlockFiles}
 use Rattle.blk_disk.specs.Tables.{Agrees, Joins, all_files, blocks_of, files_of, length_in}
-use Rattle.blk_disk.specs.Growth.{IsLeastFree, KeepsBlocks, add_steps, addition_of, free_number, last_file, link_steps, make_steps}
+use Rattle.blk_format.specs.Growth.{HaveGrown}
+use Rattle.blk_disk.specs.Growth.{IsLeastFree, add_steps, addition_of, free_number, last_file, link_steps, make_steps}
 use Rattle.blk_disk.proofs.Additions.{IsNew, header_new, header_size_is, made_is, making_outside, making_quiet, new_header, new_passes, next_is}
 use Rattle.blk_format.proofs.SpareHeaders.{other_file, past_header}
 use Rattle.blk_disk.proofs.Among.{all_files_among}
@@ -163,24 +164,33 @@ module _ (files : BlockFiles) (image : Image) (p : ℕ) (small : p < 4) (agrees 
         along_kept image b (In j) (λ m among. heads m (not_new j m below among)) (suc j) nexts 59 (suc j - 1) (linked_up_to image (suc j - 1)) (linked_up_to b (suc j - 1)) same (λ m among. among)
         (kind_none image agrees.undamaged (suc j) (block_kind j below))
 
+  -- a linked file isn't the new one
+  linked_old : (m kind : ℕ) → linked_as image m ≡ Some kind → m ≢ n
+  unfolding kind_among
+  linked_old m kind at = by_tests (In 0 m) (In 1 m) (In 2 m) (In 3 m) refl refl refl refl at
+    where
+      by_tests : (t u v w : Bool) → In 0 m ≡ t → In 1 m ≡ u → In 2 m ≡ v → In 3 m ≡ w → (if t then Some 1 else if u then Some 2 else if v then Some 3 else if w then Some 4 else None) ≡ Some kind → m ≢ n
+      by_tests true u v w e1 e2 e3 e4 at = not_new 0 m (omega arith) e1
+      by_tests false true v w e1 e2 e3 e4 at = not_new 1 m (omega arith) e2
+      by_tests false false true w e1 e2 e3 e4 at = not_new 2 m (omega arith) e3
+      by_tests false false false true e1 e2 e3 e4 at = not_new 3 m (omega arith) e4
+      by_tests false false false false e1 e2 e3 e4 at = absurd (none_some at)
+        where
+          none_some : None ≡ Some kind → ⊥
+          none_some e = cc
+
   -- an image in which each file but the new one is linked as before, and has its blocks
-  keeps_blocks : (b : Image) → ((j m : ℕ) → j < 4 → m ≢ n → is_among (linked b (suc j)) m ≡ is_among (linked image (suc j)) m) → ((m : ℕ) → m ≢ n → max_entries_in b m ≡ max_entries_in image m) → ((m : ℕ) → m ≢ n → length_of b (Block m) ≡ length_of image (Block m))
-      → ((m : ℕ) → m ≢ n → (i : ℕ) → 12 ≤ i → byte b (Block m) i ≡ byte image (Block m) i) → KeepsBlocks image b
-  keeps_blocks b among blocks lengths bytes = record {
-    stand =
-        λ w stands. let m : ℕ = file_selector w in
-        let differs = standing_old w stands in
-        let more = blocks m differs in
-        let longer = lengths m differs in
-        stands_more image b w (kind_same_of m differs) (omega (arith, more)) (omega (arith, longer)) stands;
-    bytes = λ w i stands low high. bytes (file_selector w) (standing_old w stands) i (let past = past_header w in omega (arith, past, low));
+  grown_others : (b : Image) → ((i : ℕ) → byte b Index i ≡ byte image Index i) → ((m : ℕ) → b (external_file m) ≡ image (external_file m)) → ((j m : ℕ) → j < 4 → m ≢ n → is_among (linked b (suc j)) m ≡ is_among (linked image (suc j)) m) → ((m : ℕ) → m ≢ n → max_entries_in b m ≡ max_entries_in image m) → ((m : ℕ) → m ≢ n → length_of b (Block m) ≡ length_of image (Block m))
+      → ((m : ℕ) → m ≢ n → (i : ℕ) → 12 ≤ i → byte b (Block m) i ≡ byte image (Block m) i) → HaveGrown image b
+  grown_others b index externals among blocks lengths bytes = record {
+    index = λ i shown. index i;
+    externals = externals;
+    linked = λ m kind at. kind_same_of m (linked_old m kind at) ∙ at;
+    bytes = λ m kind i at past below. bytes m (linked_old m kind at) i (omega (arith, past));
+    longer = λ m kind at. let same = lengths m (linked_old m kind at) in omega (arith, same);
+    more = λ m kind at. let same = blocks m (linked_old m kind at) in omega (arith, same);
   }
     where
-      standing_old : (w : ℕ) → stands_in_blocks image w ≡ true → file_selector w ≢ n
-      standing_old w stands same =
-          differ (is_among (all_files files) n)
-          (ap (is_among (all_files files)) (sym same) ∙ stands_linked files w (stands_agree files image w agrees ∙ stands)) least.free
-
       kind_same_of : (m : ℕ) → m ≢ n → linked_as b m ≡ linked_as image m
       kind_same_of m differs = by_lists m (among 0 m (omega arith) differs) (among 1 m (omega arith) differs) (among 2 m (omega arith) differs) (among 3 m (omega arith) differs)
         where
@@ -214,9 +224,9 @@ module _ (files : BlockFiles) (image : Image) (p : ℕ) (small : p < 4) (agrees 
     unfolding max_entries_in
     making_blocks_same m differs = same-word_at (byte b (Block m)) (byte image (Block m)) 20 (making_bytes m differs 20) (making_bytes m differs 21) (making_bytes m differs 22) (making_bytes m differs 23)
 
-    pub making_blocks : KeepsBlocks image b
-    making_blocks =
-        keeps_blocks b (λ j m below differs. ap (λ (l : List ℕ). is_among l m) (chain_same b making_heads j below (making_nexts j below))) making_blocks_same
+    pub making_grown : HaveGrown image b
+    making_grown =
+        grown_others b (λ i. same.bytes Index i refl) (λ m. same_file_outside (whole (Block n)) image b (external_file m) same (λ i. refl) refl) (λ j m below differs. ap (λ (l : List ℕ). is_among l m) (chain_same b making_heads j below (making_nexts j below))) making_blocks_same
         (λ m differs. same.lengths (Block m) (other_file n m differs)) (λ m differs i past. making_bytes m differs i)
 
     pub making_formed : IsWellFormed image → IsWellFormed b
@@ -379,8 +389,8 @@ module _ (files : BlockFiles) (image : Image) (p : ℕ) (small : p < 4) (agrees 
   done_undamaged : first_block_damage done ≡ None
   done_undamaged = all_kinds done (done_kind 0 (omega arith)) (done_kind 1 (omega arith)) (done_kind 2 (omega arith)) (done_kind 3 (omega arith))
 
-  pub done_keeps : KeepsBlocks image done
-  done_keeps = keeps_blocks done (λ j m below differs. among_kind j m below differs) done_blocks done_length (λ m differs i past. done_bytes m differs i (inr past))
+  pub done_grown : HaveGrown image done
+  done_grown = grown_others done (λ i. done_outside.bytes Index i refl) (λ m. same_file_outside (addition_of files (suc p)) image done (external_file m) done_outside (λ i. refl) refl) (λ j m below differs. among_kind j m below differs) done_blocks done_length (λ m differs i past. done_bytes m differs i (inr past))
 
   pub done_formed : IsWellFormed image → IsWellFormed done
   done_formed formed = let same = done_outside in well_formed_still image done (λ i. same.bytes Index i refl) (same.lengths Index refl) (λ none. done_undamaged) formed
@@ -431,14 +441,14 @@ module _ (files : BlockFiles) (image : Image) (p : ℕ) (small : p < 4) (agrees 
 -- an image while a file is added
 pub record IsAdding (files : BlockFiles) (kind : ℕ) (from image : Image) : Type 0 where
   pub outside : SameOutside (addition_of files kind) from image
-  pub blocks : KeepsBlocks from image
+  pub grown : HaveGrown from image
   pub formed : IsWellFormed from → IsWellFormed image
 
 module _ (files : BlockFiles) (image : Image) (p : ℕ) (small : p < 4) (agrees : Agrees files image) (room : length (files_of files (suc p)) < 60) (least : IsLeastFree files (free_number files)) where
   making_adds : (b : Image) → SameOutside (whole (Block (free_number files))) image b → IsAdding files (suc p) image b
   making_adds b same = record {
     outside = outside_wider (whole (Block (free_number files))) (addition_of files (suc p)) image b (within_left (whole (Block (free_number files))) (range (Block (last_file files (suc p))) 10 2)) same;
-    blocks = making_blocks files image p small agrees room least b same;
+    grown = making_grown files image p small agrees room least b same;
     formed = making_formed files image p small agrees room least b same;
   }
 
@@ -447,7 +457,7 @@ module _ (files : BlockFiles) (image : Image) (p : ℕ) (small : p < 4) (agrees 
       until-append (IsAdding files (suc p) image) (IsAdding files (suc p) image) (make_steps (suc p) (free_number files)) (link_steps (last_file files (suc p)) (free_number files)) image
       (until_weaker2 (SameOutside (whole (Block (free_number files))) image) (IsAdding files (suc p) image) (SameOutside (whole (Block (free_number files))) image) (IsAdding files (suc p) image) (make_steps (suc p) (free_number files)) image making_adds making_adds (making_outside (suc p) (free_number files) image)) (
         making_adds (after (make_steps (suc p) (free_number files)) image) (made_same files image p small agrees room least),
-        record { outside = done_outside files image p small agrees room least; blocks = done_keeps files image p small agrees room least; formed = done_formed files image p small agrees room least },
+        record { outside = done_outside files image p small agrees room least; grown = done_grown files image p small agrees room least; formed = done_formed files image p small agrees room least },
       )
 
 pub least_is : (files : BlockFiles) (n : ℕ) → n ≡ free_number files → IsLeastFree files n → IsLeastFree files (free_number files)
@@ -488,8 +498,8 @@ module _ (files : BlockFiles) (k : Kind) (block_kind : kind_number k ≢ 0) (a :
   pub add_outside : {d : Told} → AppliesPrefix a d (add_steps files kind) → ForSome a.files (λ from. Passes a d (SameOutside (addition_of files kind) from))
   add_outside part from there = passing (SameOutside (addition_of files kind) from) from (λ image adding. adding.outside) there part
 
-  pub add_blocks : {d : Told} → AppliesPrefix a d (add_steps files kind) → ForSome a.files (λ from. Passes a d (KeepsBlocks from))
-  add_blocks part from there = passing (KeepsBlocks from) from (λ image adding. adding.blocks) there part
+  pub add_grown : {d : Told} → AppliesPrefix a d (add_steps files kind) → ForSome a.files (λ from. Passes a d (HaveGrown from))
+  add_grown part from there = passing (HaveGrown from) from (λ image adding. adding.grown) there part
 
   pub add_formed : {d : Told} → AppliesPrefix a d (add_steps files kind) → ForSome a.files (λ from. IsWellFormed from → Passes a d IsWellFormed)
   add_formed part from there formed = passing IsWellFormed from (λ image adding. adding.formed formed) there part

@@ -24,11 +24,6 @@ whole_length files n = header_size + blocks_of files n * size_as (kind_among (fi
 abbrev pub fit_steps : BlockFiles → ℕ → List TrailStep
 fit_steps files n = if nat_lt (length_in files n) (whole_length files n) then SetLength (Block n) (whole_length files n) ∷ [] else []
 
--- each block that stood still stands, with the bytes that it had
-pub record KeepsBlocks (from image : Image) : Type 0 where
-  pub stand : (w : ℕ) → stands_in_blocks from w ≡ true → stands_in_blocks image w ≡ true
-  pub bytes : (w i : ℕ) → stands_in_blocks from w ≡ true → place w ≤ i → i < place w + byte_size w → byte image (Block (file_selector w)) i ≡ byte from (Block (file_selector w)) i
-
 -- A file grows.
 
 -- the number of blocks after a growth: 1024 more, but no more than 64896

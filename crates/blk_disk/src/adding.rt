@@ -8,8 +8,9 @@ ghost use Rattle.blk_format.specs.Address.{external, header_size};
 ghost use Rattle.blk_format.specs.BlockFiles.{most_files, IsWellFormed};
 ghost use Rattle.blk_addr.specs.Kind.{kind_number};
 ghost use Rattle.blk_disk.specs.Tables.{Agrees, all_files, files_of, Joins};
+ghost use Rattle.blk_format.specs.Growth.{HaveGrown};
 ghost use Rattle.blk_disk.specs.Growth as growth;
-ghost use Rattle.blk_disk.specs.Growth.{IsLeastFree, KeepsBlocks, add_steps, addition_of, link_steps, make_steps};
+ghost use Rattle.blk_disk.specs.Growth.{IsLeastFree, add_steps, addition_of, link_steps, make_steps};
 
 use crate::heads::block_size;
 use crate::load::first_file;
@@ -39,10 +40,10 @@ impl BlockFiles {
         ensures same { OnErr result (self.new ≡ self.old) }
         ensures agrees { OnOk result (ForSome (F.told f.new).files (Agrees self.new)) }
 
-        // At each word nothing else has changed, each block that stood still stands, and a
+        // At each word nothing else has changed, the files have grown at most, and a
         // well-formed folder is still well formed.
         ensures outside { ForSome (F.told f.old).files (λ from. Passes (F.told f.old) (F.told f.new) (SameOutside (addition_of self.old (kind_number kind)) from)) }
-        ensures blocks { ForSome (F.told f.old).files (λ from. Passes (F.told f.old) (F.told f.new) (KeepsBlocks from)) }
+        ensures grown { ForSome (F.told f.old).files (λ from. Passes (F.told f.old) (F.told f.new) (HaveGrown from)) }
         ensures well_formed { ForSome (F.told f.old).files (λ from. IsWellFormed from → Passes (F.told f.old) (F.told f.new) IsWellFormed) }
 
         ensures later { F.faults f.old ≤ F.faults f.new }

@@ -7,8 +7,9 @@ ghost use Rattle.blk_image.specs.Told.{Applies, AppliesPrefix, Passes, Rises, St
 ghost use Rattle.blk_format.specs.Address.{header_size};
 ghost use Rattle.blk_format.specs.BlockFiles.{is_among, most_blocks, kind_among, IsWellFormed};
 ghost use Rattle.blk_disk.specs.Tables.{Agrees, Enlarges, all_files, blocks_of, files_of, length_in};
+ghost use Rattle.blk_format.specs.Growth.{HaveGrown};
 ghost use Rattle.blk_disk.specs.Growth as growth;
-ghost use Rattle.blk_disk.specs.Growth.{KeepsBlocks, grow_steps, growth_of, lengthen_steps, raise_steps, size_as};
+ghost use Rattle.blk_disk.specs.Growth.{grow_steps, growth_of, lengthen_steps, raise_steps, size_as};
 
 use crate::heads::{GROWTH, block_size};
 use crate::tables::BlockFiles;
@@ -38,10 +39,10 @@ impl BlockFiles {
         ensures same { OnErr result (self.new ≡ self.old) }
         ensures agrees { OnOk result (ForSome (F.told f.new).files (Agrees self.new)) }
 
-        // At each word nothing else has changed, each block that stood still stands, and a
+        // At each word nothing else has changed, the files have grown at most, and a
         // well-formed folder is still well formed.
         ensures outside { ForSome (F.told f.old).files (λ from. Passes (F.told f.old) (F.told f.new) (SameOutside (growth_of file) from)) }
-        ensures blocks { ForSome (F.told f.old).files (λ from. Passes (F.told f.old) (F.told f.new) (KeepsBlocks from)) }
+        ensures grown { ForSome (F.told f.old).files (λ from. Passes (F.told f.old) (F.told f.new) (HaveGrown from)) }
         ensures well_formed { ForSome (F.told f.old).files (λ from. IsWellFormed from → Passes (F.told f.old) (F.told f.new) IsWellFormed) }
 
         ensures silent { (F.told f.old).files ≡ None → (F.told f.new).files ≡ None }

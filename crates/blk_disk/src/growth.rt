@@ -6,8 +6,9 @@ ghost use Rattle.blk_image.specs.Footprint.{SameOutside, size_of};
 ghost use Rattle.blk_image.specs.Told.{Applies, Passes, Rises, Stays};
 ghost use Rattle.blk_format.specs.BlockFiles.{is_among, IsWellFormed};
 ghost use Rattle.blk_disk.specs.Tables.{Agrees, all_files, length_in, Resizes};
+ghost use Rattle.blk_format.specs.Growth.{HaveGrown};
 ghost use Rattle.blk_disk.specs.Growth as growth;
-ghost use Rattle.blk_disk.specs.Growth.{KeepsBlocks, fit_steps};
+ghost use Rattle.blk_disk.specs.Growth.{fit_steps};
 
 use crate::tables::BlockFiles;
 use blk_io::{Failed, FileId, Folder};
@@ -25,10 +26,10 @@ impl BlockFiles {
         ensures same { OnErr result (self.new ≡ self.old) }
         ensures agrees { ForSome (F.told f.new).files (Agrees self.new) }
 
-        // At each word nothing but the length has changed, each block that stood still stands, and a
+        // At each word nothing but the length has changed, the files have grown at most, and a
         // well-formed folder is still well formed.
         ensures outside { ForSome (F.told f.old).files (λ from. Passes (F.told f.old) (F.told f.new) (SameOutside (size_of (block file)) from)) }
-        ensures blocks { ForSome (F.told f.old).files (λ from. Passes (F.told f.old) (F.told f.new) (KeepsBlocks from)) }
+        ensures grown { ForSome (F.told f.old).files (λ from. Passes (F.told f.old) (F.told f.new) (HaveGrown from)) }
         ensures well_formed { ForSome (F.told f.old).files (λ from. IsWellFormed from → Passes (F.told f.old) (F.told f.new) IsWellFormed) }
 
         ensures later { F.faults f.old ≤ F.faults f.new }

@@ -47,7 +47,7 @@ stands_here files image w agrees address block_kind st =
     let s : stands_in_blocks image w ≡ true = sym (stands_agree files image w agrees) ∙ st in
     rw (address, t) s
 
-stands_as_kind : (image : Image) (w kind : ℕ) → stands_in image w ≡ true → kind_of w ≡ kind → stands_as image kind w ≡ true
+pub stands_as_kind : (image : Image) (w kind : ℕ) → stands_in image w ≡ true → kind_of w ≡ kind → stands_as image kind w ≡ true
 stands_as_kind image w kind st is = let e : (kind_of w == kind) ≡ true = eq-eqb (kind_of w) kind is in rw (st, e) refl
 
 -- an external file with bytes is there

@@ -10,6 +10,7 @@ mod marks;
 mod writing;
 
 pub use compare::{key_equals, key_is};
+pub use data::{read_data, write_data};
 pub use fields::field;
 pub use keys::{Head, key_piece, read_head, record_damage};
 pub use laws::new_entries_are_shown_apart;

@@ -20,3 +20,4 @@ pub mod RecordBytes
 pub mod Seals
 pub mod SealedRecords
 pub mod SealedFields
+pub mod Growths

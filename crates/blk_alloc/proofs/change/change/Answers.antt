@@ -1,37 +1,35 @@
 use Rattle.std.proofs.Common.{◌≡◌, ℕ, ◌+◌, ◌*◌, ◌/◌, ◌<◌, ◌≤◌, inl, sym, ◌∙◌, ap, subst, arith}
-use Rattle.blk_image.specs.Footprint.{SameOutside}
-use Rattle.blk_image.proofs.Footprints.{outside-refl}
 use Rattle.blk_image.specs.Told.{Told}
 use Rattle.blk_image.proofs.Runs.{passes_none, passes_stayed, passes_to, part_whole, some_inj}
-use Rattle.blk_alloc.specs.Changes.{IsMapInProgress, map_of}
+use Rattle.blk_alloc.specs.Changes.{IsMapInProgress}
 use Rattle.blk_io.proofs.Carried.{silent_part}
 use Rattle.blk_alloc.proofs.Changing.{midst_begin}
-use Rattle.blk_alloc.proofs.Changed.{change_stops, change_done, change_outside}
+use Rattle.blk_alloc.proofs.Changed.{change_stops, change_done}
 use Rattle.blk_alloc.proofs.change.change.Goals as goal
 
 pub write-requires-clause-header : goal.write-requires-clause-header
 write-requires-clause-header g c image there = c.requires.header image (ap (λ (t : Told). t.files) (sym c.in_ok-plan.ensures.stays) ∙ there)
 
 pub returns-in_err-plan-clause-stops : goal.returns-in_err-plan-clause-stops
-returns-in_err-plan-clause-stops g c from there ready =
+returns-in_err-plan-clause-stops g c from there =
     passes_to (passes_none (IsMapInProgress c.args.file from) c.in_err-plan.ensures.stays (λ image is. subst (IsMapInProgress c.args.file from) (some_inj (sym there ∙ is)) (midst_begin c.args.file from)))
     (λ image midst. inl midst)
 
 pub returns-in_err-write-clause-stops : goal.returns-in_err-write-clause-stops
-returns-in_err-write-clause-stops g c from there ready =
+returns-in_err-write-clause-stops g c from there =
     passes_stayed c.in_ok-plan.ensures.stays
-    (change_stops from c.args.file c.args.start c.args.count c.args.used c.in_ok-plan.plan ready c.requires.some c.requires.group (c.in_ok-plan.ensures.plan from there) c.in_ok-plan.ensures.fits
+    (change_stops from c.args.file c.args.start c.args.count c.args.used c.in_ok-plan.plan (c.requires.header from there) (c.requires.inside from there) c.requires.some c.requires.group (c.in_ok-plan.ensures.plan from there) c.in_ok-plan.ensures.fits c.in_ok-plan.ensures.runs_fit
     (ap (λ (t : Told). t.files) c.in_ok-plan.ensures.stays ∙ there) c.in_err-write.ensures.prefix)
 
-pub returns-clause-done : goal.returns-clause-done
-returns-clause-done g c from there ready =
-    change_done from c.args.file c.args.start c.args.count c.args.used c.in_ok-plan.plan ready c.requires.some c.requires.group (c.in_ok-plan.ensures.plan from there) c.in_ok-plan.ensures.fits
+pub returns-clause-changed : goal.returns-clause-changed
+returns-clause-changed g c from there =
+    change_done from c.args.file c.args.start c.args.count c.args.used c.in_ok-plan.plan (c.requires.header from there) (c.requires.inside from there) c.requires.some c.requires.group (c.in_ok-plan.ensures.plan from there) c.in_ok-plan.ensures.fits c.in_ok-plan.ensures.runs_fit
     (ap (λ (t : Told). t.files) c.in_ok-plan.ensures.stays ∙ there) c.in_ok-write.ensures.steps
 
 pub returns-clause-stops : goal.returns-clause-stops
-returns-clause-stops g c from there ready =
+returns-clause-stops g c from there =
     passes_stayed c.in_ok-plan.ensures.stays
-    (change_stops from c.args.file c.args.start c.args.count c.args.used c.in_ok-plan.plan ready c.requires.some c.requires.group (c.in_ok-plan.ensures.plan from there) c.in_ok-plan.ensures.fits
+    (change_stops from c.args.file c.args.start c.args.count c.args.used c.in_ok-plan.plan (c.requires.header from there) (c.requires.inside from there) c.requires.some c.requires.group (c.in_ok-plan.ensures.plan from there) c.in_ok-plan.ensures.fits c.in_ok-plan.ensures.runs_fit
     (ap (λ (t : Told). t.files) c.in_ok-plan.ensures.stays ∙ there) (part_whole c.in_ok-write.ensures.steps))
 
 at_inside : (at start count : ℕ) → at ≡ 80 + 4 * (start / 32) → 0 < count → start + count ≤ 64896 → at + 4 ≤ 8192
@@ -41,27 +39,6 @@ pub write-requires-clause-inside : goal.write-requires-clause-inside
 write-requires-clause-inside g c image there =
     let from = ap (λ (t : Told). t.files) (sym c.in_ok-plan.ensures.stays) ∙ there in
     at_inside c.in_ok-plan.plan.at c.args.start c.args.count (c.in_ok-plan.ensures.plan image from).at c.requires.some (c.requires.inside image from)
-
-low_place : (at start : ℕ) → at ≡ 80 + 4 * (start / 32) → 80 ≤ at
-low_place at start is = omega (arith, is)
-
-pub returns-in_err-plan-clause-outside : goal.returns-in_err-plan-clause-outside
-returns-in_err-plan-clause-outside g c from there =
-    passes_none (SameOutside (map_of c.args.file) from) c.in_err-plan.ensures.stays (λ image is. subst (SameOutside (map_of c.args.file) from) (some_inj (sym there ∙ is)) (outside-refl (map_of c.args.file) from))
-
-pub returns-in_err-write-clause-outside : goal.returns-in_err-write-clause-outside
-returns-in_err-write-clause-outside g c from there =
-    let is = (c.in_ok-plan.ensures.plan from there).at in
-    passes_stayed c.in_ok-plan.ensures.stays
-    (change_outside from c.args.file c.in_ok-plan.plan (low_place c.in_ok-plan.plan.at c.args.start is) (at_inside c.in_ok-plan.plan.at c.args.start c.args.count is c.requires.some (c.requires.inside from there)) (c.requires.header from there)
-    (ap (λ (t : Told). t.files) c.in_ok-plan.ensures.stays ∙ there) c.in_err-write.ensures.prefix)
-
-pub returns-clause-outside : goal.returns-clause-outside
-returns-clause-outside g c from there =
-    let is = (c.in_ok-plan.ensures.plan from there).at in
-    passes_stayed c.in_ok-plan.ensures.stays
-    (change_outside from c.args.file c.in_ok-plan.plan (low_place c.in_ok-plan.plan.at c.args.start is) (at_inside c.in_ok-plan.plan.at c.args.start c.args.count is c.requires.some (c.requires.inside from there)) (c.requires.header from there)
-    (ap (λ (t : Told). t.files) c.in_ok-plan.ensures.stays ∙ there) (part_whole c.in_ok-write.ensures.steps))
 
 pub returns-in_err-write-clause-silent : goal.returns-in_err-write-clause-silent
 returns-in_err-write-clause-silent g c none = silent_part c.in_err-write.ensures.prefix (ap (λ (t : Told). t.files) c.in_ok-plan.ensures.stays ∙ none)

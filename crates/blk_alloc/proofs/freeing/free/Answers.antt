@@ -1,23 +1,21 @@
 use Rattle.std.proofs.Common.{◌≡◌, ◌⊎◌, ◌+◌, ◌≤◌, inl, inr, ℕ, false, None, sym, subst, arith, ⊎_elim}
 use Rattle.std.proofs.lemmas.Result.{on_ok_weaker}
-use Rattle.blk_image.specs.Image.{Image}
+use Rattle.blk_image.specs.Image.{Image, Block, length_of}
 use Rattle.blk_image.specs.Told.{PassesTo}
-use Rattle.blk_image.proofs.Runs.{passes_to, passes_weaker, passes_end}
+use Rattle.blk_image.proofs.Runs.{passes_weaker, passes_end}
 use Rattle.blk_format.specs.Address.{file_selector, first_block, block_count}
-use Rattle.blk_format.specs.BlockFiles.{IsWellFormed}
-use Rattle.blk_disk.specs.Growth.{KeepsBlocks}
 use Rattle.blk_disk.specs.Tables.{Agrees}
-use Rattle.blk_disk.proofs.Ranges.{stands_blocky}
+use Rattle.blk_disk.proofs.Ranges.{stands_blocky, stands_linked}
 use Rattle.blk_alloc.specs.Changes.{IsMapInProgress, IsReady, IsChanged, map_of}
 use Rattle.std.specs.Option.{ForSome}
 use Rattle.blk_image.specs.Footprint.{SameOutside}
-use Rattle.blk_format.specs.BlockFiles.{max_entries_in}
+use Rattle.blk_format.specs.BlockFiles.{max_entries_in, most_blocks}
 use Rattle.blk_io.specs.Faults.{IfDamaged}
-use Rattle.blk_alloc.specs.Owning.{IsCause}
+use Rattle.blk_alloc.specs.Owning.{FreesInProgress, IsCause}
 use Rattle.blk_io.proofs.Carried.{if_damaged_weaker, told_at_end}
-use Rattle.blk_alloc.proofs.Formed.{formed_kept, agrees_kept}
-use Rattle.blk_alloc.proofs.Freed.{free_ready, freed_is, allocated_blocks}
-use Rattle.blk_alloc.proofs.Externals.{map_blocks}
+use Rattle.blk_alloc.proofs.Formed.{agrees_kept}
+use Rattle.blk_alloc.proofs.Freed.{free_ready, frees_moment, freed_is, standing_blocks}
+use Rattle.blk_alloc.proofs.Members.{all_head}
 use Rattle.blk_alloc.proofs.freeing.free.Goals as goal
 
 pub blocks_of-blocks-requires : goal.blocks_of-blocks-requires
@@ -38,58 +36,49 @@ fits_most s k max below most = omega (arith, below, most)
 pub change-requires-clause-header : goal.change-requires-clause-header
 change-requires-clause-header g c image there =
     let b = c.blocks_of-blocks in
-    (moved (λ n s k. IsReady image n s k false) c.args.addr b.result.file b.result.start b.result.count b.ensures.file b.ensures.start b.ensures.count
-    (free_ready image c.args.addr (stands_blocky c.args.files.now c.args.addr c.requires.stands) (c.requires.agrees image there).undamaged (c.requires.allocated image there) (c.requires.empty image there))).header
+    moved (λ n s k. 8192 ≤ length_of image (Block n)) c.args.addr b.result.file b.result.start b.result.count b.ensures.file b.ensures.start b.ensures.count
+    (all_head c.args.files.now image (file_selector c.args.addr) (c.requires.agrees image there) (stands_linked c.args.files.now c.args.addr c.requires.stands)).header
 
 pub change-requires-clause-inside : goal.change-requires-clause-inside
 change-requires-clause-inside g c image there =
     let b = c.blocks_of-blocks in
-    let ready : IsReady image b.result.file b.result.start b.result.count false =
-    (moved (λ n s k. IsReady image n s k false) c.args.addr b.result.file b.result.start b.result.count b.ensures.file b.ensures.start b.ensures.count
-    (free_ready image c.args.addr (stands_blocky c.args.files.now c.args.addr c.requires.stands) (c.requires.agrees image there).undamaged (c.requires.allocated image there) (c.requires.empty image there))) in
-    fits_most b.result.start b.result.count (max_entries_in image b.result.file) ready.below ready.most
+    let has = standing_blocks c.args.files.now image c.args.addr (c.requires.agrees image there) c.requires.stands in
+    moved (λ n s k. s + k ≤ most_blocks) c.args.addr b.result.file b.result.start b.result.count b.ensures.file b.ensures.start b.ensures.count
+    (fits_most (first_block c.args.addr) (block_count c.args.addr) (max_entries_in image (file_selector c.args.addr)) has.below has.most)
 
 pub returns-clause-freed : goal.returns-clause-freed
 returns-clause-freed g c =
     let b = c.blocks_of-blocks in
     on_ok_weaker c.change.result
-    (λ done from there image now. freed_is from image c.args.addr (allocated_blocks from c.args.addr (stands_blocky c.args.files.now c.args.addr c.requires.stands) (c.requires.allocated from there))
-    (back (λ n s k. IsChanged from n s k false image) c.args.addr b.result.file b.result.start b.result.count b.ensures.file b.ensures.start b.ensures.count (done from there (moved (λ n s k. IsReady from n s k false) c.args.addr b.result.file b.result.start b.result.count b.ensures.file b.ensures.start b.ensures.count
-    (free_ready from c.args.addr (stands_blocky c.args.files.now c.args.addr c.requires.stands) (c.requires.agrees from there).undamaged (c.requires.allocated from there) (c.requires.empty from there))) image now)))
-    c.change.ensures.done
+    (λ changed from there image now. freed_is from image c.args.addr (stands_blocky c.args.files.now c.args.addr c.requires.stands) (standing_blocks c.args.files.now from c.args.addr (c.requires.agrees from there) c.requires.stands)
+    (back (λ n s k. IsChanged from n s k false image) c.args.addr b.result.file b.result.start b.result.count b.ensures.file b.ensures.start b.ensures.count (changed from there image now)))
+    c.change.ensures.changed
 
 pub returns-clause-stops : goal.returns-clause-stops
 returns-clause-stops g c from there =
     let b = c.blocks_of-blocks in
-    let stops : PassesTo (g.F.Folder.told c.args.f.now) (g.F.Folder.told c.change.new.f) (IsMapInProgress (file_selector c.args.addr) from) (λ image. IsMapInProgress (file_selector c.args.addr) from image ⊎ IsChanged from (file_selector c.args.addr) (first_block c.args.addr) (block_count c.args.addr) false image) =
-    back (λ n s k. PassesTo (g.F.Folder.told c.args.f.now) (g.F.Folder.told c.change.new.f) (IsMapInProgress n from) (λ image. IsMapInProgress n from image ⊎ IsChanged from n s k false image)) c.args.addr b.result.file b.result.start b.result.count b.ensures.file b.ensures.start b.ensures.count (c.change.ensures.stops from there (moved (λ n s k. IsReady from n s k false) c.args.addr b.result.file b.result.start b.result.count b.ensures.file b.ensures.start b.ensures.count
-    (free_ready from c.args.addr (stands_blocky c.args.files.now c.args.addr c.requires.stands) (c.requires.agrees from there).undamaged (c.requires.allocated from there) (c.requires.empty from there)))) in
-    passes_to stops (λ image. ⊎_elim (λ midst. inl midst) (λ changed. inr (freed_is from image c.args.addr (allocated_blocks from c.args.addr (stands_blocky c.args.files.now c.args.addr c.requires.stands) (c.requires.allocated from there)) changed)))
-
-pub returns-clause-formed : goal.returns-clause-formed
-returns-clause-formed g c from there formed =
-    let keeps : (image : Image) → SameOutside (map_of c.blocks_of-blocks.result.file) from image → IsWellFormed image = λ image same. formed_kept c.blocks_of-blocks.result.file from image same formed in
-    passes_weaker (c.change.ensures.outside from there) keeps keeps
+    let w = c.args.addr in
+    let stops : PassesTo (g.F.Folder.told c.args.f.now) (g.F.Folder.told c.change.new.f) (IsMapInProgress (file_selector w) from) (λ image. IsMapInProgress (file_selector w) from image ⊎ IsChanged from (file_selector w) (first_block w) (block_count w) false image) =
+    back (λ n s k. PassesTo (g.F.Folder.told c.args.f.now) (g.F.Folder.told c.change.new.f) (IsMapInProgress n from) (λ image. IsMapInProgress n from image ⊎ IsChanged from n s k false image)) w b.result.file b.result.start b.result.count b.ensures.file b.ensures.start b.ensures.count (c.change.ensures.stops from there) in
+    let midst : (image : Image) → IsMapInProgress (file_selector w) from image → FreesInProgress w from image = λ image is. frees_moment from image w is.same (inl is) in
+    let last : (image : Image) → IsChanged from (file_selector w) (first_block w) (block_count w) false image → FreesInProgress w from image = λ image is. frees_moment from image w is.same (inr (freed_is from image w (stands_blocky c.args.files.now w c.requires.stands) (standing_blocks c.args.files.now from w (c.requires.agrees from there) c.requires.stands) is)) in
+    passes_weaker stops midst (λ image. ⊎_elim (midst image) (last image))
 
 pub returns-clause-agrees : goal.returns-clause-agrees
 returns-clause-agrees g c =
+    let b = c.blocks_of-blocks in
     told_at_end (g.F.Folder.told c.args.f.now).files (g.F.Folder.told c.change.new.f).files (Agrees c.args.files.now) c.change.ensures.silent
-    (λ from there. let keeps : (i : Image) → SameOutside (map_of c.blocks_of-blocks.result.file) from i → Agrees c.args.files.now i = λ i same. agrees_kept c.blocks_of-blocks.result.file from i same c.args.files.now (c.requires.agrees from there) in
-    passes_end (passes_weaker (c.change.ensures.outside from there) keeps keeps))
+    (λ from there. let keeps : (i : Image) → SameOutside (map_of b.result.file) from i → Agrees c.args.files.now i = λ i same. agrees_kept b.result.file from i same c.args.files.now (c.requires.agrees from there) in
+    passes_end (passes_weaker (c.change.ensures.stops from there) (λ i midst. keeps i midst.same) (λ i. ⊎_elim (λ midst. keeps i midst.same) (λ changed. keeps i changed.same))))
 
 pub returns-clause-untold : goal.returns-clause-untold
-returns-clause-untold g c =
+returns-clause-untold g c may =
     let b = c.blocks_of-blocks in
     if_damaged_weaker c.change.result (λ _. ForSome (g.F.Folder.told c.args.f.now).files (λ image. IsReady image b.result.file b.result.start b.result.count false) → (g.F.Folder.told c.args.f.now).files ≡ None) (λ _. (g.F.Folder.told c.args.f.now).files ≡ None)
     (λ damage none. none (λ from there. (moved (λ n s k. IsReady from n s k false) c.args.addr b.result.file b.result.start b.result.count b.ensures.file b.ensures.start b.ensures.count
-    (free_ready from c.args.addr (stands_blocky c.args.files.now c.args.addr c.requires.stands) (c.requires.agrees from there).undamaged (c.requires.allocated from there) (c.requires.empty from there))))) c.change.ensures.untold
+    (free_ready from c.args.addr (stands_blocky c.args.files.now c.args.addr c.requires.stands) (c.requires.agrees from there).undamaged (may from there))))) c.change.ensures.untold
 
 pub returns-clause-cause : goal.returns-clause-cause
 returns-clause-cause g c =
     let b = c.blocks_of-blocks in
     back (λ n s k. IfDamaged c.change.result (IsCause (g.F.Folder.told c.args.f.now) n s k false)) c.args.addr b.result.file b.result.start b.result.count b.ensures.file b.ensures.start b.ensures.count c.change.ensures.cause
-
-pub returns-clause-blocks : goal.returns-clause-blocks
-returns-clause-blocks g c from there =
-    let keeps : (i : Image) → SameOutside (map_of c.blocks_of-blocks.result.file) from i → KeepsBlocks from i = λ i same. map_blocks c.blocks_of-blocks.result.file from i same in
-    passes_weaker (c.change.ensures.outside from there) keeps keeps

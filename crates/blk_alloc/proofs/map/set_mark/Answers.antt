@@ -1,4 +1,4 @@
-use Rattle.blk_alloc.proofs.Marking.{set_bit, clear_bit}
+use Rattle.blk_alloc.proofs.MapBits.{set_bit, clear_bit}
 use Rattle.blk_alloc.proofs.map.set_mark.Goals as goal
 
 pub returns-then-used-clause-marks : goal.returns-then-used-clause-marks

@@ -1,6 +1,6 @@
 use Rattle.std.proofs.Common.{◌∙◌}
 use Rattle.blk_addr.specs.Bits.{has_bit}
-use Rattle.blk_alloc.proofs.Marking.{more_bits}
+use Rattle.blk_alloc.proofs.MapBits.{more_bits}
 use Rattle.blk_alloc.proofs.map.set_marks.Goals as goal
 
 pub loop-m-preserved : goal.loop-m-preserved

@@ -6,7 +6,7 @@ use Rattle.blk_image.proofs.Runs.{grows_then, part_only, part_then}
 use Rattle.blk_addr.specs.Kind.{kind_number}
 use Rattle.blk_disk.specs.Tables.{Joins}
 use Rattle.blk_disk.specs.Growth.{free_number, last_file, link_steps, make_steps}
-use Rattle.blk_disk.proofs.Joined.{add_agrees, add_blocks, add_formed, add_outside, add_room, least_is}
+use Rattle.blk_disk.proofs.Joined.{add_agrees, add_grown, add_formed, add_outside, add_room, least_is}
 use Rattle.blk_disk.proofs.tables.BlockFiles.add_file.Goals as goal
 
 pub returns-in_err-make_file-clause-prefix : goal.returns-in_err-make_file-clause-prefix
@@ -61,11 +61,11 @@ returns-clause-outside g c = add_outside c.args.self.now c.args.kind c.requires.
 pub returns-clause-well_formed : goal.returns-clause-well_formed
 returns-clause-well_formed g c = add_formed c.args.self.now c.args.kind c.requires.block_kind (g.F.Folder.told c.args.f.now) c.requires.agrees c.requires.room (least_is c.args.self.now c.free_number-n.result c.free_number-n.ensures.number c.free_number-n.ensures.least) (returns-clause-prefix g c)
 
-pub returns-in_err-make_file-clause-blocks : goal.returns-in_err-make_file-clause-blocks
-returns-in_err-make_file-clause-blocks g c = add_blocks c.args.self.now c.args.kind c.requires.block_kind (g.F.Folder.told c.args.f.now) c.requires.agrees c.requires.room (least_is c.args.self.now c.free_number-n.result c.free_number-n.ensures.number c.free_number-n.ensures.least) (returns-in_err-make_file-clause-prefix g c)
+pub returns-in_err-make_file-clause-grown : goal.returns-in_err-make_file-clause-grown
+returns-in_err-make_file-clause-grown g c = add_grown c.args.self.now c.args.kind c.requires.block_kind (g.F.Folder.told c.args.f.now) c.requires.agrees c.requires.room (least_is c.args.self.now c.free_number-n.result c.free_number-n.ensures.number c.free_number-n.ensures.least) (returns-in_err-make_file-clause-prefix g c)
 
-pub returns-in_err-link_file-clause-blocks : goal.returns-in_err-link_file-clause-blocks
-returns-in_err-link_file-clause-blocks g c = add_blocks c.args.self.now c.args.kind c.requires.block_kind (g.F.Folder.told c.args.f.now) c.requires.agrees c.requires.room (least_is c.args.self.now c.free_number-n.result c.free_number-n.ensures.number c.free_number-n.ensures.least) (returns-in_err-link_file-clause-prefix g c)
+pub returns-in_err-link_file-clause-grown : goal.returns-in_err-link_file-clause-grown
+returns-in_err-link_file-clause-grown g c = add_grown c.args.self.now c.args.kind c.requires.block_kind (g.F.Folder.told c.args.f.now) c.requires.agrees c.requires.room (least_is c.args.self.now c.free_number-n.result c.free_number-n.ensures.number c.free_number-n.ensures.least) (returns-in_err-link_file-clause-prefix g c)
 
-pub returns-clause-blocks : goal.returns-clause-blocks
-returns-clause-blocks g c = add_blocks c.args.self.now c.args.kind c.requires.block_kind (g.F.Folder.told c.args.f.now) c.requires.agrees c.requires.room (least_is c.args.self.now c.free_number-n.result c.free_number-n.ensures.number c.free_number-n.ensures.least) (returns-clause-prefix g c)
+pub returns-clause-grown : goal.returns-clause-grown
+returns-clause-grown g c = add_grown c.args.self.now c.args.kind c.requires.block_kind (g.F.Folder.told c.args.f.now) c.requires.agrees c.requires.room (least_is c.args.self.now c.free_number-n.result c.free_number-n.ensures.number c.free_number-n.ensures.least) (returns-clause-prefix g c)

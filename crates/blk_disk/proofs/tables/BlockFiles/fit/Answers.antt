@@ -1,13 +1,14 @@
-use Rattle.std.proofs.Common.{◌≡◌, ◌≤◌, ◌∙◌, Some, ap, sym, arith}
+use Rattle.std.proofs.Common.{◌≡◌, ◌≤◌, ◌∙◌, Some, ap, sym, arith, refl, subst}
 use Rattle.blk_image.specs.Image.{Block, Image, length_of}
 use Rattle.blk_image.specs.Footprint.{SameOutside, size_of}
 use Rattle.blk_image.specs.Told.{Told, Passes}
-use Rattle.blk_image.proofs.Runs.{told_whole}
+use Rattle.blk_image.proofs.Runs.{passes_none, some_inj, told_whole}
 use Rattle.blk_format.specs.BlockFiles.{IsWellFormed}
-use Rattle.blk_disk.specs.Growth.{KeepsBlocks}
+use Rattle.blk_format.specs.Growth.{HaveGrown}
 use Rattle.blk_disk.specs.Tables.{Agrees, length_in}
+use Rattle.blk_format.proofs.Growths.{grown_not}
 use Rattle.blk_disk.proofs.Agreeing.{agrees_longer}
-use Rattle.blk_disk.proofs.Enlarging.{IsLonger, passes_longer, grows_blocks, grows_formed}
+use Rattle.blk_disk.proofs.Enlarging.{IsLonger, passes_longer, grows_grown, grows_formed}
 use Rattle.blk_disk.proofs.tables.BlockFiles.fit.Given as given
 use Rattle.blk_disk.proofs.tables.BlockFiles.fit.Goals as goal
 
@@ -37,8 +38,14 @@ passing g c from P there holds = passes_longer c.args.file c.whole_length-wanted
 pub returns-clause-outside : goal.returns-clause-outside
 returns-clause-outside g c from there = passing g c from (SameOutside (size_of (Block c.args.file)) from) there (λ i longer. longer.0)
 
-pub returns-clause-blocks : goal.returns-clause-blocks
-returns-clause-blocks g c from there = passing g c from (KeepsBlocks from) there (λ i longer. grows_blocks c.args.file from i longer.1)
+pub returns-clause-grown : goal.returns-clause-grown
+returns-clause-grown g c from there = passing g c from (HaveGrown from) there (λ i longer. grows_grown c.args.file from i longer.1)
 
 pub returns-clause-well_formed : goal.returns-clause-well_formed
 returns-clause-well_formed g c from there formed = passing g c from IsWellFormed there (λ i longer. grows_formed c.args.file from i longer.1 formed)
+
+pub returns-in_err-set_len-clause-grown : goal.returns-in_err-set_len-clause-grown
+returns-in_err-set_len-clause-grown g c from there = passes_none (HaveGrown from) c.in_err-set_len.ensures.undone (λ image here. subst (HaveGrown from) (some_inj (sym there ∙ here)) (grown_not from))
+
+pub returns-then-wanted-length-clause-grown : goal.returns-then-wanted-length-clause-grown
+returns-then-wanted-length-clause-grown g c from there = passes_none (HaveGrown from) refl (λ image here. subst (HaveGrown from) (some_inj (sym there ∙ here)) (grown_not from))

@@ -1,20 +1,22 @@
-use Rattle.std.proofs.Common.{◌∙◌, ap, refl, sym, subst}
+use Rattle.std.proofs.Common.{◌∙◌, ap, sym, subst}
 use Rattle.std.specs.Option.{option_map}
 use Rattle.blk_image.specs.Steps.{after}
 use Rattle.blk_image.specs.Footprint.{SameOutside}
 use Rattle.blk_image.proofs.Runs.{passes_none, some_inj}
 use Rattle.blk_image.proofs.Footprints.{outside-refl}
-use Rattle.blk_disk.specs.Growth.{KeepsBlocks, growth_of, lengthen_steps}
-use Rattle.blk_disk.proofs.Enlarging.{first_is, part_is, whole_is, enlarges_is, grow_blocks, grow_outside, grow_formed, grow_room, grow_agrees}
+use Rattle.blk_format.specs.Growth.{HaveGrown}
+use Rattle.blk_disk.specs.Growth.{growth_of, lengthen_steps}
+use Rattle.blk_disk.proofs.Enlarging.{first_is, part_is, whole_is, enlarges_is, grow_grown, grow_outside, grow_formed, grow_room, grow_agrees}
+use Rattle.blk_format.proofs.Growths.{grown_not}
 use Rattle.blk_disk.proofs.tables.BlockFiles.grow.Goals as goal
 
 pub returns-in_err-lengthen-clause-outside : goal.returns-in_err-lengthen-clause-outside
 returns-in_err-lengthen-clause-outside g c from there =
     passes_none (SameOutside (growth_of c.args.file) from) c.in_err-lengthen.ensures.undone (λ image here. subst (SameOutside (growth_of c.args.file) from) (some_inj (sym there ∙ here)) (outside-refl (growth_of c.args.file) from))
 
-pub returns-in_err-lengthen-clause-blocks : goal.returns-in_err-lengthen-clause-blocks
-returns-in_err-lengthen-clause-blocks g c from there =
-    passes_none (KeepsBlocks from) c.in_err-lengthen.ensures.undone (λ image here. subst (KeepsBlocks from) (some_inj (sym there ∙ here)) (record { stand = λ w stands. stands; bytes = λ w i stands low high. refl }))
+pub returns-in_err-lengthen-clause-grown : goal.returns-in_err-lengthen-clause-grown
+returns-in_err-lengthen-clause-grown g c from there =
+    passes_none (HaveGrown from) c.in_err-lengthen.ensures.undone (λ image here. subst (HaveGrown from) (some_inj (sym there ∙ here)) (grown_not from))
 
 pub raise-requires : goal.raise-requires
 raise-requires g c =
@@ -51,8 +53,8 @@ returns-clause-outside g c = grow_outside c.args.self.now c.args.file (g.F.Folde
 pub returns-clause-well_formed : goal.returns-clause-well_formed
 returns-clause-well_formed g c = grow_formed c.args.self.now c.args.file (g.F.Folder.told c.args.f.now) (g.F.Folder.told c.lengthen.new.f) (g.F.Folder.told c.raise.new.f) c.requires.agrees c.requires.linked c.requires.below (returns-clause-prefix g c)
 
-pub returns-in_err-raise-clause-blocks : goal.returns-in_err-raise-clause-blocks
-returns-in_err-raise-clause-blocks g c = grow_blocks c.args.self.now c.args.file (g.F.Folder.told c.args.f.now) (g.F.Folder.told c.lengthen.new.f) (g.F.Folder.told c.raise.new.f) c.requires.agrees c.requires.linked c.requires.below (returns-in_err-raise-clause-prefix g c)
+pub returns-in_err-raise-clause-grown : goal.returns-in_err-raise-clause-grown
+returns-in_err-raise-clause-grown g c = grow_grown c.args.self.now c.args.file (g.F.Folder.told c.args.f.now) (g.F.Folder.told c.lengthen.new.f) (g.F.Folder.told c.raise.new.f) c.requires.agrees c.requires.linked c.requires.below (returns-in_err-raise-clause-prefix g c)
 
-pub returns-clause-blocks : goal.returns-clause-blocks
-returns-clause-blocks g c = grow_blocks c.args.self.now c.args.file (g.F.Folder.told c.args.f.now) (g.F.Folder.told c.lengthen.new.f) (g.F.Folder.told c.raise.new.f) c.requires.agrees c.requires.linked c.requires.below (returns-clause-prefix g c)
+pub returns-clause-grown : goal.returns-clause-grown
+returns-clause-grown g c = grow_grown c.args.self.now c.args.file (g.F.Folder.told c.args.f.now) (g.F.Folder.told c.lengthen.new.f) (g.F.Folder.told c.raise.new.f) c.requires.agrees c.requires.linked c.requires.below (returns-clause-prefix g c)

@@ -1,0 +1,148 @@
+-- Blocks are given: at the first place where they fit, or where no file of a type has room, in a file that grows or is added.
+use Rattle.std.specs.Prelude.{◌≡◌, ◌≢◌, ◌⊎◌, ℕ, ◌-◌, ◌<◌, ◌≤◌, List, [], ◌∷◌, length, slice_get, true, false, if◌then◌else◌, Some}
+use Rattle.std.specs.List.{All, sum_by}
+use Rattle.std.specs.Option.{ForSome}
+use Rattle.blk_image.specs.Image.{Block, Image, byte, word}
+use Rattle.blk_image.specs.Told.{Told}
+use Rattle.blk_image.specs.Footprint.{Footprint, SameOutside, either}
+use Rattle.blk_format.specs.Address.{file_selector, block_word}
+use Rattle.blk_format.specs.Headers.{allocations_of, updating_of}
+use Rattle.blk_format.specs.BlockFiles.{is_among, most_blocks, most_files}
+use Rattle.blk_format.specs.Maps.{is_block_marked, AreAllocations, EmptyAgrees}
+use Rattle.blk_io.specs.declared.folder.FileId.TheVariants as names
+use Rattle.blk_io.specs.declared.fault.Damage.{Damage}
+use Rattle.blk_disk.specs.declared.tables.BlockFiles.{BlockFiles}
+use Rattle.blk_disk.specs.Tables.{all_files, blocks_of, files_of}
+use Rattle.blk_disk.specs.Growth.{IsLeastFree, addition_of, free_number, growth_of}
+use Rattle.blk_alloc.specs.declared.blocks.Blocks.{Blocks}
+use Rattle.blk_alloc.specs.Owning.{is_of, IsCause, KeepsFile}
+use Rattle.blk_alloc.specs.Fitting.{HasNoRoom, IsFirstFit, IsPlace, IsShortOf}
+use Rattle.blk_alloc.specs.Marking.{taking_of, IsDangling, CanBeMarked, MarksUsed, MarksUsedInProgress}
+use Rattle.blk_alloc.specs.Extending.{HasMostBlocks, HasNoHints, IsFirstGrowing, KeepsFiles, KeepsMarks}
+
+-- What is asked of the files.
+
+-- the most allocations of the files of a type
+abbrev pub most_allocations : ℕ
+most_allocations = 655362
+
+-- a file has a list of its allocations, and `empty` agrees with its map
+pub record HasAllocations (image : Image) (n : ℕ) : Type 0 where
+  pub words : List ℕ
+  pub are : AreAllocations image n words
+  pub empty : EmptyAgrees image n
+
+-- each file of a type has its allocations, and all of them together are no more than 655362
+pub record AreCounted (files : BlockFiles) (kind : ℕ) (image : Image) : Type 0 where
+  pub each : (n : ℕ) → is_among (files_of files kind) n ≡ true → HasAllocations image n
+  pub most : sum_by (λ n. allocations_of (byte image (Block n))) (files_of files kind) ≤ most_allocations
+
+-- Where the blocks lie.
+
+-- the first file of a type that may grow gives the first blocks after its old ones
+pub record IsGrownPlace (files : BlockFiles) (kind : ℕ) (place : Blocks) : Type 0 where
+  pub growing : IsFirstGrowing files (files_of files kind) place.file
+  pub start : place.start ≡ blocks_of files place.file
+
+-- no file of a type may grow, and a new one with the least free number gives its first blocks
+pub record IsAddedPlace (files : BlockFiles) (kind : ℕ) (place : Blocks) : Type 0 where
+  pub full : All (HasMostBlocks files) (files_of files kind)
+  pub few : length (files_of files kind) < most_files
+  pub least : IsLeastFree files place.file
+  pub start : place.start ≡ 0
+
+-- no file of a type has room for so many blocks
+abbrev pub HaveNoRoom : BlockFiles → ℕ → ℕ → Image → Type 0
+HaveNoRoom files kind count image = All (HasNoRoom image count) (files_of files kind)
+
+-- the blocks of an address: the first fit, or where no file of the type has room, those of a file that grows, or of a new one where none may grow
+pub record IsChosen (files : BlockFiles) (image : Image) (kind count w : ℕ) : Type 0 where
+  pub place : Blocks
+  pub word : w ≡ block_word kind place.file place.start count
+  pub chosen : IsFirstFit image (files_of files kind) count place ⊎ (HaveNoRoom files kind count image × (IsGrownPlace files kind place ⊎ IsAddedPlace files kind place))
+
+-- What becomes of the files.
+
+-- room was made in a file: its first blocks of it may be taken, each file that was kept has its marks and allocations as before, and a new one has none, and no hints
+pub record Extends (files : BlockFiles) (from : Image) (place : Blocks) (image : Image) : Type 0 where
+  pub takeable : CanBeMarked image place
+  pub keeps : KeepsFiles files from image
+  pub marks : KeepsMarks files from image
+  pub fresh : is_among (all_files files) place.file ≡ false → AreAllocations image place.file []
+  pub hints : is_among (all_files files) place.file ≡ false → HasNoHints image place.file
+
+-- the blocks of an address are given: they were free and are marked now, no other mark of a file that was there has changed, its file has one allocation more and each other has its own, a file that wasn't there has no hints, the counters are true, and updating is 0
+pub record Allocates (files : BlockFiles) (from : Image) (w : ℕ) (image : Image) : Type 0 where
+  pub free : is_among (all_files files) (file_selector w) ≡ true → (b : ℕ) → is_of w (file_selector w) b ≡ true → is_block_marked from (file_selector w) b ≡ false
+  pub marks : (n b : ℕ) → is_among (all_files files) n ≡ true → b < most_blocks → is_block_marked image n b ≡ (if is_of w n b then true else is_block_marked from n b)
+  pub allocations : is_among (all_files files) (file_selector w) ≡ true → (words : List ℕ) → AreAllocations from (file_selector w) words → AreAllocations image (file_selector w) (w ∷ words)
+  pub fresh : is_among (all_files files) (file_selector w) ≡ false → AreAllocations image (file_selector w) (w ∷ [])
+  pub hints : is_among (all_files files) (file_selector w) ≡ false → HasNoHints image (file_selector w)
+  pub elsewhere : (n : ℕ) → is_among (all_files files) n ≡ true → n ≢ file_selector w → KeepsFile from image n
+  pub empty : EmptyAgrees image (file_selector w)
+  pub updating : updating_of (byte image (Block (file_selector w))) ≡ 0
+
+-- The moments of it.
+
+-- what is touched where a file grows, and its first new blocks are taken
+abbrev pub grown_of : ℕ → Footprint
+grown_of n = either (growth_of n) (taking_of n)
+
+-- what is touched where a file is added and grows, and its first blocks are taken
+abbrev pub added_of : BlockFiles → ℕ → Footprint
+added_of files kind = either (addition_of files kind) (grown_of (free_number files))
+
+-- room is made in a file, and its blocks are taken: it is the first that may grow, or a new one where none may grow, and nothing else differs
+abbrev pub ExtendsInProgressIn : BlockFiles → ℕ → Image → ℕ → Image → Type 0
+ExtendsInProgressIn files kind from n image =
+    (IsFirstGrowing files (files_of files kind) n × SameOutside (grown_of n) from image)
+    ⊎ (All (HasMostBlocks files) (files_of files kind) × (n ≡ free_number files) × SameOutside (added_of files kind) from image)
+
+-- the same, in some file
+pub record ExtendsInProgress (files : BlockFiles) (kind : ℕ) (from image : Image) : Type 0 where
+  pub file : ℕ
+  pub making : ExtendsInProgressIn files kind from file image
+
+-- nothing differs yet, or the first fit is being taken, or room is made where no file of the type has any
+abbrev pub AllocatesInProgress : BlockFiles → ℕ → ℕ → Image → Image → Type 0
+AllocatesInProgress files kind count from image =
+    (image ≡ from)
+    ⊎ ((place : Blocks) × IsFirstFit from (files_of files kind) count place × MarksUsedInProgress place.file from image)
+    ⊎ (HaveNoRoom files kind count from × ExtendsInProgress files kind from image)
+
+-- the first fit is taken
+abbrev pub MarksFitUsed : BlockFiles → ℕ → ℕ → Image → Image → Type 0
+MarksFitUsed files kind count from image =
+    (place : Blocks) × IsFirstFit from (files_of files kind) count place × MarksUsed files from (block_word kind place.file place.start count) image
+
+-- Why there is none.
+
+-- the place of the last word of a map
+abbrev pub last_place : ℕ
+last_place = 8188
+
+-- a type has the most files, which are 60, and each has the most blocks: the damage has the place of the last word that was read, which is the last of the map of the last of them, and finds this word
+pub record IsFull (files : BlockFiles) (kind : ℕ) (told : Told) (damage : Damage) : Type 0 where
+  pub number : most_files ≤ length (files_of files kind)
+  pub full : All (HasMostBlocks files) (files_of files kind)
+  pub file : ℕ
+  pub last : slice_get (files_of files kind) (most_files - 1) ≡ Some file
+  pub of_file : damage.file ≡ names.Block file
+  pub at : damage.at ≡ last_place
+  pub found : ForSome told.files (λ image. damage.found ≡ word image (Block file) last_place)
+
+-- the header of one of the files of a type is damaged, of which so many blocks were to be taken: a read of it gave too few bytes, or a counter would leave its range
+pub record IsCauseOf (files : BlockFiles) (kind count : ℕ) (told : Told) (damage : Damage) : Type 0 where
+  pub place : Blocks
+  pub is : IsPlace files kind count place
+  pub cause : IsCause told place.file place.start place.count true damage
+
+-- so many blocks of one of the files of a type, which were to be taken, don't stand
+pub record IsDanglingOf (files : BlockFiles) (kind count : ℕ) (damage : Damage) : Type 0 where
+  pub place : Blocks
+  pub is : IsPlace files kind count place
+  pub dangling : IsDangling files kind place damage
+
+-- why so many blocks are not given: a damaged header, which may be that of a file that was added, a map that was too short where room was sought, files that were full, or blocks that don't stand
+abbrev pub IsRefusal : BlockFiles → BlockFiles → ℕ → ℕ → Told → Damage → Type 0
+IsRefusal old new kind count told damage = IsCauseOf new kind count told damage ⊎ IsShortOf old kind told damage ⊎ IsFull old kind told damage ⊎ IsDanglingOf new kind count damage

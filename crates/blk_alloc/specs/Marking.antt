@@ -1,0 +1,54 @@
+-- Blocks of a file are taken: the file is lengthened to its blocks, and the blocks are marked.
+use Rattle.std.specs.Prelude.{◌≡◌, ◌≢◌, ◌⊎◌, ℕ, ◌+◌, ◌<◌, ◌≤◌, List, ◌∷◌, true, false, if◌then◌else◌, Some}
+use Rattle.blk_image.specs.Image.{Block, Image, byte, length_of}
+use Rattle.blk_image.specs.Footprint.{Footprint, SameOutside, either, one_word, size_of}
+use Rattle.blk_format.specs.Address.{block_word, file_selector}
+use Rattle.blk_format.specs.Headers.{updating_of}
+use Rattle.blk_format.specs.BlockFiles.{is_among, most_blocks, kind_among}
+use Rattle.blk_format.specs.Maps.{is_block_marked, are_free, AreAllocations, EmptyAgrees}
+use Rattle.blk_io.specs.declared.folder.FileId.TheVariants as names
+use Rattle.blk_io.specs.declared.fault.Damage.{Damage}
+use Rattle.blk_disk.specs.declared.tables.BlockFiles.{BlockFiles}
+use Rattle.blk_disk.specs.Tables.{all_files, blocks_of, files_of, stands_among}
+use Rattle.blk_alloc.specs.declared.blocks.Blocks.{Blocks}
+use Rattle.blk_alloc.specs.Changes.{map_of, updating_place, IsReady}
+use Rattle.blk_alloc.specs.Owning.{is_of}
+
+-- blocks that may be taken: they are free, and the counters of their file are true
+pub record CanBeMarked (image : Image) (place : Blocks) : Type 0 where
+  pub ready : IsReady image place.file place.start place.count true
+  pub free : are_free (is_block_marked image place.file) place.start place.count ≡ true
+
+-- what is touched: the length of the file, its map and its counters
+abbrev pub taking_of : ℕ → Footprint
+taking_of n = either (size_of (Block n)) (map_of n)
+
+-- a moment of it: nothing else differs, the file is no shorter, and where more than the length and updating differ, updating is 1
+pub record MarksUsedInProgress (n : ℕ) (from image : Image) : Type 0 where
+  pub same : SameOutside (taking_of n) from image
+  pub longer : length_of from (Block n) ≤ length_of image (Block n)
+  pub updating : (updating_of (byte image (Block n)) ≡ 1) ⊎ SameOutside (either (size_of (Block n)) (one_word (Block n) updating_place)) from image
+
+-- the blocks of an address are taken: they were free and are marked now, no other mark has changed, each file has its allocations and its file one more, the counters are true, and updating is 0
+pub record MarksUsed (files : BlockFiles) (from : Image) (w : ℕ) (image : Image) : Type 0 where
+  pub same : SameOutside (taking_of (file_selector w)) from image
+  pub longer : length_of from (Block (file_selector w)) ≤ length_of image (Block (file_selector w))
+  pub free : (b : ℕ) → is_of w (file_selector w) b ≡ true → is_block_marked from (file_selector w) b ≡ false
+  pub marks : (n b : ℕ) → b < most_blocks → is_block_marked image n b ≡ (if is_of w n b then true else is_block_marked from n b)
+  pub allocations : (words : List ℕ) → AreAllocations from (file_selector w) words → AreAllocations image (file_selector w) (w ∷ words)
+  pub elsewhere : (n : ℕ) → is_among (all_files files) n ≡ true → n ≢ file_selector w → (words : List ℕ) → AreAllocations from n words → AreAllocations image n words
+  pub empty : EmptyAgrees image (file_selector w)
+  pub empty_elsewhere : (n : ℕ) → n ≢ file_selector w → EmptyAgrees from n → EmptyAgrees image n
+  pub updating : updating_of (byte image (Block (file_selector w))) ≡ 0
+
+-- the place of the number of blocks in a header
+abbrev pub blocks_place : ℕ
+blocks_place = 20
+
+-- blocks of a type don't stand among the files: the type of their file isn't theirs, or its number of blocks ends among them; the damage has the place of this number, and finds what is kept of it
+pub record IsDangling (files : BlockFiles) (kind : ℕ) (place : Blocks) (damage : Damage) : Type 0 where
+  pub dangling : stands_among files (block_word kind place.file place.start place.count) ≡ false
+  pub why : (kind_among (files_of files) place.file ≢ Some kind) ⊎ (blocks_of files place.file < place.start + place.count)
+  pub of_file : damage.file ≡ names.Block place.file
+  pub at : damage.at ≡ blocks_place
+  pub found : damage.found ≡ blocks_of files place.file

@@ -1,0 +1,181 @@
+// Blocks are allocated.
+ghost use Rattle.std.specs.Prelude.{◌≡◌, ◌≢◌, ◌⊎◌, ◌≤◌, ◌<◌, None, IfOk, OnOk, IsTrue, length};
+ghost use Rattle.std.specs.List.{All};
+ghost use Rattle.std.specs.Option.{ForSome};
+ghost use Rattle.blk_image.specs.Told.{Passes, PassesTo, Rises, Stays};
+ghost use Rattle.blk_format.specs.Address.{block_count, external, kind_of, rankings};
+ghost use Rattle.blk_format.specs.BlockFiles.{most_files, IsWellFormed};
+ghost use Rattle.blk_format.specs.Maps.{group_size};
+ghost use Rattle.blk_addr.specs.Kind.{kind_number};
+ghost use Rattle.blk_io.specs.Faults.{IfDamaged, IfDevice};
+ghost use Rattle.blk_disk.specs.Growth.{KeepsBlocks};
+ghost use Rattle.blk_disk.specs.Tables.{Agrees, files_of, stands_among};
+ghost use Rattle.blk_alloc.specs.Owning.{KeepsExternals};
+ghost use Rattle.blk_alloc.specs.Fitting.{IsPlace};
+ghost use Rattle.blk_alloc.specs.Extending.{HasMostBlocks, KeepsAll, KeepsStanding};
+ghost use Rattle.blk_alloc.specs.Allocating.{AreCounted, HaveNoRoom, IsAddedPlace, IsChosen, MarksFitUsed, IsFull, Allocates, AllocatesInProgress, IsGrownPlace, Extends, ExtendsInProgress, ExtendsInProgressIn, IsRefusal};
+
+use crate::blocks::Blocks;
+use crate::fitting::first_fit;
+use crate::extending::{add_room, grow_room, growing_file};
+use crate::marking::mark;
+use blk_addr::{Addr, Kind};
+use blk_disk::BlockFiles;
+use blk_io::{Damage, Fault, FileId, Folder, read_word};
+
+// The most files of one kind.
+const MOST_FILES: u8 = 60;
+
+// The last word of a map.
+const LAST_PLACE: u64 = 8188;
+
+// The damage where a kind has 60 files and none may grow.
+fn full_damage<F: Folder>(f: &mut F, files: &BlockFiles, kind: Kind) -> Result<Damage, Fault>
+    requires block_kind { kind_number kind ≢ external }
+    requires number { most_files ≤ length (files_of files.now (kind_number kind)) }
+    requires full { All (HasMostBlocks files.now) (files_of files.now (kind_number kind)) }
+    ensures full { IfOk result (IsFull files.now (kind_number kind) (F.told f.old)) }
+    ensures cause { IfDamaged result (λ damage. (F.told f.old).files ≡ None → IsFull files.now (kind_number kind) (F.told f.old) damage) }
+    ensures stays { Stays (F.told f.old) (F.told f.new) }
+    ensures later { F.faults f.old ≤ F.faults f.new }
+    ensures device { IfDevice result (Rises (F.faults f.old) (F.faults f.new)) }
+{
+    let Some(last) = files.file_at(kind, MOST_FILES - 1) else {
+        unreachable!();
+    };
+    let file = FileId::Block(last);
+    let found = read_word(f, file, LAST_PLACE)?;
+    Ok(Damage {
+        file,
+        at: LAST_PLACE,
+        found,
+    })
+}
+
+// Makes room for blocks, where no file of a kind has any: the first file that may grow grows, and where
+// there is none a file is added.
+fn new_room<F: Folder>(
+    f: &mut F,
+    files: &mut BlockFiles,
+    kind: Kind,
+    count: u32,
+) -> Result<Blocks, Fault>
+    requires few { count ≤ group_size }
+    requires block_kind { kind_number kind ≢ external }
+    requires agrees { ForSome (F.told f.old).files (Agrees files.old) }
+    requires counted { ForSome (F.told f.old).files (AreCounted files.old (kind_number kind)) }
+    requires full { ForSome (F.told f.old).files (HaveNoRoom files.old (kind_number kind) count) }
+    ensures fits { IfOk result (IsPlace files.new (kind_number kind) count) }
+    ensures place { IfOk result (λ place. ForSome (F.told f.old).files (λ _. IsGrownPlace files.old (kind_number kind) place ⊎ IsAddedPlace files.old (kind_number kind) place)) }
+    ensures made { IfOk result (λ place. ForSome (F.told f.old).files (λ from. ForSome (F.told f.new).files (Extends files.old from place))) }
+    ensures making { IfOk result (λ place. ForSome (F.told f.old).files (λ from. ForSome (F.told f.new).files (ExtendsInProgressIn files.old (kind_number kind) from place.file))) }
+    ensures all { OnOk result (KeepsAll files.old files.new) }
+    ensures standing { KeepsStanding files.old files.new }
+    ensures agrees { OnOk result (ForSome (F.told f.new).files (Agrees files.new)) }
+    ensures stops { ForSome (F.told f.old).files (λ from. Passes (F.told f.old) (F.told f.new) (ExtendsInProgress files.old (kind_number kind) from)) }
+    ensures blocks { ForSome (F.told f.old).files (λ from. Passes (F.told f.old) (F.told f.new) (KeepsBlocks from)) }
+    ensures formed { ForSome (F.told f.old).files (λ from. IsWellFormed from → Passes (F.told f.old) (F.told f.new) IsWellFormed) }
+    ensures silent { (F.told f.old).files ≡ None → (F.told f.new).files ≡ None }
+    ensures cause { IfDamaged result (IsRefusal files.old files.new (kind_number kind) count (F.told f.old)) }
+    ensures untold { IfDamaged result (λ _. (F.told f.old).files ≡ None) }
+    ensures later { F.faults f.old ≤ F.faults f.new }
+    ensures device { IfDevice result (Rises (F.faults f.old) (F.faults f.new)) }
+{
+    if let Some(file) = growing_file(files, kind) {
+        let place = grow_room(f, files, kind, file, count)?;
+        return Ok(place);
+    }
+    if files.count(kind) >= MOST_FILES {
+        let damage = full_damage(f, files, kind)?;
+        return Err(Fault::Damaged(damage));
+    }
+    let place = add_room(f, files, kind, count)?;
+    Ok(place)
+}
+
+// Gives blocks where no file of a kind has room for them.
+fn allocate_new<F: Folder>(
+    f: &mut F,
+    files: &mut BlockFiles,
+    kind: Kind,
+    count: u32,
+) -> Result<Addr, Fault>
+    requires some { 0 < count }
+    requires few { count ≤ group_size }
+    requires block_kind { kind_number kind ≢ external }
+    requires node { kind_number kind ≡ rankings → count ≡ 1 }
+    requires agrees { ForSome (F.told f.old).files (Agrees files.old) }
+    requires counted { ForSome (F.told f.old).files (AreCounted files.old (kind_number kind)) }
+    requires full { ForSome (F.told f.old).files (HaveNoRoom files.old (kind_number kind) count) }
+    ensures chosen { IfOk result (λ addr. ForSome (F.told f.old).files (λ from. IsChosen files.old from (kind_number kind) count addr)) }
+    ensures kind { IfOk result (λ addr. (kind_of addr ≡ kind_number kind) × (block_count addr ≡ count)) }
+    ensures stands { IfOk result (λ addr. IsTrue (stands_among files.new addr)) }
+    ensures keeps { KeepsStanding files.old files.new }
+    ensures given { IfOk result (λ addr. ForSome (F.told f.old).files (λ from. ForSome (F.told f.new).files (Allocates files.old from addr))) }
+    ensures agrees { OnOk result (ForSome (F.told f.new).files (Agrees files.new)) }
+    ensures stops { ForSome (F.told f.old).files (λ from. Passes (F.told f.old) (F.told f.new) (ExtendsInProgress files.old (kind_number kind) from)) }
+    ensures blocks { ForSome (F.told f.old).files (λ from. Passes (F.told f.old) (F.told f.new) (KeepsBlocks from)) }
+    ensures formed { ForSome (F.told f.old).files (λ from. IsWellFormed from → Passes (F.told f.old) (F.told f.new) IsWellFormed) }
+    ensures silent { (F.told f.old).files ≡ None → (F.told f.new).files ≡ None }
+    ensures cause { IfDamaged result (IsRefusal files.old files.new (kind_number kind) count (F.told f.old)) }
+    ensures untold { IfDamaged result (λ _. (F.told f.old).files ≡ None) }
+    ensures later { F.faults f.old ≤ F.faults f.new }
+    ensures device { IfDevice result (Rises (F.faults f.old) (F.faults f.new)) }
+{
+    let place = new_room(f, files, kind, count)?;
+    mark(f, files, kind, place)
+}
+
+/// Gives 1 to 4 blocks of a block kind, and 1 of `Rankings`, which nobody owned, and marks them.
+///
+/// They lie inside one group of four. The files of the kind are tried in the order of their links,
+/// and in a file the least place is taken. Where no file has room, the first file with fewer than
+/// 64896 blocks grows, and where there is none, a file is added and grows; the new blocks are given.
+///
+/// A damage is a read of a file's header that gave too few bytes, a counter that would leave its
+/// range, or 60 full files of the kind; then it finds the last word of the last map. Where the blocks
+/// don't stand among the files, as their file is kept as one of another kind too or its number of blocks
+/// ends among them, it has the place of this number. With at most 655362 allocations of the kind all of
+/// these need a folder that tells nothing.
+pub fn allocate<F: Folder>(
+    f: &mut F,
+    files: &mut BlockFiles,
+    kind: Kind,
+    blocks: u32,
+) -> Result<Addr, Fault>
+    requires some { 0 < blocks }
+    requires few { blocks ≤ group_size }
+    requires block_kind { kind_number kind ≢ external }
+    requires node { kind_number kind ≡ rankings → blocks ≡ 1 }
+    requires agrees { ForSome (F.told f.old).files (Agrees files.old) }
+    requires counted { ForSome (F.told f.old).files (AreCounted files.old (kind_number kind)) }
+
+    // In any case: the blocks are of the kind, as many as asked for, and stand, and what stood still does.
+    ensures kind { IfOk result (λ addr. (kind_of addr ≡ kind_number kind) × (block_count addr ≡ blocks)) }
+    ensures stands { IfOk result (λ addr. IsTrue (stands_among files.new addr)) }
+    ensures keeps { KeepsStanding files.old files.new }
+
+    // The first fit, or where no file of the kind has room, the first blocks of a growth, and of a new file only where none may grow.
+    ensures chosen { IfOk result (λ addr. ForSome (F.told f.old).files (λ from. IsChosen files.old from (kind_number kind) blocks addr)) }
+    ensures given { IfOk result (λ addr. ForSome (F.told f.old).files (λ from. ForSome (F.told f.new).files (Allocates files.old from addr))) }
+    ensures agrees { OnOk result (ForSome (F.told f.new).files (Agrees files.new)) }
+
+    // At each word only one file of the kind differs, in its length, map and counters, and where it grows or is added in what these touch; where none does, updating is 1 until map and counters are done.
+    ensures stops { ForSome (F.told f.old).files (λ from. PassesTo (F.told f.old) (F.told f.new) (AllocatesInProgress files.old (kind_number kind) blocks from) (λ image. AllocatesInProgress files.old (kind_number kind) blocks from image ⊎ MarksFitUsed files.old (kind_number kind) blocks from image)) }
+
+    // Each block that stood still stands with its bytes, each external file is as before, and a well-formed folder is still well formed.
+    ensures blocks { ForSome (F.told f.old).files (λ from. Passes (F.told f.old) (F.told f.new) (KeepsBlocks from)) }
+    ensures externals { ForSome (F.told f.old).files (λ from. Passes (F.told f.old) (F.told f.new) (KeepsExternals from)) }
+    ensures formed { ForSome (F.told f.old).files (λ from. IsWellFormed from → Passes (F.told f.old) (F.told f.new) IsWellFormed) }
+
+    ensures silent { (F.told f.old).files ≡ None → (F.told f.new).files ≡ None }
+    ensures cause { IfDamaged result (IsRefusal files.old files.new (kind_number kind) blocks (F.told f.old)) }
+    ensures untold { IfDamaged result (λ _. (F.told f.old).files ≡ None) }
+    ensures later { F.faults f.old ≤ F.faults f.new }
+    ensures device { IfDevice result (Rises (F.faults f.old) (F.faults f.new)) }
+{
+    match first_fit(f, files, kind, blocks)? {
+        Some(place) => mark(f, files, kind, place),
+        None => allocate_new(f, files, kind, blocks),
+    }
+}

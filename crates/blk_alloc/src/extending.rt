@@ -1,0 +1,108 @@
+// Files get room for blocks.
+ghost use Rattle.std.specs.Prelude.{◌≡◌, ◌≢◌, ◌*◌, ◌/◌, ◌≤◌, ◌<◌, [], None, length, IfOk, OnOk, OnErr, IsTrue};
+ghost use Rattle.std.specs.Option.{ForSome};
+ghost use Rattle.blk_image.specs.Footprint.{SameOutside, either};
+ghost use Rattle.blk_image.specs.Told.{Passes, Rises};
+ghost use Rattle.blk_format.specs.BlockFiles.{is_among, most_blocks, most_files, IsWellFormed};
+ghost use Rattle.blk_format.specs.Address.{external};
+ghost use Rattle.blk_addr.specs.Kind.{kind_number};
+ghost use Rattle.blk_format.specs.Maps.{group_size, AreAllocations};
+ghost use Rattle.blk_disk.specs.Tables.{Agrees, blocks_of, files_of};
+ghost use Rattle.blk_disk.specs.Growth.{IsLeastFree, KeepsBlocks, addition_of, free_number, growth_of};
+ghost use Rattle.blk_alloc.specs.Fitting.{IsPlace};
+ghost use Rattle.blk_alloc.specs.Extending.{HasCounters, HasNoHints, IsGrowing, KeepsAll, KeepsFiles, KeepsMarks, KeepsStanding};
+ghost use Rattle.blk_alloc.specs.Marking.{CanBeMarked};
+
+use crate::blocks::Blocks;
+use crate::fitting::blocks_in;
+use crate::layout::GROUP;
+use blk_addr::Kind;
+use blk_disk::BlockFiles;
+use blk_io::{Failed, Folder};
+use blk_record::BlockHead;
+
+// Gives a file more blocks, of which the first ones are the place.
+pub(crate) fn grow_room<F: Folder>(
+    f: &mut F,
+    files: &mut BlockFiles,
+    kind: Kind,
+    file: u8,
+    count: u32,
+) -> Result<Blocks, Failed>
+    requires few { count ≤ group_size }
+    requires block_kind { kind_number kind ≢ external }
+    requires linked { IsTrue (is_among (files_of files.old (kind_number kind)) file) }
+    requires below { blocks_of files.old file < most_blocks }
+    requires agrees { ForSome (F.told f.old).files (Agrees files.old) }
+    requires counters { ForSome (F.told f.old).files (λ image. HasCounters image file) }
+    ensures place { IfOk result (λ place. (place.file ≡ file) × (place.start ≡ blocks_of files.old file / 4 * 4) × (place.count ≡ count)) }
+    ensures fits { IfOk result (IsPlace files.new (kind_number kind) count) }
+    ensures all { OnOk result (KeepsAll files.old files.new) }
+    ensures standing { KeepsStanding files.old files.new }
+    ensures marks { OnOk result (ForSome (F.told f.old).files (λ from. ForSome (F.told f.new).files (KeepsMarks files.old from))) }
+    ensures takeable { IfOk result (λ place. ForSome (F.told f.old).files (λ from. ForSome (F.told f.new).files (λ image. CanBeMarked image place))) }
+    ensures keeps { OnOk result (ForSome (F.told f.old).files (λ from. ForSome (F.told f.new).files (KeepsFiles files.old from))) }
+    ensures agrees { OnOk result (ForSome (F.told f.new).files (Agrees files.new)) }
+    ensures same { OnErr result (files.new ≡ files.old) }
+    ensures outside { ForSome (F.told f.old).files (λ from. Passes (F.told f.old) (F.told f.new) (SameOutside (growth_of file) from)) }
+    ensures blocks { ForSome (F.told f.old).files (λ from. Passes (F.told f.old) (F.told f.new) (KeepsBlocks from)) }
+    ensures formed { ForSome (F.told f.old).files (λ from. IsWellFormed from → Passes (F.told f.old) (F.told f.new) IsWellFormed) }
+    ensures silent { (F.told f.old).files ≡ None → (F.told f.new).files ≡ None }
+    ensures later { F.faults f.old ≤ F.faults f.new }
+    ensures failed { OnErr result (Rises (F.faults f.old) (F.faults f.new)) }
+{
+    let groups = blocks_in(files, file) / GROUP;
+    files.grow(f, file)?;
+    let start = groups * GROUP;
+    Ok(Blocks { file, start, count })
+}
+
+// Adds a file of a kind, and gives it blocks, of which the first ones are the place.
+pub(crate) fn add_room<F: Folder>(
+    f: &mut F,
+    files: &mut BlockFiles,
+    kind: Kind,
+    count: u32,
+) -> Result<Blocks, Failed>
+    requires few { count ≤ group_size }
+    requires block_kind { kind_number kind ≢ external }
+    requires room { length (files_of files.old (kind_number kind)) < most_files }
+    requires agrees { ForSome (F.told f.old).files (Agrees files.old) }
+    ensures place { IfOk result (λ place. (place.file ≡ free_number files.old) × (place.start ≡ 0) × (place.count ≡ count)) }
+    ensures fits { IfOk result (IsPlace files.new (kind_number kind) count) }
+    ensures all { OnOk result (KeepsAll files.old files.new) }
+    ensures standing { KeepsStanding files.old files.new }
+    ensures marks { OnOk result (ForSome (F.told f.old).files (λ from. ForSome (F.told f.new).files (KeepsMarks files.old from))) }
+    ensures fresh { OnOk result (ForSome (F.told f.old).files (λ from. ForSome (F.told f.new).files (λ image. AreAllocations image (free_number files.old) []))) }
+    ensures hints { OnOk result (ForSome (F.told f.old).files (λ from. ForSome (F.told f.new).files (λ image. HasNoHints image (free_number files.old)))) }
+    ensures least { OnOk result (IsLeastFree files.old (free_number files.old)) }
+    ensures takeable { IfOk result (λ place. ForSome (F.told f.old).files (λ from. ForSome (F.told f.new).files (λ image. CanBeMarked image place))) }
+    ensures keeps { OnOk result (ForSome (F.told f.old).files (λ from. ForSome (F.told f.new).files (KeepsFiles files.old from))) }
+    ensures agrees { OnOk result (ForSome (F.told f.new).files (Agrees files.new)) }
+    ensures outside { ForSome (F.told f.old).files (λ from. Passes (F.told f.old) (F.told f.new) (SameOutside (either (addition_of files.old (kind_number kind)) (growth_of (free_number files.old))) from)) }
+    ensures blocks { ForSome (F.told f.old).files (λ from. Passes (F.told f.old) (F.told f.new) (KeepsBlocks from)) }
+    ensures formed { ForSome (F.told f.old).files (λ from. IsWellFormed from → Passes (F.told f.old) (F.told f.new) IsWellFormed) }
+    ensures silent { (F.told f.old).files ≡ None → (F.told f.new).files ≡ None }
+    ensures later { F.faults f.old ≤ F.faults f.new }
+    ensures failed { OnErr result (Rises (F.faults f.old) (F.faults f.new)) }
+{
+    let file = files.add_file(f, kind)?;
+    let place = grow_room(f, files, kind, file, count)?;
+    Ok(place)
+}
+
+// The first file of a kind that has fewer than 64896 blocks.
+pub(crate) fn growing_file(files: &BlockFiles, kind: Kind) -> Option<u8>
+    requires { kind_number kind ≢ external }
+    ensures { IsGrowing files.now (files_of files.now (kind_number kind)) result }
+{
+    for i in 0..files.count(kind) {
+        let Some(file) = files.file_at(kind, i) else {
+            unreachable!();
+        };
+        if blocks_in(files, file) < BlockHead::MOST_BLOCKS {
+            return Some(file);
+        }
+    }
+    None
+}
