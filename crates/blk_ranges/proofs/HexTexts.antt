@@ -15,6 +15,7 @@ use Rattle.std.proofs.Math.Pow.{pow_mono}
 use Rattle.std.proofs.lemmas.Str.Ascii.{IsAscii-nil, IsAscii-cons}
 use Rattle.std.proofs.lemmas.Result.{Ok-from_Ok_iff}
 use Rattle.hex.specs.Hex.{encode_with, lower_digits}
+use Rattle.std.specs.Fmt.{digits}
 use Rattle.blk_format.specs.Names.{hex_byte, hex_text}
 use Rattle.blk_format.proofs.NameLemmas.{text-of}
 
@@ -120,7 +121,7 @@ text-behind-zeros n z digits fits is is_z = elim (cases_lt 0 n) [
     above-top q j n order most = let p : 2 ^ suc j ≤ 2 ^ (suc q + suc q + (suc q + suc q)) = pow_mono (omega arith) in omega (arith, sixteen (suc q), p, most)
 
     one_zero : drop 15 (encode_with lower_digits (bytes_high_first 8 0)) ≡ hex_text 0
-    one_zero = unfold hex_text encode_with in refl
+    one_zero = unfold digits encode_with in refl
 
     of-zero : (n : ℕ) → n ≡ 0 → digits ≡ encode_with lower_digits (bytes_high_first 8 n) → z ≡ min (count_leading_zeros 64 n / 4) 15 → drop z digits ≡ hex_text n
     of-zero n e is at =
@@ -177,7 +178,7 @@ is-text n fits = elim (cases_lt 0 n) [
         numeral = (some-digits n some, all-digits ds below);
         value = digits_value_is 16 (map hex_byte ds) ∙ ap (number_from_digits 16) (digits-back ds below) ∙ number_digits_of 16 n (omega arith);
       })
-  | inr none ↦ let is : n ≡ 0 = omega arith in subst (λ (x : ℕ). IsText x (hex_text x)) (sym is) (unfold hex_text in zero-text)
+  | inr none ↦ let is : n ≡ 0 = omega arith in subst (λ (x : ℕ). IsText x (hex_text x)) (sym is) (unfold digits in zero-text)
 ]
   where
     zero-text : IsText 0 (48 ∷ [])
