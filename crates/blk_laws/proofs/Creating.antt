@@ -122,7 +122,7 @@ module _ (m : State) (y : Layout) (r : IsLayoutOf m y) (v : StoreView) (handle :
     go None is = rw (absent i 0 m.objects apart is, is) refl
 
   -- the new object differs from the old ones in its main item
-  changed : OneChanged m (m.objects ++ Some (new_object key) ∷ []) (main key)
+  pub changed : OneChanged m (m.objects ++ Some (new_object key) ∷ []) (main key)
   unfolding model.row_of
   changed = record {
     rows = λ other apart. ap (option_and_then (λ object. model.row_in object other)) (owner-object-same other apart);

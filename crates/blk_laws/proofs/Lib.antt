@@ -95,3 +95,4 @@ pub mod Charges
 pub mod Kept
 pub mod StoodFor
 pub mod Walked
+pub mod ExampleUses
