@@ -96,3 +96,4 @@ pub mod Kept
 pub mod StoodFor
 pub mod Walked
 pub mod ExampleUses
+pub mod ChainWords
