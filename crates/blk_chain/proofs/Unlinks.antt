@@ -53,7 +53,6 @@ word-beside_write image f at v j beside = ap (λ (l : List ℕ). word_at (conten
 pub next_changes : (w next : ℕ) → kind_of w ≡ blocks_256 → AreChanges (seal_place w) ((4, next) ∷ [])
 unfolding seal_by_kind
 next_changes w next kind = record {
-  some = omega arith;
   few = omega arith;
   aligned = All-cons (λ change. change.0 % 4 ≡ 0) (4, next) [] refl (All-nil (λ change. change.0 % 4 ≡ 0));
   before = All-cons (λ change. change.0 < seal_place w) (4, next) [] (rw kind (omega arith)) (All-nil (λ change. change.0 < seal_place w));
