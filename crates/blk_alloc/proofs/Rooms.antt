@@ -31,7 +31,7 @@ use Rattle.blk_alloc.specs.Places.{is_place}
 use Rattle.blk_alloc.specs.Extending.{HasCounters, HasMostBlocks, HasNoHints, IsFirstGrowing, KeepsAll}
 use Rattle.blk_alloc.specs.Marking.{CanBeMarked, MarksUsed, taking_of}
 use Rattle.blk_alloc.specs.Allocating.{AreCounted, HaveNoRoom, Allocates, Extends, ExtendsAnd, updating_word}
-use Rattle.blk_alloc.proofs.Formed.{count_whole}
+use Rattle.blk_format.proofs.LinkedHeads.{count_whole}
 use Rattle.blk_alloc.specs.Changes.{map_of}
 use Rattle.blk_alloc.proofs.Changing.{at_updating, within-trans}
 use Rattle.blk_alloc.proofs.Fullness.{full_counts, many_full}

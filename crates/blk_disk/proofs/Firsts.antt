@@ -10,18 +10,6 @@ use Rattle.blk_format.specs.Headers.{next_file_of}
 use Rattle.blk_format.specs.BlockFiles.{file_checks, is_link}
 use Rattle.blk_disk.specs.Loading.{HasRoom, MayBeNext, next_of}
 
--- the link of a file whose checks hold
-pub link_passed : (kind : ℕ) (met : List ℕ) (left n : ℕ) (f : ℕ → ℕ) (size : ℕ) → first_of (file_checks kind met left n f size) ≡ None → is_link met left (next_file_of f) ≡ true
-unfolding file_checks
-link_passed kind met left n f size none = passed (Block n) 8 (word_at f 8) (is_link met left (next_file_of f)) (all_none (file_checks kind met left n f size) none 4)
-
-link_small : (met : List ℕ) (left next : ℕ) → is_link met left next ≡ true → next < 256
-unfolding is_link
-link_small met left next holds = grind (arith, nat_tests)
-
-pub next_small : (kind : ℕ) (met : List ℕ) (left n : ℕ) (f : ℕ → ℕ) (size : ℕ) → first_of (file_checks kind met left n f size) ≡ None → next_file_of f < 256
-next_small kind met left n f size none = link_small met left (next_file_of f) (link_passed kind met left n f size none)
-
 -- the length of a file whose checks hold
 pub length_passed : (kind : ℕ) (met : List ℕ) (left n : ℕ) (f : ℕ → ℕ) (size : ℕ) → first_of (file_checks kind met left n f size) ≡ None → 8192 ≤ size
 unfolding file_checks

@@ -92,3 +92,8 @@ pub mod Searches
 pub mod Files
 pub mod TidyOrder
 pub mod Charges
+pub mod Kept
+pub mod StoodFor
+pub mod Walked
+pub mod ExampleUses
+pub mod ChainWords

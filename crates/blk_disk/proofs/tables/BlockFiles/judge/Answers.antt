@@ -6,7 +6,8 @@ use Rattle.blk_addr.specs.Kind.{kind_number}
 use Rattle.blk_io.specs.Faults.{damage_of}
 use Rattle.blk_disk.specs.Tables.{all_files, files_of}
 use Rattle.blk_disk.specs.Loading.{files_left, HasRoom, MayBeNext, next_of}
-use Rattle.blk_disk.proofs.Firsts.{next_small, link_number, link_passed, link_room}
+use Rattle.blk_format.proofs.LinkedHeads.{next_small, link_passed}
+use Rattle.blk_disk.proofs.Firsts.{link_number, link_room}
 use Rattle.blk_disk.proofs.tables.BlockFiles.judge.Goals as goal
 
 pub next_file-next-requires : goal.next_file-next-requires
