@@ -1,6 +1,6 @@
 -- Writes into the list touch no header of a block file, and no file's length.
 use Rattle.std.proofs.Common.{◌≡◌, ℕ, ◌+◌, ◌<◌, Bool, false, ◌||◌, List, [], ◌∷◌, refl, subst, arith}
-use Rattle.blk_image.specs.Image.{File, Index, Block}
+use Rattle.blk_image.specs.Image.{File, Block}
 use Rattle.blk_image.specs.Footprint.{range}
 use Rattle.blk_format.specs.Address.{file_selector, place}
 use Rattle.blk_format.specs.Sealed.{record_range, record_size}

@@ -1,19 +1,17 @@
 -- A touch of any listed item leaves the state with the item in front.
-use Rattle.std.proofs.Common.{◌≡◌, ℕ, List, [], ◌∷◌, ◌++◌, refl, sym, ◌∙◌, ap, subst, true}
+use Rattle.std.proofs.Common.{◌≡◌, ℕ, List, ◌∷◌, ◌++◌, refl, sym, ◌∙◌, ap, subst, true}
 use Rattle.blk_image.specs.Image.{Image}
 use Rattle.blk_image.specs.Steps.{after}
 use Rattle.blk_image.specs.Footprint.{Footprint}
 use Rattle.blk_image.proofs.Runs.{until_last}
-use Rattle.blk_model.specs.Items.{Item}
 use Rattle.blk_model.specs.State.{State, IsValidState}
 use Rattle.blk_model.specs.Effects.{used}
-use Rattle.blk_volume.specs.View.{View, StoreView, view_of, store_of, list_of}
+use Rattle.blk_volume.specs.View.{view_of, store_of, list_of}
 use Rattle.blk_volume.specs.ListView.{ListWrite, IsList, IsAtRest, after_writes}
 use Rattle.blk_volume.specs.ListPlans.{touch_writes}
-use Rattle.blk_volume.specs.Layout.{Layout, Represents, order, nodes_of, is_listed}
+use Rattle.blk_volume.specs.Layout.{Represents, order, nodes_of}
 use Rattle.blk_volume.specs.ListSteps.{IsTouched}
-use Rattle.blk_volume.specs.ListImages.{IsWritable, steps_of_touch}
-use Rattle.blk_volume.specs.Tidy.{HasState}
+use Rattle.blk_volume.specs.ListImages.{steps_of_touch}
 use Rattle.blk_laws.specs.TidyLaws.{StatesAreStoodFor, TouchesKeepStates}
 use Rattle.blk_laws.proofs.ListCompletions.{listed}
 use Rattle.blk_laws.proofs.Opening.{IsAround, around, nodes-append}
