@@ -125,6 +125,8 @@ frees_moment from image w same marks =
     let longer : (m : ℕ) → length_of from (Block m) ≤ length_of image (Block m) = (λ m. let e = same.lengths (Block m) refl in omega (arith, e)) in
     record {
       marks = marks;
-      grown = grown_spared (map_of (file_selector w)) from image (map_spares (file_selector w)) same longer;
-      formed = formed_spared (map_of (file_selector w)) from image (map_spares (file_selector w)) same longer;
+      stays = record {
+        grown = grown_spared (map_of (file_selector w)) from image (map_spares (file_selector w)) same longer;
+        formed = formed_spared (map_of (file_selector w)) from image (map_spares (file_selector w)) same longer;
+      };
     }

@@ -32,4 +32,7 @@ pub mod Remade
 pub mod Fitted
 pub mod Owned
 pub mod Rebuilt
-pub mod Externals
+pub mod Links
+pub mod Staying
+pub mod Moments
+pub mod Spared

@@ -16,7 +16,7 @@ use Rattle.blk_addr.specs.Bits.{is_between}
 use Rattle.blk_addr.specs.Claims.{IsClaimsOf}
 use Rattle.blk_addr.specs.declared.claim_set.Claims.{Claims}
 use Rattle.blk_addr.proofs.ClaimLemmas.{claims_of-external, has_claim-append, repeats-append}
-use Rattle.blk_disk.specs.Growth.{KeepsBlocks}
+use Rattle.blk_format.specs.Growth.{KeepsBlocks}
 use Rattle.blk_alloc.specs.Owning.{is_of}
 use Rattle.blk_alloc.specs.Rebuilding.{words_in, IsRebuilt}
 use Rattle.blk_alloc.proofs.Lists.{claims_blocks, filter_cons, once_parts, first_once, apart_all, or_true, or_left, or_right}

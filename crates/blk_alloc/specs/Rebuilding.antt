@@ -3,6 +3,7 @@ use Rattle.std.specs.Prelude.{◌≡◌, ◌⊎◌, ℕ, ◌<◌, ◌≤◌, Lis
 use Rattle.std.specs.List.{All}
 use Rattle.blk_image.specs.Image.{File, Block, Image, byte, length_of}
 use Rattle.blk_image.specs.Footprint.{Footprint, SameOutside, either, one_word, range}
+use Rattle.blk_format.specs.Growth.{StaysWhole}
 use Rattle.blk_format.specs.Claims.{BlockOf, is_in_file}
 use Rattle.blk_format.specs.Headers.{allocations_of, updating_of}
 use Rattle.blk_format.specs.BlockFiles.{is_among, most_blocks, stands_in}
@@ -79,8 +80,9 @@ KeepsBytes n from image = (i : ℕ) → is_updating_place i ≡ false → byte i
 abbrev pub IsInHand : Claims → ℕ → Image → Image → Type 0
 IsInHand claims n from image = KeepsBytes n from image ⊎ ((updating_of (byte image (Block n)) ≡ 1) ⊎ IsRebuilt claims image n)
 
--- a moment: some block files are in hand, none is shorter than before, and nothing else differs
+-- at each word: some block files are in hand, none is shorter than before, and nothing else differs; so files have grown at most, and a well-formed folder is well formed
 pub record IsRebuilding (claims : Claims) (numbers : List ℕ) (from image : Image) : Type 0 where
   pub same : SameOutside (rebuilding_of numbers) from image
   pub longer : (n : ℕ) → length_of from (Block n) ≤ length_of image (Block n)
   pub each : (n : ℕ) → is_among numbers n ≡ true → IsInHand claims n from image
+  pub stays : StaysWhole from image

@@ -9,6 +9,7 @@ mod finishing;
 mod fitting;
 mod freeing;
 mod allocating;
+mod laws;
 mod layout;
 mod extending;
 mod map;
@@ -18,6 +19,7 @@ mod marking;
 
 pub use freeing::free;
 pub use allocating::allocate;
+pub use laws::{counted_files, counts_stay};
 pub use rebuilding::rebuild;
 
 #[cfg(test)]

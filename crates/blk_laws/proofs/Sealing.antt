@@ -22,7 +22,7 @@ use Rattle.blk_format.proofs.SealedRecords.{node_seal, node_bytes, moments, upda
 use Rattle.blk_volume.specs.ListView.{IsAtRest, ListWrite, Next, Prev, Head, Tail, Transaction, Operation}
 use Rattle.blk_volume.specs.ListPlans.{touch_writes}
 use Rattle.blk_volume.specs.View.{list_of, node_at}
-use Rattle.blk_volume.specs.ListSteps.{AreOf, AreSealed, IsSealed, KeepsSealed, steps_of, times_of, write_steps}
+use Rattle.blk_volume.specs.ListSteps.{AreOf, AreSealed, IsSealed, KeepsSealed, Seals, steps_of, times_of, touch_steps, write_steps}
 use Rattle.blk_volume.specs.ListImages.{IsWritable, CanBeMade, steps_of_touch}
 use Rattle.blk_laws.specs.ListWords.{WritesSealTheirNodes, WritesKeepSeals, NodeUpdatesKeepSeals, TouchesSealTheirNodes, TouchesKeepSeals}
 use Rattle.blk_laws.proofs.ListCompletions.{listed}
@@ -147,11 +147,6 @@ word_keeps from at x bytes_from bytes_image u kind sealed =
     let image : Image = applied (Word Index at (word_bytes x)) from in
     stays_sealed (one_word Index at) from image u bytes_from bytes_image kind (outside_write Index at (word_bytes x) from) (λ i low high. index_apart at u i) sealed
 
--- after writes their nodes are sealed, and so are those that were
-pub record Seals (from : Image) (writes : List ListWrite) (image : Image) : Type 0 where
-  pub sealed : AreSealed writes image
-  pub keeps : KeepsSealed from image
-
 write_seals : (write : ListWrite) (from : Image) → IsWritable from → CanBeMade from (write ∷ []) → AreBytes (after (write_steps write from) from) → Seals from (write ∷ []) (after (write_steps write from) from)
 unfolding write_steps
 write_seals (Next w x) from ready can bytes = let r = link_reseals from ready w 16 x can.nodes.0 refl (omega arith) in record { sealed = (r.sealed, tt); keeps = r.keeps }
@@ -202,40 +197,28 @@ writes-keep image writes ready can = (writes_seal writes image ready can).keeps
 pub node-updates : NodeUpdatesKeepSeals
 node-updates image node changes ready good are inside = let r = reseals image ready node good changes are inside in (r.sealed, r.keeps)
 
+-- writes, and then the times of a node
+pub touch_seals : (image : Image) (node moment : ℕ) → IsWritable image → (list_of image).checks node ≡ true → (ws : List ListWrite) → CanBeMade image ws
+    → Seals image ws (after (touch_steps node moment ws image) image) × IsSealed (after (touch_steps node moment ws image) image) node
+touch_seals image node moment ready good ws can =
+    let i : Image = after (steps_of ws image) image in
+    let kind = checked-kind image node good in
+    let seal = node_seal node kind in
+    let first = writes_seal ws image ready can in
+    let all : All (λ c. c.0 + 4 ≤ seal_place node) (times_of moment) = each (λ c. c.0 + 4 ≤ seal_place node) (0, moment % 2 ^ 32) (4, moment / 2 ^ 32) (8, moment % 2 ^ 32) (12, moment / 2 ^ 32) (omega (arith, seal)) (omega (arith, seal)) (omega (arith, seal)) (omega (arith, seal)) in
+    let times = reseals i (writable-writes ws image ready) node (still_checks image ready node moment good ws can) (times_of moment) (times_are node moment kind) all in
+    let last : Image = after (sealed_steps i node (times_of moment)) i in
+    subst (λ (last : Image). Seals image ws last × IsSealed last node) (sym (after-append (steps_of ws image) (sealed_steps i node (times_of moment)) image))
+    (record { sealed = still_sealed image ws i last can.nodes first.sealed times.keeps; keeps = λ u kind sealed. times.keeps u kind (first.keeps u kind sealed) }, times.sealed)
+
 -- a touch
-module _ (image : Image) (node moment : ℕ) (prefix suffix : List ℕ) (ready : IsWritable image) (rest : IsAtRest (list_of image) (prefix ++ node ∷ suffix)) where
-  abbrev ws : List ListWrite
-  ws = touch_writes node (list_of image)
-
-  abbrev between : Image
-  between = after (steps_of ws image) image
-
-  good : (list_of image).checks node ≡ true
-  good = (listed node (list_of image) prefix suffix rest.whole).good
-
-  can : CanBeMade image ws
-  can = touches-can image node prefix suffix rest
-
-  first : Seals image ws between
-  first = writes_seal ws image ready can
-
-  times : Reseals between node (after (sealed_steps between node (times_of moment)) between)
-  times =
-      let kind = checked-kind image node good in
-      let seal = node_seal node kind in
-      let all : All (λ c. c.0 + 4 ≤ seal_place node) (times_of moment) = each (λ c. c.0 + 4 ≤ seal_place node) (0, moment % 2 ^ 32) (4, moment / 2 ^ 32) (8, moment % 2 ^ 32) (12, moment / 2 ^ 32) (omega (arith, seal)) (omega (arith, seal)) (omega (arith, seal)) (omega (arith, seal)) in
-      reseals between (writable-writes ws image ready) node (still_checks image ready node moment good ws can) (times_of moment) (times_are node moment kind) all
-
-  touch-seals : AreSealed ws (after (steps_of_touch node moment image) image) × IsSealed (after (steps_of_touch node moment image) image) node
-  touch-seals =
-      subst (λ (last : Image). AreSealed ws last × IsSealed last node) (sym (after-append (steps_of ws image) (sealed_steps between node (times_of moment)) image))
-      (still_sealed image ws between (after (sealed_steps between node (times_of moment)) between) can.nodes first.sealed times.keeps, times.sealed)
-
-  touch-keeps : KeepsSealed image (after (steps_of_touch node moment image) image)
-  touch-keeps = subst (KeepsSealed image) (sym (after-append (steps_of ws image) (sealed_steps between node (times_of moment)) image)) (λ u k s. times.keeps u k (first.keeps u k s))
+touch_made : (image : Image) (node moment : ℕ) (prefix suffix : List ℕ) → IsWritable image → IsAtRest (list_of image) (prefix ++ node ∷ suffix)
+    → Seals image (touch_writes node (list_of image)) (after (steps_of_touch node moment image) image) × IsSealed (after (steps_of_touch node moment image) image) node
+touch_made image node moment prefix suffix ready rest =
+    touch_seals image node moment ready (listed node (list_of image) prefix suffix rest.whole).good (touch_writes node (list_of image)) (touches-can image node prefix suffix rest)
 
 pub touches-seal : TouchesSealTheirNodes
-touches-seal image node moment prefix suffix ready rest = touch-seals image node moment prefix suffix ready rest
+touches-seal image node moment prefix suffix ready rest = let made = touch_made image node moment prefix suffix ready rest in (made.0.sealed, made.1)
 
 pub touches-keep : TouchesKeepSeals
-touches-keep image node moment prefix suffix ready rest = touch-keeps image node moment prefix suffix ready rest
+touches-keep image node moment prefix suffix ready rest = (touch_made image node moment prefix suffix ready rest).0.keeps

@@ -7,6 +7,7 @@ use Rattle.blk_volume.specs.ListView.{ListView, first_or, last_or, Distinct, Seg
 use Rattle.blk_laws.proofs.ListCompletions.{last_good}
 use Rattle.blk_laws.proofs.Lists.{split, last-append, not_zero, apart_right, Distinct-right, eqb-sym}
 use Rattle.blk_lru.specs.Lists.{first_of, last_of}
+use Rattle.blk_lru.specs.Plans.{word_or_zero}
 
 -- a list around one of its words
 pub record Splits (words : List ℕ) (word : ℕ) : Type 0 where
@@ -111,3 +112,11 @@ linked list prefix node suffix is = go prefix suffix is.distinct (split list.che
       next_is = other (list.next node) node y s.1.0.next_is (or_parts (eqb y node) (is_among ys node) (Distinct-right (x ∷ xs) (node ∷ y ∷ ys) d).0).0;
       prev_is = other (list.prev node) node (last_or x xs) s.1.0.prev_is (eqb-sym node (last_or x xs) (or_parts (eqb node (last_or x xs)) (is_among (y ∷ ys) (last_or x xs)) (apart_right x xs (node ∷ y ∷ ys) d)).0);
     }
+
+-- a word or 0, as what it names
+pub word_back : (w : ℕ) → word_or_zero (if w == 0 then None else Some w) ≡ w
+word_back w = by_test (w == 0) refl
+  where
+    by_test : (t : Bool) → (w == 0) ≡ t → word_or_zero (if t then None else Some w) ≡ w
+    by_test true e = sym (eqb-true w 0 e)
+    by_test false e = refl

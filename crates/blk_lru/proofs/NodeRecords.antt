@@ -1,12 +1,12 @@
 -- A node that checks, as a record of bytes.
-use Rattle.std.proofs.Common.{◌≡◌, ℕ, ◌+◌, ◌≤◌, Bool, true, false, if◌then◌else◌, None, Some, List, refl, ap, sym, ◌∙◌, arith}
+use Rattle.std.proofs.Common.{◌≡◌, ℕ, ◌+◌, ◌≤◌, Bool, true, false, if◌then◌else◌, None, Some, List, refl, ap, sym, ◌∙◌, subst, arith}
 use Rattle.blk_image.specs.Bytes.{content, word_at, range_at}
 use Rattle.blk_image.specs.Image.{Block, Image, AreBytes, byte}
 use Rattle.blk_format.specs.Address.{file_selector, place}
 use Rattle.blk_format.specs.Records.{checks}
-use Rattle.blk_format.specs.Sealed.{record_at}
+use Rattle.blk_format.specs.Sealed.{record_at, RecordChecks}
 use Rattle.blk_format.proofs.SealedFields.{record_word}
-use Rattle.blk_format.proofs.SealedRecords.{node_bytes}
+use Rattle.blk_format.proofs.SealedRecords.{node_bytes, node_seal}
 use Rattle.blk_volume.specs.View.{checks_at, list_of}
 use Rattle.blk_laws.proofs.NodeRecords.{checks_bytes}
 use Rattle.blk_disk.proofs.SealedReads.{record_read}
@@ -46,3 +46,9 @@ found_none files image w agrees none = go ((list_of image).checks w) refl
     go : (t : Bool) → (list_of image).checks w ≡ t → t ≡ false
     go true e = sym (checked_names files image agrees w e) ∙ none
     go false e = refl
+
+-- a node's record that checks says that the node does
+pub checks_back : (files : BlockFiles) (image : Image) (w : ℕ) → Agrees files image → AreBytes image → is_node files w ≡ true → RecordChecks w image → (list_of image).checks w ≡ true
+unfolding list_of checks_at
+checks_back files image w agrees small is good =
+    rw (stands_as_node files image agrees w is) (checks_bytes image w small (node_kind files w is) ∙ subst (λ (s : ℕ). checks s (record_at image w) ≡ true) (node_seal w (node_kind files w is)) good)

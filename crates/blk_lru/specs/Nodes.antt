@@ -7,6 +7,7 @@ use Rattle.blk_format.specs.Address.{is_address, kind_of, rankings, file_selecto
 use Rattle.blk_io.specs.declared.folder.FileId.{FileId}
 use Rattle.blk_io.specs.declared.fault.Damage.{Damage}
 use Rattle.blk_io.specs.FileNames.{file_of}
+use Rattle.blk_record.specs.declared.node.TheConstants.NodeView as NodeView
 use Rattle.blk_disk.specs.declared.tables.BlockFiles.{BlockFiles}
 use Rattle.blk_disk.specs.Tables.{stands_among}
 use Rattle.blk_volume.specs.ListView.{ListView}
@@ -29,7 +30,7 @@ pub record IsDangling (files : BlockFiles) (told : Told) (file : FileId) (at : �
 
 -- the places of a node's links: next, and prev
 abbrev pub IsLinkPlace : ℕ → Type 0
-IsLinkPlace at = (at ≡ 16) ⊎ (at ≡ 20)
+IsLinkPlace at = (at ≡ NodeView.NEXT) ⊎ (at ≡ NodeView.PREV)
 
 -- the link of a node
 abbrev pub link_at : Image → ℕ → ℕ → ℕ

@@ -16,9 +16,9 @@ operation_writes list =
 abbrev pub pending_writes : ListView → List ListWrite
 pending_writes list = operation_writes list ++ Transaction 0 ∷ []
 
--- what completing writes
+-- what completing writes: nothing where no operation is in flight, what is pending of one that counts, and else the end of its transaction alone
 unfoldable pub completion_writes : ListView → List ListWrite
-completion_writes list = if counts list then pending_writes list else Transaction 0 ∷ []
+completion_writes list = if list.transaction == 0 then [] else (if counts list then pending_writes list else Transaction 0 ∷ [])
 
 -- the writes of an operation on a node, by its code: the operation word, the transaction word, and then what is pending
 abbrev pub writes_of : (code node : ℕ) → ListView → List ListWrite

@@ -69,6 +69,11 @@ KeepsSealed from image = (node : ℕ) → kind_of node ≡ rankings → IsSealed
 abbrev pub AreSealed : List ListWrite → Image → Type 0
 AreSealed writes image = AreOf (IsSealed image) writes
 
+-- the nodes that are written are sealed, and so is each that was
+pub record Seals (from : Image) (writes : List ListWrite) (image : Image) : Type 0 where
+  pub sealed : AreSealed writes image
+  pub keeps : KeepsSealed from image
+
 -- both times of a node are a moment
 pub record AreTimes (node moment : ℕ) (image : Image) : Type 0 where
   pub used : (node_at image node).last_used ≡ moment

@@ -6,7 +6,7 @@ use Rattle.blk_disk.specs.declared.tables.BlockFiles.{BlockFiles}
 use Rattle.blk_disk.specs.Tables.{all_files}
 use Rattle.blk_alloc.proofs.Fitted.{fitted_larger}
 use Rattle.blk_alloc.proofs.Kept.{standing_kept}
-use Rattle.blk_alloc.proofs.Rebuilt.{HasRebuilt, none_rebuilt, next_none, next_rebuilt, next_stops, all_allocations, all_blocks, all_formed, all_rebuilt}
+use Rattle.blk_alloc.proofs.Rebuilt.{HasRebuilt, none_rebuilt, next_none, next_rebuilt, next_stops, all_allocations, all_rebuilt}
 use Rattle.blk_alloc.proofs.rebuilding.rebuild.Goals as goal
 use Rattle.blk_alloc.proofs.rebuilding.rebuild.Goals.{then-is_some+in_ok-rebuild_file, else-is_some}
 
@@ -22,12 +22,6 @@ pub returns-in_err-rebuild_file-clause-stops : goal.returns-in_err-rebuild_file-
 returns-in_err-rebuild_file-clause-stops g c =
     next_stops (g.F.Folder.told c.args.f.now) (g.F.Folder.told c.loop-number.f) c.args.files.now c.loop-number.files c.args.claims.now c.loop-number.number c.loop-number.invariant.has (g.F.Folder.told c.rebuild_file.new.f)
     (sym (linked_is (is_among (all_files c.loop-number.files) c.loop-number.number) _ c.max_entries.result c.is_some.result c.max_entries.ensures c.is_some.ensures) ∙ c.if-is_some.true) c.rebuild_file.ensures.stops
-
-pub returns-in_err-rebuild_file-clause-blocks : goal.returns-in_err-rebuild_file-clause-blocks
-returns-in_err-rebuild_file-clause-blocks g c = all_blocks (g.F.Folder.told c.args.f.now) (g.F.Folder.told c.rebuild_file.new.f) c.args.files.now c.args.claims.now (returns-in_err-rebuild_file-clause-stops g c)
-
-pub returns-in_err-rebuild_file-clause-formed : goal.returns-in_err-rebuild_file-clause-formed
-returns-in_err-rebuild_file-clause-formed g c = all_formed (g.F.Folder.told c.args.f.now) (g.F.Folder.told c.rebuild_file.new.f) c.args.files.now c.args.claims.now (returns-in_err-rebuild_file-clause-stops g c)
 
 pub loop-number-preserved : goal.loop-number-preserved
 loop-number-preserved g c = elim c.if-is_some.branch [
@@ -57,12 +51,6 @@ returns-clause-rebuilt g c = all_rebuilt (g.F.Folder.told c.args.f.now) (g.F.Fol
 
 pub returns-clause-allocations : goal.returns-clause-allocations
 returns-clause-allocations g c = all_allocations (g.F.Folder.told c.args.f.now) (g.F.Folder.told c.loop-number.f) c.args.files.now c.loop-number.files c.args.claims.now c.loop-number.number c.loop-number-test.false c.requires.agrees c.loop-number.invariant.has
-
-pub returns-clause-blocks : goal.returns-clause-blocks
-returns-clause-blocks g c = all_blocks (g.F.Folder.told c.args.f.now) (g.F.Folder.told c.loop-number.f) c.args.files.now c.args.claims.now c.loop-number.invariant.has.stops
-
-pub returns-clause-formed : goal.returns-clause-formed
-returns-clause-formed g c = all_formed (g.F.Folder.told c.args.f.now) (g.F.Folder.told c.loop-number.f) c.args.files.now c.args.claims.now c.loop-number.invariant.has.stops
 
 pub returns-in_err-rebuild_file-clause-all : goal.returns-in_err-rebuild_file-clause-all
 returns-in_err-rebuild_file-clause-all g c kind = c.rebuild_file.ensures.all kind ∙ c.loop-number.invariant.has.fitted.files kind

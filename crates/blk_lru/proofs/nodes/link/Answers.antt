@@ -31,11 +31,11 @@ pub returns-in_default-clause-damaged : goal.returns-in_default-clause-damaged
 returns-in_default-clause-damaged g c = inr (dangling_here g c)
 
 pub returns-in_default-clause-untold : goal.returns-in_default-clause-untold
-returns-in_default-clause-untold g c =
+returns-in_default-clause-untold g c agrees named =
     let unlike : is_node c.args.files.now c.from_le_bytes-found.result ≡ false = search rules in
     dangling_untold (g.F.Folder.told c.args.f.now).files (λ image. is_node c.args.files.now (link_at image c.args.node c.args.at) ≡ true)
-    (λ image there named. clash (sym named ∙ ap (is_node c.args.files.now) (sym (read_link image c.args.node c.args.at c.read_block.new.out c.from_le_bytes-found.result (c.in_ok-read_block.ensures.bytes image there) c.from_le_bytes-found.ensures)) ∙ unlike))
-    c.requires.named
+    (λ image there names. clash (sym names ∙ ap (is_node c.args.files.now) (sym (read_link image c.args.node c.args.at c.read_block.new.out c.from_le_bytes-found.result (c.in_ok-read_block.ensures.bytes image there) c.from_le_bytes-found.ensures)) ∙ unlike))
+    named
   where
     clash : true ≡ false → ⊥
     clash e = cc
