@@ -1,24 +1,20 @@
 -- What a change of the map of a file leaves as it was.
-use Rattle.std.proofs.Common.{◌≡◌, ◌≢◌, ℕ, zero, suc, ◌+◌, ◌-◌, ◌*◌, ◌<◌, ◌≤◌, ◌⊎◌, inl, inr, List, [], ◌∷◌, ◌++◌, Bool, true, false, ◌&&◌, ◌||◌, if◌then◌else◌, nat_le, nat_lt, Option, None, unwrap_or, refl, sym, ◌∙◌, ap, subst, arith, ⊎_elim}
-use Rattle.std.specs.Prelude.{◌==◌, ◌%◌}
+use Rattle.std.proofs.Common.{◌≡◌, ◌≢◌, ℕ, ◌+◌, ◌-◌, ◌*◌, ◌<◌, ◌≤◌, ◌⊎◌, inl, inr, List, [], Bool, true, false, ◌&&◌, ◌||◌, nat_le, nat_lt, Option, unwrap_or, refl, sym, ◌∙◌, ap, subst, arith}
 use Rattle.std.specs.List.{All}
 use Rattle.std.proofs.lemmas.Bool.Decides.{nat_tests}
 use Rattle.blk_image.specs.Bytes.{content}
-use Rattle.blk_image.specs.Image.{Image, Index, Block, External, same_file, byte, length_of}
-use Rattle.blk_image.specs.Checks.{first_of}
+use Rattle.blk_image.specs.Image.{Image, Index, Block, External, same_file, byte}
 use Rattle.blk_image.specs.Footprint.{SameOutside}
 use Rattle.blk_image.proofs.Footprints.{same_file_outside}
-use Rattle.blk_format.specs.Address.{is_block_kind}
 use Rattle.blk_format.specs.Headers.{allocations_of}
 use Rattle.blk_format.specs.Standing.{stands}
-use Rattle.blk_format.specs.BlockFiles.{is_among, linked, kind_among, files_along, next_file_in, max_entries_in, is_block_count, file_checks, checks_along, checks_of_kind, linked_up_to, first_block_damage, stands_in, IsWellFormed, most_blocks}
+use Rattle.blk_format.specs.BlockFiles.{linked, kind_among, files_along, next_file_in, max_entries_in, is_block_count, stands_in, IsWellFormed}
 use Rattle.blk_format.specs.Maps.{is_block_marked, EmptyAgrees}
 use Rattle.blk_disk.specs.declared.tables.BlockFiles.{BlockFiles}
 use Rattle.blk_disk.specs.Tables.{Agrees}
 use Rattle.blk_format.proofs.SpareHeaders.{other_file}
-use Rattle.blk_format.proofs.Keeping.{KeepsHead, none_parts, each_kind, checks_hold, undamaged_still}
+use Rattle.blk_format.proofs.Keeping.{KeepsHead, undamaged_still}
 use Rattle.blk_disk.proofs.Enlarging.{well_formed_still}
-use Rattle.blk_format.proofs.LinkedHeads.{next_small}
 use Rattle.blk_alloc.specs.Changes.{map_of}
 use Rattle.blk_alloc.specs.Owning.{KeepsFile}
 

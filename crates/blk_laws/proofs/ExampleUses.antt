@@ -1,12 +1,12 @@
 -- The laws of items that are used and that are new, of what is found, of charges, growth and order, each at an example that meets its premises.
-use Rattle.std.proofs.Common.{◌≡◌, ℕ, ◌+◌, ◌<◌, ◌≤◌, ◌⊎◌, inr, List, [], ◌∷◌, length, map, take, refl, ap, sym, ◌∙◌, subst, arith, Bool, true, false, Some, None}
+use Rattle.std.proofs.Common.{◌≡◌, ℕ, zero, suc, ◌+◌, ◌<◌, ◌≤◌, ◌⊎◌, inr, List, [], ◌∷◌, ◌++◌, length, map, take, refl, ap, sym, ◌∙◌, subst, arith, lit<, Bool, true, false, Some, None}
 use Rattle.std.specs.Prelude.{codes, ◌&&◌, ◌==◌, nat_le, nat_lt}
 use Rattle.std.proofs.lemmas.Bool.Decides.{nat_tests}
 use Rattle.std.specs.List.{sum_by}
-use Rattle.blk_image.specs.Image.{Block, Image}
-use Rattle.blk_image.specs.Footprint.{SameOutside, one_word}
-use Rattle.blk_image.specs.Steps.{Delete, Word, applied}
-use Rattle.blk_image.specs.Bytes.{word_bytes}
+use Rattle.blk_image.specs.Image.{File, Index, Block, External, Image, bytes_of}
+use Rattle.blk_image.specs.Footprint.{SameOutside, one_word, range}
+use Rattle.blk_image.specs.Steps.{Delete, Word, applied, after}
+use Rattle.blk_image.specs.Bytes.{word_bytes, zeros}
 use Rattle.blk_image.proofs.Footprints.{outside_write}
 use Rattle.blk_image.proofs.Images.{length-after_write}
 use Rattle.blk_model.specs.Items.{Row, main}
@@ -19,9 +19,9 @@ use Rattle.blk_model.specs.Stops.{StopOutcome}
 use Rattle.blk_model.specs.Totals.{row_charge}
 use Rattle.blk_format.specs.BlockFiles.{is_among, IsWhole}
 use Rattle.blk_format.specs.Growth.{HaveGrown}
-use Rattle.blk_format.specs.Headers.{HasWholeIndex, is_extent_place}
+use Rattle.blk_format.specs.Headers.{HasWholeIndex, index_length, is_extent_place}
 use Rattle.blk_format.specs.Hash.{hash, mixed, of_bytes, of_one}
-use Rattle.blk_format.proofs.Finished.{finished_whole, whole_index}
+use Rattle.blk_format.proofs.Finished.{finished_whole, whole_index as whole_index_is}
 use Rattle.blk_volume.specs.View.{StoreView, view_of, store_of}
 use Rattle.blk_volume.specs.ListView.{after_writes}
 use Rattle.blk_volume.specs.Completion.{insert}
@@ -39,7 +39,13 @@ use Rattle.blk_volume.specs.Footprint.{AgreeBut, is_absent}
 use Rattle.blk_volume.specs.ShownChanges.{ShowsTheSame}
 use Rattle.blk_volume.specs.Sound.{AreSealed, IsInOrder}
 use Rattle.blk_volume.specs.StandsFor.{StandsFor, doomed_of}
-use Rattle.blk_volume.specs.Tidy.{IsTidy}
+use Rattle.blk_volume.specs.Tidy.{IsTidy, HasState, IsBehindHeaders, FilesStand}
+use Rattle.blk_volume.specs.ListImages.{IsWritable, steps_of_touch}
+use Rattle.blk_format.specs.NewFolder.{new_index_words, new_file_words}
+use Rattle.blk_laws.proofs.Counting.{files-stand}
+use Rattle.blk_laws.proofs.TouchedStates.{states-stand, touched-state}
+use Rattle.blk_laws.proofs.ExampleWrites.{small-zeros}
+use Rattle.blk_laws.proofs.Fronts.{AreSmall, small-words}
 use Rattle.blk_volume.specs.Searches.{bucket_of_key, chained_for, HasKey, NoneHasKey, IsOfLive}
 use Rattle.blk_laws.specs.ByteLaws.{IsWithoutFile, IsOfHeaders}
 use Rattle.blk_laws.specs.ChargeLaws.{AreTotals, AreOpenedTotals}
@@ -208,11 +214,44 @@ whole-ordered = tidy-ordered whole_folder (one.state true) (one.layout 0) [] who
 whole-stands_tidy : StandsFor whole_folder (one.state true)
 whole-stands_tidy = tidy-stands whole_folder (one.state true) (one.layout 0) [] whole-is_represented (state_is_valid true) whole-is_allocated whole-is_well_formed whole-tidy
 
+whole-has : HasState (one.state true) (one.layout 0) [] whole_folder
+whole-has = record { valid = state_is_valid true; well_formed = whole-is_well_formed; represents = whole-is_represented; allocated = whole-is_allocated; tidy = whole-tidy }
+
+whole-stands_by_state : StandsFor whole_folder (one.state true)
+whole-stands_by_state = states-stand whole_folder (one.state true) (one.layout 0) [] whole-has
+
+whole-small : (file : File) → AreSmall (bytes_of whole_folder file)
+unfolding whole_folder
+whole-small Index = small-words (new_index_words 50 ++ (8, 1) ∷ (12, 3) ∷ (268, 1) ∷ (288, 0x90000000) ∷ (308, 0x90000000) ∷ (171896, 0xA0010000) ∷ []) (zeros index_length) (small-zeros index_length)
+whole-small (Block zero) = small-words (new_file_words 0 ++ (16, 1) ∷ (20, 1024) ∷ (32, 1) ∷ (36, 255) ∷ (80, 1) ∷ (8208, 0x90000000) ∷ (8212, 0x90000000) ∷ (8216, 0xA0010000) ∷ (8224, 0xfe7f2cf2) ∷ []) (zeros 45056) (small-zeros 45056)
+whole-small (Block (suc zero)) = small-words (new_file_words 1 ++ (16, 2) ∷ (20, 1024) ∷ (28, 1) ∷ (36, 255) ∷ (80, 3) ∷ (8192, 0x115EA782) ∷ (8200, 0x90000000) ∷ (8224, 1) ∷ (8232, 2) ∷ (8248, 0xA0010001) ∷ (8284, 0x2c6f24c8) ∷ (8288, 97) ∷ (8448, 0x7A7A) ∷ []) (zeros 270336) (small-zeros 270336)
+whole-small (Block (suc (suc zero))) = small-words (new_file_words 2) (zeros 8192) (small-zeros 8192)
+whole-small (Block (suc (suc (suc zero)))) = small-words (new_file_words 3) (zeros 8192) (small-zeros 8192)
+whole-small (Block (suc (suc (suc (suc n))))) = λ i. lit< tt
+whole-small (External n) = λ i. lit< tt
+
+whole-writable : IsWritable whole_folder
+whole-writable = record { bytes = λ file i. whole-small file i; has_header = let long = whole_index_is whole_folder whole-is_well_formed in omega (arith, long) }
+
+-- its entry is touched
+touched-has : HasState (record (one.state true) { uses = used (main (codes "a")) (one.state true).uses }) (one.layout 0) [] (after (steps_of_touch one.node 70 whole_folder) whole_folder)
+touched-has = touched-state whole_folder (one.state true) (one.layout 0) [] whole-has whole-writable (main (codes "a")) 70 refl
+
+-- two bytes of its stream are written
+stream-is_behind : IsBehindHeaders (range (Block 1) 8448 2)
+stream-is_behind = record { bytes = λ n i small. behind (1 == n) i small; sizes = λ file. refl } where
+  behind : (b : Bool) (i : ℕ) → i < 8192 → (b && (nat_le 8448 i && nat_lt i (8448 + 2))) ≡ false
+  behind false i small = refl
+  behind true i small = grind (arith, nat_tests)
+
+files-still_stand : FilesStand whole_folder (applied (Word (Block 1) 8448 (121 ∷ 122 ∷ [])) whole_folder)
+files-still_stand = files-stand (range (Block 1) 8448 2) whole_folder (applied (Word (Block 1) 8448 (121 ∷ 122 ∷ [])) whole_folder) stream-is_behind (outside_write (Block 1) 8448 (121 ∷ 122 ∷ []) whole_folder) whole-is_well_formed
+
 whole-found : volume.found whole_folder ≡ rest (one.state true)
 whole-found = stood-found whole_folder (one.state true) whole-stands
 
 whole-whole : IsWhole whole_folder × HasWholeIndex whole_folder
-whole-whole = (finished_whole whole_folder whole-is_well_formed, whole_index whole_folder whole-is_well_formed)
+whole-whole = (finished_whole whole_folder whole-is_well_formed, whole_index_is whole_folder whole-is_well_formed)
 
 kept-is_shown : IsShown (one.store one.contents 0) held_rule (kept_nodes (one.store one.contents 0) held_rule (one.node ∷ [])) (kept_as (one.store one.contents 0) held_rule (one.node ∷ []))
 kept-is_shown = kept-shown (one.store one.contents 0) held_rule (one.node ∷ []) (refl, tt)

@@ -97,3 +97,8 @@ pub mod StoodFor
 pub mod Walked
 pub mod ExampleUses
 pub mod ChainWords
+pub mod ListFootprints
+pub mod Moving
+pub mod Counting
+pub mod Tidying
+pub mod TouchedStates

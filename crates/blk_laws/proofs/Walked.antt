@@ -45,10 +45,13 @@ module _ (checks : ℕ → Bool) (next prev : ℕ → ℕ) where
         → Distinct (if t then (word ∷ (if s then [] else walk_from checks next prev most (word ∷ met) word (next word))) else [])
     go false s more fresh = tt
     go true true more fresh = (refl, tt)
-    go true false more fresh = (⊎_elim
-      (λ (h : is_among (walk_from checks next prev most (word ∷ met) word (next word)) word ≡ true). absurd (let c : true ≡ false = sym (or_left (word == word) (is_among met word) (eq-eqb word word refl)) ∙ fresh h in cc))
-      (λ (h : is_among (walk_from checks next prev most (word ∷ met) word (next word)) word ≡ false). h)
-      (cases_Bool (is_among (walk_from checks next prev most (word ∷ met) word (next word)) word)), more)
+    go true false more fresh = (
+      ⊎_elim
+          (λ (h : is_among (walk_from checks next prev most (word ∷ met) word (next word)) word ≡ true). absurd (let c : true ≡ false = sym (or_left (word == word) (is_among met word) (eq-eqb word word refl)) ∙ fresh h in cc))
+          (λ (h : is_among (walk_from checks next prev most (word ∷ met) word (next word)) word ≡ false). h)
+          (cases_Bool (is_among (walk_from checks next prev most (word ∷ met) word (next word)) word)),
+      more,
+    )
 
   check-first : (b c d : Bool) → (b && not c && d) ≡ true → b ≡ true
   check-first true c d e = refl

@@ -13,6 +13,7 @@ ghost use Rattle.blk_laws.specs.StateLaws.{WalksAreTheOrder, ListedAreTheRows, N
 ghost use Rattle.blk_laws.specs.ItemLaws.{SameStoresRepresent, TouchedItemsAtEachWrite, TouchedItemsEnd, NewItemsArePlaced};
 ghost use Rattle.blk_laws.specs.SearchLaws.{ChainsAreTheLayouts, RepresentedChainsAreShort, RepresentedChainsCanBeSearched, FoundRecordsAreLive, NoneFoundIsMissing};
 ghost use Rattle.blk_laws.specs.ChargeLaws.{PartNamesAreNames, ItemsAreChargedAsRows, ListedChargesAreTheRows, ListedChargesAreTheTotals, OpenedChargesAreTheTotals};
+ghost use Rattle.blk_laws.specs.TidyLaws.{FilesStandBehindHeaders, StatesAreStoodFor, TouchesKeepStates};
 
 mod list_words;
 mod mid_updates;
@@ -294,4 +295,11 @@ pub fn charges_are_the_totals()
     ensures rows { ListedChargesAreTheRows }
     ensures totals { ListedChargesAreTheTotals }
     ensures opened { OpenedChargesAreTheTotals }
+{}
+
+/// A change behind the headers leaves the files as they stand; an image that has a state stands for it, and a touch of any listed item leaves one with the item in front.
+pub fn states_are_had()
+    ensures files { FilesStandBehindHeaders }
+    ensures stands { StatesAreStoodFor }
+    ensures touched { TouchesKeepStates }
 {}
