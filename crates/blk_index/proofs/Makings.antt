@@ -35,9 +35,10 @@ last_past image first before (file ∷ files) last lists past =
 -- so are those that follow it
 lists_same : (a b : Image) (first before : File) (files : List File) (last : File) → ((f : File) → IsBefore first f → has_file b f ≡ has_file a f) → (IsBefore before first → ⊥) → Lists a before files last → Lists b before files last
 lists_same a b first before [] last same past is = is
-lists_same a b first before (file ∷ files) last same past lists =
-    (next_same a b before (Some file) (λ f behind. same f (before_past before first f past behind)) lists.0,
-    lists_same a b first file files last same (λ early. past (before_trans before file first (lists.0.follows file refl) early)) lists.1)
+lists_same a b first before (file ∷ files) last same past lists = (
+  next_same a b before (Some file) (λ f behind. same f (before_past before first f past behind)) lists.0,
+  lists_same a b first file files last same (λ early. past (before_trans before file first (lists.0.follows file refl) early)) lists.1,
+)
 
 -- a file is listed up to the last
 up_to : (image : Image) (before : File) (files : List File) (last : File) → Lists image before files last → (before ≡ last) ⊎ IsBefore before last
@@ -92,11 +93,12 @@ all_cleared {a} {b} {last} cleared is = record {
   deleted = cleared.deleted;
   last = last;
   listed = λ from there.
-      let lists = cleared.listed from there in
-      (lists,
-      next_same (after (deletions cleared.deleted) from) from last None
-      (λ f behind. sym (ap is_some (past_deletions from (Block 3) cleared.deleted last lists from f behind)))
-      (is _ (files_after cleared.applies from there)));
+      let lists = cleared.listed from there in (
+        lists,
+        next_same (after (deletions cleared.deleted) from) from last None
+            (λ f behind. sym (ap is_some (past_deletions from (Block 3) cleared.deleted last lists from f behind)))
+            (is _ (files_after cleared.applies from there)),
+      );
   applies = cleared.applies;
 }
 
@@ -126,11 +128,12 @@ making_begun {a} {m} {b} blank clears = record {
   deleted = clears.deleted;
   last = clears.last;
   listed = λ from there.
-      let listed = listed_before clears.deleted clears.last blank (λ image here. (clears.listed image here).0) from there in
-      (listed,
-      next_same (after blank_steps from) from clears.last None
-      (λ f behind. blank_past from f (before_past clears.last (Block 3) f (last_past from (Block 3) (Block 3) clears.deleted clears.last listed (not_before (Block 3))) behind))
-      (clears.listed _ (files_after blank from there)).1);
+      let listed = listed_before clears.deleted clears.last blank (λ image here. (clears.listed image here).0) from there in (
+        listed,
+        next_same (after blank_steps from) from clears.last None
+            (λ f behind. blank_past from f (before_past clears.last (Block 3) f (last_past from (Block 3) (Block 3) clears.deleted clears.last listed (not_before (Block 3))) behind))
+            (clears.listed _ (files_after blank from there)).1,
+      );
   applies = subst (Applies a b) (sym (append-nil (blank_steps ++ deletions clears.deleted))) (grows_then blank clears.applies);
 }
 

@@ -109,10 +109,11 @@ fn the_last_piece_of_the_table_is_read_by_one_call(rt: HostRuntime) -> Result<()
     let mut f = MemFolder::new(rt.alloc());
     f.set_len(FileId::Index, INDEX_LEN)?;
     assert_eq!(rt; write_three(&mut f), Ok(true));
-    let calls = f.calls();
     let mut out = [7; 1024];
     assert_eq!(rt; buckets(&mut f, 64512, &mut out), Ok(()));
-    assert_eq!(rt; f.calls(), calls + 1);
+
+    // Five calls made the table.
+    assert_eq!(rt; f.calls(), 5 + 1);
     assert_eq!(rt; (out[0], out[1022], out[1023]), (0, 0, 0xA101_0002));
     Ok(())
 }

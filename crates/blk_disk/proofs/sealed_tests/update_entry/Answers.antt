@@ -6,11 +6,11 @@ use Rattle.blk_disk.proofs.Agreeing.{loaded_agrees}
 use Rattle.blk_disk.proofs.sealed_tests.update_entry.Goals as goal
 
 pub update_sealed-requires-clause-begins : goal.update_sealed-requires-clause-begins
-update_sealed-requires-clause-begins g c = inr (c.entry.ensures.kind c.in-Some.addr c.in-Some.is)
+update_sealed-requires-clause-begins g c = inr c.in-Some.ensures.kind
 
 pub update_sealed-requires-clause-changes : goal.update_sealed-requires-clause-changes
 update_sealed-requires-clause-changes g c =
-    let seal = entry_seal c.in-Some.addr (c.entry.ensures.kind c.in-Some.addr c.in-Some.is) in
+    let seal = entry_seal c.in-Some.addr c.in-Some.ensures.kind in
     are_three (seal_place c.in-Some.addr) _ _ _ (omega (arith, seal))
 
 pub update_sealed-requires-clause-agrees : goal.update_sealed-requires-clause-agrees
