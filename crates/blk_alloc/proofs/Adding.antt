@@ -72,7 +72,7 @@ module _ (mid : Image) (kind n : ℕ) (file : mid (Block n) ≡ Some (new_header
   unfolding max_entries_in
   no_blocks = ap (λ (l : List ℕ). max_entries_of (content l)) bytes_new ∙ zero_word kind n 20 (omega arith)
 
-  new_empty : EmptyAgrees mid n
+  pub new_empty : EmptyAgrees mid n
   unfolding EmptyAgrees groups_with
   new_empty i small =
       let none : empty_of (byte mid (Block n)) i ≡ 0 = ap (λ (l : List ℕ). empty_of (content l) i) bytes_new ∙ zero_word kind n (24 + 4 * i) (omega arith) in
@@ -143,3 +143,8 @@ added_file files image k block_kind agrees few least =
         ap (λ (i : Image). i (Block n)) (after-append (make_steps (suc p) n) (link_steps (last_file files (suc p)) n) image)
         ∙ other-word made (Block (last_file files (suc p))) (Block n) 10 (n % 256 ∷ n / 256 % 256 ∷ []) (other_file (last_file files (suc p)) n (λ e. last_apart files image p small agrees room least (sym e)))
         ∙ ap (λ (i : Image). i (Block n)) (made_is (suc p) n image) ∙ with_file-same image (Block n) (Some (new_header (suc p) n))
+
+-- a file that was added has true counters
+pub added_counters : (files : BlockFiles) (image : Image) (k : Kind) → kind_number k ≢ 0 → Agrees files image → length (files_of files (kind_number k)) < 60 → IsLeastFree files (free_number files)
+    → HasCounters (after (add_steps files (kind_number k)) image) (free_number files)
+added_counters files image k block_kind agrees few least = new_counters (after (add_steps files (kind_number k)) image) (kind_number k) (free_number files) (added_file files image k block_kind agrees few least)

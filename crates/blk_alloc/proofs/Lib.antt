@@ -1,6 +1,5 @@
 pub mod MapBits
 pub mod SideBySide
-pub mod Groups
 pub mod Headers
 pub mod Plans
 pub mod Changing
@@ -33,4 +32,8 @@ pub mod Remade
 pub mod Fitted
 pub mod Owned
 pub mod Rebuilt
-pub mod Externals
+pub mod Links
+pub mod Staying
+pub mod Moments
+pub mod Spared
+pub mod Alike

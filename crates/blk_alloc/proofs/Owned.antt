@@ -16,7 +16,7 @@ use Rattle.blk_addr.specs.Bits.{is_between}
 use Rattle.blk_addr.specs.Claims.{IsClaimsOf}
 use Rattle.blk_addr.specs.declared.claim_set.Claims.{Claims}
 use Rattle.blk_addr.proofs.ClaimLemmas.{claims_of-external, has_claim-append, repeats-append}
-use Rattle.blk_disk.specs.Growth.{KeepsBlocks}
+use Rattle.blk_format.specs.Growth.{KeepsBlocks}
 use Rattle.blk_alloc.specs.Owning.{is_of}
 use Rattle.blk_alloc.specs.Rebuilding.{words_in, IsRebuilt}
 use Rattle.blk_alloc.proofs.Lists.{claims_blocks, filter_cons, once_parts, first_once, apart_all, or_true, or_left, or_right}
@@ -65,7 +65,7 @@ other_file : (n b w : ℕ) → kind_of w ≢ external → is_in_file n w ≡ fal
 unfolding is_of is_in_file
 other_file n b w block_kind apart = let test : (kind_of w == external) ≡ false = grind (arith, nat_tests) in let differs : (file_selector w == n) ≡ false = grind (arith, nat_tests) in ap (λ (t : Bool). t && is_between (first_block w) (first_block w + block_count w) b) differs
 
-none_claimed : (n b w : ℕ) → is_in_file n w ≡ false → has_claim (claims_of w) (BlockOf n b) ≡ false
+pub none_claimed : (n b w : ℕ) → is_in_file n w ≡ false → has_claim (claims_of w) (BlockOf n b) ≡ false
 none_claimed n b w apart =
     ⊎_elim (λ (none : w ≡ 0). ap (λ (x : ℕ). has_claim (claims_of x) (BlockOf n b)) none ∙ unfolded_zero n b)
     (λ (some : w ≢ 0).
@@ -76,7 +76,7 @@ none_claimed n b w apart =
     no_block m = unfold has_claim in refl
 
 -- the blocks of a file that all addresses claim are those that the addresses of the file claim
-claims_here : (n b : ℕ) (words : List ℕ) → has_claim (claims_of_all words) (BlockOf n b) ≡ has_claim (claims_of_all (words_in n words)) (BlockOf n b)
+pub claims_here : (n b : ℕ) (words : List ℕ) → has_claim (claims_of_all words) (BlockOf n b) ≡ has_claim (claims_of_all (words_in n words)) (BlockOf n b)
 claims_here n b [] = refl
 claims_here n b (w ∷ words) = has_claim-append (claims_of w) (claims_of_all words) (BlockOf n b) ∙ by_test (is_in_file n w) refl (claims_here n b words)
   where

@@ -5,18 +5,18 @@ use Rattle.std.proofs.lemmas.Bool.{cases_eq}
 use Rattle.blk_image.specs.Image.{Image, Block, External}
 use Rattle.blk_image.specs.Told.{Told, Passes}
 use Rattle.blk_image.proofs.Runs.{passes_end, passes_none, passes_weaker, some_inj}
-use Rattle.blk_format.specs.BlockFiles.{is_among, IsWellFormed}
+use Rattle.blk_format.specs.BlockFiles.{is_among}
 use Rattle.blk_addr.specs.declared.claim_set.Claims.{Claims}
 use Rattle.blk_disk.specs.declared.tables.BlockFiles.{BlockFiles}
 use Rattle.blk_disk.specs.Tables.{Agrees, Resizes, all_files, length_in}
-use Rattle.blk_disk.specs.Growth.{KeepsBlocks, whole_length}
-use Rattle.blk_alloc.specs.Rebuilding.{is_block_file, rebuilding_of, AreItsAllocations, IsRebuilding, IsRebuilt}
+use Rattle.blk_disk.specs.Growth.{whole_length}
+use Rattle.blk_alloc.specs.Rebuilding.{is_block_file, AreItsAllocations, IsRebuilding, IsRebuilt}
 use Rattle.blk_io.proofs.Carried.{told_at_end}
 use Rattle.blk_alloc.proofs.Fitted.{HasFitted, none_fitted, none_more, one_fitted}
 use Rattle.blk_alloc.proofs.Members.{all_head}
 use Rattle.blk_alloc.proofs.Owned.{allocations_are, stands_still}
-use Rattle.blk_alloc.proofs.Remade.{one_more, others_kept, rebuilding_begin, rebuilding_spares, rebuilt_same}
-use Rattle.blk_alloc.proofs.Sparing.{formed_spared, keeps_blocks}
+use Rattle.blk_alloc.proofs.Remade.{one_more, others_kept, rebuilding_begin, rebuilt_same}
+use Rattle.blk_format.proofs.Growths.{grown_blocks}
 use Rattle.blk_alloc.proofs.Written.{passes_on}
 
 -- the linked files whose numbers are below one are rebuilt, and all others are as before
@@ -87,19 +87,6 @@ module _ (a b : Told) (old mid : BlockFiles) (claims : Claims) (n : ℕ) (before
 
 -- All files.
 
-module _ (a b : Told) (old : BlockFiles) (claims : Claims) (stops : ForSome a.files (λ from. Passes a b (IsRebuilding claims (all_files old) from))) where
-  -- each block that stood still stands at each moment
-  pub all_blocks : ForSome a.files (λ from. Passes a b (KeepsBlocks from))
-  all_blocks from there =
-      let keeps : (i : Image) → IsRebuilding claims (all_files old) from i → KeepsBlocks from i = λ i rebuilding. keeps_blocks (rebuilding_of (all_files old)) from i (rebuilding_spares (all_files old)) rebuilding.same rebuilding.longer in
-      passes_weaker (stops from there) keeps keeps
-
-  -- and a well-formed folder is still so
-  pub all_formed : ForSome a.files (λ from. IsWellFormed from → Passes a b IsWellFormed)
-  all_formed from there formed =
-      let keeps : (i : Image) → IsRebuilding claims (all_files old) from i → IsWellFormed i = λ i rebuilding. formed_spared (rebuilding_of (all_files old)) from i (rebuilding_spares (all_files old)) rebuilding.same rebuilding.longer formed in
-      passes_weaker (stops from there) keeps keeps
-
 module _ (a b : Told) (old now : BlockFiles) (claims : Claims) (count : ℕ) (all : 256 ≤ count) (agrees : ForSome a.files (Agrees old)) (has : HasRebuilt a b old now claims count) where
   -- all linked files are rebuilt
   pub all_rebuilt : ForSome b.files (λ image. (n : ℕ) → is_among (all_files old) n ≡ true → IsRebuilt claims image n)
@@ -111,5 +98,5 @@ module _ (a b : Told) (old now : BlockFiles) (claims : Claims) (count : ℕ) (al
   pub all_allocations : ForSome a.files (λ from. ForSome b.files (AreItsAllocations claims (all_files old) from))
   all_allocations from there image is words of n among stand =
       let rebuilding = passes_end (has.stops from there) image is in
-      let keeps = keeps_blocks (rebuilding_of (all_files old)) from image (rebuilding_spares (all_files old)) rebuilding.same rebuilding.longer in
+      let keeps = grown_blocks from image rebuilding.stays.grown in
       allocations_are claims words n from image of (all_rebuilt image is n among) (λ w. stands_still from image w keeps (λ m. rebuilding.same.files (External m) (unfold is_block_file in refl))) stand

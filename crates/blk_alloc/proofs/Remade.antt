@@ -19,7 +19,7 @@ use Rattle.blk_alloc.specs.Changes.{map_of}
 use Rattle.blk_alloc.specs.Rebuilding.{counts_of, is_block_file, is_counted_place, is_updating_place, rebuilding_of, IsInHand, IsRebuilding, IsRebuilt, KeepsBytes}
 use Rattle.blk_alloc.proofs.Changing.{at_updating}
 use Rattle.blk_alloc.proofs.Counted.{counts_within, updating_kept}
-use Rattle.blk_alloc.proofs.Sparing.{SparesFields}
+use Rattle.blk_alloc.proofs.Sparing.{SparesFields, formed_spared, grown_spared}
 
 -- One file.
 
@@ -158,6 +158,8 @@ rebuilding_spares numbers = record {
   blocks = λ m i past. beside (is_block_file numbers (Block m)) i (past_of i past);
   index = λ i. refl;
   index_size = refl;
+  externals = λ m i. refl;
+  external_sizes = λ m. refl;
 }
   where
     beside : (t : Bool) (i : ℕ) → (is_counted_place i || is_updating_place i) ≡ false
@@ -176,9 +178,18 @@ pub other_file_kept : (numbers : List ℕ) (m : ℕ) (a b : Image) → is_among 
 unfolding is_block_file
 other_file_kept numbers m a b apart same = same_file_outside (rebuilding_of numbers) a b (Block m) same (λ i. ap (λ (t : Bool). t && (is_counted_place i || is_updating_place i)) apart) apart
 
+-- what differs leaves the folder whole
+rebuilding_is : (claims : Claims) (numbers : List ℕ) (from image : Image) → SameOutside (rebuilding_of numbers) from image → ((n : ℕ) → length_of from (Block n) ≤ length_of image (Block n)) → ((n : ℕ) → is_among numbers n ≡ true → IsInHand claims n from image) → IsRebuilding claims numbers from image
+rebuilding_is claims numbers from image same longer each = record {
+  same = same;
+  longer = longer;
+  each = each;
+  stays = record { grown = grown_spared (rebuilding_of numbers) from image (rebuilding_spares numbers) same longer; formed = formed_spared (rebuilding_of numbers) from image (rebuilding_spares numbers) same longer };
+}
+
 -- nothing is done yet
 pub rebuilding_begin : (claims : Claims) (numbers : List ℕ) (from : Image) → IsRebuilding claims numbers from from
-rebuilding_begin claims numbers from = record { same = outside-refl (rebuilding_of numbers) from; longer = λ n. omega arith; each = λ n there. inl (λ i beside. refl) }
+rebuilding_begin claims numbers from = rebuilding_is claims numbers from from (outside-refl (rebuilding_of numbers) from) (λ n. omega arith) (λ n there. inl (λ i beside. refl))
 
 module _ (claims : Claims) (n : ℕ) (from mid : Image) (lengthened : SameOutside (size_of (Block n)) from mid) (longer : length_of from (Block n) ≤ length_of mid (Block n)) where
   all_longer : (m : ℕ) → length_of from (Block m) ≤ length_of mid (Block m)
@@ -188,33 +199,31 @@ module _ (claims : Claims) (n : ℕ) (from mid : Image) (lengthened : SameOutsid
 
   -- the file was lengthened
   pub lengthened_is : IsRebuilding claims (n ∷ []) from mid
-  lengthened_is = record {
-    same = outside_wider (size_of (Block n)) (rebuilding_of (n ∷ [])) from mid (size_within (n ∷ []) n (is_only n)) lengthened;
-    longer = all_longer;
-    each = λ m there. inl (λ i beside. lengthened.bytes (Block m) i refl);
-  }
+  lengthened_is =
+      rebuilding_is claims (n ∷ []) from mid (outside_wider (size_of (Block n)) (rebuilding_of (n ∷ [])) from mid (size_within (n ∷ []) n (is_only n)) lengthened) all_longer
+      (λ m there. inl (λ i beside. lengthened.bytes (Block m) i refl))
 
   -- and its map and counters are under way
   pub remade_is : (image : Image) → SameOutside (map_of n) mid image × IsInHand claims n mid image → IsRebuilding claims (n ∷ []) from image
-  remade_is image remade = record {
-    same = outside-trans (rebuilding_of (n ∷ [])) from mid image lengthened_is.same (outside_wider (map_of n) (rebuilding_of (n ∷ [])) mid image (map_within (n ∷ []) n (is_only n)) remade.0);
-    longer = λ m. let first = all_longer m in let then_ = remade.0.lengths (Block m) refl in omega (arith, first, then_);
-    each = λ m there.
-        subst (λ (k : ℕ). IsInHand claims k from image) (sym (only_one n m there))
-        (in_hand_before claims n from mid image (λ i beside. lengthened.bytes (Block n) i refl) remade.1);
-  }
+  remade_is image remade =
+      rebuilding_is claims (n ∷ []) from image
+      (outside-trans (rebuilding_of (n ∷ [])) from mid image lengthened_is.same (outside_wider (map_of n) (rebuilding_of (n ∷ [])) mid image (map_within (n ∷ []) n (is_only n)) remade.0))
+      (λ m. let first = all_longer m in let then_ = remade.0.lengths (Block m) refl in omega (arith, first, then_))
+      (λ m there.
+      subst (λ (k : ℕ). IsInHand claims k from image) (sym (only_one n m there))
+      (in_hand_before claims n from mid image (λ i beside. lengthened.bytes (Block n) i refl) remade.1))
 
 -- one file more
 module _ (claims : Claims) (numbers : List ℕ) (n : ℕ) (there : is_among numbers n ≡ true) (from mid : Image) (before : IsRebuilding claims numbers from mid) (untouched : mid (Block n) ≡ from (Block n)) where
   pub one_more : (image : Image) → IsRebuilding claims (n ∷ []) mid image → IsRebuilding claims numbers from image
-  one_more image more = record {
-    same = outside-trans (rebuilding_of numbers) from mid image before.same (outside_wider (rebuilding_of (n ∷ [])) (rebuilding_of numbers) mid image (one_within numbers n there) more.same);
-    longer = λ m. let first = before.longer m in let second = more.longer m in omega (arith, first, second);
-    each = λ m among.
-        ⊎_elim
-        (λ (e : m ≡ n). subst (λ (k : ℕ). IsInHand claims k from image) (sym e) (in_hand_before claims n from mid image (λ i beside. ap (λ (o : Option (List ℕ)). content (unwrap_or o []) i) untouched) (more.each n (is_only n))))
-        (λ (differs : m ≢ n). in_hand_same claims m from mid image (other_file_kept (n ∷ []) m mid image (not_only n m differs) more.same) (before.each m among)) (cases_eq m n);
-  }
+  one_more image more =
+      rebuilding_is claims numbers from image
+      (outside-trans (rebuilding_of numbers) from mid image before.same (outside_wider (rebuilding_of (n ∷ [])) (rebuilding_of numbers) mid image (one_within numbers n there) more.same))
+      (λ m. let first = before.longer m in let second = more.longer m in omega (arith, first, second))
+      (λ m among.
+      ⊎_elim
+      (λ (e : m ≡ n). subst (λ (k : ℕ). IsInHand claims k from image) (sym e) (in_hand_before claims n from mid image (λ i beside. ap (λ (o : Option (List ℕ)). content (unwrap_or o []) i) untouched) (more.each n (is_only n))))
+      (λ (differs : m ≢ n). in_hand_same claims m from mid image (other_file_kept (n ∷ []) m mid image (not_only n m differs) more.same) (before.each m among)) (cases_eq m n))
 
 -- another file stays
 pub others_kept : (claims : Claims) (n m : ℕ) (mid image : Image) → m ≢ n → IsRebuilding claims (n ∷ []) mid image → image (Block m) ≡ mid (Block m)

@@ -9,13 +9,13 @@ use Rattle.std.proofs.lemmas.List.Sums.{sum_by-cons}
 use Rattle.blk_image.specs.Image.{Image, Block, byte}
 use Rattle.blk_image.specs.Steps.{after}
 use Rattle.blk_image.specs.Told.{Told, PassesTo}
-use Rattle.blk_image.specs.Footprint.{SameOutside, IsWithin, either}
+use Rattle.blk_image.specs.Footprint.{Footprint, SameOutside, IsWithin, either, one_word, size_of}
 use Rattle.blk_image.proofs.Footprints.{outside-trans, outside_wider, within_left, within_right, within_both}
-use Rattle.blk_format.specs.Address.{external, file_selector, block_count, block_word, kind_of}
+use Rattle.blk_format.specs.Address.{external, file_selector, block_count, block_word, is_address, kind_of, rankings}
 use Rattle.blk_format.specs.Headers.{allocations_of}
 use Rattle.blk_format.specs.BlockFiles.{is_among, max_entries_in}
 use Rattle.blk_format.specs.Maps.{is_block_marked, are_free, AreAllocations}
-use Rattle.blk_format.proofs.Words.{AreFields, file_selector-block_word, kind_of-block_word, block_count-block_word}
+use Rattle.blk_format.proofs.Words.{AreFields, is_address-block_word, file_selector-block_word, kind_of-block_word, block_count-block_word}
 use Rattle.blk_addr.specs.declared.kinds.Kind.{Kind}
 use Rattle.blk_addr.specs.Kind.{kind_number}
 use Rattle.blk_io.specs.declared.fault.Fault.{Fault}
@@ -30,11 +30,13 @@ use Rattle.blk_alloc.specs.Owning.{is_of}
 use Rattle.blk_alloc.specs.Places.{is_place}
 use Rattle.blk_alloc.specs.Extending.{HasCounters, HasMostBlocks, HasNoHints, IsFirstGrowing, KeepsAll}
 use Rattle.blk_alloc.specs.Marking.{CanBeMarked, MarksUsed, taking_of}
-use Rattle.blk_alloc.specs.Allocating.{AreCounted, HaveNoRoom, Allocates, Extends, ExtendsInProgressIn, added_of, grown_of}
-use Rattle.blk_alloc.proofs.Formed.{count_whole}
+use Rattle.blk_alloc.specs.Allocating.{AreCounted, HaveNoRoom, Allocates, Extends, ExtendsAnd, updating_word}
+use Rattle.blk_format.proofs.LinkedHeads.{count_whole}
+use Rattle.blk_alloc.specs.Changes.{map_of}
+use Rattle.blk_alloc.proofs.Changing.{at_updating, within-trans}
 use Rattle.blk_alloc.proofs.Fullness.{full_counts, many_full}
 use Rattle.blk_alloc.proofs.Hints.{taken_hints}
-use Rattle.blk_alloc.proofs.Members.{kind_small, member_all, member_head}
+use Rattle.blk_alloc.proofs.Members.{kind_blocky, kind_small, member_all, member_head}
 
 or_true : (a b : Bool) → (a || b) ≡ true → (a ≡ true) ⊎ (b ≡ true)
 or_true true b e = inl refl
@@ -87,44 +89,63 @@ never_full files image k count block_kind few agrees counted none full sixty =
         let groups = full_counts image n count has.words few whole.0 whole.1 has.are refuses in
         omega (arith, groups, is, big)
 
--- room that is made by a growth
-pub making_grown : (files : BlockFiles) (kind n : ℕ) (from image : Image) → IsFirstGrowing files (files_of files kind) n → SameOutside (growth_of n) from image → ExtendsInProgressIn files kind from n image
-making_grown files kind n from image first same = inl (first, outside_wider (growth_of n) (grown_of n) from image (within_left (growth_of n) (taking_of n)) same)
-
-taking_within : (files : BlockFiles) (kind : ℕ) → IsWithin (taking_of (free_number files)) (added_of files kind)
-taking_within files kind = record {
-  bytes = λ file i e. (within_right (addition_of files kind) (grown_of (free_number files))).bytes file i ((within_right (growth_of (free_number files)) (taking_of (free_number files))).bytes file i e);
-  sizes = λ file e. (within_right (addition_of files kind) (grown_of (free_number files))).sizes file ((within_right (growth_of (free_number files)) (taking_of (free_number files))).sizes file e);
-}
-
-growth_within : (files : BlockFiles) (kind : ℕ) → IsWithin (growth_of (free_number files)) (added_of files kind)
-growth_within files kind = record {
-  bytes = λ file i e. (within_right (addition_of files kind) (grown_of (free_number files))).bytes file i ((within_left (growth_of (free_number files)) (taking_of (free_number files))).bytes file i e);
-  sizes = λ file e. (within_right (addition_of files kind) (grown_of (free_number files))).sizes file ((within_left (growth_of (free_number files)) (taking_of (free_number files))).sizes file e);
-}
-
--- room that is made in a new file
-pub making_added : (files : BlockFiles) (kind : ℕ) (from image : Image) → All (HasMostBlocks files) (files_of files kind) → SameOutside (either (addition_of files kind) (growth_of (free_number files))) from image → ExtendsInProgressIn files kind from (free_number files) image
-making_added files kind from image full same =
-    inr (
-      full,
-      refl,
-      outside_wider (either (addition_of files kind) (growth_of (free_number files))) (added_of files kind) from image
-          (within_both (addition_of files kind) (growth_of (free_number files)) (added_of files kind) (within_left (addition_of files kind) (grown_of (free_number files))) (growth_within files kind)) same,
-    )
-
--- room that was made is taken
-pub making_taken : (files : BlockFiles) (kind n : ℕ) (from mid image : Image) → ExtendsInProgressIn files kind from n mid → SameOutside (taking_of n) mid image → ExtendsInProgressIn files kind from n image
-making_taken files kind n from mid image making same =
+-- more is touched
+extends_then : (one other : ℕ → Footprint) (F : Footprint) (files : BlockFiles) (kind n : ℕ) (from mid image : Image) → IsWithin (one n) (other n) → IsWithin F (either (growth_of n) (other n))
+    → ExtendsAnd one files kind from n mid → SameOutside F mid image → ExtendsAnd other files kind from n image
+extends_then one other F files kind n from mid image within last extends same =
+    let A = addition_of files kind in
+    let G1 = either (growth_of n) (one n) in
+    let G2 = either (growth_of n) (other n) in
+    let wider : IsWithin G1 G2 = within_both (growth_of n) (one n) G2 (within_left (growth_of n) (other n)) (within-trans (one n) (other n) G2 within (within_right (growth_of n) (other n))) in
     ⊎_elim
-    (λ grows. inl (grows.0, outside-trans (grown_of n) from mid image grows.1 (outside_wider (taking_of n) (grown_of n) mid image (within_right (growth_of n) (taking_of n)) same)))
-    (λ adds. inr (
+    (λ (grows : IsFirstGrowing files (files_of files kind) n × SameOutside G1 from mid).
+    inl (grows.0, outside-trans G2 from mid image (outside_wider G1 G2 from mid wider grows.1) (outside_wider F G2 mid image last same)))
+    (λ (adds : All (HasMostBlocks files) (files_of files kind) × (n ≡ free_number files) × SameOutside (either A G1) from mid).
+    inr (
       adds.0,
       adds.1,
-      outside-trans (added_of files kind) from mid image adds.2
-          (outside_wider (taking_of (free_number files)) (added_of files kind) mid image (taking_within files kind) (subst (λ (m : ℕ). SameOutside (taking_of m) mid image) adds.1 same)),
+      outside-trans (either A G2) from mid image
+          (outside_wider (either A G1) (either A G2) from mid (within_both A G1 (either A G2) (within_left A G2) (within-trans G1 G2 (either A G2) wider (within_right A G2))) adds.2)
+          (outside_wider F (either A G2) mid image (within-trans F G2 (either A G2) last (within_right A G2)) same),
     ))
-    making
+    extends
+
+updating_within : (n : ℕ) → IsWithin (updating_word n) (taking_of n)
+updating_within n = within-trans (updating_word n) (map_of n) (taking_of n) (at_updating n) (within_right (size_of (Block n)) (map_of n))
+
+within-refl : (F : Footprint) → IsWithin F F
+within-refl F = record { bytes = λ file i e. e; sizes = λ file e. e }
+
+-- room that is made by a growth
+pub room_grown : (files : BlockFiles) (kind n : ℕ) (from image : Image) → IsFirstGrowing files (files_of files kind) n → SameOutside (growth_of n) from image → ExtendsAnd updating_word files kind from n image
+room_grown files kind n from image first same = inl (first, outside_wider (growth_of n) (either (growth_of n) (updating_word n)) from image (within_left (growth_of n) (updating_word n)) same)
+
+-- room that is made in a new file
+pub room_added : (files : BlockFiles) (kind n : ℕ) (from image : Image) → n ≡ free_number files → All (HasMostBlocks files) (files_of files kind) → SameOutside (either (addition_of files kind) (growth_of (free_number files))) from image → ExtendsAnd updating_word files kind from n image
+room_added files kind n from image is full same =
+    let A = addition_of files kind in
+    let G = growth_of n in
+    let wide = either A (either G (updating_word n)) in
+    inr (
+      full,
+      is,
+      outside_wider (either A G) wide from image
+          (within_both A G wide (within_left A (either G (updating_word n))) (within-trans G (either G (updating_word n)) wide (within_left G (updating_word n)) (within_right A (either G (updating_word n)))))
+          (subst (λ (m : ℕ). SameOutside (either A (growth_of m)) from image) (sym is) same),
+    )
+
+-- before its blocks are marked no more than updating differs besides
+pub room_begun : (files : BlockFiles) (kind n : ℕ) (from mid image : Image) → ExtendsAnd updating_word files kind from n mid → SameOutside (either (size_of (Block n)) (updating_word n)) mid image → ExtendsAnd updating_word files kind from n image
+room_begun files kind n from mid image room same =
+    let words = either (one_word (Block n) 36) (one_word (Block n) 20) in
+    let G = either (growth_of n) (updating_word n) in
+    extends_then updating_word updating_word (either (size_of (Block n)) (updating_word n)) files kind n from mid image (within-refl (updating_word n))
+    (within_both (size_of (Block n)) (updating_word n) G (within-trans (size_of (Block n)) (growth_of n) G (within_left (size_of (Block n)) words) (within_left (growth_of n) (updating_word n))) (within_right (growth_of n) (updating_word n)))
+    room same
+
+-- then its length, map and counters
+pub room_marked : (files : BlockFiles) (kind n : ℕ) (from mid image : Image) → ExtendsAnd updating_word files kind from n mid → SameOutside (taking_of n) mid image → ExtendsAnd taking_of files kind from n image
+room_marked files kind n from mid image room same = extends_then updating_word taking_of (taking_of n) files kind n from mid image (updating_within n) (within_right (growth_of n) (taking_of n)) room same
 
 -- the file of the word of a place
 pub word_file : (files : BlockFiles) (k : Kind) (count : ℕ) (place : Blocks) → 0 < count → IsPlace files (kind_number k) count place → file_selector (block_word (kind_number k) place.file place.start place.count) ≡ place.file
@@ -146,6 +167,15 @@ word_kind files k count place some is =
     let counted = is.counted in
     let fields : AreFields (kind_number k) place.file place.start place.count = record { kind = kind_small k; file = is.number; start = omega (arith, small); some = omega (arith, some, counted); most = omega (arith, group, counted) } in
     (kind_of-block_word (kind_number k) place.file place.start place.count fields, block_count-block_word (kind_number k) place.file place.start place.count fields ∙ counted)
+
+-- the word of a place is an address
+pub word_address : (files : BlockFiles) (k : Kind) (count : ℕ) (place : Blocks) → kind_number k ≢ external → 0 < count → (kind_number k ≡ rankings → count ≡ 1) → IsPlace files (kind_number k) count place → is_address (block_word (kind_number k) place.file place.start place.count) ≡ true
+word_address files k count place block_kind some node is =
+    let small = is.small in
+    let group = is.group in
+    let counted = is.counted in
+    let fields : AreFields (kind_number k) place.file place.start place.count = record { kind = kind_small k; file = is.number; start = omega (arith, small); some = omega (arith, some, counted); most = omega (arith, group, counted) } in
+    is_address-block_word (kind_number k) place.file place.start place.count fields (kind_blocky k block_kind) (omega (arith, group, counted)) (λ e. counted ∙ node e)
 
 -- blocks that are taken where room was made are given
 pub given_made : (old new : BlockFiles) (from mid image : Image) (place : Blocks) (w : ℕ) → file_selector w ≡ place.file → KeepsAll old new → Extends old from place mid → MarksUsed new mid w image → Allocates old from w image

@@ -104,16 +104,19 @@ ready_kept from mid n start count used same longer ready =
     }
 
 -- a moment after the file was lengthened
-pub taking_fit : (n : ℕ) (from mid : Image) → SameOutside (size_of (Block n)) from mid → MarksUsedInProgress n from mid
-taking_fit n from mid same = record {
+pub taking_fit : (n : ℕ) (from mid : Image) → SameOutside (size_of (Block n)) from mid → length_of from (Block n) ≤ length_of mid (Block n) → MarksUsedInProgress n from mid
+taking_fit n from mid same longer = record {
+  longer = longer;
   same = outside_wider (size_of (Block n)) (taking_of n) from mid (within_left (size_of (Block n)) (map_of n)) same;
   updating = inr (outside_wider (size_of (Block n)) (either (size_of (Block n)) (one_word (Block n) 56)) from mid (within_left (size_of (Block n)) (one_word (Block n) 56)) same);
 }
 
-pub taking_midst : (n : ℕ) (from mid image : Image) → SameOutside (size_of (Block n)) from mid → IsMapInProgress n mid image → MarksUsedInProgress n from image
-taking_midst n from mid image same midst =
-    let first = taking_fit n from mid same in
+pub taking_midst : (n : ℕ) (from mid image : Image) → SameOutside (size_of (Block n)) from mid → length_of from (Block n) ≤ length_of mid (Block n) → IsMapInProgress n mid image → MarksUsedInProgress n from image
+taking_midst n from mid image same longer midst =
+    let first = taking_fit n from mid same longer in
+    let kept = midst.same.lengths (Block n) refl in
     record {
+      longer = omega (arith, longer, kept);
       same = outside-trans (taking_of n) from mid image first.same (outside_wider (map_of n) (taking_of n) mid image (within_right (size_of (Block n)) (map_of n)) midst.same);
       updating = ⊎_elim (λ one. inl one)
           (λ word. inr (outside-trans (either (size_of (Block n)) (one_word (Block n) 56)) from mid image

@@ -1,14 +1,16 @@
 -- Blocks that are taken, in two calls: the file is lengthened, and then the marks change.
-use Rattle.std.proofs.Common.{◌≡◌, ◌≢◌, ◌⊎◌, inl, inr, ℕ, List, ◌+◌, ◌<◌, ◌≤◌, true, Option, None, Some, refl, sym, ◌∙◌, ap, subst, arith, ⊎_elim, max}
+use Rattle.std.proofs.Common.{◌≡◌, ◌≢◌, ◌⊎◌, inl, inr, ℕ, List, ◌+◌, ◌%◌, ◌/◌, ◌<◌, ◌≤◌, true, Option, None, Some, refl, sym, ◌∙◌, ap, subst, arith, ⊎_elim, max}
 use Rattle.std.specs.Option.{ForSome, option_map}
-use Rattle.blk_image.specs.Image.{Image, Index, Block, length_of}
+use Rattle.blk_image.specs.Image.{Image, Block, byte, length_of}
 use Rattle.blk_image.specs.Steps.{after}
 use Rattle.blk_image.specs.Footprint.{SameOutside, size_of}
 use Rattle.blk_image.specs.Told.{Told, PassesTo, Applies}
 use Rattle.blk_image.proofs.Runs.{passes_weaker, passes_then, passes_end, some_inj}
 use Rattle.blk_format.specs.Address.{block_word, file_selector, first_block, block_count, kind_of, external, is_address, rankings}
-use Rattle.blk_format.specs.BlockFiles.{IsWellFormed, is_among, max_entries_in, most_blocks}
-use Rattle.blk_format.specs.Maps.{is_block_marked, are_free}
+use Rattle.blk_format.specs.BlockFiles.{is_among, max_entries_in, most_blocks}
+use Rattle.blk_format.specs.Maps.{is_block_marked, is_block_marked_at, are_free, longest_run, EmptyAgrees}
+use Rattle.blk_format.specs.Headers.{allocations_of, empty_of}
+use Rattle.blk_alloc.specs.Counting.{counted, IsCounted}
 use Rattle.blk_format.proofs.Words.{AreFields, is_address-block_word, kind_of-block_word, file_selector-block_word, first_block-block_word, block_count-block_word}
 use Rattle.blk_addr.specs.declared.kinds.Kind.{Kind}
 use Rattle.blk_addr.specs.Kind.{kind_number}
@@ -16,15 +18,10 @@ use Rattle.blk_addr.proofs.AddressFields.{address_above_0}
 use Rattle.blk_disk.specs.declared.tables.BlockFiles.{BlockFiles}
 use Rattle.blk_disk.specs.Tables.{Agrees, Resizes, all_files, files_of, length_in, stands_among}
 use Rattle.blk_disk.specs.Growth.{fit_steps, whole_length}
-use Rattle.std.proofs.lemmas.Bool.{cases_eq}
-use Rattle.blk_format.proofs.SpareHeaders.{next_same, heads_still, sizes_spare, other_file}
-use Rattle.blk_disk.proofs.Enlarging.{well_formed_still}
-use Rattle.blk_format.proofs.Keeping.{undamaged_still}
 use Rattle.blk_alloc.specs.declared.blocks.Blocks.{Blocks}
 use Rattle.blk_alloc.specs.Changes.{IsMapInProgress, IsReady, IsChanged}
 use Rattle.blk_alloc.specs.Fitting.{IsPlace}
-use Rattle.blk_alloc.specs.Marking.{CanBeMarked, MarksUsedInProgress, MarksUsed}
-use Rattle.blk_alloc.proofs.Formed.{formed_kept}
+use Rattle.blk_alloc.specs.Marking.{CanBeMarked, CountsUsed, MarksUsedInProgress, MarksUsed}
 use Rattle.blk_alloc.proofs.Lists.{IsBlocks}
 use Rattle.blk_alloc.proofs.Members.{kind_blocky, kind_small}
 use Rattle.blk_alloc.proofs.Taken.{fit_passes, ready_kept, taking_fit, taking_midst}
@@ -64,24 +61,16 @@ module _ (a b : Told) (old new : BlockFiles) (place : Blocks) (agrees : ForSome 
   pub ready_after : ForSome a.files (λ image. CanBeMarked image place) → ForSome b.files (λ mid. IsReady mid n place.start place.count true)
   ready_after takeable mid now = let was = from_of mid now in ready_kept was.0 mid n place.start place.count true was.2.same was.2.longer (takeable was.0 was.1).ready
 
-  -- a well-formed folder is still so
-  lengthened_formed : (from i : Image) → SameOutside (size_of (Block n)) from i → length_of from (Block n) ≤ length_of i (Block n) → IsWellFormed from → IsWellFormed i
-  lengthened_formed from i same longer formed =
-      well_formed_still from i (λ k. same.bytes Index k refl) (same.lengths Index refl)
-      (undamaged_still from i (next_same (size_of (Block n)) from i (sizes_spare (Block n)) same) (heads_still (size_of (Block n)) from i (sizes_spare (Block n)) same lengths)) formed
-    where
-      lengths : (m : ℕ) → length_of from (Block m) ≤ length_of i (Block m)
-      lengths m = ⊎_elim (λ (e : m ≡ n). subst (λ (k : ℕ). length_of from (Block k) ≤ length_of i (Block k)) (sym e) longer) (λ differs. let e = same.lengths (Block m) (other_file n m differs) in omega (arith, e)) (cases_eq m n)
-
-  module _ (c : Told) (stops : ForSome b.files (λ mid. PassesTo b c (IsMapInProgress n mid) (λ image. IsMapInProgress n mid image ⊎ IsChanged mid n place.start place.count true image))) where
-    pub formed_after : ForSome a.files (λ from. IsWellFormed from → PassesTo a c IsWellFormed IsWellFormed)
-    formed_after from there formed =
-        let found = mid_of from there in
-        let mid = found.0 in
-        let first : PassesTo a b IsWellFormed IsWellFormed = fit_passes old n from (agrees from there) all IsWellFormed there fitted (λ i same longer. lengthened_formed from i same longer formed) in
-        let mid_formed = lengthened_formed from mid found.1.same found.1.longer formed in
-        let keeps : (i : Image) → IsMapInProgress n mid i → IsWellFormed i = λ i midst. formed_kept n mid i midst.same mid_formed in
-        passes_then first (passes_weaker (stops mid found.1.now) keeps (λ i. ⊎_elim (keeps i) (λ changed. formed_kept n mid i changed.same mid_formed)))
+  -- what is counted of the blocks, whatever the counters were
+  pub counted_after : (start count : ℕ) (c : Told) → ForSome b.files (λ mid. ForSome c.files (IsChanged mid n start count true)) → ForSome a.files (λ from. ForSome c.files (CountsUsed n start from))
+  counted_after start count c changed from there image now =
+      let found = mid_of from there in
+      let is = changed found.0 found.1.now image now in
+      let bytes : byte found.0 (Block n) ≡ byte from (Block n) = (λ j i. found.1.same.bytes (Block n) i refl j) in
+      record {
+        allocations = subst (λ (f : ℕ → ℕ). IsCounted true (allocations_of f) (allocations_of (byte image (Block n)))) bytes is.allocations;
+        counts = λ i small. subst (λ (f : ℕ → ℕ). empty_of (byte image (Block n)) i + counted (longest_run (is_block_marked_at f) (start / 4)) i ≡ empty_of f i + counted (longest_run (is_block_marked image n) (start / 4)) i) bytes (is.counts i small);
+      }
 
   module _ (k : Kind) (block_kind : kind_number k ≢ external) (some : 0 < place.count) (node : kind_number k ≡ rankings → place.count ≡ 1) (is : IsPlace old (kind_number k) place.count place) (takeable : ForSome a.files (λ image. CanBeMarked image place)) where
     abbrev w : ℕ
@@ -117,7 +106,7 @@ module _ (a b : Told) (old new : BlockFiles) (place : Blocks) (agrees : ForSome 
         let found = mid_of from there in
         let ready = (takeable from there).ready in
         taken_stands old new from found.0 k w block_kind kind_is address blocks (agrees from there) (agrees_new found.0 found.1.now)
-        (at_word (λ f s m. is_among (files_of old (kind_number k)) f ≡ true) is.linked) (at_word (λ f s m. s + m ≤ max_entries_in from f) ready.below) (at_word (λ f s m. max_entries_in from f ≤ most_blocks) ready.most)
+        (at_word (λ f s m. is_among (files_of old (kind_number k)) f ≡ true) is.linked) (at_word (λ f s m. s + m ≤ max_entries_in from f) ready.below) (at_word (λ f s m. max_entries_in from f ≤ most_blocks) ready.most) (at_word (λ f s m. max_entries_in from f % 4 ≡ 0) ready.whole)
         (at_word (λ f s m. Resizes old new f (max (length_in old f) (whole_length old f))) kept) (at_word (λ f s m. SameOutside (size_of (Block f)) from found.0) found.1.same)
 
     pub taken_after : (from : Image) → a.files ≡ Some from → (image : Image) → ((mid : Image) → b.files ≡ Some mid → IsChanged mid n place.start place.count true image) → MarksUsed old from w image
@@ -125,17 +114,17 @@ module _ (a b : Told) (old new : BlockFiles) (place : Blocks) (agrees : ForSome 
         let found = mid_of from there in
         let ready = (takeable from there).ready in
         taken_is old new from found.0 k w block_kind kind_is address blocks (agrees from there) (agrees_new found.0 found.1.now)
-        (at_word (λ f s m. is_among (files_of old (kind_number k)) f ≡ true) is.linked) (at_word (λ f s m. s + m ≤ max_entries_in from f) ready.below) (at_word (λ f s m. max_entries_in from f ≤ most_blocks) ready.most)
+        (at_word (λ f s m. is_among (files_of old (kind_number k)) f ≡ true) is.linked) (at_word (λ f s m. s + m ≤ max_entries_in from f) ready.below) (at_word (λ f s m. max_entries_in from f ≤ most_blocks) ready.most) (at_word (λ f s m. max_entries_in from f % 4 ≡ 0) ready.whole)
         (at_word (λ f s m. Resizes old new f (max (length_in old f) (whole_length old f))) kept) (at_word (λ f s m. SameOutside (size_of (Block f)) from found.0) found.1.same)
-        image (at_word (λ f s m. IsChanged found.0 f s m true image) (changed found.0 found.1.now)) (at_word (λ f s m. are_free (is_block_marked from f) s m ≡ true) (takeable from there).free)
+        image (at_word (λ f s m. IsChanged found.0 f s m true image) (changed found.0 found.1.now)) (at_word (λ f s m. are_free (is_block_marked from f) s m ≡ true) (takeable from there).free) (at_word (λ f s m. EmptyAgrees from f) ready.empty)
 
     pub stops_after : (c : Told) → ForSome b.files (λ mid. PassesTo b c (IsMapInProgress n mid) (λ image. IsMapInProgress n mid image ⊎ IsChanged mid n place.start place.count true image))
         → ForSome a.files (λ from. PassesTo a c (MarksUsedInProgress n from) (λ image. MarksUsedInProgress n from image ⊎ MarksUsed old from w image))
     stops_after c stops from there =
         let found = mid_of from there in
         let mid = found.0 in
-        let first : PassesTo a b (MarksUsedInProgress n from) (MarksUsedInProgress n from) = fit_passes old n from (agrees from there) all (MarksUsedInProgress n from) there fitted (λ i same longer. taking_fit n from i same) in
-        let keeps : (i : Image) → IsMapInProgress n mid i → MarksUsedInProgress n from i = λ i midst. taking_midst n from mid i found.1.same midst in
+        let first : PassesTo a b (MarksUsedInProgress n from) (MarksUsedInProgress n from) = fit_passes old n from (agrees from there) all (MarksUsedInProgress n from) there fitted (λ i same longer. taking_fit n from i same longer) in
+        let keeps : (i : Image) → IsMapInProgress n mid i → MarksUsedInProgress n from i = λ i midst. taking_midst n from mid i found.1.same found.1.longer midst in
         let second : PassesTo b c (MarksUsedInProgress n from) (λ image. MarksUsedInProgress n from image ⊎ MarksUsed old from w image) =
         passes_weaker (stops mid found.1.now) keeps
         (λ i. ⊎_elim (λ midst. inl (keeps i midst)) (λ changed. inr (taken_after from there i (λ m now. subst (λ (x : Image). IsChanged x n place.start place.count true i) (some_inj (sym found.1.now ∙ now)) changed)))) in

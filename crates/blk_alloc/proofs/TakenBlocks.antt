@@ -7,7 +7,7 @@ use Rattle.std.proofs.lemmas.List.Elements.{All-cons}
 use Rattle.std.proofs.lemmas.Bool.{cases_eq}
 use Rattle.std.proofs.lemmas.Bool.Decides.{nat_tests}
 use Rattle.std.proofs.Math.Nat.{mul-le-mul}
-use Rattle.blk_image.specs.Image.{Image, Block, External, has_file, byte}
+use Rattle.blk_image.specs.Image.{Image, Block, External, has_file, byte, length_of}
 use Rattle.blk_image.specs.Footprint.{SameOutside, size_of}
 use Rattle.blk_image.proofs.Footprints.{outside-trans, outside_wider, within_right}
 use Rattle.blk_format.specs.Address.{kind_of, external, external_number, file_selector, first_block, block_count, block_size, is_address, place, byte_size, block_place}
@@ -24,7 +24,7 @@ use Rattle.blk_disk.specs.declared.tables.BlockFiles.{BlockFiles}
 use Rattle.blk_disk.specs.Tables.{Agrees, Resizes, files_of, all_files, blocks_of, length_in, stands_among}
 use Rattle.blk_disk.specs.Growth.{whole_length, size_as}
 use Rattle.blk_disk.proofs.Ranges.{stands_agree}
-use Rattle.blk_alloc.specs.Changes.{map_of, with_marks, IsChanged}
+use Rattle.blk_alloc.specs.Changes.{map_of, with_marks, HasBlocks, IsChanged}
 use Rattle.blk_alloc.specs.Owning.{is_of}
 use Rattle.blk_alloc.specs.Marking.{taking_of, MarksUsed}
 use Rattle.blk_alloc.proofs.Formed.{stands_kept, other_kept, file_kept}
@@ -43,7 +43,7 @@ module _ (old new : BlockFiles) (from mid : Image) (k : Kind) (w : ℕ)
     (block_kind : kind_number k ≢ external) (kind : kind_of w ≡ kind_number k) (address : is_address w ≡ true) (blocks : IsBlocks w)
     (before : Agrees old from) (later : Agrees new mid)
     (there : is_among (files_of old (kind_number k)) (file_selector w) ≡ true)
-    (below : first_block w + block_count w ≤ max_entries_in from (file_selector w)) (most : max_entries_in from (file_selector w) ≤ most_blocks)
+    (below : first_block w + block_count w ≤ max_entries_in from (file_selector w)) (most : max_entries_in from (file_selector w) ≤ most_blocks) (whole : max_entries_in from (file_selector w) % 4 ≡ 0)
     (resizes : Resizes old new (file_selector w) (max (length_in old (file_selector w)) (whole_length old (file_selector w))))
     (same : SameOutside (size_of (Block (file_selector w))) from mid) where
   abbrev n : ℕ
@@ -76,7 +76,7 @@ module _ (old new : BlockFiles) (from mid : Image) (k : Kind) (w : ℕ)
       let inside : nat_le (place w + byte_size w) (length_in new n) ≡ true = (let e = ends_inside in grind (arith, nat_tests)) in
       rw (type, fits, inside) refl
 
-  module _ (image : Image) (changed : IsChanged mid n (first_block w) (block_count w) true image) (free : are_free (is_block_marked from n) (first_block w) (block_count w) ≡ true) where
+  module _ (image : Image) (changed : IsChanged mid n (first_block w) (block_count w) true image) (free : are_free (is_block_marked from n) (first_block w) (block_count w) ≡ true) (empties : EmptyAgrees from n) where
     mid_marks : (m b : ℕ) → is_block_marked mid m b ≡ is_block_marked from m b
     mid_marks m b = ap (λ (x : ℕ). bit_at x (b % 8) == 1) (same.bytes (Block m) (80 + b / 8) refl)
 
@@ -130,13 +130,34 @@ module _ (old new : BlockFiles) (from mid : Image) (k : Kind) (w : ℕ)
         let bytes : byte from (Block m) ≡ byte mid (Block m) = (λ j i. sym (same.bytes (Block m) i refl) j) in
         subst (λ (f : ℕ → ℕ). (i : ℕ) → i < 4 → empty_of f i ≡ groups_with (is_block_marked_at f) (groups_of (max_entries_of f)) (i + 1)) bytes was
 
+    longer_mid : length_of from (Block n) ≤ length_of mid (Block n)
+    longer_mid =
+        let was = before.lengths n all_there in
+        let is = later.lengths n (ap (λ (l : List ℕ). is_among l n) resizes.all ∙ all_there) in
+        let size = resizes.size_there in
+        omega (arith, was, is, size)
+
+    longer_last : length_of from (Block n) ≤ length_of image (Block n)
+    longer_last = let kept = changed.same.lengths (Block n) refl in omega (arith, longer_mid, kept)
+
+    has_mid : HasBlocks mid n (first_block w) (block_count w)
+    unfolding max_entries_in
+    has_mid =
+        let bytes : byte from (Block n) ≡ byte mid (Block n) = (λ j i. sym (same.bytes (Block n) i refl) j) in
+        record {
+          whole = subst (λ (f : ℕ → ℕ). max_entries_of f % 4 ≡ 0) bytes whole;
+          most = subst (λ (f : ℕ → ℕ). max_entries_of f ≤ most_blocks) bytes most;
+          below = subst (λ (f : ℕ → ℕ). first_block w + block_count w ≤ max_entries_of f) bytes below;
+        }
+
     or_is : (t b : Bool) → (if t then true else b) ≡ (t || b)
     or_is true b = refl
     or_is false b = refl
 
     pub taken_is : MarksUsed old from w image
     taken_is = record {
-      same = outside-trans (taking_of n) from mid image (taking_fit n from mid same).same (outside_wider (map_of n) (taking_of n) mid image (within_right (size_of (Block n)) (map_of n)) changed.same);
+      longer = longer_last;
+      same = outside-trans (taking_of n) from mid image (taking_fit n from mid same longer_mid).same (outside_wider (map_of n) (taking_of n) mid image (within_right (size_of (Block n)) (map_of n)) changed.same);
       free = free_blocks;
       marks = marks_are;
       allocations = λ words are.
@@ -150,7 +171,7 @@ module _ (old new : BlockFiles) (from mid : Image) (k : Kind) (w : ℕ)
             counted = let one = changed.allocations in let kept_count = widens.allocations n all_there in let was = are.counted in omega (arith, one, kept_count, was);
           };
       elsewhere = λ m among differs words are. (file_kept n mid image changed.same m differs).allocations words (allocations_more old new from mid before later widens m among words are);
-      empty = changed.empty;
+      empty = changed.empty has_mid (empty_mid n empties);
       empty_elsewhere = λ m differs was. (file_kept n mid image changed.same m differs).empty (empty_mid m was);
       updating = changed.updating;
     }

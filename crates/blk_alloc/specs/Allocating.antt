@@ -1,13 +1,14 @@
--- Blocks are given: at the first place where they fit, or where no file of a type has room, in a file that grows or is added.
-use Rattle.std.specs.Prelude.{◌≡◌, ◌≢◌, ◌⊎◌, ℕ, ◌-◌, ◌<◌, ◌≤◌, List, [], ◌∷◌, length, slice_get, true, false, if◌then◌else◌, Some}
+-- Blocks are allocated: at the first place where they fit, or where no file of a type has room, in a file that grows or is added.
+use Rattle.std.specs.Prelude.{◌≡◌, ◌≢◌, ◌⊎◌, ℕ, ◌+◌, ◌-◌, ◌<◌, ◌≤◌, List, [], ◌∷◌, length, slice_get, true, false, if◌then◌else◌, Some}
 use Rattle.std.specs.List.{All, sum_by}
 use Rattle.std.specs.Option.{ForSome}
-use Rattle.blk_image.specs.Image.{Block, Image, byte, word}
-use Rattle.blk_image.specs.Told.{Told}
-use Rattle.blk_image.specs.Footprint.{Footprint, SameOutside, either}
+use Rattle.blk_image.specs.Image.{Block, Image, byte, length_of, word}
+use Rattle.blk_image.specs.Told.{Stays, Told}
+use Rattle.blk_image.specs.Footprint.{Footprint, SameOutside, either, one_word}
 use Rattle.blk_format.specs.Address.{file_selector, block_word}
 use Rattle.blk_format.specs.Headers.{allocations_of, updating_of}
 use Rattle.blk_format.specs.BlockFiles.{is_among, most_blocks, most_files}
+use Rattle.blk_format.specs.Growth.{StaysWhole}
 use Rattle.blk_format.specs.Maps.{is_block_marked, AreAllocations, EmptyAgrees}
 use Rattle.blk_io.specs.declared.folder.FileId.TheVariants as names
 use Rattle.blk_io.specs.declared.fault.Damage.{Damage}
@@ -15,6 +16,8 @@ use Rattle.blk_disk.specs.declared.tables.BlockFiles.{BlockFiles}
 use Rattle.blk_disk.specs.Tables.{all_files, blocks_of, files_of}
 use Rattle.blk_disk.specs.Growth.{IsLeastFree, addition_of, free_number, growth_of}
 use Rattle.blk_alloc.specs.declared.blocks.Blocks.{Blocks}
+use Rattle.blk_alloc.specs.Counting.{IsCounted}
+use Rattle.blk_alloc.specs.Changes.{updating_place}
 use Rattle.blk_alloc.specs.Owning.{is_of, IsCause, KeepsFile}
 use Rattle.blk_alloc.specs.Fitting.{HasNoRoom, IsFirstFit, IsPlace, IsShortOf}
 use Rattle.blk_alloc.specs.Marking.{taking_of, IsDangling, CanBeMarked, MarksUsed, MarksUsedInProgress}
@@ -71,7 +74,7 @@ pub record Extends (files : BlockFiles) (from : Image) (place : Blocks) (image :
   pub fresh : is_among (all_files files) place.file ≡ false → AreAllocations image place.file []
   pub hints : is_among (all_files files) place.file ≡ false → HasNoHints image place.file
 
--- the blocks of an address are given: they were free and are marked now, no other mark of a file that was there has changed, its file has one allocation more and each other has its own, a file that wasn't there has no hints, the counters are true, and updating is 0
+-- the blocks of an address are allocated: they were free and are marked now, no other mark of a file that was there has changed, its file has one allocation more and each other has its own, a file that wasn't there has no hints, the counters are true, and updating is 0
 pub record Allocates (files : BlockFiles) (from : Image) (w : ℕ) (image : Image) : Type 0 where
   pub free : is_among (all_files files) (file_selector w) ≡ true → (b : ℕ) → is_of w (file_selector w) b ≡ true → is_block_marked from (file_selector w) b ≡ false
   pub marks : (n b : ℕ) → is_among (all_files files) n ≡ true → b < most_blocks → is_block_marked image n b ≡ (if is_of w n b then true else is_block_marked from n b)
@@ -82,38 +85,51 @@ pub record Allocates (files : BlockFiles) (from : Image) (w : ℕ) (image : Imag
   pub empty : EmptyAgrees image (file_selector w)
   pub updating : updating_of (byte image (Block (file_selector w))) ≡ 0
 
--- The moments of it.
+-- What is touched.
 
--- what is touched where a file grows, and its first new blocks are taken
-abbrev pub grown_of : ℕ → Footprint
-grown_of n = either (growth_of n) (taking_of n)
+-- a file grows, and more of it is touched: it is the first that may grow; or a new one is added and grows, where none may
+abbrev pub ExtendsAnd : (ℕ → Footprint) → BlockFiles → ℕ → Image → ℕ → Image → Type 0
+ExtendsAnd more files kind from n image =
+    (IsFirstGrowing files (files_of files kind) n × SameOutside (either (growth_of n) (more n)) from image)
+    ⊎ (All (HasMostBlocks files) (files_of files kind) × (n ≡ free_number files) × SameOutside (either (addition_of files kind) (either (growth_of n) (more n))) from image)
 
--- what is touched where a file is added and grows, and its first blocks are taken
-abbrev pub added_of : BlockFiles → ℕ → Footprint
-added_of files kind = either (addition_of files kind) (grown_of (free_number files))
+-- what updating touches
+abbrev pub updating_word : ℕ → Footprint
+updating_word n = one_word (Block n) updating_place
 
--- room is made in a file, and its blocks are taken: it is the first that may grow, or a new one where none may grow, and nothing else differs
-abbrev pub ExtendsInProgressIn : BlockFiles → ℕ → Image → ℕ → Image → Type 0
-ExtendsInProgressIn files kind from n image =
-    (IsFirstGrowing files (files_of files kind) n × SameOutside (grown_of n) from image)
-    ⊎ (All (HasMostBlocks files) (files_of files kind) × (n ≡ free_number files) × SameOutside (added_of files kind) from image)
+-- blocks of a file are allocated: it alone differs, in its length, map and counters, and where it grew or was added in what that touches
+abbrev pub AllocatesIn : BlockFiles → ℕ → Image → ℕ → Image → Type 0
+AllocatesIn files kind from n image = SameOutside (taking_of n) from image ⊎ ExtendsAnd taking_of files kind from n image
 
--- the same, in some file
+-- What holds at each word.
+
+-- room is made in a file, or one that is added: nothing but the growth and updating differs
+pub record MakesRoomInProgress (files : BlockFiles) (kind : ℕ) (from image : Image) : Type 0 where
+  pub file : ℕ
+  pub within : ExtendsAnd updating_word files kind from file image
+  pub stays : StaysWhole from image
+
+-- room is made in a file, and its first blocks are marked: until more than the growth differs, and from then until map and counters are done, updating is 1
 pub record ExtendsInProgress (files : BlockFiles) (kind : ℕ) (from image : Image) : Type 0 where
   pub file : ℕ
-  pub making : ExtendsInProgressIn files kind from file image
+  pub within : ExtendsAnd taking_of files kind from file image
+  pub updating : (updating_of (byte image (Block file)) ≡ 1) ⊎ (ExtendsAnd updating_word files kind from file image ⊎ ((w : ℕ) × (file_selector w ≡ file) × Allocates files from w image))
 
--- nothing differs yet, or the first fit is being taken, or room is made where no file of the type has any
-abbrev pub AllocatesInProgress : BlockFiles → ℕ → ℕ → Image → Image → Type 0
-AllocatesInProgress files kind count from image =
+-- nothing differs yet; or the first fit is being marked, or is marked; or no file of the type has room, and it is made
+abbrev pub AllocatesByStage : BlockFiles → ℕ → ℕ → Image → Image → Type 0
+AllocatesByStage files kind count from image =
     (image ≡ from)
-    ⊎ ((place : Blocks) × IsFirstFit from (files_of files kind) count place × MarksUsedInProgress place.file from image)
+    ⊎ ((place : Blocks) × IsFirstFit from (files_of files kind) count place × (MarksUsedInProgress place.file from image ⊎ MarksUsed files from (block_word kind place.file place.start count) image))
     ⊎ (HaveNoRoom files kind count from × ExtendsInProgress files kind from image)
 
--- the first fit is taken
-abbrev pub MarksFitUsed : BlockFiles → ℕ → ℕ → Image → Image → Type 0
-MarksFitUsed files kind count from image =
-    (place : Blocks) × IsFirstFit from (files_of files kind) count place × MarksUsed files from (block_word kind place.file place.start count) image
+-- at each word of an allocation: what differs, and updating; files that have grown at most, and a folder that stays well formed
+pub record AllocatesInProgress (files : BlockFiles) (kind count : ℕ) (from image : Image) : Type 0 where
+  pub stage : AllocatesByStage files kind count from image
+  pub stays : StaysWhole from image
+
+-- where its file was there, an allocation is counted once more, whatever its counters were
+abbrev pub IsCountedOnce : BlockFiles → Image → ℕ → Image → Type 0
+IsCountedOnce files from w image = is_among (all_files files) (file_selector w) ≡ true → IsCounted true (allocations_of (byte from (Block (file_selector w)))) (allocations_of (byte image (Block (file_selector w))))
 
 -- Why there is none.
 
@@ -129,6 +145,7 @@ pub record IsFull (files : BlockFiles) (kind : ℕ) (told : Told) (damage : Dama
   pub last : slice_get (files_of files kind) (most_files - 1) ≡ Some file
   pub of_file : damage.file ≡ names.Block file
   pub at : damage.at ≡ last_place
+  pub there : ForSome told.files (λ image. last_place + 4 ≤ length_of image (Block file))
   pub found : ForSome told.files (λ image. damage.found ≡ word image (Block file) last_place)
 
 -- the header of one of the files of a type is damaged, of which so many blocks were to be taken: a read of it gave too few bytes, or a counter would leave its range
@@ -143,6 +160,9 @@ pub record IsDanglingOf (files : BlockFiles) (kind count : ℕ) (damage : Damage
   pub is : IsPlace files kind count place
   pub dangling : IsDangling files kind place damage
 
--- why so many blocks are not given: a damaged header, which may be that of a file that was added, a map that was too short where room was sought, files that were full, or blocks that don't stand
-abbrev pub IsRefusal : BlockFiles → BlockFiles → ℕ → ℕ → Told → Damage → Type 0
-IsRefusal old new kind count told damage = IsCauseOf new kind count told damage ⊎ IsShortOf old kind told damage ⊎ IsFull old kind told damage ⊎ IsDanglingOf new kind count damage
+-- why so many blocks are not allocated: a damaged header, which may be that of a file that was added; or, before anything is written, a map that was too short where room was sought, or files that were full; or blocks that don't stand
+abbrev pub IsRefusal : BlockFiles → BlockFiles → ℕ → ℕ → Told → Told → Damage → Type 0
+IsRefusal old new kind count before after damage =
+    IsCauseOf new kind count after damage
+    ⊎ (Stays before after × (IsShortOf old kind before damage ⊎ IsFull old kind before damage))
+    ⊎ IsDanglingOf new kind count damage

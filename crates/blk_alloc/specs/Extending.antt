@@ -1,12 +1,13 @@
 -- Files get room for blocks.
-use Rattle.std.specs.Prelude.{◌≡◌, ℕ, ◌<◌, List, true, ◌≤◌, ◌++◌, ◌∷◌, Option, None, Some}
+use Rattle.std.specs.Prelude.{◌≡◌, ◌≢◌, ℕ, ◌<◌, List, true, ◌≤◌, ◌++◌, ◌∷◌, Option, None, Some}
 use Rattle.std.specs.List.{All}
 use Rattle.blk_image.specs.Image.{Block, Image, byte}
 use Rattle.blk_format.specs.Headers.{allocations_of, hints_of}
 use Rattle.blk_format.specs.BlockFiles.{is_among, most_blocks}
 use Rattle.blk_format.specs.Maps.{is_block_marked, AreAllocations, EmptyAgrees}
 use Rattle.blk_disk.specs.declared.tables.BlockFiles.{BlockFiles}
-use Rattle.blk_disk.specs.Tables.{all_files, blocks_of, stands_among}
+use Rattle.blk_disk.specs.Tables.{all_files, blocks_of, files_of, length_in, stands_among}
+use Rattle.blk_disk.specs.Growth.{whole_length}
 use Rattle.blk_alloc.specs.Counting.{largest}
 use Rattle.blk_alloc.specs.Owning.{KeepsFile}
 
@@ -32,6 +33,18 @@ KeepsMarks files from image = (n b : ℕ) → is_among (all_files files) n ≡ t
 -- each file that is kept is kept still
 abbrev pub KeepsAll : BlockFiles → BlockFiles → Type 0
 KeepsAll old new = (n : ℕ) → is_among (all_files old) n ≡ true → is_among (all_files new) n ≡ true
+
+-- the files of each type are the old ones
+abbrev pub KeepsLists : BlockFiles → BlockFiles → Type 0
+KeepsLists old new = (kind : ℕ) → files_of new kind ≡ files_of old kind
+
+-- but for one file, the files of each type are the old ones
+abbrev pub KeepsLinks : BlockFiles → BlockFiles → ℕ → Type 0
+KeepsLinks old new n = (m kind : ℕ) → m ≢ n → is_among (files_of new kind) m ≡ is_among (files_of old kind) m
+
+-- a file has all its blocks
+abbrev pub HasItsBlocks : BlockFiles → ℕ → Type 0
+HasItsBlocks files n = whole_length files n ≤ length_in files n
 
 -- each address that stands among the old files stands among the new ones
 abbrev pub KeepsStanding : BlockFiles → BlockFiles → Type 0

@@ -1,7 +1,7 @@
 -- The first place where blocks fit: the files of a type in the order of their links, and in a file the least place.
 use Rattle.std.specs.Prelude.{◌≡◌, ℕ, ◌+◌, ◌-◌, ◌*◌, ◌/◌, ◌%◌, min, ◌<◌, ◌≤◌, List, ◌∷◌, ◌++◌, true, Option, None, Some}
 use Rattle.std.specs.List.{All}
-use Rattle.blk_image.specs.Image.{Image}
+use Rattle.blk_image.specs.Image.{Block, Image, length_of}
 use Rattle.blk_image.specs.Told.{Told}
 use Rattle.blk_format.specs.BlockFiles.{is_among, max_entries_in, most_blocks}
 use Rattle.blk_format.specs.Maps.{is_block_marked, group_size, map_place}
@@ -16,6 +16,14 @@ use Rattle.blk_alloc.specs.Places.{is_place, AreNoPlaces, IsLeastPlace}
 -- a file has no place for so many blocks
 abbrev pub HasNoRoom : Image → ℕ → ℕ → Type 0
 HasNoRoom image count n = AreNoPlaces (is_block_marked image n) count 0 (max_entries_in image n)
+
+-- the map of a file is there, as far as so many blocks go
+abbrev pub HasMapOf : Image → ℕ → ℕ → Type 0
+HasMapOf image n blocks = 0 < blocks → map_place + (blocks + 7) / 8 ≤ length_of image (Block n)
+
+-- the map of each file of a list is there, as far as its blocks go
+abbrev pub HaveMaps : BlockFiles → Image → List ℕ → Type 0
+HaveMaps files image list = All (λ n. HasMapOf image n (min (blocks_of files n) most_blocks)) list
 
 -- the least place among the blocks from `low` on and below `end`, or none
 abbrev pub IsLeastFrom : Image → ℕ → ℕ → ℕ → ℕ → Option ℕ → Type 0

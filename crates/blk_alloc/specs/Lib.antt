@@ -7,3 +7,4 @@ pub mod Marking
 pub mod Extending
 pub mod Allocating
 pub mod Rebuilding
+pub mod Laws

@@ -1,17 +1,18 @@
 -- Blocks of a file are taken: the file is lengthened to its blocks, and the blocks are marked.
-use Rattle.std.specs.Prelude.{◌≡◌, ◌≢◌, ◌⊎◌, ℕ, ◌+◌, ◌<◌, ◌≤◌, List, ◌∷◌, true, false, if◌then◌else◌, Some}
+use Rattle.std.specs.Prelude.{◌≡◌, ◌≢◌, ◌⊎◌, ℕ, ◌+◌, ◌/◌, ◌<◌, ◌≤◌, List, ◌∷◌, true, false, if◌then◌else◌, Some}
 use Rattle.blk_image.specs.Image.{Block, Image, byte, length_of}
 use Rattle.blk_image.specs.Footprint.{Footprint, SameOutside, either, one_word, size_of}
 use Rattle.blk_format.specs.Address.{block_word, file_selector}
-use Rattle.blk_format.specs.Headers.{updating_of}
+use Rattle.blk_format.specs.Headers.{allocations_of, empty_of, updating_of}
 use Rattle.blk_format.specs.BlockFiles.{is_among, most_blocks, kind_among}
-use Rattle.blk_format.specs.Maps.{is_block_marked, are_free, AreAllocations, EmptyAgrees}
+use Rattle.blk_format.specs.Maps.{is_block_marked, are_free, longest_run, AreAllocations, EmptyAgrees}
 use Rattle.blk_io.specs.declared.folder.FileId.TheVariants as names
 use Rattle.blk_io.specs.declared.fault.Damage.{Damage}
 use Rattle.blk_disk.specs.declared.tables.BlockFiles.{BlockFiles}
 use Rattle.blk_disk.specs.Tables.{all_files, blocks_of, files_of, stands_among}
 use Rattle.blk_alloc.specs.declared.blocks.Blocks.{Blocks}
 use Rattle.blk_alloc.specs.Changes.{map_of, updating_place, IsReady}
+use Rattle.blk_alloc.specs.Counting.{counted, IsCounted}
 use Rattle.blk_alloc.specs.Owning.{is_of}
 
 -- blocks that may be taken: they are free, and the counters of their file are true
@@ -40,6 +41,12 @@ pub record MarksUsed (files : BlockFiles) (from : Image) (w : ℕ) (image : Imag
   pub empty : EmptyAgrees image (file_selector w)
   pub empty_elsewhere : (n : ℕ) → n ≢ file_selector w → EmptyAgrees from n → EmptyAgrees image n
   pub updating : updating_of (byte image (Block (file_selector w))) ≡ 0
+
+-- blocks of a file from one on are counted as used, whatever its counters were: num_entries is one more, and `empty` counts the new longest free run of their group in place of the old one
+pub record CountsUsed (n start : ℕ) (from image : Image) : Type 0 where
+  pub allocations : IsCounted true (allocations_of (byte from (Block n))) (allocations_of (byte image (Block n)))
+  pub counts : (i : ℕ) → i < 4 → empty_of (byte image (Block n)) i + counted (longest_run (is_block_marked from n) (start / 4)) i
+      ≡ empty_of (byte from (Block n)) i + counted (longest_run (is_block_marked image n) (start / 4)) i
 
 -- the place of the number of blocks in a header
 abbrev pub blocks_place : ℕ

@@ -7,8 +7,8 @@ use Rattle.blk_image.specs.Told.{Told}
 use Rattle.blk_image.specs.Footprint.{SameOutside}
 use Rattle.blk_format.specs.Address.{file_selector, first_block, block_count}
 use Rattle.blk_format.specs.Headers.{allocations_of, block_fields_length, empty_of, updating_of}
-use Rattle.blk_format.specs.BlockFiles.{is_among, most_blocks, IsWellFormed}
-use Rattle.blk_format.specs.Growth.{HaveGrown}
+use Rattle.blk_format.specs.BlockFiles.{is_among, most_blocks}
+use Rattle.blk_format.specs.Growth.{StaysWhole}
 use Rattle.blk_format.specs.Maps.{is_block_marked, longest_run, map_place, AreAllocations, EmptyAgrees}
 use Rattle.blk_addr.specs.Bits.{has_bit, is_between}
 use Rattle.blk_io.specs.declared.folder.FileId.TheVariants as names
@@ -57,8 +57,7 @@ pub record IsFreed (from : Image) (w : ℕ) (image : Image) : Type 0 where
 -- at each word of a free: only map, counters and updating of the file differ, and updating is 1 from the first to the last; block files have grown at most, so each block still stands with its bytes, and a well-formed folder is well formed
 pub record FreesInProgress (w : ℕ) (from image : Image) : Type 0 where
   pub marks : IsMapInProgress (file_selector w) from image ⊎ IsFreed from w image
-  pub grown : HaveGrown from image
-  pub formed : IsWellFormed from → IsWellFormed image
+  pub stays : StaysWhole from image
 
 -- a counter of a file would leave its range where so many blocks from one on, in one group, come into use or go out of it: by the fields of the header that were read, and the four bytes of the map that have the blocks
 pub record IsCount (told : Told) (n start count : ℕ) (used : Bool) (damage : Damage) : Type 0 where

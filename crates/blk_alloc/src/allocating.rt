@@ -1,19 +1,21 @@
 // Blocks are allocated.
-ghost use Rattle.std.specs.Prelude.{◌≡◌, ◌≢◌, ◌⊎◌, ◌≤◌, ◌<◌, None, IfOk, OnOk, IsTrue, length};
+ghost use Rattle.std.specs.Prelude.{◌≡◌, ◌≢◌, ◌⊎◌, ◌≤◌, ◌<◌, true, None, IfOk, OnOk, IsTrue, length};
 ghost use Rattle.std.specs.List.{All};
 ghost use Rattle.std.specs.Option.{ForSome};
-ghost use Rattle.blk_image.specs.Told.{Passes, PassesTo, Rises, Stays};
-ghost use Rattle.blk_format.specs.Address.{block_count, external, kind_of, rankings};
-ghost use Rattle.blk_format.specs.BlockFiles.{most_files, IsWellFormed};
+ghost use Rattle.blk_image.specs.Image.{Block as block, byte};
+ghost use Rattle.blk_image.specs.Told.{Passes, Rises, Stays};
+ghost use Rattle.blk_format.specs.Address.{block_count, external, file_selector, is_address, kind_of, rankings};
+ghost use Rattle.blk_format.specs.BlockFiles.{is_among, most_files};
+ghost use Rattle.blk_format.specs.Headers.{allocations_of};
 ghost use Rattle.blk_format.specs.Maps.{group_size};
 ghost use Rattle.blk_addr.specs.Kind.{kind_number};
 ghost use Rattle.blk_io.specs.Faults.{IfDamaged, IfDevice};
-ghost use Rattle.blk_disk.specs.Growth.{KeepsBlocks};
-ghost use Rattle.blk_disk.specs.Tables.{Agrees, files_of, stands_among};
-ghost use Rattle.blk_alloc.specs.Owning.{KeepsExternals};
+ghost use Rattle.blk_disk.specs.Tables.{Agrees, all_files, files_of, stands_among};
 ghost use Rattle.blk_alloc.specs.Fitting.{IsPlace};
-ghost use Rattle.blk_alloc.specs.Extending.{HasMostBlocks, KeepsAll, KeepsStanding};
-ghost use Rattle.blk_alloc.specs.Allocating.{AreCounted, HaveNoRoom, IsAddedPlace, IsChosen, MarksFitUsed, IsFull, Allocates, AllocatesInProgress, IsGrownPlace, Extends, ExtendsInProgress, ExtendsInProgressIn, IsRefusal};
+ghost use Rattle.blk_alloc.specs.Extending.{HasItsBlocks, HasMostBlocks, KeepsAll, KeepsLinks, KeepsStanding};
+ghost use Rattle.blk_alloc.specs.Marking.{taking_of};
+ghost use Rattle.blk_alloc.specs.Allocating.{AllocatesIn, AreCounted, ExtendsAnd, HaveNoRoom, IsAddedPlace, IsChosen, IsCountedOnce, IsFull, Allocates, AllocatesInProgress, IsGrownPlace, Extends, ExtendsInProgress, IsRefusal, MakesRoomInProgress, updating_word};
+ghost use Rattle.blk_format.specs.Growth.{StaysWhole};
 
 use crate::blocks::Blocks;
 use crate::fitting::first_fit;
@@ -35,7 +37,7 @@ fn full_damage<F: Folder>(f: &mut F, files: &BlockFiles, kind: Kind) -> Result<D
     requires number { most_files ≤ length (files_of files.now (kind_number kind)) }
     requires full { All (HasMostBlocks files.now) (files_of files.now (kind_number kind)) }
     ensures full { IfOk result (IsFull files.now (kind_number kind) (F.told f.old)) }
-    ensures cause { IfDamaged result (λ damage. (F.told f.old).files ≡ None → IsFull files.now (kind_number kind) (F.told f.old) damage) }
+    ensures cause { ForSome (F.told f.old).files (Agrees files.now) → IfDamaged result (IsFull files.now (kind_number kind) (F.told f.old)) }
     ensures stays { Stays (F.told f.old) (F.told f.new) }
     ensures later { F.faults f.old ≤ F.faults f.new }
     ensures device { IfDevice result (Rises (F.faults f.old) (F.faults f.new)) }
@@ -63,21 +65,21 @@ fn new_room<F: Folder>(
     requires few { count ≤ group_size }
     requires block_kind { kind_number kind ≢ external }
     requires agrees { ForSome (F.told f.old).files (Agrees files.old) }
-    requires counted { ForSome (F.told f.old).files (AreCounted files.old (kind_number kind)) }
     requires full { ForSome (F.told f.old).files (HaveNoRoom files.old (kind_number kind) count) }
     ensures fits { IfOk result (IsPlace files.new (kind_number kind) count) }
     ensures place { IfOk result (λ place. ForSome (F.told f.old).files (λ _. IsGrownPlace files.old (kind_number kind) place ⊎ IsAddedPlace files.old (kind_number kind) place)) }
-    ensures made { IfOk result (λ place. ForSome (F.told f.old).files (λ from. ForSome (F.told f.new).files (Extends files.old from place))) }
-    ensures making { IfOk result (λ place. ForSome (F.told f.old).files (λ from. ForSome (F.told f.new).files (ExtendsInProgressIn files.old (kind_number kind) from place.file))) }
+    ensures made { IfOk result (λ place. ForSome (F.told f.old).files (λ from. AreCounted files.old (kind_number kind) from → ForSome (F.told f.new).files (Extends files.old from place))) }
+    ensures within { IfOk result (λ place. ForSome (F.told f.old).files (λ from. ForSome (F.told f.new).files (ExtendsAnd updating_word files.old (kind_number kind) from place.file))) }
+    ensures counts { IfOk result (λ place. ForSome (F.told f.old).files (λ from. ForSome (F.told f.new).files (λ image. is_among (all_files files.old) place.file ≡ true → allocations_of (byte image (block place.file)) ≡ allocations_of (byte from (block place.file))))) }
     ensures all { OnOk result (KeepsAll files.old files.new) }
+    ensures links { IfOk result (λ place. KeepsLinks files.old files.new place.file) }
     ensures standing { KeepsStanding files.old files.new }
     ensures agrees { OnOk result (ForSome (F.told f.new).files (Agrees files.new)) }
-    ensures stops { ForSome (F.told f.old).files (λ from. Passes (F.told f.old) (F.told f.new) (ExtendsInProgress files.old (kind_number kind) from)) }
-    ensures blocks { ForSome (F.told f.old).files (λ from. Passes (F.told f.old) (F.told f.new) (KeepsBlocks from)) }
-    ensures formed { ForSome (F.told f.old).files (λ from. IsWellFormed from → Passes (F.told f.old) (F.told f.new) IsWellFormed) }
+    ensures stops { ForSome (F.told f.old).files (λ from. Passes (F.told f.old) (F.told f.new) (MakesRoomInProgress files.old (kind_number kind) from)) }
     ensures silent { (F.told f.old).files ≡ None → (F.told f.new).files ≡ None }
-    ensures cause { IfDamaged result (IsRefusal files.old files.new (kind_number kind) count (F.told f.old)) }
-    ensures untold { IfDamaged result (λ _. (F.told f.old).files ≡ None) }
+    ensures cause { IfDamaged result (IsFull files.old (kind_number kind) (F.told f.old)) }
+    ensures sixty { IfDamaged result (λ _. All (HasMostBlocks files.old) (files_of files.old (kind_number kind)) × (most_files ≤ length (files_of files.old (kind_number kind)))) }
+    ensures unwritten { IfDamaged result (λ _. Stays (F.told f.old) (F.told f.new)) }
     ensures later { F.faults f.old ≤ F.faults f.new }
     ensures device { IfDevice result (Rises (F.faults f.old) (F.faults f.new)) }
 {
@@ -105,20 +107,21 @@ fn allocate_new<F: Folder>(
     requires block_kind { kind_number kind ≢ external }
     requires node { kind_number kind ≡ rankings → count ≡ 1 }
     requires agrees { ForSome (F.told f.old).files (Agrees files.old) }
-    requires counted { ForSome (F.told f.old).files (AreCounted files.old (kind_number kind)) }
     requires full { ForSome (F.told f.old).files (HaveNoRoom files.old (kind_number kind) count) }
     ensures chosen { IfOk result (λ addr. ForSome (F.told f.old).files (λ from. IsChosen files.old from (kind_number kind) count addr)) }
     ensures kind { IfOk result (λ addr. (kind_of addr ≡ kind_number kind) × (block_count addr ≡ count)) }
+    ensures address { IfOk result (λ addr. IsTrue (is_address addr)) }
     ensures stands { IfOk result (λ addr. IsTrue (stands_among files.new addr)) }
     ensures keeps { KeepsStanding files.old files.new }
-    ensures given { IfOk result (λ addr. ForSome (F.told f.old).files (λ from. ForSome (F.told f.new).files (Allocates files.old from addr))) }
+    ensures links { IfOk result (λ addr. KeepsLinks files.old files.new (file_selector addr)) }
+    ensures long { IfOk result (λ addr. HasItsBlocks files.new (file_selector addr)) }
+    ensures counted { IfOk result (λ addr. ForSome (F.told f.old).files (λ from. ForSome (F.told f.new).files (IsCountedOnce files.old from addr))) }
+    ensures allocates { IfOk result (λ addr. ForSome (F.told f.old).files (λ from. AreCounted files.old (kind_number kind) from → ForSome (F.told f.new).files (λ image. Allocates files.old from addr image × ExtendsAnd taking_of files.old (kind_number kind) from (file_selector addr) image))) }
     ensures agrees { OnOk result (ForSome (F.told f.new).files (Agrees files.new)) }
-    ensures stops { ForSome (F.told f.old).files (λ from. Passes (F.told f.old) (F.told f.new) (ExtendsInProgress files.old (kind_number kind) from)) }
-    ensures blocks { ForSome (F.told f.old).files (λ from. Passes (F.told f.old) (F.told f.new) (KeepsBlocks from)) }
-    ensures formed { ForSome (F.told f.old).files (λ from. IsWellFormed from → Passes (F.told f.old) (F.told f.new) IsWellFormed) }
+    ensures stops { ForSome (F.told f.old).files (λ from. AreCounted files.old (kind_number kind) from → Passes (F.told f.old) (F.told f.new) (λ image. ExtendsInProgress files.old (kind_number kind) from image × StaysWhole from image)) }
     ensures silent { (F.told f.old).files ≡ None → (F.told f.new).files ≡ None }
-    ensures cause { IfDamaged result (IsRefusal files.old files.new (kind_number kind) count (F.told f.old)) }
-    ensures untold { IfDamaged result (λ _. (F.told f.old).files ≡ None) }
+    ensures cause { IfDamaged result (IsRefusal files.old files.new (kind_number kind) count (F.told f.old) (F.told f.new)) }
+    ensures untold { ForSome (F.told f.old).files (AreCounted files.old (kind_number kind)) → IfDamaged result (λ _. (F.told f.old).files ≡ None) }
     ensures later { F.faults f.old ≤ F.faults f.new }
     ensures device { IfDevice result (Rises (F.faults f.old) (F.faults f.new)) }
 {
@@ -135,8 +138,8 @@ fn allocate_new<F: Folder>(
 /// A damage is a read of a file's header that gave too few bytes, a counter that would leave its
 /// range, or 60 full files of the kind; then it finds the last word of the last map. Where the blocks
 /// don't stand among the files, as their file is kept as one of another kind too or its number of blocks
-/// ends among them, it has the place of this number. With at most 655362 allocations of the kind all of
-/// these need a folder that tells nothing.
+/// ends among them, it has the place of this number. Where the files of the kind have true counters and
+/// at most 655362 allocations, all of these need a folder that tells nothing.
 pub fn allocate<F: Folder>(
     f: &mut F,
     files: &mut BlockFiles,
@@ -148,29 +151,31 @@ pub fn allocate<F: Folder>(
     requires block_kind { kind_number kind ≢ external }
     requires node { kind_number kind ≡ rankings → blocks ≡ 1 }
     requires agrees { ForSome (F.told f.old).files (Agrees files.old) }
-    requires counted { ForSome (F.told f.old).files (AreCounted files.old (kind_number kind)) }
 
-    // In any case: the blocks are of the kind, as many as asked for, and stand, and what stood still does.
+    // The blocks are of the kind, as many as asked for, and stand; their file has all its blocks.
     ensures kind { IfOk result (λ addr. (kind_of addr ≡ kind_number kind) × (block_count addr ≡ blocks)) }
+    ensures address { IfOk result (λ addr. IsTrue (is_address addr)) }
     ensures stands { IfOk result (λ addr. IsTrue (stands_among files.new addr)) }
+    ensures long { IfOk result (λ addr. HasItsBlocks files.new (file_selector addr)) }
+
+    // What stood still does, and the other files are linked as before.
     ensures keeps { KeepsStanding files.old files.new }
+    ensures links { IfOk result (λ addr. KeepsLinks files.old files.new (file_selector addr)) }
 
     // The first fit, or where no file of the kind has room, the first blocks of a growth, and of a new file only where none may grow.
     ensures chosen { IfOk result (λ addr. ForSome (F.told f.old).files (λ from. IsChosen files.old from (kind_number kind) blocks addr)) }
-    ensures given { IfOk result (λ addr. ForSome (F.told f.old).files (λ from. ForSome (F.told f.new).files (Allocates files.old from addr))) }
+    ensures counted { IfOk result (λ addr. ForSome (F.told f.old).files (λ from. ForSome (F.told f.new).files (IsCountedOnce files.old from addr))) }
+    ensures allocates { IfOk result (λ addr. ForSome (F.told f.old).files (λ from. AreCounted files.old (kind_number kind) from → ForSome (F.told f.new).files (Allocates files.old from addr))) }
+    ensures within { IfOk result (λ addr. ForSome (F.told f.old).files (λ from. AreCounted files.old (kind_number kind) from → ForSome (F.told f.new).files (AllocatesIn files.old (kind_number kind) from (file_selector addr)))) }
     ensures agrees { OnOk result (ForSome (F.told f.new).files (Agrees files.new)) }
 
-    // At each word only one file of the kind differs, in its length, map and counters, and where it grows or is added in what these touch; where none does, updating is 1 until map and counters are done.
-    ensures stops { ForSome (F.told f.old).files (λ from. PassesTo (F.told f.old) (F.told f.new) (AllocatesInProgress files.old (kind_number kind) blocks from) (λ image. AllocatesInProgress files.old (kind_number kind) blocks from image ⊎ MarksFitUsed files.old (kind_number kind) blocks from image)) }
+    // At each word only one file of the kind differs, in its length, map and counters, and where it grows or is added in what these touch; updating is 1 until map and counters are done; files have grown at most, and a well-formed folder is well formed.
+    ensures stops { ForSome (F.told f.old).files (λ from. AreCounted files.old (kind_number kind) from → Passes (F.told f.old) (F.told f.new) (AllocatesInProgress files.old (kind_number kind) blocks from)) }
 
-    // Each block that stood still stands with its bytes, each external file is as before, and a well-formed folder is still well formed.
-    ensures blocks { ForSome (F.told f.old).files (λ from. Passes (F.told f.old) (F.told f.new) (KeepsBlocks from)) }
-    ensures externals { ForSome (F.told f.old).files (λ from. Passes (F.told f.old) (F.told f.new) (KeepsExternals from)) }
-    ensures formed { ForSome (F.told f.old).files (λ from. IsWellFormed from → Passes (F.told f.old) (F.told f.new) IsWellFormed) }
-
+    // Of a damage of a map or of full files nothing is written.
+    ensures cause { IfDamaged result (IsRefusal files.old files.new (kind_number kind) blocks (F.told f.old) (F.told f.new)) }
+    ensures untold { ForSome (F.told f.old).files (AreCounted files.old (kind_number kind)) → IfDamaged result (λ _. (F.told f.old).files ≡ None) }
     ensures silent { (F.told f.old).files ≡ None → (F.told f.new).files ≡ None }
-    ensures cause { IfDamaged result (IsRefusal files.old files.new (kind_number kind) blocks (F.told f.old)) }
-    ensures untold { IfDamaged result (λ _. (F.told f.old).files ≡ None) }
     ensures later { F.faults f.old ≤ F.faults f.new }
     ensures device { IfDevice result (Rises (F.faults f.old) (F.faults f.new)) }
 {

@@ -1,16 +1,17 @@
 // Files get room for blocks.
 ghost use Rattle.std.specs.Prelude.{◌≡◌, ◌≢◌, ◌*◌, ◌/◌, ◌≤◌, ◌<◌, [], None, length, IfOk, OnOk, OnErr, IsTrue};
 ghost use Rattle.std.specs.Option.{ForSome};
-ghost use Rattle.blk_image.specs.Footprint.{SameOutside, either};
+ghost use Rattle.blk_image.specs.Footprint.{either};
 ghost use Rattle.blk_image.specs.Told.{Passes, Rises};
-ghost use Rattle.blk_format.specs.BlockFiles.{is_among, most_blocks, most_files, IsWellFormed};
+ghost use Rattle.blk_format.specs.BlockFiles.{is_among, most_blocks, most_files};
 ghost use Rattle.blk_format.specs.Address.{external};
+ghost use Rattle.blk_format.specs.Growth.{StaysWholeOutside};
 ghost use Rattle.blk_addr.specs.Kind.{kind_number};
 ghost use Rattle.blk_format.specs.Maps.{group_size, AreAllocations};
 ghost use Rattle.blk_disk.specs.Tables.{Agrees, blocks_of, files_of};
-ghost use Rattle.blk_disk.specs.Growth.{IsLeastFree, KeepsBlocks, addition_of, free_number, growth_of};
+ghost use Rattle.blk_disk.specs.Growth.{IsLeastFree, addition_of, free_number, growth_of};
 ghost use Rattle.blk_alloc.specs.Fitting.{IsPlace};
-ghost use Rattle.blk_alloc.specs.Extending.{HasCounters, HasNoHints, IsGrowing, KeepsAll, KeepsFiles, KeepsMarks, KeepsStanding};
+ghost use Rattle.blk_alloc.specs.Extending.{HasCounters, HasNoHints, IsGrowing, KeepsAll, KeepsFiles, KeepsLinks, KeepsLists, KeepsMarks, KeepsStanding};
 ghost use Rattle.blk_alloc.specs.Marking.{CanBeMarked};
 
 use crate::blocks::Blocks;
@@ -34,19 +35,17 @@ pub(crate) fn grow_room<F: Folder>(
     requires linked { IsTrue (is_among (files_of files.old (kind_number kind)) file) }
     requires below { blocks_of files.old file < most_blocks }
     requires agrees { ForSome (F.told f.old).files (Agrees files.old) }
-    requires counters { ForSome (F.told f.old).files (λ image. HasCounters image file) }
     ensures place { IfOk result (λ place. (place.file ≡ file) × (place.start ≡ blocks_of files.old file / 4 * 4) × (place.count ≡ count)) }
     ensures fits { IfOk result (IsPlace files.new (kind_number kind) count) }
     ensures all { OnOk result (KeepsAll files.old files.new) }
+    ensures links { OnOk result (KeepsLists files.old files.new) }
     ensures standing { KeepsStanding files.old files.new }
     ensures marks { OnOk result (ForSome (F.told f.old).files (λ from. ForSome (F.told f.new).files (KeepsMarks files.old from))) }
-    ensures takeable { IfOk result (λ place. ForSome (F.told f.old).files (λ from. ForSome (F.told f.new).files (λ image. CanBeMarked image place))) }
-    ensures keeps { OnOk result (ForSome (F.told f.old).files (λ from. ForSome (F.told f.new).files (KeepsFiles files.old from))) }
+    ensures markable { IfOk result (λ place. ForSome (F.told f.old).files (λ from. HasCounters from file → ForSome (F.told f.new).files (λ image. CanBeMarked image place))) }
+    ensures keeps { OnOk result (ForSome (F.told f.old).files (λ from. HasCounters from file → ForSome (F.told f.new).files (KeepsFiles files.old from))) }
     ensures agrees { OnOk result (ForSome (F.told f.new).files (Agrees files.new)) }
     ensures same { OnErr result (files.new ≡ files.old) }
-    ensures outside { ForSome (F.told f.old).files (λ from. Passes (F.told f.old) (F.told f.new) (SameOutside (growth_of file) from)) }
-    ensures blocks { ForSome (F.told f.old).files (λ from. Passes (F.told f.old) (F.told f.new) (KeepsBlocks from)) }
-    ensures formed { ForSome (F.told f.old).files (λ from. IsWellFormed from → Passes (F.told f.old) (F.told f.new) IsWellFormed) }
+    ensures stops { ForSome (F.told f.old).files (λ from. Passes (F.told f.old) (F.told f.new) (StaysWholeOutside (growth_of file) from)) }
     ensures silent { (F.told f.old).files ≡ None → (F.told f.new).files ≡ None }
     ensures later { F.faults f.old ≤ F.faults f.new }
     ensures failed { OnErr result (Rises (F.faults f.old) (F.faults f.new)) }
@@ -71,17 +70,16 @@ pub(crate) fn add_room<F: Folder>(
     ensures place { IfOk result (λ place. (place.file ≡ free_number files.old) × (place.start ≡ 0) × (place.count ≡ count)) }
     ensures fits { IfOk result (IsPlace files.new (kind_number kind) count) }
     ensures all { OnOk result (KeepsAll files.old files.new) }
+    ensures links { OnOk result (KeepsLinks files.old files.new (free_number files.old)) }
     ensures standing { KeepsStanding files.old files.new }
     ensures marks { OnOk result (ForSome (F.told f.old).files (λ from. ForSome (F.told f.new).files (KeepsMarks files.old from))) }
     ensures fresh { OnOk result (ForSome (F.told f.old).files (λ from. ForSome (F.told f.new).files (λ image. AreAllocations image (free_number files.old) []))) }
     ensures hints { OnOk result (ForSome (F.told f.old).files (λ from. ForSome (F.told f.new).files (λ image. HasNoHints image (free_number files.old)))) }
     ensures least { OnOk result (IsLeastFree files.old (free_number files.old)) }
-    ensures takeable { IfOk result (λ place. ForSome (F.told f.old).files (λ from. ForSome (F.told f.new).files (λ image. CanBeMarked image place))) }
+    ensures markable { IfOk result (λ place. ForSome (F.told f.old).files (λ from. ForSome (F.told f.new).files (λ image. CanBeMarked image place))) }
     ensures keeps { OnOk result (ForSome (F.told f.old).files (λ from. ForSome (F.told f.new).files (KeepsFiles files.old from))) }
     ensures agrees { OnOk result (ForSome (F.told f.new).files (Agrees files.new)) }
-    ensures outside { ForSome (F.told f.old).files (λ from. Passes (F.told f.old) (F.told f.new) (SameOutside (either (addition_of files.old (kind_number kind)) (growth_of (free_number files.old))) from)) }
-    ensures blocks { ForSome (F.told f.old).files (λ from. Passes (F.told f.old) (F.told f.new) (KeepsBlocks from)) }
-    ensures formed { ForSome (F.told f.old).files (λ from. IsWellFormed from → Passes (F.told f.old) (F.told f.new) IsWellFormed) }
+    ensures stops { ForSome (F.told f.old).files (λ from. Passes (F.told f.old) (F.told f.new) (StaysWholeOutside (either (addition_of files.old (kind_number kind)) (growth_of (free_number files.old))) from)) }
     ensures silent { (F.told f.old).files ≡ None → (F.told f.new).files ≡ None }
     ensures later { F.faults f.old ≤ F.faults f.new }
     ensures failed { OnErr result (Rises (F.faults f.old) (F.faults f.new)) }

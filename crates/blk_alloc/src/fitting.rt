@@ -1,5 +1,5 @@
 // The first place where blocks fit.
-ghost use Rattle.std.specs.Prelude.{◌≡◌, ◌≢◌, ◌≤◌, ◌<◌, ◌+◌, ◌*◌, ◌/◌, ◌%◌, min, true, length, None, IfOk};
+ghost use Rattle.std.specs.Prelude.{◌≡◌, ◌≢◌, ◌≤◌, ◌<◌, ◌+◌, ◌*◌, ◌/◌, ◌%◌, min, true, length, None, IfOk, OnOk};
 ghost use Rattle.std.specs.Option.{ForSome};
 ghost use Rattle.blk_image.specs.Image.{Block as block, length_of};
 ghost use Rattle.blk_image.specs.Told.{Stays, Rises};
@@ -8,7 +8,7 @@ ghost use Rattle.blk_format.specs.Maps.{group_size, map_place};
 ghost use Rattle.blk_addr.specs.Kind.{kind_number};
 ghost use Rattle.blk_io.specs.Faults.{IfDamaged, IfDevice, IsShort};
 ghost use Rattle.blk_disk.specs.Tables.{Agrees, all_files, blocks_of, files_of};
-ghost use Rattle.blk_alloc.specs.Fitting.{IsFitting, IsLeastFrom, IsPlace, IsShortOf, IsShortPiece};
+ghost use Rattle.blk_alloc.specs.Fitting.{HasMapOf, HaveMaps, IsFitting, IsLeastFrom, IsPlace, IsShortOf, IsShortPiece};
 ghost use Rattle.blk_format.specs.Address.{external};
 
 use crate::blocks::Blocks;
@@ -39,6 +39,7 @@ fn least_in_piece<F: Folder>(
     requires none_more { 8 * length piece.old < blocks + 8 }
     ensures least { IfOk result (λ found. ForSome (F.told f.old).files (λ image. IsLeastFrom image file count first (first + blocks) found)) }
     ensures inside { IfOk result (λ found. ForSome found (λ b. (b % 4 + count ≤ group_size) × (b < first + blocks))) }
+    ensures whole { OnOk result (ForSome (F.told f.old).files (λ image. 0 < blocks → HasMapOf image file (first + blocks))) }
     ensures short { IfDamaged result (IsShort (F.told f.old) (FileId.Block file) (map_place + first / 8) ((blocks + 7) / 8)) }
     ensures untold { IfDamaged result (λ _. ForSome (F.told f.old).files (λ image. 8192 ≤ length_of image (block file)) → (F.told f.old).files ≡ None) }
     ensures stays { Stays (F.told f.old) (F.told f.new) }
@@ -63,6 +64,7 @@ fn least_in_file<F: Folder>(f: &mut F, file: u8, end: u32, count: u32) -> Result
     requires small { end ≤ most_blocks }
     ensures least { IfOk result (λ found. ForSome (F.told f.old).files (λ image. IsLeastFrom image file count 0 end found)) }
     ensures inside { IfOk result (λ found. ForSome found (λ b. (b % 4 + count ≤ group_size) × (b < end))) }
+    ensures whole { IfOk result (λ found. ForSome (F.told f.old).files (λ image. found ≡ None → HasMapOf image file end)) }
     ensures cause { IfDamaged result (IsShortPiece (F.told f.old) file end) }
     ensures untold { IfDamaged result (λ _. ForSome (F.told f.old).files (λ image. 8192 ≤ length_of image (block file)) → (F.told f.old).files ≡ None) }
     ensures stays { Stays (F.told f.old) (F.told f.new) }
@@ -103,11 +105,11 @@ pub(crate) fn first_fit<F: Folder>(
 ) -> Result<Option<Blocks>, Fault>
     requires few { count ≤ group_size }
     requires block_kind { kind_number kind ≢ external }
-    requires agrees { ForSome (F.told f.old).files (Agrees files.now) }
-    ensures fit { IfOk result (λ found. ForSome (F.told f.old).files (λ image. IsFitting image (files_of files.now (kind_number kind)) count found)) }
+    ensures fit { IfOk result (λ found. ForSome (F.told f.old).files (λ image. Agrees files.now image → IsFitting image (files_of files.now (kind_number kind)) count found)) }
+    ensures whole { IfOk result (λ found. ForSome (F.told f.old).files (λ image. found ≡ None → HaveMaps files.now image (files_of files.now (kind_number kind)))) }
     ensures place { IfOk result (λ found. ForSome found (IsPlace files.now (kind_number kind) count)) }
     ensures cause { IfDamaged result (IsShortOf files.now (kind_number kind) (F.told f.old)) }
-    ensures untold { IfDamaged result (λ _. (F.told f.old).files ≡ None) }
+    ensures untold { ForSome (F.told f.old).files (Agrees files.now) → IfDamaged result (λ _. (F.told f.old).files ≡ None) }
     ensures stays { Stays (F.told f.old) (F.told f.new) }
     ensures later { F.faults f.old ≤ F.faults f.new }
     ensures device { IfDevice result (Rises (F.faults f.old) (F.faults f.new)) }

@@ -4,11 +4,13 @@
 mod blocks;
 mod change;
 mod claimed;
+mod comparing;
 mod counters;
 mod finishing;
 mod fitting;
 mod freeing;
 mod allocating;
+mod laws;
 mod layout;
 mod extending;
 mod map;
@@ -18,6 +20,7 @@ mod marking;
 
 pub use freeing::free;
 pub use allocating::allocate;
+pub use laws::{counted_files, counts_stay};
 pub use rebuilding::rebuild;
 
 #[cfg(test)]

@@ -1,18 +1,17 @@
 // Blocks of a file are marked as used.
-ghost use Rattle.std.specs.Prelude.{◌≡◌, ◌≢◌, ◌⊎◌, ◌≤◌, ◌<◌, true, None, IfOk, IsTrue};
+ghost use Rattle.std.specs.Prelude.{◌≡◌, ◌≢◌, ◌⊎◌, ◌≤◌, ◌<◌, true, None, IfOk, OnOk, IsTrue};
 ghost use Rattle.std.specs.Option.{ForSome};
-ghost use Rattle.blk_image.specs.Told.{Passes, PassesTo, Rises, Told};
+ghost use Rattle.blk_image.specs.Told.{PassesTo, Rises};
 ghost use Rattle.blk_format.specs.Address as address;
 ghost use Rattle.blk_format.specs.Address.{external, rankings};
-ghost use Rattle.blk_format.specs.BlockFiles.{is_among, IsWellFormed};
+ghost use Rattle.blk_format.specs.BlockFiles.{is_among};
 ghost use Rattle.blk_addr.specs.Kind.{kind_number};
 ghost use Rattle.blk_io.specs.Faults.{IfDamaged, IfDevice};
-ghost use Rattle.blk_disk.specs.Growth.{KeepsBlocks};
 ghost use Rattle.blk_disk.specs.Tables.{Agrees, all_files, blocks_of, stands_among};
 ghost use Rattle.blk_alloc.specs.Fitting.{IsPlace};
-ghost use Rattle.blk_alloc.specs.Extending.{KeepsStanding};
+ghost use Rattle.blk_alloc.specs.Extending.{HasItsBlocks, KeepsLists, KeepsStanding};
 ghost use Rattle.blk_alloc.specs.Owning.{IsCause};
-ghost use Rattle.blk_alloc.specs.Marking.{blocks_place, IsDangling, CanBeMarked, MarksUsedInProgress, MarksUsed};
+ghost use Rattle.blk_alloc.specs.Marking.{CountsUsed, blocks_place, IsDangling, CanBeMarked, MarksUsedInProgress, MarksUsed};
 
 use crate::blocks::Blocks;
 use crate::change::change;
@@ -51,16 +50,17 @@ pub(crate) fn mark<F: Folder>(
     ensures word { IfOk result (λ addr. addr ≡ address.block_word (kind_number kind) place.file place.start place.count) }
     ensures stands { IfOk result (λ addr. IsTrue (stands_among files.new addr)) }
     ensures keeps { KeepsStanding files.old files.new }
-    ensures taken { IfOk result (λ addr. ForSome (F.told f.old).files (λ from. CanBeMarked from place → ForSome (F.told f.new).files (MarksUsed files.old from addr))) }
+    ensures counted { OnOk result (ForSome (F.told f.old).files (λ from. ForSome (F.told f.new).files (CountsUsed place.file place.start from))) }
+    ensures used { IfOk result (λ addr. ForSome (F.told f.old).files (λ from. CanBeMarked from place → ForSome (F.told f.new).files (MarksUsed files.old from addr))) }
     ensures agrees { ForSome (F.told f.new).files (Agrees files.new) }
+    ensures links { OnOk result (KeepsLists files.old files.new) }
+    ensures long { OnOk result (HasItsBlocks files.new place.file) }
 
-    // At each word only the length, the map and the counters of the file have changed, and updating is 1 until the map and the counters are done.
+    // At each word only the length, the map and the counters of the file have changed, it is no shorter, and updating is 1 until the map and the counters are done.
     ensures stops { ForSome (F.told f.old).files (λ from. CanBeMarked from place → PassesTo (F.told f.old) (F.told f.new) (MarksUsedInProgress place.file from) (λ image. MarksUsedInProgress place.file from image ⊎ MarksUsed files.old from (address.block_word (kind_number kind) place.file place.start place.count) image)) }
-    ensures formed { ForSome (F.told f.old).files (λ from. CanBeMarked from place → IsWellFormed from → Passes (F.told f.old) (F.told f.new) IsWellFormed) }
-    ensures blocks { ForSome (F.told f.old).files (λ from. Passes (F.told f.old) (F.told f.new) (KeepsBlocks from)) }
     ensures silent { (F.told f.old).files ≡ None → (F.told f.new).files ≡ None }
     ensures place { IsPlace files.new (kind_number kind) place.count place }
-    ensures cause { IfDamaged result (λ damage. ((told : Told) → told.files ≡ None → IsCause told place.file place.start place.count true damage) ⊎ IsDangling files.new (kind_number kind) place damage) }
+    ensures cause { IfDamaged result (λ damage. IsCause (F.told f.new) place.file place.start place.count true damage ⊎ IsDangling files.new (kind_number kind) place damage) }
     ensures untold { IfDamaged result (λ _. ForSome (F.told f.old).files (λ image. CanBeMarked image place) → (F.told f.old).files ≡ None) }
     ensures later { F.faults f.old ≤ F.faults f.new }
     ensures device { IfDevice result (Rises (F.faults f.old) (F.faults f.new)) }

@@ -17,15 +17,13 @@ use Rattle.blk_image.proofs.Images.{word-after_same, word-after_other, length-af
 use Rattle.blk_image.proofs.Runs.{until-append, until_last, until_weaker2, quiet-append, grows_then, part_then, passes_part, passes_step, some_inj, told_whole}
 use Rattle.blk_image.proofs.WordSteps.{quiet-word_steps}
 use Rattle.blk_image.proofs.Words.{same-word_at}
-use Rattle.blk_format.specs.Address.{file_selector}
 use Rattle.blk_format.specs.Headers.{head_checks, list_checks}
 use Rattle.blk_format.specs.BlockFiles.{is_among, linked, kind_among, files_along, next_file_in, max_entries_in, is_block_count, block_checks, first_block_damage, IsWellFormed}
 use Rattle.blk_disk.specs.declared.tables.BlockFiles.{BlockFiles}
 use Rattle.blk_disk.specs.Tables.{Agrees, Enlarges, all_files, blocks_of, files_of, length_in}
-use Rattle.blk_format.specs.Growth.{HaveGrown}
+use Rattle.blk_format.specs.Growth.{HaveGrown, StaysWhole, StaysWholeOutside}
 use Rattle.blk_disk.specs.Growth.{grown, grown_length, growth_of, grow_steps, lengthen_steps, new_groups, raise_steps, raised, size_as}
-use Rattle.blk_format.proofs.SpareHeaders.{blocks_same, sizes_spare, other_file, past_header}
-use Rattle.blk_disk.proofs.Ranges.{stands_more}
+use Rattle.blk_format.proofs.SpareHeaders.{blocks_same, sizes_spare, other_file}
 use Rattle.blk_format.proofs.Keeping.{KeepsHead, none_parts, none_both, undamaged_still}
 
 -- a folder is still well formed where its index is as it was and no check of a block file fails
@@ -120,6 +118,9 @@ module _ (n : ℕ) (from image : Image) (growing : IsGrowing n from image) where
     longer = λ m kind at. let keeps = keeps_heads n from image growing m in keeps.longer;
     more = λ m kind at. more_blocks m;
   }
+
+pub grows_whole : (n : ℕ) (from image : Image) → IsGrowing n from image → StaysWhole from image
+grows_whole n from image growing = record { grown = grows_grown n from image growing; formed = grows_formed n from image growing }
 
 -- the number of blocks after a growth is one that a file may have
 count_grown : (b : ℕ) → b < 64896 → is_block_count b ≡ true → is_block_count (grown b) ≡ true
@@ -357,14 +358,8 @@ module _ (files : BlockFiles) (n : ℕ) (a b d : Told) (agrees : ForSome a.files
       (λ image here. subst (λ (i : Image). Until P P i (grow_steps files n from)) (some_inj (sym there ∙ here))
       (until_weaker2 (IsGrowing n from) P (IsGrowing n from) P (grow_steps files n from) from holds holds (grow_along files from n (agrees from there) among below (raised from n groups))))
 
-  pub grow_outside : Part → ForSome a.files (λ from. Passes a d (SameOutside (growth_of n) from))
-  grow_outside part from there = passing (SameOutside (growth_of n) from) from (λ image growing. growing.outside) there part
-
-  pub grow_grown : Part → ForSome a.files (λ from. Passes a d (HaveGrown from))
-  grow_grown part from there = passing (HaveGrown from) from (λ image growing. grows_grown n from image growing) there part
-
-  pub grow_formed : Part → ForSome a.files (λ from. IsWellFormed from → Passes a d IsWellFormed)
-  grow_formed part from there formed = passing IsWellFormed from (λ image growing. grows_formed n from image growing formed) there part
+  pub grow_stops : Part → ForSome a.files (λ from. Passes a d (StaysWholeOutside (growth_of n) from))
+  grow_stops part from there = passing (StaysWholeOutside (growth_of n) from) from (λ image growing. record { outside = growing.outside; stays = grows_whole n from image growing }) there part
 
   pub grow_agrees : (new : BlockFiles) → ForSome a.files (λ image. Applies a d (grow_steps files n image)) → (a.files ≡ None → d.files ≡ None) → Enlarges files new n blocks (max (length_in files n) (grown_length files n)) → ForSome d.files (Agrees new)
   grow_agrees new whole untold enlarges = by_files a.files refl

@@ -1,6 +1,6 @@
 -- The files of a type are taken up, one after another.
 use Rattle.std.proofs.Common.{◌≡◌, ◌≢◌, ℕ, zero, suc, ◌+◌, ◌-◌, ◌<◌, ◌≤◌, Bool, true, false, ◌||◌, if◌then◌else◌, List, [], ◌∷◌, ◌++◌, length, None, Some, refl, sym, ◌∙◌, ap, ap₂, subst, arith, append_assoc, ⊎_elim}
-use Rattle.std.specs.Prelude.{◌==◌}
+use Rattle.std.specs.Prelude.{◌==◌, Err}
 use Rattle.std.specs.declared.option.Option.{Option}
 use Rattle.std.proofs.lemmas.Bool.Decides.{nat_tests}
 use Rattle.std.proofs.lemmas.Bool.{cases_eq, cases_lt}
@@ -18,15 +18,14 @@ use Rattle.blk_disk.specs.declared.heads.Head.{Head}
 use Rattle.blk_disk.specs.declared.tables.BlockFiles.{BlockFiles}
 use Rattle.blk_disk.specs.Tables.{files_of, all_files, blocks_of, length_in, Agrees, Joins, HoldsNone}
 use Rattle.std.specs.Option.{ForSome}
-use Rattle.std.specs.Prelude.{Err}
 use Rattle.blk_io.specs.declared.fault.Fault.{Fault}
 use Rattle.blk_io.specs.declared.fault.Fault.TheVariants.{Device, Damaged}
 use Rattle.blk_io.specs.Faults.{IfDamaged, damage_of}
-use Rattle.blk_disk.specs.Loading.{Follows, IsHeaderDamage, IsLoadDamage, ReadsAs, IsHead, files_left, next_checks, checks_after, checks_from, links_from, next_of}
+use Rattle.blk_disk.specs.Loading.{Follows, IsFileNumber, IsHeaderDamage, IsLoadDamage, ReadsAs, IsHead, files_left, next_checks, checks_after, checks_from, links_from, next_of}
 use Rattle.blk_format.proofs.Among.{is_among_more}
 use Rattle.blk_format.proofs.Keeping.{last_link}
 use Rattle.blk_image.proofs.FirstChecks.{append_some, append_none}
-use Rattle.blk_disk.proofs.Firsts.{link_passed}
+use Rattle.blk_format.proofs.LinkedHeads.{link_passed}
 
 less_one : (n : ℕ) → suc n - 1 ≡ n
 less_one n = omega arith
@@ -169,13 +168,14 @@ blocks_kind B1K block_kind = refl
 blocks_kind B4K block_kind = refl
 
 -- a call that failed to take up the next file, whatever the folder tells
-pub caused_if : (A B : Type 0) (e : Fault) (a b : Told) (files : BlockFiles) (k : Kind) (n : ℕ) → kind_number k ≢ 0 → b ≡ a → IfDamaged {A = A} (Err e) (IsHeaderDamage b files (kind_number k) n) → IfDamaged {A = B} (Err e) (IsLoadDamage a)
-caused_if A B Device a b files k n block_kind stays cause = tt
-caused_if A B (Damaged d) a b files k n block_kind stays cause = record {
+pub caused_if : (A B : Type 0) (e : Fault) (a b : Told) (files : BlockFiles) (k : Kind) (n : ℕ) → kind_number k ≢ 0 → IsFileNumber (kind_number k) n → b ≡ a → IfDamaged {A = A} (Err e) (IsHeaderDamage b files (kind_number k) n) → IfDamaged {A = B} (Err e) (IsLoadDamage a)
+caused_if A B Device a b files k n block_kind number stays cause = tt
+caused_if A B (Damaged d) a b files k n block_kind number stays cause = record {
   files = files;
   kind = kind_number k;
   n = n;
-  of_blocks = blocks_kind k block_kind;
+  block_kind = blocks_kind k block_kind;
+  number = number;
   cause = subst (λ (t : Told). IsHeaderDamage t files (kind_number k) n d) stays cause;
 }
 

@@ -17,23 +17,22 @@ use Rattle.blk_image.proofs.Images.{bytes_of-written, other-word, with_file-same
 use Rattle.blk_image.proofs.Runs.{passes_part, quiet-append, some_inj, told_whole, until-append, until_last, until_weaker2}
 use Rattle.blk_image.proofs.Splices.{content-spliced_inside}
 use Rattle.blk_image.proofs.Words.{same-word_at}
-use Rattle.blk_format.specs.Address.{file_selector, is_block_kind}
-use Rattle.blk_format.specs.BlockFiles.{next_file_in, max_entries_in, files_along, linked, linked_as, linked_up_to, is_among, is_block_count, checks_along, checks_of_kind, first_block_damage, stands_in_blocks, kind_among, IsWellFormed}
+use Rattle.blk_format.specs.Address.{is_block_kind}
+use Rattle.blk_format.specs.BlockFiles.{next_file_in, max_entries_in, files_along, linked, linked_as, linked_up_to, is_among, is_block_count, checks_along, checks_of_kind, first_block_damage, kind_among, IsWellFormed}
 use Rattle.blk_addr.specs.declared.kinds.Kind.{Kind}
 use Rattle.blk_addr.specs.declared.kinds.Kind.TheVariants.{External, Rankings, B256, B1K, B4K}
 use Rattle.blk_addr.specs.Kind.{kind_number}
 use Rattle.blk_disk.specs.declared.tables.BlockFiles.{BlockFiles}
 use Rattle.blk_disk.specs.Tables.{Agrees, Joins, all_files, blocks_of, files_of, length_in}
-use Rattle.blk_format.specs.Growth.{HaveGrown}
+use Rattle.blk_format.specs.Growth.{HaveGrown, StaysWholeOutside}
 use Rattle.blk_disk.specs.Growth.{IsLeastFree, add_steps, addition_of, free_number, last_file, link_steps, make_steps}
 use Rattle.blk_disk.proofs.Additions.{IsNew, header_new, header_size_is, made_is, making_outside, making_quiet, new_header, new_passes, next_is}
-use Rattle.blk_format.proofs.SpareHeaders.{other_file, past_header}
+use Rattle.blk_format.proofs.SpareHeaders.{other_file}
 use Rattle.blk_disk.proofs.Among.{all_files_among}
 use Rattle.blk_format.proofs.Among.{is_among-append, is_among_more}
 use Rattle.blk_disk.proofs.Chains.{block_kind, fails, linked_once, met_in, or_cases, kind_none}
 use Rattle.blk_disk.proofs.Enlarging.{well_formed_still}
 use Rattle.blk_format.proofs.Keeping.{KeepsHead, all_kinds, along_kept, links_kept}
-use Rattle.blk_disk.proofs.Ranges.{stands_agree, stands_linked, stands_more}
 use Rattle.blk_disk.proofs.Linking.{checks_added, ends, links_added, some_along}
 
 differ : (b : Bool) → b ≡ true → b ≡ false → ⊥
@@ -495,14 +494,8 @@ module _ (files : BlockFiles) (k : Kind) (block_kind : kind_number k ≢ 0) (a :
       (λ image here. subst (λ (i : Image). Until P P i (add_steps files kind)) (some_inj (sym there ∙ here))
       (until_weaker2 (IsAdding files kind from) P (IsAdding files kind from) P (add_steps files kind) from holds holds (add_along from (agrees from there))))
 
-  pub add_outside : {d : Told} → AppliesPrefix a d (add_steps files kind) → ForSome a.files (λ from. Passes a d (SameOutside (addition_of files kind) from))
-  add_outside part from there = passing (SameOutside (addition_of files kind) from) from (λ image adding. adding.outside) there part
-
-  pub add_grown : {d : Told} → AppliesPrefix a d (add_steps files kind) → ForSome a.files (λ from. Passes a d (HaveGrown from))
-  add_grown part from there = passing (HaveGrown from) from (λ image adding. adding.grown) there part
-
-  pub add_formed : {d : Told} → AppliesPrefix a d (add_steps files kind) → ForSome a.files (λ from. IsWellFormed from → Passes a d IsWellFormed)
-  add_formed part from there formed = passing IsWellFormed from (λ image adding. adding.formed formed) there part
+  pub add_stops : {d : Told} → AppliesPrefix a d (add_steps files kind) → ForSome a.files (λ from. Passes a d (StaysWholeOutside (addition_of files kind) from))
+  add_stops part from there = passing (StaysWholeOutside (addition_of files kind) from) from (λ image adding. record { outside = adding.outside; stays = record { grown = adding.grown; formed = adding.formed } }) there part
 
   pub add_agrees : {d : Told} (new : BlockFiles) → Applies a d (add_steps files kind) → Joins files new kind (free_number files) 0 8192 → ForSome d.files (Agrees new)
   add_agrees new grows joins =

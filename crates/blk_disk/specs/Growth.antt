@@ -5,9 +5,9 @@ use Rattle.std.specs.declared.option.Option.{Option}
 use Rattle.blk_image.specs.Image.{Image, Block, byte}
 use Rattle.blk_image.specs.Steps.{TrailStep, Word, SetLength, word_steps}
 use Rattle.blk_image.specs.Footprint.{Footprint, either, one_word, range, size_of, whole}
-use Rattle.blk_format.specs.Address.{block_size, file_selector, header_size, place, byte_size}
+use Rattle.blk_format.specs.Address.{block_size, header_size}
 use Rattle.blk_format.specs.Headers.{block_magic, version, empty_of}
-use Rattle.blk_format.specs.BlockFiles.{kind_among, is_among, blocks_a_growth, most_blocks, stands_in_blocks}
+use Rattle.blk_format.specs.BlockFiles.{kind_among, is_among, blocks_a_growth, most_blocks}
 use Rattle.blk_disk.specs.declared.tables.BlockFiles.{BlockFiles}
 use Rattle.blk_disk.specs.Tables.{files_of, all_files, blocks_of, length_in}
 

@@ -66,12 +66,22 @@ pub record IsFailedHeader (files : BlockFiles) (kind n : ℕ) (damage : Damage) 
 abbrev pub IsHeaderDamage : Told → BlockFiles → ℕ → ℕ → Damage → Type 0
 IsHeaderDamage told files kind n damage = IsShort told (names.Block n) 0 block_fields_length damage ⊎ IsFailedHeader files kind n damage
 
--- so it is for a file of some block type, with some files that were taken up before
+-- the number that the next file of a kind may have: the one of its first file, or 4 to 255, which links have
+abbrev pub IsFileNumber : ℕ → ℕ → Type 0
+IsFileNumber kind n = (n ≡ kind - 1) ⊎ ((4 ≤ n) × (n ≤ 255))
+
+-- where there is a next file of a kind, it has such a number
+abbrev pub MayBeNext : ℕ → Option ℕ → Type 0
+MayBeNext kind None = Unit {0}
+MayBeNext kind (Some n) = IsFileNumber kind n
+
+-- so it is for a file of some block kind, with some files that were taken up before
 pub record IsLoadDamage (told : Told) (damage : Damage) : Type 0 where
   pub files : BlockFiles
   pub kind : ℕ
   pub n : ℕ
-  pub of_blocks : is_block_kind kind ≡ true
+  pub block_kind : is_block_kind kind ≡ true
+  pub number : IsFileNumber kind n
   pub cause : IsHeaderDamage told files kind n damage
 
 -- the checks of the next file of a type, with those that are taken up already

@@ -1,7 +1,7 @@
 -- What is kept of the block files: the linked files of each type, and the blocks and the length of each.
-use Rattle.std.specs.Prelude.{ℕ, ◌≡◌, ◌≢◌, List, [], ◌∷◌, ◌++◌, Bool, false, true, slice_index, ◌==◌, if◌then◌else◌, None}
+use Rattle.std.specs.Prelude.{ℕ, ◌≡◌, ◌≢◌, List, [], ◌∷◌, ◌++◌, Bool, false, true, ◌&&◌, slice_index, ◌==◌, if◌then◌else◌, None}
 use Rattle.blk_image.specs.Image.{Block, Image, length_of}
-use Rattle.blk_format.specs.Address.{rankings, blocks_256, blocks_1k, blocks_4k, is_block_kind}
+use Rattle.blk_format.specs.Address.{rankings, blocks_256, blocks_1k, blocks_4k, is_address, is_block_kind, kind_of}
 use Rattle.blk_format.specs.BlockFiles.{linked, max_entries_in, is_among, kind_among, first_block_damage}
 use Rattle.blk_format.specs.Standing.{stands_as_blocks}
 use Rattle.blk_disk.specs.declared.tables.BlockFiles.{BlockFiles}
@@ -51,6 +51,18 @@ pub record Joins (old new : BlockFiles) (kind n blocks size : ℕ) : Type 0 wher
 -- a word is an address of blocks that are there: their file is linked and of its type, and all are below its number of blocks and end inside it
 abbrev pub stands_among : BlockFiles → ℕ → Bool
 stands_among files w = stands_as_blocks (kind_among (files_of files)) (blocks_of files) (length_in files) (λ number. false) w
+
+-- a word is the address of blocks of a kind that are there
+unfoldable pub names_among : BlockFiles → ℕ → ℕ → Bool
+names_among files kind w = is_address w && ((kind_of w == kind) && stands_among files w)
+
+-- a word is the address of a node that stands
+abbrev pub is_node_among : BlockFiles → ℕ → Bool
+is_node_among files w = names_among files rankings w
+
+-- a word is the address of an entry record that stands
+abbrev pub is_record_among : BlockFiles → ℕ → Bool
+is_record_among files w = names_among files blocks_256 w
 
 -- a file has this length now, and all else is as before
 pub record Resizes (old new : BlockFiles) (n size : ℕ) : Type 0 where

@@ -2,13 +2,12 @@
 ghost use Rattle.std.specs.Prelude.{◌≡◌, ◌≢◌, ◌+◌, ◌<◌, ◌≤◌, length, IfOk, OnOk, OnErr};
 ghost use Rattle.std.specs.Option.{ForSome};
 ghost use Rattle.blk_image.specs.Image.{HasRange, Block as block};
-ghost use Rattle.blk_image.specs.Footprint.{SameOutside};
 ghost use Rattle.blk_image.specs.Told.{Applies, AppliesPrefix, Passes, Rises};
 ghost use Rattle.blk_format.specs.Address.{external, header_size};
-ghost use Rattle.blk_format.specs.BlockFiles.{most_files, IsWellFormed};
+ghost use Rattle.blk_format.specs.BlockFiles.{most_files};
 ghost use Rattle.blk_addr.specs.Kind.{kind_number};
 ghost use Rattle.blk_disk.specs.Tables.{Agrees, all_files, files_of, Joins};
-ghost use Rattle.blk_format.specs.Growth.{HaveGrown};
+ghost use Rattle.blk_format.specs.Growth.{StaysWholeOutside};
 ghost use Rattle.blk_disk.specs.Growth as growth;
 ghost use Rattle.blk_disk.specs.Growth.{IsLeastFree, add_steps, addition_of, link_steps, make_steps};
 
@@ -42,9 +41,7 @@ impl BlockFiles {
 
         // At each word nothing else has changed, the files have grown at most, and a
         // well-formed folder is still well formed.
-        ensures outside { ForSome (F.told f.old).files (λ from. Passes (F.told f.old) (F.told f.new) (SameOutside (addition_of self.old (kind_number kind)) from)) }
-        ensures grown { ForSome (F.told f.old).files (λ from. Passes (F.told f.old) (F.told f.new) (HaveGrown from)) }
-        ensures well_formed { ForSome (F.told f.old).files (λ from. IsWellFormed from → Passes (F.told f.old) (F.told f.new) IsWellFormed) }
+        ensures stops { ForSome (F.told f.old).files (λ from. Passes (F.told f.old) (F.told f.new) (StaysWholeOutside (addition_of self.old (kind_number kind)) from)) }
 
         ensures later { F.faults f.old ≤ F.faults f.new }
         ensures failed { OnErr result (Rises (F.faults f.old) (F.faults f.new)) }

@@ -2,12 +2,11 @@
 ghost use Rattle.std.specs.Prelude.{◌≡◌, ◌+◌, ◌*◌, ◌<◌, ◌≤◌, IsTrue, max, None, OnOk, OnErr};
 ghost use Rattle.std.specs.Option.{ForSome};
 ghost use Rattle.blk_image.specs.Image.{HasRange, Block as block};
-ghost use Rattle.blk_image.specs.Footprint.{SameOutside};
 ghost use Rattle.blk_image.specs.Told.{Applies, AppliesPrefix, Passes, Rises, Stays};
 ghost use Rattle.blk_format.specs.Address.{header_size};
-ghost use Rattle.blk_format.specs.BlockFiles.{is_among, most_blocks, kind_among, IsWellFormed};
+ghost use Rattle.blk_format.specs.BlockFiles.{is_among, most_blocks, kind_among};
 ghost use Rattle.blk_disk.specs.Tables.{Agrees, Enlarges, all_files, blocks_of, files_of, length_in};
-ghost use Rattle.blk_format.specs.Growth.{HaveGrown};
+ghost use Rattle.blk_format.specs.Growth.{StaysWholeOutside};
 ghost use Rattle.blk_disk.specs.Growth as growth;
 ghost use Rattle.blk_disk.specs.Growth.{grow_steps, growth_of, lengthen_steps, raise_steps, size_as};
 
@@ -41,9 +40,7 @@ impl BlockFiles {
 
         // At each word nothing else has changed, the files have grown at most, and a
         // well-formed folder is still well formed.
-        ensures outside { ForSome (F.told f.old).files (λ from. Passes (F.told f.old) (F.told f.new) (SameOutside (growth_of file) from)) }
-        ensures grown { ForSome (F.told f.old).files (λ from. Passes (F.told f.old) (F.told f.new) (HaveGrown from)) }
-        ensures well_formed { ForSome (F.told f.old).files (λ from. IsWellFormed from → Passes (F.told f.old) (F.told f.new) IsWellFormed) }
+        ensures stops { ForSome (F.told f.old).files (λ from. Passes (F.told f.old) (F.told f.new) (StaysWholeOutside (growth_of file) from)) }
 
         ensures silent { (F.told f.old).files ≡ None → (F.told f.new).files ≡ None }
         ensures later { F.faults f.old ≤ F.faults f.new }

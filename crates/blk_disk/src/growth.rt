@@ -2,11 +2,11 @@
 ghost use Rattle.std.specs.Prelude.{◌≡◌, ◌+◌, ◌*◌, ◌≤◌, IsTrue, max, OnOk, OnErr};
 ghost use Rattle.std.specs.Option.{ForSome};
 ghost use Rattle.blk_image.specs.Image.{Block as block};
-ghost use Rattle.blk_image.specs.Footprint.{SameOutside, size_of};
+ghost use Rattle.blk_image.specs.Footprint.{size_of};
 ghost use Rattle.blk_image.specs.Told.{Applies, Passes, Rises, Stays};
-ghost use Rattle.blk_format.specs.BlockFiles.{is_among, IsWellFormed};
+ghost use Rattle.blk_format.specs.BlockFiles.{is_among};
 ghost use Rattle.blk_disk.specs.Tables.{Agrees, all_files, length_in, Resizes};
-ghost use Rattle.blk_format.specs.Growth.{HaveGrown};
+ghost use Rattle.blk_format.specs.Growth.{StaysWholeOutside};
 ghost use Rattle.blk_disk.specs.Growth as growth;
 ghost use Rattle.blk_disk.specs.Growth.{fit_steps};
 
@@ -28,9 +28,7 @@ impl BlockFiles {
 
         // At each word nothing but the length has changed, the files have grown at most, and a
         // well-formed folder is still well formed.
-        ensures outside { ForSome (F.told f.old).files (λ from. Passes (F.told f.old) (F.told f.new) (SameOutside (size_of (block file)) from)) }
-        ensures grown { ForSome (F.told f.old).files (λ from. Passes (F.told f.old) (F.told f.new) (HaveGrown from)) }
-        ensures well_formed { ForSome (F.told f.old).files (λ from. IsWellFormed from → Passes (F.told f.old) (F.told f.new) IsWellFormed) }
+        ensures stops { ForSome (F.told f.old).files (λ from. Passes (F.told f.old) (F.told f.new) (StaysWholeOutside (size_of (block file)) from)) }
 
         ensures later { F.faults f.old ≤ F.faults f.new }
         ensures failed { OnErr result (Rises (F.faults f.old) (F.faults f.new)) }

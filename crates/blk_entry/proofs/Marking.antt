@@ -29,7 +29,6 @@ use Rattle.blk_entry.specs.Marks.{dirty_change, plain_node, SetsDirtyInProgress,
 -- one word before the seal of a node is changed
 pub mark_changes : (w mark : ℕ) → kind_of w ≡ rankings → AreChanges (seal_place w) (dirty_change mark)
 mark_changes w mark kind = record {
-  some = omega arith;
   few = omega arith;
   aligned = All-cons (λ change. change.0 % 4 ≡ 0) (28, mark) [] refl (All-nil (λ change. change.0 % 4 ≡ 0));
   before = All-cons (λ change. change.0 < seal_place w) (28, mark) [] (let s : seal_place w ≡ 32 = seal_of_node w kind in omega (arith, s)) (All-nil (λ change. change.0 < seal_place w));

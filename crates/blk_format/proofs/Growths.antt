@@ -1,5 +1,5 @@
 -- Files that grow: one growth after another, and what it keeps.
-use Rattle.std.proofs.Common.{◌≡◌, ◌≢◌, ℕ, ◌+◌, ◌<◌, ◌≤◌, Bool, true, false, ◌&&◌, Option, None, Some, refl, sym, ◌∙◌, ap, arith, ⊎_elim}
+use Rattle.std.proofs.Common.{◌≡◌, ℕ, ◌+◌, ◌≤◌, Bool, true, false, ◌&&◌, Option, None, Some, refl, ◌∙◌, ap, arith}
 use Rattle.std.specs.Prelude.{nat_le}
 use Rattle.std.proofs.lemmas.Bool.{and_parts, eqb-true}
 use Rattle.std.proofs.lemmas.Bool.Decides.{nat_tests}
@@ -7,7 +7,7 @@ use Rattle.blk_image.specs.Image.{Block, Image, length_of}
 use Rattle.blk_format.specs.Address.{kind_of, file_selector, first_block, block_count, place, byte_size}
 use Rattle.blk_format.specs.BlockFiles.{linked_as, max_entries_in, stands_in_blocks}
 use Rattle.blk_format.specs.Standing.{is_linked_as, stands_as_blocks}
-use Rattle.blk_format.specs.Growth.{HaveGrown, KeepsBlocks}
+use Rattle.blk_format.specs.Growth.{HaveGrown, KeepsBlocks, StaysWhole}
 use Rattle.blk_format.proofs.SpareHeaders.{past_header}
 
 -- nothing has changed
@@ -31,6 +31,13 @@ grown_then a b c one other = record {
   longer = λ n kind at. let first = one.longer n kind at in let second = other.longer n kind (one.linked n kind at) in omega (arith, first, second);
   more = λ n kind at. let first = one.more n kind at in let second = other.more n kind (one.linked n kind at) in omega (arith, first, second);
 }
+
+-- a folder that stays whole, where nothing or one change after another is made
+pub whole_not : (image : Image) → StaysWhole image image
+whole_not image = record { grown = grown_not image; formed = λ was. was }
+
+pub whole_then : (a b c : Image) → StaysWhole a b → StaysWhole b c → StaysWhole a c
+whole_then a b c one other = record { grown = grown_then a b c one.grown other.grown; formed = λ was. other.formed (one.formed was) }
 
 -- a file that is linked as a type
 is_linked : (o : Option ℕ) (kind : ℕ) → is_linked_as o kind ≡ true → o ≡ Some kind

@@ -98,7 +98,7 @@ hex_number-hexadecimal n fits = ⊎_elim
     (λ (some : (n == 0) ≡ false). ap hex_number (text-of n fits (grind (arith, nat_tests))) ∙ ap (number_from_digits 16) (digits-back (digits_of 16 n) (all_below_base_digits_of 16 n (omega arith))) ∙ number_digits_of 16 n (omega arith))
     (cases_Bool (n == 0))
 
-hexadecimal-no_colon : (n : ℕ) → n < 2 ^ 64 → split_last (hexadecimal n) ≡ None
+pub hexadecimal-no_colon : (n : ℕ) → n < 2 ^ 64 → split_last (hexadecimal n) ≡ None
 hexadecimal-no_colon n fits = ⊎_elim
     (λ (none : (n == 0) ≡ true). let is = eqb-true n 0 none in rw is (unfold digits in no_colon (48 ∷ []) (refl, tt)))
     (λ (some : (n == 0) ≡ false). ap split_last (text-of n fits (grind (arith, nat_tests))) ∙ no_colon (map (digit_glyph false) (digits_of 16 n)) (digits-no_colon (digits_of 16 n) (all_below_base_digits_of 16 n (omega arith))))
@@ -115,10 +115,10 @@ unfolding read_name
 read_parts bytes front text rest middle a b = rw (a, b) refl
 
 -- numbers that a name may have are below 2 ^ 64
-signature-fits : (name : Name) → may_be_named name ≡ true → name.signature < 2 ^ 64
+pub signature-fits : (name : Name) → may_be_named name ≡ true → name.signature < 2 ^ 64
 signature-fits name fits = grind (arith, nat_tests)
 
-part-fits : (name : Name) → may_be_named name ≡ true → name.part < 2 ^ 64
+pub part-fits : (name : Name) → may_be_named name ≡ true → name.part < 2 ^ 64
 part-fits name fits = grind (arith, nat_tests)
 
 -- a printed name is read back

@@ -3,7 +3,8 @@ use Rattle.std.specs.Prelude.{ℕ, ◌+◌, ◌≡◌, ◌<◌, ◌≤◌, true,
 use Rattle.blk_image.specs.Image.{Index, Block, External, Image, byte, length_of}
 use Rattle.blk_format.specs.Address.{byte_size, file_selector, header_size, place}
 use Rattle.blk_format.specs.Headers.{is_shown_place}
-use Rattle.blk_format.specs.BlockFiles.{linked_as, max_entries_in, stands_in_blocks}
+use Rattle.blk_format.specs.BlockFiles.{linked_as, max_entries_in, stands_in_blocks, IsWellFormed}
+use Rattle.blk_image.specs.Footprint.{Footprint, SameOutside}
 
 -- block files have grown or been linked at most: a linked file stays linked as its type, keeps the bytes behind its header, and gets no shorter and no fewer blocks
 pub record HaveGrown (old new : Image) : Type 0 where
@@ -18,3 +19,13 @@ pub record HaveGrown (old new : Image) : Type 0 where
 pub record KeepsBlocks (from image : Image) : Type 0 where
   pub stand : (w : ℕ) → stands_in_blocks from w ≡ true → stands_in_blocks image w ≡ true
   pub bytes : (w i : ℕ) → stands_in_blocks from w ≡ true → place w ≤ i → i < place w + byte_size w → byte image (Block (file_selector w)) i ≡ byte from (Block (file_selector w)) i
+
+-- block files have grown at most, and a well-formed folder is well formed
+pub record StaysWhole (from image : Image) : Type 0 where
+  pub grown : HaveGrown from image
+  pub formed : IsWellFormed from → IsWellFormed image
+
+-- nothing outside a footprint has changed, and the folder stays whole
+pub record StaysWholeOutside (footprint : Footprint) (from image : Image) : Type 0 where
+  pub outside : SameOutside footprint from image
+  pub stays : StaysWhole from image

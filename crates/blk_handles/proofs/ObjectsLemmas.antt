@@ -5,7 +5,7 @@ use Rattle.std.proofs.lemmas.List.Sums.{sum_by-cons}
 use Rattle.slab.specs.Slab.{Slab, get, slab_len, with_value, Updates}
 use Rattle.slab.proofs.SlabLemmas.{Updates-with_value}
 use Rattle.blk_handles.specs.declared.open_object.OpenObject.{OpenObject}
-use Rattle.blk_handles.specs.declared.key_map.Place.{Place}
+use Rattle.blk_handles.specs.declared.key_map.RecordKey.{RecordKey}
 use Rattle.blk_handles.specs.KeyMap.{key_of, SetsOnly}
 use Rattle.blk_handles.proofs.Basics.{some-inj, none-is-some}
 use Rattle.blk_handles.specs.Objects.{IsStoredAt, IsClosed, AreDistinct, IsIndexOf}
@@ -16,24 +16,24 @@ count-over [] key old new there = refl
 count-over (slot ∷ rest) zero old new there = rw there refl
 count-over (slot ∷ rest) (suc key) old new there = omega (arith, count-over rest key old new there, sum_by-cons (λ o. cond (is_some o) 1 0) slot rest, sum_by-cons (λ o. cond (is_some o) 1 0) slot (set rest key (Some new)))
 
-module _ (places : List Place) (s : Slab OpenObject) (index : IsIndexOf places s) where
+module _ (keys : List RecordKey) (s : Slab OpenObject) (index : IsIndexOf keys s) where
   -- no two objects have one record
   pub distinct : AreDistinct s
-  distinct j k a b at-j at-k same = some-inj (sym (index.found j a at-j) ∙ ap (key_of places) same ∙ index.found k b at-k)
+  distinct j k a b at-j at-k same = some-inj (sym (index.found j a at-j) ∙ ap (key_of keys) same ∙ index.found k b at-k)
 
   -- a record that the map doesn't have is that of no object
-  pub closed : (entry : ℕ) → key_of places entry ≡ None → IsClosed s entry
-  closed entry absent key object here same = none-is-some (key_of places entry) absent (subst (λ e. key_of places e ≡ Some key) same (index.found key object here))
+  pub closed : (entry : ℕ) → key_of keys entry ≡ None → IsClosed s entry
+  closed entry absent key object here same = none-is-some (key_of keys entry) absent (subst (λ e. key_of keys e ≡ Some key) same (index.found key object here))
 
   -- and the other way round
-  pub absent : (entry : ℕ) → IsClosed s entry → key_of places entry ≡ None
-  absent entry none = by (key_of places entry) refl where
-    by : (o : Option ℕ) → key_of places entry ≡ o → o ≡ None
+  pub absent : (entry : ℕ) → IsClosed s entry → key_of keys entry ≡ None
+  absent entry none = by (key_of keys entry) refl where
+    by : (o : Option ℕ) → key_of keys entry ≡ o → o ≡ None
     by None e = refl
     by (Some key) e = let at = index.stored entry key e in absurd (none key at.object at.here at.has_entry)
 
   -- the map stays where an object is put in the place of the one with its record
-  pub index-set : (t : Slab OpenObject) (k : ℕ) (o : OpenObject) → IsStoredAt s o.entry k → Updates s t k (Some o) → slab_len t ≡ slab_len s → IsIndexOf places t
+  pub index-set : (t : Slab OpenObject) (k : ℕ) (o : OpenObject) → IsStoredAt s o.entry k → Updates s t k (Some o) → slab_len t ≡ slab_len s → IsIndexOf keys t
   index-set t k o at updates len = record {
     stored = λ entry key is. elim (cases_eq key k) [
       | inl same ↦ record { object = o; here = rw same updates.changed; has_entry = sym at.has_entry ∙ same-object entry key (index.stored entry key is) same }
@@ -51,7 +51,7 @@ module _ (places : List Place) (s : Slab OpenObject) (index : IsIndexOf places s
     same-object entry key was same = ap (λ (x : OpenObject). x.entry) (some-inj (sym at.here ∙ ap (get s) (sym same) ∙ was.here)) ∙ was.has_entry
 
   -- a new object under a key that was vacant
-  pub index-insert : (later : List Place) (t : Slab OpenObject) (k : ℕ) (o : OpenObject) → IsClosed s o.entry → get s k ≡ None → Updates s t k (Some o) → SetsOnly places later o.entry (Some k) → length later ≡ length places + 1 → slab_len t ≡ slab_len s + 1 → IsIndexOf later t
+  pub index-insert : (later : List RecordKey) (t : Slab OpenObject) (k : ℕ) (o : OpenObject) → IsClosed s o.entry → get s k ≡ None → Updates s t k (Some o) → SetsOnly keys later o.entry (Some k) → length later ≡ length keys + 1 → slab_len t ≡ slab_len s + 1 → IsIndexOf later t
   index-insert later t k o closed vacant updates sets more len = record {
     stored = λ entry key is. elim (cases_eq entry o.entry) [
       | inl same ↦
@@ -74,7 +74,7 @@ module _ (places : List Place) (s : Slab OpenObject) (index : IsIndexOf places s
   }
 
   -- an object that is taken out
-  pub index-remove : (later : List Place) (t : Slab OpenObject) (k : ℕ) (o : OpenObject) → get s k ≡ Some o → Updates s t k None → SetsOnly places later o.entry None → length later + 1 ≡ length places → slab_len t + 1 ≡ slab_len s → IsIndexOf later t
+  pub index-remove : (later : List RecordKey) (t : Slab OpenObject) (k : ℕ) (o : OpenObject) → get s k ≡ Some o → Updates s t k None → SetsOnly keys later o.entry None → length later + 1 ≡ length keys → slab_len t + 1 ≡ slab_len s → IsIndexOf later t
   index-remove later t k o was-here updates sets less len = record {
     stored = λ entry key is. elim (cases_eq entry o.entry) [
       | inl same ↦ absurd (none-is-some (key_of later entry) (ap (key_of later) same ∙ sets.this_entry) is)
@@ -94,6 +94,6 @@ module _ (places : List Place) (s : Slab OpenObject) (index : IsIndexOf places s
   }
 
 -- the map stays where an object is written over the one with its record
-pub index-written : (places : List Place) (s : Slab OpenObject) → IsIndexOf places s → (k : ℕ) (o : OpenObject) → IsStoredAt s o.entry k → IsIndexOf places (with_value s k o)
-index-written places s index k o at =
-    index-set places s index (with_value s k o) k o at (Updates-with_value s k o (rw at.here refl)) (count-over s.slots k at.object o at.here)
+pub index-written : (keys : List RecordKey) (s : Slab OpenObject) → IsIndexOf keys s → (k : ℕ) (o : OpenObject) → IsStoredAt s o.entry k → IsIndexOf keys (with_value s k o)
+index-written keys s index k o at =
+    index-set keys s index (with_value s k o) k o at (Updates-with_value s k o (rw at.here refl)) (count-over s.slots k at.object o at.here)

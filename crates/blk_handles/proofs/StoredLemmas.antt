@@ -188,9 +188,9 @@ module _ (ns : List (Option ℕ)) (s : Slab OpenObject) (sound : IsSound ns s) w
   pub vacant-free : (k : ℕ) → get s k ≡ None → count_by (is_number k) ns ≡ 0
   vacant-free k vacant = sym (sound.counted k) ∙ ap (λ p. option_map_or (λ (x : OpenObject). x.names) p 0) vacant
 
-  -- there is room for an object where a name is free
-  pub has-room : (name : ℕ) → name < handle_names → get_or ns name None ≡ None → slab_len s < handle_names
-  has-room name small free = omega (arith, sound.object_count, sound.all_names, distinct_count-free ns name (within name small) free)
+  -- there are fewer objects than names where a name is free
+  pub has-capacity : (name : ℕ) → name < handle_names → get_or ns name None ≡ None → slab_len s < handle_names
+  has-capacity name small free = omega (arith, sound.object_count, sound.all_names, distinct_count-free ns name (within name small) free)
 
   -- an object has a name, and no more names than there are
   pub object-named : (k : ℕ) (o : OpenObject) → get s k ≡ Some o → list_any (is_number k) ns ≡ true

@@ -38,7 +38,7 @@ impl Model for Handles {
 }
 
 impl Handles {
-    /// All names free. This takes the room for all names and objects: no later call takes memory.
+    /// All names free. This takes the memory for all names and objects: no later call takes any.
     ///
     /// # Errors
     ///

@@ -10,41 +10,40 @@ use std::marker::Model;
 
 // The key of the object with a record.
 #[derive(Clone, Copy, Debug)]
-pub struct Place {
+pub struct RecordKey {
     entry: Addr,
     key: usize,
 }
 
-/// A map from the addresses of records to keys, with room for as many as there are handle names. It
-/// is seen as the list of its places.
+/// A map from the addresses of records to keys, with the memory for as many as there are handle
+/// names. It is seen as the list of its items, in the order of the addresses.
 #[derive(Debug, Drop)]
 pub struct KeyMap {
-    // the addresses rise
-    places: Vec<Place>,
+    sorted: Vec<RecordKey>,
 }
 
 impl Model for KeyMap {
     ghost use Rattle.std.specs.Prelude.{List};
-    ghost use Rattle.blk_handles.specs.declared.key_map.Place.{Place};
+    ghost use Rattle.blk_handles.specs.declared.key_map.RecordKey.{RecordKey};
 
-    ghost Value = { List Place };
+    ghost Value = { List RecordKey };
 
     ghost use Rattle.std.specs.Prelude.{◌≤◌, vec_capacity};
     ghost use Rattle.blk_model.specs.Sizes.{handle_names};
     ghost use Rattle.blk_handles.specs.KeyMap.{IsRising};
 
-    ghost view = { λ m. m.places.items };
+    ghost view = { λ m. m.sorted.items };
 
-    ghost invariant = { λ m. IsRising m.places.items × (handle_names ≤ vec_capacity m.places) };
+    ghost invariant = { λ m. IsRising m.sorted.items × (handle_names ≤ vec_capacity m.sorted) };
 }
 
 impl KeyMap {
-    // An empty map, with all its room.
+    // An empty map, with all its memory.
     pub fn new(alloc: Global) -> Result<KeyMap, NoMemory>
         ensures { IfOk result (λ m. m ≡ []) }
     {
         Ok(KeyMap {
-            places: Vec::with_capacity(alloc, usize::from(NAMES))?,
+            sorted: Vec::with_capacity(alloc, usize::from(NAMES))?,
         })
     }
 
@@ -53,7 +52,7 @@ impl KeyMap {
         ensures { result ≡ key_of self.now entry }
     {
         match self.search(entry) {
-            Ok(at) => Some(self.places[at].key),
+            Ok(at) => Some(self.sorted[at].key),
             Err(_) => None,
         }
     }
@@ -68,7 +67,7 @@ impl KeyMap {
         match self.search(entry) {
             Ok(_) => unreachable!(),
             Err(at) => {
-                let inserted = self.places.insert(at, Place { entry, key });
+                let inserted = self.sorted.insert(at, RecordKey { entry, key });
                 prove!(inserted.is_ok());
             }
         }
@@ -82,7 +81,7 @@ impl KeyMap {
     {
         match self.search(entry) {
             Ok(at) => {
-                self.places.remove(at);
+                self.sorted.remove(at);
             }
             Err(_) => unreachable!(),
         }
@@ -93,7 +92,7 @@ impl KeyMap {
         ensures found { IfOk result (IsAt self.now entry) }
         ensures absent { IfErr result (IsGapFor self.now entry) }
     {
-        self.places
-            .binary_search_by_key(&entry.word(), |place| place.entry.word())
+        self.sorted
+            .binary_search_by_key(&entry.word(), |item| item.entry.word())
     }
 }

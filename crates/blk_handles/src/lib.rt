@@ -1,7 +1,7 @@
 //! The handle names, the objects that they are bound to, and which objects are pinned by them.
 //!
 //! [`Handles`] is seen as a finite map from names to objects, which the names of one record share.
-//! All room is taken by `Handles::new`: no later call takes memory.
+//! `Handles::new` takes the memory for all of them: no later call takes any.
 #![tactic(auto)]
 
 mod handles;

@@ -12,7 +12,7 @@ use slab::Slab;
 use std::alloc::Global;
 use std::marker::Model;
 
-/// The open objects, with room for as many as there are handle names. They are seen as a slab, in
+/// The open objects, with the memory for as many as there are handle names. They are seen as a slab, in
 /// which no two have one record.
 #[derive(Debug, Drop)]
 pub struct Objects {
@@ -36,7 +36,7 @@ impl Model for Objects {
 }
 
 impl Objects {
-    // No objects, with all their room.
+    // No objects, with all their memory.
     pub fn new(alloc: Global) -> Result<Objects, NoMemory>
         ensures { IfOk result (λ objects. objects.slots ≡ []) }
     {

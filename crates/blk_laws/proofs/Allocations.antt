@@ -187,7 +187,7 @@ all-claims : (ls : List Loaded) → claims_of_all (flat_map words_of ls) ≡ cla
 all-claims [] = refl
 all-claims (l ∷ ls) = flat_map-append claims_of (words_of l) (flat_map words_of ls) ∙ ap (λ (cs : List Claim). cs ++ claims_of_all (flat_map words_of ls)) (words-claims l) ∙ ap (λ (cs : List Claim). all_claims l ++ cs) (all-claims ls)
 
-repeats-head : (xs ys : List Claim) → repeats (xs ++ ys) ≡ false → repeats xs ≡ false
+pub repeats-head : (xs ys : List Claim) → repeats (xs ++ ys) ≡ false → repeats xs ≡ false
 unfolding repeats
 repeats-head [] ys e = refl
 repeats-head (x ∷ xs) ys e =

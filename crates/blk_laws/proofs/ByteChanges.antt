@@ -162,7 +162,7 @@ last-there image w =
     rw (last, ends-at w) refl
 
 -- then all are
-all-there : (image : Image) (w b : ℕ) → stands_in_blocks image w ≡ true → b < first_block w + block_count w → is_there image (file_selector w) (kind_of w) b ≡ true
+pub all-there : (image : Image) (w b : ℕ) → stands_in_blocks image w ≡ true → b < first_block w + block_count w → is_there image (file_selector w) (kind_of w) b ≡ true
 unfolding stands_as_blocks is_there
 all-there image w b st below =
     let p = and_parts (is_linked_as (linked_as image (file_selector w)) (kind_of w) && nat_le (first_block w + block_count w) (max_entries_in image (file_selector w))) _ st in
@@ -229,13 +229,13 @@ module _ (touched : Claim → Bool) (old new : Image) (same : AgreeBut touched o
   entry-size = refl
 
   -- the node and the record of a clear address
-  node-same : (w : ℕ) → stands_as old rankings w ≡ true → IsClear touched w → node_at new w ≡ node_at old w
+  pub node-same : (w : ℕ) → stands_as old rankings w ≡ true → IsClear touched w → node_at new w ≡ node_at old w
   node-same w e clear =
       let s = standing rankings w e in
       sym (same-node_in (place w) (block_bytes old w) (block_bytes new w) (part_of (place w) (byte_size w) (place w) 36 (block_bytes old w) (block_bytes new w) (blocks-same w s.0 (λ x. node_apart (sym s.1 ∙ x)) clear) (omega arith)
       (let b : 36 ≤ byte_size w = room-for rankings w 36 e (omega (arith, node-size)) in omega arith)))
 
-  entry-same : (w : ℕ) → stands_as old blocks_256 w ≡ true → IsClear touched w → entry_at new w ≡ entry_at old w
+  pub entry-same : (w : ℕ) → stands_as old blocks_256 w ≡ true → IsClear touched w → entry_at new w ≡ entry_at old w
   entry-same w e clear =
       let s = standing blocks_256 w e in
       sym (same-entry_in (place w) (block_bytes old w) (block_bytes new w) (part_of (place w) (byte_size w) (place w) 96 (block_bytes old w) (block_bytes new w) (blocks-same w s.0 (λ x. entry_apart (sym s.1 ∙ x)) clear) (omega arith)

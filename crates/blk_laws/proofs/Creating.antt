@@ -122,7 +122,7 @@ module _ (m : State) (y : Layout) (r : IsLayoutOf m y) (v : StoreView) (handle :
     go None is = rw (absent i 0 m.objects apart is, is) refl
 
   -- the new object differs from the old ones in its main item
-  changed : OneChanged m (m.objects ++ Some (new_object key) ∷ []) (main key)
+  pub changed : OneChanged m (m.objects ++ Some (new_object key) ∷ []) (main key)
   unfolding model.row_of
   changed = record {
     rows = λ other apart. ap (option_and_then (λ object. model.row_in object other)) (owner-object-same other apart);
@@ -189,7 +189,7 @@ module _ (m : State) (y : Layout) (r : IsLayoutOf m y) (v : StoreView) (handle :
 
 -- ---- what is shown
 
-load-table : (v : StoreView) (t : ℕ → ℕ) (rule : Rule) (w : ℕ) (l : Loaded) → rule.chained ≡ false → load v rule w ≡ Ok l → load (record v { table = t }) rule w ≡ Ok l
+pub load-table : (v : StoreView) (t : ℕ → ℕ) (rule : Rule) (w : ℕ) (l : Loaded) → rule.chained ≡ false → load v rule w ≡ Ok l → load (record v { table = t }) rule w ≡ Ok l
 unfolding key_of streams_of stream_of
 load-table v t rule w l free ok = load-then v rule w l ok (λ n e g.
     let r = g.facts in let k = r.keyed in

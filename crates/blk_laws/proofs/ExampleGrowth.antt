@@ -110,7 +110,7 @@ grown-longer (suc (suc zero)) small = (up-to _, up-to _)
 grown-longer (suc (suc (suc zero))) small = (up-to _, up-to _)
 grown-longer (suc (suc (suc (suc n)))) small = absurd (omega arith)
 
-have-grown : HaveGrown whole_folder grown_folder
+pub have-grown : HaveGrown whole_folder grown_folder
 unfolding grown_folder whole_folder
 have-grown = record {
   index = λ i shown. refl;

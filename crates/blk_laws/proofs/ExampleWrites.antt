@@ -126,7 +126,6 @@ entry_is_updated d x inside = updated entry ((d, x) ∷ []) entry_fits entry_che
 -- such a change is one of a record
 pub is_change : (seal d x : ℕ) → d % 4 ≡ 0 → d < seal → AreChanges seal ((d, x) ∷ [])
 is_change seal d x even before = record {
-  some = lit< tt;
   few = lit≤ tt;
   aligned = All-cons (λ (c : ℕ × ℕ). c.0 % 4 ≡ 0) (d, x) [] even (All-nil (λ (c : ℕ × ℕ). c.0 % 4 ≡ 0));
   before = All-cons (λ (c : ℕ × ℕ). c.0 < seal) (d, x) [] before (All-nil (λ (c : ℕ × ℕ). c.0 < seal));

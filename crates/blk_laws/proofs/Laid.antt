@@ -33,7 +33,7 @@ use Rattle.blk_model.specs.Holding as model
 
 -- ---- claims
 
-same_claim-eq : (c d : Claim) → same_claim c d ≡ true → c ≡ d
+pub same_claim-eq : (c d : Claim) → same_claim c d ≡ true → c ≡ d
 same_claim-eq (BlockOf f b) (BlockOf g c) e = let p = and_parts (f == g) (b == c) e in ap₂ BlockOf (eqb-true f g p.0) (eqb-true b c p.1)
 same_claim-eq (BlockOf f b) (ExternalOf n) e = cc
 same_claim-eq (ExternalOf n) (BlockOf f b) e = cc

@@ -92,3 +92,13 @@ pub mod Searches
 pub mod Files
 pub mod TidyOrder
 pub mod Charges
+pub mod Kept
+pub mod StoodFor
+pub mod Walked
+pub mod ExampleUses
+pub mod ChainWords
+pub mod ListFootprints
+pub mod Moving
+pub mod Counting
+pub mod Tidying
+pub mod TouchedStates

@@ -337,7 +337,7 @@ module _ (v : StoreView) (ws : List ℕ) (once : Distinct ws) where
         two false true = refl
         two false false = refl
 
-  Distinct-tried : Distinct (tried v ws)
+  pub Distinct-tried : Distinct (tried v ws)
   Distinct-tried = Distinct-append (filter (λ x. not (is_child v x)) ws) (filter (is_child v) ws) (Distinct-filter (λ x. not (is_child v x)) ws once) (Distinct-filter (is_child v) ws once) (apart ws (λ x h. h)) where
     lacks : (x : ℕ) → is_child v x ≡ false → is_among (filter (is_child v) ws) x ≡ false
     lacks x e = is_among-filter (is_child v) ws x ∙ rw e refl

@@ -90,7 +90,6 @@ times_are node moment kind =
     let low : ℕ = moment % 2 ^ 32 in
     let high : ℕ = moment / 2 ^ 32 in
     record {
-      some = omega arith;
       few = omega arith;
       aligned = each (λ change. change.0 % 4 ≡ 0) (0, low) (4, high) (8, low) (12, high) refl refl refl refl;
       before = each (λ change. change.0 < seal_place node) (0, low) (4, high) (8, low) (12, high) (omega (arith, seal)) (omega (arith, seal)) (omega (arith, seal)) (omega (arith, seal));

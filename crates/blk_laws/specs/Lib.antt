@@ -13,3 +13,4 @@ pub mod ListWords
 pub mod ItemLaws
 pub mod SearchLaws
 pub mod ChargeLaws
+pub mod TidyLaws

@@ -17,6 +17,10 @@ use Rattle.blk_volume.specs.Chains.{file_and_block, most_records, is_of_bucket, 
 abbrev pub WalksAreTheLists : Type 0
 WalksAreTheLists = (list : ListView) (nodes : List ℕ) → IsList list nodes → walk list ≡ nodes
 
+-- the nodes of a walk are different, and each stands and checks
+abbrev pub WalksAreDistinct : Type 0
+WalksAreDistinct = (list : ListView) → Distinct (walk list) × ((node : ℕ) → is_among (walk list) node ≡ true → list.checks node ≡ true)
+
 -- an insert, stopped after any of its writes and completed, gives the old list before the second write, and the new list from then on
 abbrev pub InsertsCommitAtTwo : Type 0
 InsertsCommitAtTwo = (node : ℕ) (list : ListView) (nodes : List ℕ) → CanBeInserted list nodes node → CommitsAtTwo list (writes_of insert node list) nodes (node ∷ nodes)

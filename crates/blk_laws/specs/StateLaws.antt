@@ -68,6 +68,10 @@ TidyIsInOrder = (image : Image) (state : State) (layout : Layout) (numbers : Lis
 abbrev pub TidyStatesAreStoodFor : Type 0
 TidyStatesAreStoodFor = (image : Image) (state : State) (layout : Layout) (numbers : List ℕ) → Represents (view_of image) state layout → IsValidState state → IsAllocated image state layout numbers → IsWellFormed image → IsTidy image state layout numbers → StandsFor image state
 
+-- what stands for a state finds what is at rest in it
+abbrev pub WhatIsStoodForIsFound : Type 0
+WhatIsStoodForIsFound = (image : Image) (state : State) → StandsFor image state → found image ≡ rest state
+
 -- What a walk of some items of a layout keeps.
 
 -- items of a state

@@ -7,12 +7,13 @@ ghost use Rattle.blk_laws.specs.AllocationLaws.{SoundFilesAreAllocated, StoodFor
 ghost use Rattle.blk_laws.specs.BareLaws.{NothingRepresentsTheEmptyState, FoldersWithoutEntriesHoldNothing, FoldersWithoutEntriesAreSound, FoldersWithoutEntriesRepresentTheEmptyState, FoldersWithoutEntriesStandForTheEmptyState, NewFoldersHaveNoEntries};
 ghost use Rattle.blk_laws.specs.ByteLaws.{BlocksStandByTheirLast, CoveredChangesStayInside, BlocksAreCovered, ExternalFilesAreCovered, HeadersNeedNoCover, HiddenWordsNeedNoCover, CoversOfLess, MoreCovers, CoversOfEither, AgreeingImagesShowTheSame, CoveredChangesAgree, GrowthIsPastTheBlocks, SameLinksLinkTheSame, AgreementGoesOn, AgreementButMore, LongerFilesHaveGrown, GrowthIsOfAbsentBlocks, ChangedHeadersHaveGrown, GrowthKeepsStates, UnlinkedFilesMayGo};
 ghost use Rattle.blk_laws.specs.CommandLaws.{UnsettledObjectsMayChange, UnsettledChangesAreAtRest, RemovalsKeepTheOthers, LessIsPlaced, LessIsRepresented, DirtyWordsSettle, WrittenDirtyWordsSettle, ChangedDoomedObjectsArePlaced, ChangedDoomedObjectsAreRepresented, DoomedChangesAreAtRest, GoneDoomedObjectsAreRepresented, DoomedDirtyWordsSettle, WrittenDoomedDirtyWordsSettle, RepresentedHoldExcept, MoreMayBeLeftOut, OthersHoldOutside, OthersHoldUnlinked, ChainedRecordsAreOnlyRecords, RecordsStayOutside, RecordsStayUnlinked, RecordsOfAnotherStateLoad, ListedItemsAreAtRest, DoomsKeepTheOthers, DoomsAtEachWrite, DoomedPartsAtEachWrite, DoomedIsPlaced, DoomedIsRepresented, HandlesAreNotShown, RestBeforeTurning, RestAfterTurning, OpensAtEachWrite, OpensEnd, WrittenEntriesStay, CreatesBeforeTheInsert, CreatesAtEachWrite, CreatesEnd, CreatesAfterTheLink, CreatesEndAtTheStep, CreatesLeaveTheRest, CreatesMayLeaveWhatWas};
-ghost use Rattle.blk_laws.specs.KeptLaws.{KeptAreTheGiven, NoneOfTheGivenIsDropped, LeavingOutKeepsTheSame, SameKeyIsOneChain, OnlyCandidatesAreKept, SameCandidatesHoldTheSame};
-ghost use Rattle.blk_laws.specs.ListLaws.{WalksAreTheLists, InsertsCommitAtTwo, InsertsEnd, RemovalsCommitAtTwo, RemovalsEnd, TouchesCommitAtTwo, TouchesEnd, CompletingAgainIsTheSame, CompletionsEnd, ChainsAreTheirRecords, RecordsAreLinkedInFront, WholeChainsAreShort, RecordsOfImagesAreFew, ChainsOfImagesAreShort, OtherChainsStay, FirstRecordsAreUnlinked, FirstRecordsLeaveChains, LaterRecordsAreUnlinked, LaterRecordsLeaveChains};
-ghost use Rattle.blk_laws.specs.StateLaws.{WalksAreTheOrder, ListedAreTheRows, NothingListedIsDropped, RepresentedChainsEnd, KeptAreAtRest, FoundIsAtRest, RepresentedStatesAreShown, TidyIsInOrder, RepresentedStatesAreStoodFor, TidyStatesAreStoodFor, PlacedItemsAreShown, KeptArePicked, FreeFootprintsKeepStates, ChangedItemsArePlaced, ChangedItemsAreRepresented};
+ghost use Rattle.blk_laws.specs.KeptLaws.{KeptAreTheGiven, NoneOfTheGivenIsDropped, KeptAreShown, KeptAloneAreKept, LeavingOutKeepsTheSame, SameKeyIsOneChain, OnlyCandidatesAreKept, SameCandidatesHoldTheSame};
+ghost use Rattle.blk_laws.specs.ListLaws.{WalksAreTheLists, WalksAreDistinct, InsertsCommitAtTwo, InsertsEnd, RemovalsCommitAtTwo, RemovalsEnd, TouchesCommitAtTwo, TouchesEnd, CompletingAgainIsTheSame, CompletionsEnd, ChainsAreTheirRecords, RecordsAreLinkedInFront, WholeChainsAreShort, RecordsOfImagesAreFew, ChainsOfImagesAreShort, OtherChainsStay, FirstRecordsAreUnlinked, FirstRecordsLeaveChains, LaterRecordsAreUnlinked, LaterRecordsLeaveChains};
+ghost use Rattle.blk_laws.specs.StateLaws.{WalksAreTheOrder, ListedAreTheRows, NothingListedIsDropped, RepresentedChainsEnd, KeptAreAtRest, FoundIsAtRest, RepresentedStatesAreShown, TidyIsInOrder, RepresentedStatesAreStoodFor, TidyStatesAreStoodFor, WhatIsStoodForIsFound, PlacedItemsAreShown, KeptArePicked, FreeFootprintsKeepStates, ChangedItemsArePlaced, ChangedItemsAreRepresented};
 ghost use Rattle.blk_laws.specs.ItemLaws.{SameStoresRepresent, TouchedItemsAtEachWrite, TouchedItemsEnd, NewItemsArePlaced};
 ghost use Rattle.blk_laws.specs.SearchLaws.{ChainsAreTheLayouts, RepresentedChainsAreShort, RepresentedChainsCanBeSearched, FoundRecordsAreLive, NoneFoundIsMissing};
 ghost use Rattle.blk_laws.specs.ChargeLaws.{PartNamesAreNames, ItemsAreChargedAsRows, ListedChargesAreTheRows, ListedChargesAreTheTotals, OpenedChargesAreTheTotals};
+ghost use Rattle.blk_laws.specs.TidyLaws.{FilesStandBehindHeaders, StatesAreStoodFor, TouchesKeepStates};
 
 mod list_words;
 mod mid_updates;
@@ -26,9 +27,10 @@ pub use mid_updates::{
     records_are_written,
 };
 
-/// The walk of a whole list is its nodes.
+/// The walk of a whole list is its nodes; that of any list is of different nodes, which check.
 pub fn whole_lists_are_walked()
-    ensures { WalksAreTheLists }
+    ensures nodes { WalksAreTheLists }
+    ensures distinct { WalksAreDistinct }
 {}
 
 /// An insert, stopped after any of its writes and completed, gives the old list before the second, and the new one from then on.
@@ -69,10 +71,12 @@ pub fn chains_are_linked()
     ensures later_leaves { LaterRecordsLeaveChains }
 {}
 
-/// What is given to a walk is kept, and where something is given to each node none is dropped.
+/// What is given to a walk is kept, and where something is given to each node none is dropped; what is kept is given to the walk of the kept nodes alone, which keeps the same.
 pub fn given_nodes_are_kept()
     ensures kept { KeptAreTheGiven }
     ensures dropped { NoneOfTheGivenIsDropped }
+    ensures shown { KeptAreShown }
+    ensures alone { KeptAloneAreKept }
 {}
 
 /// A dropped node claims nothing, so it may be removed without changing what is kept.
@@ -101,12 +105,13 @@ pub fn represented_states_are_found()
     ensures found { FoundIsAtRest }
 {}
 
-/// An image that represents a state with exact maps shows it, and stands for it where all else is in order, which is so where it is tidy by its layout.
+/// An image that represents a state with exact maps shows it, and stands for it where all else is in order, which is so where it is tidy by its layout; what stands for a state finds what is at rest in it.
 pub fn represented_states_are_stood_for()
     ensures shown { RepresentedStatesAreShown }
     ensures in_order { TidyIsInOrder }
     ensures stands { RepresentedStatesAreStoodFor }
     ensures tidy { TidyStatesAreStoodFor }
+    ensures found { WhatIsStoodForIsFound }
 {}
 
 /// A folder that shows nothing represents the empty state.
@@ -290,4 +295,11 @@ pub fn charges_are_the_totals()
     ensures rows { ListedChargesAreTheRows }
     ensures totals { ListedChargesAreTheTotals }
     ensures opened { OpenedChargesAreTheTotals }
+{}
+
+/// A change behind the headers leaves the files as they stand; an image that has a state stands for it, and a touch of any listed item leaves one with the item in front.
+pub fn states_are_had()
+    ensures files { FilesStandBehindHeaders }
+    ensures stands { StatesAreStoodFor }
+    ensures touched { TouchesKeepStates }
 {}

@@ -252,9 +252,10 @@ module _ (state : State) (valid : IsValidState state) (moment : ℕ) (first othe
 
   parts_stay : (stays : Item → Bool) (key : List ℕ) (ns : List ℕ) → AllByRecursion (IsLoose stays) first → is_out first (main key) ≡ false → ((n : ℕ) → list_any (λ m. m == n) ns ≡ true → stays (part key n) ≡ true) → AllByRecursion (StaysOrNobody state first) (map (part key) ns)
   parts_stay stays key [] loose main_stays pinned = tt
-  parts_stay stays key (n ∷ ns) loose main_stays pinned =
-      (inl (loose_part stays first key n loose main_stays (pinned n (or_left (n == n) (list_any (λ m. m == n) ns) (eq-eqb n n refl)))),
-      parts_stay stays key ns loose main_stays (λ k h. pinned k (or_right (n == k) (list_any (λ m. m == k) ns) h)))
+  parts_stay stays key (n ∷ ns) loose main_stays pinned = (
+    inl (loose_part stays first key n loose main_stays (pinned n (or_left (n == n) (list_any (λ m. m == n) ns) (eq-eqb n n refl)))),
+    parts_stay stays key ns loose main_stays (λ k h. pinned k (or_right (n == k) (list_any (λ m. m == k) ns) h)),
+  )
 
   covers-part : (key : List ℕ) (ns : List ℕ) (n : ℕ) → list_any (λ m. m == n) ns ≡ true → list_any (same_item (part key n)) (map (part key) ns) ≡ true
   covers-part key [] n h = h

@@ -1,5 +1,5 @@
 -- Which walked nodes are kept, and why the others are dropped.
-use Rattle.std.specs.Prelude.{ℕ, List, [], ◌∷◌, ◌++◌, map, Bool, false, not, ◌&&◌, ◌||◌, ◌==◌, if◌then◌else◌}
+use Rattle.std.specs.Prelude.{ℕ, List, [], ◌∷◌, ◌++◌, map, Bool, false, not, ◌&&◌, ◌||◌, ◌==◌, if◌then◌else◌, is_some}
 use Rattle.std.specs.Option.{option_map_or}
 use Rattle.std.specs.List.{list_any, filter, filter_map, flat_map, range_with_len}
 use Rattle.std.specs.Str.{bytes_eq}
@@ -116,6 +116,18 @@ kept_among store rule nodes = filter_map (λ node. kept_of (verdict_on (judged s
 -- those that are dropped, each with its reason, in that order
 unfoldable pub dropped_among : StoreView → Rule → List ℕ → List (ℕ × Reason)
 dropped_among store rule nodes = filter_map (λ node. dropped_of node (verdict_on (judged store rule nodes) node)) nodes
+
+-- what a node of a walk is kept as, if it is kept
+abbrev pub kept_as : StoreView → Rule → List ℕ → ℕ → Option Loaded
+kept_as store rule nodes node = kept_of (verdict_on (judged store rule nodes) node)
+
+-- whether it is kept
+abbrev pub is_kept : StoreView → Rule → List ℕ → ℕ → Bool
+is_kept store rule nodes node = is_some (kept_as store rule nodes node)
+
+-- the nodes that are kept, in the order of the walk
+abbrev pub kept_nodes : StoreView → Rule → List ℕ → List ℕ
+kept_nodes store rule nodes = filter (is_kept store rule nodes) nodes
 
 -- The whole audit.
 

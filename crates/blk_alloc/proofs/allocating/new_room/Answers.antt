@@ -1,18 +1,19 @@
-use Rattle.std.proofs.Common.{◌≡◌, ◌≤◌, ◌<◌, inl, inr, ℕ, ◌*◌, ◌/◌, ◌%◌, [], length, true, false, None, sym, ◌∙◌, ap, subst, arith}
-use Rattle.blk_image.specs.Image.{Image}
-use Rattle.blk_image.specs.Footprint.{SameOutside, either}
-use Rattle.blk_image.proofs.Runs.{passes_end, passes_weaker}
+use Rattle.std.proofs.Common.{◌≡◌, ◌≤◌, ◌<◌, inl, inr, ℕ, ◌*◌, ◌/◌, ◌%◌, [], length, true, false, sym, ◌∙◌, ap, subst, arith}
+use Rattle.blk_image.proofs.Runs.{passes_end, passes_none, passes_weaker, some_inj}
 use Rattle.blk_addr.specs.Kind.{kind_number}
 use Rattle.blk_format.specs.BlockFiles.{is_among}
 use Rattle.blk_format.specs.Maps.{AreAllocations}
 use Rattle.blk_disk.specs.Tables.{all_files, files_of, blocks_of}
-use Rattle.blk_disk.specs.Growth.{IsLeastFree, addition_of, free_number, growth_of}
-use Rattle.blk_alloc.specs.Extending.{HasNoHints, IsFirstGrowing}
-use Rattle.blk_alloc.specs.Allocating.{IsFull, ExtendsInProgress, ExtendsInProgressIn, IsRefusal}
-use Rattle.blk_io.proofs.Carried.{carried, if_damaged_weaker, untold_where}
-use Rattle.blk_alloc.proofs.Formed.{count_whole}
+use Rattle.blk_disk.specs.Growth.{IsLeastFree}
+use Rattle.std.specs.List.{All}
+use Rattle.blk_alloc.specs.Extending.{HasMostBlocks, HasNoHints, IsFirstGrowing, KeepsLinks}
+use Rattle.blk_alloc.specs.Allocating.{ExtendsAnd, MakesRoomInProgress, updating_word}
+use Rattle.blk_io.proofs.Carried.{carried}
+use Rattle.blk_format.proofs.LinkedHeads.{count_whole}
 use Rattle.blk_alloc.proofs.Members.{member_all, member_head, member_split}
-use Rattle.blk_alloc.proofs.Rooms.{has_counters, if_damaged_any, making_added, making_grown, never_full}
+use Rattle.blk_alloc.proofs.Rooms.{has_counters, if_damaged_any, room_added, room_grown}
+use Rattle.blk_alloc.proofs.Moments.{added_moment, grown_count, grown_moment, no_moment}
+use Rattle.blk_alloc.proofs.Links.{lists_links}
 use Rattle.blk_alloc.proofs.allocating.new_room.Goals as goal
 
 whole_start : (old : ℕ) → old % 4 ≡ 0 → old / 4 * 4 ≡ old
@@ -26,16 +27,6 @@ few_files count n same few = omega (arith, same, few)
 
 among_or_not : true ≡ false → ⊥
 among_or_not e = cc
-
-pub grow_room-requires-clause-counters : goal.grow_room-requires-clause-counters
-grow_room-requires-clause-counters g c image there =
-    has_counters c.args.files.now image (kind_number c.args.kind) c.in-Some.file (c.requires.counted image there) (member_split (files_of c.args.files.now (kind_number c.args.kind)) c.in-Some.ensures.before c.in-Some.file c.in-Some.ensures.behind c.in-Some.ensures.split)
-
-pub returns-in_err-place-clause-stops : goal.returns-in_err-place-clause-stops
-returns-in_err-place-clause-stops g c from there =
-    let kind : ℕ = kind_number c.args.kind in
-    let keeps : (i : Image) → SameOutside (growth_of c.in-Some.file) from i → ExtendsInProgress c.args.files.now kind from i = λ i same. record { file = c.in-Some.file; making = making_grown c.args.files.now kind c.in-Some.file from i c.in-Some.ensures same } in
-    passes_weaker (c.in_err-place.ensures.outside from there) keeps keeps
 
 pub returns-in-Some-clause-place : goal.returns-in-Some-clause-place
 returns-in-Some-clause-place g c image there =
@@ -52,68 +43,22 @@ returns-in-Some-clause-place g c image there =
     })
 
 pub returns-in-Some-clause-made : goal.returns-in-Some-clause-made
-returns-in-Some-clause-made g c from there image now =
+returns-in-Some-clause-made g c from there counted image now =
     let kind : ℕ = kind_number c.args.kind in
     let n : ℕ = c.in-Some.file in
     let file = c.in_ok-place.ensures.place.0 in
     let all = member_all c.args.files.now c.args.kind n c.requires.block_kind (member_split (files_of c.args.files.now kind) c.in-Some.ensures.before n c.in-Some.ensures.behind c.in-Some.ensures.split) in
+    let counters = has_counters c.args.files.now from kind n counted (member_split (files_of c.args.files.now kind) c.in-Some.ensures.before n c.in-Some.ensures.behind c.in-Some.ensures.split) in
     record {
-      takeable = c.in_ok-place.ensures.takeable from there image now;
-      keeps = c.in_ok-place.ensures.keeps from there image now;
+      takeable = c.in_ok-place.ensures.markable from there counters image now;
+      keeps = c.in_ok-place.ensures.keeps from there counters image now;
       marks = c.in_ok-place.ensures.marks from there image now;
       fresh = λ none. absurd (among_or_not (sym all ∙ ap (is_among (all_files c.args.files.now)) (sym file) ∙ none));
       hints = λ none. absurd (among_or_not (sym all ∙ ap (is_among (all_files c.args.files.now)) (sym file) ∙ none));
     }
 
-pub returns-in-Some-clause-making : goal.returns-in-Some-clause-making
-returns-in-Some-clause-making g c from there image now =
-    let kind : ℕ = kind_number c.args.kind in
-    subst (λ (n : ℕ). ExtendsInProgressIn c.args.files.now kind from n image) (sym c.in_ok-place.ensures.place.0)
-    (making_grown c.args.files.now kind c.in-Some.file from image c.in-Some.ensures (passes_end (c.in_ok-place.ensures.outside from there) image now))
-
-pub returns-in-Some-clause-stops : goal.returns-in-Some-clause-stops
-returns-in-Some-clause-stops g c from there =
-    let kind : ℕ = kind_number c.args.kind in
-    let keeps : (i : Image) → SameOutside (growth_of c.in-Some.file) from i → ExtendsInProgress c.args.files.now kind from i = λ i same. record { file = c.in-Some.file; making = making_grown c.args.files.now kind c.in-Some.file from i c.in-Some.ensures same } in
-    passes_weaker (c.in_ok-place.ensures.outside from there) keeps keeps
-
-pub returns-in_err-damage-clause-stops : goal.returns-in_err-damage-clause-stops
-returns-in_err-damage-clause-stops g c from there =
-    absurd (never_full c.args.files.now from c.args.kind c.args.count c.requires.block_kind c.requires.few (c.requires.agrees from there) (c.requires.counted from there) (c.requires.full from there) c.in_default.ensures (many_files c.count.result (length (files_of c.args.files.now (kind_number c.args.kind))) c.count.ensures c.if-count-ge-MOST_FILES.true))
-
-pub returns-in_err-damage-clause-untold : goal.returns-in_err-damage-clause-untold
-returns-in_err-damage-clause-untold g c =
-    if_damaged_any c.from_residual-in_err-damage.result ((g.F.Folder.told c.args.f.now).files ≡ None)
-    (untold_where (g.F.Folder.told c.args.f.now).files (λ from there. never_full c.args.files.now from c.args.kind c.args.count c.requires.block_kind c.requires.few (c.requires.agrees from there) (c.requires.counted from there) (c.requires.full from there) c.in_default.ensures (many_files c.count.result (length (files_of c.args.files.now (kind_number c.args.kind))) c.count.ensures c.if-count-ge-MOST_FILES.true)))
-
-pub returns-in_err-damage-clause-cause : goal.returns-in_err-damage-clause-cause
-returns-in_err-damage-clause-cause g c =
-    let told = g.F.Folder.told c.args.f.now in
-    let kind : ℕ = kind_number c.args.kind in
-    let none : told.files ≡ None =
-    untold_where told.files (λ from there. never_full c.args.files.now from c.args.kind c.args.count c.requires.block_kind c.requires.few (c.requires.agrees from there) (c.requires.counted from there) (c.requires.full from there) c.in_default.ensures (many_files c.count.result (length (files_of c.args.files.now kind)) c.count.ensures c.if-count-ge-MOST_FILES.true)) in
-    carried c.full_damage.result c.from_residual-in_err-damage.result c.in_err-damage.field-0.0 _ c.in_err-damage.was c.from_residual-in_err-damage.ensures.1
-    (if_damaged_weaker c.full_damage.result (λ damage. told.files ≡ None → IsFull c.args.files.now kind told damage) (IsRefusal c.args.files.now c.args.files.now kind c.args.count told)
-    (λ damage full. inr (inr (inl (full none)))) c.full_damage.ensures.cause)
-
-pub returns-then-count-ge-MOST_FILES-clause-stops :
-    goal.returns-then-count-ge-MOST_FILES-clause-stops
-returns-then-count-ge-MOST_FILES-clause-stops g c from there =
-    absurd (never_full c.args.files.now from c.args.kind c.args.count c.requires.block_kind c.requires.few (c.requires.agrees from there) (c.requires.counted from there) (c.requires.full from there) c.in_default.ensures (many_files c.count.result (length (files_of c.args.files.now (kind_number c.args.kind))) c.count.ensures c.if-count-ge-MOST_FILES.true))
-
-pub returns-then-count-ge-MOST_FILES-clause-untold :
-    goal.returns-then-count-ge-MOST_FILES-clause-untold
-returns-then-count-ge-MOST_FILES-clause-untold g c =
-    untold_where (g.F.Folder.told c.args.f.now).files (λ from there. never_full c.args.files.now from c.args.kind c.args.count c.requires.block_kind c.requires.few (c.requires.agrees from there) (c.requires.counted from there) (c.requires.full from there) c.in_default.ensures (many_files c.count.result (length (files_of c.args.files.now (kind_number c.args.kind))) c.count.ensures c.if-count-ge-MOST_FILES.true))
-
 pub add_room-requires-clause-room : goal.add_room-requires-clause-room
 add_room-requires-clause-room g c = few_files c.count.result (length (files_of c.args.files.now (kind_number c.args.kind))) c.count.ensures c.if-count-ge-MOST_FILES.false
-
-pub returns-in_err-place-2-clause-stops : goal.returns-in_err-place-2-clause-stops
-returns-in_err-place-2-clause-stops g c from there =
-    let kind : ℕ = kind_number c.args.kind in
-    let keeps : (i : Image) → SameOutside (either (addition_of c.args.files.now kind) (growth_of (free_number c.args.files.now))) from i → ExtendsInProgress c.args.files.now kind from i = λ i same. record { file = free_number c.args.files.now; making = making_added c.args.files.now kind from i c.in_default.ensures same } in
-    passes_weaker (c.in_err-place-2.ensures.outside from there) keeps keeps
 
 pub returns-clause-place : goal.returns-clause-place
 returns-clause-place g c image there =
@@ -126,30 +71,72 @@ returns-clause-place g c image there =
     })
 
 pub returns-clause-made : goal.returns-clause-made
-returns-clause-made g c from there image now = record {
-  takeable = c.in_ok-place-2.ensures.takeable from there image now;
+returns-clause-made g c from there counted image now = record {
+  takeable = c.in_ok-place-2.ensures.markable from there image now;
   keeps = c.in_ok-place-2.ensures.keeps from there image now;
   marks = c.in_ok-place-2.ensures.marks from there image now;
   fresh = λ none. subst (λ (n : ℕ). AreAllocations image n []) (sym c.in_ok-place-2.ensures.place.0) (c.in_ok-place-2.ensures.fresh from there image now);
   hints = λ none. subst (HasNoHints image) (sym c.in_ok-place-2.ensures.place.0) (c.in_ok-place-2.ensures.hints from there image now);
 }
 
-pub returns-clause-making : goal.returns-clause-making
-returns-clause-making g c from there image now =
-    let kind : ℕ = kind_number c.args.kind in
-    subst (λ (n : ℕ). ExtendsInProgressIn c.args.files.now kind from n image) (sym c.in_ok-place-2.ensures.place.0)
-    (making_added c.args.files.now kind from image c.in_default.ensures (passes_end (c.in_ok-place-2.ensures.outside from there) image now))
+pub returns-in_err-place-clause-stops : goal.returns-in_err-place-clause-stops
+returns-in_err-place-clause-stops g c from there =
+    let keeps = grown_moment c.args.files.now (kind_number c.args.kind) c.in-Some.file from c.in-Some.ensures in
+    passes_weaker (c.in_err-place.ensures.stops from there) keeps keeps
+
+pub returns-in-Some-clause-stops : goal.returns-in-Some-clause-stops
+returns-in-Some-clause-stops g c from there =
+    let keeps = grown_moment c.args.files.now (kind_number c.args.kind) c.in-Some.file from c.in-Some.ensures in
+    passes_weaker (c.in_ok-place.ensures.stops from there) keeps keeps
+
+pub returns-in-Some-clause-within : goal.returns-in-Some-clause-within
+returns-in-Some-clause-within g c from there image now =
+    subst (λ (n : ℕ). ExtendsAnd updating_word c.args.files.now (kind_number c.args.kind) from n image) (sym c.in_ok-place.ensures.place.0)
+    (room_grown c.args.files.now (kind_number c.args.kind) c.in-Some.file from image c.in-Some.ensures (passes_end (c.in_ok-place.ensures.stops from there) image now).outside)
+
+pub returns-in-Some-clause-counts : goal.returns-in-Some-clause-counts
+returns-in-Some-clause-counts g c from there image now linked =
+    grown_count c.in-Some.file c.in_ok-place.place.file from image (passes_end (c.in_ok-place.ensures.stops from there) image now).outside
+
+pub returns-in-Some-clause-links : goal.returns-in-Some-clause-links
+returns-in-Some-clause-links g c = lists_links c.args.files.now c.grow_room.new.files c.in_ok-place.place.file c.in_ok-place.ensures.links
+
+pub returns-in_err-damage-clause-stops : goal.returns-in_err-damage-clause-stops
+returns-in_err-damage-clause-stops g c from there =
+    passes_none (MakesRoomInProgress c.args.files.now (kind_number c.args.kind) from) c.in_err-damage.ensures.stays
+    (λ image is. subst (MakesRoomInProgress c.args.files.now (kind_number c.args.kind) from) (some_inj (sym there ∙ is)) (no_moment c.args.files.now (kind_number c.args.kind) from c.in_default.ensures))
+
+pub returns-then-count-ge-MOST_FILES-clause-stops : goal.returns-then-count-ge-MOST_FILES-clause-stops
+returns-then-count-ge-MOST_FILES-clause-stops g c from there =
+    passes_none (MakesRoomInProgress c.args.files.now (kind_number c.args.kind) from) c.in_ok-damage.ensures.stays
+    (λ image is. subst (MakesRoomInProgress c.args.files.now (kind_number c.args.kind) from) (some_inj (sym there ∙ is)) (no_moment c.args.files.now (kind_number c.args.kind) from c.in_default.ensures))
+
+pub returns-in_err-damage-clause-cause : goal.returns-in_err-damage-clause-cause
+returns-in_err-damage-clause-cause g c =
+    carried c.full_damage.result c.from_residual-in_err-damage.result c.in_err-damage.field-0.0 _ c.in_err-damage.was c.from_residual-in_err-damage.ensures.1 (c.full_damage.ensures.cause c.requires.agrees)
+
+pub returns-in_err-damage-clause-sixty : goal.returns-in_err-damage-clause-sixty
+returns-in_err-damage-clause-sixty g c =
+    if_damaged_any c.from_residual-in_err-damage.result (All (HasMostBlocks c.args.files.now) (files_of c.args.files.now (kind_number c.args.kind)) × (60 ≤ length (files_of c.args.files.now (kind_number c.args.kind))))
+    (c.in_default.ensures, many_files c.count.result (length (files_of c.args.files.now (kind_number c.args.kind))) c.count.ensures c.if-count-ge-MOST_FILES.true)
+
+pub returns-in_err-place-2-clause-stops : goal.returns-in_err-place-2-clause-stops
+returns-in_err-place-2-clause-stops g c from there =
+    let keeps = added_moment c.args.files.now (kind_number c.args.kind) from c.in_default.ensures in
+    passes_weaker (c.in_err-place-2.ensures.stops from there) keeps keeps
 
 pub returns-clause-stops : goal.returns-clause-stops
 returns-clause-stops g c from there =
-    let kind : ℕ = kind_number c.args.kind in
-    let keeps : (i : Image) → SameOutside (either (addition_of c.args.files.now kind) (growth_of (free_number c.args.files.now))) from i → ExtendsInProgress c.args.files.now kind from i = λ i same. record { file = free_number c.args.files.now; making = making_added c.args.files.now kind from i c.in_default.ensures same } in
-    passes_weaker (c.in_ok-place-2.ensures.outside from there) keeps keeps
+    let keeps = added_moment c.args.files.now (kind_number c.args.kind) from c.in_default.ensures in
+    passes_weaker (c.in_ok-place-2.ensures.stops from there) keeps keeps
 
-pub returns-in_err-damage-clause-blocks : goal.returns-in_err-damage-clause-blocks
-returns-in_err-damage-clause-blocks g c from there =
-    absurd (never_full c.args.files.now from c.args.kind c.args.count c.requires.block_kind c.requires.few (c.requires.agrees from there) (c.requires.counted from there) (c.requires.full from there) c.in_default.ensures (many_files c.count.result (length (files_of c.args.files.now (kind_number c.args.kind))) c.count.ensures c.if-count-ge-MOST_FILES.true))
+pub returns-clause-within : goal.returns-clause-within
+returns-clause-within g c from there image now =
+    room_added c.args.files.now (kind_number c.args.kind) c.in_ok-place-2.place.file from image c.in_ok-place-2.ensures.place.0 c.in_default.ensures (passes_end (c.in_ok-place-2.ensures.stops from there) image now).outside
 
-pub returns-then-count-ge-MOST_FILES-clause-blocks : goal.returns-then-count-ge-MOST_FILES-clause-blocks
-returns-then-count-ge-MOST_FILES-clause-blocks g c from there =
-    absurd (never_full c.args.files.now from c.args.kind c.args.count c.requires.block_kind c.requires.few (c.requires.agrees from there) (c.requires.counted from there) (c.requires.full from there) c.in_default.ensures (many_files c.count.result (length (files_of c.args.files.now (kind_number c.args.kind))) c.count.ensures c.if-count-ge-MOST_FILES.true))
+pub returns-clause-counts : goal.returns-clause-counts
+returns-clause-counts g c from there image now linked =
+    absurd (among_or_not (sym linked ∙ ap (is_among (all_files c.args.files.now)) c.in_ok-place-2.ensures.place.0 ∙ c.in_ok-place-2.ensures.least.free))
+
+pub returns-clause-links : goal.returns-clause-links
+returns-clause-links g c = subst (KeepsLinks c.args.files.now c.add_room.new.files) (sym c.in_ok-place-2.ensures.place.0) c.in_ok-place-2.ensures.links

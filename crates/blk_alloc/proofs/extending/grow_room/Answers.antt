@@ -10,7 +10,7 @@ use Rattle.blk_alloc.specs.Changes.{IsReady}
 use Rattle.blk_alloc.proofs.Members.{member_all, member_head}
 use Rattle.blk_format.specs.BlockFiles.{is_among}
 use Rattle.blk_addr.specs.Kind.{kind_number}
-use Rattle.blk_alloc.proofs.Formed.{count_whole}
+use Rattle.blk_format.proofs.LinkedHeads.{count_whole}
 use Rattle.blk_alloc.proofs.Growing.{grow_widens}
 use Rattle.blk_alloc.proofs.Kept.{grow_larger, standing_kept, standing_same}
 use Rattle.blk_alloc.proofs.Grown.{grown_ready, grown_free, grown_keeps}
@@ -39,14 +39,13 @@ returns-clause-place g c =
     let all = member_all c.args.files.now c.args.kind c.args.file c.requires.block_kind c.requires.linked in
     (refl, start_is c.blocks_in-groups.result (blocks_of c.args.files.now c.args.file) (c.blocks_in-groups.ensures.blocks all) c.requires.below, refl)
 
-pub returns-clause-takeable : goal.returns-clause-takeable
-returns-clause-takeable g c from there mid now =
+pub returns-clause-markable : goal.returns-clause-markable
+returns-clause-markable g c from there counters mid now =
     let all = member_all c.args.files.now c.args.kind c.args.file c.requires.block_kind c.requires.linked in
     let agrees = c.requires.agrees from there in
     let head = member_head c.args.files.now from c.args.kind c.args.file c.requires.block_kind agrees c.requires.linked in
-    let same : SameOutside (growth_of c.args.file) from mid = passes_end (c.in_ok-grow.ensures.outside from there) mid now in
+    let same : SameOutside (growth_of c.args.file) from mid = (passes_end (c.in_ok-grow.ensures.stops from there) mid now).outside in
     let is : mid ≡ after (grow_steps c.args.files.now c.args.file from) from = some_inj (sym now ∙ (c.in_ok-grow.ensures.steps from there).files ∙ ap (option_map (after (grow_steps c.args.files.now c.args.file from))) there) in
-    let counters = c.requires.counters from there in
     let whole : blocks_of c.args.files.now c.args.file % 4 ≡ 0 = ap (λ (k : ℕ). k % 4) (agrees.blocks c.args.file all) ∙ (count_whole _ head.count).0 in
     let start : c.blocks_in-groups.result / 4 * 4 ≡ blocks_of c.args.files.now c.args.file =
     start_is c.blocks_in-groups.result (blocks_of c.args.files.now c.args.file) (c.blocks_in-groups.ensures.blocks all) c.requires.below ∙ whole_start (blocks_of c.args.files.now c.args.file) whole in
@@ -56,13 +55,13 @@ returns-clause-takeable g c from there mid now =
     }
 
 pub returns-clause-keeps : goal.returns-clause-keeps
-returns-clause-keeps g c from there mid now =
+returns-clause-keeps g c from there counters mid now =
     let all = member_all c.args.files.now c.args.kind c.args.file c.requires.block_kind c.requires.linked in
     let agrees = c.requires.agrees from there in
     let head = member_head c.args.files.now from c.args.kind c.args.file c.requires.block_kind agrees c.requires.linked in
-    let same : SameOutside (growth_of c.args.file) from mid = passes_end (c.in_ok-grow.ensures.outside from there) mid now in
+    let same : SameOutside (growth_of c.args.file) from mid = (passes_end (c.in_ok-grow.ensures.stops from there) mid now).outside in
     let is : mid ≡ after (grow_steps c.args.files.now c.args.file from) from = some_inj (sym now ∙ (c.in_ok-grow.ensures.steps from there).files ∙ ap (option_map (after (grow_steps c.args.files.now c.args.file from))) there) in
-    grown_keeps c.args.files.now c.grow.new.self from mid c.args.file agrees (c.in_ok-grow.ensures.agrees mid now) all c.in_ok-grow.ensures.kept c.requires.below head same is (c.requires.counters from there)
+    grown_keeps c.args.files.now c.grow.new.self from mid c.args.file agrees (c.in_ok-grow.ensures.agrees mid now) all c.in_ok-grow.ensures.kept c.requires.below head same is counters
 
 pub returns-clause-fits : goal.returns-clause-fits
 returns-clause-fits g c =
@@ -81,7 +80,7 @@ returns-clause-all g c n there = ap (λ (l : List ℕ). is_among l n) c.in_ok-gr
 
 pub returns-clause-marks : goal.returns-clause-marks
 returns-clause-marks g c from there mid now n b among =
-    let same : SameOutside (growth_of c.args.file) from mid = passes_end (c.in_ok-grow.ensures.outside from there) mid now in
+    let same : SameOutside (growth_of c.args.file) from mid = (passes_end (c.in_ok-grow.ensures.stops from there) mid now).outside in
     (grow_widens c.args.files.now c.grow.new.self from mid c.args.file c.in_ok-grow.ensures.kept c.requires.below same).marks n b among
 
 pub returns-in_err-grow-clause-standing : goal.returns-in_err-grow-clause-standing
@@ -89,3 +88,6 @@ returns-in_err-grow-clause-standing g c = standing_same c.args.files.now c.grow.
 
 pub returns-clause-standing : goal.returns-clause-standing
 returns-clause-standing g c = standing_kept c.args.files.now c.grow.new.self (grow_larger c.args.files.now c.grow.new.self c.args.file c.in_ok-grow.ensures.kept c.requires.below)
+
+pub returns-clause-links : goal.returns-clause-links
+returns-clause-links g c = c.in_ok-grow.ensures.kept.files

@@ -1,8 +1,8 @@
-use Rattle.std.proofs.Common.{◌≡◌, ℕ, ◌+◌, ◌*◌, ◌/◌, ◌%◌, ◌-◌, min, Option, None, Some, refl, sym, ◌∙◌, ap, subst, arith}
+use Rattle.std.proofs.Common.{◌≡◌, ℕ, ◌+◌, ◌*◌, ◌/◌, ◌%◌, ◌-◌, ◌<◌, min, Option, None, Some, refl, sym, ◌∙◌, ap, subst, arith}
 use Rattle.blk_image.specs.Told.{Told}
 use Rattle.blk_format.specs.Maps.{is_block_marked}
 use Rattle.blk_alloc.specs.Places.{AreNoPlaces}
-use Rattle.blk_alloc.specs.Fitting.{IsLeastFrom, IsShortPiece}
+use Rattle.blk_alloc.specs.Fitting.{HasMapOf, IsLeastFrom, IsShortPiece}
 use Rattle.blk_io.specs.declared.folder.FileId.TheVariants as names
 use Rattle.blk_io.specs.declared.fault.Damage.{Damage}
 use Rattle.blk_io.specs.Faults.{IsShort}
@@ -28,6 +28,12 @@ loop-piece-preserved g c = record {
       (subst (AreNoPlaces marked c.args.count first) behind
       (subst (IsLeastFrom image c.args.file c.args.count first (first + c.min-blocks.result)) (none_of c.in_ok-b.field-0 c.in_default.not-Some)
       (c.in_ok-b.ensures.least image (ap (λ (t : Told). t.files) c.loop-piece.invariant.stays ∙ there))));
+  whole = λ image there.
+      let ends : c.div_ceil-piece-end.result ≡ c.args.end / 8192 + min 1 (c.args.end % 8192) = c.div_ceil-piece-end.ensures in
+      let blocks : c.min-blocks.result ≡ min (c.args.end - c.loop-piece.piece * 8192) 8192 = c.min-blocks.ensures in
+      let some : 0 < c.min-blocks.result = omega (arith, ends, blocks, c.loop-piece-test.true) in
+      let behind : c.loop-piece.piece * 8192 + c.min-blocks.result ≡ min c.args.end ((c.loop-piece.piece + 1) * 8192) = omega (arith, ends, blocks, c.loop-piece-test.true) in
+      subst (HasMapOf image c.args.file) behind (c.in_ok-b.ensures.whole image (ap (λ (t : Told). t.files) c.loop-piece.invariant.stays ∙ there) some);
   stays = c.in_ok-b.ensures.stays ∙ c.loop-piece.invariant.stays;
   later = let one = c.loop-piece.invariant.later in let other = c.in_ok-b.ensures.later in omega (arith, one, other);
 }
@@ -63,3 +69,9 @@ returns-in-Some-clause-inside g c b is =
     let blocks : c.min-blocks.result ≡ min (c.args.end - c.loop-piece.piece * 8192) 8192 = c.min-blocks.ensures in
     let below = found.1 in
     (found.0, omega (arith, below, blocks, ends, c.loop-piece-test.true))
+
+pub returns-clause-whole : goal.returns-clause-whole
+returns-clause-whole g c image there none =
+    let ends : c.div_ceil-piece-end.result ≡ c.args.end / 8192 + min 1 (c.args.end % 8192) = c.div_ceil-piece-end.ensures in
+    let all : min c.args.end (c.loop-piece.piece * 8192) ≡ c.args.end = omega (arith, ends, c.loop-piece-test.false) in
+    subst (HasMapOf image c.args.file) all (c.loop-piece.invariant.whole image there)

@@ -1,4 +1,4 @@
-use Rattle.std.proofs.Common.{◌≡◌, ℕ, ◌+◌, ◌/◌, ◌≤◌, length, None, ◌∙◌, ap, subst, arith}
+use Rattle.std.proofs.Common.{◌≡◌, ◌⊎◌, inl, inr, ℕ, ◌+◌, ◌/◌, ◌%◌, ◌<◌, ◌≤◌, length, None, ◌∙◌, ap, subst, arith}
 use Rattle.std.specs.Option.{ForSome}
 use Rattle.blk_image.specs.Bytes.{range_at}
 use Rattle.blk_image.specs.Image.{Block, byte, length_of}
@@ -47,3 +47,15 @@ returns-in-Some-clause-inside g c x is =
     let below = least.0 in
     let same : c.args.first + c.in-Some.b ≡ x = some_inj is in
     (omega (arith, group, same, c.requires.whole), omega (arith, below, same))
+
+whole_piece : (first blocks count place size : ℕ) → (place + count ≤ size) ⊎ (count ≡ 0) → count ≡ (blocks + 7) / 8 → place ≡ 80 + first / 8 → first % 8 ≡ 0 → 0 < blocks → 80 + (first + blocks + 7) / 8 ≤ size
+whole_piece first blocks count place size (inl inside) is at whole some = omega (arith, inside, is, at, whole)
+whole_piece first blocks count place size (inr none) is at whole some = absurd (omega (arith, none, is, some))
+
+pub returns-in-Some-clause-whole : goal.returns-in-Some-clause-whole
+returns-in-Some-clause-whole g c image there some below =
+    whole_piece c.args.first c.args.blocks (length c.args.piece.now) (80 + c.from.result) (length_of image (Block c.args.file)) (c.in_ok-read_exact.ensures.inside image there) (omega (arith, c.requires.fits, c.requires.none_more)) (ap (λ (k : ℕ). 80 + k) c.from.ensures) c.requires.whole some
+
+pub returns-in-None-clause-whole : goal.returns-in-None-clause-whole
+returns-in-None-clause-whole g c image there some below =
+    whole_piece c.args.first c.args.blocks (length c.args.piece.now) (80 + c.from.result) (length_of image (Block c.args.file)) (c.in_ok-read_exact.ensures.inside image there) (omega (arith, c.requires.fits, c.requires.none_more)) (ap (λ (k : ℕ). 80 + k) c.from.ensures) c.requires.whole some

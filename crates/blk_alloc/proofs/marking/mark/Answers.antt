@@ -1,12 +1,12 @@
-use Rattle.std.proofs.Common.{◌≡◌, ◌⊎◌, inl, inr, Bool, ℕ, ◌+◌, ◌%◌, ◌<◌, ◌≤◌, List, true, false, None, sym, ◌∙◌, ap, subst, arith}
+use Rattle.std.proofs.Common.{◌≡◌, ◌⊎◌, ⊎_elim, inl, inr, Bool, ℕ, ◌+◌, ◌%◌, ◌<◌, ◌≤◌, List, true, false, None, sym, ◌∙◌, ap, subst, arith}
 use Rattle.std.specs.Option.{ForSome}
-use Rattle.blk_image.specs.Told.{Told}
+use Rattle.blk_image.specs.Told.{Stays, Told}
 use Rattle.blk_format.specs.BlockFiles.{is_among}
 use Rattle.blk_addr.specs.Kind.{kind_number}
 use Rattle.blk_image.specs.Image.{Image, Block}
 use Rattle.blk_image.specs.Footprint.{SameOutside, size_of}
 use Rattle.blk_image.proofs.Runs.{passes_to, passes_none, passes_end, passes_weaker, some_inj}
-use Rattle.blk_disk.specs.Growth.{KeepsBlocks, fit_steps}
+use Rattle.blk_disk.specs.Growth.{fit_steps}
 use Rattle.blk_disk.specs.declared.tables.BlockFiles.{BlockFiles}
 use Rattle.blk_alloc.specs.Marking.{IsDangling, CanBeMarked, MarksUsedInProgress, MarksUsed}
 use Rattle.blk_alloc.specs.Changes.{IsReady, map_of}
@@ -20,13 +20,12 @@ use Rattle.blk_format.specs.Address.{block_word}
 use Rattle.blk_alloc.proofs.NotStanding.{place_resized, why_dangling}
 use Rattle.blk_image.proofs.Footprints.{outside-refl}
 use Rattle.blk_disk.specs.Tables.{Agrees, stands_among}
-use Rattle.blk_alloc.proofs.TakenAfter.{ready_after, stops_after, taken_after, stands_after, formed_after}
+use Rattle.blk_alloc.proofs.Links.{fitted_long}
+use Rattle.blk_alloc.proofs.TakenAfter.{counted_after, ready_after, stops_after, taken_after, stands_after}
 use Rattle.blk_image.specs.Steps.{after}
 use Rattle.blk_alloc.specs.Owning.{IsCause}
 use Rattle.blk_io.proofs.Carried.{carried, if_damaged_weaker, told_at_end, untold_where}
-use Rattle.blk_alloc.proofs.Causes.{cause_before, none_before}
-use Rattle.blk_alloc.proofs.Externals.{fit_then_blocks}
-use Rattle.blk_alloc.proofs.Sparing.{blocks_same}
+use Rattle.blk_alloc.proofs.Causes.{if_damaged_both, none_before}
 use Rattle.blk_alloc.proofs.marking.mark.Goals as goal
 
 pub fit-requires-clause-linked : goal.fit-requires-clause-linked
@@ -34,7 +33,7 @@ fit-requires-clause-linked g c = member_all c.args.files.now c.args.kind c.args.
 
 pub returns-in_err-fit-clause-stops : goal.returns-in_err-fit-clause-stops
 returns-in_err-fit-clause-stops g c from there takeable =
-    passes_to (passes_none (MarksUsedInProgress c.args.place.file from) c.in_err-fit.ensures.undone (λ image is. subst (MarksUsedInProgress c.args.place.file from) (some_inj (sym there ∙ is)) (taking_fit c.args.place.file from from (outside-refl (size_of (Block c.args.place.file)) from)))) (λ image midst. inl midst)
+    passes_to (passes_none (MarksUsedInProgress c.args.place.file from) c.in_err-fit.ensures.undone (λ image is. subst (MarksUsedInProgress c.args.place.file from) (some_inj (sym there ∙ is)) (taking_fit c.args.place.file from from (outside-refl (size_of (Block c.args.place.file)) from) (omega arith)))) (λ image midst. inl midst)
 
 pub change-requires-clause-header : goal.change-requires-clause-header
 change-requires-clause-header g c mid now =
@@ -50,54 +49,32 @@ pub returns-in_err-change-clause-agrees : goal.returns-in_err-change-clause-agre
 returns-in_err-change-clause-agrees g c =
     told_at_end (g.F.Folder.told c.fit.new.f).files (g.F.Folder.told c.change.new.f).files (Agrees c.fit.new.self) c.in_err-change.ensures.silent
     (λ mid now. let keeps : (i : Image) → SameOutside (map_of c.args.place.file) mid i → Agrees c.fit.new.self i = λ i same. agrees_kept c.args.place.file mid i same c.fit.new.self (c.in_ok-fit.ensures.agrees mid now) in
-    passes_end (passes_weaker (c.in_err-change.ensures.outside mid now) keeps keeps))
+    passes_end (passes_weaker (c.in_err-change.ensures.stops mid now) (λ i midst. keeps i midst.same) (λ i. ⊎_elim (λ midst. keeps i midst.same) (λ changed. keeps i changed.same))))
 
 pub returns-in_err-change-clause-stops : goal.returns-in_err-change-clause-stops
 returns-in_err-change-clause-stops g c from there takeable =
     let tk : ForSome (g.F.Folder.told c.args.f.now).files (λ image. CanBeMarked image c.args.place) = λ image is. subst (λ (i : Image). CanBeMarked i c.args.place) (some_inj (sym there ∙ is)) takeable in
-    let ready = ready_after (g.F.Folder.told c.args.f.now) (g.F.Folder.told c.fit.new.f) c.args.files.now c.fit.new.self c.args.place c.requires.agrees (member_all c.args.files.now c.args.kind c.args.place.file c.requires.block_kind c.requires.place.linked)
-    c.in_ok-fit.ensures.fitted c.in_ok-fit.ensures.kept c.in_ok-fit.ensures.agrees tk in
     stops_after (g.F.Folder.told c.args.f.now) (g.F.Folder.told c.fit.new.f) c.args.files.now c.fit.new.self c.args.place c.requires.agrees (member_all c.args.files.now c.args.kind c.args.place.file c.requires.block_kind c.requires.place.linked)
-    c.in_ok-fit.ensures.fitted c.in_ok-fit.ensures.kept c.in_ok-fit.ensures.agrees c.args.kind c.requires.block_kind c.requires.some c.requires.node c.requires.place tk (g.F.Folder.told c.change.new.f) (λ mid now. c.in_err-change.ensures.stops mid now (ready mid now)) from there
-
-pub returns-in_err-change-clause-formed : goal.returns-in_err-change-clause-formed
-returns-in_err-change-clause-formed g c from there takeable formed =
-    let tk : ForSome (g.F.Folder.told c.args.f.now).files (λ image. CanBeMarked image c.args.place) = λ image is. subst (λ (i : Image). CanBeMarked i c.args.place) (some_inj (sym there ∙ is)) takeable in
-    let ready = ready_after (g.F.Folder.told c.args.f.now) (g.F.Folder.told c.fit.new.f) c.args.files.now c.fit.new.self c.args.place c.requires.agrees (member_all c.args.files.now c.args.kind c.args.place.file c.requires.block_kind c.requires.place.linked)
-    c.in_ok-fit.ensures.fitted c.in_ok-fit.ensures.kept c.in_ok-fit.ensures.agrees tk in
-    formed_after (g.F.Folder.told c.args.f.now) (g.F.Folder.told c.fit.new.f) c.args.files.now c.fit.new.self c.args.place c.requires.agrees (member_all c.args.files.now c.args.kind c.args.place.file c.requires.block_kind c.requires.place.linked)
-    c.in_ok-fit.ensures.fitted c.in_ok-fit.ensures.kept c.in_ok-fit.ensures.agrees (g.F.Folder.told c.change.new.f) (λ mid now. c.in_err-change.ensures.stops mid now (ready mid now)) from there formed
+    c.in_ok-fit.ensures.fitted c.in_ok-fit.ensures.kept c.in_ok-fit.ensures.agrees c.args.kind c.requires.block_kind c.requires.some c.requires.node c.requires.place tk (g.F.Folder.told c.change.new.f) c.in_err-change.ensures.stops from there
 
 pub returns-clause-agrees : goal.returns-clause-agrees
 returns-clause-agrees g c =
     told_at_end (g.F.Folder.told c.fit.new.f).files (g.F.Folder.told c.change.new.f).files (Agrees c.fit.new.self) c.in_ok-change.ensures.silent
     (λ mid now. let keeps : (i : Image) → SameOutside (map_of c.args.place.file) mid i → Agrees c.fit.new.self i = λ i same. agrees_kept c.args.place.file mid i same c.fit.new.self (c.in_ok-fit.ensures.agrees mid now) in
-    passes_end (passes_weaker (c.in_ok-change.ensures.outside mid now) keeps keeps))
+    passes_end (passes_weaker (c.in_ok-change.ensures.stops mid now) (λ i midst. keeps i midst.same) (λ i. ⊎_elim (λ midst. keeps i midst.same) (λ changed. keeps i changed.same))))
 
 pub returns-clause-stops : goal.returns-clause-stops
 returns-clause-stops g c from there takeable =
     let tk : ForSome (g.F.Folder.told c.args.f.now).files (λ image. CanBeMarked image c.args.place) = λ image is. subst (λ (i : Image). CanBeMarked i c.args.place) (some_inj (sym there ∙ is)) takeable in
-    let ready = ready_after (g.F.Folder.told c.args.f.now) (g.F.Folder.told c.fit.new.f) c.args.files.now c.fit.new.self c.args.place c.requires.agrees (member_all c.args.files.now c.args.kind c.args.place.file c.requires.block_kind c.requires.place.linked)
-    c.in_ok-fit.ensures.fitted c.in_ok-fit.ensures.kept c.in_ok-fit.ensures.agrees tk in
     stops_after (g.F.Folder.told c.args.f.now) (g.F.Folder.told c.fit.new.f) c.args.files.now c.fit.new.self c.args.place c.requires.agrees (member_all c.args.files.now c.args.kind c.args.place.file c.requires.block_kind c.requires.place.linked)
-    c.in_ok-fit.ensures.fitted c.in_ok-fit.ensures.kept c.in_ok-fit.ensures.agrees c.args.kind c.requires.block_kind c.requires.some c.requires.node c.requires.place tk (g.F.Folder.told c.change.new.f) (λ mid now. c.in_ok-change.ensures.stops mid now (ready mid now)) from there
+    c.in_ok-fit.ensures.fitted c.in_ok-fit.ensures.kept c.in_ok-fit.ensures.agrees c.args.kind c.requires.block_kind c.requires.some c.requires.node c.requires.place tk (g.F.Folder.told c.change.new.f) c.in_ok-change.ensures.stops from there
 
-pub returns-clause-formed : goal.returns-clause-formed
-returns-clause-formed g c from there takeable formed =
+pub returns-clause-used : goal.returns-clause-used
+returns-clause-used g c from there takeable image now =
     let tk : ForSome (g.F.Folder.told c.args.f.now).files (λ image. CanBeMarked image c.args.place) = λ image is. subst (λ (i : Image). CanBeMarked i c.args.place) (some_inj (sym there ∙ is)) takeable in
-    let ready = ready_after (g.F.Folder.told c.args.f.now) (g.F.Folder.told c.fit.new.f) c.args.files.now c.fit.new.self c.args.place c.requires.agrees (member_all c.args.files.now c.args.kind c.args.place.file c.requires.block_kind c.requires.place.linked)
-    c.in_ok-fit.ensures.fitted c.in_ok-fit.ensures.kept c.in_ok-fit.ensures.agrees tk in
-    formed_after (g.F.Folder.told c.args.f.now) (g.F.Folder.told c.fit.new.f) c.args.files.now c.fit.new.self c.args.place c.requires.agrees (member_all c.args.files.now c.args.kind c.args.place.file c.requires.block_kind c.requires.place.linked)
-    c.in_ok-fit.ensures.fitted c.in_ok-fit.ensures.kept c.in_ok-fit.ensures.agrees (g.F.Folder.told c.change.new.f) (λ mid now. c.in_ok-change.ensures.stops mid now (ready mid now)) from there formed
-
-pub returns-clause-taken : goal.returns-clause-taken
-returns-clause-taken g c from there takeable image now =
-    let tk : ForSome (g.F.Folder.told c.args.f.now).files (λ image. CanBeMarked image c.args.place) = λ image is. subst (λ (i : Image). CanBeMarked i c.args.place) (some_inj (sym there ∙ is)) takeable in
-    let ready = ready_after (g.F.Folder.told c.args.f.now) (g.F.Folder.told c.fit.new.f) c.args.files.now c.fit.new.self c.args.place c.requires.agrees (member_all c.args.files.now c.args.kind c.args.place.file c.requires.block_kind c.requires.place.linked)
-    c.in_ok-fit.ensures.fitted c.in_ok-fit.ensures.kept c.in_ok-fit.ensures.agrees tk in
     subst (λ (w : ℕ). MarksUsed c.args.files.now from w image) (sym c.of_blocks-addr.ensures)
     (taken_after (g.F.Folder.told c.args.f.now) (g.F.Folder.told c.fit.new.f) c.args.files.now c.fit.new.self c.args.place c.requires.agrees (member_all c.args.files.now c.args.kind c.args.place.file c.requires.block_kind c.requires.place.linked)
-    c.in_ok-fit.ensures.fitted c.in_ok-fit.ensures.kept c.in_ok-fit.ensures.agrees c.args.kind c.requires.block_kind c.requires.some c.requires.node c.requires.place tk from there image (λ mid is. c.in_ok-change.ensures.done mid is (ready mid is) image now))
+    c.in_ok-fit.ensures.fitted c.in_ok-fit.ensures.kept c.in_ok-fit.ensures.agrees c.args.kind c.requires.block_kind c.requires.some c.requires.node c.requires.place tk from there image (λ mid is. c.in_ok-change.ensures.changed mid is image now))
 
 pub dangling-requires : goal.dangling-requires
 dangling-requires g c = ap (λ (l : List ℕ). is_among l c.args.place.file) c.in_ok-fit.ensures.kept.all ∙ member_all c.args.files.now c.args.kind c.args.place.file c.requires.block_kind c.requires.place.linked
@@ -118,7 +95,7 @@ returns-then-not-stands-clause-untold g c takeable =
 
 pub returns-then-not-stands-clause-stops : goal.returns-then-not-stands-clause-stops
 returns-then-not-stands-clause-stops g c from there takeable =
-    passes_to (fit_passes c.args.files.now c.args.place.file from (c.requires.agrees from there) (member_all c.args.files.now c.args.kind c.args.place.file c.requires.block_kind c.requires.place.linked) (MarksUsedInProgress c.args.place.file from) there c.in_ok-fit.ensures.fitted (λ i same longer. taking_fit c.args.place.file from i same))
+    passes_to (fit_passes c.args.files.now c.args.place.file from (c.requires.agrees from there) (member_all c.args.files.now c.args.kind c.args.place.file c.requires.block_kind c.requires.place.linked) (MarksUsedInProgress c.args.place.file from) there c.in_ok-fit.ensures.fitted (λ i same longer. taking_fit c.args.place.file from i same longer))
     (λ image midst. inl midst)
 
 pub returns-in_err-fit-clause-keeps : goal.returns-in_err-fit-clause-keeps
@@ -136,8 +113,9 @@ returns-clause-keeps g c = standing_kept c.args.files.now c.fit.new.self (fit_la
 pub returns-in_err-change-clause-cause : goal.returns-in_err-change-clause-cause
 returns-in_err-change-clause-cause g c =
     carried c.change.result c.from_residual-in_err-change.result c.in_err-change.field-0.0 _ c.in_err-change.was c.from_residual-in_err-change.ensures.1
-    (if_damaged_weaker c.change.result (IsCause (g.F.Folder.told c.fit.new.f) c.args.place.file c.args.place.start c.args.place.count true) (λ damage. ((told : Told) → told.files ≡ None → IsCause told c.args.place.file c.args.place.start c.args.place.count true damage) ⊎ IsDangling c.fit.new.self (kind_number c.args.kind) c.args.place damage)
-    (λ damage cause. inl (λ told none. cause_before (g.F.Folder.told c.fit.new.f) told c.args.place.file c.args.place.start c.args.place.count true damage none cause)) c.change.ensures.cause)
+    (if_damaged_both c.change.result (IsCause (g.F.Folder.told c.fit.new.f) c.args.place.file c.args.place.start c.args.place.count true) (λ _. Stays (g.F.Folder.told c.fit.new.f) (g.F.Folder.told c.change.new.f))
+    (λ damage. IsCause (g.F.Folder.told c.change.new.f) c.args.place.file c.args.place.start c.args.place.count true damage ⊎ IsDangling c.fit.new.self (kind_number c.args.kind) c.args.place damage)
+    (λ damage cause stays. inl (subst (λ (t : Told). IsCause t c.args.place.file c.args.place.start c.args.place.count true damage) (sym stays) cause)) c.change.ensures.cause c.change.ensures.unwritten)
 
 pub returns-in_err-change-clause-untold : goal.returns-in_err-change-clause-untold
 returns-in_err-change-clause-untold g c =
@@ -147,17 +125,6 @@ returns-in_err-change-clause-untold g c =
     (λ damage none tk. none_before (after (fit_steps c.args.files.now c.args.place.file)) (g.F.Folder.told c.args.f.now).files (g.F.Folder.told c.fit.new.f).files c.in_ok-fit.ensures.fitted.files
     (none (ready_after (g.F.Folder.told c.args.f.now) (g.F.Folder.told c.fit.new.f) c.args.files.now c.fit.new.self c.args.place c.requires.agrees (member_all c.args.files.now c.args.kind c.args.place.file c.requires.block_kind c.requires.place.linked)
     c.in_ok-fit.ensures.fitted c.in_ok-fit.ensures.kept c.in_ok-fit.ensures.agrees tk))) c.change.ensures.untold)
-
-pub returns-in_err-fit-clause-blocks : goal.returns-in_err-fit-clause-blocks
-returns-in_err-fit-clause-blocks g c from there = passes_none (KeepsBlocks from) c.in_err-fit.ensures.undone (λ image is. subst (KeepsBlocks from) (some_inj (sym there ∙ is)) (blocks_same from))
-
-pub returns-in_err-change-clause-blocks : goal.returns-in_err-change-clause-blocks
-returns-in_err-change-clause-blocks g c from there =
-    fit_then_blocks c.args.files.now c.args.place.file from (c.requires.agrees from there) (member_all c.args.files.now c.args.kind c.args.place.file c.requires.block_kind c.requires.place.linked) there c.in_ok-fit.ensures.fitted c.in_err-change.ensures.outside
-
-pub returns-clause-blocks : goal.returns-clause-blocks
-returns-clause-blocks g c from there =
-    fit_then_blocks c.args.files.now c.args.place.file from (c.requires.agrees from there) (member_all c.args.files.now c.args.kind c.args.place.file c.requires.block_kind c.requires.place.linked) there c.in_ok-fit.ensures.fitted c.in_ok-change.ensures.outside
 
 pub returns-in_err-fit-clause-place : goal.returns-in_err-fit-clause-place
 returns-in_err-fit-clause-place g c = subst (λ (files : BlockFiles). IsPlace files (kind_number c.args.kind) c.args.place.count c.args.place) (sym c.in_err-fit.ensures.same) c.requires.place
@@ -182,3 +149,14 @@ returns-then-not-stands-clause-cause g c =
       at = ap (λ (damage : Damage). damage.at) c.dangling.ensures;
       found = ap (λ (damage : Damage). damage.found) c.dangling.ensures;
     })
+
+pub returns-clause-counted : goal.returns-clause-counted
+returns-clause-counted g c =
+    counted_after (g.F.Folder.told c.args.f.now) (g.F.Folder.told c.fit.new.f) c.args.files.now c.fit.new.self c.args.place c.requires.agrees (member_all c.args.files.now c.args.kind c.args.place.file c.requires.block_kind c.requires.place.linked)
+    c.in_ok-fit.ensures.fitted c.in_ok-fit.ensures.kept c.in_ok-fit.ensures.agrees c.args.place.start c.args.place.count (g.F.Folder.told c.change.new.f) c.in_ok-change.ensures.changed
+
+pub returns-clause-links : goal.returns-clause-links
+returns-clause-links g c = c.in_ok-fit.ensures.kept.files
+
+pub returns-clause-long : goal.returns-clause-long
+returns-clause-long g c = fitted_long c.args.files.now c.fit.new.self c.args.place.file c.in_ok-fit.ensures.kept

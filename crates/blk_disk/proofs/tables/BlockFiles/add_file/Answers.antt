@@ -6,7 +6,7 @@ use Rattle.blk_image.proofs.Runs.{grows_then, part_only, part_then}
 use Rattle.blk_addr.specs.Kind.{kind_number}
 use Rattle.blk_disk.specs.Tables.{Joins}
 use Rattle.blk_disk.specs.Growth.{free_number, last_file, link_steps, make_steps}
-use Rattle.blk_disk.proofs.Joined.{add_agrees, add_grown, add_formed, add_outside, add_room, least_is}
+use Rattle.blk_disk.proofs.Joined.{add_agrees, add_stops, add_room, least_is}
 use Rattle.blk_disk.proofs.tables.BlockFiles.add_file.Goals as goal
 
 pub returns-in_err-make_file-clause-prefix : goal.returns-in_err-make_file-clause-prefix
@@ -14,11 +14,8 @@ returns-in_err-make_file-clause-prefix g c =
     part_only (link_steps (last_file c.args.self.now (kind_number c.args.kind)) (free_number c.args.self.now))
     (subst (λ (n : ℕ). AppliesPrefix (g.F.Folder.told c.args.f.now) (g.F.Folder.told c.make_file.new.f) (make_steps (kind_number c.args.kind) n)) c.free_number-n.ensures.number c.in_err-make_file.ensures.prefix)
 
-pub returns-in_err-make_file-clause-outside : goal.returns-in_err-make_file-clause-outside
-returns-in_err-make_file-clause-outside g c = add_outside c.args.self.now c.args.kind c.requires.block_kind (g.F.Folder.told c.args.f.now) c.requires.agrees c.requires.room (least_is c.args.self.now c.free_number-n.result c.free_number-n.ensures.number c.free_number-n.ensures.least) (returns-in_err-make_file-clause-prefix g c)
-
-pub returns-in_err-make_file-clause-well_formed : goal.returns-in_err-make_file-clause-well_formed
-returns-in_err-make_file-clause-well_formed g c = add_formed c.args.self.now c.args.kind c.requires.block_kind (g.F.Folder.told c.args.f.now) c.requires.agrees c.requires.room (least_is c.args.self.now c.free_number-n.result c.free_number-n.ensures.number c.free_number-n.ensures.least) (returns-in_err-make_file-clause-prefix g c)
+pub returns-in_err-make_file-clause-stops : goal.returns-in_err-make_file-clause-stops
+returns-in_err-make_file-clause-stops g c = add_stops c.args.self.now c.args.kind c.requires.block_kind (g.F.Folder.told c.args.f.now) c.requires.agrees c.requires.room (least_is c.args.self.now c.free_number-n.result c.free_number-n.ensures.number c.free_number-n.ensures.least) (returns-in_err-make_file-clause-prefix g c)
 
 pub link_file-requires : goal.link_file-requires
 link_file-requires g c =
@@ -32,11 +29,8 @@ returns-in_err-link_file-clause-prefix g c =
     (subst (λ (n : ℕ). AppliesPrefix (g.F.Folder.told c.args.f.now) (g.F.Folder.told c.link_file.new.f) (make_steps (kind_number c.args.kind) n ++ link_steps c.last_file.result n)) c.free_number-n.ensures.number
     (part_then c.in_ok-make_file.ensures.steps c.link_file.ensures.prefix))
 
-pub returns-in_err-link_file-clause-outside : goal.returns-in_err-link_file-clause-outside
-returns-in_err-link_file-clause-outside g c = add_outside c.args.self.now c.args.kind c.requires.block_kind (g.F.Folder.told c.args.f.now) c.requires.agrees c.requires.room (least_is c.args.self.now c.free_number-n.result c.free_number-n.ensures.number c.free_number-n.ensures.least) (returns-in_err-link_file-clause-prefix g c)
-
-pub returns-in_err-link_file-clause-well_formed : goal.returns-in_err-link_file-clause-well_formed
-returns-in_err-link_file-clause-well_formed g c = add_formed c.args.self.now c.args.kind c.requires.block_kind (g.F.Folder.told c.args.f.now) c.requires.agrees c.requires.room (least_is c.args.self.now c.free_number-n.result c.free_number-n.ensures.number c.free_number-n.ensures.least) (returns-in_err-link_file-clause-prefix g c)
+pub returns-in_err-link_file-clause-stops : goal.returns-in_err-link_file-clause-stops
+returns-in_err-link_file-clause-stops g c = add_stops c.args.self.now c.args.kind c.requires.block_kind (g.F.Folder.told c.args.f.now) c.requires.agrees c.requires.room (least_is c.args.self.now c.free_number-n.result c.free_number-n.ensures.number c.free_number-n.ensures.least) (returns-in_err-link_file-clause-prefix g c)
 
 pub returns-clause-steps : goal.returns-clause-steps
 returns-clause-steps g c =
@@ -55,17 +49,5 @@ returns-clause-agrees g c =
     add_agrees c.args.self.now c.args.kind c.requires.block_kind (g.F.Folder.told c.args.f.now) c.requires.agrees c.requires.room (least_is c.args.self.now c.free_number-n.result c.free_number-n.ensures.number c.free_number-n.ensures.least) c.join.new.self (returns-clause-steps g c)
     (subst (λ (n : ℕ). Joins c.args.self.now c.join.new.self (kind_number c.args.kind) n 0 8192) c.free_number-n.ensures.number c.join.ensures)
 
-pub returns-clause-outside : goal.returns-clause-outside
-returns-clause-outside g c = add_outside c.args.self.now c.args.kind c.requires.block_kind (g.F.Folder.told c.args.f.now) c.requires.agrees c.requires.room (least_is c.args.self.now c.free_number-n.result c.free_number-n.ensures.number c.free_number-n.ensures.least) (returns-clause-prefix g c)
-
-pub returns-clause-well_formed : goal.returns-clause-well_formed
-returns-clause-well_formed g c = add_formed c.args.self.now c.args.kind c.requires.block_kind (g.F.Folder.told c.args.f.now) c.requires.agrees c.requires.room (least_is c.args.self.now c.free_number-n.result c.free_number-n.ensures.number c.free_number-n.ensures.least) (returns-clause-prefix g c)
-
-pub returns-in_err-make_file-clause-grown : goal.returns-in_err-make_file-clause-grown
-returns-in_err-make_file-clause-grown g c = add_grown c.args.self.now c.args.kind c.requires.block_kind (g.F.Folder.told c.args.f.now) c.requires.agrees c.requires.room (least_is c.args.self.now c.free_number-n.result c.free_number-n.ensures.number c.free_number-n.ensures.least) (returns-in_err-make_file-clause-prefix g c)
-
-pub returns-in_err-link_file-clause-grown : goal.returns-in_err-link_file-clause-grown
-returns-in_err-link_file-clause-grown g c = add_grown c.args.self.now c.args.kind c.requires.block_kind (g.F.Folder.told c.args.f.now) c.requires.agrees c.requires.room (least_is c.args.self.now c.free_number-n.result c.free_number-n.ensures.number c.free_number-n.ensures.least) (returns-in_err-link_file-clause-prefix g c)
-
-pub returns-clause-grown : goal.returns-clause-grown
-returns-clause-grown g c = add_grown c.args.self.now c.args.kind c.requires.block_kind (g.F.Folder.told c.args.f.now) c.requires.agrees c.requires.room (least_is c.args.self.now c.free_number-n.result c.free_number-n.ensures.number c.free_number-n.ensures.least) (returns-clause-prefix g c)
+pub returns-clause-stops : goal.returns-clause-stops
+returns-clause-stops g c = add_stops c.args.self.now c.args.kind c.requires.block_kind (g.F.Folder.told c.args.f.now) c.requires.agrees c.requires.room (least_is c.args.self.now c.free_number-n.result c.free_number-n.ensures.number c.free_number-n.ensures.least) (returns-clause-prefix g c)

@@ -1,22 +1,17 @@
 use Rattle.std.proofs.Common.{◌∙◌, ap, sym, subst}
 use Rattle.std.specs.Option.{option_map}
 use Rattle.blk_image.specs.Steps.{after}
-use Rattle.blk_image.specs.Footprint.{SameOutside}
 use Rattle.blk_image.proofs.Runs.{passes_none, some_inj}
 use Rattle.blk_image.proofs.Footprints.{outside-refl}
-use Rattle.blk_format.specs.Growth.{HaveGrown}
+use Rattle.blk_format.specs.Growth.{StaysWholeOutside}
 use Rattle.blk_disk.specs.Growth.{growth_of, lengthen_steps}
-use Rattle.blk_disk.proofs.Enlarging.{first_is, part_is, whole_is, enlarges_is, grow_grown, grow_outside, grow_formed, grow_room, grow_agrees}
-use Rattle.blk_format.proofs.Growths.{grown_not}
+use Rattle.blk_disk.proofs.Enlarging.{first_is, part_is, whole_is, enlarges_is, grow_stops, grow_room, grow_agrees}
+use Rattle.blk_format.proofs.Growths.{whole_not}
 use Rattle.blk_disk.proofs.tables.BlockFiles.grow.Goals as goal
 
-pub returns-in_err-lengthen-clause-outside : goal.returns-in_err-lengthen-clause-outside
-returns-in_err-lengthen-clause-outside g c from there =
-    passes_none (SameOutside (growth_of c.args.file) from) c.in_err-lengthen.ensures.undone (λ image here. subst (SameOutside (growth_of c.args.file) from) (some_inj (sym there ∙ here)) (outside-refl (growth_of c.args.file) from))
-
-pub returns-in_err-lengthen-clause-grown : goal.returns-in_err-lengthen-clause-grown
-returns-in_err-lengthen-clause-grown g c from there =
-    passes_none (HaveGrown from) c.in_err-lengthen.ensures.undone (λ image here. subst (HaveGrown from) (some_inj (sym there ∙ here)) (grown_not from))
+pub returns-in_err-lengthen-clause-stops : goal.returns-in_err-lengthen-clause-stops
+returns-in_err-lengthen-clause-stops g c from there =
+    passes_none (StaysWholeOutside (growth_of c.args.file) from) c.in_err-lengthen.ensures.undone (λ image here. subst (StaysWholeOutside (growth_of c.args.file) from) (some_inj (sym there ∙ here)) (record { outside = outside-refl (growth_of c.args.file) from; stays = whole_not from }))
 
 pub raise-requires : goal.raise-requires
 raise-requires g c =
@@ -26,11 +21,8 @@ raise-requires g c =
 pub returns-in_err-raise-clause-prefix : goal.returns-in_err-raise-clause-prefix
 returns-in_err-raise-clause-prefix g c = part_is c.args.self.now c.args.file (g.F.Folder.told c.args.f.now) (g.F.Folder.told c.lengthen.new.f) (g.F.Folder.told c.raise.new.f) c.requires.agrees c.requires.linked c.requires.below c.blocks-old.result c.min-blocks.result c.length_with-size.result c.blocks-old.ensures c.min-blocks.ensures c.length_with-size.ensures c.in_ok-lengthen.ensures.steps c.raise.ensures.prefix
 
-pub returns-in_err-raise-clause-outside : goal.returns-in_err-raise-clause-outside
-returns-in_err-raise-clause-outside g c = grow_outside c.args.self.now c.args.file (g.F.Folder.told c.args.f.now) (g.F.Folder.told c.lengthen.new.f) (g.F.Folder.told c.raise.new.f) c.requires.agrees c.requires.linked c.requires.below (returns-in_err-raise-clause-prefix g c)
-
-pub returns-in_err-raise-clause-well_formed : goal.returns-in_err-raise-clause-well_formed
-returns-in_err-raise-clause-well_formed g c = grow_formed c.args.self.now c.args.file (g.F.Folder.told c.args.f.now) (g.F.Folder.told c.lengthen.new.f) (g.F.Folder.told c.raise.new.f) c.requires.agrees c.requires.linked c.requires.below (returns-in_err-raise-clause-prefix g c)
+pub returns-in_err-raise-clause-stops : goal.returns-in_err-raise-clause-stops
+returns-in_err-raise-clause-stops g c = grow_stops c.args.self.now c.args.file (g.F.Folder.told c.args.f.now) (g.F.Folder.told c.lengthen.new.f) (g.F.Folder.told c.raise.new.f) c.requires.agrees c.requires.linked c.requires.below (returns-in_err-raise-clause-prefix g c)
 
 pub returns-clause-steps : goal.returns-clause-steps
 returns-clause-steps g c = whole_is c.args.self.now c.args.file (g.F.Folder.told c.args.f.now) (g.F.Folder.told c.lengthen.new.f) (g.F.Folder.told c.raise.new.f) c.requires.agrees c.requires.linked c.requires.below c.blocks-old.result c.min-blocks.result c.length_with-size.result c.blocks-old.ensures c.min-blocks.ensures c.length_with-size.ensures c.in_ok-lengthen.ensures.steps c.in_ok-raise.ensures.steps
@@ -47,14 +39,5 @@ returns-clause-agrees g c =
     (λ none. c.in_ok-raise.ensures.untold (let grows = c.in_ok-lengthen.ensures.steps in grows.files ∙ ap (option_map (after (lengthen_steps c.args.self.now c.args.file c.length_with-size.result))) none))
     (returns-clause-kept g c)
 
-pub returns-clause-outside : goal.returns-clause-outside
-returns-clause-outside g c = grow_outside c.args.self.now c.args.file (g.F.Folder.told c.args.f.now) (g.F.Folder.told c.lengthen.new.f) (g.F.Folder.told c.raise.new.f) c.requires.agrees c.requires.linked c.requires.below (returns-clause-prefix g c)
-
-pub returns-clause-well_formed : goal.returns-clause-well_formed
-returns-clause-well_formed g c = grow_formed c.args.self.now c.args.file (g.F.Folder.told c.args.f.now) (g.F.Folder.told c.lengthen.new.f) (g.F.Folder.told c.raise.new.f) c.requires.agrees c.requires.linked c.requires.below (returns-clause-prefix g c)
-
-pub returns-in_err-raise-clause-grown : goal.returns-in_err-raise-clause-grown
-returns-in_err-raise-clause-grown g c = grow_grown c.args.self.now c.args.file (g.F.Folder.told c.args.f.now) (g.F.Folder.told c.lengthen.new.f) (g.F.Folder.told c.raise.new.f) c.requires.agrees c.requires.linked c.requires.below (returns-in_err-raise-clause-prefix g c)
-
-pub returns-clause-grown : goal.returns-clause-grown
-returns-clause-grown g c = grow_grown c.args.self.now c.args.file (g.F.Folder.told c.args.f.now) (g.F.Folder.told c.lengthen.new.f) (g.F.Folder.told c.raise.new.f) c.requires.agrees c.requires.linked c.requires.below (returns-clause-prefix g c)
+pub returns-clause-stops : goal.returns-clause-stops
+returns-clause-stops g c = grow_stops c.args.self.now c.args.file (g.F.Folder.told c.args.f.now) (g.F.Folder.told c.lengthen.new.f) (g.F.Folder.told c.raise.new.f) c.requires.agrees c.requires.linked c.requires.below (returns-clause-prefix g c)

@@ -1,5 +1,5 @@
 use Rattle.std.proofs.Common.{refl}
-use Rattle.blk_handles.proofs.StoredLemmas.{free-slot, has-room, sound-join, sound-add, binds-open, binds-new, are-shared}
+use Rattle.blk_handles.proofs.StoredLemmas.{free-slot, has-capacity, sound-join, sound-add, binds-open, binds-new, are-shared}
 use Rattle.blk_handles.proofs.handles.Handles.bind.Goals as goal
 
 -- the name joins the open object
@@ -16,7 +16,7 @@ returns-in-Some-clause-shared c = are-shared _ _ (invariant_of-self c)
 
 -- the name opens an object
 pub insert-requires-clause-fits : goal.insert-requires-clause-fits
-insert-requires-clause-fits c = has-room _ _ c.self.invariant _ c.requires.known (free-slot _ _ c.self.invariant _ (rw c.self.view_is c.requires.free))
+insert-requires-clause-fits c = has-capacity _ _ c.self.invariant _ c.requires.known (free-slot _ _ c.self.invariant _ (rw c.self.view_is c.requires.free))
 
 pub invariant_of-self-in-None : goal.invariant_of-self-in-None
 invariant_of-self-in-None c =

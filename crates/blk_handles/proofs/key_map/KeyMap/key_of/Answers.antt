@@ -4,7 +4,7 @@ use Rattle.blk_handles.specs.KeyMap.{nowhere, IsRising}
 use Rattle.blk_handles.proofs.KeyMapLemmas.{key_of-at, key_of-gap}
 use Rattle.blk_handles.proofs.key_map.KeyMap.key_of.Goals as goal
 
--- the record is at its place, and the place there is the one that was read
+-- the record is at its index, and the item there is the one that was read
 pub returns-in-Ok : goal.returns-in-Ok
 returns-in-Ok c =
     let key = key_of-at _ (subst IsRising c.self.view_is c.self.invariant.0) _ _ c.in-Ok.ensures.found in

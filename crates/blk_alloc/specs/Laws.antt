@@ -1,0 +1,36 @@
+-- Laws on what is asked of maps and counters: how it comes about, and that other changes leave it.
+use Rattle.std.specs.Prelude.{◌≡◌, ◌⊎◌, ℕ, ◌<◌, [], ◌∷◌, true, false, Some}
+use Rattle.blk_image.specs.Bytes.{zeros}
+use Rattle.blk_image.specs.Image.{Block, File, Image}
+use Rattle.blk_image.specs.Steps.{with_words}
+use Rattle.blk_image.specs.Footprint.{Footprint, SameOutside}
+use Rattle.blk_format.specs.Address.{file_selector, header_size, is_block_kind}
+use Rattle.blk_format.specs.BlockFiles.{is_among}
+use Rattle.blk_disk.specs.declared.tables.BlockFiles.{BlockFiles}
+use Rattle.blk_disk.specs.Tables.{Agrees, all_files, files_of, stands_among}
+use Rattle.blk_disk.specs.Growth.{header_words}
+use Rattle.blk_alloc.specs.Owning.{CanBeFreed}
+use Rattle.blk_alloc.specs.Allocating.{Allocates, AreCounted}
+
+-- no byte of a block file's header is touched, and the length and presence of no file
+pub record SparesHeadersAndSizes (footprint : Footprint) : Type 0 where
+  pub headers : (n i : ℕ) → i < header_size → footprint.bytes (Block n) i ≡ false
+  pub sizes : (file : File) → footprint.sizes file ≡ false
+
+-- the one file of a type, just made, is counted
+abbrev pub NewFilesAreCounted : Type 0
+NewFilesAreCounted = (files : BlockFiles) (image : Image) (kind n : ℕ) → files_of files kind ≡ n ∷ [] → image (Block n) ≡ Some (with_words (header_words kind n) (zeros header_size)) → AreCounted files kind image
+
+-- what was allocated in a file of a counted type, or in one that wasn't there, may be freed
+abbrev pub AllocatedMayBeFreed : Type 0
+AllocatedMayBeFreed = (files : BlockFiles) (kind w : ℕ) (from image : Image) → AreCounted files kind from
+    → (is_among (files_of files kind) (file_selector w) ≡ true) ⊎ (is_among (all_files files) (file_selector w) ≡ false) → (is_among (files_of files kind) (file_selector w) ≡ true → is_among (all_files files) (file_selector w) ≡ true)
+    → Allocates files from w image → CanBeFreed image w
+
+-- counted files stay so under changes that spare headers and sizes
+abbrev pub CountedFilesStay : Type 0
+CountedFilesStay = (footprint : Footprint) (files : BlockFiles) (kind : ℕ) (from image : Image) → SparesHeadersAndSizes footprint → SameOutside footprint from image → Agrees files from → is_block_kind kind ≡ true → AreCounted files kind from → AreCounted files kind image
+
+-- and what may be freed may be freed still
+abbrev pub MayBeFreedStill : Type 0
+MayBeFreedStill = (footprint : Footprint) (files : BlockFiles) (w : ℕ) (from image : Image) → SparesHeadersAndSizes footprint → SameOutside footprint from image → Agrees files from → stands_among files w ≡ true → CanBeFreed from w → CanBeFreed image w
