@@ -1,6 +1,7 @@
 pub mod Beside
 pub mod Conditions
 pub mod Counting
+pub mod Examples
 pub mod FailedChecks
 pub mod Kept
 pub mod LinkReads

@@ -41,18 +41,21 @@ pub fn insert_front<F: Folder>(f: &mut F, files: &BlockFiles, node: Addr) -> Res
     requires stands { IsTrue (is_node files.now node) }
     requires complete { ForSome (F.told f.old).files HasWholeIndex }
     requires agrees { ForSome (F.told f.old).files (Agrees files.now) }
+
+    // Where it succeeds each node that was written checked.
+    ensures checked { OnOk result (ForSome (F.told f.old).files (λ from. CanBeMade from (writes_of insert node (list_of from)))) }
     ensures inserted { OnOk result (ForSome (F.told f.old).files (λ from. CanBeInserted (list_of from) (walked from) node → ForSome (F.told f.new).files (HasListAtRest (node ∷ walked from)))) }
     ensures sealed { OnOk result (ForSome (F.told f.old).files (λ from. ForSome (F.told f.new).files (Seals from (writes_of insert node (list_of from))))) }
-    ensures complete { ForSome (F.told f.new).files HasWholeIndex }
-    ensures agrees { ForSome (F.told f.new).files (Agrees files.now) }
     ensures steps { OnOk result (ForSome (F.told f.old).files (λ from. Applies (F.told f.old) (F.told f.new) (operation_steps insert node from))) }
     ensures prefix { ForSome (F.told f.old).files (λ from. AppliesPrefix (F.told f.old) (F.told f.new) (operation_steps insert node from)) }
 
     // At each word completing gives the old list, or from the transaction word on the new one; nothing but the list changes.
     ensures stops { ForSome (F.told f.old).files (λ from. CanBeInserted (list_of from) (walked from) node → Passes (F.told f.old) (F.told f.new) (IsMidOperation files.now (writes_of insert node (list_of from)) (walked from) (node ∷ walked from) from)) }
 
-    // What is written checks where it succeeds. A folder that tells its files gives a damage only where the node can't be inserted.
-    ensures checked { OnOk result (ForSome (F.told f.old).files (λ from. CanBeMade from (writes_of insert node (list_of from)))) }
+    ensures complete { ForSome (F.told f.new).files HasWholeIndex }
+    ensures agrees { ForSome (F.told f.new).files (Agrees files.now) }
+
+    // A folder that tells its files gives a damage only where the node can't be inserted.
     ensures damaged { IfDamaged result (IsInsertDamage files.now (F.told f.old) (F.told f.new)) }
     ensures untold { ForSome (F.told f.old).files (λ from. CanBeInserted (list_of from) (walked from) node) → IfDamaged result (λ _. (F.told f.old).files ≡ None) }
     ensures silent { (F.told f.old).files ≡ None → (F.told f.new).files ≡ None }
@@ -76,18 +79,21 @@ pub fn remove<F: Folder>(f: &mut F, files: &BlockFiles, node: Addr) -> Result<()
     requires stands { IsTrue (is_node files.now node) }
     requires complete { ForSome (F.told f.old).files HasWholeIndex }
     requires agrees { ForSome (F.told f.old).files (Agrees files.now) }
+
+    // Where it succeeds the node and both that its links name checked.
+    ensures checked { OnOk result (ForSome (F.told f.old).files (λ from. IsLinked (list_of from) node)) }
     ensures removed { OnOk result (ForSome (F.told f.old).files (λ from. (prefix suffix : List ℕ) → HasListAtRest (prefix ++ node ∷ suffix) from → ForSome (F.told f.new).files (HasListAtRest (prefix ++ suffix)))) }
     ensures sealed { OnOk result (ForSome (F.told f.old).files (λ from. ForSome (F.told f.new).files (Seals from (writes_of removal node (list_of from))))) }
-    ensures complete { ForSome (F.told f.new).files HasWholeIndex }
-    ensures agrees { ForSome (F.told f.new).files (Agrees files.now) }
     ensures steps { OnOk result (ForSome (F.told f.old).files (λ from. Applies (F.told f.old) (F.told f.new) (operation_steps removal node from))) }
     ensures prefix { ForSome (F.told f.old).files (λ from. AppliesPrefix (F.told f.old) (F.told f.new) (operation_steps removal node from)) }
 
     // At each word completing gives the old list, or from the transaction word on the new one; nothing but the list changes.
     ensures stops { ForSome (F.told f.old).files (λ from. (prefix suffix : List ℕ) → HasListAtRest (prefix ++ node ∷ suffix) from → Passes (F.told f.old) (F.told f.new) (IsMidOperation files.now (writes_of removal node (list_of from)) (prefix ++ node ∷ suffix) (prefix ++ suffix) from)) }
 
-    // The node and those beside it check where it succeeds. A folder that tells its files gives a damage only where the node isn't listed.
-    ensures checked { OnOk result (ForSome (F.told f.old).files (λ from. IsLinked (list_of from) node)) }
+    ensures complete { ForSome (F.told f.new).files HasWholeIndex }
+    ensures agrees { ForSome (F.told f.new).files (Agrees files.now) }
+
+    // A folder that tells its files gives a damage only where the node isn't listed.
     ensures damaged { IfDamaged result (IsRemovalDamage node files.now (F.told f.old) (F.told f.new)) }
     ensures untold { ForSome (F.told f.old).files (IsListed node) → IfDamaged result (λ _. (F.told f.old).files ≡ None) }
     ensures silent { (F.told f.old).files ≡ None → (F.told f.new).files ≡ None }
@@ -111,19 +117,22 @@ pub fn touch<F: Folder>(f: &mut F, files: &BlockFiles, node: Addr, moment: u64) 
     requires stands { IsTrue (is_node files.now node) }
     requires complete { ForSome (F.told f.old).files HasWholeIndex }
     requires agrees { ForSome (F.told f.old).files (Agrees files.now) }
+
+    // Where it succeeds each node that was written checked, and both that the links name of a node that wasn't the first.
+    ensures checked { OnOk result (ForSome (F.told f.old).files (λ from. CanBeTouched from node)) }
     ensures touched { OnOk result (ForSome (F.told f.old).files (λ from. (prefix suffix : List ℕ) → HasListAtRest (prefix ++ node ∷ suffix) from → ForSome (F.told f.new).files (HasListAtRest (node ∷ prefix ++ suffix)))) }
     ensures times { OnOk result (ForSome (F.told f.old).files (λ _. ForSome (F.told f.new).files (AreTimes node moment))) }
     ensures sealed { OnOk result (ForSome (F.told f.old).files (λ from. ForSome (F.told f.new).files (λ image. Seals from (touch_writes node (list_of from)) image × IsSealed image node))) }
-    ensures complete { ForSome (F.told f.new).files HasWholeIndex }
-    ensures agrees { ForSome (F.told f.new).files (Agrees files.now) }
     ensures steps { OnOk result (ForSome (F.told f.old).files (λ from. Applies (F.told f.old) (F.told f.new) (steps_of_touch node moment from))) }
     ensures prefix { ForSome (F.told f.old).files (λ from. AppliesPrefix (F.told f.old) (F.told f.new) (steps_of_touch node moment from)) }
 
     // At each word completing gives the old list, or from the transaction word on the new one; nothing but the list and the times changes.
     ensures stops { ForSome (F.told f.old).files (λ from. (prefix suffix : List ℕ) → HasListAtRest (prefix ++ node ∷ suffix) from → Passes (F.told f.old) (F.told f.new) (IsMidTouch files.now node (touch_writes node (list_of from)) (prefix ++ node ∷ suffix) (node ∷ prefix ++ suffix) from)) }
 
-    // What is written checks where it succeeds, and those beside a node that wasn't the first. A folder that tells its files gives a damage only where the node isn't listed.
-    ensures checked { OnOk result (ForSome (F.told f.old).files (λ from. CanBeTouched from node)) }
+    ensures complete { ForSome (F.told f.new).files HasWholeIndex }
+    ensures agrees { ForSome (F.told f.new).files (Agrees files.now) }
+
+    // A folder that tells its files gives a damage only where the node isn't listed.
     ensures damaged { IfDamaged result (IsTouchDamage node files.now (F.told f.old) (F.told f.new)) }
     ensures untold { ForSome (F.told f.old).files (IsListed node) → IfDamaged result (λ _. (F.told f.old).files ≡ None) }
     ensures silent { (F.told f.old).files ≡ None → (F.told f.new).files ≡ None }
@@ -140,11 +149,11 @@ fn set_times<F: Folder>(f: &mut F, files: &BlockFiles, node: Addr, moment: u64) 
     requires stands { is_node files.now node ≡ true }
     requires complete { ForSome (F.told f.old).files HasWholeIndex }
     requires agrees { ForSome (F.told f.old).files (Agrees files.now) }
-    ensures complete { ForSome (F.told f.new).files HasWholeIndex }
-    ensures agrees { ForSome (F.told f.new).files (Agrees files.now) }
+    ensures checked { OnOk result (ForSome (F.told f.old).files (λ image. (list_of image).checks node ≡ true)) }
     ensures steps { OnOk result (ForSome (F.told f.old).files (λ from. Applies (F.told f.old) (F.told f.new) (sealed_steps from node (times_of moment)))) }
     ensures prefix { ForSome (F.told f.old).files (λ from. AppliesPrefix (F.told f.old) (F.told f.new) (sealed_steps from node (times_of moment))) }
-    ensures checked { OnOk result (ForSome (F.told f.old).files (λ image. (list_of image).checks node ≡ true)) }
+    ensures complete { ForSome (F.told f.new).files HasWholeIndex }
+    ensures agrees { ForSome (F.told f.new).files (Agrees files.now) }
     ensures damaged { IfDamaged result (IsNodeDamage files.now (F.told f.new)) }
     ensures untold { ForSome (F.told f.old).files (λ image. (list_of image).checks node ≡ true) → IfDamaged result (λ _. (F.told f.old).files ≡ None) }
     ensures silent { (F.told f.old).files ≡ None → (F.told f.new).files ≡ None }
@@ -167,12 +176,12 @@ fn move_front<F: Folder>(f: &mut F, files: &BlockFiles, node: Addr) -> Result<()
     requires stands { IsTrue (is_node files.now node) }
     requires complete { ForSome (F.told f.old).files HasWholeIndex }
     requires agrees { ForSome (F.told f.old).files (Agrees files.now) }
-    ensures complete { ForSome (F.told f.new).files HasWholeIndex }
-    ensures agrees { ForSome (F.told f.new).files (Agrees files.now) }
-    ensures steps { OnOk result (ForSome (F.told f.old).files (λ from. Applies (F.told f.old) (F.told f.new) (steps_of (touch_writes node (list_of from)) from))) }
-    ensures prefix { ForSome (F.told f.old).files (λ from. AppliesPrefix (F.told f.old) (F.told f.new) (steps_of (touch_writes node (list_of from)) from)) }
     ensures checked { OnOk result (ForSome (F.told f.old).files (λ from. CanBeMade from (touch_writes node (list_of from)))) }
     ensures linked { OnOk result (ForSome (F.told f.old).files (λ from. (list_of from).head ≢ node → IsLinked (list_of from) node)) }
+    ensures steps { OnOk result (ForSome (F.told f.old).files (λ from. Applies (F.told f.old) (F.told f.new) (steps_of (touch_writes node (list_of from)) from))) }
+    ensures prefix { ForSome (F.told f.old).files (λ from. AppliesPrefix (F.told f.old) (F.told f.new) (steps_of (touch_writes node (list_of from)) from)) }
+    ensures complete { ForSome (F.told f.new).files HasWholeIndex }
+    ensures agrees { ForSome (F.told f.new).files (Agrees files.now) }
     ensures damaged { IfDamaged result (IsTouchDamage node files.now (F.told f.old) (F.told f.new)) }
     ensures untold { ForSome (F.told f.old).files (IsListed node) → IfDamaged result (λ _. (F.told f.old).files ≡ None) }
     ensures silent { (F.told f.old).files ≡ None → (F.told f.new).files ≡ None }
@@ -198,12 +207,12 @@ fn move_behind<F: Folder>(
     requires complete { ForSome (F.told f.old).files HasWholeIndex }
     requires agrees { ForSome (F.told f.old).files (Agrees files.now) }
     requires head { ForSome (F.told f.old).files (λ image. word_or_zero head ≡ (list_of image).head) }
-    ensures complete { ForSome (F.told f.new).files HasWholeIndex }
-    ensures agrees { ForSome (F.told f.new).files (Agrees files.now) }
-    ensures steps { OnOk result (ForSome (F.told f.old).files (λ from. Applies (F.told f.old) (F.told f.new) (operation_steps move node from))) }
-    ensures prefix { ForSome (F.told f.old).files (λ from. AppliesPrefix (F.told f.old) (F.told f.new) (operation_steps move node from)) }
     ensures checked { OnOk result (ForSome (F.told f.old).files (λ from. CanBeMade from (writes_of move node (list_of from)))) }
     ensures linked { OnOk result (ForSome (F.told f.old).files (λ from. IsLinked (list_of from) node)) }
+    ensures steps { OnOk result (ForSome (F.told f.old).files (λ from. Applies (F.told f.old) (F.told f.new) (operation_steps move node from))) }
+    ensures prefix { ForSome (F.told f.old).files (λ from. AppliesPrefix (F.told f.old) (F.told f.new) (operation_steps move node from)) }
+    ensures complete { ForSome (F.told f.new).files HasWholeIndex }
+    ensures agrees { ForSome (F.told f.new).files (Agrees files.now) }
     ensures damaged { IfDamaged result (IsRemovalDamage node files.now (F.told f.old) (F.told f.new)) }
     ensures untold { ForSome (F.told f.old).files (IsListed node) → IfDamaged result (λ _. (F.told f.old).files ≡ None) }
     ensures silent { (F.told f.old).files ≡ None → (F.told f.new).files ≡ None }

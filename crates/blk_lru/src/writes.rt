@@ -55,10 +55,10 @@ pub(crate) fn perform<F: Folder>(
     requires complete { ForSome (F.told f.old).files HasWholeIndex }
     requires agrees { ForSome (F.told f.old).files (Agrees files.now) }
     ensures checked { OnOk result (ForSome (F.told f.old).files (λ image. CanBeMade image (map meant writes.now))) }
-    ensures complete { ForSome (F.told f.new).files HasWholeIndex }
-    ensures agrees { ForSome (F.told f.new).files (Agrees files.now) }
     ensures steps { OnOk result (ForSome (F.told f.old).files (λ from. Applies (F.told f.old) (F.told f.new) (steps_of (map meant writes.now) from))) }
     ensures prefix { ForSome (F.told f.old).files (λ from. AppliesPrefix (F.told f.old) (F.told f.new) (steps_of (map meant writes.now) from)) }
+    ensures complete { ForSome (F.told f.new).files HasWholeIndex }
+    ensures agrees { ForSome (F.told f.new).files (Agrees files.now) }
     ensures damaged { IfDamaged result (IsNodeDamage files.now (F.told f.new)) }
     ensures untold { ForSome (F.told f.old).files (λ image. CanBeMade image (map meant writes.now)) → IfDamaged result (λ _. (F.told f.old).files ≡ None) }
     ensures silent { (F.told f.old).files ≡ None → (F.told f.new).files ≡ None }
@@ -126,8 +126,8 @@ fn set_index<F: Folder>(f: &mut F, at: u32, word: u32) -> Result<(), Fault>
     requires complete { ForSome (F.told f.old).files HasWholeIndex }
     ensures steps { OnOk result (Applies (F.told f.old) (F.told f.new) (word_step index at word)) }
     ensures prefix { AppliesPrefix (F.told f.old) (F.told f.new) (word_step index at word) }
-    ensures silent { (F.told f.old).files ≡ None → (F.told f.new).files ≡ None }
     ensures damaged { IfDamaged result (λ _. ⊥) }
+    ensures silent { (F.told f.old).files ≡ None → (F.told f.new).files ≡ None }
     ensures later { F.faults f.old ≤ F.faults f.new }
     ensures device { IfDevice result (Rises (F.faults f.old) (F.faults f.new)) }
 {
