@@ -36,3 +36,4 @@ pub mod Links
 pub mod Staying
 pub mod Moments
 pub mod Spared
+pub mod Alike

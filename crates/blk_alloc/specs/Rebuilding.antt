@@ -5,12 +5,16 @@ use Rattle.blk_image.specs.Image.{File, Block, Image, byte, length_of}
 use Rattle.blk_image.specs.Footprint.{Footprint, SameOutside, either, one_word, range}
 use Rattle.blk_format.specs.Growth.{StaysWhole}
 use Rattle.blk_format.specs.Claims.{BlockOf, is_in_file}
-use Rattle.blk_format.specs.Headers.{allocations_of, updating_of}
+use Rattle.blk_format.specs.Headers.{allocations_of, block_fields_length, updating_of}
 use Rattle.blk_format.specs.BlockFiles.{is_among, most_blocks, stands_in}
 use Rattle.blk_format.specs.Maps.{is_block_marked, map_place, AreAllocations, EmptyAgrees}
 use Rattle.blk_addr.specs.Bits.{is_between}
 use Rattle.blk_addr.specs.Claims.{contains_claim, allocations_in, IsClaimsOf}
 use Rattle.blk_addr.specs.declared.claim_set.Claims.{Claims}
+use Rattle.blk_image.specs.Told.{Told}
+use Rattle.blk_io.specs.declared.folder.FileId.TheVariants as names
+use Rattle.blk_io.specs.declared.fault.Damage.{Damage}
+use Rattle.blk_io.specs.Faults.{IsShort}
 use Rattle.blk_disk.specs.declared.tables.BlockFiles.{BlockFiles}
 use Rattle.blk_disk.specs.Tables.{files_of, all_files, blocks_of, length_in}
 use Rattle.blk_disk.specs.Growth.{whole_length}
@@ -46,6 +50,16 @@ pub record AreFitted (old new : BlockFiles) : Type 0 where
   pub files : (kind : ℕ) → files_of new kind ≡ files_of old kind
   pub blocks : (n : ℕ) → blocks_of new n ≡ blocks_of old n
   pub lengths : (n : ℕ) → n < 256 → is_among (all_files old) n ≡ true → length_in new n ≡ max (length_in old n) (whole_length old n)
+
+-- a read of a file's header gave too few bytes, of its fields or of its map
+abbrev pub IsShortRead : Told → ℕ → Damage → Type 0
+IsShortRead told n damage = IsShort told (names.Block n) 0 block_fields_length damage ⊎ IsShort told (names.Block n) map_place map_length damage
+
+-- the same, of one of some files
+pub record IsShortReadOf (told : Told) (numbers : List ℕ) (damage : Damage) : Type 0 where
+  pub file : ℕ
+  pub linked : is_among numbers file ≡ true
+  pub short : IsShortRead told file damage
 
 -- What is touched.
 

@@ -4,6 +4,7 @@
 mod blocks;
 mod change;
 mod claimed;
+mod comparing;
 mod counters;
 mod finishing;
 mod fitting;

@@ -11,9 +11,10 @@ ghost use Rattle.blk_disk.specs.Growth.{whole_length};
 ghost use Rattle.blk_disk.specs.Tables.{Agrees, Resizes, all_files, files_of, length_in};
 ghost use Rattle.blk_alloc.specs.Changes.{map_length, map_of};
 ghost use Rattle.blk_alloc.specs.Extending.{KeepsStanding};
-ghost use Rattle.blk_alloc.specs.Rebuilding.{AreFitted, AreItsAllocations, AreMarked, IsInHand, IsRebuilding, IsRebuilt, counts_of, is_block_claimed};
+ghost use Rattle.blk_alloc.specs.Rebuilding.{AreFitted, AreItsAllocations, AreMarked, IsInHand, IsRebuilding, IsRebuilt, IsShortRead, IsShortReadOf, counts_of, is_block_claimed};
 
 use crate::claimed::{count_runs, mark_claimed};
+use crate::comparing::is_rebuilt;
 use crate::finishing::finish;
 use crate::fitting::blocks_in;
 use crate::layout::{GROUP, MAP_LEN};
@@ -66,7 +67,7 @@ fn write_marks<F: Folder>(f: &mut F, claims: &Claims, file: u8, groups: u32) -> 
 }
 
 // Makes the map and the counters of a file anew, and says so until they are done.
-fn remake<F: Folder>(f: &mut F, claims: &Claims, file: u8, groups: u32) -> Result<(), Failed>
+fn rewrite<F: Folder>(f: &mut F, claims: &Claims, file: u8, groups: u32) -> Result<(), Failed>
     requires few { groups ≤ 16224 }
     requires header { ForSome (F.told f.old).files (λ image. 8192 ≤ length_of image (block file)) }
     requires groups { ForSome (F.told f.old).files (λ image. groups ≡ groups_of (max_entries_in image file)) }
@@ -80,13 +81,35 @@ fn remake<F: Folder>(f: &mut F, claims: &Claims, file: u8, groups: u32) -> Resul
     write_marks(f, claims, file, groups)
 }
 
-// Lengthens a file to all its blocks, where it is shorter, and makes its map and counters anew.
+// Makes the map and the counters of a file anew, where they aren't those of the claims already.
+fn remake<F: Folder>(f: &mut F, claims: &Claims, file: u8, groups: u32) -> Result<(), Fault>
+    requires few { groups ≤ 16224 }
+    requires header { ForSome (F.told f.old).files (λ image. 8192 ≤ length_of image (block file)) }
+    requires groups { ForSome (F.told f.old).files (λ image. groups ≡ groups_of (max_entries_in image file)) }
+    ensures done { OnOk result (ForSome (F.told f.new).files (λ image. IsRebuilt claims.now image file)) }
+    ensures stops { ForSome (F.told f.old).files (λ from. Passes (F.told f.old) (F.told f.new) (λ image. SameOutside (map_of file) from image × IsInHand claims.now file from image)) }
+    ensures cause { IfDamaged result (IsShortRead (F.told f.new) file) }
+    ensures untold { IfDamaged result (λ _. (F.told f.old).files ≡ None) }
+    ensures silent { (F.told f.old).files ≡ None → (F.told f.new).files ≡ None }
+    ensures later { F.faults f.old ≤ F.faults f.new }
+    ensures device { IfDevice result (Rises (F.faults f.old) (F.faults f.new)) }
+{
+    let same = is_rebuilt(f, claims, file, groups)?;
+    if same {
+        return Ok(());
+    }
+    rewrite(f, claims, file, groups)?;
+    Ok(())
+}
+
+// Lengthens a file to all its blocks, where it is shorter, and makes its map and counters anew, where they
+// aren't those of the claims already.
 fn rebuild_file<F: Folder>(
     f: &mut F,
     files: &mut BlockFiles,
     claims: &Claims,
     file: u8,
-) -> Result<(), Failed>
+) -> Result<(), Fault>
     requires linked { IsTrue (is_among (all_files files.old) file) }
     requires agrees { ForSome (F.told f.old).files (Agrees files.old) }
     ensures done { OnOk result (ForSome (F.told f.new).files (λ image. IsRebuilt claims.now image file)) }
@@ -95,9 +118,11 @@ fn rebuild_file<F: Folder>(
     ensures all { (kind : ℕ) → files_of files.new kind ≡ files_of files.old kind }
     ensures keeps { KeepsStanding files.old files.new }
     ensures stops { ForSome (F.told f.old).files (λ from. Passes (F.told f.old) (F.told f.new) (IsRebuilding claims.now (file ∷ []) from)) }
+    ensures cause { IfDamaged result (IsShortRead (F.told f.new) file) }
+    ensures untold { IfDamaged result (λ _. (F.told f.old).files ≡ None) }
     ensures silent { (F.told f.old).files ≡ None → (F.told f.new).files ≡ None }
     ensures later { F.faults f.old ≤ F.faults f.new }
-    ensures failed { OnErr result (Rises (F.faults f.old) (F.faults f.new)) }
+    ensures device { IfDevice result (Rises (F.faults f.old) (F.faults f.new)) }
 {
     files.fit(f, file)?;
     let groups = blocks_in(files, file) / GROUP;
@@ -106,7 +131,9 @@ fn rebuild_file<F: Folder>(
 
 /// Makes the maps and the counters of all linked block files those of claims, and `updating` 0. Hints stay.
 ///
-/// Before that, a file that is shorter than its header and blocks is lengthened to them. There is no damage.
+/// Before that, a file that is shorter than its header and blocks is lengthened to them. A file whose map
+/// and counters are right, and where no change is under way, is left alone. A damage is a read of a header
+/// that gave too few bytes, which needs a folder that tells nothing.
 pub fn rebuild<F: Folder>(f: &mut F, files: &mut BlockFiles, claims: &Claims) -> Result<(), Fault>
     requires agrees { ForSome (F.told f.old).files (Agrees files.old) }
     // In any case the same files are linked, and what stood still does.
@@ -121,8 +148,9 @@ pub fn rebuild<F: Folder>(f: &mut F, files: &mut BlockFiles, claims: &Claims) ->
     // At each word only lengths, maps, counters and updating differ, and in each file updating is 1 until map and counters are done; files have grown at most, and a well-formed folder is well formed.
     ensures stops { ForSome (F.told f.old).files (λ from. Passes (F.told f.old) (F.told f.new) (IsRebuilding claims.now (all_files files.old) from)) }
 
+    ensures cause { IfDamaged result (IsShortReadOf (F.told f.new) (all_files files.old)) }
+    ensures untold { IfDamaged result (λ _. (F.told f.old).files ≡ None) }
     ensures silent { (F.told f.old).files ≡ None → (F.told f.new).files ≡ None }
-    ensures never { IfDamaged result (λ _. ⊥) }
     ensures later { F.faults f.old ≤ F.faults f.new }
     ensures device { IfDevice result (Rises (F.faults f.old) (F.faults f.new)) }
 {

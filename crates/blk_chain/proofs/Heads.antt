@@ -13,13 +13,13 @@ use Rattle.blk_volume.specs.Entries.{is_key_length, key_of}
 use Rattle.blk_volume.specs.View.{RecordFields, core_at, fields_of, entry_at, store_of}
 use Rattle.blk_disk.specs.declared.tables.BlockFiles.{BlockFiles}
 use Rattle.blk_format.specs.Sealed.{RecordChecks}
-use Rattle.blk_disk.specs.Tables.{Agrees, stands_among}
+use Rattle.blk_disk.specs.Tables.{Agrees, is_record_among, names_among, stands_among}
 use Rattle.blk_disk.proofs.Ranges.{stands_agree}
 use Rattle.blk_entry.specs.Keys.{CanBeRead, HasReadableKey, HasRecord, IsEntryOf, key_at}
 use Rattle.blk_laws.proofs.StillShown.{core-standing, standing-parts}
 use Rattle.blk_chain.specs.Naming.{HasKey}
 use Rattle.blk_entry.proofs.KeyPlaces.{key_by_bytes}
-use Rattle.blk_chain.specs.Finding.{names_record, IsFollowed, IsKeyed, IsSought}
+use Rattle.blk_chain.specs.Finding.{IsFollowed, IsKeyed, IsSought}
 use Rattle.blk_chain.proofs.Names.{shown-core, shown-kind}
 use Rattle.blk_chain.proofs.Unlinks.{record_checks}
 
@@ -27,21 +27,21 @@ both : (a b : Bool) → a ≡ true → b ≡ true → (a && b) ≡ true
 both a b e f = rw (e, f) refl
 
 -- a word that names a record that stands
-pub names-parts : (files : BlockFiles) (w : ℕ) → names_record files w ≡ true → (is_address w ≡ true) × ((kind_of w ≡ blocks_256) × (stands_among files w ≡ true))
-unfolding names_record
+pub names-parts : (files : BlockFiles) (w : ℕ) → is_record_among files w ≡ true → (is_address w ≡ true) × ((kind_of w ≡ blocks_256) × (stands_among files w ≡ true))
+unfolding names_among
 names-parts files w e =
     let a = and_parts (is_address w) ((kind_of w == 2) && stands_among files w) e in
     let b = and_parts (kind_of w == 2) (stands_among files w) a.1 in
     (a.0, (eqb-true (kind_of w) 2 b.0, b.1))
 
 -- and so isn't 0
-pub named-some : (files : BlockFiles) → names_record files 0 ≡ true → ⊥
+pub named-some : (files : BlockFiles) → is_record_among files 0 ≡ true → ⊥
 unfolding kind_of
 named-some files e = let kind : kind_of 0 ≡ 2 = (names-parts files 0 e).1.0 in cc
 
 -- a record that is shown stands
-pub shown-names : (files : BlockFiles) (image : Image) (w : ℕ) (fields : RecordFields) → Agrees files image → (store_of image).entry w ≡ Some fields → names_record files w ≡ true
-unfolding names_record stands
+pub shown-names : (files : BlockFiles) (image : Image) (w : ℕ) (fields : RecordFields) → Agrees files image → (store_of image).entry w ≡ Some fields → is_record_among files w ≡ true
+unfolding names_among stands
 shown-names files image w fields agrees here =
     let parts = standing-parts image blocks_256 w (core-standing image w fields here) in
     let of = and_parts (is_address w) (if kind_of w == external then has_file image (External (external_number w)) else stands_in_blocks image w) parts.0 in
@@ -69,7 +69,7 @@ can-be-read files image entry word is bytes agrees keyed = record {
 }
 
 -- a word that names a record which was read is followed
-pub followed : (files : BlockFiles) (image : Image) (entry word : ℕ) → entry ≡ word → names_record files entry ≡ true → HasRecord entry image → IsFollowed files word image
+pub followed : (files : BlockFiles) (image : Image) (entry word : ℕ) → entry ≡ word → is_record_among files entry ≡ true → HasRecord entry image → IsFollowed files word image
 followed files image entry word is stands whole = subst (λ (w : ℕ). IsFollowed files w image) is (record { stands = stands; whole = whole })
 
 -- the key of a record that has one

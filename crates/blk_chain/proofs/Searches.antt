@@ -11,10 +11,11 @@ use Rattle.blk_format.specs.Headers.{bucket_of}
 use Rattle.blk_volume.specs.View.{RecordFields, entry_at, store_of}
 use Rattle.blk_volume.specs.Chains.{bucket_of_hash, chain, is_of_bucket, IsChain, Linked}
 use Rattle.blk_format.proofs.Among.{is_among_more}
+use Rattle.blk_disk.specs.Tables.{is_record_among}
 use Rattle.blk_chain.specs.Naming.{HasKey}
 use Rattle.blk_chain.specs.Linking.{bucket_at}
 use Rattle.blk_chain.specs.Unlinking.{CanBeUnlinked, StandsBehind, next_of}
-use Rattle.blk_chain.specs.Finding.{bucket_of_key, chained_for, last_of, names_record, up_to, CanBeSearched, EndsWith, HasPassed, IsAnswer, IsFollowed, IsFound, IsKeyed, IsOnTheWay, IsOutcome, IsSought, NoneHasKey, Walks}
+use Rattle.blk_chain.specs.Finding.{bucket_of_key, chained_for, last_of, up_to, CanBeSearched, EndsWith, HasPassed, IsAnswer, IsFollowed, IsFound, IsKeyed, IsOnTheWay, IsOutcome, IsSought, NoneHasKey, Walks}
 use Rattle.blk_chain.proofs.Apart.{middle-there}
 use Rattle.blk_chain.proofs.Names.{shown-core, shown-follow, shown-kind, shown-of}
 use Rattle.blk_chain.proofs.Heads.{named-some, named-sought, sought-named}
@@ -182,7 +183,7 @@ module _ (files : BlockFiles) (image : Image) (key : List ℕ) (is_child : Bool)
       let same : left ≡ left - 0 = omega arith in
       subst (λ (n : ℕ). IsOnTheWay key is_child on before n image) same (subst (λ (w : ℕ). IsOnTheWay key is_child w before left image) walk way)
   way-walked (w ∷ passed) start before left on way walk =
-      let some : start ≢ 0 = (λ z. named-some files (subst (λ (x : ℕ). names_record files x ≡ true) (sym walk.0 ∙ z) walk.1.0.stands)) in
+      let some : start ≢ 0 = (λ z. named-some files (subst (λ (x : ℕ). is_record_among files x ≡ true) (sym walk.0 ∙ z) walk.1.0.stands)) in
       let keyed : IsKeyed start image = way-keyed image key is_child start before left way some can in
       let other : HasKey (store_of image) key is_child start → ⊥ = (λ named. walk.1.1.0 (subst (λ (x : ℕ). IsSought key is_child x image) walk.0 (named-sought image start keyed key is_child named))) in
       let few = way.few in
@@ -203,6 +204,6 @@ module _ (files : BlockFiles) (image : Image) (key : List ℕ) (is_child : Bool)
   outcome-answer None out = way-ended image key is_child 0 out.before (131073 - out.count) (way-passed 0 out.before out.count out.passed) refl
   outcome-answer (Some found) out =
       let way = way-passed found.entry found.before out.count out.passed in
-      let some : found.entry ≢ 0 = (λ z. named-some files (subst (λ (x : ℕ). names_record files x ≡ true) z out.followed.stands)) in
+      let some : found.entry ≢ 0 = (λ z. named-some files (subst (λ (x : ℕ). is_record_among files x ≡ true) z out.followed.stands)) in
       let keyed : IsKeyed found.entry image = way-keyed image key is_child found.entry found.before (131073 - out.count) way some can in
       way-found image key is_child found.entry found.before (131073 - out.count) way some (sought-named image found.entry keyed key is_child out.sought)

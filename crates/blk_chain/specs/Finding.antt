@@ -5,7 +5,7 @@ use Rattle.std.specs.declared.option.Option.TheVariants.{None, Some}
 use Rattle.blk_image.specs.Image.{Image}
 use Rattle.std.specs.Option.{ForSome}
 use Rattle.blk_image.specs.Told.{Told}
-use Rattle.blk_format.specs.Address.{is_address, kind_of, file_selector, place, blocks_256}
+use Rattle.blk_format.specs.Address.{file_selector, place}
 use Rattle.blk_format.specs.BlockFiles.{is_among}
 use Rattle.blk_format.specs.Hash.{hash as hash_of}
 use Rattle.blk_format.specs.Headers.{place_of_bucket}
@@ -18,7 +18,7 @@ use Rattle.blk_format.specs.Records.{child}
 use Rattle.blk_volume.specs.View.{RecordFields, entry_at, store_of}
 use Rattle.blk_volume.specs.Chains.{bucket_of_hash, chain, Linked}
 use Rattle.blk_disk.specs.declared.tables.BlockFiles.{BlockFiles}
-use Rattle.blk_disk.specs.Tables.{stands_among}
+use Rattle.blk_disk.specs.Tables.{is_record_among}
 use Rattle.blk_entry.specs.Keys.{HasBytesOf, HasReadableKey, HasRecord, IsKeyDamage}
 use Rattle.blk_chain.specs.declared.found.Found.{Found}
 use Rattle.blk_chain.specs.declared.finding.Step.{Step}
@@ -68,10 +68,6 @@ IsAnswer key is_child (Some found) image = IsFound key is_child found.entry foun
 
 -- A search as it goes, from record to record.
 
--- whether a word names a record that stands
-unfoldable pub names_record : BlockFiles → ℕ → Bool
-names_record files w = is_address w && ((kind_of w == blocks_256) && stands_among files w)
-
 -- a record is the one that is sought: it has the hash of a key, the bytes of the key where its words say that its key lies, and this child flag
 pub record IsSought (key : List ℕ) (is_child : Bool) (w : ℕ) (image : Image) : Type 0 where
   pub bytes : HasBytesOf key w image
@@ -79,7 +75,7 @@ pub record IsSought (key : List ℕ) (is_child : Bool) (w : ℕ) (image : Image)
 
 -- a word was followed: it names a record that stands, whose bytes are there and check
 pub record IsFollowed (files : BlockFiles) (w : ℕ) (image : Image) : Type 0 where
-  pub stands : names_record files w ≡ true
+  pub stands : is_record_among files w ≡ true
   pub whole : HasRecord w image
 
 -- records are passed from a word on up to another one: each word was followed, and no record is the one that is sought
@@ -126,7 +122,7 @@ IsOfLink bucket (Some before) damage = (damage.file ≡ names.Block (file_select
 
 -- the record before, where there is one, is named by a word and stands
 abbrev pub StandsBefore : BlockFiles → Option ℕ → Type 0
-StandsBefore files before = IfSome before (λ w. names_record files w ≡ true)
+StandsBefore files before = IfSome before (λ w. is_record_among files w ≡ true)
 
 -- a word at which a chain goes on names no record that stands
 pub record IsDanglingLink (files : BlockFiles) (bucket : ℕ) (damage : Damage) : Type 0 where
@@ -134,12 +130,12 @@ pub record IsDanglingLink (files : BlockFiles) (bucket : ℕ) (damage : Damage) 
   pub stands : StandsBefore files before
   pub link : IsOfLink bucket before damage
   pub some : damage.found ≢ 0
-  pub dangling : names_record files damage.found ≡ false
+  pub dangling : is_record_among files damage.found ≡ false
 
 -- a chain goes on behind the last record that a search passes, which has passed 131073 of them
 pub record IsLong (files : BlockFiles) (told : Told) (key : List ℕ) (is_child : Bool) (damage : Damage) : Type 0 where
   pub last : ℕ
-  pub stands : names_record files last ≡ true
+  pub stands : is_record_among files last ≡ true
   pub link : IsOfLink (bucket_of_key key) (Some last) damage
   pub some : damage.found ≢ 0
   pub passed : ForSome told.files (HasPassed files key is_child damage.found (Some last) (most_searched + 1))
@@ -147,7 +143,7 @@ pub record IsLong (files : BlockFiles) (told : Told) (key : List ℕ) (is_child 
 -- a record that stands has too few bytes or doesn't check, or its key of so many bytes has a wrong length or place or too few bytes
 pub record IsWrongRecord (files : BlockFiles) (told : Told) (key_len : ℕ) (damage : Damage) : Type 0 where
   pub entry : ℕ
-  pub stands : names_record files entry ≡ true
+  pub stands : is_record_among files entry ≡ true
   pub wrong : IsKeyDamage files told entry key_len damage
 
 -- a damage of a chain that is followed: a word that names no record, a wrong record, or a chain that is too long
@@ -176,8 +172,8 @@ pub record IsLinkDamage (bucket : ℕ) (before : Option ℕ) (found : ℕ) (faul
 
 -- what a step finds at a word: a record that stands, and the next record's word where it isn't the one
 abbrev pub StandsAt : BlockFiles → ℕ → Step → Type 0
-StandsAt files w (Here entry) = (entry ≡ w) × (names_record files w ≡ true)
-StandsAt files w (On link) = (link.before ≡ Some w) × (names_record files w ≡ true)
+StandsAt files w (Here entry) = (entry ≡ w) × (is_record_among files w ≡ true)
+StandsAt files w (On link) = (link.before ≡ Some w) × (is_record_among files w ≡ true)
 
 -- the word is followed, and the record is the one that is sought, or it isn't and the search goes on at its next
 abbrev pub IsStep : BlockFiles → List ℕ → Bool → ℕ → Step → Image → Type 0

@@ -1,5 +1,5 @@
 // Records that are found by their keys.
-ghost use Rattle.std.specs.Prelude.{◌≡◌, ◌≢◌, ◌↔◌, ◌≤◌, IfOk, IfSome, IsOk, IsTrue, None, OnOk, Some, true, length, if◌then◌else◌};
+ghost use Rattle.std.specs.Prelude.{◌≡◌, ◌≢◌, ◌↔◌, ◌≤◌, IfOk, IfSome, IsOk, IsTrue, None, OnOk, true, length};
 ghost use Rattle.std.specs.Option.{ForSome};
 ghost use Rattle.blk_image.specs.Image.{HasRange, Index as index};
 ghost use Rattle.blk_image.specs.Told.{Rises, Stays};
@@ -9,24 +9,22 @@ ghost use Rattle.blk_format.specs.Headers.{HasWholeIndex, place_of_bucket};
 ghost use Rattle.blk_io.specs.Faults.{IfDamaged, IfDevice};
 ghost use Rattle.blk_volume.specs.Chains.{bucket_of_hash};
 ghost use Rattle.blk_volume.specs.View.{store_of};
-ghost use Rattle.blk_disk.specs.Tables.{Agrees, stands_among};
+ghost use Rattle.blk_disk.specs.Tables.{Agrees, is_record_among, stands_among};
 ghost use Rattle.blk_entry.specs.Keys.{CanBeRead, IsHead, IsPlaceDamage};
 ghost use Rattle.blk_chain.specs.Unlinking.{CanBeUnlinked};
-ghost use Rattle.blk_chain.specs.Finding.{CanBeSearched, IsAnswer, IsDanglingLink, IsChainDamage, IsKeyed, IsLinkDamage, IsOutcome, IsSearchDamage, IsSought, IsStep, StandsAt, StandsBefore, bucket_of_key, names_record};
+ghost use Rattle.blk_chain.specs.Finding.{CanBeSearched, IsAnswer, IsDanglingLink, IsChainDamage, IsKeyed, IsLinkDamage, IsOutcome, IsSearchDamage, IsSought, IsStep, StandsAt, StandsBefore, bucket_of_key};
 
 use crate::found::Found;
-use blk_addr::{Addr, Kind};
+use blk_addr::Addr;
 use blk_disk::BlockFiles;
 use blk_entry::{Head, key_is, read_head, record_damage};
 use blk_index::bucket;
 use blk_io::{Damage, Fault, FileId, Folder};
-use blk_record::{EntryView, IndexHead, super_fast_hash};
+use bitflags::Flags;
+use blk_record::{EntryFlags, EntryView, IndexHead, super_fast_hash};
 
 // The most records that a search passes.
 const MOST_RECORDS: u32 = 131_073;
-
-// The flags of a child.
-const CHILD: u32 = 2;
 
 // Where a search stands: at a word, behind the record that has it as its next, or at the front of a chain.
 #[derive(Clone, Copy, Debug)]
@@ -71,7 +69,7 @@ pub fn find<F: Folder>(
     ensures checked { OnOk result (ForSome (F.told f.old).files (λ image. HasRange image index (place_of_bucket (bucket_of_key key.now)) 4)) }
 
     // What is found stands, and so does the record before it; it can be unlinked.
-    ensures names { IfOk result (λ answer. IfSome answer (λ found. IsTrue (names_record files.now found.entry))) }
+    ensures names { IfOk result (λ answer. IfSome answer (λ found. IsTrue (is_record_among files.now found.entry))) }
     ensures kind { IfOk result (λ answer. IfSome answer (λ found. kind_of found.entry ≡ blocks_256)) }
     ensures stands { IfOk result (λ answer. IfSome answer (λ found. IsTrue (stands_among files.now found.entry))) }
     ensures names_before { IfOk result (λ answer. IfSome answer (λ found. StandsBefore files.now found.before)) }
@@ -106,7 +104,7 @@ fn search<F: Folder>(
     requires word { ForSome (F.told f.old).files (λ image. (store_of image).table (bucket_of_key key.now) ≡ front.word) }
     ensures outcome { IfOk result (λ answer. ForSome (F.told f.old).files (IsOutcome files.now key.now sought.now.child answer)) }
     ensures found { IfOk result (λ answer. ForSome (F.told f.old).files (λ image. CanBeSearched key.now image → IsAnswer key.now sought.now.child answer image)) }
-    ensures names { IfOk result (λ answer. IfSome answer (λ found. IsTrue (names_record files.now found.entry))) }
+    ensures names { IfOk result (λ answer. IfSome answer (λ found. IsTrue (is_record_among files.now found.entry))) }
     ensures kind { IfOk result (λ answer. IfSome answer (λ found. kind_of found.entry ≡ blocks_256)) }
     ensures stands { IfOk result (λ answer. IfSome answer (λ found. IsTrue (stands_among files.now found.entry))) }
     ensures names_before { IfOk result (λ answer. IfSome answer (λ found. StandsBefore files.now found.before)) }
@@ -193,7 +191,7 @@ fn is_sought<F: Folder>(
     if head.hash != sought.hash {
         return Ok(false);
     }
-    if (head.flags == CHILD) != sought.child {
+    if (head.flags == EntryFlags::CHILD.bits()) != sought.child {
         return Ok(false);
     }
     key_is(f, files, entry, head, key)
@@ -205,29 +203,14 @@ fn record_of(files: &BlockFiles, hash: u32, link: &Link) -> Result<Addr, Fault>
     requires kind_before { IfSome link.now.before (λ before. kind_of before ≡ blocks_256) }
     requires named_before { StandsBefore files.now link.now.before }
     ensures entry { IfOk result (λ entry. entry ≡ link.now.word) }
-    ensures stands { IfOk result (λ entry. IsTrue (names_record files.now entry)) }
-    ensures right { names_record files.now link.now.word ≡ true → IsOk result }
+    ensures stands { IfOk result (λ entry. IsTrue (is_record_among files.now entry)) }
+    ensures right { is_record_among files.now link.now.word ≡ true → IsOk result }
     ensures damaged { IfDamaged result (IsDanglingLink files.now (bucket_of_hash hash)) }
     ensures never { IfDevice result ⊥ }
 {
-    match standing_record(files, link.word) {
+    match files.entry(link.word) {
         Some(entry) => Ok(entry),
         None => Err(damage_of(hash, link)),
-    }
-}
-
-// The record that a word names, where it stands.
-#[tactic(auto, unfolding(crate::specs::Finding::names_record))]
-fn standing_record(files: &BlockFiles, word: u32) -> Option<Addr>
-    ensures { result ≡ (if names_record files.now word then Some word else None) }
-{
-    let Some(addr) = Addr::from_word(word) else {
-        return None;
-    };
-    if addr.kind() == Kind::B256 && files.stands(addr) {
-        Some(addr)
-    } else {
-        None
     }
 }
 

@@ -17,3 +17,4 @@ pub mod ThreeChanges
 pub mod SealedReads
 pub mod SealedWrites
 pub mod MissingSeals
+mod Once

@@ -6,12 +6,14 @@ mod blocks;
 mod growing;
 mod growth;
 mod heads;
+mod laws;
 mod load;
 mod names;
 mod sealed;
 mod standing;
 mod tables;
 
+pub use laws::files_are_linked_once;
 pub use names::file_of;
 pub use tables::BlockFiles;
 

@@ -1,6 +1,6 @@
 -- The key of an entry record: where it lies, and what a read of it gives.
 use Rattle.std.specs.Prelude.{ℕ, ◌≡◌, ◌≢◌, ◌⊎◌, ◌+◌, ◌-◌, ◌*◌, ◌<◌, ◌≤◌, ◌^◌, min, List, length, take, drop, Bool, false, true, ◌&&◌, ◌||◌, nat_le, ◌==◌, if◌then◌else◌, Option, None, Some}
-use Rattle.std.specs.Option.{option_and_then}
+use Rattle.std.specs.Option.{ForSome, option_and_then}
 use Rattle.blk_image.specs.Bytes.{range_at}
 use Rattle.blk_image.specs.Image.{File, Block, External, Image, HasRange, byte}
 use Rattle.blk_image.specs.Footprint.{Footprint, range}
@@ -18,7 +18,7 @@ use Rattle.blk_io.specs.declared.fault.Fault.{Fault}
 use Rattle.blk_io.specs.declared.fault.Fault.TheVariants.{Damaged}
 use Rattle.blk_io.specs.Faults.{IsShort}
 use Rattle.blk_disk.specs.declared.tables.BlockFiles.{BlockFiles}
-use Rattle.blk_disk.specs.Tables.{Agrees, stands_among}
+use Rattle.blk_disk.specs.Tables.{Agrees, is_node_among, stands_among}
 use Rattle.blk_disk.specs.Unsealed.{IsUnsealed}
 use Rattle.blk_format.specs.Sealed.{RecordChecks}
 use Rattle.blk_entry.specs.declared.keys.Head.{Head}
@@ -155,17 +155,34 @@ pub record IsCutPart (files : BlockFiles) (told : Told) (entry key_len long_key 
   pub placed : IsPlaced files entry key_len long_key
   pub cut : IsCut told (key_address entry key_len long_key) (bytes_before key_len + min at key_len) (min (key_len - min at key_len) size) damage
 
--- the length of the key, at place 32 of the record, is one that the record can't have
+-- the places of words in a record: of its node, of the length of its key, and of the word of a long key
+abbrev pub node_place : ℕ
+node_place = 8
+
+abbrev pub key_len_place : ℕ
+key_len_place = 32
+
+abbrev pub long_key_place : ℕ
+long_key_place = 36
+
+-- the word of the node of a record is no address of a node that stands
+pub record IsDanglingNode (files : BlockFiles) (told : Told) (entry : ℕ) (damage : Damage) : Type 0 where
+  pub of_file : damage.file ≡ names.Block (file_selector entry)
+  pub at_place : damage.at ≡ place entry + node_place
+  pub of_word : ForSome told.files (λ image. damage.found ≡ (entry_at image entry).rankings_node)
+  pub dangling : is_node_among files damage.found ≡ false
+
+-- the length of the key is one that the record can't have
 pub record IsUnfit (entry key_len : ℕ) (damage : Damage) : Type 0 where
   pub of_file : damage.file ≡ names.Block (file_selector entry)
-  pub at_place : damage.at ≡ place entry + 32
+  pub at_place : damage.at ≡ place entry + key_len_place
   pub of_word : damage.found ≡ key_len
   pub unfit : may_have entry key_len ≡ false
 
--- the word of a long key, at place 36 of the record, is no address that stands and stores a key of so many bytes
+-- the word of a long key is no address that stands and stores a key of so many bytes
 pub record IsDanglingKey (files : BlockFiles) (entry key_len long_key : ℕ) (damage : Damage) : Type 0 where
   pub of_file : damage.file ≡ names.Block (file_selector entry)
-  pub at_place : damage.at ≡ place entry + 36
+  pub at_place : damage.at ≡ place entry + long_key_place
   pub of_word : damage.found ≡ long_key
   pub has : may_have entry key_len ≡ true
   pub long : is_short key_len ≡ false

@@ -21,10 +21,7 @@ use blk_disk::{BlockFiles, file_of};
 use blk_io::{Damage, Fault, Folder};
 use blk_record::{BlockHead, EntryView, Record};
 
-// The bytes of an entry record before its key.
-const BEFORE_KEY: u32 = 96;
-
-// The longest key in a record, and the longest key of all.
+// The longest key in a record, and the longest key of all: the name of a part.
 const MOST_IN_RECORD: u32 = 927;
 
 const MOST_KEY: u32 = 32796;
@@ -186,7 +183,7 @@ pub(crate) fn key_place(files: &BlockFiles, entry: Addr, head: Head) -> Result<K
     if head.key_len <= MOST_IN_RECORD {
         return Ok(KeyPlace {
             addr: entry,
-            skip: BEFORE_KEY,
+            skip: EntryView::SIZE as u32,
             len: head.key_len,
         });
     }

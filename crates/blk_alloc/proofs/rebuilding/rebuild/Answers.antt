@@ -1,4 +1,4 @@
-use Rattle.std.proofs.Common.{◌≡◌, ◌≤◌, ℕ, ◌+◌, Bool, true, false, if◌then◌else◌, Option, None, Some, sym, ◌∙◌, ap, subst, arith}
+use Rattle.std.proofs.Common.{◌≡◌, ◌≤◌, ℕ, ◌+◌, Bool, true, false, List, if◌then◌else◌, Option, None, Some, sym, ◌∙◌, ap, subst, arith}
 use Rattle.std.specs.Option.{is_some}
 use Rattle.blk_image.specs.Told.{Told}
 use Rattle.blk_format.specs.BlockFiles.{is_among}
@@ -7,6 +7,9 @@ use Rattle.blk_disk.specs.Tables.{all_files}
 use Rattle.blk_alloc.proofs.Fitted.{fitted_larger}
 use Rattle.blk_alloc.proofs.Kept.{standing_kept}
 use Rattle.blk_alloc.proofs.Rebuilt.{HasRebuilt, none_rebuilt, next_none, next_rebuilt, next_stops, all_allocations, all_rebuilt}
+use Rattle.blk_io.proofs.Carried.{carried, if_damaged_weaker}
+use Rattle.blk_alloc.specs.Rebuilding.{IsRebuilding, IsShortRead, IsShortReadOf}
+use Rattle.blk_alloc.proofs.Rooms.{untold_before}
 use Rattle.blk_alloc.proofs.rebuilding.rebuild.Goals as goal
 use Rattle.blk_alloc.proofs.rebuilding.rebuild.Goals.{then-is_some+in_ok-rebuild_file, else-is_some}
 
@@ -63,3 +66,17 @@ returns-in_err-rebuild_file-clause-keeps g c w is = c.rebuild_file.ensures.keeps
 
 pub returns-clause-keeps : goal.returns-clause-keeps
 returns-clause-keeps g c = standing_kept c.args.files.now c.loop-number.files (fitted_larger c.args.files.now c.loop-number.files c.loop-number.number c.loop-number.invariant.has.fitted)
+
+pub returns-in_err-rebuild_file-clause-cause : goal.returns-in_err-rebuild_file-clause-cause
+returns-in_err-rebuild_file-clause-cause g c =
+    let told = g.F.Folder.told c.rebuild_file.new.f in
+    let linked : is_among (all_files c.loop-number.files) c.loop-number.number ≡ true = sym (linked_is (is_among (all_files c.loop-number.files) c.loop-number.number) _ c.max_entries.result c.is_some.result c.max_entries.ensures c.is_some.ensures) ∙ c.if-is_some.true in
+    carried c.rebuild_file.result c.from_residual.result c.in_err-rebuild_file.field-0.0 _ c.in_err-rebuild_file.was c.from_residual.ensures.1
+    (if_damaged_weaker c.rebuild_file.result (IsShortRead told c.loop-number.number) (IsShortReadOf told (all_files c.args.files.now))
+    (λ damage short. record { file = c.loop-number.number; linked = ap (λ (l : List ℕ). is_among l c.loop-number.number) (sym c.loop-number.invariant.has.fitted.all) ∙ linked; short = short }) c.rebuild_file.ensures.cause)
+
+pub returns-in_err-rebuild_file-clause-untold : goal.returns-in_err-rebuild_file-clause-untold
+returns-in_err-rebuild_file-clause-untold g c =
+    carried c.rebuild_file.result c.from_residual.result c.in_err-rebuild_file.field-0.0 _ c.in_err-rebuild_file.was c.from_residual.ensures.1
+    (if_damaged_weaker c.rebuild_file.result (λ _. (g.F.Folder.told c.loop-number.f).files ≡ None) (λ _. (g.F.Folder.told c.args.f.now).files ≡ None)
+    (λ damage none. untold_before (IsRebuilding c.args.claims.now (all_files c.args.files.now)) c.loop-number.invariant.has.stops none) c.rebuild_file.ensures.untold)

@@ -1,4 +1,4 @@
-use Rattle.std.proofs.Common.{◌≡◌, ℕ, ◌/◌, List, [], ◌∷◌, sym, ◌∙◌, ap, subst, arith}
+use Rattle.std.proofs.Common.{◌≡◌, ℕ, ◌/◌, List, [], ◌∷◌, None, sym, ◌∙◌, ap, subst, arith}
 use Rattle.blk_image.specs.Image.{Image}
 use Rattle.blk_image.specs.Footprint.{SameOutside}
 use Rattle.blk_image.proofs.Runs.{passes_none, passes_then, passes_weaker, passes_end, some_inj}
@@ -8,7 +8,10 @@ use Rattle.blk_disk.specs.Tables.{Agrees, files_of}
 use Rattle.blk_alloc.specs.Changes.{map_of}
 use Rattle.blk_alloc.specs.Rebuilding.{IsInHand, IsRebuilding}
 use Rattle.blk_alloc.specs.declared.blocks.Blocks.{Blocks}
-use Rattle.blk_io.proofs.Carried.{told_at_end}
+use Rattle.blk_io.proofs.Carried.{if_damaged_weaker, told_at_end}
+use Rattle.blk_image.specs.Steps.{after}
+use Rattle.blk_disk.specs.Growth.{fit_steps}
+use Rattle.blk_alloc.proofs.Causes.{none_before}
 use Rattle.blk_alloc.proofs.Formed.{agrees_kept}
 use Rattle.blk_format.proofs.LinkedHeads.{count_whole}
 use Rattle.blk_alloc.proofs.Kept.{fit_larger, standing_kept, standing_same}
@@ -63,3 +66,8 @@ returns-in_err-fit-clause-keeps g c = standing_same c.args.files.now c.fit.new.s
 
 pub returns-clause-keeps : goal.returns-clause-keeps
 returns-clause-keeps g c = standing_kept c.args.files.now c.fit.new.self (fit_larger c.args.files.now c.fit.new.self c.args.file _ c.in_ok-fit.ensures.kept)
+
+pub returns-clause-untold : goal.returns-clause-untold
+returns-clause-untold g c =
+    if_damaged_weaker c.remake.result (λ _. (g.F.Folder.told c.fit.new.f).files ≡ None) (λ _. (g.F.Folder.told c.args.f.now).files ≡ None)
+    (λ damage none. none_before (after (fit_steps c.args.files.now c.args.file)) (g.F.Folder.told c.args.f.now).files (g.F.Folder.told c.fit.new.f).files c.in_ok-fit.ensures.fitted.files none) c.remake.ensures.untold

@@ -1,37 +1,48 @@
-use Rattle.std.proofs.Common.{◌≡◌, ◌≤◌, refl, sym, ◌∙◌, ap, arith}
-use Rattle.std.specs.Option.{option_map}
+use Rattle.std.proofs.Common.{◌≡◌, ◌≤◌, None, sym, ◌∙◌, ap, subst}
+use Rattle.std.specs.Option.{ForSome}
 use Rattle.blk_image.specs.Image.{Block, length_of}
-use Rattle.blk_image.specs.Steps.{after, word_step}
-use Rattle.blk_image.proofs.Runs.{part_whole, passes_then, passes_end}
-use Rattle.blk_format.specs.BlockFiles.{max_entries_in}
-use Rattle.blk_format.specs.Maps.{groups_of}
-use Rattle.blk_alloc.specs.Changes.{map_of}
-use Rattle.blk_io.proofs.Carried.{told_at_end, silent_part}
-use Rattle.blk_alloc.proofs.Remade.{begin_passes, begun, then_passes}
-use Rattle.blk_alloc.proofs.Sparing.{blocks_spared, map_spares}
+use Rattle.blk_image.specs.Told.{Told}
+use Rattle.blk_image.proofs.Runs.{passes_none, passes_stayed, some_inj}
+use Rattle.blk_io.proofs.Carried.{carried, if_damaged_weaker}
+use Rattle.blk_alloc.specs.Rebuilding.{IsShortRead}
+use Rattle.blk_alloc.proofs.Remade.{IsRemade, remade_begin}
 use Rattle.blk_alloc.proofs.rebuilding.remake.Goals as goal
 
-pub returns-in_err-write_word-clause-stops : goal.returns-in_err-write_word-clause-stops
-returns-in_err-write_word-clause-stops g c from there = begin_passes c.args.claims.now c.args.file from (c.requires.header from there) there c.in_err-write_word.ensures.prefix
+pub returns-in_err-same-clause-stops : goal.returns-in_err-same-clause-stops
+returns-in_err-same-clause-stops g c from there =
+    let P = IsRemade c.args.claims.now c.args.file from (c.requires.header from there) in
+    passes_none P c.in_err-same.ensures.stays (λ image is. subst P (some_inj (sym there ∙ is)) (remade_begin c.args.claims.now c.args.file from (c.requires.header from there)))
 
-pub write_marks-requires-clause-header : goal.write_marks-requires-clause-header
-write_marks-requires-clause-header g c =
-    told_at_end (g.F.Folder.told c.args.f.now).files (g.F.Folder.told c.write_word.new.f).files (λ image. 8192 ≤ length_of image (Block c.args.file)) (silent_part c.write_word.ensures.prefix)
-    (λ from there mid now.
-    let long = c.requires.header from there in
-    let e = (passes_end (begin_passes c.args.claims.now c.args.file from long there c.write_word.ensures.prefix) mid now).0.lengths (Block c.args.file) refl in omega (arith, e, long))
+pub returns-in_err-same-clause-cause : goal.returns-in_err-same-clause-cause
+returns-in_err-same-clause-cause g c =
+    carried c.is_rebuilt.result c.from_residual.result c.in_err-same.field-0.0 _ c.in_err-same.was c.from_residual.ensures.1
+    (if_damaged_weaker c.is_rebuilt.result (IsShortRead (g.F.Folder.told c.args.f.now) c.args.file) (IsShortRead (g.F.Folder.told c.is_rebuilt.new.f) c.args.file)
+    (λ damage short. subst (λ (t : Told). IsShortRead t c.args.file damage) (sym c.is_rebuilt.ensures.stays) short) c.is_rebuilt.ensures.cause)
 
-pub write_marks-requires-clause-groups : goal.write_marks-requires-clause-groups
-write_marks-requires-clause-groups g c =
-    told_at_end (g.F.Folder.told c.args.f.now).files (g.F.Folder.told c.write_word.new.f).files (λ image. c.args.groups ≡ groups_of (max_entries_in image c.args.file)) (silent_part c.write_word.ensures.prefix)
-    (λ from there mid now.
-    let same = (passes_end (begin_passes c.args.claims.now c.args.file from (c.requires.header from there) there c.write_word.ensures.prefix) mid now).0 in
-    c.requires.groups from there ∙ ap groups_of (sym (blocks_spared (map_of c.args.file) from mid (map_spares c.args.file) same (λ m. let e = same.lengths (Block m) refl in omega (arith, e)) c.args.file)))
+pub returns-in_err-same-clause-untold : goal.returns-in_err-same-clause-untold
+returns-in_err-same-clause-untold g c =
+    carried c.is_rebuilt.result c.from_residual.result c.in_err-same.field-0.0 _ c.in_err-same.was c.from_residual.ensures.1
+    (if_damaged_weaker c.is_rebuilt.result (λ _. ForSome (g.F.Folder.told c.args.f.now).files (λ image. 8192 ≤ length_of image (Block c.args.file)) → (g.F.Folder.told c.args.f.now).files ≡ None) (λ _. (g.F.Folder.told c.args.f.now).files ≡ None)
+    (λ damage none. none c.requires.header) c.is_rebuilt.ensures.untold)
+
+pub returns-then-same-clause-stops : goal.returns-then-same-clause-stops
+returns-then-same-clause-stops g c from there =
+    let P = IsRemade c.args.claims.now c.args.file from (c.requires.header from there) in
+    passes_none P c.in_ok-same.ensures.stays (λ image is. subst P (some_inj (sym there ∙ is)) (remade_begin c.args.claims.now c.args.file from (c.requires.header from there)))
+
+pub returns-then-same-clause-done : goal.returns-then-same-clause-done
+returns-then-same-clause-done g c image now =
+    let there = ap (λ (t : Told). t.files) (sym c.in_ok-same.ensures.stays) ∙ now in
+    c.in_ok-same.ensures.same image there c.if-same.true (c.requires.groups image there)
+
+pub rewrite-requires-clause-header : goal.rewrite-requires-clause-header
+rewrite-requires-clause-header g c image now = c.requires.header image (ap (λ (t : Told). t.files) (sym c.in_ok-same.ensures.stays) ∙ now)
+
+pub rewrite-requires-clause-groups : goal.rewrite-requires-clause-groups
+rewrite-requires-clause-groups g c image now = c.requires.groups image (ap (λ (t : Told). t.files) (sym c.in_ok-same.ensures.stays) ∙ now)
+
+pub returns-in_err-rewrite-clause-stops : goal.returns-in_err-rewrite-clause-stops
+returns-in_err-rewrite-clause-stops g c from there = passes_stayed c.in_ok-same.ensures.stays (c.in_err-rewrite.ensures.stops from (ap (λ (t : Told). t.files) c.in_ok-same.ensures.stays ∙ there))
 
 pub returns-clause-stops : goal.returns-clause-stops
-returns-clause-stops g c from there =
-    let long = c.requires.header from there in
-    let whole = c.in_ok-write_word.ensures.steps in
-    let now : (g.F.Folder.told c.write_word.new.f).files ≡ option_map (after (word_step (Block c.args.file) 56 1)) (g.F.Folder.told c.args.f.now).files = whole.files in
-    passes_then (begin_passes c.args.claims.now c.args.file from long there (part_whole whole))
-    (then_passes c.args.claims.now c.args.file from long (c.write_marks.ensures.stops (begun c.args.claims.now c.args.file from long) (now ∙ ap (option_map (after (word_step (Block c.args.file) 56 1))) there)))
+returns-clause-stops g c from there = passes_stayed c.in_ok-same.ensures.stays (c.in_ok-rewrite.ensures.stops from (ap (λ (t : Told). t.files) c.in_ok-same.ensures.stays ∙ there))

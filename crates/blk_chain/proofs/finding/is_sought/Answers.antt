@@ -13,10 +13,10 @@ returns-then-head-sought-clause-sought g c image there = (
   λ is. let words = c.requires.head image there in absurd (c.if-head-sought.true (words.hash ∙ is.bytes.hash ∙ sym c.requires.hash)),
 )
 
-pub returns-then-head-sought-2-clause-sought : goal.returns-then-head-sought-2-clause-sought
-returns-then-head-sought-2-clause-sought g c image there = (
+pub returns-then-head-bits-clause-sought : goal.returns-then-head-bits-clause-sought
+returns-then-head-bits-clause-sought g c image there = (
   λ no. absurd (clash no),
-  λ is. let words = c.requires.head image there in absurd (differs (c.args.head.now.flags == 2) c.args.sought.now.child c.if-head-sought-2.true (ap (λ (f : ℕ). f == 2) words.flags ∙ is.flag)),
+  λ is. let words = c.requires.head image there in absurd (differs (c.args.head.now.flags == c.bits.result) c.args.sought.now.child c.if-head-bits.true (ap (λ (b : ℕ). c.args.head.now.flags == b) (c.bits.ensures tt) ∙ ap (λ (f : ℕ). f == 2) words.flags ∙ is.flag)),
 )
 
 pub returns-clause-sought : goal.returns-clause-sought
@@ -25,7 +25,7 @@ returns-clause-sought g c =
     (λ same. ForSome (g.F.Folder.told c.args.f.now).files (λ image. IsTrue same ↔ IsSought c.args.key.now c.args.sought.now.child c.args.entry image))
     (λ same bytes image there. let words = c.requires.head image there in
     let by_head = bytes_of_head image c.args.entry c.args.head.now c.args.key.now words in
-    let flag = ap (λ (f : ℕ). f == 2) (sym words.flags) ∙ agrees-by (c.args.head.now.flags == 2) c.args.sought.now.child c.if-head-sought-2.false in
+    let flag = ap (λ (f : ℕ). f == 2) (sym words.flags) ∙ ap (λ (b : ℕ). c.args.head.now.flags == b) (sym (c.bits.ensures tt)) ∙ agrees-by (c.args.head.now.flags == c.bits.result) c.args.sought.now.child c.if-head-bits.false in
     let hash = sym words.hash ∙ c.if-head-sought.false ∙ c.requires.hash in (
       λ holds. record { bytes = record { hash = hash; bytes = by_head.0 ((bytes image there).0 holds) }; flag = flag },
       λ is. (bytes image there).1 (by_head.1 is.bytes.bytes),

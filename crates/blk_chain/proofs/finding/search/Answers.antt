@@ -4,13 +4,13 @@ use Rattle.std.specs.Option.{ForSome}
 use Rattle.blk_image.specs.Told.{Told}
 use Rattle.blk_format.specs.Address.{kind_of}
 use Rattle.blk_volume.specs.Chains.{bucket_of_hash}
-use Rattle.blk_disk.specs.Tables.{Agrees, stands_among}
+use Rattle.blk_disk.specs.Tables.{is_record_among, Agrees, stands_among}
 use Rattle.blk_io.specs.Faults.{IfDamaged}
 use Rattle.blk_io.proofs.Carried.{carried, if_damaged_weaker, untold_where}
 use Rattle.blk_entry.proofs.KeyPlaces.{err_damaged}
 use Rattle.blk_chain.specs.declared.found.Found.{Found}
 use Rattle.blk_chain.specs.declared.finding.Step.{Step}
-use Rattle.blk_chain.specs.Finding.{bucket_of_key, HasPassed, IsChainDamage, IsFollowed, IsLong, IsOfLink, IsSought, IsStep, StandsAt, StandsBefore, names_record}
+use Rattle.blk_chain.specs.Finding.{bucket_of_key, HasPassed, IsChainDamage, IsFollowed, IsLong, IsOfLink, IsSought, IsStep, StandsAt, StandsBefore}
 use Rattle.blk_chain.specs.Unlinking.{next_of}
 use Rattle.blk_chain.proofs.Heads.{names-parts}
 use Rattle.blk_chain.proofs.Searches.{found-linked, outcome-answer, passed-on, way-keyed, way-left, way-passed}
@@ -82,7 +82,7 @@ returns-in_err-entry-clause-untold g c agrees can =
     way-keyed image c.args.key.now c.args.sought.now.child c.loop-link.link.word c.loop-link.link.before (131073 - (131073 - c.loop-link.left)) way c.loop-link-test.true (can image there))))
 
 -- the record that is found
-stands-here : (g : given.Over) (c : goal.In-Here g) → (c.in-Here.entry ≡ c.loop-link.link.word) × (names_record c.args.files.now c.loop-link.link.word ≡ true)
+stands-here : (g : given.Over) (c : goal.In-Here g) → (c.in-Here.entry ≡ c.loop-link.link.word) × (is_record_among c.args.files.now c.loop-link.link.word ≡ true)
 stands-here g c = subst (λ (s : Step). StandsAt c.args.files.now c.loop-link.link.word s) c.in-Here.is c.in_ok-entry.ensures.stands
 
 pub returns-in-Here-clause-outcome : goal.returns-in-Here-clause-outcome
@@ -102,7 +102,7 @@ pub returns-in-Here-clause-found : goal.returns-in-Here-clause-found
 returns-in-Here-clause-found g c image there can = outcome-answer c.args.files.now image c.args.key.now c.args.sought.now.child can (Some (record { entry = c.in-Here.entry; before = c.loop-link.link.before })) (returns-in-Here-clause-outcome g c image there)
 
 pub returns-in-Here-clause-names : goal.returns-in-Here-clause-names
-returns-in-Here-clause-names g c = subst (λ (w : ℕ). IsTrue (names_record c.args.files.now w)) (sym (stands-here g c).0) (stands-here g c).1
+returns-in-Here-clause-names g c = subst (λ (w : ℕ). IsTrue (is_record_among c.args.files.now w)) (sym (stands-here g c).0) (stands-here g c).1
 
 pub returns-in-Here-clause-kind : goal.returns-in-Here-clause-kind
 returns-in-Here-clause-kind g c = subst (λ (w : ℕ). kind_of w ≡ 2) (sym (stands-here g c).0) (names-parts c.args.files.now c.loop-link.link.word (stands-here g c).1).1.0
@@ -118,7 +118,7 @@ some-none e = cc
 
 pub loop-link-preserved : goal.loop-link-preserved
 loop-link-preserved g c =
-    let stands : (c.in-On.next.before ≡ Some c.loop-link.link.word) × (names_record c.args.files.now c.loop-link.link.word ≡ true) = subst (λ (s : Step). StandsAt c.args.files.now c.loop-link.link.word s) c.in-On.is c.in_ok-entry.ensures.stands in
+    let stands : (c.in-On.next.before ≡ Some c.loop-link.link.word) × (is_record_among c.args.files.now c.loop-link.link.word ≡ true) = subst (λ (s : Step). StandsAt c.args.files.now c.loop-link.link.word s) c.in-On.is c.in_ok-entry.ensures.stands in
     let parts = names-parts c.args.files.now c.loop-link.link.word stands.1 in
     let some = c.if-left-eq0.false in
     let most = c.loop-link.invariant.most in
