@@ -15,12 +15,12 @@ ghost use Rattle.blk_chain.specs.Unlinking.{CanBeUnlinked};
 ghost use Rattle.blk_chain.specs.Finding.{CanBeSearched, IsAnswer, IsDanglingLink, IsChainDamage, IsKeyed, IsLinkDamage, IsOutcome, IsSearchDamage, IsSought, IsStep, StandsAt, StandsBefore, bucket_of_key};
 
 use crate::found::Found;
+use bitflags::Flags;
 use blk_addr::Addr;
 use blk_disk::BlockFiles;
 use blk_entry::{Head, key_is, read_head, record_damage};
 use blk_index::bucket;
 use blk_io::{Damage, Fault, FileId, Folder};
-use bitflags::Flags;
 use blk_record::{EntryFlags, EntryView, IndexHead, super_fast_hash};
 
 // The most records that a search passes.

@@ -56,16 +56,13 @@ pub record SetsDirty {A : Type 0} (files : BlockFiles) (old new : Told) (node ma
   pub marked : OnOk result (ForSome old.files (λ from. ForSome new.files (HasDirtySet from node mark)))
   pub checks : ForSome old.files (RecordChecks node) → ForSome new.files (RecordChecks node)
   pub agrees : ForSome new.files (Agrees files)
-
   -- the steps, and where the node checks what holds at each word
   pub steps : OnOk result (ForSome old.files (λ from. Applies old new (mark_steps from node mark)))
   pub prefix : ForSome old.files (λ from. AppliesPrefix old new (mark_steps from node mark))
   pub stops : ForSome old.files (λ from. RecordChecks node from → Passes old new (SetsDirtyInProgress from node mark))
-
   -- a damage is of the node, and nothing was written; a folder that tells its files gives one only for a node that doesn't check
   pub damaged : IfDamaged result (IsNodeDamage old node)
   pub unwritten : IfDamaged result (λ _. Stays old new)
   pub untold : ForSome old.files (RecordChecks node) → IfDamaged result (λ _. old.files ≡ None)
-
   -- a folder that tells no files goes on telling none
   pub silent : old.files ≡ None → new.files ≡ None

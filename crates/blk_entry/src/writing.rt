@@ -17,11 +17,13 @@ ghost use Rattle.blk_disk.specs.Tables.{Agrees, stands_among};
 ghost use Rattle.blk_entry.specs.Writing.{AreWords, FitsKey, HasItsLength, IsShownNew, IsWritten, LiesApart, WritesEntryInProgress, entry_bytes, entry_steps, key_steps, loaded_new, new_node, new_record, node_bytes, node_steps, record_steps};
 
 use crate::data::write_ended;
+use bitflags::Flags;
 use blk_addr::Addr;
 use blk_disk::BlockFiles;
 use blk_io::{Failed, Fault, Folder};
-use bitflags::Flags;
-use blk_record::{EntryFlags, EntryMut, EntryView, NodeMut, NodeView, Record, RecordMut, super_fast_hash};
+use blk_record::{
+    EntryFlags, EntryMut, EntryView, NodeMut, NodeView, Record, RecordMut, super_fast_hash,
+};
 
 // The bytes of a block of records.
 const BLOCK: usize = 256;
@@ -206,7 +208,10 @@ fn record_of(new: &NewEntry, key: &[u8], moment: u64) -> [u8; BLOCK]
         (EntryView::NEXT as usize, new.next),
         (EntryView::NODE as usize, new.node.word()),
         (EntryView::CREATION_TIME as usize, (moment % WORD) as u32),
-        (EntryView::CREATION_TIME as usize + 4, (moment / WORD) as u32),
+        (
+            EntryView::CREATION_TIME as usize + 4,
+            (moment / WORD) as u32,
+        ),
         (EntryView::KEY_LEN as usize, key.len() as u32),
         (EntryView::LONG_KEY as usize, word_of(&new.long_key)),
         (EntryView::FLAGS as usize, flags_of(new.child)),
