@@ -10,7 +10,7 @@ use Rattle.blk_format.specs.Address.{kind_of, is_address, external, external_num
 use Rattle.blk_format.specs.BlockFiles.{stands_in_blocks}
 use Rattle.blk_format.specs.Standing.{stands}
 use Rattle.blk_volume.specs.Entries.{is_key_length, key_of}
-use Rattle.blk_volume.specs.View.{RecordFields, core_at, fields_of, entry_at, store_of}
+use Rattle.blk_volume.specs.View.{RecordFields, fields_at, fields_of, entry_at, store_of}
 use Rattle.blk_disk.specs.declared.tables.BlockFiles.{BlockFiles}
 use Rattle.blk_format.specs.Sealed.{RecordChecks}
 use Rattle.blk_disk.specs.Tables.{Agrees, is_record_among, names_among, stands_among}
@@ -75,7 +75,7 @@ followed files image entry word is stands whole = subst (λ (w : ℕ). IsFollowe
 -- the key of a record that has one
 key-is : (image : Image) (w : ℕ) (fields : RecordFields) → (store_of image).entry w ≡ Some fields → HasReadableKey w image → key_at image w ≡ key_of (store_of image) w fields
 unfolding key_at store_of
-key-is image w fields here has = by_core (core_at image w) here has.is
+key-is image w fields here has = by_core (fields_at image w) here has.is
   where
     by_length : (t : Bool) → (if t then key_of (store_of image) w fields else None) ≡ Some has.key → (if t then key_of (store_of image) w fields else None) ≡ key_of (store_of image) w fields
     by_length true e = refl

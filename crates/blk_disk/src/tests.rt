@@ -152,7 +152,7 @@ fn a_file_is_linked_once(rt: HostRuntime) -> Result<(), Fail> {
     let mut f = folder_of(rt.alloc(), &headers, HEADER_LEN)?;
     assert_eq!(rt; damage_of(&mut f, 3), Some((8, 0x0006_0003)));
 
-    // An earlier file of the same type.
+    // An earlier file of the same kind.
     let mut headers = FILES;
     headers[5] = (4, 6, 1024, 0);
     let mut f = folder_of(rt.alloc(), &headers, HEADER_LEN)?;

@@ -18,8 +18,8 @@ use Rattle.blk_format.specs.Storage.{entry_blocks, is_storage, kind_for, blocks_
 use Rattle.blk_format.specs.Standing.{stands}
 use Rattle.blk_format.specs.BlockFiles.{stands_in, stands_in_blocks}
 use Rattle.blk_format.proofs.Bodies.{range-add}
-use Rattle.blk_volume.specs.View.{RecordFields, core_at, fields_of, entry_at, key_place_at, stands_as, stored_at, store_of}
-use Rattle.blk_volume.specs.Entries.{is_key_length, key_of, longest_key}
+use Rattle.blk_volume.specs.View.{RecordFields, fields_at, fields_of, entry_at, key_place_at, stands_as, stored_at, store_of}
+use Rattle.blk_volume.specs.Entries.{is_key_length, key_of, longest_key_with}
 use Rattle.blk_disk.specs.declared.tables.BlockFiles.{BlockFiles}
 use Rattle.blk_disk.specs.Tables.{Agrees, stands_among}
 use Rattle.blk_disk.proofs.Ranges.{stands_agree}
@@ -407,8 +407,8 @@ module _ (files : BlockFiles) (image : Image) (entry : ℕ) (key : List ℕ) (k 
 length_right : (entry : ℕ) (fields : RecordFields) → is_key_length entry fields ≡ true → may_have entry fields.key_len ≡ true
 unfolding is_key_length may_have
 length_right entry fields e =
-    let a = and_parts (nat_le 1 fields.key_len && nat_le fields.key_len (longest_key fields)) (block_count entry == entry_blocks fields.key_len) e in
-    let b = and_parts (nat_le 1 fields.key_len) (nat_le fields.key_len (longest_key fields)) a.0 in
+    let a = and_parts (nat_le 1 fields.key_len && nat_le fields.key_len (longest_key_with fields)) (block_count entry == entry_blocks fields.key_len) e in
+    let b = and_parts (nat_le 1 fields.key_len) (nat_le fields.key_len (longest_key_with fields)) a.0 in
     let most : nat_le fields.key_len 32796 ≡ true = by_test (fields.flags == 2) b.1 in
     both (nat_le 1 fields.key_len && nat_le fields.key_len 32796) (block_count entry == entry_blocks fields.key_len) (both (nat_le 1 fields.key_len) (nat_le fields.key_len 32796) b.0 most) a.1
   where
@@ -422,7 +422,7 @@ record IsKeyOf (image : Image) (entry : ℕ) (key : List ℕ) : Type 0 where
   of : key_of (store_of image) entry (fields_of (entry_at image entry)) ≡ Some key
 
 key_parts : (image : Image) (entry : ℕ) (key : List ℕ) → key_at image entry ≡ Some key → IsKeyOf image entry key
-unfolding key_at core_at
+unfolding key_at fields_at
 key_parts image entry key e = by_stands (stands_as image blocks_256 entry) e
   where
     none_some : None ≡ Some key → ⊥

@@ -321,7 +321,7 @@ fn a_wrong_record_is_a_damage(rt: HostRuntime) -> Result<(), Fail> {
     let key = key_of(rt.alloc(), 928)?;
     let mut out = [0; 8];
 
-    // No address, one of another type, and one of blocks that are past the last.
+    // No address, one of another kind, and one of blocks that are past the last.
     for wrong in [0x2001_0000, 0xC003_0000, 0xA301_0400] {
         put_record(&mut f, wrong, &key)?;
         assert_eq!(rt;

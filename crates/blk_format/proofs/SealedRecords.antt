@@ -244,7 +244,7 @@ module _ (w : ℕ) (from : Image) (fits : Fits w from) where
           ∙ ap (λ (v : ℕ). with_word (seal_place w) v (record_at from w)) (eqb-true (word_at (content (record_at from w)) (seal_place w)) (seal_of (seal_place w) (record_at from w)) e)
       by_test false e = sealed_record
 
--- the records of the two types
+-- the records of the two kinds
 pub node_seal : (w : ℕ) → kind_of w ≡ 1 → seal_place w ≡ 32
 unfolding seal_by_kind
 node_seal w kind = rw kind refl

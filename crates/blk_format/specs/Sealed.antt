@@ -11,7 +11,7 @@ use Rattle.blk_format.specs.Records.{node_size, node_seal_place, entry_size, ent
 abbrev pub BeginsWithRecord : ℕ → Type 0
 BeginsWithRecord w = (kind_of w ≡ rankings) ⊎ (kind_of w ≡ blocks_256)
 
--- the number of the bytes of a record at an address of this type
+-- the number of the bytes of a record at an address of this kind
 unfoldable pub size_by_kind : ℕ → ℕ
 size_by_kind kind = if kind == rankings then node_size else entry_size
 
@@ -79,7 +79,7 @@ sealed_steps image w changes = update_steps w changes (new_seal image w changes)
 abbrev pub record_range : ℕ → Footprint
 record_range w = range (Block (file_selector w)) (place w) (record_size w)
 
--- at a moment of a sealed update the record checks, so many of the changes are made, in the order given, and all else is as before
+-- in the midst of a sealed update the record checks, so many of the changes are made, in the order given, and all else is as before
 pub record IsMidUpdate (from : Image) (w : ℕ) (changes : List (ℕ × ℕ)) (image : Image) : Type 0 where
   pub made : ℕ
   pub within : made ≤ length changes

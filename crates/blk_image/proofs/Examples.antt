@@ -3,7 +3,7 @@ use Rattle.std.proofs.Common.{◌≡◌, ℕ, ◌+◌, ◌-◌, ◌^◌, List, [
 use Rattle.blk_image.specs.Bytes.{content, half_at, word_at, long_at, word_bytes, range_at, words_at, spliced, zeros, resized}
 use Rattle.blk_image.specs.Image.{Index, Block, External, Image, same_file, empty_image, has_file, bytes_of, length_of, byte, word, with_file}
 use Rattle.blk_image.specs.Steps.{TrailStep, Word, SetLength, Delete, Note, after, image_at, words, before_words, word_step, word_steps, with_word, with_words}
-use Rattle.blk_image.specs.Order.{kind_of, number_of}
+use Rattle.blk_image.specs.Order.{file_rank, file_number}
 use Rattle.blk_image.specs.Notes.{AlongFrom, AtEachFront, AreTrue, notes_in}
 use Rattle.blk_image.specs.Told.{Told, PassesTo, Commits, Rises}
 use Rattle.blk_image.proofs.NotesLemmas.{at_each_front, are_true-append}
@@ -112,7 +112,7 @@ one_note : notes_in trail ≡ 1
 unfolding trail
 one_note = refl
 
-block_files_are_second : (kind_of (Block 9) ≡ 1) × (number_of (Block 9) ≡ 9)
+block_files_are_second : (file_rank (Block 9) ≡ 1) × (file_number (Block 9) ≡ 9)
 block_files_are_second = (refl, refl)
 
 range_of_a_footprint : ((range Index 4 2).bytes Index 5 ≡ true) × ((range Index 4 2).bytes Index 6 ≡ false) × ((range Index 4 2).bytes (Block 0) 5 ≡ false) × ((range Index 4 2).sizes Index ≡ false)

@@ -15,7 +15,7 @@ use Rattle.blk_format.specs.BlockFiles.{linked_as, stands_in}
 use Rattle.blk_format.specs.Claims.{Claim, BlockOf, ExternalOf, same_claim, claims_of, claims_of_all, has_claim, is_in_file, repeats}
 use Rattle.blk_format.specs.Headers.{allocations_of}
 use Rattle.blk_format.specs.Maps.{AreAllocations}
-use Rattle.blk_volume.specs.View.{StoreView, NodeFields, RecordFields, stands_as, entry_at, fields_of, node_fields_at, core_at, stored_at, store_of, view_of, size_of, address_of}
+use Rattle.blk_volume.specs.View.{StoreView, NodeFields, RecordFields, stands_as, entry_at, fields_of, node_fields_at, fields_at, stored_at, store_of, view_of, data_size_of, address_of}
 use Rattle.blk_volume.specs.Entries.{key_of, stream_of, streams_of}
 use Rattle.blk_volume.specs.Reasons.{Reason}
 use Rattle.blk_volume.specs.Loads.{Rule, held_rule, listed_rule, unchained_rule, Loaded, load, all_claims, record_claims, claims_of_loaded}
@@ -85,8 +85,8 @@ node-stands image w n e = ⊎_elim
     (λ (s : stands_as image rankings w ≡ false). let none : ◌≡◌ {A = Option NodeFields} None (Some n) = rw s at e in absurd (cc))
     (cases_Bool (stands_as image rankings w))
 
-core-stands : (image : Image) (c : ℕ) (e : RecordFields) → core_at image c ≡ Some e → (stands_in image c ≡ true) × (fields_of (entry_at image c) ≡ e)
-unfolding core_at
+core-stands : (image : Image) (c : ℕ) (e : RecordFields) → fields_at image c ≡ Some e → (stands_in image c ≡ true) × (fields_of (entry_at image c) ≡ e)
+unfolding fields_at
 core-stands image c e is = ⊎_elim
     (λ (s : stands_as image blocks_256 c ≡ true). let some : ◌≡◌ {A = Option RecordFields} (Some (fields_of (entry_at image c))) (Some e) = rw s at is in ((and_parts (stands_in image c) (kind_of c == blocks_256) s).0, cc))
     (λ (s : stands_as image blocks_256 c ≡ false). let none : ◌≡◌ {A = Option RecordFields} None (Some e) = rw s at is in absurd (cc))
@@ -119,9 +119,9 @@ long_key-stands image c e key is some = go (nat_le e.key_len 927) is where
 
 stream-stands : (image : Image) (e : RecordFields) (i : ℕ) (bytes : List ℕ) → stream_of (store_of image) e i ≡ Some bytes → StandsIf image (address_of e i)
 unfolding stream_of store_of
-stream-stands image e i bytes is = go (nat_le (size_of e i) 2147483647) is where
-  go : (b : Bool) → (if b then stored_at image (size_of e i) (address_of e i) else None) ≡ Some bytes → StandsIf image (address_of e i)
-  go true h = stored-stands image (size_of e i) (address_of e i) bytes h
+stream-stands image e i bytes is = go (nat_le (data_size_of e i) 2147483647) is where
+  go : (b : Bool) → (if b then stored_at image (data_size_of e i) (address_of e i) else None) ≡ Some bytes → StandsIf image (address_of e i)
+  go true h = stored-stands image (data_size_of e i) (address_of e i) bytes h
   go false h = cc
 
 -- what the streams say
@@ -133,8 +133,8 @@ record StreamsStand (image : Image) (e : RecordFields) : Type 0 where
 
 streams-stand : (image : Image) (e : RecordFields) (streams : List (List ℕ)) → streams_of (store_of image) e ≡ Some streams → StreamsStand image e
 unfolding streams_of
-streams-stand image e streams is = go ((size_of e 3 == 0) && (address_of e 3 == 0)) (stream_of (store_of image) e 0) (stream_of (store_of image) e 1) (stream_of (store_of image) e 2) refl refl refl refl is where
-  go : (b : Bool) (s0 s1 s2 : Option (List ℕ)) → ((size_of e 3 == 0) && (address_of e 3 == 0)) ≡ b → stream_of (store_of image) e 0 ≡ s0 → stream_of (store_of image) e 1 ≡ s1 → stream_of (store_of image) e 2 ≡ s2
+streams-stand image e streams is = go ((data_size_of e 3 == 0) && (address_of e 3 == 0)) (stream_of (store_of image) e 0) (stream_of (store_of image) e 1) (stream_of (store_of image) e 2) refl refl refl refl is where
+  go : (b : Bool) (s0 s1 s2 : Option (List ℕ)) → ((data_size_of e 3 == 0) && (address_of e 3 == 0)) ≡ b → stream_of (store_of image) e 0 ≡ s0 → stream_of (store_of image) e 1 ≡ s1 → stream_of (store_of image) e 2 ≡ s2
       → (if not b then None else option_and_then (λ first. option_and_then (λ second. option_map (λ third. first ∷ second ∷ third ∷ []) s2) s1) s0) ≡ Some streams → StreamsStand image e
   go false s0 s1 s2 b0 e0 e1 e2 h = cc
   go true None s1 s2 b0 e0 e1 e2 h = cc
@@ -144,7 +144,7 @@ streams-stand image e streams is = go ((size_of e 3 == 0) && (address_of e 3 == 
     first = stream-stands image e 0 a e0;
     second = stream-stands image e 1 b e1;
     third = stream-stands image e 2 c e2;
-    fourth = λ some. let z : (address_of e 3 == 0) ≡ true = (and_parts (size_of e 3 == 0) (address_of e 3 == 0) b0).1 in absurd (let q : true ≡ false = sym z ∙ some in cc);
+    fourth = λ some. let z : (address_of e 3 == 0) ≡ true = (and_parts (data_size_of e 3 == 0) (address_of e 3 == 0) b0).1 in absurd (let q : true ≡ false = sym z ∙ some in cc);
   }
 
 addresses-stand : (image : Image) (c : ℕ) → StreamsStand image (fields_of (entry_at image c)) → AllByRecursion (StandsIf image) (fields_of (entry_at image c)).data_addr

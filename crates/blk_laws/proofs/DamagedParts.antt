@@ -15,7 +15,7 @@ use Rattle.blk_volume.specs.Chains.{chain_from}
 use Rattle.blk_volume.specs.Entries.{is_key_length, key_of, stream_of, streams_of, role_of, parent_role, part_role, is_covered}
 use Rattle.blk_volume.specs.Reasons as reason
 use Rattle.blk_volume.specs.Loads.{load, load_key, load_record, record_claims, all_claims}
-use Rattle.blk_volume.specs.Audit.{is_named, is_orphan, admit, verdicts, kept_among, dropped_among}
+use Rattle.blk_volume.specs.Audit.{shares_key, is_orphan, admit, verdicts, kept_among, dropped_among}
 use Rattle.blk_volume.specs.Candidates.{name_at, is_parent_at, is_candidate, candidates}
 use Rattle.blk_laws.proofs.DamagedViews.{Row, node, shown, plain_core, kept_nodes, dropped_nodes}
 
@@ -56,7 +56,7 @@ family : View
 family = sparse_view 1 0x90000001 both_nodes
 
 family_is_kept : kept_nodes family ≡ 0x90000001 ∷ 0x90000000 ∷ []
-unfolding family kept_among verdicts load load_record load_key admit is_key_length key_of stream_of streams_of role_of parent_role part_role is_covered read_parent_index read_part_index read_name split_last child_name digits words_at is_named is_orphan record_claims all_claims claims_of has_claim overlap repeats kind_of block_count file_selector first_block external_number entry_blocks walk walk_from chain_from hash mixed of_bytes of_four of_three of_one
+unfolding family kept_among verdicts load load_record load_key admit is_key_length key_of stream_of streams_of role_of parent_role part_role is_covered read_parent_index read_part_index read_name split_last child_name digits words_at shares_key is_orphan record_claims all_claims claims_of has_claim overlap repeats kind_of block_count file_selector first_block external_number entry_blocks walk walk_from chain_from hash mixed of_bytes of_four of_three of_one
 family_is_kept = refl
 
 -- and both are candidates, the part for its parent
@@ -72,7 +72,7 @@ orphan : View
 orphan = sparse_view 1 0x90000001 ((0x90000001, node 0x90000001 0x90000001 0xA0010001) ∷ [])
 
 for_parent : (dropped_nodes no_bit ≡ (0x90000001, reason.Parent) ∷ []) × (dropped_nodes orphan ≡ (0x90000001, reason.Parent) ∷ [])
-unfolding no_bit orphan dropped_among verdicts load load_record load_key admit is_key_length key_of stream_of streams_of role_of parent_role part_role is_covered read_parent_index read_part_index read_name split_last child_name digits words_at is_named is_orphan record_claims all_claims claims_of has_claim overlap repeats kind_of block_count file_selector first_block external_number entry_blocks walk walk_from chain_from hash mixed of_bytes of_four of_three of_one
+unfolding no_bit orphan dropped_among verdicts load load_record load_key admit is_key_length key_of stream_of streams_of role_of parent_role part_role is_covered read_parent_index read_part_index read_name split_last child_name digits words_at shares_key is_orphan record_claims all_claims claims_of has_claim overlap repeats kind_of block_count file_selector first_block external_number entry_blocks walk walk_from chain_from hash mixed of_bytes of_four of_three of_one
 for_parent = (refl, refl)
 
 -- the part whose bit is 0 is a candidate all the same, and the one without its parent is none

@@ -15,7 +15,7 @@ use Rattle.blk_volume.specs.View.{StoreView}
 use Rattle.blk_volume.specs.Entries.{IsPart}
 use Rattle.blk_volume.specs.Reasons.{Reason, ◌>>=◌, demand}
 use Rattle.blk_volume.specs.Loads.{Rule, Loaded, load, is_part, record_claims, all_claims, claims_of_loaded}
-use Rattle.blk_volume.specs.Audit.{same_answer, admit, is_child, is_claimed, is_named, is_parent_of, is_orphan, is_orphan_role, verdict, with_verdict, verdicts, tried, verdict_on, judged, kept_of, kept_as, is_kept, kept_nodes, kept_among}
+use Rattle.blk_volume.specs.Audit.{same_answer, admit, is_child, is_claimed, shares_key, is_parent_of, is_orphan, is_orphan_role, verdict, with_verdict, verdicts, tried, verdict_on, judged, kept_of, kept_as, is_kept, kept_nodes, kept_among}
 use Rattle.blk_volume.specs.Shown.{Apart, IsShown}
 use Rattle.blk_laws.specs.KeptLaws.{IsDroppedIfLeftOut}
 use Rattle.blk_laws.proofs.Lists.{eqb-sym, is_among-append}
@@ -101,8 +101,8 @@ answer-both true false = refl
 answer-both false true = refl
 answer-both false false = refl
 
-named-back : (k l : Loaded) → is_named (k ∷ []) l ≡ false → is_named (l ∷ []) k ≡ false
-unfolding is_named
+named-back : (k l : Loaded) → shares_key (k ∷ []) l ≡ false → shares_key (l ∷ []) k ≡ false
+unfolding shares_key
 named-back k l e = rw (answer-both (is_part l) (is_part k), bytes-both l.key k.key) e
 
 pub apart-back : (k l : Loaded) → Apart k l → Apart l k
@@ -119,7 +119,7 @@ pub record IsAdmitted (store : StoreView) (rule : Rule) (kept : List Loaded) (no
   pub loads : load store rule node ≡ Ok loaded
   pub single : repeats (record_claims loaded) ≡ false
   pub claims : overlap (claims_of_loaded kept) (all_claims loaded) ≡ false
-  pub names : is_named kept loaded ≡ false
+  pub names : shares_key kept loaded ≡ false
   pub parent : is_orphan kept loaded ≡ false
 
 pub admitted-is : (store : StoreView) (rule : Rule) (kept : List Loaded) (node : ℕ) (loaded : Loaded) → verdict store rule kept node ≡ Ok loaded → IsAdmitted store rule kept node loaded
@@ -127,19 +127,19 @@ unfolding admit
 admitted-is store rule kept node loaded ok =
     bind_then (load store rule node) (admit kept) loaded ok (λ m loads ok.
     demand_then (not (is_claimed kept m)) reason.Claimed _ loaded ok (λ claimed ok.
-    demand_then (not (is_named kept m)) reason.Name _ loaded ok (λ node_fields ok.
+    demand_then (not (shares_key kept m)) reason.Name _ loaded ok (λ node_fields ok.
     demand_then (not (is_orphan kept m)) reason.Parent _ loaded ok (λ orphan ok.
     let same : m ≡ loaded = cc in
     let claims = or_parts (repeats (record_claims m)) (overlap (claims_of_loaded kept) (all_claims m)) (not_true (is_claimed kept m) claimed) in
-    subst (IsAdmitted store rule kept node) same (record { loads = loads; single = claims.0; claims = claims.1; names = not_true (is_named kept m) node_fields; parent = not_true (is_orphan kept m) orphan })))))
+    subst (IsAdmitted store rule kept node) same (record { loads = loads; single = claims.0; claims = claims.1; names = not_true (shares_key kept m) node_fields; parent = not_true (is_orphan kept m) orphan })))))
 
 -- what was admitted among more is admitted among less, but for its parent
 pub record IsApartFrom (kept : List Loaded) (loaded : Loaded) : Type 0 where
   pub claims : overlap (claims_of_loaded kept) (all_claims loaded) ≡ false
-  pub names : is_named kept loaded ≡ false
+  pub names : shares_key kept loaded ≡ false
 
-named-parts : (xs ys : List Loaded) (loaded : Loaded) → is_named (xs ++ ys) loaded ≡ false → (is_named xs loaded ≡ false) × (is_named ys loaded ≡ false)
-unfolding is_named
+named-parts : (xs ys : List Loaded) (loaded : Loaded) → shares_key (xs ++ ys) loaded ≡ false → (shares_key xs loaded ≡ false) × (shares_key ys loaded ≡ false)
+unfolding shares_key
 named-parts xs ys loaded e = or_parts _ _ (sym (list_any-append (λ k. same_answer (is_part k) (is_part loaded) && bytes_eq k.key loaded.key) xs ys) ∙ e)
 
 apart-parts : (xs ys : List Loaded) (loaded : Loaded) → IsApartFrom (xs ++ ys) loaded → IsApartFrom xs loaded × IsApartFrom ys loaded

@@ -38,7 +38,7 @@ use Rattle.blk_volume.specs.Found.{charge_of}
 use Rattle.blk_volume.specs.Layout.{Layout, order}
 use Rattle.blk_volume.specs.Sound.{words_of, IsCounted}
 use Rattle.blk_volume.specs.StandsFor.{IsAllocated, IsOwner}
-use Rattle.blk_volume.specs.ListSteps.{touched_by, touched_by_writes}
+use Rattle.blk_volume.specs.ListSteps.{touched_by_write, touched_by_writes}
 use Rattle.blk_volume.specs.Tidy.{IsTidy, loaded_at, doomed_nodes}
 use Rattle.blk_laws.proofs.Moving.{counts-add, sums-add, moved-same, moved-among, moved-distinct}
 use Rattle.blk_laws.proofs.ListFootprints.{or_none, spares_headers, spares_sizes}
@@ -66,8 +66,8 @@ touch_sizes writes node file = or_none _ _ (spares_sizes writes file) refl
 word_apart : (at i : ℕ) → i < at → (nat_le at i && nat_lt i (at + 4)) ≡ false
 word_apart at i below = grind (arith, nat_tests)
 
-write_apart : (write : ListWrite) (i : ℕ) → i < 288 → (touched_by write).bytes Index i ≡ false
-unfolding touched_by
+write_apart : (write : ListWrite) (i : ℕ) → i < 288 → (touched_by_write write).bytes Index i ≡ false
+unfolding touched_by_write
 write_apart (Next w x) i small = refl
 write_apart (Prev w x) i small = refl
 write_apart (Head x) i small = word_apart 288 i small
@@ -99,7 +99,7 @@ named-kind image w node_fields e = go (stands_as image rankings w) refl e where
   go false stands h = cc
 
 elsewhere : (writes : List ListWrite) (n : ℕ) → AreOf (λ w. file_selector w ≢ n) writes → (i : ℕ) → (touched_by_writes writes).bytes (Block n) i ≡ false
-unfolding touched_by
+unfolding touched_by_write
 elsewhere [] n apart i = refl
 elsewhere (Next w x ∷ writes) n apart i = or_none _ _ (record_apart w n i apart.0) (elsewhere writes n apart.1 i)
 elsewhere (Prev w x ∷ writes) n apart i = or_none _ _ (record_apart w n i apart.0) (elsewhere writes n apart.1 i)

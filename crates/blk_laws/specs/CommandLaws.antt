@@ -37,7 +37,7 @@ abbrev pub UnsettledObjectsMayChange : Type 0
 UnsettledObjectsMayChange = (except : ℕ → Bool) (store : StoreView) (state : State) (layout : Layout) → HoldsExcept except store state layout → IsValidState state → (key : List ℕ) → IsInProgress except store state layout key → Distinct (order state layout)
     → map row_of (kept_among store held_rule (order state layout)) ≡ rest state
 
--- at any moment of a change inside the footprint of a node of an unsettled object, its main item's or a part's, what is kept is what is at rest
+-- in the midst of a change inside the footprint of a node of an unsettled object, its main item's or a part's, what is kept is what is at rest
 abbrev pub UnsettledChangesAreAtRest : Type 0
 UnsettledChangesAreAtRest = (touched : Claim → Bool) (old new : View) (state : State) (layout : Layout) → Represents old state layout → IsValidState state → (number : ℕ) (object : Object) (item : Item) → object_at state number ≡ Some object → has_item object item ≡ true → object.settled ≡ false
     → (loaded : Loaded) → layout.at (layout.place item) ≡ Some loaded → SameBut touched old new → IsInside touched old new layout (layout.place item) loaded → KeepsName old.store new.store item loaded.contents → map row_of (kept_by held_rule (completed new)) ≡ rest state
@@ -125,7 +125,7 @@ ChangedDoomedObjectsAreRepresented = (touched : Claim → Bool) (old new : View)
     → SameBut touched old new → IsFreeBut (layout.place_of_doomed number) touched layout → load new.store (rule_of layout (layout.place_of_doomed number)) (layout.place_of_doomed number) ≡ Ok now → IsDoomedChange layout (layout.place_of_doomed number) other now owner
     → Represents new (with_slot number (Some other) state) (changed_at layout (layout.place_of_doomed number) now owner)
 
--- at any moment of a change there, also where its record is torn, what is kept is what is at rest
+-- in the midst of a change there, also where its record is torn, what is kept is what is at rest
 abbrev pub DoomedChangesAreAtRest : Type 0
 DoomedChangesAreAtRest = (touched : Claim → Bool) (old new : View) (state : State) (layout : Layout) → Represents old state layout → IsValidState state → (number : ℕ) (object : Object) → object_at state number ≡ Some object → object.live ≡ false
     → SameBut touched old new → IsFreeBut (layout.place_of_doomed number) touched layout → map row_of (kept_by held_rule (completed new)) ≡ rest state

@@ -1,6 +1,6 @@
 //! The laws of what a cache folder holds, each the contract of a function with an empty body.
 //!
-//! They say that the definitions of `blk_volume` fit together: what is kept, what represents a state, what changes leave, and what a folder shows at each moment of a write.
+//! They say that the definitions of `blk_volume` fit together: what is kept, what represents a state, what changes leave, and what a folder shows at each word of a write.
 #![tactic(auto)]
 
 ghost use Rattle.blk_laws.specs.AllocationLaws.{SoundFilesAreAllocated, StoodForFilesAreAllocated};
@@ -168,7 +168,7 @@ pub fn dirty_words_settle()
     ensures written { WrittenDirtyWordsSettle }
 {}
 
-/// A doomed object may change at its node, and its dirty word settles and unsettles it, and it may go; at each moment what is kept is what is at rest.
+/// A doomed object may change at its node, and its dirty word settles and unsettles it, and it may go; at each word what is kept is what is at rest.
 pub fn doomed_objects_change()
     ensures laid { ChangedDoomedObjectsArePlaced }
     ensures represented { ChangedDoomedObjectsAreRepresented }

@@ -6,7 +6,7 @@ use Rattle.blk_format.specs.BlockFiles.{is_among}
 use Rattle.blk_volume.specs.ListView.{ListView, first_or, last_or, Distinct, Segment, IsList}
 use Rattle.blk_laws.proofs.ListCompletions.{last_good}
 use Rattle.blk_laws.proofs.Lists.{split, last-append, not_zero, apart_right, Distinct-right, eqb-sym}
-use Rattle.blk_lru.specs.Lists.{first_of, last_of}
+use Rattle.blk_lru.specs.Lists.{first_node_of, last_node_of}
 use Rattle.blk_lru.specs.Plans.{word_or_zero}
 
 -- a list around one of its words
@@ -41,13 +41,13 @@ no_some : (w : ℕ) → Some w ≡ None → ⊥
 no_some w e = cc
 
 -- the head names the first node
-pub head_names : (list : ListView) (nodes : List ℕ) → IsList list nodes → (if list.head == 0 then None else Some list.head) ≡ first_of nodes
+pub head_names : (list : ListView) (nodes : List ℕ) → IsList list nodes → (if list.head == 0 then None else Some list.head) ≡ first_node_of nodes
 head_names list [] is = at_end list list.head None is.no_zero (λ e. is.head_is) (λ w e. absurd (no_none w e))
 head_names list (x ∷ xs) is =
     at_end list list.head (Some x) is.no_zero (λ e. absurd (no_some x e)) (λ w e. (is.head_is ∙ some_eq x w e, ap list.checks (sym (some_eq x w e)) ∙ is.linked.0.good))
 
 -- the tail names the last
-pub tail_names : (list : ListView) (nodes : List ℕ) → IsList list nodes → (if list.tail == 0 then None else Some list.tail) ≡ last_of nodes
+pub tail_names : (list : ListView) (nodes : List ℕ) → IsList list nodes → (if list.tail == 0 then None else Some list.tail) ≡ last_node_of nodes
 tail_names list [] is = at_end list list.tail None is.no_zero (λ e. is.tail_is) (λ w e. absurd (no_none w e))
 tail_names list (x ∷ xs) is =
     at_end list list.tail (Some (last_or x xs)) is.no_zero (λ e. absurd (no_some (last_or x xs) e))
@@ -67,8 +67,8 @@ pub record Linked (list : ListView) (prefix : List ℕ) (node : ℕ) (suffix : L
   pub good : list.checks node ≡ true
   pub next_good : list.checks (list.next node) ≡ true
   pub prev_good : list.checks (list.prev node) ≡ true
-  pub next_is : (if list.next node == node then None else Some (list.next node)) ≡ first_of suffix
-  pub prev_is : (if list.prev node == node then None else Some (list.prev node)) ≡ last_of prefix
+  pub next_is : (if list.next node == node then None else Some (list.next node)) ≡ first_node_of suffix
+  pub prev_is : (if list.prev node == node then None else Some (list.prev node)) ≡ last_node_of prefix
 
 self : (word node : ℕ) → word ≡ node → (if word == node then None else Some word) ≡ None
 self word node e = let t : (word == node) ≡ true = eq-eqb word node e in rw t refl

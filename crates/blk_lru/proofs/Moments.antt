@@ -14,7 +14,7 @@ use Rattle.blk_volume.specs.ListPlans.{CommitsAtTwo, completion_writes}
 use Rattle.blk_volume.specs.Completion.{completed_list}
 use Rattle.blk_volume.specs.Walk.{walk}
 use Rattle.blk_volume.specs.View.{list_of}
-use Rattle.blk_volume.specs.ListSteps.{IsPartly, IsTouched, touched_by, touched_by_writes}
+use Rattle.blk_volume.specs.ListSteps.{IsPartly, IsTouched, touched_by_write, touched_by_writes}
 use Rattle.blk_laws.proofs.WordStops.{partly-alike}
 use Rattle.blk_laws.proofs.WriteSteps.{nothing_made}
 use Rattle.blk_disk.proofs.Agreeing.{agrees_still}
@@ -29,8 +29,8 @@ or_none a b p q = rw (p, q) refl
 spare_record : (w n i : ℕ) → i < 8192 → (record_range w).bytes (Block n) i ≡ false
 spare_record w n i small = (subst (λ (at : ℕ). SparesHeaders (range (Block (file_selector w)) at (record_size w))) (let e : place w + 0 ≡ place w = omega arith in e) (blocks_spare (Block (file_selector w)) w 0 (record_size w))).bytes n i small
 
-spare_write : (write : ListWrite) (n i : ℕ) → i < 8192 → (touched_by write).bytes (Block n) i ≡ false
-unfolding touched_by
+spare_write : (write : ListWrite) (n i : ℕ) → i < 8192 → (touched_by_write write).bytes (Block n) i ≡ false
+unfolding touched_by_write
 spare_write (Next w x) n i small = spare_record w n i small
 spare_write (Prev w x) n i small = spare_record w n i small
 spare_write (Head x) n i small = refl
@@ -42,8 +42,8 @@ spares_bytes : (writes : List ListWrite) (n i : ℕ) → i < 8192 → (touched_b
 spares_bytes [] n i small = refl
 spares_bytes (write ∷ writes) n i small = or_none _ _ (spare_write write n i small) (spares_bytes writes n i small)
 
-spare_size : (write : ListWrite) (file : File) → (touched_by write).sizes file ≡ false
-unfolding touched_by
+spare_size : (write : ListWrite) (file : File) → (touched_by_write write).sizes file ≡ false
+unfolding touched_by_write
 spare_size (Next w x) file = refl
 spare_size (Prev w x) file = refl
 spare_size (Head x) file = refl

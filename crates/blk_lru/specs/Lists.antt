@@ -29,10 +29,10 @@ pub record CanBeTouched (image : Image) (node : ℕ) : Type 0 where
   pub linked : (list_of image).head ≢ node → IsLinked (list_of image) node
 
 -- the first, and the last, of some words
-abbrev pub first_of : List ℕ → Option ℕ
-first_of [] = None
-first_of (word ∷ words) = Some word
+abbrev pub first_node_of : List ℕ → Option ℕ
+first_node_of [] = None
+first_node_of (word ∷ words) = Some word
 
-abbrev pub last_of : List ℕ → Option ℕ
-last_of [] = None
-last_of (word ∷ words) = Some (last_or word words)
+abbrev pub last_node_of : List ℕ → Option ℕ
+last_node_of [] = None
+last_node_of (word ∷ words) = Some (last_or word words)

@@ -12,7 +12,7 @@ ghost use Rattle.blk_io.specs.Faults.{IfDamaged, IfDevice};
 ghost use Rattle.blk_disk.specs.Tables.{Agrees};
 ghost use Rattle.blk_lru.specs.Damages.{IsHeadDamage, IsLinkDamage, IsTailDamage, IsWordDamage};
 ghost use Rattle.blk_lru.specs.Nodes.{is_node, link_at, IsNodeOrNone};
-ghost use Rattle.blk_lru.specs.Lists.{IsListed, IsListAtRest, first_of, last_of};
+ghost use Rattle.blk_lru.specs.Lists.{IsListed, IsListAtRest, first_node_of, last_node_of};
 ghost use Rattle.blk_lru.specs.Plans.{word_or_zero};
 
 use crate::nodes::{link, node_of};
@@ -31,7 +31,7 @@ pub(crate) const TAIL: u32 = IndexHead::TAILS as u32;
 ///
 /// A word that is neither 0 nor the address of a node that stands is a damage.
 pub fn first<F: Folder>(f: &mut F, files: &BlockFiles) -> Result<Option<Addr>, Fault>
-    ensures node { IfOk result (λ node. ForSome (F.told f.old).files (λ image. IsListAtRest image → node ≡ first_of (walked image))) }
+    ensures node { IfOk result (λ node. ForSome (F.told f.old).files (λ image. IsListAtRest image → node ≡ first_node_of (walked image))) }
     ensures word { IfOk result (λ node. ForSome (F.told f.old).files (λ image. word_or_zero node ≡ (list_of image).head)) }
     ensures stands { IfOk result (λ node. IfSome node (λ n. IsTrue (is_node files.now n))) }
     ensures checked { OnOk result (ForSome (F.told f.old).files (λ image. HasRange image index IndexHead.HEADS 4)) }
@@ -51,7 +51,7 @@ pub fn first<F: Folder>(f: &mut F, files: &BlockFiles) -> Result<Option<Addr>, F
 ///
 /// A word that is neither 0 nor the address of a node that stands is a damage.
 pub fn last<F: Folder>(f: &mut F, files: &BlockFiles) -> Result<Option<Addr>, Fault>
-    ensures node { IfOk result (λ node. ForSome (F.told f.old).files (λ image. IsListAtRest image → node ≡ last_of (walked image))) }
+    ensures node { IfOk result (λ node. ForSome (F.told f.old).files (λ image. IsListAtRest image → node ≡ last_node_of (walked image))) }
     ensures word { IfOk result (λ node. ForSome (F.told f.old).files (λ image. word_or_zero node ≡ (list_of image).tail)) }
     ensures stands { IfOk result (λ node. IfSome node (λ n. IsTrue (is_node files.now n))) }
     ensures checked { OnOk result (ForSome (F.told f.old).files (λ image. HasRange image index IndexHead.TAILS 4)) }
@@ -72,7 +72,7 @@ pub fn last<F: Folder>(f: &mut F, files: &BlockFiles) -> Result<Option<Addr>, Fa
 /// A link that isn't the address of a node that stands is a damage.
 pub fn before<F: Folder>(f: &mut F, files: &BlockFiles, node: Addr) -> Result<Option<Addr>, Fault>
     requires stands { IsTrue (is_node files.now node) }
-    ensures node { IfOk result (λ found. ForSome (F.told f.old).files (λ image. Agrees files.now image → (prefix suffix : List ℕ) → HasListAtRest (prefix ++ node ∷ suffix) image → found ≡ last_of prefix)) }
+    ensures node { IfOk result (λ found. ForSome (F.told f.old).files (λ image. Agrees files.now image → (prefix suffix : List ℕ) → HasListAtRest (prefix ++ node ∷ suffix) image → found ≡ last_node_of prefix)) }
     ensures word { IfOk result (λ found. ForSome (F.told f.old).files (λ image. found ≡ (if link_at image node NodeView.PREV == node then None else Some (link_at image node NodeView.PREV)))) }
     ensures stands { IfOk result (λ found. IfSome found (λ n. IsTrue (is_node files.now n))) }
     ensures checked { OnOk result (ForSome (F.told f.old).files (λ image. HasRange image (block (file_selector node)) (place node + NodeView.PREV) 4)) }
@@ -94,7 +94,7 @@ pub fn before<F: Folder>(f: &mut F, files: &BlockFiles, node: Addr) -> Result<Op
 /// A link that isn't the address of a node that stands is a damage.
 pub fn after<F: Folder>(f: &mut F, files: &BlockFiles, node: Addr) -> Result<Option<Addr>, Fault>
     requires stands { IsTrue (is_node files.now node) }
-    ensures node { IfOk result (λ found. ForSome (F.told f.old).files (λ image. Agrees files.now image → (prefix suffix : List ℕ) → HasListAtRest (prefix ++ node ∷ suffix) image → found ≡ first_of suffix)) }
+    ensures node { IfOk result (λ found. ForSome (F.told f.old).files (λ image. Agrees files.now image → (prefix suffix : List ℕ) → HasListAtRest (prefix ++ node ∷ suffix) image → found ≡ first_node_of suffix)) }
     ensures word { IfOk result (λ found. ForSome (F.told f.old).files (λ image. found ≡ (if link_at image node NodeView.NEXT == node then None else Some (link_at image node NodeView.NEXT)))) }
     ensures stands { IfOk result (λ found. IfSome found (λ n. IsTrue (is_node files.now n))) }
     ensures checked { OnOk result (ForSome (F.told f.old).files (λ image. HasRange image (block (file_selector node)) (place node + NodeView.NEXT) 4)) }

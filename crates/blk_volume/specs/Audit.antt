@@ -31,8 +31,8 @@ abbrev pub same_answer : Bool → Bool → Bool
 same_answer one other = if one then other else not other
 
 -- a kept record with the same child flag has the same key
-unfoldable pub is_named : List Loaded → Loaded → Bool
-is_named kept loaded = list_any (λ k. same_answer (is_part k) (is_part loaded) && bytes_eq k.key loaded.key) kept
+unfoldable pub shares_key : List Loaded → Loaded → Bool
+shares_key kept loaded = list_any (λ k. same_answer (is_part k) (is_part loaded) && bytes_eq k.key loaded.key) kept
 
 -- a key and a role are those of the parent that a part's name says, with the bit of the part
 abbrev pub is_parent_role : Name → List ℕ → Role → Bool
@@ -58,7 +58,7 @@ is_orphan kept loaded = is_orphan_role kept loaded.role
 unfoldable pub admit : List Loaded → Loaded → Result Loaded Reason
 admit kept loaded = do
   _ ← demand (not (is_claimed kept loaded)) reason.Claimed
-  _ ← demand (not (is_named kept loaded)) reason.Name
+  _ ← demand (not (shares_key kept loaded)) reason.Name
   _ ← demand (not (is_orphan kept loaded)) reason.Parent
   Ok loaded
 

@@ -110,7 +110,7 @@ abbrev pub KeepsName : StoreView → StoreView → Item → ℕ → Type 0
 KeepsName old new (main key) contents = Unit {0}
 KeepsName old new (part key n) contents = (was now : RecordFields) → old.entry contents ≡ Some was → new.entry contents ≡ Some now → (now.flags ≡ was.flags) × (key_of new contents now ≡ key_of old contents was)
 
--- a block is there as one of a type: its file is linked as that, and the block is below max_entries and ends inside the file
+-- a block is there as one of a kind: its file is linked as that, and the block is below max_entries and ends inside the file
 unfoldable pub is_there : Image → ℕ → ℕ → ℕ → Bool
 is_there image n kind b = is_linked_as (linked_as image n) kind && nat_le (b + 1) (max_entries_in image n) && nat_le (block_place kind (b + 1)) (length_of image (Block n))
 

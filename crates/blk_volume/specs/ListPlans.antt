@@ -29,8 +29,8 @@ abbrev pub touch_writes : (node : ℕ) → ListView → List ListWrite
 touch_writes node list = if list.head == node then [] else writes_of move node list
 
 -- what completing gives, but for the operation word, which nobody reads while no transaction is in flight
-unfoldable pub outcome : ListView → ListView
-outcome list = record (completed_list list) { operation = 0 }
+unfoldable pub completed_but_operation : ListView → ListView
+completed_but_operation list = record (completed_list list) { operation = 0 }
 
 -- P holds before each of these writes and after the last
 abbrev pub AtEachWrite : (ListView → Type 0) → List ListWrite → ListView → Type 0
