@@ -164,7 +164,7 @@ pub trait Folder {
         ensures failed { OnErr result (Rises (faults self.old) (faults self.new)) };
 
     /// The files are the start files after the steps.
-    ghost agrees: { (folder : Self) → Agrees (told folder) };
+    ghost agrees: { (folder : Self) → AgreesWithTrail (told folder) };
 
     /// The files hold bytes.
     ghost are_bytes: { (folder : Self) → TellsBytes (told folder) };
