@@ -179,7 +179,7 @@ module _ (touched : Claim → Bool) (old new : Image) (same : AgreeBut touched o
       same.externals (external_number w) (clear (ExternalOf (external_number w)) (external-claim w (λ e. let a : is_address 0 ≡ true = ap is_address (sym e) ∙ address in let c : false ≡ true = sym zero-no_address ∙ a in cc) is))
 
   -- an address that is clear stands in both or in neither
-  stands-same : (w : ℕ) → IsClear touched w → stands_in new w ≡ stands_in old w
+  pub stands-same : (w : ℕ) → IsClear touched w → stands_in new w ≡ stands_in old w
   unfolding stands
   stands-same w clear = and_under (is_address w) _ _ (λ address. ⊎_elim
       (λ (e : (kind_of w == external) ≡ true). rw e (ap (λ (f : Option (List ℕ)). is_some f) (external-of w address (eqb-true (kind_of w) external e) clear)))
@@ -229,13 +229,13 @@ module _ (touched : Claim → Bool) (old new : Image) (same : AgreeBut touched o
   entry-size = refl
 
   -- the node and the record of a clear address
-  node-same : (w : ℕ) → stands_as old rankings w ≡ true → IsClear touched w → node_at new w ≡ node_at old w
+  pub node-same : (w : ℕ) → stands_as old rankings w ≡ true → IsClear touched w → node_at new w ≡ node_at old w
   node-same w e clear =
       let s = standing rankings w e in
       sym (same-node_in (place w) (block_bytes old w) (block_bytes new w) (part_of (place w) (byte_size w) (place w) 36 (block_bytes old w) (block_bytes new w) (blocks-same w s.0 (λ x. node_apart (sym s.1 ∙ x)) clear) (omega arith)
       (let b : 36 ≤ byte_size w = room-for rankings w 36 e (omega (arith, node-size)) in omega arith)))
 
-  entry-same : (w : ℕ) → stands_as old blocks_256 w ≡ true → IsClear touched w → entry_at new w ≡ entry_at old w
+  pub entry-same : (w : ℕ) → stands_as old blocks_256 w ≡ true → IsClear touched w → entry_at new w ≡ entry_at old w
   entry-same w e clear =
       let s = standing blocks_256 w e in
       sym (same-entry_in (place w) (block_bytes old w) (block_bytes new w) (part_of (place w) (byte_size w) (place w) 96 (block_bytes old w) (block_bytes new w) (blocks-same w s.0 (λ x. entry_apart (sym s.1 ∙ x)) clear) (omega arith)

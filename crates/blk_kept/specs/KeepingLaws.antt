@@ -1,0 +1,33 @@
+-- The laws of the invariant: what it gives, and which folders have it.
+use Rattle.std.specs.Prelude.{◌≡◌, ◌≢◌, ℕ, List, [], true, IfSome, ◌&&◌}
+use Rattle.blk_model.specs.State.{State, Bounds, object_at}
+use Rattle.blk_model.specs.Holding.{open_state, rest}
+use Rattle.blk_image.specs.Image.{Index, Image, byte}
+use Rattle.blk_format.specs.Headers.{crash_of, this_id_of}
+use Rattle.blk_volume.specs.Found.{found}
+use Rattle.blk_volume.specs.Layout.{Layout}
+use Rattle.blk_volume.specs.Emptiness.{no_layout}
+use Rattle.blk_volume.specs.Sound.{IsSound}
+use Rattle.blk_volume.specs.StandsFor.{StandsFor}
+use Rattle.blk_laws.specs.BareLaws.{HasNoEntries}
+use Rattle.blk_kept.specs.Keeping.{KeepsUncounted, Keeps}
+
+-- what is found is what is at rest, whatever is unlinked or uncounted
+abbrev pub KeptStatesAreFound : Type 0
+KeptStatesAreFound = (state : State) (layout : Layout) (unlinked : List ℕ) (image : Image) → KeepsUncounted state layout unlinked image → found image ≡ rest state
+
+-- with nothing unlinked the image stands for the state
+abbrev pub KeptStatesAreStoodFor : Type 0
+KeptStatesAreStoodFor = (state : State) (layout : Layout) (image : Image) → Keeps state layout [] image → StandsFor image state
+
+-- each object is live and settled
+abbrev pub AllAreAtRest : State → Type 0
+AllAreAtRest state = (number : ℕ) → IfSome (object_at state number) (λ object. (object.live && object.settled) ≡ true)
+
+-- and it is sound, where each object is live and settled
+abbrev pub KeptStatesAreSound : Type 0
+KeptStatesAreSound = (state : State) (layout : Layout) (image : Image) → Keeps state layout [] image → AllAreAtRest state → IsSound image
+
+-- a folder without entries, in which a session is open, keeps the empty state
+abbrev pub FoldersWithoutEntriesKeepTheEmptyState : Type 0
+FoldersWithoutEntriesKeepTheEmptyState = (image : Image) (limits : Bounds) → HasNoEntries image → crash_of (byte image Index) ≡ 1 → this_id_of (byte image Index) ≢ 0 → Keeps (open_state [] limits) no_layout [] image
