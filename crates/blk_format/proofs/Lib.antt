@@ -21,3 +21,5 @@ pub mod Seals
 pub mod SealedRecords
 pub mod SealedFields
 pub mod Growths
+pub mod Groups
+pub mod Heads

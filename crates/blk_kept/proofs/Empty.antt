@@ -49,7 +49,6 @@ empty-kept image limits bare crash id = record {
       only_linked = bare.only_linked;
       long_enough = λ n kind linked. let f : IsFileWithoutBlocks image n = bare.blocks n (rw linked refl) in rw f.max_entries (omega (arith, f.long_enough));
     };
-    few = λ kind. omega arith;
     unlinked_words = record { stand = tt; free = λ claim e. absurd (let z : false ≡ true = e in cc); single = refl };
     sealed = λ node loaded e. absurd (cc);
     session = record { crash = crash; id = id; marked = λ number o is live unsettled. tt };

@@ -1,2 +1,5 @@
 pub mod Keeping
 pub mod Empty
+pub mod Headers
+pub mod Free
+pub mod Writes

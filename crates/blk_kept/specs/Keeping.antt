@@ -1,11 +1,10 @@
 -- What a folder keeps between two calls of a command: a state, by where it lies, and the address words that the command has and nobody names yet.
-use Rattle.std.specs.Prelude.{◌≡◌, ◌≢◌, ℕ, ◌<◌, ◌≤◌, ◌%◌, ◌^◌, List, ◌++◌, length, filter, Bool, true, false, ◌==◌, IfSome, is_some}
-use Rattle.std.specs.List.{AllByRecursion, count_by, flat_map, sum_by}
+use Rattle.std.specs.Prelude.{◌≡◌, ◌≢◌, ℕ, ◌<◌, ◌%◌, ◌^◌, List, ◌++◌, length, filter, true, false, IfSome, is_some}
+use Rattle.std.specs.List.{AllByRecursion, flat_map, sum_by}
 use Rattle.std.specs.declared.option.Option.TheVariants.{None, Some}
 use Rattle.blk_model.specs.Items.{main}
 use Rattle.blk_model.specs.State.{State, Object, IsValidState, object_at}
 use Rattle.blk_image.specs.Image.{Index, Block, External, Image, byte, has_file}
-use Rattle.blk_format.specs.Address.{kind_of}
 use Rattle.blk_format.specs.BlockFiles.{linked_as, stands_in, IsWellFormed}
 use Rattle.blk_format.specs.Claims.{Claim, ExternalOf, claims_of_all, has_claim, is_in_file, repeats}
 use Rattle.blk_format.specs.Headers.{crash_of, num_bytes_of, num_entries_of, sizes_of, this_id_of, updating_of}
@@ -47,18 +46,6 @@ pub record AreFiles (image : Image) (words : List ℕ) : Type 0 where
   pub externals : (n : ℕ) → n < 2 ^ 32 → has_file image (External n) ≡ has_claim (claims_of_all words) (ExternalOf n)
   pub only_linked : OnlyLinked image
   pub long_enough : AreLongEnough image
-
--- the most allocations of one kind: five for each of 131072 objects, and two of a command in progress
-abbrev pub most_of_kind : ℕ
-most_of_kind = 655362
-
--- whether an address word is of a kind
-abbrev pub is_of_kind : ℕ → ℕ → Bool
-is_of_kind kind w = kind_of w == kind
-
--- no kind has too many allocations
-abbrev pub AreFew : List ℕ → Type 0
-AreFew words = (kind : ℕ) → count_by (is_of_kind kind) words ≤ most_of_kind
 
 -- Owners.
 
@@ -112,8 +99,6 @@ pub record KeepsUncounted (state : State) (layout : Layout) (unlinked : List ℕ
   pub owners : AreOwners state layout numbers
   -- maps, counters, lengths, links and external files are exactly those of the words in use
   pub files : AreFiles image (words_in_use unlinked (all_loaded state layout numbers))
-  -- of which no kind has too many
-  pub few : AreFew (words_in_use unlinked (all_loaded state layout numbers))
   -- the unlinked words are nobody's
   pub unlinked_words : AreUnlinked image layout unlinked
   -- nodes and records are sealed

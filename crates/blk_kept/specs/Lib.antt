@@ -1,2 +1,4 @@
 pub mod Keeping
 pub mod KeepingLaws
+pub mod Changes
+pub mod ChangeLaws

@@ -2,6 +2,7 @@
 #![tactic(auto)]
 
 ghost use Rattle.blk_kept.specs.KeepingLaws.{KeptStatesAreFound, KeptStatesAreStoodFor, KeptStatesAreSound, FoldersWithoutEntriesKeepTheEmptyState};
+ghost use Rattle.blk_kept.specs.ChangeLaws.{WhatIsKeptIsFound, SameCountersCountTheSame, UnlinkedPlacesMayChange, BlockWritesChangeOnly, ExternalWritesChangeOnly, OtherWordsChangeOnly, GrowthFindsTheSame};
 
 /// What is found in a folder that keeps a state is what is at rest in it. With nothing unlinked the folder stands for the state, and it is sound where each object is live and settled.
 pub fn kept_states_are_stood_for()
@@ -13,4 +14,23 @@ pub fn kept_states_are_stood_for()
 /// A folder without entries keeps the empty state.
 pub fn folders_without_entries_keep_the_empty_state()
     ensures { FoldersWithoutEntriesKeepTheEmptyState }
+{}
+
+/// Where a call keeps the state what is at rest is found, and where it leaves the counters of the index they count the same.
+pub fn calls_keep_states()
+    ensures found { WhatIsKeptIsFound }
+    ensures counters { SameCountersCountTheSame }
+{}
+
+/// What unlinked words name may change, by writes into blocks and into external files; and so may a word of the index that is neither shown nor checked.
+pub fn unlinked_places_may_change()
+    ensures kept { UnlinkedPlacesMayChange }
+    ensures blocks { BlockWritesChangeOnly }
+    ensures externals { ExternalWritesChangeOnly }
+    ensures index { OtherWordsChangeOnly }
+{}
+
+/// While block files grow, what is at rest is found.
+pub fn growth_finds_the_same()
+    ensures { GrowthFindsTheSame }
 {}

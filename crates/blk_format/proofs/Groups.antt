@@ -1,13 +1,13 @@
 -- The longest run of a group, and how many groups have one.
 use Rattle.std.proofs.Common.{◌≡◌, ◌≢◌, ℕ, zero, suc, ◌+◌, ◌-◌, ◌*◌, ◌<◌, ◌≤◌, Bool, true, false, if◌then◌else◌, refl, sym, ◌∙◌, ap, ap₂, arith, ⊎_elim}
-use Rattle.std.specs.Prelude.{not, nat_lt}
+use Rattle.std.specs.Prelude.{◌==◌, not, nat_lt}
 use Rattle.std.specs.List.{list_any, list_all, count_by, range_with_len}
 use Rattle.std.proofs.lemmas.Grind.{common_steps}
 use Rattle.std.proofs.lemmas.List.Sums.{count_by-le-length}
 use Rattle.std.proofs.lemmas.List.FromFn.{length-range_with_len}
 use Rattle.std.proofs.lemmas.Bool.{cases_eq}
 use Rattle.std.proofs.lemmas.Bool.Decides.{nat_tests}
-use Rattle.blk_format.specs.Maps.{are_free, has_run, longest_run}
+use Rattle.blk_format.specs.Maps.{are_free, groups_with, has_run, longest_run}
 
 -- whether so many blocks side by side are free, where block i + j is told by i and j
 abbrev run_with : (ℕ → ℕ → Bool) → ℕ → Bool
@@ -88,3 +88,8 @@ counted_there p k s (suc n) low high =
 -- no more than all are counted
 pub counted_most : (p : ℕ → Bool) (s n : ℕ) → count_by p (range_with_len s n) ≤ n
 counted_most p s n = let few = count_by-le-length p (range_with_len s n) in omega (arith, few, length-range_with_len s n)
+
+-- groups whose blocks are marked alike
+pub groups_same : (p q : ℕ → Bool) (n run : ℕ) → ((b : ℕ) → b < 4 * n → p b ≡ q b) → groups_with p n run ≡ groups_with q n run
+unfolding groups_with
+groups_same p q n run same = count-same (λ g. longest_run p g == run) (λ g. longest_run q g == run) 0 n (λ g low small. ap (λ (r : ℕ). r == run) (longest_run-same p q g g (λ i few. same (4 * g + i) (omega (arith, small, few)))))
