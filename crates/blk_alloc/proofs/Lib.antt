@@ -1,5 +1,6 @@
 pub mod MapBits
 pub mod SideBySide
+pub mod Groups
 pub mod Headers
 pub mod Plans
 pub mod Changing

@@ -14,7 +14,7 @@ use Rattle.blk_addr.specs.Kind.{kind_number}
 use Rattle.blk_disk.specs.declared.tables.BlockFiles.{BlockFiles}
 use Rattle.blk_disk.specs.Tables.{Agrees, files_of, all_files}
 use Rattle.blk_disk.proofs.Joined.{among_kinds}
-use Rattle.blk_format.proofs.Heads.{HasHead, linked_checked}
+use Rattle.blk_alloc.proofs.Formed.{HasHead, linked_checked}
 
 pub kind_blocky : (k : Kind) → kind_number k ≢ external → is_block_kind (kind_number k) ≡ true
 kind_blocky External some = absurd (some refl)

@@ -31,7 +31,7 @@ use Rattle.blk_alloc.specs.Places.{is_place}
 use Rattle.blk_alloc.specs.Extending.{HasCounters, HasMostBlocks, HasNoHints, IsFirstGrowing, KeepsAll}
 use Rattle.blk_alloc.specs.Marking.{CanBeMarked, MarksUsed, taking_of}
 use Rattle.blk_alloc.specs.Allocating.{AreCounted, HaveNoRoom, Allocates, Extends, ExtendsInProgressIn, added_of, grown_of}
-use Rattle.blk_format.proofs.Heads.{count_whole}
+use Rattle.blk_alloc.proofs.Formed.{count_whole}
 use Rattle.blk_alloc.proofs.Fullness.{full_counts, many_full}
 use Rattle.blk_alloc.proofs.Hints.{taken_hints}
 use Rattle.blk_alloc.proofs.Members.{kind_small, member_all, member_head}

@@ -3,3 +3,6 @@ pub mod Empty
 pub mod Headers
 pub mod Free
 pub mod Writes
+pub mod Opened
+pub mod Examples
+pub mod Stopping

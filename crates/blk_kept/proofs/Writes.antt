@@ -3,8 +3,8 @@ use Rattle.std.proofs.Common.{◌≡◌, ℕ, ◌+◌, ◌<◌, ◌≤◌, ◌%�
 use Rattle.std.specs.Prelude.{◌==◌, ◌&&◌, nat_le, nat_lt}
 use Rattle.std.proofs.lemmas.Bool.{cases_Bool, eqb-true}
 use Rattle.std.proofs.lemmas.Bool.Decides.{nat_tests}
-use Rattle.blk_image.specs.Image.{Index, Block, External, File, byte, has_file, length_of, same_file, word}
-use Rattle.blk_image.specs.Footprint.{one_word, range, whole, IsWithin}
+use Rattle.blk_image.specs.Image.{Image, Index, Block, External, File, byte, has_file, length_of, same_file, word}
+use Rattle.blk_image.specs.Footprint.{SameOutside, one_word, range, whole, IsWithin}
 use Rattle.blk_image.proofs.Footprints.{same_file_outside, same_word_outside}
 use Rattle.blk_format.specs.Address.{byte_size, file_selector, place}
 use Rattle.blk_format.specs.BlockFiles.{is_among, IsWellFormed}
@@ -13,9 +13,10 @@ use Rattle.blk_format.proofs.SpareHeaders.{past_header}
 use Rattle.blk_image.specs.Checks.{first_of}
 use Rattle.blk_format.specs.Headers.{head_checks, list_checks, is_shown_place}
 use Rattle.blk_format.proofs.Finished.{well_formed-finished}
+use Rattle.blk_volume.specs.Footprint.{AgreeBut}
 use Rattle.blk_volume.specs.View.{view_of}
 use Rattle.blk_volume.specs.Layout.{Represents}
-use Rattle.blk_laws.specs.IndexWrites.{shown_words}
+use Rattle.blk_laws.specs.IndexWrites.{checked_words, shown_words}
 use Rattle.blk_laws.proofs.ByteChanges.{covered-agrees}
 use Rattle.blk_laws.proofs.Covers.{blocks-covered, covers-less, externals-covered, hidden-covered}
 use Rattle.blk_laws.proofs.Files.{growth-keeps}
@@ -23,6 +24,7 @@ use Rattle.blk_laws.proofs.IndexWords.{others-unchecked}
 use Rattle.blk_laws.proofs.Inside.{writes-inside}
 use Rattle.blk_laws.proofs.Standing.{found-at_rest}
 use Rattle.blk_laws.proofs.WellFormed.{well_formed_still}
+use Rattle.blk_kept.specs.Changes.{SameHeaders}
 use Rattle.blk_kept.specs.ChangeLaws.{kept_words, BlockWritesChangeOnly, ExternalWritesChangeOnly, OtherWordsChangeOnly, GrowthFindsTheSame}
 
 -- ---- blocks
@@ -93,18 +95,30 @@ hidden at i aligned small out low high = grind (arith, nat_tests)
 apart-from : (at p i : ℕ) → at % 4 ≡ 0 → p % 4 ≡ 0 → (p == at) ≡ false → p ≤ i → i < p + 4 → (nat_le at i && nat_lt i (at + 4)) ≡ false
 apart-from at p i aligned other differs low high = grind (arith, nat_tests)
 
+-- a word that is neither shown nor checked
+module _ (from image : Image) (at : ℕ) (aligned : at % 4 ≡ 0) (small : at < 368) (unshown : is_among shown_words at ≡ false) (unchecked : is_among checked_words at ≡ false) (same : SameOutside (one_word Index at) from image) where
+  pub word-agrees : AgreeBut (λ claim. false) from image
+  word-agrees = covered-agrees (one_word Index at) from image (λ claim. false) same (hidden-covered from at 4 (λ i low high. hidden at i aligned small unshown low high))
+
+  pub word-headers : SameHeaders from image
+  word-headers = record { headers = λ m i below. same.bytes (Block m) i refl; lengths = λ m. same.lengths (Block m) refl; files = λ file. same.files file refl }
+
+  pub word-formed : IsWellFormed from → IsWellFormed image
+  word-formed = others-unchecked from image at aligned unchecked same
+
+  pub other-word : (p : ℕ) → p % 4 ≡ 0 → (p == at) ≡ false → word image Index p ≡ word from Index p
+  other-word p even differs = same_word_outside (one_word Index at) from image Index p same (λ k low high. apart-from at p k aligned even differs low high)
+
+not-kept : (at p : ℕ) → is_among kept_words at ≡ false → is_among kept_words p ≡ true → (p == at) ≡ false
+not-kept at p unkept e = ⊎_elim (λ (t : (p == at) ≡ true). absurd (let z : true ≡ false = sym e ∙ ap (is_among kept_words) (eqb-true p at t) ∙ unkept in cc)) (λ (t : (p == at) ≡ false). t) (cases_Bool (p == at))
+
 pub index-words : OtherWordsChangeOnly
 index-words from image at aligned small unshown unchecked unkept same = record {
-  agree = covered-agrees (one_word Index at) from image (λ claim. false) same (hidden-covered from at 4 (λ i low high. hidden at i aligned small unshown low high));
-  headers = record { headers = λ m i below. same.bytes (Block m) i refl; lengths = λ m. same.lengths (Block m) refl; files = λ file. same.files file refl };
-  session = record {
-    crash = same_word_outside (one_word Index at) from image Index 32 same (λ k low high. apart-from at 32 k aligned refl (kept 32 refl) low high);
-    id = same_word_outside (one_word Index at) from image Index 20 same (λ k low high. apart-from at 20 k aligned refl (kept 20 refl) low high);
-  };
-  well_formed = others-unchecked from image at aligned unchecked same;
-} where
-  kept : (p : ℕ) → is_among kept_words p ≡ true → (p == at) ≡ false
-  kept p e = ⊎_elim (λ (t : (p == at) ≡ true). absurd (let z : true ≡ false = sym e ∙ ap (is_among kept_words) (eqb-true p at t) ∙ unkept in cc)) (λ (t : (p == at) ≡ false). t) (cases_Bool (p == at))
+  agree = word-agrees from image at aligned small unshown unchecked same;
+  headers = word-headers from image at aligned small unshown unchecked same;
+  session = record { crash = other-word from image at aligned small unshown unchecked same 32 refl (not-kept at 32 unkept refl); id = other-word from image at aligned small unshown unchecked same 20 refl (not-kept at 20 unkept refl) };
+  well_formed = word-formed from image at aligned small unshown unchecked same;
+}
 
 -- ---- growth
 

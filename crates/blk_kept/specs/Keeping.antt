@@ -1,5 +1,5 @@
 -- What a folder keeps between two calls of a command: a state, by where it lies, and the address words that the command has and nobody names yet.
-use Rattle.std.specs.Prelude.{◌≡◌, ◌≢◌, ℕ, ◌<◌, ◌%◌, ◌^◌, List, ◌++◌, length, filter, true, false, IfSome, is_some}
+use Rattle.std.specs.Prelude.{◌≡◌, ◌≢◌, ℕ, ◌<◌, ◌%◌, ◌^◌, List, [], ◌++◌, length, filter, true, false, IfSome, is_some}
 use Rattle.std.specs.List.{AllByRecursion, flat_map, sum_by}
 use Rattle.std.specs.declared.option.Option.TheVariants.{None, Some}
 use Rattle.blk_model.specs.Items.{main}
@@ -110,3 +110,7 @@ pub record KeepsUncounted (state : State) (layout : Layout) (unlinked : List ℕ
 pub record Keeps (state : State) (layout : Layout) (unlinked : List ℕ) (image : Image) : Type 0 where
   pub entries : KeepsUncounted state layout unlinked image
   pub counters : CountsItems image state layout
+
+-- a folder keeps a state by some layout, with nothing unlinked: so it is between two commands
+abbrev pub KeepsSome : State → Image → Type 0
+KeepsSome state image = (layout : Layout) × Keeps state layout [] image

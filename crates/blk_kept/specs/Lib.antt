@@ -2,3 +2,5 @@ pub mod Keeping
 pub mod KeepingLaws
 pub mod Changes
 pub mod ChangeLaws
+pub mod Commands
+pub mod CommandLaws

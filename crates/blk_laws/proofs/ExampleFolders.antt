@@ -136,7 +136,7 @@ whole-sealed : AreSealed whole_folder (one.loaded 0)
 unfolding whole_folder zeros with_word spliced file_selector kind_of first_block place block_place block_size node_is_sealed node_in node_body entry_is_sealed entry_in entry_body words_at hash mixed of_bytes of_four
 whole-sealed = record { node = refl; entry = refl }
 
-whole-is_in_order : IsInOrder whole_folder (one.loaded 0 ∷ []) []
+pub whole-is_in_order : IsInOrder whole_folder (one.loaded 0 ∷ []) []
 whole-is_in_order = record { only_linked = whole-only; long_enough = whole-long; counted = λ n is. whole-counted n (below n is); index = whole-index; sealed = (whole-sealed, tt) }
 
 -- ---- what is kept

@@ -10,7 +10,7 @@ use Rattle.blk_disk.specs.Growth.{IsLeastFree, addition_of, free_number, growth_
 use Rattle.blk_alloc.specs.Extending.{HasNoHints, IsFirstGrowing}
 use Rattle.blk_alloc.specs.Allocating.{IsFull, ExtendsInProgress, ExtendsInProgressIn, IsRefusal}
 use Rattle.blk_io.proofs.Carried.{carried, if_damaged_weaker, untold_where}
-use Rattle.blk_format.proofs.Heads.{count_whole}
+use Rattle.blk_alloc.proofs.Formed.{count_whole}
 use Rattle.blk_alloc.proofs.Members.{member_all, member_head, member_split}
 use Rattle.blk_alloc.proofs.Rooms.{has_counters, if_damaged_any, making_added, making_grown, never_full}
 use Rattle.blk_alloc.proofs.allocating.new_room.Goals as goal

@@ -9,8 +9,7 @@ use Rattle.blk_alloc.specs.Changes.{map_of}
 use Rattle.blk_alloc.specs.Rebuilding.{IsInHand, IsRebuilding}
 use Rattle.blk_alloc.specs.declared.blocks.Blocks.{Blocks}
 use Rattle.blk_io.proofs.Carried.{told_at_end}
-use Rattle.blk_format.proofs.Heads.{count_whole}
-use Rattle.blk_alloc.proofs.Formed.{agrees_kept}
+use Rattle.blk_alloc.proofs.Formed.{agrees_kept, count_whole}
 use Rattle.blk_alloc.proofs.Kept.{fit_larger, standing_kept, standing_same}
 use Rattle.blk_alloc.proofs.Members.{all_head}
 use Rattle.blk_alloc.proofs.Remade.{lengthened_is, rebuilding_begin, remade_is}
