@@ -6,3 +6,4 @@ pub mod Writes
 pub mod Opened
 pub mod Examples
 pub mod Stopping
+pub mod Touching

@@ -4,3 +4,4 @@ pub mod Changes
 pub mod ChangeLaws
 pub mod Commands
 pub mod CommandLaws
+pub mod TouchLaws

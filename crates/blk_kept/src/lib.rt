@@ -3,6 +3,7 @@
 
 ghost use Rattle.blk_kept.specs.Keeping.{KeepsSome};
 ghost use Rattle.blk_kept.specs.KeepingLaws.{KeptStatesAreFound, KeptStatesAreStoodFor, KeptStatesAreSound, FoldersWithoutEntriesKeepTheEmptyState, OpenedFoldersKeepTheirState};
+ghost use Rattle.blk_kept.specs.TouchLaws.{TouchesFindEither, OpensMayStop};
 ghost use Rattle.blk_kept.specs.CommandLaws.{RequestsMayStopBefore, RequestsMayStopAfter, RequestsMayStopOnceEvicted, KeptStatesMayStop, SaysKept, NothingMayStop, NothingIsDone, RefusalsAreDone, QuietRequestsKeepTheState, CallsMayStop};
 ghost use Rattle.blk_kept.specs.ChangeLaws.{WhatIsKeptIsFound, SameCountersCountTheSame, UnlinkedPlacesMayChange, BlockWritesChangeOnly, ExternalWritesChangeOnly, OtherWordsChangeOnly, GrowthFindsTheSame};
 
@@ -58,4 +59,10 @@ pub fn commands_end()
     ensures refused_does { RefusalsAreDone KeepsSome }
     ensures quiet { QuietRequestsKeepTheState }
     ensures calls_stop { CallsMayStop KeepsSome }
+{}
+
+/// At each word of a touch the old or the new order is found, and an Open may be stopped.
+pub fn items_are_touched()
+    ensures find { TouchesFindEither }
+    ensures opens { OpensMayStop }
 {}
