@@ -7,3 +7,4 @@ pub mod Opened
 pub mod Examples
 pub mod Stopping
 pub mod Touching
+pub mod Allocating

@@ -11,7 +11,7 @@ use Rattle.blk_format.specs.Headers.{header_length}
 use Rattle.blk_volume.specs.Layout.{Layout}
 use Rattle.blk_laws.specs.IndexWrites.{checked_words, shown_words}
 use Rattle.blk_kept.specs.Keeping.{Keeps, KeepsUncounted}
-use Rattle.blk_kept.specs.Changes.{AreOfWords, ChangesOnly, KeepsWith, SameCounters, StillFinds}
+use Rattle.blk_kept.specs.Changes.{AddsAllocation, AreOfWords, ChangesOnly, KeepsWith, SameCounters, StillFinds}
 
 -- Any call.
 
@@ -53,3 +53,9 @@ OtherWordsChangeOnly = (from image : Image) (at : ℕ) → at % 4 ≡ 0 → at <
 -- while block files grow or are added, their maps and counters change, in a folder that stays well formed, what is at rest is found
 abbrev pub GrowthFindsTheSame : Type 0
 GrowthFindsTheSame = (words : List ℕ) (from image : Image) → HaveGrown from image → (IsWellFormed from → IsWellFormed image) → StillFinds words from image
+
+-- Allocations.
+
+-- blocks that are allocated are unlinked
+abbrev pub AllocatedBlocksAreUnlinked : Type 0
+AllocatedBlocksAreUnlinked = (w : ℕ) (from image : Image) → AddsAllocation from w image → KeepsWith [] (w ∷ []) from image

@@ -1,17 +1,19 @@
 -- What a call does to a folder that keeps a state: how calls are composed, and changes that leave all but some blocks and external files.
-use Rattle.std.specs.Prelude.{◌≡◌, ℕ, ◌<◌, List, ◌++◌, Bool, true}
+use Rattle.std.specs.Prelude.{◌≢◌, ◌≤◌, [], ◌∷◌, false, is_some, ◌≡◌, ℕ, ◌<◌, List, ◌++◌, Bool, true}
 use Rattle.blk_model.specs.Items.{Row}
 use Rattle.blk_model.specs.State.{State}
 use Rattle.blk_model.specs.Holding.{rest}
 use Rattle.blk_image.specs.Image.{Index, Block, File, Image, byte, has_file, length_of}
-use Rattle.blk_format.specs.Address.{header_size}
-use Rattle.blk_format.specs.BlockFiles.{IsWellFormed}
+use Rattle.blk_format.specs.Address.{block_place, external, file_selector, header_size, kind_of}
+use Rattle.blk_format.specs.Growth.{HaveGrown}
+use Rattle.blk_format.specs.Maps.{AreAllocations, EmptyAgrees}
+use Rattle.blk_format.specs.BlockFiles.{linked_as, max_entries_in, IsWellFormed}
 use Rattle.blk_format.specs.Claims.{Claim, claims_of_all, has_claim}
-use Rattle.blk_format.specs.Headers.{crash_of, num_bytes_of, num_entries_of, sizes_of, this_id_of}
+use Rattle.blk_format.specs.Headers.{crash_of, num_bytes_of, num_entries_of, sizes_of, this_id_of, updating_of}
 use Rattle.blk_volume.specs.Found.{found}
 use Rattle.blk_volume.specs.Footprint.{AgreeBut}
 use Rattle.blk_volume.specs.Layout.{Layout}
-use Rattle.blk_kept.specs.Keeping.{KeepsUncounted}
+use Rattle.blk_kept.specs.Keeping.{IsMapped, KeepsUncounted}
 
 -- How calls are composed.
 
@@ -56,3 +58,27 @@ pub record ChangesOnly (touched : Claim → Bool) (from image : Image) : Type 0 
 -- the blocks and external files are among those of some words
 abbrev pub AreOfWords : (Claim → Bool) → List ℕ → Type 0
 AreOfWords touched words = (claim : Claim) → touched claim ≡ true → has_claim (claims_of_all words) claim ≡ true
+
+-- Allocations.
+
+-- a block file stays: it is linked as before, with its length, its blocks and its allocations
+pub record StaysLinked (from image : Image) (n : ℕ) : Type 0 where
+  pub linked : linked_as image n ≡ linked_as from n
+  pub there : has_file image (Block n) ≡ has_file from (Block n)
+  pub length : length_of image (Block n) ≡ length_of from (Block n)
+  pub blocks : max_entries_in image n ≡ max_entries_in from n
+  pub mapped : (words : List ℕ) → is_some (linked_as from n) ≡ true → IsMapped from words n → IsMapped image words n
+
+-- the blocks of a word are allocated: its file has one allocation more, or is a new one with this alone, and has all its blocks; block files have grown at most, and each other file stays
+pub record AddsAllocation (from : Image) (w : ℕ) (image : Image) : Type 0 where
+  pub block_kind : kind_of w ≢ external
+  pub grown : HaveGrown from image
+  pub well_formed : IsWellFormed from → IsWellFormed image
+  pub session : SameSession from image
+  pub allocations : is_some (linked_as from (file_selector w)) ≡ true → (words : List ℕ) → AreAllocations from (file_selector w) words → AreAllocations image (file_selector w) (w ∷ words)
+  pub fresh : is_some (linked_as from (file_selector w)) ≡ false → AreAllocations image (file_selector w) (w ∷ [])
+  pub empty : EmptyAgrees image (file_selector w)
+  pub updating : updating_of (byte image (Block (file_selector w))) ≡ 0
+  pub there : has_file image (Block (file_selector w)) ≡ true
+  pub long_enough : block_place (kind_of w) (max_entries_in image (file_selector w)) ≤ length_of image (Block (file_selector w))
+  pub elsewhere : (n : ℕ) → n ≢ file_selector w → StaysLinked from image n
