@@ -52,13 +52,26 @@ unfolding has_claim
 range-blocks f first zero n = refl
 range-blocks f first (suc count) n = range-blocks f (first + 1) count n
 
-blocks-only : (w n : ℕ) → (kind_of w == external) ≡ false → has_claim (claims_of w) (ExternalOf n) ≡ false
+pub blocks-only : (w n : ℕ) → (kind_of w == external) ≡ false → has_claim (claims_of w) (ExternalOf n) ≡ false
 unfolding claims_of
 blocks-only w n apart = go (w == 0) (kind_of w == external) apart where
   go : (a b : Bool) → b ≡ false → has_claim (if a then [] else if b then ExternalOf (external_number w) ∷ [] else map (λ b. BlockOf (file_selector w) b) (range_with_len (first_block w) (block_count w))) (ExternalOf n) ≡ false
   go true b e = no-claim (ExternalOf n)
   go false true e = absurd (let z : true ≡ false = e in cc)
   go false false e = range-blocks (file_selector w) (first_block w) (block_count w) n
+
+-- a word of blocks is in its file
+pub its-file : (w : ℕ) → (kind_of w == external) ≡ false → is_in_file (file_selector w) w ≡ true
+unfolding is_in_file
+its-file w apart = rw apart (eq-eqb (file_selector w) (file_selector w) refl)
+
+-- and in no other
+pub other-in : (w n : ℕ) → (kind_of w == external) ≡ false → n ≢ file_selector w → is_in_file n w ≡ false
+unfolding is_in_file
+other-in w n apart differs = rw apart (⊎_elim (λ (e : (file_selector w == n) ≡ true). absurd (differs (sym (eqb-true (file_selector w) n e)))) (λ (e : (file_selector w == n) ≡ false). e) (cases_Bool (file_selector w == n)))
+
+pub apart-kind : (w : ℕ) → kind_of w ≢ external → (kind_of w == external) ≡ false
+apart-kind w blocks = ⊎_elim (λ (e : (kind_of w == external) ≡ true). absurd (blocks (eqb-true (kind_of w) external e))) (λ (e : (kind_of w == external) ≡ false). e) (cases_Bool (kind_of w == external))
 
 module _ (w : ℕ) (from image : Image) (a : AddsAllocation from w image) (state : State) (layout : Layout) (unlinked : List ℕ) (k : KeepsUncounted state layout unlinked from) where
   words : List ℕ
@@ -68,15 +81,7 @@ module _ (w : ℕ) (from image : Image) (a : AddsAllocation from w image) (state
   agree = growth-absent from image a.grown
 
   apart : (kind_of w == external) ≡ false
-  apart = ⊎_elim (λ (e : (kind_of w == external) ≡ true). absurd (a.block_kind (eqb-true (kind_of w) external e))) (λ (e : (kind_of w == external) ≡ false). e) (cases_Bool (kind_of w == external))
-
-  its-file : is_in_file (file_selector w) w ≡ true
-  unfolding is_in_file
-  its-file = rw apart (eq-eqb (file_selector w) (file_selector w) refl)
-
-  other-in : (n : ℕ) → n ≢ file_selector w → is_in_file n w ≡ false
-  unfolding is_in_file
-  other-in n differs = rw apart (⊎_elim (λ (e : (file_selector w == n) ≡ true). absurd (differs (sym (eqb-true (file_selector w) n e)))) (λ (e : (file_selector w == n) ≡ false). e) (cases_Bool (file_selector w == n)))
+  apart = apart-kind w a.block_kind
 
   -- no word is in a file that isn't linked
   none-in : (ws : List ℕ) → AllByRecursion (λ v. stands_in from v ≡ true) ws → is_some (linked_as from (file_selector w)) ≡ false → filter (is_in_file (file_selector w)) ws ≡ []
@@ -107,21 +112,21 @@ module _ (w : ℕ) (from image : Image) (a : AddsAllocation from w image) (state
   fresh (BlockOf n b) e = ⊎_elim
       (λ (is : n ≡ file_selector w). subst (λ (m : ℕ). has_claim (claims_of_all (words_in_use unlinked (all_loaded state layout k.numbers))) (BlockOf m b) ≡ false) (sym is)
       (sym (same-marks (file_selector w) b _) ∙ repeats-apart (claims_of w) (claims_of_all (filter (is_in_file (file_selector w)) (words_in_use unlinked (all_loaded state layout k.numbers)))) (BlockOf (file_selector w) b) here.apart (subst (λ (m : ℕ). has_claim (claims_of w) (BlockOf m b) ≡ true) is e)))
-      (λ (differs : n ≢ file_selector w). absurd (let z : true ≡ false = sym e ∙ other-file n b w (other-in n differs) in cc))
+      (λ (differs : n ≢ file_selector w). absurd (let z : true ≡ false = sym e ∙ other-file n b w (other-in w n apart differs) in cc))
       (cases_eq n (file_selector w))
 
   mapped : (n : ℕ) → is_some (linked_as image n) ≡ true → IsMapped image (w ∷ words_in_use unlinked (all_loaded state layout k.numbers)) n
   mapped n linked = ⊎_elim
       (λ (e : n ≡ file_selector w). subst (IsMapped image (w ∷ words_in_use unlinked (all_loaded state layout k.numbers))) (sym e) (record {
-        allocations = rw its-file here;
+        allocations = rw (its-file w apart) here;
         empty = a.empty;
         updating = a.updating;
       }))
       (λ (differs : n ≢ file_selector w).
       let stays = a.elsewhere n differs in
-      let was : is_some (linked_as from n) ≡ true = ap (λ (o : Option ℕ). is_some o) (sym stays.linked) ∙ linked in
+      let was : is_some (linked_as from n) ≡ true = ap (λ (o : Option ℕ). is_some o) (sym stays.extent.linked) ∙ linked in
       let m = stays.mapped _ was (k.files.mapped n was) in
-      record { allocations = rw (other-in n differs) m.allocations; empty = m.empty; updating = m.updating })
+      record { allocations = rw (other-in w n apart differs) m.allocations; empty = m.empty; updating = m.updating })
       (cases_eq n (file_selector w))
 
   file-linked : linked_as image (file_selector w) ≡ Some (kind_of w)
@@ -134,15 +139,15 @@ module _ (w : ℕ) (from image : Image) (a : AddsAllocation from w image) (state
         ∙ sym (claim-append (claims_of w) (claims_of_all (words_in_use unlinked (all_loaded state layout k.numbers))) (ExternalOf n) ∙ rw (blocks-only w n apart) refl);
     only_linked = λ n small. ⊎_elim
         (λ (e : n ≡ file_selector w). subst (λ (m : ℕ). has_file image (Block m) ≡ is_some (linked_as image m)) (sym e) (a.there ∙ ap (λ (o : Option ℕ). is_some o) (sym file-linked)))
-        (λ (differs : n ≢ file_selector w). let stays = a.elsewhere n differs in stays.there ∙ k.files.only_linked n small ∙ ap (λ (o : Option ℕ). is_some o) (sym stays.linked))
+        (λ (differs : n ≢ file_selector w). let stays = a.elsewhere n differs in stays.extent.there ∙ k.files.only_linked n small ∙ ap (λ (o : Option ℕ). is_some o) (sym stays.extent.linked))
         (cases_eq n (file_selector w));
     long_enough = λ n kind linked. ⊎_elim
         (λ (e : n ≡ file_selector w). subst (λ (m : ℕ). block_place kind (max_entries_in image m) ≤ length_of image (Block m)) (sym e)
         (subst (λ (q : ℕ). block_place q (max_entries_in image (file_selector w)) ≤ length_of image (Block (file_selector w))) (its-kind (sym file-linked ∙ subst (λ (m : ℕ). linked_as image m ≡ Some kind) e linked)) a.long_enough))
         (λ (differs : n ≢ file_selector w).
         let stays = a.elsewhere n differs in
-        subst (λ (l : ℕ). block_place kind (max_entries_in image n) ≤ l) (sym stays.length)
-        (subst (λ (q : ℕ). block_place kind q ≤ length_of from (Block n)) (sym stays.blocks) (k.files.long_enough n kind (sym stays.linked ∙ linked))))
+        subst (λ (l : ℕ). block_place kind (max_entries_in image n) ≤ l) (sym stays.extent.length)
+        (subst (λ (q : ℕ). block_place kind q ≤ length_of from (Block n)) (sym stays.extent.blocks) (k.files.long_enough n kind (sym stays.extent.linked ∙ linked))))
         (cases_eq n (file_selector w));
   } where
     its-kind : {p q : ℕ} → Some p ≡ Some q → p ≡ q

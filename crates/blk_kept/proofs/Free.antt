@@ -61,8 +61,8 @@ module _ (touched : Claim → Bool) (words : List ℕ) (from image : Image) (of 
   free claim node is = ⊎_elim
       (λ (e : touched claim ≡ true).
       let among : has_claim (claims_of_all (words ++ unlinked)) claim ≡ true =
-          ap (λ (cs : List Claim). has_claim cs claim) (flat_map-append claims_of words unlinked) ∙ claim-append (claims_of_all words) (claims_of_all unlinked) claim
-          ∙ or_left (has_claim (claims_of_all words) claim) (has_claim (claims_of_all unlinked) claim) (of claim e) in
+      ap (λ (cs : List Claim). has_claim cs claim) (flat_map-append claims_of words unlinked) ∙ claim-append (claims_of_all words) (claims_of_all unlinked) claim
+      ∙ or_left (has_claim (claims_of_all words) claim) (has_claim (claims_of_all unlinked) claim) (of claim e) in
       let none = k.unlinked_words.free claim among in
       absurd (let c : ◌≡◌ {A = Option ℕ} None (Some node) = sym none ∙ is in cc))
       (λ (e : touched claim ≡ false). e)

@@ -8,3 +8,4 @@ pub mod Examples
 pub mod Stopping
 pub mod Touching
 pub mod Allocating
+pub mod Freeing

@@ -11,7 +11,7 @@ use Rattle.blk_format.specs.Headers.{header_length}
 use Rattle.blk_volume.specs.Layout.{Layout}
 use Rattle.blk_laws.specs.IndexWrites.{checked_words, shown_words}
 use Rattle.blk_kept.specs.Keeping.{Keeps, KeepsUncounted}
-use Rattle.blk_kept.specs.Changes.{AddsAllocation, AreOfWords, ChangesOnly, KeepsWith, SameCounters, StillFinds}
+use Rattle.blk_kept.specs.Changes.{AddsAllocation, AreOfWords, ChangesOnly, KeepsWith, RemovesAllocation, SameCounters, StillFinds}
 
 -- Any call.
 
@@ -59,3 +59,7 @@ GrowthFindsTheSame = (words : List ℕ) (from image : Image) → HaveGrown from 
 -- blocks that are allocated are unlinked
 abbrev pub AllocatedBlocksAreUnlinked : Type 0
 AllocatedBlocksAreUnlinked = (w : ℕ) (from image : Image) → AddsAllocation from w image → KeepsWith [] (w ∷ []) from image
+
+-- and unlinked blocks that are freed are in use no longer
+abbrev pub FreedBlocksAreGone : Type 0
+FreedBlocksAreGone = (w : ℕ) (from image : Image) → RemovesAllocation from w image → KeepsWith (w ∷ []) [] from image

@@ -1,5 +1,5 @@
 -- What a call does to a folder that keeps a state: how calls are composed, and changes that leave all but some blocks and external files.
-use Rattle.std.specs.Prelude.{◌≢◌, ◌≤◌, [], ◌∷◌, false, is_some, ◌≡◌, ℕ, ◌<◌, List, ◌++◌, Bool, true}
+use Rattle.std.specs.Prelude.{◌==◌, filter, not, ◌≢◌, ◌≤◌, [], ◌∷◌, false, is_some, ◌≡◌, ℕ, ◌<◌, List, ◌++◌, Bool, true}
 use Rattle.blk_model.specs.Items.{Row}
 use Rattle.blk_model.specs.State.{State}
 use Rattle.blk_model.specs.Holding.{rest}
@@ -7,7 +7,7 @@ use Rattle.blk_image.specs.Image.{Index, Block, File, Image, byte, has_file, len
 use Rattle.blk_format.specs.Address.{block_place, external, file_selector, header_size, kind_of}
 use Rattle.blk_format.specs.Growth.{HaveGrown}
 use Rattle.blk_format.specs.Maps.{AreAllocations, EmptyAgrees}
-use Rattle.blk_format.specs.BlockFiles.{linked_as, max_entries_in, IsWellFormed}
+use Rattle.blk_format.specs.BlockFiles.{is_among, linked_as, max_entries_in, IsWellFormed}
 use Rattle.blk_format.specs.Claims.{Claim, claims_of_all, has_claim}
 use Rattle.blk_format.specs.Headers.{crash_of, num_bytes_of, num_entries_of, sizes_of, this_id_of, updating_of}
 use Rattle.blk_volume.specs.Found.{found}
@@ -61,12 +61,16 @@ AreOfWords touched words = (claim : Claim) → touched claim ≡ true → has_cl
 
 -- Allocations.
 
--- a block file stays: it is linked as before, with its length, its blocks and its allocations
-pub record StaysLinked (from image : Image) (n : ℕ) : Type 0 where
+-- a block file is linked as before, or isn't, and has its length and its blocks
+pub record SameExtent (from image : Image) (n : ℕ) : Type 0 where
   pub linked : linked_as image n ≡ linked_as from n
   pub there : has_file image (Block n) ≡ has_file from (Block n)
   pub length : length_of image (Block n) ≡ length_of from (Block n)
   pub blocks : max_entries_in image n ≡ max_entries_in from n
+
+-- and it has its allocations
+pub record StaysLinked (from image : Image) (n : ℕ) : Type 0 where
+  pub extent : SameExtent from image n
   pub mapped : (words : List ℕ) → is_some (linked_as from n) ≡ true → IsMapped from words n → IsMapped image words n
 
 -- the blocks of a word are allocated: its file has one allocation more, or is a new one with this alone, and has all its blocks; block files have grown at most, and each other file stays
@@ -81,4 +85,16 @@ pub record AddsAllocation (from : Image) (w : ℕ) (image : Image) : Type 0 wher
   pub updating : updating_of (byte image (Block (file_selector w))) ≡ 0
   pub there : has_file image (Block (file_selector w)) ≡ true
   pub long_enough : block_place (kind_of w) (max_entries_in image (file_selector w)) ≤ length_of image (Block (file_selector w))
+  pub elsewhere : (n : ℕ) → n ≢ file_selector w → StaysLinked from image n
+
+-- the blocks of a word are freed: its file has all allocations but this one, and each other file stays; block files have grown at most, and are linked as before
+pub record RemovesAllocation (from : Image) (w : ℕ) (image : Image) : Type 0 where
+  pub block_kind : kind_of w ≢ external
+  pub grown : HaveGrown from image
+  pub well_formed : IsWellFormed from → IsWellFormed image
+  pub session : SameSession from image
+  pub extent : SameExtent from image (file_selector w)
+  pub allocations : (words : List ℕ) → AreAllocations from (file_selector w) words → is_among words w ≡ true → AreAllocations image (file_selector w) (filter (λ x. not (x == w)) words)
+  pub empty : EmptyAgrees from (file_selector w) → EmptyAgrees image (file_selector w)
+  pub updating : updating_of (byte image (Block (file_selector w))) ≡ 0
   pub elsewhere : (n : ℕ) → n ≢ file_selector w → StaysLinked from image n

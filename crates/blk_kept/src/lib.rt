@@ -5,7 +5,7 @@ ghost use Rattle.blk_kept.specs.Keeping.{KeepsSome};
 ghost use Rattle.blk_kept.specs.KeepingLaws.{KeptStatesAreFound, KeptStatesAreStoodFor, KeptStatesAreSound, FoldersWithoutEntriesKeepTheEmptyState, OpenedFoldersKeepTheirState};
 ghost use Rattle.blk_kept.specs.TouchLaws.{TouchesFindEither, OpensMayStop};
 ghost use Rattle.blk_kept.specs.CommandLaws.{RequestsMayStopBefore, RequestsMayStopAfter, RequestsMayStopOnceEvicted, KeptStatesMayStop, SaysKept, NothingMayStop, NothingIsDone, RefusalsAreDone, QuietRequestsKeepTheState, CallsMayStop};
-ghost use Rattle.blk_kept.specs.ChangeLaws.{WhatIsKeptIsFound, SameCountersCountTheSame, UnlinkedPlacesMayChange, BlockWritesChangeOnly, ExternalWritesChangeOnly, OtherWordsChangeOnly, GrowthFindsTheSame, AllocatedBlocksAreUnlinked};
+ghost use Rattle.blk_kept.specs.ChangeLaws.{WhatIsKeptIsFound, SameCountersCountTheSame, UnlinkedPlacesMayChange, BlockWritesChangeOnly, ExternalWritesChangeOnly, OtherWordsChangeOnly, GrowthFindsTheSame, AllocatedBlocksAreUnlinked, FreedBlocksAreGone};
 
 /// What is found in a folder that keeps a state is what is at rest in it. With nothing unlinked the folder stands for the state, and it is sound where each object is live and settled.
 pub fn kept_states_are_stood_for()
@@ -38,10 +38,11 @@ pub fn unlinked_places_may_change()
     ensures index { OtherWordsChangeOnly }
 {}
 
-/// While block files grow, what is at rest is found; blocks that are allocated are unlinked.
+/// While block files grow, what is at rest is found; blocks that are allocated are unlinked, and unlinked ones that are freed are in use no longer.
 pub fn blocks_are_allocated()
     ensures growth { GrowthFindsTheSame }
     ensures unlinked { AllocatedBlocksAreUnlinked }
+    ensures freed { FreedBlocksAreGone }
 {}
 
 /// A request may be stopped where what is at rest before it is found, and so before its first word; where what is at rest after it is found; and once its first groups are evicted.
