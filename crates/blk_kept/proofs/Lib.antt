@@ -9,3 +9,4 @@ pub mod Stopping
 pub mod Touching
 pub mod Allocating
 pub mod Freeing
+pub mod MakingFiles

@@ -1,14 +1,14 @@
 -- What a call does to a folder that keeps a state: how calls are composed, and changes that leave all but some blocks and external files.
-use Rattle.std.specs.Prelude.{◌==◌, filter, not, ◌≢◌, ◌≤◌, [], ◌∷◌, false, is_some, ◌≡◌, ℕ, ◌<◌, List, ◌++◌, Bool, true}
+use Rattle.std.specs.Prelude.{◌^◌, ◌==◌, filter, not, ◌≢◌, ◌≤◌, [], ◌∷◌, false, is_some, ◌≡◌, ℕ, ◌<◌, List, ◌++◌, Bool, true}
 use Rattle.blk_model.specs.Items.{Row}
 use Rattle.blk_model.specs.State.{State}
 use Rattle.blk_model.specs.Holding.{rest}
-use Rattle.blk_image.specs.Image.{Index, Block, File, Image, byte, has_file, length_of}
-use Rattle.blk_format.specs.Address.{block_place, external, file_selector, header_size, kind_of}
+use Rattle.blk_image.specs.Image.{Index, Block, External, File, Image, byte, has_file, length_of}
+use Rattle.blk_format.specs.Address.{block_place, external, external_number, file_selector, header_size, kind_of}
 use Rattle.blk_format.specs.Growth.{HaveGrown}
 use Rattle.blk_format.specs.Maps.{AreAllocations, EmptyAgrees}
-use Rattle.blk_format.specs.BlockFiles.{is_among, linked_as, max_entries_in, IsWellFormed}
-use Rattle.blk_format.specs.Claims.{Claim, claims_of_all, has_claim}
+use Rattle.blk_format.specs.BlockFiles.{is_among, linked_as, max_entries_in, stands_in, IsWellFormed}
+use Rattle.blk_format.specs.Claims.{Claim, ExternalOf, claims_of_all, has_claim, same_claim}
 use Rattle.blk_format.specs.Headers.{crash_of, num_bytes_of, num_entries_of, sizes_of, this_id_of, updating_of}
 use Rattle.blk_volume.specs.Found.{found}
 use Rattle.blk_volume.specs.Footprint.{AgreeBut}
@@ -98,3 +98,19 @@ pub record RemovesAllocation (from : Image) (w : ℕ) (image : Image) : Type 0 w
   pub empty : EmptyAgrees from (file_selector w) → EmptyAgrees image (file_selector w)
   pub updating : updating_of (byte image (Block (file_selector w))) ≡ 0
   pub elsewhere : (n : ℕ) → n ≢ file_selector w → StaysLinked from image n
+
+-- External files.
+
+-- the external file of a word is made: it wasn't there, and is there now, and no other file and no block comes or goes
+pub record AddsExternal (from : Image) (w : ℕ) (image : Image) : Type 0 where
+  pub some : (w == 0) ≡ false
+  pub external_kind : (kind_of w == external) ≡ true
+  pub small : external_number w < 2 ^ 32
+  pub stands : stands_in image w ≡ true
+  pub absent : has_file from (External (external_number w)) ≡ false
+  pub there : has_file image (External (external_number w)) ≡ true
+  pub others : (m : ℕ) → m ≢ external_number w → has_file image (External m) ≡ has_file from (External m)
+  pub agree : AgreeBut (λ claim. same_claim claim (ExternalOf (external_number w))) from image
+  pub well_formed : IsWellFormed from → IsWellFormed image
+  pub session : SameSession from image
+  pub blocks : (n : ℕ) → StaysLinked from image n
