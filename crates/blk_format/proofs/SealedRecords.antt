@@ -159,14 +159,16 @@ pub whole_update : WholeUpdatesAreMade
 whole_update from image w changes done outside =
     let s : ℕ = seal_place w in
     let made : List ℕ = with_words changes (record_at from w) in
-    let long : s + 4 ≤ length made = (let a = length-with_words changes (record_at from w) in let b = length-record w from in omega (arith, a, b)) in
-    (record {
-      made = length changes;
-      within = omega arith;
-      fields = ap (take s) done ∙ take-before_word s (seal_of s made) made ∙ ap (λ (l : List (ℕ × ℕ)). take s (with_words l (record_at from w))) (sym (take_all (length changes) changes (omega arith)));
-      checks = sealed-checks s made (record_at image w) done long;
-      outside = outside;
-    }, refl)
+    let long : s + 4 ≤ length made = (let a = length-with_words changes (record_at from w) in let b = length-record w from in omega (arith, a, b)) in (
+      record {
+        made = length changes;
+        within = omega arith;
+        fields = ap (take s) done ∙ take-before_word s (seal_of s made) made ∙ ap (λ (l : List (ℕ × ℕ)). take s (with_words l (record_at from w))) (sym (take_all (length changes) changes (omega arith)));
+        checks = sealed-checks s made (record_at image w) done long;
+        outside = outside;
+      },
+      refl,
+    )
 
 -- the records of the two types
 pub node_seal : (w : ℕ) → kind_of w ≡ 1 → seal_place w ≡ 32

@@ -11,7 +11,7 @@ use Rattle.blk_format.specs.Headers.{header_length}
 use Rattle.blk_volume.specs.Layout.{Layout}
 use Rattle.blk_laws.specs.IndexWrites.{checked_words, shown_words}
 use Rattle.blk_kept.specs.Keeping.{Keeps, KeepsUncounted}
-use Rattle.blk_kept.specs.Changes.{AddsAllocation, AddsExternal, AreOfWords, ChangesOnly, KeepsWith, RemovesAllocation, SameCounters, StillFinds}
+use Rattle.blk_kept.specs.Changes.{AddsAllocation, AddsExternal, AreOfWords, ChangesOnly, KeepsWith, RemovesAllocation, RemovesExternal, SameCounters, StillFinds}
 
 -- Any call.
 
@@ -67,3 +67,7 @@ FreedBlocksAreGone = (w : ℕ) (from image : Image) → RemovesAllocation from w
 -- an external file that is made is unlinked
 abbrev pub MadeFilesAreUnlinked : Type 0
 MadeFilesAreUnlinked = (w : ℕ) (from image : Image) → AddsExternal from w image → KeepsWith [] (w ∷ []) from image
+
+-- and an unlinked one that is deleted is in use no longer
+abbrev pub DeletedFilesAreGone : Type 0
+DeletedFilesAreGone = (w : ℕ) (from image : Image) → RemovesExternal from w image → KeepsWith (w ∷ []) [] from image

@@ -114,3 +114,14 @@ pub record AddsExternal (from : Image) (w : ℕ) (image : Image) : Type 0 where
   pub well_formed : IsWellFormed from → IsWellFormed image
   pub session : SameSession from image
   pub blocks : (n : ℕ) → StaysLinked from image n
+
+-- the external file of a word is deleted, and no other file and no block comes or goes
+pub record RemovesExternal (from : Image) (w : ℕ) (image : Image) : Type 0 where
+  pub some : (w == 0) ≡ false
+  pub external_kind : (kind_of w == external) ≡ true
+  pub gone : has_file image (External (external_number w)) ≡ false
+  pub others : (m : ℕ) → m ≢ external_number w → has_file image (External m) ≡ has_file from (External m)
+  pub agree : AgreeBut (λ claim. same_claim claim (ExternalOf (external_number w))) from image
+  pub well_formed : IsWellFormed from → IsWellFormed image
+  pub session : SameSession from image
+  pub blocks : (n : ℕ) → StaysLinked from image n

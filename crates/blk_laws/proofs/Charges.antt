@@ -174,29 +174,29 @@ module _ (view : View) (state : State) (layout : Layout) (r : Represents view st
   charge-item : (item : Item) (l : Loaded) → is_listed state item ≡ true → layout.at (layout.place item) ≡ Some l → charge_of l ≡ row_charge state (row_of l)
   charge-item item l there here = load-then view.store (rule_of layout (layout.place item)) (layout.place item) l (r.holds.shows.each (layout.place item) l here) (λ n e facts.
       by-role e (three view.store e l.streams facts.facts.streams) l.role refl facts.facts.role) where
-    row-is : (role : Role) → l.role ≡ role → row_of l ≡ row_with l.key role l.streams
-    row-is role is = ap (λ (x : Role). row_with l.key x l.streams) is
+        row-is : (role : Role) → l.role ≡ role → row_of l ≡ row_with l.key role l.streams
+        row-is role is = ap (λ (x : Role). row_with l.key x l.streams) is
 
-    part-signature : (name : Name) (index : PartIndex) → l.role ≡ IsPart name index → signature_for state name.key ≡ name.signature
-    part-signature name index is =
-        let laid : IsPlacedAt state layout item = r.holds.lies.laid item there in
-        let same : laid.loaded ≡ l = some_inj (sym laid.here ∙ here) in
-        let item-is : part name.key name.part ≡ item = ap item_of (sym (row-is (IsPart name index) is)) ∙ item-of state layout r.holds.lies.laid item l there here in
-        let pa : IsPartAt state layout name.key l = subst (λ (x : Loaded). IsPartAt state layout name.key x) same (subst (λ (i : Item). HasParentAt state layout i laid.loaded) (sym item-is) laid.parent) in
-        let p = parent-signature pa.name pa.parent pa.of in
-        signature-is name.key pa.parent p.0 pa.listed pa.at_parent p.1.0 ∙ p.1.1 ∙ ap (λ (x : Name). x.signature) (one-name pa.name name pa.index index (sym pa.role ∙ is))
+        part-signature : (name : Name) (index : PartIndex) → l.role ≡ IsPart name index → signature_for state name.key ≡ name.signature
+        part-signature name index is =
+            let laid : IsPlacedAt state layout item = r.holds.lies.laid item there in
+            let same : laid.loaded ≡ l = some_inj (sym laid.here ∙ here) in
+            let item-is : part name.key name.part ≡ item = ap item_of (sym (row-is (IsPart name index) is)) ∙ item-of state layout r.holds.lies.laid item l there here in
+            let pa : IsPartAt state layout name.key l = subst (λ (x : Loaded). IsPartAt state layout name.key x) same (subst (λ (i : Item). HasParentAt state layout i laid.loaded) (sym item-is) laid.parent) in
+            let p = parent-signature pa.name pa.parent pa.of in
+            signature-is name.key pa.parent p.0 pa.listed pa.at_parent p.1.0 ∙ p.1.1 ∙ ap (λ (x : Name). x.signature) (one-name pa.name name pa.index index (sym pa.role ∙ is))
 
-    by-role : (e : RecordFields) → AreThree l.streams → (role : Role) → l.role ≡ role → role_of e l.key l.streams ≡ Some l.role → charge_of l ≡ row_charge state (row_of l)
-    by-role e t IsPlain is of = plain-sum (length l.key) l.streams t ∙ ap (row_charge state) (sym (row-is IsPlain is))
-    by-role e t (IsParent index) is of =
-        let long = role-parent e l.key l.streams index (of ∙ ap (λ (x : Role). Some x) is) in
-        parent-sum (length l.key) l.streams t long.0 long.1 ∙ ap (row_charge state) (sym (row-is (IsParent index) is))
-    by-role e t (IsPart name index) is of =
-        let said = role-part e l.key l.streams name index (of ∙ ap (λ (x : Role). Some x) is) in
-        let printed : l.key ≡ child_name name.key name.signature name.part = (read_name-IsName l.key name said.0).printed in
-        part-sum (length l.key) l.streams t said.1.0 said.1.1
-        ∙ ap (λ (k : List ℕ). length k + length (stream 1 l.streams) + 192) (printed ∙ sym (part-names name.key name.signature name.part) ∙ ap (λ (x : ℕ). part_name name.key x name.part) (sym (part-signature name index is)))
-        ∙ ap (row_charge state) (sym (row-is (IsPart name index) is))
+        by-role : (e : RecordFields) → AreThree l.streams → (role : Role) → l.role ≡ role → role_of e l.key l.streams ≡ Some l.role → charge_of l ≡ row_charge state (row_of l)
+        by-role e t IsPlain is of = plain-sum (length l.key) l.streams t ∙ ap (row_charge state) (sym (row-is IsPlain is))
+        by-role e t (IsParent index) is of =
+            let long = role-parent e l.key l.streams index (of ∙ ap (λ (x : Role). Some x) is) in
+            parent-sum (length l.key) l.streams t long.0 long.1 ∙ ap (row_charge state) (sym (row-is (IsParent index) is))
+        by-role e t (IsPart name index) is of =
+            let said = role-part e l.key l.streams name index (of ∙ ap (λ (x : Role). Some x) is) in
+            let printed : l.key ≡ child_name name.key name.signature name.part = (read_name-IsName l.key name said.0).printed in
+            part-sum (length l.key) l.streams t said.1.0 said.1.1
+            ∙ ap (λ (k : List ℕ). length k + length (stream 1 l.streams) + 192) (printed ∙ sym (part-names name.key name.signature name.part) ∙ ap (λ (x : ℕ). part_name name.key x name.part) (sym (part-signature name index is)))
+            ∙ ap (row_charge state) (sym (row-is (IsPart name index) is))
 
   charges-sum : (items : List Item) → ((i : Item) → is_in items i ≡ true → is_listed state i ≡ true) → sum_by charge_of (filter_map layout.at (nodes_of layout items)) ≡ sum_by (row_charge state) (filter_map (model.row_of state) items)
   charges-sum [] sub = refl

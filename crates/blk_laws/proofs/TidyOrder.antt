@@ -22,7 +22,6 @@ use Rattle.blk_volume.specs.Tidy.{IsTidy, loaded_at, doomed_nodes}
 use Rattle.blk_laws.specs.StateLaws.{TidyIsInOrder, TidyStatesAreStoodFor}
 
 module _ (image : Image) (m : State) (y : Layout) (numbers : List ℕ) (rep : Represents (view_of image) m y) (valid : IsValidState m) (tidy : IsTidy image m y numbers) where
-
   -- what lies at a node is that node's
   node-is : (w : ℕ) (l : Loaded) → y.at w ≡ Some l → l.node ≡ w
   node-is w l here = load-then (store_of image) (rule_of y w) w l (rep.holds.shows.each w l here) (λ n e facts. facts.facts.node_is)

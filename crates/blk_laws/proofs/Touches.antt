@@ -78,9 +78,10 @@ pub touched-items : TouchedItemsAtEachWrite
 touched-items view state layout r valid item there store same count = touched-rests view state layout r valid item there store same count
 
 pub touched-items-end : TouchedItemsEnd
-touched-items-end view state layout r valid item there store same =
-    (same-represents (record view { list = after_writes (touch_writes (layout.place item) view.list) view.list }) (record state { uses = used item state.uses }) layout (touched-ends view state layout r valid item there) store same,
-    touched-valid view state layout r valid item there)
+touched-items-end view state layout r valid item there store same = (
+  same-represents (record view { list = after_writes (touch_writes (layout.place item) view.list) view.list }) (record state { uses = used item state.uses }) layout (touched-ends view state layout r valid item there) store same,
+  touched-valid view state layout r valid item there,
+)
 
 -- an Open, in a store that shows the same
 pub opens-each : OpensAtEachWrite
