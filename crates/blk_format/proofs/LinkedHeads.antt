@@ -1,6 +1,6 @@
 -- What the checks of the linked block files say of each of them.
-use Rattle.std.proofs.Common.{◌≡◌, ℕ, zero, suc, ◌-◌, ◌<◌, ◌≤◌, ◌⊎◌, inl, inr, List, [], ◌∷◌, ◌++◌, Bool, true, false, ◌||◌, if◌then◌else◌, None, refl, subst, arith, ⊎_elim}
-use Rattle.std.specs.Prelude.{◌==◌, ◌%◌}
+use Rattle.std.proofs.Common.{◌≡◌, ℕ, zero, suc, ◌-◌, ◌<◌, ◌≤◌, ◌⊎◌, inl, inr, List, [], ◌∷◌, ◌++◌, Bool, true, false, ◌||◌, if◌then◌else◌, Option, None, Some, refl, subst, arith, ⊎_elim}
+use Rattle.std.specs.Prelude.{◌==◌, ◌%◌, is_some}
 use Rattle.std.proofs.lemmas.Bool.Decides.{nat_tests}
 use Rattle.blk_image.specs.Bytes.{word_at}
 use Rattle.blk_image.specs.Image.{Image, Block, byte, length_of}
@@ -8,7 +8,7 @@ use Rattle.blk_image.specs.Checks.{first_of}
 use Rattle.blk_image.proofs.FirstChecks.{all_none, passed}
 use Rattle.blk_format.specs.Address.{is_block_kind}
 use Rattle.blk_format.specs.Headers.{next_file_of}
-use Rattle.blk_format.specs.BlockFiles.{is_among, is_link, linked, files_along, next_file_in, max_entries_in, is_block_count, file_checks, checks_along, checks_of_kind, linked_up_to, first_block_damage, most_blocks}
+use Rattle.blk_format.specs.BlockFiles.{is_among, is_link, kind_among, linked, linked_as, files_along, next_file_in, max_entries_in, is_block_count, file_checks, checks_along, checks_of_kind, linked_up_to, first_block_damage, most_blocks}
 use Rattle.blk_format.proofs.Keeping.{none_parts, each_kind, checks_hold}
 
 -- the link of a file whose checks hold
@@ -84,3 +84,16 @@ linked_checked image kind m undamaged block_kind among =
 pub count_whole : (k : ℕ) → is_block_count k ≡ true → (k % 4 ≡ 0) × (k ≤ most_blocks)
 unfolding is_block_count
 count_whole k is = (grind (arith, nat_tests), grind (arith, nat_tests))
+
+-- and so has each linked file
+pub linked_head : (image : Image) (m : ℕ) → first_block_damage image ≡ None → is_some (linked_as image m) ≡ true → HasHead image m
+unfolding kind_among
+linked_head image m undamaged is = go (is_among (linked image 1) m) (is_among (linked image 2) m) (is_among (linked image 3) m) (is_among (linked image 4) m) refl refl refl refl is
+  where
+    go : (a b c d : Bool) → is_among (linked image 1) m ≡ a → is_among (linked image 2) m ≡ b → is_among (linked image 3) m ≡ c → is_among (linked image 4) m ≡ d
+        → is_some {T = ℕ} (if a then Some 1 else if b then Some 2 else if c then Some 3 else if d then Some 4 else None) ≡ true → HasHead image m
+    go true b c d ea eb ec ed some = linked_checked image 1 m undamaged refl ea
+    go false true c d ea eb ec ed some = linked_checked image 2 m undamaged refl eb
+    go false false true d ea eb ec ed some = linked_checked image 3 m undamaged refl ec
+    go false false false true ea eb ec ed some = linked_checked image 4 m undamaged refl ed
+    go false false false false ea eb ec ed some = absurd (let z : false ≡ true = some in cc)

@@ -179,7 +179,7 @@ module _ (touched : Claim → Bool) (old new : Image) (same : AgreeBut touched o
       same.externals (external_number w) (clear (ExternalOf (external_number w)) (external-claim w (λ e. let a : is_address 0 ≡ true = ap is_address (sym e) ∙ address in let c : false ≡ true = sym zero-no_address ∙ a in cc) is))
 
   -- an address that is clear stands in both or in neither
-  stands-same : (w : ℕ) → IsClear touched w → stands_in new w ≡ stands_in old w
+  pub stands-same : (w : ℕ) → IsClear touched w → stands_in new w ≡ stands_in old w
   unfolding stands
   stands-same w clear = and_under (is_address w) _ _ (λ address. ⊎_elim
       (λ (e : (kind_of w == external) ≡ true). rw e (ap (λ (f : Option (List ℕ)). is_some f) (external-of w address (eqb-true (kind_of w) external e) clear)))

@@ -58,7 +58,7 @@ doomed_folder (Block (suc (suc (suc zero)))) = Some (with_words (new_file_words 
 doomed_folder _ = None
 
 -- no check fails
-doomed-is_well_formed : IsWellFormed doomed_folder
+pub doomed-is_well_formed : IsWellFormed doomed_folder
 unfolding doomed_folder head_checks list_checks checks_of_kind checks_along file_checks next_file_in is_link is_block_count linked_up_to linked files_along zeros with_word spliced block_size
 doomed-is_well_formed = refl
 
@@ -234,7 +234,7 @@ folder-sealed : AreSealed doomed_folder (one.loaded 0)
 unfolding doomed_folder zeros with_word spliced file_selector kind_of first_block place block_place block_size node_is_sealed node_in node_body entry_is_sealed entry_in entry_body words_at hash mixed of_bytes of_four
 folder-sealed = record { node = refl; entry = refl }
 
-folder-is_in_order : IsInOrder doomed_folder [] (one.loaded 0 ∷ [])
+pub folder-is_in_order : IsInOrder doomed_folder [] (one.loaded 0 ∷ [])
 folder-is_in_order = record { only_linked = folder-only; long_enough = folder-long; counted = λ n is. folder-counted n (below n is); index = folder-index; sealed = (folder-sealed, tt) }
 
 -- ---- what it stands for

@@ -77,6 +77,18 @@ module _ (y : Layout) (own : (w : ℕ) (l : Loaded) (c : Claim) → y.at w ≡ S
         go None g = g
         go (Some k) g = claim-append (all_claims k) (claims_at y ws) c ∙ or_right (has_claim (all_claims k) c) (has_claim (claims_at y ws) c) g
 
+  -- what is claimed by the nodes of a state is what has an owner
+  pub claimed-exactly : (m : State) (nodes : List ℕ) → ((c : Claim) (w : ℕ) → y.owner c ≡ Some w → IsOwner m y nodes c w) → (c : Claim) → has_claim (claims_at y (order m y ++ nodes)) c ≡ is_some (y.owner c)
+  claimed-exactly m nodes exact c = ⊎_elim
+      (λ (e : has_claim (claims_at y (order m y ++ nodes)) c ≡ true). let p = claimed (order m y ++ nodes) c e in e ∙ rw p.2 refl)
+      (λ (e : has_claim (claims_at y (order m y ++ nodes)) c ≡ false). e ∙ go (y.owner c) refl e)
+      (cases_Bool (has_claim (claims_at y (order m y ++ nodes)) c)) where
+        go : (o : Option ℕ) → y.owner c ≡ o → has_claim (claims_at y (order m y ++ nodes)) c ≡ false → false ≡ is_some (y.owner c)
+        go None is e = rw is refl
+        go (Some w) is e = let q : IsOwner m y nodes c w = exact c w is in
+            let t : has_claim (claims_at y (order m y ++ nodes)) c ≡ true = claims-in (order m y ++ nodes) w q.loaded c q.among q.here q.claims in
+            absurd (let z : true ≡ false = sym t ∙ e in cc)
+
 -- ---- the doomed objects of some numbers
 
 pub doomed-records : (y : Layout) (numbers : List ℕ) → map (λ (d : ℕ × Loaded). d.1) (doomed_of y numbers) ≡ filter_map y.at (map y.place_of_doomed numbers)
@@ -123,15 +135,7 @@ module _ (image : Image) (m : State) (y : Layout) (r : Represents (view_of image
 
   -- what is claimed is what has an owner
   exactly : (c : Claim) → has_claim (claims_at y (order m y ++ (map y.place_of_doomed numbers))) c ≡ is_some (y.owner c)
-  exactly c = ⊎_elim
-      (λ (e : has_claim (claims_at y (order m y ++ (map y.place_of_doomed numbers))) c ≡ true). let p = claimed y lies.own lies.single (order m y ++ (map y.place_of_doomed numbers)) c e in e ∙ rw p.2 refl)
-      (λ (e : has_claim (claims_at y (order m y ++ (map y.place_of_doomed numbers))) c ≡ false). e ∙ go (y.owner c) refl e)
-      (cases_Bool (has_claim (claims_at y (order m y ++ (map y.place_of_doomed numbers))) c)) where
-        go : (o : Option ℕ) → y.owner c ≡ o → has_claim (claims_at y (order m y ++ (map y.place_of_doomed numbers))) c ≡ false → false ≡ is_some (y.owner c)
-        go None is e = rw is refl
-        go (Some w) is e = let q : IsOwner m y (map y.place_of_doomed numbers) c w = a.exact c w is in
-            let t : has_claim (claims_at y (order m y ++ (map y.place_of_doomed numbers))) c ≡ true = claims-in y lies.own lies.single (order m y ++ (map y.place_of_doomed numbers)) w q.loaded c q.among q.here q.claims in
-            absurd (let z : true ≡ false = sym t ∙ e in cc)
+  exactly = claimed-exactly y lies.own lies.single m (map y.place_of_doomed numbers) a.exact
 
   -- marks
   mark-of : (i : Item) (l : Loaded) → is_listed m i ≡ true → y.at (y.place i) ≡ Some l → HasDirtyMark m (item_of (row_of l)) l
