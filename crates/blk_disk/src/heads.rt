@@ -130,7 +130,12 @@ impl BlockFiles {
         let blocks = head.max_entries();
         let file = FileId::Block(n);
         first_failed(&[
-            check(file, BlockHead::HEADER_LEN, low, BlockHead::HEADER_LEN <= size),
+            check(
+                file,
+                BlockHead::HEADER_LEN,
+                low,
+                BlockHead::HEADER_LEN <= size,
+            ),
             check_is(file, 0, head.magic(), BlockHead::MAGIC),
             check_is(file, 4, head.version(), BlockHead::VERSION),
             check(file, 8, numbers, head.this_file() == u16::from(n)),

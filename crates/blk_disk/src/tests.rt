@@ -6,7 +6,9 @@ ghost use Rattle.blk_disk.specs.Tables.{Agrees};
 use crate::standing::room_of;
 use crate::{BlockFiles, file_of};
 use blk_addr::{Addr, Kind};
-use blk_io::{Damage, Failed, Fault, FileId, Folder, MemFolder, SilentFolder, StopFolder, read_word};
+use blk_io::{
+    Damage, Failed, Fault, FileId, Folder, MemFolder, SilentFolder, StopFolder, read_word,
+};
 use std::alloc::Global;
 use std::test::Fail;
 
@@ -457,7 +459,11 @@ fn too_few_bytes_are_a_damage(rt: HostRuntime) -> Result<(), Fail> {
     assert_eq!(rt; f.set_len(file, 79), Ok(()));
     assert_eq!(rt;
         BlockFiles::load(&mut f).err(),
-        Some(Fault::Damaged(Damage { file, at, found: 79 }))
+        Some(Fault::Damaged(Damage {
+            file,
+            at,
+            found: 79
+        }))
     );
     Ok(())
 }

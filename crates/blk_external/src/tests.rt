@@ -144,7 +144,11 @@ fn too_few_bytes_are_a_damage(rt: HostRuntime) -> Result<(), Fail> {
     let file = FileId::External(9);
     assert_eq!(rt;
         read(&mut f, addr, 7, &mut out),
-        Err(Fault::Damaged(Damage { file, at: 7, found: 3 }))
+        Err(Fault::Damaged(Damage {
+            file,
+            at: 7,
+            found: 3
+        }))
     );
 
     // The last number of an index that ends inside it.
@@ -152,7 +156,11 @@ fn too_few_bytes_are_a_damage(rt: HostRuntime) -> Result<(), Fail> {
     f.set_len(file, 18)?;
     assert_eq!(rt;
         create(&mut f),
-        Err(Fault::Damaged(Damage { file, at: 16, found: 2 }))
+        Err(Fault::Damaged(Damage {
+            file,
+            at: 16,
+            found: 2
+        }))
     );
     Ok(())
 }

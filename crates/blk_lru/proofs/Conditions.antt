@@ -7,9 +7,9 @@ use Rattle.blk_volume.specs.ListView.{IsList}
 use Rattle.blk_volume.specs.View.{list_of}
 use Rattle.blk_volume.specs.ListImages.{HasListAtRest, walked}
 use Rattle.blk_disk.specs.declared.tables.BlockFiles.{BlockFiles}
-use Rattle.blk_disk.specs.Tables.{Agrees}
+use Rattle.blk_disk.specs.Tables.{Agrees, is_node_among}
 use Rattle.blk_lru.specs.Lists.{IsListed}
-use Rattle.blk_lru.specs.Nodes.{is_node, link_at}
+use Rattle.blk_lru.specs.Nodes.{link_at}
 use Rattle.blk_lru.proofs.Listed.{linked, splits}
 use Rattle.blk_lru.proofs.NodeWords.{checked_names, stands_as_node, next_link, prev_link}
 
@@ -24,17 +24,17 @@ pub told_now : {a m : Told} (image : Image) → m ≡ a → a.files ≡ Some ima
 told_now image stays there = ap (λ (t : Told). t.files) stays ∙ there
 
 -- the links of a listed node name nodes
-pub next_names : (files : BlockFiles) (image : Image) (node : ℕ) → Agrees files image → is_node files node ≡ true → IsListed node image → is_node files (link_at image node 16) ≡ true
+pub next_names : (files : BlockFiles) (image : Image) (node : ℕ) → Agrees files image → is_node_among files node ≡ true → IsListed node image → is_node_among files (link_at image node 16) ≡ true
 next_names files image node agrees stands is =
     let s = splits (walked image) node is.listed in
     let whole : IsList (list_of image) (s.prefix ++ node ∷ s.suffix) = subst (IsList (list_of image)) s.is is.rest.whole in
-    subst (λ (w : ℕ). is_node files w ≡ true) (next_link image node (stands_as_node files image agrees node stands)) (checked_names files image agrees _ (linked (list_of image) s.prefix node s.suffix whole).next_good)
+    subst (λ (w : ℕ). is_node_among files w ≡ true) (next_link image node (stands_as_node files image agrees node stands)) (checked_names files image agrees _ (linked (list_of image) s.prefix node s.suffix whole).next_good)
 
-pub prev_names : (files : BlockFiles) (image : Image) (node : ℕ) → Agrees files image → is_node files node ≡ true → IsListed node image → is_node files (link_at image node 20) ≡ true
+pub prev_names : (files : BlockFiles) (image : Image) (node : ℕ) → Agrees files image → is_node_among files node ≡ true → IsListed node image → is_node_among files (link_at image node 20) ≡ true
 prev_names files image node agrees stands is =
     let s = splits (walked image) node is.listed in
     let whole : IsList (list_of image) (s.prefix ++ node ∷ s.suffix) = subst (IsList (list_of image)) s.is is.rest.whole in
-    subst (λ (w : ℕ). is_node files w ≡ true) (prev_link image node (stands_as_node files image agrees node stands)) (checked_names files image agrees _ (linked (list_of image) s.prefix node s.suffix whole).prev_good)
+    subst (λ (w : ℕ). is_node_among files w ≡ true) (prev_link image node (stands_as_node files image agrees node stands)) (checked_names files image agrees _ (linked (list_of image) s.prefix node s.suffix whole).prev_good)
 
 -- the list around a listed node
 pub around : (node : ℕ) (image : Image) → IsListed node image → (prefix : List ℕ) × (suffix : List ℕ) × HasListAtRest (prefix ++ node ∷ suffix) image

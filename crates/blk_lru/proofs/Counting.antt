@@ -1,4 +1,5 @@
 -- Whether the operation in flight counts, and what completing writes where it does.
+use Rattle.blk_disk.specs.Tables.{is_node_among}
 use Rattle.std.proofs.Common.{⊎_elim, ◌≡◌, ◌≢◌, ℕ, Bool, true, false, ◌||◌, Option, None, Some, refl, sym, ap, ◌∙◌}
 use Rattle.std.specs.Prelude.{◌==◌}
 use Rattle.std.proofs.lemmas.Bool.{eq-eqb, ne_eqb}
@@ -14,7 +15,7 @@ use Rattle.blk_lru.specs.declared.plans.Neighbours.{Neighbours}
 use Rattle.blk_lru.specs.declared.plans.Operation.TheVariants as operations
 use Rattle.blk_lru.specs.Completing.{Finds, FindsNeighbours, FindsHead, IsInFlight}
 use Rattle.blk_lru.specs.declared.nodes.Links.{Links}
-use Rattle.blk_lru.specs.Nodes.{is_node, AreLinksOf, FindsNode}
+use Rattle.blk_lru.specs.Nodes.{AreLinksOf, FindsNode}
 use Rattle.blk_lru.specs.Plans.{pending}
 use Rattle.blk_lru.proofs.PlanNodes.{node_some}
 use Rattle.blk_lru.proofs.PlanWords.{pending_is}
@@ -97,7 +98,7 @@ module _ (list : ListView) where
       rw (some, good, one, two, three, head, links) refl
 
 -- what is found of an operation whose node has these links
-module _ (files : BlockFiles) (list : ListView) (links : Links) (stands : is_node files links.node ≡ true) (are : AreLinksOf list list.transaction links) where
+module _ (files : BlockFiles) (list : ListView) (links : Links) (stands : is_node_among files links.node ≡ true) (are : AreLinksOf list list.transaction links) where
   some_transaction : (list.transaction == 0) ≡ false
   some_transaction = ap (λ (n : ℕ). n == 0) (sym are.node) ∙ node_some files links.node stands
 

@@ -1,4 +1,5 @@
 -- Damages, as the callers see them.
+use Rattle.blk_disk.specs.Tables.{is_node_among}
 use Rattle.std.proofs.Common.{◌⊎◌, ◌≡◌, ℕ, Result, Ok, Err, subst, sym, true}
 use Rattle.blk_image.specs.Told.{Told, Stays}
 use Rattle.blk_format.specs.Address.{file_selector, place}
@@ -13,7 +14,6 @@ use Rattle.blk_io.specs.Faults.{IfDamaged, IsShort}
 use Rattle.blk_disk.specs.declared.tables.BlockFiles.{BlockFiles}
 use Rattle.blk_disk.specs.Unsealed.{IsUnsealed}
 use Rattle.blk_lru.specs.Damages.{IsNodeDamage}
-use Rattle.blk_lru.specs.Nodes.{is_node}
 use Rattle.blk_lru.proofs.NodeWords.{node_kind}
 
 -- what holds of a damage may be weaker
@@ -23,7 +23,7 @@ if_damaged_weaker (Err Device) weaker holds = tt
 if_damaged_weaker (Err (Damaged damage)) weaker holds = weaker damage holds
 
 -- a node is read too short, or doesn't check, and nothing was written
-pub short_or_unsealed : {A : Type 0} (r : Result A Fault) (files : BlockFiles) (old new : Told) (w : ℕ) → is_node files w ≡ true
+pub short_or_unsealed : {A : Type 0} (r : Result A Fault) (files : BlockFiles) (old new : Told) (w : ℕ) → is_node_among files w ≡ true
     → IfDamaged r (λ damage. IsShort old (names.Block (file_selector w)) (place w) (record_size w) damage ⊎ IsUnsealed old w damage) → IfDamaged r (λ _. Stays old new) → IfDamaged r (IsNodeDamage files new)
 short_or_unsealed (Ok a) files old new w stands holds stays = tt
 short_or_unsealed (Err Device) files old new w stands holds stays = tt

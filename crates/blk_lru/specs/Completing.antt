@@ -1,4 +1,5 @@
 -- The operation in flight as it is found, and what completing it writes and leaves.
+use Rattle.blk_disk.specs.Tables.{is_node_among}
 use Rattle.std.specs.Prelude.{ℕ, ◌≡◌, true, false, Option, None, Some, IfSome}
 use Rattle.blk_volume.specs.ListView.{ListView}
 use Rattle.blk_volume.specs.Completion.{counts, head_counts, links_count}
@@ -7,7 +8,6 @@ use Rattle.blk_lru.specs.declared.completing.InFlight.{InFlight}
 use Rattle.blk_lru.specs.declared.completing.Usable.{Usable}
 use Rattle.blk_lru.specs.declared.completing.Usable.TheVariants.{Counts, Fails}
 use Rattle.blk_lru.specs.declared.plans.Neighbours.{Neighbours}
-use Rattle.blk_lru.specs.Nodes.{is_node}
 use Rattle.blk_lru.specs.Plans.{code_of, word_or_zero, AreBeside, GoesBy, StandBeside, StandsBy}
 
 -- the first node is found where the head counts
@@ -23,7 +23,7 @@ FindsNeighbours list node (Counts neighbours) = (links_count list node ≡ true)
 -- the head that is found stands
 abbrev pub FoundHeadStands : BlockFiles → Usable (Option ℕ) → Type 0
 FoundHeadStands files Fails = Unit {0}
-FoundHeadStands files (Counts head) = IfSome head (λ n. is_node files n ≡ true)
+FoundHeadStands files (Counts head) = IfSome head (λ n. is_node_among files n ≡ true)
 
 -- and so do the nodes that are found beside one
 abbrev pub FoundNeighboursStand : BlockFiles → Usable (Option Neighbours) → Type 0
@@ -43,4 +43,4 @@ Finds list (Some found) = (counts list ≡ true) × IsInFlight list found
 
 -- its node and the nodes that it goes by stand
 abbrev pub AreNodes : BlockFiles → InFlight → Type 0
-AreNodes files found = (is_node files found.node ≡ true) × StandsBy files found.operation
+AreNodes files found = (is_node_among files found.node ≡ true) × StandsBy files found.operation

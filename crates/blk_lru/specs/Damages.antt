@@ -1,4 +1,5 @@
 -- What is told of a damage that a call on the use list meets: it has the place that was read, and what was found there.
+use Rattle.blk_disk.specs.Tables.{is_node_among}
 use Rattle.std.specs.Prelude.{ℕ, ◌≡◌, ◌⊎◌, ◌+◌, true}
 use Rattle.blk_image.specs.Told.{Told, Stays}
 use Rattle.blk_format.specs.Address.{file_selector, place}
@@ -11,7 +12,7 @@ use Rattle.blk_io.specs.declared.fault.Damage.{Damage}
 use Rattle.blk_io.specs.Faults.{IsShort}
 use Rattle.blk_disk.specs.declared.tables.BlockFiles.{BlockFiles}
 use Rattle.blk_disk.specs.Unsealed.{IsUnsealed}
-use Rattle.blk_lru.specs.Nodes.{is_node, IsDangling}
+use Rattle.blk_lru.specs.Nodes.{IsDangling}
 
 -- a word was read that is to name a node: its bytes are too few, or it names none
 abbrev pub IsWordDamage : BlockFiles → Told → FileId → (at : ℕ) → Damage → Type 0
@@ -32,7 +33,7 @@ IsLinkDamage node at files told damage = IsWordDamage files told (names.Block (f
 -- a node that stands was read whole: its bytes are too few, or it doesn't check
 pub record IsNodeDamage (files : BlockFiles) (told : Told) (damage : Damage) : Type 0 where
   pub node : ℕ
-  pub stands : is_node files node ≡ true
+  pub stands : is_node_among files node ≡ true
   pub failed : IsShort told (names.Block (file_selector node)) (place node) node_size damage ⊎ IsUnsealed told node damage
 
 -- an insert was damaged at the head, before it wrote, or at a node, which is as it was read

@@ -11,11 +11,10 @@ ghost use Rattle.blk_volume.specs.ListView.{CanBeInserted};
 ghost use Rattle.blk_volume.specs.ListSteps.{AreTimes, IsSealed, Seals, steps_of, times_of};
 ghost use Rattle.blk_volume.specs.ListImages.{CanBeMade, HasListAtRest, operation_steps, steps_of_touch, walked};
 ghost use Rattle.blk_io.specs.Faults.{IfDamaged, IfDevice};
-ghost use Rattle.blk_disk.specs.Tables.{Agrees};
+ghost use Rattle.blk_disk.specs.Tables.{Agrees, is_node_among};
 ghost use Rattle.blk_lru.specs.Damages.{IsInsertDamage, IsNeighbourDamage, IsNodeDamage, IsRemovalDamage, IsTouchDamage};
 ghost use Rattle.blk_lru.specs.Lists.{CanBeTouched, IsLinked, IsListed};
 ghost use Rattle.blk_lru.specs.Moments.{IsMidOperation, IsMidTouch};
-ghost use Rattle.blk_lru.specs.Nodes.{is_node};
 ghost use Rattle.blk_lru.specs.Plans.{AreBeside, StandBeside, word_or_zero};
 
 use crate::nodes::link;
@@ -38,7 +37,7 @@ const WORD_VALUES: u64 = 0x1_0000_0000;
 /// A head that is neither 0 nor the address of a node that stands is a damage, and so is a node that
 /// is to be written and doesn't check. This takes at most 17 folder calls.
 pub fn insert_front<F: Folder>(f: &mut F, files: &BlockFiles, node: Addr) -> Result<(), Fault>
-    requires stands { IsTrue (is_node files.now node) }
+    requires stands { IsTrue (is_node_among files.now node) }
     requires complete { ForSome (F.told f.old).files HasWholeIndex }
     requires agrees { ForSome (F.told f.old).files (Agrees files.now) }
 
@@ -76,7 +75,7 @@ pub fn insert_front<F: Folder>(f: &mut F, files: &BlockFiles, node: Addr) -> Res
 /// isn't the address of a node that stands is a damage, and so is a node that is to be written and
 /// doesn't check. This takes at most 17 folder calls.
 pub fn remove<F: Folder>(f: &mut F, files: &BlockFiles, node: Addr) -> Result<(), Fault>
-    requires stands { IsTrue (is_node files.now node) }
+    requires stands { IsTrue (is_node_among files.now node) }
     requires complete { ForSome (F.told f.old).files HasWholeIndex }
     requires agrees { ForSome (F.told f.old).files (Agrees files.now) }
 
@@ -114,7 +113,7 @@ pub fn remove<F: Folder>(f: &mut F, files: &BlockFiles, node: Addr) -> Result<()
 /// node is the first one already no transaction is started. At last the times are written. Damages
 /// are those of an insert and a removal. This takes at most 39 folder calls.
 pub fn touch<F: Folder>(f: &mut F, files: &BlockFiles, node: Addr, moment: u64) -> Result<(), Fault>
-    requires stands { IsTrue (is_node files.now node) }
+    requires stands { IsTrue (is_node_among files.now node) }
     requires complete { ForSome (F.told f.old).files HasWholeIndex }
     requires agrees { ForSome (F.told f.old).files (Agrees files.now) }
 
@@ -146,7 +145,7 @@ pub fn touch<F: Folder>(f: &mut F, files: &BlockFiles, node: Addr, moment: u64) 
 
 // Sets the two times of a node to a moment.
 fn set_times<F: Folder>(f: &mut F, files: &BlockFiles, node: Addr, moment: u64) -> Result<(), Fault>
-    requires stands { is_node files.now node ≡ true }
+    requires stands { is_node_among files.now node ≡ true }
     requires complete { ForSome (F.told f.old).files HasWholeIndex }
     requires agrees { ForSome (F.told f.old).files (Agrees files.now) }
     ensures checked { OnOk result (ForSome (F.told f.old).files (λ image. (list_of image).checks node ≡ true)) }
@@ -173,7 +172,7 @@ fn set_times<F: Folder>(f: &mut F, files: &BlockFiles, node: Addr, moment: u64) 
 
 // Moves a listed node to the front of the list, where it isn't there already.
 fn move_front<F: Folder>(f: &mut F, files: &BlockFiles, node: Addr) -> Result<(), Fault>
-    requires stands { IsTrue (is_node files.now node) }
+    requires stands { IsTrue (is_node_among files.now node) }
     requires complete { ForSome (F.told f.old).files HasWholeIndex }
     requires agrees { ForSome (F.told f.old).files (Agrees files.now) }
     ensures checked { OnOk result (ForSome (F.told f.old).files (λ from. CanBeMade from (touch_writes node (list_of from)))) }
@@ -202,8 +201,8 @@ fn move_behind<F: Folder>(
     node: Addr,
     head: Option<Addr>,
 ) -> Result<(), Fault>
-    requires stands { IsTrue (is_node files.now node) }
-    requires first { IfSome head (λ n. IsTrue (is_node files.now n)) }
+    requires stands { IsTrue (is_node_among files.now node) }
+    requires first { IfSome head (λ n. IsTrue (is_node_among files.now n)) }
     requires complete { ForSome (F.told f.old).files HasWholeIndex }
     requires agrees { ForSome (F.told f.old).files (Agrees files.now) }
     requires head { ForSome (F.told f.old).files (λ image. word_or_zero head ≡ (list_of image).head) }
@@ -227,7 +226,7 @@ fn move_behind<F: Folder>(
 
 // The nodes that the links of one name, by two folder calls.
 fn neighbours<F: Folder>(f: &mut F, files: &BlockFiles, node: Addr) -> Result<Neighbours, Fault>
-    requires stands { IsTrue (is_node files.now node) }
+    requires stands { IsTrue (is_node_among files.now node) }
     requires agrees { ForSome (F.told f.old).files (Agrees files.now) }
     ensures words { IfOk result (λ neighbours. ForSome (F.told f.old).files (λ image. AreBeside ((list_of image).next node) ((list_of image).prev node) (Some neighbours))) }
     ensures stand { IfOk result (StandBeside files.now) }

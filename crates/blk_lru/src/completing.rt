@@ -8,10 +8,10 @@ ghost use Rattle.blk_volume.specs.View.{list_of};
 ghost use Rattle.blk_volume.specs.ListSteps.{AreOf, AreWords, Seals};
 ghost use Rattle.blk_volume.specs.ListImages.{IsCompleted, completion_steps};
 ghost use Rattle.blk_io.specs.Faults.{IfDamaged, IfDevice};
-ghost use Rattle.blk_disk.specs.Tables.{Agrees};
+ghost use Rattle.blk_disk.specs.Tables.{Agrees, is_node_among};
 ghost use Rattle.blk_lru.specs.Damages.{IsCompletingDamage, IsNodeDamage};
 ghost use Rattle.blk_lru.specs.Moments.{IsMidCompletion};
-ghost use Rattle.blk_lru.specs.Nodes.{is_node, AreLinksOf};
+ghost use Rattle.blk_lru.specs.Nodes.{AreLinksOf};
 ghost use Rattle.blk_lru.specs.Writes.{meant};
 ghost use Rattle.blk_lru.specs.Completing.{AreNodes, Finds, FindsNeighbours, FindsHead, FoundNeighboursStand, FoundHeadStands};
 
@@ -80,7 +80,7 @@ pub fn pending<F: Folder>(f: &mut F, files: &BlockFiles) -> Result<Plan, Fault>
     requires agrees { ForSome (F.told f.old).files (Agrees files.now) }
     ensures words { IfOk result (λ plan. AreWords (map meant plan.items)) }
     ensures plan { IfOk result (λ plan. ForSome (F.told f.old).files (λ image. map meant plan.items ≡ completion_writes (list_of image))) }
-    ensures stand { IfOk result (λ plan. AreOf (λ n. is_node files.now n ≡ true) (map meant plan.items)) }
+    ensures stand { IfOk result (λ plan. AreOf (λ n. is_node_among files.now n ≡ true) (map meant plan.items)) }
     ensures stays { Stays (F.told f.old) (F.told f.new) }
 
     // A folder that tells its files never gives a damage.
@@ -133,7 +133,7 @@ fn counting<F: Folder>(
 ) -> Result<Option<InFlight>, Fault>
     requires complete { ForSome (F.told f.old).files HasWholeIndex }
     requires agrees { ForSome (F.told f.old).files (Agrees files.now) }
-    requires stands { is_node files.now links.now.node ≡ true }
+    requires stands { is_node_among files.now links.now.node ≡ true }
     requires links { ForSome (F.told f.old).files (λ image. AreLinksOf (list_of image) (list_of image).transaction links.now) }
     requires operation { ForSome (F.told f.old).files (λ image. (list_of image).operation ≡ code) }
     ensures found { IfOk result (λ found. ForSome (F.told f.old).files (λ image. Finds (list_of image) found)) }
@@ -203,7 +203,7 @@ fn usable_links<F: Folder>(
     links: &Links,
 ) -> Result<Usable<Option<Neighbours>>, Fault>
     requires agrees { ForSome (F.told f.old).files (Agrees files.now) }
-    requires stands { is_node files.now links.now.node ≡ true }
+    requires stands { is_node_among files.now links.now.node ≡ true }
     requires links { ForSome (F.told f.old).files (λ image. AreLinksOf (list_of image) (list_of image).transaction links.now) }
     ensures found { IfOk result (λ found. ForSome (F.told f.old).files (λ image. FindsNeighbours (list_of image) (list_of image).transaction found)) }
     ensures stand { IfOk result (FoundNeighboursStand files.now) }

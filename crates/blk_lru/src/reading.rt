@@ -9,13 +9,13 @@ ghost use Rattle.blk_volume.specs.View.{list_of};
 ghost use Rattle.blk_volume.specs.ListImages.{HasListAtRest, walked};
 ghost use Rattle.blk_io.specs.declared.folder.FileId.TheVariants as names;
 ghost use Rattle.blk_io.specs.Faults.{IfDamaged, IfDevice};
-ghost use Rattle.blk_disk.specs.Tables.{Agrees};
+ghost use Rattle.blk_disk.specs.Tables.{Agrees, is_node_among};
 ghost use Rattle.blk_lru.specs.Damages.{IsHeadDamage, IsLinkDamage, IsTailDamage, IsWordDamage};
-ghost use Rattle.blk_lru.specs.Nodes.{is_node, link_at, IsNodeOrNone};
+ghost use Rattle.blk_lru.specs.Nodes.{link_at, IsNodeOrNone};
 ghost use Rattle.blk_lru.specs.Lists.{IsListed, IsListAtRest, first_node_of, last_node_of};
 ghost use Rattle.blk_lru.specs.Plans.{word_or_zero};
 
-use crate::nodes::{link, node_of};
+use crate::nodes::link;
 use blk_addr::Addr;
 use blk_disk::BlockFiles;
 use blk_index::word;
@@ -33,7 +33,7 @@ pub(crate) const TAIL: u32 = IndexHead::TAILS as u32;
 pub fn first<F: Folder>(f: &mut F, files: &BlockFiles) -> Result<Option<Addr>, Fault>
     ensures node { IfOk result (λ node. ForSome (F.told f.old).files (λ image. IsListAtRest image → node ≡ first_node_of (walked image))) }
     ensures word { IfOk result (λ node. ForSome (F.told f.old).files (λ image. word_or_zero node ≡ (list_of image).head)) }
-    ensures stands { IfOk result (λ node. IfSome node (λ n. IsTrue (is_node files.now n))) }
+    ensures stands { IfOk result (λ node. IfSome node (λ n. IsTrue (is_node_among files.now n))) }
     ensures checked { OnOk result (ForSome (F.told f.old).files (λ image. HasRange image index IndexHead.HEADS 4)) }
     ensures stays { Stays (F.told f.old) (F.told f.new) }
 
@@ -53,7 +53,7 @@ pub fn first<F: Folder>(f: &mut F, files: &BlockFiles) -> Result<Option<Addr>, F
 pub fn last<F: Folder>(f: &mut F, files: &BlockFiles) -> Result<Option<Addr>, Fault>
     ensures node { IfOk result (λ node. ForSome (F.told f.old).files (λ image. IsListAtRest image → node ≡ last_node_of (walked image))) }
     ensures word { IfOk result (λ node. ForSome (F.told f.old).files (λ image. word_or_zero node ≡ (list_of image).tail)) }
-    ensures stands { IfOk result (λ node. IfSome node (λ n. IsTrue (is_node files.now n))) }
+    ensures stands { IfOk result (λ node. IfSome node (λ n. IsTrue (is_node_among files.now n))) }
     ensures checked { OnOk result (ForSome (F.told f.old).files (λ image. HasRange image index IndexHead.TAILS 4)) }
     ensures stays { Stays (F.told f.old) (F.told f.new) }
 
@@ -71,10 +71,10 @@ pub fn last<F: Folder>(f: &mut F, files: &BlockFiles) -> Result<Option<Addr>, Fa
 ///
 /// A link that isn't the address of a node that stands is a damage.
 pub fn before<F: Folder>(f: &mut F, files: &BlockFiles, node: Addr) -> Result<Option<Addr>, Fault>
-    requires stands { IsTrue (is_node files.now node) }
+    requires stands { IsTrue (is_node_among files.now node) }
     ensures node { IfOk result (λ found. ForSome (F.told f.old).files (λ image. Agrees files.now image → (prefix suffix : List ℕ) → HasListAtRest (prefix ++ node ∷ suffix) image → found ≡ last_node_of prefix)) }
     ensures word { IfOk result (λ found. ForSome (F.told f.old).files (λ image. found ≡ (if link_at image node NodeView.PREV == node then None else Some (link_at image node NodeView.PREV)))) }
-    ensures stands { IfOk result (λ found. IfSome found (λ n. IsTrue (is_node files.now n))) }
+    ensures stands { IfOk result (λ found. IfSome found (λ n. IsTrue (is_node_among files.now n))) }
     ensures checked { OnOk result (ForSome (F.told f.old).files (λ image. HasRange image (block (file_selector node)) (place node + NodeView.PREV) 4)) }
     ensures stays { Stays (F.told f.old) (F.told f.new) }
 
@@ -93,10 +93,10 @@ pub fn before<F: Folder>(f: &mut F, files: &BlockFiles, node: Addr) -> Result<Op
 ///
 /// A link that isn't the address of a node that stands is a damage.
 pub fn after<F: Folder>(f: &mut F, files: &BlockFiles, node: Addr) -> Result<Option<Addr>, Fault>
-    requires stands { IsTrue (is_node files.now node) }
+    requires stands { IsTrue (is_node_among files.now node) }
     ensures node { IfOk result (λ found. ForSome (F.told f.old).files (λ image. Agrees files.now image → (prefix suffix : List ℕ) → HasListAtRest (prefix ++ node ∷ suffix) image → found ≡ first_node_of suffix)) }
     ensures word { IfOk result (λ found. ForSome (F.told f.old).files (λ image. found ≡ (if link_at image node NodeView.NEXT == node then None else Some (link_at image node NodeView.NEXT)))) }
-    ensures stands { IfOk result (λ found. IfSome found (λ n. IsTrue (is_node files.now n))) }
+    ensures stands { IfOk result (λ found. IfSome found (λ n. IsTrue (is_node_among files.now n))) }
     ensures checked { OnOk result (ForSome (F.told f.old).files (λ image. HasRange image (block (file_selector node)) (place node + NodeView.NEXT) 4)) }
     ensures stays { Stays (F.told f.old) (F.told f.new) }
 
@@ -127,7 +127,7 @@ pub(crate) fn end_of_list<F: Folder>(
     requires aligned { at % 4 ≡ 0 }
     requires inside { at < header_length }
     ensures node { IfOk result (λ node. ForSome (F.told f.old).files (λ image. node ≡ (if image_word image index at == 0 then None else Some (image_word image index at)))) }
-    ensures stands { IfOk result (λ node. IfSome node (λ n. IsTrue (is_node files.now n))) }
+    ensures stands { IfOk result (λ node. IfSome node (λ n. IsTrue (is_node_among files.now n))) }
     ensures checked { OnOk result (ForSome (F.told f.old).files (λ image. HasRange image index at 4)) }
     ensures stays { Stays (F.told f.old) (F.told f.new) }
     ensures damaged { IfDamaged result (IsWordDamage files.now (F.told f.old) names.Index at) }
@@ -139,7 +139,7 @@ pub(crate) fn end_of_list<F: Folder>(
     if found == 0 {
         return Ok(None);
     }
-    let Some(node) = node_of(files, found) else {
+    let Some(node) = files.node(found) else {
         let file = FileId::Index;
         let at = u64::from(at);
         return Err(Fault::Damaged(Damage { file, at, found }));

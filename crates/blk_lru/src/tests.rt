@@ -2,10 +2,8 @@
 ghost use Rattle.std.specs.Prelude.{IfOk, IfSome, IsTrue};
 ghost use Rattle.std.specs.Option.{ForSome};
 ghost use Rattle.blk_format.specs.Headers.{HasWholeIndex};
-ghost use Rattle.blk_disk.specs.Tables.{Agrees};
-ghost use Rattle.blk_lru.specs.Nodes.{is_node};
+ghost use Rattle.blk_disk.specs.Tables.{Agrees, is_node_among};
 
-use crate::nodes::node_of;
 use crate::reading::{HEAD, TAIL};
 use crate::writes::{OPERATION, TRANSACTION};
 use crate::{after, before, complete, first, insert_front, last, pending, remove, touch};
@@ -186,7 +184,7 @@ enum Change {
 
 // Makes a change by the node of a word, where that one stands.
 fn change_list(f: &mut Silent, files: &BlockFiles, change: Change, word: u32) -> Result<(), Fault> {
-    let Some(node) = node_of(files, word) else {
+    let Some(node) = files.node(word) else {
         return Ok(());
     };
     match change {
@@ -229,13 +227,13 @@ fn stopped(
 
 // The nodes of three words, where all stand.
 fn three(files: &BlockFiles) -> Option<(Addr, Addr, Addr)>
-    ensures first { IfSome result (λ nodes. IsTrue (is_node files.now nodes.0)) }
-    ensures second { IfSome result (λ nodes. IsTrue (is_node files.now nodes.1)) }
-    ensures third { IfSome result (λ nodes. IsTrue (is_node files.now nodes.2)) }
+    ensures first { IfSome result (λ nodes. IsTrue (is_node_among files.now nodes.0)) }
+    ensures second { IfSome result (λ nodes. IsTrue (is_node_among files.now nodes.1)) }
+    ensures third { IfSome result (λ nodes. IsTrue (is_node_among files.now nodes.2)) }
 {
-    let one = node_of(files, NODES[0])?;
-    let two = node_of(files, NODES[1])?;
-    let three = node_of(files, NODES[2])?;
+    let one = files.node(NODES[0])?;
+    let two = files.node(NODES[1])?;
+    let three = files.node(NODES[2])?;
     Some((one, two, three))
 }
 
@@ -486,7 +484,7 @@ enum Call {
 
 // What a call answers, where its node stands.
 fn outcome(f: &mut Silent, files: &BlockFiles, call: Call, word: u32) -> Result<(), Fault> {
-    let Some(node) = node_of(files, word) else {
+    let Some(node) = files.node(word) else {
         return Ok(());
     };
     match call {

@@ -10,9 +10,9 @@ ghost use Rattle.blk_volume.specs.View.{list_of};
 ghost use Rattle.blk_volume.specs.ListImages.{CanBeMade};
 ghost use Rattle.blk_volume.specs.ListSteps.{AreOf, AreWords, steps_of, write_steps};
 ghost use Rattle.blk_io.specs.Faults.{IfDamaged, IfDevice};
-ghost use Rattle.blk_disk.specs.Tables.{Agrees};
+ghost use Rattle.blk_disk.specs.Tables.{Agrees, is_node_among};
 ghost use Rattle.blk_lru.specs.Damages.{IsNodeDamage};
-ghost use Rattle.blk_lru.specs.Nodes.{is_node, IsLinkPlace};
+ghost use Rattle.blk_lru.specs.Nodes.{IsLinkPlace};
 ghost use Rattle.blk_lru.specs.Writes.{meant};
 
 use crate::reading::{HEAD, TAIL};
@@ -50,7 +50,7 @@ pub(crate) fn perform<F: Folder>(
     files: &BlockFiles,
     writes: &[Write],
 ) -> Result<(), Fault>
-    requires stand { AreOf (λ n. is_node files.now n ≡ true) (map meant writes.now) }
+    requires stand { AreOf (λ n. is_node_among files.now n ≡ true) (map meant writes.now) }
     requires words { AreWords (map meant writes.now) }
     requires complete { ForSome (F.told f.old).files HasWholeIndex }
     requires agrees { ForSome (F.told f.old).files (Agrees files.now) }
@@ -74,7 +74,7 @@ pub(crate) fn perform<F: Folder>(
 // Makes a write, by one folder call for a word of the index and four for a link.
 #[tactic(auto, unfolding(blk_volume::specs::ListSteps::write_steps))]
 fn write_one<F: Folder>(f: &mut F, files: &BlockFiles, write: Write) -> Result<(), Fault>
-    requires stand { AreOf (λ n. is_node files.now n ≡ true) (meant write ∷ []) }
+    requires stand { AreOf (λ n. is_node_among files.now n ≡ true) (meant write ∷ []) }
     requires complete { ForSome (F.told f.old).files HasWholeIndex }
     requires agrees { ForSome (F.told f.old).files (Agrees files.now) }
     ensures checked { OnOk result (ForSome (F.told f.old).files (λ image. AreOf (λ n. (list_of image).checks n ≡ true) (meant write ∷ []))) }
@@ -105,7 +105,7 @@ fn set_link<F: Folder>(
     word: u32,
 ) -> Result<(), Fault>
     requires place { IsLinkPlace at }
-    requires stands { is_node files.now node ≡ true }
+    requires stands { is_node_among files.now node ≡ true }
     requires agrees { ForSome (F.told f.old).files (Agrees files.now) }
     ensures checked { OnOk result (ForSome (F.told f.old).files (λ image. (list_of image).checks node ≡ true)) }
     ensures steps { OnOk result (ForSome (F.told f.old).files (λ from. Applies (F.told f.old) (F.told f.new) (sealed_steps from node ((at, word) ∷ [])))) }

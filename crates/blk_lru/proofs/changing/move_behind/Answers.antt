@@ -6,9 +6,8 @@ use Rattle.blk_volume.specs.ListPlans.{writes_of}
 use Rattle.blk_volume.specs.View.{list_of}
 use Rattle.blk_volume.specs.ListImages.{CanBeMade}
 use Rattle.blk_laws.proofs.WriteWords.{Each, Good, each_nodes, each_words}
-use Rattle.blk_disk.specs.Tables.{Agrees}
+use Rattle.blk_disk.specs.Tables.{Agrees, is_node_among}
 use Rattle.blk_lru.specs.declared.plans.Operation.TheVariants as operations
-use Rattle.blk_lru.specs.Nodes.{is_node}
 use Rattle.blk_lru.specs.Plans.{whole_plan}
 use Rattle.blk_lru.specs.Writes.{meant}
 use Rattle.blk_lru.proofs.Operating.{checked_as, part_as, untold_as, whole_as}
@@ -30,14 +29,14 @@ words_are g c = ap (map meant) c.deref.ensures.0 ∙ c.plan_of-plan.ensures
 plan_is : (g : given.Over) (c : goal.After-deref g) → ForSome (g.F.Folder.told c.args.f.now).files (λ from. map meant c.deref.result.now ≡ writes_of 3 c.args.node (list_of from))
 plan_is g c from there = words_are g c ∙ whole_is (list_of from) c.args.node (operations.Move (Some c.in_ok-neighbours.neighbours) c.args.head) (c.in_ok-neighbours.ensures.words from there, c.requires.head from there)
 
-good_here : (g : given.Over) (c : goal.After-deref g) → Each (Good (λ n. is_node c.args.files.now n ≡ true)) (map meant c.deref.result.now)
-good_here g c = subst (Each (Good (λ n. is_node c.args.files.now n ≡ true))) (sym (words_are g c)) (whole_good c.args.files.now c.args.node c.requires.stands (operations.Move (Some c.in_ok-neighbours.neighbours) c.args.head) (c.in_ok-neighbours.ensures.stand, c.requires.first))
+good_here : (g : given.Over) (c : goal.After-deref g) → Each (Good (λ n. is_node_among c.args.files.now n ≡ true)) (map meant c.deref.result.now)
+good_here g c = subst (Each (Good (λ n. is_node_among c.args.files.now n ≡ true))) (sym (words_are g c)) (whole_good c.args.files.now c.args.node c.requires.stands (operations.Move (Some c.in_ok-neighbours.neighbours) c.args.head) (c.in_ok-neighbours.ensures.stand, c.requires.first))
 
 pub perform-requires-clause-stand : goal.perform-requires-clause-stand
-perform-requires-clause-stand g c = each_nodes (λ n. is_node c.args.files.now n ≡ true) (map meant c.deref.result.now) (good_here g c)
+perform-requires-clause-stand g c = each_nodes (λ n. is_node_among c.args.files.now n ≡ true) (map meant c.deref.result.now) (good_here g c)
 
 pub perform-requires-clause-words : goal.perform-requires-clause-words
-perform-requires-clause-words g c = each_words (λ n. is_node c.args.files.now n ≡ true) (map meant c.deref.result.now) (good_here g c)
+perform-requires-clause-words g c = each_words (λ n. is_node_among c.args.files.now n ≡ true) (map meant c.deref.result.now) (good_here g c)
 
 pub perform-requires-clause-agrees : goal.perform-requires-clause-agrees
 perform-requires-clause-agrees g c = told_stays (Agrees c.args.files.now) c.in_ok-neighbours.ensures.stays c.requires.agrees

@@ -14,9 +14,8 @@ use Rattle.blk_volume.specs.ListSteps.{steps_of}
 use Rattle.blk_io.proofs.Carried.{carried}
 use Rattle.blk_io.specs.Faults.{IfDamaged}
 use Rattle.blk_disk.specs.declared.tables.BlockFiles.{BlockFiles}
-use Rattle.blk_disk.specs.Tables.{Agrees}
+use Rattle.blk_disk.specs.Tables.{Agrees, is_node_among}
 use Rattle.blk_lru.specs.Lists.{IsListed}
-use Rattle.blk_lru.specs.Nodes.{is_node}
 use Rattle.blk_lru.specs.Plans.{word_or_zero}
 use Rattle.blk_lru.proofs.Conditions.{told_stays}
 use Rattle.blk_lru.proofs.PlanNodes.{node_apart}
@@ -37,7 +36,7 @@ same_head None node e = absurd (clash e)
 same_head (Some w) node e = eqb-true w node e
 
 -- another node is the first one, or none is
-apart : (files : BlockFiles) (node : ℕ) → is_node files node ≡ true → (head : Option ℕ) → option_eq nat_eq head (Some node) ≡ false → (word_or_zero head == node) ≡ false
+apart : (files : BlockFiles) (node : ℕ) → is_node_among files node ≡ true → (head : Option ℕ) → option_eq nat_eq head (Some node) ≡ false → (word_or_zero head == node) ≡ false
 apart files node stands None e = ne_eqb 0 node (λ zero. node_apart files node stands (sym zero))
 apart files node stands (Some head) e = e
 

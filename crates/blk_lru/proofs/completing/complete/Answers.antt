@@ -12,9 +12,8 @@ use Rattle.blk_volume.specs.ListImages.{IsCompleted, completion_steps}
 use Rattle.blk_laws.proofs.Sealing.{writes_seal}
 use Rattle.blk_laws.proofs.WordStops.{completions-can, completions-done}
 use Rattle.blk_laws.proofs.WriteSteps.{quiet-writes, writes-in_turn}
-use Rattle.blk_disk.specs.Tables.{Agrees}
+use Rattle.blk_disk.specs.Tables.{Agrees, is_node_among}
 use Rattle.blk_lru.specs.Moments.{IsMidCompletion}
-use Rattle.blk_lru.specs.Nodes.{is_node}
 use Rattle.blk_lru.specs.Writes.{meant}
 use Rattle.blk_lru.proofs.Conditions.{told_stays}
 use Rattle.blk_lru.proofs.Moments.{along_completion, before_completion}
@@ -39,7 +38,7 @@ plan_is : (g : given.Over) (c : goal.After-deref g) → ForSome (g.F.Folder.told
 plan_is g c from there = ap (map meant) c.deref.ensures.0 ∙ c.in_ok-plan.ensures.plan from there
 
 pub perform-requires-clause-stand : goal.perform-requires-clause-stand
-perform-requires-clause-stand g c = words_are g c (AreOf (λ n. is_node c.args.files.now n ≡ true)) c.in_ok-plan.ensures.stand
+perform-requires-clause-stand g c = words_are g c (AreOf (λ n. is_node_among c.args.files.now n ≡ true)) c.in_ok-plan.ensures.stand
 
 pub perform-requires-clause-words : goal.perform-requires-clause-words
 perform-requires-clause-words g c = words_are g c AreWords c.in_ok-plan.ensures.words

@@ -5,9 +5,8 @@ use Rattle.blk_volume.specs.View.{list_of}
 use Rattle.blk_volume.specs.ListSteps.{AreOf, AreWords}
 use Rattle.blk_laws.proofs.ListCompletions.{completion_false, completion_none}
 use Rattle.blk_laws.proofs.WriteWords.{Each, Good, each_nodes, each_words}
-use Rattle.blk_disk.specs.Tables.{Agrees}
+use Rattle.blk_disk.specs.Tables.{Agrees, is_node_among}
 use Rattle.blk_lru.specs.Completing.{AreNodes, Finds}
-use Rattle.blk_lru.specs.Nodes.{is_node}
 use Rattle.blk_lru.specs.Plans.{pending}
 use Rattle.blk_lru.specs.Writes.{meant}
 use Rattle.blk_lru.proofs.Conditions.{told_before, told_now, told_stays}
@@ -22,7 +21,7 @@ returns-then-transaction-eq0-clause-plan g c from there =
     ap (map meant) c.new.ensures ∙ sym (completion_none (list_of from) (eq-eqb _ 0 (sym (c.in_ok-transaction.ensures.word from there) ∙ c.if-transaction-eq0.true)))
 
 pub returns-then-transaction-eq0-clause-stand : goal.returns-then-transaction-eq0-clause-stand
-returns-then-transaction-eq0-clause-stand g c = subst (AreOf (λ n. is_node c.args.files.now n ≡ true)) (ap (map meant) (sym c.new.ensures)) tt
+returns-then-transaction-eq0-clause-stand g c = subst (AreOf (λ n. is_node_among c.args.files.now n ≡ true)) (ap (map meant) (sym c.new.ensures)) tt
 
 pub returns-then-transaction-eq0-clause-words : goal.returns-then-transaction-eq0-clause-words
 returns-then-transaction-eq0-clause-words g c = subst AreWords (ap (map meant) (sym c.new.ensures)) tt
@@ -48,7 +47,7 @@ finds g c image there = subst (Finds (list_of image)) c.in-Some.is (c.in_ok-foun
 nodes : (g : given.Over) (c : goal.After-pending_of g) → AreNodes c.args.files.now c.in-Some.found
 nodes g c = search rules
 
-good_here : (g : given.Over) (c : goal.After-pending_of g) → Each (Good (λ n. is_node c.args.files.now n ≡ true)) (pending c.in-Some.found.node c.in-Some.found.operation)
+good_here : (g : given.Over) (c : goal.After-pending_of g) → Each (Good (λ n. is_node_among c.args.files.now n ≡ true)) (pending c.in-Some.found.node c.in-Some.found.operation)
 good_here g c = pending_good c.args.files.now c.in-Some.found.node (nodes g c).0 c.in-Some.found.operation (nodes g c).1
 
 pub returns-clause-plan : goal.returns-clause-plan
@@ -56,10 +55,10 @@ returns-clause-plan g c image there = let f = finds g c image there in c.pending
 
 pub returns-clause-stand : goal.returns-clause-stand
 returns-clause-stand g c =
-    let P : ℕ → Type 0 = λ n. is_node c.args.files.now n ≡ true in
+    let P : ℕ → Type 0 = λ n. is_node_among c.args.files.now n ≡ true in
     subst (AreOf P) (sym c.pending_of.ensures) (each_nodes P (pending c.in-Some.found.node c.in-Some.found.operation) (good_here g c))
 
 pub returns-clause-words : goal.returns-clause-words
 returns-clause-words g c =
-    let P : ℕ → Type 0 = λ n. is_node c.args.files.now n ≡ true in
+    let P : ℕ → Type 0 = λ n. is_node_among c.args.files.now n ≡ true in
     subst AreWords (sym c.pending_of.ensures) (each_words P (pending c.in-Some.found.node c.in-Some.found.operation) (good_here g c))

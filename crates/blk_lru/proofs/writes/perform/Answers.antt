@@ -1,7 +1,7 @@
+use Rattle.blk_disk.specs.Tables.{is_node_among}
 use Rattle.std.proofs.Common.{◌≡◌, ◌∷◌, [], ◌+◌, List, None, drop, map, sym, subst, true, refl, arith}
 use Rattle.blk_volume.specs.ListView.{ListWrite}
 use Rattle.blk_io.proofs.Carried.{carried}
-use Rattle.blk_lru.specs.Nodes.{is_node}
 use Rattle.blk_lru.specs.Writes.{meant}
 use Rattle.blk_lru.proofs.FailedChecks.{if_damaged_weaker}
 use Rattle.blk_lru.proofs.Performing.{Reached, Wrote, nothing, midst, rest_made, one_more, in_part, done_all, all_checked, wrote_part, told_ready, part_ready, at_item, item_is, all_done, back_untold}
@@ -11,7 +11,7 @@ pub loop-write-init : goal.loop-write-init
 loop-write-init g c = record { reached = nothing (g.F.Folder.told c.args.f.now) (g.F.Folder.told c.args.f.now) (map meant c.args.writes.now) refl; later = omega arith }
 
 pub write_one-requires-clause-stand : goal.write_one-requires-clause-stand
-write_one-requires-clause-stand g c = item_is (λ n. is_node c.args.files.now n ≡ true) c.args.writes.now c.loop-write.write-index c.write-item.result c.write-item.result c.loop-write-test.true (sym c.write-item.is) c.requires.stand
+write_one-requires-clause-stand g c = item_is (λ n. is_node_among c.args.files.now n ≡ true) c.args.writes.now c.loop-write.write-index c.write-item.result c.write-item.result c.loop-write-test.true (sym c.write-item.is) c.requires.stand
 
 pub write_one-requires-clause-complete : goal.write_one-requires-clause-complete
 write_one-requires-clause-complete g c image there =
