@@ -1,5 +1,5 @@
 -- The conditions of a search at a small folder, which has one entry with the key "a".
-use Rattle.std.proofs.Common.{◌≡◌, ℕ, Bool, true, false, List, [], ◌∷◌, length, None, refl, sym, subst, lit≤, ⊎_elim}
+use Rattle.std.proofs.Common.{◌≡◌, ℕ, true, false, List, [], ◌∷◌, length, None, refl, sym, subst, lit≤, ⊎_elim}
 use Rattle.std.specs.Prelude.{◌==◌, ◌≤◌}
 use Rattle.std.proofs.lemmas.Bool.{or_cases, eqb-true}
 use Rattle.blk_image.specs.Bytes.{zeros, spliced, range_at}
@@ -8,13 +8,12 @@ use Rattle.blk_image.specs.Image.{Image}
 use Rattle.blk_format.specs.Address.{is_address, is_initialized, names_external, names_blocks, kind_of, reserved_bits, block_count, file_selector, first_block, external_number, block_size, block_place, place, byte_size}
 use Rattle.blk_format.specs.BlockFiles.{is_among, next_file_in, max_entries_in, files_along, linked, kind_among}
 use Rattle.blk_format.specs.Hash.{hash, mixed, of_bytes, of_one}
-use Rattle.blk_format.specs.Headers.{bucket_of}
 use Rattle.blk_format.specs.Records.{entry_in, entry_checks}
 use Rattle.blk_format.specs.Standing.{stands, stands_as_blocks}
 use Rattle.blk_format.specs.Storage.{entry_blocks}
-use Rattle.blk_volume.specs.Chains.{IsChain, bucket_of_hash, is_of_bucket}
+use Rattle.blk_volume.specs.Chains.{IsChain}
 use Rattle.blk_volume.specs.Entries.{is_key_length, key_of}
-use Rattle.blk_volume.specs.View.{RecordFields, fields_at, fields_of, entry_at, follow_at, key_place_at, store_of}
+use Rattle.blk_volume.specs.View.{fields_at, fields_of, entry_at, follow_at, key_place_at, store_of}
 use Rattle.blk_laws.proofs.SmallFolder.{small_records, folder_with}
 use Rattle.blk_entry.specs.Keys.{HasReadableKey, key_at}
 use Rattle.blk_chain.specs.Examples.{SomeChainIsSearched}

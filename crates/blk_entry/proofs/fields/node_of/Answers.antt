@@ -1,9 +1,6 @@
-use Rattle.std.proofs.Common.{◌≡◌, ◌⊎◌, ◌+◌, ℕ, Bool, true, false, Option, None, Some, inr, sym, ◌∙◌, subst, if◌then◌else◌}
-use Rattle.std.specs.Option.{ForSome}
-use Rattle.blk_image.specs.Image.{Image}
+use Rattle.std.proofs.Common.{◌≡◌, ◌⊎◌, ◌+◌, ℕ, true, false, None, inr, sym, ◌∙◌, subst}
 use Rattle.blk_format.specs.Address.{file_selector, place}
 use Rattle.blk_volume.specs.View.{entry_at}
-use Rattle.blk_addr.specs.declared.address.Addr.{Addr}
 use Rattle.blk_io.specs.declared.folder.FileId.TheVariants as FileId
 use Rattle.blk_io.specs.Faults.{IsShort}
 use Rattle.blk_io.proofs.Carried.{untold_where}
@@ -11,7 +8,6 @@ use Rattle.blk_disk.specs.Tables.{is_node_among}
 use Rattle.blk_entry.specs.Keys.{IsDanglingNode, node_place}
 use Rattle.blk_entry.proofs.KeyPlaces.{clash, err_damaged}
 use Rattle.blk_entry.proofs.Windows.{named_is, node_read, none_named}
-use Rattle.blk_entry.proofs.fields.node_of.Given as given
 use Rattle.blk_entry.proofs.fields.node_of.Goals as goal
 
 pub returns-in-Some-clause-node : goal.returns-in-Some-clause-node
