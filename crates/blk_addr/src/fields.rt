@@ -2,7 +2,7 @@
 ghost use Rattle.std.specs.Prelude.{◌≡◌, ◌≤◌, ◌<◌, ◌^◌};
 ghost use Rattle.blk_format.specs.Address as address;
 
-// The type numbers of address words.
+// The kind numbers of address words.
 pub const EXTERNAL: u32 = 0;
 
 pub const RANKINGS: u32 = 1;
@@ -118,7 +118,7 @@ pub fn is_address(word: u32) -> bool
     is_initialized(word) && (names_external(word) || names_blocks(word))
 }
 
-// The word of so many blocks of a type in a file, from a first one on.
+// The word of so many blocks of a kind in a file, from a first one on.
 #[tactic(auto, unfolding(blk_format::specs::Address::block_word))]
 pub fn block_word(kind: u32, file: u8, start: u32, count: u32) -> u32
     requires kind { kind < 8 }

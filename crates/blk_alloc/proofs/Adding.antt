@@ -122,7 +122,7 @@ module _ (old new : BlockFiles) (from mid : Image) (kind n last : ℕ) (free : i
   all_kept f there =
       among_kinds new f ∙ (λ j. kinds_kept old new kind n free joins f 1 (apart old new kind n free joins f there) j || kinds_kept old new kind n free joins f 2 (apart old new kind n free joins f there) j || kinds_kept old new kind n free joins f 3 (apart old new kind n free joins f there) j || kinds_kept old new kind n free joins f 4 (apart old new kind n free joins f there) j) ∙ sym (among_kinds old f) ∙ there
 
-  -- the new file is among those of its type
+  -- the new file is among those of its kind
   pub new_among : is_among (files_of new kind) n ≡ true
   new_among = ap (λ (l : List ℕ). is_among l n) joins.last ∙ is_among_more (files_of old kind) n n ∙ last_true (is_among (files_of old kind) n) (n == n) (grind (arith, nat_tests))
     where

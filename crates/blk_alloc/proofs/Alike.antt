@@ -10,7 +10,7 @@ use Rattle.blk_format.specs.BlockFiles.{max_entries_in}
 use Rattle.blk_format.specs.Headers.{allocations_of, empty_of, updating_of}
 use Rattle.blk_format.specs.Maps.{EmptyAgrees, groups_of, groups_with, is_block_marked}
 use Rattle.blk_alloc.specs.Rebuilding.{is_block_claimed, IsRebuilt}
-use Rattle.blk_alloc.proofs.Claiming.{groups_same}
+use Rattle.blk_format.proofs.Groups.{groups_same}
 use Rattle.blk_alloc.proofs.Headers.{bit_read}
 
 pub zeros_at : (i : ℕ) → i < 4 → slice_index (0 ∷ 0 ∷ 0 ∷ 0 ∷ []) i ≡ 0

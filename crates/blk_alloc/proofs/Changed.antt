@@ -22,7 +22,7 @@ use Rattle.blk_addr.specs.Bits.{has_bit, is_between}
 use Rattle.blk_alloc.specs.declared.plan.Plan.{Plan}
 use Rattle.blk_alloc.specs.Counting.{counted}
 use Rattle.blk_alloc.specs.Changes.{map_of, plan_words, with_marks, HasBlocks, IsPlan, IsMapInProgress, IsChanged}
-use Rattle.blk_alloc.proofs.Groups.{longest_run-same, count-changed, one}
+use Rattle.blk_format.proofs.Groups.{longest_run-same, count-changed, one}
 use Rattle.blk_alloc.proofs.Changing.{bytes_after, byte_beside, byte_there, ended, ended_is, ended_same, plan_until}
 
 -- blocks that are marked or freed lie in one word of the map

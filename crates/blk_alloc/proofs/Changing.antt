@@ -14,7 +14,7 @@ use Rattle.blk_image.proofs.Runs.{until_both, until_weaker2, until-append, until
 use Rattle.blk_image.proofs.WordSteps.{along_over, StaysOver}
 use Rattle.blk_alloc.specs.declared.plan.Plan.{Plan}
 use Rattle.blk_alloc.specs.Changes.{map_of, plan_words, IsMapInProgress}
-use Rattle.blk_alloc.proofs.Groups.{one}
+use Rattle.blk_format.proofs.Groups.{one}
 
 -- one within another within a third
 pub within-trans : (F G H : Footprint) → IsWithin F G → IsWithin G H → IsWithin F H

@@ -1,9 +1,9 @@
 -- Marks of claimed blocks, and the groups that they leave.
-use Rattle.std.proofs.Common.{◌≡◌, ℕ, zero, suc, ◌+◌, ◌*◌, ◌<◌, ◌≤◌, Bool, refl, ◌∙◌, ap, arith}
+use Rattle.std.proofs.Common.{◌≡◌, ℕ, zero, suc, ◌+◌, ◌≤◌, Bool, refl, ◌∙◌, ap, arith}
 use Rattle.std.specs.Prelude.{◌==◌}
 use Rattle.std.specs.List.{count_by, range_with_len}
 use Rattle.blk_format.specs.Maps.{longest_run, groups_with}
-use Rattle.blk_alloc.proofs.Groups.{longest_run-same, count-same, first_counted, counted_most, one}
+use Rattle.blk_format.proofs.Groups.{first_counted, counted_most, one}
 
 -- one number more is counted
 count-more : (p : ℕ → Bool) (s n : ℕ) → count_by p (range_with_len s (n + 1)) ≡ count_by p (range_with_len s n) + one (p (s + n))
@@ -32,8 +32,3 @@ groups_more p n run =
 pub groups_most : (p : ℕ → Bool) (n run : ℕ) → groups_with p n run ≤ n
 unfolding groups_with
 groups_most p n run = counted_most (λ g. longest_run p g == run) 0 n
-
--- groups whose blocks are marked alike
-pub groups_same : (p q : ℕ → Bool) (n run : ℕ) → ((b : ℕ) → b < 4 * n → p b ≡ q b) → groups_with p n run ≡ groups_with q n run
-unfolding groups_with
-groups_same p q n run same = count-same (λ g. longest_run p g == run) (λ g. longest_run q g == run) 0 n (λ g low small. ap (λ (r : ℕ). r == run) (longest_run-same p q g g (λ i few. same (4 * g + i) (omega (arith, small, few)))))

@@ -21,7 +21,8 @@ use Rattle.blk_addr.specs.declared.claim_set.Claims.{Claims}
 use Rattle.blk_alloc.specs.Changes.{map_of}
 use Rattle.blk_alloc.specs.Rebuilding.{counts_of, is_block_claimed, AreMarked, IsRebuilt}
 use Rattle.blk_alloc.proofs.Changing.{at_updating, bytes_after, byte_beside, nothing_within, within-trans}
-use Rattle.blk_alloc.proofs.Claiming.{groups_same, groups_most}
+use Rattle.blk_format.proofs.Groups.{groups_same}
+use Rattle.blk_alloc.proofs.Claiming.{groups_most}
 
 module _ (n : ℕ) where
   abbrev emptied : Footprint

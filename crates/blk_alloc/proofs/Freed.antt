@@ -14,7 +14,8 @@ use Rattle.blk_addr.specs.Bits.{is_between}
 use Rattle.blk_alloc.specs.Changes.{map_of, with_marks, HasBlocks, IsReady, IsMapInProgress, IsChanged}
 use Rattle.blk_alloc.specs.Owning.{is_of, others, CanBeFreed, FreesInProgress, IsAllocated, IsFreed}
 use Rattle.blk_alloc.proofs.Lists.{IsBlocks, LeavesOut, leaves_out, claims_blocks}
-use Rattle.blk_alloc.proofs.Formed.{HasHead, linked_checked, count_whole, stands_kept, other_kept, file_kept}
+use Rattle.blk_format.proofs.LinkedHeads.{HasHead, linked_checked, count_whole}
+use Rattle.blk_alloc.proofs.Formed.{stands_kept, other_kept, file_kept}
 use Rattle.blk_alloc.proofs.Standing.{StandsHere, stands_here, all_among}
 use Rattle.blk_alloc.proofs.Members.{all_head}
 use Rattle.blk_alloc.proofs.Sparing.{formed_spared, grown_spared, map_spares}

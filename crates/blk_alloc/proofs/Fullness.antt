@@ -17,7 +17,7 @@ use Rattle.blk_alloc.specs.Fitting.{HasNoRoom}
 use Rattle.blk_alloc.specs.Owning.{is_of}
 use Rattle.blk_alloc.specs.Places.{is_place}
 use Rattle.blk_alloc.proofs.Addresses.{in_group}
-use Rattle.blk_alloc.proofs.Groups.{first_counted, one}
+use Rattle.blk_format.proofs.Groups.{first_counted, one}
 use Rattle.blk_alloc.proofs.Growing.{count-all, count-none, in_file}
 use Rattle.blk_alloc.proofs.Lists.{claims_blocks}
 use Rattle.blk_alloc.proofs.Standing.{StandsHere, stands_here}

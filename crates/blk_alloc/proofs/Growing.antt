@@ -18,7 +18,7 @@ use Rattle.blk_disk.specs.Growth.{grown, new_groups, grown_length, growth_of, ra
 use Rattle.blk_addr.proofs.ClaimLemmas.{has_claim-append}
 use Rattle.std.proofs.lemmas.List.Elements.{All-head, All-tail}
 use Rattle.blk_alloc.specs.Owning.{is_of}
-use Rattle.blk_alloc.proofs.Groups.{longest_run-same, count-same, counted_most, first_counted, one}
+use Rattle.blk_format.proofs.Groups.{longest_run-same, count-same, counted_most, first_counted, one}
 use Rattle.blk_alloc.proofs.Lists.{claims_blocks}
 use Rattle.blk_alloc.proofs.Standing.{StandsHere, stands_here}
 use Rattle.blk_alloc.proofs.Kept.{grow_larger}

@@ -20,7 +20,7 @@ use Rattle.blk_disk.proofs.Enlarging.{long_room}
 use Rattle.blk_alloc.specs.Extending.{HasCounters, KeepsFiles}
 use Rattle.blk_alloc.specs.Changes.{IsReady}
 use Rattle.blk_alloc.proofs.Changing.{bytes_after}
-use Rattle.blk_alloc.proofs.Formed.{HasHead, count_whole}
+use Rattle.blk_format.proofs.LinkedHeads.{HasHead, count_whole}
 use Rattle.blk_alloc.proofs.Growing.{grow_widens, grown_empty, new_free}
 use Rattle.blk_alloc.proofs.Widening.{allocations_more}
 

@@ -13,7 +13,7 @@ use Rattle.blk_disk.specs.Growth.{grown, grown_length}
 use Rattle.blk_disk.proofs.Ranges.{stands_linked}
 use Rattle.blk_alloc.specs.Extending.{KeepsStanding}
 
--- each file that was kept has its type, and no fewer blocks and bytes
+-- each file that was kept has its kind, and no fewer blocks and bytes
 pub record IsLarger (old new : BlockFiles) : Type 0 where
   pub types : (f : ℕ) → is_among (all_files old) f ≡ true → kind_among (files_of new) f ≡ kind_among (files_of old) f
   pub blocks : (f : ℕ) → is_among (all_files old) f ≡ true → blocks_of old f ≤ blocks_of new f
@@ -81,7 +81,7 @@ module _ (old new : BlockFiles) (kind n : ℕ) (free : is_among (all_files old) 
       clash : true ≡ false → ⊥
       clash c = cc
 
-  -- a file that was there is of its types alone
+  -- a file that was there is of its kinds alone
   pub kinds_kept : (f j : ℕ) → f ≢ n → is_among (files_of new j) f ≡ is_among (files_of old j) f
   kinds_kept f j differs = ⊎_elim here (λ other. ap (λ (l : List ℕ). is_among l f) (joins.others j other)) (cases_eq j kind)
     where

@@ -1,6 +1,5 @@
 pub mod MapBits
 pub mod SideBySide
-pub mod Groups
 pub mod Headers
 pub mod Plans
 pub mod Changing

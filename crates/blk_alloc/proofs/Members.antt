@@ -1,4 +1,4 @@
--- The files of a type that are kept, and those that are linked.
+-- The files of a kind that are kept, and those that are linked.
 use Rattle.std.proofs.Common.{◌≡◌, ◌≢◌, ℕ, ◌+◌, ◌<◌, ◌≤◌, ◌⊎◌, inl, inr, List, [], ◌∷◌, ◌++◌, length, Bool, true, false, ◌||◌, None, Some, refl, sym, ◌∙◌, ap, subst, arith, take, drop, get_or, ⊎_elim}
 use Rattle.std.specs.Prelude.{◌==◌, slice_get}
 use Rattle.std.proofs.lemmas.Option.{get_or_from_slice_get, slice_get_cases}
@@ -14,7 +14,7 @@ use Rattle.blk_addr.specs.Kind.{kind_number}
 use Rattle.blk_disk.specs.declared.tables.BlockFiles.{BlockFiles}
 use Rattle.blk_disk.specs.Tables.{Agrees, files_of, all_files}
 use Rattle.blk_disk.proofs.Joined.{among_kinds}
-use Rattle.blk_alloc.proofs.Formed.{HasHead, linked_checked}
+use Rattle.blk_format.proofs.LinkedHeads.{HasHead, linked_checked}
 
 pub kind_blocky : (k : Kind) → kind_number k ≢ external → is_block_kind (kind_number k) ≡ true
 kind_blocky External some = absurd (some refl)
@@ -41,7 +41,7 @@ or_left false b e = absurd (clash e)
     clash : false ≡ true → ⊥
     clash c = cc
 
--- a file of a type is one of all
+-- a file of a kind is one of all
 pub member_all : (files : BlockFiles) (k : Kind) (n : ℕ) → kind_number k ≢ external → is_among (files_of files (kind_number k)) n ≡ true → is_among (all_files files) n ≡ true
 member_all files External n some among = absurd (some refl)
 member_all files Rankings n some among = among_kinds files n ∙ or_left _ (is_among (files_of files 4) n) (or_left _ (is_among (files_of files 3) n) (or_left (is_among (files_of files 1) n) (is_among (files_of files 2) n) among))

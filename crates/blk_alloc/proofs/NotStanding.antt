@@ -77,7 +77,7 @@ module _ (old new : BlockFiles) (k : Kind) (blocks : Blocks) (some : 0 < blocks.
       let end : 8192 + first_block w * block_size (kind_of w) + block_count w * block_size (kind_of w) ≡ 8192 + (first_block w + block_count w) * block_size (kind_number k) = ap (λ (t : ℕ). 8192 + first_block w * block_size t + block_count w * block_size t) kind_is ∙ spread (first_block w) (block_count w) (block_size (kind_number k)) in
       omega (arith, whole, size, most, end)
 
-  -- of the type and below the number of blocks, they stand
+  -- of the kind and below the number of blocks, they stand
   stands_where : kind_among (files_of new) n ≡ Some (kind_number k) → blocks.start + blocks.count ≤ blocks_of new n → stands_among new w ≡ true
   unfolding stands_as_blocks
   stands_where type below =
@@ -89,7 +89,7 @@ module _ (old new : BlockFiles) (k : Kind) (blocks : Blocks) (some : 0 < blocks.
       let inside : nat_le (place w + byte_size w) (length_in new (file_selector w)) ≡ true = (let end = ends_inside type below in grind (arith, nat_tests)) in
       rw (of_type, fits, inside) refl
 
-  -- blocks that don't stand are of another type, or end behind the number of blocks
+  -- blocks that don't stand are of another kind, or end behind the number of blocks
   pub why_dangling : stands_among new w ≡ false → (kind_among (files_of new) n ≢ Some (kind_number k)) ⊎ (blocks_of new n < blocks.start + blocks.count)
   why_dangling dangling = by_tests (is_linked_as (kind_among (files_of new) n) (kind_number k)) (nat_le (blocks.start + blocks.count) (blocks_of new n)) refl refl
     where

@@ -10,7 +10,7 @@ use Rattle.blk_addr.specs.Bits.{has_bit, is_between}
 use Rattle.blk_alloc.specs.declared.counters.Counters.{Counters}
 use Rattle.blk_alloc.specs.Counting.{AreCounters, counted, Moves, MayMove}
 use Rattle.blk_alloc.specs.Changes.{IsPlan, IsReady, with_marks}
-use Rattle.blk_alloc.proofs.Groups.{longest_run-same, counted_there, counted_most, one}
+use Rattle.blk_format.proofs.Groups.{longest_run-same, counted_there, counted_most, one}
 use Rattle.blk_alloc.proofs.Headers.{bit_read}
 
 module _ (image : Image) (n start count : ℕ) (used : Bool) (ready : IsReady image n start count used) (some : 0 < count) where

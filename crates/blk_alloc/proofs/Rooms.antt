@@ -31,7 +31,7 @@ use Rattle.blk_alloc.specs.Places.{is_place}
 use Rattle.blk_alloc.specs.Extending.{HasCounters, HasMostBlocks, HasNoHints, IsFirstGrowing, KeepsAll}
 use Rattle.blk_alloc.specs.Marking.{CanBeMarked, MarksUsed, taking_of}
 use Rattle.blk_alloc.specs.Allocating.{AreCounted, HaveNoRoom, Allocates, Extends, ExtendsAnd, updating_word}
-use Rattle.blk_alloc.proofs.Formed.{count_whole}
+use Rattle.blk_format.proofs.LinkedHeads.{count_whole}
 use Rattle.blk_alloc.specs.Changes.{map_of}
 use Rattle.blk_alloc.proofs.Changing.{at_updating, within-trans}
 use Rattle.blk_alloc.proofs.Fullness.{full_counts, many_full}
@@ -55,7 +55,7 @@ sum_member f n (k ∷ files) among =
     (λ there. let rest = sum_member f n files there in omega (arith, sum, rest))
     (or_true (k == n) (is_among files n) among)
 
--- a file of a counted type has true counters
+-- a file of a counted kind has true counters
 pub has_counters : (files : BlockFiles) (image : Image) (kind n : ℕ) → AreCounted files kind image → is_among (files_of files kind) n ≡ true → HasCounters image n
 has_counters files image kind n counted among =
     let has = counted.each n among in
@@ -69,7 +69,7 @@ at_member xs k d small = list_any_at (λ m. m == get_or xs k d) xs k d small (sa
     same : (x : ℕ) → (x == x) ≡ true
     same x = grind (arith, nat_tests)
 
--- 60 full files of a type would hold more allocations than there are
+-- 60 full files of a kind would hold more allocations than there are
 pub never_full : (files : BlockFiles) (image : Image) (k : Kind) (count : ℕ) → kind_number k ≢ external → count ≤ 4 → Agrees files image → AreCounted files (kind_number k) image
     → HaveNoRoom files (kind_number k) count image → All (HasMostBlocks files) (files_of files (kind_number k)) → 60 ≤ length (files_of files (kind_number k)) → ⊥
 never_full files image k count block_kind few agrees counted none full sixty =
@@ -159,7 +159,7 @@ word_file files k count place some is =
 pub place_counted : (files : BlockFiles) (kind count : ℕ) (place : Blocks) → place.count ≡ count → IsPlace files kind place.count place → IsPlace files kind count place
 place_counted files kind count place counted is = subst (λ (k : ℕ). IsPlace files kind k place) counted is
 
--- the type and the number of blocks of an address of a place
+-- the kind and the number of blocks of an address of a place
 pub word_kind : (files : BlockFiles) (k : Kind) (count : ℕ) (place : Blocks) → 0 < count → IsPlace files (kind_number k) count place → (kind_of (block_word (kind_number k) place.file place.start place.count) ≡ kind_number k) × (block_count (block_word (kind_number k) place.file place.start place.count) ≡ count)
 word_kind files k count place some is =
     let small = is.small in

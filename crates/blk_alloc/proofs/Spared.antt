@@ -18,8 +18,8 @@ use Rattle.blk_disk.proofs.Ranges.{stands_linked}
 use Rattle.blk_alloc.specs.Allocating.{HasAllocations}
 use Rattle.blk_alloc.specs.Laws.{AllocatedMayBeFreed, CountedFilesStay, MayBeFreedStill, NewFilesAreCounted, SparesHeadersAndSizes}
 use Rattle.blk_alloc.proofs.Adding.{new_allocations, new_empty}
-use Rattle.blk_alloc.proofs.Claiming.{groups_same}
-use Rattle.blk_alloc.proofs.Formed.{HasHead, count_whole, linked_checked}
+use Rattle.blk_format.proofs.Groups.{groups_same}
+use Rattle.blk_format.proofs.LinkedHeads.{HasHead, count_whole, linked_checked}
 use Rattle.blk_alloc.proofs.Members.{all_head}
 use Rattle.blk_alloc.proofs.Widening.{mark_kept}
 

@@ -34,7 +34,7 @@ second_of_two false b e = absurd (clash e)
     clash : false ≡ true → ⊥
     clash h = cc
 
--- a file that is linked as one of a type is in its list
+-- a file that is linked as one of a kind is in its list
 linked_in : (lists : ℕ → List ℕ) (n kind : ℕ) → is_linked_as (kind_among lists n) kind ≡ true → (is_block_kind kind ≡ true) × (is_among (lists kind) n ≡ true)
 unfolding kind_among
 linked_in lists n kind holds = first (is_among (lists 1) n) refl holds

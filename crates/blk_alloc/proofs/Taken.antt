@@ -32,7 +32,7 @@ not_true : (t : Bool) → (t ≡ true → ⊥) → t ≡ false
 not_true true never = absurd (never refl)
 not_true false never = refl
 
--- a file of a type has that type
+-- a file of a kind has that kind
 pub kind_is : (files : BlockFiles) (image : Image) (k : Kind) (n : ℕ) → kind_number k ≢ external → Agrees files image → is_among (files_of files (kind_number k)) n ≡ true → kind_among (files_of files) n ≡ Some (kind_number k)
 unfolding kind_among
 kind_is files image k n some agrees among = by_kind k some among

@@ -1,14 +1,14 @@
 -- The first record of a chain taken out, in bytes.
-use Rattle.std.proofs.Common.{◌≡◌, inl, inr, ℕ, ◌+◌, ◌%◌, ◌^◌, ◌<◌, Bool, List, ◌∷◌, Option, Some, None, refl, sym, ◌∙◌, ap, ap₂, subst}
+use Rattle.std.proofs.Common.{◌≡◌, ℕ, ◌+◌, ◌%◌, ◌^◌, ◌<◌, Bool, List, ◌∷◌, Option, Some, None, refl, sym, ◌∙◌, ap, ap₂, subst}
 use Rattle.std.specs.Prelude.{◌↔◌}
 use Rattle.std.specs.Option.{ForSome}
 use Rattle.blk_image.specs.Image.{AreBytes, Index, Block, Image, byte, length_of, word}
 use Rattle.blk_image.specs.Steps.{after, word_step}
-use Rattle.blk_image.specs.Told.{Told, TellsBytes, Applies, AppliesPrefix, Passes, Until, Commits}
+use Rattle.blk_image.specs.Told.{Told, TellsBytes, Applies, AppliesPrefix, Commits}
 use Rattle.blk_image.proofs.Footprints.{outside-refl}
-use Rattle.blk_image.proofs.Runs.{passes_none, passes_part, some_inj, told_whole}
+use Rattle.blk_image.proofs.Runs.{some_inj, told_whole}
 use Rattle.blk_image.proofs.Words.{word-fits}
-use Rattle.blk_image.proofs.WordSteps.{quiet-word_step, until_word}
+use Rattle.blk_image.proofs.WordSteps.{quiet-word_step}
 use Rattle.blk_format.specs.Address.{file_selector, place}
 use Rattle.blk_format.specs.Records.{entry_in}
 use Rattle.blk_format.specs.Headers.{place_of_bucket}
@@ -24,7 +24,7 @@ use Rattle.blk_disk.specs.Tables.{Agrees}
 use Rattle.blk_volume.specs.Entries.{key_of}
 use Rattle.blk_chain.specs.Naming.{HasKey}
 use Rattle.blk_chain.specs.Linking.{bucket_at, chained_with, place_of_front}
-use Rattle.blk_chain.specs.Unlinking.{CanBeUnlinked, IsStillLinked, IsUnlinked, IsUnlinking, next_of, unlink_range, unlink_steps}
+use Rattle.blk_chain.specs.Unlinking.{CanBeUnlinked, IsStillLinked, IsUnlinked, next_of, unlink_range, unlink_steps}
 use Rattle.blk_chain.proofs.Links.{bucket_read, front_inside, index_agrees, index_word}
 use Rattle.blk_chain.proofs.Names.{IsShownOf, shown-of, shown-follow}
 use Rattle.blk_image.proofs.Commits.{commits_none, commits_prefix, commits_word}
@@ -77,19 +77,14 @@ next_small from entry bytes = word-fits (byte from (Block (file_selector entry))
 -- what the write of the bucket's word leaves, made or not
 pub record IsTaken (files : BlockFiles) (entry : ℕ) (a b : Told) : Type 0 where
   pub part : ForSome a.files (λ from. AppliesPrefix a b (unlink_steps from entry None))
-  pub stops : ForSome a.files (λ from. Passes a b (IsUnlinking from entry None))
-  pub commits : ForSome a.files (λ from. Commits 1 a b (IsStillLinked from entry None) (IsUnlinked from entry None))
+  pub commits : ForSome a.files (λ from. CanBeUnlinked entry None from → Commits 1 a b (IsStillLinked from entry None) (IsUnlinked from entry None))
   pub agrees : ForSome b.files (Agrees files)
 
 -- before the write
-pub first_not_yet : (a b : Told) (entry : ℕ) → b ≡ a → ForSome a.files (λ from. Passes a b (IsUnlinking from entry None))
-first_not_yet a b entry stays from there =
-    passes_none (IsUnlinking from entry None) stays (λ image here. subst (λ (i : Image). IsUnlinking from entry None i) (some_inj (sym there ∙ here)) (inl (unchanged from entry None)))
+pub first_turns_yet : (a b : Told) (entry : ℕ) → b ≡ a → ForSome a.files (λ from. CanBeUnlinked entry None from → Commits 1 a b (IsStillLinked from entry None) (IsUnlinked from entry None))
+first_turns_yet a b entry stays from there can = commits_none 0 a b from (IsStillLinked from entry None) (IsUnlinked from entry None) there stays (unchanged from entry None)
 
-pub first_turns_yet : (a b : Told) (entry : ℕ) → b ≡ a → ForSome a.files (λ from. Commits 1 a b (IsStillLinked from entry None) (IsUnlinked from entry None))
-first_turns_yet a b entry stays from there = commits_none 0 a b from (IsStillLinked from entry None) (IsUnlinked from entry None) there stays (unchanged from entry None)
-
-module _ (files : BlockFiles) (a b : Told) (entry hash next : ℕ) (tells : TellsBytes a) (agrees : ForSome a.files (Agrees files)) (complete : ForSome a.files (λ image. length_of image Index ≡ 262512)) (can : ForSome a.files (CanBeUnlinked entry None))
+module _ (files : BlockFiles) (a b : Told) (entry hash next : ℕ) (tells : TellsBytes a) (agrees : ForSome a.files (Agrees files)) (complete : ForSome a.files (λ image. length_of image Index ≡ 262512))
     (read : ForSome a.files (λ image. next ≡ word image (Block (file_selector entry)) (place entry + 4)))
     (first : Told) (once : first ≡ a) (reads : ForSome first.files (λ image. hash ≡ word image (Block (file_selector entry)) (place entry + 0))) (second : Told) (twice : second ≡ first) where
   steps-are : (from : Image) → a.files ≡ Some from → word_step Index (place_of_bucket (hash % 65536)) next ≡ unlink_steps from entry None
@@ -97,8 +92,8 @@ module _ (files : BlockFiles) (a b : Told) (entry hash next : ℕ) (tells : Tell
       let bucket : hash % 65536 ≡ bucket_at from entry = bucket_read from entry hash (hash % 65536) (subst (λ (t : Told). ForSome t.files (λ image. hash ≡ word image (Block (file_selector entry)) (place entry + 0))) once reads from there) refl in
       ap₂ (λ (n x : ℕ). word_step Index (place_of_bucket n) x) bucket (next_read from entry next (read from there))
 
-  after-first : (from : Image) → a.files ≡ Some from → IsUnlinked from entry None (after (unlink_steps from entry None) from)
-  after-first from there = first_unlinked from entry (can from there) (after (unlink_steps from entry None) from) (index_word from (place_of_front from entry) (next_of from entry) (next_small from entry (tells from there)) (front_inside from entry (complete from there)))
+  after-first : (from : Image) → a.files ≡ Some from → CanBeUnlinked entry None from → IsUnlinked from entry None (after (unlink_steps from entry None) from)
+  after-first from there can = first_unlinked from entry can (after (unlink_steps from entry None) from) (index_word from (place_of_front from entry) (next_of from entry) (next_small from entry (tells from there)) (front_inside from entry (complete from there)))
 
   pub first_left : AppliesPrefix second b (word_step Index (place_of_bucket (hash % 65536)) next) → IsTaken files entry a b
   first_left made =
@@ -106,19 +101,15 @@ module _ (files : BlockFiles) (a b : Told) (entry hash next : ℕ) (tells : Tell
       let mine : ForSome a.files (λ from. AppliesPrefix a b (unlink_steps from entry None)) = (λ from there. subst (AppliesPrefix a b) (steps-are from there) here) in
       record {
         part = mine;
-        stops = λ from there.
-            passes_part (IsUnlinking from entry None) (IsUnlinking from entry None) (mine from there) (quiet-word_step Index (place_of_front from entry) (next_of from entry)) (λ image h. h)
-            (λ image now. subst (λ (i : Image). Until (IsUnlinking from entry None) (IsUnlinking from entry None) i (unlink_steps from entry None)) (some_inj (sym there ∙ now))
-            (until_word (IsUnlinking from entry None) (IsUnlinking from entry None) Index (place_of_front from entry) (next_of from entry) from (inl (unchanged from entry None)) (inr (after-first from there))));
-        commits = λ from there.
+        commits = λ from there can.
             commits_prefix 1 a b from (IsStillLinked from entry None) (IsUnlinked from entry None) (unlink_steps from entry None) there (quiet-word_step Index (place_of_front from entry) (next_of from entry))
-            (commits_word (IsStillLinked from entry None) (IsUnlinked from entry None) Index (place_of_front from entry) (next_of from entry) from (unchanged from entry None) (after-first from there)) (mine from there);
+            (commits_word (IsStillLinked from entry None) (IsUnlinked from entry None) Index (place_of_front from entry) (next_of from entry) from (unchanged from entry None) (after-first from there can)) (mine from there);
         agrees = index_agrees files a b (place_of_bucket (hash % 65536)) next here agrees;
       }
 
   pub first_whole : Applies second b (word_step Index (place_of_bucket (hash % 65536)) next) → ForSome a.files (λ from. Applies a b (unlink_steps from entry None))
   first_whole made from there = subst (Applies a b) (steps-are from there) (subst (λ (t : Told). Applies t b (word_step Index (place_of_bucket (hash % 65536)) next)) (twice ∙ once) made)
 
-  pub first_done : Applies second b (word_step Index (place_of_bucket (hash % 65536)) next) → ForSome a.files (λ from. ForSome b.files (IsUnlinked from entry None))
-  first_done made from there =
-      told_whole (IsUnlinked from entry None) (first_whole made from there) (λ image now. subst (λ (i : Image). IsUnlinked from entry None (after (unlink_steps from entry None) i)) (some_inj (sym there ∙ now)) (after-first from there))
+  pub first_done : Applies second b (word_step Index (place_of_bucket (hash % 65536)) next) → ForSome a.files (λ from. CanBeUnlinked entry None from → ForSome b.files (IsUnlinked from entry None))
+  first_done made from there can =
+      told_whole (IsUnlinked from entry None) (first_whole made from there) (λ image now. subst (λ (i : Image). IsUnlinked from entry None (after (unlink_steps from entry None) i)) (some_inj (sym there ∙ now)) (after-first from there can))

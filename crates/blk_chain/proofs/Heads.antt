@@ -10,15 +10,16 @@ use Rattle.blk_format.specs.Address.{kind_of, is_address, external, external_num
 use Rattle.blk_format.specs.BlockFiles.{stands_in_blocks}
 use Rattle.blk_format.specs.Standing.{stands}
 use Rattle.blk_volume.specs.Entries.{is_key_length, key_of}
-use Rattle.blk_volume.specs.View.{RecordFields, core_at, fields_of, entry_at, store_of}
+use Rattle.blk_volume.specs.View.{RecordFields, fields_at, fields_of, entry_at, store_of}
 use Rattle.blk_disk.specs.declared.tables.BlockFiles.{BlockFiles}
 use Rattle.blk_format.specs.Sealed.{RecordChecks}
-use Rattle.blk_disk.specs.Tables.{Agrees, stands_among}
+use Rattle.blk_disk.specs.Tables.{Agrees, is_record_among, names_among, stands_among}
 use Rattle.blk_disk.proofs.Ranges.{stands_agree}
-use Rattle.blk_entry.specs.Keys.{HasReadableKey, IsEntryOf, key_at}
+use Rattle.blk_entry.specs.Keys.{CanBeRead, HasReadableKey, HasRecord, IsEntryOf, key_at}
 use Rattle.blk_laws.proofs.StillShown.{core-standing, standing-parts}
 use Rattle.blk_chain.specs.Naming.{HasKey}
-use Rattle.blk_chain.specs.Finding.{names_record, IsKeyed}
+use Rattle.blk_entry.proofs.KeyPlaces.{key_by_bytes}
+use Rattle.blk_chain.specs.Finding.{IsFollowed, IsKeyed, IsSought}
 use Rattle.blk_chain.proofs.Names.{shown-core, shown-kind}
 use Rattle.blk_chain.proofs.Unlinks.{record_checks}
 
@@ -26,16 +27,21 @@ both : (a b : Bool) → a ≡ true → b ≡ true → (a && b) ≡ true
 both a b e f = rw (e, f) refl
 
 -- a word that names a record that stands
-pub names-parts : (files : BlockFiles) (w : ℕ) → names_record files w ≡ true → (is_address w ≡ true) × ((kind_of w ≡ blocks_256) × (stands_among files w ≡ true))
-unfolding names_record
+pub names-parts : (files : BlockFiles) (w : ℕ) → is_record_among files w ≡ true → (is_address w ≡ true) × ((kind_of w ≡ blocks_256) × (stands_among files w ≡ true))
+unfolding names_among
 names-parts files w e =
     let a = and_parts (is_address w) ((kind_of w == 2) && stands_among files w) e in
     let b = and_parts (kind_of w == 2) (stands_among files w) a.1 in
     (a.0, (eqb-true (kind_of w) 2 b.0, b.1))
 
+-- and so isn't 0
+pub named-some : (files : BlockFiles) → is_record_among files 0 ≡ true → ⊥
+unfolding kind_of
+named-some files e = let kind : kind_of 0 ≡ 2 = (names-parts files 0 e).1.0 in cc
+
 -- a record that is shown stands
-pub shown-names : (files : BlockFiles) (image : Image) (w : ℕ) (fields : RecordFields) → Agrees files image → (store_of image).entry w ≡ Some fields → names_record files w ≡ true
-unfolding names_record stands
+pub shown-names : (files : BlockFiles) (image : Image) (w : ℕ) (fields : RecordFields) → Agrees files image → (store_of image).entry w ≡ Some fields → is_record_among files w ≡ true
+unfolding names_among stands
 shown-names files image w fields agrees here =
     let parts = standing-parts image blocks_256 w (core-standing image w fields here) in
     let of = and_parts (is_address w) (if kind_of w == external then has_file image (External (external_number w)) else stands_in_blocks image w) parts.0 in
@@ -54,10 +60,22 @@ pub keyed-checks : (image : Image) (w : ℕ) → AreBytes image → IsKeyed w im
 keyed-checks image w bytes keyed =
     record_checks image w bytes (shown-kind image w keyed.fields keyed.here) (ap (λ (c : RecordFields). c.checks) (shown-core image w keyed.fields keyed.here) ∙ keyed.good)
 
+-- so it can be read
+pub can-be-read : (files : BlockFiles) (image : Image) (entry word : ℕ) → entry ≡ word → AreBytes image → Agrees files image → IsKeyed word image → CanBeRead files entry image
+can-be-read files image entry word is bytes agrees keyed = record {
+  agrees = agrees;
+  checks = subst (λ (w : ℕ). RecordChecks w image) (sym is) (keyed-checks image word bytes keyed);
+  key = subst (λ (w : ℕ). HasReadableKey w image) (sym is) keyed.key;
+}
+
+-- a word that names a record which was read is followed
+pub followed : (files : BlockFiles) (image : Image) (entry word : ℕ) → entry ≡ word → is_record_among files entry ≡ true → HasRecord entry image → IsFollowed files word image
+followed files image entry word is stands whole = subst (λ (w : ℕ). IsFollowed files w image) is (record { stands = stands; whole = whole })
+
 -- the key of a record that has one
 key-is : (image : Image) (w : ℕ) (fields : RecordFields) → (store_of image).entry w ≡ Some fields → HasReadableKey w image → key_at image w ≡ key_of (store_of image) w fields
 unfolding key_at store_of
-key-is image w fields here has = by_core (core_at image w) here has.is
+key-is image w fields here has = by_core (fields_at image w) here has.is
   where
     by_length : (t : Bool) → (if t then key_of (store_of image) w fields else None) ≡ Some has.key → (if t then key_of (store_of image) w fields else None) ≡ key_of (store_of image) w fields
     by_length true e = refl
@@ -93,6 +111,16 @@ module _ (image : Image) (w : ℕ) (keyed : IsKeyed w image) (key : List ℕ) (i
 
   pub flag-of-name : HasKey (store_of image) key is_child w → ((entry_at image w).flags == 2) ≡ is_child
   flag-of-name named = ap (λ (c : RecordFields). c.flags == 2) (here-core ∙ some_inj (sym keyed.here ∙ named.here)) ∙ named.flag
+
+-- a record with a key is the one that is sought exactly where it has the key and the flag
+pub named-sought : (image : Image) (w : ℕ) → IsKeyed w image → (key : List ℕ) (is_child : Bool) → HasKey (store_of image) key is_child w → IsSought key is_child w image
+named-sought image w keyed key is_child named =
+    let of = of-name image w keyed key is_child named in
+    record { bytes = record { hash = of.hash; bytes = (key_by_bytes image w key (shown-kind image w keyed.fields keyed.here) keyed.key).1 of.is }; flag = flag-of-name image w keyed key is_child named }
+
+pub sought-named : (image : Image) (w : ℕ) → IsKeyed w image → (key : List ℕ) (is_child : Bool) → IsSought key is_child w image → HasKey (store_of image) key is_child w
+sought-named image w keyed key is_child sought =
+    to-name image w keyed key is_child (record { hash = sought.bytes.hash; is = (key_by_bytes image w key (shown-kind image w keyed.fields keyed.here) keyed.key).0 sought.bytes.bytes }) sought.flag
 
 -- two truths that are told apart, and two that are not
 pub differs : (a b : Bool) → not (beq a b) ≡ true → a ≡ b → ⊥

@@ -14,7 +14,7 @@ use Rattle.blk_format.specs.BlockFiles.{linked_as, max_entries_in, stands_in}
 use Rattle.blk_format.specs.Records.{entry_in, checks}
 use Rattle.blk_format.proofs.Words.{AreFields, AreFields-of, kind_of-block_word, block_count-block_word, file_selector-block_word, first_block-block_word, is_address-block_word}
 use Rattle.blk_volume.specs.Footprint.{IsClear}
-use Rattle.blk_volume.specs.View.{RecordFields, fields_of, core_at, entry_at, stands_as, store_of}
+use Rattle.blk_volume.specs.View.{RecordFields, fields_of, fields_at, entry_at, stands_as, store_of}
 use Rattle.blk_format.specs.Sealed.{IsMidUpdate, record_at, record_size, seal_place, size_by_kind, seal_by_kind}
 use Rattle.blk_laws.proofs.StillShown.{core-standing, standing-parts}
 use Rattle.blk_chain.proofs.Names.{record-at, shown-core, shown-kind}
@@ -91,7 +91,7 @@ first-stands image w kind st =
 
 -- the record that it names
 pub first-record : (image : Image) (w : ℕ) (own_fields : RecordFields) → (store_of image).entry w ≡ Some own_fields → (store_of image).entry (first_word w) ≡ Some own_fields
-unfolding store_of core_at
+unfolding store_of fields_at
 first-record image w own_fields here =
     let kind = shown-kind image w own_fields here in
     let stands_first : stands_as image blocks_256 (first_word w) ≡ true =

@@ -9,3 +9,4 @@ pub mod Keys
 pub mod Searches
 pub mod Heads
 pub mod Pairs
+pub mod Examples

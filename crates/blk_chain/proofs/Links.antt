@@ -1,5 +1,5 @@
 -- A record linked in front of its chain, in bytes.
-use Rattle.std.proofs.Common.{◌≡◌, inl, inr, ⊎_elim, ℕ, ◌+◌, ◌%◌, ◌^◌, ◌<◌, ◌≤◌, true, false, ◌∷◌, map, Some, refl, sym, ◌∙◌, ap, subst, arith}
+use Rattle.std.proofs.Common.{◌≡◌, ⊎_elim, ℕ, ◌+◌, ◌%◌, ◌^◌, ◌<◌, ◌≤◌, true, false, ◌∷◌, map, Some, refl, sym, ◌∙◌, ap, subst, arith}
 use Rattle.std.specs.Prelude.{◌==◌, ◌||◌, ◌/◌}
 use Rattle.std.specs.Option.{ForSome}
 use Rattle.std.proofs.lemmas.Bool.{and_parts, cases_Bool, eq-eqb, eqb-true}
@@ -7,12 +7,12 @@ use Rattle.blk_image.specs.Bytes.{content, word_at, word_bytes}
 use Rattle.blk_image.specs.Image.{Index, Block, Image, bytes_of, length_of, word, word as word_of}
 use Rattle.blk_image.specs.Footprint.{one_word}
 use Rattle.blk_image.specs.Steps.{after, word_step}
-use Rattle.blk_image.specs.Told.{Told, Applies, AppliesPrefix, Passes, Until, Commits}
+use Rattle.blk_image.specs.Told.{Told, Applies, AppliesPrefix, Commits}
 use Rattle.blk_image.proofs.Footprints.{outside_write}
 use Rattle.blk_image.proofs.Images.{bytes_of-written}
-use Rattle.blk_image.proofs.Runs.{passes_part, some_inj, told_part, told_whole}
+use Rattle.blk_image.proofs.Runs.{some_inj, told_part, told_whole}
 use Rattle.blk_image.proofs.Words.{word-written}
-use Rattle.blk_image.proofs.WordSteps.{quiet-word_step, until_word}
+use Rattle.blk_image.proofs.WordSteps.{quiet-word_step}
 use Rattle.blk_format.specs.Address.{file_selector, is_address, is_initialized, names_blocks, names_external, place}
 use Rattle.blk_format.specs.Records.{entry_in}
 use Rattle.blk_format.specs.Headers.{place_of_bucket}
@@ -26,7 +26,7 @@ use Rattle.blk_disk.specs.declared.tables.BlockFiles.{BlockFiles}
 use Rattle.blk_disk.specs.Tables.{Agrees}
 use Rattle.blk_format.proofs.SpareHeaders.{SparesHeaders}
 use Rattle.blk_disk.proofs.Agreeing.{agrees_still}
-use Rattle.blk_chain.specs.Linking.{bucket_at, chained_with, place_of_front, CanBeLinked, link_steps, IsLinked, IsLinking}
+use Rattle.blk_chain.specs.Linking.{bucket_at, chained_with, place_of_front, CanBeLinked, link_steps, IsLinked}
 use Rattle.blk_image.proofs.Commits.{commits_none, commits_prefix, commits_word}
 use Rattle.blk_chain.proofs.Names.{shown-core, same-name, shown-of}
 use Rattle.blk_chain.proofs.Words.{linked-good, WithFirstBlock, with_first_block}
@@ -103,31 +103,24 @@ module _ (a b : Told) (entry n : ℕ) (read : ForSome a.files (λ from. n ≡ bu
   pub link_whole : Applies a b (word_step Index (place_of_bucket n) entry) → ForSome a.files (λ from. Applies a b (link_steps from entry))
   link_whole whole from there = subst (λ (m : ℕ). Applies a b (word_step Index (place_of_bucket m) entry)) (read from there) whole
 
-  module _ (small : entry < 2 ^ 32) (complete : ForSome a.files (λ image. length_of image Index ≡ 262512)) (can : ForSome a.files (CanBeLinked entry)) where
-    after_link : (from : Image) → a.files ≡ Some from → IsLinked from entry (after (link_steps from entry) from)
-    after_link from there = linked_at from entry (can from there) (after (link_steps from entry) from) (index_word from (place_of_front from entry) entry small (front_inside from entry (complete from there)))
+  module _ (small : entry < 2 ^ 32) (complete : ForSome a.files (λ image. length_of image Index ≡ 262512)) where
+    after_link : (from : Image) → a.files ≡ Some from → CanBeLinked entry from → IsLinked from entry (after (link_steps from entry) from)
+    after_link from there can = linked_at from entry can (after (link_steps from entry) from) (index_word from (place_of_front from entry) entry small (front_inside from entry (complete from there)))
 
-    pub link_stops : AppliesPrefix a b (word_step Index (place_of_bucket n) entry) → ForSome a.files (λ from. Passes a b (IsLinking from entry))
-    link_stops part from there =
-        let P : Image → Type 0 = IsLinking from entry in
-        passes_part P P (link_part part from there) (quiet-word_step Index (place_of_front from entry) entry) (λ image h. h)
-        (λ image here. subst (λ (i : Image). Until P P i (link_steps from entry)) (some_inj (sym there ∙ here))
-        (until_word P P Index (place_of_front from entry) entry from (inl refl) (inr (after_link from there))))
-
-    pub link_turns : AppliesPrefix a b (word_step Index (place_of_bucket n) entry) → ForSome a.files (λ from. Commits 1 a b (λ image. image ≡ from) (IsLinked from entry))
-    link_turns part from there =
+    pub link_turns : AppliesPrefix a b (word_step Index (place_of_bucket n) entry) → ForSome a.files (λ from. CanBeLinked entry from → Commits 1 a b (λ image. image ≡ from) (IsLinked from entry))
+    link_turns part from there can =
         let P : Image → Type 0 = (λ image. image ≡ from) in
         commits_prefix 1 a b from P (IsLinked from entry) (link_steps from entry) there (quiet-word_step Index (place_of_front from entry) entry)
-        (commits_word P (IsLinked from entry) Index (place_of_front from entry) entry from refl (after_link from there)) (link_part part from there)
+        (commits_word P (IsLinked from entry) Index (place_of_front from entry) entry from refl (after_link from there can)) (link_part part from there)
 
-    pub link_done : Applies a b (word_step Index (place_of_bucket n) entry) → ForSome a.files (λ from. ForSome b.files (IsLinked from entry))
-    link_done whole from there =
+    pub link_done : Applies a b (word_step Index (place_of_bucket n) entry) → ForSome a.files (λ from. CanBeLinked entry from → ForSome b.files (IsLinked from entry))
+    link_done whole from there can =
         told_whole (IsLinked from entry) (link_whole whole from there)
-        (λ image here. subst (λ (i : Image). IsLinked from entry (after (link_steps from entry) i)) (some_inj (sym there ∙ here)) (after_link from there))
+        (λ image here. subst (λ (i : Image). IsLinked from entry (after (link_steps from entry) i)) (some_inj (sym there ∙ here)) (after_link from there can))
 
 -- before the write
-pub link_not_yet : (a b : Told) (entry : ℕ) → b ≡ a → ForSome a.files (λ from. Commits 1 a b (λ image. image ≡ from) (IsLinked from entry))
-link_not_yet a b entry stays from there = commits_none 0 a b from (λ image. image ≡ from) (IsLinked from entry) there stays refl
+pub link_not_yet : (a b : Told) (entry : ℕ) → b ≡ a → ForSome a.files (λ from. CanBeLinked entry from → Commits 1 a b (λ image. image ≡ from) (IsLinked from entry))
+link_not_yet a b entry stays from there can = commits_none 0 a b from (λ image. image ≡ from) (IsLinked from entry) there stays refl
 
 -- an address is a word
 pub address_small : (w : ℕ) → is_address w ≡ true → w < 2 ^ 32
@@ -139,11 +132,10 @@ address_small w address =
 -- what the write of the bucket's word leaves, made or not
 pub record IsPut (files : BlockFiles) (entry : ℕ) (a b : Told) : Type 0 where
   pub part : ForSome a.files (λ from. AppliesPrefix a b (link_steps from entry))
-  pub stops : ForSome a.files (λ from. Passes a b (IsLinking from entry))
-  pub commits : ForSome a.files (λ from. Commits 1 a b (λ image. image ≡ from) (IsLinked from entry))
+  pub commits : ForSome a.files (λ from. CanBeLinked entry from → Commits 1 a b (λ image. image ≡ from) (IsLinked from entry))
   pub agrees : ForSome b.files (Agrees files)
 
-module _ (files : BlockFiles) (a b : Told) (entry hash word : ℕ) (is : word ≡ entry) (address : is_address word ≡ true) (agrees : ForSome a.files (Agrees files)) (complete : ForSome a.files (λ image. length_of image Index ≡ 262512)) (can : ForSome a.files (CanBeLinked entry))
+module _ (files : BlockFiles) (a b : Told) (entry hash word : ℕ) (is : word ≡ entry) (address : is_address word ≡ true) (agrees : ForSome a.files (Agrees files)) (complete : ForSome a.files (λ image. length_of image Index ≡ 262512))
     (read : ForSome a.files (λ image. hash ≡ word_of image (Block (file_selector entry)) (place entry + 0))) (between : Told) (stays : between ≡ a) where
   bucket_is : ForSome a.files (λ from. hash % 65536 ≡ bucket_at from entry)
   bucket_is from there = bucket_read from entry hash (hash % 65536) (read from there) refl
@@ -154,8 +146,7 @@ module _ (files : BlockFiles) (a b : Told) (entry hash word : ℕ) (is : word �
       subst (λ (t : Told). AppliesPrefix t b (word_step Index (place_of_bucket (hash % 65536)) entry)) stays (subst (λ (v : ℕ). AppliesPrefix between b (word_step Index (place_of_bucket (hash % 65536)) v)) is part) in
       record {
         part = link_part a b entry (hash % 65536) bucket_is here;
-        stops = link_stops a b entry (hash % 65536) bucket_is (address_small entry (subst (λ (v : ℕ). is_address v ≡ true) is address)) complete can here;
-        commits = link_turns a b entry (hash % 65536) bucket_is (address_small entry (subst (λ (v : ℕ). is_address v ≡ true) is address)) complete can here;
+        commits = link_turns a b entry (hash % 65536) bucket_is (address_small entry (subst (λ (v : ℕ). is_address v ≡ true) is address)) complete here;
         agrees = index_agrees files a b (place_of_bucket (hash % 65536)) entry here agrees;
       }
 
@@ -166,5 +157,5 @@ module _ (files : BlockFiles) (a b : Told) (entry hash word : ℕ) (is : word �
   pub whole_by : Applies between b (word_step Index (place_of_bucket (hash % 65536)) word) → ForSome a.files (λ from. Applies a b (link_steps from entry))
   whole_by whole = link_whole a b entry (hash % 65536) bucket_is (whole_here whole)
 
-  pub linked_by : Applies between b (word_step Index (place_of_bucket (hash % 65536)) word) → ForSome a.files (λ from. ForSome b.files (IsLinked from entry))
-  linked_by whole = link_done a b entry (hash % 65536) bucket_is (address_small entry (subst (λ (v : ℕ). is_address v ≡ true) is address)) complete can (whole_here whole)
+  pub linked_by : Applies between b (word_step Index (place_of_bucket (hash % 65536)) word) → ForSome a.files (λ from. CanBeLinked entry from → ForSome b.files (IsLinked from entry))
+  linked_by whole = link_done a b entry (hash % 65536) bucket_is (address_small entry (subst (λ (v : ℕ). is_address v ≡ true) is address)) complete (whole_here whole)

@@ -10,7 +10,7 @@ use Rattle.blk_format.specs.Address.{kind_of, file_selector, first_block, place,
 use Rattle.blk_format.specs.Records.{entry_in, entry_size}
 use Rattle.blk_volume.specs.Chains.{bucket_of_hash, file_and_block, is_of_bucket}
 use Rattle.blk_volume.specs.Entries.{key_of}
-use Rattle.blk_volume.specs.View.{StoreView, RecordFields, fields_of, core_at, entry_at, follow_at, key_place_at, stands_as, store_of}
+use Rattle.blk_volume.specs.View.{StoreView, RecordFields, fields_of, fields_at, entry_at, follow_at, key_place_at, stands_as, store_of}
 use Rattle.blk_laws.proofs.StillShown.{standing-parts, core-standing}
 use Rattle.blk_chain.specs.Naming.{HasKey}
 
@@ -31,7 +31,7 @@ same-place u w one other same = record-at u one ∙ ap (λ (b : ℕ). 8192 + b *
 
 -- what a word shows that names a record
 pub shown-core : (image : Image) (w : ℕ) (fields : RecordFields) → (store_of image).entry w ≡ Some fields → fields_of (entry_at image w) ≡ fields
-unfolding store_of core_at
+unfolding store_of fields_at
 shown-core image w fields here = some_inj (sym (let s : stands_as image blocks_256 w ≡ true = core-standing image w fields here in rw s refl) ∙ here)
 
 pub shown-kind : (image : Image) (w : ℕ) (fields : RecordFields) → (store_of image).entry w ≡ Some fields → kind_of w ≡ blocks_256

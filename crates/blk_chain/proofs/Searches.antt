@@ -1,5 +1,5 @@
 -- What a search of a chain has passed, and what is left of it.
-use Rattle.std.proofs.Common.{◌≡◌, ◌≢◌, ⊎_elim, ℕ, suc, ◌+◌, ◌%◌, Bool, true, false, List, [], ◌∷◌, ◌++◌, length, Option, Some, None, refl, sym, ◌∙◌, ap, subst, arith}
+use Rattle.std.proofs.Common.{◌≡◌, ◌≢◌, ⊎_elim, ℕ, suc, ◌+◌, ◌-◌, ◌%◌, Bool, true, false, List, [], ◌∷◌, ◌++◌, length, Option, Some, None, refl, sym, ◌∙◌, ap, subst, arith}
 use Rattle.std.specs.Prelude.{◌==◌}
 use Rattle.std.proofs.lemmas.Bool.{or_cases, eqb-true}
 use Rattle.std.proofs.lemmas.List.{append-nil, append_assoc}
@@ -11,12 +11,16 @@ use Rattle.blk_format.specs.Headers.{bucket_of}
 use Rattle.blk_volume.specs.View.{RecordFields, entry_at, store_of}
 use Rattle.blk_volume.specs.Chains.{bucket_of_hash, chain, is_of_bucket, IsChain, Linked}
 use Rattle.blk_format.proofs.Among.{is_among_more}
+use Rattle.blk_disk.specs.Tables.{is_record_among}
 use Rattle.blk_chain.specs.Naming.{HasKey}
 use Rattle.blk_chain.specs.Linking.{bucket_at}
-use Rattle.blk_chain.specs.Unlinking.{CanBeUnlinked, StandsBehind}
-use Rattle.blk_chain.specs.Finding.{bucket_of_key, chained_for, up_to, CanBeSearched, EndsWith, IsFound, IsKeyed, IsOnTheWay, NoneHasKey}
+use Rattle.blk_chain.specs.Unlinking.{CanBeUnlinked, StandsBehind, next_of}
+use Rattle.blk_chain.specs.Finding.{bucket_of_key, chained_for, last_of, up_to, CanBeSearched, EndsWith, HasPassed, IsAnswer, IsFollowed, IsFound, IsKeyed, IsOnTheWay, IsOutcome, IsSought, NoneHasKey, Walks}
 use Rattle.blk_chain.proofs.Apart.{middle-there}
-use Rattle.blk_chain.proofs.Names.{shown-core, shown-kind, shown-of}
+use Rattle.blk_chain.proofs.Names.{shown-core, shown-follow, shown-kind, shown-of}
+use Rattle.blk_chain.proofs.Heads.{named-some, named-sought, sought-named}
+use Rattle.blk_chain.specs.declared.found.Found.{Found}
+use Rattle.blk_disk.specs.declared.tables.BlockFiles.{BlockFiles}
 
 -- the front of the chain of a key
 pub front-is : (image : Image) (key : List ℕ) (hash word : ℕ) → hash ≡ hash_of key → word ≡ bucket_of (byte image Index) (hash % 65536) → word ≡ (store_of image).table (bucket_of_key key)
@@ -145,3 +149,61 @@ module _ (image : Image) (key : List ℕ) (is_child : Bool) where
         suffix = found.suffix;
         stands = subst (λ (n : ℕ). StandsBehind (chain (store_of image) n).reached entry before found.prefix found.suffix) (sym bucket) found.stands;
       }
+
+-- A walk from record to record.
+
+-- a walk goes on at the next of a record that is not the one
+pub walks-on : (files : BlockFiles) (key : List ℕ) (is_child : Bool) (image : Image) (start : ℕ) (passed : List ℕ) (word : ℕ) → Walks files key is_child image start passed word → IsFollowed files word image → (IsSought key is_child word image → ⊥)
+    → Walks files key is_child image start (passed ++ word ∷ []) (next_of image word)
+walks-on files key is_child image start [] word walk followed other = (walk, (followed, (other, refl)))
+walks-on files key is_child image start (w ∷ passed) word walk followed other = (walk.0, (walk.1.0, (walk.1.1.0, walks-on files key is_child image (next_of image w) passed word walk.1.1.1 followed other)))
+
+pub last-on : (before : Option ℕ) (passed : List ℕ) (word : ℕ) → last_of before (passed ++ word ∷ []) ≡ Some word
+last-on before [] word = refl
+last-on before (w ∷ passed) word = last-on (Some w) passed word
+
+length-on : (passed : List ℕ) (word : ℕ) → length (passed ++ word ∷ []) ≡ length passed + 1
+length-on [] word = refl
+length-on (w ∷ passed) word = let h = length-on passed word in omega (arith, h)
+
+-- one more record is passed
+pub passed-on : (files : BlockFiles) (key : List ℕ) (is_child : Bool) (word : ℕ) (before : Option ℕ) (count more : ℕ) (image : Image) → HasPassed files key is_child word before count image → IsFollowed files word image → (IsSought key is_child word image → ⊥) → more ≡ count + 1
+    → HasPassed files key is_child (next_of image word) (Some word) more image
+passed-on files key is_child word before count more image has followed other one = record {
+  passed = has.passed ++ word ∷ [];
+  many = length-on has.passed word ∙ ap (λ (n : ℕ). n + 1) has.many ∙ sym one;
+  last = last-on None has.passed word;
+  walk = walks-on files key is_child image ((store_of image).table (bucket_of_key key)) has.passed word has.walk followed other;
+}
+
+module _ (files : BlockFiles) (image : Image) (key : List ℕ) (is_child : Bool) (can : CanBeSearched key image) where
+  -- a walk through a chain that can be searched is on the way
+  way-walked : (passed : List ℕ) (start : ℕ) (before : Option ℕ) (left on : ℕ) → IsOnTheWay key is_child start before left image → Walks files key is_child image start passed on → IsOnTheWay key is_child on (last_of before passed) (left - length passed) image
+  way-walked [] start before left on way walk =
+      let same : left ≡ left - 0 = omega arith in
+      subst (λ (n : ℕ). IsOnTheWay key is_child on before n image) same (subst (λ (w : ℕ). IsOnTheWay key is_child w before left image) walk way)
+  way-walked (w ∷ passed) start before left on way walk =
+      let some : start ≢ 0 = (λ z. named-some files (subst (λ (x : ℕ). is_record_among files x ≡ true) (sym walk.0 ∙ z) walk.1.0.stands)) in
+      let keyed : IsKeyed start image = way-keyed image key is_child start before left way some can in
+      let other : HasKey (store_of image) key is_child start → ⊥ = (λ named. walk.1.1.0 (subst (λ (x : ℕ). IsSought key is_child x image) walk.0 (named-sought image start keyed key is_child named))) in
+      let few = way.few in
+      let one : left - 1 + 1 ≡ left = omega (arith, few) in
+      let next : IsOnTheWay key is_child (next_of image start) (Some start) (left - 1) image = way-on image key is_child start before left way some (next_of image start) (left - 1) (sym (shown-follow image start keyed.fields keyed.here)) other one in
+      let there : IsOnTheWay key is_child (next_of image w) (Some w) (left - 1) image = subst (λ (x : ℕ). IsOnTheWay key is_child (next_of image x) (Some x) (left - 1) image) walk.0 next in
+      let less : left - 1 - length passed ≡ left - length (w ∷ passed) = omega arith in
+      subst (λ (n : ℕ). IsOnTheWay key is_child on (last_of (Some w) passed) n image) less (way-walked passed (next_of image w) (Some w) (left - 1) on there walk.1.1.1)
+
+  pub way-passed : (word : ℕ) (before : Option ℕ) (count : ℕ) → HasPassed files key is_child word before count image → IsOnTheWay key is_child word before (131073 - count) image
+  way-passed word before count has =
+      subst (λ (o : Option ℕ). IsOnTheWay key is_child word o (131073 - count) image) has.last
+      (subst (λ (n : ℕ). IsOnTheWay key is_child word (last_of None has.passed) (131073 - n) image) has.many
+      (way-walked has.passed ((store_of image).table (bucket_of_key key)) None 131073 word (way-begun image key is_child ((store_of image).table (bucket_of_key key)) can refl) has.walk))
+
+  -- so what it gives is the answer
+  pub outcome-answer : (answer : Option Found) → IsOutcome files key is_child answer image → IsAnswer key is_child answer image
+  outcome-answer None out = way-ended image key is_child 0 out.before (131073 - out.count) (way-passed 0 out.before out.count out.passed) refl
+  outcome-answer (Some found) out =
+      let way = way-passed found.entry found.before out.count out.passed in
+      let some : found.entry ≢ 0 = (λ z. named-some files (subst (λ (x : ℕ). is_record_among files x ≡ true) z out.followed.stands)) in
+      let keyed : IsKeyed found.entry image = way-keyed image key is_child found.entry found.before (131073 - out.count) way some can in
+      way-found image key is_child found.entry found.before (131073 - out.count) way some (sought-named image found.entry keyed key is_child out.sought)

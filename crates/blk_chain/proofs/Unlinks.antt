@@ -9,10 +9,10 @@ use Rattle.blk_image.specs.Image.{AreBytes, File, Index, Block, Image, byte, byt
 use Rattle.blk_image.specs.Steps.{Word, applied, word_step, with_word}
 use Rattle.blk_image.specs.Footprint.{SameOutside}
 use Rattle.blk_image.specs.Told.{Told, TellsBytes, AppliesPrefix, IsQuiet, Passes, CommitsAt, Commits}
-use Rattle.blk_image.proofs.Runs.{passes_none, passes_weaker, passes_end, some_inj}
+use Rattle.blk_image.proofs.Runs.{passes_end, some_inj, told_part}
 use Rattle.blk_image.proofs.Images.{bytes_of-written, length-after_write, word-after_same}
 use Rattle.blk_image.proofs.Words.{word-beside, word-fits}
-use Rattle.blk_image.proofs.WordSteps.{quiet-word_steps}
+use Rattle.blk_image.proofs.WordSteps.{along_put, quiet-word_steps}
 use Rattle.blk_format.specs.Address.{kind_of, file_selector, place, blocks_256}
 use Rattle.blk_format.specs.BlockFiles.{is_among, stands_in}
 use Rattle.blk_format.specs.Records.{entry_in, entry_checks, checks}
@@ -25,7 +25,6 @@ use Rattle.blk_volume.specs.ShownChanges.{OnlyChainNextChanges}
 use Rattle.blk_laws.specs.RecordUpdates.{IsRecord}
 use Rattle.blk_laws.proofs.Inside.{record-changes}
 use Rattle.blk_laws.proofs.Records.{follows-written}
-use Rattle.blk_laws.proofs.Nodes.{none-or-one}
 use Rattle.blk_laws.proofs.StillShown.{core-standing, standing-parts}
 use Rattle.blk_laws.proofs.Fronts.{AreSmall, small-take, small-range, entry_checks-front, entry_checks-by}
 use Rattle.blk_laws.proofs.Updates.{entry-seal, entry-here}
@@ -36,7 +35,7 @@ use Rattle.blk_disk.specs.Tables.{Agrees, stands_among}
 use Rattle.blk_format.specs.Sealed.{RecordChecks, AreChanges, IsMidUpdate, IsUpdated, new_seal, placed, record_at, record_range, record_size, seal_place, sealed_steps, size_by_kind, seal_by_kind, update_steps, update_words}
 use Rattle.blk_format.proofs.SealedFields.{record_word, updated_is_new}
 use Rattle.blk_chain.specs.Linking.{bucket_at}
-use Rattle.blk_chain.specs.Unlinking.{CanBeUnlinked, first_claim, IsApart, NamesStay, IsStillLinked, IsUnlinked, IsUnlinking, KeepsRecords, next_of}
+use Rattle.blk_chain.specs.Unlinking.{CanBeUnlinked, first_claim, IsApart, NamesStay, IsStillLinked, IsUnlinked, KeepsRecords, next_of}
 use Rattle.blk_image.proofs.Commits.{commits_none, commits_prefix}
 use Rattle.blk_chain.proofs.Names.{IsShownOf, shown-of, shown-core, shown-kind, shown-follow, same-core, same-follow}
 use Rattle.blk_chain.proofs.Words.{linked-good}
@@ -53,7 +52,6 @@ word-beside_write image f at v j beside = ap (λ (l : List ℕ). word_at (conten
 pub next_changes : (w next : ℕ) → kind_of w ≡ blocks_256 → AreChanges (seal_place w) ((4, next) ∷ [])
 unfolding seal_by_kind
 next_changes w next kind = record {
-  some = omega arith;
   few = omega arith;
   aligned = All-cons (λ change. change.0 % 4 ≡ 0) (4, next) [] refl (All-nil (λ change. change.0 % 4 ≡ 0));
   before = All-cons (λ change. change.0 < seal_place w) (4, next) [] (rw kind (omega arith)) (All-nil (λ change. change.0 < seal_place w));
@@ -183,13 +181,6 @@ module _ (from : Image) (bytes : AreBytes from) (entry before : ℕ) (can : CanB
       },
     )
 
-    -- at each moment of the update the chains are as they were, or the record is unlinked
-    pub unlinking_at : IsUnlinking from entry (Some before) image
-    unlinking_at = ⊎_elim
-        (λ (e : moment.made ≡ 0). inl (still-linked image written.0 moment.outside names-stay (subst (λ (m : ℕ). (store_of image).chain_next before ≡ (if m == 0 then (store_of from).chain_next before else next_of from entry)) e written.1)))
-        (λ (e : moment.made ≡ 1). inr (now-unlinked image written.0 moment.outside names-stay (subst (λ (m : ℕ). (store_of image).chain_next before ≡ (if m == 0 then (store_of from).chain_next before else next_of from entry)) e written.1)))
-        (none-or-one moment.made (let h : moment.made ≤ 1 = moment.within in h))
-
     -- after it the record is
     pub unlinked_at : IsUpdated from before ((4, next_of from entry) ∷ []) image → IsUnlinked from entry (Some before) image
     unfolding entry_in size_by_kind
@@ -278,38 +269,33 @@ quiet-sealed image w changes = quiet-word_steps (Block (file_selector w)) (place
 abbrev pub with_next : ℕ → List (ℕ × ℕ)
 with_next next = (4, next) ∷ []
 
-module _ (a b : Told) (tells : TellsBytes a) (entry before : ℕ) (can : ForSome a.files (CanBeUnlinked entry (Some before))) where
+module _ (a b : Told) (tells : TellsBytes a) (entry before : ℕ) where
   -- before the update
-  pub not_yet : b ≡ a → ForSome a.files (λ from. Passes a b (IsUnlinking from entry (Some before)))
-  not_yet stays from there =
-      passes_none (IsUnlinking from entry (Some before)) stays
-      (λ image here. subst (λ (i : Image). IsUnlinking from entry (Some before) i) (some_inj (sym there ∙ here))
-      (unlinking_at from (tells from there) entry before (can from there) from (moment_before before from (with_next (next_of from entry)) (before_checks from (tells from there) entry before (can from there)))))
-
-  pub turns_yet : b ≡ a → ForSome a.files (λ from. Commits 2 a b (IsStillLinked from entry (Some before)) (IsUnlinked from entry (Some before)))
-  turns_yet stays from there =
-      let checks : RecordChecks before from = before_checks from (tells from there) entry before (can from there) in
+  pub turns_yet : b ≡ a → ForSome a.files (λ from. CanBeUnlinked entry (Some before) from → Commits 2 a b (IsStillLinked from entry (Some before)) (IsUnlinked from entry (Some before)))
+  turns_yet stays from there can =
+      let checks : RecordChecks before from = before_checks from (tells from there) entry before can in
       commits_none 1 a b from (IsStillLinked from entry (Some before)) (IsUnlinked from entry (Some before)) there stays
-      (still-at from (tells from there) entry before (can from there) from (moment_before before from (with_next (next_of from entry)) checks) refl)
+      (still-at from (tells from there) entry before can from (moment_before before from (with_next (next_of from entry)) checks) refl)
 
   pub turns_then : (files : BlockFiles) → ForSome a.files (Agrees files) → stands_among files before ≡ true → ForSome a.files (λ from. AppliesPrefix a b (sealed_steps from before (with_next (next_of from entry))))
-      → ForSome a.files (λ from. Commits 2 a b (IsStillLinked from entry (Some before)) (IsUnlinked from entry (Some before)))
-  turns_then files agrees stands part from there =
-      let checks : RecordChecks before from = before_checks from (tells from there) entry before (can from there) in
-      let shown = shown-before from (tells from there) entry before (can from there) in
+      → ForSome a.files (λ from. CanBeUnlinked entry (Some before) from → Commits 2 a b (IsStillLinked from entry (Some before)) (IsUnlinked from entry (Some before)))
+  turns_then files agrees stands part from there can =
+      let checks : RecordChecks before from = before_checks from (tells from there) entry before can in
+      let shown = shown-before from (tells from there) entry before can in
       let inside = stands_range files from before 0 (record_size before) (agrees from there) stands (omega (arith, record_inside before (inr (shown-kind from before shown.fields shown.here)))) in
       commits_prefix 2 a b from (IsStillLinked from entry (Some before)) (IsUnlinked from entry (Some before)) (sealed_steps from before (with_next (next_of from entry))) there
       (quiet-sealed from before (with_next (next_of from entry)))
-      (turns-with_next from (tells from there) entry before (can from there) checks (omega (arith, inside))) (part from there)
+      (turns-with_next from (tells from there) entry before can checks (omega (arith, inside))) (part from there)
 
-  pub unlinking_stops : ForSome a.files (λ from. Passes a b (IsMidUpdate from before (with_next (next_of from entry)))) → ForSome a.files (λ from. Passes a b (IsUnlinking from entry (Some before)))
-  unlinking_stops stops from there =
-      passes_weaker (stops from there) (λ image moment. unlinking_at from (tells from there) entry before (can from there) image moment) (λ image moment. unlinking_at from (tells from there) entry before (can from there) image moment)
-
-  pub unlinked_then : ForSome a.files (λ from. Passes a b (IsMidUpdate from before (with_next (next_of from entry)))) → ForSome a.files (λ from. ForSome b.files (IsUpdated from before (with_next (next_of from entry))))
-      → ForSome a.files (λ from. ForSome b.files (IsUnlinked from entry (Some before)))
-  unlinked_then stops updated from there image now = unlinked_at from (tells from there) entry before (can from there) image (passes_end (stops from there) image now) (updated from there image now)
+  pub unlinked_then : ForSome a.files (λ from. RecordChecks before from → Passes a b (IsMidUpdate from before (with_next (next_of from entry)))) → ForSome a.files (λ from. ForSome b.files (IsUpdated from before (with_next (next_of from entry))))
+      → ForSome a.files (λ from. CanBeUnlinked entry (Some before) from → ForSome b.files (IsUnlinked from entry (Some before)))
+  unlinked_then stops updated from there can image now =
+      unlinked_at from (tells from there) entry before can image (passes_end (stops from there (before_checks from (tells from there) entry before can)) image now) (updated from there image now)
 
   -- no length changes
-  pub still_complete : ForSome a.files (λ image. length_of image Index ≡ 262512) → ForSome a.files (λ from. Passes a b (IsMidUpdate from before (with_next (next_of from entry)))) → ForSome a.files (λ from. ForSome b.files (λ image. length_of image Index ≡ 262512))
-  still_complete complete stops from there image now = let moment = passes_end (stops from there) image now in moment.outside.lengths Index refl ∙ complete from there
+  pub still_complete : ForSome a.files (λ image. length_of image Index ≡ 262512) → ForSome a.files (λ from. AppliesPrefix a b (sealed_steps from before (with_next (next_of from entry)))) → ForSome a.files (λ from. ForSome b.files (λ image. length_of image Index ≡ 262512))
+  unfolding update_steps
+  still_complete complete part from there =
+      let whole : Image → Type 0 = (λ image. length_of image Index ≡ 262512) in
+      told_part whole (part from there)
+      (λ image here. along_put whole (Block (file_selector before)) (λ i bytes h. h) (placed (place before) (update_words (seal_place before) (with_next (next_of from entry)) (new_seal from before (with_next (next_of from entry))))) image (complete image here))

@@ -3,8 +3,9 @@ use Rattle.std.specs.Prelude.{◌≡◌, ◌≢◌, ◌⊎◌, ℕ, ◌+◌, ◌
 use Rattle.std.specs.declared.option.Option.{Option}
 use Rattle.std.specs.declared.option.Option.TheVariants.{None, Some}
 use Rattle.blk_image.specs.Image.{Image}
+use Rattle.std.specs.Option.{ForSome}
 use Rattle.blk_image.specs.Told.{Told}
-use Rattle.blk_format.specs.Address.{is_address, kind_of, file_selector, place, blocks_256}
+use Rattle.blk_format.specs.Address.{file_selector, place}
 use Rattle.blk_format.specs.BlockFiles.{is_among}
 use Rattle.blk_format.specs.Hash.{hash as hash_of}
 use Rattle.blk_format.specs.Headers.{place_of_bucket}
@@ -13,16 +14,17 @@ use Rattle.blk_io.specs.declared.fault.Damage.{Damage}
 use Rattle.blk_io.specs.declared.fault.Fault.{Fault}
 use Rattle.blk_io.specs.declared.fault.Fault.TheVariants.{Damaged}
 use Rattle.blk_io.specs.Faults.{IsShort}
-use Rattle.blk_volume.specs.View.{RecordFields, store_of}
+use Rattle.blk_format.specs.Records.{child}
+use Rattle.blk_volume.specs.View.{RecordFields, entry_at, store_of}
 use Rattle.blk_volume.specs.Chains.{bucket_of_hash, chain, Linked}
 use Rattle.blk_disk.specs.declared.tables.BlockFiles.{BlockFiles}
-use Rattle.blk_disk.specs.Tables.{stands_among}
-use Rattle.blk_entry.specs.Keys.{HasReadableKey, IsKeyDamage}
+use Rattle.blk_disk.specs.Tables.{is_record_among}
+use Rattle.blk_entry.specs.Keys.{HasBytesOf, HasReadableKey, HasRecord, IsKeyDamage}
 use Rattle.blk_chain.specs.declared.found.Found.{Found}
 use Rattle.blk_chain.specs.declared.finding.Step.{Step}
 use Rattle.blk_chain.specs.declared.finding.Step.TheVariants.{Here, On}
 use Rattle.blk_chain.specs.Naming.{HasKey, IsWhole}
-use Rattle.blk_chain.specs.Unlinking.{StandsBehind}
+use Rattle.blk_chain.specs.Unlinking.{StandsBehind, next_of}
 
 -- the bucket of a key
 abbrev pub bucket_of_key : List ℕ → ℕ
@@ -64,11 +66,54 @@ abbrev pub IsAnswer : List ℕ → Bool → Option Found → Image → Type 0
 IsAnswer key is_child None image = NoneHasKey (chained_for image key) key is_child image
 IsAnswer key is_child (Some found) image = IsFound key is_child found.entry found.before image
 
--- The damages of a search.
+-- A search as it goes, from record to record.
 
--- whether a word names a record that stands
-unfoldable pub names_record : BlockFiles → ℕ → Bool
-names_record files w = is_address w && ((kind_of w == blocks_256) && stands_among files w)
+-- a record is the one that is sought: it has the hash of a key, the bytes of the key where its words say that its key lies, and this child flag
+pub record IsSought (key : List ℕ) (is_child : Bool) (w : ℕ) (image : Image) : Type 0 where
+  pub bytes : HasBytesOf key w image
+  pub flag : ((entry_at image w).flags == child) ≡ is_child
+
+-- a word was followed: it names a record that stands, whose bytes are there and check
+pub record IsFollowed (files : BlockFiles) (w : ℕ) (image : Image) : Type 0 where
+  pub stands : is_record_among files w ≡ true
+  pub whole : HasRecord w image
+
+-- records are passed from a word on up to another one: each word was followed, and no record is the one that is sought
+abbrev pub Walks : BlockFiles → List ℕ → Bool → Image → ℕ → List ℕ → ℕ → Type 0
+Walks files key is_child image word [] on = word ≡ on
+Walks files key is_child image word (w ∷ words) on = (word ≡ w) × (IsFollowed files w image × ((IsSought key is_child w image → ⊥) × Walks files key is_child image (next_of image w) words on))
+
+-- the last of words, or what stood before them
+abbrev pub last_of : Option ℕ → List ℕ → Option ℕ
+last_of before [] = before
+last_of before (w ∷ words) = last_of (Some w) words
+
+-- a search has passed so many records, from the word of the bucket on, and stands at a word behind the last of them
+pub record HasPassed (files : BlockFiles) (key : List ℕ) (is_child : Bool) (word : ℕ) (before : Option ℕ) (count : ℕ) (image : Image) : Type 0 where
+  pub passed : List ℕ
+  pub many : length passed ≡ count
+  pub last : last_of None passed ≡ before
+  pub walk : Walks files key is_child image ((store_of image).table (bucket_of_key key)) passed word
+
+-- it ends at the word 0
+pub record EndsUnfound (files : BlockFiles) (key : List ℕ) (is_child : Bool) (image : Image) : Type 0 where
+  pub before : Option ℕ
+  pub count : ℕ
+  pub passed : HasPassed files key is_child 0 before count image
+
+-- or at the record that is sought
+pub record EndsAt (files : BlockFiles) (key : List ℕ) (is_child : Bool) (entry : ℕ) (before : Option ℕ) (image : Image) : Type 0 where
+  pub count : ℕ
+  pub passed : HasPassed files key is_child entry before count image
+  pub followed : IsFollowed files entry image
+  pub sought : IsSought key is_child entry image
+
+-- what a search gives of any chain: nothing where it ends at the word 0, or the record that is sought
+abbrev pub IsOutcome : BlockFiles → List ℕ → Bool → Option Found → Image → Type 0
+IsOutcome files key is_child None image = EndsUnfound files key is_child image
+IsOutcome files key is_child (Some found) image = EndsAt files key is_child found.entry found.before image
+
+-- The damages of a search.
 
 -- a damage is that of the word of a bucket, or of the next of a record
 abbrev pub IsOfLink : ℕ → Option ℕ → Damage → Type 0
@@ -77,7 +122,7 @@ IsOfLink bucket (Some before) damage = (damage.file ≡ names.Block (file_select
 
 -- the record before, where there is one, is named by a word and stands
 abbrev pub StandsBefore : BlockFiles → Option ℕ → Type 0
-StandsBefore files before = IfSome before (λ w. names_record files w ≡ true)
+StandsBefore files before = IfSome before (λ w. is_record_among files w ≡ true)
 
 -- a word at which a chain goes on names no record that stands
 pub record IsDanglingLink (files : BlockFiles) (bucket : ℕ) (damage : Damage) : Type 0 where
@@ -85,28 +130,29 @@ pub record IsDanglingLink (files : BlockFiles) (bucket : ℕ) (damage : Damage) 
   pub stands : StandsBefore files before
   pub link : IsOfLink bucket before damage
   pub some : damage.found ≢ 0
-  pub dangling : names_record files damage.found ≡ false
+  pub dangling : is_record_among files damage.found ≡ false
 
--- a chain goes on behind the last record that a search passes
-pub record IsLong (files : BlockFiles) (bucket : ℕ) (damage : Damage) : Type 0 where
+-- a chain goes on behind the last record that a search passes, which has passed 131073 of them
+pub record IsLong (files : BlockFiles) (told : Told) (key : List ℕ) (is_child : Bool) (damage : Damage) : Type 0 where
   pub last : ℕ
-  pub stands : names_record files last ≡ true
-  pub link : IsOfLink bucket (Some last) damage
+  pub stands : is_record_among files last ≡ true
+  pub link : IsOfLink (bucket_of_key key) (Some last) damage
   pub some : damage.found ≢ 0
+  pub passed : ForSome told.files (HasPassed files key is_child damage.found (Some last) (most_searched + 1))
 
 -- a record that stands has too few bytes or doesn't check, or its key of so many bytes has a wrong length or place or too few bytes
 pub record IsWrongRecord (files : BlockFiles) (told : Told) (key_len : ℕ) (damage : Damage) : Type 0 where
   pub entry : ℕ
-  pub stands : names_record files entry ≡ true
+  pub stands : is_record_among files entry ≡ true
   pub wrong : IsKeyDamage files told entry key_len damage
 
 -- a damage of a chain that is followed: a word that names no record, a wrong record, or a chain that is too long
-abbrev pub IsChainDamage : BlockFiles → Told → List ℕ → Damage → Type 0
-IsChainDamage files told key damage = IsDanglingLink files (bucket_of_key key) damage ⊎ (IsWrongRecord files told (length key) damage ⊎ IsLong files (bucket_of_key key) damage)
+abbrev pub IsChainDamage : BlockFiles → Told → List ℕ → Bool → Damage → Type 0
+IsChainDamage files told key is_child damage = IsDanglingLink files (bucket_of_key key) damage ⊎ (IsWrongRecord files told (length key) damage ⊎ IsLong files told key is_child damage)
 
 -- a damage of a search: too few bytes of the bucket's word, or one of the chain
-abbrev pub IsSearchDamage : BlockFiles → Told → List ℕ → Damage → Type 0
-IsSearchDamage files told key damage = IsShort told names.Index (place_of_bucket (bucket_of_key key)) 4 damage ⊎ IsChainDamage files told key damage
+abbrev pub IsSearchDamage : BlockFiles → Told → List ℕ → Bool → Damage → Type 0
+IsSearchDamage files told key is_child damage = IsShort told names.Index (place_of_bucket (bucket_of_key key)) 4 damage ⊎ IsChainDamage files told key is_child damage
 
 -- Steps of a search.
 
@@ -126,13 +172,13 @@ pub record IsLinkDamage (bucket : ℕ) (before : Option ℕ) (found : ℕ) (faul
 
 -- what a step finds at a word: a record that stands, and the next record's word where it isn't the one
 abbrev pub StandsAt : BlockFiles → ℕ → Step → Type 0
-StandsAt files w (Here entry) = (entry ≡ w) × (names_record files w ≡ true)
-StandsAt files w (On link) = (link.before ≡ Some w) × (names_record files w ≡ true)
+StandsAt files w (Here entry) = (entry ≡ w) × (is_record_among files w ≡ true)
+StandsAt files w (On link) = (link.before ≡ Some w) × (is_record_among files w ≡ true)
 
--- the record has the key and the child flag, or it hasn't and the search goes on at its next
-abbrev pub IsStep : List ℕ → Bool → ℕ → Step → Image → Type 0
-IsStep key is_child w (Here entry) image = HasKey (store_of image) key is_child w
-IsStep key is_child w (On link) image = (link.word ≡ (store_of image).chain_next w) × (HasKey (store_of image) key is_child w → ⊥)
+-- the word is followed, and the record is the one that is sought, or it isn't and the search goes on at its next
+abbrev pub IsStep : BlockFiles → List ℕ → Bool → ℕ → Step → Image → Type 0
+IsStep files key is_child w (Here entry) image = IsFollowed files w image × IsSought key is_child w image
+IsStep files key is_child w (On link) image = IsFollowed files w image × ((link.word ≡ next_of image w) × (IsSought key is_child w image → ⊥))
 
 -- words end with this one, or there is none
 abbrev pub EndsWith : List ℕ → Option ℕ → Type 0

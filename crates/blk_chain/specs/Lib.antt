@@ -3,3 +3,4 @@ pub mod Linking
 pub mod Unlinking
 pub mod Finding
 pub mod Mapping
+pub mod Examples

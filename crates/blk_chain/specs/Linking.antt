@@ -1,5 +1,5 @@
 -- A record is linked in front of its chain.
-use Rattle.std.specs.Prelude.{◌≡◌, ◌⊎◌, ℕ, List, ◌∷◌, true, false, ◌==◌}
+use Rattle.std.specs.Prelude.{◌≡◌, ℕ, List, ◌∷◌, true, false, ◌==◌}
 use Rattle.std.specs.declared.option.Option.TheVariants.{Some}
 use Rattle.blk_image.specs.Image.{Image, Index}
 use Rattle.blk_image.specs.Steps.{TrailStep, word_step}
@@ -47,7 +47,3 @@ pub record IsLinked (from : Image) (entry : ℕ) (image : Image) : Type 0 where
   pub others : (other : ℕ) → (bucket_at from entry == other) ≡ false → chain (store_of image) other ≡ chain (store_of from) other
   pub well_formed : IsWellFormed from → IsWellFormed image
   pub outside : SameOutside (one_word Index (place_of_front from entry)) from image
-
--- a moment of linking: all is as before, or the record is linked
-abbrev pub IsLinking : Image → ℕ → Image → Type 0
-IsLinking from entry image = (image ≡ from) ⊎ IsLinked from entry image

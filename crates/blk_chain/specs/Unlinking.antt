@@ -17,7 +17,7 @@ use Rattle.blk_volume.specs.View.{RecordFields, StoreView, entry_at, list_of, st
 use Rattle.blk_volume.specs.Entries.{is_key_length, longest_short_key}
 use Rattle.blk_volume.specs.Chains.{chain, file_and_block, IsChain}
 use Rattle.blk_disk.specs.Unsealed.{IsUnsealed}
-use Rattle.blk_format.specs.Sealed.{IsUpdated, record_range, record_size, sealed_steps}
+use Rattle.blk_format.specs.Sealed.{IsUpdated, RecordChecks, record_range, record_size, sealed_steps}
 use Rattle.blk_chain.specs.Naming.{HasKey, IsWhole}
 use Rattle.blk_chain.specs.Linking.{bucket_at, chained_with, place_of_front}
 
@@ -115,9 +115,10 @@ abbrev pub words_to_unlink : Option ℕ → ℕ
 words_to_unlink None = 1
 words_to_unlink (Some before) = 2
 
--- a moment of unlinking: the chains are as they were, or the record is unlinked
-abbrev pub IsUnlinking : Image → ℕ → Option ℕ → Image → Type 0
-IsUnlinking from entry before image = IsStillLinked from entry before image ⊎ IsUnlinked from entry before image
+-- the record before, where there is one, checks
+abbrev pub BeforeChecks : Option ℕ → Image → Type 0
+BeforeChecks None image = Unit {0}
+BeforeChecks (Some before) image = RecordChecks before image
 
 -- the damages of unlinking: too few bytes at the record's next; then at its hash, or at the record before, which may also fail to check
 abbrev pub IsUnlinkDamage : Told → ℕ → Option ℕ → Damage → Type 0

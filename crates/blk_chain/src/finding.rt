@@ -1,32 +1,30 @@
 // Records that are found by their keys.
-ghost use Rattle.std.specs.Prelude.{◌≡◌, ◌≢◌, ◌↔◌, ◌+◌, ◌<◌, ◌≤◌, IfOk, IfSome, IsOk, IsTrue, None, Some, true, length, if◌then◌else◌};
+ghost use Rattle.std.specs.Prelude.{◌≡◌, ◌≢◌, ◌↔◌, ◌≤◌, IfOk, IfSome, IsOk, IsTrue, None, OnOk, true, length};
 ghost use Rattle.std.specs.Option.{ForSome};
+ghost use Rattle.blk_image.specs.Image.{HasRange, Index as index};
 ghost use Rattle.blk_image.specs.Told.{Rises, Stays};
 ghost use Rattle.blk_format.specs.Address.{blocks_256, kind_of};
 ghost use Rattle.blk_format.specs.Hash.{hash as hash_of};
-ghost use Rattle.blk_format.specs.Headers.{HasWholeIndex};
+ghost use Rattle.blk_format.specs.Headers.{HasWholeIndex, place_of_bucket};
 ghost use Rattle.blk_io.specs.Faults.{IfDamaged, IfDevice};
 ghost use Rattle.blk_volume.specs.Chains.{bucket_of_hash};
 ghost use Rattle.blk_volume.specs.View.{store_of};
-ghost use Rattle.blk_disk.specs.Tables.{Agrees, stands_among};
-ghost use Rattle.blk_entry.specs.Keys.{IsHead, IsPlaceDamage};
-ghost use Rattle.blk_chain.specs.Naming.{HasKey};
+ghost use Rattle.blk_disk.specs.Tables.{Agrees, is_record_among, stands_among};
+ghost use Rattle.blk_entry.specs.Keys.{CanBeRead, IsHead, IsPlaceDamage};
 ghost use Rattle.blk_chain.specs.Unlinking.{CanBeUnlinked};
-ghost use Rattle.blk_chain.specs.Finding.{CanBeSearched, IsAnswer, IsDanglingLink, IsChainDamage, IsKeyed, IsLinkDamage, IsOnTheWay, IsSearchDamage, IsStep, StandsAt, StandsBefore, bucket_of_key, most_searched, names_record};
+ghost use Rattle.blk_chain.specs.Finding.{CanBeSearched, IsAnswer, IsDanglingLink, IsChainDamage, IsKeyed, IsLinkDamage, IsOutcome, IsSearchDamage, IsSought, IsStep, StandsAt, StandsBefore, bucket_of_key};
 
 use crate::found::Found;
-use blk_addr::{Addr, Kind};
+use bitflags::Flags;
+use blk_addr::Addr;
 use blk_disk::BlockFiles;
 use blk_entry::{Head, key_is, read_head, record_damage};
 use blk_index::bucket;
 use blk_io::{Damage, Fault, FileId, Folder};
-use blk_record::{EntryView, IndexHead, super_fast_hash};
+use blk_record::{EntryFlags, EntryView, IndexHead, super_fast_hash};
 
 // The most records that a search passes.
 const MOST_RECORDS: u32 = 131_073;
-
-// The flags of a child.
-const CHILD: u32 = 2;
 
 // Where a search stands: at a word, behind the record that has it as its next, or at the front of a chain.
 #[derive(Clone, Copy, Debug)]
@@ -58,31 +56,32 @@ enum Step {
 ///
 /// A damage is a read that gave too few bytes, a word of the chain that names no record that stands,
 /// a record that doesn't check or whose key has a wrong length or place, or a chain that goes on
-/// behind 131073 records: then the word that would be followed is found. A folder that tells its files
-/// never gives one. Nothing is written.
+/// behind 131073 records: then the word that would be followed is found. Nothing is written.
 pub fn find<F: Folder>(
     f: &mut F,
     files: &BlockFiles,
     key: &[u8],
     child: bool,
 ) -> Result<Option<Found>, Fault>
-    requires complete { ForSome (F.told f.old).files HasWholeIndex }
-    requires agrees { ForSome (F.told f.old).files (Agrees files.now) }
-    requires searchable { ForSome (F.told f.old).files (CanBeSearched key.now) }
-    ensures found { IfOk result (λ answer. ForSome (F.told f.old).files (IsAnswer key.now child answer)) }
+    // Of any chain, what is found by following it; of one that can be searched, the first record with the key and the flag.
+    ensures outcome { IfOk result (λ answer. ForSome (F.told f.old).files (IsOutcome files.now key.now child answer)) }
+    ensures found { IfOk result (λ answer. ForSome (F.told f.old).files (λ image. CanBeSearched key.now image → IsAnswer key.now child answer image)) }
+    ensures checked { OnOk result (ForSome (F.told f.old).files (λ image. HasRange image index (place_of_bucket (bucket_of_key key.now)) 4)) }
 
-    // What is found can be unlinked.
+    // What is found stands, and so does the record before it; it can be unlinked.
+    ensures names { IfOk result (λ answer. IfSome answer (λ found. IsTrue (is_record_among files.now found.entry))) }
     ensures kind { IfOk result (λ answer. IfSome answer (λ found. kind_of found.entry ≡ blocks_256)) }
     ensures stands { IfOk result (λ answer. IfSome answer (λ found. IsTrue (stands_among files.now found.entry))) }
+    ensures names_before { IfOk result (λ answer. IfSome answer (λ found. StandsBefore files.now found.before)) }
     ensures kind_before { IfOk result (λ answer. IfSome answer (λ found. IfSome found.before (λ before. kind_of before ≡ blocks_256))) }
     ensures stands_before { IfOk result (λ answer. IfSome answer (λ found. IfSome found.before (λ before. IsTrue (stands_among files.now before)))) }
-    ensures linked { IfOk result (λ answer. IfSome answer (λ found. ForSome (F.told f.old).files (CanBeUnlinked found.entry found.before))) }
-
-    // A folder that tells its files never gives a damage.
-    ensures damaged { IfDamaged result (IsSearchDamage files.now (F.told f.old) key.now) }
-    ensures untold { IfDamaged result (λ _. (F.told f.old).files ≡ None) }
-
+    ensures linked { IfOk result (λ answer. IfSome answer (λ found. ForSome (F.told f.old).files (λ image. CanBeSearched key.now image → CanBeUnlinked found.entry found.before image))) }
     ensures stays { Stays (F.told f.old) (F.told f.new) }
+
+    // A folder that tells its files gives a damage only for a chain that can't be searched.
+    ensures damaged { IfDamaged result (IsSearchDamage files.now (F.told f.old) key.now child) }
+    ensures untold { ForSome (F.told f.old).files HasWholeIndex → ForSome (F.told f.old).files (Agrees files.now) → ForSome (F.told f.old).files (CanBeSearched key.now) → IfDamaged result (λ _. (F.told f.old).files ≡ None) }
+
     ensures later { F.faults f.old ≤ F.faults f.new }
     ensures device { IfDevice result (Rises (F.faults f.old) (F.faults f.new)) }
 {
@@ -102,18 +101,19 @@ fn search<F: Folder>(
 ) -> Result<Option<Found>, Fault>
     requires hash { sought.now.hash ≡ hash_of key.now }
     requires front { front.before ≡ None }
-    requires agrees { ForSome (F.told f.old).files (Agrees files.now) }
-    requires searchable { ForSome (F.told f.old).files (CanBeSearched key.now) }
-    requires way { ForSome (F.told f.old).files (IsOnTheWay key.now sought.now.child front.word None (most_searched + 1)) }
-    ensures found { IfOk result (λ answer. ForSome (F.told f.old).files (IsAnswer key.now sought.now.child answer)) }
+    requires word { ForSome (F.told f.old).files (λ image. (store_of image).table (bucket_of_key key.now) ≡ front.word) }
+    ensures outcome { IfOk result (λ answer. ForSome (F.told f.old).files (IsOutcome files.now key.now sought.now.child answer)) }
+    ensures found { IfOk result (λ answer. ForSome (F.told f.old).files (λ image. CanBeSearched key.now image → IsAnswer key.now sought.now.child answer image)) }
+    ensures names { IfOk result (λ answer. IfSome answer (λ found. IsTrue (is_record_among files.now found.entry))) }
     ensures kind { IfOk result (λ answer. IfSome answer (λ found. kind_of found.entry ≡ blocks_256)) }
     ensures stands { IfOk result (λ answer. IfSome answer (λ found. IsTrue (stands_among files.now found.entry))) }
+    ensures names_before { IfOk result (λ answer. IfSome answer (λ found. StandsBefore files.now found.before)) }
     ensures kind_before { IfOk result (λ answer. IfSome answer (λ found. IfSome found.before (λ before. kind_of before ≡ blocks_256))) }
     ensures stands_before { IfOk result (λ answer. IfSome answer (λ found. IfSome found.before (λ before. IsTrue (stands_among files.now before)))) }
-    ensures linked { IfOk result (λ answer. IfSome answer (λ found. ForSome (F.told f.old).files (CanBeUnlinked found.entry found.before))) }
-    ensures damaged { IfDamaged result (IsChainDamage files.now (F.told f.old) key.now) }
-    ensures untold { IfDamaged result (λ _. (F.told f.old).files ≡ None) }
+    ensures linked { IfOk result (λ answer. IfSome answer (λ found. ForSome (F.told f.old).files (λ image. CanBeSearched key.now image → CanBeUnlinked found.entry found.before image))) }
     ensures stays { Stays (F.told f.old) (F.told f.new) }
+    ensures damaged { IfDamaged result (IsChainDamage files.now (F.told f.old) key.now sought.now.child) }
+    ensures untold { ForSome (F.told f.old).files (Agrees files.now) → ForSome (F.told f.old).files (CanBeSearched key.now) → IfDamaged result (λ _. (F.told f.old).files ≡ None) }
     ensures later { F.faults f.old ≤ F.faults f.new }
     ensures device { IfDevice result (Rises (F.faults f.old) (F.faults f.new)) }
 {
@@ -149,19 +149,17 @@ fn look_at<F: Folder>(
     requires some { link.now.word ≢ 0 }
     requires kind_before { IfSome link.now.before (λ before. kind_of before ≡ blocks_256) }
     requires named_before { StandsBefore files.now link.now.before }
-    requires agrees { ForSome (F.told f.old).files (Agrees files.now) }
-    requires keyed { ForSome (F.told f.old).files (IsKeyed link.now.word) }
-    ensures step { IfOk result (λ step. ForSome (F.told f.old).files (IsStep key.now sought.now.child link.now.word step)) }
+    ensures step { IfOk result (λ step. ForSome (F.told f.old).files (IsStep files.now key.now sought.now.child link.now.word step)) }
     ensures stands { IfOk result (StandsAt files.now link.now.word) }
-    ensures damaged { IfDamaged result (IsChainDamage files.now (F.told f.old) key.now) }
-    ensures untold { IfDamaged result (λ _. (F.told f.old).files ≡ None) }
     ensures stays { Stays (F.told f.old) (F.told f.new) }
+    ensures damaged { IfDamaged result (IsChainDamage files.now (F.told f.old) key.now sought.now.child) }
+    ensures untold { ForSome (F.told f.old).files (Agrees files.now) → ForSome (F.told f.old).files (IsKeyed link.now.word) → IfDamaged result (λ _. (F.told f.old).files ≡ None) }
     ensures later { F.faults f.old ≤ F.faults f.new }
     ensures device { IfDevice result (Rises (F.faults f.old) (F.faults f.new)) }
 {
     let entry = record_of(files, sought.hash, link)?;
     let head = read_head(f, files, entry)?;
-    if has_name(f, files, entry, &head, key, sought)? {
+    if is_sought(f, files, entry, &head, key, sought)? {
         return Ok(Step::Here(entry));
     }
     Ok(Step::On(Link {
@@ -170,8 +168,8 @@ fn look_at<F: Folder>(
     }))
 }
 
-// Whether a record has the key and the child flag. Its key is read only where hash, length and flag agree.
-fn has_name<F: Folder>(
+// Whether a record is the one that is sought. Its key is read only where hash, length and flag agree.
+fn is_sought<F: Folder>(
     f: &mut F,
     files: &BlockFiles,
     entry: Addr,
@@ -182,20 +180,18 @@ fn has_name<F: Folder>(
     requires hash { sought.now.hash ≡ hash_of key.now }
     requires kind { kind_of entry ≡ blocks_256 }
     requires stands { IsTrue (stands_among files.now entry) }
-    requires agrees { ForSome (F.told f.old).files (Agrees files.now) }
-    requires keyed { ForSome (F.told f.old).files (IsKeyed entry) }
     requires head { ForSome (F.told f.old).files (λ image. IsHead image entry head.now) }
-    ensures has_key { IfOk result (λ same. ForSome (F.told f.old).files (λ image. IsTrue same ↔ HasKey (store_of image) key.now sought.now.child entry)) }
-    ensures damaged { IfDamaged result (IsPlaceDamage files.now (F.told f.old) entry (length key.now) head.now.long_key) }
-    ensures untold { IfDamaged result (λ _. (F.told f.old).files ≡ None) }
+    ensures sought { IfOk result (λ same. ForSome (F.told f.old).files (λ image. IsTrue same ↔ IsSought key.now sought.now.child entry image)) }
     ensures stays { Stays (F.told f.old) (F.told f.new) }
+    ensures damaged { IfDamaged result (IsPlaceDamage files.now (F.told f.old) entry (length key.now) head.now.long_key) }
+    ensures untold { ForSome (F.told f.old).files (CanBeRead files.now entry) → IfDamaged result (λ _. (F.told f.old).files ≡ None) }
     ensures later { F.faults f.old ≤ F.faults f.new }
     ensures device { IfDevice result (Rises (F.faults f.old) (F.faults f.new)) }
 {
     if head.hash != sought.hash {
         return Ok(false);
     }
-    if (head.flags == CHILD) != sought.child {
+    if (head.flags == EntryFlags::CHILD.bits()) != sought.child {
         return Ok(false);
     }
     key_is(f, files, entry, head, key)
@@ -207,29 +203,14 @@ fn record_of(files: &BlockFiles, hash: u32, link: &Link) -> Result<Addr, Fault>
     requires kind_before { IfSome link.now.before (λ before. kind_of before ≡ blocks_256) }
     requires named_before { StandsBefore files.now link.now.before }
     ensures entry { IfOk result (λ entry. entry ≡ link.now.word) }
-    ensures stands { IfOk result (λ entry. IsTrue (names_record files.now entry)) }
-    ensures right { names_record files.now link.now.word ≡ true → IsOk result }
+    ensures stands { IfOk result (λ entry. IsTrue (is_record_among files.now entry)) }
+    ensures right { is_record_among files.now link.now.word ≡ true → IsOk result }
     ensures damaged { IfDamaged result (IsDanglingLink files.now (bucket_of_hash hash)) }
     ensures never { IfDevice result ⊥ }
 {
-    match standing_record(files, link.word) {
+    match files.entry(link.word) {
         Some(entry) => Ok(entry),
         None => Err(damage_of(hash, link)),
-    }
-}
-
-// The record that a word names, where it stands.
-#[tactic(auto, unfolding(crate::specs::Finding::names_record))]
-fn standing_record(files: &BlockFiles, word: u32) -> Option<Addr>
-    ensures { result ≡ (if names_record files.now word then Some word else None) }
-{
-    let Some(addr) = Addr::from_word(word) else {
-        return None;
-    };
-    if addr.kind() == Kind::B256 && files.stands(addr) {
-        Some(addr)
-    } else {
-        None
     }
 }
 

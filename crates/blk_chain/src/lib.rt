@@ -3,11 +3,13 @@
 
 mod finding;
 mod found;
+mod laws;
 mod linking;
 mod unlinking;
 
 pub use finding::find;
 pub use found::Found;
+pub use laws::chains_with_entries_can_be_searched;
 pub use linking::link_front;
 pub use unlinking::unlink;
 

@@ -1,13 +1,14 @@
 // Records that are linked in front of a chain.
 ghost use Rattle.std.specs.Prelude.{◌≡◌, ◌≤◌, IsTrue, None, OnOk};
 ghost use Rattle.std.specs.Option.{ForSome};
-ghost use Rattle.blk_image.specs.Told.{Applies, AppliesPrefix, Passes, Rises, Commits};
+ghost use Rattle.blk_image.specs.Image.{Block as block, HasRange};
+ghost use Rattle.blk_image.specs.Told.{Applies, AppliesPrefix, Rises, Commits, Stays};
 ghost use Rattle.blk_format.specs.Address.{blocks_256, file_selector, kind_of, place};
 ghost use Rattle.blk_format.specs.Headers.{HasWholeIndex};
 ghost use Rattle.blk_io.specs.declared.folder.FileId.TheVariants as FileId;
 ghost use Rattle.blk_io.specs.Faults.{IfDamaged, IfDevice, IsShort};
 ghost use Rattle.blk_disk.specs.Tables.{Agrees, stands_among};
-ghost use Rattle.blk_chain.specs.Linking.{CanBeLinked, IsLinked, IsLinking, link_steps};
+ghost use Rattle.blk_chain.specs.Linking.{CanBeLinked, IsLinked, link_steps};
 ghost use Rattle.blk_chain.specs.Mapping.{GainsOne};
 
 use blk_addr::Addr;
@@ -26,29 +27,26 @@ pub fn link_front<F: Folder>(f: &mut F, files: &BlockFiles, entry: Addr) -> Resu
     requires stands { IsTrue (stands_among files.now entry) }
     requires complete { ForSome (F.told f.old).files HasWholeIndex }
     requires agrees { ForSome (F.told f.old).files (Agrees files.now) }
-    requires linkable { ForSome (F.told f.old).files (CanBeLinked entry) }
-    ensures steps { OnOk result (ForSome (F.told f.old).files (λ from. Applies (F.told f.old) (F.told f.new) (link_steps from entry))) }
-    ensures prefix { ForSome (F.told f.old).files (λ from. AppliesPrefix (F.told f.old) (F.told f.new) (link_steps from entry)) }
-    ensures linked { OnOk result (ForSome (F.told f.old).files (λ from. ForSome (F.told f.new).files (IsLinked from entry))) }
 
-    // The chains, a map from keys and child flags to records, have one record more.
-    ensures gains { OnOk result (ForSome (F.told f.old).files (λ from. ForSome (F.told f.new).files (GainsOne from entry))) }
-
-    // At each word the folder is the old one, or the record is linked and nothing else has changed.
-    ensures stops { ForSome (F.told f.old).files (λ from. Passes (F.told f.old) (F.told f.new) (IsLinking from entry)) }
-
-    // Until the word of the bucket is written all is as before, and from then on the record is linked.
-    ensures commits { ForSome (F.told f.old).files (λ from. Commits 1 (F.told f.old) (F.told f.new) (λ image. image ≡ from) (IsLinked from entry)) }
-
+    // A record that can be linked is linked, and the chains, a map from keys and child flags to records, have one record more.
+    ensures linked { OnOk result (ForSome (F.told f.old).files (λ from. CanBeLinked entry from → ForSome (F.told f.new).files (IsLinked from entry))) }
+    ensures gains { OnOk result (ForSome (F.told f.old).files (λ from. CanBeLinked entry from → ForSome (F.told f.new).files (GainsOne from entry))) }
+    ensures checked { OnOk result (ForSome (F.told f.old).files (λ image. HasRange image (block (file_selector entry)) (place entry) 4)) }
     ensures complete { ForSome (F.told f.new).files HasWholeIndex }
     ensures agrees { ForSome (F.told f.new).files (Agrees files.now) }
+    ensures steps { OnOk result (ForSome (F.told f.old).files (λ from. Applies (F.told f.old) (F.told f.new) (link_steps from entry))) }
+    ensures prefix { ForSome (F.told f.old).files (λ from. AppliesPrefix (F.told f.old) (F.told f.new) (link_steps from entry)) }
+
+    // Until the word of the bucket is written all is as before, and from then on the record is linked and nothing else has changed.
+    ensures commits { ForSome (F.told f.old).files (λ from. CanBeLinked entry from → Commits 1 (F.told f.old) (F.told f.new) (λ image. image ≡ from) (IsLinked from entry)) }
+
+    // A damage is too few bytes, which a folder that tells its files never gives, and nothing was written.
+    ensures short { IfDamaged result (IsShort (F.told f.old) (FileId.Block (file_selector entry)) (place entry) 4) }
+    ensures unwritten { IfDamaged result (λ _. Stays (F.told f.old) (F.told f.new)) }
+    ensures untold { IfDamaged result (λ _. (F.told f.old).files ≡ None) }
 
     // A folder that tells no files goes on telling none.
     ensures silent { (F.told f.old).files ≡ None → (F.told f.new).files ≡ None }
-
-    // Too few bytes, which a folder that tells its files never gives.
-    ensures short { IfDamaged result (IsShort (F.told f.old) (FileId.Block (file_selector entry)) (place entry) 4) }
-    ensures untold { IfDamaged result (λ _. (F.told f.old).files ≡ None) }
 
     ensures later { F.faults f.old ≤ F.faults f.new }
     ensures device { IfDevice result (Rises (F.faults f.old) (F.faults f.new)) }

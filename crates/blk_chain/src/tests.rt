@@ -114,13 +114,13 @@ fn add(f: &mut Silent, word: u32, key: &[u8], flags: u32) -> Result<(), Fault> {
 }
 
 // What is found of a key and a child flag.
-fn look(f: &mut Silent, key: &[u8], child: bool) -> Result<Option<Found>, Fault> {
+fn look<F: Folder>(f: &mut F, key: &[u8], child: bool) -> Result<Option<Found>, Fault> {
     let files = BlockFiles::load(f)?;
     find(f, &files, key, child)
 }
 
 // The words of what is found: of the record, and of the one before it or 0.
-fn words(f: &mut Silent, key: &[u8], child: bool) -> Result<Option<(u32, u32)>, Fault> {
+fn words<F: Folder>(f: &mut F, key: &[u8], child: bool) -> Result<Option<(u32, u32)>, Fault> {
     let Some(found) = look(f, key, child)? else {
         return Ok(None);
     };
@@ -156,7 +156,7 @@ fn three(alloc: Global) -> Result<Silent, Fault> {
 type Three = [Option<(u32, u32)>; 3];
 
 // The three keys as they are found.
-fn all(f: &mut Silent) -> Result<Three, Fault> {
+fn all<F: Folder>(f: &mut F) -> Result<Three, Fault> {
     Ok([
         words(f, KEYS[0], false)?,
         words(f, KEYS[1], false)?,
@@ -185,6 +185,14 @@ fn taken(alloc: Global, key: usize) -> Result<(bool, Three, bool), Fault>
     let first = take(&mut f, KEYS[key])?;
     let left = all(&mut f)?;
     Ok((first, left, take(&mut f, KEYS[key])?))
+}
+
+#[test]
+fn a_folder_that_tells_its_files_is_searched(rt: HostRuntime) -> Result<(), Fail> {
+    let silent = three(rt.alloc())?;
+    let mut f = silent.into_inner();
+    assert_eq!(rt; all(&mut f), Ok(WHOLE));
+    Ok(())
 }
 
 #[test]

@@ -1,16 +1,14 @@
 // Records that are taken out of a chain.
-ghost use Rattle.std.specs.Prelude.{◌≡◌, ◌+◌, ◌≤◌, ◌⊎◌, IfSome, IsTrue, None, OnOk, Some};
+ghost use Rattle.std.specs.Prelude.{◌≡◌, ◌≤◌, IfSome, IsTrue, None, OnOk, Some};
 ghost use Rattle.std.specs.Option.{ForSome};
-ghost use Rattle.blk_image.specs.Told.{Applies, AppliesPrefix, Passes, Rises, Commits};
-ghost use Rattle.blk_format.specs.Address.{blocks_256, file_selector, kind_of, place};
+ghost use Rattle.blk_image.specs.Told.{Applies, AppliesPrefix, Rises, Commits, Stays};
+ghost use Rattle.blk_format.specs.Address.{blocks_256, kind_of};
 ghost use Rattle.blk_format.specs.Headers.{HasWholeIndex};
-ghost use Rattle.blk_io.specs.declared.folder.FileId.TheVariants as FileId;
-ghost use Rattle.blk_io.specs.Faults.{IfDamaged, IfDevice, IsShort};
-ghost use Rattle.blk_disk.specs.Unsealed.{IsUnsealed};
-ghost use Rattle.blk_format.specs.Sealed.{record_size};
+ghost use Rattle.blk_io.specs.Faults.{IfDamaged, IfDevice};
+ghost use Rattle.blk_format.specs.Sealed.{RecordChecks};
 ghost use Rattle.blk_disk.specs.Tables.{Agrees, stands_among};
 ghost use Rattle.blk_chain.specs.Mapping.{LosesOne};
-ghost use Rattle.blk_chain.specs.Unlinking.{CanBeUnlinked, IsSealedAgain, IsStillLinked, IsUnlinkDamage, IsUnlinked, IsUnlinking, unlink_steps, words_to_unlink};
+ghost use Rattle.blk_chain.specs.Unlinking.{BeforeChecks, CanBeUnlinked, IsSealedAgain, IsStillLinked, IsUnlinkDamage, IsUnlinked, unlink_steps, words_to_unlink};
 
 use crate::found::Found;
 use blk_addr::Addr;
@@ -33,18 +31,18 @@ fn unlink_behind<F: Folder>(
     requires stands_before { IsTrue (stands_among files.now before) }
     requires complete { ForSome (F.told f.old).files HasWholeIndex }
     requires agrees { ForSome (F.told f.old).files (Agrees files.now) }
-    requires linked { ForSome (F.told f.old).files (CanBeUnlinked entry (Some before)) }
-    ensures steps { OnOk result (ForSome (F.told f.old).files (λ from. Applies (F.told f.old) (F.told f.new) (unlink_steps from entry (Some before)))) }
-    ensures prefix { ForSome (F.told f.old).files (λ from. AppliesPrefix (F.told f.old) (F.told f.new) (unlink_steps from entry (Some before))) }
-    ensures unlinked { OnOk result (ForSome (F.told f.old).files (λ from. ForSome (F.told f.new).files (IsUnlinked from entry (Some before)))) }
+    ensures unlinked { OnOk result (ForSome (F.told f.old).files (λ from. CanBeUnlinked entry (Some before) from → ForSome (F.told f.new).files (IsUnlinked from entry (Some before)))) }
     ensures sealed { OnOk result (ForSome (F.told f.old).files (λ from. ForSome (F.told f.new).files (IsSealedAgain from entry (Some before)))) }
-    ensures stops { ForSome (F.told f.old).files (λ from. Passes (F.told f.old) (F.told f.new) (IsUnlinking from entry (Some before))) }
-    ensures commits { ForSome (F.told f.old).files (λ from. Commits (words_to_unlink (Some before)) (F.told f.old) (F.told f.new) (IsStillLinked from entry (Some before)) (IsUnlinked from entry (Some before))) }
+    ensures checked { OnOk result (ForSome (F.told f.old).files (RecordChecks before)) }
     ensures complete { ForSome (F.told f.new).files HasWholeIndex }
     ensures agrees { ForSome (F.told f.new).files (Agrees files.now) }
-    ensures silent { (F.told f.old).files ≡ None → (F.told f.new).files ≡ None }
+    ensures steps { OnOk result (ForSome (F.told f.old).files (λ from. Applies (F.told f.old) (F.told f.new) (unlink_steps from entry (Some before)))) }
+    ensures prefix { ForSome (F.told f.old).files (λ from. AppliesPrefix (F.told f.old) (F.told f.new) (unlink_steps from entry (Some before))) }
+    ensures commits { ForSome (F.told f.old).files (λ from. CanBeUnlinked entry (Some before) from → Commits (words_to_unlink (Some before)) (F.told f.old) (F.told f.new) (IsStillLinked from entry (Some before)) (IsUnlinked from entry (Some before))) }
     ensures damaged { IfDamaged result (IsUnlinkDamage (F.told f.old) entry (Some before)) }
-    ensures untold { IfDamaged result (λ _. (F.told f.old).files ≡ None) }
+    ensures unwritten { IfDamaged result (λ _. Stays (F.told f.old) (F.told f.new)) }
+    ensures untold { ForSome (F.told f.old).files (RecordChecks before) → IfDamaged result (λ _. (F.told f.old).files ≡ None) }
+    ensures silent { (F.told f.old).files ≡ None → (F.told f.new).files ≡ None }
     ensures later { F.faults f.old ≤ F.faults f.new }
     ensures device { IfDevice result (Rises (F.faults f.old) (F.faults f.new)) }
 {
@@ -58,17 +56,16 @@ fn unlink_first<F: Folder>(f: &mut F, files: &BlockFiles, entry: Addr) -> Result
     requires stands { IsTrue (stands_among files.now entry) }
     requires complete { ForSome (F.told f.old).files HasWholeIndex }
     requires agrees { ForSome (F.told f.old).files (Agrees files.now) }
-    requires linked { ForSome (F.told f.old).files (CanBeUnlinked entry None) }
-    ensures steps { OnOk result (ForSome (F.told f.old).files (λ from. Applies (F.told f.old) (F.told f.new) (unlink_steps from entry None))) }
-    ensures prefix { ForSome (F.told f.old).files (λ from. AppliesPrefix (F.told f.old) (F.told f.new) (unlink_steps from entry None)) }
-    ensures unlinked { OnOk result (ForSome (F.told f.old).files (λ from. ForSome (F.told f.new).files (IsUnlinked from entry None))) }
-    ensures stops { ForSome (F.told f.old).files (λ from. Passes (F.told f.old) (F.told f.new) (IsUnlinking from entry None)) }
-    ensures commits { ForSome (F.told f.old).files (λ from. Commits (words_to_unlink None) (F.told f.old) (F.told f.new) (IsStillLinked from entry None) (IsUnlinked from entry None)) }
+    ensures unlinked { OnOk result (ForSome (F.told f.old).files (λ from. CanBeUnlinked entry None from → ForSome (F.told f.new).files (IsUnlinked from entry None))) }
     ensures complete { ForSome (F.told f.new).files HasWholeIndex }
     ensures agrees { ForSome (F.told f.new).files (Agrees files.now) }
-    ensures silent { (F.told f.old).files ≡ None → (F.told f.new).files ≡ None }
+    ensures steps { OnOk result (ForSome (F.told f.old).files (λ from. Applies (F.told f.old) (F.told f.new) (unlink_steps from entry None))) }
+    ensures prefix { ForSome (F.told f.old).files (λ from. AppliesPrefix (F.told f.old) (F.told f.new) (unlink_steps from entry None)) }
+    ensures commits { ForSome (F.told f.old).files (λ from. CanBeUnlinked entry None from → Commits (words_to_unlink None) (F.told f.old) (F.told f.new) (IsStillLinked from entry None) (IsUnlinked from entry None)) }
     ensures damaged { IfDamaged result (IsUnlinkDamage (F.told f.old) entry None) }
+    ensures unwritten { IfDamaged result (λ _. Stays (F.told f.old) (F.told f.new)) }
     ensures untold { IfDamaged result (λ _. (F.told f.old).files ≡ None) }
+    ensures silent { (F.told f.old).files ≡ None → (F.told f.new).files ≡ None }
     ensures later { F.faults f.old ≤ F.faults f.new }
     ensures device { IfDevice result (Rises (F.faults f.old) (F.faults f.new)) }
 {
@@ -91,32 +88,29 @@ pub fn unlink<F: Folder>(f: &mut F, files: &BlockFiles, found: &Found) -> Result
     requires stands_before { IfSome found.now.before (λ before. IsTrue (stands_among files.now before)) }
     requires complete { ForSome (F.told f.old).files HasWholeIndex }
     requires agrees { ForSome (F.told f.old).files (Agrees files.now) }
-    requires linked { ForSome (F.told f.old).files (CanBeUnlinked found.now.entry found.now.before) }
-    ensures steps { OnOk result (ForSome (F.told f.old).files (λ from. Applies (F.told f.old) (F.told f.new) (unlink_steps from found.now.entry found.now.before))) }
-    ensures prefix { ForSome (F.told f.old).files (λ from. AppliesPrefix (F.told f.old) (F.told f.new) (unlink_steps from found.now.entry found.now.before)) }
-    ensures unlinked { OnOk result (ForSome (F.told f.old).files (λ from. ForSome (F.told f.new).files (IsUnlinked from found.now.entry found.now.before))) }
 
-    // A record before is the old one with that next, sealed.
+    // A record of a whole chain is unlinked, and the chains, a map from keys and child flags to records, have one record less.
+    ensures unlinked { OnOk result (ForSome (F.told f.old).files (λ from. CanBeUnlinked found.now.entry found.now.before from → ForSome (F.told f.new).files (IsUnlinked from found.now.entry found.now.before))) }
+    ensures loses { OnOk result (ForSome (F.told f.old).files (λ from. CanBeUnlinked found.now.entry found.now.before from → ForSome (F.told f.new).files (LosesOne from found.now.entry found.now.before))) }
+
+    // A record before had checked, and is the old one with that next, sealed.
+    ensures checked { OnOk result (ForSome (F.told f.old).files (BeforeChecks found.now.before)) }
     ensures sealed { OnOk result (ForSome (F.told f.old).files (λ from. ForSome (F.told f.new).files (IsSealedAgain from found.now.entry found.now.before))) }
-
-    // The chains, a map from keys and child flags to records, have one record less.
-    ensures loses { OnOk result (ForSome (F.told f.old).files (λ from. ForSome (F.told f.new).files (LosesOne from found.now.entry found.now.before))) }
-
-    // At each word the chains are the old ones or the record is unlinked, and each record checks as before.
-    ensures stops { ForSome (F.told f.old).files (λ from. Passes (F.told f.old) (F.told f.new) (IsUnlinking from found.now.entry found.now.before)) }
-
-    // Until that one word is written the chains are the old ones, and from then on the record is unlinked.
-    ensures commits { ForSome (F.told f.old).files (λ from. Commits (words_to_unlink found.now.before) (F.told f.old) (F.told f.new) (IsStillLinked from found.now.entry found.now.before) (IsUnlinked from found.now.entry found.now.before)) }
-
     ensures complete { ForSome (F.told f.new).files HasWholeIndex }
     ensures agrees { ForSome (F.told f.new).files (Agrees files.now) }
+    ensures steps { OnOk result (ForSome (F.told f.old).files (λ from. Applies (F.told f.old) (F.told f.new) (unlink_steps from found.now.entry found.now.before))) }
+    ensures prefix { ForSome (F.told f.old).files (λ from. AppliesPrefix (F.told f.old) (F.told f.new) (unlink_steps from found.now.entry found.now.before)) }
+
+    // Until that one word is written the chains are the old ones, and from then on the record is unlinked; each record checks as before.
+    ensures commits { ForSome (F.told f.old).files (λ from. CanBeUnlinked found.now.entry found.now.before from → Commits (words_to_unlink found.now.before) (F.told f.old) (F.told f.new) (IsStillLinked from found.now.entry found.now.before) (IsUnlinked from found.now.entry found.now.before)) }
+
+    // A damage is a short read or a record before that doesn't check, and nothing was written. A folder that tells its files gives one only for such a record.
+    ensures damaged { IfDamaged result (IsUnlinkDamage (F.told f.old) found.now.entry found.now.before) }
+    ensures unwritten { IfDamaged result (λ _. Stays (F.told f.old) (F.told f.new)) }
+    ensures untold { ForSome (F.told f.old).files (BeforeChecks found.now.before) → IfDamaged result (λ _. (F.told f.old).files ≡ None) }
 
     // A folder that tells no files goes on telling none.
     ensures silent { (F.told f.old).files ≡ None → (F.told f.new).files ≡ None }
-
-    // A damage is a short read or a record before that doesn't check. A folder that tells its files never gives one.
-    ensures damaged { IfDamaged result (IsUnlinkDamage (F.told f.old) found.now.entry found.now.before) }
-    ensures untold { IfDamaged result (λ _. (F.told f.old).files ≡ None) }
 
     ensures later { F.faults f.old ≤ F.faults f.new }
     ensures device { IfDevice result (Rises (F.faults f.old) (F.faults f.new)) }

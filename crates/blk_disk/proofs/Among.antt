@@ -1,4 +1,4 @@
--- The files of all types.
+-- The files of all kinds.
 use Rattle.std.proofs.Common.{◌≡◌, ℕ, Bool, true, false, ◌||◌, List, [], ◌∷◌, ◌++◌, ◌∙◌, ap, refl}
 use Rattle.std.specs.List.{list_any}
 use Rattle.blk_addr.specs.declared.kinds.Kind.{Kind}
@@ -9,7 +9,7 @@ use Rattle.blk_format.proofs.Among.{is_among-append}
 use Rattle.blk_disk.specs.declared.tables.BlockFiles.{BlockFiles}
 use Rattle.blk_disk.specs.Tables.{all_files, files_of}
 
--- the files of all types are those of the four
+-- the files of all kinds are those of the four
 pub all_files_among : (files : BlockFiles) (n : ℕ) → is_among (all_files files) n ≡ (is_among files.rankings.items n || is_among files.b256.items n || is_among files.b1k.items n || is_among files.b4k.items n)
 unfolding all_files files_of
 all_files_among files n =

@@ -90,7 +90,7 @@ module _ (image : Image) (kind : ℕ) where
       (λ later. behind left k m met (λ next_fresh in_rest rest. met_along left (next_file_in image k) (met ++ k ∷ []) m next_fresh in_rest rest) (link_of image kind (met ++ k ∷ []) (suc left) k parts.0) later parts.1)
       (first_or_behind k m (if next_file_in image k == 0 then [] else files_along (next_file_in image) left (next_file_in image k)) among)
 
--- the checks of one type
+-- the checks of one kind
 pub kind_none : (image : Image) → first_block_damage image ≡ None → (kind : ℕ) → is_block_kind kind ≡ true → first_of (checks_of_kind image kind) ≡ None
 kind_none image none zero holds = cc
 kind_none image none (suc zero) holds = let each = each_kind image none in each.0
@@ -102,7 +102,7 @@ kind_none image none (suc (suc (suc (suc (suc kind))))) holds = absurd (grind (a
 pub block_kind : (j : ℕ) → j < 4 → is_block_kind (suc j) ≡ true
 block_kind j small = let low : nat_le 1 (suc j) ≡ true = grind (arith, nat_tests) in let high : nat_le (suc j) 4 ≡ true = grind (arith, nat_tests) in rw (low, high) refl
 
--- the files of all types, where no check fails
+-- the files of all kinds, where no check fails
 module _ (image : Image) (none : first_block_damage image ≡ None) where
   met_kind : (j : ℕ) → j < 4 → is_among (linked_up_to image j) j ≡ false → (m : ℕ) → is_among (linked image (suc j)) m ≡ true → IsMet image (linked_up_to image j) j m
   unfolding linked checks_of_kind
@@ -111,7 +111,7 @@ module _ (image : Image) (none : first_block_damage image ≡ None) where
       met_along image (suc j) 59 j (linked_up_to image j) m fresh (subst (λ (i : ℕ). is_among (files_along (next_file_in image) 59 i) m ≡ true) e among)
       (subst (λ (i : ℕ). first_of (checks_along image (suc j) (linked_up_to image i) 59 i) ≡ None) e (kind_none image none (suc j) (block_kind j small)))
 
-  -- the first file of a type wasn't met before
+  -- the first file of a kind wasn't met before
   early : (j k : ℕ) → j ≤ k → k < 4 → is_among (linked_up_to image j) k ≡ false
   unfolding linked_up_to
   early zero k upto small = refl
@@ -124,7 +124,7 @@ module _ (image : Image) (none : first_block_damage image ≡ None) where
   pub met_in : (j : ℕ) → j < 4 → (m : ℕ) → is_among (linked image (suc j)) m ≡ true → IsMet image (linked_up_to image j) j m
   met_in j small m among = met_kind j small (early j j (omega arith) small) m among
 
-  -- a file of a type is among those up to it and up to each later type
+  -- a file of a kind is among those up to it and up to each later kind
   pub up_to : (j i m : ℕ) → i < j → is_among (linked image (suc i)) m ≡ true → is_among (linked_up_to image j) m ≡ true
   unfolding linked_up_to
   up_to zero i m below among = absurd (omega arith)
@@ -138,7 +138,7 @@ module _ (image : Image) (none : first_block_damage image ≡ None) where
       or_true true = refl
       or_true false = refl
 
-  -- no file is linked as of two types
+  -- no file is linked as of two kinds
   kinds_apart : (i j m : ℕ) → i < j → j < 4 → is_among (linked image (suc i)) m ≡ true → is_among (linked image (suc j)) m ≡ true → ⊥
   kinds_apart i j m below small one other = let is = met_in j small m other in differ (is_among (linked_up_to image j) m) (up_to j i m below one) is.fresh
 

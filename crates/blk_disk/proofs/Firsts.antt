@@ -1,6 +1,6 @@
 -- The first check that fails.
 use Rattle.std.specs.Prelude.{nat_le}
-use Rattle.std.proofs.Common.{◌%◌, ◌^◌, ◌==◌, ◌-◌, ◌≡◌, ℕ, ◌+◌, ◌<◌, Bool, true, false, if◌then◌else◌, List, None, Some, refl, arith, ◌≤◌}
+use Rattle.std.proofs.Common.{inr, ◌%◌, ◌^◌, ◌==◌, ◌-◌, ◌≡◌, ℕ, ◌+◌, ◌<◌, Bool, true, false, if◌then◌else◌, List, None, Some, refl, arith, ◌≤◌}
 use Rattle.std.proofs.lemmas.Bool.Decides.{nat_tests}
 use Rattle.blk_image.specs.Image.{Block}
 use Rattle.blk_image.specs.Checks.{first_of}
@@ -8,19 +8,7 @@ use Rattle.blk_image.specs.Bytes.{word_at}
 use Rattle.blk_image.proofs.FirstChecks.{all_none, passed}
 use Rattle.blk_format.specs.Headers.{next_file_of}
 use Rattle.blk_format.specs.BlockFiles.{file_checks, is_link}
-use Rattle.blk_disk.specs.Loading.{HasRoom, next_of}
-
--- the link of a file whose checks hold
-pub link_passed : (kind : ℕ) (met : List ℕ) (left n : ℕ) (f : ℕ → ℕ) (size : ℕ) → first_of (file_checks kind met left n f size) ≡ None → is_link met left (next_file_of f) ≡ true
-unfolding file_checks
-link_passed kind met left n f size none = passed (Block n) 8 (word_at f 8) (is_link met left (next_file_of f)) (all_none (file_checks kind met left n f size) none 4)
-
-link_small : (met : List ℕ) (left next : ℕ) → is_link met left next ≡ true → next < 256
-unfolding is_link
-link_small met left next holds = grind (arith, nat_tests)
-
-pub next_small : (kind : ℕ) (met : List ℕ) (left n : ℕ) (f : ℕ → ℕ) (size : ℕ) → first_of (file_checks kind met left n f size) ≡ None → next_file_of f < 256
-next_small kind met left n f size none = link_small met left (next_file_of f) (link_passed kind met left n f size none)
+use Rattle.blk_disk.specs.Loading.{HasRoom, MayBeNext, next_of}
 
 -- the length of a file whose checks hold
 pub length_passed : (kind : ℕ) (met : List ℕ) (left n : ℕ) (f : ℕ → ℕ) (size : ℕ) → first_of (file_checks kind met left n f size) ≡ None → 8192 ≤ size
@@ -37,3 +25,12 @@ link_room met count next holds = by_test (next == 0) refl
     by_test : (t : Bool) → (next == 0) ≡ t → HasRoom (count + 1) (if t then None else Some next)
     by_test true e = tt
     by_test false e = grind (arith, nat_tests)
+
+-- and it has a number that links have
+pub link_number : (kind : ℕ) (met : List ℕ) (left next : ℕ) → is_link met left next ≡ true → MayBeNext kind (next_of next)
+unfolding is_link
+link_number kind met left next holds = by_test (next == 0) refl
+  where
+    by_test : (t : Bool) → (next == 0) ≡ t → MayBeNext kind (if t then None else Some next)
+    by_test true e = tt
+    by_test false e = let low : 4 ≤ next = grind (arith, nat_tests) in let high : next ≤ 255 = grind (arith, nat_tests) in inr (low, high)

@@ -1,6 +1,6 @@
--- The files of a type are taken up, one after another.
+-- The files of a kind are taken up, one after another.
 use Rattle.std.proofs.Common.{◌≡◌, ◌≢◌, ℕ, zero, suc, ◌+◌, ◌-◌, ◌<◌, ◌≤◌, Bool, true, false, ◌||◌, if◌then◌else◌, List, [], ◌∷◌, ◌++◌, length, None, Some, refl, sym, ◌∙◌, ap, ap₂, subst, arith, append_assoc, ⊎_elim}
-use Rattle.std.specs.Prelude.{◌==◌}
+use Rattle.std.specs.Prelude.{◌==◌, Err}
 use Rattle.std.specs.declared.option.Option.{Option}
 use Rattle.std.proofs.lemmas.Bool.Decides.{nat_tests}
 use Rattle.std.proofs.lemmas.Bool.{cases_eq, cases_lt}
@@ -18,15 +18,14 @@ use Rattle.blk_disk.specs.declared.heads.Head.{Head}
 use Rattle.blk_disk.specs.declared.tables.BlockFiles.{BlockFiles}
 use Rattle.blk_disk.specs.Tables.{files_of, all_files, blocks_of, length_in, Agrees, Joins, HoldsNone}
 use Rattle.std.specs.Option.{ForSome}
-use Rattle.std.specs.Prelude.{Err}
 use Rattle.blk_io.specs.declared.fault.Fault.{Fault}
 use Rattle.blk_io.specs.declared.fault.Fault.TheVariants.{Device, Damaged}
 use Rattle.blk_io.specs.Faults.{IfDamaged, damage_of}
-use Rattle.blk_disk.specs.Loading.{Follows, IsHeaderDamage, IsLoadDamage, ReadsAs, IsHead, files_left, next_checks, checks_after, checks_from, links_from, next_of}
+use Rattle.blk_disk.specs.Loading.{Follows, IsFileNumber, IsHeaderDamage, IsLoadDamage, ReadsAs, IsHead, files_left, next_checks, checks_after, checks_from, links_from, next_of}
 use Rattle.blk_format.proofs.Among.{is_among_more}
 use Rattle.blk_format.proofs.Keeping.{last_link}
 use Rattle.blk_image.proofs.FirstChecks.{append_some, append_none}
-use Rattle.blk_disk.proofs.Firsts.{link_passed}
+use Rattle.blk_format.proofs.LinkedHeads.{link_passed}
 
 less_one : (n : ℕ) → suc n - 1 ≡ n
 less_one n = omega arith
@@ -55,7 +54,7 @@ pub damaged : (files : BlockFiles) (image : Image) (kind n : ℕ) (d : checks.Da
 damaged files image kind n d follows some =
     follows.undamaged ∙ append_some (checks_along image kind (all_files files) (files_left files kind) n) (checks_after image kind) d (along_damaged image kind (all_files files) (files_left files kind) n d some)
 
--- one more file of a type, where the types after it have none
+-- one more file of a kind, where the kinds after it have none
 one_more : (k : Kind) (files new : BlockFiles) (n blocks size : ℕ) → kind_number k ≢ 0 → Joins files new (kind_number k) n blocks size → ((other : ℕ) → kind_number k < other → files_of files other ≡ []) → all_files new ≡ all_files files ++ n ∷ []
 unfolding all_files
 one_more External files new n blocks size block_kind joins none = absurd (block_kind refl)
@@ -93,7 +92,7 @@ module _ (new : BlockFiles) (image : Image) (kind : ℕ) (left next : ℕ) (is_l
   checks_next true = refl
   checks_next false = ap (λ (l : ℕ). checks_along image kind (all_files new) l next ++ checks_after image kind) (sym is_left)
 
--- the next file of a type is taken up, where its checks hold
+-- the next file of a kind is taken up, where its checks hold
 module _ (k : Kind) (files new : BlockFiles) (image : Image) (n : ℕ) (head : Head) (block_kind : kind_number k ≢ 0) (joins : Joins files new (kind_number k) n head.blocks head.size) (follows : Follows files image (kind_number k) (Some n))
     (none : first_of (next_checks files image (kind_number k) n) ≡ None) (is : IsHead (byte image (Block n)) (length_of image (Block n)) head) where
   abbrev left : ℕ
@@ -169,13 +168,14 @@ blocks_kind B1K block_kind = refl
 blocks_kind B4K block_kind = refl
 
 -- a call that failed to take up the next file, whatever the folder tells
-pub caused_if : (A B : Type 0) (e : Fault) (a b : Told) (files : BlockFiles) (k : Kind) (n : ℕ) → kind_number k ≢ 0 → b ≡ a → IfDamaged {A = A} (Err e) (IsHeaderDamage b files (kind_number k) n) → IfDamaged {A = B} (Err e) (IsLoadDamage a)
-caused_if A B Device a b files k n block_kind stays cause = tt
-caused_if A B (Damaged d) a b files k n block_kind stays cause = record {
+pub caused_if : (A B : Type 0) (e : Fault) (a b : Told) (files : BlockFiles) (k : Kind) (n : ℕ) → kind_number k ≢ 0 → IsFileNumber (kind_number k) n → b ≡ a → IfDamaged {A = A} (Err e) (IsHeaderDamage b files (kind_number k) n) → IfDamaged {A = B} (Err e) (IsLoadDamage a)
+caused_if A B Device a b files k n block_kind number stays cause = tt
+caused_if A B (Damaged d) a b files k n block_kind number stays cause = record {
   files = files;
   kind = kind_number k;
   n = n;
-  of_blocks = blocks_kind k block_kind;
+  block_kind = blocks_kind k block_kind;
+  number = number;
   cause = subst (λ (t : Told). IsHeaderDamage t files (kind_number k) n d) stays cause;
 }
 
@@ -195,14 +195,14 @@ follows_none files image none = record {
     nothing : (n : ℕ) → is_among [] n ≡ true → ⊥
     nothing n e = cc
 
--- the files up to a type, once it is done
+-- the files up to a kind, once it is done
 met_up_to : (files : BlockFiles) (image : Image) (k : ℕ) → Follows files image k None → linked_up_to image k ≡ all_files files
 unfolding linked_up_to files_of
 met_up_to files image zero follows = follows.met
 met_up_to files image (suc k) follows =
     ap (λ (l : List ℕ). linked_up_to image k ++ l) (follows.here (omega arith) ∙ append-nil (files_of files (suc k))) ∙ ap (λ (j : ℕ). linked_up_to image j ++ files_of files (suc k)) (sym (less_one k)) ∙ follows.met
 
--- the next type begins with its first file
+-- the next kind begins with its first file
 module _ (files : BlockFiles) (image : Image) (k : ℕ) (more : checks_after image k ≡ checks_of_kind image (suc k) ++ checks_after image (suc k)) (follows : Follows files image k None) where
   empty : files_of files (suc k) ≡ []
   empty = follows.after (suc k) (omega arith)
@@ -234,7 +234,7 @@ module _ (files : BlockFiles) (image : Image) (k : ℕ) (more : checks_after ima
           let e : other ≡ k = omega arith in
           ap (files_of files) e ∙ sym (follows.here (omega arith) ∙ append-nil (files_of files k)) ∙ ap (linked image) (sym e)
 
--- the first file of a type
+-- the first file of a kind
 pub follows_kind : (k : Kind) (files : BlockFiles) (image : Image) → kind_number k ≢ 0 → Follows files image (kind_number k - 1) None → Follows files image (kind_number k) (Some (kind_number k - 1))
 follows_kind External files image block_kind follows = absurd (block_kind refl)
 follows_kind Rankings files image block_kind follows = follows_first files image 0 refl follows
@@ -248,7 +248,7 @@ some_kind kind holds = grind (arith, nat_tests)
 most_kind : (kind : ℕ) → is_block_kind kind ≡ true → kind ≤ 4
 most_kind kind holds = grind (arith, nat_tests)
 
--- all types are done
+-- all kinds are done
 pub follows_all : (files : BlockFiles) (image : Image) → Follows files image 4 None → Agrees files image × (first_block_damage image ≡ None)
 follows_all files image follows = (record { links = links; blocks = follows.blocks; lengths = follows.lengths; undamaged = follows.undamaged }, follows.undamaged)
   where

@@ -43,7 +43,7 @@ pub among_kinds : (files : BlockFiles) (m : ℕ) → is_among (all_files files) 
 unfolding files_of
 among_kinds files m = all_files_among files m
 
--- a member of a list of a type is one of all
+-- a member of a list of a kind is one of all
 member : (files : BlockFiles) (j m : ℕ) → j < 4 → is_among (files_of files (suc j)) m ≡ true → is_among (all_files files) m ≡ true
 member files j m small among = among_kinds files m ∙ or_kind j small (λ kind. is_among (files_of files kind) m) among
   where
@@ -90,7 +90,7 @@ keeps_from a b m size bytes =
       count = λ holds. ap is_block_count (same-word_at (byte b (Block m)) (byte a (Block m)) 20 (high 20 (omega arith)) (high 21 (omega arith)) (high 22 (omega arith)) (high 23 (omega arith))) ∙ holds;
     }
 
--- the type of a file, where its membership in each list is as before
+-- the kind of a file, where its membership in each list is as before
 same_kind_of : (f g : ℕ → List ℕ) (m : ℕ) → is_among (f 1) m ≡ is_among (g 1) m → is_among (f 2) m ≡ is_among (g 2) m → is_among (f 3) m ≡ is_among (g 3) m → is_among (f 4) m ≡ is_among (g 4) m → kind_among f m ≡ kind_among g m
 unfolding kind_among
 same_kind_of f g m e1 e2 e3 e4 = λ i. if e1 i then Some 1 else if e2 i then Some 2 else if e3 i then Some 3 else if e4 i then Some 4 else None
@@ -98,7 +98,7 @@ same_kind_of f g m e1 e2 e3 e4 = λ i. if e1 i then Some 1 else if e2 i then Som
 less_one : (n : ℕ) → suc n - 1 ≡ n
 less_one n = omega arith
 
--- a type with fewer than 60 files, where what is kept agrees
+-- a kind with fewer than 60 files, where what is kept agrees
 module _ (files : BlockFiles) (image : Image) (p : ℕ) (small : p < 4) (agrees : Agrees files image) (room : length (files_of files (suc p)) < 60) (least : IsLeastFree files (free_number files)) where
   abbrev n : ℕ
   n = free_number files
@@ -106,7 +106,7 @@ module _ (files : BlockFiles) (image : Image) (p : ℕ) (small : p < 4) (agrees 
   abbrev last : ℕ
   last = last_file files (suc p)
 
-  -- each file of a type is linked, and none of them is the new one
+  -- each file of a kind is linked, and none of them is the new one
   abbrev In : ℕ → ℕ → Bool
   In j m = is_among (linked image (suc j)) m
 
@@ -312,14 +312,14 @@ module _ (files : BlockFiles) (image : Image) (p : ℕ) (small : p < 4) (agrees 
   unfolding next_file_in
   next_kept m differs apart = λ k. done_others m differs apart 10 k + 256 * done_others m differs apart 11 k
 
-  -- the files of another type
+  -- the files of another kind
   other_nexts : (j : ℕ) → j < 4 → j ≢ p → (m : ℕ) → In j m ≡ true → next_file_in done m ≡ next_file_in image m
   other_nexts j below differs m among = next_kept m (not_new j m below among) (λ e. linked_once image agrees.undamaged j p last differs below small (subst (λ (x : ℕ). In j x ≡ true) e among) last_in)
 
   other_chain : (j : ℕ) → j < 4 → j ≢ p → linked done (suc j) ≡ linked image (suc j)
   other_chain j below differs = chain_same done done_heads j below (other_nexts j below differs)
 
-  -- the files of its type
+  -- the files of its kind
   own_inside : (m : ℕ) → is_among (files_along (next_file_in image) 59 p) m ≡ true → In p m ≡ true
   unfolding linked
   own_inside m among = ap (λ (i : ℕ). is_among (files_along (next_file_in image) 59 i) m) (less_one p) ∙ among
@@ -462,7 +462,7 @@ module _ (files : BlockFiles) (image : Image) (p : ℕ) (small : p < 4) (agrees 
 pub least_is : (files : BlockFiles) (n : ℕ) → n ≡ free_number files → IsLeastFree files n → IsLeastFree files (free_number files)
 least_is files n same least = subst (IsLeastFree files) same least
 
--- each type of blocks
+-- each kind of blocks
 pub by_kind : (P : ℕ → Type 0) → ((p : ℕ) → p < 4 → P (suc p)) → (k : Kind) → kind_number k ≢ 0 → P (kind_number k)
 by_kind P each External block_kind = absurd (block_kind refl)
 by_kind P each Rankings block_kind = each 0 (lit< tt)

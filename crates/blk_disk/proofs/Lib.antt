@@ -16,3 +16,5 @@ pub mod Joined
 pub mod ThreeChanges
 pub mod SealedReads
 pub mod SealedWrites
+pub mod MissingSeals
+mod Once

@@ -1,28 +1,30 @@
 -- The words of a sealed update are written, in part or whole.
-use Rattle.std.proofs.Common.{◌≡◌, ℕ, ◌+◌, ◌*◌, ◌%◌, ◌≤◌, true, List, [], ◌∷◌, ◌++◌, All, refl, sym, ◌∙◌, ap₂, subst, arith, add-zero, Some, ⊎_elim}
+use Rattle.std.proofs.Common.{◌≡◌, ℕ, ◌+◌, ◌*◌, ◌%◌, ◌≤◌, true, List, [], ◌∷◌, ◌++◌, All, refl, sym, ◌∙◌, ap, ap₂, subst, arith, add-zero, None, Some, ⊎_elim}
 use Rattle.std.specs.Option.{ForSome}
 use Rattle.std.proofs.lemmas.List.Elements.{All-cons, All-push, All-map}
 use Rattle.blk_image.specs.Image.{Block, Image, HasRange, length_of}
 use Rattle.blk_image.specs.Steps.{after, word_steps, with_words}
-use Rattle.blk_image.specs.Footprint.{range}
+use Rattle.blk_image.specs.Footprint.{SameOutside, range}
 use Rattle.blk_image.specs.Told.{Told, Applies, AppliesPrefix, Passes, Along, Until, IsQuiet}
-use Rattle.blk_image.proofs.Runs.{passes_part, some_inj, told_part, told_whole, until_weaker2}
+use Rattle.blk_image.proofs.Footprints.{outside-refl}
+use Rattle.blk_image.proofs.Runs.{passes_end, passes_part, passes_stayed, some_inj, told_part, told_whole, until_weaker2}
 use Rattle.blk_image.proofs.WordSteps.{quiet-word_steps}
 use Rattle.blk_format.specs.Address.{kind_of, file_selector, place, block_place, block_size, first_block}
 use Rattle.blk_format.specs.Records.{seal_of}
 use Rattle.blk_io.specs.declared.folder.FileId.{FileId}
 use Rattle.blk_io.specs.declared.folder.FileId.TheVariants as names
 use Rattle.blk_io.specs.FileNames.{file_of}
+use Rattle.blk_io.proofs.Carried.{told_at_end}
 use Rattle.blk_disk.specs.declared.tables.BlockFiles.{BlockFiles}
 use Rattle.blk_disk.specs.Tables.{Agrees, stands_among}
-use Rattle.blk_format.specs.Sealed.{AreChanges, BeginsWithRecord, seal_by_kind, record_size, seal_place, record_at, record_range, RecordChecks, placed, update_words, update_steps, new_seal, sealed_steps, IsMidUpdate, IsUpdated}
+use Rattle.blk_format.specs.Sealed.{AreChanges, BeginsWithRecord, seal_by_kind, record_size, seal_place, record_at, record_range, RecordChecks, placed, update_words, update_steps, new_seal, sealed_steps, steps_over, IsMidUpdate, IsUpdated}
 use Rattle.blk_disk.proofs.Agreeing.{agrees_still}
 use Rattle.blk_format.proofs.SpareHeaders.{SparesHeaders, blocks_spare}
 use Rattle.blk_disk.proofs.Ranges.{stands_range}
 use Rattle.blk_format.proofs.SealedRecords.{record_inside}
-use Rattle.blk_format.proofs.SealedRecords.{seal_aligned, seal_last, moments, updated}
+use Rattle.blk_format.proofs.SealedRecords.{seal_aligned, seal_last, moments, updated, words_stay}
 
-place_aligned : (w : ℕ) → BeginsWithRecord w → place w % 4 ≡ 0
+pub place_aligned : (w : ℕ) → BeginsWithRecord w → place w % 4 ≡ 0
 unfolding place block_place block_size
 place_aligned w begins =
     ⊎_elim
@@ -45,7 +47,7 @@ words_aligned w seal changes words begins are is =
     (All-map (λ (word : ℕ × ℕ). word.0 % 4 ≡ 0) (λ (word : ℕ × ℕ). (place w + word.0, word.1)) (update_words (seal_place w) changes seal)
     (update_all (λ word. (place w + word.0) % 4 ≡ 0) (seal_place w) seal changes (λ v. omega (arith, at, seal_aligned (kind_of w))) (λ k d within. omega (arith, at, are.aligned k d within))))
 
-spares : (w : ℕ) → SparesHeaders (record_range w)
+pub spares : (w : ℕ) → SparesHeaders (record_range w)
 spares w = subst (λ (n : ℕ). SparesHeaders (range (Block (file_selector w)) n (record_size w))) (add-zero (place w)) (blocks_spare (Block (file_selector w)) w 0 (record_size w))
 
 -- the plan, as it is written
@@ -53,11 +55,15 @@ pub plan_is : (w seal : ℕ) (changes words : List (ℕ × ℕ)) (name : FileId)
 unfolding update_steps
 plan_is w seal changes words name named is = ap₂ (λ (name : FileId) (words : List (ℕ × ℕ)). word_steps (file_of name) words) named is
 
+-- the record lies in its file
+pub record_fits : (files : BlockFiles) (w : ℕ) → stands_among files w ≡ true → BeginsWithRecord w → (image : Image) → Agrees files image → place w + record_size w ≤ length_of image (Block (file_selector w))
+record_fits files w stands begins image agrees =
+    let inside = stands_range files image w 0 (record_size w) agrees stands (omega (arith, record_inside w begins)) in
+    omega (arith, inside)
+
 module _ (files : BlockFiles) (w : ℕ) (changes : List (ℕ × ℕ)) (stands : stands_among files w ≡ true) (begins : BeginsWithRecord w) (are : AreChanges (seal_place w) changes) where
   fits : (image : Image) → Agrees files image → place w + record_size w ≤ length_of image (Block (file_selector w))
-  fits image agrees =
-      let inside = stands_range files image w 0 (record_size w) agrees stands (omega (arith, record_inside w begins)) in
-      omega (arith, inside)
+  fits image agrees = record_fits files w stands begins image agrees
 
   pub words_inside : (image : Image) (seal : ℕ) (name : FileId) (words : List (ℕ × ℕ)) → Agrees files image → name ≡ names.Block (file_selector w) → words ≡ placed (place w) (update_words (seal_place w) changes seal)
       → All (λ word. HasRange image (file_of name) word.0 4) words
@@ -74,74 +80,67 @@ module _ (files : BlockFiles) (w : ℕ) (changes : List (ℕ × ℕ)) (stands : 
   unfolding update_steps
   quiet seal = quiet-word_steps (Block (file_selector w)) (placed (place w) (update_words (seal_place w) changes seal))
 
-  along : (from : Image) → Agrees files from → RecordChecks w from → Along (IsMidUpdate from w changes) from (sealed_steps from w changes)
-  along from agrees checks = moments w from changes (fits from agrees) checks (changes_before w changes are)
-
-  module _ (a b : Told) (seal : ℕ) (agrees : ForSome a.files (Agrees files)) (checks : ForSome a.files (RecordChecks w)) (is : ForSome a.files (λ from. seal ≡ new_seal from w changes)) where
-    moments_of : (from : Image) → a.files ≡ Some from → Along (IsMidUpdate from w changes) from (update_steps w changes seal)
-    moments_of from there = subst (λ (v : ℕ). Along (IsMidUpdate from w changes) from (update_steps w changes v)) (sym (is from there)) (along from (agrees from there) (checks from there))
-
-    -- the steps are those of the image
-    pub whole_is : Applies a b (update_steps w changes seal) → ForSome a.files (λ from. Applies a b (sealed_steps from w changes))
-    whole_is grows from there = subst (λ (v : ℕ). Applies a b (update_steps w changes v)) (is from there) grows
-
-    pub part_is : AppliesPrefix a b (update_steps w changes seal) → ForSome a.files (λ from. AppliesPrefix a b (sealed_steps from w changes))
-    part_is part from there = subst (λ (v : ℕ). AppliesPrefix a b (update_steps w changes v)) (is from there) part
+  module _ (a b : Told) (seal : ℕ) (agrees : ForSome a.files (Agrees files)) where
+    -- the moments from an image whose new seal this is
+    along : (from : Image) → a.files ≡ Some from → RecordChecks w from → seal ≡ new_seal from w changes → Along (IsMidUpdate from w changes) from (update_steps w changes seal)
+    along from there good is = subst (λ (v : ℕ). Along (IsMidUpdate from w changes) from (update_steps w changes v)) (sym is) (moments w from changes (fits from (agrees from there)) good (changes_before w changes are))
 
     -- each moment is one of the update
-    pub stops : AppliesPrefix a b (update_steps w changes seal) → ForSome a.files (λ from. Passes a b (IsMidUpdate from w changes))
-    stops part from there =
+    pub stops_from : AppliesPrefix a b (update_steps w changes seal) → (from : Image) → a.files ≡ Some from → RecordChecks w from → seal ≡ new_seal from w changes → Passes a b (IsMidUpdate from w changes)
+    stops_from part from there good is =
         let moment = IsMidUpdate from w changes in
-        passes_part moment moment part (quiet seal) (λ image m. m) (λ image here. subst (λ (i : Image). Until moment moment i (update_steps w changes seal)) (some_inj (sym there ∙ here)) (moments_of from there))
+        passes_part moment moment part (quiet seal) (λ image m. m) (λ image here. subst (λ (i : Image). Until moment moment i (update_steps w changes seal)) (some_inj (sym there ∙ here)) (along from there good is))
 
-    -- what each moment has is there afterwards
-    after_part : (P : Image → Type 0) → ((from image : Image) → Agrees files from → IsMidUpdate from w changes image → P image) → AppliesPrefix a b (update_steps w changes seal) → ForSome b.files P
-    after_part P holds part =
-        told_part P part
-        (λ from there. let moment = IsMidUpdate from w changes in let kept : (i : Image) → moment i → P i = (λ i m. holds from i (agrees from there) m) in until_weaker2 moment P moment P (update_steps w changes seal) from kept kept (moments_of from there))
-
-    pub agrees_after : AppliesPrefix a b (update_steps w changes seal) → ForSome b.files (Agrees files)
-    agrees_after = after_part (Agrees files) (λ from image old moment. agrees_still (record_range w) from image (spares w) moment.outside files (λ n. refl) old)
-
-    pub checks_after : AppliesPrefix a b (update_steps w changes seal) → ForSome b.files (RecordChecks w)
-    checks_after = after_part (RecordChecks w) (λ from image old moment. moment.checks)
-
-    pub updated_after : Applies a b (update_steps w changes seal) → ForSome a.files (λ from. ForSome b.files (IsUpdated from w changes))
-    updated_after grows from there =
-        told_whole (IsUpdated from w changes) grows
+    pub updated_from : Applies a b (update_steps w changes seal) → (from : Image) → a.files ≡ Some from → seal ≡ new_seal from w changes → ForSome b.files (IsUpdated from w changes)
+    updated_from applies from there is =
+        told_whole (IsUpdated from w changes) applies
         (λ image here. subst (λ (i : Image). IsUpdated from w changes (after (update_steps w changes seal) i)) (some_inj (sym there ∙ here))
-        (subst (λ (v : ℕ). IsUpdated from w changes (after (update_steps w changes v) from)) (sym (is from there)) (updated w from changes (fits from (agrees from there)))))
+        (subst (λ (v : ℕ). IsUpdated from w changes (after (update_steps w changes v) from)) (sym is) (updated w from changes (fits from (agrees from there)))))
 
--- what an update leaves, whole or in part
-pub record IsLeft (files : BlockFiles) (w : ℕ) (changes : List (ℕ × ℕ)) (a b : Told) : Type 0 where
-  pub part : ForSome a.files (λ from. AppliesPrefix a b (sealed_steps from w changes))
-  pub stops : ForSome a.files (λ from. Passes a b (IsMidUpdate from w changes))
-  pub agrees : ForSome b.files (Agrees files)
-  pub checks : ForSome b.files (RecordChecks w)
+    -- the words lie in the record, so the headers stay
+    pub agrees_after : AppliesPrefix a b (update_steps w changes seal) → ForSome b.files (Agrees files)
+    unfolding update_steps
+    agrees_after part =
+        told_part (Agrees files) part
+        (λ from there.
+        let same = SameOutside (record_range w) from in
+        let words = update_words (seal_place w) changes seal in
+        until_weaker2 same (Agrees files) same (Agrees files) (update_steps w changes seal) from
+        (λ image kept. agrees_still (record_range w) from image (spares w) kept files (λ n. refl) (agrees from there))
+        (λ image kept. agrees_still (record_range w) from image (spares w) kept files (λ n. refl) (agrees from there))
+        (words_stay w words from from (update_all (λ c. c.0 ≤ seal_place w) (seal_place w) seal changes (λ v. omega arith) (λ k d within. omega (arith, changes_before w changes are k d within))) (outside-refl (record_range w) from)))
 
--- the seal that was found is the one of the image
-new_seal_is : (image : Image) (w : ℕ) (changes : List (ℕ × ℕ)) (kind seal : ℕ) (bytes : List ℕ) → kind ≡ kind_of w → bytes ≡ record_at image w → seal ≡ seal_of (seal_by_kind kind) (with_words changes bytes) → seal ≡ new_seal image w changes
+-- the seal that was found for some bytes
+pub seal_is : (w kind seal : ℕ) (bytes : List ℕ) (changes : List (ℕ × ℕ)) → kind ≡ kind_of w → seal ≡ seal_of (seal_by_kind kind) (with_words changes bytes) → seal ≡ seal_of (seal_place w) (with_words changes bytes)
+seal_is w kind seal bytes changes is_kind is = is ∙ ap (λ (k : ℕ). seal_of (seal_by_kind k) (with_words changes bytes)) is_kind
+
+-- is the one of the image whose record they are
+pub seal_from : (image : Image) (w seal : ℕ) (bytes : List ℕ) (changes : List (ℕ × ℕ)) → bytes ≡ record_at image w → seal ≡ seal_of (seal_place w) (with_words changes bytes) → seal ≡ new_seal image w changes
 unfolding new_seal
-new_seal_is image w changes kind seal bytes is_kind are is = is ∙ ap₂ (λ (k : ℕ) (b : List ℕ). seal_of (seal_by_kind k) (with_words changes b)) is_kind are
+seal_from image w seal bytes changes read is = is ∙ ap (λ (b : List ℕ). seal_of (seal_place w) (with_words changes b)) read
 
-module _ (files : BlockFiles) (w : ℕ) (changes : List (ℕ × ℕ)) (stands : stands_among files w ≡ true) (begins : BeginsWithRecord w) (are : AreChanges (seal_place w) changes)
-    (a m b : Told) (agrees : ForSome a.files (Agrees files)) (checks : ForSome a.files (RecordChecks w)) (stays : m ≡ a)
-    (kind seal : ℕ) (bytes : List ℕ) (is_kind : kind ≡ kind_of w) (read : ForSome a.files (λ image. bytes ≡ record_at image w)) (is : seal ≡ seal_of (seal_by_kind kind) (with_words changes bytes)) where
-  seal_here : ForSome a.files (λ from. seal ≡ new_seal from w changes)
-  seal_here from there = new_seal_is from w changes kind seal bytes is_kind (read from there) is
+-- an update of a record that was read just before
+module _ (w : ℕ) (changes : List (ℕ × ℕ)) (bytes : List ℕ) (a m b : Told) (stays : m ≡ a) (read : ForSome a.files (λ image. bytes ≡ record_at image w)) where
+  still : (from : Image) → a.files ≡ Some from → m.files ≡ Some from
+  still from there = ap (λ (t : Told). t.files) stays ∙ there
 
-  pub left_by : AppliesPrefix m b (update_steps w changes seal) → IsLeft files w changes a b
-  left_by made =
-      let part : AppliesPrefix a b (update_steps w changes seal) = subst (λ (t : Told). AppliesPrefix t b (update_steps w changes seal)) stays made in
-      record {
-        part = part_is files w changes stands begins are a b seal agrees checks seal_here part;
-        stops = stops files w changes stands begins are a b seal agrees checks seal_here part;
-        agrees = agrees_after files w changes stands begins are a b seal agrees checks seal_here part;
-        checks = checks_after files w changes stands begins are a b seal agrees checks seal_here part;
-      }
+  steps_are : (from : Image) → a.files ≡ Some from → steps_over bytes w changes ≡ sealed_steps from w changes
+  unfolding new_seal
+  steps_are from there = ap (λ (bytes : List ℕ). steps_over bytes w changes) (read from there)
 
-  pub whole_by : Applies m b (update_steps w changes seal) → ForSome a.files (λ from. Applies a b (sealed_steps from w changes))
-  whole_by made = whole_is files w changes stands begins are a b seal agrees checks seal_here (subst (λ (t : Told). Applies t b (update_steps w changes seal)) stays made)
+  pub steps_read : Applies m b (steps_over bytes w changes) → ForSome a.files (λ from. Applies a b (sealed_steps from w changes))
+  steps_read applies from there = subst (λ (t : Told). Applies t b (sealed_steps from w changes)) stays (subst (Applies m b) (steps_are from there) applies)
 
-  pub updated_by : Applies m b (update_steps w changes seal) → ForSome a.files (λ from. ForSome b.files (IsUpdated from w changes))
-  updated_by made = updated_after files w changes stands begins are a b seal agrees checks seal_here (subst (λ (t : Told). Applies t b (update_steps w changes seal)) stays made)
+  pub front_read : AppliesPrefix m b (steps_over bytes w changes) → ForSome a.files (λ from. AppliesPrefix a b (sealed_steps from w changes))
+  front_read front from there = subst (λ (t : Told). AppliesPrefix t b (sealed_steps from w changes)) stays (subst (AppliesPrefix m b) (steps_are from there) front)
+
+  pub stops_read : ForSome m.files (λ from. bytes ≡ record_at from w → RecordChecks w from → Passes m b (IsMidUpdate from w changes)) → ForSome a.files (λ from. RecordChecks w from → Passes a b (IsMidUpdate from w changes))
+  stops_read stops from there good = passes_stayed stays (stops from (still from there) (read from there) good)
+
+  pub updated_read : ForSome m.files (λ from. bytes ≡ record_at from w → ForSome b.files (IsUpdated from w changes)) → ForSome a.files (λ from. ForSome b.files (IsUpdated from w changes))
+  updated_read updated from there = updated from (still from there) (read from there)
+
+-- a record that checks at each moment checks in the end
+pub checks_after : (w : ℕ) (changes : List (ℕ × ℕ)) (a b : Told) → (a.files ≡ None → b.files ≡ None) → ForSome a.files (λ from. RecordChecks w from → Passes a b (IsMidUpdate from w changes)) → ForSome a.files (RecordChecks w) → ForSome b.files (RecordChecks w)
+checks_after w changes a b silent stops good =
+    told_at_end a.files b.files (RecordChecks w) silent (λ from there image here. (passes_end (stops from there (good from there)) image here).checks)

@@ -13,7 +13,7 @@ use Rattle.blk_addr.specs.declared.file_id.FileId.TheVariants.{Block, External}
 use Rattle.blk_disk.specs.declared.tables.BlockFiles.{BlockFiles}
 use Rattle.blk_disk.specs.Tables.{stands_among, files_of}
 
--- a word that names a block file is of another type than external
+-- a word that names a block file is of another kind than external
 pub names_blocks : (w n : ℕ) → Block n ≡ file_of_word w → (kind_of w ≢ external) × (n ≡ file_selector w)
 unfolding file_of_word
 names_blocks w n e = by_test (kind_of w == external) refl e

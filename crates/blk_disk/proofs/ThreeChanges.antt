@@ -8,7 +8,6 @@ each P x y z p q r = All-cons P x (y ∷ z ∷ []) p (All-cons P y (z ∷ []) q 
 
 pub are_three : (s a b c : ℕ) → 32 ≤ s → AreChanges s ((16, a) ∷ (4, b) ∷ (28, c) ∷ [])
 are_three s a b c low = record {
-  some = omega arith;
   few = omega arith;
   aligned = each (λ change. change.0 % 4 ≡ 0) (16, a) (4, b) (28, c) refl refl refl;
   before = each (λ change. change.0 < s) (16, a) (4, b) (28, c) (omega arith) (omega arith) (omega arith);

@@ -11,7 +11,7 @@ use Rattle.blk_format.specs.BlockFiles.{kind_among, is_among, blocks_a_growth, m
 use Rattle.blk_disk.specs.declared.tables.BlockFiles.{BlockFiles}
 use Rattle.blk_disk.specs.Tables.{files_of, all_files, blocks_of, length_in}
 
--- the bytes of a block, by the type as which its file is linked
+-- the bytes of a block, by the kind as which its file is linked
 abbrev pub size_as : Option ℕ → ℕ
 size_as None = 0
 size_as (Some kind) = block_size kind
@@ -82,7 +82,7 @@ least_from numbers (suc turns) n =
 unfoldable pub free_number : BlockFiles → ℕ
 free_number files = least_from (all_files files) 252 first_number
 
--- the last file of a type in the order of the links, which is its first one where none is kept
+-- the last file of a kind in the order of the links, which is its first one where none is kept
 unfoldable pub last_file : BlockFiles → ℕ → ℕ
 last_file files kind = get_or (files_of files kind) (length (files_of files kind) - 1) (kind - 1)
 
@@ -98,10 +98,10 @@ make_steps kind n = SetLength (Block n) 0 ∷ SetLength (Block n) header_size �
 abbrev pub link_steps : ℕ → ℕ → List TrailStep
 link_steps last n = Word (Block last) 10 (n % 256 ∷ n / 256 % 256 ∷ []) ∷ []
 
--- the new file is made, and then the last file of its type names it
+-- the new file is made, and then the last file of its kind names it
 abbrev pub add_steps : BlockFiles → ℕ → List TrailStep
 add_steps files kind = make_steps kind (free_number files) ++ link_steps (last_file files kind) (free_number files)
 
--- what a new file touches: all of it, and the next_file of the last file of its type
+-- what a new file touches: all of it, and the next_file of the last file of its kind
 abbrev pub addition_of : BlockFiles → ℕ → Footprint
 addition_of files kind = either (whole (Block (free_number files))) (range (Block (last_file files kind)) 10 2)

@@ -3,3 +3,4 @@ pub mod Tables
 pub mod Loading
 pub mod Growth
 pub mod Unsealed
+pub mod Linked

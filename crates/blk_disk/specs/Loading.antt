@@ -43,11 +43,11 @@ abbrev pub Judges : Option checks.Damage → (ℕ → ℕ) → ℕ → ℕ → R
 Judges None f size given answer = AreGiven size given → (head : Head) × (answer ≡ Ok head) × IsHead f size head
 Judges (Some damage) f size given answer = AreGiven size given → (found : Damage) × (answer ≡ Err (Damaged found)) × (damage_of found ≡ damage)
 
--- how many files of a type may follow the next one
+-- how many files of a kind may follow the next one
 abbrev pub files_left : BlockFiles → ℕ → ℕ
 files_left files kind = most_files - 1 - length (files_of files kind)
 
--- the checks of a header with this content and of its file's length, of the next file of a type
+-- the checks of a header with this content and of its file's length, of the next file of a kind
 abbrev pub header_checks : BlockFiles → ℕ → ℕ → (ℕ → ℕ) → ℕ → List (Option checks.Damage)
 header_checks files kind n f size = file_checks kind (all_files files ++ n ∷ []) (files_left files kind) n f size
 
@@ -55,26 +55,36 @@ header_checks files kind n f size = file_checks kind (all_files files ++ n ∷ [
 abbrev pub IsFew : ℕ → ℕ → Damage → Type 0
 IsFew n given damage = (given < block_fields_length) × (damage_of damage ≡ record { file = Block n; at = 0; found = given })
 
--- the fields of this header and this length were read, of the next file of a type, and the damage is the first check of them that fails
+-- the fields of this header and this length were read, of the next file of a kind, and the damage is the first check of them that fails
 pub record IsFailedHeader (files : BlockFiles) (kind n : ℕ) (damage : Damage) : Type 0 where
   pub header : List ℕ
   pub size : ℕ
   pub read : length header ≡ block_fields_length
   pub first : first_of (header_checks files kind n (content header) size) ≡ Some (damage_of damage)
 
--- why the next file of a type can't be taken up, whether or not the folder tells its files: too few bytes of its header came, or a check of what was read fails
+-- why the next file of a kind can't be taken up, whether or not the folder tells its files: too few bytes of its header came, or a check of what was read fails
 abbrev pub IsHeaderDamage : Told → BlockFiles → ℕ → ℕ → Damage → Type 0
 IsHeaderDamage told files kind n damage = IsShort told (names.Block n) 0 block_fields_length damage ⊎ IsFailedHeader files kind n damage
 
--- so it is for a file of some block type, with some files that were taken up before
+-- the number that the next file of a kind may have: the one of its first file, or 4 to 255, which links have
+abbrev pub IsFileNumber : ℕ → ℕ → Type 0
+IsFileNumber kind n = (n ≡ kind - 1) ⊎ ((4 ≤ n) × (n ≤ 255))
+
+-- where there is a next file of a kind, it has such a number
+abbrev pub MayBeNext : ℕ → Option ℕ → Type 0
+MayBeNext kind None = Unit {0}
+MayBeNext kind (Some n) = IsFileNumber kind n
+
+-- so it is for a file of some block kind, with some files that were taken up before
 pub record IsLoadDamage (told : Told) (damage : Damage) : Type 0 where
   pub files : BlockFiles
   pub kind : ℕ
   pub n : ℕ
-  pub of_blocks : is_block_kind kind ≡ true
+  pub block_kind : is_block_kind kind ≡ true
+  pub number : IsFileNumber kind n
   pub cause : IsHeaderDamage told files kind n damage
 
--- the checks of the next file of a type, with those that are taken up already
+-- the checks of the next file of a kind, with those that are taken up already
 abbrev pub next_checks : BlockFiles → Image → ℕ → ℕ → List (Option checks.Damage)
 next_checks files image kind n = header_checks files kind n (byte image (Block n)) (length_of image (Block n))
 
@@ -84,30 +94,30 @@ ReadsAs files image kind n (Ok head) = (first_of (next_checks files image kind n
 ReadsAs files image kind n (Err Device) = Unit {0}
 ReadsAs files image kind n (Err (Damaged damage)) = first_of (next_checks files image kind n) ≡ Some (damage_of damage)
 
--- the checks of the types after one
+-- the checks of the kinds after one
 abbrev pub checks_after : Image → ℕ → List (Option checks.Damage)
 checks_after image kind = flat_map (checks_of_kind image) (drop kind block_kinds)
 
--- the checks from the next file of a type on
+-- the checks from the next file of a kind on
 abbrev pub checks_from : BlockFiles → Image → ℕ → Option ℕ → List (Option checks.Damage)
 checks_from files image kind None = checks_after image kind
 checks_from files image kind (Some n) = checks_along image kind (all_files files) (files_left files kind) n ++ checks_after image kind
 
--- the files of a type from the next one on
+-- the files of a kind from the next one on
 abbrev pub links_from : BlockFiles → Image → ℕ → Option ℕ → List ℕ
 links_from files image kind None = []
 links_from files image kind (Some n) = files_along (next_file_in image) (files_left files kind) n
 
--- where there is a next file of a type, there is room for it after so many
+-- where there is a next file of a kind, there is room for it after so many
 abbrev pub HasRoom : ℕ → Option ℕ → Type 0
 HasRoom count None = Unit {0}
 HasRoom count (Some n) = count < most_files
 
--- the files of all other types are as before
+-- the files of all other kinds are as before
 abbrev pub KeepsOthers : BlockFiles → BlockFiles → ℕ → Type 0
 KeepsOthers old new kind = (other : ℕ) → other ≢ kind → files_of new other ≡ files_of old other
 
--- the files of the types before one, and those of this type before the next, are taken up, and no check of them fails
+-- the files of the kinds before one, and those of this kind before the next, are taken up, and no check of them fails
 pub record Follows (files : BlockFiles) (image : Image) (kind : ℕ) (next : Option ℕ) : Type 0 where
   pub met : linked_up_to image (kind - 1) ++ files_of files kind ≡ all_files files
   pub before : (other : ℕ) → 0 < other → other < kind → files_of files other ≡ linked image other

@@ -1,12 +1,12 @@
--- What is kept of the block files: the linked files of each type, and the blocks and the length of each.
-use Rattle.std.specs.Prelude.{ℕ, ◌≡◌, ◌≢◌, List, [], ◌∷◌, ◌++◌, Bool, false, true, slice_index, ◌==◌, if◌then◌else◌, None}
+-- What is kept of the block files: the linked files of each kind, and the blocks and the length of each.
+use Rattle.std.specs.Prelude.{ℕ, ◌≡◌, ◌≢◌, List, [], ◌∷◌, ◌++◌, Bool, false, true, ◌&&◌, slice_index, ◌==◌, if◌then◌else◌, None}
 use Rattle.blk_image.specs.Image.{Block, Image, length_of}
-use Rattle.blk_format.specs.Address.{rankings, blocks_256, blocks_1k, blocks_4k, is_block_kind}
+use Rattle.blk_format.specs.Address.{rankings, blocks_256, blocks_1k, blocks_4k, is_address, is_block_kind, kind_of}
 use Rattle.blk_format.specs.BlockFiles.{linked, max_entries_in, is_among, kind_among, first_block_damage}
 use Rattle.blk_format.specs.Standing.{stands_as_blocks}
 use Rattle.blk_disk.specs.declared.tables.BlockFiles.{BlockFiles}
 
--- the linked files of a type, in the order of the links
+-- the linked files of a kind, in the order of the links
 unfoldable pub files_of : BlockFiles → ℕ → List ℕ
 files_of files kind =
     if kind == rankings then files.rankings.items else
@@ -15,7 +15,7 @@ files_of files kind =
     if kind == blocks_4k then files.b4k.items else
     []
 
--- the linked files of all types, type after type
+-- the linked files of all kinds, kind after kind
 unfoldable pub all_files : BlockFiles → List ℕ
 all_files files = files_of files rankings ++ files_of files blocks_256 ++ files_of files blocks_1k ++ files_of files blocks_4k
 
@@ -39,7 +39,7 @@ pub record HoldsNone (files : BlockFiles) : Type 0 where
   pub all : all_files files ≡ []
   pub each : (kind : ℕ) → files_of files kind ≡ []
 
--- file n, of so many blocks and so long, is the new last one of a type, and all else is as before
+-- file n, of so many blocks and so long, is the new last one of a kind, and all else is as before
 pub record Joins (old new : BlockFiles) (kind n blocks size : ℕ) : Type 0 where
   pub last : files_of new kind ≡ files_of old kind ++ n ∷ []
   pub others : (other : ℕ) → other ≢ kind → files_of new other ≡ files_of old other
@@ -48,9 +48,21 @@ pub record Joins (old new : BlockFiles) (kind n blocks size : ℕ) : Type 0 wher
   pub other_blocks : (other : ℕ) → other ≢ n → blocks_of new other ≡ blocks_of old other
   pub other_lengths : (other : ℕ) → other ≢ n → length_in new other ≡ length_in old other
 
--- a word is an address of blocks that are there: their file is linked and of its type, and all are below its number of blocks and end inside it
+-- a word is an address of blocks that are there: their file is linked and of its kind, and all are below its number of blocks and end inside it
 abbrev pub stands_among : BlockFiles → ℕ → Bool
 stands_among files w = stands_as_blocks (kind_among (files_of files)) (blocks_of files) (length_in files) (λ number. false) w
+
+-- a word is the address of blocks of a kind that are there
+unfoldable pub names_among : BlockFiles → ℕ → ℕ → Bool
+names_among files kind w = is_address w && ((kind_of w == kind) && stands_among files w)
+
+-- a word is the address of a node that stands
+abbrev pub is_node_among : BlockFiles → ℕ → Bool
+is_node_among files w = names_among files rankings w
+
+-- a word is the address of an entry record that stands
+abbrev pub is_record_among : BlockFiles → ℕ → Bool
+is_record_among files w = names_among files blocks_256 w
 
 -- a file has this length now, and all else is as before
 pub record Resizes (old new : BlockFiles) (n size : ℕ) : Type 0 where

@@ -1,11 +1,13 @@
--- A record that was read and doesn't check.
-use Rattle.std.specs.Prelude.{Option, None, Some, ℕ, ◌≡◌, ◌≢◌, ◌+◌, if◌then◌else◌, List, false}
+-- A record that was read and doesn't check, or isn't sealed.
+use Rattle.std.specs.Prelude.{Option, None, Some, ℕ, ◌≡◌, ◌≢◌, ◌+◌, if◌then◌else◌, List, [], false}
 use Rattle.std.specs.Option.{ForSome}
 use Rattle.blk_image.specs.Bytes.{content, word_at}
+use Rattle.blk_image.specs.Image.{Block}
+use Rattle.blk_image.specs.Steps.{TrailStep, word_step}
 use Rattle.blk_image.specs.Told.{Told}
 use Rattle.blk_format.specs.Address.{file_selector, place}
-use Rattle.blk_format.specs.Records.{checks}
-use Rattle.blk_format.specs.Sealed.{record_at, seal_place}
+use Rattle.blk_format.specs.Records.{checks, seal_of}
+use Rattle.blk_format.specs.Sealed.{is_sealed, record_at, seal_place}
 use Rattle.blk_io.specs.declared.folder.FileId.TheVariants as names
 use Rattle.blk_io.specs.declared.fault.Damage.{Damage}
 
@@ -19,3 +21,12 @@ pub record IsUnsealed (told : Told) (w : ℕ) (damage : Damage) : Type 0 where
   pub at_seal : damage.at ≡ place w + seal_place w
   pub unlike : damage.found ≢ 0
   pub unsealed : ForSome told.files (λ image. (damage.found ≡ word_at (content (record_at image w)) (seal_place w)) × (checks (seal_place w) (record_at image w) ≡ false))
+
+-- the hash of the bytes before the seal, where the seal isn't that
+abbrev pub missing_seal : ℕ → List ℕ → Option ℕ
+missing_seal seal bytes = if is_sealed seal bytes then None else Some (seal_of seal bytes)
+
+-- the word that makes it the seal
+abbrev pub missing_steps : ℕ → Option ℕ → List TrailStep
+missing_steps w None = []
+missing_steps w (Some seal) = word_step (Block (file_selector w)) (place w + seal_place w) seal

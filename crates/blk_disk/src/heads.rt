@@ -11,12 +11,11 @@ ghost use Rattle.blk_format.specs.BlockFiles.{most_files};
 ghost use Rattle.blk_addr.specs.Kind.{kind_number};
 ghost use Rattle.blk_io.specs.Faults.{IfDamaged, IfDevice, damage_of};
 ghost use Rattle.blk_disk.specs.Tables.{all_files, files_of};
-ghost use Rattle.blk_disk.specs.Loading.{HasRoom, IsFew, IsHeaderDamage, Judges, ReadsAs, files_left, header_checks, next_of};
+ghost use Rattle.blk_disk.specs.Loading.{HasRoom, IsFew, IsHeaderDamage, Judges, MayBeNext, ReadsAs, files_left, header_checks, next_of};
 
-use crate::checks::{check, check_is, damage_at};
 use crate::tables::{BlockFiles, MOST_FILES};
 use blk_addr::Kind;
-use blk_io::{Damage, Fault, FileId, Folder, first_failed};
+use blk_io::{Damage, Fault, FileId, Folder, check, check_is, first_failed};
 use blk_record::BlockHead;
 
 // The numbers that a link may have.
@@ -72,6 +71,7 @@ impl BlockFiles {
     pub(crate) fn read_head<F: Folder>(&self, f: &mut F, kind: Kind, n: u8) -> Result<Head, Fault>
         requires { kind_number kind ≢ external }
         ensures room { IfOk result (λ head. HasRoom (length (files_of self.now (kind_number kind)) + 1) head.next) }
+        ensures number { IfOk result (λ head. MayBeNext (kind_number kind) head.next) }
         ensures read { ForSome (F.told f.old).files (λ image. ReadsAs self.now image (kind_number kind) n result) }
         ensures cause { IfDamaged result (IsHeaderDamage (F.told f.old) self.now (kind_number kind) n) }
         ensures stays { Stays (F.told f.old) (F.told f.new) }
@@ -100,12 +100,17 @@ impl BlockFiles {
     ) -> Result<Head, Fault>
         requires { kind_number kind ≢ external }
         ensures room { IfOk result (λ head. HasRoom (length (files_of self.now (kind_number kind)) + 1) head.next) }
+        ensures number { IfOk result (λ head. MayBeNext (kind_number kind) head.next) }
         ensures judged { Judges (first_of (header_checks self.now (kind_number kind) n (content head.now) size)) (content head.now) size given result }
         ensures cause { IfDamaged result (λ damage. IsFew n given damage ⊎ (first_of (header_checks self.now (kind_number kind) n (content head.now) size) ≡ Some (damage_of damage))) }
         ensures device { IfDevice result ⊥ }
     {
         if BlockHead::HEADER_LEN <= size && given < BlockHead::LEN {
-            return Err(Fault::Damaged(damage_at(n, 0, given as u32)));
+            return Err(Fault::Damaged(Damage {
+                file: FileId::Block(n),
+                at: 0,
+                found: given as u32,
+            }));
         }
         if let Some(damage) = self.header_damage(head, kind, n, size) {
             return Err(Fault::Damaged(damage));
@@ -123,14 +128,20 @@ impl BlockFiles {
         let low = (size % 0x1_0000_0000) as u32;
         let numbers = numbers_word(head);
         let blocks = head.max_entries();
+        let file = FileId::Block(n);
         first_failed(&[
-            check(n, BlockHead::HEADER_LEN, low, BlockHead::HEADER_LEN <= size),
-            check_is(n, 0, head.magic(), BlockHead::MAGIC),
-            check_is(n, 4, head.version(), BlockHead::VERSION),
-            check(n, 8, numbers, head.this_file() == u16::from(n)),
-            check(n, 8, numbers, self.is_link(kind, n, head.next_file())),
-            check_is(n, 12, head.entry_size(), block_size(kind)),
-            check(n, 20, blocks, is_block_count(blocks)),
+            check(
+                file,
+                BlockHead::HEADER_LEN,
+                low,
+                BlockHead::HEADER_LEN <= size,
+            ),
+            check_is(file, 0, head.magic(), BlockHead::MAGIC),
+            check_is(file, 4, head.version(), BlockHead::VERSION),
+            check(file, 8, numbers, head.this_file() == u16::from(n)),
+            check(file, 8, numbers, self.is_link(kind, n, head.next_file())),
+            check_is(file, 12, head.entry_size(), block_size(kind)),
+            check(file, 20, blocks, is_block_count(blocks)),
         ])
     }
 

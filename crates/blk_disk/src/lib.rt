@@ -3,16 +3,17 @@
 
 mod adding;
 mod blocks;
-mod checks;
 mod growing;
 mod growth;
 mod heads;
+mod laws;
 mod load;
 mod names;
 mod sealed;
 mod standing;
 mod tables;
 
+pub use laws::files_are_linked_once;
 pub use names::file_of;
 pub use tables::BlockFiles;
 

@@ -7,7 +7,7 @@ ghost use Rattle.blk_format.specs.BlockFiles.{first_block_damage, most_files};
 ghost use Rattle.blk_addr.specs.Kind.{kind_number};
 ghost use Rattle.blk_io.specs.Faults.{IfDamaged, IfDevice, damage_of};
 ghost use Rattle.blk_disk.specs.Tables.{files_of};
-ghost use Rattle.blk_disk.specs.Loading.{LoadsAs, Follows, HasRoom, IsHeaderDamage, IsLoadDamage, KeepsOthers};
+ghost use Rattle.blk_disk.specs.Loading.{LoadsAs, Follows, HasRoom, IsHeaderDamage, IsLoadDamage, KeepsOthers, MayBeNext};
 
 use crate::tables::BlockFiles;
 use blk_addr::Kind;
@@ -63,6 +63,7 @@ impl BlockFiles {
         requires next { ForSome (F.told f.old).files (λ image. Follows self.old image (kind_number kind) (Some n)) }
         ensures linked { IfOk result (λ next. ForSome (F.told f.new).files (λ image. Follows self.new image (kind_number kind) next)) }
         ensures room { IfOk result (HasRoom (length (files_of self.new (kind_number kind)))) }
+        ensures number { IfOk result (MayBeNext (kind_number kind)) }
         ensures longer { OnOk result (length (files_of self.new (kind_number kind)) ≡ length (files_of self.old (kind_number kind)) + 1) }
         ensures others { OnOk result (KeepsOthers self.old self.new (kind_number kind)) }
         ensures damaged { IfDamaged result (λ damage. ForSome (F.told f.old).files (λ image. first_block_damage image ≡ Some (damage_of damage))) }

@@ -1,5 +1,5 @@
 // Sealed records at the front of blocks, and their updates.
-ghost use Rattle.std.specs.Prelude.{◌≡◌, ◌+◌, ◌%◌, ◌^◌, ◌<◌, ◌≤◌, ◌⊎◌, All, IsTrue, None, OnErr, OnOk, length};
+ghost use Rattle.std.specs.Prelude.{[], ◌≡◌, ◌+◌, ◌%◌, ◌^◌, ◌<◌, ◌≤◌, ◌⊎◌, All, IsTrue, None, OnErr, OnOk, length};
 ghost use Rattle.std.specs.Option.{ForSome};
 ghost use Rattle.blk_image.specs.Steps.{with_words};
 ghost use Rattle.blk_image.specs.Told.{Applies, AppliesPrefix, Passes, Rises, Stays};
@@ -11,22 +11,22 @@ ghost use Rattle.blk_io.specs.declared.folder.FileId.TheVariants as FileId;
 ghost use Rattle.blk_io.specs.Faults.{IfDamaged, IfDevice, IsShort};
 ghost use Rattle.blk_disk.specs.Tables.{Agrees, stands_among};
 ghost use Rattle.blk_disk.specs.Unsealed as unsealed;
-ghost use Rattle.blk_format.specs.Sealed.{AreChanges, BeginsWithRecord, IsMidUpdate, IsUpdated, RecordChecks, placed, record_at, record_size, seal_by_kind, seal_place, sealed_steps, size_by_kind, update_steps, update_words};
-ghost use Rattle.blk_disk.specs.Unsealed.{IsUnsealed};
+ghost use Rattle.blk_format.specs.Sealed.{AreChanges, BeginsWithRecord, IsMidUpdate, IsUpdated, RecordChecks, placed, record_at, record_size, seal_by_kind, seal_place, seal_steps, sealed, sealed_steps, size_by_kind, steps_over, update_steps, update_words};
+ghost use Rattle.blk_disk.specs.Unsealed.{IsUnsealed, missing_steps};
 
 use crate::names::file_of;
 use crate::standing::place_of;
 use crate::tables::BlockFiles;
 use arrayvec::ArrayVec;
 use blk_addr::{Addr, Kind};
-use blk_io::{Damage, Failed, Fault, Folder, write_words};
+use blk_io::{Damage, Failed, Fault, Folder, write_word, write_words};
 use blk_record::{EntryMut, EntryView, NodeMut, NodeView, Record, RecordMut, super_fast_hash};
 
 // The seal twice, and four changes.
 const MOST_WORDS: usize = 6;
 
 impl BlockFiles {
-    /// Changes one to four words of the sealed record at the front of an address's blocks: of a node,
+    /// Changes at most four words of the sealed record at the front of an address's blocks: of a node,
     /// or of an entry record. Each change is a place in bytes from the front of the record, before the
     /// seal, and the new word; no two are of one place.
     ///
@@ -65,26 +65,32 @@ impl BlockFiles {
         ensures later { F.faults f.old ≤ F.faults f.new }
         ensures device { IfDevice result (Rises (F.faults f.old) (F.faults f.new)) }
     {
-        let kind = addr.kind();
         let mut window = [0u8; EntryView::SIZE];
-        let bytes = &mut window[..size_of(kind)];
+        let bytes = &mut window[..size_of(addr.kind())];
         self.read_record(f, addr, bytes)?;
-        let seal = seal_after(kind, bytes, changes);
-        self.write_update(f, addr, changes, seal)?;
+        self.update_record(f, addr, bytes, changes)?;
         Ok(())
     }
 
-    // Reads the record of an address, which is to check.
-    fn read_record<F: Folder>(&self, f: &mut F, addr: Addr, bytes: &mut [u8]) -> Result<(), Fault>
+    /// Reads the sealed record at the front of an address's blocks, of a node or of an entry record, by one
+    /// folder call.
+    ///
+    /// Too few bytes and a record that doesn't check are damages. `Device` comes only where the folder failed
+    /// in this call.
+    pub fn read_record<F: Folder>(
+        &self,
+        f: &mut F,
+        addr: Addr,
+        bytes: &mut [u8],
+    ) -> Result<(), Fault>
         requires stands { IsTrue (stands_among self.now addr) }
         requires begins { BeginsWithRecord addr }
         requires size { length bytes.old ≡ record_size addr }
-        requires agrees { ForSome (F.told f.old).files (Agrees self.now) }
         ensures bytes { OnOk result (ForSome (F.told f.old).files (λ image. bytes.new ≡ record_at image addr)) }
         ensures checked { OnOk result (ForSome (F.told f.old).files (RecordChecks addr)) }
-        ensures damaged { IfDamaged result (λ damage. IsShort (F.told f.old) (FileId.Block (file_selector addr)) (place addr) (record_size addr) damage ⊎ IsUnsealed (F.told f.old) addr damage) }
-        ensures untold { ForSome (F.told f.old).files (RecordChecks addr) → IfDamaged result (λ _. (F.told f.old).files ≡ None) }
         ensures stays { Stays (F.told f.old) (F.told f.new) }
+        ensures damaged { IfDamaged result (λ damage. IsShort (F.told f.old) (FileId.Block (file_selector addr)) (place addr) (record_size addr) damage ⊎ IsUnsealed (F.told f.old) addr damage) }
+        ensures untold { ForSome (F.told f.old).files (Agrees self.now) → ForSome (F.told f.old).files (RecordChecks addr) → IfDamaged result (λ _. (F.told f.old).files ≡ None) }
         ensures later { F.faults f.old ≤ F.faults f.new }
         ensures device { IfDevice result (Rises (F.faults f.old) (F.faults f.new)) }
     {
@@ -95,6 +101,90 @@ impl BlockFiles {
         let file = file_of(addr);
         let at = place_of(addr) + u64::from(seal_of(addr.kind()));
         Err(Fault::Damaged(Damage { file, at, found }))
+    }
+
+    /// Changes at most four words of a sealed record that was read, as `update_sealed` does, but without a
+    /// read: the caller has its bytes, and gets them as they are afterwards.
+    ///
+    /// `Failed` comes only where the folder failed in this call; a front of the words has then lasted.
+    pub fn update_record<F: Folder>(
+        &self,
+        f: &mut F,
+        addr: Addr,
+        bytes: &mut [u8],
+        changes: &[(u32, u32)],
+    ) -> Result<(), Failed>
+        requires stands { IsTrue (stands_among self.now addr) }
+        requires begins { BeginsWithRecord addr }
+        requires changes { AreChanges (seal_place addr) changes.now }
+        requires size { length bytes.old ≡ record_size addr }
+        requires agrees { ForSome (F.told f.old).files (Agrees self.now) }
+        ensures bytes { bytes.new ≡ sealed (seal_place addr) (with_words changes.now bytes.old) }
+        ensures updated { OnOk result (ForSome (F.told f.old).files (λ from. bytes.old ≡ record_at from addr → ForSome (F.told f.new).files (IsUpdated from addr changes.now))) }
+        ensures agrees { ForSome (F.told f.new).files (Agrees self.now) }
+        ensures steps { OnOk result (Applies (F.told f.old) (F.told f.new) (steps_over bytes.old addr changes.now)) }
+        ensures prefix { AppliesPrefix (F.told f.old) (F.told f.new) (steps_over bytes.old addr changes.now) }
+
+        // At each word of an update of a record that has these bytes and checks, it still checks and has a front of the changes, and nothing else has changed.
+        ensures stops { ForSome (F.told f.old).files (λ from. bytes.old ≡ record_at from addr → RecordChecks addr from → Passes (F.told f.old) (F.told f.new) (IsMidUpdate from addr changes.now)) }
+        ensures later { F.faults f.old ≤ F.faults f.new }
+        ensures failed { OnErr result (Rises (F.faults f.old) (F.faults f.new)) }
+    {
+        let seal = seal_after(addr.kind(), bytes, changes);
+        self.write_update(f, addr, changes, seal)
+    }
+
+    /// Seals the record at the front of an address's blocks: its seal becomes the hash of the bytes before it.
+    ///
+    /// The record is read by one folder call, and one word is written where the seal isn't the hash yet. A record
+    /// that has too few bytes or doesn't check is a damage, and nothing is written. `Device` comes only where the
+    /// folder failed in this call; the word may then be written.
+    pub fn seal<F: Folder>(&self, f: &mut F, addr: Addr) -> Result<(), Fault>
+        requires stands { IsTrue (stands_among self.now addr) }
+        requires begins { BeginsWithRecord addr }
+        requires agrees { ForSome (F.told f.old).files (Agrees self.now) }
+        ensures checked { OnOk result (ForSome (F.told f.old).files (RecordChecks addr)) }
+        ensures updated { OnOk result (ForSome (F.told f.old).files (λ from. ForSome (F.told f.new).files (IsUpdated from addr []))) }
+        ensures agrees { ForSome (F.told f.new).files (Agrees self.now) }
+        ensures steps { OnOk result (ForSome (F.told f.old).files (λ from. Applies (F.told f.old) (F.told f.new) (seal_steps from addr))) }
+        ensures prefix { ForSome (F.told f.old).files (λ from. AppliesPrefix (F.told f.old) (F.told f.new) (seal_steps from addr)) }
+
+        // Before and after the word the record checks with its fields, and nothing else has changed.
+        ensures stops { ForSome (F.told f.old).files (λ from. RecordChecks addr from → Passes (F.told f.old) (F.told f.new) (IsMidUpdate from addr [])) }
+        ensures damaged { IfDamaged result (λ damage. IsShort (F.told f.old) (FileId.Block (file_selector addr)) (place addr) (record_size addr) damage ⊎ IsUnsealed (F.told f.old) addr damage) }
+        ensures unwritten { IfDamaged result (λ _. Stays (F.told f.old) (F.told f.new)) }
+        ensures untold { ForSome (F.told f.old).files (RecordChecks addr) → IfDamaged result (λ _. (F.told f.old).files ≡ None) }
+        ensures silent { (F.told f.old).files ≡ None → (F.told f.new).files ≡ None }
+        ensures later { F.faults f.old ≤ F.faults f.new }
+        ensures device { IfDevice result (Rises (F.faults f.old) (F.faults f.new)) }
+    {
+        let mut window = [0u8; EntryView::SIZE];
+        let bytes = &mut window[..size_of(addr.kind())];
+        self.read_record(f, addr, bytes)?;
+        self.write_seal(f, addr, missing_seal(addr.kind(), bytes))?;
+        Ok(())
+    }
+
+    // Writes a seal, where it is missing.
+    fn write_seal<F: Folder>(
+        &self,
+        f: &mut F,
+        addr: Addr,
+        missing: Option<u32>,
+    ) -> Result<(), Failed>
+        requires stands { IsTrue (stands_among self.now addr) }
+        requires begins { BeginsWithRecord addr }
+        requires agrees { ForSome (F.told f.old).files (Agrees self.now) }
+        ensures steps { OnOk result (Applies (F.told f.old) (F.told f.new) (missing_steps addr missing)) }
+        ensures prefix { AppliesPrefix (F.told f.old) (F.told f.new) (missing_steps addr missing) }
+        ensures later { F.faults f.old ≤ F.faults f.new }
+        ensures failed { OnErr result (Rises (F.faults f.old) (F.faults f.new)) }
+    {
+        let Some(seal) = missing else {
+            return Ok(());
+        };
+        let at = place_of(addr) + u64::from(seal_of(addr.kind()));
+        write_word(f, file_of(addr), at, seal)
     }
 
     // Writes the words of an update, this seal last.
@@ -178,12 +268,38 @@ fn wrong_seal_at<R: Record>(view: &R, at: usize) -> Option<u32>
     }
 }
 
-// The seal of a record after some changes.
+// The hash of a record, where its seal isn't that.
+#[tactic(auto, unfolding(blk_format::specs::Sealed::size_by_kind, blk_format::specs::Sealed::seal_by_kind))]
+fn missing_seal(kind: Kind, bytes: &[u8]) -> Option<u32>
+    requires { length bytes.now ≡ size_by_kind (kind_number kind) }
+    ensures { result ≡ unsealed.missing_seal (seal_by_kind (kind_number kind)) bytes.now }
+{
+    match kind {
+        Kind::Rankings => missing_seal_at(&NodeView::new(bytes), NodeView::SEAL),
+        _ => missing_seal_at(&EntryView::new(bytes), EntryView::SEAL),
+    }
+}
+
+// The hash of a record that has its seal at this place, where the seal isn't that.
+fn missing_seal_at<R: Record>(view: &R, at: usize) -> Option<u32>
+    requires inside { IsField R.size at }
+    ensures { result ≡ unsealed.missing_seal at (R.window_of view.now) }
+{
+    let seal = super_fast_hash(&view.bytes()[..at]);
+    if view.word(at) == seal {
+        None
+    } else {
+        Some(seal)
+    }
+}
+
+// Changes a record and seals it, and gives its seal.
 #[tactic(auto, unfolding(blk_format::specs::Sealed::size_by_kind, blk_format::specs::Sealed::seal_by_kind))]
 fn seal_after(kind: Kind, bytes: &mut [u8], changes: &[(u32, u32)]) -> u32
     requires size { length bytes.old ≡ size_by_kind (kind_number kind) }
     requires changes { AreChanges (seal_by_kind (kind_number kind)) changes.now }
-    ensures { result ≡ records.seal_of (seal_by_kind (kind_number kind)) (with_words changes.now bytes.old) }
+    ensures seal { result ≡ records.seal_of (seal_by_kind (kind_number kind)) (with_words changes.now bytes.old) }
+    ensures bytes { bytes.new ≡ sealed (seal_by_kind (kind_number kind)) (with_words changes.now bytes.old) }
 {
     match kind {
         Kind::Rankings => change(&mut NodeMut::new(bytes), NodeView::SEAL, changes),
@@ -191,16 +307,20 @@ fn seal_after(kind: Kind, bytes: &mut [u8], changes: &[(u32, u32)]) -> u32
     }
 }
 
-// Changes a record, and gives the hash of its bytes before a place.
+// Changes a record whose seal is at a place, seals it, and gives its seal.
 fn change<R: RecordMut>(view: &mut R, place: usize, changes: &[(u32, u32)]) -> u32
-    requires inside { place ≤ R.size }
+    requires inside { IsField R.size place }
     requires changes { AreChanges place changes.now }
-    ensures { result ≡ records.seal_of place (with_words changes.now (R.window_of view.old)) }
+    ensures seal { result ≡ records.seal_of place (with_words changes.now (R.window_of view.old)) }
+    ensures window { R.window_of view.new ≡ sealed place (with_words changes.now (R.window_of view.old)) }
+    ensures same_reference { R.reference view.new ≡ R.reference view.old }
 {
     for (at, value) in changes {
         view.set_word(*at as usize, *value);
     }
-    super_fast_hash(&view.bytes()[..place])
+    let seal = super_fast_hash(&view.bytes()[..place]);
+    view.set_word(place, seal);
+    seal
 }
 
 // The words of an update of the record at a place of a file.

@@ -1,8 +1,7 @@
 // Sealed records in block files in memory.
 use crate::BlockFiles;
 use crate::tests::folder_of;
-use blk_addr::{Addr, Kind};
-use blk_io::{Failed, Fault, FileId, Folder, MemFolder, NoMemory};
+use blk_io::{Damage, Failed, Fault, FileId, Folder, MemFolder, NoMemory, SilentFolder};
 use blk_record::{EntryView, NodeView, Record};
 use std::alloc::Global;
 use std::test::Fail;
@@ -39,6 +38,8 @@ const OLD_NODE_SEAL: u32 = 0x0DCE_1A21;
 
 const NEW_NODE_SEAL: u32 = 0x4D5C_E1FC;
 
+const ZERO_NODE_SEAL: u32 = 0xD27A_4FAF;
+
 const OLD_ENTRY_SEAL: u32 = 0x40BE_F4B5;
 
 const NEW_ENTRY_SEAL: u32 = 0x0E57_49A8;
@@ -57,45 +58,23 @@ fn zeros(alloc: Global) -> Result<MemFolder, Fail> {
     folder_of(alloc, &headers, SIZE)
 }
 
-// Updates three words of a node, where it stands and checks.
+// Updates three words of a node, where it stands.
 fn update_node<F: Folder>(f: &mut F, word: u32, values: [u32; 3]) -> Result<bool, Fault> {
     let files = BlockFiles::load(f)?;
-    let Some(addr) = Addr::from_word(word) else {
+    let Some(addr) = files.node(word) else {
         return Ok(false);
     };
-    if !files.stands(addr) || addr.kind() != Kind::Rankings {
-        return Ok(false);
-    }
-    let mut window = [0; 36];
-    files.read_block(f, addr, 0, &mut window)?;
-    let Some(node) = NodeView::over(&window) else {
-        return Ok(false);
-    };
-    if !node.checks() {
-        return Ok(false);
-    }
     let changes = [(16, values[0]), (4, values[1]), (28, values[2])];
     files.update_sealed(f, addr, &changes)?;
     Ok(true)
 }
 
-// Updates three words of an entry record, where it stands and checks.
+// Updates three words of an entry record, where it stands.
 fn update_entry<F: Folder>(f: &mut F, word: u32, values: [u32; 3]) -> Result<bool, Fault> {
     let files = BlockFiles::load(f)?;
-    let Some(addr) = Addr::from_word(word) else {
+    let Some(addr) = files.entry(word) else {
         return Ok(false);
     };
-    if !files.stands(addr) || addr.kind() != Kind::B256 {
-        return Ok(false);
-    }
-    let mut window = [0; 96];
-    files.read_block(f, addr, 0, &mut window)?;
-    let Some(entry) = EntryView::over(&window) else {
-        return Ok(false);
-    };
-    if !entry.checks() {
-        return Ok(false);
-    }
     let changes = [(16, values[0]), (4, values[1]), (28, values[2])];
     files.update_sealed(f, addr, &changes)?;
     Ok(true)
@@ -175,15 +154,96 @@ fn an_entry_record_checks_after_each_step_of_an_update(rt: HostRuntime) -> Resul
 fn an_update_reads_once_and_writes_each_word_once(rt: HostRuntime) -> Result<(), Fail> {
     let mut f = zeros(rt.alloc())?;
 
-    // Eight calls load the files, and one reads the node for the condition.
+    // Eight calls load the files.
     assert_eq!(rt; update_node(&mut f, LAST_NODE, NEW), Ok(true));
-    assert_eq!(rt; f.calls(), 9 + 1 + 5);
+    assert_eq!(rt; f.calls(), 8 + 1 + 5);
 
     // A call that fails is the last.
     let mut g = zeros(rt.alloc())?;
-    g.fail_at(9 + 1 + 3, 0)?;
+    g.fail_at(8 + 1 + 3, 0)?;
     assert_eq!(rt; update_node(&mut g, LAST_NODE, NEW), Err(Fault::Device));
-    assert_eq!(rt; g.calls(), 9 + 1 + 3);
+    assert_eq!(rt; g.calls(), 8 + 1 + 3);
     assert_eq!(rt; show_node(&mut g)?, Some(([NEW[0], 0, 0], 0, true)));
+    Ok(())
+}
+
+// Updates the last node in a folder that tells nothing, once it has this seal and its file this length.
+fn update_broken(f: &mut SilentFolder<MemFolder>, seal: u32, length: u64) -> Result<bool, Fault> {
+    let files = BlockFiles::load(f)?;
+    let Some(addr) = files.node(LAST_NODE) else {
+        return Ok(false);
+    };
+    f.write_at(FileId::Block(0), NODE_AT + 32, &seal.to_le_bytes())?;
+    f.set_len(FileId::Block(0), length)?;
+    let changes = [(16, NEW[0]), (4, NEW[1]), (28, NEW[2])];
+    files.update_sealed(f, addr, &changes)?;
+    Ok(true)
+}
+
+// The damage of the last node's file.
+fn node_damage(at: u64, found: u32) -> Result<bool, Fault> {
+    let file = FileId::Block(0);
+    Err(Fault::Damaged(Damage { file, at, found }))
+}
+
+#[test]
+fn a_broken_record_is_not_updated(rt: HostRuntime) -> Result<(), Fail> {
+    // A wrong seal, and a file that ends inside the node.
+    let cases = [
+        (1, SIZE as u64, node_damage(NODE_AT + 32, 1)),
+        (0, NODE_AT + 35, node_damage(NODE_AT, 35)),
+    ];
+    for (seal, length, answer) in cases {
+        let mut f = SilentFolder::new(zeros(rt.alloc())?);
+        assert_eq!(rt; update_broken(&mut f, seal, length), answer, "{length}");
+
+        // The two steps before it are the last ones.
+        let mut f = f.into_inner();
+        assert_eq!(rt; f.steps(), Some(2), "{length}");
+        assert_eq!(rt; f.length(FileId::Block(0)), Ok(Some(length)));
+    }
+    Ok(())
+}
+
+// Seals the last node, or updates it twice after one read.
+fn seal_or_update<F: Folder>(f: &mut F, seals: bool) -> Result<bool, Fault> {
+    let files = BlockFiles::load(f)?;
+    let Some(addr) = files.node(LAST_NODE) else {
+        return Ok(false);
+    };
+    if seals {
+        files.seal(f, addr)?;
+        return Ok(true);
+    }
+    let mut bytes = [0; 36];
+    files.read_record(f, addr, &mut bytes)?;
+    for values in [OLD, NEW] {
+        let changes = [(16, values[0]), (4, values[1]), (28, values[2])];
+        files.update_record(f, addr, &mut bytes, &changes)?;
+    }
+    Ok(true)
+}
+
+#[test]
+fn a_record_is_updated_twice_after_one_read(rt: HostRuntime) -> Result<(), Fail> {
+    let mut f = zeros(rt.alloc())?;
+    assert_eq!(rt; seal_or_update(&mut f, false), Ok(true));
+
+    // Eight calls load the files.
+    assert_eq!(rt; f.calls(), 8 + 1 + 5 + 5);
+    assert_eq!(rt; show_node(&mut f)?, Some((NEW, NEW_NODE_SEAL, true)));
+    Ok(())
+}
+
+#[test]
+fn a_record_is_sealed_by_one_word(rt: HostRuntime) -> Result<(), Fail> {
+    let mut f = zeros(rt.alloc())?;
+    assert_eq!(rt; seal_or_update(&mut f, true), Ok(true));
+    assert_eq!(rt; f.steps(), Some(1));
+    assert_eq!(rt; show_node(&mut f)?, Some(([0, 0, 0], ZERO_NODE_SEAL, true)));
+
+    // The seal is there, so nothing is written.
+    assert_eq!(rt; seal_or_update(&mut f, true), Ok(true));
+    assert_eq!(rt; f.steps(), Some(1));
     Ok(())
 }

@@ -3,11 +3,11 @@ ghost use Rattle.std.specs.Prelude.{IfSome, IsTrue, ◌≡◌, ◌≢◌, ◌+�
 ghost use Rattle.std.specs.Option.{option_map};
 ghost use Rattle.blk_image.specs.Image.{Image};
 ghost use Rattle.blk_format.specs.Address as address;
-ghost use Rattle.blk_format.specs.Address.{external, file_selector, kind_of, place, byte_size};
+ghost use Rattle.blk_format.specs.Address.{blocks_256, external, file_selector, kind_of, place, byte_size, rankings};
 ghost use Rattle.blk_format.specs.BlockFiles.{is_among, stands_in_blocks, kind_among};
 ghost use Rattle.blk_format.specs.Standing as standing;
 ghost use Rattle.blk_addr.specs.Kind.{kind_number};
-ghost use Rattle.blk_disk.specs.Tables.{Agrees, all_files, blocks_of, files_of, stands_among};
+ghost use Rattle.blk_disk.specs.Tables.{Agrees, all_files, blocks_of, files_of, is_node_among, is_record_among, names_among, stands_among};
 
 use crate::heads::block_size;
 use crate::tables::{BlockFiles, KINDS};
@@ -69,6 +69,41 @@ impl BlockFiles {
             return false;
         };
         self.stands_in(file, addr)
+    }
+
+    /// The node that a word names, where the word is the address of one and its block is there.
+    pub fn node(&self, word: u32) -> Option<Addr>
+        ensures node { result ≡ (if is_node_among self.now word then Some word else None) }
+        ensures kind { IfSome result (λ addr. kind_of addr ≡ rankings) }
+        ensures stands { IfSome result (λ addr. IsTrue (stands_among self.now addr)) }
+    {
+        self.named(word, Kind::Rankings)
+    }
+
+    /// The entry record that a word names, where the word is the address of one and its blocks are there.
+    pub fn entry(&self, word: u32) -> Option<Addr>
+        ensures entry { result ≡ (if is_record_among self.now word then Some word else None) }
+        ensures kind { IfSome result (λ addr. kind_of addr ≡ blocks_256) }
+        ensures stands { IfSome result (λ addr. IsTrue (stands_among self.now addr)) }
+    {
+        self.named(word, Kind::B256)
+    }
+
+    // The address of blocks of a kind that a word names, where they are there.
+    #[tactic(auto, unfolding(crate::specs::Tables::names_among))]
+    fn named(&self, word: u32, kind: Kind) -> Option<Addr>
+        ensures named { result ≡ (if names_among self.now (kind_number kind) word then Some word else None) }
+        ensures kind { IfSome result (λ addr. kind_of addr ≡ kind_number kind) }
+        ensures stands { IfSome result (λ addr. IsTrue (stands_among self.now addr)) }
+    {
+        let Some(addr) = Addr::from_word(word) else {
+            return None;
+        };
+        if addr.kind() == kind && self.stands(addr) {
+            Some(addr)
+        } else {
+            None
+        }
     }
 
     // Whether the blocks of an address are in its file.

@@ -8,7 +8,7 @@ ghost use Rattle.blk_addr.specs.Kind.{kind_number};
 use arrayvec::ArrayVec;
 use blk_addr::Kind;
 
-// The most files of one type.
+// The most files of one kind.
 pub(crate) const MOST_FILES: usize = 60;
 
 // The kinds of the linked files, in the order in which they are taken up.
@@ -17,7 +17,7 @@ pub(crate) const KINDS: [Kind; 4] = [Kind::Rankings, Kind::B256, Kind::B1K, Kind
 // The numbers of block files.
 const NUMBERS: usize = 256;
 
-/// The linked block files: their numbers, by type and in the order of the links, and what is
+/// The linked block files: their numbers, by kind and in the order of the links, and what is
 /// known of each.
 #[derive(Debug, Drop)]
 pub struct BlockFiles {
@@ -110,7 +110,7 @@ impl BlockFiles {
         self.lengths[usize::from(file)] = size;
     }
 
-    // Takes up a file as the last one of its type.
+    // Takes up a file as the last one of its kind.
     pub(crate) fn join(&mut self, kind: Kind, file: u8, blocks: u32, size: u64)
         requires block_kind { kind_number kind ≢ external }
         requires room { length (files_of self.old (kind_number kind)) < most_files }

@@ -6,7 +6,9 @@ ghost use Rattle.blk_disk.specs.Tables.{Agrees};
 use crate::standing::room_of;
 use crate::{BlockFiles, file_of};
 use blk_addr::{Addr, Kind};
-use blk_io::{Failed, Fault, FileId, Folder, MemFolder, StopFolder, read_word};
+use blk_io::{
+    Damage, Failed, Fault, FileId, Folder, MemFolder, SilentFolder, StopFolder, read_word,
+};
 use std::alloc::Global;
 use std::test::Fail;
 
@@ -152,7 +154,7 @@ fn a_file_is_linked_once(rt: HostRuntime) -> Result<(), Fail> {
     let mut f = folder_of(rt.alloc(), &headers, HEADER_LEN)?;
     assert_eq!(rt; damage_of(&mut f, 3), Some((8, 0x0006_0003)));
 
-    // An earlier file of the same type.
+    // An earlier file of the same kind.
     let mut headers = FILES;
     headers[5] = (4, 6, 1024, 0);
     let mut f = folder_of(rt.alloc(), &headers, HEADER_LEN)?;
@@ -426,5 +428,42 @@ fn a_stopped_addition_leaves_a_good_folder(rt: HostRuntime) -> Result<(), Fail> 
             Err(_) => panic!(rt; "the files are whole"),
         }
     }
+    Ok(())
+}
+
+// Reads the first node in a folder that tells nothing, once its file has this length.
+fn read_cut(f: &mut SilentFolder<MemFolder>, length: u64) -> Result<bool, Fault> {
+    let files = BlockFiles::load(f)?;
+    let Some(addr) = files.node(0x9000_0000) else {
+        return Ok(false);
+    };
+    f.set_len(FileId::Block(0), length)?;
+    let mut out = [0; 36];
+    files.read_block(f, addr, 0, &mut out)?;
+    Ok(true)
+}
+
+#[test]
+fn too_few_bytes_are_a_damage(rt: HostRuntime) -> Result<(), Fail> {
+    let alloc = rt.alloc();
+    let file = FileId::Block(0);
+    let mut f = SilentFolder::new(folder_of(alloc, &FILES, HEADER_LEN + 36)?);
+    let at = HEADER_LEN as u64;
+    let found = 35;
+    assert_eq!(rt;
+        read_cut(&mut f, at + 35),
+        Err(Fault::Damaged(Damage { file, at, found }))
+    );
+
+    // Of a file that ends inside the fields of its header the length is the damage.
+    assert_eq!(rt; f.set_len(file, 79), Ok(()));
+    assert_eq!(rt;
+        BlockFiles::load(&mut f).err(),
+        Some(Fault::Damaged(Damage {
+            file,
+            at,
+            found: 79
+        }))
+    );
     Ok(())
 }

@@ -1,14 +1,16 @@
 -- Where keys lie.
 use Rattle.std.proofs.Common.{◌≡◌, ◌≢◌, ◌⊎◌, inl, inr, ⊎_elim, ℕ, zero, suc, ◌+◌, ◌-◌, ◌*◌, ◌/◌, ◌%◌, ◌^◌, ◌<◌, ◌≤◌, Bool, true, false, ◌&&◌, ◌||◌, if◌then◌else◌, List, [], ◌∷◌, length, take, drop, Option, None, Some, Result, Ok, Err, refl, sym, ◌∙◌, ap, ap₂, subst, arith, add-zero}
-use Rattle.std.specs.Prelude.{◌==◌, nat_le, nat_lt, not, min, ◌++◌, ◌↔◌, IfOk}
+use Rattle.std.specs.Prelude.{◌==◌, nat_le, nat_lt, not, min, ◌++◌, ◌↔◌, IfOk, OnOk}
 use Rattle.std.proofs.lemmas.List.{take_all, take-append-le, take-append-drop, length-drop, length-take}
 use Rattle.std.proofs.lemmas.Bool.{and_parts, eqb-true, cases_Bool, cases_lt, leb-true}
 use Rattle.std.proofs.lemmas.Bool.Decides.{nat_tests}
 use Rattle.std.specs.Option.{option_map, option_and_then}
 use Rattle.std.proofs.Math.Seq.{drop-append_seam}
-use Rattle.blk_image.specs.Bytes.{content, word_at, range_at}
-use Rattle.blk_image.specs.Image.{Block, External, Image, byte, has_file, length_of, word}
+use Rattle.blk_image.specs.Bytes.{content, word_at, words_at, range_at}
+use Rattle.blk_image.specs.Image.{Block, External, HasRange, Image, byte, has_file, length_of, word}
+use Rattle.blk_image.specs.Footprint.{range}
 use Rattle.blk_image.specs.Told.{Told}
+use Rattle.blk_image.proofs.Runs.{some_inj}
 use Rattle.blk_image.proofs.Words.{length-range}
 use Rattle.blk_format.specs.Address.{kind_of, block_count, block_size, is_address, external, external_number, file_selector, place, byte_size, blocks_256}
 use Rattle.blk_format.specs.Records.{entry_in}
@@ -16,8 +18,8 @@ use Rattle.blk_format.specs.Storage.{entry_blocks, is_storage, kind_for, blocks_
 use Rattle.blk_format.specs.Standing.{stands}
 use Rattle.blk_format.specs.BlockFiles.{stands_in, stands_in_blocks}
 use Rattle.blk_format.proofs.Bodies.{range-add}
-use Rattle.blk_volume.specs.View.{RecordFields, core_at, fields_of, entry_at, key_place_at, stands_as, stored_at, store_of}
-use Rattle.blk_volume.specs.Entries.{is_key_length, key_of, longest_key}
+use Rattle.blk_volume.specs.View.{RecordFields, fields_at, fields_of, entry_at, key_place_at, stands_as, stored_at, store_of}
+use Rattle.blk_volume.specs.Entries.{is_key_length, key_of, longest_key_with}
 use Rattle.blk_disk.specs.declared.tables.BlockFiles.{BlockFiles}
 use Rattle.blk_disk.specs.Tables.{Agrees, stands_among}
 use Rattle.blk_disk.proofs.Ranges.{stands_agree}
@@ -33,7 +35,7 @@ use Rattle.blk_io.specs.Faults.{IfDamaged, IsShort}
 use Rattle.blk_external.specs.Reading.{IsFew}
 use Rattle.blk_entry.specs.declared.keys.Head.{Head}
 use Rattle.blk_entry.specs.declared.keys.KeyPlace.{KeyPlace}
-use Rattle.blk_entry.specs.Keys.{IsCut, IsCutKey, IsCutPart, IsCutPiece, IsPlaced, data_name, IsPiece, IsPlaceOf, data_file, data_start, data_at, held, key_at, key_address, bytes_before, is_short, may_have, may_hold, stores, IsInside, IsInFile, IsHead, HasReadableKey}
+use Rattle.blk_entry.specs.Keys.{IsCut, IsCutKey, IsCutPart, IsCutPiece, IsPlaced, data_name, IsPiece, IsPlaceOf, AreKeyBytes, HasData, HasKeyBytes, key_bytes, data_range, data_file, data_start, data_at, held, key_at, key_address, bytes_before, is_short, may_have, may_hold, stores, IsInside, IsInFile, IsHead, HasReadableKey}
 use Rattle.blk_entry.proofs.Windows.{entry_room}
 
 -- two numbers that a test tells apart
@@ -55,21 +57,51 @@ pub data_of_external : (image : Image) (w at n : ℕ) → kind_of w ≡ external
 unfolding data_file data_start
 data_of_external image w at n is = rw is (ap (λ (i : ℕ). range_at (byte image (External (external_number w))) i n) (let e : 0 + at ≡ at = omega arith in e))
 
+-- bytes that are in a file
+pub data_in_blocks : (image : Image) (w at n : ℕ) → kind_of w ≢ external → HasRange image (Block (file_selector w)) (place w + at) n ⊎ (n ≡ 0) → HasData w at n image
+unfolding data_file data_start
+data_in_blocks image w at n block_kind there = let t : (kind_of w == external) ≡ false = grind (arith, nat_tests) in rw t there
+
+pub data_in_external : (image : Image) (w at n : ℕ) → kind_of w ≡ external → HasRange image (External (external_number w)) at n ⊎ (n ≡ 0) → HasData w at n image
+unfolding data_file data_start
+data_in_external image w at n is there = rw is (⊎_elim (λ (h : at + n ≤ length_of image (External (external_number w))). inl (omega (arith, h))) (λ (none : n ≡ 0). inr none) there)
+
+-- and their range
+pub range_of_blocks : (w at n : ℕ) → kind_of w ≢ external → range (Block (file_selector w)) (place w + at) n ≡ data_range w at n
+unfolding data_range data_file data_start
+range_of_blocks w at n block_kind = let t : (kind_of w == external) ≡ false = grind (arith, nat_tests) in rw t refl
+
+pub range_of_external : (w at n : ℕ) → kind_of w ≡ external → range (External (external_number w)) at n ≡ data_range w at n
+unfolding data_range data_file data_start
+range_of_external w at n is = rw is (ap (λ (i : ℕ). range (External (external_number w)) i n) (let e : at ≡ 0 + at = omega arith in e))
+
 -- the word of a record that was read
 pub head_word : (image : Image) (w q : ℕ) (window : List ℕ) → kind_of w ≡ blocks_256 → q + 4 ≤ 96 → window ≡ range_at (byte image (Block (file_selector w))) (place w + 0) 96 → word_at (content window) q ≡ word image (Block (file_selector w)) (place w + q)
 head_word image w q window kind inside read =
     let size : record_size w ≡ 96 = entry_bytes w kind in
     ap (λ (l : List ℕ). word_at (content l) q) (record_read image w 96 window (sym size) read) ∙ record_word image w q (omega (arith, size, inside))
 
+-- four words of it that lie one behind the other
+four_words : (image : Image) (w q : ℕ) (window : List ℕ) → kind_of w ≡ blocks_256 → q + 16 ≤ 96 → window ≡ range_at (byte image (Block (file_selector w))) (place w + 0) 96 → words_at (content window) q 4 ≡ words_at (byte image (Block (file_selector w))) (place w + q) 4
+unfolding words_at
+four_words image w q window kind inside read = λ i. word 0 q (place w + q) (omega arith) (omega arith) (omega arith) i ∷ word 4 (q + 4) (place w + q + 4) (omega arith) (omega arith) (omega arith) i ∷ word 8 (q + 4 + 4) (place w + q + 4 + 4) (omega arith) (omega arith) (omega arith) i ∷ word 12 (q + 4 + 4 + 4) (place w + q + 4 + 4 + 4) (omega arith) (omega arith) (omega arith) i ∷ []
+  where
+    word : (k at there : ℕ) → at ≡ q + k → there ≡ place w + at → k + 4 ≤ 16 → word_at (content window) at ≡ word_at (byte image (Block (file_selector w))) there
+    word k at there is then_there fits = head_word image w at window kind (omega (arith, is, fits, inside)) read ∙ ap (word_at (byte image (Block (file_selector w)))) (sym then_there)
+
 pub head_is : (image : Image) (w : ℕ) (window : List ℕ) (head : Head) → kind_of w ≡ blocks_256 → window ≡ range_at (byte image (Block (file_selector w))) (place w + 0) 96
-    → head.hash ≡ word_at (content window) 0 → head.next ≡ word_at (content window) 4 → head.key_len ≡ word_at (content window) 32 → head.long_key ≡ word_at (content window) 36 → head.flags ≡ word_at (content window) 72
+    → head.hash ≡ word_at (content window) 0 → head.next ≡ word_at (content window) 4 → head.node ≡ word_at (content window) 8 → head.key_len ≡ word_at (content window) 32 → head.long_key ≡ word_at (content window) 36
+    → head.sizes ≡ words_at (content window) 40 4 → head.addrs ≡ words_at (content window) 56 4 → head.flags ≡ word_at (content window) 72
     → IsHead image w head
 unfolding entry_in
-head_is image w window head kind read hash next key_len long_key flags = record {
+head_is image w window head kind read hash next node key_len long_key sizes addrs flags = record {
   hash = hash ∙ head_word image w 0 window kind (omega arith) read ∙ ap (word image (Block (file_selector w))) (add-zero (place w));
   next = next ∙ head_word image w 4 window kind (omega arith) read;
+  node = node ∙ head_word image w 8 window kind (omega arith) read;
   key_len = key_len ∙ head_word image w 32 window kind (omega arith) read;
   long_key = long_key ∙ head_word image w 36 window kind (omega arith) read;
+  sizes = sizes ∙ four_words image w 40 window kind (omega arith) read;
+  addrs = addrs ∙ four_words image w 56 window kind (omega arith) read;
   flags = flags ∙ head_word image w 72 window kind (omega arith) read;
 }
 
@@ -292,25 +324,46 @@ pub record IsKey (files : BlockFiles) (image : Image) (entry : ℕ) (key : List 
   pub is : key ≡ data_at image (key_address entry k l) (bytes_before k) k
   pub there : IsInFile (key_address entry k l) (bytes_before k) k image
 
-module _ (files : BlockFiles) (image : Image) (entry : ℕ) (key : List ℕ) (k l : ℕ) (agrees : Agrees files image) (kind : kind_of entry ≡ blocks_256) (has : may_have entry k ≡ true) where
+-- the bytes of a key by the words of its record
+module _ (image : Image) (entry : ℕ) (key : List ℕ) (k l : ℕ) (kind : kind_of entry ≡ blocks_256) where
   entry_blocky : kind_of entry ≢ external
   entry_blocky e = let z : ◌≡◌ {A = ℕ} 2 0 = sym kind ∙ e in cc
 
-  short_key : is_short k ≡ true → key ≡ range_at (byte image (Block (file_selector entry))) (place entry + 96) k → IsKey files image entry key k l
+  short_bytes : is_short k ≡ true → key ≡ range_at (byte image (Block (file_selector entry))) (place entry + 96) k → key ≡ data_at image (key_address entry k l) (bytes_before k) k
   unfolding key_address bytes_before
-  short_key short is = record {
-    has = has;
-    holds = λ long. absurd (let z : true ≡ false = sym short ∙ long in cc);
-    len = ap length is ∙ length-range k (place entry + 96) (byte image (Block (file_selector entry)));
-    is = rw short (is ∙ sym (data_of_blocks image entry 96 k entry_blocky));
-    there = rw short (λ e. absurd (entry_blocky e));
-  }
+  short_bytes short is = rw short (is ∙ sym (data_of_blocks image entry 96 k entry_blocky))
 
   long_data : (bytes : List ℕ) → IsStored image (k + 1) l bytes → bytes ≡ data_at image l 0 (k + 1)
   long_data bytes s =
       ⊎_elim (λ (outside : (kind_of l ≡ external) × ((length_of image (External (external_number l)) ≡ k + 1) × (bytes ≡ range_at (byte image (External (external_number l))) 0 (k + 1)))). outside.1.1 ∙ sym (data_of_external image l 0 (k + 1) outside.0))
       (λ (inside : (kind_of l ≢ external) × (bytes ≡ range_at (byte image (Block (file_selector l))) (place l) (k + 1))).
       inside.1 ∙ ap (λ (i : ℕ). range_at (byte image (Block (file_selector l))) i (k + 1)) (sym (add-zero (place l))) ∙ sym (data_of_blocks image l 0 (k + 1) inside.0)) s.at
+
+  long_bytes : is_short k ≡ false → (bytes : List ℕ) → IsStored image (k + 1) l bytes → key ≡ take k bytes → key ≡ data_at image (key_address entry k l) (bytes_before k) k
+  unfolding key_address bytes_before
+  long_bytes long bytes s is = rw long (is ∙ ap (take k) (long_data bytes s) ∙ take-range k (k + 1) (data_start l + 0) (byte image (data_file l)) (omega arith))
+
+  pub bytes_keyed : (if is_short k then (if l == 0 then Some (range_at (byte image (Block (file_selector entry))) (place entry + 96) k) else None) else option_map (take k) (stored_at image (k + 1) l)) ≡ Some key → key ≡ data_at image (key_address entry k l) (bytes_before k) k
+  bytes_keyed e = by_test (is_short k) (l == 0) refl e
+    where
+      none_some : None ≡ Some key → ⊥
+      none_some h = cc
+
+      by_test : (t z : Bool) → is_short k ≡ t → (if t then (if z then Some (range_at (byte image (Block (file_selector entry))) (place entry + 96) k) else None) else option_map (take k) (stored_at image (k + 1) l)) ≡ Some key → key ≡ data_at image (key_address entry k l) (bytes_before k) k
+      by_test true true e h = short_bytes e cc
+      by_test true false e h = absurd (none_some h)
+      by_test false z e h = let m = map_some (take k) (stored_at image (k + 1) l) key h in long_bytes e m.0 (stored_is image (k + 1) l m.0 (omega arith) m.1.0) m.1.1
+
+module _ (files : BlockFiles) (image : Image) (entry : ℕ) (key : List ℕ) (k l : ℕ) (agrees : Agrees files image) (kind : kind_of entry ≡ blocks_256) (has : may_have entry k ≡ true) where
+  short_key : is_short k ≡ true → key ≡ range_at (byte image (Block (file_selector entry))) (place entry + 96) k → IsKey files image entry key k l
+  unfolding key_address
+  short_key short is = record {
+    has = has;
+    holds = λ long. absurd (let z : true ≡ false = sym short ∙ long in cc);
+    len = ap length is ∙ length-range k (place entry + 96) (byte image (Block (file_selector entry)));
+    is = short_bytes image entry key k l kind short is;
+    there = rw short (λ e. absurd (entry_blocky image entry key k l kind e));
+  }
 
   long_there : (bytes : List ℕ) → IsStored image (k + 1) l bytes → IsInFile l 0 k image
   long_there bytes s is =
@@ -330,12 +383,12 @@ module _ (files : BlockFiles) (image : Image) (entry : ℕ) (key : List ℕ) (k 
   long_key : is_short k ≡ false → (bytes : List ℕ) → IsStored image (k + 1) l bytes → key ≡ take k bytes → IsKey files image entry key k l
   unfolding key_address bytes_before
   long_key long bytes s is =
-      let at : key ≡ data_at image l 0 k = is ∙ ap (take k) (long_data bytes s) ∙ take-range k (k + 1) (data_start l + 0) (byte image (data_file l)) (omega arith) in
+      let at : key ≡ data_at image (key_address entry k l) (bytes_before k) k = long_bytes image entry key k l kind long bytes s is in
       record {
         has = has;
         holds = λ _. long_holds bytes s;
-        len = ap length at ∙ length-range k (data_start l + 0) (byte image (data_file l));
-        is = rw long at;
+        len = ap length at ∙ length-range k (data_start (key_address entry k l) + bytes_before k) (byte image (data_file (key_address entry k l)));
+        is = at;
         there = rw long (long_there bytes s);
       }
 
@@ -354,8 +407,8 @@ module _ (files : BlockFiles) (image : Image) (entry : ℕ) (key : List ℕ) (k 
 length_right : (entry : ℕ) (fields : RecordFields) → is_key_length entry fields ≡ true → may_have entry fields.key_len ≡ true
 unfolding is_key_length may_have
 length_right entry fields e =
-    let a = and_parts (nat_le 1 fields.key_len && nat_le fields.key_len (longest_key fields)) (block_count entry == entry_blocks fields.key_len) e in
-    let b = and_parts (nat_le 1 fields.key_len) (nat_le fields.key_len (longest_key fields)) a.0 in
+    let a = and_parts (nat_le 1 fields.key_len && nat_le fields.key_len (longest_key_with fields)) (block_count entry == entry_blocks fields.key_len) e in
+    let b = and_parts (nat_le 1 fields.key_len) (nat_le fields.key_len (longest_key_with fields)) a.0 in
     let most : nat_le fields.key_len 32796 ≡ true = by_test (fields.flags == 2) b.1 in
     both (nat_le 1 fields.key_len && nat_le fields.key_len 32796) (block_count entry == entry_blocks fields.key_len) (both (nat_le 1 fields.key_len) (nat_le fields.key_len 32796) b.0 most) a.1
   where
@@ -363,20 +416,36 @@ length_right entry fields e =
     by_test true h = h
     by_test false h = grind (arith, nat_tests)
 
-pub key_facts : (files : BlockFiles) (image : Image) (entry : ℕ) (key : List ℕ) → Agrees files image → kind_of entry ≡ blocks_256 → key_at image entry ≡ Some key → IsKey files image entry key (entry_at image entry).key_len (entry_at image entry).long_key
-unfolding key_at core_at key_of store_of key_place_at
-key_facts files image entry key agrees kind e = by_stands (stands_as image blocks_256 entry) e
+-- what the key of a record is by its words
+record IsKeyOf (image : Image) (entry : ℕ) (key : List ℕ) : Type 0 where
+  right : is_key_length entry (fields_of (entry_at image entry)) ≡ true
+  of : key_of (store_of image) entry (fields_of (entry_at image entry)) ≡ Some key
+
+key_parts : (image : Image) (entry : ℕ) (key : List ℕ) → key_at image entry ≡ Some key → IsKeyOf image entry key
+unfolding key_at fields_at
+key_parts image entry key e = by_stands (stands_as image blocks_256 entry) e
   where
     none_some : None ≡ Some key → ⊥
     none_some h = cc
 
-    by_length : (t : Bool) → is_key_length entry (fields_of (entry_at image entry)) ≡ t → (if t then key_of (store_of image) entry (fields_of (entry_at image entry)) else None) ≡ Some key → IsKey files image entry key (entry_at image entry).key_len (entry_at image entry).long_key
-    by_length true l h = keyed files image entry key (entry_at image entry).key_len (entry_at image entry).long_key agrees kind (length_right entry (fields_of (entry_at image entry)) l) h
+    by_length : (t : Bool) → is_key_length entry (fields_of (entry_at image entry)) ≡ t → (if t then key_of (store_of image) entry (fields_of (entry_at image entry)) else None) ≡ Some key → IsKeyOf image entry key
+    by_length true l h = record { right = l; of = h }
     by_length false l h = absurd (none_some h)
 
-    by_stands : (t : Bool) → option_and_then (λ fields. if is_key_length entry fields then key_of (store_of image) entry fields else None) (if t then Some (fields_of (entry_at image entry)) else None) ≡ Some key → IsKey files image entry key (entry_at image entry).key_len (entry_at image entry).long_key
+    by_stands : (t : Bool) → option_and_then (λ fields. if is_key_length entry fields then key_of (store_of image) entry fields else None) (if t then Some (fields_of (entry_at image entry)) else None) ≡ Some key → IsKeyOf image entry key
     by_stands true h = by_length (is_key_length entry (fields_of (entry_at image entry))) refl h
     by_stands false h = absurd (none_some h)
+
+pub key_facts : (files : BlockFiles) (image : Image) (entry : ℕ) (key : List ℕ) → Agrees files image → kind_of entry ≡ blocks_256 → key_at image entry ≡ Some key → IsKey files image entry key (entry_at image entry).key_len (entry_at image entry).long_key
+unfolding key_of store_of key_place_at
+key_facts files image entry key agrees kind e =
+    let parts = key_parts image entry key e in
+    keyed files image entry key (entry_at image entry).key_len (entry_at image entry).long_key agrees kind (length_right entry (fields_of (entry_at image entry)) parts.right) parts.of
+
+-- a key that is read is the bytes where the words of its record say that it lies
+pub key_is_bytes : (image : Image) (entry : ℕ) (key : List ℕ) → kind_of entry ≡ blocks_256 → key_at image entry ≡ Some key → key ≡ key_bytes image entry
+unfolding key_of store_of key_place_at key_bytes
+key_is_bytes image entry key kind e = bytes_keyed image entry key (entry_at image entry).key_len (entry_at image entry).long_key kind (key_parts image entry key e).of
 
 -- A read that gave too few bytes.
 
@@ -528,16 +597,41 @@ whole_there files image entry k l key place n known at all e =
     let h = subst (λ (w : ℕ). IsInFile w (bytes_before k) k image) (sym at.addr) known.there e in
     omega (arith, h, at.skip, at.len, all)
 
--- a key is that of a record exactly where its bytes lie there
-pub key_by_place : (files : BlockFiles) (image : Image) (entry : ℕ) (head : Head) (key : List ℕ) (place : KeyPlace) → Agrees files image → kind_of entry ≡ blocks_256 → IsHead image entry head → HasReadableKey entry image → IsPlaceOf entry head.key_len head.long_key place
-    → head.key_len ≡ length key → (key ≡ data_at image place.addr place.skip (length key)) ↔ (key_at image entry ≡ Some key)
-key_by_place files image entry head key place agrees kind words has at size = (
-  λ same. has.is ∙ ap Some (key_in_place files image entry head.key_len head.long_key has.key place (head_facts files image entry head has.key agrees kind words has.is) at ∙ ap (data_at image place.addr place.skip) all ∙ sym same),
-  λ is. key_in_place files image entry head.key_len head.long_key key place (head_facts files image entry head key agrees kind words is) at ∙ ap (data_at image place.addr place.skip) all,
-)
+-- the bytes of a key by the place that was found for it
+pub bytes_in_place : (image : Image) (entry : ℕ) (head : Head) (place : KeyPlace) → IsHead image entry head → IsPlaceOf entry head.key_len head.long_key place → key_bytes image entry ≡ data_at image place.addr place.skip place.len
+unfolding key_bytes
+bytes_in_place image entry head place words at =
+    let a : place.addr ≡ key_address entry (entry_at image entry).key_len (entry_at image entry).long_key = at.addr ∙ (λ j. key_address entry (words.key_len j) (words.long_key j)) in
+    let b : place.skip ≡ bytes_before (entry_at image entry).key_len = at.skip ∙ ap bytes_before words.key_len in
+    let c : place.len ≡ (entry_at image entry).key_len = at.len ∙ words.key_len in
+    λ j. data_at image (sym a j) (sym b j) (sym c j)
+
+-- a key has the bytes of a place exactly where they lie at the place of its length
+pub bytes_by_place : (image : Image) (entry k l : ℕ) (key : List ℕ) (place : KeyPlace) → IsPlaceOf entry k l place → k ≡ length key → (key ≡ data_at image place.addr place.skip (length key)) ↔ AreKeyBytes key entry k l image
+bytes_by_place image entry k l key place at size = (λ same. record { len = size; bytes = same ∙ there }, λ are. are.bytes ∙ sym there)
   where
-    all : place.len ≡ length key
-    all = at.len ∙ size
+    there : data_at image place.addr place.skip (length key) ≡ data_at image (key_address entry k l) (bytes_before k) k
+    there = λ j. data_at image (at.addr j) (at.skip j) (sym size j)
+
+-- the words that were read are those of the record
+pub bytes_of_head : (image : Image) (entry : ℕ) (head : Head) (key : List ℕ) → IsHead image entry head → AreKeyBytes key entry head.key_len head.long_key image ↔ AreKeyBytes key entry (entry_at image entry).key_len (entry_at image entry).long_key image
+bytes_of_head image entry head key words = (λ are. subst (λ (l : ℕ). AreKeyBytes key entry (entry_at image entry).key_len l image) words.long_key (subst (λ (k : ℕ). AreKeyBytes key entry k head.long_key image) words.key_len are), λ are. subst (λ (l : ℕ). AreKeyBytes key entry head.key_len l image) (sym words.long_key) (subst (λ (k : ℕ). AreKeyBytes key entry k (entry_at image entry).long_key image) (sym words.key_len) are))
+
+-- bytes of a key that are where the words that were read say are where the record's say
+pub key_bytes_there : (image : Image) (entry : ℕ) (head : Head) (n : ℕ) → IsHead image entry head → HasData (key_address entry head.key_len head.long_key) (bytes_before head.key_len) n image → HasKeyBytes entry 0 n image
+key_bytes_there image entry head n words has =
+    let first : bytes_before head.key_len ≡ bytes_before (entry_at image entry).key_len + 0 = ap bytes_before words.key_len ∙ sym (add-zero (bytes_before (entry_at image entry).key_len)) in
+    subst (λ (i : ℕ). HasData (key_address entry (entry_at image entry).key_len (entry_at image entry).long_key) i n image) first
+    (subst (λ (w : ℕ). HasData w (bytes_before head.key_len) n image) (λ j. key_address entry (words.key_len j) (words.long_key j)) has)
+
+-- a record whose key can be read has this one exactly where its bytes are these
+pub key_by_bytes : (image : Image) (entry : ℕ) (key : List ℕ) → kind_of entry ≡ blocks_256 → HasReadableKey entry image → AreKeyBytes key entry (entry_at image entry).key_len (entry_at image entry).long_key image ↔ (key_at image entry ≡ Some key)
+unfolding key_bytes
+key_by_bytes image entry key kind has = (
+  λ are. has.is ∙ ap Some (key_is_bytes image entry has.key kind has.is ∙ sym are.bytes),
+  λ is. let same : has.key ≡ key = some_inj (sym has.is ∙ is) in let at : key ≡ key_bytes image entry = key_is_bytes image entry key kind is in
+      record { len = sym (ap length at ∙ length-range (entry_at image entry).key_len (data_start (key_address entry (entry_at image entry).key_len (entry_at image entry).long_key) + bytes_before (entry_at image entry).key_len) (byte image (data_file (key_address entry (entry_at image entry).key_len (entry_at image entry).long_key)))); bytes = at },
+)
 
 -- no bytes are the same
 pub none_same : (f : ℕ → ℕ) (i : ℕ) (rest : List ℕ) → (length rest == 0) ≡ true → rest ≡ range_at f i (length rest)
@@ -548,3 +642,7 @@ none_same f i (b ∷ rest) e = let zero_long : length (b ∷ rest) ≡ 0 = eqb-t
 pub ok_weaker : {A E : Type 0} (r : Result A E) (P Q : A → Type 0) → ((a : A) → P a → Q a) → IfOk r P → IfOk r Q
 ok_weaker (Ok a) P Q weaker holds = weaker a holds
 ok_weaker (Err e) P Q weaker holds = tt
+
+pub ok_there : {A E : Type 0} (r : Result A E) → OnOk r (Unit {0})
+ok_there (Ok a) = tt
+ok_there (Err e) = tt

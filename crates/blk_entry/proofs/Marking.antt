@@ -1,5 +1,5 @@
 -- The dirty word of a node at each moment of its change, and after it.
-use Rattle.std.proofs.Common.{◌≡◌, ◌≢◌, inl, inr, ⊎_elim, ℕ, ◌+◌, ◌*◌, ◌%◌, ◌^◌, ◌<◌, ◌≤◌, [], take, refl, sym, ◌∙◌, ap, ap₂, subst, arith}
+use Rattle.std.proofs.Common.{◌≡◌, ◌≢◌, inl, inr, ⊎_elim, ℕ, ◌+◌, ◌*◌, ◌%◌, ◌^◌, ◌<◌, ◌≤◌, [], take, refl, sym, ◌∙◌, ap, ap₂, subst, true, arith}
 use Rattle.std.proofs.lemmas.List.Elements.{All-nil, All-cons}
 use Rattle.blk_image.specs.Bytes.{content, word_at, long_at, range_at}
 use Rattle.blk_image.specs.Image.{Image, Block, AreBytes, byte, word}
@@ -10,12 +10,25 @@ use Rattle.blk_format.proofs.Bodies.{node_body-in}
 use Rattle.blk_format.specs.Sealed.{AreChanges, IsMidUpdate, IsUpdated, record_at, record_size, seal_place}
 use Rattle.blk_format.proofs.SealedRecords.{node_seal as seal_of_node, node_bytes}
 use Rattle.blk_format.proofs.SealedFields.{record_word, one_change, one_change_others, updated_seal, updated_stays, updated_is_new}
+use Rattle.std.specs.declared.option.Option.TheVariants.{Some}
+use Rattle.blk_format.specs.BlockFiles.{stands_in}
+use Rattle.blk_format.specs.Address.{is_address}
+use Rattle.blk_format.specs.Records.{node_checks}
+use Rattle.blk_format.specs.Sealed.{RecordChecks}
+use Rattle.blk_volume.specs.View.{checks_at, list_of, node_at, node_fields_at, stands_as, store_of}
+use Rattle.blk_disk.specs.declared.tables.BlockFiles.{BlockFiles}
+use Rattle.blk_disk.specs.Tables.{Agrees, stands_among}
+use Rattle.blk_laws.specs.NodeUpdates.{IsNode}
+use Rattle.blk_laws.proofs.Inside.{record-changes}
+use Rattle.blk_laws.proofs.Nodes.{dirty-written}
+use Rattle.blk_laws.proofs.Updates.{node-checks}
+use Rattle.blk_format.proofs.SealedRecords.{moment_before}
+use Rattle.blk_entry.proofs.NewShown.{stands_as_kind, stands_here}
 use Rattle.blk_entry.specs.Marks.{dirty_change, plain_node, SetsDirtyInProgress, HasDirtySet}
 
 -- one word before the seal of a node is changed
 pub mark_changes : (w mark : ℕ) → kind_of w ≡ rankings → AreChanges (seal_place w) (dirty_change mark)
 mark_changes w mark kind = record {
-  some = omega arith;
   few = omega arith;
   aligned = All-cons (λ change. change.0 % 4 ≡ 0) (28, mark) [] refl (All-nil (λ change. change.0 % 4 ≡ 0));
   before = All-cons (λ change. change.0 < seal_place w) (28, mark) [] (let s : seal_place w ≡ 32 = seal_of_node w kind in omega (arith, s)) (All-nil (λ change. change.0 < seal_place w));
@@ -76,6 +89,19 @@ sealed-alike f g i mark a dirty below seal =
       self_hash = 0;
     }
 
+-- a node that stands and whose record checks is a good one
+node_good : (image : Image) (w mark : ℕ) → AreBytes image → stands_in image w ≡ true → kind_of w ≡ rankings → RecordChecks w image → IsNode image w
+unfolding list_of checks_at
+node_good image w mark below standing kind good =
+    let st : stands_as image rankings w ≡ true = stands_as_kind image w rankings standing kind in
+    let sound : node_checks (node_at image w) ≡ true = node-checks image image w (dirty_change mark) below (moment_before w image (dirty_change mark) good) kind in
+    record { good = rw (st, sound) refl; bytes = below }
+
+-- what it says
+node_says : (image : Image) (w : ℕ) → stands_in image w ≡ true → kind_of w ≡ rankings → (store_of image).node_fields w ≡ Some (record { contents = (node_at image w).contents; dirty = (node_at image w).dirty })
+unfolding store_of node_fields_at
+node_says image w standing kind = let st : stands_as image rankings w ≡ true = stands_as_kind image w rankings standing kind in rw st refl
+
 module _ (from image : Image) (w mark : ℕ) (kind : kind_of w ≡ rankings) (small : mark < 2 ^ 32) where
   file_word : (q j : ℕ) → j ≡ place w + q → q < 36 → q % 4 ≡ 0 → word_at (content (record_at image w)) q ≡ word_at (content (record_at from w)) q → word image (Block (file_selector w)) j ≡ word from (Block (file_selector w)) j
   file_word q j e low aligned same =
@@ -86,11 +112,11 @@ module _ (from image : Image) (w mark : ℕ) (kind : kind_of w ≡ rankings) (sm
   here : (i : Image) (q : ℕ) → q + 4 ≤ 36 → word_at (content (record_at i w)) q ≡ word i (Block (file_selector w)) (place w + q)
   here i q inside = let size : record_size w ≡ 36 = node_bytes w kind in record_word i w q (omega (arith, size, inside))
 
-  -- a moment of a sealed update of the dirty word
-  pub marking_at : IsMidUpdate from w (dirty_change mark) image → SetsDirtyInProgress from w mark image
+  -- a moment of a sealed update of the dirty word of a node that stands
+  pub marking_at : (files : BlockFiles) → Agrees files from → stands_among files w ≡ true → is_address w ≡ true → AreBytes from → RecordChecks w from → IsMidUpdate from w (dirty_change mark) image → SetsDirtyInProgress from w mark image
   unfolding node_in
-  marking_at moment = record {
-    checks = moment.checks;
+  marking_at files agrees st address below good moment = record {
+    update = moment;
     dirty =
         ⊎_elim (λ (old : word_at (content (record_at image w)) 28 ≡ word_at (content (record_at from w)) 28). inl (sym (here image 28 (omega arith)) ∙ old ∙ here from 28 (omega arith)))
         (λ (new : word_at (content (record_at image w)) 28 ≡ mark). inr (sym (here image 28 (omega arith)) ∙ new)) (one_change from image w 28 mark (mark_changes w mark kind) small moment);
@@ -98,8 +124,12 @@ module _ (from image : Image) (w mark : ℕ) (kind : kind_of w ≡ rankings) (sm
         plain-alike (byte from (Block (file_selector w))) (byte image (Block (file_selector w))) (place w)
         (alike (byte from (Block (file_selector w))) (byte image (Block (file_selector w))) (place w)
         (λ q j e aligned low. file_word q j e (omega (arith, low)) aligned (one_change_others from image w 28 mark q (mark_changes w mark kind) moment aligned (let s : seal_place w ≡ 32 = seal_of_node w kind in omega (arith, s, low)) (λ same. omega (arith, same, low)))));
-    outside = moment.outside;
+    inside = record-changes from image w standing (inl kind) moment.outside;
+    only = (dirty-written from image w mark (node_good from w mark below standing kind good) small moment _ (node_says from w standing kind)).0;
   }
+    where
+      standing : stands_in from w ≡ true
+      standing = stands_here files from w agrees address (λ e. let z : ◌≡◌ {A = ℕ} 1 0 = sym kind ∙ e in cc) st
 
   -- all of it
   pub marked_at : IsUpdated from w (dirty_change mark) image → AreBytes image → HasDirtySet from w mark image

@@ -9,7 +9,7 @@ use Rattle.blk_image.specs.Steps.{TrailStep, after, words}
 use Rattle.blk_image.specs.Footprint.{Footprint, SameOutside, IsWithin, either, range, touched_by, touched_by_all}
 use Rattle.blk_image.specs.Told.{Told, Along, Until, IsQuiet, AppliesPrefix, Passes}
 use Rattle.blk_image.proofs.Footprints.{outside-refl, outside_steps, within_left, within_right, within_both, within_first, within_second, range_within, words_within}
-use Rattle.blk_image.proofs.Runs.{quiet-append, passes_part, passes_weaker, some_inj, until_last, until_weaker2, told_part}
+use Rattle.blk_image.proofs.Runs.{passes_end, quiet-append, passes_part, passes_weaker, some_inj, until_last, until_weaker2, told_part}
 use Rattle.blk_image.proofs.WordSteps.{quiet-words}
 use Rattle.blk_format.specs.Address.{kind_of, block_count, external, external_number, file_selector, place, byte_size, blocks_256}
 use Rattle.blk_format.specs.Storage.{entry_blocks}
@@ -21,6 +21,9 @@ use Rattle.blk_format.specs.Sealed.{record_range, record_size}
 use Rattle.blk_format.proofs.SpareHeaders.{SparesHeaders, heads_still, next_same, past_header}
 use Rattle.blk_disk.proofs.Agreeing.{agrees_still}
 use Rattle.blk_disk.proofs.Enlarging.{well_formed_still}
+use Rattle.blk_format.specs.Headers.{HasWholeIndex}
+use Rattle.blk_io.proofs.Carried.{silent_part, told_at_end}
+use Rattle.blk_entry.specs.Writing.{WritesEntryInProgress}
 use Rattle.blk_format.proofs.Keeping.{undamaged_still}
 use Rattle.blk_format.proofs.SealedRecords.{node_bytes as node_size_is}
 use Rattle.blk_entry.specs.declared.writing.NewEntry.{NewEntry}
@@ -235,7 +238,7 @@ module _ (files : BlockFiles) (new : NewEntry) (key : List ℕ) (moment : ℕ) (
 
   -- whatever was done of the steps
   module _ (a b : Told) (part : AppliesPrefix a b (entry_steps new key moment)) where
-    pub stops : ForSome a.files (λ from. Passes a b (SameOutside (places_of new (length key)) from))
+    stops : ForSome a.files (λ from. Passes a b (SameOutside (places_of new (length key)) from))
     stops from there =
         let P : Image → Type 0 = SameOutside (places_of new (length key)) from in
         passes_part P P part steps_quiet (λ image h. h) (λ image now. subst (λ (i : Image). Until P P i (entry_steps new key moment)) (some_image there now) (along from))
@@ -243,8 +246,18 @@ module _ (files : BlockFiles) (new : NewEntry) (key : List ℕ) (moment : ℕ) (
         some_image : {from image : Image} → a.files ≡ Some from → a.files ≡ Some image → from ≡ image
         some_image e d = some_inj (sym e ∙ d)
 
-    pub formed : ForSome a.files (λ from. IsWellFormed from → Passes a b IsWellFormed)
-    formed from there was = passes_weaker (stops from there) (λ image same. formed_kept from image same was) (λ image same. formed_kept from image same was)
+    pub at_each : ForSome a.files (λ from. Passes a b (WritesEntryInProgress new (length key) from))
+    at_each from there =
+        let moment : (image : Image) → SameOutside (places_of new (length key)) from image → WritesEntryInProgress new (length key) from image = (λ image same. record {
+          outside = same;
+          well_formed = formed_kept from image same;
+          complete = λ whole. same.lengths Index (no_sizes Index) ∙ whole;
+        }) in
+        passes_weaker (stops from there) moment moment
+
+    pub complete_after : ForSome a.files HasWholeIndex → ForSome b.files HasWholeIndex
+    complete_after whole =
+        told_at_end a.files b.files HasWholeIndex (silent_part part) (λ from there image now. (passes_end (at_each from there) image now).complete (whole from there))
 
     pub agrees_after : ForSome a.files (Agrees files) → ForSome b.files (Agrees files)
     agrees_after agrees =

@@ -12,7 +12,7 @@ use Rattle.blk_format.specs.Records.{entry_checks, entry_is_sealed, node_checks,
 use Rattle.blk_format.specs.Storage.{entry_blocks, is_storage}
 use Rattle.blk_format.specs.Standing.{stands}
 use Rattle.blk_format.specs.BlockFiles.{stands_in, stands_in_blocks}
-use Rattle.blk_volume.specs.View.{RecordFields, StoreView, checks_at, core_at, fields_of, follow_at, key_place_at, list_of, node_fields_at, next_at, stands_as, store_of, stored_at}
+use Rattle.blk_volume.specs.View.{RecordFields, StoreView, checks_at, fields_at, fields_of, follow_at, key_place_at, list_of, node_fields_at, next_at, stands_as, store_of, stored_at}
 use Rattle.blk_volume.specs.Entries.{IsPlain, is_key_length, key_of, role_of, stream_of, streams_of}
 use Rattle.blk_volume.specs.Loads.{Loaded, unchained_rule, load, load_key, load_record}
 use Rattle.blk_volume.specs.Reasons.{Reason, ◌>>=◌, demand}
@@ -47,7 +47,7 @@ stands_here files image w agrees address block_kind st =
     let s : stands_in_blocks image w ≡ true = sym (stands_agree files image w agrees) ∙ st in
     rw (address, t) s
 
-stands_as_kind : (image : Image) (w kind : ℕ) → stands_in image w ≡ true → kind_of w ≡ kind → stands_as image kind w ≡ true
+pub stands_as_kind : (image : Image) (w kind : ℕ) → stands_in image w ≡ true → kind_of w ≡ kind → stands_as image kind w ≡ true
 stands_as_kind image w kind st is = let e : (kind_of w == kind) ≡ true = eq-eqb (kind_of w) kind is in rw (st, e) refl
 
 -- an external file with bytes is there
@@ -125,8 +125,8 @@ module _ (files : BlockFiles) (new : NewEntry) (key : List ℕ) (moment : ℕ) (
   unfolding node_fields_at new_node
   node_named = λ i. if node_stands_as i then Some (record { contents = (done.node i).contents; dirty = (done.node i).dirty }) else None
 
-  core_here : core_at image new.entry ≡ Some (fields_of (new_record new key moment))
-  unfolding core_at
+  core_here : fields_at image new.entry ≡ Some (fields_of (new_record new key moment))
+  unfolding fields_at
   core_here = λ i. if entry_stands_as i then Some (fields_of (done.entry i)) else None
 
   follow_here : follow_at image new.entry ≡ new.next

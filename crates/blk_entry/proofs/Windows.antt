@@ -1,10 +1,13 @@
 -- Words of entry records, and where they lie.
-use Rattle.std.proofs.Common.{◌≡◌, ◌≢◌, ℕ, ◌*◌, ◌≤◌, List, length, refl, sym, ◌∙◌, ap, arith}
+use Rattle.std.proofs.Common.{◌≡◌, ◌≢◌, ℕ, ◌+◌, ◌*◌, ◌≤◌, Bool, true, false, Option, None, Some, if◌then◌else◌, List, length, refl, sym, ◌∙◌, ap, arith}
 use Rattle.std.proofs.lemmas.List.{take_all}
 use Rattle.std.specs.Int.{from_le_bytes, w32}
 use Rattle.blk_image.specs.Bytes.{word_at, range_at}
 use Rattle.blk_image.proofs.Words.{length-range, word-from_bytes}
-use Rattle.blk_format.specs.Address.{kind_of, byte_size, block_count, block_size, blocks_256, external}
+use Rattle.blk_image.specs.Image.{Block, Image, word}
+use Rattle.blk_format.specs.Address.{kind_of, byte_size, block_count, block_size, blocks_256, external, file_selector, place}
+use Rattle.blk_format.specs.Records.{entry_in}
+use Rattle.blk_volume.specs.View.{entry_at}
 use Rattle.blk_format.proofs.Words.{AreFields-of}
 
 -- the bytes of the blocks of an entry record
@@ -27,3 +30,23 @@ size_of_entry w kind = rw kind refl
 
 pub not_external : (w : ℕ) → kind_of w ≡ blocks_256 → kind_of w ≢ external
 not_external w kind e = let z : ◌≡◌ {A = ℕ} 2 0 = sym kind ∙ e in cc
+
+-- the word of the node of a record
+pub node_read : (image : Image) (entry word_read : ℕ) → word_read ≡ word image (Block (file_selector entry)) (place entry + 8) → word_read ≡ (entry_at image entry).rankings_node
+unfolding entry_in
+node_read image entry w read = read
+
+-- what a word names by a test
+pub named_is : (t : Bool) (w node : ℕ) → Some node ≡ (if t then Some w else None) → node ≡ w
+named_is true w node e = cc
+named_is false w node e = absurd (never e)
+  where
+    never : Some node ≡ None → ⊥
+    never h = cc
+
+pub none_named : (t : Bool) (w : ℕ) → None ≡ (if t then Some w else None) → t ≡ false
+none_named true w e = absurd (never e)
+  where
+    never : None ≡ Some w → ⊥
+    never h = cc
+none_named false w e = refl

@@ -1,14 +1,15 @@
 -- The key of an entry record: where it lies, and what a read of it gives.
-use Rattle.std.specs.Prelude.{ℕ, ◌≡◌, ◌≢◌, ◌⊎◌, ◌+◌, ◌-◌, ◌*◌, ◌<◌, ◌≤◌, min, List, length, take, drop, Bool, false, true, ◌&&◌, ◌||◌, nat_le, ◌==◌, if◌then◌else◌, Option, None, Some}
-use Rattle.std.specs.Option.{option_and_then}
+use Rattle.std.specs.Prelude.{ℕ, ◌≡◌, ◌≢◌, ◌⊎◌, ◌+◌, ◌-◌, ◌*◌, ◌<◌, ◌≤◌, ◌^◌, min, List, length, take, drop, Bool, false, true, ◌&&◌, ◌||◌, nat_le, ◌==◌, if◌then◌else◌, Option, None, Some}
+use Rattle.std.specs.Option.{ForSome, option_and_then}
 use Rattle.blk_image.specs.Bytes.{range_at}
 use Rattle.blk_image.specs.Image.{File, Block, External, Image, HasRange, byte}
+use Rattle.blk_image.specs.Footprint.{Footprint, range}
 use Rattle.blk_image.specs.Told.{Told}
 use Rattle.blk_format.specs.Address.{kind_of, block_count, external, external_number, file_selector, place, byte_size}
 use Rattle.blk_format.specs.Hash.{hash as hash_of}
 use Rattle.blk_format.specs.Records.{entry_size}
 use Rattle.blk_format.specs.Storage.{entry_blocks, is_storage}
-use Rattle.blk_volume.specs.View.{core_at, entry_at, store_of}
+use Rattle.blk_volume.specs.View.{fields_at, entry_at, store_of}
 use Rattle.blk_volume.specs.Entries.{is_key_length, key_of, longest_short_key}
 use Rattle.blk_io.specs.declared.folder.FileId.{FileId}
 use Rattle.blk_io.specs.declared.folder.FileId.TheVariants as names
@@ -17,14 +18,15 @@ use Rattle.blk_io.specs.declared.fault.Fault.{Fault}
 use Rattle.blk_io.specs.declared.fault.Fault.TheVariants.{Damaged}
 use Rattle.blk_io.specs.Faults.{IsShort}
 use Rattle.blk_disk.specs.declared.tables.BlockFiles.{BlockFiles}
-use Rattle.blk_disk.specs.Tables.{stands_among}
+use Rattle.blk_disk.specs.Tables.{Agrees, is_node_among, stands_among}
 use Rattle.blk_disk.specs.Unsealed.{IsUnsealed}
+use Rattle.blk_format.specs.Sealed.{RecordChecks}
 use Rattle.blk_entry.specs.declared.keys.Head.{Head}
 use Rattle.blk_entry.specs.declared.keys.KeyPlace.{KeyPlace}
 
 -- the key of the record that a word names, where the length and the place of the key are right
 unfoldable pub key_at : Image → ℕ → Option (List ℕ)
-key_at image entry = option_and_then (λ fields. if is_key_length entry fields then key_of (store_of image) entry fields else None) (core_at image entry)
+key_at image entry = option_and_then (λ fields. if is_key_length entry fields then key_of (store_of image) entry fields else None) (fields_at image entry)
 
 -- the bytes of the key's place in a record of one block
 abbrev pub key_place_bytes : ℕ
@@ -60,7 +62,20 @@ data_name w = if kind_of w == external then names.External (external_number w) e
 abbrev pub data_at : Image → ℕ → ℕ → ℕ → List ℕ
 data_at image w place n = range_at (byte image (data_file w)) (data_start w + place) n
 
+-- the place of these bytes in their file
+unfoldable pub data_range : ℕ → ℕ → ℕ → Footprint
+data_range w at n = range (data_file w) (data_start w + at) n
+
+-- so many bytes of the data of an address, from a place in it on, are in the file, or none are asked for
+abbrev pub HasData : ℕ → ℕ → ℕ → Image → Type 0
+HasData w at n image = HasRange image (data_file w) (data_start w + at) n ⊎ (n ≡ 0)
+
 -- The checks of a key that is read.
+
+-- the bytes of a record are in the file, and it checks
+pub record HasRecord (entry : ℕ) (image : Image) : Type 0 where
+  pub there : HasRange image (Block (file_selector entry)) (place entry) entry_size
+  pub checks : RecordChecks entry image
 
 -- the longest key of any record: that of a child
 abbrev pub most_key : ℕ
@@ -108,6 +123,28 @@ pub record IsPlaced (files : BlockFiles) (entry key_len long_key : ℕ) : Type 0
   pub has : may_have entry key_len ≡ true
   pub holds : is_short key_len ≡ false → may_hold files key_len long_key ≡ true
 
+-- the bytes where the words of a record say that its key lies
+unfoldable pub key_bytes : Image → ℕ → List ℕ
+key_bytes image entry = data_at image (key_address entry (entry_at image entry).key_len (entry_at image entry).long_key) (bytes_before (entry_at image entry).key_len) (entry_at image entry).key_len
+
+-- the words of a record give its key a place
+abbrev pub HasKeyPlace : BlockFiles → ℕ → Image → Type 0
+HasKeyPlace files entry image = IsPlaced files entry (entry_at image entry).key_len (entry_at image entry).long_key
+
+-- so many bytes of the key of a record, from a place on, are where its words say, in the file
+abbrev pub HasKeyBytes : ℕ → ℕ → ℕ → Image → Type 0
+HasKeyBytes entry at n image = HasData (key_address entry (entry_at image entry).key_len (entry_at image entry).long_key) (bytes_before (entry_at image entry).key_len + at) n image
+
+-- a key has this length, and lies where a record with this word of a long key keeps it
+pub record AreKeyBytes (key : List ℕ) (entry key_len long_key : ℕ) (image : Image) : Type 0 where
+  pub len : key_len ≡ length key
+  pub bytes : key ≡ data_at image (key_address entry key_len long_key) (bytes_before key_len) key_len
+
+-- a record with the hash of a key, and the bytes of the key where its words say
+pub record HasBytesOf (key : List ℕ) (entry : ℕ) (image : Image) : Type 0 where
+  pub hash : (entry_at image entry).hash ≡ hash_of key
+  pub bytes : AreKeyBytes key entry (entry_at image entry).key_len (entry_at image entry).long_key image
+
 -- a key is read piece by piece, and a read of one gave too few bytes
 pub record IsCutKey (files : BlockFiles) (told : Told) (entry key_len long_key : ℕ) (damage : Damage) : Type 0 where
   pub placed : IsPlaced files entry key_len long_key
@@ -118,17 +155,34 @@ pub record IsCutPart (files : BlockFiles) (told : Told) (entry key_len long_key 
   pub placed : IsPlaced files entry key_len long_key
   pub cut : IsCut told (key_address entry key_len long_key) (bytes_before key_len + min at key_len) (min (key_len - min at key_len) size) damage
 
--- the length of the key, at place 32 of the record, is one that the record can't have
+-- the places of words in a record: of its node, of the length of its key, and of the word of a long key
+abbrev pub node_place : ℕ
+node_place = 8
+
+abbrev pub key_len_place : ℕ
+key_len_place = 32
+
+abbrev pub long_key_place : ℕ
+long_key_place = 36
+
+-- the word of the node of a record is no address of a node that stands
+pub record IsDanglingNode (files : BlockFiles) (told : Told) (entry : ℕ) (damage : Damage) : Type 0 where
+  pub of_file : damage.file ≡ names.Block (file_selector entry)
+  pub at_place : damage.at ≡ place entry + node_place
+  pub of_word : ForSome told.files (λ image. damage.found ≡ (entry_at image entry).rankings_node)
+  pub dangling : is_node_among files damage.found ≡ false
+
+-- the length of the key is one that the record can't have
 pub record IsUnfit (entry key_len : ℕ) (damage : Damage) : Type 0 where
   pub of_file : damage.file ≡ names.Block (file_selector entry)
-  pub at_place : damage.at ≡ place entry + 32
+  pub at_place : damage.at ≡ place entry + key_len_place
   pub of_word : damage.found ≡ key_len
   pub unfit : may_have entry key_len ≡ false
 
--- the word of a long key, at place 36 of the record, is no address that stands and stores a key of so many bytes
+-- the word of a long key is no address that stands and stores a key of so many bytes
 pub record IsDanglingKey (files : BlockFiles) (entry key_len long_key : ℕ) (damage : Damage) : Type 0 where
   pub of_file : damage.file ≡ names.Block (file_selector entry)
-  pub at_place : damage.at ≡ place entry + 36
+  pub at_place : damage.at ≡ place entry + long_key_place
   pub of_word : damage.found ≡ long_key
   pub has : may_have entry key_len ≡ true
   pub long : is_short key_len ≡ false
@@ -153,6 +207,12 @@ pub record IsWrongPart (files : BlockFiles) (told : Told) (entry at size : ℕ) 
   pub long_key : ℕ
   pub wrong : IsCutPart files told entry key_len long_key at size damage ⊎ IsMisplaced files entry key_len long_key damage
 
+-- the key of a record can be read: the block files agree with the folder, the record checks, and its key has a right length and place
+pub record CanBeRead (files : BlockFiles) (entry : ℕ) (image : Image) : Type 0 where
+  pub agrees : Agrees files image
+  pub checks : RecordChecks entry image
+  pub key : HasReadableKey entry image
+
 -- a damage where the words of a record are read: too few bytes, or it doesn't check
 abbrev pub IsHeadDamage : Told → ℕ → Damage → Type 0
 IsHeadDamage told entry damage = IsShort told (names.Block (file_selector entry)) (place entry) entry_size damage ⊎ IsUnsealed told entry damage
@@ -171,8 +231,11 @@ IsPartDamage files told entry at size damage = IsHeadDamage told entry damage �
 pub record IsHead (image : Image) (entry : ℕ) (head : Head) : Type 0 where
   pub hash : head.hash ≡ (entry_at image entry).hash
   pub next : head.next ≡ (entry_at image entry).next
+  pub node : head.node ≡ (entry_at image entry).rankings_node
   pub key_len : head.key_len ≡ (entry_at image entry).key_len
   pub long_key : head.long_key ≡ (entry_at image entry).long_key
+  pub sizes : head.sizes ≡ (entry_at image entry).data_size
+  pub addrs : head.addrs ≡ (entry_at image entry).data_addr
   pub flags : head.flags ≡ (entry_at image entry).flags
 
 -- a place is that of a key of so many bytes of a record with this word of a long key
@@ -183,7 +246,7 @@ pub record IsPlaceOf (entry key_len long_key : ℕ) (place : KeyPlace) : Type 0 
 
 -- the bytes of a place are there, where it is one of blocks
 pub record IsInside (files : BlockFiles) (w before n : ℕ) : Type 0 where
-  pub small : before + n ≤ most_key + entry_size
+  pub small : before + n < 2 ^ 32
   pub stands : kind_of w ≢ external → stands_among files w ≡ true
   pub room : kind_of w ≢ external → before + n ≤ byte_size w
 

@@ -3,8 +3,10 @@ use Rattle.std.specs.Prelude.{ℕ, ◌≡◌, ◌≢◌, ◌⊎◌, ◌+◌, ◌
 use Rattle.blk_image.specs.Bytes.{word_bytes, zeros}
 use Rattle.blk_image.specs.Image.{Block, External, Image, length_of}
 use Rattle.blk_image.specs.Steps.{TrailStep, words}
-use Rattle.blk_image.specs.Footprint.{Footprint, either, nothing, range}
+use Rattle.blk_image.specs.Footprint.{Footprint, SameOutside, either, nothing, range}
 use Rattle.blk_format.specs.Address.{is_address, kind_of, block_count, first_block, external, rankings, blocks_256, external_number, file_selector, place, byte_size}
+use Rattle.blk_format.specs.BlockFiles.{IsWellFormed}
+use Rattle.blk_format.specs.Headers.{HasWholeIndex}
 use Rattle.blk_format.specs.Hash.{hash as hash_of}
 use Rattle.blk_format.specs.Records.{Entry, Node, entry_body, entry_size, sealed_entry, node_body, sealed_node, normal, plain, child}
 use Rattle.blk_format.specs.Storage.{entry_blocks}
@@ -141,6 +143,12 @@ node_steps new moment = words (Block (file_selector new.node)) (place new.node) 
 -- all of them: the key, the record, the node
 unfoldable pub entry_steps : NewEntry → List ℕ → ℕ → List TrailStep
 entry_steps new key moment = key_steps new key ++ (record_steps new key moment ++ node_steps new moment)
+
+-- while an entry is written no byte outside the three places has changed: the index is as before, and what is well formed stays so
+pub record WritesEntryInProgress (new : NewEntry) (key_len : ℕ) (from image : Image) : Type 0 where
+  pub outside : SameOutside (places_of new key_len) from image
+  pub well_formed : IsWellFormed from → IsWellFormed image
+  pub complete : HasWholeIndex from → HasWholeIndex image
 
 -- What stands there in the end.
 

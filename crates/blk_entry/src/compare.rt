@@ -1,12 +1,13 @@
 // Keys that are compared with those of entry records.
-ghost use Rattle.std.specs.Prelude.{◌≡◌, ◌≤◌, ◌↔◌, IfOk, IsTrue, None, Some, length};
+ghost use Rattle.std.specs.Prelude.{◌≡◌, ◌≤◌, ◌↔◌, IfOk, IsTrue, None, OnOk, Some, length};
 ghost use Rattle.std.specs.Option.{ForSome};
 ghost use Rattle.blk_image.specs.Told.{Rises, Stays};
 ghost use Rattle.blk_format.specs.Address.{blocks_256, kind_of};
+ghost use Rattle.blk_volume.specs.View.{entry_at};
 ghost use Rattle.blk_io.specs.Faults.{IfDamaged, IfDevice};
 ghost use Rattle.blk_disk.specs.Tables.{Agrees, stands_among};
-ghost use Rattle.blk_format.specs.Sealed.{RecordChecks};
-ghost use Rattle.blk_entry.specs.Keys.{HasReadableKey, IsCut, IsCutPiece, IsEntryOf, IsHead, IsInFile, IsInside, IsKeyDamage, IsPlaceDamage, data_at, key_at};
+ghost use Rattle.blk_format.specs.Hash.{hash as hash_of};
+ghost use Rattle.blk_entry.specs.Keys.{AreKeyBytes, CanBeRead, HasBytesOf, HasData, HasKeyBytes, HasKeyPlace, HasReadableKey, HasRecord, IsCut, IsCutPiece, IsEntryOf, IsHead, IsInFile, IsInside, IsKeyDamage, IsPlaceDamage, IsPlaced, bytes_before, data_at, key_address, key_at};
 
 use crate::data::read_data;
 use crate::keys::{Head, key_place, read_head};
@@ -31,13 +32,21 @@ pub fn key_equals<F: Folder>(
 ) -> Result<bool, Fault>
     requires kind { kind_of entry ≡ blocks_256 }
     requires stands { IsTrue (stands_among files.now entry) }
-    requires agrees { ForSome (F.told f.old).files (Agrees files.now) }
-    requires checks { ForSome (F.told f.old).files (RecordChecks entry) }
-    requires key { ForSome (F.told f.old).files (HasReadableKey entry) }
-    ensures equal { IfOk result (λ same. ForSome (F.told f.old).files (λ image. IsTrue same ↔ IsEntryOf key.now entry image)) }
-    ensures damaged { IfDamaged result (IsKeyDamage files.now (F.told f.old) entry (length key.now)) }
-    ensures untold { IfDamaged result (λ _. (F.told f.old).files ≡ None) }
+
+    // The bytes where the record's words say that its key lies are the key, and so its key is.
+    ensures bytes { IfOk result (λ same. ForSome (F.told f.old).files (λ image. IsTrue same ↔ HasBytesOf key.now entry image)) }
+    ensures equal { IfOk result (λ same. ForSome (F.told f.old).files (λ image. HasReadableKey entry image → IsTrue same ↔ IsEntryOf key.now entry image)) }
+
+    // The record checks; where hash and length are the key's, the key has a place; where it is the same, its bytes are in the file.
+    ensures checked { OnOk result (ForSome (F.told f.old).files (HasRecord entry)) }
+    ensures placed { OnOk result (ForSome (F.told f.old).files (λ image. (entry_at image entry).hash ≡ hash_of key.now → (entry_at image entry).key_len ≡ length key.now → HasKeyPlace files.now entry image)) }
+    ensures there { IfOk result (λ same. IsTrue same → ForSome (F.told f.old).files (HasKeyBytes entry 0 (length key.now))) }
     ensures stays { Stays (F.told f.old) (F.told f.new) }
+
+    // A folder that tells its files gives a damage only where the record doesn't check or has no key to read.
+    ensures damaged { IfDamaged result (IsKeyDamage files.now (F.told f.old) entry (length key.now)) }
+    ensures untold { ForSome (F.told f.old).files (CanBeRead files.now entry) → IfDamaged result (λ _. (F.told f.old).files ≡ None) }
+
     ensures later { F.faults f.old ≤ F.faults f.new }
     ensures device { IfDevice result (Rises (F.faults f.old) (F.faults f.new)) }
 {
@@ -54,7 +63,7 @@ pub fn key_equals<F: Folder>(
 /// is the key read: by one folder call, or by two where it has more than 16398 bytes; the second only
 /// where the first piece is the same. A damage is a read of a piece that gave too few bytes, a length
 /// that the key can't have, or the word of a long key that is no address which stands and stores the
-/// key. A folder that tells its files never gives one.
+/// key.
 pub fn key_is<F: Folder>(
     f: &mut F,
     files: &BlockFiles,
@@ -64,13 +73,20 @@ pub fn key_is<F: Folder>(
 ) -> Result<bool, Fault>
     requires kind { kind_of entry ≡ blocks_256 }
     requires stands { IsTrue (stands_among files.now entry) }
-    requires agrees { ForSome (F.told f.old).files (Agrees files.now) }
-    requires head { ForSome (F.told f.old).files (λ image. IsHead image entry head.now) }
-    requires key { ForSome (F.told f.old).files (HasReadableKey entry) }
-    ensures equal { IfOk result (λ same. ForSome (F.told f.old).files (λ image. IsTrue same ↔ (key_at image entry ≡ Some key.now))) }
-    ensures damaged { IfDamaged result (IsPlaceDamage files.now (F.told f.old) entry (length key.now) head.now.long_key) }
-    ensures untold { IfDamaged result (λ _. (F.told f.old).files ≡ None) }
+
+    // The bytes where those words say that the key lies are the key, and so its key is where they are the record's.
+    ensures bytes { IfOk result (λ same. ForSome (F.told f.old).files (λ image. IsTrue same ↔ AreKeyBytes key.now entry head.now.key_len head.now.long_key image)) }
+    ensures equal { IfOk result (λ same. ForSome (F.told f.old).files (λ image. IsHead image entry head.now → HasReadableKey entry image → IsTrue same ↔ (key_at image entry ≡ Some key.now))) }
+
+    // Where the length is the key's, the key has a place; where it is the same, its bytes are in the file.
+    ensures placed { OnOk result (head.now.key_len ≡ length key.now → IsPlaced files.now entry head.now.key_len head.now.long_key) }
+    ensures there { IfOk result (λ same. IsTrue same → ForSome (F.told f.old).files (HasData (key_address entry head.now.key_len head.now.long_key) (bytes_before head.now.key_len) (length key.now))) }
     ensures stays { Stays (F.told f.old) (F.told f.new) }
+
+    // A folder that tells its files gives a damage only where the record has no key to read, or the words are others.
+    ensures damaged { IfDamaged result (IsPlaceDamage files.now (F.told f.old) entry (length key.now) head.now.long_key) }
+    ensures untold { ForSome (F.told f.old).files (CanBeRead files.now entry) → ForSome (F.told f.old).files (λ image. IsHead image entry head.now) → IfDamaged result (λ _. (F.told f.old).files ≡ None) }
+
     ensures later { F.faults f.old ≤ F.faults f.new }
     ensures device { IfDevice result (Rises (F.faults f.old) (F.faults f.new)) }
 {
@@ -90,11 +106,10 @@ fn data_is<F: Folder>(
     bytes: &[u8],
 ) -> Result<bool, Fault>
     requires inside { IsInside files.now addr at (length bytes.now) }
-    requires agrees { ForSome (F.told f.old).files (Agrees files.now) }
-    requires external { ForSome (F.told f.old).files (IsInFile addr at (length bytes.now)) }
     ensures same { IfOk result (λ same. ForSome (F.told f.old).files (λ image. IsTrue same ↔ (bytes.now ≡ data_at image addr at (length bytes.now)))) }
     ensures short { IfDamaged result (IsCutPiece (F.told f.old) addr at (length bytes.now)) }
-    ensures untold { IfDamaged result (λ _. (F.told f.old).files ≡ None) }
+    ensures there { IfOk result (λ same. IsTrue same → ForSome (F.told f.old).files (HasData addr at (length bytes.now))) }
+    ensures untold { ForSome (F.told f.old).files (Agrees files.now) → ForSome (F.told f.old).files (IsInFile addr at (length bytes.now)) → IfDamaged result (λ _. (F.told f.old).files ≡ None) }
     ensures stays { Stays (F.told f.old) (F.told f.new) }
     ensures later { F.faults f.old ≤ F.faults f.new }
     ensures device { IfDevice result (Rises (F.faults f.old) (F.faults f.new)) }
@@ -122,11 +137,10 @@ fn piece_is<F: Folder>(
 ) -> Result<bool, Fault>
     requires few { length bytes.now ≤ 16398 }
     requires inside { IsInside files.now addr at (length bytes.now) }
-    requires agrees { ForSome (F.told f.old).files (Agrees files.now) }
-    requires external { ForSome (F.told f.old).files (IsInFile addr at (length bytes.now)) }
     ensures same { IfOk result (λ same. ForSome (F.told f.old).files (λ image. IsTrue same ↔ (bytes.now ≡ data_at image addr at (length bytes.now)))) }
     ensures short { IfDamaged result (IsCut (F.told f.old) addr at (length bytes.now)) }
-    ensures untold { IfDamaged result (λ _. (F.told f.old).files ≡ None) }
+    ensures there { IfOk result (λ same. IsTrue same → ForSome (F.told f.old).files (HasData addr at (length bytes.now))) }
+    ensures untold { ForSome (F.told f.old).files (Agrees files.now) → ForSome (F.told f.old).files (IsInFile addr at (length bytes.now)) → IfDamaged result (λ _. (F.told f.old).files ≡ None) }
     ensures stays { Stays (F.told f.old) (F.told f.new) }
     ensures later { F.faults f.old ≤ F.faults f.new }
     ensures device { IfDevice result (Rises (F.faults f.old) (F.faults f.new)) }

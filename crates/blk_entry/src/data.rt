@@ -1,20 +1,25 @@
 // The bytes of data, which lie in blocks or in an external file.
 ghost use Rattle.std.specs.Prelude.{◌≡◌, ◌+◌, ◌≤◌, ◌==◌, None, OnErr, OnOk, length};
 ghost use Rattle.std.specs.Option.{ForSome};
-ghost use Rattle.blk_image.specs.Told.{Applies, AppliesPrefix, Rises, Stays};
+ghost use Rattle.blk_image.specs.Footprint.{SameOutside};
+ghost use Rattle.blk_image.specs.Told.{Applies, AppliesPrefix, Passes, Rises, Stays};
 ghost use Rattle.blk_format.specs.Address.{kind_of};
 ghost use Rattle.blk_addr.specs.Kind.{kind_number};
 ghost use Rattle.blk_io.specs.Faults.{IfDamaged, IfDevice};
 ghost use Rattle.blk_disk.specs.Tables.{Agrees};
-ghost use Rattle.blk_entry.specs.Keys.{IsCut, IsInFile, IsInside, data_at};
+ghost use Rattle.blk_entry.specs.Keys.{HasData, IsCut, IsInFile, IsInside, data_at, data_range};
 ghost use Rattle.blk_entry.specs.Steps.{data_steps, ended_steps};
 
 use blk_addr::{Addr, Kind};
 use blk_disk::BlockFiles;
 use blk_io::{Failed, Fault, Folder};
 
-// Reads bytes of the data of an address, from a place in it on.
-pub(crate) fn read_data<F: Folder>(
+/// Reads bytes of the data of an address, from a place in it on, into the whole of `out`: of its blocks, or
+/// of its external file.
+///
+/// One folder call reads them. Too few bytes are a damage: it has the place of the read, and finds how many
+/// bytes there were.
+pub fn read_data<F: Folder>(
     f: &mut F,
     files: &BlockFiles,
     addr: Addr,
@@ -22,12 +27,14 @@ pub(crate) fn read_data<F: Folder>(
     out: &mut [u8],
 ) -> Result<(), Fault>
     requires inside { IsInside files.now addr at (length out.old) }
-    requires agrees { ForSome (F.told f.old).files (Agrees files.now) }
-    requires external { ForSome (F.told f.old).files (IsInFile addr at (length out.old)) }
     ensures bytes { OnOk result (ForSome (F.told f.old).files (λ image. out.new ≡ data_at image addr at (length out.old))) }
-    ensures short { IfDamaged result (IsCut (F.told f.old) addr at (length out.old)) }
-    ensures untold { IfDamaged result (λ _. (F.told f.old).files ≡ None) }
+    ensures checked { OnOk result (ForSome (F.told f.old).files (HasData addr at (length out.old))) }
     ensures stays { Stays (F.told f.old) (F.told f.new) }
+
+    // Too few bytes, which a folder that tells its files gives only where its external file is too short.
+    ensures short { IfDamaged result (IsCut (F.told f.old) addr at (length out.old)) }
+    ensures untold { ForSome (F.told f.old).files (Agrees files.now) → ForSome (F.told f.old).files (IsInFile addr at (length out.old)) → IfDamaged result (λ _. (F.told f.old).files ≡ None) }
+
     ensures later { F.faults f.old ≤ F.faults f.new }
     ensures device { IfDevice result (Rises (F.faults f.old) (F.faults f.new)) }
 {
@@ -59,8 +66,12 @@ pub(crate) fn write_ended<F: Folder>(
     write_data(f, files, addr, at + bytes.len() as u32, &[0])
 }
 
-// Writes bytes of the data of an address, from a place in it on.
-fn write_data<F: Folder>(
+/// Writes bytes of the data of an address, from a place in it on, one word after another: over its blocks,
+/// or over bytes of its external file.
+///
+/// One folder call writes them. `Failed` comes only where the folder failed in this call; a front of the
+/// words has then lasted.
+pub fn write_data<F: Folder>(
     f: &mut F,
     files: &BlockFiles,
     addr: Addr,
@@ -70,9 +81,16 @@ fn write_data<F: Folder>(
     requires inside { IsInside files.now addr at (length bytes.now) }
     requires agrees { ForSome (F.told f.old).files (Agrees files.now) }
     requires external { ForSome (F.told f.old).files (IsInFile addr at (length bytes.now)) }
+    ensures agrees { ForSome (F.told f.new).files (Agrees files.now) }
     ensures steps { OnOk result (Applies (F.told f.old) (F.told f.new) (data_steps addr at bytes.now)) }
     ensures prefix { AppliesPrefix (F.told f.old) (F.told f.new) (data_steps addr at bytes.now) }
-    ensures agrees { ForSome (F.told f.new).files (Agrees files.now) }
+
+    // At each word no other byte has changed.
+    ensures outside { ForSome (F.told f.old).files (λ from. Passes (F.told f.old) (F.told f.new) (SameOutside (data_range addr at (length bytes.now)) from)) }
+
+    // A folder that tells no files goes on telling none.
+    ensures silent { (F.told f.old).files ≡ None → (F.told f.new).files ≡ None }
+
     ensures later { F.faults f.old ≤ F.faults f.new }
     ensures failed { OnErr result (Rises (F.faults f.old) (F.faults f.new)) }
 {

@@ -1,35 +1,69 @@
 // The words of entry records.
-ghost use Rattle.std.specs.Prelude.{◌≡◌, ◌+◌, ◌≤◌, IfOk, IsTrue, None};
+ghost use Rattle.std.specs.Prelude.{◌≡◌, ◌⊎◌, ◌+◌, ◌≤◌, IfOk, IsTrue, None, OnOk, true};
 ghost use Rattle.std.specs.Option.{ForSome};
-ghost use Rattle.blk_image.specs.Image.{Block as block, word};
+ghost use Rattle.blk_image.specs.Image.{Block as block, HasRange, word};
 ghost use Rattle.blk_image.specs.Told.{Rises, Stays};
-ghost use Rattle.blk_format.specs.Address.{blocks_256, file_selector, kind_of, place};
+ghost use Rattle.blk_format.specs.Address.{blocks_256, file_selector, kind_of, place, rankings};
 ghost use Rattle.blk_format.specs.Records.{entry_size};
+ghost use Rattle.blk_volume.specs.View.{entry_at};
+ghost use Rattle.blk_entry.specs.Keys.{IsDanglingNode, node_place};
 ghost use Rattle.blk_record.specs.Fields.{IsField};
 ghost use Rattle.blk_io.specs.declared.folder.FileId.TheVariants as FileId;
 ghost use Rattle.blk_io.specs.Faults.{IfDamaged, IfDevice, IsShort};
-ghost use Rattle.blk_disk.specs.Tables.{Agrees, stands_among};
+ghost use Rattle.blk_disk.specs.Tables.{Agrees, is_node_among, stands_among};
 
+use crate::keys::record_damage;
 use blk_addr::Addr;
 use blk_disk::BlockFiles;
 use blk_io::{Fault, Folder};
+use blk_record::EntryView;
 
 /// The word of an entry record at a place in bytes from its front, a multiple of 4 below 96.
 ///
-/// One folder call reads it. Too few bytes, which a folder that tells its files never gives, are a damage.
+/// One folder call reads it. Too few bytes are a damage.
 pub fn field<F: Folder>(f: &mut F, files: &BlockFiles, entry: Addr, at: u32) -> Result<u32, Fault>
     requires kind { kind_of entry ≡ blocks_256 }
     requires stands { IsTrue (stands_among files.now entry) }
     requires place { IsField entry_size at }
-    requires agrees { ForSome (F.told f.old).files (Agrees files.now) }
     ensures value { IfOk result (λ v. ForSome (F.told f.old).files (λ image. v ≡ word image (block (file_selector entry)) (place entry + at))) }
-    ensures short { IfDamaged result (IsShort (F.told f.old) (FileId.Block (file_selector entry)) (place entry + at) 4) }
-    ensures untold { IfDamaged result (λ _. (F.told f.old).files ≡ None) }
+    ensures checked { OnOk result (ForSome (F.told f.old).files (λ image. HasRange image (block (file_selector entry)) (place entry + at) 4)) }
     ensures stays { Stays (F.told f.old) (F.told f.new) }
+
+    // Too few bytes, which a folder that tells its files gives only where the block files don't agree with it.
+    ensures short { IfDamaged result (IsShort (F.told f.old) (FileId.Block (file_selector entry)) (place entry + at) 4) }
+    ensures untold { ForSome (F.told f.old).files (Agrees files.now) → IfDamaged result (λ _. (F.told f.old).files ≡ None) }
+
     ensures later { F.faults f.old ≤ F.faults f.new }
     ensures device { IfDevice result (Rises (F.faults f.old) (F.faults f.new)) }
 {
     let mut word = [0u8; 4];
     files.read_block(f, entry, at, &mut word)?;
     Ok(u32::from_le_bytes(word))
+}
+
+/// The rankings node that an entry record names.
+///
+/// One folder call reads its word. A damage is a read that gave too few bytes, or a word that is no address
+/// of a node which stands.
+pub fn node_of<F: Folder>(f: &mut F, files: &BlockFiles, entry: Addr) -> Result<Addr, Fault>
+    requires kind { kind_of entry ≡ blocks_256 }
+    requires stands { IsTrue (stands_among files.now entry) }
+    ensures node { IfOk result (λ node. ForSome (F.told f.old).files (λ image. node ≡ (entry_at image entry).rankings_node)) }
+    ensures kind { IfOk result (λ node. kind_of node ≡ rankings) }
+    ensures stands { IfOk result (λ node. IsTrue (stands_among files.now node)) }
+    ensures checked { OnOk result (ForSome (F.told f.old).files (λ image. HasRange image (block (file_selector entry)) (place entry + node_place) 4)) }
+    ensures stays { Stays (F.told f.old) (F.told f.new) }
+
+    // A folder that tells its files gives a damage only where the word is of no node that stands.
+    ensures damaged { IfDamaged result (λ damage. IsShort (F.told f.old) (FileId.Block (file_selector entry)) (place entry + node_place) 4 damage ⊎ IsDanglingNode files.now (F.told f.old) entry damage) }
+    ensures untold { ForSome (F.told f.old).files (Agrees files.now) → ForSome (F.told f.old).files (λ image. is_node_among files.now (entry_at image entry).rankings_node ≡ true) → IfDamaged result (λ _. (F.told f.old).files ≡ None) }
+
+    ensures later { F.faults f.old ≤ F.faults f.new }
+    ensures device { IfDevice result (Rises (F.faults f.old) (F.faults f.new)) }
+{
+    let word = field(f, files, entry, EntryView::NODE)?;
+    match files.node(word) {
+        Some(node) => Ok(node),
+        None => Err(record_damage(entry, EntryView::NODE, word)),
+    }
 }

@@ -1,7 +1,9 @@
 // The keys of entry records.
-ghost use Rattle.std.specs.Prelude.{◌≡◌, ◌⊎◌, ◌≤◌, ◌<◌, IfOk, IsOk, IsTrue, None, OnOk, false, true, length};
+ghost use Rattle.std.specs.Prelude.{◌≡◌, ◌⊎◌, ◌+◌, ◌%◌, ◌≤◌, ◌<◌, min, IfOk, IsOk, IsTrue, None, OnOk, false, true, length};
 ghost use Rattle.std.specs.Option.{ForSome};
+ghost use Rattle.blk_image.specs.Bytes.{content, words_at};
 ghost use Rattle.blk_image.specs.Told.{Rises, Stays};
+ghost use Rattle.blk_record.specs.Views.{entry_window};
 ghost use Rattle.blk_format.specs.Address.{blocks_256, is_address, file_selector, kind_of, place};
 ghost use Rattle.blk_format.specs.Records.{entry_size};
 ghost use Rattle.blk_io.specs.declared.folder.FileId.TheVariants as FileId;
@@ -9,8 +11,9 @@ ghost use Rattle.blk_io.specs.Faults.{IfDamaged, IfDevice, IsShort};
 ghost use Rattle.blk_disk.specs.Tables.{Agrees, stands_among};
 ghost use Rattle.blk_disk.specs.Unsealed.{IsUnsealed};
 ghost use Rattle.blk_format.specs.Sealed.{RecordChecks};
+ghost use Rattle.blk_volume.specs.View.{entry_at};
 ghost use Rattle.blk_entry.specs.Keys as keys;
-ghost use Rattle.blk_entry.specs.Keys.{HasReadableKey, IsHead, IsHeadDamage, IsInside, IsMisplaced, IsPiece, IsPlaceOf, is_short, key_at, key_address, bytes_before};
+ghost use Rattle.blk_entry.specs.Keys.{CanBeRead, HasKeyBytes, HasKeyPlace, HasRecord, IsHead, IsHeadDamage, IsInside, IsMisplaced, IsPiece, IsPlaceOf, is_short, key_at, key_address, key_bytes, bytes_before};
 
 use crate::data::{is_of, read_data};
 use blk_addr::{Addr, Kind, blocks_for, entry_blocks, kind_for};
@@ -18,10 +21,7 @@ use blk_disk::{BlockFiles, file_of};
 use blk_io::{Damage, Fault, Folder};
 use blk_record::{BlockHead, EntryView, Record};
 
-// The bytes of an entry record before its key.
-const BEFORE_KEY: u32 = 96;
-
-// The longest key in a record, and the longest key of all.
+// The longest key in a record, and the longest key of all: the name of a part.
 const MOST_IN_RECORD: u32 = 927;
 
 const MOST_KEY: u32 = 32796;
@@ -36,10 +36,16 @@ pub struct Head {
     pub hash: u32,
     /// The word of the next record in the chain, or 0.
     pub next: u32,
+    /// The word of the rankings node.
+    pub node: u32,
     /// The number of the key's bytes.
     pub key_len: u32,
     /// The word of the storage of a long key, or 0.
     pub long_key: u32,
+    /// The sizes of the streams in bytes; the last is of no stream.
+    pub sizes: [u32; 4],
+    /// The words of the storage of the streams, or 0; the last is of no stream.
+    pub addrs: [u32; 4],
     /// 1 where the record is of a sparse entry, 2 where it is of a part of one.
     pub flags: u32,
 }
@@ -57,7 +63,7 @@ pub(crate) struct KeyPlace {
 ///
 /// One folder call reads the record, and one the piece. A damage is a read that gave too few bytes, a
 /// record that doesn't check, a length that the key can't have, or the word of a long key that is no
-/// address which stands and stores the key. A folder that tells its files never gives one.
+/// address which stands and stores the key.
 pub fn key_piece<F: Folder>(
     f: &mut F,
     files: &BlockFiles,
@@ -67,14 +73,22 @@ pub fn key_piece<F: Folder>(
 ) -> Result<usize, Fault>
     requires kind { kind_of entry ≡ blocks_256 }
     requires stands { IsTrue (stands_among files.now entry) }
-    requires agrees { ForSome (F.told f.old).files (Agrees files.now) }
-    requires checks { ForSome (F.told f.old).files (RecordChecks entry) }
-    requires key { ForSome (F.told f.old).files (HasReadableKey entry) }
     ensures within { IfOk result (λ n. n ≤ length out.old) }
+
+    // The piece is one of the bytes where the record's words say that its key lies, and so one of its key.
+    ensures bytes { IfOk result (λ n. ForSome (F.told f.old).files (λ image. IsPiece (key_bytes image entry) at out.old out.new n)) }
     ensures piece { IfOk result (λ n. ForSome (F.told f.old).files (λ image. ForSome (key_at image entry) (λ key. IsPiece key at out.old out.new n))) }
-    ensures damaged { IfDamaged result (keys.IsPartDamage files.now (F.told f.old) entry at (length out.old)) }
-    ensures untold { IfDamaged result (λ _. (F.told f.old).files ≡ None) }
+
+    // The record checks, its key has a place, and the piece is in the file.
+    ensures checked { OnOk result (ForSome (F.told f.old).files (HasRecord entry)) }
+    ensures placed { OnOk result (ForSome (F.told f.old).files (HasKeyPlace files.now entry)) }
+    ensures there { IfOk result (λ n. ForSome (F.told f.old).files (λ image. HasKeyBytes entry (min at (entry_at image entry).key_len) n image)) }
     ensures stays { Stays (F.told f.old) (F.told f.new) }
+
+    // A folder that tells its files gives a damage only where the record doesn't check or has no key to read.
+    ensures damaged { IfDamaged result (keys.IsPartDamage files.now (F.told f.old) entry at (length out.old)) }
+    ensures untold { ForSome (F.told f.old).files (CanBeRead files.now entry) → IfDamaged result (λ _. (F.told f.old).files ≡ None) }
+
     ensures later { F.faults f.old ≤ F.faults f.new }
     ensures device { IfDevice result (Rises (F.faults f.old) (F.faults f.new)) }
 {
@@ -89,17 +103,18 @@ pub fn key_piece<F: Folder>(
 
 /// Reads the words of a record that say what it is, by one folder call.
 ///
-/// A damage is a read that gave too few bytes, or a record that doesn't check. A folder that tells its
-/// files never gives one.
+/// A damage is a read that gave too few bytes, or a record that doesn't check.
 pub fn read_head<F: Folder>(f: &mut F, files: &BlockFiles, entry: Addr) -> Result<Head, Fault>
     requires kind { kind_of entry ≡ blocks_256 }
     requires stands { IsTrue (stands_among files.now entry) }
-    requires agrees { ForSome (F.told f.old).files (Agrees files.now) }
-    requires checks { ForSome (F.told f.old).files (RecordChecks entry) }
     ensures head { IfOk result (λ head. ForSome (F.told f.old).files (λ image. IsHead image entry head)) }
-    ensures damaged { IfDamaged result (IsHeadDamage (F.told f.old) entry) }
-    ensures untold { IfDamaged result (λ _. (F.told f.old).files ≡ None) }
+    ensures checked { OnOk result (ForSome (F.told f.old).files (HasRecord entry)) }
     ensures stays { Stays (F.told f.old) (F.told f.new) }
+
+    // A folder that tells its files gives a damage only for a record that doesn't check.
+    ensures damaged { IfDamaged result (IsHeadDamage (F.told f.old) entry) }
+    ensures untold { ForSome (F.told f.old).files (Agrees files.now) → ForSome (F.told f.old).files (RecordChecks entry) → IfDamaged result (λ _. (F.told f.old).files ≡ None) }
+
     ensures later { F.faults f.old ≤ F.faults f.new }
     ensures device { IfDevice result (Rises (F.faults f.old) (F.faults f.new)) }
 {
@@ -114,10 +129,27 @@ pub fn read_head<F: Folder>(f: &mut F, files: &BlockFiles, entry: Addr) -> Resul
     Ok(Head {
         hash: record.word(EntryView::HASH as usize),
         next: record.word(EntryView::NEXT as usize),
+        node: record.word(EntryView::NODE as usize),
         key_len: record.word(EntryView::KEY_LEN as usize),
         long_key: record.word(EntryView::LONG_KEY as usize),
+        sizes: four_words(&record, EntryView::DATA_SIZE as usize),
+        addrs: four_words(&record, EntryView::DATA_ADDR as usize),
         flags: record.word(EntryView::FLAGS as usize),
     })
+}
+
+// Four words of a record that lie one behind the other.
+fn four_words(view: &EntryView<'_>, at: usize) -> [u32; 4]
+    requires inside { at + 16 ≤ entry_size }
+    requires aligned { at % 4 ≡ 0 }
+    ensures { result ≡ words_at (content (entry_window view.now)) at 4 }
+{
+    [
+        view.word(at),
+        view.word(at + 4),
+        view.word(at + 8),
+        view.word(at + 12),
+    ]
 }
 
 /// The damage of a word of a record: the word at a place in it, with what was found there.
@@ -151,7 +183,7 @@ pub(crate) fn key_place(files: &BlockFiles, entry: Addr, head: Head) -> Result<K
     if head.key_len <= MOST_IN_RECORD {
         return Ok(KeyPlace {
             addr: entry,
-            skip: BEFORE_KEY,
+            skip: EntryView::SIZE as u32,
             len: head.key_len,
         });
     }

@@ -10,7 +10,8 @@ mod marks;
 mod writing;
 
 pub use compare::{key_equals, key_is};
-pub use fields::field;
+pub use data::{read_data, write_data};
+pub use fields::{field, node_of};
 pub use keys::{Head, key_piece, read_head, record_damage};
 pub use laws::new_entries_are_shown_apart;
 pub use marks::{set_clean, set_dirty};

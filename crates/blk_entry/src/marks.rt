@@ -1,14 +1,11 @@
 // The dirty marks of nodes.
-ghost use Rattle.std.specs.Prelude.{◌≡◌, ◌≢◌, ◌≤◌, ◌⊎◌, IsTrue, None, OnOk};
+ghost use Rattle.std.specs.Prelude.{◌≡◌, ◌≢◌, ◌≤◌, IsTrue};
 ghost use Rattle.std.specs.Option.{ForSome};
-ghost use Rattle.blk_image.specs.Told.{Applies, AppliesPrefix, Passes, Rises};
-ghost use Rattle.blk_format.specs.Address.{file_selector, kind_of, place, rankings};
-ghost use Rattle.blk_io.specs.declared.folder.FileId.TheVariants as FileId;
-ghost use Rattle.blk_io.specs.Faults.{IfDamaged, IfDevice, IsShort};
+ghost use Rattle.blk_image.specs.Told.{Rises};
+ghost use Rattle.blk_format.specs.Address.{kind_of, rankings};
+ghost use Rattle.blk_io.specs.Faults.{IfDevice};
 ghost use Rattle.blk_disk.specs.Tables.{Agrees, stands_among};
-ghost use Rattle.blk_disk.specs.Unsealed.{IsUnsealed};
-ghost use Rattle.blk_format.specs.Sealed.{RecordChecks, record_size};
-ghost use Rattle.blk_entry.specs.Marks.{HasDirtySet, SetsDirtyInProgress, mark_steps};
+ghost use Rattle.blk_entry.specs.Marks.{SetsDirty};
 
 use blk_addr::Addr;
 use blk_disk::BlockFiles;
@@ -30,23 +27,7 @@ pub fn set_dirty<F: Folder>(
     requires kind { kind_of node ≡ rankings }
     requires stands { IsTrue (stands_among files.now node) }
     requires agrees { ForSome (F.told f.old).files (Agrees files.now) }
-    requires checks { ForSome (F.told f.old).files (RecordChecks node) }
-    ensures steps { OnOk result (ForSome (F.told f.old).files (λ from. Applies (F.told f.old) (F.told f.new) (mark_steps from node mark))) }
-    ensures prefix { ForSome (F.told f.old).files (λ from. AppliesPrefix (F.told f.old) (F.told f.new) (mark_steps from node mark)) }
-    ensures marked { OnOk result (ForSome (F.told f.old).files (λ from. ForSome (F.told f.new).files (HasDirtySet from node mark))) }
-
-    // At each word the node checks, its dirty word is the old one or the mark, and nothing else has changed.
-    ensures stops { ForSome (F.told f.old).files (λ from. Passes (F.told f.old) (F.told f.new) (SetsDirtyInProgress from node mark)) }
-    ensures agrees { ForSome (F.told f.new).files (Agrees files.now) }
-    ensures checks { ForSome (F.told f.new).files (RecordChecks node) }
-
-    // A folder that tells no files goes on telling none.
-    ensures silent { (F.told f.old).files ≡ None → (F.told f.new).files ≡ None }
-
-    // A damage is a short read or a node that doesn't check. A folder that tells its files never gives one.
-    ensures damaged { IfDamaged result (λ damage. IsShort (F.told f.old) (FileId.Block (file_selector node)) (place node) (record_size node) damage ⊎ IsUnsealed (F.told f.old) node damage) }
-    ensures untold { IfDamaged result (λ _. (F.told f.old).files ≡ None) }
-
+    ensures sets { SetsDirty files.now (F.told f.old) (F.told f.new) node mark result }
     ensures later { F.faults f.old ≤ F.faults f.new }
     ensures device { IfDevice result (Rises (F.faults f.old) (F.faults f.new)) }
 {
@@ -58,23 +39,7 @@ pub fn set_clean<F: Folder>(f: &mut F, files: &BlockFiles, node: Addr) -> Result
     requires kind { kind_of node ≡ rankings }
     requires stands { IsTrue (stands_among files.now node) }
     requires agrees { ForSome (F.told f.old).files (Agrees files.now) }
-    requires checks { ForSome (F.told f.old).files (RecordChecks node) }
-    ensures steps { OnOk result (ForSome (F.told f.old).files (λ from. Applies (F.told f.old) (F.told f.new) (mark_steps from node 0))) }
-    ensures prefix { ForSome (F.told f.old).files (λ from. AppliesPrefix (F.told f.old) (F.told f.new) (mark_steps from node 0)) }
-    ensures marked { OnOk result (ForSome (F.told f.old).files (λ from. ForSome (F.told f.new).files (HasDirtySet from node 0))) }
-
-    // At each word the node checks, its dirty word is the old one or 0, and nothing else has changed.
-    ensures stops { ForSome (F.told f.old).files (λ from. Passes (F.told f.old) (F.told f.new) (SetsDirtyInProgress from node 0)) }
-    ensures agrees { ForSome (F.told f.new).files (Agrees files.now) }
-    ensures checks { ForSome (F.told f.new).files (RecordChecks node) }
-
-    // A folder that tells no files goes on telling none.
-    ensures silent { (F.told f.old).files ≡ None → (F.told f.new).files ≡ None }
-
-    // A damage is a short read or a node that doesn't check. A folder that tells its files never gives one.
-    ensures damaged { IfDamaged result (λ damage. IsShort (F.told f.old) (FileId.Block (file_selector node)) (place node) (record_size node) damage ⊎ IsUnsealed (F.told f.old) node damage) }
-    ensures untold { IfDamaged result (λ _. (F.told f.old).files ≡ None) }
-
+    ensures sets { SetsDirty files.now (F.told f.old) (F.told f.new) node 0 result }
     ensures later { F.faults f.old ≤ F.faults f.new }
     ensures device { IfDevice result (Rises (F.faults f.old) (F.faults f.new)) }
 {
@@ -86,18 +51,11 @@ fn write_mark<F: Folder>(f: &mut F, files: &BlockFiles, node: Addr, mark: u32) -
     requires kind { kind_of node ≡ rankings }
     requires stands { IsTrue (stands_among files.now node) }
     requires agrees { ForSome (F.told f.old).files (Agrees files.now) }
-    requires checks { ForSome (F.told f.old).files (RecordChecks node) }
-    ensures steps { OnOk result (ForSome (F.told f.old).files (λ from. Applies (F.told f.old) (F.told f.new) (mark_steps from node mark))) }
-    ensures prefix { ForSome (F.told f.old).files (λ from. AppliesPrefix (F.told f.old) (F.told f.new) (mark_steps from node mark)) }
-    ensures marked { OnOk result (ForSome (F.told f.old).files (λ from. ForSome (F.told f.new).files (HasDirtySet from node mark))) }
-    ensures stops { ForSome (F.told f.old).files (λ from. Passes (F.told f.old) (F.told f.new) (SetsDirtyInProgress from node mark)) }
-    ensures agrees { ForSome (F.told f.new).files (Agrees files.now) }
-    ensures checks { ForSome (F.told f.new).files (RecordChecks node) }
-    ensures silent { (F.told f.old).files ≡ None → (F.told f.new).files ≡ None }
-    ensures damaged { IfDamaged result (λ damage. IsShort (F.told f.old) (FileId.Block (file_selector node)) (place node) (record_size node) damage ⊎ IsUnsealed (F.told f.old) node damage) }
-    ensures untold { IfDamaged result (λ _. (F.told f.old).files ≡ None) }
+    ensures sets { SetsDirty files.now (F.told f.old) (F.told f.new) node mark result }
     ensures later { F.faults f.old ≤ F.faults f.new }
     ensures device { IfDevice result (Rises (F.faults f.old) (F.faults f.new)) }
 {
+    // That the word is one of an address is known once it is read.
+    let _word = node.word();
     files.update_sealed(f, node, &[(NodeView::DIRTY, mark)])
 }

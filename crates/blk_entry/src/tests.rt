@@ -6,7 +6,7 @@ ghost use Rattle.blk_entry.specs.Keys.{may_hold, most_key};
 ghost use Rattle.blk_entry.specs.Writing.{FitsKey};
 
 use crate::keys::{long_key, may_have};
-use crate::{NewEntry, field, key_equals, key_piece, set_clean, set_dirty, write_entry};
+use crate::{NewEntry, field, key_equals, key_piece, read_head, set_clean, set_dirty, write_entry};
 use blk_addr::{Addr, Kind};
 use blk_disk::BlockFiles;
 use blk_io::{Failed, Fault, FileId, Folder, MemFolder, SilentFolder};
@@ -86,6 +86,9 @@ fn put_record(f: &mut SilentFolder<MemFolder>, long_key: u32, key: &[u8]) -> Res
     let mut bytes = [0; 96];
     let mut record = EntryMut::new(&mut bytes);
     record.set_word(0, super_fast_hash(key));
+    record.set_word(8, NODE);
+    record.set_word(44, 5);
+    record.set_word(60, 0x8000_0002);
     record.set_word(32, (key.len() % 0x1_0000_0000) as u32);
     record.set_word(36, long_key);
     record.seal();
@@ -140,7 +143,7 @@ fn node_of(files: &BlockFiles, word: u32) -> Option<Addr>
 }
 
 // Whether an entry has a key.
-fn equals(f: &mut SilentFolder<MemFolder>, word: u32, key: &[u8]) -> Result<bool, Fault> {
+fn equals<F: Folder>(f: &mut F, word: u32, key: &[u8]) -> Result<bool, Fault> {
     let files = BlockFiles::load(f)?;
     match entry_of(&files, word) {
         Some(entry) => key_equals(f, &files, entry, key),
@@ -175,12 +178,7 @@ fn equals_in_cut_file(
 }
 
 // A piece of the key of an entry.
-fn piece(
-    f: &mut SilentFolder<MemFolder>,
-    word: u32,
-    at: u32,
-    out: &mut [u8],
-) -> Result<usize, Fault> {
+fn piece<F: Folder>(f: &mut F, word: u32, at: u32, out: &mut [u8]) -> Result<usize, Fault> {
     let files = BlockFiles::load(f)?;
     match entry_of(&files, word) {
         Some(entry) => key_piece(f, &files, entry, at, out),
@@ -198,7 +196,7 @@ fn length(f: &mut SilentFolder<MemFolder>, word: u32) -> Result<u32, Fault> {
 }
 
 // Marks the first node with a number, or clean with 0.
-fn mark(f: &mut SilentFolder<MemFolder>, number: u32) -> Result<(), Fault> {
+fn mark<F: Folder>(f: &mut F, number: u32) -> Result<(), Fault> {
     let files = BlockFiles::load(f)?;
     match node_of(&files, NODE) {
         Some(node) => {
@@ -207,6 +205,19 @@ fn mark(f: &mut SilentFolder<MemFolder>, number: u32) -> Result<(), Fault> {
             } else {
                 set_dirty(f, &files, node, number)
             }
+        }
+        None => Err(Fault::Device),
+    }
+}
+
+// The words that a record's head has of its key and of its second stream, and the word of its node.
+fn head<F: Folder>(f: &mut F, word: u32) -> Result<(u32, u32, u32, u32), Fault> {
+    let files = BlockFiles::load(f)?;
+    match entry_of(&files, word) {
+        Some(entry) => {
+            let head = read_head(f, &files, entry)?;
+            let node = crate::node_of(f, &files, entry)?;
+            Ok((head.key_len, head.sizes[1], head.addrs[1], node.word()))
         }
         None => Err(Fault::Device),
     }
@@ -260,6 +271,22 @@ fn keys_of_each_storage_are_read_and_compared(rt: HostRuntime) -> Result<(), Fai
 }
 
 #[test]
+fn a_folder_that_tells_its_files_is_read_and_marked(rt: HostRuntime) -> Result<(), Fail> {
+    let mut silent = folder(rt.alloc())?;
+    let key = key_of(rt.alloc(), 20)?;
+    put_record(&mut silent, 0, &key)?;
+    put_key(&mut silent, 0, &key)?;
+    let mut f = silent.into_inner();
+    let mut out = [0; 8];
+    assert_eq!(rt; equals(&mut f, 0xA001_0000, &key), Ok(true));
+    assert_eq!(rt; piece(&mut f, 0xA001_0000, 0, &mut out), Ok(8));
+    assert_eq!(rt; mark(&mut f, 7), Ok(()));
+    assert_eq!(rt; mark(&mut f, 0), Ok(()));
+    assert_eq!(rt; head(&mut f, 0xA001_0000), Ok((20, 5, 0x8000_0002, NODE)));
+    Ok(())
+}
+
+#[test]
 fn a_node_is_marked_and_clean_again(rt: HostRuntime) -> Result<(), Fail> {
     let mut f = folder(rt.alloc())?;
     f.write_at(
@@ -294,7 +321,7 @@ fn a_wrong_record_is_a_damage(rt: HostRuntime) -> Result<(), Fail> {
     let key = key_of(rt.alloc(), 928)?;
     let mut out = [0; 8];
 
-    // No address, one of another type, and one of blocks that are past the last.
+    // No address, one of another kind, and one of blocks that are past the last.
     for wrong in [0x2001_0000, 0xC003_0000, 0xA301_0400] {
         put_record(&mut f, wrong, &key)?;
         assert_eq!(rt;

@@ -3,11 +3,10 @@ ghost use Rattle.std.specs.Prelude.{◌≡◌, ◌≤◌, ◌++◌, length, OnEr
 ghost use Rattle.std.specs.Option.{ForSome};
 ghost use Rattle.std.specs.List.{All};
 ghost use Rattle.blk_image.specs.Bytes.{zeros};
-ghost use Rattle.blk_image.specs.Footprint.{SameOutside};
 ghost use Rattle.blk_image.specs.Steps.{with_words};
 ghost use Rattle.blk_image.specs.Told.{Applies, AppliesPrefix, Passes, Rises};
 ghost use Rattle.blk_format.specs.Address.{kind_of, rankings};
-ghost use Rattle.blk_format.specs.BlockFiles.{IsWellFormed};
+ghost use Rattle.blk_format.specs.Headers.{HasWholeIndex};
 ghost use Rattle.blk_format.specs.Records as records;
 ghost use Rattle.blk_volume.specs.Loads.{unchained_rule, load};
 ghost use Rattle.blk_volume.specs.View.{store_of};
@@ -15,19 +14,19 @@ ghost use Rattle.blk_record.specs.Fields.{IsField};
 ghost use Rattle.blk_io.specs.Faults.{IfDamaged, IfDevice};
 ghost use Rattle.blk_format.specs.Sealed as sealed;
 ghost use Rattle.blk_disk.specs.Tables.{Agrees, stands_among};
-ghost use Rattle.blk_entry.specs.Writing.{AreWords, FitsKey, HasItsLength, IsShownNew, IsWritten, LiesApart, entry_bytes, entry_steps, key_steps, loaded_new, new_node, new_record, node_bytes, node_steps, places_of, record_steps};
+ghost use Rattle.blk_entry.specs.Writing.{AreWords, FitsKey, HasItsLength, IsShownNew, IsWritten, LiesApart, WritesEntryInProgress, entry_bytes, entry_steps, key_steps, loaded_new, new_node, new_record, node_bytes, node_steps, record_steps};
 
 use crate::data::write_ended;
+use bitflags::Flags;
 use blk_addr::Addr;
 use blk_disk::BlockFiles;
 use blk_io::{Failed, Fault, Folder};
-use blk_record::{EntryMut, EntryView, NodeMut, NodeView, Record, RecordMut, super_fast_hash};
+use blk_record::{
+    EntryFlags, EntryMut, EntryView, NodeMut, NodeView, Record, RecordMut, super_fast_hash,
+};
 
 // The bytes of a block of records.
 const BLOCK: usize = 256;
-
-// The flag of a part of a sparse entry.
-const CHILD: u32 = 2;
 
 // The numbers of a word.
 const WORD: u64 = 0x1_0000_0000;
@@ -65,18 +64,19 @@ pub fn write_entry<F: Folder>(
     requires agrees { ForSome (F.told f.old).files (Agrees files.now) }
     requires external { ForSome (F.told f.old).files (HasItsLength new.now.long_key (length key.now)) }
     requires apart { ForSome (F.told f.old).files (λ _. LiesApart new.now.entry new.now.long_key) }
-    ensures steps { OnOk result (Applies (F.told f.old) (F.told f.new) (entry_steps new.now key.now moment)) }
-    ensures prefix { AppliesPrefix (F.told f.old) (F.told f.new) (entry_steps new.now key.now moment) }
     ensures written { OnOk result (ForSome (F.told f.new).files (IsWritten new.now key.now moment)) }
     ensures shown { OnOk result (ForSome (F.told f.new).files (IsShownNew new.now key.now moment)) }
 
     // A plain entry loads by itself. A part has no index yet.
     ensures loads { OnOk result (new.now.child ≡ false → ForSome (F.told f.new).files (λ image. load (store_of image) (unchained_rule records.normal) new.now.node ≡ Ok (loaded_new new.now key.now))) }
 
-    // At each word no byte outside the three places has changed, and a well formed folder stays so.
-    ensures stops { ForSome (F.told f.old).files (λ from. Passes (F.told f.old) (F.told f.new) (SameOutside (places_of new.now (length key.now)) from)) }
-    ensures formed { ForSome (F.told f.old).files (λ from. IsWellFormed from → Passes (F.told f.old) (F.told f.new) IsWellFormed) }
     ensures agrees { ForSome (F.told f.new).files (Agrees files.now) }
+    ensures complete { ForSome (F.told f.old).files HasWholeIndex → ForSome (F.told f.new).files HasWholeIndex }
+    ensures steps { OnOk result (Applies (F.told f.old) (F.told f.new) (entry_steps new.now key.now moment)) }
+    ensures prefix { AppliesPrefix (F.told f.old) (F.told f.new) (entry_steps new.now key.now moment) }
+
+    // At each word no byte outside the three places has changed, and so a well formed folder is still well formed.
+    ensures stops { ForSome (F.told f.old).files (λ from. Passes (F.told f.old) (F.told f.new) (WritesEntryInProgress new.now (length key.now) from)) }
 
     // A folder that tells no files goes on telling none.
     ensures silent { (F.told f.old).files ≡ None → (F.told f.new).files ≡ None }
@@ -204,14 +204,17 @@ fn record_of(new: &NewEntry, key: &[u8], moment: u64) -> [u8; BLOCK]
     ensures size { length result ≡ 256 }
 {
     let words = [
-        (0, super_fast_hash(key)),
-        (4, new.next),
-        (8, new.node.word()),
-        (24, (moment % WORD) as u32),
-        (28, (moment / WORD) as u32),
-        (32, key.len() as u32),
-        (36, word_of(&new.long_key)),
-        (72, flags_of(new.child)),
+        (EntryView::HASH as usize, super_fast_hash(key)),
+        (EntryView::NEXT as usize, new.next),
+        (EntryView::NODE as usize, new.node.word()),
+        (EntryView::CREATION_TIME as usize, (moment % WORD) as u32),
+        (
+            EntryView::CREATION_TIME as usize + 4,
+            (moment / WORD) as u32,
+        ),
+        (EntryView::KEY_LEN as usize, key.len() as u32),
+        (EntryView::LONG_KEY as usize, word_of(&new.long_key)),
+        (EntryView::FLAGS as usize, flags_of(new.child)),
     ];
     filled_record(&words)
 }
@@ -230,7 +233,7 @@ fn word_of(addr: &Option<Addr>) -> u32
 fn flags_of(child: bool) -> u32
     ensures { result ≡ (if child then records.child else records.plain) }
 {
-    if child { CHILD } else { 0 }
+    if child { EntryFlags::CHILD.bits() } else { 0 }
 }
 
 // The bytes of the node.
@@ -240,12 +243,12 @@ fn node_of(new: &NewEntry, moment: u64) -> [u8; NodeView::SIZE]
     let low = (moment % WORD) as u32;
     let high = (moment / WORD) as u32;
     let words = [
-        (0, low),
-        (4, high),
-        (8, low),
-        (12, high),
-        (24, new.entry.word()),
-        (28, new.dirty),
+        (NodeView::LAST_USED as usize, low),
+        (NodeView::LAST_USED as usize + 4, high),
+        (NodeView::LAST_MODIFIED as usize, low),
+        (NodeView::LAST_MODIFIED as usize + 4, high),
+        (NodeView::CONTENTS as usize, new.entry.word()),
+        (NodeView::DIRTY as usize, new.dirty),
     ];
     filled_node(&words)
 }

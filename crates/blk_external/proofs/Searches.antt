@@ -3,7 +3,7 @@ use Rattle.std.proofs.Common.{◌≡◌, ℕ, zero, suc, ◌+◌, ◌-◌, ◌<�
 use Rattle.std.specs.Option.{ForSome}
 use Rattle.std.proofs.lemmas.Bool.{cases_lt}
 use Rattle.blk_image.specs.Image.{Image, External, has_file}
-use Rattle.blk_external.specs.Numbers.{most_number, IsNumber, IsFree, IsTaken, taken_count, HasFreeNumber, AreAllTaken, IsFirstFree, IsSearched, AreTaken, IsLeastFree}
+use Rattle.blk_external.specs.Numbers.{most_number, IsNumber, IsFreeNumber, IsTaken, taken_count, HasFreeNumber, AreAllTaken, IsFirstFree, IsSearched, AreTaken, IsLeastFree}
 
 -- where each of the numbers 1 to n is taken, n of them are
 all_counted : (image : Image) (n : ℕ) → ((m : ℕ) → 1 ≤ m → m ≤ n → IsTaken image m) → taken_count image n ≡ n
@@ -30,7 +30,7 @@ counted_most image (suc n) = by_test (counted_most image n) (has_file image (Ext
     by_test most false = omega (arith, most)
 
 -- where one of them is free, fewer are taken
-counted_fewer : (image : Image) (n k : ℕ) → 1 ≤ k → k ≤ n → IsFree image k → taken_count image n < n
+counted_fewer : (image : Image) (n k : ℕ) → 1 ≤ k → k ≤ n → IsFreeNumber image k → taken_count image n < n
 unfolding taken_count
 counted_fewer image zero k low high free = absurd (omega arith)
 counted_fewer image (suc n) k low high free =
@@ -39,7 +39,7 @@ counted_fewer image (suc n) k low high free =
     (λ (less : k < suc n). let fewer = counted_fewer image n k low (omega arith) free in by_test fewer (has_file image (External (suc n))))
     (λ (not_less : suc n ≤ k).
     let e : k ≡ suc n = omega arith in
-    let none : one (has_file image (External (suc n))) ≡ 0 = ap one (subst (IsFree image) e free) in
+    let none : one (has_file image (External (suc n))) ≡ 0 = ap one (subst (IsFreeNumber image) e free) in
     omega (arith, none, counted_most image n))
     (cases_lt k (suc n))
   where
@@ -48,7 +48,7 @@ counted_fewer image (suc n) k low high free =
     by_test fewer false = omega arith
 
 -- where a number is free, there are fewer files than numbers
-pub has_free_number : (image : Image) (k : ℕ) → IsNumber k → IsFree image k → HasFreeNumber image
+pub has_free_number : (image : Image) (k : ℕ) → IsNumber k → IsFreeNumber image k → HasFreeNumber image
 has_free_number image k number free = counted_fewer image most_number k number.0 number.1 free
 
 -- numbers that are taken, and one more

@@ -1,7 +1,7 @@
 -- An external file is made.
-use Rattle.std.specs.Prelude.{◌≡◌, ℕ, List, [], ◌∷◌, Some}
+use Rattle.std.specs.Prelude.{◌≡◌, ◌≢◌, ℕ, List, [], ◌∷◌, Some}
 use Rattle.std.specs.Option.{ForSome}
-use Rattle.blk_image.specs.Image.{Index, External, Image, byte}
+use Rattle.blk_image.specs.Image.{Index, Block, External, Image, byte}
 use Rattle.blk_image.specs.Steps.{TrailStep, SetLength, word_step}
 use Rattle.blk_image.specs.Told.{Told, AppliesPrefix}
 use Rattle.blk_image.specs.Footprint.{Footprint, SameOutside, either, one_word, whole}
@@ -33,11 +33,13 @@ pub record CreatesPrefix (old new : Told) : Type 0 where
   pub first : ForSome old.files (λ image. IsFirstFree image (last_number image) number)
   pub applies : AppliesPrefix old new (making number)
 
--- a moment of making: but for the file of the first free number and the word of the index all is as before
+-- while a file is made all is as before but for it, of the first free number, and the word of the index; so each block file and each other external file is
 pub record CreatesInProgress (from image : Image) : Type 0 where
   pub number : ℕ
   pub first : IsFirstFree from (last_number from) number
   pub same : SameOutside (touched_by_making number) from image
+  pub blocks : (n : ℕ) → image (Block n) ≡ from (Block n)
+  pub externals : (n : ℕ) → n ≢ number → image (External n) ≡ from (External n)
 
 -- the file of the number is there without bytes, and the index has the number
 pub record Creates (image : Image) (number : ℕ) : Type 0 where

@@ -16,8 +16,8 @@ abbrev pub IsNumber : ℕ → Type 0
 IsNumber n = (1 ≤ n) × (n ≤ most_number)
 
 -- no external file has this number
-abbrev pub IsFree : Image → ℕ → Type 0
-IsFree image n = has_file image (External n) ≡ false
+abbrev pub IsFreeNumber : Image → ℕ → Type 0
+IsFreeNumber image n = has_file image (External n) ≡ false
 
 -- an external file has this number
 abbrev pub IsTaken : Image → ℕ → Type 0
@@ -43,7 +43,7 @@ IsSooner last m n = ((last < m) × (n ≤ last)) ⊎ ((m < n) × ((last < m) ⊎
 -- the first free number after `last`, where the search goes on at 1 after the largest number
 pub record IsFirstFree (image : Image) (last n : ℕ) : Type 0 where
   pub number : IsNumber n
-  pub free : IsFree image n
+  pub free : IsFreeNumber image n
   pub first : (m : ℕ) → IsNumber m → IsSooner last m n → IsTaken image m
 
 -- the first free number after `last`, or none where each is taken
@@ -58,4 +58,4 @@ AreTaken image low end = (m : ℕ) → low ≤ m → m < end → IsTaken image m
 -- the least free number from `low` on and below `end`, or none
 abbrev pub IsLeastFree : Image → ℕ → ℕ → Option ℕ → Type 0
 IsLeastFree image low end None = AreTaken image low end
-IsLeastFree image low end (Some n) = IsFree image n × AreTaken image low n
+IsLeastFree image low end (Some n) = IsFreeNumber image n × AreTaken image low n

@@ -4,11 +4,12 @@ ghost use Rattle.std.specs.Option.{ForSome};
 ghost use Rattle.blk_image.specs.Bytes.{range_at, spliced, resized};
 ghost use Rattle.blk_image.specs.Image.{HasRange, bytes_of, byte};
 ghost use Rattle.blk_image.specs.Steps.{SetLength, Delete, words};
-ghost use Rattle.blk_image.specs.Told.{Applies, AppliesPrefix, Stays, PassesTo, Rises};
-ghost use Rattle.blk_image.specs.Footprint.{SameOutside, range, whole};
+ghost use Rattle.blk_image.specs.Told.{Applies, AppliesPrefix, Stays, Passes, Rises};
+ghost use Rattle.blk_image.specs.Footprint.{range, whole};
 ghost use Rattle.blk_format.specs.Address.{kind_of, external, external_number};
 ghost use Rattle.blk_io.specs.FileNames.{file_of};
 ghost use Rattle.blk_io.specs.Faults.{IfDamaged, IfDevice};
+ghost use Rattle.blk_external.specs.Changes.{ChangesExternal};
 ghost use Rattle.blk_external.specs.Numbers.{named_file};
 ghost use Rattle.blk_external.specs.Reading.{IsFew};
 
@@ -47,9 +48,10 @@ pub fn write<F: Folder>(f: &mut F, addr: Addr, at: u64, bytes: &[u8]) -> Result<
     ensures steps { OnOk result (Applies (F.told f.old) (F.told f.new) (words (named_file addr) at bytes.now)) }
     ensures file { OnOk result (ForSome (F.told f.old).files (λ from. ForSome (F.told f.new).files (λ image. bytes_of image (named_file addr) ≡ spliced at bytes.now (bytes_of from (named_file addr))))) }
 
-    // Whatever the answer: a front of the words, and at each moment all other bytes as before.
     ensures prefix { AppliesPrefix (F.told f.old) (F.told f.new) (words (named_file addr) at bytes.now) }
-    ensures stops { ForSome (F.told f.old).files (λ from. PassesTo (F.told f.old) (F.told f.new) (SameOutside (range (named_file addr) at (length bytes.now)) from) (SameOutside (range (named_file addr) at (length bytes.now)) from)) }
+
+    // At each word all other bytes of the file, and all other files, are as before.
+    ensures stops { ForSome (F.told f.old).files (λ from. Passes (F.told f.old) (F.told f.new) (ChangesExternal (range (named_file addr) at (length bytes.now)) (external_number addr) from)) }
 
     ensures later { F.faults f.old ≤ F.faults f.new }
     ensures failed { OnErr result (Rises (F.faults f.old) (F.faults f.new)) }
@@ -60,12 +62,13 @@ pub fn write<F: Folder>(f: &mut F, addr: Addr, at: u64, bytes: &[u8]) -> Result<
 /// Gives the file this length, and makes it where there is none. New bytes are 0.
 pub fn resize<F: Folder>(f: &mut F, addr: Addr, length: u64) -> Result<(), Failed>
     requires kind { kind_of addr ≡ external }
-    ensures done { OnOk result (Applies (F.told f.old) (F.told f.new) (SetLength (named_file addr) length ∷ [])) }
+    ensures steps { OnOk result (Applies (F.told f.old) (F.told f.new) (SetLength (named_file addr) length ∷ [])) }
+    ensures prefix { AppliesPrefix (F.told f.old) (F.told f.new) (SetLength (named_file addr) length ∷ []) }
     ensures undone { OnErr result (Stays (F.told f.old) (F.told f.new)) }
     ensures file { OnOk result (ForSome (F.told f.old).files (λ from. ForSome (F.told f.new).files (λ image. image (named_file addr) ≡ Some (resized length (bytes_of from (named_file addr)))))) }
 
-    // At each moment all other files are as before.
-    ensures stops { ForSome (F.told f.old).files (λ from. PassesTo (F.told f.old) (F.told f.new) (SameOutside (whole (named_file addr)) from) (SameOutside (whole (named_file addr)) from)) }
+    // Before and after the step all other files are as before.
+    ensures stops { ForSome (F.told f.old).files (λ from. Passes (F.told f.old) (F.told f.new) (ChangesExternal (whole (named_file addr)) (external_number addr) from)) }
 
     ensures later { F.faults f.old ≤ F.faults f.new }
     ensures failed { OnErr result (Rises (F.faults f.old) (F.faults f.new)) }
@@ -76,12 +79,13 @@ pub fn resize<F: Folder>(f: &mut F, addr: Addr, length: u64) -> Result<(), Faile
 /// Removes the file, if it is there.
 pub fn delete<F: Folder>(f: &mut F, addr: Addr) -> Result<(), Failed>
     requires kind { kind_of addr ≡ external }
-    ensures done { OnOk result (Applies (F.told f.old) (F.told f.new) (Delete (named_file addr) ∷ [])) }
+    ensures steps { OnOk result (Applies (F.told f.old) (F.told f.new) (Delete (named_file addr) ∷ [])) }
+    ensures prefix { AppliesPrefix (F.told f.old) (F.told f.new) (Delete (named_file addr) ∷ []) }
     ensures undone { OnErr result (Stays (F.told f.old) (F.told f.new)) }
     ensures file { OnOk result (ForSome (F.told f.new).files (λ image. image (named_file addr) ≡ None)) }
 
-    // At each moment all other files are as before.
-    ensures stops { ForSome (F.told f.old).files (λ from. PassesTo (F.told f.old) (F.told f.new) (SameOutside (whole (named_file addr)) from) (SameOutside (whole (named_file addr)) from)) }
+    // Before and after the step all other files are as before.
+    ensures stops { ForSome (F.told f.old).files (λ from. Passes (F.told f.old) (F.told f.new) (ChangesExternal (whole (named_file addr)) (external_number addr) from)) }
 
     ensures later { F.faults f.old ≤ F.faults f.new }
     ensures failed { OnErr result (Rises (F.faults f.old) (F.faults f.new)) }

@@ -1,7 +1,7 @@
 // An external file is made, with the first free number.
 ghost use Rattle.std.specs.Prelude.{◌≡◌, ◌⊎◌, ◌+◌, ◌≤◌, ◌<◌, None, OnOk, OnErr, IfOk};
 ghost use Rattle.std.specs.Option.{ForSome};
-ghost use Rattle.blk_image.specs.Told.{Applies, AppliesPrefix, Stays, PassesTo, Rises};
+ghost use Rattle.blk_image.specs.Told.{Applies, AppliesPrefix, Stays, Passes, Rises};
 ghost use Rattle.blk_format.specs.Address.{kind_of, external, external_number};
 ghost use Rattle.blk_format.specs.Headers.{HasWholeIndex};
 ghost use Rattle.blk_io.specs.Faults.{IfDamaged, IfDevice, IsShort};
@@ -18,24 +18,24 @@ const MOST_NUMBER: u32 = 0x0FFF_FFFF;
 ///
 /// The search takes the numbers above the last one in rising order and then goes on at 1. So it begins
 /// at 1 where the index has 0, the largest number or a word that is no number. A damage is a read that
-/// gave too few bytes of the last number, or that no number is free; both need a folder that tells nothing.
+/// gave too few bytes of the last number, or that no number is free; nothing is then written.
 /// Where the next number is free, two folder calls find it.
 pub fn create<F: Folder>(f: &mut F) -> Result<Addr, Fault>
-    requires free { ForSome (F.told f.old).files HasFreeNumber }
     requires complete { ForSome (F.told f.old).files HasWholeIndex }
     ensures kind { IfOk result (λ addr. kind_of addr ≡ external) }
     ensures number { IfOk result (λ addr. IsNumber (external_number addr)) }
     ensures first { IfOk result (λ addr. ForSome (F.told f.old).files (λ image. IsFirstFree image (last_number image) (external_number addr))) }
-    ensures steps { IfOk result (λ addr. Applies (F.told f.old) (F.told f.new) (making (external_number addr))) }
     ensures made { IfOk result (λ addr. ForSome (F.told f.new).files (λ image. Creates image (external_number addr))) }
-
-    // Whatever the answer: a front of the steps, at each moment all else as before, and the index as long as it was.
-    ensures prefix { CreatesPrefix (F.told f.old) (F.told f.new) }
-    ensures stops { ForSome (F.told f.old).files (λ from. PassesTo (F.told f.old) (F.told f.new) (CreatesInProgress from) (CreatesInProgress from)) }
     ensures complete { ForSome (F.told f.new).files HasWholeIndex }
+    ensures steps { IfOk result (λ addr. Applies (F.told f.old) (F.told f.new) (making (external_number addr))) }
+
+    // Where a number is free, and whatever the answer: a front of the steps, and before and after each of them all else as it was.
+    ensures prefix { ForSome (F.told f.old).files HasFreeNumber → CreatesPrefix (F.told f.old) (F.told f.new) }
+    ensures stops { ForSome (F.told f.old).files (λ from. HasFreeNumber from → Passes (F.told f.old) (F.told f.new) (CreatesInProgress from)) }
 
     ensures damaged { IfDamaged result (λ damage. IsShort (F.told f.old) FileId.Index last_file_place 4 damage ⊎ IsFull (F.told f.old) damage) }
-    ensures untold { IfDamaged result (λ _. (F.told f.old).files ≡ None) }
+    ensures unwritten { IfDamaged result (λ _. Stays (F.told f.old) (F.told f.new)) }
+    ensures untold { ForSome (F.told f.old).files HasFreeNumber → IfDamaged result (λ _. (F.told f.old).files ≡ None) }
     ensures later { F.faults f.old ≤ F.faults f.new }
     ensures device { IfDevice result (Rises (F.faults f.old) (F.faults f.new)) }
 {

@@ -1,21 +1,18 @@
 // External files on a folder in memory.
-ghost use Rattle.std.specs.Prelude.{◌≡◌, IfOk, IsTrue};
+ghost use Rattle.std.specs.Prelude.{◌≡◌, IfOk};
 ghost use Rattle.std.specs.Option.{ForSome};
 ghost use Rattle.blk_image.specs.Image.{length_of};
-ghost use Rattle.blk_image.specs.Told.{Stays};
 ghost use Rattle.blk_format.specs.Address.{kind_of, external};
-ghost use Rattle.blk_external.specs.Numbers.{IsFree, named_file};
+ghost use Rattle.blk_external.specs.Numbers.{named_file};
 
 use crate::bytes::name_of;
 use crate::{create, delete, read, resize, write};
 use blk_addr::{Addr, Kind};
-use blk_io::{Failed, Fault, FileId, Folder, MemFolder, NoMemory};
+use blk_io::{Damage, Failed, Fault, FileId, Folder, MemFolder, NoMemory, SilentFolder};
 use std::alloc::Global;
 use std::test::Fail;
 
 const INDEX_LEN: u64 = 262512;
-
-const MOST_NUMBER: u32 = 268435455;
 
 // A folder whose index has this last number.
 fn with_last(alloc: Global, last: u32) -> Result<MemFolder, NoMemory> {
@@ -35,26 +32,14 @@ fn prepare<F: Folder>(f: &mut F, taken: &[u32]) -> Result<(), Failed> {
     Ok(())
 }
 
-// Whether no file has this number.
-fn is_free<F: Folder>(f: &mut F, number: u32) -> Result<bool, Failed>
-    ensures free { IfOk result (λ b. ForSome (F.told f.new).files (λ image. IsTrue b → IsFree image number)) }
-    ensures stays { Stays (F.told f.old) (F.told f.new) }
-{
-    Ok(f.length(FileId::External(number))?.is_none())
-}
-
-// Makes a file where the index is whole and this number is free.
-fn create_with<F: Folder>(f: &mut F, free: u32) -> Result<Addr, Fault>
+// Makes a file where the index is whole.
+fn create_whole<F: Folder>(f: &mut F) -> Result<Addr, Fault>
     ensures { IfOk result (λ addr. kind_of addr ≡ external) }
 {
-    if f.length(FileId::Index)? != Some(INDEX_LEN) || free == 0 || free > MOST_NUMBER {
+    if f.length(FileId::Index)? != Some(INDEX_LEN) {
         return Err(Fault::Device);
     }
-    if is_free(f, free)? {
-        create(f)
-    } else {
-        Err(Fault::Device)
-    }
+    create(f)
 }
 
 // The length of a file.
@@ -66,17 +51,6 @@ fn length<F: Folder>(f: &mut F, addr: Addr) -> Result<u64, Failed>
         Some(n) => Ok(n),
         None => Ok(0),
     }
-}
-
-// Reads bytes of a file, where it has them.
-fn read_inside<F: Folder>(f: &mut F, addr: Addr, at: u64, out: &mut [u8]) -> Result<(), Fault>
-    requires { kind_of addr ≡ external }
-{
-    let n = length(f, addr)?;
-    if at > n || out.len() as u64 > n - at {
-        return Err(Fault::Device);
-    }
-    read(f, addr, at, out)
 }
 
 // Writes bytes of a file, where it has them.
@@ -117,7 +91,7 @@ fn a_file_gets_the_first_free_number_after_the_last(rt: HostRuntime) -> Result<(
     for i in 0..9 {
         let mut f = with_last(rt.alloc(), lasts[i])?;
         prepare(&mut f, taken[i])?;
-        let addr = create_with(&mut f, wanted[i])?;
+        let addr = create_whole(&mut f)?;
         assert_eq!(rt; addr.word(), 0x8000_0000 + wanted[i]);
         assert_eq!(rt; f.length(FileId::External(wanted[i])), Ok(Some(0)));
         assert_eq!(rt; last_number(&mut f)?, wanted[i]);
@@ -130,10 +104,10 @@ fn two_calls_find_a_next_number_that_is_free(rt: HostRuntime) -> Result<(), Fail
     let mut f = with_last(rt.alloc(), 8)?;
     prepare(&mut f, &[3])?;
     assert_eq!(rt; f.calls(), 2);
-    create_with(&mut f, 9)?;
+    create_whole(&mut f)?;
 
-    // The test looks for the index and the number itself, and the call reads, looks, makes and writes.
-    assert_eq!(rt; f.calls(), 2 + 2 + 4);
+    // The test looks for the index, and the call reads, looks, makes and writes.
+    assert_eq!(rt; f.calls(), 2 + 1 + 4);
     Ok(())
 }
 
@@ -141,22 +115,52 @@ fn two_calls_find_a_next_number_that_is_free(rt: HostRuntime) -> Result<(), Fail
 fn a_file_holds_its_bytes(rt: HostRuntime) -> Result<(), Fail> {
     let mut f = with_last(rt.alloc(), 0)?;
     prepare(&mut f, &[])?;
-    let addr = create_with(&mut f, 1)?;
+    let addr = create_whole(&mut f)?;
     assert_eq!(rt; addr.kind(), Kind::External);
     resize(&mut f, addr, 10)?;
     write_inside(&mut f, addr, 3, b"abcdefg")?;
     let mut end = [9; 3];
-    read_inside(&mut f, addr, 7, &mut end)?;
+    read(&mut f, addr, 7, &mut end)?;
     assert_eq!(rt; end, *b"efg");
     let mut none = [];
-    read_inside(&mut f, addr, 10, &mut none)?;
+    read(&mut f, addr, 10, &mut none)?;
     resize(&mut f, addr, 5)?;
     resize(&mut f, addr, 8)?;
     let mut all = [9; 8];
-    read_inside(&mut f, addr, 0, &mut all)?;
+    read(&mut f, addr, 0, &mut all)?;
     assert_eq!(rt; all, *b"\0\0\0ab\0\0\0");
     delete(&mut f, addr)?;
     assert_eq!(rt; f.length(FileId::External(1)), Ok(None));
     assert_eq!(rt; f.length(FileId::Index), Ok(Some(INDEX_LEN)));
+    Ok(())
+}
+
+#[test]
+fn too_few_bytes_are_a_damage(rt: HostRuntime) -> Result<(), Fail> {
+    let mut f = SilentFolder::new(with_last(rt.alloc(), 8)?);
+    let addr = create(&mut f)?;
+    resize(&mut f, addr, 10)?;
+    let mut out = [7; 4];
+    let file = FileId::External(9);
+    assert_eq!(rt;
+        read(&mut f, addr, 7, &mut out),
+        Err(Fault::Damaged(Damage {
+            file,
+            at: 7,
+            found: 3
+        }))
+    );
+
+    // The last number of an index that ends inside it.
+    let file = FileId::Index;
+    f.set_len(file, 18)?;
+    assert_eq!(rt;
+        create(&mut f),
+        Err(Fault::Damaged(Damage {
+            file,
+            at: 16,
+            found: 2
+        }))
+    );
     Ok(())
 }

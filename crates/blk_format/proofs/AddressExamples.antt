@@ -32,7 +32,7 @@ pub reserved_bits_set : is_address 0xA4010000 ≡ false
 unfolding is_address is_initialized names_external names_blocks kind_of reserved_bits block_count first_block external_number
 reserved_bits_set = refl
 
--- 0xD0000000 is no address: its type is 5
+-- 0xD0000000 is no address: its kind is 5
 pub type_5 : is_address 0xD0000000 ≡ false
 unfolding is_address is_initialized names_external names_blocks kind_of reserved_bits block_count first_block external_number
 type_5 = refl
@@ -62,7 +62,7 @@ pub no_word : is_address 0 ≡ false
 unfolding is_address is_initialized names_external names_blocks kind_of reserved_bits block_count first_block external_number
 no_word = refl
 
--- block sizes of types 1 to 4
+-- block sizes of kinds 1 to 4
 pub block_sizes : (block_size 1 ≡ 36) × (block_size 2 ≡ 256) × (block_size 3 ≡ 1024) × (block_size 4 ≡ 4096)
 unfolding block_size
 block_sizes = (refl, refl, refl, refl)

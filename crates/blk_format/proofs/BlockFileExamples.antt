@@ -80,7 +80,7 @@ block_counts : map is_block_count (0 ∷ 1 ∷ 1024 ∷ 1408 ∷ 63488 ∷ 64512
 unfolding is_block_count
 block_counts = refl
 
--- a folder of block files alone, by the type and the next file of each; those of type 0 are not there
+-- a folder of block files alone, by the kind and the next file of each; those of kind 0 are not there
 folder : (ℕ → ℕ) → (ℕ → ℕ) → Image
 folder kind next Index = None
 folder kind next (Block n) = if kind n == 0 then None else Some (fields 0xC104CAC3 0x20000 n (next n) (block_size (kind n)) 1024 ++ zeros 8168)
@@ -128,12 +128,12 @@ link_to_another_kind : first_block_damage (folder kinds (λ n. if n == 2 then 4 
 unfolding damage checks_of_kind checks_along file_checks linked_up_to linked files_along next_file_in folder kinds fields block_size zeros is_link is_block_count
 link_to_another_kind = refl
 
--- a file after file 0 has the size of its own type
+-- a file after file 0 has the size of its own kind
 file_of_another_kind : first_block_damage (folder kinds (λ n. if n == 0 then 4 else 0)) ≡ damage 4 12 1024
 unfolding damage checks_of_kind checks_along file_checks linked_up_to linked files_along next_file_in folder kinds fields block_size zeros is_link is_block_count
 file_of_another_kind = refl
 
--- the files of one type are data_0 and data_4 to data_62, sixty in all, and a next file of the last
+-- the files of one kind are data_0 and data_4 to data_62, sixty in all, and a next file of the last
 sixty : ℕ → ℕ → ℕ
 sixty last n = if n == 0 then 4 else if n == 62 then last else if nat_lt n 4 then 0 else n + 1
 

@@ -30,7 +30,7 @@ pub repeated : (repeats (BlockOf 1 4 ∷ ExternalOf 1 ∷ BlockOf 1 4 ∷ []) �
 unfolding repeats has_claim
 repeated = (refl, refl)
 
--- data_1 alone is linked, of type 2, with eight blocks and room for six; f_000001 alone is there
+-- data_1 alone is linked, of kind 2, with eight blocks and room for six; f_000001 alone is there
 abbrev worked : ℕ → Bool
 worked = stands (λ n. cond (n == 1) (Some 2) None) (λ n. 8) (λ n. 8192 + 6 * 256) (λ n. n == 1)
 

@@ -39,7 +39,7 @@ whole_not image = record { grown = grown_not image; formed = λ was. was }
 pub whole_then : (a b c : Image) → StaysWhole a b → StaysWhole b c → StaysWhole a c
 whole_then a b c one other = record { grown = grown_then a b c one.grown other.grown; formed = λ was. other.formed (one.formed was) }
 
--- a file that is linked as a type
+-- a file that is linked as a kind
 is_linked : (o : Option ℕ) (kind : ℕ) → is_linked_as o kind ≡ true → o ≡ Some kind
 is_linked None kind holds = absurd (clash holds)
   where

@@ -193,7 +193,7 @@ module _ (a b : Image) (Old : ℕ → Bool) (heads : (m : ℕ) → Old m ≡ tru
         ap (λ (m : ℕ). k ∷ (if m == 0 then [] else files_along (next_file_in b) left m)) next
         ∙ ap (λ (l : List ℕ). k ∷ l) (links_behind left k inside (links_kept left (next_file_in a k)))
 
--- what a list of checks of all four types says of each
+-- what a list of checks of all four kinds says of each
 pub each_kind : (image : Image) → first_block_damage image ≡ None → (first_of (checks_of_kind image 1) ≡ None) × (first_of (checks_of_kind image 2) ≡ None) × (first_of (checks_of_kind image 3) ≡ None) × (first_of (checks_of_kind image 4) ≡ None)
 each_kind image none =
     let one = none_parts (checks_of_kind image 1) _ none in

@@ -4,6 +4,7 @@ pub mod StorageExamples
 pub mod ClaimsExamples
 pub mod HeaderExamples
 pub mod HeaderLemmas
+pub mod Finished
 pub mod Bodies
 pub mod HashExamples
 pub mod RecordLemmas
@@ -20,3 +21,5 @@ pub mod Seals
 pub mod SealedRecords
 pub mod SealedFields
 pub mod Growths
+pub mod LinkedHeads
+pub mod Groups

@@ -1,88 +1,107 @@
 -- A printed name is read back, and nothing else is read.
-use Rattle.std.proofs.Common.{◌≡◌, ℕ, zero, suc, ◌+◌, ◌/◌, ◌%◌, ◌^◌, ◌<◌, ◌≤◌, List, [], ◌∷◌, ◌++◌, refl, ap, ap₂, sym, ◌∙◌, subst, arith, ⊎_elim, Bool, true, false, Some, None}
+use Rattle.std.proofs.Common.{◌≡◌, ℕ, zero, suc, ◌+◌, ◌/◌, ◌%◌, ◌^◌, ◌<◌, ◌≤◌, List, [], ◌∷◌, ◌++◌, refl, ap, ap₂, sym, ◌∙◌, subst, arith, append_assoc, ⊎_elim, Bool, true, false, Some, None}
 use Rattle.std.specs.Prelude.{map, ◌==◌, ◌&&◌, nat_lt, drop, if◌then◌else◌}
 use Rattle.std.specs.Str.{bytes_eq}
 use Rattle.std.specs.List.{AllByRecursion}
-use Rattle.std.specs.Int.Digits.{digits_with_fuel, digits_of, number_from_digits, AllBelowBase}
+use Rattle.std.specs.Fmt.{digits, digits_onto, digit_glyph}
+use Rattle.std.proofs.lemmas.List.{append-nil}
+use Rattle.std.specs.Int.Digits.{digits_of, number_from_digits, AllBelowBase}
 use Rattle.std.proofs.lemmas.Int.Digits.{digits_of_step, all_below_base_digits_of, number_digits_of}
-use Rattle.std.proofs.lemmas.Bool.{eqb-true, cases_lt, lt-ltb, le-ltb, cases_Bool}
+use Rattle.std.proofs.lemmas.Bool.{eqb-true, eq-eqb, ne_eqb, cases_lt, lt-ltb, le-ltb, cases_Bool}
 use Rattle.std.proofs.lemmas.Bool.Decides.{nat_tests}
 use Rattle.std.proofs.lemmas.Option.{option_and_then_some, cond_some}
 use Rattle.std.proofs.lemmas.Slice.Eq.{bytes_eq-Decides}
 use Rattle.std.proofs.Math.Nat.{pow-zero, pow-suc}
-use Rattle.blk_format.specs.Names.{hex_byte, most_digits, hex_text, name_head, colon, child_name, Name, may_be_named, IsName, hex_digit, hex_number, split_last, where_printed, said_by, name_in_halves, read_name, ReadsNames}
+use Rattle.blk_format.specs.Names.{hexadecimal, name_head, colon, child_name, Name, may_be_named, IsName, hex_digit, hex_number, split_last, where_printed, said_by, name_in_halves, read_name, ReadsNames}
+
+map-append : (f : ℕ → ℕ) (xs ys : List ℕ) → map f (xs ++ ys) ≡ map f xs ++ map f ys
+map-append f [] ys = refl
+map-append f (x ∷ xs) ys = ap (λ (l : List ℕ). f x ∷ l) (map-append f xs ys)
+
+-- the digits of a number, behind its last one
+glyphs_step : (n : ℕ) (acc : List ℕ) → 0 < n → map (digit_glyph false) (digits_of 16 n) ++ acc ≡ map (digit_glyph false) (digits_of 16 (n / 16)) ++ digit_glyph false (n % 16) ∷ acc
+glyphs_step n acc some =
+    ap (λ (ds : List ℕ). map (digit_glyph false) ds ++ acc) (digits_of_step 16 n (omega arith) some)
+    ∙ ap (λ (ds : List ℕ). ds ++ acc) (map-append (digit_glyph false) (digits_of 16 (n / 16)) (n % 16 ∷ []))
+    ∙ append_assoc (map (digit_glyph false) (digits_of 16 (n / 16))) (digit_glyph false (n % 16) ∷ []) acc
 
 -- a number of few digits needs no more turns
-pub few_digits : (turns n : ℕ) → n < 16 ^ turns → digits_with_fuel 16 turns n ≡ digits_of 16 n
-few_digits zero n few = let none : n ≡ 0 = omega (arith, pow-zero 16) in rw none refl
-few_digits (suc turns) n few = ⊎_elim
-    (λ (none : n < 1). let is : n ≡ 0 = omega arith in rw is refl)
-    (λ (some : 1 ≤ n).
-    let more : 0 < n = omega arith in
+few_digits : (turns n : ℕ) (acc : List ℕ) → n < 16 ^ turns → 0 < n → digits_onto turns 16 false n acc ≡ map (digit_glyph false) (digits_of 16 n) ++ acc
+few_digits zero n acc few some = absurd (omega (arith, pow-zero 16))
+few_digits (suc turns) n acc few some = ⊎_elim
+    (λ (last : n < 16).
+    let is : n / 16 ≡ 0 = omega arith in
+    let none : map (digit_glyph false) (digits_of 16 (n / 16)) ≡ [] = ap (λ (m : ℕ). map (digit_glyph false) (digits_of 16 m)) is in
+    let test : (n / 16 == 0) ≡ true = eq-eqb (n / 16) 0 is in
+    ap (λ (b : Bool). if b then digit_glyph false (n % 16) ∷ acc else digits_onto turns 16 false (n / 16) (digit_glyph false (n % 16) ∷ acc)) test
+    ∙ sym (glyphs_step n acc some ∙ ap (λ (ds : List ℕ). ds ++ digit_glyph false (n % 16) ∷ acc) none))
+    (λ (more : 16 ≤ n).
     let fewer : n / 16 < 16 ^ turns = omega (arith, pow-suc 16 turns) in
-    let test : (n == 0) ≡ false = grind (arith, nat_tests) in
-    rw test (ap (λ (digits : List ℕ). digits ++ n % 16 ∷ []) (few_digits turns (n / 16) fewer)) ∙ sym (digits_of_step 16 n (omega arith) more))
-    (cases_lt n 1)
+    let test : (n / 16 == 0) ≡ false = ne_eqb (n / 16) 0 (λ is. omega (arith, is, more)) in
+    ap (λ (b : Bool). if b then digit_glyph false (n % 16) ∷ acc else digits_onto turns 16 false (n / 16) (digit_glyph false (n % 16) ∷ acc)) test
+    ∙ few_digits turns (n / 16) (digit_glyph false (n % 16) ∷ acc) fewer (omega (arith, more)) ∙ sym (glyphs_step n acc some))
+    (cases_lt n 16)
+
+-- the digits are those of 64 turns
+turns-64 : (turns n : ℕ) → turns ≡ 64 → digits 16 false n ≡ digits_onto turns 16 false n []
+unfolding digits
+turns-64 turns n is = ap (λ (t : ℕ). digits_onto t 16 false n []) (sym is)
 
 -- a text without `:` is not split
-no_colon : (xs : List ℕ) → AllByRecursion (λ x. (x == colon) ≡ false) xs → split_last xs ≡ None
+pub no_colon : (xs : List ℕ) → AllByRecursion (λ x. (x == colon) ≡ false) xs → split_last xs ≡ None
 unfolding split_last
 no_colon [] h = refl
 no_colon (x ∷ xs) h = rw (no_colon xs h.1, h.0) refl
 
 -- the last `:` splits
-split : (xs ys : List ℕ) → split_last ys ≡ None → split_last (xs ++ colon ∷ ys) ≡ Some (xs, ys)
+pub split : (xs ys : List ℕ) → split_last ys ≡ None → split_last (xs ++ colon ∷ ys) ≡ Some (xs, ys)
 unfolding split_last
 split [] ys none = rw none refl
 split (x ∷ xs) ys none = rw (split xs ys none) refl
 
 -- the byte of a digit is read as the digit
-digit-back : (d : ℕ) → d < 16 → hex_digit (hex_byte d) ≡ d
+digit-back : (d : ℕ) → d < 16 → hex_digit (digit_glyph false d) ≡ d
 digit-back d h = ⊎_elim
     (λ (small : d < 10).
-    let a : hex_byte d ≡ 48 + d = rw (lt-ltb d 10 small) refl in
+    let a : digit_glyph false d ≡ 48 + d = rw (lt-ltb d 10 small) refl in
     let b : nat_lt (48 + d) 58 ≡ true = lt-ltb (48 + d) 58 (omega arith) in
     rw (a, b) (omega arith))
     (λ (large : 10 ≤ d).
-    let a : hex_byte d ≡ 87 + d = rw (le-ltb d 10 large) refl in
+    let a : digit_glyph false d ≡ 87 + d = rw (le-ltb d 10 large) refl in
     let b : nat_lt (87 + d) 58 ≡ false = le-ltb (87 + d) 58 (omega arith) in
     rw (a, b) (omega arith))
     (cases_lt d 10)
 
 -- and is no `:`
-digit-no_colon : (d : ℕ) → d < 16 → (hex_byte d == colon) ≡ false
+digit-no_colon : (d : ℕ) → d < 16 → (digit_glyph false d == colon) ≡ false
 digit-no_colon d h = ⊎_elim
-    (λ (small : d < 10). let a : hex_byte d ≡ 48 + d = rw (lt-ltb d 10 small) refl in grind (arith, nat_tests))
-    (λ (large : 10 ≤ d). let a : hex_byte d ≡ 87 + d = rw (le-ltb d 10 large) refl in grind (arith, nat_tests))
+    (λ (small : d < 10). let a : digit_glyph false d ≡ 48 + d = rw (lt-ltb d 10 small) refl in grind (arith, nat_tests))
+    (λ (large : 10 ≤ d). let a : digit_glyph false d ≡ 87 + d = rw (le-ltb d 10 large) refl in grind (arith, nat_tests))
     (cases_lt d 10)
 
-digits-back : (ds : List ℕ) → AllBelowBase 16 ds → map hex_digit (map hex_byte ds) ≡ ds
+digits-back : (ds : List ℕ) → AllBelowBase 16 ds → map hex_digit (map (digit_glyph false) ds) ≡ ds
 digits-back [] h = refl
 digits-back (d ∷ ds) h = ap₂ (λ (x : ℕ) (xs : List ℕ). x ∷ xs) (digit-back d h.0) (digits-back ds h.1)
 
-digits-no_colon : (ds : List ℕ) → AllBelowBase 16 ds → AllByRecursion (λ x. (x == colon) ≡ false) (map hex_byte ds)
+digits-no_colon : (ds : List ℕ) → AllBelowBase 16 ds → AllByRecursion (λ x. (x == colon) ≡ false) (map (digit_glyph false) ds)
 digits-no_colon [] h = tt
 digits-no_colon (d ∷ ds) h = (digit-no_colon d h.0, digits-no_colon ds h.1)
 
 -- the text of a number other than 0
-chosen : (n turns : ℕ) → (n == 0) ≡ false → (if n == 0 then 48 ∷ [] else map hex_byte (digits_with_fuel 16 turns n)) ≡ map hex_byte (digits_with_fuel 16 turns n)
-chosen n turns some = ap (λ (test : Bool). if test then 48 ∷ [] else map hex_byte (digits_with_fuel 16 turns n)) some
-
-text-of : (n : ℕ) → n < 2 ^ 64 → (n == 0) ≡ false → hex_text n ≡ map hex_byte (digits_of 16 n)
-unfolding hex_text
-text-of n fits some = chosen n most_digits some ∙ ap (map hex_byte) (few_digits most_digits n (let small : n < 16 ^ 16 = omega arith in small))
+pub text-of : (n : ℕ) → n < 2 ^ 64 → 0 < n → hexadecimal n ≡ map (digit_glyph false) (digits_of 16 n)
+text-of n fits some = turns-64 64 n refl ∙ few_digits 64 n [] (let small : n < 16 ^ 64 = omega arith in small) some ∙ append-nil (map (digit_glyph false) (digits_of 16 n))
 
 -- the text of a number says the number
-pub hex_number-hex_text : (n : ℕ) → n < 2 ^ 64 → hex_number (hex_text n) ≡ n
-hex_number-hex_text n fits = ⊎_elim
-    (λ (none : (n == 0) ≡ true). let is = eqb-true n 0 none in rw is (unfold hex_text in refl))
-    (λ (some : (n == 0) ≡ false). ap hex_number (text-of n fits some) ∙ ap (number_from_digits 16) (digits-back (digits_of 16 n) (all_below_base_digits_of 16 n (omega arith))) ∙ number_digits_of 16 n (omega arith))
+pub hex_number-hexadecimal : (n : ℕ) → n < 2 ^ 64 → hex_number (hexadecimal n) ≡ n
+hex_number-hexadecimal n fits = ⊎_elim
+    (λ (none : (n == 0) ≡ true). let is = eqb-true n 0 none in rw is (unfold digits in refl))
+    (λ (some : (n == 0) ≡ false). ap hex_number (text-of n fits (grind (arith, nat_tests))) ∙ ap (number_from_digits 16) (digits-back (digits_of 16 n) (all_below_base_digits_of 16 n (omega arith))) ∙ number_digits_of 16 n (omega arith))
     (cases_Bool (n == 0))
 
-hex_text-no_colon : (n : ℕ) → n < 2 ^ 64 → split_last (hex_text n) ≡ None
-hex_text-no_colon n fits = ⊎_elim
-    (λ (none : (n == 0) ≡ true). let is = eqb-true n 0 none in rw is (unfold hex_text in no_colon (48 ∷ []) (refl, tt)))
-    (λ (some : (n == 0) ≡ false). ap split_last (text-of n fits some) ∙ no_colon (map hex_byte (digits_of 16 n)) (digits-no_colon (digits_of 16 n) (all_below_base_digits_of 16 n (omega arith))))
+pub hexadecimal-no_colon : (n : ℕ) → n < 2 ^ 64 → split_last (hexadecimal n) ≡ None
+hexadecimal-no_colon n fits = ⊎_elim
+    (λ (none : (n == 0) ≡ true). let is = eqb-true n 0 none in rw is (unfold digits in no_colon (48 ∷ []) (refl, tt)))
+    (λ (some : (n == 0) ≡ false). ap split_last (text-of n fits (grind (arith, nat_tests))) ∙ no_colon (map (digit_glyph false) (digits_of 16 n)) (digits-no_colon (digits_of 16 n) (all_below_base_digits_of 16 n (omega arith))))
     (cases_Bool (n == 0))
 
 both : (a b : Bool) → (a && b) ≡ true → (a ≡ true) × (b ≡ true)
@@ -96,10 +115,10 @@ unfolding read_name
 read_parts bytes front text rest middle a b = rw (a, b) refl
 
 -- numbers that a name may have are below 2 ^ 64
-signature-fits : (name : Name) → may_be_named name ≡ true → name.signature < 2 ^ 64
+pub signature-fits : (name : Name) → may_be_named name ≡ true → name.signature < 2 ^ 64
 signature-fits name fits = grind (arith, nat_tests)
 
-part-fits : (name : Name) → may_be_named name ≡ true → name.part < 2 ^ 64
+pub part-fits : (name : Name) → may_be_named name ≡ true → name.part < 2 ^ 64
 part-fits name fits = grind (arith, nat_tests)
 
 -- a printed name is read back
@@ -108,10 +127,10 @@ unfolding child_name
 read_name-child_name name fits =
     let signature = signature-fits name fits in
     let part = part-fits name fits in
-    let first : split_last (child_name name.key name.signature name.part) ≡ Some (name_head ++ name.key ++ colon ∷ hex_text name.signature, hex_text name.part) = split (name_head ++ name.key ++ colon ∷ hex_text name.signature) (hex_text name.part) (hex_text-no_colon name.part part) in
-    let second : split_last (name_head ++ name.key ++ colon ∷ hex_text name.signature) ≡ Some (name_head ++ name.key, hex_text name.signature) = split (name_head ++ name.key) (hex_text name.signature) (hex_text-no_colon name.signature signature) in
-    let said : Name = record { key = name.key; signature = hex_number (hex_text name.signature); part = hex_number (hex_text name.part) } in
-    let same : said ≡ name = λ k. record { key = name.key; signature = hex_number-hex_text name.signature signature k; part = hex_number-hex_text name.part part k } in
+    let first : split_last (child_name name.key name.signature name.part) ≡ Some (name_head ++ name.key ++ colon ∷ hexadecimal name.signature, hexadecimal name.part) = split (name_head ++ name.key ++ colon ∷ hexadecimal name.signature) (hexadecimal name.part) (hexadecimal-no_colon name.part part) in
+    let second : split_last (name_head ++ name.key ++ colon ∷ hexadecimal name.signature) ≡ Some (name_head ++ name.key, hexadecimal name.signature) = split (name_head ++ name.key) (hexadecimal name.signature) (hexadecimal-no_colon name.signature signature) in
+    let said : Name = record { key = name.key; signature = hex_number (hexadecimal name.signature); part = hex_number (hexadecimal name.part) } in
+    let same : said ≡ name = λ k. record { key = name.key; signature = hex_number-hexadecimal name.signature signature k; part = hex_number-hexadecimal name.part part k } in
     read_parts (child_name name.key name.signature name.part) _ _ _ _ first second ∙ ap (where_printed (child_name name.key name.signature name.part)) same ∙ passed
   where
     passed : where_printed (child_name name.key name.signature name.part) name ≡ Some name

@@ -1,21 +1,24 @@
 -- A sealed record at each moment of its update.
-use Rattle.std.proofs.Common.{◌≡◌, ℕ, ◌+◌, ◌%◌, ◌≤◌, Bool, true, false, if◌then◌else◌, List, [], ◌∷◌, ◌++◌, length, take, All, refl, sym, ◌∙◌, ap, subst, arith, append_assoc, append-nil, length-append, inr, ◌*◌, ⊎_elim}
+use Rattle.std.proofs.Common.{◌≡◌, ℕ, ◌+◌, ◌%◌, ◌<◌, ◌≤◌, Bool, true, false, if◌then◌else◌, List, [], ◌∷◌, ◌++◌, length, take, drop, All, take-append-drop, refl, sym, ◌∙◌, ap, subst, arith, append_assoc, append-nil, length-append, inr, ◌*◌, ⊎_elim}
 use Rattle.std.specs.Prelude.{◌==◌}
-use Rattle.std.proofs.lemmas.List.{take_all, take_at}
+use Rattle.std.proofs.lemmas.Bool.{cases_lt, eqb-true}
+use Rattle.std.proofs.lemmas.List.{drop-drop, get_or_past, take_all, take_at}
 use Rattle.std.proofs.lemmas.List.Elements.{All-head, All-tail}
-use Rattle.blk_image.specs.Bytes.{content, word_at, word_bytes}
-use Rattle.blk_image.specs.Image.{Block, Image, length_of}
+use Rattle.blk_image.specs.Bytes.{content, range_at, word_at, word_bytes}
+use Rattle.blk_image.specs.Image.{AreBytes, Block, Image, byte, length_of}
 use Rattle.blk_image.specs.Steps.{TrailStep, Word, applied, after, word_step, word_steps, with_word, with_words}
 use Rattle.blk_image.specs.Footprint.{SameOutside, range}
 use Rattle.blk_image.specs.Told.{Along}
 use Rattle.blk_image.proofs.Images.{length-after_write}
 use Rattle.blk_image.proofs.Footprints.{outside-refl, outside-trans, outside_wider, outside_write, range_within}
-use Rattle.blk_image.proofs.Words.{length-range, length-with_word, length-with_words, word-beside, word-there}
+use Rattle.blk_image.proofs.Splices.{spliced-is}
+use Rattle.blk_image.proofs.Words.{content-range, length-range, range-is, length-with_word, length-with_words, word-beside, word-there}
 use Rattle.blk_format.specs.Address.{file_selector, kind_of, place, byte_size, block_count, block_size}
 use Rattle.blk_format.specs.Hash.{hash}
 use Rattle.blk_format.specs.Records.{checks, seal_of}
 use Rattle.blk_format.proofs.Seals.{sealed-checks, zero-checks}
-use Rattle.blk_format.specs.Sealed.{BeginsWithRecord, size_by_kind, seal_by_kind, record_size, seal_place, record_at, record_range, RecordChecks, placed, update_words, update_steps, new_seal, sealed_steps, IsMidUpdate, IsUpdated}
+use Rattle.blk_format.specs.Sealed.{BeginsWithRecord, size_by_kind, seal_by_kind, record_size, seal_place, record_at, record_range, RecordChecks, placed, update_words, update_steps, new_seal, sealed_steps, IsMidUpdate, IsUpdated, WholeUpdatesAreMade, is_sealed, seal_steps, sealed}
+use Rattle.blk_format.proofs.Bodies.{AreBelow256, range-word}
 use Rattle.blk_format.proofs.Words.{AreFields-of}
 use Rattle.blk_format.proofs.RecordBytes.{record-step, record-after, take-with_word, take-with_words, take-before_word, with_words-append, same-sealed}
 
@@ -62,6 +65,14 @@ module _ (w : ℕ) where
       let file = Block (file_selector w) in
       outside-trans (record_range w) from image _ same
       (outside_wider (range file (place w + p) 4) (record_range w) image _ (range_within file (place w + p) 4 (place w) (record_size w) (omega arith) (omega (arith, inside, seal_last (kind_of w)))) (outside_write file (place w + p) (word_bytes v) image))
+
+  -- words of the record are written, and nothing else
+  pub words_stay : (words : List (ℕ × ℕ)) (from image : Image) → All (λ c. c.0 ≤ seal_place w) words → SameOutside (record_range w) from image → Along (SameOutside (record_range w) from) image (word_steps (Block (file_selector w)) (placed (place w) words))
+  unfolding word_step step_of
+  words_stay [] from image inside same = same
+  words_stay (c ∷ words) from image inside same =
+      let first : c.0 ≤ seal_place w = All-head (λ c. c.0 ≤ seal_place w) c words inside in
+      (same, words_stay words from (applied (step_of c.0 c.1) image) (All-tail (λ c. c.0 ≤ seal_place w) c words inside) (outside-step from image c.0 c.1 (omega arith) same))
 
   -- before the update
   pub moment_before : (from : Image) (changes : List (ℕ × ℕ)) → RecordChecks w from → IsMidUpdate from w changes from
@@ -154,7 +165,86 @@ module _ (w : ℕ) where
         (length-with_words changes old ∙ length-record from)
         (take-with_words s changes (with_word s 0 old) ∙ ap (with_words changes) (take-before_word s 0 old) ∙ sym (take-with_words s changes old))
 
--- the records of the two types
+-- a whole update is one with all changes made
+pub whole_update : WholeUpdatesAreMade
+whole_update from image w changes done outside =
+    let s : ℕ = seal_place w in
+    let made : List ℕ = with_words changes (record_at from w) in
+    let long : s + 4 ≤ length made = (let a = length-with_words changes (record_at from w) in let b = length-record w from in omega (arith, a, b)) in (
+      record {
+        made = length changes;
+        within = omega arith;
+        fields = ap (take s) done ∙ take-before_word s (seal_of s made) made ∙ ap (λ (l : List (ℕ × ℕ)). take s (with_words l (record_at from w))) (sym (take_all (length changes) changes (omega arith)));
+        checks = sealed-checks s made (record_at image w) done long;
+        outside = outside;
+      },
+      refl,
+    )
+
+-- A record is sealed.
+
+-- a word that bytes have, written again, leaves them
+same-written : (s : ℕ) (bytes : List ℕ) → AreBelow256 (content bytes) → s + 4 ≤ length bytes → with_word s (word_at (content bytes) s) bytes ≡ bytes
+unfolding with_word
+same-written s bytes small inside =
+    spliced-is s (word_bytes (word_at (content bytes) s)) bytes inside
+    ∙ ap (λ (word : List ℕ). take s bytes ++ (word ++ drop (s + 4) bytes)) (range-word s (content bytes) small ∙ range-is 4 s bytes inside)
+    ∙ ap (λ (rest : List ℕ). take s bytes ++ (take 4 (drop s bytes) ++ rest)) (sym (drop-drop 4 s bytes))
+    ∙ ap (λ (rest : List ℕ). take s bytes ++ rest) (take-append-drop 4 (drop s bytes))
+    ∙ take-append-drop s bytes
+
+record-small : (image : Image) (w : ℕ) → AreBytes image → AreBelow256 (content (record_at image w))
+unfolding record_at
+record-small image w bytes k =
+    ⊎_elim
+    (λ (inside : k < record_size w). subst (λ (n : ℕ). n < 256) (sym (content-range (record_size w) (place w) (byte image (Block (file_selector w))) k (place w + k) inside refl)) (bytes (Block (file_selector w)) (place w + k)))
+    (λ (past : record_size w ≤ k). subst (λ (n : ℕ). n < 256) (sym (get_or_past (range_at (byte image (Block (file_selector w))) (place w) (record_size w)) k 0 (omega (arith, past, length-range (record_size w) (place w) (byte image (Block (file_selector w))))))) (omega arith))
+    (cases_lt k (record_size w))
+
+module _ (w : ℕ) (from : Image) (fits : Fits w from) where
+  seal_step : TrailStep
+  seal_step = step_of w (seal_place w) (seal_of (seal_place w) (record_at from w))
+
+  sealed_record : record_at (applied seal_step from) w ≡ sealed (seal_place w) (record_at from w)
+  unfolding seal_step
+  sealed_record = record-written w from (seal_place w) (seal_of (seal_place w) (record_at from w)) fits
+
+  moment_sealed : IsMidUpdate from w [] (applied seal_step from)
+  unfolding seal_step
+  moment_sealed =
+      let s : ℕ = seal_place w in
+      let bytes : List ℕ = record_at from w in
+      let is = sealed_record in
+      record {
+        made = 0;
+        within = omega arith;
+        fields = ap (take s) is ∙ take-before_word s (seal_of s bytes) bytes;
+        checks = sealed-checks s bytes (record_at (applied seal_step from) w) is (omega (arith, length-record w from));
+        outside = outside-step w from from s (seal_of s bytes) (omega arith) (outside-refl (record_range w) from);
+      }
+
+  -- at each moment it is as after an update without changes
+  pub sealing : RecordChecks w from → Along (IsMidUpdate from w []) from (seal_steps from w)
+  unfolding seal_steps word_step step_of seal_step
+  sealing good = by_test (is_sealed (seal_place w) (record_at from w))
+    where
+      by_test : (t : Bool) → Along (IsMidUpdate from w []) from (if t then [] else word_step (Block (file_selector w)) (place w + seal_place w) (seal_of (seal_place w) (record_at from w)))
+      by_test true = moment_before w from [] good
+      by_test false = (moment_before w from [] good, moment_sealed)
+
+  -- and the record is sealed afterwards
+  pub sealed_after : AreBytes from → IsUpdated from w [] (after (seal_steps from w) from)
+  unfolding seal_steps word_step step_of seal_step
+  sealed_after bytes = by_test (is_sealed (seal_place w) (record_at from w)) refl
+    where
+      by_test : (t : Bool) → is_sealed (seal_place w) (record_at from w) ≡ t
+          → record_at (after (if t then [] else word_step (Block (file_selector w)) (place w + seal_place w) (seal_of (seal_place w) (record_at from w))) from) w ≡ sealed (seal_place w) (record_at from w)
+      by_test true e =
+          sym (same-written (seal_place w) (record_at from w) (record-small from w bytes) (omega (arith, length-record w from)))
+          ∙ ap (λ (v : ℕ). with_word (seal_place w) v (record_at from w)) (eqb-true (word_at (content (record_at from w)) (seal_place w)) (seal_of (seal_place w) (record_at from w)) e)
+      by_test false e = sealed_record
+
+-- the records of the two kinds
 pub node_seal : (w : ℕ) → kind_of w ≡ 1 → seal_place w ≡ 32
 unfolding seal_by_kind
 node_seal w kind = rw kind refl

@@ -8,7 +8,7 @@ pub blocks_of_records : (entry_blocks 1 ≡ 1) × (entry_blocks 159 ≡ 1) × (e
 unfolding entry_blocks
 blocks_of_records = (refl, refl, refl, refl, refl, refl, refl, refl, refl, refl)
 
--- the types of sizes
+-- the kinds of sizes
 pub kinds_of_sizes : (kind_for 1 ≡ 2) × (kind_for 1023 ≡ 2) × (kind_for 1024 ≡ 3) × (kind_for 4095 ≡ 3) × (kind_for 4096 ≡ 4) × (kind_for 16384 ≡ 4) × (kind_for 16385 ≡ 0) × (kind_for 929 ≡ 2) × (kind_for 32769 ≡ 0) × (kind_for 5003 ≡ 4)
 unfolding kind_for
 kinds_of_sizes = (refl, refl, refl, refl, refl, refl, refl, refl, refl, refl)

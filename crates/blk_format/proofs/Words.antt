@@ -36,7 +36,7 @@ pub first_block-block_word : (k f s n : ℕ) → AreFields k f s n → first_blo
 unfolding first_block block_word
 first_block-block_word k f s n fields = omega arith
 
--- such a word is an address where its type is one of blocks, its blocks lie in one group, and a node is one block
+-- such a word is an address where its kind is one of blocks, its blocks lie in one group, and a node is one block
 pub is_address-block_word : (k f s n : ℕ) → AreFields k f s n → is_block_kind k ≡ true → s % 4 + n ≤ 4 → (k ≡ rankings → n ≡ 1)
     → is_address (block_word k f s n) ≡ true
 unfolding is_address names_blocks

@@ -5,11 +5,11 @@ use Rattle.std.specs.Prelude.{ℕ, ◌+◌, ◌-◌, ◌*◌, ◌/◌, ◌%◌, 
 unfoldable pub is_initialized : ℕ → Bool
 is_initialized w = w / 2 ^ 31 == 1
 
--- bits 0x70000000: the type
+-- bits 0x70000000: the kind
 unfoldable pub kind_of : ℕ → ℕ
 kind_of w = w / 2 ^ 28 % 8
 
--- bits 0x0C000000: reserved, in the block types
+-- bits 0x0C000000: reserved, in the block kinds
 unfoldable pub reserved_bits : ℕ → ℕ
 reserved_bits w = w / 2 ^ 26 % 4
 
@@ -25,39 +25,39 @@ file_selector w = w / 2 ^ 16 % 256
 unfoldable pub first_block : ℕ → ℕ
 first_block w = w % 2 ^ 16
 
--- bits 0x0FFFFFFF: the external number, in type 0
+-- bits 0x0FFFFFFF: the external number, in kind 0
 unfoldable pub external_number : ℕ → ℕ
 external_number w = w % 2 ^ 28
 
--- type 0: external files
+-- kind 0: external files
 abbrev pub external : ℕ
 external = 0
 
--- type 1: rankings nodes
+-- kind 1: rankings nodes
 abbrev pub rankings : ℕ
 rankings = 1
 
--- type 2: blocks of 256 bytes
+-- kind 2: blocks of 256 bytes
 abbrev pub blocks_256 : ℕ
 blocks_256 = 2
 
--- type 3: blocks of 1024 bytes
+-- kind 3: blocks of 1024 bytes
 abbrev pub blocks_1k : ℕ
 blocks_1k = 3
 
--- type 4: blocks of 4096 bytes
+-- kind 4: blocks of 4096 bytes
 abbrev pub blocks_4k : ℕ
 blocks_4k = 4
 
--- a type 1 to 4, whose addresses name blocks
+-- a kind 1 to 4, whose addresses name blocks
 abbrev pub is_block_kind : ℕ → Bool
 is_block_kind kind = nat_le rankings kind && nat_le kind blocks_4k
 
--- the word is of type 0, and its number isn't 0
+-- the word is of kind 0, and its number isn't 0
 unfoldable pub names_external : ℕ → Bool
 names_external w = (kind_of w == external) && not (external_number w == 0)
 
--- the word is of a block type, its reserved bits are 0, its blocks lie in one group of four, and in type 1 there is one block
+-- the word is of a block kind, its reserved bits are 0, its blocks lie in one group of four, and in kind 1 there is one block
 unfoldable pub names_blocks : ℕ → Bool
 names_blocks w =
     is_block_kind (kind_of w)
@@ -69,7 +69,7 @@ names_blocks w =
 unfoldable pub is_address : ℕ → Bool
 is_address w = is_initialized w && (names_external w || names_blocks w)
 
--- the address word of so many blocks of a type in a file, from a first block on
+-- the address word of so many blocks of a kind in a file, from a first block on
 unfoldable pub block_word : ℕ → ℕ → ℕ → ℕ → ℕ
 block_word kind file start count = 2 ^ 31 + kind * 2 ^ 28 + (count - 1) * 2 ^ 24 + file * 2 ^ 16 + start
 
@@ -77,7 +77,7 @@ block_word kind file start count = 2 ^ 31 + kind * 2 ^ 28 + (count - 1) * 2 ^ 24
 unfoldable pub external_word : ℕ → ℕ
 external_word number = 2 ^ 31 + number
 
--- the bytes of one block of a type
+-- the bytes of one block of a kind
 unfoldable pub block_size : ℕ → ℕ
 block_size kind =
     if kind == rankings then 36 else
@@ -89,7 +89,7 @@ block_size kind =
 abbrev pub header_size : ℕ
 header_size = 8192
 
--- the byte at which block b of a file of a type begins
+-- the byte at which block b of a file of a kind begins
 unfoldable pub block_place : ℕ → ℕ → ℕ
 block_place kind b = header_size + b * block_size kind
 

@@ -6,7 +6,7 @@ use Rattle.blk_format.specs.Headers.{is_shown_place}
 use Rattle.blk_format.specs.BlockFiles.{linked_as, max_entries_in, stands_in_blocks, IsWellFormed}
 use Rattle.blk_image.specs.Footprint.{Footprint, SameOutside}
 
--- block files have grown or been linked at most: a linked file stays linked as its type, keeps the bytes behind its header, and gets no shorter and no fewer blocks
+-- block files have grown or been linked at most: a linked file stays linked as its kind, keeps the bytes behind its header, and gets no shorter and no fewer blocks
 pub record HaveGrown (old new : Image) : Type 0 where
   pub index : (i : ℕ) → is_shown_place i ≡ true → byte new Index i ≡ byte old Index i
   pub externals : (n : ℕ) → new (External n) ≡ old (External n)

@@ -136,7 +136,7 @@ bucket_of f b = word_at f (place_of_bucket b)
 abbrev pub this_file_of : (ℕ → ℕ) → ℕ
 this_file_of f = half_at f 8
 
--- the number of the next file of its type, or 0
+-- the number of the next file of its kind, or 0
 abbrev pub next_file_of : (ℕ → ℕ) → ℕ
 next_file_of f = half_at f 10
 

@@ -1,22 +1,15 @@
 -- Names of the parts of a sparse entry: `Range_`, the parent's key, `:`, the signature, `:`, the part, both numbers in lower-case hexadecimal.
-use Rattle.std.specs.Prelude.{◌≡◌, ℕ, ◌+◌, ◌-◌, ◌^◌, List, [], ◌∷◌, ◌++◌, length, drop, map, codes, Bool, true, ◌&&◌, nat_lt, nat_le, ◌==◌, if◌then◌else◌}
+use Rattle.std.specs.Prelude.{◌≡◌, ℕ, ◌-◌, ◌^◌, List, [], ◌∷◌, ◌++◌, length, drop, map, codes, Bool, true, false, ◌&&◌, nat_lt, nat_le, ◌==◌, if◌then◌else◌}
 use Rattle.std.specs.Option.{option_and_then}
 use Rattle.std.specs.Str.{bytes_eq}
-use Rattle.std.specs.Int.Digits.{digits_with_fuel, number_from_digits}
+use Rattle.std.specs.Fmt.{digits}
+use Rattle.std.specs.Int.Digits.{number_from_digits}
 use Rattle.std.specs.declared.option.Option.{Option}
 use Rattle.std.specs.declared.option.Option.TheVariants.{None, Some}
 
--- the byte of a hexadecimal digit, in lower case
-abbrev pub hex_byte : ℕ → ℕ
-hex_byte digit = if nat_lt digit 10 then 48 + digit else 87 + digit
-
--- the most digits of a number below 2 ^ 64
-abbrev pub most_digits : ℕ
-most_digits = 16
-
--- a number below 2 ^ 64 in lower-case hexadecimal, without leading zeros; 0 is `0`
-unfoldable pub hex_text : ℕ → List ℕ
-hex_text n = if n == 0 then 48 ∷ [] else map hex_byte (digits_with_fuel 16 most_digits n)
+-- a number in lower-case hexadecimal, without leading zeros; 0 is `0`
+abbrev pub hexadecimal : ℕ → List ℕ
+hexadecimal n = digits 16 false n
 
 -- `Range_`
 abbrev pub name_head : List ℕ
@@ -28,7 +21,7 @@ colon = 58
 
 -- the name of a part: its parent's key, the signature and its number
 unfoldable pub child_name : List ℕ → ℕ → ℕ → List ℕ
-child_name key signature part = name_head ++ key ++ colon ∷ hex_text signature ++ colon ∷ hex_text part
+child_name key signature part = name_head ++ key ++ colon ∷ hexadecimal signature ++ colon ∷ hexadecimal part
 
 -- what a name says
 pub record Name : Type 0 where

@@ -4,13 +4,13 @@ use Rattle.std.specs.declared.option.Option.{Option}
 use Rattle.std.specs.declared.option.Option.TheVariants.{None, Some}
 use Rattle.blk_format.specs.Address.{is_address, kind_of, block_count, file_selector, first_block, external_number, external, place, byte_size}
 
--- whether a file is linked as one of a type
+-- whether a file is linked as one of a kind
 abbrev pub is_linked_as : Option ℕ → ℕ → Bool
 is_linked_as None kind = false
 is_linked_as (Some linked) kind = linked == kind
 
 module _
-    -- the type as which a block file is linked, if it is
+    -- the kind as which a block file is linked, if it is
     (linked_as : ℕ → Option ℕ)
     -- the number of blocks that the header of a block file gives
     (max_entries : ℕ → ℕ)
@@ -19,7 +19,7 @@ module _
     -- whether there is an external file of a number
     (has_external : ℕ → Bool)
   where
-    -- the file is linked and of the word's type, and all blocks are below max_entries and end inside the file
+    -- the file is linked and of the word's kind, and all blocks are below max_entries and end inside the file
     unfoldable pub stands_as_blocks : ℕ → Bool
     stands_as_blocks w =
         is_linked_as (linked_as (file_selector w)) (kind_of w)

@@ -1,8 +1,8 @@
--- The storage of data by its size: its type, its number of blocks, and the address words that fit.
+-- The storage of data by its size: its kind, its number of blocks, and the address words that fit.
 use Rattle.std.specs.Prelude.{ℕ, ◌+◌, ◌-◌, ◌/◌, Bool, ◌&&◌, ◌||◌, nat_lt, nat_le, ◌==◌, if◌then◌else◌}
 use Rattle.blk_format.specs.Address.{kind_of, block_count, is_address, block_size, external, blocks_256, blocks_1k, blocks_4k}
 
--- the type of data of a size above 0
+-- the kind of data of a size above 0
 unfoldable pub kind_for : ℕ → ℕ
 kind_for size =
     if nat_le size 1023 then blocks_256 else
@@ -25,7 +25,7 @@ entry_blocks key_len =
     if nat_le key_len 927 then (key_len - 160) / 256 + 2 else
     1
 
--- whether a word is the storage of data of a size: the word 0 of none, else an address of its type and number of blocks
+-- whether a word is the storage of data of a size: the word 0 of none, else an address of its kind and number of blocks
 unfoldable pub is_storage : ℕ → ℕ → Bool
 is_storage size w =
     if size == 0 then w == 0 else

@@ -4,7 +4,9 @@
 #![tactic(auto)]
 
 ghost use Rattle.blk_format.specs.Headers.{UnfinishedAgrees};
+ghost use Rattle.blk_format.specs.BlockFiles.{WellFormedIsFinished, WellFormedHasWholeIndex};
 ghost use Rattle.blk_format.specs.Names.{ReadsNames};
+ghost use Rattle.blk_format.specs.Sealed.{WholeUpdatesAreMade};
 
 /// The test for an unfinished index agrees with what it tests.
 pub fn unfinished_agrees()
@@ -14,4 +16,15 @@ pub fn unfinished_agrees()
 /// Bytes are read as the name of a part exactly where they are one.
 pub fn reads_names()
     ensures { ReadsNames }
+{}
+
+/// A well-formed folder is finished, and its index has its whole length.
+pub fn well_formed_is_finished()
+    ensures finished { WellFormedIsFinished }
+    ensures whole { WellFormedHasWholeIndex }
+{}
+
+/// A whole sealed update is one with all its changes made.
+pub fn whole_updates_are_made()
+    ensures { WholeUpdatesAreMade }
 {}

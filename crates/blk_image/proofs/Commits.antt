@@ -2,7 +2,7 @@
 use Rattle.std.proofs.Common.{◌≡◌, ℕ, zero, suc, List, [], ◌∷◌, ◌++◌, Some, sym, ◌∙◌, subst}
 use Rattle.blk_image.specs.Image.{File, Image}
 use Rattle.blk_image.specs.Steps.{TrailStep, Word, SetLength, Delete, Note, applied, after, word_step}
-use Rattle.blk_image.specs.Told.{Told, AppliesPrefix, IsQuiet, CommitsAt, Commits}
+use Rattle.blk_image.specs.Told.{Told, AppliesPrefix, Along, IsQuiet, Passes, CommitsAt, Commits}
 use Rattle.blk_image.proofs.Runs.{grows_none, some_inj, until_front}
 
 -- the steps from the first on commit at the same step
@@ -44,3 +44,18 @@ commits_prefix count old new from P Q steps there quiet whole part = record {
 pub commits_word : (P Q : Image → Type 0) (f : File) (place value : ℕ) (image : Image) → P image → Q (after (word_step f place value) image) → CommitsAt 1 P Q image (word_step f place value)
 unfolding word_step
 commits_word P Q f place value image before last = (before, last)
+
+-- what commits at one step holds before or after it at each
+commits_until : (count : ℕ) (P Q R : Image → Type 0) → ((i : Image) → P i → R i) → ((i : Image) → Q i → R i) → (steps : List TrailStep) (image : Image) → CommitsAt count P Q image steps → Along R image steps
+commits_until zero P Q R before behind [] image all = behind image all
+commits_until zero P Q R before behind (x ∷ steps) image all = (behind image all.0, commits_until zero P Q R before behind steps (applied x image) all.1)
+commits_until (suc count) P Q R before behind [] image all = before image all
+commits_until (suc count) P Q R before behind (x ∷ steps) image all = (before image all.0, commits_until count P Q R before behind steps (applied x image) all.1)
+
+pub commits_passes : (count : ℕ) (old new : Told) (P Q R : Image → Type 0) → ((i : Image) → P i → R i) → ((i : Image) → Q i → R i) → Commits count old new P Q → Passes old new R
+commits_passes count old new P Q R before behind commits = record {
+  steps = commits.steps;
+  applies = commits.applies;
+  quiet = commits.quiet;
+  along = λ image there. commits_until count P Q R before behind commits.steps image (commits.commits image there);
+}

@@ -1,10 +1,10 @@
 -- The order of the files.
 use Rattle.std.proofs.Common.{◌≡◌, ℕ, ◌<◌, ◌⊎◌, inl, inr, ⊎_elim, refl, sym, ap, subst, arith}
 use Rattle.blk_image.specs.Image.{File, Index, Block, External}
-use Rattle.blk_image.specs.Order.{IsBefore, kind_of, number_of}
+use Rattle.blk_image.specs.Order.{IsBefore, file_rank, file_number}
 
 -- the kind_of and the number make the name
-pub same_name : (a b : File) → kind_of a ≡ kind_of b → number_of a ≡ number_of b → a ≡ b
+pub same_name : (a b : File) → file_rank a ≡ file_rank b → file_number a ≡ file_number b → a ≡ b
 same_name Index Index k n = refl
 same_name Index (Block m) k n = absurd (omega arith)
 same_name Index (External m) k n = absurd (omega arith)
@@ -20,12 +20,12 @@ before_trans a b c first second = grind arith
 
 -- two names are in one order or the other, or one
 pub before_else : (a b : File) → (IsBefore a b → ⊥) → (b ≡ a) ⊎ IsBefore b a
-before_else a b not_before = by_kind (trichotomy (kind_of a) (kind_of b)) (trichotomy (number_of a) (number_of b))
+before_else a b not_before = by_kind (trichotomy (file_rank a) (file_rank b)) (trichotomy (file_number a) (file_number b))
   where
     trichotomy : (m n : ℕ) → (m < n) ⊎ ((n < m) ⊎ (n ≡ m))
     trichotomy m n = grind arith
 
-    by_kind : (kind_of a < kind_of b) ⊎ ((kind_of b < kind_of a) ⊎ (kind_of b ≡ kind_of a)) → (number_of a < number_of b) ⊎ ((number_of b < number_of a) ⊎ (number_of b ≡ number_of a)) → (b ≡ a) ⊎ IsBefore b a
+    by_kind : (file_rank a < file_rank b) ⊎ ((file_rank b < file_rank a) ⊎ (file_rank b ≡ file_rank a)) → (file_number a < file_number b) ⊎ ((file_number b < file_number a) ⊎ (file_number b ≡ file_number a)) → (b ≡ a) ⊎ IsBefore b a
     by_kind (inl k) n = absurd (not_before (inl k))
     by_kind (inr (inl k)) n = inr (inl k)
     by_kind (inr (inr k)) (inl n) = absurd (not_before (inr (sym k, n)))

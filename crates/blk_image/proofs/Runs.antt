@@ -5,6 +5,7 @@ use Rattle.std.proofs.lemmas.List.{append-nil, take_all}
 use Rattle.blk_image.specs.Image.{File, Image}
 use Rattle.blk_image.specs.Steps.{TrailStep, Word, SetLength, Delete, Note, applied, after, words}
 use Rattle.blk_image.specs.Told.{Told, Trail, Applies, AppliesPrefix, Along, Until, IsQuiet, PassesTo, longer}
+use Rattle.blk_image.specs.Laws.{StepsOfOneCallAreOne}
 use Rattle.blk_image.proofs.Cuts.{after-append, words-split}
 
 after_more : (s t : List TrailStep) (a b c : Option Image) → b ≡ option_map (after s) a → c ≡ option_map (after t) b → c ≡ option_map (after (s ++ t)) a
@@ -216,3 +217,39 @@ passes_step {a} {b} {x} P grows quiet both = record { steps = x ∷ []; applies 
 pub until_both : (P P' Q Q' : Image → Type 0) (s : List TrailStep) (image : Image) → Until P Q image s → Until P' Q' image s → Until (λ i. P i × P' i) (λ i. Q i × Q' i) image s
 until_both P P' Q Q' [] image one other = (one, other)
 until_both P P' Q Q' (x ∷ s) image one other = ((one.0, other.0), until_both P P' Q Q' s (applied x image) one.1 other.1)
+
+-- Two clauses of one call.
+
+same_rest : (xs s t : List TrailStep) → xs ++ s ≡ xs ++ t → s ≡ t
+same_rest [] s t e = e
+same_rest (x ∷ xs) s t e = same_rest xs s t (tail e)
+  where
+    tail : {a b : List TrailStep} → x ∷ a ≡ x ∷ b → a ≡ b
+    tail e = cc
+
+-- a trail tells the steps
+pub same_steps : StepsOfOneCallAreOne
+same_steps a b trail s t told one other =
+    let first : Some (longer s trail) ≡ Some (longer t trail) = ap (option_map (longer s)) (sym told) ∙ sym one.trail ∙ other.trail ∙ ap (option_map (longer t)) told in
+    same_rest trail.steps s t (ap (λ (r : Trail). r.steps) (some_inj first))
+
+-- what two clauses of one call say of each moment they say together
+pub passes_both : {a b : Told} {P P' Q Q' : Image → Type 0} (trail : Trail) → a.trail ≡ Some trail → PassesTo a b P Q → PassesTo a b P' Q' → PassesTo a b (λ i. P i × P' i) (λ i. Q i × Q' i)
+passes_both {a} {b} {P} {P'} {Q} {Q'} trail told one other =
+    let same : other.steps ≡ one.steps = same_steps a b trail other.steps one.steps told other.applies one.applies in
+    record {
+      steps = one.steps;
+      applies = one.applies;
+      quiet = one.quiet;
+      along = λ image there. until_both P P' Q Q' one.steps image (one.along image there) (subst (λ (s : List TrailStep). Until P' Q' image s) same (other.along image there));
+    }
+
+-- the trail goes on
+pub trail_on : {a b : Told} {P Q : Image → Type 0} (trail : Trail) → a.trail ≡ Some trail → (p : PassesTo a b P Q) → b.trail ≡ Some (longer p.steps trail)
+trail_on {a} {b} {P} {Q} trail told p = p.applies.trail ∙ ap (option_map (longer p.steps)) told
+
+-- what follows some steps, from what they left, with the trail
+pub passes_along : {a b c : Told} {P Q : Image → Type 0} (from : Image) (trail : Trail) → a.files ≡ Some from → a.trail ≡ Some trail → PassesTo a b P P
+    → ((mid : Image) (more : Trail) → b.files ≡ Some mid → b.trail ≡ Some more → PassesTo b c P Q) → PassesTo a c P Q
+passes_along {a} {b} {c} {P} {Q} from trail there told first second =
+    passes_then first (second (after first.steps from) (longer first.steps trail) (first.applies.files ∙ ap (option_map (after first.steps)) there) (trail_on trail told first))

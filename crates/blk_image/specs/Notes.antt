@@ -1,13 +1,16 @@
 -- What holds at each step of a run in which commands are noted.
-use Rattle.std.specs.Prelude.{ℕ, ◌+◌, ◌≡◌, List, [], ◌∷◌}
+use Rattle.std.specs.Prelude.{ℕ, ◌+◌, ◌≡◌, List, [], ◌∷◌, ◌++◌}
 use Rattle.blk_image.specs.Image.{Image}
-use Rattle.blk_image.specs.Steps.{TrailStep, Note, applied}
+use Rattle.blk_image.specs.Steps.{TrailStep, Note, applied, after}
 
--- Q holds of the number of notes so far and the files, before each step and after the last
-abbrev pub AtEach : (ℕ → Image → Type 0) → ℕ → Image → List TrailStep → Type 0
-AtEach Q n image [] = Q n image
-AtEach Q n image (Note number ∷ steps) = Q n image × AtEach Q (n + 1) image steps
-AtEach Q n image (step ∷ steps) = Q n image × AtEach Q n (applied step image) steps
+-- P holds of the steps that were made and of the files, before each of these steps and after the last, where some were made before
+abbrev pub AlongFrom : (List TrailStep → Image → Type 0) → List TrailStep → Image → List TrailStep → Type 0
+AlongFrom P made image [] = P made image
+AlongFrom P made image (step ∷ steps) = P made image × AlongFrom P (made ++ step ∷ []) (applied step image) steps
+
+-- after each of the first steps P holds of these steps and of the files, where any number of them counts, none and all too
+abbrev pub AtEachFront : (List TrailStep → Image → Type 0) → Image → List TrailStep → Type 0
+AtEachFront P image steps = (prefix suffix : List TrailStep) → steps ≡ prefix ++ suffix → P prefix (after prefix image)
 
 -- how many notes there are
 abbrev pub notes_in : List TrailStep → ℕ

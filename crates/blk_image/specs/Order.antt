@@ -4,20 +4,20 @@ use Rattle.std.specs.Option.{ForSome}
 use Rattle.blk_image.specs.Image.{File, Index, Block, External, Image, has_file}
 
 -- the place of a kind of file in the order
-abbrev pub kind_of : File → ℕ
-kind_of Index = 0
-kind_of (Block n) = 1
-kind_of (External n) = 2
+abbrev pub file_rank : File → ℕ
+file_rank Index = 0
+file_rank (Block n) = 1
+file_rank (External n) = 2
 
 -- the number of a file of its kind
-abbrev pub number_of : File → ℕ
-number_of Index = 0
-number_of (Block n) = n
-number_of (External n) = n
+abbrev pub file_number : File → ℕ
+file_number Index = 0
+file_number (Block n) = n
+file_number (External n) = n
 
 -- a file comes before another
 abbrev pub IsBefore : File → File → Type 0
-IsBefore one other = (kind_of one < kind_of other) ⊎ ((kind_of one ≡ kind_of other) × (number_of one < number_of other))
+IsBefore one other = (file_rank one < file_rank other) ⊎ ((file_rank one ≡ file_rank other) × (file_number one < file_number other))
 
 -- a file comes after another, where there is one
 abbrev pub IsAfter : Option File → File → Type 0

@@ -16,8 +16,8 @@ pub record Told : Type 0 where
   pub trail : Option Trail
 
 -- the files are those at the start after the steps, where both are told
-abbrev pub Agrees : Told → Type 0
-Agrees told = ForSome told.files (λ image. ForSome told.trail (λ trail. image ≡ after trail.steps trail.start))
+abbrev pub AgreesWithTrail : Told → Type 0
+AgreesWithTrail told = ForSome told.files (λ image. ForSome told.trail (λ trail. image ≡ after trail.steps trail.start))
 
 -- the files that are told hold bytes
 abbrev pub TellsBytes : Told → Type 0

@@ -3,7 +3,7 @@
 //! The crate has definitions that the contracts of the other crates cite, and their laws.
 #![tactic(auto)]
 
-ghost use Rattle.blk_image.specs.Laws.{WordsWriteTheBytes, WordsAreAligned, WordsStayInside, StepsStayInside};
+ghost use Rattle.blk_image.specs.Laws.{WordsWriteTheBytes, WordsAreAligned, WordsStayInside, StepsStayInside, StepsOfOneCallAreOne, NotesGoOn};
 
 /// The word steps of a write leave its bytes in the file, and nothing else changes.
 pub fn words_write_the_bytes()
@@ -23,4 +23,14 @@ pub fn words_stay_inside()
 /// What none of some steps touches is as before at each of them.
 pub fn steps_stay_inside()
     ensures { StepsStayInside }
+{}
+
+/// Where the trail is told, a call made the steps that the trail has more, so two clauses of it speak of the same steps.
+pub fn steps_of_one_call_are_one()
+    ensures { StepsOfOneCallAreOne }
+{}
+
+/// True notes go on behind true notes.
+pub fn notes_go_on()
+    ensures { NotesGoOn }
 {}

@@ -1,15 +1,20 @@
 // The words of the index's header, and the words of its table.
-ghost use Rattle.std.specs.Prelude.{◌≡◌, ◌+◌, ◌*◌, ◌%◌, ◌<◌, ◌≤◌, IfOk, None, OnErr, OnOk};
+ghost use Rattle.std.specs.Prelude.{◌≡◌, ◌⊎◌, ◌+◌, ◌*◌, ◌%◌, ◌<◌, ◌≤◌, IfOk, None, OnErr, OnOk, length};
 ghost use Rattle.std.specs.Option.{ForSome};
 ghost use Rattle.blk_image.specs.Footprint.{SameOutside, one_word};
 ghost use Rattle.blk_image.specs.Image.{HasRange, byte, word, Index as index};
 ghost use Rattle.blk_image.specs.Steps.{word_step};
 ghost use Rattle.blk_image.specs.Told.{Applies, AppliesPrefix, Passes, Stays, Rises};
-ghost use Rattle.blk_format.specs.Headers.{HasWholeIndex, bucket_of, place_of_bucket, header_length};
+ghost use Rattle.blk_format.specs.Headers.{HasWholeIndex, bucket_of, place_of_bucket, header_length, table_length};
 ghost use Rattle.blk_io.specs.Faults.{IfDamaged, IfDevice, IsShort};
+ghost use Rattle.blk_index.specs.Table.{AreBuckets};
 
-use blk_io::{Failed, Fault, FileId, Folder, read_word, write_word};
+use blk_io::{Failed, Fault, FileId, Folder, read_exact, read_word, write_word};
 use blk_record::IndexHead;
+use byteorder::{ByteOrder, LittleEndian};
+
+// The bytes of the table that one call reads.
+const PIECE: usize = 4096;
 
 /// Reads the word of the header at a place in bytes.
 ///
@@ -47,6 +52,53 @@ pub fn bucket<F: Folder>(f: &mut F, number: u16) -> Result<u32, Fault>
     ensures device { IfDevice result (Rises (F.faults f.old) (F.faults f.new)) }
 {
     read_word(f, FileId::Index, IndexHead::TABLE + 4 * u64::from(number))
+}
+
+/// Reads the words of neighbouring buckets from one on into `out`, at most 1024 of them, by one folder call. So
+/// 64 calls read the whole table.
+///
+/// Too few bytes are a damage. `Device` comes only where the folder failed in this call.
+pub fn buckets<F: Folder>(f: &mut F, first: u16, out: &mut [u32]) -> Result<(), Fault>
+    requires few { length out.old ≤ 1024 }
+    requires inside { first + length out.old ≤ table_length }
+    ensures words { OnOk result (ForSome (F.told f.old).files (λ image. AreBuckets image first out.new)) }
+    ensures checked { OnOk result (ForSome (F.told f.old).files (λ image. HasRange image index (place_of_bucket first) (4 * length out.old) ⊎ (length out.old ≡ 0))) }
+    ensures stays { Stays (F.told f.old) (F.told f.new) }
+
+    // Too few bytes, which a folder that tells its files gives only where the index is too short.
+    ensures short { IfDamaged result (IsShort (F.told f.old) FileId.Index (place_of_bucket first) (4 * length out.old)) }
+    ensures untold { ForSome (F.told f.old).files HasWholeIndex → IfDamaged result (λ _. (F.told f.old).files ≡ None) }
+
+    ensures later { F.faults f.old ≤ F.faults f.new }
+    ensures device { IfDevice result (Rises (F.faults f.old) (F.faults f.new)) }
+{
+    let mut window = [0u8; PIECE];
+    let bytes = &mut window[..4 * out.len()];
+    read_piece(f, first, bytes, out)
+}
+
+// Reads the words of neighbouring buckets by way of their bytes.
+fn read_piece<F: Folder>(
+    f: &mut F,
+    first: u16,
+    bytes: &mut [u8],
+    out: &mut [u32],
+) -> Result<(), Fault>
+    requires few { length out.old ≤ 1024 }
+    requires inside { first + length out.old ≤ table_length }
+    requires size { length bytes.old ≡ 4 * length out.old }
+    ensures words { OnOk result (ForSome (F.told f.old).files (λ image. AreBuckets image first out.new)) }
+    ensures checked { OnOk result (ForSome (F.told f.old).files (λ image. HasRange image index (place_of_bucket first) (4 * length out.old) ⊎ (length out.old ≡ 0))) }
+    ensures stays { Stays (F.told f.old) (F.told f.new) }
+    ensures short { IfDamaged result (IsShort (F.told f.old) FileId.Index (place_of_bucket first) (4 * length out.old)) }
+    ensures untold { ForSome (F.told f.old).files HasWholeIndex → IfDamaged result (λ _. (F.told f.old).files ≡ None) }
+    ensures later { F.faults f.old ≤ F.faults f.new }
+    ensures device { IfDevice result (Rises (F.faults f.old) (F.faults f.new)) }
+{
+    let at = IndexHead::TABLE + 4 * u64::from(first);
+    read_exact(f, FileId::Index, at, bytes)?;
+    LittleEndian::read_u32_into(bytes, out);
+    Ok(())
 }
 
 /// Writes the word of the header at a place in bytes, by one folder call.

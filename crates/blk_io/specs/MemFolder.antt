@@ -6,7 +6,7 @@ use Rattle.blk_io.specs.declared.mem_files.MemFile.{MemFile}
 use Rattle.blk_io.specs.declared.mem.MemFolder.{MemFolder}
 use Rattle.blk_image.specs.Steps.{TrailStep, after}
 use Rattle.blk_image.specs.Image.{File, Image, AreBytes, with_file}
-use Rattle.blk_image.specs.Told.{Told, Trail, Agrees, TellsBytes}
+use Rattle.blk_image.specs.Told.{Told, Trail, AgreesWithTrail, TellsBytes}
 use Rattle.blk_io.specs.Calls.{counts_in}
 use Rattle.blk_io.specs.Counts.{Counts}
 use Rattle.blk_io.specs.Trail.{told_of, kept_steps, IsTrailOf}
@@ -34,7 +34,7 @@ some_inj : {A : Type 0} {x y : A} → Some x ≡ Some y → x ≡ y
 some_inj e = cc
 
 -- what is told agrees, since the folder keeps it so
-told_agrees : (start files : List MemFile) (steps : Option (List TrailStep)) → IsTrailOf start files steps → Agrees (told_of start files steps)
+told_agrees : (start files : List MemFile) (steps : Option (List TrailStep)) → IsTrailOf start files steps → AgreesWithTrail (told_of start files steps)
 told_agrees start files None agrees image there trail kept = absurd (none_some kept)
   where
     none_some : None ≡ Some trail → ⊥
@@ -42,7 +42,7 @@ told_agrees start files None agrees image there trail kept = absurd (none_some k
 told_agrees start files (Some steps) agrees image there trail kept =
     sym (some_inj there) ∙ (λ i f. agrees steps refl f i) ∙ ap (λ (t : Trail). after t.steps t.start) (some_inj kept)
 
-pub mem_agrees : (m : MemFolder) → Agrees (mem_told m)
+pub mem_agrees : (m : MemFolder) → AgreesWithTrail (mem_told m)
 mem_agrees m = told_agrees m.start.items m.files.items (kept_steps m.trail) m.agrees
 
 pub mem_are_bytes : (m : MemFolder) → TellsBytes (mem_told m)

@@ -1,7 +1,7 @@
 -- What a folder that tells nothing counts, and what it passes calls on to.
 use Rattle.std.specs.Prelude.{◌≡◌, ℕ, None, Some}
 use Rattle.blk_image.specs.Image.{Image}
-use Rattle.blk_image.specs.Told.{Told, Agrees, TellsBytes}
+use Rattle.blk_image.specs.Told.{Told, AgreesWithTrail, TellsBytes}
 use Rattle.blk_io.specs.declared.silent.SilentFolder.{SilentFolder}
 
 -- the folder inside
@@ -26,7 +26,7 @@ no_image image e = absurd (clash e)
     clash : None ≡ Some image → ⊥
     clash c = cc
 
-pub untold_agrees : Agrees untold
+pub untold_agrees : AgreesWithTrail untold
 untold_agrees image e = no_image image e
 
 pub untold_bytes : TellsBytes untold

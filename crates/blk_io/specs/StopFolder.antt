@@ -1,7 +1,7 @@
 -- What a folder that stops tells: what the folder inside tells.
 use Rattle.std.specs.Prelude.{◌≡◌, ℕ, ◌<◌, ◌+◌, Bool, true}
 use Rattle.blk_io.specs.declared.stop.StopFolder.{StopFolder}
-use Rattle.blk_image.specs.Told.{Told, Agrees, TellsBytes}
+use Rattle.blk_image.specs.Told.{Told, AgreesWithTrail, TellsBytes}
 use Rattle.blk_io.specs.Counts.{Counts, CountsCall}
 use Rattle.blk_io.specs.MemFolder.{mem_told, mem_counts, mem_agrees, mem_are_bytes}
 
@@ -21,7 +21,7 @@ left_of s = s.left
 abbrev pub stop_faults : StopFolder → ℕ
 stop_faults s = (mem_counts s.inner).faults + s.stops
 
-pub stop_agrees : (s : StopFolder) → Agrees (stop_told s)
+pub stop_agrees : (s : StopFolder) → AgreesWithTrail (stop_told s)
 stop_agrees s = mem_agrees s.inner
 
 pub stop_are_bytes : (s : StopFolder) → TellsBytes (stop_told s)

@@ -1,7 +1,8 @@
 // Why a call on a folder did not succeed.
-ghost use Rattle.std.specs.Prelude.{◌≡◌, map};
+ghost use Rattle.std.specs.Prelude.{◌≡◌, ◌==◌, map};
 ghost use Rattle.std.specs.Option.{option_map};
-ghost use Rattle.blk_image.specs.Checks.{first_of};
+ghost use Rattle.blk_image.specs.Checks.{check_found, first_of};
+ghost use Rattle.blk_io.specs.FileNames.{file_of};
 ghost use Rattle.blk_io.specs.Faults.{damage_of};
 
 use crate::{Failed, FileId};
@@ -82,6 +83,24 @@ impl From<Damage> for Fault {
     fn from(damage: Damage) -> Self {
         Fault::Damaged(damage)
     }
+}
+
+/// A check of the word at a place of a file: the damage, where it doesn't hold.
+pub fn check(file: FileId, at: u64, found: u32, holds: bool) -> Option<Damage>
+    ensures { option_map damage_of result ≡ check_found (file_of file) at found holds }
+{
+    if holds {
+        None
+    } else {
+        Some(Damage { file, at, found })
+    }
+}
+
+/// A check that the word at a place of a file is this one.
+pub fn check_is(file: FileId, at: u64, found: u32, wanted: u32) -> Option<Damage>
+    ensures { option_map damage_of result ≡ check_found (file_of file) at found (found == wanted) }
+{
+    check(file, at, found, found == wanted)
 }
 
 /// The first of these checks that failed: each found a damage, or none.

@@ -3,8 +3,8 @@ ghost use Rattle.std.specs.Prelude.{◌≡◌, ◌↔◌, ◌+◌, ◌<◌, ◌�
 ghost use Rattle.std.specs.Option.{ForSome, option_map};
 ghost use Rattle.blk_image.specs.Image.{same_file, HasRange};
 ghost use Rattle.blk_image.specs.Steps.{SetLength, Delete, Note, words};
-ghost use Rattle.blk_image.specs.Order.{IsNextFile, IsAfter, IsBefore, kind_of, number_of};
-ghost use Rattle.blk_image.specs.Told.{Told, Applies, Stays, AppliesPrefix, Rises, Agrees, TellsBytes, GivesBytes};
+ghost use Rattle.blk_image.specs.Order.{IsNextFile, IsAfter, IsBefore, file_rank, file_number};
+ghost use Rattle.blk_image.specs.Told.{Told, Applies, Stays, AppliesPrefix, Rises, AgreesWithTrail, TellsBytes, GivesBytes};
 ghost use Rattle.blk_io.specs.FileNames.{file_of};
 
 use std::alloc::AllocError;
@@ -42,7 +42,7 @@ impl fmt::Display for FileId {
 impl FileId {
     /// The number among the files of the kind.
     pub fn number(self) -> u32
-        ensures { result ≡ number_of (file_of self) }
+        ensures { result ≡ file_number (file_of self) }
     {
         match self {
             FileId::Index => 0,
@@ -164,7 +164,7 @@ pub trait Folder {
         ensures failed { OnErr result (Rises (faults self.old) (faults self.new)) };
 
     /// The files are the start files after the steps.
-    ghost agrees: { (folder : Self) → Agrees (told folder) };
+    ghost agrees: { (folder : Self) → AgreesWithTrail (told folder) };
 
     /// The files hold bytes.
     ghost are_bytes: { (folder : Self) → TellsBytes (told folder) };

@@ -15,7 +15,7 @@ use Rattle.blk_format.specs.BlockFiles.{linked_as, stands_in}
 use Rattle.blk_format.specs.Claims.{Claim, BlockOf, ExternalOf, same_claim, claims_of, claims_of_all, has_claim, is_in_file, repeats}
 use Rattle.blk_format.specs.Headers.{allocations_of}
 use Rattle.blk_format.specs.Maps.{AreAllocations}
-use Rattle.blk_volume.specs.View.{StoreView, NodeFields, RecordFields, stands_as, entry_at, fields_of, node_fields_at, core_at, stored_at, store_of, view_of, size_of, address_of}
+use Rattle.blk_volume.specs.View.{StoreView, NodeFields, RecordFields, stands_as, entry_at, fields_of, node_fields_at, fields_at, stored_at, store_of, view_of, data_size_of, address_of}
 use Rattle.blk_volume.specs.Entries.{key_of, stream_of, streams_of}
 use Rattle.blk_volume.specs.Reasons.{Reason}
 use Rattle.blk_volume.specs.Loads.{Rule, held_rule, listed_rule, unchained_rule, Loaded, load, all_claims, record_claims, claims_of_loaded}
@@ -35,7 +35,7 @@ use Rattle.blk_laws.proofs.FrameLaw.{admit-then}
 -- ---- what is kept was loaded
 
 -- a node loads this by some rule
-abbrev IsLoadedBy : StoreView → Loaded → Type 0
+abbrev pub IsLoadedBy : StoreView → Loaded → Type 0
 IsLoadedBy v l = (rule : Rule) × (w : ℕ) × (load v rule w ≡ Ok l)
 
 verdict-loads : (v : StoreView) (rule : Rule) (kept : List Loaded) (ts : List ℕ) (w : ℕ) (l : Loaded) → verdict_on (verdicts v rule kept ts) w ≡ Some (Ok l) → IsLoadedBy v l
@@ -54,7 +54,7 @@ kept-some None l e = cc
 kept-some (Some (Ok k)) l e = cc
 kept-some (Some (Err why)) l e = cc
 
-each-some : (P : Loaded → Type 0) (f : ℕ → Option Loaded) → ((w : ℕ) (l : Loaded) → f w ≡ Some l → P l) → (ws : List ℕ) → AllByRecursion P (filter_map f ws)
+pub each-some : (P : Loaded → Type 0) (f : ℕ → Option Loaded) → ((w : ℕ) (l : Loaded) → f w ≡ Some l → P l) → (ws : List ℕ) → AllByRecursion P (filter_map f ws)
 each-some P f all [] = tt
 each-some P f all (w ∷ ws) = go (f w) refl (each-some P f all ws) where
   go : (o : Option Loaded) → f w ≡ o → AllByRecursion P (filter_map f ws) → AllByRecursion P (cons_option o (filter_map f ws))
@@ -85,8 +85,8 @@ node-stands image w n e = ⊎_elim
     (λ (s : stands_as image rankings w ≡ false). let none : ◌≡◌ {A = Option NodeFields} None (Some n) = rw s at e in absurd (cc))
     (cases_Bool (stands_as image rankings w))
 
-core-stands : (image : Image) (c : ℕ) (e : RecordFields) → core_at image c ≡ Some e → (stands_in image c ≡ true) × (fields_of (entry_at image c) ≡ e)
-unfolding core_at
+core-stands : (image : Image) (c : ℕ) (e : RecordFields) → fields_at image c ≡ Some e → (stands_in image c ≡ true) × (fields_of (entry_at image c) ≡ e)
+unfolding fields_at
 core-stands image c e is = ⊎_elim
     (λ (s : stands_as image blocks_256 c ≡ true). let some : ◌≡◌ {A = Option RecordFields} (Some (fields_of (entry_at image c))) (Some e) = rw s at is in ((and_parts (stands_in image c) (kind_of c == blocks_256) s).0, cc))
     (λ (s : stands_as image blocks_256 c ≡ false). let none : ◌≡◌ {A = Option RecordFields} None (Some e) = rw s at is in absurd (cc))
@@ -119,9 +119,9 @@ long_key-stands image c e key is some = go (nat_le e.key_len 927) is where
 
 stream-stands : (image : Image) (e : RecordFields) (i : ℕ) (bytes : List ℕ) → stream_of (store_of image) e i ≡ Some bytes → StandsIf image (address_of e i)
 unfolding stream_of store_of
-stream-stands image e i bytes is = go (nat_le (size_of e i) 2147483647) is where
-  go : (b : Bool) → (if b then stored_at image (size_of e i) (address_of e i) else None) ≡ Some bytes → StandsIf image (address_of e i)
-  go true h = stored-stands image (size_of e i) (address_of e i) bytes h
+stream-stands image e i bytes is = go (nat_le (data_size_of e i) 2147483647) is where
+  go : (b : Bool) → (if b then stored_at image (data_size_of e i) (address_of e i) else None) ≡ Some bytes → StandsIf image (address_of e i)
+  go true h = stored-stands image (data_size_of e i) (address_of e i) bytes h
   go false h = cc
 
 -- what the streams say
@@ -133,8 +133,8 @@ record StreamsStand (image : Image) (e : RecordFields) : Type 0 where
 
 streams-stand : (image : Image) (e : RecordFields) (streams : List (List ℕ)) → streams_of (store_of image) e ≡ Some streams → StreamsStand image e
 unfolding streams_of
-streams-stand image e streams is = go ((size_of e 3 == 0) && (address_of e 3 == 0)) (stream_of (store_of image) e 0) (stream_of (store_of image) e 1) (stream_of (store_of image) e 2) refl refl refl refl is where
-  go : (b : Bool) (s0 s1 s2 : Option (List ℕ)) → ((size_of e 3 == 0) && (address_of e 3 == 0)) ≡ b → stream_of (store_of image) e 0 ≡ s0 → stream_of (store_of image) e 1 ≡ s1 → stream_of (store_of image) e 2 ≡ s2
+streams-stand image e streams is = go ((data_size_of e 3 == 0) && (address_of e 3 == 0)) (stream_of (store_of image) e 0) (stream_of (store_of image) e 1) (stream_of (store_of image) e 2) refl refl refl refl is where
+  go : (b : Bool) (s0 s1 s2 : Option (List ℕ)) → ((data_size_of e 3 == 0) && (address_of e 3 == 0)) ≡ b → stream_of (store_of image) e 0 ≡ s0 → stream_of (store_of image) e 1 ≡ s1 → stream_of (store_of image) e 2 ≡ s2
       → (if not b then None else option_and_then (λ first. option_and_then (λ second. option_map (λ third. first ∷ second ∷ third ∷ []) s2) s1) s0) ≡ Some streams → StreamsStand image e
   go false s0 s1 s2 b0 e0 e1 e2 h = cc
   go true None s1 s2 b0 e0 e1 e2 h = cc
@@ -144,7 +144,7 @@ streams-stand image e streams is = go ((size_of e 3 == 0) && (address_of e 3 == 
     first = stream-stands image e 0 a e0;
     second = stream-stands image e 1 b e1;
     third = stream-stands image e 2 c e2;
-    fourth = λ some. let z : (address_of e 3 == 0) ≡ true = (and_parts (size_of e 3 == 0) (address_of e 3 == 0) b0).1 in absurd (let q : true ≡ false = sym z ∙ some in cc);
+    fourth = λ some. let z : (address_of e 3 == 0) ≡ true = (and_parts (data_size_of e 3 == 0) (address_of e 3 == 0) b0).1 in absurd (let q : true ≡ false = sym z ∙ some in cc);
   }
 
 addresses-stand : (image : Image) (c : ℕ) → StreamsStand image (fields_of (entry_at image c)) → AllByRecursion (StandsIf image) (fields_of (entry_at image c)).data_addr
@@ -164,7 +164,7 @@ words-stand image l by = load-then (store_of image) by.0 by.1 l by.2 (λ n e f.
 
 -- ---- the claims of these words
 
-flat_map-append : {X : Type 0} (f : ℕ → List X) (xs ys : List ℕ) → flat_map f (xs ++ ys) ≡ flat_map f xs ++ flat_map f ys
+pub flat_map-append : {X : Type 0} (f : ℕ → List X) (xs ys : List ℕ) → flat_map f (xs ++ ys) ≡ flat_map f xs ++ flat_map f ys
 flat_map-append f [] ys = refl
 flat_map-append f (x ∷ xs) ys = ap (λ (zs : List _). f x ++ zs) (flat_map-append f xs ys) ∙ sym (append_assoc (f x) (flat_map f xs) (flat_map f ys))
 
@@ -183,11 +183,11 @@ pub words-claims : (l : Loaded) → claims_of_all (words_of l) ≡ all_claims l
 unfolding all_claims record_claims
 words-claims l = nonzero-claims (l.node ∷ l.contents ∷ l.others)
 
-all-claims : (ls : List Loaded) → claims_of_all (flat_map words_of ls) ≡ claims_of_loaded ls
+pub all-claims : (ls : List Loaded) → claims_of_all (flat_map words_of ls) ≡ claims_of_loaded ls
 all-claims [] = refl
 all-claims (l ∷ ls) = flat_map-append claims_of (words_of l) (flat_map words_of ls) ∙ ap (λ (cs : List Claim). cs ++ claims_of_all (flat_map words_of ls)) (words-claims l) ∙ ap (λ (cs : List Claim). all_claims l ++ cs) (all-claims ls)
 
-repeats-head : (xs ys : List Claim) → repeats (xs ++ ys) ≡ false → repeats xs ≡ false
+pub repeats-head : (xs ys : List Claim) → repeats (xs ++ ys) ≡ false → repeats xs ≡ false
 unfolding repeats
 repeats-head [] ys e = refl
 repeats-head (x ∷ xs) ys e =
@@ -195,7 +195,7 @@ repeats-head (x ∷ xs) ys e =
     neither (has_claim xs x) (repeats xs) (or_parts (has_claim xs x) (has_claim ys x) (sym (claim-append xs ys x) ∙ p.0)).0 (repeats-head xs ys p.1)
 
 -- fewer words claim less
-fewer-claims : (p : ℕ → Bool) (xs : List ℕ) (c : Claim) → has_claim (claims_of_all (filter p xs)) c ≡ true → has_claim (claims_of_all xs) c ≡ true
+pub fewer-claims : (p : ℕ → Bool) (xs : List ℕ) (c : Claim) → has_claim (claims_of_all (filter p xs)) c ≡ true → has_claim (claims_of_all xs) c ≡ true
 fewer-claims p [] c h = h
 fewer-claims p (x ∷ xs) c h = ⊎_elim
     (λ (e : p x ≡ true).
@@ -208,7 +208,7 @@ fewer-claims p (x ∷ xs) c h = ⊎_elim
       more true b d f e = refl
       more false b d f e = f e
 
-fewer-repeats : (p : ℕ → Bool) (xs : List ℕ) → repeats (claims_of_all xs) ≡ false → repeats (claims_of_all (filter p xs)) ≡ false
+pub fewer-repeats : (p : ℕ → Bool) (xs : List ℕ) → repeats (claims_of_all xs) ≡ false → repeats (claims_of_all (filter p xs)) ≡ false
 fewer-repeats p [] e = e
 fewer-repeats p (x ∷ xs) e = ⊎_elim
     (λ (is : p x ≡ true). rw is (repeats-append (claims_of x) (claims_of_all (filter p xs)) (repeats-head (claims_of x) (claims_of_all xs) e) (fewer-repeats p xs (repeats-tail (claims_of x) (claims_of_all xs) e))
@@ -225,7 +225,7 @@ range-none f n b first (suc count) apart = claim-head (BlockOf f first) (map (λ
     swap : (n f : ℕ) → (f == n) ≡ false → (n == f) ≡ false
     swap n f e = ⊎_elim (λ (x : (n == f) ≡ true). let y : (f == n) ≡ true = eq-eqb f n (sym (eqb-true n f x)) in absurd (let z : true ≡ false = sym y ∙ e in cc)) (λ (x : (n == f) ≡ false). x) (cases_Bool (n == f))
 
-other-file : (n b x : ℕ) → is_in_file n x ≡ false → has_claim (claims_of x) (BlockOf n b) ≡ false
+pub other-file : (n b x : ℕ) → is_in_file n x ≡ false → has_claim (claims_of x) (BlockOf n b) ≡ false
 unfolding is_in_file claims_of
 other-file n b x out = go (x == 0) (kind_of x == external) refl where
   go : (a k : Bool) → (kind_of x == external) ≡ k → has_claim (if a then [] else if k then ExternalOf (external_number x) ∷ [] else map (λ b. BlockOf (file_selector x) b) (range_with_len (first_block x) (block_count x))) (BlockOf n b) ≡ false
@@ -233,7 +233,7 @@ other-file n b x out = go (x == 0) (kind_of x == external) refl where
   go false true e = claim-head (ExternalOf (external_number x)) [] (BlockOf n b) ∙ neither (same_claim (BlockOf n b) (ExternalOf (external_number x))) (has_claim [] (BlockOf n b)) refl (no-claim (BlockOf n b))
   go false false e = range-none (file_selector x) n b (first_block x) (block_count x) (let h : (not (kind_of x == external) && (file_selector x == n)) ≡ false = out in rw e at h)
 
-same-marks : (n b : ℕ) (xs : List ℕ) → has_claim (claims_of_all (filter (is_in_file n) xs)) (BlockOf n b) ≡ has_claim (claims_of_all xs) (BlockOf n b)
+pub same-marks : (n b : ℕ) (xs : List ℕ) → has_claim (claims_of_all (filter (is_in_file n) xs)) (BlockOf n b) ≡ has_claim (claims_of_all xs) (BlockOf n b)
 same-marks n b [] = refl
 same-marks n b (x ∷ xs) = ⊎_elim
     (λ (e : is_in_file n x ≡ true). rw e (claim-append (claims_of x) (claims_of_all (filter (is_in_file n) xs)) (BlockOf n b) ∙ ap (λ (t : Bool). has_claim (claims_of x) (BlockOf n b) || t) (same-marks n b xs) ∙ sym (claim-append (claims_of x) (claims_of_all xs) (BlockOf n b))))
@@ -242,24 +242,24 @@ same-marks n b (x ∷ xs) = ⊎_elim
 
 -- ---- the whole
 
-all-from : {X : Type 0} (P : X → Type 0) (xs : List X) → AllByRecursion P xs → All P xs
+pub all-from : {X : Type 0} (P : X → Type 0) (xs : List X) → AllByRecursion P xs → All P xs
 all-from P [] h i d less = absurd (omega arith)
 all-from P (x ∷ xs) h zero d less = h.0
 all-from P (x ∷ xs) h (suc i) d less = all-from P xs h.1 i d (omega arith)
 
-passing : (p : ℕ → Bool) (xs : List ℕ) → AllByRecursion (λ x. p x ≡ true) (filter p xs)
+pub passing : (p : ℕ → Bool) (xs : List ℕ) → AllByRecursion (λ x. p x ≡ true) (filter p xs)
 passing p [] = tt
 passing p (x ∷ xs) = ⊎_elim (λ (e : p x ≡ true). rw e (e, passing p xs)) (λ (e : p x ≡ false). rw e (passing p xs)) (cases_Bool (p x))
 
-still : (P : ℕ → Type 0) (p : ℕ → Bool) (xs : List ℕ) → AllByRecursion P xs → AllByRecursion P (filter p xs)
+pub still : (P : ℕ → Type 0) (p : ℕ → Bool) (xs : List ℕ) → AllByRecursion P xs → AllByRecursion P (filter p xs)
 still P p [] h = tt
 still P p (x ∷ xs) h = ⊎_elim (λ (e : p x ≡ true). rw e (h.0, still P p xs h.1)) (λ (e : p x ≡ false). rw e (still P p xs h.1)) (cases_Bool (p x))
 
-join : (P : ℕ → Type 0) (xs ys : List ℕ) → AllByRecursion P xs → AllByRecursion P ys → AllByRecursion P (xs ++ ys)
+pub join : (P : ℕ → Type 0) (xs ys : List ℕ) → AllByRecursion P xs → AllByRecursion P ys → AllByRecursion P (xs ++ ys)
 join P [] ys a b = b
 join P (x ∷ xs) ys a b = (a.0, join P xs ys a.1 b)
 
-all-stand : (image : Image) (ls : List Loaded) → AllByRecursion (IsLoadedBy (store_of image)) ls → AllByRecursion (λ x. stands_in image x ≡ true) (flat_map words_of ls)
+pub all-stand : (image : Image) (ls : List Loaded) → AllByRecursion (IsLoadedBy (store_of image)) ls → AllByRecursion (λ x. stands_in image x ≡ true) (flat_map words_of ls)
 all-stand image [] h = tt
 all-stand image (l ∷ ls) h = join (λ x. stands_in image x ≡ true) (words_of l) (flat_map words_of ls) (words-stand image l h.0) (all-stand image ls h.1)
 
@@ -286,7 +286,7 @@ doomed-loads image state (d ∷ numbered) each = (go (object_at state d.0) each.
   go None h = absurd h
   go (Some o) h = (unchained_rule 2, d.1.node, h.loads)
 
-both-loads : (v : StoreView) (xs ys : List Loaded) → AllByRecursion (IsLoadedBy v) xs → AllByRecursion (IsLoadedBy v) ys → AllByRecursion (IsLoadedBy v) (xs ++ ys)
+pub both-loads : (v : StoreView) (xs ys : List Loaded) → AllByRecursion (IsLoadedBy v) xs → AllByRecursion (IsLoadedBy v) ys → AllByRecursion (IsLoadedBy v) (xs ++ ys)
 both-loads v [] ys a b = b
 both-loads v (x ∷ xs) ys a b = (a.0, both-loads v xs ys a.1 b)
 

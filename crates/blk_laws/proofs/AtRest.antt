@@ -1,6 +1,6 @@
 -- Operations on lists at rest.
 use Rattle.std.proofs.Common.{◌≡◌}
-use Rattle.blk_volume.specs.ListPlans.{completion_writes, outcome}
+use Rattle.blk_volume.specs.ListPlans.{completion_writes, completed_but_operation}
 use Rattle.blk_laws.specs.ListLaws.{InsertsCommitAtTwo, InsertsEnd, RemovalsCommitAtTwo, RemovalsEnd, TouchesCommitAtTwo, TouchesEnd, CompletionsEnd}
 use Rattle.blk_laws.proofs.ListWrites.{EachMoment-last, completion_keeps}
 use Rattle.blk_laws.proofs.ListCompletions.{insert_turns, insert_ends, remove_turns, remove_ends, touch_turns, touch_ends, completion_ends}
@@ -24,4 +24,4 @@ pub touches-end : TouchesEnd
 touches-end node list prefix suffix rest = let e = touch_ends node list prefix suffix rest.whole rest.idle in record { whole = e.0; idle = e.1 }
 
 pub completions-end : CompletionsEnd
-completions-end list = (EachMoment-last (λ u. outcome u ≡ outcome list) (completion_writes list) list (completion_keeps list), (completion_ends list).1)
+completions-end list = (EachMoment-last (λ u. completed_but_operation u ≡ completed_but_operation list) (completion_writes list) list (completion_keeps list), (completion_ends list).1)

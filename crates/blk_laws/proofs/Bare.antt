@@ -14,7 +14,7 @@ use Rattle.blk_format.specs.Maps.{groups_with, groups_of, is_block_marked, Empty
 use Rattle.blk_volume.specs.ListView.{ListView, IsList}
 use Rattle.blk_volume.specs.Walk.{walk}
 use Rattle.blk_volume.specs.Completion.{completed_list, counts, operated}
-use Rattle.blk_volume.specs.View.{View, list_of, checks_at, core_at, store_of, view_of}
+use Rattle.blk_volume.specs.View.{View, list_of, checks_at, fields_at, store_of, view_of}
 use Rattle.blk_volume.specs.Chains.{Chain}
 use Rattle.blk_volume.specs.Loads.{Rule, held_rule, listed_rule, Loaded, claims_of_loaded}
 use Rattle.blk_volume.specs.Audit.{kept_among, dropped_among, kept_by, dropped_by, unlisted, unlisted_in}
@@ -35,7 +35,7 @@ unfolding checks_at stands is_address is_initialized
 no-node image = refl
 
 pub no-record : (image : Image) → (store_of image).entry 0 ≡ None
-unfolding store_of core_at stands is_address is_initialized
+unfolding store_of fields_at stands is_address is_initialized
 no-record image = refl
 
 -- with no operation in flight nothing is completed

@@ -16,8 +16,8 @@ use Rattle.blk_format.specs.Standing.{is_linked_as, stands, stands_as_blocks}
 use Rattle.blk_format.specs.Records.{Node, Entry, node_checks}
 use Rattle.blk_format.specs.BlockFiles.{linked, files_along, next_file_in, max_entries_in, kind_among, linked_as, stands_in, stands_in_blocks}
 use Rattle.blk_format.specs.Claims.{Claim, BlockOf, ExternalOf, same_claim, claims_of, has_claim}
-use Rattle.blk_volume.specs.View.{stands_as, block_bytes, node_at, entry_at, NodeFields, RecordFields, fields_of, checks_at, next_at, prev_at, list_of, node_fields_at, core_at, follow_at, key_place_at, stored_at, store_of, view_of}
-use Rattle.blk_volume.specs.Entries.{is_key_length, longest_key}
+use Rattle.blk_volume.specs.View.{stands_as, block_bytes, node_at, entry_at, NodeFields, RecordFields, fields_of, checks_at, next_at, prev_at, list_of, node_fields_at, fields_at, follow_at, key_place_at, stored_at, store_of, view_of}
+use Rattle.blk_volume.specs.Entries.{is_key_length, longest_key_with}
 use Rattle.blk_volume.specs.Footprint.{IsClear, SameStore, SameLinks, SameBut, Covers, is_there, AgreeBut, is_past}
 use Rattle.blk_format.specs.Headers.{is_shown_place, is_extent_place}
 use Rattle.blk_volume.specs.Sound.{AreLongEnough}
@@ -104,11 +104,11 @@ key_inside n b short count = short_key n b short (cases_lt n 160) (eqb-true b _ 
 
 key_blocks : (w : ℕ) (e : RecordFields) → is_key_length w e ≡ true → (block_count w == entry_blocks e.key_len) ≡ true
 unfolding is_key_length
-key_blocks w e h = (and_parts (nat_le 1 e.key_len && nat_le e.key_len (longest_key e)) (block_count w == entry_blocks e.key_len) h).1
+key_blocks w e h = (and_parts (nat_le 1 e.key_len && nat_le e.key_len (longest_key_with e)) (block_count w == entry_blocks e.key_len) h).1
 
 -- what names a record stands
-record_stands : (image : Image) (w : ℕ) (e : RecordFields) → core_at image w ≡ Some e → stands_as image blocks_256 w ≡ true
-unfolding core_at
+record_stands : (image : Image) (w : ℕ) (e : RecordFields) → fields_at image w ≡ Some e → stands_as image blocks_256 w ≡ true
+unfolding fields_at
 record_stands image w e is = ⊎_elim
     (λ (s : stands_as image blocks_256 w ≡ true). s)
     (λ (s : stands_as image blocks_256 w ≡ false). let none : ◌≡◌ {A = Option RecordFields} None (Some e) = rw s at is in absurd (cc))
@@ -162,7 +162,7 @@ last-there image w =
     rw (last, ends-at w) refl
 
 -- then all are
-all-there : (image : Image) (w b : ℕ) → stands_in_blocks image w ≡ true → b < first_block w + block_count w → is_there image (file_selector w) (kind_of w) b ≡ true
+pub all-there : (image : Image) (w b : ℕ) → stands_in_blocks image w ≡ true → b < first_block w + block_count w → is_there image (file_selector w) (kind_of w) b ≡ true
 unfolding stands_as_blocks is_there
 all-there image w b st below =
     let p = and_parts (is_linked_as (linked_as image (file_selector w)) (kind_of w) && nat_le (first_block w + block_count w) (max_entries_in image (file_selector w))) _ st in
@@ -179,7 +179,7 @@ module _ (touched : Claim → Bool) (old new : Image) (same : AgreeBut touched o
       same.externals (external_number w) (clear (ExternalOf (external_number w)) (external-claim w (λ e. let a : is_address 0 ≡ true = ap is_address (sym e) ∙ address in let c : false ≡ true = sym zero-no_address ∙ a in cc) is))
 
   -- an address that is clear stands in both or in neither
-  stands-same : (w : ℕ) → IsClear touched w → stands_in new w ≡ stands_in old w
+  pub stands-same : (w : ℕ) → IsClear touched w → stands_in new w ≡ stands_in old w
   unfolding stands
   stands-same w clear = and_under (is_address w) _ _ (λ address. ⊎_elim
       (λ (e : (kind_of w == external) ≡ true). rw e (ap (λ (f : Option (List ℕ)). is_some f) (external-of w address (eqb-true (kind_of w) external e) clear)))
@@ -229,13 +229,13 @@ module _ (touched : Claim → Bool) (old new : Image) (same : AgreeBut touched o
   entry-size = refl
 
   -- the node and the record of a clear address
-  node-same : (w : ℕ) → stands_as old rankings w ≡ true → IsClear touched w → node_at new w ≡ node_at old w
+  pub node-same : (w : ℕ) → stands_as old rankings w ≡ true → IsClear touched w → node_at new w ≡ node_at old w
   node-same w e clear =
       let s = standing rankings w e in
       sym (same-node_in (place w) (block_bytes old w) (block_bytes new w) (part_of (place w) (byte_size w) (place w) 36 (block_bytes old w) (block_bytes new w) (blocks-same w s.0 (λ x. node_apart (sym s.1 ∙ x)) clear) (omega arith)
       (let b : 36 ≤ byte_size w = room-for rankings w 36 e (omega (arith, node-size)) in omega arith)))
 
-  entry-same : (w : ℕ) → stands_as old blocks_256 w ≡ true → IsClear touched w → entry_at new w ≡ entry_at old w
+  pub entry-same : (w : ℕ) → stands_as old blocks_256 w ≡ true → IsClear touched w → entry_at new w ≡ entry_at old w
   entry-same w e clear =
       let s = standing blocks_256 w e in
       sym (same-entry_in (place w) (block_bytes old w) (block_bytes new w) (part_of (place w) (byte_size w) (place w) 96 (block_bytes old w) (block_bytes new w) (blocks-same w s.0 (λ x. entry_apart (sym s.1 ∙ x)) clear) (omega arith)
@@ -262,7 +262,7 @@ module _ (touched : Claim → Bool) (old new : Image) (same : AgreeBut touched o
     prev = λ w clear. rw (stands_as-same rankings w clear) (same_under (stands_as old rankings w) _ _ _ (λ e. ap (λ (n : Node). n.prev) (sym (node-same w e clear))));
   }
 
-  key-place-same : (w : ℕ) (e : RecordFields) → IsClear touched w → core_at old w ≡ Some e → is_key_length w e ≡ true → nat_le e.key_len 927 ≡ true
+  key-place-same : (w : ℕ) (e : RecordFields) → IsClear touched w → fields_at old w ≡ Some e → is_key_length w e ≡ true → nat_le e.key_len 927 ≡ true
       → key_place_at old w e.key_len ≡ key_place_at new w e.key_len
   unfolding key_place_at
   key-place-same w e clear is long short =
@@ -286,7 +286,7 @@ module _ (touched : Claim → Bool) (old new : Image) (same : AgreeBut touched o
       (cases_Bool (kind_of w == external))))))
 
   stock-same : SameStore touched (store_of old) (store_of new)
-  unfolding store_of node_fields_at core_at follow_at
+  unfolding store_of node_fields_at fields_at follow_at
   stock-same = record {
     node_fields = λ w clear. rw (stands_as-same rankings w clear) (same_under (stands_as old rankings w) _ _ _ (λ e. ap (λ (n : Node). let said : NodeFields = record { contents = n.contents; dirty = n.dirty } in Some said) (sym (node-same w e clear))));
     entry = λ w clear. rw (stands_as-same blocks_256 w clear) (same_under (stands_as old blocks_256 w) _ _ _ (λ e. ap (λ (n : Entry). Some (fields_of n)) (sym (entry-same w e clear))));

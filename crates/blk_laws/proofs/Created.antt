@@ -17,6 +17,8 @@ use Rattle.blk_model.specs.Step.{step, outcome}
 use Rattle.blk_model.specs.Refusals.{refused, evicted}
 use Rattle.blk_model.specs.Stops.{StopOutcome, pick, picked, picked_by, is_live_and_settled, is_safe, is_turned}
 use Rattle.blk_format.specs.Claims.{Claim}
+use Rattle.blk_format.specs.Hash.{hash}
+use Rattle.blk_volume.specs.Chains.{bucket_of_hash}
 use Rattle.blk_volume.specs.View.{View}
 use Rattle.blk_volume.specs.Loads.{held_rule, Loaded}
 use Rattle.blk_volume.specs.Audit.{kept_among}
@@ -25,11 +27,12 @@ use Rattle.blk_volume.specs.Layout.{Layout, order, Represents}
 use Rattle.blk_volume.specs.Given.{picked_with}
 use Rattle.blk_volume.specs.Footprint.{SameBut, IsFree}
 use Rattle.blk_volume.specs.Creation.{IsNewEntry, IsFrontOfChain, with_new, linked_front}
-use Rattle.blk_laws.proofs.Central.{rest-found}
+use Rattle.blk_laws.proofs.Central.{rest-found, found-rest}
 use Rattle.blk_laws.proofs.Owner.{rest-picked}
-use Rattle.blk_laws.specs.CommandLaws.{IsWritten}
+use Rattle.blk_laws.specs.CommandLaws.{IsWritten, WrittenEntriesStay, CreatesBeforeTheInsert, CreatesAtEachWrite, CreatesEnd, CreatesAfterTheLink, CreatesEndAtTheStep}
 use Rattle.blk_laws.proofs.Opening.{safe-same}
-use Rattle.blk_laws.proofs.Outside.{represents-outside}
+use Rattle.blk_laws.proofs.Outside.{represents-outside, load-outside, all-clear, then-same}
+use Rattle.blk_laws.proofs.Touches.{same-represents}
 use Rattle.blk_laws.proofs.Creating.{created-shows, created-lies, created-rest, order-after, inserted-rest, new-lacks, push-here}
 use Rattle.blk_model.specs.Holding as model
 
@@ -81,6 +84,30 @@ module _ (m : State) (handle : ℕ) (key : List ℕ) where
       subst (λ (n : State). StopOutcome m moment (to_create handle key) n (model.rest m)) (sym ends)
       (record { step_count = 0; within = omega arith; with_turned = false; picked_rows = pick-created })
 
+-- what is written loads in each store that shows the same
+written-stays : WrittenEntriesStay
+written-stays v u m y key l w s same = record {
+  represents = w.represents;
+  valid = w.valid;
+  touched = w.touched;
+  same = record { links = w.same.links; store = then-same w.touched v.store u.store s w.same.store same.store; table = λ b. w.same.table b ∙ same.table b };
+  free = w.free;
+  entry = record {
+    loads = load-outside (λ c. false) u.store s same.store (record { state = 0; clean = false; chained = false }) l.node l refl w.entry.loads (all-clear (λ c. false) l (λ c h. refl));
+    key_is = w.entry.key_is;
+    role = w.entry.role;
+    streams = w.entry.streams;
+    dirty = w.entry.dirty;
+    nobody = w.entry.nobody;
+    free = w.entry.free;
+    single = w.entry.single;
+  };
+  prefix = record { follows = sym (same.store.chain_next l.contents (λ c h. refl)) ∙ w.prefix.follows ∙ same.table (bucket_of_hash (hash l.key)); fresh = w.prefix.fresh };
+  good = w.good;
+  few = w.few;
+  missing = w.missing;
+}
+
 module _ (v u : View) (m : State) (y : Layout) (key : List ℕ) (l : Loaded) (w : IsWritten v u m y key l) where
   pub creates-moments : (k : ℕ) → map row_of (kept_among u.store held_rule (walk (completed_list (after_writes (take k (writes_of 1 l.node u.list)) u.list)))) ≡ model.rest m
   creates-moments = insert-moments v u m y w.represents w.valid w.touched w.same w.free 0 key l w.entry w.prefix w.good w.few w.missing
@@ -90,3 +117,28 @@ module _ (v u : View) (m : State) (y : Layout) (key : List ℕ) (l : Loaded) (w 
 
   pub creates-rest : (handle : ℕ) → model.rest (created handle key m) ≡ model.rest m
   creates-rest handle = create-rest v u m y w.represents w.valid w.touched w.same w.free handle key l w.entry w.prefix w.good w.few w.missing
+
+pub written-stay : WrittenEntriesStay
+written-stay = written-stays
+
+pub before-insert : CreatesBeforeTheInsert
+before-insert touched old view state layout r valid same free =
+    let now : Represents view state layout = represents-outside touched old view state layout same free r in
+    found-rest view state layout now valid
+
+pub at-each-write : CreatesAtEachWrite
+at-each-write old new state layout key loaded w store same count = creates-moments old (record new { store = store }) state layout key loaded (written-stays old new state layout key loaded w store same) count
+
+pub at-end : CreatesEnd
+at-end old new state layout key loaded w handle store linked same then_linked =
+    same-represents (record { list = after_writes (writes_of 1 loaded.node new.list) new.list; store = linked_front store loaded }) (created handle key state) (with_new layout key loaded)
+    (creates-end old (record new { store = store }) state layout key loaded (written-stays old new state layout key loaded w store same) handle) linked then_linked
+
+pub after-link : CreatesAfterTheLink
+after-link old new state layout key loaded w handle valid store linked same then_linked =
+    found-rest (record { list = after_writes (writes_of 1 loaded.node new.list) new.list; store = linked }) (created handle key state) (with_new layout key loaded) (at-end old new state layout key loaded w handle store linked same then_linked) valid
+    ∙ creates-rest old new state layout key loaded w handle
+
+pub at-the-step : CreatesEndAtTheStep
+unfolding step outcome effect without
+at-the-step state handle key moment passed none = rw (passed, none) refl

@@ -1,7 +1,8 @@
 -- A new object: its record and node written, its node inserted, its record linked.
 use Rattle.std.proofs.Common.{◌≡◌, ℕ, zero, suc, ◌+◌, ◌<◌, List, [], ◌∷◌, ◌++◌, length, map, refl, ap, sym, ◌∙◌, subst, Bool, true, false, arith, cond, get_or, Option, Some, None, Ok, ⊎_elim, ◌⊎◌, inl, inr}
-use Rattle.std.specs.Prelude.{not, ◌||◌, ◌==◌, IfSome, if◌then◌else◌}
-use Rattle.std.specs.Option.{option_and_then}
+use Rattle.std.specs.Str.{bytes_eq}
+use Rattle.std.specs.Prelude.{not, ◌&&◌, ◌==◌}
+use Rattle.std.specs.Option.{option_and_then, option_map}
 use Rattle.std.specs.List.{filter, filter_map, cons_option}
 use Rattle.std.proofs.lemmas.Bool.{cases_Bool, eq-eqb, eqb-true, or_left, or_right, or_parts}
 use Rattle.std.proofs.lemmas.Bool.Decides.{eqb_tells}
@@ -10,21 +11,22 @@ use Rattle.blk_volume.specs.ListView.{put, Distinct}
 use Rattle.blk_model.specs.Items.{Item, main, part, Row, main_row, same_item}
 use Rattle.blk_model.specs.State.{State, Object, IsValidState, object_at, slot_has_item, first_with}
 use Rattle.blk_model.specs.Effects.{created, new_object}
-use Rattle.blk_model.proofs.Same.{one_item, same_item_self, bytes_eq_self}
+use Rattle.blk_model.proofs.Same.{same_item_self, bytes_eq_self}
 use Rattle.blk_model.proofs.Each.{push_at}
 use Rattle.blk_format.specs.Hash.{hash}
 use Rattle.blk_format.specs.BlockFiles.{is_among}
-use Rattle.blk_format.specs.Claims.{Claim, has_claim, repeats}
 use Rattle.blk_volume.specs.View.{StoreView}
 use Rattle.blk_volume.specs.Chains.{chain, bucket_of_hash, is_of_bucket, Linked, IsChain}
-use Rattle.blk_volume.specs.Loads.{Rule, held_rule, Loaded, load, all_claims}
+use Rattle.blk_volume.specs.Loads.{Rule, held_rule, Loaded, load}
 use Rattle.blk_volume.specs.Audit.{kept_among}
 use Rattle.blk_volume.specs.Entries.{key_of, stream_of, streams_of}
 use Rattle.blk_volume.specs.Found.{row_of}
-use Rattle.blk_volume.specs.Layout.{Layout, is_listed, nodes_of, order, rule_of, HasDirtyMark, HasParentAt, IsPlacedAt, IsDoomedAt, IsListedRecord, Shows, IsLayoutOf, Holds, is_in}
+use Rattle.blk_volume.specs.Layout.{Layout, is_listed, nodes_of, order, rule_of, IsPlacedAt, Shows, IsLayoutOf, Holds, OneChanged, is_in}
 use Rattle.blk_volume.specs.Shown.{IsShown, HasParentIn, IsOrphanIn}
 use Rattle.blk_volume.specs.Given.{given_by, is_settled}
-use Rattle.blk_volume.specs.Creation.{IsNewEntry, IsFrontOfChain, with_new, linked_front}
+use Rattle.blk_volume.specs.Creation.{with_first, IsNewItem, IsNewEntry, IsFrontOfChain, with_new, linked_front}
+use Rattle.blk_laws.proofs.NewItems.{item-lies, order-after as item-order}
+use Rattle.blk_laws.proofs.Opening.{lies-reordered}
 use Rattle.blk_laws.proofs.Loads.{load-then}
 use Rattle.blk_laws.proofs.Loading.{load-from, load-one, load-clean}
 use Rattle.blk_laws.proofs.Laid.{IsNodeOf, node-of, laid-shown, settled-goes}
@@ -63,9 +65,6 @@ push-back [] slot (suc k) o e = cc
 push-back (s ∷ slots) slot zero o e = inl e
 push-back (s ∷ slots) slot (suc k) o e = push-back slots slot k o e
 
-none-of : (a w : ℕ) (xs : List ℕ) → (a == w) ≡ false → is_among xs w ≡ false → is_among (a ∷ xs) w ≡ false
-none-of a w xs e f = rw (e, f) refl
-
 module _ (m : State) (y : Layout) (r : IsLayoutOf m y) (v : StoreView) (handle : ℕ) (key : List ℕ) (l : Loaded) (new : IsNewEntry v y key l) (none : model.owner m (main key) ≡ None) where
   after : State
   after = created handle key m
@@ -101,29 +100,52 @@ module _ (m : State) (y : Layout) (r : IsLayoutOf m y) (v : StoreView) (handle :
     at-length : get_or (m.objects ++ Some (new_object key) ∷ []) (0 + length m.objects) None ≡ Some (new_object key)
     at-length = ap (λ (k : ℕ). get_or (m.objects ++ Some (new_object key) ∷ []) k None) (let e : 0 + length m.objects ≡ length m.objects = omega arith in e) ∙ push_at m.objects (Some (new_object key))
 
-  -- ---- places
+  -- an item that nobody had and that isn't the new one is nobody's still
+  absent : (i : Item) (start : ℕ) (slots : List (Option Object)) → same_item i (main key) ≡ false → first_with i start slots ≡ None → first_with i start (slots ++ Some (new_object key) ∷ []) ≡ None
+  absent (main k) start [] apart e = rw apart refl
+  absent (part k n) start [] apart e = go (bytes_eq k key) where
+    go : (b : Bool) → ◌≡◌ {A = Option ℕ} (cond (true && b && false) (Some start) None) None
+    go true = refl
+    go false = refl
+  absent i start (s ∷ slots) apart e = go (slot_has_item i s) (absent i (start + 1) slots apart) e where
+    go : (b : Bool) → (first_with i (start + 1) slots ≡ None → first_with i (start + 1) (slots ++ Some (new_object key) ∷ []) ≡ None)
+        → cond b (Some start) (first_with i (start + 1) slots) ≡ None → cond b (Some start) (first_with i (start + 1) (slots ++ Some (new_object key) ∷ [])) ≡ None
+    go true more e = cc
+    go false more e = more e
 
-  -- nodes that keep something are other nodes
-  other-node : (w : ℕ) (x : Loaded) → y.at w ≡ Some x → (l.node == w) ≡ false
-  other-node w x is = ⊎_elim
-      (λ (e : (eqb l.node w ≡ true) × (l.node ≡ w)). let a : y.at w ≡ None = ap y.at (sym e.1) ∙ new.nobody in absurd (let c : ◌≡◌ {A = Option Loaded} (Some x) None = sym is ∙ a in cc))
-      (λ (e : (eqb l.node w ≡ false) × _). e.0)
-      (eqb_tells l.node w)
+  -- so the owners of the others are the same
+  owner-object-same : (i : Item) → same_item i (main key) ≡ false → model.owner_object (record m { objects = m.objects ++ Some (new_object key) ∷ [] }) i ≡ model.owner_object m i
+  unfolding created
+  owner-object-same i apart = go (model.owner m i) refl where
+    go : (w : Option ℕ) → model.owner m i ≡ w → model.owner_object (record m { objects = m.objects ++ Some (new_object key) ∷ [] }) i ≡ model.owner_object m i
+    go (Some j) is = owner-object i j is
+    go None is = rw (absent i 0 m.objects apart is, is) refl
 
-  at-old : (w : ℕ) (x : Loaded) → y.at w ≡ Some x → put y.at l.node (Some l) w ≡ Some x
-  at-old w x is = at-elsewhere y.at l.node (Some l) w (other-node w x is) ∙ is
+  -- the new object differs from the old ones in its main item
+  pub changed : OneChanged m (m.objects ++ Some (new_object key) ∷ []) (main key)
+  unfolding model.row_of
+  changed = record {
+    rows = λ other apart. ap (option_and_then (λ object. model.row_in object other)) (owner-object-same other apart);
+    settled = λ k apart. ap (option_map (λ (object : Object). object.settled)) (owner-object-same (main k) apart);
+    doomed_same = λ number o is dead. ⊎_elim
+        (λ (old : object_at m number ≡ Some o). old)
+        (λ (q : Some (new_object key) ≡ Some o). let s : new_object key ≡ o = cc in absurd (let z : true ≡ false = ap (λ (k : Object). k.live) s ∙ dead in cc))
+        (push-back m.objects (Some (new_object key)) number o is);
+  }
 
-  old-item : (i : Item) → is_listed m i ≡ true → same_item i (main key) ≡ false
-  old-item i there = ⊎_elim
-      (λ (e : same_item i (main key) ≡ true). let a : is_listed m (main key) ≡ true = subst (λ (j : Item). is_listed m j ≡ true) (one_item i (main key) e) there in absurd (let c : true ≡ false = sym a ∙ unlisted in cc))
-      (λ (e : same_item i (main key) ≡ false). e)
-      (cases_Bool (same_item i (main key)))
-
-  place-old : (i : Item) → is_listed m i ≡ true → (if same_item i (main key) then l.node else y.place i) ≡ y.place i
-  place-old i there = rw (old-item i there) refl
-
-  place-new : (if same_item (main key) (main key) then l.node else y.place (main key)) ≡ l.node
-  place-new = rw (same_item_self (main key)) refl
+  pub as-item : IsNewItem m (m.objects ++ Some (new_object key) ∷ []) y (main key) l
+  unfolding model.row_of created
+  as-item = record {
+    unlisted = unlisted;
+    row = ap (option_and_then (λ object. model.row_in object (main key))) new-owner ∙ ap Some (sym row);
+    mark = rw new-owner new.dirty;
+    parent = tt;
+    nobody = new.nobody;
+    free = new.free;
+    single = new.single;
+  } where
+    row : row_of l ≡ main_row key (new_object key).shape ([], [], [])
+    row = rw (new.role, new.streams, new.key_is) refl
 
   -- the use list afterwards: the new item, and the others
   pub uses-after : (created handle key m).uses ≡ main key ∷ m.uses
@@ -133,153 +155,18 @@ module _ (m : State) (y : Layout) (r : IsLayoutOf m y) (v : StoreView) (handle :
     absent [] e = refl
     absent (i ∷ items) e = let p = or_parts (same_item (main key) i) (is_in items (main key)) e in rw p.0 (ap (λ (xs : List Item). i ∷ xs) (absent items p.1))
 
+  -- the created state is the one with the new item in front, but for the names
+  is-first : (names : List (Option ℕ)) → names ≡ (created handle key m).names → created handle key m ≡ record (with_first m (m.objects ++ Some (new_object key) ∷ []) (main key)) { names = names }
+  unfolding created
+  is-first names e = λ k. record { objects = m.objects ++ Some (new_object key) ∷ []; uses = uses-after k; names = sym e k; limits = m.limits }
+
   pub order-after : order (created handle key m) (with_new y key l) ≡ l.node ∷ order m y
-  order-after = ap (nodes_of (with_new y key l)) uses-after ∙ both place-new (rest m.uses (λ i h. h)) where
-    both : {a b : ℕ} {xs ys : List ℕ} → a ≡ b → xs ≡ ys → a ∷ xs ≡ b ∷ ys
-    both p q = λ i. p i ∷ q i
-
-    rest : (items : List Item) → ((i : Item) → is_in items i ≡ true → is_listed m i ≡ true) → nodes_of (with_new y key l) items ≡ nodes_of y items
-    rest [] sub = refl
-    rest (i ∷ items) sub = both (place-old i (sub i (or_left (same_item i i) (is_in items i) (same_item_self i)))) (rest items (λ j h. sub j (or_right (same_item j i) (is_in items j) h)))
-
-  -- what is listed afterwards is the new item or was listed
-  listed-after : (i : Item) → is_listed (created handle key m) i ≡ true → (i ≡ main key) ⊎ (is_listed m i ≡ true)
-  listed-after i h =
-      let a : (same_item i (main key) || is_listed m i) ≡ true = ap (λ (xs : List Item). is_in xs i) (sym uses-after) ∙ h in
-      ⊎_elim (λ (e : same_item i (main key) ≡ true). inl (one_item i (main key) e)) (λ (e : same_item i (main key) ≡ false). inr (rw e at a)) (cases_Bool (same_item i (main key)))
-
-  listed-still : (i : Item) → is_listed m i ≡ true → is_listed (created handle key m) i ≡ true
-  listed-still i h = ap (λ (xs : List Item). is_in xs i) uses-after ∙ or_right (same_item i (main key)) (is_listed m i) h
-
-  node-after : (w : ℕ) → is_among (order (created handle key m) (with_new y key l)) w ≡ true → (w ≡ l.node) ⊎ (is_among (order m y) w ≡ true)
-  node-after w h =
-      let a : (l.node == w || is_among (order m y) w) ≡ true = ap (λ (xs : List ℕ). is_among xs w) (sym order-after) ∙ h in
-      ⊎_elim (λ (e : (eqb l.node w ≡ true) × (l.node ≡ w)). inl (sym e.1)) (λ (e : (eqb l.node w ≡ false) × _). inr (rw e.0 at a)) (eqb_tells l.node w)
-
-  node-still : (w : ℕ) → is_among (order m y) w ≡ true → is_among (order (created handle key m) (with_new y key l)) w ≡ true
-  node-still w h = ap (λ (xs : List ℕ). is_among xs w) order-after ∙ or_right (l.node == w) (is_among (order m y) w) h
-
-  -- ---- the layout
-
-  laid-new : IsPlacedAt (created handle key m) (with_new y key l) (main key)
-  unfolding model.row_of created
-  laid-new = record {
-    loaded = l;
-    here = ap (put y.at l.node (Some l)) place-new ∙ at-itself y.at l.node (Some l);
-    row = ap (option_and_then (λ object. model.row_in object (main key))) new-owner ∙ ap Some (sym row);
-    mark = rw new-owner new.dirty;
-    parent = tt;
-  } where
-    row : row_of l ≡ main_row key (new_object key).shape ([], [], [])
-    row = rw (new.role, new.streams, new.key_is) refl
-
-  laid-old : (i : Item) → is_listed m i ≡ true → IsPlacedAt (created handle key m) (with_new y key l) i
-  unfolding model.row_of
-  laid-old i there =
-      let q : IsPlacedAt m y i = r.laid i there in
-      let own = owner-of i (row_of q.loaded) q.row in
-      record {
-        loaded = q.loaded;
-        here = ap (put y.at l.node (Some l)) (place-old i there) ∙ at-old (y.place i) q.loaded q.here;
-        row = ap (option_and_then (λ object. model.row_in object i)) (owner-object i own.0 own.1) ∙ q.row;
-        mark = mark i q.loaded own.0 own.1 q.mark;
-        parent = parent i q.loaded q.parent;
-      } where
-        mark : (i : Item) (x : Loaded) (j : ℕ) → model.owner m i ≡ Some j → HasDirtyMark m i x → HasDirtyMark (created handle key m) i x
-        mark (main k) x j e h = subst (λ (o : Option Object). IfSome o (λ z. (x.dirty == 0) ≡ z.settled)) (sym (owner-object (main k) j e)) h
-        mark (part k n) x j e h = h
-
-        parent : (i : Item) (x : Loaded) → HasParentAt m y i x → HasParentAt (created handle key m) (with_new y key l) i x
-        parent (main k) x h = h
-        parent (part k n) x h = record {
-          name = h.name;
-          index = h.index;
-          role = h.role;
-          of_key = h.of_key;
-          listed = listed-still (main k) h.listed;
-          parent = h.parent;
-          at_parent = ap (put y.at l.node (Some l)) (place-old (main k) h.listed) ∙ at-old (y.place (main k)) h.parent h.at_parent;
-          of = h.of;
-        }
-
-  -- what is at a node afterwards is the new record, or was there
-  at-after : (P : ℕ → Loaded → Type 0) (w : ℕ) (x : Loaded) → put y.at l.node (Some l) w ≡ Some x → P l.node l → (y.at w ≡ Some x → P w x) → P w x
-  at-after P w x is f g = ⊎_elim
-      (λ (e : (eqb l.node w ≡ true) × (l.node ≡ w)).
-      let a : ◌≡◌ {A = Option Loaded} (Some l) (Some x) = sym (at-itself y.at l.node (Some l)) ∙ ap (put y.at l.node (Some l)) e.1 ∙ is in
-      let s : l ≡ x = cc in
-      subst (λ (z : ℕ). P z x) e.1 (subst (P l.node) s f))
-      (λ (e : (eqb l.node w ≡ false) × _). g (sym (at-elsewhere y.at l.node (Some l) w e.0) ∙ is))
-      (eqb_tells l.node w)
-
-  b : ℕ
-  b = bucket_of_hash (hash l.key)
-
-  -- a record of a chain afterwards
-  chain-after : (n c : ℕ) → is_among (put y.chains (bucket_of_hash (hash l.key)) (l.contents ∷ y.chains (bucket_of_hash (hash l.key))) n) c ≡ true → (c ≡ l.contents) ⊎ (is_among (y.chains n) c ≡ true)
-  chain-after n c h = ⊎_elim
-      (λ (e : (eqb (bucket_of_hash (hash l.key)) n ≡ true) × (bucket_of_hash (hash l.key) ≡ n)).
-      let a : is_among (l.contents ∷ y.chains (bucket_of_hash (hash l.key))) c ≡ true = ap (λ (xs : List ℕ). is_among xs c) (sym (at-itself y.chains (bucket_of_hash (hash l.key)) (l.contents ∷ y.chains (bucket_of_hash (hash l.key))))) ∙ ap (λ (z : ℕ). is_among (put y.chains (bucket_of_hash (hash l.key)) (l.contents ∷ y.chains (bucket_of_hash (hash l.key))) z) c) e.1 ∙ h in
-      ⊎_elim (λ (f : (eqb l.contents c ≡ true) × (l.contents ≡ c)). inl (sym f.1)) (λ (f : (eqb l.contents c ≡ false) × _). let z : is_among (y.chains (bucket_of_hash (hash l.key))) c ≡ true = rw f.0 at a in inr (ap (λ (q : ℕ). is_among (y.chains q) c) (sym e.1) ∙ z)) (eqb_tells l.contents c))
-      (λ (e : (eqb (bucket_of_hash (hash l.key)) n ≡ false) × _). inr (ap (λ (xs : List ℕ). is_among xs c) (sym (at-elsewhere y.chains (bucket_of_hash (hash l.key)) (l.contents ∷ y.chains (bucket_of_hash (hash l.key))) n e.0)) ∙ h))
-      (eqb_tells (bucket_of_hash (hash l.key)) n)
-
-  chain-still : (n c : ℕ) → is_among (y.chains n) c ≡ true → is_among (put y.chains (bucket_of_hash (hash l.key)) (l.contents ∷ y.chains (bucket_of_hash (hash l.key))) n) c ≡ true
-  chain-still n c h = ⊎_elim
-      (λ (e : (eqb (bucket_of_hash (hash l.key)) n ≡ true) × (bucket_of_hash (hash l.key) ≡ n)).
-      subst (λ (z : ℕ). is_among (put y.chains (bucket_of_hash (hash l.key)) (l.contents ∷ y.chains (bucket_of_hash (hash l.key))) z) c ≡ true) e.1
-      (ap (λ (xs : List ℕ). is_among xs c) (at-itself y.chains (bucket_of_hash (hash l.key)) (l.contents ∷ y.chains (bucket_of_hash (hash l.key)))) ∙ or_right (l.contents == c) (is_among (y.chains (bucket_of_hash (hash l.key))) c) (ap (λ (q : ℕ). is_among (y.chains q) c) e.1 ∙ h)))
-      (λ (e : (eqb (bucket_of_hash (hash l.key)) n ≡ false) × _). ap (λ (xs : List ℕ). is_among xs c) (at-elsewhere y.chains (bucket_of_hash (hash l.key)) (l.contents ∷ y.chains (bucket_of_hash (hash l.key))) n e.0) ∙ h)
-      (eqb_tells (bucket_of_hash (hash l.key)) n)
-
-  owned-after : (w : ℕ) (x : Loaded) (c : Claim) → y.at w ≡ Some x → has_claim (all_claims x) c ≡ true → (if has_claim (all_claims l) c then Some l.node else y.owner c) ≡ Some w
-  owned-after w x c is h = ⊎_elim
-      (λ (e : has_claim (all_claims l) c ≡ true). let p : y.owner c ≡ None = new.free c e in let q : y.owner c ≡ Some w = r.own w x c is h in absurd (let z : ◌≡◌ {A = Option ℕ} (Some w) None = sym q ∙ p in cc))
-      (λ (e : has_claim (all_claims l) c ≡ false). rw e (r.own w x c is h))
-      (cases_Bool (has_claim (all_claims l) c))
+  order-after = ap (nodes_of (with_new y key l)) uses-after ∙ item-order m (m.objects ++ Some (new_object key) ∷ []) y (main key) l r changed as-item
 
   pub created-lies : IsLayoutOf (created handle key m) (with_new y key l)
-  unfolding created
-  created-lies = record {
-    laid = λ i h. ⊎_elim (λ (e : i ≡ main key). subst (IsPlacedAt (created handle key m) (with_new y key l)) (sym e) laid-new) (λ (there : is_listed m i ≡ true). laid-old i there) (listed-after i h);
-    normal = λ w h. ⊎_elim
-        (λ (e : w ≡ l.node). ap (put y.state l.node 0) e ∙ at-itself y.state l.node 0)
-        (λ (there : is_among (order m y) w ≡ true).
-        let n : IsNodeOf y m.uses w = node-of y m.uses w there in
-        let q : IsPlacedAt m y n.item = r.laid n.item n.among in
-        let o : (l.node == w) ≡ false = other-node w q.loaded (ap y.at (sym n.is) ∙ q.here) in
-        at-elsewhere y.state l.node 0 w o ∙ r.normal w there)
-        (node-after w h);
-    chained = λ w x h is. at-after (λ z k. is_among (order (created handle key m) (with_new y key l)) z ≡ true → is_among (put y.chains (bucket_of_hash (hash l.key)) (l.contents ∷ y.chains (bucket_of_hash (hash l.key))) (bucket_of_hash (hash k.key))) k.contents ≡ true) w x is
-        (λ _. ap (λ (xs : List ℕ). is_among xs l.contents) (at-itself y.chains (bucket_of_hash (hash l.key)) (l.contents ∷ y.chains (bucket_of_hash (hash l.key)))) ∙ or_left (l.contents == l.contents) (is_among (y.chains (bucket_of_hash (hash l.key))) l.contents) (eq-eqb l.contents l.contents refl))
-        (λ old g. ⊎_elim
-        (λ (e : w ≡ l.node). let a : y.at w ≡ None = ap y.at e ∙ new.nobody in absurd (let z : ◌≡◌ {A = Option Loaded} (Some x) None = sym old ∙ a in cc))
-        (λ (there : is_among (order m y) w ≡ true). chain-still (bucket_of_hash (hash x.key)) x.contents (r.chained w x there old))
-        (node-after w g))
-        h;
-    unchained = λ n c below h. ⊎_elim
-        (λ (e : c ≡ l.contents). record { node = l.node; loaded = l; listed = ap (λ (xs : List ℕ). is_among xs l.node) order-after ∙ or_left (l.node == l.node) (is_among (order m y) l.node) (eq-eqb l.node l.node refl); here = at-itself y.at l.node (Some l); record_is = sym e })
-        (λ (there : is_among (y.chains n) c ≡ true). let q : IsListedRecord m y c = r.unchained n c below there in
-        record { node = q.node; loaded = q.loaded; listed = node-still q.node q.listed; here = at-old q.node q.loaded q.here; record_is = q.record_is })
-        (chain-after n c h);
-    own = λ w x c is h. at-after (λ z k. has_claim (all_claims k) c ≡ true → (if has_claim (all_claims l) c then Some l.node else y.owner c) ≡ Some z) w x is (λ g. rw g refl) (λ old g. owned-after w x c old g) h;
-    single = λ w x is. at-after (λ z k. repeats (all_claims k) ≡ false) w x is new.single (λ old. r.single w x old);
-    doomed_objects = λ number o is dead. ⊎_elim
-        (λ (old : object_at m number ≡ Some o). let d : IsDoomedAt m y number o = r.doomed_objects number o old dead in
-        record {
-          loaded = d.loaded;
-          here = at-old (y.place_of_doomed number) d.loaded d.here;
-          row = d.row;
-          mark = d.mark;
-          unlisted = ap (λ (xs : List ℕ). is_among xs (y.place_of_doomed number)) order-after ∙ none-of l.node (y.place_of_doomed number) (order m y) (other-node (y.place_of_doomed number) d.loaded d.here) d.unlisted;
-          alone = λ other x there gone e. ⊎_elim
-              (λ (was : object_at m other ≡ Some x). d.alone other x was gone e)
-              (λ (q : Some (new_object key) ≡ Some x). let s : new_object key ≡ x = cc in absurd (let z : true ≡ false = ap (λ (k : Object). k.live) s ∙ gone in cc))
-              (push-back m.objects (Some (new_object key)) other x there);
-        })
-        (λ (e : Some (new_object key) ≡ Some o). let s : new_object key ≡ o = cc in absurd (let z : true ≡ false = ap (λ (q : Object). q.live) s ∙ dead in cc))
-        (push-back m.objects (Some (new_object key)) number o is);
-  }
+  created-lies = subst (λ (s : State). IsLayoutOf s (with_new y key l)) (sym (is-first (created handle key m).names refl))
+      (lies-reordered (with_first m (m.objects ++ Some (new_object key) ∷ []) (main key)) (with_new y key l) (main key ∷ m.uses) (created handle key m).names (λ i. refl)
+      (item-lies m (m.objects ++ Some (new_object key) ∷ []) y (main key) l r changed as-item))
 
   -- what is at rest is the same before and after
   rest-item : (i : Item) → is_listed m i ≡ true → model.settled_row (created handle key m) i ≡ model.settled_row m i
@@ -302,7 +189,7 @@ module _ (m : State) (y : Layout) (r : IsLayoutOf m y) (v : StoreView) (handle :
 
 -- ---- what is shown
 
-load-table : (v : StoreView) (t : ℕ → ℕ) (rule : Rule) (w : ℕ) (l : Loaded) → rule.chained ≡ false → load v rule w ≡ Ok l → load (record v { table = t }) rule w ≡ Ok l
+pub load-table : (v : StoreView) (t : ℕ → ℕ) (rule : Rule) (w : ℕ) (l : Loaded) → rule.chained ≡ false → load v rule w ≡ Ok l → load (record v { table = t }) rule w ≡ Ok l
 unfolding key_of streams_of stream_of
 load-table v t rule w l free ok = load-then v rule w l ok (λ n e g.
     let r = g.facts in let k = r.keyed in

@@ -19,7 +19,7 @@ use Rattle.blk_format.specs.Headers.{unfinished, head_checks, list_checks, index
 use Rattle.blk_format.specs.BlockFiles.{next_file_in, max_entries_in, files_along, linked, linked_up_to, kind_among, is_link, is_block_count, file_checks, checks_along, checks_of_kind, linked_as, is_among, IsWellFormed}
 use Rattle.blk_format.specs.Maps.{is_block_marked_at, is_block_marked, are_free, has_run, longest_run, groups_with, EmptyAgrees}
 use Rattle.blk_volume.specs.ListView.{IsList}
-use Rattle.blk_volume.specs.View.{list_of, checks_at, store_of, node_fields_at, core_at, follow_at, key_place_at, stored_at, view_of}
+use Rattle.blk_volume.specs.View.{list_of, checks_at, store_of, node_fields_at, fields_at, follow_at, key_place_at, stored_at, view_of}
 use Rattle.blk_volume.specs.Entries.{is_key_length, key_of, stream_of, streams_of, role_of}
 use Rattle.blk_volume.specs.Loads.{listed_rule, unchained_rule, load, load_key, load_record, Loaded, all_claims}
 use Rattle.blk_volume.specs.Audit.{kept_among, kept_by}
@@ -58,7 +58,7 @@ doomed_folder (Block (suc (suc (suc zero)))) = Some (with_words (new_file_words 
 doomed_folder _ = None
 
 -- no check fails
-doomed-is_well_formed : IsWellFormed doomed_folder
+pub doomed-is_well_formed : IsWellFormed doomed_folder
 unfolding doomed_folder head_checks list_checks checks_of_kind checks_along file_checks next_file_in is_link is_block_count linked_up_to linked files_along zeros with_word spliced block_size
 doomed-is_well_formed = refl
 
@@ -66,7 +66,7 @@ doomed-is_well_formed = refl
 
 -- the node loads, with a record of state 2
 doomed-loads : load (store_of doomed_folder) (unchained_rule doomed) one.node ≡ Ok (one.loaded 0)
-unfolding doomed_folder zeros with_word spliced next_file_in max_entries_in linked files_along kind_among load load_record load_key is_key_length key_of stream_of streams_of role_of store_of node_fields_at core_at follow_at key_place_at stored_at stands stands_as_blocks is_address is_initialized names_external names_blocks kind_of reserved_bits block_count file_selector first_block external_number block_size block_place place byte_size kind_for blocks_for entry_blocks is_storage node_checks node_is_sealed entry_checks entry_is_sealed node_in node_body entry_in entry_body range_at words_at hash mixed of_bytes of_four of_three of_two of_one
+unfolding doomed_folder zeros with_word spliced next_file_in max_entries_in linked files_along kind_among load load_record load_key is_key_length key_of stream_of streams_of role_of store_of node_fields_at fields_at follow_at key_place_at stored_at stands stands_as_blocks is_address is_initialized names_external names_blocks kind_of reserved_bits block_count file_selector first_block external_number block_size block_place place byte_size kind_for blocks_for entry_blocks is_storage node_checks node_is_sealed entry_checks entry_is_sealed node_in node_body entry_in entry_body range_at words_at hash mixed of_bytes of_four of_three of_two of_one
 doomed-loads = refl
 
 -- the list is empty
@@ -234,7 +234,7 @@ folder-sealed : AreSealed doomed_folder (one.loaded 0)
 unfolding doomed_folder zeros with_word spliced file_selector kind_of first_block place block_place block_size node_is_sealed node_in node_body entry_is_sealed entry_in entry_body words_at hash mixed of_bytes of_four
 folder-sealed = record { node = refl; entry = refl }
 
-folder-is_in_order : IsInOrder doomed_folder [] (one.loaded 0 ∷ [])
+pub folder-is_in_order : IsInOrder doomed_folder [] (one.loaded 0 ∷ [])
 folder-is_in_order = record { only_linked = folder-only; long_enough = folder-long; counted = λ n is. folder-counted n (below n is); index = folder-index; sealed = (folder-sealed, tt) }
 
 -- ---- what it stands for

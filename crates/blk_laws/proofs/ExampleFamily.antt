@@ -14,7 +14,8 @@ use Rattle.blk_format.specs.Address.{kind_of, block_count, file_selector, first_
 use Rattle.blk_format.specs.Storage.{entry_blocks}
 use Rattle.blk_format.specs.BlockFiles.{is_among}
 use Rattle.blk_format.specs.Claims.{Claim, BlockOf, ExternalOf, claims_of, has_claim, repeats}
-use Rattle.blk_format.specs.Names.{Name, read_name, split_last, child_name, hex_text}
+use Rattle.std.specs.Fmt.{digits}
+use Rattle.blk_format.specs.Names.{Name, read_name, split_last, child_name}
 use Rattle.blk_format.specs.SparseIndex.{ParentIndex, PartIndex, map_bit, read_parent_index, read_part_index}
 use Rattle.blk_volume.specs.View.{StoreView}
 use Rattle.blk_volume.specs.Entries.{IsParent, IsPart, is_key_length, key_of, stream_of, streams_of, role_of, parent_role, part_role, is_covered}
@@ -79,7 +80,7 @@ parent-loads = refl
 
 -- and the part's
 part-loads : load family_stock (unchained_rule 0) part_node ≡ Ok the_part
-unfolding load load_record load_key is_key_length key_of stream_of streams_of role_of part_role is_covered read_part_index read_name split_last child_name hex_text words_at block_count entry_blocks hash mixed of_bytes of_four of_three
+unfolding load load_record load_key is_key_length key_of stream_of streams_of role_of part_role is_covered read_part_index read_name split_last child_name digits words_at block_count entry_blocks hash mixed of_bytes of_four of_three
 part-loads = refl
 
 -- the state and its layout

@@ -120,7 +120,7 @@ whole-long n kind is = subst (λ (k : ℕ). block_place k (max_entries_in whole_
 abbrev its_words : List ℕ
 its_words = one.node ∷ one.contents ∷ 0xA0010001 ∷ []
 
-whole-counted : (n : ℕ) → n < 4 → IsCounted whole_folder its_words n
+pub whole-counted : (n : ℕ) → n < 4 → IsCounted whole_folder its_words n
 unfolding whole_folder zeros with_word spliced is_in_file kind_of file_selector
 whole-counted zero small = record { num_entries = refl; empty = whole-empty 0 small; updating = refl }
 whole-counted (suc zero) small = record { num_entries = refl; empty = whole-empty 1 small; updating = refl }
@@ -128,15 +128,15 @@ whole-counted (suc (suc zero)) small = record { num_entries = refl; empty = whol
 whole-counted (suc (suc (suc zero))) small = record { num_entries = refl; empty = whole-empty 3 small; updating = refl }
 whole-counted (suc (suc (suc (suc n)))) small = absurd (omega arith)
 
-whole-index : IsIndexCounted whole_folder (one.loaded 0 ∷ [])
+pub whole-index : IsIndexCounted whole_folder (one.loaded 0 ∷ [])
 unfolding list_of whole_folder zeros with_word spliced
 whole-index = record { tail = refl; sizes = refl; num_entries = refl; num_bytes = refl }
 
-whole-sealed : AreSealed whole_folder (one.loaded 0)
+pub whole-sealed : AreSealed whole_folder (one.loaded 0)
 unfolding whole_folder zeros with_word spliced file_selector kind_of first_block place block_place block_size node_is_sealed node_in node_body entry_is_sealed entry_in entry_body words_at hash mixed of_bytes of_four
 whole-sealed = record { node = refl; entry = refl }
 
-whole-is_in_order : IsInOrder whole_folder (one.loaded 0 ∷ []) []
+pub whole-is_in_order : IsInOrder whole_folder (one.loaded 0 ∷ []) []
 whole-is_in_order = record { only_linked = whole-only; long_enough = whole-long; counted = λ n is. whole-counted n (below n is); index = whole-index; sealed = (whole-sealed, tt) }
 
 -- ---- what is kept
@@ -222,7 +222,7 @@ its-nodes =
 
 -- A new folder is bare: it holds nothing, is sound, and represents the empty state and stands for it.
 
-abbrev some_limits : Bounds
+abbrev pub some_limits : Bounds
 some_limits = record { max_bytes = 1000; max_items = 10 }
 
 -- it holds nothing

@@ -16,7 +16,8 @@ use Rattle.blk_format.specs.NewFolder.{new_file_words}
 use Rattle.blk_format.specs.Growth.{HaveGrown}
 use Rattle.blk_laws.proofs.OneEntry as one
 use Rattle.blk_laws.proofs.ByteChanges.{agreeing-views, growth-past}
-use Rattle.blk_laws.proofs.Growing.{growth-keeps, longer-grown}
+use Rattle.blk_laws.proofs.Growing.{longer-grown}
+use Rattle.blk_laws.proofs.Files.{growth-keeps}
 use Rattle.blk_laws.proofs.WholeFolder.{whole_index, whole_nodes, whole_records, whole_folder, whole-is_represented}
 use Rattle.blk_laws.proofs.WholeMarks.{byte-outside, over_all, content-words}
 use Rattle.blk_laws.proofs.ExampleFolders.{whole-is_allocated, whole-long, below, its-type}
@@ -109,7 +110,7 @@ grown-longer (suc (suc zero)) small = (up-to _, up-to _)
 grown-longer (suc (suc (suc zero))) small = (up-to _, up-to _)
 grown-longer (suc (suc (suc (suc n)))) small = absurd (omega arith)
 
-have-grown : HaveGrown whole_folder grown_folder
+pub have-grown : HaveGrown whole_folder grown_folder
 unfolding grown_folder whole_folder
 have-grown = record {
   index = λ i shown. refl;
@@ -130,7 +131,7 @@ grown-shows_the_same = agreeing-views (is_past whole_folder) whole_folder grown_
 
 -- and the folder still represents its state
 pub grown-is_represented : Represents (view_of grown_folder) (one.state true) (one.layout 0)
-grown-is_represented = growth-keeps whole_folder grown_folder (one.state true) (one.layout 0) [] whole-long have-grown whole-is_represented whole-is_allocated.exact
+grown-is_represented = growth-keeps whole_folder grown_folder (one.state true) (one.layout 0) [] have-grown whole-is_represented whole-is_allocated.exact
 
 -- a file that only gets longer has grown
 pub longer-has_grown : HaveGrown whole_folder (applied (SetLength (Block 1) 532480) whole_folder)

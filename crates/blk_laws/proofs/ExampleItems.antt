@@ -172,7 +172,7 @@ second-same = record {
   or-false false = refl
 
 -- the record and the node are written outside what is anybody's
-second-is_written : IsWritten (view 0) with_second (state true) (layout 0) (codes "b") second
+pub second-is_written : IsWritten (view 0) with_second (state true) (layout 0) (codes "b") second
 unfolding hash mixed of_bytes of_one
 second-is_written = record {
   represents = represented 0;
@@ -221,7 +221,7 @@ pub both-leave_the_rest : rest both ≡ rest (state true)
 both-leave_the_rest = creates-rest (view 0) with_second (state true) (layout 0) (codes "b") second second-is_written 1
 
 -- a Create of `b` is not refused and evicts nothing, so what was at rest may be left by a stop in it
-create-is_not_refused : (refused 7 (to_create 1 (codes "b")) (state true) ≡ None) × (evicted 7 (to_create 1 (codes "b")) (state true) ≡ [])
+pub create-is_not_refused : (refused 7 (to_create 1 (codes "b")) (state true) ≡ None) × (evicted 7 (to_create 1 (codes "b")) (state true) ≡ [])
 unfolding refusals evicted room_for effect created room charge pinned_of
 create-is_not_refused = (refl, refl)
 
@@ -239,7 +239,7 @@ both-are_valid = state_created (state true) (state_is_valid true) 1 (codes "b") 
 
 -- An Open of `a`, which is behind `b`.
 
-open-is_not_refused : refused 7 (to_open 2 (codes "a")) both ≡ None
+pub open-is_not_refused : refused 7 (to_open 2 (codes "a")) both ≡ None
 unfolding refusals created
 open-is_not_refused = refl
 

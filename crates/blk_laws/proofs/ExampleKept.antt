@@ -14,7 +14,7 @@ use Rattle.blk_format.specs.Headers.{head_checks, list_checks}
 use Rattle.blk_format.specs.BlockFiles.{next_file_in, max_entries_in, files_along, linked, linked_up_to, kind_among, is_link, is_block_count, file_checks, checks_along, checks_of_kind, is_among, IsWellFormed}
 use Rattle.blk_volume.specs.Walk.{walk, walk_from}
 use Rattle.blk_volume.specs.Completion.{counts, completed_list}
-use Rattle.blk_volume.specs.View.{StoreView, RecordFields, list_of, checks_at, next_at, prev_at, store_of, node_fields_at, core_at, follow_at, key_place_at, stored_at, view_of}
+use Rattle.blk_volume.specs.View.{StoreView, RecordFields, list_of, checks_at, next_at, prev_at, store_of, node_fields_at, fields_at, follow_at, key_place_at, stored_at, view_of}
 use Rattle.blk_volume.specs.Chains.{chain, chain_from, bucket_of_hash}
 use Rattle.blk_volume.specs.Entries.{is_key_length, key_of, stream_of, streams_of}
 use Rattle.blk_volume.specs.Loads.{held_rule}
@@ -63,7 +63,7 @@ other-walks = (refl, refl)
 
 -- and the candidate is the same
 one-candidate : (candidates (completed (view_of (folder_with small_records))) ≡ 0x90000000 ∷ []) × (candidates (completed (view_of dirty_folder)) ≡ 0x90000000 ∷ [])
-unfolding folder_with dirty_folder zeros with_word spliced next_file_in max_entries_in linked files_along kind_among is_candidate store_of node_fields_at core_at stands stands_as_blocks is_address is_initialized names_external names_blocks kind_of reserved_bits block_count file_selector first_block external_number block_size block_place place byte_size node_in entry_in entry_checks words_at
+unfolding folder_with dirty_folder zeros with_word spliced next_file_in max_entries_in linked files_along kind_among is_candidate store_of node_fields_at fields_at stands stands_as_blocks is_address is_initialized names_external names_blocks kind_of reserved_bits block_count file_selector first_block external_number block_size block_place place byte_size node_in entry_in entry_checks words_at
 one-candidate = (rw other-walks.0 refl, rw other-walks.1 refl)
 
 -- they agree on what it names
@@ -75,11 +75,11 @@ new_stock = (completed (view_of dirty_folder)).store
 
 its-record : (old_stock.node_fields 0x90000000 ≡ Some (record { contents = 0xA0010000; dirty = 0 })) × (new_stock.node_fields 0x90000000 ≡ Some (record { contents = 0xA0010000; dirty = 0 }))
     × (old_stock.entry 0xA0010000 ≡ Some one.fields) × (new_stock.entry 0xA0010000 ≡ Some one.fields)
-unfolding folder_with dirty_folder zeros with_word spliced next_file_in max_entries_in linked files_along kind_among store_of node_fields_at core_at stands stands_as_blocks is_address is_initialized names_external names_blocks kind_of reserved_bits block_count file_selector first_block external_number block_size block_place place byte_size node_in entry_in entry_checks words_at
+unfolding folder_with dirty_folder zeros with_word spliced next_file_in max_entries_in linked files_along kind_among store_of node_fields_at fields_at stands stands_as_blocks is_address is_initialized names_external names_blocks kind_of reserved_bits block_count file_selector first_block external_number block_size block_place place byte_size node_in entry_in entry_checks words_at
 its-record = (refl, refl, refl, refl)
 
 its-data : SameData old_stock new_stock 0xA0010000 one.fields
-unfolding folder_with dirty_folder zeros with_word spliced next_file_in max_entries_in linked files_along kind_among is_key_length key_of stream_of streams_of store_of core_at follow_at key_place_at stored_at stands stands_as_blocks is_address is_initialized names_external names_blocks kind_of reserved_bits block_count file_selector first_block external_number block_size block_place place byte_size kind_for blocks_for entry_blocks is_storage entry_checks entry_in range_at words_at chain_from
+unfolding folder_with dirty_folder zeros with_word spliced next_file_in max_entries_in linked files_along kind_among is_key_length key_of stream_of streams_of store_of fields_at follow_at key_place_at stored_at stands stands_as_blocks is_address is_initialized names_external names_blocks kind_of reserved_bits block_count file_selector first_block external_number block_size block_place place byte_size kind_for blocks_for entry_blocks is_storage entry_checks entry_in range_at words_at chain_from
 its-data = record { key = λ long. refl; chained = refl; streams = refl }
 
 is-same : SameNamed old_stock new_stock 0x90000000

@@ -3,7 +3,7 @@ use Rattle.std.proofs.Common.{◌≡◌, [], ◌∷◌}
 use Rattle.blk_volume.specs.ListView.{ListView, after_writes, IsAtRest}
 use Rattle.blk_volume.specs.Walk.{walk}
 use Rattle.blk_volume.specs.Completion.{insert, remove}
-use Rattle.blk_volume.specs.ListPlans.{writes_of, touch_writes, completion_writes, outcome, CommitsAtTwo, stopped}
+use Rattle.blk_volume.specs.ListPlans.{writes_of, touch_writes, completion_writes, completed_but_operation, CommitsAtTwo, stopped}
 use Rattle.blk_laws.proofs.Walks.{walk_list}
 use Rattle.blk_laws.proofs.ListCompletions.{completing}
 use Rattle.blk_laws.proofs.AtRest.{inserts-turn, inserts-end, removals-turn, removals-end, touches-turn, touches-end, completions-end}
@@ -30,7 +30,7 @@ abbrev begun_insert : ListView
 begun_insert = record three { transaction = 4; operation = insert }
 
 -- completing it again gives the same list, and ends it
-pub insert-is_completed : (outcome (stopped (2 ∷ 3 ∷ 1 ∷ []) begun_insert) ≡ outcome begun_insert)
-    × (outcome (after_writes (completion_writes begun_insert) begun_insert) ≡ outcome begun_insert)
+pub insert-is_completed : (completed_but_operation (stopped (2 ∷ 3 ∷ 1 ∷ []) begun_insert) ≡ completed_but_operation begun_insert)
+    × (completed_but_operation (after_writes (completion_writes begun_insert) begun_insert) ≡ completed_but_operation begun_insert)
     × ((after_writes (completion_writes begun_insert) begun_insert).transaction ≡ 0)
 insert-is_completed = let e = completions-end begun_insert in (completing begun_insert (2 ∷ 3 ∷ 1 ∷ []), e.0, e.1)

@@ -9,7 +9,8 @@ use Rattle.blk_model.specs.Holding.{rest, settled_row}
 use Rattle.blk_image.specs.Bytes.{words_at}
 use Rattle.blk_format.specs.Hash.{of_four, of_three, of_bytes, mixed, hash}
 use Rattle.blk_format.specs.Storage.{entry_blocks}
-use Rattle.blk_format.specs.Names.{read_name, split_last, child_name, hex_text}
+use Rattle.std.specs.Fmt.{digits}
+use Rattle.blk_format.specs.Names.{read_name, split_last, child_name}
 use Rattle.blk_format.specs.SparseIndex.{read_part_index}
 use Rattle.blk_format.specs.Address.{kind_of, block_count, file_selector, first_block, external_number}
 use Rattle.blk_format.specs.Claims.{Claim, BlockOf, ExternalOf, claims_of, has_claim}
@@ -167,7 +168,7 @@ keeps-name bytes was now old new =
 
 -- where the data is there, the part's record loads at this moment
 torn-loads : load (with_data (Some (codes "yyy"))).store held_rule part_node ≡ Ok (record the_part { streams = [] ∷ codes "yyy" ∷ part_bytes ∷ []; others = 0 ∷ 0 ∷ 0xA001000C ∷ 0xA0010008 ∷ 0 ∷ [] })
-unfolding put load load_record load_key is_key_length key_of stream_of streams_of role_of part_role is_covered read_part_index read_name split_last child_name hex_text words_at block_count entry_blocks chain_from hash mixed of_bytes of_four of_three
+unfolding put load load_record load_key is_key_length key_of stream_of streams_of role_of part_role is_covered read_part_index read_name split_last child_name digits words_at block_count entry_blocks chain_from hash mixed of_bytes of_four of_three
 torn-loads = refl
 
 -- nothing is kept, whether the part's data is there, so that its record loads, or not

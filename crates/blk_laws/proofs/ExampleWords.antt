@@ -1,5 +1,6 @@
 -- The laws of the use list in bytes, at a folder of two nodes.
-use Rattle.std.proofs.Common.{◌≡◌, ℕ, zero, suc, List, [], ◌∷◌, ◌++◌, refl, ◌∙◌, arith, lit<, Some, None}
+use Rattle.std.proofs.Common.{◌≡◌, ℕ, zero, suc, ◌+◌, ◌≤◌, List, [], ◌∷◌, ◌++◌, All, refl, ◌∙◌, arith, lit<, true, Some, None}
+use Rattle.std.proofs.lemmas.List.Elements.{All-nil, All-cons}
 use Rattle.blk_image.specs.Bytes.{spliced, zeros}
 use Rattle.blk_image.specs.Image.{File, Index, Block, External, Image, bytes_of, length_of}
 use Rattle.blk_image.specs.Steps.{with_word, with_words, after}
@@ -15,14 +16,18 @@ use Rattle.blk_volume.specs.ListView.{Next, Tail, Transaction, IsAtRest, CanBeIn
 use Rattle.blk_volume.specs.Completion.{insert, remove, counts}
 use Rattle.blk_volume.specs.ListPlans.{writes_of, touch_writes, operation_writes, completion_writes}
 use Rattle.blk_volume.specs.View.{list_of, checks_at, next_at, prev_at}
+use Rattle.blk_image.proofs.Runs.{until_last}
+use Rattle.blk_format.specs.Sealed.{AreChanges, IsMidUpdate, seal_place, sealed_steps}
+use Rattle.blk_format.proofs.SealedRecords.{node_seal, moments, updated, whole_update}
+use Rattle.blk_laws.proofs.NodeRecords.{one_change}
 use Rattle.blk_format.specs.NewFolder.{new_index_words, new_file_words}
-use Rattle.blk_volume.specs.ListSteps.{IsPartly, IsTouched, IsSealed, AreSealed, AreTimes}
+use Rattle.blk_volume.specs.ListSteps.{IsPartly, IsTouched, IsSealed, KeepsSealed, AreSealed, AreTimes}
 use Rattle.blk_volume.specs.ListImages.{IsWritable, CanBeMade, CompletesTo, CompletesAlike, HasListAtRest, IsCompleted, IsStopped, operation_steps, steps_of_touch, completion_steps, stopped_folder}
 use Rattle.blk_volume.specs.ShownChanges.{OnlyListChanges}
 use Rattle.blk_laws.proofs.ExampleWrites.{small-zeros}
 use Rattle.blk_laws.proofs.Fronts.{AreSmall, small-words}
-use Rattle.blk_laws.proofs.Sealing.{writes-seal, touches-seal}
-use Rattle.blk_laws.proofs.WriteSteps.{writes-in_turn, writes-made, writes-go_on}
+use Rattle.blk_laws.proofs.Sealing.{writes-seal, writes-keep, node-updates, touches-seal, touches-keep}
+use Rattle.blk_laws.proofs.WriteSteps.{good-node, writes-in_turn, writes-made, writes-go_on}
 use Rattle.blk_laws.proofs.WordTurns.{inserts-can, inserts-turn_words, inserts-rest, removals-can, removals-turn_words, removals-rest, touches-can, touches-go_on, touches-in_turn, touches-turn_words, touches-rest, touches-times}
 use Rattle.blk_laws.proofs.WordStops.{completions-can, completions-keep, completions-done, completions-stop}
 
@@ -114,6 +119,33 @@ insert-goes_on = writes-go_on pair (writes_of insert another (list_of pair)) (pa
 pub insert-seals : AreSealed (writes_of insert another (list_of pair)) (after (operation_steps insert another pair) pair)
 insert-seals = writes-seal pair (writes_of insert another (list_of pair)) (pair-writable []) insert-can
 
+pub insert-keeps_seals : KeepsSealed pair (after (operation_steps insert another pair) pair)
+insert-keeps_seals = writes-keep pair (writes_of insert another (list_of pair)) (pair-writable []) insert-can
+
+-- the dirty word of the tail's node is written
+last-kind : kind_of last ≡ 1
+unfolding kind_of
+last-kind = refl
+
+last-checks : (list_of pair).checks last ≡ true
+last-checks = pair-at_rest.whole.linked.1.0.good
+
+one-word : AreChanges (seal_place last) ((28, 1) ∷ [])
+one-word = one_change last 28 1 last-kind refl (omega arith)
+
+word-inside : All (λ (c : ℕ × ℕ). c.0 + 4 ≤ seal_place last) ((28, 1) ∷ [])
+word-inside = let s = node_seal last last-kind in All-cons (λ (c : ℕ × ℕ). c.0 + 4 ≤ seal_place last) (28, 1) [] (omega (arith, s)) (All-nil (λ (c : ℕ × ℕ). c.0 + 4 ≤ seal_place last))
+
+pub dirty-seals : IsSealed (after (sealed_steps pair last ((28, 1) ∷ [])) pair) last × KeepsSealed pair (after (sealed_steps pair last ((28, 1) ∷ [])) pair)
+dirty-seals = node-updates pair last ((28, 1) ∷ []) (pair-writable []) last-checks one-word word-inside
+
+-- in the end it is an update with its one change made
+pub dirty-is_made : (moment : IsMidUpdate pair last ((28, 1) ∷ []) (after (sealed_steps pair last ((28, 1) ∷ [])) pair)) × (moment.made ≡ 1)
+dirty-is_made =
+    let node = good-node pair last (pair-writable []) last-checks in
+    whole_update pair (after (sealed_steps pair last ((28, 1) ∷ [])) pair) last ((28, 1) ∷ []) (updated last pair ((28, 1) ∷ []) node.fits)
+    (until_last (IsMidUpdate pair last ((28, 1) ∷ [])) (IsMidUpdate pair last ((28, 1) ∷ [])) (sealed_steps pair last ((28, 1) ∷ [])) pair (moments last pair ((28, 1) ∷ []) node.fits node.checks word-inside)).outside
+
 -- the tail is removed
 pub removal-can : CanBeMade pair (writes_of remove last (list_of pair))
 removal-can = removals-can pair last (first ∷ []) [] pair-at_rest
@@ -145,6 +177,9 @@ touch-times = touches-times pair last 70 (first ∷ []) [] (pair-writable []) pa
 
 pub touch-seals : AreSealed (touch_writes last (list_of pair)) (after (steps_of_touch last 70 pair) pair) × IsSealed (after (steps_of_touch last 70 pair) pair) last
 touch-seals = touches-seal pair last 70 (first ∷ []) [] (pair-writable []) pair-at_rest
+
+pub touch-keeps_seals : KeepsSealed pair (after (steps_of_touch last 70 pair) pair)
+touch-keeps_seals = touches-keep pair last 70 (first ∷ []) [] (pair-writable []) pair-at_rest
 
 -- so is the head, which stays where it is
 pub head-turns : CommitsAt 2 (CompletesTo (first ∷ last ∷ [])) (CompletesTo (first ∷ last ∷ [])) pair (steps_of_touch first 70 pair)

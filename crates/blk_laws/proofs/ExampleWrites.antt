@@ -16,7 +16,7 @@ use Rattle.blk_format.specs.Standing.{stands, stands_as_blocks}
 use Rattle.blk_format.specs.Records.{node_in, node_checks, entry_in, entry_checks}
 use Rattle.blk_format.specs.Headers.{index_length}
 use Rattle.blk_format.specs.BlockFiles.{next_file_in, max_entries_in, files_along, linked, kind_among, IsWellFormed}
-use Rattle.blk_volume.specs.View.{fields_of, entry_at, list_of, store_of, checks_at, node_fields_at, core_at}
+use Rattle.blk_volume.specs.View.{fields_of, entry_at, list_of, store_of, checks_at, node_fields_at, fields_at}
 use Rattle.blk_format.specs.NewFolder.{new_index_words, new_file_words}
 use Rattle.blk_laws.proofs.Premises.{new_is_bare}
 use Rattle.blk_laws.proofs.NewFolders.{new_folder}
@@ -104,7 +104,7 @@ node_is_updated d x inside = updated node ((d, x) ∷ []) node_fits node_checked
 -- ---- the record
 
 pub entry_is_good : IsRecord small entry (fields_of (entry_at small entry))
-unfolding store_of core_at folder_with zeros with_word spliced next_file_in max_entries_in linked files_along kind_among stands stands_as_blocks is_address is_initialized names_external names_blocks kind_of reserved_bits block_count file_selector first_block external_number block_size block_place place byte_size entry_in entry_checks
+unfolding store_of fields_at folder_with zeros with_word spliced next_file_in max_entries_in linked files_along kind_among stands stands_as_blocks is_address is_initialized names_external names_blocks kind_of reserved_bits block_count file_selector first_block external_number block_size block_place place byte_size entry_in entry_checks
 entry_is_good = record { here = refl; good = refl; bytes = small_bytes }
 
 entry_fits : Fits entry small
@@ -126,7 +126,6 @@ entry_is_updated d x inside = updated entry ((d, x) ∷ []) entry_fits entry_che
 -- such a change is one of a record
 pub is_change : (seal d x : ℕ) → d % 4 ≡ 0 → d < seal → AreChanges seal ((d, x) ∷ [])
 is_change seal d x even before = record {
-  some = lit< tt;
   few = lit≤ tt;
   aligned = All-cons (λ (c : ℕ × ℕ). c.0 % 4 ≡ 0) (d, x) [] even (All-nil (λ (c : ℕ × ℕ). c.0 % 4 ≡ 0));
   before = All-cons (λ (c : ℕ × ℕ). c.0 < seal) (d, x) [] before (All-nil (λ (c : ℕ × ℕ). c.0 < seal));

@@ -14,12 +14,12 @@ use Rattle.blk_format.specs.BlockFiles.{is_among}
 use Rattle.blk_volume.specs.Reasons.{Reason}
 use Rattle.blk_volume.specs.Loads.{Rule, held_rule, Loaded, load, record_claims, all_claims}
 use Rattle.blk_volume.specs.Entries.{is_key_length, key_of, Role, IsPlain, IsParent, IsPart, parent_role, part_role, role_of}
-use Rattle.blk_volume.specs.Audit.{admit, is_parent_of, is_parent_role, is_orphan, is_orphan_role, is_named, is_child, verdict, with_verdict, verdicts, tried, kept_among, kept_by}
+use Rattle.blk_volume.specs.Audit.{admit, is_parent_of, is_parent_role, is_orphan, is_orphan_role, shares_key, is_child, verdict, with_verdict, verdicts, tried, kept_among, kept_by}
 use Rattle.blk_laws.specs.KeptLaws.{IsDroppedIfLeftOut, SameCandidatesHoldTheSame}
 use Rattle.blk_volume.specs.Walk.{walk}
 use Rattle.blk_volume.specs.Found.{found, kept, completed, row_of}
 use Rattle.blk_volume.specs.View.{view_of}
-use Rattle.blk_laws.proofs.Finished.{well_formed-finished}
+use Rattle.blk_format.proofs.Finished.{well_formed-finished}
 use Rattle.std.specs.Prelude.{map}
 use Rattle.blk_volume.specs.Candidates.{sound_key, SameNamed, name_at, is_parent_with, is_parent_at, is_candidate, candidates}
 use Rattle.blk_laws.proofs.Loads.{bind_then, demand_then, IsLoadedNode, load-then}
@@ -32,7 +32,7 @@ pub admit-then : {P : Type 0} (kept : List Loaded) (l k : Loaded) → admit kept
 unfolding admit
 admit-then kept l k ok goes =
     demand_then (not (repeats (record_claims l) || overlap (flat_map all_claims kept) (all_claims l))) reason.Claimed _ k ok (λ _ ok.
-    demand_then (not (is_named kept l)) reason.Name _ k ok (λ _ ok.
+    demand_then (not (shares_key kept l)) reason.Name _ k ok (λ _ ok.
     demand_then (not (is_orphan kept l)) reason.Parent _ k ok (λ one ok.
     goes (cc) (not_true (is_orphan kept l) one)))) where
       not_true : (b : Bool) → not b ≡ true → b ≡ false

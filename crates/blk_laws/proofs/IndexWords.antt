@@ -14,7 +14,7 @@ use Rattle.blk_format.specs.Headers.{head_checks, list_checks, zero_places, inde
 use Rattle.blk_format.specs.Standing.{stands, stands_as_blocks}
 use Rattle.blk_format.specs.BlockFiles.{is_among, linked, next_file_in, max_entries_in, stands_in, IsWellFormed}
 use Rattle.blk_volume.specs.ListView.{ListView, put}
-use Rattle.blk_volume.specs.View.{StoreView, list_of, checks_at, next_at, prev_at, store_of, node_fields_at, core_at, follow_at, key_place_at, stored_at}
+use Rattle.blk_volume.specs.View.{StoreView, list_of, checks_at, next_at, prev_at, store_of, node_fields_at, fields_at, follow_at, key_place_at, stored_at}
 use Rattle.blk_volume.specs.ShownChanges.{ShowsTheSame}
 use Rattle.blk_laws.specs.IndexWrites.{shown_words, checked_words, HeadsAreWritten, TailsAreWritten, TransactionsAreWritten, OperationsAreWritten, OtherWordsAreNotShown, BucketsAreWritten, OtherWordsAreNotChecked, BucketsAreNotChecked, IndexWordsStandApart}
 use Rattle.blk_laws.proofs.WellFormed.{well_formed_still}
@@ -34,7 +34,7 @@ unfolding with_index list_of checks_at next_at prev_at stands stands_as_blocks l
 list-indexed image bytes = refl
 
 stock-indexed : (image : Image) (bytes : Option (List ℕ)) → store_of (with_index image bytes) ≡ record (store_of image) { table = λ b. word_at (content (unwrap_or bytes [])) (368 + 4 * b) }
-unfolding with_index store_of node_fields_at core_at follow_at key_place_at stored_at stands stands_as_blocks linked next_file_in max_entries_in
+unfolding with_index store_of node_fields_at fields_at follow_at key_place_at stored_at stands stands_as_blocks linked next_file_in max_entries_in
 stock-indexed image bytes = refl
 
 stands-indexed : (image : Image) (bytes : Option (List ℕ)) (u : ℕ) → stands_in (with_index image bytes) u ≡ stands_in image u

@@ -19,7 +19,7 @@ use Rattle.blk_format.specs.Claims.{Claim, BlockOf, ExternalOf, same_claim, has_
 use Rattle.blk_volume.specs.View.{StoreView}
 use Rattle.blk_volume.specs.Chains.{Chain, chain, bucket_of_hash}
 use Rattle.blk_volume.specs.Loads.{Rule, held_rule, Loaded, load, is_part, is_part_role, record_claims, all_claims}
-use Rattle.blk_volume.specs.Audit.{kept_among, is_named, is_parent_of, is_parent_role}
+use Rattle.blk_volume.specs.Audit.{kept_among, shares_key, is_parent_of, is_parent_role}
 use Rattle.blk_volume.specs.Entries.{Role, IsPlain, IsParent, IsPart}
 use Rattle.blk_volume.specs.Found.{row_of}
 use Rattle.blk_volume.specs.Shown.{Apart, IsOrphanIn, HasParentIn, IsShown}
@@ -33,7 +33,7 @@ use Rattle.blk_model.specs.Holding as model
 
 -- ---- claims
 
-same_claim-eq : (c d : Claim) → same_claim c d ≡ true → c ≡ d
+pub same_claim-eq : (c d : Claim) → same_claim c d ≡ true → c ≡ d
 same_claim-eq (BlockOf f b) (BlockOf g c) e = let p = and_parts (f == g) (b == c) e in ap₂ BlockOf (eqb-true f g p.0) (eqb-true b c p.1)
 same_claim-eq (BlockOf f b) (ExternalOf n) e = cc
 same_claim-eq (ExternalOf n) (BlockOf f b) e = cc
@@ -60,8 +60,8 @@ repeats-tail (x ∷ xs) ys e = repeats-tail xs ys (or_parts (has_claim (xs ++ ys
 
 -- ---- names
 
-named-same : (k l : Loaded) → is_named (k ∷ []) l ≡ true → (is_part k ≡ is_part l) × (k.key ≡ l.key)
-unfolding is_named
+named-same : (k l : Loaded) → shares_key (k ∷ []) l ≡ true → (is_part k ≡ is_part l) × (k.key ≡ l.key)
+unfolding shares_key
 named-same k l e = go (is_part k) (is_part l) (bytes_eq k.key l.key) refl refl refl e where
   go : (a b c : Bool) → is_part k ≡ a → is_part l ≡ b → bytes_eq k.key l.key ≡ c → (((if a then b else not b) && c) || false) ≡ true → (is_part k ≡ is_part l) × (k.key ≡ l.key)
   go true true true x y z h = (x ∙ sym y, same_bytes k.key l.key z)
@@ -214,14 +214,14 @@ module _ (except : ℕ → Bool) (v : StoreView) (m : State) (y : Layout) (r : H
         let t : (y.place i == y.place j) ≡ true = eq-eqb _ _ s in
         cc);
     names = ⊎_elim
-        (λ (e : is_named (k ∷ []) l ≡ true).
+        (λ (e : shares_key (k ∷ []) l ≡ true).
         let p = named-same k l e in
         let s : item_at k ≡ item_at l = items-same k l (name-of i k in_i is_k good_k) (name-of j l in_j is_l good_l) p.0 p.1 in
         let t : i ≡ j = sym (item-is i k in_i is_k) ∙ s ∙ item-is j l in_j is_l in
         let u : (y.place i == y.place j) ≡ true = eq-eqb _ _ (ap y.place t) in
         absurd (let x : true ≡ false = sym u ∙ other in cc))
-        (λ (e : is_named (k ∷ []) l ≡ false). e)
-        (cases_Bool (is_named (k ∷ []) l));
+        (λ (e : shares_key (k ∷ []) l ≡ false). e)
+        (cases_Bool (shares_key (k ∷ []) l));
   }
 
   -- a part's item

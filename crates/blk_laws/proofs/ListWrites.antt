@@ -4,7 +4,7 @@ use Rattle.std.proofs.lemmas.Bool.Decides.{nat_tests}
 use Rattle.std.proofs.lemmas.Bool.{eq-eqb, and_parts, or_right}
 use Rattle.blk_volume.specs.ListView.{ListWrite, Next, Prev, Head, Tail, Transaction, Operation, ListView, put, with_write, after_writes}
 use Rattle.blk_volume.specs.Completion.{taking_out, putting_in_front, take_out, put_front, head_counts, links_count, counts, operated, completed_list}
-use Rattle.blk_volume.specs.ListPlans.{outcome, operation_writes, pending_writes, completion_writes, AtEachWrite}
+use Rattle.blk_volume.specs.ListPlans.{completed_but_operation, operation_writes, pending_writes, completion_writes, AtEachWrite}
 
 -- a view with no transaction and no operation
 abbrev pub rested : ListView → ListView
@@ -28,16 +28,16 @@ put-again f a x b y = λ i k. put-again_at f a x b y k i
 abbrev inserting : (n h t : ℕ) (checks : ℕ → Bool) (next prev : ℕ → ℕ) → ListView
 inserting n h t checks next prev = record { head = h; tail = t; transaction = n; operation = 1; checks = checks; next = next; prev = prev }
 
-outcome_insert : (n h t : ℕ) (checks : ℕ → Bool) (next prev : ℕ → ℕ) → eqb n 0 ≡ false → checks n ≡ true → (eqb h 0 || checks h) ≡ true → outcome (inserting n h t checks next prev) ≡ rested (put_front n (inserting n h t checks next prev))
-unfolding outcome completed_list counts operated
+outcome_insert : (n h t : ℕ) (checks : ℕ → Bool) (next prev : ℕ → ℕ) → eqb n 0 ≡ false → checks n ≡ true → (eqb h 0 || checks h) ≡ true → completed_but_operation (inserting n h t checks next prev) ≡ rested (put_front n (inserting n h t checks next prev))
+unfolding completed_but_operation completed_list counts operated
 outcome_insert n h t checks next prev nz good head_good = rw (nz, good, head_good)
 
 module _ (n h t : ℕ) (checks : ℕ → Bool) (next prev : ℕ → ℕ) (nz : eqb n 0 ≡ false) (good : checks n ≡ true) (head_good : (eqb h 0 || checks h) ≡ true) (ne : eqb h n ≡ false) where
-  target_full : eqb h 0 ≡ false → outcome (inserting n h t checks next prev) ≡ rested (inserting n n t checks (put next n h) (put (put prev n n) h n))
+  target_full : eqb h 0 ≡ false → completed_but_operation (inserting n h t checks next prev) ≡ rested (inserting n n t checks (put next n h) (put (put prev n n) h n))
   unfolding put_front
   target_full full = outcome_insert n h t checks next prev nz good head_good ∙ rw (ne, full)
 
-  into_full : eqb h 0 ≡ false → AtEachWrite (λ u. outcome u ≡ rested (inserting n n t checks (put next n h) (put (put prev n n) h n))) (Next n h ∷ Prev n n ∷ Prev h n ∷ Head n ∷ []) (inserting n h t checks next prev)
+  into_full : eqb h 0 ≡ false → AtEachWrite (λ u. completed_but_operation u ≡ rested (inserting n n t checks (put next n h) (put (put prev n n) h n))) (Next n h ∷ Prev n n ∷ Prev h n ∷ Head n ∷ []) (inserting n h t checks next prev)
   unfolding put_front
   into_full full = (
     target_full full,
@@ -53,7 +53,7 @@ module _ (n h t : ℕ) (checks : ℕ → Bool) (next prev : ℕ → ℕ) (nz : e
     ),
   )
 
-  into_empty : eqb h 0 ≡ true → AtEachWrite (λ u. outcome u ≡ rested (inserting n n n checks (put next n n) (put prev n n))) (Next n n ∷ Prev n n ∷ Tail n ∷ Head n ∷ []) (inserting n h t checks next prev)
+  into_empty : eqb h 0 ≡ true → AtEachWrite (λ u. completed_but_operation u ≡ rested (inserting n n n checks (put next n n) (put prev n n))) (Next n n ∷ Prev n n ∷ Tail n ∷ Head n ∷ []) (inserting n h t checks next prev)
   unfolding put_front
   into_empty empty = (
     outcome_insert n h t checks next prev nz good head_good ∙ rw (ne, empty),
@@ -194,16 +194,16 @@ module _ (o n h t : ℕ) (checks : ℕ → Bool) (next prev : ℕ → ℕ) (good
       → AtEachWrite (Keeps o n (eqb h 0 || checks h) (take_out n (view o n h t checks next prev))) (taking_out n (next n) (prev n)) (view o n h t checks next prev)
   keeps links = keeps_cases (eqb (next n) 0) (eqb (prev n) n) (eqb (next n) n) refl refl refl links
 
-outcome_remove : (n : ℕ) (g : Bool) (T u : ListView) → eqb n 0 ≡ false → Keeps 2 n g T u → outcome u ≡ rested T
-unfolding outcome completed_list counts operated
+outcome_remove : (n : ℕ) (g : Bool) (T u : ListView) → eqb n 0 ≡ false → Keeps 2 n g T u → completed_but_operation u ≡ rested T
+unfolding completed_but_operation completed_list counts operated
 outcome_remove n g T u nz k =
-    let e : outcome u ≡ rested (take_out n u) = rw (k.operation_is, k.transaction_is, nz, k.node_good, k.links) in
+    let e : completed_but_operation u ≡ rested (take_out n u) = rw (k.operation_is, k.transaction_is, nz, k.node_good, k.links) in
     e ∙ ap rested k.taken
 
-outcome_move : (n : ℕ) (g : Bool) (T u : ListView) → eqb n 0 ≡ false → Keeps 3 n g T u → g ≡ true → outcome u ≡ rested (put_front n T)
-unfolding outcome completed_list counts operated
+outcome_move : (n : ℕ) (g : Bool) (T u : ListView) → eqb n 0 ≡ false → Keeps 3 n g T u → g ≡ true → completed_but_operation u ≡ rested (put_front n T)
+unfolding completed_but_operation completed_list counts operated
 outcome_move n g T u nz k head_good =
-    let e : outcome u ≡ rested (put_front n (take_out n u)) = rw (k.operation_is, k.transaction_is, nz, k.node_good, k.head_good head_good, k.links) in
+    let e : completed_but_operation u ≡ rested (put_front n (take_out n u)) = rw (k.operation_is, k.transaction_is, nz, k.node_good, k.head_good head_good, k.links) in
     e ∙ ap (λ (v : ListView). rested (put_front n v)) k.taken
 
 pub EachMoment-last : (P : ListView → Type 0) (ws : List ListWrite) (l : ListView) → AtEachWrite P ws l → P (after_writes ws l)
@@ -215,31 +215,31 @@ EachMoment-first P [] l each = each
 EachMoment-first P (w ∷ ws) l each = each.0
 
 -- where no transaction is pending
-pub outcome_done : (l : ListView) → l.transaction ≡ 0 → outcome l ≡ rested l
-unfolding outcome completed_list counts
+pub outcome_done : (l : ListView) → l.transaction ≡ 0 → completed_but_operation l ≡ rested l
+unfolding completed_but_operation completed_list counts
 outcome_done l e = rw e
 
 module _ (n h t : ℕ) (checks : ℕ → Bool) (next prev : ℕ → ℕ) (nz : eqb n 0 ≡ false) (good : checks n ≡ true) (head_good : (eqb h 0 || checks h) ≡ true) where
-  same_outcome : (T : ListView) (ws : List ListWrite) → putting_in_front n h ≡ ws → AtEachWrite (λ u. outcome u ≡ T) ws (view 1 n h t checks next prev)
-      → AtEachWrite (λ u. outcome u ≡ outcome (view 1 n h t checks next prev)) (putting_in_front n h) (view 1 n h t checks next prev)
+  same_outcome : (T : ListView) (ws : List ListWrite) → putting_in_front n h ≡ ws → AtEachWrite (λ u. completed_but_operation u ≡ T) ws (view 1 n h t checks next prev)
+      → AtEachWrite (λ u. completed_but_operation u ≡ completed_but_operation (view 1 n h t checks next prev)) (putting_in_front n h) (view 1 n h t checks next prev)
   same_outcome T ws e each =
-      subst (λ us. AtEachWrite (λ u. outcome u ≡ outcome (view 1 n h t checks next prev)) us (view 1 n h t checks next prev)) (sym e)
-      (EachMoment-map (λ u. outcome u ≡ T) _ (λ u is. is ∙ sym (EachMoment-first (λ u. outcome u ≡ T) ws _ each)) ws _ each)
+      subst (λ us. AtEachWrite (λ u. completed_but_operation u ≡ completed_but_operation (view 1 n h t checks next prev)) us (view 1 n h t checks next prev)) (sym e)
+      (EachMoment-map (λ u. completed_but_operation u ≡ T) _ (λ u is. is ∙ sym (EachMoment-first (λ u. completed_but_operation u ≡ T) ws _ each)) ws _ each)
 
-  insert_cases : (a b : Bool) → eqb h n ≡ a → eqb h 0 ≡ b → AtEachWrite (λ u. outcome u ≡ outcome (view 1 n h t checks next prev)) (putting_in_front n h) (view 1 n h t checks next prev)
-  insert_cases true b at_head empty = same_outcome (outcome (view 1 n h t checks next prev)) [] (rw at_head) refl
+  insert_cases : (a b : Bool) → eqb h n ≡ a → eqb h 0 ≡ b → AtEachWrite (λ u. completed_but_operation u ≡ completed_but_operation (view 1 n h t checks next prev)) (putting_in_front n h) (view 1 n h t checks next prev)
+  insert_cases true b at_head empty = same_outcome (completed_but_operation (view 1 n h t checks next prev)) [] (rw at_head) refl
   insert_cases false true ne empty = same_outcome _ (Next n n ∷ Prev n n ∷ Tail n ∷ Head n ∷ []) (rw (ne, empty)) (into_empty n h t checks next prev nz good head_good ne empty)
   insert_cases false false ne full = same_outcome _ (Next n h ∷ Prev n n ∷ Prev h n ∷ Head n ∷ []) (rw (ne, full)) (into_full n h t checks next prev nz good head_good ne full)
 
 -- each write of an insert keeps the outcome
-pub insert_keeps : (n : ℕ) (l : ListView) → l.operation ≡ 1 → l.transaction ≡ n → eqb n 0 ≡ false → l.checks n ≡ true → (eqb l.head 0 || l.checks l.head) ≡ true → AtEachWrite (λ u. outcome u ≡ outcome l) (putting_in_front n l.head) l
+pub insert_keeps : (n : ℕ) (l : ListView) → l.operation ≡ 1 → l.transaction ≡ n → eqb n 0 ≡ false → l.checks n ≡ true → (eqb l.head 0 || l.checks l.head) ≡ true → AtEachWrite (λ u. completed_but_operation u ≡ completed_but_operation l) (putting_in_front n l.head) l
 insert_keeps n l o r nz good head_good =
     let same : view 1 n l.head l.tail l.checks l.next l.prev ≡ l = λ i. record { head = l.head; tail = l.tail; transaction = sym r i; operation = sym o i; checks = l.checks; next = l.next; prev = l.prev } in
-    subst (λ (v : ListView). AtEachWrite (λ u. outcome u ≡ outcome v) (putting_in_front n v.head) v) same
+    subst (λ (v : ListView). AtEachWrite (λ u. completed_but_operation u ≡ completed_but_operation v) (putting_in_front n v.head) v) same
     (insert_cases n l.head l.tail l.checks l.next l.prev nz good head_good (eqb l.head n) (eqb l.head 0) refl refl)
 
-pub outcome_front : (n : ℕ) (l : ListView) → l.operation ≡ 1 → l.transaction ≡ n → eqb n 0 ≡ false → l.checks n ≡ true → (eqb l.head 0 || l.checks l.head) ≡ true → outcome l ≡ rested (put_front n l)
-unfolding outcome completed_list counts operated
+pub outcome_front : (n : ℕ) (l : ListView) → l.operation ≡ 1 → l.transaction ≡ n → eqb n 0 ≡ false → l.checks n ≡ true → (eqb l.head 0 || l.checks l.head) ≡ true → completed_but_operation l ≡ rested (put_front n l)
+unfolding completed_but_operation completed_list counts operated
 outcome_front n l o r nz good head_good = rw (o, r, nz, good, head_good)
 
 -- the operation word has no part in it
@@ -258,25 +258,25 @@ keeps_at_view o n l is_o is_n good links =
     (keeps o n l.head l.tail l.checks l.next l.prev good links)
 
 -- each write of a removal keeps the outcome
-pub remove_keeps : (n : ℕ) (l : ListView) → l.operation ≡ 2 → l.transaction ≡ n → eqb n 0 ≡ false → l.checks n ≡ true → (eqb (l.next n) 0 || (l.checks (l.next n) && l.checks (l.prev n))) ≡ true → AtEachWrite (λ u. outcome u ≡ rested (take_out n l)) (taking_out n (l.next n) (l.prev n)) l
+pub remove_keeps : (n : ℕ) (l : ListView) → l.operation ≡ 2 → l.transaction ≡ n → eqb n 0 ≡ false → l.checks n ≡ true → (eqb (l.next n) 0 || (l.checks (l.next n) && l.checks (l.prev n))) ≡ true → AtEachWrite (λ u. completed_but_operation u ≡ rested (take_out n l)) (taking_out n (l.next n) (l.prev n)) l
 remove_keeps n l o r nz good links =
-    EachMoment-map (Keeps 2 n (eqb l.head 0 || l.checks l.head) (take_out n l)) (λ u. outcome u ≡ rested (take_out n l)) (λ u k. outcome_remove n (eqb l.head 0 || l.checks l.head) (take_out n l) u nz k) _ _ (keeps_at_view 2 n l o r good links)
+    EachMoment-map (Keeps 2 n (eqb l.head 0 || l.checks l.head) (take_out n l)) (λ u. completed_but_operation u ≡ rested (take_out n l)) (λ u k. outcome_remove n (eqb l.head 0 || l.checks l.head) (take_out n l) u nz k) _ _ (keeps_at_view 2 n l o r good links)
 
 module _ (n : ℕ) (l : ListView) (o : l.operation ≡ 3) (r : l.transaction ≡ n) (nz : eqb n 0 ≡ false) (good : l.checks n ≡ true) (head_good : (eqb l.head 0 || l.checks l.head) ≡ true) (links : (eqb (l.next n) 0 || (l.checks (l.next n) && l.checks (l.prev n))) ≡ true) where
-  pub move_keeps : AtEachWrite (λ u. outcome u ≡ rested (put_front n (take_out n l))) (taking_out n (l.next n) (l.prev n) ++ Operation 1 ∷ putting_in_front n (take_out n l).head) l
+  pub move_keeps : AtEachWrite (λ u. completed_but_operation u ≡ rested (put_front n (take_out n l))) (taking_out n (l.next n) (l.prev n) ++ Operation 1 ∷ putting_in_front n (take_out n l).head) l
   unfolding take_out
   move_keeps =
       let T : ListView = take_out n l in
       let g : Bool = eqb l.head 0 || l.checks l.head in
       let each : AtEachWrite (Keeps 3 n g T) (taking_out n (l.next n) (l.prev n)) l = keeps_at_view 3 n l o r good links in
       let k : Keeps 3 n g T T = EachMoment-last (Keeps 3 n g T) (taking_out n (l.next n) (l.prev n)) l each in
-      let before : AtEachWrite (λ u. outcome u ≡ rested (put_front n T)) (taking_out n (l.next n) (l.prev n)) l =
-      EachMoment-map (Keeps 3 n g T) (λ u. outcome u ≡ rested (put_front n T)) (λ u q. outcome_move n g T u nz q head_good) _ _ each in
+      let before : AtEachWrite (λ u. completed_but_operation u ≡ rested (put_front n T)) (taking_out n (l.next n) (l.prev n)) l =
+      EachMoment-map (Keeps 3 n g T) (λ u. completed_but_operation u ≡ rested (put_front n T)) (λ u q. outcome_move n g T u nz q head_good) _ _ each in
       let T1 : ListView = with_write T (Operation 1) in
-      let turned : outcome T1 ≡ rested (put_front n T) = outcome_front n T1 refl k.transaction_is nz k.node_good (k.head_good head_good) ∙ rested_front n T (eqb T.head n) (eqb T.head 0) refl refl in
+      let turned : completed_but_operation T1 ≡ rested (put_front n T) = outcome_front n T1 refl k.transaction_is nz k.node_good (k.head_good head_good) ∙ rested_front n T (eqb T.head n) (eqb T.head 0) refl refl in
       EachMoment-append _ (taking_out n (l.next n) (l.prev n)) (Operation 1 ∷ putting_in_front n T.head) l before (
         EachMoment-last _ (taking_out n (l.next n) (l.prev n)) l before,
-        EachMoment-map (λ u. outcome u ≡ outcome T1) _ (λ u q. q ∙ turned) (putting_in_front n T.head) T1 (insert_keeps n T1 refl k.transaction_is nz k.node_good (k.head_good head_good)),
+        EachMoment-map (λ u. completed_but_operation u ≡ completed_but_operation T1) _ (λ u q. q ∙ turned) (putting_in_front n T.head) T1 (insert_keeps n T1 refl k.transaction_is nz k.node_good (k.head_good head_good)),
       )
 
 -- what a transaction that counts says
@@ -309,9 +309,9 @@ after_writes-append [] vs l = refl
 after_writes-append (w ∷ ws) vs l = after_writes-append ws vs (with_write l w)
 
 -- the transaction word becomes 0 at last
-finish : (ws : List ListWrite) (l T : ListView) → AtEachWrite (λ u. outcome u ≡ T) ws l → rested (after_writes ws l) ≡ T → AtEachWrite (λ u. outcome u ≡ outcome l) (ws ++ Transaction 0 ∷ []) l
+finish : (ws : List ListWrite) (l T : ListView) → AtEachWrite (λ u. completed_but_operation u ≡ T) ws l → rested (after_writes ws l) ≡ T → AtEachWrite (λ u. completed_but_operation u ≡ completed_but_operation l) (ws ++ Transaction 0 ∷ []) l
 finish ws l T each same =
-    EachMoment-map (λ u. outcome u ≡ T) (λ u. outcome u ≡ outcome l) (λ u q. q ∙ sym (EachMoment-first (λ u. outcome u ≡ T) ws l each)) (ws ++ Transaction 0 ∷ []) l
+    EachMoment-map (λ u. completed_but_operation u ≡ T) (λ u. completed_but_operation u ≡ completed_but_operation l) (λ u q. q ∙ sym (EachMoment-first (λ u. completed_but_operation u ≡ T) ws l each)) (ws ++ Transaction 0 ∷ []) l
     (EachMoment-append _ ws (Transaction 0 ∷ []) l each (EachMoment-last _ ws l each, outcome_done (with_write (after_writes ws l) (Transaction 0)) refl ∙ same))
 
 pub pending_insert : (l : ListView) → l.operation ≡ 1 → pending_writes l ≡ putting_in_front l.transaction l.head ++ Transaction 0 ∷ []
@@ -330,30 +330,30 @@ pending_move l e = ap (λ o. (if eqb o 1 then putting_in_front l.transaction l.h
     else taking_out l.transaction (l.next l.transaction) (l.prev l.transaction) ++ Operation 1 ∷ putting_in_front l.transaction (take_out l.transaction l).head)) ++ Transaction 0 ∷ []) e
 
 -- each write of what is pending keeps the outcome
-pub pending_keeps : (l : ListView) → counts l ≡ true → AtEachWrite (λ u. outcome u ≡ outcome l) (pending_writes l) l
+pub pending_keeps : (l : ListView) → counts l ≡ true → AtEachWrite (λ u. completed_but_operation u ≡ completed_but_operation l) (pending_writes l) l
 unfolding put_front take_out
 pending_keeps l e = go (counting l e) (counting l e).known
   where
     stays : ListView → Type 0
-    stays u = outcome u ≡ outcome l
+    stays u = completed_but_operation u ≡ completed_but_operation l
 
-    go : Counting l → (l.operation ≡ 1) ⊎ (l.operation ≡ 2) ⊎ (l.operation ≡ 3) → AtEachWrite (λ u. outcome u ≡ outcome l) (pending_writes l) l
+    go : Counting l → (l.operation ≡ 1) ⊎ (l.operation ≡ 2) ⊎ (l.operation ≡ 3) → AtEachWrite (λ u. completed_but_operation u ≡ completed_but_operation l) (pending_writes l) l
     go c (inl one) =
         let n = l.transaction in
         let head_good : (eqb l.head 0 || l.checks l.head) ≡ true = rw one at c.head_good in
-        subst (λ ws. AtEachWrite (λ u. outcome u ≡ outcome l) ws l) (sym (pending_insert l one))
-        (finish (putting_in_front n l.head) l (outcome l) (insert_keeps n l one refl c.not_zero c.good head_good) (sym (outcome_front n l one refl c.not_zero c.good head_good)))
+        subst (λ ws. AtEachWrite (λ u. completed_but_operation u ≡ completed_but_operation l) ws l) (sym (pending_insert l one))
+        (finish (putting_in_front n l.head) l (completed_but_operation l) (insert_keeps n l one refl c.not_zero c.good head_good) (sym (outcome_front n l one refl c.not_zero c.good head_good)))
     go c (inr (inl two)) =
         let n = l.transaction in
         let links : (eqb (l.next n) 0 || (l.checks (l.next n) && l.checks (l.prev n))) ≡ true = rw two at c.links in
-        subst (λ ws. AtEachWrite (λ u. outcome u ≡ outcome l) ws l) (sym (pending_remove l two))
+        subst (λ ws. AtEachWrite (λ u. completed_but_operation u ≡ completed_but_operation l) ws l) (sym (pending_remove l two))
         (finish (taking_out n (l.next n) (l.prev n)) l (rested (take_out n l)) (remove_keeps n l two refl c.not_zero c.good links) refl)
     go c (inr (inr three)) =
         let n = l.transaction in
         let head_good : (eqb l.head 0 || l.checks l.head) ≡ true = rw three at c.head_good in
         let links : (eqb (l.next n) 0 || (l.checks (l.next n) && l.checks (l.prev n))) ≡ true = rw three at c.links in
         let T : ListView = take_out n l in
-        subst (λ ws. AtEachWrite (λ u. outcome u ≡ outcome l) ws l) (sym (pending_move l three))
+        subst (λ ws. AtEachWrite (λ u. completed_but_operation u ≡ completed_but_operation l) ws l) (sym (pending_move l three))
         (finish (taking_out n (l.next n) (l.prev n) ++ Operation 1 ∷ putting_in_front n T.head) l (rested (put_front n T)) (move_keeps n l three refl c.not_zero c.good head_good links)
         (ap rested (after_writes-append (taking_out n (l.next n) (l.prev n)) (Operation 1 ∷ putting_in_front n T.head) l) ∙ rested_front n T (eqb T.head n) (eqb T.head 0) refl refl))
 
@@ -377,15 +377,16 @@ ends_zero ws l = ap (λ (u : ListView). u.transaction) (after_writes-append ws (
 pub pending_ends : (l : ListView) → (after_writes (pending_writes l) l).transaction ≡ 0
 pending_ends l = ends_zero (operation_writes l) l
 
-outcome_not : (l : ListView) → counts l ≡ false → outcome l ≡ rested l
-unfolding outcome completed_list
+outcome_not : (l : ListView) → counts l ≡ false → completed_but_operation l ≡ rested l
+unfolding completed_but_operation completed_list
 outcome_not l e = rw e
 
 -- each write of completing keeps what it gives
-pub completion_keeps : (l : ListView) → AtEachWrite (λ u. outcome u ≡ outcome l) (completion_writes l) l
+pub completion_keeps : (l : ListView) → AtEachWrite (λ u. completed_but_operation u ≡ completed_but_operation l) (completion_writes l) l
 unfolding completion_writes
-completion_keeps l = go (counts l) refl
+completion_keeps l = go (eqb l.transaction 0) (counts l) refl
   where
-    go : (b : Bool) → counts l ≡ b → AtEachWrite (λ u. outcome u ≡ outcome l) (if b then pending_writes l else Transaction 0 ∷ []) l
-    go true e = pending_keeps l e
-    go false e = (refl, outcome_done (with_write l (Transaction 0)) refl ∙ sym (outcome_not l e))
+    go : (idle b : Bool) → counts l ≡ b → AtEachWrite (λ u. completed_but_operation u ≡ completed_but_operation l) (if idle then [] else (if b then pending_writes l else Transaction 0 ∷ [])) l
+    go true b e = refl
+    go false true e = pending_keeps l e
+    go false false e = (refl, outcome_done (with_write l (Transaction 0)) refl ∙ sym (outcome_not l e))

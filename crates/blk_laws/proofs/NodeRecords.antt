@@ -55,7 +55,6 @@ pub one_change : (w p x : ℕ) → kind_of w ≡ rankings → p % 4 ≡ 0 → p 
 one_change w p x kind aligned before =
     let seal = node_seal w kind in
     record {
-      some = omega arith;
       few = omega arith;
       aligned = All-cons (λ change. change.0 % 4 ≡ 0) (p, x) [] aligned (All-nil (λ change. change.0 % 4 ≡ 0));
       before = All-cons (λ change. change.0 < seal_place w) (p, x) [] (omega (arith, before, seal)) (All-nil (λ change. change.0 < seal_place w));

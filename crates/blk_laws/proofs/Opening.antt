@@ -110,7 +110,7 @@ pub nodes-append : (y : Layout) (a b : List Item) → nodes_of y (a ++ b) ≡ no
 nodes-append y [] b = refl
 nodes-append y (i ∷ a) b = ap (λ (xs : List ℕ). y.place i ∷ xs) (nodes-append y a b)
 
-in-append : (a b : List Item) (j : Item) → is_in (a ++ b) j ≡ (is_in a j || is_in b j)
+pub in-append : (a b : List Item) (j : Item) → is_in (a ++ b) j ≡ (is_in a j || is_in b j)
 in-append [] b j = refl
 in-append (i ∷ a) b j = rw (in-append a b j) (assoc (same_item j i) (is_in a j) (is_in b j)) where
   assoc : (a b c : Bool) → (a || (b || c)) ≡ ((a || b) || c)
@@ -118,7 +118,7 @@ in-append (i ∷ a) b j = rw (in-append a b j) (assoc (same_item j i) (is_in a j
   assoc false b c = refl
 
 -- the use of a listed item leaves the same items
-used-same : (i : Item) (items : List Item) → IsAround i items → SameItems (used i items) items
+pub used-same : (i : Item) (items : List Item) → IsAround i items → SameItems (used i items) items
 used-same i items a j =
     let left : is_in (used i items) j ≡ (same_item j i || (is_in a.before j || is_in a.suffix j)) = ap (λ (xs : List Item). same_item j i || is_in xs j) a.rest ∙ ap (λ (b : Bool). same_item j i || b) (in-append a.before a.suffix j) in
     let right : is_in items j ≡ (is_in a.before j || (same_item j i || is_in a.suffix j)) = ap (λ (xs : List Item). is_in xs j) a.is ∙ in-append a.before (i ∷ a.suffix) j in
@@ -207,6 +207,10 @@ first-listed m i valid some = go (first_with i 0 m.objects) refl some where
       let all = valid.listed i in
       listed-times i m.uses (omega arith)
 
+-- the same, where its number is known
+pub first-some : (m : State) (i : Item) (j : ℕ) → IsValidState m → first_with i 0 m.objects ≡ Some j → is_listed m i ≡ true
+first-some m i j valid e = first-listed m i valid (ap (λ (o : Option ℕ). is_none o) e)
+
 -- the open itself
 module _ (v : View) (m : State) (y : Layout) (r : Represents v m y) (valid : IsValidState m) (moment handle : ℕ) (key : List ℕ) (passed : refused moment (to_open handle key) m ≡ None) where
   there : is_listed m (main key) ≡ true
@@ -216,7 +220,7 @@ module _ (v : View) (m : State) (y : Layout) (r : Represents v m y) (valid : IsV
   a : IsAround (main key) m.uses
   a = around (main key) m.uses there (valid.once (main key))
 
-  opens : (step m moment (to_open handle key)).state ≡ opened handle key m
+  pub opens : (step m moment (to_open handle key)).state ≡ opened handle key m
   unfolding step outcome evicted without opened effect
   opens = rw passed refl
 
@@ -231,7 +235,7 @@ module _ (v : View) (m : State) (y : Layout) (r : Represents v m y) (valid : IsV
         idle = list.1;
       })
 
-  steps-are : list_steps m moment (to_open handle key) ≡ front (main key) ∷ []
+  pub steps-are : list_steps m moment (to_open handle key) ≡ front (main key) ∷ []
   unfolding list_steps steps_unless evicted dooms uses_of
   steps-are = rw passed refl
 

@@ -9,7 +9,7 @@ use Rattle.blk_model.specs.Items.{Item, main, part}
 use Rattle.blk_model.specs.State.{State}
 use Rattle.blk_format.specs.BlockFiles.{is_among}
 use Rattle.blk_format.specs.Claims.{Claim, claims_of, has_claim, repeats}
-use Rattle.blk_volume.specs.View.{StoreView, RecordFields, size_of, address_of}
+use Rattle.blk_volume.specs.View.{StoreView, RecordFields, data_size_of, address_of}
 use Rattle.blk_volume.specs.Chains.{chain, bucket_of_hash, Linked, IsChain}
 use Rattle.blk_volume.specs.Entries.{is_key_length, key_of, stream_of, streams_of, role_of, parent_role}
 use Rattle.blk_volume.specs.Loads.{Rule, unchained_rule, Loaded, load, all_claims, record_claims}
@@ -93,7 +93,7 @@ module _ (w : ℕ) (v u : StoreView) (same : SameExceptAt w v u) where
 
   streams-beside : (s : ℕ) (e : RecordFields) → ((i : ℕ) → IsClear (has_claim (claims_of w)) (slice_index e.data_addr i)) → streams_of u (record e { state = s }) ≡ streams_of v e
   unfolding streams_of stream_of
-  streams-beside s e clear = rw (same.stored (size_of e 0) (address_of e 0) (clear 0), same.stored (size_of e 1) (address_of e 1) (clear 1), same.stored (size_of e 2) (address_of e 2) (clear 2)) refl
+  streams-beside s e clear = rw (same.stored (data_size_of e 0) (address_of e 0) (clear 0), same.stored (data_size_of e 1) (address_of e 1) (clear 1), same.stored (data_size_of e 2) (address_of e 2) (clear 2)) refl
 
   -- a node loads where its record is as before, or has another state that is asked for now
   load-beside : (rule : Rule) (b : ℕ) (state : RecordFields → ℕ) (node : ℕ) (l : Loaded) → rule.chained ≡ false → load v rule node ≡ Ok l → IsClear (has_claim (claims_of w)) l.contents ⊎ (l.contents ≡ w) → ((i : ℕ) → IsClear (has_claim (claims_of w)) (slice_index l.others i))

@@ -9,7 +9,7 @@ use Rattle.blk_volume.specs.ListView.{ListView, Segment, IsList, first_or, last_
 use Rattle.blk_model.specs.State.{State}
 use Rattle.blk_format.specs.BlockFiles.{is_among}
 use Rattle.blk_format.specs.Claims.{Claim, same_claim, claims_of, has_claim}
-use Rattle.blk_volume.specs.View.{View, StoreView, RecordFields, size_of, address_of}
+use Rattle.blk_volume.specs.View.{View, StoreView, RecordFields, data_size_of, address_of}
 use Rattle.blk_volume.specs.Chains.{bucket_of_hash, chain, Linked, IsChain}
 use Rattle.blk_volume.specs.Loads.{Rule, Loaded, load, all_claims, record_claims}
 use Rattle.blk_volume.specs.Entries.{is_key_length, key_of, stream_of, streams_of}
@@ -54,6 +54,16 @@ all-clear touched l clear = record {
   others = λ i c h. clear c (claim-right (claims_of l.node) (record_claims l) c (claim-right (claims_of l.contents) (flat_map claims_of l.others) c (index-claims l.others i c h)));
 }
 
+-- what is the same outside, and everywhere after that, is the same outside
+pub then-same : (touched : Claim → Bool) (v u s : StoreView) → SameStore touched v u → SameStore (λ c. false) u s → SameStore touched v s
+then-same touched v u s one two = record {
+  node_fields = λ w clear. one.node_fields w clear ∙ two.node_fields w (λ c h. refl);
+  entry = λ w clear. one.entry w clear ∙ two.entry w (λ c h. refl);
+  chain_next = λ w clear. one.chain_next w clear ∙ two.chain_next w (λ c h. refl);
+  key_place = λ w e clear is fits short. one.key_place w e clear is fits short ∙ two.key_place w e (λ c h. refl) (sym (one.entry w clear) ∙ is) fits short;
+  stored = λ size w clear. one.stored size w clear ∙ two.stored size w (λ c h. refl);
+}
+
 -- ---- what loads
 
 module _ (touched : Claim → Bool) (v u : StoreView) (same : SameStore touched v u) where
@@ -67,7 +77,7 @@ module _ (touched : Claim → Bool) (v u : StoreView) (same : SameStore touched 
 
   pub streams-same : (e : RecordFields) → ((i : ℕ) → IsClear touched (slice_index e.data_addr i)) → streams_of u e ≡ streams_of v e
   unfolding streams_of stream_of
-  streams-same e clear = rw (same.stored (size_of e 0) (address_of e 0) (clear 0), same.stored (size_of e 1) (address_of e 1) (clear 1), same.stored (size_of e 2) (address_of e 2) (clear 2)) refl
+  streams-same e clear = rw (same.stored (data_size_of e 0) (address_of e 0) (clear 0), same.stored (data_size_of e 1) (address_of e 1) (clear 1), same.stored (data_size_of e 2) (address_of e 2) (clear 2)) refl
 
   -- a node loads the same where nothing of its record is touched
   pub load-outside : (rule : Rule) (w : ℕ) (l : Loaded) → rule.chained ≡ false → load v rule w ≡ Ok l → AreClear touched l → load u rule w ≡ Ok l

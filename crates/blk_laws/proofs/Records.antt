@@ -13,7 +13,7 @@ use Rattle.blk_format.specs.Address.{kind_of, file_selector, first_block, place,
 use Rattle.blk_format.specs.Records.{Entry, entry_in, entry_checks, entry_size}
 use Rattle.blk_format.specs.BlockFiles.{stands_in}
 use Rattle.blk_volume.specs.Chains.{file_and_block}
-use Rattle.blk_volume.specs.View.{RecordFields, fields_of, stands_as, block_bytes, entry_at, store_of, core_at, follow_at, key_place_at}
+use Rattle.blk_volume.specs.View.{RecordFields, fields_of, stands_as, block_bytes, entry_at, store_of, fields_at, follow_at, key_place_at}
 use Rattle.blk_laws.proofs.BlockBytes.{same-entry_in}
 use Rattle.blk_laws.proofs.ByteChanges.{false_unless}
 use Rattle.blk_format.specs.Sealed.{BeginsWithRecord, IsMidUpdate, record_at, record_range, record_size, seal_place, size_by_kind}
@@ -109,12 +109,12 @@ core-by m n b x good rest = λ i. record {
 }
 
 -- what a standing record shows
-shown-record : (image : Image) (u : ℕ) → stands_as image blocks_256 u ≡ true → (core_at image u ≡ Some (fields_of (entry_at image u))) × (follow_at image u ≡ (entry_at image u).next)
-unfolding core_at follow_at
+shown-record : (image : Image) (u : ℕ) → stands_as image blocks_256 u ≡ true → (fields_at image u ≡ Some (fields_of (entry_at image u))) × (follow_at image u ≡ (entry_at image u).next)
+unfolding fields_at follow_at
 shown-record image u st = (rw st refl, rw st refl)
 
-unshown-record : (image : Image) (u : ℕ) → stands_as image blocks_256 u ≡ false → (core_at image u ≡ None) × (follow_at image u ≡ 0)
-unfolding core_at follow_at
+unshown-record : (image : Image) (u : ℕ) → stands_as image blocks_256 u ≡ false → (fields_at image u ≡ None) × (follow_at image u ≡ 0)
+unfolding fields_at follow_at
 unshown-record image u st = (rw st refl, rw st refl)
 
 -- ---- an update
@@ -173,7 +173,7 @@ module _ (from image : Image) (w : ℕ) (own_fields : RecordFields) (is : IsReco
       let p = standing-parts from blocks_256 u e in
       sym (same-entry_in (place u) (block_bytes from u) (block_bytes image u) (λ k low high. sym (moment.outside.bytes (Block (file_selector u)) k (apart-places u w k p.1 kind apart low high))))
 
-  others : (u : ℕ) → file_and_block u ≢ file_and_block w → (core_at from u ≡ core_at image u) × (follow_at from u ≡ follow_at image u)
+  others : (u : ℕ) → file_and_block u ≢ file_and_block w → (fields_at from u ≡ fields_at image u) × (follow_at from u ≡ follow_at image u)
   others u apart = ⊎_elim
       (λ (e : stands_as from blocks_256 u ≡ true).
       let was = shown-record from u e in
@@ -187,7 +187,7 @@ module _ (from image : Image) (w : ℕ) (own_fields : RecordFields) (is : IsReco
       (cases_Bool (stands_as from blocks_256 u))
 
   -- the core of each record, where that of this one is as before
-  cores : fields_of (entry_at image w) ≡ fields_of (entry_at from w) → (u : ℕ) → core_at from u ≡ core_at image u
+  cores : fields_of (entry_at image w) ≡ fields_of (entry_at from w) → (u : ℕ) → fields_at from u ≡ fields_at image u
   cores here u = ⊎_elim
       (λ (e : file_and_block u ≡ file_and_block w). ⊎_elim
       (λ (s : stands_as from blocks_256 u ≡ true).

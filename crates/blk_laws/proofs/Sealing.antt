@@ -1,5 +1,5 @@
 -- Nodes that are sealed: each that is written into the list is in the end, and the others stay so.
-use Rattle.std.proofs.Common.{◌≡◌, ◌⊎◌, ℕ, ◌+◌, ◌*◌, ◌%◌, ◌/◌, ◌^◌, ◌≤◌, ◌<◌, Bool, true, false, List, [], ◌∷◌, All, take, refl, ap, ap₂, sym, ◌∙◌, subst, arith}
+use Rattle.std.proofs.Common.{◌≡◌, ◌⊎◌, ℕ, ◌+◌, ◌*◌, ◌%◌, ◌/◌, ◌^◌, ◌≤◌, ◌<◌, Bool, true, false, List, [], ◌∷◌, ◌++◌, All, take, refl, ap, ap₂, sym, ◌∙◌, subst, arith}
 use Rattle.std.specs.Prelude.{◌==◌, ◌&&◌, nat_le, nat_lt}
 use Rattle.std.proofs.lemmas.Bool.{eq-eqb, eqb-true}
 use Rattle.std.proofs.lemmas.Bool.Decides.{nat_tests}
@@ -19,12 +19,12 @@ use Rattle.blk_format.specs.Sealed.{AreChanges, IsMidUpdate, IsUpdated, record_a
 use Rattle.blk_format.proofs.Bodies.{node_body-in}
 use Rattle.blk_format.proofs.SealedFields.{record_word, updated_seal}
 use Rattle.blk_format.proofs.SealedRecords.{node_seal, node_bytes, moments, updated}
-use Rattle.blk_volume.specs.ListView.{ListWrite, Next, Prev, Head, Tail, Transaction, Operation}
+use Rattle.blk_volume.specs.ListView.{IsAtRest, ListWrite, Next, Prev, Head, Tail, Transaction, Operation}
 use Rattle.blk_volume.specs.ListPlans.{touch_writes}
 use Rattle.blk_volume.specs.View.{list_of, node_at}
-use Rattle.blk_volume.specs.ListSteps.{AreOf, AreSealed, IsSealed, steps_of, times_of, write_steps}
-use Rattle.blk_volume.specs.ListImages.{IsWritable, CanBeMade}
-use Rattle.blk_laws.specs.ListWords.{WritesSealTheirNodes, TouchesSealTheirNodes}
+use Rattle.blk_volume.specs.ListSteps.{AreOf, AreSealed, IsSealed, KeepsSealed, Seals, steps_of, times_of, touch_steps, write_steps}
+use Rattle.blk_volume.specs.ListImages.{IsWritable, CanBeMade, steps_of_touch}
+use Rattle.blk_laws.specs.ListWords.{WritesSealTheirNodes, WritesKeepSeals, NodeUpdatesKeepSeals, TouchesSealTheirNodes, TouchesKeepSeals}
 use Rattle.blk_laws.proofs.ListCompletions.{listed}
 use Rattle.blk_laws.proofs.NodeRecords.{front_is, one_change, record_is}
 use Rattle.blk_laws.proofs.WordTurns.{each, still_checks, times_are, touches-can}
@@ -47,7 +47,7 @@ updated_is_sealed from image w changes bytes kind are done =
     sealed_bytes image w bytes kind ∙ eq-eqb _ _ seal
 
 -- nodes with the same bytes are sealed alike
-same_record : (a b : Image) (u w : ℕ) → AreBytes a → AreBytes b → kind_of u ≡ rankings → kind_of w ≡ rankings → record_at b u ≡ record_at a w → IsSealed a w → IsSealed b u
+pub same_record : (a b : Image) (u w : ℕ) → AreBytes a → AreBytes b → kind_of u ≡ rankings → kind_of w ≡ rankings → record_at b u ≡ record_at a w → IsSealed a w → IsSealed b u
 same_record a b u w bytes_a bytes_b kind_u kind_w same is =
     sealed_bytes b u bytes_b kind_u ∙ ap (λ (l : List ℕ). word_at (content l) 32 == hash (take 32 l)) same ∙ sym (sealed_bytes a w bytes_a kind_w) ∙ is
 
@@ -115,16 +115,12 @@ module _ (from image : Image) (w u : ℕ) (changes : List (ℕ × ℕ)) (bytes_f
 
 -- Writes.
 
--- nodes that are sealed stay so
-abbrev KeepsSealed : Image → Image → Type 0
-KeepsSealed from image = (u : ℕ) → kind_of u ≡ rankings → IsSealed from u → IsSealed image u
-
 -- after an update a node is sealed, and so are those that were
-record Reseals (from : Image) (w : ℕ) (image : Image) : Type 0 where
+pub record Reseals (from : Image) (w : ℕ) (image : Image) : Type 0 where
   pub sealed : IsSealed image w
   pub keeps : KeepsSealed from image
 
-reseals : (from : Image) → IsWritable from → (w : ℕ) → (list_of from).checks w ≡ true → (changes : List (ℕ × ℕ)) → AreChanges (seal_place w) changes → All (λ c. c.0 + 4 ≤ seal_place w) changes → Reseals from w (after (sealed_steps from w changes) from)
+pub reseals : (from : Image) → IsWritable from → (w : ℕ) → (list_of from).checks w ≡ true → (changes : List (ℕ × ℕ)) → AreChanges (seal_place w) changes → All (λ c. c.0 + 4 ≤ seal_place w) changes → Reseals from w (after (sealed_steps from w changes) from)
 reseals from ready w good changes are inside =
     let node = good-node from w ready good in
     let steps : List TrailStep = sealed_steps from w changes in
@@ -150,11 +146,6 @@ unfolding word_step
 word_keeps from at x bytes_from bytes_image u kind sealed =
     let image : Image = applied (Word Index at (word_bytes x)) from in
     stays_sealed (one_word Index at) from image u bytes_from bytes_image kind (outside_write Index at (word_bytes x) from) (λ i low high. index_apart at u i) sealed
-
--- after writes their nodes are sealed, and so are those that were
-record Seals (from : Image) (writes : List ListWrite) (image : Image) : Type 0 where
-  pub sealed : AreSealed writes image
-  pub keeps : KeepsSealed from image
 
 write_seals : (write : ListWrite) (from : Image) → IsWritable from → CanBeMade from (write ∷ []) → AreBytes (after (write_steps write from) from) → Seals from (write ∷ []) (after (write_steps write from) from)
 unfolding write_steps
@@ -183,7 +174,7 @@ and_first (Tail x) writes image first rest = rest
 and_first (Transaction x) writes image first rest = rest
 and_first (Operation x) writes image first rest = rest
 
-writes_seal : (writes : List ListWrite) (from : Image) → IsWritable from → CanBeMade from writes → Seals from writes (after (steps_of writes from) from)
+pub writes_seal : (writes : List ListWrite) (from : Image) → IsWritable from → CanBeMade from writes → Seals from writes (after (steps_of writes from) from)
 writes_seal [] from ready can = record { sealed = tt; keeps = λ u kind sealed. sealed }
 writes_seal (write ∷ writes) from ready can =
     let one = first_can from write writes can in
@@ -200,16 +191,34 @@ writes_seal (write ∷ writes) from ready can =
 pub writes-seal : WritesSealTheirNodes
 writes-seal image writes ready can = (writes_seal writes image ready can).sealed
 
-pub touches-seal : TouchesSealTheirNodes
-touches-seal image node moment prefix suffix ready rest =
-    let good = (listed node (list_of image) prefix suffix rest.whole).good in
-    let ws : List ListWrite = touch_writes node (list_of image) in
-    let can = touches-can image node prefix suffix rest in
+pub writes-keep : WritesKeepSeals
+writes-keep image writes ready can = (writes_seal writes image ready can).keeps
+
+pub node-updates : NodeUpdatesKeepSeals
+node-updates image node changes ready good are inside = let r = reseals image ready node good changes are inside in (r.sealed, r.keeps)
+
+-- writes, and then the times of a node
+pub touch_seals : (image : Image) (node moment : ℕ) → IsWritable image → (list_of image).checks node ≡ true → (ws : List ListWrite) → CanBeMade image ws
+    → Seals image ws (after (touch_steps node moment ws image) image) × IsSealed (after (touch_steps node moment ws image) image) node
+touch_seals image node moment ready good ws can =
     let i : Image = after (steps_of ws image) image in
     let kind = checked-kind image node good in
     let seal = node_seal node kind in
     let first = writes_seal ws image ready can in
     let all : All (λ c. c.0 + 4 ≤ seal_place node) (times_of moment) = each (λ c. c.0 + 4 ≤ seal_place node) (0, moment % 2 ^ 32) (4, moment / 2 ^ 32) (8, moment % 2 ^ 32) (12, moment / 2 ^ 32) (omega (arith, seal)) (omega (arith, seal)) (omega (arith, seal)) (omega (arith, seal)) in
     let times = reseals i (writable-writes ws image ready) node (still_checks image ready node moment good ws can) (times_of moment) (times_are node moment kind) all in
-    subst (λ (last : Image). AreSealed ws last × IsSealed last node) (sym (after-append (steps_of ws image) (sealed_steps i node (times_of moment)) image))
-    (still_sealed image ws i (after (sealed_steps i node (times_of moment)) i) can.nodes first.sealed times.keeps, times.sealed)
+    let last : Image = after (sealed_steps i node (times_of moment)) i in
+    subst (λ (last : Image). Seals image ws last × IsSealed last node) (sym (after-append (steps_of ws image) (sealed_steps i node (times_of moment)) image))
+    (record { sealed = still_sealed image ws i last can.nodes first.sealed times.keeps; keeps = λ u kind sealed. times.keeps u kind (first.keeps u kind sealed) }, times.sealed)
+
+-- a touch
+touch_made : (image : Image) (node moment : ℕ) (prefix suffix : List ℕ) → IsWritable image → IsAtRest (list_of image) (prefix ++ node ∷ suffix)
+    → Seals image (touch_writes node (list_of image)) (after (steps_of_touch node moment image) image) × IsSealed (after (steps_of_touch node moment image) image) node
+touch_made image node moment prefix suffix ready rest =
+    touch_seals image node moment ready (listed node (list_of image) prefix suffix rest.whole).good (touch_writes node (list_of image)) (touches-can image node prefix suffix rest)
+
+pub touches-seal : TouchesSealTheirNodes
+touches-seal image node moment prefix suffix ready rest = let made = touch_made image node moment prefix suffix ready rest in (made.0.sealed, made.1)
+
+pub touches-keep : TouchesKeepSeals
+touches-keep image node moment prefix suffix ready rest = (touch_made image node moment prefix suffix ready rest).0.keeps

@@ -17,7 +17,7 @@ use Rattle.blk_format.specs.Claims.{Claim, same_claim, has_claim, overlap, repea
 use Rattle.blk_volume.specs.Reasons.{Reason, ◌>>=◌, demand}
 use Rattle.blk_volume.specs.Loads.{Rule, Loaded, load, is_part, is_part_role, record_claims, all_claims}
 use Rattle.blk_volume.specs.Entries.{Role, IsPlain, IsParent, IsPart, parent_role, part_role, is_covered, role_of, stream}
-use Rattle.blk_volume.specs.Audit.{admit, is_child, is_named, is_parent_of, is_parent_role, is_orphan, is_orphan_role, verdict, with_verdict, verdicts, tried, verdict_on, judged, kept_of, dropped_of, kept_among, dropped_among}
+use Rattle.blk_volume.specs.Audit.{admit, is_child, shares_key, is_parent_of, is_parent_role, is_orphan, is_orphan_role, verdict, with_verdict, verdicts, tried, verdict_on, judged, kept_of, dropped_of, kept_among, dropped_among}
 use Rattle.blk_volume.specs.Shown.{IsOrphanIn, HasParentIn, IsShown}
 use Rattle.blk_laws.proofs.Loads.{load-then}
 use Rattle.blk_laws.proofs.Lists.{eqb-sym, is_among-append}
@@ -142,8 +142,8 @@ module _ (v : StoreView) (rule : Rule) (ws : List ℕ) (given : ℕ → Option L
       (shown.apart k.node t k l all.0.among among (eqb-sym t k.node (or_parts (t == k.node) (is_among ts k.node) all.0.before).0) all.0.is is).claims
       (no_clash kept t ts l all.1 among is)
 
-  no_name : (kept : List Loaded) (t : ℕ) (ts : List ℕ) (l : Loaded) → AllByRecursion (IsGivenBefore (t ∷ ts)) kept → is_among ws t ≡ true → given t ≡ Some l → is_named kept l ≡ false
-  unfolding is_named
+  no_name : (kept : List Loaded) (t : ℕ) (ts : List ℕ) (l : Loaded) → AllByRecursion (IsGivenBefore (t ∷ ts)) kept → is_among ws t ≡ true → given t ≡ Some l → shares_key kept l ≡ false
+  unfolding shares_key
   no_name [] t ts l all among is = refl
   no_name (k ∷ kept) t ts l all among is =
       neither _ _
@@ -211,7 +211,7 @@ module _ (v : StoreView) (rule : Rule) (ws : List ℕ) (given : ℕ → Option L
     go (Ok l) e =
         let o : IsOrphanIn ws given l = shown.out t l among is e in
         let none : is_orphan kept l ≡ true = rw (o.part, orphan-none o.name kept (t ∷ ts) o.none far.each) refl in
-        refused (not (repeats (record_claims l) || overlap (flat_map all_claims kept) (all_claims l))) (not (is_named kept l)) (is_orphan kept l) l none
+        refused (not (repeats (record_claims l) || overlap (flat_map all_claims kept) (all_claims l))) (not (shares_key kept l)) (is_orphan kept l) l none
 
   -- one more was tried
   before-less : (kept : List Loaded) (t : ℕ) (ts : List ℕ) → AllByRecursion (IsGivenBefore (t ∷ ts)) kept → AllByRecursion (IsGivenBefore ts) kept
@@ -337,7 +337,7 @@ module _ (v : StoreView) (ws : List ℕ) (once : Distinct ws) where
         two false true = refl
         two false false = refl
 
-  Distinct-tried : Distinct (tried v ws)
+  pub Distinct-tried : Distinct (tried v ws)
   Distinct-tried = Distinct-append (filter (λ x. not (is_child v x)) ws) (filter (is_child v) ws) (Distinct-filter (λ x. not (is_child v x)) ws once) (Distinct-filter (is_child v) ws once) (apart ws (λ x h. h)) where
     lacks : (x : ℕ) → is_child v x ≡ false → is_among (filter (is_child v) ws) x ≡ false
     lacks x e = is_among-filter (is_child v) ws x ∙ rw e refl

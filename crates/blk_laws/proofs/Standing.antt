@@ -77,9 +77,21 @@ module _ (y : Layout) (own : (w : ℕ) (l : Loaded) (c : Claim) → y.at w ≡ S
         go None g = g
         go (Some k) g = claim-append (all_claims k) (claims_at y ws) c ∙ or_right (has_claim (all_claims k) c) (has_claim (claims_at y ws) c) g
 
+  -- what is claimed by the nodes of a state is what has an owner
+  pub claimed-exactly : (m : State) (nodes : List ℕ) → ((c : Claim) (w : ℕ) → y.owner c ≡ Some w → IsOwner m y nodes c w) → (c : Claim) → has_claim (claims_at y (order m y ++ nodes)) c ≡ is_some (y.owner c)
+  claimed-exactly m nodes exact c = ⊎_elim
+      (λ (e : has_claim (claims_at y (order m y ++ nodes)) c ≡ true). let p = claimed (order m y ++ nodes) c e in e ∙ rw p.2 refl)
+      (λ (e : has_claim (claims_at y (order m y ++ nodes)) c ≡ false). e ∙ go (y.owner c) refl e)
+      (cases_Bool (has_claim (claims_at y (order m y ++ nodes)) c)) where
+        go : (o : Option ℕ) → y.owner c ≡ o → has_claim (claims_at y (order m y ++ nodes)) c ≡ false → false ≡ is_some (y.owner c)
+        go None is e = rw is refl
+        go (Some w) is e = let q : IsOwner m y nodes c w = exact c w is in
+            let t : has_claim (claims_at y (order m y ++ nodes)) c ≡ true = claims-in (order m y ++ nodes) w q.loaded c q.among q.here q.claims in
+            absurd (let z : true ≡ false = sym t ∙ e in cc)
+
 -- ---- the doomed objects of some numbers
 
-doomed-records : (y : Layout) (numbers : List ℕ) → map (λ (d : ℕ × Loaded). d.1) (doomed_of y numbers) ≡ filter_map y.at (map y.place_of_doomed numbers)
+pub doomed-records : (y : Layout) (numbers : List ℕ) → map (λ (d : ℕ × Loaded). d.1) (doomed_of y numbers) ≡ filter_map y.at (map y.place_of_doomed numbers)
 doomed-records y [] = refl
 doomed-records y (n ∷ numbers) = go (y.at (y.place_of_doomed n)) (doomed_of y numbers) (filter_map y.at (map y.place_of_doomed numbers)) (doomed-records y numbers) where
   go : (o : Option Loaded) (ds : List (ℕ × Loaded)) (ls : List Loaded) → map (λ (d : ℕ × Loaded). d.1) ds ≡ ls → map (λ (d : ℕ × Loaded). d.1) (cons_option (option_map (λ (l : Loaded). (n, l)) o) ds) ≡ cons_option o ls
@@ -101,14 +113,9 @@ ends-whole l (x ∷ xs) e list = inr (
 
 -- ---- the whole
 
-module _ (image : Image) (m : State) (y : Layout) (r : Represents (view_of image) m y) (valid : IsValidState m) (numbers : List ℕ) (a : IsAllocated image m y numbers) where
-  v : View
-  v = view_of image
-
-  lies : IsLayoutOf m y
-  lies = r.holds.lies
-
-  kept-at : kept_by listed_rule (view_of image) ≡ filter_map y.at (order m y)
+-- what is listed is what lies at the nodes of the items
+module _ (image : Image) (m : State) (y : Layout) (r : Represents (view_of image) m y) (valid : IsValidState m) where
+  pub kept-at : kept_by listed_rule (view_of image) ≡ filter_map y.at (order m y)
   kept-at = ap (kept_among (view_of image).store listed_rule) (walk-order (view_of image) m y r)
       ∙ kept-given (view_of image).store listed_rule (order m y) (given_by (λ _. true) y) (all-shown (view_of image).store m y r.holds valid r.list.distinct)
       ∙ ap (λ (g : ℕ → Option Loaded). filter_map g (order m y)) (λ i w. same (y.at w) i) where
@@ -116,20 +123,19 @@ module _ (image : Image) (m : State) (y : Layout) (r : Represents (view_of image
         same None = refl
         same (Some l) = refl
 
+module _ (image : Image) (m : State) (y : Layout) (r : Represents (view_of image) m y) (valid : IsValidState m) (numbers : List ℕ) (a : IsAllocated image m y numbers) where
+  v : View
+  v = view_of image
+
+  lies : IsLayoutOf m y
+  lies = r.holds.lies
+
   all-kept-at : kept_by listed_rule (view_of image) ++ filter_map y.at (map y.place_of_doomed numbers) ≡ filter_map y.at (order m y ++ (map y.place_of_doomed numbers))
-  all-kept-at = ap (λ (ls : List Loaded). ls ++ filter_map y.at (map y.place_of_doomed numbers)) kept-at ∙ sym (filter_map-append y.at (order m y) (map y.place_of_doomed numbers))
+  all-kept-at = ap (λ (ls : List Loaded). ls ++ filter_map y.at (map y.place_of_doomed numbers)) (kept-at image m y r valid) ∙ sym (filter_map-append y.at (order m y) (map y.place_of_doomed numbers))
 
   -- what is claimed is what has an owner
   exactly : (c : Claim) → has_claim (claims_at y (order m y ++ (map y.place_of_doomed numbers))) c ≡ is_some (y.owner c)
-  exactly c = ⊎_elim
-      (λ (e : has_claim (claims_at y (order m y ++ (map y.place_of_doomed numbers))) c ≡ true). let p = claimed y lies.own lies.single (order m y ++ (map y.place_of_doomed numbers)) c e in e ∙ rw p.2 refl)
-      (λ (e : has_claim (claims_at y (order m y ++ (map y.place_of_doomed numbers))) c ≡ false). e ∙ go (y.owner c) refl e)
-      (cases_Bool (has_claim (claims_at y (order m y ++ (map y.place_of_doomed numbers))) c)) where
-        go : (o : Option ℕ) → y.owner c ≡ o → has_claim (claims_at y (order m y ++ (map y.place_of_doomed numbers))) c ≡ false → false ≡ is_some (y.owner c)
-        go None is e = rw is refl
-        go (Some w) is e = let q : IsOwner m y (map y.place_of_doomed numbers) c w = a.exact c w is in
-            let t : has_claim (claims_at y (order m y ++ (map y.place_of_doomed numbers))) c ≡ true = claims-in y lies.own lies.single (order m y ++ (map y.place_of_doomed numbers)) w q.loaded c q.among q.here q.claims in
-            absurd (let z : true ≡ false = sym t ∙ e in cc)
+  exactly = claimed-exactly y lies.own lies.single m (map y.place_of_doomed numbers) a.exact
 
   -- marks
   mark-of : (i : Item) (l : Loaded) → is_listed m i ≡ true → y.at (y.place i) ≡ Some l → HasDirtyMark m (item_of (row_of l)) l
@@ -221,7 +227,7 @@ module _ (image : Image) (m : State) (y : Layout) (r : Represents (view_of image
     chain_ends = chain-end (view_of image).store m y r.holds valid;
     nothing_dropped = none-dropped (view_of image) m y r valid;
     rows = rows-kept (view_of image) m y r valid;
-    marks = rw kept-at (marks-of (order m y) (λ w h. h));
+    marks = rw (kept-at image m y r valid) (marks-of (order m y) (λ w h. h));
   }
 
   pub stands-for : IsWellFormed image → IsInOrder image (kept_by listed_rule (view_of image)) (map (λ (d : ℕ × Loaded). d.1) (doomed_of y numbers)) → StandsFor image m

@@ -9,7 +9,7 @@ use Rattle.blk_image.specs.Footprint.{SameOutside}
 use Rattle.blk_format.specs.Address.{kind_of, file_selector, external, rankings, blocks_256}
 use Rattle.blk_format.specs.Storage.{is_storage, kind_for}
 use Rattle.blk_format.specs.BlockFiles.{linked_as, stands_in}
-use Rattle.blk_volume.specs.View.{RecordFields, stands_as, list_of, checks_at, next_at, prev_at, store_of, node_fields_at, core_at, follow_at, stored_at}
+use Rattle.blk_volume.specs.View.{RecordFields, stands_as, list_of, checks_at, next_at, prev_at, store_of, node_fields_at, fields_at, follow_at, stored_at}
 use Rattle.blk_volume.specs.Entries.{is_key_length, longest_short_key}
 use Rattle.blk_laws.proofs.ByteChanges.{stands-linked}
 use Rattle.blk_format.specs.Sealed.{BeginsWithRecord, record_range}
@@ -45,8 +45,8 @@ unstood-stored : (image : Image) (size u : ℕ) → stands_in image u ≡ false 
 unfolding stored_at
 unstood-stored image size u none = rw none refl
 
-core-stands : (image : Image) (u : ℕ) (fields : RecordFields) → core_at image u ≡ Some fields → stands_as image blocks_256 u ≡ true
-unfolding core_at
+core-stands : (image : Image) (u : ℕ) (fields : RecordFields) → fields_at image u ≡ Some fields → stands_as image blocks_256 u ≡ true
+unfolding fields_at
 core-stands image u fields is = ⊎_elim
     (λ (s : stands_as image blocks_256 u ≡ true). s)
     (λ (s : stands_as image blocks_256 u ≡ false). let none : ◌≡◌ {A = Option RecordFields} None (Some fields) = rw s at is in absurd (cc))
@@ -120,7 +120,7 @@ module _ (from image : Image) (w : ℕ) (st : stands_in from w ≡ true) (begins
     no-record e = let z : ◌≡◌ {A = ℕ} 2 1 = e ∙ node in cc
 
     pub entries-still : (u : ℕ) → (store_of from).entry u ≡ (store_of image).entry u
-    unfolding core_at store_of
+    unfolding fields_at store_of
     entries-still u = ⊎_elim
         (λ (e : stands_as from blocks_256 u ≡ true). (record-elsewhere from image w st begins same).store.entry u (elsewhere-clear (file_selector w) u (away blocks_256 u e no-record)))
         (λ (e : stands_as from blocks_256 u ≡ false). rw (stands_as-all blocks_256 u ∙ e, e) refl)

@@ -6,7 +6,7 @@ use Rattle.blk_image.specs.Told.{Along}
 use Rattle.blk_image.proofs.Runs.{until_weaker2}
 use Rattle.blk_volume.specs.ListView.{ListView, ListWrite}
 use Rattle.blk_volume.specs.Walk.{walk}
-use Rattle.blk_volume.specs.ListPlans.{completion_writes, outcome}
+use Rattle.blk_volume.specs.ListPlans.{completion_writes, completed_but_operation}
 use Rattle.blk_volume.specs.View.{list_of, store_of}
 use Rattle.blk_volume.specs.ListSteps.{IsPartly, steps_of}
 use Rattle.blk_volume.specs.ListImages.{IsWritable, CompletesAlike, IsCompleted, IsStopped, completed_walk, completion_steps, stopped_folder}
@@ -26,7 +26,7 @@ completions-can image = completion_can image
 pub partly-alike : (from image : Image) → IsPartly from (completion_writes (list_of from)) image → CompletesAlike from image
 partly-alike from image part =
     let list : ListView = list_of from in
-    ap outcome part.shown.list ∙ at_moment (λ u. outcome u ≡ outcome list) (completion_writes list) list part.made (completion_keeps list)
+    ap completed_but_operation part.shown.list ∙ at_moment (λ u. completed_but_operation u ≡ completed_but_operation list) (completion_writes list) list part.made (completion_keeps list)
 
 pub completions-keep : CompletionsKeepTheOutcome
 completions-keep image ready =
@@ -48,7 +48,7 @@ made-completed from image shown =
     let list : ListView = list_of from in
     let ends = completion_ends list in
     let idle : (list_of image).transaction ≡ 0 = ap (λ (l : ListView). l.transaction) shown.list ∙ ends.1 in
-    let is : rested (list_of image) ≡ outcome list = ap rested shown.list ∙ ends.0 in
+    let is : rested (list_of image) ≡ completed_but_operation list = ap rested shown.list ∙ ends.0 in
     record {
       list = idle_is (list_of image) idle ∙ is;
       idle = idle;

@@ -90,7 +90,6 @@ times_are node moment kind =
     let low : ℕ = moment % 2 ^ 32 in
     let high : ℕ = moment / 2 ^ 32 in
     record {
-      some = omega arith;
       few = omega arith;
       aligned = each (λ change. change.0 % 4 ≡ 0) (0, low) (4, high) (8, low) (12, high) refl refl refl refl;
       before = each (λ change. change.0 < seal_place node) (0, low) (4, high) (8, low) (12, high) (omega (arith, seal)) (omega (arith, seal)) (omega (arith, seal)) (omega (arith, seal));
@@ -294,9 +293,10 @@ touches-rest image node moment prefix suffix ready rest =
     (sym (touch_list image ready node moment (listed node (list_of image) prefix suffix rest.whole).good (touch_writes node (list_of image)) (touches-can image node prefix suffix rest)))
     (touches-end node (list_of image) prefix suffix rest)
 
+pub touch_times : (image : Image) (node moment : ℕ) → IsWritable image → (list_of image).checks node ≡ true → (ws : List ListWrite) → CanBeMade image ws → moment < 2 ^ 64 → AreTimes node moment (after (touch_steps node moment ws image) image)
+touch_times image node moment ready good ws can small =
+    times_set (after (steps_of ws image) image) (after (touch_steps node moment ws image) image) node moment (still_good image ready node moment good ws can).kind small (touch_updated image ready node moment good ws can)
+
 pub touches-times : TouchesSetTheTimes
 touches-times image node moment prefix suffix ready rest small =
-    let good = (listed node (list_of image) prefix suffix rest.whole).good in
-    let ws : List ListWrite = touch_writes node (list_of image) in
-    let can = touches-can image node prefix suffix rest in
-    times_set (after (steps_of ws image) image) (after (touch_steps node moment ws image) image) node moment (still_good image ready node moment good ws can).kind small (touch_updated image ready node moment good ws can)
+    touch_times image node moment ready (listed node (list_of image) prefix suffix rest.whole).good (touch_writes node (list_of image)) (touches-can image node prefix suffix rest) small

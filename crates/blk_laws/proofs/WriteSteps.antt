@@ -23,7 +23,7 @@ use Rattle.blk_volume.specs.ListView.{ListView, ListWrite, Next, Prev, Head, Tai
 use Rattle.blk_volume.specs.View.{list_of}
 use Rattle.blk_volume.specs.ShownChanges.{OnlyListChanges}
 use Rattle.blk_laws.specs.IndexWrites.{IsListWord, checked_words}
-use Rattle.blk_volume.specs.ListSteps.{IsPartly, AreOf, write_steps, steps_of, touched_by, touched_by_writes}
+use Rattle.blk_volume.specs.ListSteps.{IsPartly, AreOf, write_steps, steps_of, touched_by_write, touched_by_writes}
 use Rattle.blk_volume.specs.ListImages.{IsWritable, CanBeMade}
 use Rattle.blk_laws.specs.ListWords.{WritesAreMadeInTurn, WritesAreMade, WritesCanGoOn}
 use Rattle.blk_laws.proofs.ByteChanges.{stands-address, stands-blocks}
@@ -122,7 +122,7 @@ pub record WriteShows (from : Image) (write : ListWrite) : Type 0 where
 
 -- a word of the index
 index_word : (at x : ℕ) (write : ℕ → ListWrite) (from : Image) → IsWritable from → x < 2 ^ 32 → at + 4 ≤ 368 → at % 4 ≡ 0 → is_among checked_words at ≡ false → IsListWord at write
-    → touched_by (write x) ≡ one_word Index at → Along (IsPartly from (write x ∷ [])) from (word_step Index at x) × OnlyListChanges (write x ∷ []) from (after (word_step Index at x) from)
+    → touched_by_write (write x) ≡ one_word Index at → Along (IsPartly from (write x ∷ [])) from (word_step Index at x) × OnlyListChanges (write x ∷ []) from (after (word_step Index at x) from)
 unfolding word_step
 index_word at x write from ready small inside aligned free law touched =
     let new : Image = applied (Word Index at (word_bytes x)) from in
@@ -140,7 +140,7 @@ index_word at x write from ready small inside aligned free law touched =
 
 -- a link of a node
 link_word : (w p x : ℕ) (write : ListWrite) (from : Image) → IsWritable from → (list_of from).checks w ≡ true → p + 4 ≤ 32
-    → ((image : Image) (moment : IsMidUpdate from w ((p, x) ∷ []) image) → OnlyListChanges (take moment.made (write ∷ [])) from image) → touched_by write ≡ record_range w
+    → ((image : Image) (moment : IsMidUpdate from w ((p, x) ∷ []) image) → OnlyListChanges (take moment.made (write ∷ [])) from image) → touched_by_write write ≡ record_range w
     → Along (IsPartly from (write ∷ [])) from (sealed_steps from w ((p, x) ∷ [])) × OnlyListChanges (write ∷ []) from (after (sealed_steps from w ((p, x) ∷ [])) from)
 link_word w p x write from ready good inside law touched =
     let node = good-node from w ready good in
@@ -169,7 +169,7 @@ link_word w p x write from ready good inside law touched =
     (until_weaker2 (IsMidUpdate from w changes) (IsPartly from (write ∷ [])) (IsMidUpdate from w changes) (IsPartly from (write ∷ [])) steps from part part each, law new full)
 
 pub one_write : (write : ListWrite) (from : Image) → IsWritable from → CanBeMade from (write ∷ []) → WriteShows from write
-unfolding write_steps touched_by
+unfolding write_steps touched_by_write
 one_write (Next w x) from ready can =
     let r = link_word w 16 x (Next w x) from ready can.nodes.0 (omega arith) (λ image moment. nexts-written from image w x (record { good = can.nodes.0; bytes = ready.bytes }) can.words.0 moment) refl in
     record { along = r.0; ends = r.1 }
@@ -196,7 +196,7 @@ first_part from write writes image part = record {
   made = part.made;
   within = omega (arith, part.within);
   shown = subst (λ (ws : List ListWrite). OnlyListChanges ws from image) (front_of part.made write writes part.within) part.shown;
-  outside = outside_wider (either (touched_by write) nothing) (touched_by_writes (write ∷ writes)) from image (within_both (touched_by write) nothing (touched_by_writes (write ∷ writes)) (within_left (touched_by write) (touched_by_writes writes)) (nothing_in (touched_by_writes (write ∷ writes)))) part.outside;
+  outside = outside_wider (either (touched_by_write write) nothing) (touched_by_writes (write ∷ writes)) from image (within_both (touched_by_write write) nothing (touched_by_writes (write ∷ writes)) (within_left (touched_by_write write) (touched_by_writes writes)) (nothing_in (touched_by_writes (write ∷ writes)))) part.outside;
   well_formed = part.well_formed;
 }
   where
@@ -213,7 +213,7 @@ later_part from between write writes first shown image part =
       made = suc part.made;
       within = omega (arith, part.within);
       shown = changes-add (write ∷ []) (take part.made writes) from between image shown part.shown;
-      outside = outside-trans whole from between image (first_part from write writes between first).outside (outside_wider (touched_by_writes writes) whole between image (within_right (touched_by write) (touched_by_writes writes)) part.outside);
+      outside = outside-trans whole from between image (first_part from write writes between first).outside (outside_wider (touched_by_writes writes) whole between image (within_right (touched_by_write write) (touched_by_writes writes)) part.outside);
       well_formed = λ well. part.well_formed (first.well_formed well);
     }
 

@@ -9,7 +9,7 @@ use Rattle.blk_volume.specs.ListPlans.{pending_writes, completion_writes, writes
 use Rattle.blk_volume.specs.View.{list_of}
 use Rattle.blk_volume.specs.ListSteps.{AreOf, AreWords}
 use Rattle.blk_volume.specs.ListImages.{CanBeMade}
-use Rattle.blk_laws.proofs.ListCompletions.{completion_true, completion_false}
+use Rattle.blk_laws.proofs.ListCompletions.{completion_true, completion_false, completion_none}
 use Rattle.blk_laws.proofs.ListWrites.{Counting, counting, pending_insert, pending_remove, pending_move}
 use Rattle.blk_laws.proofs.WriteSteps.{checked-small}
 
@@ -155,7 +155,7 @@ operation_can code node image fits does =
 
 -- and so can what a completion writes
 pub completion_can : (image : Image) → CanBeMade image (completion_writes (list_of image))
-completion_can image = go (counts (list_of image)) refl
+completion_can image = go (list.transaction == 0) refl (counts list) refl
   where
     list : ListView
     list = list_of image
@@ -163,8 +163,9 @@ completion_can image = go (counts (list_of image)) refl
     P : ℕ → Type 0
     P n = list.checks n ≡ true
 
-    go : (t : Bool) → counts list ≡ t → CanBeMade image (completion_writes list)
-    go true does =
+    go : (idle : Bool) → (list.transaction == 0) ≡ idle → (t : Bool) → counts list ≡ t → CanBeMade image (completion_writes list)
+    go true none t e = subst (CanBeMade image) (sym (completion_none list none)) (record { nodes = tt; words = tt })
+    go false some true does =
         let each : Each (Good P) (completion_writes list) = subst (Each (Good P)) (sym (completion_true list does)) (pending_good list (checked-small image) does) in
         record { nodes = each_nodes P (completion_writes list) each; words = each_words P (completion_writes list) each }
-    go false not = subst (CanBeMade image) (sym (completion_false list not)) (record { nodes = tt; words = (omega arith, tt) })
+    go false some false not = subst (CanBeMade image) (sym (completion_false list some not)) (record { nodes = tt; words = (omega arith, tt) })

@@ -1,16 +1,15 @@
 -- The laws from the bytes of files to what a view shows.
-use Rattle.std.specs.Prelude.{◌≡◌, ◌≢◌, ◌⊎◌, ℕ, List, Some, ◌+◌, ◌-◌, ◌<◌, ◌≤◌, Bool, true, false, not, ◌&&◌, ◌||◌, nat_le, is_some}
-use Rattle.blk_image.specs.Image.{Index, Block, External, Image, byte, length_of}
-use Rattle.blk_image.specs.Steps.{SetLength, applied}
+use Rattle.std.specs.Prelude.{◌≡◌, ◌≢◌, ◌⊎◌, ℕ, List, None, Some, ◌+◌, ◌-◌, ◌<◌, ◌≤◌, Bool, true, false}
+use Rattle.blk_image.specs.Image.{Index, Block, External, Image, length_of}
+use Rattle.blk_image.specs.Steps.{SetLength, Delete, applied}
 use Rattle.blk_image.specs.Footprint.{Footprint, range, whole, either, IsWithin, SameOutside}
-use Rattle.blk_format.specs.Address.{kind_of, file_selector, first_block, block_count, place, byte_size, block_place, external, header_size}
-use Rattle.blk_format.specs.Standing.{is_linked_as}
-use Rattle.blk_format.specs.BlockFiles.{linked_as, max_entries_in, next_file_in, stands_in, stands_in_blocks}
+use Rattle.blk_format.specs.Address.{kind_of, file_selector, first_block, block_count, place, byte_size, external, header_size}
+use Rattle.blk_format.specs.BlockFiles.{linked_as, next_file_in, stands_in, stands_in_blocks, IsWellFormed}
 use Rattle.blk_format.specs.Growth.{HaveGrown}
-use Rattle.blk_format.specs.Claims.{Claim, BlockOf, ExternalOf, same_claim, claims_of, has_claim}
+use Rattle.blk_format.specs.Claims.{Claim, ExternalOf, same_claim, claims_of, has_claim}
 use Rattle.blk_volume.specs.View.{view_of}
-use Rattle.blk_volume.specs.Footprint.{SameBut, Covers, AgreeBut, is_there, is_past}
-use Rattle.blk_format.specs.Headers.{is_shown_place}
+use Rattle.blk_volume.specs.Footprint.{SameBut, Covers, AgreeBut, is_there, is_past, is_absent}
+use Rattle.blk_format.specs.Headers.{is_shown_place, is_extent_place}
 use Rattle.blk_volume.specs.Sound.{AreLongEnough}
 use Rattle.blk_volume.specs.Layout.{Layout, Represents}
 use Rattle.blk_volume.specs.StandsFor.{IsOwner}
@@ -27,6 +26,10 @@ AgreeingImagesShowTheSame = (touched : Claim → Bool) (old new : Image) → Agr
 -- where the files are long enough, their growth touches the blocks past theirs alone
 abbrev pub GrowthIsPastTheBlocks : Type 0
 GrowthIsPastTheBlocks = (old new : Image) → AreLongEnough old → HaveGrown old new → AgreeBut (is_past old) old new
+
+-- the growth of block files touches the blocks alone that weren't there, also where a file is too short for its blocks
+abbrev pub GrowthIsOfAbsentBlocks : Type 0
+GrowthIsOfAbsentBlocks = (old new : Image) → HaveGrown old new → AgreeBut (is_absent old) old new
 
 -- the same links link the same files
 abbrev pub SameLinksLinkTheSame : Type 0
@@ -48,9 +51,9 @@ AgreementGoesOn = (touched : Claim → Bool) (old between new : Image) → Agree
 abbrev pub AgreementButMore : Type 0
 AgreementButMore = (less more : Claim → Bool) (old new : Image) → ((claim : Claim) → less claim ≡ true → more claim ≡ true) → AgreeBut less old new → AgreeBut more old new
 
--- growth keeps what is represented, where each owner is a node of the layout that claims
+-- growth keeps what is represented, also where a file is too short for its blocks, where each owner is a node of the layout that claims
 abbrev pub GrowthKeepsStates : Type 0
-GrowthKeepsStates = (old new : Image) (state : State) (layout : Layout) (doomed_nodes : List ℕ) → AreLongEnough old → HaveGrown old new → Represents (view_of old) state layout
+GrowthKeepsStates = (old new : Image) (state : State) (layout : Layout) (doomed_nodes : List ℕ) → HaveGrown old new → Represents (view_of old) state layout
     → ((claim : Claim) (node : ℕ) → layout.owner claim ≡ Some node → IsOwner state layout doomed_nodes claim node) → Represents (view_of new) state layout
 
 -- a change of bytes changes what is shown only inside the blocks and external numbers that cover it
@@ -84,3 +87,27 @@ MoreCovers = (image : Image) (footprint : Footprint) (less more : Claim → Bool
 -- two footprints are covered by what covers each
 abbrev pub CoversOfEither : Type 0
 CoversOfEither = (image : Image) (one other : Footprint) (touched : Claim → Bool) → Covers image one touched → Covers image other touched → Covers image (either one other) touched
+
+-- Headers, and files that go.
+
+-- a change of block files that leaves what says which blocks there are, and all bytes behind the headers: of lengths, maps, counters and updating
+pub record IsOfHeaders (footprint : Footprint) : Type 0 where
+  pub index : (i : ℕ) → is_shown_place i ≡ true → footprint.bytes Index i ≡ false
+  pub extents : (n i : ℕ) → is_extent_place i ≡ true → footprint.bytes (Block n) i ≡ false
+  pub suffix : (n i : ℕ) → header_size ≤ i → footprint.bytes (Block n) i ≡ false
+  pub externals : (n i : ℕ) → footprint.bytes (External n) i ≡ false
+  pub external_sizes : (n : ℕ) → footprint.sizes (External n) ≡ false
+
+-- where no block file gets shorter, they have grown at most
+abbrev pub ChangedHeadersHaveGrown : Type 0
+ChangedHeadersHaveGrown = (footprint : Footprint) (old new : Image) → IsOfHeaders footprint → SameOutside footprint old new → ((n : ℕ) → length_of old (Block n) ≤ length_of new (Block n)) → HaveGrown old new
+
+-- a block file that isn't linked may be deleted: nothing is shown to change, the same files are linked, and a well-formed folder stays so
+pub record IsWithoutFile (from image : Image) : Type 0 where
+  pub shown : SameBut (λ claim. false) (view_of from) (view_of image)
+  pub linked : (n : ℕ) → linked_as image n ≡ linked_as from n
+  pub well_formed : IsWellFormed from → IsWellFormed image
+
+-- so it may go
+abbrev pub UnlinkedFilesMayGo : Type 0
+UnlinkedFilesMayGo = (image : Image) (m : ℕ) → linked_as image m ≡ None → IsWithoutFile image (applied (Delete (Block m)) image)

@@ -26,6 +26,7 @@ use Rattle.blk_volume.specs.Found.{row_of, completed}
 use Rattle.blk_volume.specs.Layout.{Layout, is_listed, nodes_of, order, rule_of, IsLayoutOf, HoldsExcept, IsInProgress, Represents, changed_at, emptied_at, IsDoomedChange}
 use Rattle.blk_volume.specs.Given.{picked_with, IsTest}
 use Rattle.blk_volume.specs.Footprint.{IsClear, SameStore, SameBut, SameExceptAt, OnlyLinksChange, IsFree, IsFreeBut, IsOnlyRecord, SameNodeLinks, IsInside, KeepsName}
+use Rattle.blk_volume.specs.ShownChanges.{ShowsTheSame}
 use Rattle.blk_volume.specs.Removal.{without_items, placed_less, ListsLess, HasLess, HasChains, is_of_another, placed_doomed}
 use Rattle.blk_volume.specs.Creation.{IsNewEntry, IsFrontOfChain, with_new, linked_front}
 
@@ -36,7 +37,7 @@ abbrev pub UnsettledObjectsMayChange : Type 0
 UnsettledObjectsMayChange = (except : ℕ → Bool) (store : StoreView) (state : State) (layout : Layout) → HoldsExcept except store state layout → IsValidState state → (key : List ℕ) → IsInProgress except store state layout key → Distinct (order state layout)
     → map row_of (kept_among store held_rule (order state layout)) ≡ rest state
 
--- at any moment of a change inside the footprint of a node of an unsettled object, its main item's or a part's, what is kept is what is at rest
+-- in the midst of a change inside the footprint of a node of an unsettled object, its main item's or a part's, what is kept is what is at rest
 abbrev pub UnsettledChangesAreAtRest : Type 0
 UnsettledChangesAreAtRest = (touched : Claim → Bool) (old new : View) (state : State) (layout : Layout) → Represents old state layout → IsValidState state → (number : ℕ) (object : Object) (item : Item) → object_at state number ≡ Some object → has_item object item ≡ true → object.settled ≡ false
     → (loaded : Loaded) → layout.at (layout.place item) ≡ Some loaded → SameBut touched old new → IsInside touched old new layout (layout.place item) loaded → KeepsName old.store new.store item loaded.contents → map row_of (kept_by held_rule (completed new)) ≡ rest state
@@ -124,7 +125,7 @@ ChangedDoomedObjectsAreRepresented = (touched : Claim → Bool) (old new : View)
     → SameBut touched old new → IsFreeBut (layout.place_of_doomed number) touched layout → load new.store (rule_of layout (layout.place_of_doomed number)) (layout.place_of_doomed number) ≡ Ok now → IsDoomedChange layout (layout.place_of_doomed number) other now owner
     → Represents new (with_slot number (Some other) state) (changed_at layout (layout.place_of_doomed number) now owner)
 
--- at any moment of a change there, also where its record is torn, what is kept is what is at rest
+-- in the midst of a change there, also where its record is torn, what is kept is what is at rest
 abbrev pub DoomedChangesAreAtRest : Type 0
 DoomedChangesAreAtRest = (touched : Claim → Bool) (old new : View) (state : State) (layout : Layout) → Represents old state layout → IsValidState state → (number : ℕ) (object : Object) → object_at state number ≡ Some object → object.live ≡ false
     → SameBut touched old new → IsFreeBut (layout.place_of_doomed number) touched layout → map row_of (kept_by held_rule (completed new)) ≡ rest state
@@ -246,15 +247,17 @@ HandlesAreNotShown = (view : View) (state : State) (layout : Layout) → Represe
 abbrev pub touched_view : View → ℕ → ℕ → View
 touched_view view node count = record view { list = after_writes (take count (touch_writes node view.list)) view.list }
 
--- at each write of the touch what is kept may be left by a stop in the Open
+-- at each write of the touch, in a store that shows the same, what is kept may be left by a stop in the Open
 abbrev pub OpensAtEachWrite : Type 0
 OpensAtEachWrite = (view : View) (state : State) (layout : Layout) → Represents view state layout → IsValidState state → (moment handle : ℕ) (key : List ℕ) → refused moment (to_open handle key) state ≡ None
-    → (count : ℕ) → StopOutcome state moment (to_open handle key) (step state moment (to_open handle key)).state (map row_of (kept_by held_rule (completed (touched_view view (layout.place (main key)) count))))
+    → (store : StoreView) → ShowsTheSame view.store store
+    → (count : ℕ) → StopOutcome state moment (to_open handle key) (step state moment (to_open handle key)).state (map row_of (kept_by held_rule (completed (touched_view (record view { store = store }) (layout.place (main key)) count))))
 
 -- and in the end the new state is represented
 abbrev pub OpensEnd : Type 0
 OpensEnd = (view : View) (state : State) (layout : Layout) → Represents view state layout → IsValidState state → (moment handle : ℕ) (key : List ℕ) → refused moment (to_open handle key) state ≡ None
-    → Represents (record view { list = after_writes (touch_writes (layout.place (main key)) view.list) view.list }) (step state moment (to_open handle key)).state layout
+    → (store : StoreView) → ShowsTheSame view.store store
+    → Represents (record { list = after_writes (touch_writes (layout.place (main key)) view.list) view.list; store = store }) (step state moment (to_open handle key)).state layout
 
 -- Create without evictions.
 
@@ -271,15 +274,38 @@ pub record IsWritten (old new : View) (state : State) (layout : Layout) (key : L
   pub few : length (order state layout) < most_nodes
   pub missing : owner state (main key) ≡ None
 
+-- they are so in each store that shows the same
+abbrev pub WrittenEntriesStay : Type 0
+WrittenEntriesStay = (old new : View) (state : State) (layout : Layout) (key : List ℕ) (loaded : Loaded) → IsWritten old new state layout key loaded
+    → (store : StoreView) → ShowsTheSame new.store store → IsWritten old (record new { store = store }) state layout key loaded
+
+-- while they are written, at any moment at which nothing else is touched, what is kept is what is at rest
+abbrev pub CreatesBeforeTheInsert : Type 0
+CreatesBeforeTheInsert = (touched : Claim → Bool) (old view : View) (state : State) (layout : Layout) → Represents old state layout → IsValidState state → SameBut touched old view → IsFree touched layout
+    → map row_of (kept_by held_rule (completed view)) ≡ rest state
+
 -- while its node is inserted what is kept is what is at rest
 abbrev pub CreatesAtEachWrite : Type 0
 CreatesAtEachWrite = (old new : View) (state : State) (layout : Layout) (key : List ℕ) (loaded : Loaded) → IsWritten old new state layout key loaded
-    → (count : ℕ) → map row_of (kept_by held_rule (completed (record new { list = after_writes (take count (writes_of insert loaded.node new.list)) new.list }))) ≡ rest state
+    → (store : StoreView) → ShowsTheSame new.store store
+    → (count : ℕ) → map row_of (kept_by held_rule (completed (record { list = after_writes (take count (writes_of insert loaded.node new.list)) new.list; store = store }))) ≡ rest state
 
 -- with its record in front of its chain the new state is represented
 abbrev pub CreatesEnd : Type 0
 CreatesEnd = (old new : View) (state : State) (layout : Layout) (key : List ℕ) (loaded : Loaded) → IsWritten old new state layout key loaded → (handle : ℕ)
-    → Represents (record { list = after_writes (writes_of insert loaded.node new.list) new.list; store = linked_front new.store loaded }) (created handle key state) (with_new layout key loaded)
+    → (store linked : StoreView) → ShowsTheSame new.store store → ShowsTheSame (linked_front store loaded) linked
+    → Represents (record { list = after_writes (writes_of insert loaded.node new.list) new.list; store = linked }) (created handle key state) (with_new layout key loaded)
+
+-- and so what is kept from then on is what is at rest, in each store that shows the same
+abbrev pub CreatesAfterTheLink : Type 0
+CreatesAfterTheLink = (old new : View) (state : State) (layout : Layout) (key : List ℕ) (loaded : Loaded) → IsWritten old new state layout key loaded → (handle : ℕ) → IsValidState (created handle key state)
+    → (store linked : StoreView) → ShowsTheSame new.store store → ShowsTheSame (linked_front store loaded) linked
+    → map row_of (kept_by held_rule (completed (record { list = after_writes (writes_of insert loaded.node new.list) new.list; store = linked }))) ≡ rest state
+
+-- where nothing is evicted, that is the state after the Create
+abbrev pub CreatesEndAtTheStep : Type 0
+CreatesEndAtTheStep = (state : State) (handle : ℕ) (key : List ℕ) (moment : ℕ) → refused moment (to_create handle key) state ≡ None → evicted moment (to_create handle key) state ≡ []
+    → (step state moment (to_create handle key)).state ≡ created handle key state
 
 -- which has the same at rest
 abbrev pub CreatesLeaveTheRest : Type 0

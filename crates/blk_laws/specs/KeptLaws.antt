@@ -9,11 +9,12 @@ use Rattle.std.specs.declared.result.Result.TheVariants.{Ok}
 use Rattle.blk_image.specs.Image.{Image}
 use Rattle.blk_format.specs.Hash.{hash}
 use Rattle.blk_format.specs.BlockFiles.{is_among, IsWellFormed}
+use Rattle.blk_volume.specs.ListView.{Distinct}
 use Rattle.blk_volume.specs.View.{View, StoreView, RecordFields, view_of}
 use Rattle.blk_volume.specs.Chains.{chain, bucket_of_hash}
 use Rattle.blk_volume.specs.Reasons.{Reason}
 use Rattle.blk_volume.specs.Loads.{Rule, held_rule, Loaded, load_key}
-use Rattle.blk_volume.specs.Audit.{judged, kept_among, dropped_among, kept_by}
+use Rattle.blk_volume.specs.Audit.{judged, kept_as, kept_nodes, kept_among, dropped_among, kept_by}
 use Rattle.blk_volume.specs.Found.{completed, found}
 use Rattle.blk_volume.specs.Shown.{IsShown}
 use Rattle.blk_volume.specs.Candidates.{candidates, SameNamed}
@@ -25,6 +26,14 @@ KeptAreTheGiven = (store : StoreView) (rule : Rule) (nodes : List ℕ) (given : 
 -- where something is given to each node, none is dropped
 abbrev pub NoneOfTheGivenIsDropped : Type 0
 NoneOfTheGivenIsDropped = (store : StoreView) (rule : Rule) (nodes : List ℕ) (given : ℕ → Option Loaded) → IsShown store rule nodes given → ((node : ℕ) → is_among nodes node ≡ true → given node ≢ None) → dropped_among store rule nodes ≡ []
+
+-- what is kept loads, shares no block, no external number and no name, and has its parents: a walk of the kept nodes alone shows it
+abbrev pub KeptAreShown : Type 0
+KeptAreShown = (store : StoreView) (rule : Rule) (nodes : List ℕ) → Distinct nodes → IsShown store rule (kept_nodes store rule nodes) (kept_as store rule nodes)
+
+-- and keeps the same
+abbrev pub KeptAloneAreKept : Type 0
+KeptAloneAreKept = (store : StoreView) (rule : Rule) (nodes : List ℕ) → Distinct nodes → kept_among store rule (kept_nodes store rule nodes) ≡ kept_among store rule nodes
 
 -- a node that is left out was dropped
 abbrev pub IsDroppedIfLeftOut : (ℕ → Bool) → ℕ × Result Loaded Reason → Type 0

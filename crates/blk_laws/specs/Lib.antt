@@ -10,3 +10,7 @@ pub mod NodeUpdates
 pub mod RecordUpdates
 pub mod IndexWrites
 pub mod ListWords
+pub mod ItemLaws
+pub mod SearchLaws
+pub mod ChargeLaws
+pub mod TidyLaws

@@ -7,7 +7,7 @@ use Rattle.std.specs.declared.option.Option.TheVariants.{None}
 use Rattle.blk_volume.specs.ListView.{ListView, IsList, IsAtRest, CanBeInserted, Distinct, put, after_writes}
 use Rattle.blk_volume.specs.Walk.{walk}
 use Rattle.blk_volume.specs.Completion.{insert, remove}
-use Rattle.blk_volume.specs.ListPlans.{writes_of, touch_writes, completion_writes, outcome, CommitsAtTwo, stopped}
+use Rattle.blk_volume.specs.ListPlans.{writes_of, touch_writes, completion_writes, completed_but_operation, CommitsAtTwo, stopped}
 use Rattle.blk_volume.specs.View.{StoreView, stands_as, store_of}
 use Rattle.blk_volume.specs.Chains.{file_and_block, most_records, is_of_bucket, chain, Linked, IsChain}
 
@@ -16,6 +16,10 @@ use Rattle.blk_volume.specs.Chains.{file_and_block, most_records, is_of_bucket, 
 -- the walk of a whole list is its nodes
 abbrev pub WalksAreTheLists : Type 0
 WalksAreTheLists = (list : ListView) (nodes : List ℕ) → IsList list nodes → walk list ≡ nodes
+
+-- the nodes of a walk are different, and each stands and checks
+abbrev pub WalksAreDistinct : Type 0
+WalksAreDistinct = (list : ListView) → Distinct (walk list) × ((node : ℕ) → is_among (walk list) node ≡ true → list.checks node ≡ true)
 
 -- an insert, stopped after any of its writes and completed, gives the old list before the second write, and the new list from then on
 abbrev pub InsertsCommitAtTwo : Type 0
@@ -43,11 +47,11 @@ TouchesEnd = (node : ℕ) (list : ListView) (prefix suffix : List ℕ) → IsAtR
 
 -- completing, stopped anywhere and begun again as often as one likes, leaves a list whose completion is the same but for the operation word, on every list
 abbrev pub CompletingAgainIsTheSame : Type 0
-CompletingAgainIsTheSame = (list : ListView) (counts : List ℕ) → outcome (stopped counts list) ≡ outcome list
+CompletingAgainIsTheSame = (list : ListView) (counts : List ℕ) → completed_but_operation (stopped counts list) ≡ completed_but_operation list
 
 -- all that completing writes gives the completed list, but for the operation word
 abbrev pub CompletionsEnd : Type 0
-CompletionsEnd = (list : ListView) → outcome (after_writes (completion_writes list) list) ≡ outcome list × ((after_writes (completion_writes list) list).transaction ≡ 0)
+CompletionsEnd = (list : ListView) → completed_but_operation (after_writes (completion_writes list) list) ≡ completed_but_operation list × ((after_writes (completion_writes list) list).transaction ≡ 0)
 
 -- The chains.
 

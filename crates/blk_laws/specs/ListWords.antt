@@ -1,13 +1,14 @@
 -- The laws of the use list in bytes: what it is at each word that its operations write.
-use Rattle.std.specs.Prelude.{◌≡◌, ◌<◌, ◌^◌, ℕ, List, ◌∷◌, ◌++◌}
+use Rattle.std.specs.Prelude.{◌≡◌, ◌<◌, ◌≤◌, ◌+◌, ◌^◌, ℕ, List, ◌∷◌, ◌++◌, All, true}
 use Rattle.blk_image.specs.Image.{Image}
 use Rattle.blk_image.specs.Steps.{after}
 use Rattle.blk_image.specs.Told.{Along, CommitsAt}
+use Rattle.blk_format.specs.Sealed.{AreChanges, seal_place, sealed_steps}
 use Rattle.blk_volume.specs.ListView.{ListWrite, CanBeInserted}
 use Rattle.blk_volume.specs.Completion.{insert, remove}
 use Rattle.blk_volume.specs.ListPlans.{writes_of, touch_writes, completion_writes}
 use Rattle.blk_volume.specs.View.{list_of}
-use Rattle.blk_volume.specs.ListSteps.{IsPartly, IsTouched, IsSealed, AreSealed, AreTimes, steps_of}
+use Rattle.blk_volume.specs.ListSteps.{IsPartly, IsTouched, IsSealed, KeepsSealed, AreSealed, AreTimes, steps_of}
 use Rattle.blk_volume.specs.ListImages.{IsWritable, CanBeMade, CompletesTo, HasListAtRest, operation_steps, steps_of_touch, completion_steps, CompletesAlike, IsCompleted, stopped_folder, IsStopped}
 use Rattle.blk_volume.specs.ShownChanges.{OnlyListChanges}
 
@@ -28,6 +29,15 @@ WritesCanGoOn = (image : Image) (writes : List ListWrite) → IsWritable image �
 -- in the end each node that is written is sealed
 abbrev pub WritesSealTheirNodes : Type 0
 WritesSealTheirNodes = (image : Image) (writes : List ListWrite) → IsWritable image → CanBeMade image writes → AreSealed writes (after (steps_of writes image) image)
+
+-- and each other node that was sealed is so still
+abbrev pub WritesKeepSeals : Type 0
+WritesKeepSeals = (image : Image) (writes : List ListWrite) → IsWritable image → CanBeMade image writes → KeepsSealed image (after (steps_of writes image) image)
+
+-- the sealed update of a node seals it, and keeps the seals of the others
+abbrev pub NodeUpdatesKeepSeals : Type 0
+NodeUpdatesKeepSeals = (image : Image) (node : ℕ) (changes : List (ℕ × ℕ)) → IsWritable image → (list_of image).checks node ≡ true → AreChanges (seal_place node) changes → All (λ change. change.0 + 4 ≤ seal_place node) changes
+    → IsSealed (after (sealed_steps image node changes) image) node × KeepsSealed image (after (sealed_steps image node changes) image)
 
 -- Operations.
 
@@ -87,6 +97,10 @@ TouchesSetTheTimes = (image : Image) (node moment : ℕ) (prefix suffix : List �
 abbrev pub TouchesSealTheirNodes : Type 0
 TouchesSealTheirNodes = (image : Image) (node moment : ℕ) (prefix suffix : List ℕ) → IsWritable image → HasListAtRest (prefix ++ node ∷ suffix) image
     → AreSealed (touch_writes node (list_of image)) (after (steps_of_touch node moment image) image) × IsSealed (after (steps_of_touch node moment image) image) node
+
+-- where each other node that was sealed is so still
+abbrev pub TouchesKeepSeals : Type 0
+TouchesKeepSeals = (image : Image) (node moment : ℕ) (prefix suffix : List ℕ) → IsWritable image → HasListAtRest (prefix ++ node ∷ suffix) image → KeepsSealed image (after (steps_of_touch node moment image) image)
 
 -- Completions, on every list.
 

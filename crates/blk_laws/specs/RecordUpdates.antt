@@ -1,4 +1,4 @@
--- What the update of an entry record does to what is shown, at each of its moments.
+-- What the update of an entry record does to what is shown, at each of its words.
 use Rattle.std.specs.Prelude.{◌≡◌, ℕ, ◌^◌, ◌<◌, ◌≤◌, ◌==◌, if◌then◌else◌, List, [], ◌∷◌, All, take, true}
 use Rattle.std.specs.declared.option.Option.TheVariants.{Some}
 use Rattle.blk_image.specs.Bytes.{content}

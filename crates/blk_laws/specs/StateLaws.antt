@@ -21,6 +21,7 @@ use Rattle.blk_volume.specs.Layout.{Layout, is_in, is_listed, nodes_of, order, I
 use Rattle.blk_volume.specs.Given.{given_by, GoesWith, picked_with, IsTest}
 use Rattle.blk_volume.specs.Footprint.{SameBut, IsFree, IsReplaced}
 use Rattle.blk_volume.specs.Sound.{ChainsEnd, IsInOrder}
+use Rattle.blk_volume.specs.Tidy.{IsTidy}
 use Rattle.blk_volume.specs.StandsFor.{ShowsState, StandsFor, doomed_of, IsAllocated}
 
 -- What represents a valid state.
@@ -57,6 +58,19 @@ RepresentedStatesAreShown = (image : Image) (state : State) (layout : Layout) (n
 abbrev pub RepresentedStatesAreStoodFor : Type 0
 RepresentedStatesAreStoodFor = (image : Image) (state : State) (layout : Layout) (numbers : List ℕ) → Represents (view_of image) state layout → IsValidState state → IsAllocated image state layout numbers → IsWellFormed image
     → IsInOrder image (kept_by listed_rule (view_of image)) (map (λ d. d.1) (doomed_of layout numbers)) → StandsFor image state
+
+-- files, counters and seals that are in order by a layout are so for what is listed and doomed
+abbrev pub TidyIsInOrder : Type 0
+TidyIsInOrder = (image : Image) (state : State) (layout : Layout) (numbers : List ℕ) → Represents (view_of image) state layout → IsValidState state → IsTidy image state layout numbers
+    → IsInOrder image (kept_by listed_rule (view_of image)) (map (λ d. d.1) (doomed_of layout numbers))
+
+-- so a tidy image with exact maps stands for the state
+abbrev pub TidyStatesAreStoodFor : Type 0
+TidyStatesAreStoodFor = (image : Image) (state : State) (layout : Layout) (numbers : List ℕ) → Represents (view_of image) state layout → IsValidState state → IsAllocated image state layout numbers → IsWellFormed image → IsTidy image state layout numbers → StandsFor image state
+
+-- what stands for a state finds what is at rest in it
+abbrev pub WhatIsStoodForIsFound : Type 0
+WhatIsStoodForIsFound = (image : Image) (state : State) → StandsFor image state → found image ≡ rest state
 
 -- What a walk of some items of a layout keeps.
 

@@ -1,15 +1,19 @@
 //! The laws of what a cache folder holds, each the contract of a function with an empty body.
 //!
-//! They say that the definitions of `blk_volume` fit together: what is kept, what represents a state, what changes leave, and what a folder shows at each moment of a write.
+//! They say that the definitions of `blk_volume` fit together: what is kept, what represents a state, what changes leave, and what a folder shows at each word of a write.
 #![tactic(auto)]
 
 ghost use Rattle.blk_laws.specs.AllocationLaws.{SoundFilesAreAllocated, StoodForFilesAreAllocated};
 ghost use Rattle.blk_laws.specs.BareLaws.{NothingRepresentsTheEmptyState, FoldersWithoutEntriesHoldNothing, FoldersWithoutEntriesAreSound, FoldersWithoutEntriesRepresentTheEmptyState, FoldersWithoutEntriesStandForTheEmptyState, NewFoldersHaveNoEntries};
-ghost use Rattle.blk_laws.specs.ByteLaws.{BlocksStandByTheirLast, CoveredChangesStayInside, BlocksAreCovered, ExternalFilesAreCovered, HeadersNeedNoCover, HiddenWordsNeedNoCover, CoversOfLess, MoreCovers, CoversOfEither, AgreeingImagesShowTheSame, CoveredChangesAgree, GrowthIsPastTheBlocks, SameLinksLinkTheSame, AgreementGoesOn, AgreementButMore, LongerFilesHaveGrown, GrowthKeepsStates};
-ghost use Rattle.blk_laws.specs.CommandLaws.{UnsettledObjectsMayChange, UnsettledChangesAreAtRest, RemovalsKeepTheOthers, LessIsPlaced, LessIsRepresented, DirtyWordsSettle, WrittenDirtyWordsSettle, ChangedDoomedObjectsArePlaced, ChangedDoomedObjectsAreRepresented, DoomedChangesAreAtRest, GoneDoomedObjectsAreRepresented, DoomedDirtyWordsSettle, WrittenDoomedDirtyWordsSettle, RepresentedHoldExcept, MoreMayBeLeftOut, OthersHoldOutside, OthersHoldUnlinked, ChainedRecordsAreOnlyRecords, RecordsStayOutside, RecordsStayUnlinked, RecordsOfAnotherStateLoad, ListedItemsAreAtRest, DoomsKeepTheOthers, DoomsAtEachWrite, DoomedPartsAtEachWrite, DoomedIsPlaced, DoomedIsRepresented, HandlesAreNotShown, RestBeforeTurning, RestAfterTurning, OpensAtEachWrite, OpensEnd, CreatesAtEachWrite, CreatesEnd, CreatesLeaveTheRest, CreatesMayLeaveWhatWas};
-ghost use Rattle.blk_laws.specs.KeptLaws.{KeptAreTheGiven, NoneOfTheGivenIsDropped, LeavingOutKeepsTheSame, SameKeyIsOneChain, OnlyCandidatesAreKept, SameCandidatesHoldTheSame};
-ghost use Rattle.blk_laws.specs.ListLaws.{WalksAreTheLists, InsertsCommitAtTwo, InsertsEnd, RemovalsCommitAtTwo, RemovalsEnd, TouchesCommitAtTwo, TouchesEnd, CompletingAgainIsTheSame, CompletionsEnd, ChainsAreTheirRecords, RecordsAreLinkedInFront, WholeChainsAreShort, RecordsOfImagesAreFew, ChainsOfImagesAreShort, OtherChainsStay, FirstRecordsAreUnlinked, FirstRecordsLeaveChains, LaterRecordsAreUnlinked, LaterRecordsLeaveChains};
-ghost use Rattle.blk_laws.specs.StateLaws.{WalksAreTheOrder, ListedAreTheRows, NothingListedIsDropped, RepresentedChainsEnd, KeptAreAtRest, FoundIsAtRest, RepresentedStatesAreShown, RepresentedStatesAreStoodFor, PlacedItemsAreShown, KeptArePicked, FreeFootprintsKeepStates, ChangedItemsArePlaced, ChangedItemsAreRepresented};
+ghost use Rattle.blk_laws.specs.ByteLaws.{BlocksStandByTheirLast, CoveredChangesStayInside, BlocksAreCovered, ExternalFilesAreCovered, HeadersNeedNoCover, HiddenWordsNeedNoCover, CoversOfLess, MoreCovers, CoversOfEither, AgreeingImagesShowTheSame, CoveredChangesAgree, GrowthIsPastTheBlocks, SameLinksLinkTheSame, AgreementGoesOn, AgreementButMore, LongerFilesHaveGrown, GrowthIsOfAbsentBlocks, ChangedHeadersHaveGrown, GrowthKeepsStates, UnlinkedFilesMayGo};
+ghost use Rattle.blk_laws.specs.CommandLaws.{UnsettledObjectsMayChange, UnsettledChangesAreAtRest, RemovalsKeepTheOthers, LessIsPlaced, LessIsRepresented, DirtyWordsSettle, WrittenDirtyWordsSettle, ChangedDoomedObjectsArePlaced, ChangedDoomedObjectsAreRepresented, DoomedChangesAreAtRest, GoneDoomedObjectsAreRepresented, DoomedDirtyWordsSettle, WrittenDoomedDirtyWordsSettle, RepresentedHoldExcept, MoreMayBeLeftOut, OthersHoldOutside, OthersHoldUnlinked, ChainedRecordsAreOnlyRecords, RecordsStayOutside, RecordsStayUnlinked, RecordsOfAnotherStateLoad, ListedItemsAreAtRest, DoomsKeepTheOthers, DoomsAtEachWrite, DoomedPartsAtEachWrite, DoomedIsPlaced, DoomedIsRepresented, HandlesAreNotShown, RestBeforeTurning, RestAfterTurning, OpensAtEachWrite, OpensEnd, WrittenEntriesStay, CreatesBeforeTheInsert, CreatesAtEachWrite, CreatesEnd, CreatesAfterTheLink, CreatesEndAtTheStep, CreatesLeaveTheRest, CreatesMayLeaveWhatWas};
+ghost use Rattle.blk_laws.specs.KeptLaws.{KeptAreTheGiven, NoneOfTheGivenIsDropped, KeptAreShown, KeptAloneAreKept, LeavingOutKeepsTheSame, SameKeyIsOneChain, OnlyCandidatesAreKept, SameCandidatesHoldTheSame};
+ghost use Rattle.blk_laws.specs.ListLaws.{WalksAreTheLists, WalksAreDistinct, InsertsCommitAtTwo, InsertsEnd, RemovalsCommitAtTwo, RemovalsEnd, TouchesCommitAtTwo, TouchesEnd, CompletingAgainIsTheSame, CompletionsEnd, ChainsAreTheirRecords, RecordsAreLinkedInFront, WholeChainsAreShort, RecordsOfImagesAreFew, ChainsOfImagesAreShort, OtherChainsStay, FirstRecordsAreUnlinked, FirstRecordsLeaveChains, LaterRecordsAreUnlinked, LaterRecordsLeaveChains};
+ghost use Rattle.blk_laws.specs.StateLaws.{WalksAreTheOrder, ListedAreTheRows, NothingListedIsDropped, RepresentedChainsEnd, KeptAreAtRest, FoundIsAtRest, RepresentedStatesAreShown, TidyIsInOrder, RepresentedStatesAreStoodFor, TidyStatesAreStoodFor, WhatIsStoodForIsFound, PlacedItemsAreShown, KeptArePicked, FreeFootprintsKeepStates, ChangedItemsArePlaced, ChangedItemsAreRepresented};
+ghost use Rattle.blk_laws.specs.ItemLaws.{SameStoresRepresent, TouchedItemsAtEachWrite, TouchedItemsEnd, NewItemsArePlaced};
+ghost use Rattle.blk_laws.specs.SearchLaws.{ChainsAreTheLayouts, RepresentedChainsAreShort, RepresentedChainsCanBeSearched, FoundRecordsAreLive, NoneFoundIsMissing};
+ghost use Rattle.blk_laws.specs.ChargeLaws.{PartNamesAreNames, ItemsAreChargedAsRows, ListedChargesAreTheRows, ListedChargesAreTheTotals, OpenedChargesAreTheTotals};
+ghost use Rattle.blk_laws.specs.TidyLaws.{FilesStandBehindHeaders, StatesAreStoodFor, TouchesKeepStates};
 
 mod list_words;
 mod mid_updates;
@@ -23,9 +27,10 @@ pub use mid_updates::{
     records_are_written,
 };
 
-/// The walk of a whole list is its nodes.
+/// The walk of a whole list is its nodes; that of any list is of different nodes, which check.
 pub fn whole_lists_are_walked()
-    ensures { WalksAreTheLists }
+    ensures nodes { WalksAreTheLists }
+    ensures distinct { WalksAreDistinct }
 {}
 
 /// An insert, stopped after any of its writes and completed, gives the old list before the second, and the new one from then on.
@@ -66,10 +71,12 @@ pub fn chains_are_linked()
     ensures later_leaves { LaterRecordsLeaveChains }
 {}
 
-/// What is given to a walk is kept, and where something is given to each node none is dropped.
+/// What is given to a walk is kept, and where something is given to each node none is dropped; what is kept is given to the walk of the kept nodes alone, which keeps the same.
 pub fn given_nodes_are_kept()
     ensures kept { KeptAreTheGiven }
     ensures dropped { NoneOfTheGivenIsDropped }
+    ensures shown { KeptAreShown }
+    ensures alone { KeptAloneAreKept }
 {}
 
 /// A dropped node claims nothing, so it may be removed without changing what is kept.
@@ -98,10 +105,13 @@ pub fn represented_states_are_found()
     ensures found { FoundIsAtRest }
 {}
 
-/// An image that represents a state with exact maps shows it, and stands for it where all else is in order.
+/// An image that represents a state with exact maps shows it, and stands for it where all else is in order, which is so where it is tidy by its layout; what stands for a state finds what is at rest in it.
 pub fn represented_states_are_stood_for()
     ensures shown { RepresentedStatesAreShown }
+    ensures in_order { TidyIsInOrder }
     ensures stands { RepresentedStatesAreStoodFor }
+    ensures tidy { TidyStatesAreStoodFor }
+    ensures found { WhatIsStoodForIsFound }
 {}
 
 /// A folder that shows nothing represents the empty state.
@@ -158,7 +168,7 @@ pub fn dirty_words_settle()
     ensures written { WrittenDirtyWordsSettle }
 {}
 
-/// A doomed object may change at its node, and its dirty word settles and unsettles it, and it may go; at each moment what is kept is what is at rest.
+/// A doomed object may change at its node, and its dirty word settles and unsettles it, and it may go; at each word what is kept is what is at rest.
 pub fn doomed_objects_change()
     ensures laid { ChangedDoomedObjectsArePlaced }
     ensures represented { ChangedDoomedObjectsAreRepresented }
@@ -201,16 +211,41 @@ pub fn turning_objects_are_picked()
     ensures after { RestAfterTurning }
 {}
 
-/// At each write of an Open what is kept may be left by a stop in it, and in the end the new state is represented.
+/// A store that shows the same represents the same; a touch of any listed item, at each write and in the end.
+pub fn items_are_used()
+    ensures stores { SameStoresRepresent }
+    ensures at_each_word { TouchedItemsAtEachWrite }
+    ensures ends { TouchedItemsEnd }
+{}
+
+/// What joins the list in front, a main item or a part, is laid out for the state with it.
+pub fn new_items_are_placed()
+    ensures { NewItemsArePlaced }
+{}
+
+/// The chains of what represents a state are the layout's, no longer than the list, and can be searched; a found record is that of the live object with the key, and where none is found there is none.
+pub fn chains_are_searched()
+    ensures chains { ChainsAreTheLayouts }
+    ensures short { RepresentedChainsAreShort }
+    ensures can { RepresentedChainsCanBeSearched }
+    ensures found { FoundRecordsAreLive }
+    ensures missing { NoneFoundIsMissing }
+{}
+
+/// At each write of an Open, in a store that shows the same, what is kept may be left by a stop in it, and in the end the new state is represented.
 pub fn opens_at_each_write()
     ensures at_each_word { OpensAtEachWrite }
     ensures ends { OpensEnd }
 {}
 
-/// At each write of a Create what is kept is what is at rest, in the end the new state is represented, and it has the same at rest, which may be left by a stop.
+/// Before a Create's insert, at each write of it and behind its link, in stores that show the same, what is kept is what is at rest, which may be left by a stop; in the end the new state is represented, which is the model's where nothing is evicted.
 pub fn creates_at_each_write()
+    ensures written { WrittenEntriesStay }
+    ensures before { CreatesBeforeTheInsert }
     ensures at_each_word { CreatesAtEachWrite }
     ensures ends { CreatesEnd }
+    ensures after { CreatesAfterTheLink }
+    ensures step { CreatesEndAtTheStep }
     ensures rests { CreatesLeaveTheRest }
     ensures stops { CreatesMayLeaveWhatWas }
 {}
@@ -244,8 +279,27 @@ pub fn agreeing_images_show_the_same()
     ensures more { AgreementButMore }
 {}
 
-/// A longer block file has grown, and the growth or linking of block files keeps what is represented.
+/// A longer block file has grown, and so have files whose headers change but for what says which blocks there are; growth or linking touches blocks alone that were not there, and keeps what is represented; a block file that isn't linked may go.
 pub fn growth_keeps_states()
     ensures longer { LongerFilesHaveGrown }
+    ensures absent { GrowthIsOfAbsentBlocks }
+    ensures headers { ChangedHeadersHaveGrown }
     ensures kept { GrowthKeepsStates }
+    ensures gone { UnlinkedFilesMayGo }
+{}
+
+/// The name of a part in the model is its name in the formats; what is listed is charged what its rows are, which is, with the doomed objects, the totals of the state.
+pub fn charges_are_the_totals()
+    ensures names { PartNamesAreNames }
+    ensures items { ItemsAreChargedAsRows }
+    ensures rows { ListedChargesAreTheRows }
+    ensures totals { ListedChargesAreTheTotals }
+    ensures opened { OpenedChargesAreTheTotals }
+{}
+
+/// A change behind the headers leaves the files as they stand; an image that has a state stands for it, and a touch of any listed item leaves one with the item in front.
+pub fn states_are_had()
+    ensures files { FilesStandBehindHeaders }
+    ensures stands { StatesAreStoodFor }
+    ensures touched { TouchesKeepStates }
 {}

@@ -1,4 +1,4 @@
-// The laws of what a folder shows at each moment of a write.
+// The laws of what a folder shows at each word of a write.
 //
 // They lead from the bytes that a write changes to what is shown: the use list, what each node says, the table, the chains, the records and data.
 ghost use Rattle.blk_laws.specs.BlockWrites.{WritesStayInside, UpdatesStayInside, ListChangesBegin, ListChangesAdd};
@@ -12,7 +12,7 @@ pub fn blocks_change_inside()
     ensures updates { UpdatesStayInside }
 {}
 
-/// At each moment of an update of a node's link the list has the old or the new link; the times are not shown; and such changes add up.
+/// At each word of an update of a node's link the list has the old or the new link; the times are not shown; and such changes add up.
 pub fn links_are_written()
     ensures next { NextsAreWritten }
     ensures prev { PrevsAreWritten }
@@ -21,13 +21,13 @@ pub fn links_are_written()
     ensures add { ListChangesAdd }
 {}
 
-/// At each moment of an update of what a node says of its record it says the old or the new, and nothing else changes.
+/// At each word of an update of what a node says of its record it says the old or the new, and nothing else changes.
 pub fn names_are_written()
     ensures contents { ContentsAreWritten }
     ensures dirty { DirtyWordsAreWritten }
 {}
 
-/// At each moment of an update of a record it checks, with its fields or its link as far as they are written, and nothing else changes.
+/// At each word of an update of a record it checks, with its fields or its link as far as they are written, and nothing else changes.
 pub fn records_are_written()
     ensures chain_next { ChainNextsAreWritten }
     ensures fields { FieldsAreWritten }

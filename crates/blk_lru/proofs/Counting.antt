@@ -1,19 +1,21 @@
 -- Whether the operation in flight counts, and what completing writes where it does.
-use Rattle.std.proofs.Common.{⊎_elim, ◌≡◌, ◌≢◌, ℕ, Bool, true, false, ◌||◌, [], ◌∷◌, Option, None, Some, refl, sym, ap, ◌∙◌}
+use Rattle.blk_disk.specs.Tables.{is_node_among}
+use Rattle.std.proofs.Common.{⊎_elim, ◌≡◌, ◌≢◌, ℕ, Bool, true, false, ◌||◌, Option, None, Some, refl, sym, ap, ◌∙◌}
 use Rattle.std.specs.Prelude.{◌==◌}
 use Rattle.std.proofs.lemmas.Bool.{eq-eqb, ne_eqb}
-use Rattle.blk_volume.specs.ListView.{ListView, Transaction}
+use Rattle.blk_volume.specs.ListView.{ListView}
 use Rattle.blk_volume.specs.Completion.{counts, head_counts, links_count}
-use Rattle.blk_volume.specs.ListPlans.{completion_writes, pending_writes}
+use Rattle.blk_volume.specs.ListPlans.{completion_writes}
+use Rattle.blk_laws.proofs.ListCompletions.{completion_true}
 use Rattle.blk_laws.proofs.ListWrites.{counting}
 use Rattle.blk_disk.specs.declared.tables.BlockFiles.{BlockFiles}
 use Rattle.blk_lru.specs.declared.completing.InFlight.{InFlight}
-use Rattle.blk_lru.specs.declared.completing.Part.TheVariants.{Counts}
+use Rattle.blk_lru.specs.declared.completing.Usable.TheVariants.{Counts}
 use Rattle.blk_lru.specs.declared.plans.Neighbours.{Neighbours}
 use Rattle.blk_lru.specs.declared.plans.Operation.TheVariants as operations
-use Rattle.blk_lru.specs.Completing.{Finds, FindsNeighbours, FindsHead, IsInFlight, finishing_writes}
+use Rattle.blk_lru.specs.Completing.{Finds, FindsNeighbours, FindsHead, IsInFlight}
 use Rattle.blk_lru.specs.declared.nodes.Links.{Links}
-use Rattle.blk_lru.specs.Nodes.{is_node, AreLinksOf, FindsNode}
+use Rattle.blk_lru.specs.Nodes.{AreLinksOf, FindsNode}
 use Rattle.blk_lru.specs.Plans.{pending}
 use Rattle.blk_lru.proofs.PlanNodes.{node_some}
 use Rattle.blk_lru.proofs.PlanWords.{pending_is}
@@ -96,7 +98,7 @@ module _ (list : ListView) where
       rw (some, good, one, two, three, head, links) refl
 
 -- what is found of an operation whose node has these links
-module _ (files : BlockFiles) (list : ListView) (links : Links) (stands : is_node files links.node ≡ true) (are : AreLinksOf list list.transaction links) where
+module _ (files : BlockFiles) (list : ListView) (links : Links) (stands : is_node_among files links.node ≡ true) (are : AreLinksOf list list.transaction links) where
   some_transaction : (list.transaction == 0) ≡ false
   some_transaction = ap (λ (n : ℕ). n == 0) (sym are.node) ∙ node_some files links.node stands
 
@@ -109,23 +111,7 @@ module _ (files : BlockFiles) (list : ListView) (links : Links) (stands : is_nod
   pub move_found : list.operation ≡ 3 → (head : Option ℕ) (neighbours : Option Neighbours) → FindsHead list (Counts head) → FindsNeighbours list list.transaction (Counts neighbours) → Finds list (Some (record { node = links.node; operation = operations.Move neighbours head }))
   move_found three head neighbours first found = (move_counts list some_transaction are.good three first.0 found.0, record { node = are.node; operation = sym three; goes_by = (found.1, first.1) })
 
-some_writes : (list : ListView) → counts list ≡ true → completion_writes list ≡ pending_writes list
-unfolding completion_writes
-some_writes list e = rw e refl
-
-pub no_writes : (list : ListView) → counts list ≡ false → completion_writes list ≡ Transaction 0 ∷ []
-unfolding completion_writes
-no_writes list e = rw e refl
-
 -- what completing writes, by the operation that was found
 pub found_writes : (list : ListView) (found : InFlight) → counts list ≡ true → IsInFlight list found → pending found.node found.operation ≡ completion_writes list
 found_writes list found e is =
-    ap (λ (n : ℕ). pending n found.operation) is.node ∙ pending_is list found.operation is.operation is.goes_by ∙ sym (some_writes list e)
-
--- Completing at each of its writes, also where there is nothing to complete.
-
-pub nothing_finishes : (list : ListView) → list.transaction ≡ 0 → finishing_writes list ≡ []
-nothing_finishes list e = let t : (list.transaction == 0) ≡ true = eq-eqb list.transaction 0 e in rw t refl
-
-pub some_finishes : (list : ListView) → (list.transaction == 0) ≡ false → finishing_writes list ≡ completion_writes list
-some_finishes list e = rw e refl
+    ap (λ (n : ℕ). pending n found.operation) is.node ∙ pending_is list found.operation is.operation is.goes_by ∙ sym (completion_true list e)

@@ -1,9 +1,12 @@
+pub mod Beside
 pub mod Conditions
 pub mod Counting
+pub mod Examples
 pub mod FailedChecks
-pub mod Finishing
+pub mod Kept
 pub mod LinkReads
 pub mod Listed
+pub mod Moments
 pub mod NodeRecords
 pub mod NodeWords
 pub mod Operating
@@ -11,4 +14,3 @@ pub mod Performing
 pub mod PlanNodes
 pub mod PlanWords
 pub mod Results
-pub mod Touching

@@ -6,7 +6,8 @@ use Rattle.blk_format.specs.BlockFiles.{is_among}
 use Rattle.blk_volume.specs.ListView.{ListView, first_or, last_or, Distinct, Segment, IsList}
 use Rattle.blk_laws.proofs.ListCompletions.{last_good}
 use Rattle.blk_laws.proofs.Lists.{split, last-append, not_zero, apart_right, Distinct-right, eqb-sym}
-use Rattle.blk_lru.specs.Lists.{first_of, last_of}
+use Rattle.blk_lru.specs.Lists.{first_node_of, last_node_of}
+use Rattle.blk_lru.specs.Plans.{word_or_zero}
 
 -- a list around one of its words
 pub record Splits (words : List ℕ) (word : ℕ) : Type 0 where
@@ -40,13 +41,13 @@ no_some : (w : ℕ) → Some w ≡ None → ⊥
 no_some w e = cc
 
 -- the head names the first node
-pub head_names : (list : ListView) (nodes : List ℕ) → IsList list nodes → (if list.head == 0 then None else Some list.head) ≡ first_of nodes
+pub head_names : (list : ListView) (nodes : List ℕ) → IsList list nodes → (if list.head == 0 then None else Some list.head) ≡ first_node_of nodes
 head_names list [] is = at_end list list.head None is.no_zero (λ e. is.head_is) (λ w e. absurd (no_none w e))
 head_names list (x ∷ xs) is =
     at_end list list.head (Some x) is.no_zero (λ e. absurd (no_some x e)) (λ w e. (is.head_is ∙ some_eq x w e, ap list.checks (sym (some_eq x w e)) ∙ is.linked.0.good))
 
 -- the tail names the last
-pub tail_names : (list : ListView) (nodes : List ℕ) → IsList list nodes → (if list.tail == 0 then None else Some list.tail) ≡ last_of nodes
+pub tail_names : (list : ListView) (nodes : List ℕ) → IsList list nodes → (if list.tail == 0 then None else Some list.tail) ≡ last_node_of nodes
 tail_names list [] is = at_end list list.tail None is.no_zero (λ e. is.tail_is) (λ w e. absurd (no_none w e))
 tail_names list (x ∷ xs) is =
     at_end list list.tail (Some (last_or x xs)) is.no_zero (λ e. absurd (no_some (last_or x xs) e))
@@ -66,8 +67,8 @@ pub record Linked (list : ListView) (prefix : List ℕ) (node : ℕ) (suffix : L
   pub good : list.checks node ≡ true
   pub next_good : list.checks (list.next node) ≡ true
   pub prev_good : list.checks (list.prev node) ≡ true
-  pub next_is : (if list.next node == node then None else Some (list.next node)) ≡ first_of suffix
-  pub prev_is : (if list.prev node == node then None else Some (list.prev node)) ≡ last_of prefix
+  pub next_is : (if list.next node == node then None else Some (list.next node)) ≡ first_node_of suffix
+  pub prev_is : (if list.prev node == node then None else Some (list.prev node)) ≡ last_node_of prefix
 
 self : (word node : ℕ) → word ≡ node → (if word == node then None else Some word) ≡ None
 self word node e = let t : (word == node) ≡ true = eq-eqb word node e in rw t refl
@@ -111,3 +112,11 @@ linked list prefix node suffix is = go prefix suffix is.distinct (split list.che
       next_is = other (list.next node) node y s.1.0.next_is (or_parts (eqb y node) (is_among ys node) (Distinct-right (x ∷ xs) (node ∷ y ∷ ys) d).0).0;
       prev_is = other (list.prev node) node (last_or x xs) s.1.0.prev_is (eqb-sym node (last_or x xs) (or_parts (eqb node (last_or x xs)) (is_among (y ∷ ys) (last_or x xs)) (apart_right x xs (node ∷ y ∷ ys) d)).0);
     }
+
+-- a word or 0, as what it names
+pub word_back : (w : ℕ) → word_or_zero (if w == 0 then None else Some w) ≡ w
+word_back w = by_test (w == 0) refl
+  where
+    by_test : (t : Bool) → (w == 0) ≡ t → word_or_zero (if t then None else Some w) ≡ w
+    by_test true e = sym (eqb-true w 0 e)
+    by_test false e = refl

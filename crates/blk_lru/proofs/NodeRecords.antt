@@ -1,22 +1,22 @@
 -- A node that checks, as a record of bytes.
-use Rattle.std.proofs.Common.{◌≡◌, ℕ, ◌+◌, ◌≤◌, Bool, true, false, if◌then◌else◌, None, Some, List, refl, ap, sym, ◌∙◌, arith}
+use Rattle.std.proofs.Common.{◌≡◌, ℕ, ◌+◌, ◌≤◌, Bool, true, false, if◌then◌else◌, None, Some, List, refl, ap, sym, ◌∙◌, subst, arith}
 use Rattle.blk_image.specs.Bytes.{content, word_at, range_at}
 use Rattle.blk_image.specs.Image.{Block, Image, AreBytes, byte}
 use Rattle.blk_format.specs.Address.{file_selector, place}
 use Rattle.blk_format.specs.Records.{checks}
-use Rattle.blk_format.specs.Sealed.{record_at}
+use Rattle.blk_format.specs.Sealed.{record_at, RecordChecks}
 use Rattle.blk_format.proofs.SealedFields.{record_word}
-use Rattle.blk_format.proofs.SealedRecords.{node_bytes}
+use Rattle.blk_format.proofs.SealedRecords.{node_bytes, node_seal}
 use Rattle.blk_volume.specs.View.{checks_at, list_of}
 use Rattle.blk_laws.proofs.NodeRecords.{checks_bytes}
 use Rattle.blk_disk.proofs.SealedReads.{record_read}
 use Rattle.blk_disk.specs.declared.tables.BlockFiles.{BlockFiles}
-use Rattle.blk_disk.specs.Tables.{Agrees}
-use Rattle.blk_lru.specs.Nodes.{is_node, link_at, FindsNode}
+use Rattle.blk_disk.specs.Tables.{Agrees, is_node_among}
+use Rattle.blk_lru.specs.Nodes.{link_at, FindsNode}
 use Rattle.blk_lru.proofs.NodeWords.{node_kind, stands_as_node, checked_names, next_link, prev_link}
 
 -- a node whose bytes were read checks where they do
-module _ (files : BlockFiles) (image : Image) (w : ℕ) (bytes : List ℕ) (agrees : Agrees files image) (small : AreBytes image) (is : is_node files w ≡ true) (read : bytes ≡ range_at (byte image (Block (file_selector w))) (place w + 0) 36) where
+module _ (files : BlockFiles) (image : Image) (w : ℕ) (bytes : List ℕ) (agrees : Agrees files image) (small : AreBytes image) (is : is_node_among files w ≡ true) (read : bytes ≡ range_at (byte image (Block (file_selector w))) (place w + 0) 36) where
   bytes_are : bytes ≡ record_at image w
   bytes_are = record_read image w 36 bytes (sym (node_bytes w (node_kind files w is))) read
 
@@ -40,9 +40,15 @@ module _ (files : BlockFiles) (image : Image) (w : ℕ) (bytes : List ℕ) (agre
   found_in = by_check (checks 32 bytes) refl
 
 -- and a word that names no node finds none
-pub found_none : (files : BlockFiles) (image : Image) (w : ℕ) → Agrees files image → is_node files w ≡ false → (list_of image).checks w ≡ false
+pub found_none : (files : BlockFiles) (image : Image) (w : ℕ) → Agrees files image → is_node_among files w ≡ false → (list_of image).checks w ≡ false
 found_none files image w agrees none = go ((list_of image).checks w) refl
   where
     go : (t : Bool) → (list_of image).checks w ≡ t → t ≡ false
     go true e = sym (checked_names files image agrees w e) ∙ none
     go false e = refl
+
+-- a node's record that checks says that the node does
+pub checks_back : (files : BlockFiles) (image : Image) (w : ℕ) → Agrees files image → AreBytes image → is_node_among files w ≡ true → RecordChecks w image → (list_of image).checks w ≡ true
+unfolding list_of checks_at
+checks_back files image w agrees small is good =
+    rw (stands_as_node files image agrees w is) (checks_bytes image w small (node_kind files w is) ∙ subst (λ (s : ℕ). checks s (record_at image w) ≡ true) (node_seal w (node_kind files w is)) good)

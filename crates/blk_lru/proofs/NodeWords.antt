@@ -10,25 +10,25 @@ use Rattle.blk_format.specs.BlockFiles.{stands_in, stands_in_blocks}
 use Rattle.blk_format.proofs.Words.{AreFields-of}
 use Rattle.blk_volume.specs.View.{stands_as, checks_at, next_at, prev_at, list_of, node_at}
 use Rattle.blk_disk.specs.declared.tables.BlockFiles.{BlockFiles}
-use Rattle.blk_disk.specs.Tables.{Agrees, stands_among}
+use Rattle.blk_disk.specs.Tables.{Agrees, stands_among, is_node_among, names_among}
 use Rattle.blk_disk.proofs.Ranges.{stands_agree}
-use Rattle.blk_lru.specs.Nodes.{is_node, link_at, IsNodeOrNone}
+use Rattle.blk_lru.specs.Nodes.{link_at, IsNodeOrNone}
 
 and_both : (a b : Bool) → a ≡ true → b ≡ true → (a && b) ≡ true
 and_both a b e f = rw (e, f) refl
 
-pub node_kind : (files : BlockFiles) (w : ℕ) → is_node files w ≡ true → kind_of w ≡ rankings
-unfolding is_node
+pub node_kind : (files : BlockFiles) (w : ℕ) → is_node_among files w ≡ true → kind_of w ≡ rankings
+unfolding names_among
 node_kind files w is = eqb-true (kind_of w) rankings (and_parts (kind_of w == rankings) (stands_among files w) (and_parts (is_address w) ((kind_of w == rankings) && stands_among files w) is).1).0
 
-pub node_stands : (files : BlockFiles) (w : ℕ) → is_node files w ≡ true → stands_among files w ≡ true
-unfolding is_node
+pub node_stands : (files : BlockFiles) (w : ℕ) → is_node_among files w ≡ true → stands_among files w ≡ true
+unfolding names_among
 node_stands files w is = (and_parts (kind_of w == rankings) (stands_among files w) (and_parts (is_address w) ((kind_of w == rankings) && stands_among files w) is).1).1
 
 module _ (files : BlockFiles) (image : Image) (agrees : Agrees files image) where
   -- what names a node stands as one in the image
-  pub stands_as_node : (w : ℕ) → is_node files w ≡ true → stands_as image rankings w ≡ true
-  unfolding is_node stands
+  pub stands_as_node : (w : ℕ) → is_node_among files w ≡ true → stands_as image rankings w ≡ true
+  unfolding names_among stands
   stands_as_node w is =
       let a = and_parts (is_address w) ((kind_of w == rankings) && stands_among files w) is in
       let b = and_parts (kind_of w == rankings) (stands_among files w) a.1 in
@@ -39,8 +39,8 @@ module _ (files : BlockFiles) (image : Image) (agrees : Agrees files image) wher
       b.0
 
   -- and what stands as one names a node
-  pub names_node : (w : ℕ) → stands_as image rankings w ≡ true → is_node files w ≡ true
-  unfolding is_node stands
+  pub names_node : (w : ℕ) → stands_as image rankings w ≡ true → is_node_among files w ≡ true
+  unfolding names_among stands
   names_node w st =
       let p = and_parts (stands_in image w) (kind_of w == rankings) st in
       let q = and_parts (is_address w) (if kind_of w == external then has_file image (External (external_number w)) else stands_in_blocks image w) p.0 in
@@ -48,7 +48,7 @@ module _ (files : BlockFiles) (image : Image) (agrees : Agrees files image) wher
       let blocks : stands_in_blocks image w ≡ true = sym (ap (λ (t : Bool). if t then has_file image (External (external_number w)) else stands_in_blocks image w) block_kind) ∙ q.1 in
       and_both (is_address w) ((kind_of w == rankings) && stands_among files w) q.0 (and_both (kind_of w == rankings) (stands_among files w) p.1 (stands_agree files image w agrees ∙ blocks))
 
-  pub checked_names : (w : ℕ) → (list_of image).checks w ≡ true → is_node files w ≡ true
+  pub checked_names : (w : ℕ) → (list_of image).checks w ≡ true → is_node_among files w ≡ true
   unfolding list_of checks_at stands
   checked_names w good = names_node w (and_parts (stands_as image rankings w) (node_checks (node_at image w)) good).0
 

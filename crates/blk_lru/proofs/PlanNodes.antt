@@ -7,17 +7,16 @@ use Rattle.blk_volume.specs.ListView.{Transaction, Operation}
 use Rattle.blk_volume.specs.Completion.{putting_in_front}
 use Rattle.blk_laws.proofs.WriteWords.{Each, Good, Each-append, front_good, out_good}
 use Rattle.blk_disk.specs.declared.tables.BlockFiles.{BlockFiles}
-use Rattle.blk_disk.specs.Tables.{stands_among}
+use Rattle.blk_disk.specs.Tables.{stands_among, is_node_among, names_among}
 use Rattle.blk_lru.specs.declared.plans.Neighbours.{Neighbours}
 use Rattle.blk_lru.specs.declared.plans.Operation as code
 use Rattle.blk_lru.specs.declared.plans.Operation.TheVariants as operations
-use Rattle.blk_lru.specs.Nodes.{is_node}
 use Rattle.blk_lru.specs.Plans.{code_of, head_without, leaving, planned, pending, whole_plan, word_or_zero, StandBeside, StandsBy}
 use Rattle.blk_lru.proofs.PlanWords.{leaving_is, some_word}
 
 -- a node's word is below 2 ^ 32
-node_small : (files : BlockFiles) (w : ℕ) → is_node files w ≡ true → w < 2 ^ 32
-unfolding is_node is_address is_initialized
+node_small : (files : BlockFiles) (w : ℕ) → is_node_among files w ≡ true → w < 2 ^ 32
+unfolding names_among is_address is_initialized
 node_small files w is =
     let a = (and_parts (is_address w) ((kind_of w == rankings) && stands_among files w) is).0 in
     let b = (and_parts (w / 2 ^ 31 == 1) (names_external w || names_blocks w) a).0 in
@@ -25,19 +24,19 @@ node_small files w is =
     omega arith
 
 -- and isn't 0
-pub node_some : (files : BlockFiles) (w : ℕ) → is_node files w ≡ true → (w == 0) ≡ false
-unfolding is_node
+pub node_some : (files : BlockFiles) (w : ℕ) → is_node_among files w ≡ true → (w == 0) ≡ false
+unfolding names_among
 node_some files w is = some_word w (and_parts (is_address w) ((kind_of w == rankings) && stands_among files w) is).0
 
-pub node_apart : (files : BlockFiles) (w : ℕ) → is_node files w ≡ true → w ≢ 0
+pub node_apart : (files : BlockFiles) (w : ℕ) → is_node_among files w ≡ true → w ≢ 0
 node_apart files w is zero = clash (sym (node_some files w is) ∙ ap (λ (n : ℕ). n == 0) zero)
   where
     clash : false ≡ true → ⊥
     clash e = cc
 
-module _ (files : BlockFiles) (node : ℕ) (stands : is_node files node ≡ true) where
+module _ (files : BlockFiles) (node : ℕ) (stands : is_node_among files node ≡ true) where
   abbrev Stands : ℕ → Type 0
-  Stands n = is_node files n ≡ true
+  Stands n = is_node_among files n ≡ true
 
   prefix : (head : Option ℕ) → IfSome head Stands → Each (Good Stands) (putting_in_front node (word_or_zero head))
   prefix None head = front_good Stands (node_small files) node stands 0 (λ some. absurd (clash some))

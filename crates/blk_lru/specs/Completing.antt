@@ -1,37 +1,32 @@
 -- The operation in flight as it is found, and what completing it writes and leaves.
-use Rattle.std.specs.Prelude.{ℕ, ◌≡◌, true, false, ◌==◌, if◌then◌else◌, Option, None, Some, List, [], IfSome}
-use Rattle.blk_volume.specs.ListView.{ListView, ListWrite}
+use Rattle.blk_disk.specs.Tables.{is_node_among}
+use Rattle.std.specs.Prelude.{ℕ, ◌≡◌, true, false, Option, None, Some, IfSome}
+use Rattle.blk_volume.specs.ListView.{ListView}
 use Rattle.blk_volume.specs.Completion.{counts, head_counts, links_count}
-use Rattle.blk_volume.specs.ListPlans.{completion_writes}
 use Rattle.blk_disk.specs.declared.tables.BlockFiles.{BlockFiles}
 use Rattle.blk_lru.specs.declared.completing.InFlight.{InFlight}
-use Rattle.blk_lru.specs.declared.completing.Part.{Part}
-use Rattle.blk_lru.specs.declared.completing.Part.TheVariants.{Counts, Fails}
+use Rattle.blk_lru.specs.declared.completing.Usable.{Usable}
+use Rattle.blk_lru.specs.declared.completing.Usable.TheVariants.{Counts, Fails}
 use Rattle.blk_lru.specs.declared.plans.Neighbours.{Neighbours}
-use Rattle.blk_lru.specs.Nodes.{is_node}
 use Rattle.blk_lru.specs.Plans.{code_of, word_or_zero, AreBeside, GoesBy, StandBeside, StandsBy}
 
--- what completing writes: nothing where no operation is in flight
-abbrev pub finishing_writes : ListView → List ListWrite
-finishing_writes list = if list.transaction == 0 then [] else completion_writes list
-
 -- the first node is found where the head counts
-abbrev pub FindsHead : ListView → Part (Option ℕ) → Type 0
+abbrev pub FindsHead : ListView → Usable (Option ℕ) → Type 0
 FindsHead list Fails = head_counts list ≡ false
 FindsHead list (Counts head) = (head_counts list ≡ true) × (word_or_zero head ≡ list.head)
 
 -- the nodes beside one are found where its links count
-abbrev pub FindsNeighbours : ListView → ℕ → Part (Option Neighbours) → Type 0
+abbrev pub FindsNeighbours : ListView → ℕ → Usable (Option Neighbours) → Type 0
 FindsNeighbours list node Fails = links_count list node ≡ false
 FindsNeighbours list node (Counts neighbours) = (links_count list node ≡ true) × AreBeside (list.next node) (list.prev node) neighbours
 
 -- the head that is found stands
-abbrev pub FoundHeadStands : BlockFiles → Part (Option ℕ) → Type 0
+abbrev pub FoundHeadStands : BlockFiles → Usable (Option ℕ) → Type 0
 FoundHeadStands files Fails = Unit {0}
-FoundHeadStands files (Counts head) = IfSome head (λ n. is_node files n ≡ true)
+FoundHeadStands files (Counts head) = IfSome head (λ n. is_node_among files n ≡ true)
 
 -- and so do the nodes that are found beside one
-abbrev pub FoundNeighboursStand : BlockFiles → Part (Option Neighbours) → Type 0
+abbrev pub FoundNeighboursStand : BlockFiles → Usable (Option Neighbours) → Type 0
 FoundNeighboursStand files Fails = Unit {0}
 FoundNeighboursStand files (Counts neighbours) = IfSome neighbours (StandBeside files)
 
@@ -48,4 +43,4 @@ Finds list (Some found) = (counts list ≡ true) × IsInFlight list found
 
 -- its node and the nodes that it goes by stand
 abbrev pub AreNodes : BlockFiles → InFlight → Type 0
-AreNodes files found = (is_node files found.node ≡ true) × StandsBy files found.operation
+AreNodes files found = (is_node_among files found.node ≡ true) × StandsBy files found.operation

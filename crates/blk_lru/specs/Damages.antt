@@ -1,60 +1,61 @@
--- What is told of a damage that a change of the use list meets: it has the place that was read, and what was found there.
+-- What is told of a damage that a call on the use list meets: it has the place that was read, and what was found there.
+use Rattle.blk_disk.specs.Tables.{is_node_among}
 use Rattle.std.specs.Prelude.{ℕ, ◌≡◌, ◌⊎◌, ◌+◌, true}
+use Rattle.blk_image.specs.Told.{Told, Stays}
 use Rattle.blk_format.specs.Address.{file_selector, place}
 use Rattle.blk_format.specs.Records.{node_size}
+use Rattle.blk_record.specs.declared.index_head.TheConstants.IndexHead as IndexHead
+use Rattle.blk_record.specs.declared.node.TheConstants.NodeView as NodeView
 use Rattle.blk_io.specs.declared.folder.FileId.{FileId}
 use Rattle.blk_io.specs.declared.folder.FileId.TheVariants as names
 use Rattle.blk_io.specs.declared.fault.Damage.{Damage}
 use Rattle.blk_io.specs.Faults.{IsShort}
-use Rattle.blk_io.specs.SilentFolder.{untold}
 use Rattle.blk_disk.specs.declared.tables.BlockFiles.{BlockFiles}
 use Rattle.blk_disk.specs.Unsealed.{IsUnsealed}
-use Rattle.blk_lru.specs.Nodes.{is_node, IsDangling}
+use Rattle.blk_lru.specs.Nodes.{IsDangling}
 
--- No folder that tells its files gives one of these damages, so they are told as of one that tells none.
+-- a word was read that is to name a node: its bytes are too few, or it names none
+abbrev pub IsWordDamage : BlockFiles → Told → FileId → (at : ℕ) → Damage → Type 0
+IsWordDamage files told file at damage = IsShort told file at 4 damage ⊎ IsDangling files told file at damage
 
--- a read of so many bytes at a place of a file gave fewer: the damage finds how many there were
-abbrev pub IsTooShort : FileId → (at count : ℕ) → Damage → Type 0
-IsTooShort file at count damage = IsShort untold file at count damage
+-- the head was read
+abbrev pub IsHeadDamage : BlockFiles → Told → Damage → Type 0
+IsHeadDamage files told damage = IsWordDamage files told names.Index IndexHead.HEADS damage
 
--- the word at a place of a file was to name a node, and doesn't: the damage finds the word
-abbrev pub NamesNone : BlockFiles → FileId → (at : ℕ) → Damage → Type 0
-NamesNone files file at damage = IsDangling files untold file at damage
+-- the tail was read
+abbrev pub IsTailDamage : BlockFiles → Told → Damage → Type 0
+IsTailDamage files told damage = IsWordDamage files told names.Index IndexHead.TAILS damage
 
--- a node doesn't check: the damage finds its seal, which isn't 0
-abbrev pub IsBroken : (node : ℕ) → Damage → Type 0
-IsBroken node damage = IsUnsealed untold node damage
+-- a link of a node was read, its next or its prev
+abbrev pub IsLinkDamage : (node at : ℕ) → BlockFiles → Told → Damage → Type 0
+IsLinkDamage node at files told damage = IsWordDamage files told (names.Block (file_selector node)) (place node + at) damage
 
 -- a node that stands was read whole: its bytes are too few, or it doesn't check
-pub record IsNodeDamage (files : BlockFiles) (damage : Damage) : Type 0 where
+pub record IsNodeDamage (files : BlockFiles) (told : Told) (damage : Damage) : Type 0 where
   pub node : ℕ
-  pub stands : is_node files node ≡ true
-  pub failed : IsTooShort (names.Block (file_selector node)) (place node) node_size damage ⊎ IsBroken node damage
+  pub stands : is_node_among files node ≡ true
+  pub failed : IsShort told (names.Block (file_selector node)) (place node) node_size damage ⊎ IsUnsealed told node damage
 
--- the head was read: its bytes are too few, or it names no node
-abbrev pub IsHeadDamage : BlockFiles → Damage → Type 0
-IsHeadDamage files damage = IsTooShort names.Index 288 4 damage ⊎ NamesNone files names.Index 288 damage
+-- an insert was damaged at the head, before it wrote, or at a node, which is as it was read
+abbrev pub IsInsertDamage : BlockFiles → (old new : Told) → Damage → Type 0
+IsInsertDamage files old new damage = (IsHeadDamage files old damage × Stays old new) ⊎ IsNodeDamage files new damage
 
--- the next or the prev of a node was read: its bytes are too few, or it names no node
-abbrev pub IsLinkDamage : BlockFiles → (node at : ℕ) → Damage → Type 0
-IsLinkDamage files node at damage = IsTooShort (names.Block (file_selector node)) (place node + at) 4 damage ⊎ NamesNone files (names.Block (file_selector node)) (place node + at) damage
+-- a link of a node was read, before anything was written
+abbrev pub IsNeighbourDamage : (node : ℕ) → BlockFiles → (old new : Told) → Damage → Type 0
+IsNeighbourDamage node files old new damage = (IsLinkDamage node NodeView.NEXT files old damage ⊎ IsLinkDamage node NodeView.PREV files old damage) × Stays old new
 
--- the damages of an insert: at the head, or at a node that is written
-abbrev pub IsInsertDamage : BlockFiles → Damage → Type 0
-IsInsertDamage files damage = IsHeadDamage files damage ⊎ IsNodeDamage files damage
+-- a removal was damaged at the next or the prev of the node, before it wrote, or at a node, which is as it was read
+abbrev pub IsRemovalDamage : (node : ℕ) → BlockFiles → (old new : Told) → Damage → Type 0
+IsRemovalDamage node files old new damage = IsNeighbourDamage node files old new damage ⊎ IsNodeDamage files new damage
 
--- the damages of a removal: at the next or the prev of the node, or at a node that is written
-abbrev pub IsRemovalDamage : BlockFiles → (node : ℕ) → Damage → Type 0
-IsRemovalDamage files node damage = IsLinkDamage files node 16 damage ⊎ (IsLinkDamage files node 20 damage ⊎ IsNodeDamage files damage)
-
--- the damages of a touch: at the head, or those of a removal
-abbrev pub IsTouchDamage : BlockFiles → (node : ℕ) → Damage → Type 0
-IsTouchDamage files node damage = IsHeadDamage files damage ⊎ IsRemovalDamage files node damage
+-- a touch was damaged at the head, before it wrote, or as a removal is
+abbrev pub IsTouchDamage : (node : ℕ) → BlockFiles → (old new : Told) → Damage → Type 0
+IsTouchDamage node files old new damage = (IsHeadDamage files old damage × Stays old new) ⊎ IsRemovalDamage node files old new damage
 
 -- a word of the index was read of an operation in flight, its node, its code or the head: its bytes are too few
-abbrev pub IsFlightDamage : Damage → Type 0
-IsFlightDamage damage = IsTooShort names.Index 328 4 damage ⊎ (IsTooShort names.Index 332 4 damage ⊎ IsTooShort names.Index 288 4 damage)
+abbrev pub IsFlightDamage : Told → Damage → Type 0
+IsFlightDamage told damage = IsShort told names.Index IndexHead.TRANSACTION 4 damage ⊎ (IsShort told names.Index IndexHead.OPERATION 4 damage ⊎ IsShort told names.Index IndexHead.HEADS 4 damage)
 
--- the damages of completing: at a word of the operation in flight, or at a node that it goes by; a word that names no node is none
-abbrev pub IsCompletingDamage : BlockFiles → Damage → Type 0
-IsCompletingDamage files damage = IsFlightDamage damage ⊎ IsNodeDamage files damage
+-- completing was damaged at a word of the operation in flight, or at a node; a word that names no node is no damage
+abbrev pub IsCompletingDamage : BlockFiles → Told → Damage → Type 0
+IsCompletingDamage files told damage = IsFlightDamage told damage ⊎ IsNodeDamage files told damage

@@ -3,4 +3,5 @@ pub mod Damages
 pub mod Writes
 pub mod Plans
 pub mod Lists
+pub mod Moments
 pub mod Completing

@@ -1,9 +1,11 @@
 -- The use list of an image.
-use Rattle.std.specs.Prelude.{ℕ, ◌≡◌, true, List, [], ◌∷◌, Option, None, Some}
+use Rattle.std.specs.Prelude.{ℕ, ◌≡◌, ◌≢◌, true, List, [], ◌∷◌, Option, None, Some}
 use Rattle.blk_image.specs.Image.{Image}
 use Rattle.blk_format.specs.BlockFiles.{is_among}
-use Rattle.blk_volume.specs.ListView.{last_or}
-use Rattle.blk_volume.specs.ListImages.{HasListAtRest, walked}
+use Rattle.blk_volume.specs.ListView.{ListView, last_or}
+use Rattle.blk_volume.specs.ListImages.{CanBeMade, HasListAtRest, walked}
+use Rattle.blk_volume.specs.ListPlans.{touch_writes}
+use Rattle.blk_volume.specs.View.{list_of}
 
 -- the list is whole, and no operation is in flight
 abbrev pub IsListAtRest : Image → Type 0
@@ -14,11 +16,23 @@ pub record IsListed (node : ℕ) (image : Image) : Type 0 where
   pub rest : IsListAtRest image
   pub listed : is_among (walked image) node ≡ true
 
--- the first, and the last, of some words
-abbrev pub first_of : List ℕ → Option ℕ
-first_of [] = None
-first_of (word ∷ words) = Some word
+-- a node and both that its links name stand and check
+pub record IsLinked (list : ListView) (node : ℕ) : Type 0 where
+  pub good : list.checks node ≡ true
+  pub next_good : list.checks (list.next node) ≡ true
+  pub prev_good : list.checks (list.prev node) ≡ true
 
-abbrev pub last_of : List ℕ → Option ℕ
-last_of [] = None
-last_of (word ∷ words) = Some (last_or word words)
+-- what a touch of a node writes can be made, the node checks, and where it isn't the head both that its links name do so
+pub record CanBeTouched (image : Image) (node : ℕ) : Type 0 where
+  pub writes : CanBeMade image (touch_writes node (list_of image))
+  pub good : (list_of image).checks node ≡ true
+  pub linked : (list_of image).head ≢ node → IsLinked (list_of image) node
+
+-- the first, and the last, of some words
+abbrev pub first_node_of : List ℕ → Option ℕ
+first_node_of [] = None
+first_node_of (word ∷ words) = Some word
+
+abbrev pub last_node_of : List ℕ → Option ℕ
+last_node_of [] = None
+last_node_of (word ∷ words) = Some (last_or word words)

@@ -1,35 +1,28 @@
 -- Words that name nodes, and the checks of what is read.
-use Rattle.std.specs.Prelude.{ℕ, ◌≡◌, ◌⊎◌, ◌+◌, Bool, true, false, ◌&&◌, ◌==◌, if◌then◌else◌, Option, None, Some}
+use Rattle.std.specs.Prelude.{ℕ, ◌≡◌, ◌⊎◌, ◌+◌, true, false, Option, None, Some}
 use Rattle.std.specs.Option.{ForSome}
 use Rattle.blk_image.specs.Image.{Block, Image, word}
 use Rattle.blk_image.specs.Told.{Told}
-use Rattle.blk_format.specs.Address.{is_address, kind_of, rankings, file_selector, place}
+use Rattle.blk_format.specs.Address.{file_selector, place}
 use Rattle.blk_io.specs.declared.folder.FileId.{FileId}
 use Rattle.blk_io.specs.declared.fault.Damage.{Damage}
 use Rattle.blk_io.specs.FileNames.{file_of}
+use Rattle.blk_record.specs.declared.node.TheConstants.NodeView as NodeView
 use Rattle.blk_disk.specs.declared.tables.BlockFiles.{BlockFiles}
-use Rattle.blk_disk.specs.Tables.{stands_among}
+use Rattle.blk_disk.specs.Tables.{is_node_among}
 use Rattle.blk_volume.specs.ListView.{ListView}
 use Rattle.blk_lru.specs.declared.nodes.Links.{Links}
-
--- a word is the address of a node that stands among the files
-unfoldable pub is_node : BlockFiles → ℕ → Bool
-is_node files w = is_address w && ((kind_of w == rankings) && stands_among files w)
-
--- the node that a word names, if it names one
-abbrev pub node_of : BlockFiles → ℕ → Option ℕ
-node_of files w = if is_node files w then Some w else None
 
 -- the word at a place of a file was to name a node, and doesn't: the damage has the place, and finds the word
 pub record IsDangling (files : BlockFiles) (told : Told) (file : FileId) (at : ℕ) (damage : Damage) : Type 0 where
   pub of_file : damage.file ≡ file
   pub at_place : damage.at ≡ at
-  pub unlike : is_node files damage.found ≡ false
+  pub unlike : is_node_among files damage.found ≡ false
   pub there : ForSome told.files (λ image. damage.found ≡ word image (file_of file) at)
 
 -- the places of a node's links: next, and prev
 abbrev pub IsLinkPlace : ℕ → Type 0
-IsLinkPlace at = (at ≡ 16) ⊎ (at ≡ 20)
+IsLinkPlace at = (at ≡ NodeView.NEXT) ⊎ (at ≡ NodeView.PREV)
 
 -- the link of a node
 abbrev pub link_at : Image → ℕ → ℕ → ℕ
@@ -37,7 +30,7 @@ link_at image node at = word image (Block (file_selector node)) (place node + at
 
 -- a word is 0 or names a node
 abbrev pub IsNodeOrNone : BlockFiles → ℕ → Type 0
-IsNodeOrNone files w = (w ≡ 0) ⊎ (is_node files w ≡ true)
+IsNodeOrNone files w = (w ≡ 0) ⊎ (is_node_among files w ≡ true)
 
 -- a word names a node that checks, and these are the node and its links
 pub record AreLinksOf (list : ListView) (w : ℕ) (links : Links) : Type 0 where

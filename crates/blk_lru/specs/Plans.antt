@@ -1,4 +1,5 @@
 -- What an operation on the use list writes, by the nodes that it goes by.
+use Rattle.blk_disk.specs.Tables.{is_node_among}
 use Rattle.std.specs.Prelude.{ℕ, ◌≡◌, ◌≢◌, ◌==◌, if◌then◌else◌, Option, None, Some, List, [], ◌∷◌, ◌++◌, IfSome, true}
 use Rattle.blk_volume.specs.ListView.{ListView, ListWrite, Next, Operation, Transaction}
 use Rattle.blk_volume.specs.Completion.{insert, remove, move, unlinking, putting_in_front}
@@ -6,7 +7,6 @@ use Rattle.blk_disk.specs.declared.tables.BlockFiles.{BlockFiles}
 use Rattle.blk_lru.specs.declared.plans.Neighbours.{Neighbours}
 use Rattle.blk_lru.specs.declared.plans.Operation as code
 use Rattle.blk_lru.specs.declared.plans.Operation.TheVariants as operations
-use Rattle.blk_lru.specs.Nodes.{is_node}
 
 -- a word, or 0 for none
 abbrev pub word_or_zero : Option ℕ → ℕ
@@ -57,10 +57,10 @@ GoesBy list node (operations.Move neighbours head) = AreBeside (list.next node) 
 
 -- the nodes beside one stand
 abbrev pub StandBeside : BlockFiles → Neighbours → Type 0
-StandBeside files neighbours = (is_node files neighbours.next ≡ true) × (is_node files neighbours.prev ≡ true)
+StandBeside files neighbours = (is_node_among files neighbours.next ≡ true) × (is_node_among files neighbours.prev ≡ true)
 
 -- the nodes that an operation goes by stand
 abbrev pub StandsBy : BlockFiles → code.Operation → Type 0
-StandsBy files (operations.Insert head) = IfSome head (λ n. is_node files n ≡ true)
+StandsBy files (operations.Insert head) = IfSome head (λ n. is_node_among files n ≡ true)
 StandsBy files (operations.Remove neighbours) = IfSome neighbours (StandBeside files)
-StandsBy files (operations.Move neighbours head) = IfSome neighbours (StandBeside files) × IfSome head (λ n. is_node files n ≡ true)
+StandsBy files (operations.Move neighbours head) = IfSome neighbours (StandBeside files) × IfSome head (λ n. is_node_among files n ≡ true)

@@ -1,21 +1,21 @@
 // Changes of the use list, each a transaction.
-ghost use Rattle.std.specs.Prelude.{◌≡◌, ◌==◌, ◌++◌, ◌∷◌, ◌≤◌, ℕ, List, IfOk, IfSome, IsTrue, None, OnOk, Some, true};
+ghost use Rattle.std.specs.Prelude.{◌≡◌, ◌≢◌, ◌++◌, ◌∷◌, ◌≤◌, ℕ, List, IfOk, IfSome, IsTrue, None, OnOk, Some, true};
 ghost use Rattle.std.specs.Option.{ForSome};
-ghost use Rattle.blk_image.specs.Told.{Applies, AppliesPrefix, Commits, Passes, Rises, Stays};
+ghost use Rattle.blk_image.specs.Told.{Applies, AppliesPrefix, Passes, Rises, Stays};
 ghost use Rattle.blk_format.specs.Sealed.{sealed_steps};
 ghost use Rattle.blk_format.specs.Headers.{HasWholeIndex};
 ghost use Rattle.blk_volume.specs.Completion.{insert, move, remove as removal};
 ghost use Rattle.blk_volume.specs.ListPlans.{touch_writes, writes_of};
 ghost use Rattle.blk_volume.specs.View.{list_of};
-ghost use Rattle.blk_volume.specs.ListView.{CanBeInserted, IsAtRest};
-ghost use Rattle.blk_volume.specs.ListSteps.{AreSealed, AreTimes, IsPartly, IsSealed, IsTouched, steps_of, times_of, touch_steps};
-ghost use Rattle.blk_volume.specs.ListImages.{CompletesTo, walked};
+ghost use Rattle.blk_volume.specs.ListView.{CanBeInserted};
+ghost use Rattle.blk_volume.specs.ListSteps.{AreTimes, IsSealed, Seals, steps_of, times_of};
+ghost use Rattle.blk_volume.specs.ListImages.{CanBeMade, HasListAtRest, operation_steps, steps_of_touch, walked};
 ghost use Rattle.blk_io.specs.Faults.{IfDamaged, IfDevice};
-ghost use Rattle.blk_disk.specs.Tables.{Agrees};
-ghost use Rattle.blk_lru.specs.Plans.{AreBeside, StandBeside};
-ghost use Rattle.blk_lru.specs.Damages.{IsInsertDamage, IsNodeDamage, IsRemovalDamage, IsTouchDamage};
-ghost use Rattle.blk_lru.specs.Nodes.{is_node};
-ghost use Rattle.blk_lru.specs.Lists.{IsListed, first_of};
+ghost use Rattle.blk_disk.specs.Tables.{Agrees, is_node_among};
+ghost use Rattle.blk_lru.specs.Damages.{IsInsertDamage, IsNeighbourDamage, IsNodeDamage, IsRemovalDamage, IsTouchDamage};
+ghost use Rattle.blk_lru.specs.Lists.{CanBeTouched, IsLinked, IsListed};
+ghost use Rattle.blk_lru.specs.Moments.{IsMidOperation, IsMidTouch};
+ghost use Rattle.blk_lru.specs.Plans.{AreBeside, StandBeside, word_or_zero};
 
 use crate::nodes::link;
 use crate::plans::{Neighbours, Operation, plan_of};
@@ -34,32 +34,34 @@ const WORD_VALUES: u64 = 0x1_0000_0000;
 /// The operation word and the transaction word are written, then the node's links, the link of the
 /// node that was first, or the last node where there was none, and the first node; at last the
 /// transaction ends. Of a node that is written the seal is 0 first and the hash again in the end.
-/// This takes at most 17 folder calls.
+/// A head that is neither 0 nor the address of a node that stands is a damage, and so is a node that
+/// is to be written and doesn't check. This takes at most 17 folder calls.
 pub fn insert_front<F: Folder>(f: &mut F, files: &BlockFiles, node: Addr) -> Result<(), Fault>
-    requires stands { IsTrue (is_node files.now node) }
+    requires stands { IsTrue (is_node_among files.now node) }
     requires complete { ForSome (F.told f.old).files HasWholeIndex }
     requires agrees { ForSome (F.told f.old).files (Agrees files.now) }
-    requires apart { ForSome (F.told f.old).files (λ image. CanBeInserted (list_of image) (walked image) node) }
-    ensures steps { OnOk result (ForSome (F.told f.old).files (λ from. Applies (F.told f.old) (F.told f.new) (steps_of (writes_of insert node (list_of from)) from))) }
-    ensures prefix { ForSome (F.told f.old).files (λ from. AppliesPrefix (F.told f.old) (F.told f.new) (steps_of (writes_of insert node (list_of from)) from)) }
-    ensures inserted { OnOk result (ForSome (F.told f.old).files (λ from. ForSome (F.told f.new).files (λ image. IsAtRest (list_of image) (node ∷ walked from)))) }
-    ensures sealed { OnOk result (ForSome (F.told f.old).files (λ from. ForSome (F.told f.new).files (AreSealed (writes_of insert node (list_of from))))) }
+
+    // Where it succeeds each node that was written checked.
+    ensures checked { OnOk result (ForSome (F.told f.old).files (λ from. CanBeMade from (writes_of insert node (list_of from)))) }
+    ensures inserted { OnOk result (ForSome (F.told f.old).files (λ from. CanBeInserted (list_of from) (walked from) node → ForSome (F.told f.new).files (HasListAtRest (node ∷ walked from)))) }
+    ensures sealed { OnOk result (ForSome (F.told f.old).files (λ from. ForSome (F.told f.new).files (Seals from (writes_of insert node (list_of from))))) }
+    ensures steps { OnOk result (ForSome (F.told f.old).files (λ from. Applies (F.told f.old) (F.told f.new) (operation_steps insert node from))) }
+    ensures prefix { ForSome (F.told f.old).files (λ from. AppliesPrefix (F.told f.old) (F.told f.new) (operation_steps insert node from)) }
 
     // At each word completing gives the old list, or from the transaction word on the new one; nothing but the list changes.
-    ensures commits { ForSome (F.told f.old).files (λ from. Commits 2 (F.told f.old) (F.told f.new) (CompletesTo (walked from)) (CompletesTo (node ∷ walked from))) }
-    ensures stops { ForSome (F.told f.old).files (λ from. Passes (F.told f.old) (F.told f.new) (IsPartly from (writes_of insert node (list_of from)))) }
+    ensures stops { ForSome (F.told f.old).files (λ from. CanBeInserted (list_of from) (walked from) node → Passes (F.told f.old) (F.told f.new) (IsMidOperation files.now (writes_of insert node (list_of from)) (walked from) (node ∷ walked from) from)) }
+
     ensures complete { ForSome (F.told f.new).files HasWholeIndex }
     ensures agrees { ForSome (F.told f.new).files (Agrees files.now) }
 
-    // A folder that tells its files never gives a damage.
-    ensures damaged { IfDamaged result (IsInsertDamage files.now) }
-    ensures untold { IfDamaged result (λ _. (F.told f.old).files ≡ None) }
+    // A folder that tells its files gives a damage only where the node can't be inserted.
+    ensures damaged { IfDamaged result (IsInsertDamage files.now (F.told f.old) (F.told f.new)) }
+    ensures untold { ForSome (F.told f.old).files (λ from. CanBeInserted (list_of from) (walked from) node) → IfDamaged result (λ _. (F.told f.old).files ≡ None) }
     ensures silent { (F.told f.old).files ≡ None → (F.told f.new).files ≡ None }
 
     ensures later { F.faults f.old ≤ F.faults f.new }
     ensures device { IfDevice result (Rises (F.faults f.old) (F.faults f.new)) }
 {
-    blk_laws::inserts_at_each_word();
     let head = first(f, files)?;
     let plan = plan_of(node, &Operation::Insert { head });
     perform(f, files, &plan)
@@ -69,33 +71,35 @@ pub fn insert_front<F: Folder>(f: &mut F, files: &BlockFiles, node: Addr) -> Res
 ///
 /// The operation word and the transaction word are written, then the links of the nodes beside it,
 /// or the first or the last node, and at last its own next becomes 0 and the transaction ends. Of a
-/// node that is written the seal is 0 first and the hash again in the end. This takes at most 17
-/// folder calls.
+/// node that is written the seal is 0 first and the hash again in the end. A link of the node that
+/// isn't the address of a node that stands is a damage, and so is a node that is to be written and
+/// doesn't check. This takes at most 17 folder calls.
 pub fn remove<F: Folder>(f: &mut F, files: &BlockFiles, node: Addr) -> Result<(), Fault>
-    requires stands { IsTrue (is_node files.now node) }
+    requires stands { IsTrue (is_node_among files.now node) }
     requires complete { ForSome (F.told f.old).files HasWholeIndex }
     requires agrees { ForSome (F.told f.old).files (Agrees files.now) }
-    requires listed { ForSome (F.told f.old).files (IsListed node) }
-    ensures steps { OnOk result (ForSome (F.told f.old).files (λ from. Applies (F.told f.old) (F.told f.new) (steps_of (writes_of removal node (list_of from)) from))) }
-    ensures prefix { ForSome (F.told f.old).files (λ from. AppliesPrefix (F.told f.old) (F.told f.new) (steps_of (writes_of removal node (list_of from)) from)) }
-    ensures removed { OnOk result (ForSome (F.told f.old).files (λ from. ForSome (F.told f.new).files (λ image. (prefix suffix : List ℕ) → walked from ≡ prefix ++ node ∷ suffix → IsAtRest (list_of image) (prefix ++ suffix)))) }
-    ensures sealed { OnOk result (ForSome (F.told f.old).files (λ from. ForSome (F.told f.new).files (AreSealed (writes_of removal node (list_of from))))) }
+
+    // Where it succeeds the node and both that its links name checked.
+    ensures checked { OnOk result (ForSome (F.told f.old).files (λ from. IsLinked (list_of from) node)) }
+    ensures removed { OnOk result (ForSome (F.told f.old).files (λ from. (prefix suffix : List ℕ) → HasListAtRest (prefix ++ node ∷ suffix) from → ForSome (F.told f.new).files (HasListAtRest (prefix ++ suffix)))) }
+    ensures sealed { OnOk result (ForSome (F.told f.old).files (λ from. ForSome (F.told f.new).files (Seals from (writes_of removal node (list_of from))))) }
+    ensures steps { OnOk result (ForSome (F.told f.old).files (λ from. Applies (F.told f.old) (F.told f.new) (operation_steps removal node from))) }
+    ensures prefix { ForSome (F.told f.old).files (λ from. AppliesPrefix (F.told f.old) (F.told f.new) (operation_steps removal node from)) }
 
     // At each word completing gives the old list, or from the transaction word on the new one; nothing but the list changes.
-    ensures commits { ForSome (F.told f.old).files (λ from. (prefix suffix : List ℕ) → walked from ≡ prefix ++ node ∷ suffix → Commits 2 (F.told f.old) (F.told f.new) (CompletesTo (walked from)) (CompletesTo (prefix ++ suffix))) }
-    ensures stops { ForSome (F.told f.old).files (λ from. Passes (F.told f.old) (F.told f.new) (IsPartly from (writes_of removal node (list_of from)))) }
+    ensures stops { ForSome (F.told f.old).files (λ from. (prefix suffix : List ℕ) → HasListAtRest (prefix ++ node ∷ suffix) from → Passes (F.told f.old) (F.told f.new) (IsMidOperation files.now (writes_of removal node (list_of from)) (prefix ++ node ∷ suffix) (prefix ++ suffix) from)) }
+
     ensures complete { ForSome (F.told f.new).files HasWholeIndex }
     ensures agrees { ForSome (F.told f.new).files (Agrees files.now) }
 
-    // A folder that tells its files never gives a damage.
-    ensures damaged { IfDamaged result (IsRemovalDamage files.now node) }
-    ensures untold { IfDamaged result (λ _. (F.told f.old).files ≡ None) }
+    // A folder that tells its files gives a damage only where the node isn't listed.
+    ensures damaged { IfDamaged result (IsRemovalDamage node files.now (F.told f.old) (F.told f.new)) }
+    ensures untold { ForSome (F.told f.old).files (IsListed node) → IfDamaged result (λ _. (F.told f.old).files ≡ None) }
     ensures silent { (F.told f.old).files ≡ None → (F.told f.new).files ≡ None }
 
     ensures later { F.faults f.old ≤ F.faults f.new }
     ensures device { IfDevice result (Rises (F.faults f.old) (F.faults f.new)) }
 {
-    blk_laws::removals_at_each_word();
     let neighbours = neighbours(f, files, node)?;
     let neighbours = Some(neighbours);
     let plan = plan_of(node, &Operation::Remove { neighbours });
@@ -106,48 +110,51 @@ pub fn remove<F: Folder>(f: &mut F, files: &BlockFiles, node: Addr) -> Result<()
 ///
 /// The operation word and the transaction word are written, the node is taken out, the operation
 /// word becomes that of an insert, and the node is put in front; then the transaction ends. Where the
-/// node is the first one already no transaction is started. At last the times are written. This takes
-/// at most 39 folder calls.
+/// node is the first one already no transaction is started. At last the times are written. Damages
+/// are those of an insert and a removal. This takes at most 39 folder calls.
 pub fn touch<F: Folder>(f: &mut F, files: &BlockFiles, node: Addr, moment: u64) -> Result<(), Fault>
-    requires stands { IsTrue (is_node files.now node) }
+    requires stands { IsTrue (is_node_among files.now node) }
     requires complete { ForSome (F.told f.old).files HasWholeIndex }
     requires agrees { ForSome (F.told f.old).files (Agrees files.now) }
-    requires listed { ForSome (F.told f.old).files (IsListed node) }
-    ensures steps { OnOk result (ForSome (F.told f.old).files (λ from. Applies (F.told f.old) (F.told f.new) (touch_steps node moment (touch_writes node (list_of from)) from))) }
-    ensures prefix { ForSome (F.told f.old).files (λ from. AppliesPrefix (F.told f.old) (F.told f.new) (touch_steps node moment (touch_writes node (list_of from)) from)) }
-    ensures touched { OnOk result (ForSome (F.told f.old).files (λ from. ForSome (F.told f.new).files (λ image. (prefix suffix : List ℕ) → walked from ≡ prefix ++ node ∷ suffix → IsAtRest (list_of image) (node ∷ prefix ++ suffix)))) }
+
+    // Where it succeeds each node that was written checked, and both that the links name of a node that wasn't the first.
+    ensures checked { OnOk result (ForSome (F.told f.old).files (λ from. CanBeTouched from node)) }
+    ensures touched { OnOk result (ForSome (F.told f.old).files (λ from. (prefix suffix : List ℕ) → HasListAtRest (prefix ++ node ∷ suffix) from → ForSome (F.told f.new).files (HasListAtRest (node ∷ prefix ++ suffix)))) }
     ensures times { OnOk result (ForSome (F.told f.old).files (λ _. ForSome (F.told f.new).files (AreTimes node moment))) }
-    ensures sealed { OnOk result (ForSome (F.told f.old).files (λ from. ForSome (F.told f.new).files (λ image. AreSealed (touch_writes node (list_of from)) image × IsSealed image node))) }
+    ensures sealed { OnOk result (ForSome (F.told f.old).files (λ from. ForSome (F.told f.new).files (λ image. Seals from (touch_writes node (list_of from)) image × IsSealed image node))) }
+    ensures steps { OnOk result (ForSome (F.told f.old).files (λ from. Applies (F.told f.old) (F.told f.new) (steps_of_touch node moment from))) }
+    ensures prefix { ForSome (F.told f.old).files (λ from. AppliesPrefix (F.told f.old) (F.told f.new) (steps_of_touch node moment from)) }
 
     // At each word completing gives the old list, or from the transaction word on the new one; nothing but the list and the times changes.
-    ensures commits { ForSome (F.told f.old).files (λ from. (prefix suffix : List ℕ) → walked from ≡ prefix ++ node ∷ suffix → Commits 2 (F.told f.old) (F.told f.new) (CompletesTo (walked from)) (CompletesTo (node ∷ prefix ++ suffix))) }
-    ensures stops { ForSome (F.told f.old).files (λ from. Passes (F.told f.old) (F.told f.new) (IsTouched from node (touch_writes node (list_of from)))) }
+    ensures stops { ForSome (F.told f.old).files (λ from. (prefix suffix : List ℕ) → HasListAtRest (prefix ++ node ∷ suffix) from → Passes (F.told f.old) (F.told f.new) (IsMidTouch files.now node (touch_writes node (list_of from)) (prefix ++ node ∷ suffix) (node ∷ prefix ++ suffix) from)) }
+
     ensures complete { ForSome (F.told f.new).files HasWholeIndex }
     ensures agrees { ForSome (F.told f.new).files (Agrees files.now) }
 
-    // A folder that tells its files never gives a damage.
-    ensures damaged { IfDamaged result (IsTouchDamage files.now node) }
-    ensures untold { IfDamaged result (λ _. (F.told f.old).files ≡ None) }
+    // A folder that tells its files gives a damage only where the node isn't listed.
+    ensures damaged { IfDamaged result (IsTouchDamage node files.now (F.told f.old) (F.told f.new)) }
+    ensures untold { ForSome (F.told f.old).files (IsListed node) → IfDamaged result (λ _. (F.told f.old).files ≡ None) }
     ensures silent { (F.told f.old).files ≡ None → (F.told f.new).files ≡ None }
 
     ensures later { F.faults f.old ≤ F.faults f.new }
     ensures device { IfDevice result (Rises (F.faults f.old) (F.faults f.new)) }
 {
-    blk_laws::touches_at_each_word();
     move_front(f, files, node)?;
     set_times(f, files, node, moment)
 }
 
 // Sets the two times of a node to a moment.
 fn set_times<F: Folder>(f: &mut F, files: &BlockFiles, node: Addr, moment: u64) -> Result<(), Fault>
-    requires stands { is_node files.now node ≡ true }
+    requires stands { is_node_among files.now node ≡ true }
+    requires complete { ForSome (F.told f.old).files HasWholeIndex }
     requires agrees { ForSome (F.told f.old).files (Agrees files.now) }
-    requires check { ForSome (F.told f.old).files (λ image. (list_of image).checks node ≡ true) }
+    ensures checked { OnOk result (ForSome (F.told f.old).files (λ image. (list_of image).checks node ≡ true)) }
     ensures steps { OnOk result (ForSome (F.told f.old).files (λ from. Applies (F.told f.old) (F.told f.new) (sealed_steps from node (times_of moment)))) }
     ensures prefix { ForSome (F.told f.old).files (λ from. AppliesPrefix (F.told f.old) (F.told f.new) (sealed_steps from node (times_of moment))) }
+    ensures complete { ForSome (F.told f.new).files HasWholeIndex }
     ensures agrees { ForSome (F.told f.new).files (Agrees files.now) }
-    ensures damaged { IfDamaged result (IsNodeDamage files.now) }
-    ensures untold { IfDamaged result (λ _. (F.told f.old).files ≡ None) }
+    ensures damaged { IfDamaged result (IsNodeDamage files.now (F.told f.new)) }
+    ensures untold { ForSome (F.told f.old).files (λ image. (list_of image).checks node ≡ true) → IfDamaged result (λ _. (F.told f.old).files ≡ None) }
     ensures silent { (F.told f.old).files ≡ None → (F.told f.new).files ≡ None }
     ensures later { F.faults f.old ≤ F.faults f.new }
     ensures device { IfDevice result (Rises (F.faults f.old) (F.faults f.new)) }
@@ -165,17 +172,17 @@ fn set_times<F: Folder>(f: &mut F, files: &BlockFiles, node: Addr, moment: u64) 
 
 // Moves a listed node to the front of the list, where it isn't there already.
 fn move_front<F: Folder>(f: &mut F, files: &BlockFiles, node: Addr) -> Result<(), Fault>
-    requires stands { IsTrue (is_node files.now node) }
+    requires stands { IsTrue (is_node_among files.now node) }
     requires complete { ForSome (F.told f.old).files HasWholeIndex }
     requires agrees { ForSome (F.told f.old).files (Agrees files.now) }
-    requires listed { ForSome (F.told f.old).files (IsListed node) }
+    ensures checked { OnOk result (ForSome (F.told f.old).files (λ from. CanBeMade from (touch_writes node (list_of from)))) }
+    ensures linked { OnOk result (ForSome (F.told f.old).files (λ from. (list_of from).head ≢ node → IsLinked (list_of from) node)) }
     ensures steps { OnOk result (ForSome (F.told f.old).files (λ from. Applies (F.told f.old) (F.told f.new) (steps_of (touch_writes node (list_of from)) from))) }
     ensures prefix { ForSome (F.told f.old).files (λ from. AppliesPrefix (F.told f.old) (F.told f.new) (steps_of (touch_writes node (list_of from)) from)) }
-    ensures stops { ForSome (F.told f.old).files (λ from. Passes (F.told f.old) (F.told f.new) (IsPartly from (touch_writes node (list_of from)))) }
     ensures complete { ForSome (F.told f.new).files HasWholeIndex }
     ensures agrees { ForSome (F.told f.new).files (Agrees files.now) }
-    ensures damaged { IfDamaged result (IsTouchDamage files.now node) }
-    ensures untold { IfDamaged result (λ _. (F.told f.old).files ≡ None) }
+    ensures damaged { IfDamaged result (IsTouchDamage node files.now (F.told f.old) (F.told f.new)) }
+    ensures untold { ForSome (F.told f.old).files (IsListed node) → IfDamaged result (λ _. (F.told f.old).files ≡ None) }
     ensures silent { (F.told f.old).files ≡ None → (F.told f.new).files ≡ None }
     ensures later { F.faults f.old ≤ F.faults f.new }
     ensures device { IfDevice result (Rises (F.faults f.old) (F.faults f.new)) }
@@ -194,19 +201,19 @@ fn move_behind<F: Folder>(
     node: Addr,
     head: Option<Addr>,
 ) -> Result<(), Fault>
-    requires stands { IsTrue (is_node files.now node) }
-    requires first { IfSome head (λ n. IsTrue (is_node files.now n)) }
+    requires stands { IsTrue (is_node_among files.now node) }
+    requires first { IfSome head (λ n. IsTrue (is_node_among files.now n)) }
     requires complete { ForSome (F.told f.old).files HasWholeIndex }
     requires agrees { ForSome (F.told f.old).files (Agrees files.now) }
-    requires listed { ForSome (F.told f.old).files (IsListed node) }
-    requires head { ForSome (F.told f.old).files (λ image. head ≡ first_of (walked image)) }
-    ensures steps { OnOk result (ForSome (F.told f.old).files (λ from. Applies (F.told f.old) (F.told f.new) (steps_of (writes_of move node (list_of from)) from))) }
-    ensures prefix { ForSome (F.told f.old).files (λ from. AppliesPrefix (F.told f.old) (F.told f.new) (steps_of (writes_of move node (list_of from)) from)) }
-    ensures stops { ForSome (F.told f.old).files (λ from. Passes (F.told f.old) (F.told f.new) (IsPartly from (writes_of move node (list_of from)))) }
+    requires head { ForSome (F.told f.old).files (λ image. word_or_zero head ≡ (list_of image).head) }
+    ensures checked { OnOk result (ForSome (F.told f.old).files (λ from. CanBeMade from (writes_of move node (list_of from)))) }
+    ensures linked { OnOk result (ForSome (F.told f.old).files (λ from. IsLinked (list_of from) node)) }
+    ensures steps { OnOk result (ForSome (F.told f.old).files (λ from. Applies (F.told f.old) (F.told f.new) (operation_steps move node from))) }
+    ensures prefix { ForSome (F.told f.old).files (λ from. AppliesPrefix (F.told f.old) (F.told f.new) (operation_steps move node from)) }
     ensures complete { ForSome (F.told f.new).files HasWholeIndex }
     ensures agrees { ForSome (F.told f.new).files (Agrees files.now) }
-    ensures damaged { IfDamaged result (IsRemovalDamage files.now node) }
-    ensures untold { IfDamaged result (λ _. (F.told f.old).files ≡ None) }
+    ensures damaged { IfDamaged result (IsRemovalDamage node files.now (F.told f.old) (F.told f.new)) }
+    ensures untold { ForSome (F.told f.old).files (IsListed node) → IfDamaged result (λ _. (F.told f.old).files ≡ None) }
     ensures silent { (F.told f.old).files ≡ None → (F.told f.new).files ≡ None }
     ensures later { F.faults f.old ≤ F.faults f.new }
     ensures device { IfDevice result (Rises (F.faults f.old) (F.faults f.new)) }
@@ -217,16 +224,15 @@ fn move_behind<F: Folder>(
     perform(f, files, &plan)
 }
 
-// The nodes beside a listed one, by two folder calls.
+// The nodes that the links of one name, by two folder calls.
 fn neighbours<F: Folder>(f: &mut F, files: &BlockFiles, node: Addr) -> Result<Neighbours, Fault>
-    requires stands { IsTrue (is_node files.now node) }
+    requires stands { IsTrue (is_node_among files.now node) }
     requires agrees { ForSome (F.told f.old).files (Agrees files.now) }
-    requires listed { ForSome (F.told f.old).files (IsListed node) }
     ensures words { IfOk result (λ neighbours. ForSome (F.told f.old).files (λ image. AreBeside ((list_of image).next node) ((list_of image).prev node) (Some neighbours))) }
     ensures stand { IfOk result (StandBeside files.now) }
-    ensures damaged { IfDamaged result (IsRemovalDamage files.now node) }
-    ensures untold { IfDamaged result (λ _. (F.told f.old).files ≡ None) }
     ensures stays { Stays (F.told f.old) (F.told f.new) }
+    ensures damaged { IfDamaged result (IsNeighbourDamage node files.now (F.told f.old) (F.told f.new)) }
+    ensures untold { ForSome (F.told f.old).files (IsListed node) → IfDamaged result (λ _. (F.told f.old).files ≡ None) }
     ensures later { F.faults f.old ≤ F.faults f.new }
     ensures device { IfDevice result (Rises (F.faults f.old) (F.faults f.new)) }
 {

@@ -5,19 +5,21 @@ ghost use Rattle.blk_image.specs.Told.{Applies, AppliesPrefix, Passes, Rises, St
 ghost use Rattle.blk_format.specs.Headers.{HasWholeIndex};
 ghost use Rattle.blk_volume.specs.ListPlans.{completion_writes};
 ghost use Rattle.blk_volume.specs.View.{list_of};
-ghost use Rattle.blk_volume.specs.ListSteps.{AreOf, AreSealed, AreWords, IsPartly, steps_of};
-ghost use Rattle.blk_volume.specs.ListImages.{CompletesAlike, IsCompleted};
+ghost use Rattle.blk_volume.specs.ListSteps.{AreOf, AreWords, Seals};
+ghost use Rattle.blk_volume.specs.ListImages.{IsCompleted, completion_steps};
 ghost use Rattle.blk_io.specs.Faults.{IfDamaged, IfDevice};
-ghost use Rattle.blk_disk.specs.Tables.{Agrees};
+ghost use Rattle.blk_disk.specs.Tables.{Agrees, is_node_among};
 ghost use Rattle.blk_lru.specs.Damages.{IsCompletingDamage, IsNodeDamage};
-ghost use Rattle.blk_lru.specs.Nodes.{is_node, AreLinksOf};
+ghost use Rattle.blk_lru.specs.Moments.{IsMidCompletion};
+ghost use Rattle.blk_lru.specs.Nodes.{AreLinksOf};
 ghost use Rattle.blk_lru.specs.Writes.{meant};
-ghost use Rattle.blk_lru.specs.Completing.{AreNodes, Finds, FindsNeighbours, FindsHead, FoundNeighboursStand, FoundHeadStands, finishing_writes};
+ghost use Rattle.blk_lru.specs.Completing.{AreNodes, Finds, FindsNeighbours, FindsHead, FoundNeighboursStand, FoundHeadStands};
 
 use crate::nodes::{Links, checked};
-use crate::plans::{Neighbours, INSERT, MOVE, Operation, Plan, REMOVE, ending, pending_of};
+use crate::plans::{INSERT, MOVE, Neighbours, Operation, Plan, REMOVE, ending, pending_of};
 use crate::reading::HEAD;
 use crate::writes::{OPERATION, TRANSACTION, perform};
+use arrayvec::ArrayVec;
 use blk_addr::Addr;
 use blk_disk::BlockFiles;
 use blk_index::word;
@@ -30,9 +32,9 @@ pub(crate) struct InFlight {
     operation: Operation,
 }
 
-// A part of an operation in flight: it counts, or it names a word that is no node or one that doesn't check.
+// What an operation in flight goes by, where it can be used: it counts, or it names a word that is no node or one that doesn't check.
 #[derive(Clone, Copy, Debug)]
-pub(crate) enum Part<T> {
+pub(crate) enum Usable<T> {
     Counts(T),
     Fails,
 }
@@ -47,48 +49,51 @@ pub(crate) enum Part<T> {
 pub fn complete<F: Folder>(f: &mut F, files: &BlockFiles) -> Result<(), Fault>
     requires complete { ForSome (F.told f.old).files HasWholeIndex }
     requires agrees { ForSome (F.told f.old).files (Agrees files.now) }
-    ensures steps { OnOk result (ForSome (F.told f.old).files (λ from. Applies (F.told f.old) (F.told f.new) (steps_of (finishing_writes (list_of from)) from))) }
-    ensures prefix { ForSome (F.told f.old).files (λ from. AppliesPrefix (F.told f.old) (F.told f.new) (steps_of (finishing_writes (list_of from)) from)) }
+    ensures sealed { OnOk result (ForSome (F.told f.old).files (λ from. ForSome (F.told f.new).files (Seals from (completion_writes (list_of from))))) }
     ensures done { OnOk result (ForSome (F.told f.old).files (λ from. ForSome (F.told f.new).files (IsCompleted from))) }
-    ensures sealed { OnOk result (ForSome (F.told f.old).files (λ from. ForSome (F.told f.new).files (AreSealed (finishing_writes (list_of from))))) }
+    ensures steps { OnOk result (ForSome (F.told f.old).files (λ from. Applies (F.told f.old) (F.told f.new) (completion_steps from))) }
+    ensures prefix { ForSome (F.told f.old).files (λ from. AppliesPrefix (F.told f.old) (F.told f.new) (completion_steps from)) }
 
     // At each word completing gives what it gave at the entry, so it may be stopped and begun again; nothing but the list changes.
-    ensures keeps { ForSome (F.told f.old).files (λ from. Passes (F.told f.old) (F.told f.new) (CompletesAlike from)) }
-    ensures stops { ForSome (F.told f.old).files (λ from. Passes (F.told f.old) (F.told f.new) (IsPartly from (finishing_writes (list_of from)))) }
+    ensures stops { ForSome (F.told f.old).files (λ from. Passes (F.told f.old) (F.told f.new) (IsMidCompletion files.now from)) }
+
     ensures complete { ForSome (F.told f.new).files HasWholeIndex }
     ensures agrees { ForSome (F.told f.new).files (Agrees files.now) }
 
     // A folder that tells its files never gives a damage.
-    ensures damaged { IfDamaged result (IsCompletingDamage files.now) }
+    ensures damaged { IfDamaged result (IsCompletingDamage files.now (F.told f.new)) }
     ensures untold { IfDamaged result (λ _. (F.told f.old).files ≡ None) }
     ensures silent { (F.told f.old).files ≡ None → (F.told f.new).files ≡ None }
 
     ensures later { F.faults f.old ≤ F.faults f.new }
     ensures device { IfDevice result (Rises (F.faults f.old) (F.faults f.new)) }
 {
-    let transaction = word(f, TRANSACTION)?;
-    if transaction == 0 {
-        return Ok(());
-    }
-    let plan = completion(f, files, transaction)?;
+    let plan = pending(f, files)?;
     perform(f, files, &plan)
 }
 
-// What completing writes, where this is the transaction word.
-fn completion<F: Folder>(f: &mut F, files: &BlockFiles, transaction: u32) -> Result<Plan, Fault>
+/// What completing would write, in order: what is left of the operation in flight, or the end of its transaction where it doesn't count.
+///
+/// It is nothing where no operation is in flight. Nothing is written, and at most 6 folder calls are made.
+pub fn pending<F: Folder>(f: &mut F, files: &BlockFiles) -> Result<Plan, Fault>
     requires complete { ForSome (F.told f.old).files HasWholeIndex }
     requires agrees { ForSome (F.told f.old).files (Agrees files.now) }
-    requires transaction { ForSome (F.told f.old).files (λ image. (list_of image).transaction ≡ transaction) }
-    ensures plan { IfOk result (λ plan. ForSome (F.told f.old).files (λ image. map meant plan.items ≡ completion_writes (list_of image))) }
-    ensures stand { IfOk result (λ plan. AreOf (λ n. is_node files.now n ≡ true) (map meant plan.items)) }
     ensures words { IfOk result (λ plan. AreWords (map meant plan.items)) }
-    ensures check { IfOk result (λ plan. ForSome (F.told f.old).files (λ image. AreOf (λ n. (list_of image).checks n ≡ true) (map meant plan.items))) }
-    ensures damaged { IfDamaged result (IsCompletingDamage files.now) }
-    ensures untold { IfDamaged result (λ _. (F.told f.old).files ≡ None) }
+    ensures plan { IfOk result (λ plan. ForSome (F.told f.old).files (λ image. map meant plan.items ≡ completion_writes (list_of image))) }
+    ensures stand { IfOk result (λ plan. AreOf (λ n. is_node_among files.now n ≡ true) (map meant plan.items)) }
     ensures stays { Stays (F.told f.old) (F.told f.new) }
+
+    // A folder that tells its files never gives a damage.
+    ensures damaged { IfDamaged result (IsCompletingDamage files.now (F.told f.new)) }
+    ensures untold { IfDamaged result (λ _. (F.told f.old).files ≡ None) }
+
     ensures later { F.faults f.old ≤ F.faults f.new }
     ensures device { IfDevice result (Rises (F.faults f.old) (F.faults f.new)) }
 {
+    let transaction = word(f, TRANSACTION)?;
+    if transaction == 0 {
+        return Ok(ArrayVec::new());
+    }
     let Some(found) = in_flight(f, files, transaction)? else {
         return Ok(ending());
     };
@@ -106,9 +111,9 @@ fn in_flight<F: Folder>(
     requires transaction { ForSome (F.told f.old).files (λ image. (list_of image).transaction ≡ transaction) }
     ensures found { IfOk result (λ found. ForSome (F.told f.old).files (λ image. Finds (list_of image) found)) }
     ensures stand { IfOk result (λ found. IfSome found (AreNodes files.now)) }
-    ensures damaged { IfDamaged result (IsCompletingDamage files.now) }
-    ensures untold { IfDamaged result (λ _. (F.told f.old).files ≡ None) }
     ensures stays { Stays (F.told f.old) (F.told f.new) }
+    ensures damaged { IfDamaged result (IsCompletingDamage files.now (F.told f.new)) }
+    ensures untold { IfDamaged result (λ _. (F.told f.old).files ≡ None) }
     ensures later { F.faults f.old ≤ F.faults f.new }
     ensures device { IfDevice result (Rises (F.faults f.old) (F.faults f.new)) }
 {
@@ -128,38 +133,38 @@ fn counting<F: Folder>(
 ) -> Result<Option<InFlight>, Fault>
     requires complete { ForSome (F.told f.old).files HasWholeIndex }
     requires agrees { ForSome (F.told f.old).files (Agrees files.now) }
-    requires stands { is_node files.now links.now.node ≡ true }
+    requires stands { is_node_among files.now links.now.node ≡ true }
     requires links { ForSome (F.told f.old).files (λ image. AreLinksOf (list_of image) (list_of image).transaction links.now) }
     requires operation { ForSome (F.told f.old).files (λ image. (list_of image).operation ≡ code) }
     ensures found { IfOk result (λ found. ForSome (F.told f.old).files (λ image. Finds (list_of image) found)) }
     ensures stand { IfOk result (λ found. IfSome found (AreNodes files.now)) }
-    ensures damaged { IfDamaged result (IsCompletingDamage files.now) }
-    ensures untold { IfDamaged result (λ _. (F.told f.old).files ≡ None) }
     ensures stays { Stays (F.told f.old) (F.told f.new) }
+    ensures damaged { IfDamaged result (IsCompletingDamage files.now (F.told f.new)) }
+    ensures untold { IfDamaged result (λ _. (F.told f.old).files ≡ None) }
     ensures later { F.faults f.old ≤ F.faults f.new }
     ensures device { IfDevice result (Rises (F.faults f.old) (F.faults f.new)) }
 {
     let node = links.node;
     match code {
         INSERT => {
-            let Part::Counts(head) = usable_head(f, files)? else {
+            let Usable::Counts(head) = usable_head(f, files)? else {
                 return Ok(None);
             };
             let operation = Operation::Insert { head };
             Ok(Some(InFlight { node, operation }))
         }
         REMOVE => {
-            let Part::Counts(neighbours) = usable_links(f, files, links)? else {
+            let Usable::Counts(neighbours) = usable_links(f, files, links)? else {
                 return Ok(None);
             };
             let operation = Operation::Remove { neighbours };
             Ok(Some(InFlight { node, operation }))
         }
         MOVE => {
-            let Part::Counts(head) = usable_head(f, files)? else {
+            let Usable::Counts(head) = usable_head(f, files)? else {
                 return Ok(None);
             };
-            let Part::Counts(neighbours) = usable_links(f, files, links)? else {
+            let Usable::Counts(neighbours) = usable_links(f, files, links)? else {
                 return Ok(None);
             };
             let operation = Operation::Move { neighbours, head };
@@ -170,25 +175,25 @@ fn counting<F: Folder>(
 }
 
 // The first node or none, where the head is 0 or names a node that checks.
-fn usable_head<F: Folder>(f: &mut F, files: &BlockFiles) -> Result<Part<Option<Addr>>, Fault>
+fn usable_head<F: Folder>(f: &mut F, files: &BlockFiles) -> Result<Usable<Option<Addr>>, Fault>
     requires complete { ForSome (F.told f.old).files HasWholeIndex }
     requires agrees { ForSome (F.told f.old).files (Agrees files.now) }
     ensures found { IfOk result (λ found. ForSome (F.told f.old).files (λ image. FindsHead (list_of image) found)) }
     ensures stand { IfOk result (FoundHeadStands files.now) }
-    ensures damaged { IfDamaged result (IsCompletingDamage files.now) }
-    ensures untold { IfDamaged result (λ _. (F.told f.old).files ≡ None) }
     ensures stays { Stays (F.told f.old) (F.told f.new) }
+    ensures damaged { IfDamaged result (IsCompletingDamage files.now (F.told f.new)) }
+    ensures untold { IfDamaged result (λ _. (F.told f.old).files ≡ None) }
     ensures later { F.faults f.old ≤ F.faults f.new }
     ensures device { IfDevice result (Rises (F.faults f.old) (F.faults f.new)) }
 {
     let head = word(f, HEAD)?;
     if head == 0 {
-        return Ok(Part::Counts(None));
+        return Ok(Usable::Counts(None));
     }
     let Some(links) = checked(f, files, head)? else {
-        return Ok(Part::Fails);
+        return Ok(Usable::Fails);
     };
-    Ok(Part::Counts(Some(links.node)))
+    Ok(Usable::Counts(Some(links.node)))
 }
 
 // The nodes beside one that has these links or none, where its next is 0 or both links name nodes that check.
@@ -196,27 +201,27 @@ fn usable_links<F: Folder>(
     f: &mut F,
     files: &BlockFiles,
     links: &Links,
-) -> Result<Part<Option<Neighbours>>, Fault>
+) -> Result<Usable<Option<Neighbours>>, Fault>
     requires agrees { ForSome (F.told f.old).files (Agrees files.now) }
-    requires stands { is_node files.now links.now.node ≡ true }
+    requires stands { is_node_among files.now links.now.node ≡ true }
     requires links { ForSome (F.told f.old).files (λ image. AreLinksOf (list_of image) (list_of image).transaction links.now) }
     ensures found { IfOk result (λ found. ForSome (F.told f.old).files (λ image. FindsNeighbours (list_of image) (list_of image).transaction found)) }
     ensures stand { IfOk result (FoundNeighboursStand files.now) }
-    ensures damaged { IfDamaged result (IsNodeDamage files.now) }
-    ensures untold { IfDamaged result (λ _. (F.told f.old).files ≡ None) }
     ensures stays { Stays (F.told f.old) (F.told f.new) }
+    ensures damaged { IfDamaged result (IsNodeDamage files.now (F.told f.new)) }
+    ensures untold { IfDamaged result (λ _. (F.told f.old).files ≡ None) }
     ensures later { F.faults f.old ≤ F.faults f.new }
     ensures device { IfDevice result (Rises (F.faults f.old) (F.faults f.new)) }
 {
     if links.next == 0 {
-        return Ok(Part::Counts(None));
+        return Ok(Usable::Counts(None));
     }
     let Some(next) = checked(f, files, links.next)? else {
-        return Ok(Part::Fails);
+        return Ok(Usable::Fails);
     };
     let Some(prev) = checked(f, files, links.prev)? else {
-        return Ok(Part::Fails);
+        return Ok(Usable::Fails);
     };
     let (next, prev) = (next.node, prev.node);
-    Ok(Part::Counts(Some(Neighbours { next, prev })))
+    Ok(Usable::Counts(Some(Neighbours { next, prev })))
 }

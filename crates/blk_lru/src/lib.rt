@@ -11,8 +11,10 @@ mod reading;
 mod writes;
 
 pub use changing::{insert_front, remove, touch};
-pub use completing::complete;
+pub use completing::{complete, pending};
+pub use plans::Plan;
 pub use reading::{after, before, first, last};
+pub use writes::Write;
 
 #[cfg(test)]
 mod tests;

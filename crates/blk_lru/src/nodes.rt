@@ -1,20 +1,18 @@
 // Words that name nodes, and the links of nodes.
-ghost use Rattle.std.specs.Prelude.{◌≡◌, ◌⊎◌, ◌+◌, ◌≤◌, IfOk, IfSome, IsTrue, None, Some, if◌then◌else◌, length, true};
+ghost use Rattle.std.specs.Prelude.{◌≡◌, ◌+◌, ◌≤◌, IfOk, IfSome, IsTrue, None, OnOk, Some, if◌then◌else◌, length, true};
 ghost use Rattle.std.specs.Option.{ForSome};
 ghost use Rattle.blk_image.specs.Bytes.{content, word_at};
-ghost use Rattle.blk_image.specs.Image.{Block as block, word as image_word};
+ghost use Rattle.blk_image.specs.Image.{Block as block, HasRange};
 ghost use Rattle.blk_image.specs.Told.{Rises, Stays};
 ghost use Rattle.blk_format.specs.Address.{file_selector, place};
-ghost use Rattle.blk_format.specs.Records.{checks};
+ghost use Rattle.blk_format.specs.Records.{checks, node_seal_place, node_size};
 ghost use Rattle.blk_volume.specs.View.{list_of};
-ghost use Rattle.blk_io.specs.declared.folder.FileId.TheVariants as names;
-ghost use Rattle.blk_io.specs.Faults.{IfDamaged, IfDevice, IsShort};
-ghost use Rattle.blk_disk.specs.Tables.{Agrees};
-ghost use Rattle.blk_lru.specs.Damages.{IsNodeDamage};
-ghost use Rattle.blk_lru.specs.Nodes as nodes;
-ghost use Rattle.blk_lru.specs.Nodes.{is_node, link_at, FindsNode, IsDangling, IsLinkPlace};
+ghost use Rattle.blk_io.specs.Faults.{IfDamaged, IfDevice};
+ghost use Rattle.blk_disk.specs.Tables.{Agrees, is_node_among};
+ghost use Rattle.blk_lru.specs.Damages.{IsLinkDamage, IsNodeDamage};
+ghost use Rattle.blk_lru.specs.Nodes.{link_at, FindsNode, IsLinkPlace};
 
-use blk_addr::{Addr, Kind};
+use blk_addr::Addr;
 use blk_disk::{BlockFiles, file_of};
 use blk_io::{Damage, Fault, Folder};
 use blk_record::{BlockHead, NodeView, Record};
@@ -27,21 +25,6 @@ pub(crate) struct Links {
     pub(crate) prev: u32,
 }
 
-// The node that a word names, if it is the address of one that stands.
-#[tactic(auto, unfolding(crate::specs::Nodes::is_node))]
-pub(crate) fn node_of(files: &BlockFiles, word: u32) -> Option<Addr>
-    ensures { result ≡ nodes.node_of files.now word }
-{
-    let Some(addr) = Addr::from_word(word) else {
-        return None;
-    };
-    if addr.kind() == Kind::Rankings && files.stands(addr) {
-        Some(addr)
-    } else {
-        None
-    }
-}
-
 // The node that a link of a node names, by one folder call.
 pub(crate) fn link<F: Folder>(
     f: &mut F,
@@ -49,22 +32,21 @@ pub(crate) fn link<F: Folder>(
     node: Addr,
     at: u32,
 ) -> Result<Addr, Fault>
-    requires stands { IsTrue (is_node files.now node) }
+    requires stands { IsTrue (is_node_among files.now node) }
     requires place { IsLinkPlace at }
-    requires agrees { ForSome (F.told f.old).files (Agrees files.now) }
-    requires named { ForSome (F.told f.old).files (λ image. is_node files.now (link_at image node at) ≡ true) }
     ensures word { IfOk result (λ found. ForSome (F.told f.old).files (λ image. found ≡ link_at image node at)) }
-    ensures stands { IfOk result (λ found. IsTrue (is_node files.now found)) }
-    ensures damaged { IfDamaged result (λ damage. IsShort (F.told f.old) (names.Block (file_selector node)) (place node + at) 4 damage ⊎ IsDangling files.now (F.told f.old) (names.Block (file_selector node)) (place node + at) damage) }
-    ensures untold { IfDamaged result (λ _. (F.told f.old).files ≡ None) }
+    ensures stands { IfOk result (λ found. IsTrue (is_node_among files.now found)) }
+    ensures checked { OnOk result (ForSome (F.told f.old).files (λ image. HasRange image (block (file_selector node)) (place node + at) 4)) }
     ensures stays { Stays (F.told f.old) (F.told f.new) }
+    ensures damaged { IfDamaged result (IsLinkDamage node at files.now (F.told f.old)) }
+    ensures untold { ForSome (F.told f.old).files (Agrees files.now) → ForSome (F.told f.old).files (λ image. is_node_among files.now (link_at image node at) ≡ true) → IfDamaged result (λ _. (F.told f.old).files ≡ None) }
     ensures later { F.faults f.old ≤ F.faults f.new }
     ensures device { IfDevice result (Rises (F.faults f.old) (F.faults f.new)) }
 {
     let mut bytes = [0u8; 4];
     files.read_block(f, node, at, &mut bytes)?;
     let found = u32::from_le_bytes(bytes);
-    let Some(other) = node_of(files, found) else {
+    let Some(other) = files.node(found) else {
         let file = file_of(node);
         let at = BlockHead::HEADER_LEN
             + u64::from(node.start()) * NodeView::SIZE as u64
@@ -82,14 +64,14 @@ pub(crate) fn checked<F: Folder>(
 ) -> Result<Option<Links>, Fault>
     requires agrees { ForSome (F.told f.old).files (Agrees files.now) }
     ensures found { IfOk result (λ found. ForSome (F.told f.old).files (λ image. FindsNode (list_of image) word found)) }
-    ensures stands { IfOk result (λ found. IfSome found (λ links. is_node files.now links.node ≡ true)) }
-    ensures damaged { IfDamaged result (IsNodeDamage files.now) }
-    ensures untold { IfDamaged result (λ _. (F.told f.old).files ≡ None) }
+    ensures stands { IfOk result (λ found. IfSome found (λ links. is_node_among files.now links.node ≡ true)) }
     ensures stays { Stays (F.told f.old) (F.told f.new) }
+    ensures damaged { IfDamaged result (IsNodeDamage files.now (F.told f.new)) }
+    ensures untold { IfDamaged result (λ _. (F.told f.old).files ≡ None) }
     ensures later { F.faults f.old ≤ F.faults f.new }
     ensures device { IfDevice result (Rises (F.faults f.old) (F.faults f.new)) }
 {
-    let Some(node) = node_of(files, word) else {
+    let Some(node) = files.node(word) else {
         return Ok(None);
     };
     let mut window = [0u8; NodeView::SIZE];
@@ -99,8 +81,8 @@ pub(crate) fn checked<F: Folder>(
 
 // The links of a node that has these bytes, where it checks.
 fn links_in(node: Addr, window: &[u8]) -> Option<Links>
-    requires { length window.now ≡ 36 }
-    ensures { result ≡ (if checks 32 window.now then Some (record { node = node; next = word_at (content window.now) 16; prev = word_at (content window.now) 20 }) else None) }
+    requires { length window.now ≡ node_size }
+    ensures { result ≡ (if checks node_seal_place window.now then Some (record { node = node; next = word_at (content window.now) NodeView.NEXT; prev = word_at (content window.now) NodeView.PREV }) else None) }
 {
     let Some(view) = NodeView::over(window) else {
         unreachable!();

@@ -14,8 +14,8 @@ use blk_addr::Addr;
 // insert, four that put the node in front, and the end.
 const MOST_WRITES: usize = 11;
 
-// Writes in their order.
-pub(crate) type Plan = ArrayVec<Write, MOST_WRITES>;
+/// Writes into the use list, in their order.
+pub type Plan = ArrayVec<Write, MOST_WRITES>;
 
 // The codes of the operations.
 pub(crate) const INSERT: u32 = 1;

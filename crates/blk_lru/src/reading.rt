@@ -1,42 +1,46 @@
 // The order of the use list.
-ghost use Rattle.std.specs.Prelude.{◌≡◌, ◌⊎◌, ◌+◌, ◌++◌, ◌∷◌, ◌≤◌, ◌<◌, ◌%◌, ◌==◌, ℕ, List, IfOk, IfSome, IsTrue, None, Some, if◌then◌else◌, true};
+ghost use Rattle.std.specs.Prelude.{◌≡◌, ◌+◌, ◌++◌, ◌∷◌, ◌≤◌, ◌<◌, ◌%◌, ◌==◌, ℕ, List, IfOk, IfSome, IsTrue, None, OnOk, Some, if◌then◌else◌};
 ghost use Rattle.std.specs.Option.{ForSome};
-ghost use Rattle.blk_image.specs.Image.{word as image_word, Index as index};
+ghost use Rattle.blk_image.specs.Image.{word as image_word, Block as block, Index as index, HasRange};
 ghost use Rattle.blk_image.specs.Told.{Rises, Stays};
 ghost use Rattle.blk_format.specs.Address.{file_selector, place};
 ghost use Rattle.blk_format.specs.Headers.{header_length, HasWholeIndex};
-ghost use Rattle.blk_volume.specs.ListImages.{walked};
+ghost use Rattle.blk_volume.specs.View.{list_of};
+ghost use Rattle.blk_volume.specs.ListImages.{HasListAtRest, walked};
 ghost use Rattle.blk_io.specs.declared.folder.FileId.TheVariants as names;
-ghost use Rattle.blk_io.specs.Faults.{IfDamaged, IfDevice, IsShort};
-ghost use Rattle.blk_disk.specs.Tables.{Agrees};
-ghost use Rattle.blk_lru.specs.Nodes.{is_node, IsDangling, IsNodeOrNone};
-ghost use Rattle.blk_lru.specs.Lists.{IsListed, IsListAtRest, first_of, last_of};
+ghost use Rattle.blk_io.specs.Faults.{IfDamaged, IfDevice};
+ghost use Rattle.blk_disk.specs.Tables.{Agrees, is_node_among};
+ghost use Rattle.blk_lru.specs.Damages.{IsHeadDamage, IsLinkDamage, IsTailDamage, IsWordDamage};
+ghost use Rattle.blk_lru.specs.Nodes.{link_at, IsNodeOrNone};
+ghost use Rattle.blk_lru.specs.Lists.{IsListed, IsListAtRest, first_node_of, last_node_of};
+ghost use Rattle.blk_lru.specs.Plans.{word_or_zero};
 
-use crate::nodes::{link, node_of};
+use crate::nodes::link;
 use blk_addr::Addr;
 use blk_disk::BlockFiles;
 use blk_index::word;
 use blk_io::{Damage, Fault, FileId, Folder};
-use blk_record::NodeView;
+use blk_record::{IndexHead, NodeView};
 
 // The places of the first and the last node in the index.
-pub(crate) const HEAD: u32 = 288;
+pub(crate) const HEAD: u32 = IndexHead::HEADS as u32;
 
-pub(crate) const TAIL: u32 = 308;
+pub(crate) const TAIL: u32 = IndexHead::TAILS as u32;
 
 /// The node that was used last, or `None` where the list is empty, by one folder call.
+///
+/// A word that is neither 0 nor the address of a node that stands is a damage.
 pub fn first<F: Folder>(f: &mut F, files: &BlockFiles) -> Result<Option<Addr>, Fault>
-    requires complete { ForSome (F.told f.old).files HasWholeIndex }
-    requires agrees { ForSome (F.told f.old).files (Agrees files.now) }
-    requires rest { ForSome (F.told f.old).files IsListAtRest }
-    ensures node { IfOk result (λ node. ForSome (F.told f.old).files (λ image. node ≡ first_of (walked image))) }
-    ensures stands { IfOk result (λ node. IfSome node (λ n. IsTrue (is_node files.now n))) }
-
-    // Too few bytes, or a word that names no node, which a folder that tells its files never gives.
-    ensures damaged { IfDamaged result (λ damage. IsShort (F.told f.old) names.Index 288 4 damage ⊎ IsDangling files.now (F.told f.old) names.Index 288 damage) }
-    ensures untold { IfDamaged result (λ _. (F.told f.old).files ≡ None) }
-
+    ensures node { IfOk result (λ node. ForSome (F.told f.old).files (λ image. IsListAtRest image → node ≡ first_node_of (walked image))) }
+    ensures word { IfOk result (λ node. ForSome (F.told f.old).files (λ image. word_or_zero node ≡ (list_of image).head)) }
+    ensures stands { IfOk result (λ node. IfSome node (λ n. IsTrue (is_node_among files.now n))) }
+    ensures checked { OnOk result (ForSome (F.told f.old).files (λ image. HasRange image index IndexHead.HEADS 4)) }
     ensures stays { Stays (F.told f.old) (F.told f.new) }
+
+    // Too few bytes, or a word that names no node, which no told folder gives whose list is at rest.
+    ensures damaged { IfDamaged result (IsHeadDamage files.now (F.told f.old)) }
+    ensures untold { ForSome (F.told f.old).files HasWholeIndex → ForSome (F.told f.old).files (Agrees files.now) → ForSome (F.told f.old).files IsListAtRest → IfDamaged result (λ _. (F.told f.old).files ≡ None) }
+
     ensures later { F.faults f.old ≤ F.faults f.new }
     ensures device { IfDevice result (Rises (F.faults f.old) (F.faults f.new)) }
 {
@@ -44,18 +48,19 @@ pub fn first<F: Folder>(f: &mut F, files: &BlockFiles) -> Result<Option<Addr>, F
 }
 
 /// The node that was used first, or `None` where the list is empty, by one folder call.
+///
+/// A word that is neither 0 nor the address of a node that stands is a damage.
 pub fn last<F: Folder>(f: &mut F, files: &BlockFiles) -> Result<Option<Addr>, Fault>
-    requires complete { ForSome (F.told f.old).files HasWholeIndex }
-    requires agrees { ForSome (F.told f.old).files (Agrees files.now) }
-    requires rest { ForSome (F.told f.old).files IsListAtRest }
-    ensures node { IfOk result (λ node. ForSome (F.told f.old).files (λ image. node ≡ last_of (walked image))) }
-    ensures stands { IfOk result (λ node. IfSome node (λ n. IsTrue (is_node files.now n))) }
-
-    // Too few bytes, or a word that names no node, which a folder that tells its files never gives.
-    ensures damaged { IfDamaged result (λ damage. IsShort (F.told f.old) names.Index 308 4 damage ⊎ IsDangling files.now (F.told f.old) names.Index 308 damage) }
-    ensures untold { IfDamaged result (λ _. (F.told f.old).files ≡ None) }
-
+    ensures node { IfOk result (λ node. ForSome (F.told f.old).files (λ image. IsListAtRest image → node ≡ last_node_of (walked image))) }
+    ensures word { IfOk result (λ node. ForSome (F.told f.old).files (λ image. word_or_zero node ≡ (list_of image).tail)) }
+    ensures stands { IfOk result (λ node. IfSome node (λ n. IsTrue (is_node_among files.now n))) }
+    ensures checked { OnOk result (ForSome (F.told f.old).files (λ image. HasRange image index IndexHead.TAILS 4)) }
     ensures stays { Stays (F.told f.old) (F.told f.new) }
+
+    // Too few bytes, or a word that names no node, which no told folder gives whose list is at rest.
+    ensures damaged { IfDamaged result (IsTailDamage files.now (F.told f.old)) }
+    ensures untold { ForSome (F.told f.old).files HasWholeIndex → ForSome (F.told f.old).files (Agrees files.now) → ForSome (F.told f.old).files IsListAtRest → IfDamaged result (λ _. (F.told f.old).files ≡ None) }
+
     ensures later { F.faults f.old ≤ F.faults f.new }
     ensures device { IfDevice result (Rises (F.faults f.old) (F.faults f.new)) }
 {
@@ -63,18 +68,20 @@ pub fn last<F: Folder>(f: &mut F, files: &BlockFiles) -> Result<Option<Addr>, Fa
 }
 
 /// The node before a listed one, which was used after it, or `None` before the first, by one folder call.
+///
+/// A link that isn't the address of a node that stands is a damage.
 pub fn before<F: Folder>(f: &mut F, files: &BlockFiles, node: Addr) -> Result<Option<Addr>, Fault>
-    requires stands { IsTrue (is_node files.now node) }
-    requires agrees { ForSome (F.told f.old).files (Agrees files.now) }
-    requires listed { ForSome (F.told f.old).files (IsListed node) }
-    ensures node { IfOk result (λ found. ForSome (F.told f.old).files (λ image. (prefix suffix : List ℕ) → walked image ≡ prefix ++ node ∷ suffix → found ≡ last_of prefix)) }
-    ensures stands { IfOk result (λ found. IfSome found (λ n. IsTrue (is_node files.now n))) }
-
-    // Too few bytes, or a word that names no node, which a folder that tells its files never gives.
-    ensures damaged { IfDamaged result (λ damage. IsShort (F.told f.old) (names.Block (file_selector node)) (place node + 20) 4 damage ⊎ IsDangling files.now (F.told f.old) (names.Block (file_selector node)) (place node + 20) damage) }
-    ensures untold { IfDamaged result (λ _. (F.told f.old).files ≡ None) }
-
+    requires stands { IsTrue (is_node_among files.now node) }
+    ensures node { IfOk result (λ found. ForSome (F.told f.old).files (λ image. Agrees files.now image → (prefix suffix : List ℕ) → HasListAtRest (prefix ++ node ∷ suffix) image → found ≡ last_node_of prefix)) }
+    ensures word { IfOk result (λ found. ForSome (F.told f.old).files (λ image. found ≡ (if link_at image node NodeView.PREV == node then None else Some (link_at image node NodeView.PREV)))) }
+    ensures stands { IfOk result (λ found. IfSome found (λ n. IsTrue (is_node_among files.now n))) }
+    ensures checked { OnOk result (ForSome (F.told f.old).files (λ image. HasRange image (block (file_selector node)) (place node + NodeView.PREV) 4)) }
     ensures stays { Stays (F.told f.old) (F.told f.new) }
+
+    // Too few bytes, or a word that names no node, which no told folder gives in whose list the node is.
+    ensures damaged { IfDamaged result (IsLinkDamage node NodeView.PREV files.now (F.told f.old)) }
+    ensures untold { ForSome (F.told f.old).files (Agrees files.now) → ForSome (F.told f.old).files (IsListed node) → IfDamaged result (λ _. (F.told f.old).files ≡ None) }
+
     ensures later { F.faults f.old ≤ F.faults f.new }
     ensures device { IfDevice result (Rises (F.faults f.old) (F.faults f.new)) }
 {
@@ -83,18 +90,20 @@ pub fn before<F: Folder>(f: &mut F, files: &BlockFiles, node: Addr) -> Result<Op
 }
 
 /// The node behind a listed one, which was used before it, or `None` behind the last, by one folder call.
+///
+/// A link that isn't the address of a node that stands is a damage.
 pub fn after<F: Folder>(f: &mut F, files: &BlockFiles, node: Addr) -> Result<Option<Addr>, Fault>
-    requires stands { IsTrue (is_node files.now node) }
-    requires agrees { ForSome (F.told f.old).files (Agrees files.now) }
-    requires listed { ForSome (F.told f.old).files (IsListed node) }
-    ensures node { IfOk result (λ found. ForSome (F.told f.old).files (λ image. (prefix suffix : List ℕ) → walked image ≡ prefix ++ node ∷ suffix → found ≡ first_of suffix)) }
-    ensures stands { IfOk result (λ found. IfSome found (λ n. IsTrue (is_node files.now n))) }
-
-    // Too few bytes, or a word that names no node, which a folder that tells its files never gives.
-    ensures damaged { IfDamaged result (λ damage. IsShort (F.told f.old) (names.Block (file_selector node)) (place node + 16) 4 damage ⊎ IsDangling files.now (F.told f.old) (names.Block (file_selector node)) (place node + 16) damage) }
-    ensures untold { IfDamaged result (λ _. (F.told f.old).files ≡ None) }
-
+    requires stands { IsTrue (is_node_among files.now node) }
+    ensures node { IfOk result (λ found. ForSome (F.told f.old).files (λ image. Agrees files.now image → (prefix suffix : List ℕ) → HasListAtRest (prefix ++ node ∷ suffix) image → found ≡ first_node_of suffix)) }
+    ensures word { IfOk result (λ found. ForSome (F.told f.old).files (λ image. found ≡ (if link_at image node NodeView.NEXT == node then None else Some (link_at image node NodeView.NEXT)))) }
+    ensures stands { IfOk result (λ found. IfSome found (λ n. IsTrue (is_node_among files.now n))) }
+    ensures checked { OnOk result (ForSome (F.told f.old).files (λ image. HasRange image (block (file_selector node)) (place node + NodeView.NEXT) 4)) }
     ensures stays { Stays (F.told f.old) (F.told f.new) }
+
+    // Too few bytes, or a word that names no node, which no told folder gives in whose list the node is.
+    ensures damaged { IfDamaged result (IsLinkDamage node NodeView.NEXT files.now (F.told f.old)) }
+    ensures untold { ForSome (F.told f.old).files (Agrees files.now) → ForSome (F.told f.old).files (IsListed node) → IfDamaged result (λ _. (F.told f.old).files ≡ None) }
+
     ensures later { F.faults f.old ≤ F.faults f.new }
     ensures device { IfDevice result (Rises (F.faults f.old) (F.faults f.new)) }
 {
@@ -117,13 +126,12 @@ pub(crate) fn end_of_list<F: Folder>(
 ) -> Result<Option<Addr>, Fault>
     requires aligned { at % 4 ≡ 0 }
     requires inside { at < header_length }
-    requires complete { ForSome (F.told f.old).files HasWholeIndex }
-    requires named { ForSome (F.told f.old).files (λ image. IsNodeOrNone files.now (image_word image index at)) }
     ensures node { IfOk result (λ node. ForSome (F.told f.old).files (λ image. node ≡ (if image_word image index at == 0 then None else Some (image_word image index at)))) }
-    ensures stands { IfOk result (λ node. IfSome node (λ n. IsTrue (is_node files.now n))) }
-    ensures damaged { IfDamaged result (λ damage. IsShort (F.told f.old) names.Index at 4 damage ⊎ IsDangling files.now (F.told f.old) names.Index at damage) }
-    ensures untold { IfDamaged result (λ _. (F.told f.old).files ≡ None) }
+    ensures stands { IfOk result (λ node. IfSome node (λ n. IsTrue (is_node_among files.now n))) }
+    ensures checked { OnOk result (ForSome (F.told f.old).files (λ image. HasRange image index at 4)) }
     ensures stays { Stays (F.told f.old) (F.told f.new) }
+    ensures damaged { IfDamaged result (IsWordDamage files.now (F.told f.old) names.Index at) }
+    ensures untold { ForSome (F.told f.old).files HasWholeIndex → ForSome (F.told f.old).files (λ image. IsNodeOrNone files.now (image_word image index at)) → IfDamaged result (λ _. (F.told f.old).files ≡ None) }
     ensures later { F.faults f.old ≤ F.faults f.new }
     ensures device { IfDevice result (Rises (F.faults f.old) (F.faults f.new)) }
 {
@@ -131,7 +139,7 @@ pub(crate) fn end_of_list<F: Folder>(
     if found == 0 {
         return Ok(None);
     }
-    let Some(node) = node_of(files, found) else {
+    let Some(node) = files.node(found) else {
         let file = FileId::Index;
         let at = u64::from(at);
         return Err(Fault::Damaged(Damage { file, at, found }));

@@ -1,16 +1,17 @@
-// The use list of three nodes in a folder in memory that tells nothing.
-ghost use Rattle.std.specs.Prelude.{IfSome, IsTrue};
-ghost use Rattle.blk_lru.specs.Nodes.{is_node};
+// The use list of three nodes in a folder in memory, that tells nothing or all.
+ghost use Rattle.std.specs.Prelude.{IfOk, IfSome, IsTrue};
+ghost use Rattle.std.specs.Option.{ForSome};
+ghost use Rattle.blk_format.specs.Headers.{HasWholeIndex};
+ghost use Rattle.blk_disk.specs.Tables.{Agrees, is_node_among};
 
-use crate::nodes::node_of;
 use crate::reading::{HEAD, TAIL};
 use crate::writes::{OPERATION, TRANSACTION};
-use crate::{after, before, complete, first, insert_front, last, remove, touch};
+use crate::{after, before, complete, first, insert_front, last, pending, remove, touch};
 use blk_addr::Addr;
 use blk_disk::BlockFiles;
 use blk_io::{
-    Failed, Fault, FileId, Folder, MemFolder, SilentFolder, StopFolder, read_exact, read_word,
-    write_word,
+    Damage, Failed, Fault, FileId, Folder, MemFolder, SilentFolder, StopFolder, read_exact,
+    read_word, write_word,
 };
 use blk_record::{NodeView, Record};
 use std::alloc::Global;
@@ -18,9 +19,9 @@ use std::test::Fail;
 
 const MAGIC: u32 = 0xC104_CAC3;
 
-const INDEX_LEN: u64 = 262512;
+const INDEX_LEN: usize = 262512;
 
-const NODES_LEN: u64 = 45056;
+const NODES_LEN: usize = 45056;
 
 const SIZES: [u32; 4] = [36, 256, 1024, 4096];
 
@@ -51,16 +52,48 @@ fn again(f: Silent, steps: u64) -> Silent {
     stopping(f.into_inner().into_inner(), steps)
 }
 
-// A folder with an index of zeros and four block files, of which the first has room for nodes.
+// A block file with these words at its front.
+fn block_file(alloc: Global, words: &[u32]) -> Result<Vec<u8>, Fail> {
+    let mut bytes = Vec::new(alloc);
+    bytes.resize(NODES_LEN, 0)?;
+    let front = words.iter().flat_map(|word| word.to_le_bytes());
+    for (slot, byte) in bytes.iter_mut().zip(front) {
+        *slot = byte;
+    }
+    Ok(bytes)
+}
+
+// The words of the header of a block file, of which the first has nodes.
+fn header(number: u32, size: u32) -> [u32; 6] {
+    let blocks = if number == 0 { 1024 } else { 0 };
+    [MAGIC, 0x20000, number, size, 0, blocks]
+}
+
+// A folder with an index of zeros and four block files, which tells its files.
+fn telling(alloc: Global) -> Result<MemFolder, Fail> {
+    let mut f = MemFolder::new(alloc);
+    let mut index = Vec::new(alloc);
+    index.resize(INDEX_LEN, 0)?;
+    f.add_file(FileId::Index, &index)?;
+    let first = block_file(alloc, &header(0, 36))?;
+    f.add_file(FileId::Block(0), &first)?;
+    let second = block_file(alloc, &header(1, 256))?;
+    f.add_file(FileId::Block(1), &second)?;
+    let third = block_file(alloc, &header(2, 1024))?;
+    f.add_file(FileId::Block(2), &third)?;
+    let fourth = block_file(alloc, &header(3, 4096))?;
+    f.add_file(FileId::Block(3), &fourth)?;
+    Ok(f)
+}
+
+// Such a folder, which tells nothing.
 fn folder(alloc: Global) -> Result<Silent, Failed> {
     let mut f = stopping(MemFolder::without_trail(alloc), u64::MAX);
-    f.set_len(FileId::Index, INDEX_LEN)?;
+    f.set_len(FileId::Index, INDEX_LEN as u64)?;
     for (n, size) in SIZES.iter().enumerate() {
         let file = FileId::Block(n as u8);
-        f.set_len(file, NODES_LEN)?;
-        let blocks = if n == 0 { 1024 } else { 0 };
-        let words = [MAGIC, 0x20000, n as u32, *size, 0, blocks];
-        for (i, word) in words.iter().enumerate() {
+        f.set_len(file, NODES_LEN as u64)?;
+        for (i, word) in header(n as u32, *size).iter().enumerate() {
             f.write_at(file, 4 * i as u64, &word.to_le_bytes())?;
         }
     }
@@ -151,7 +184,7 @@ enum Change {
 
 // Makes a change by the node of a word, where that one stands.
 fn change_list(f: &mut Silent, files: &BlockFiles, change: Change, word: u32) -> Result<(), Fault> {
-    let Some(node) = node_of(files, word) else {
+    let Some(node) = files.node(word) else {
         return Ok(());
     };
     match change {
@@ -194,13 +227,13 @@ fn stopped(
 
 // The nodes of three words, where all stand.
 fn three(files: &BlockFiles) -> Option<(Addr, Addr, Addr)>
-    ensures first { IfSome result (λ nodes. IsTrue (is_node files.now nodes.0)) }
-    ensures second { IfSome result (λ nodes. IsTrue (is_node files.now nodes.1)) }
-    ensures third { IfSome result (λ nodes. IsTrue (is_node files.now nodes.2)) }
+    ensures first { IfSome result (λ nodes. IsTrue (is_node_among files.now nodes.0)) }
+    ensures second { IfSome result (λ nodes. IsTrue (is_node_among files.now nodes.1)) }
+    ensures third { IfSome result (λ nodes. IsTrue (is_node_among files.now nodes.2)) }
 {
-    let one = node_of(files, NODES[0])?;
-    let two = node_of(files, NODES[1])?;
-    let three = node_of(files, NODES[2])?;
+    let one = files.node(NODES[0])?;
+    let two = files.node(NODES[1])?;
+    let three = files.node(NODES[2])?;
     Some((one, two, three))
 }
 
@@ -432,5 +465,192 @@ fn completing_takes_few_calls(rt: HostRuntime) -> Result<(), Fail> {
     assert_eq!(rt; f.calls().wrapping_sub(start), 34);
     assert_eq!(rt; complete(&mut f, &files), Ok(()));
     assert_eq!(rt; f.calls().wrapping_sub(start), 35);
+    Ok(())
+}
+
+// A call of the crate.
+#[derive(Clone, Copy)]
+enum Call {
+    First,
+    Last,
+    Before,
+    After,
+    Insert,
+    Remove,
+    Touch,
+    Pending,
+    Complete,
+}
+
+// What a call answers, where its node stands.
+fn outcome(f: &mut Silent, files: &BlockFiles, call: Call, word: u32) -> Result<(), Fault> {
+    let Some(node) = files.node(word) else {
+        return Ok(());
+    };
+    match call {
+        Call::First => first(f, files).map(|_| ()),
+        Call::Last => last(f, files).map(|_| ()),
+        Call::Before => before(f, files, node).map(|_| ()),
+        Call::After => after(f, files, node).map(|_| ()),
+        Call::Insert => insert_front(f, files, node),
+        Call::Remove => remove(f, files, node),
+        Call::Touch => touch(f, files, node, MOMENT),
+        Call::Pending => pending(f, files).map(|_| ()),
+        Call::Complete => complete(f, files),
+    }
+}
+
+// What a call on node 1 of three listed ones answers, where a word of a file is another one.
+fn with_word(
+    alloc: Global,
+    call: Call,
+    file: FileId,
+    at: u64,
+    word: u32,
+) -> Result<Result<(), Fault>, Fail> {
+    let (mut f, files) = listing(alloc, &NODES)?;
+    f.write_at(file, at, &word.to_le_bytes())?;
+    Ok(outcome(&mut f, &files, call, NODES[1]))
+}
+
+// And where a file is cut.
+fn cut(alloc: Global, call: Call, file: FileId, size: u64) -> Result<Result<(), Fault>, Fail> {
+    let (mut f, files) = listing(alloc, &NODES)?;
+    write_word(&mut f, FileId::Index, u64::from(TRANSACTION), NODES[1])?;
+    f.set_len(file, size)?;
+    Ok(outcome(&mut f, &files, call, NODES[1]))
+}
+
+#[test]
+fn words_that_name_no_node_are_damages(rt: HostRuntime) -> Result<(), Fail> {
+    let nodes = FileId::Block(0);
+    let prev = place_of(NODES[1], NodeView::PREV);
+    let next = place_of(NODES[1], NodeView::NEXT);
+    for (call, file, at) in [
+        (Call::First, FileId::Index, u64::from(HEAD)),
+        (Call::Last, FileId::Index, u64::from(TAIL)),
+        (Call::Before, nodes, prev),
+        (Call::After, nodes, next),
+        (Call::Insert, FileId::Index, u64::from(HEAD)),
+        (Call::Remove, nodes, prev),
+        (Call::Remove, nodes, next),
+        (Call::Touch, FileId::Index, u64::from(HEAD)),
+        (Call::Touch, nodes, prev),
+    ] {
+        let found = 0x9000_0400;
+        let damage = Fault::Damaged(Damage { file, at, found });
+        assert_eq!(rt; with_word(rt.alloc(), call, file, at, found)?, Err(damage));
+    }
+    Ok(())
+}
+
+#[test]
+fn links_of_a_node_that_is_not_listed_are_damages(rt: HostRuntime) -> Result<(), Fail> {
+    let file = FileId::Block(0);
+    let at = place_of(NODES[1], NodeView::NEXT);
+    for call in [Call::After, Call::Remove, Call::Touch] {
+        let damage = Fault::Damaged(Damage { file, at, found: 0 });
+        assert_eq!(rt; with_word(rt.alloc(), call, file, at, 0)?, Err(damage));
+    }
+    Ok(())
+}
+
+#[test]
+fn nodes_that_do_not_check_are_not_written(rt: HostRuntime) -> Result<(), Fail> {
+    let file = FileId::Block(0);
+    for (call, node) in [
+        (Call::Insert, NODES[1]),
+        (Call::Insert, NODES[2]),
+        (Call::Remove, NODES[0]),
+        (Call::Remove, NODES[1]),
+        (Call::Remove, NODES[2]),
+        (Call::Touch, NODES[1]),
+        (Call::Touch, NODES[2]),
+    ] {
+        let at = place_of(node, SEAL);
+        let damage = Fault::Damaged(Damage { file, at, found: 1 });
+        assert_eq!(rt; with_word(rt.alloc(), call, file, at, 1)?, Err(damage));
+    }
+    Ok(())
+}
+
+#[test]
+fn short_reads_are_damages(rt: HostRuntime) -> Result<(), Fail> {
+    let nodes = FileId::Block(0);
+    let node = place_of(NODES[1], 0);
+    for (call, file, at, found) in [
+        (Call::First, FileId::Index, u64::from(HEAD), 3),
+        (Call::Last, FileId::Index, u64::from(TAIL), 0),
+        (Call::Before, nodes, place_of(NODES[1], NodeView::PREV), 2),
+        (Call::After, nodes, place_of(NODES[1], NodeView::NEXT), 1),
+        (Call::Insert, FileId::Index, u64::from(HEAD), 2),
+        (Call::Remove, nodes, place_of(NODES[1], NodeView::NEXT), 3),
+        (Call::Touch, FileId::Index, u64::from(HEAD), 0),
+        (Call::Pending, FileId::Index, u64::from(TRANSACTION), 2),
+        (Call::Pending, FileId::Index, u64::from(OPERATION), 1),
+        (Call::Pending, nodes, node, 35),
+        (Call::Complete, nodes, node, 20),
+    ] {
+        let size = at.wrapping_add(u64::from(found));
+        let damage = Fault::Damaged(Damage { file, at, found });
+        assert_eq!(rt; cut(rt.alloc(), call, file, size)?, Err(damage));
+    }
+    Ok(())
+}
+
+// The block files of a folder whose index has its length.
+fn opened<F: Folder>(f: &mut F) -> Result<Option<BlockFiles>, Fault>
+    ensures complete { IfOk result (λ files. IfSome files (λ _. ForSome (F.told f.new).files HasWholeIndex)) }
+    ensures agrees { IfOk result (λ files. IfSome files (λ files. ForSome (F.told f.new).files (Agrees files))) }
+{
+    if f.length(FileId::Index)? != Some(INDEX_LEN as u64) {
+        return Ok(None);
+    }
+    let files = BlockFiles::load(f)?;
+    Ok(Some(files))
+}
+
+// Inserts three nodes, touches the last one, and takes the first two out but for that one.
+fn change_each<F: Folder>(f: &mut F) -> Result<Option<BlockFiles>, Fault>
+    ensures complete { IfOk result (λ files. IfSome files (λ _. ForSome (F.told f.new).files HasWholeIndex)) }
+    ensures agrees { IfOk result (λ files. IfSome files (λ files. ForSome (F.told f.new).files (Agrees files))) }
+{
+    let Some(files) = opened(f)? else {
+        return Ok(None);
+    };
+    let Some((zero, one, two)) = three(&files) else {
+        return Ok(None);
+    };
+    insert_front(f, &files, zero)?;
+    insert_front(f, &files, one)?;
+    insert_front(f, &files, two)?;
+    touch(f, &files, zero, MOMENT)?;
+    remove(f, &files, two)?;
+    complete(f, &files)?;
+    Ok(Some(files))
+}
+
+// Each call once, on a folder whose conditions are checked: the first, the last, those beside the nodes 0 and 1, and the number of pending writes.
+fn each_call<F: Folder>(f: &mut F) -> Result<Option<([Option<u32>; 4], usize)>, Fault> {
+    let Some(files) = change_each(f)? else {
+        return Ok(None);
+    };
+    let Some((zero, one, _)) = three(&files) else {
+        return Ok(None);
+    };
+    let pending = pending(f, &files)?.len();
+    let first = first(f, &files)?.map(|node| node.word());
+    let last = last(f, &files)?.map(|node| node.word());
+    let before = before(f, &files, one)?.map(|node| node.word());
+    let after = after(f, &files, zero)?.map(|node| node.word());
+    Ok(Some(([first, last, before, after], pending)))
+}
+
+#[test]
+fn each_call_on_a_folder_that_tells_its_files(rt: HostRuntime) -> Result<(), Fail> {
+    let [zero, one, _] = NODES;
+    let mut f = telling(rt.alloc())?;
+    let words = [Some(zero), Some(one), Some(zero), Some(one)];
+    assert_eq!(rt; each_call(&mut f), Ok(Some((words, 0))));
     Ok(())
 }

@@ -3,16 +3,16 @@ ghost use Rattle.std.specs.Prelude.{◌≡◌, ◌<◌, ◌≤◌, ◌^◌, ◌%
 ghost use Rattle.std.specs.Option.{ForSome};
 ghost use Rattle.blk_image.specs.Image.{Index as index};
 ghost use Rattle.blk_image.specs.Steps.{word_step};
-ghost use Rattle.blk_image.specs.Told.{Applies, AppliesPrefix, Passes, Rises};
+ghost use Rattle.blk_image.specs.Told.{Applies, AppliesPrefix, Rises};
 ghost use Rattle.blk_format.specs.Headers.{header_length, HasWholeIndex};
 ghost use Rattle.blk_format.specs.Sealed.{sealed_steps};
 ghost use Rattle.blk_volume.specs.View.{list_of};
-ghost use Rattle.blk_volume.specs.ShownChanges.{OnlyListChanges};
-ghost use Rattle.blk_volume.specs.ListSteps.{AreOf, AreWords, IsPartly, steps_of, write_steps};
+ghost use Rattle.blk_volume.specs.ListImages.{CanBeMade};
+ghost use Rattle.blk_volume.specs.ListSteps.{AreOf, AreWords, steps_of, write_steps};
 ghost use Rattle.blk_io.specs.Faults.{IfDamaged, IfDevice};
-ghost use Rattle.blk_disk.specs.Tables.{Agrees};
+ghost use Rattle.blk_disk.specs.Tables.{Agrees, is_node_among};
 ghost use Rattle.blk_lru.specs.Damages.{IsNodeDamage};
-ghost use Rattle.blk_lru.specs.Nodes.{is_node, IsLinkPlace};
+ghost use Rattle.blk_lru.specs.Nodes.{IsLinkPlace};
 ghost use Rattle.blk_lru.specs.Writes.{meant};
 
 use crate::reading::{HEAD, TAIL};
@@ -20,45 +20,48 @@ use blk_addr::Addr;
 use blk_disk::BlockFiles;
 use blk_index::set_word;
 use blk_io::{Fault, Folder};
-use blk_record::NodeView;
+use blk_record::{IndexHead, NodeView};
 
 // The places of the operation in flight and of its node in the index.
-pub(crate) const TRANSACTION: u32 = 328;
+pub(crate) const TRANSACTION: u32 = IndexHead::TRANSACTION as u32;
 
-pub(crate) const OPERATION: u32 = 332;
+pub(crate) const OPERATION: u32 = IndexHead::OPERATION as u32;
 
-// A word of a node or of the index becomes another one: a node's link to the next or the previous
-// node, the first or the last node, or the operation in flight and its node.
+/// A word of the use list becomes another one.
 #[derive(Clone, Copy, Debug)]
-pub(crate) enum Write {
+pub enum Write {
+    /// The next of a node: the address of the node behind it, its own at the end, or 0.
     Next(Addr, u32),
+    /// The prev of a node: the address of the node before it, or its own at the front.
     Prev(Addr, u32),
+    /// The first node, or 0.
     Head(u32),
+    /// The last node, or 0.
     Tail(u32),
+    /// The node of the operation in flight, or 0.
     Transaction(u32),
+    /// The operation: 1 for an insert, 2 for a removal, 3 for a move.
     Operation(u32),
 }
 
-// Makes writes in turn, whose nodes stand and check.
+// Makes writes in turn, whose nodes stand. Each node is checked before it is written.
 pub(crate) fn perform<F: Folder>(
     f: &mut F,
     files: &BlockFiles,
     writes: &[Write],
 ) -> Result<(), Fault>
-    requires stand { AreOf (λ n. is_node files.now n ≡ true) (map meant writes.now) }
+    requires stand { AreOf (λ n. is_node_among files.now n ≡ true) (map meant writes.now) }
     requires words { AreWords (map meant writes.now) }
     requires complete { ForSome (F.told f.old).files HasWholeIndex }
     requires agrees { ForSome (F.told f.old).files (Agrees files.now) }
-    requires check { ForSome (F.told f.old).files (λ image. AreOf (λ n. (list_of image).checks n ≡ true) (map meant writes.now)) }
+    ensures checked { OnOk result (ForSome (F.told f.old).files (λ image. CanBeMade image (map meant writes.now))) }
     ensures steps { OnOk result (ForSome (F.told f.old).files (λ from. Applies (F.told f.old) (F.told f.new) (steps_of (map meant writes.now) from))) }
     ensures prefix { ForSome (F.told f.old).files (λ from. AppliesPrefix (F.told f.old) (F.told f.new) (steps_of (map meant writes.now) from)) }
-    ensures stops { ForSome (F.told f.old).files (λ from. Passes (F.told f.old) (F.told f.new) (IsPartly from (map meant writes.now))) }
-    ensures made { OnOk result (ForSome (F.told f.old).files (λ from. ForSome (F.told f.new).files (OnlyListChanges (map meant writes.now) from))) }
     ensures complete { ForSome (F.told f.new).files HasWholeIndex }
     ensures agrees { ForSome (F.told f.new).files (Agrees files.now) }
+    ensures damaged { IfDamaged result (IsNodeDamage files.now (F.told f.new)) }
+    ensures untold { ForSome (F.told f.old).files (λ image. CanBeMade image (map meant writes.now)) → IfDamaged result (λ _. (F.told f.old).files ≡ None) }
     ensures silent { (F.told f.old).files ≡ None → (F.told f.new).files ≡ None }
-    ensures damaged { IfDamaged result (IsNodeDamage files.now) }
-    ensures untold { IfDamaged result (λ _. (F.told f.old).files ≡ None) }
     ensures later { F.faults f.old ≤ F.faults f.new }
     ensures device { IfDevice result (Rises (F.faults f.old) (F.faults f.new)) }
 {
@@ -71,15 +74,15 @@ pub(crate) fn perform<F: Folder>(
 // Makes a write, by one folder call for a word of the index and four for a link.
 #[tactic(auto, unfolding(blk_volume::specs::ListSteps::write_steps))]
 fn write_one<F: Folder>(f: &mut F, files: &BlockFiles, write: Write) -> Result<(), Fault>
-    requires stand { AreOf (λ n. is_node files.now n ≡ true) (meant write ∷ []) }
+    requires stand { AreOf (λ n. is_node_among files.now n ≡ true) (meant write ∷ []) }
     requires complete { ForSome (F.told f.old).files HasWholeIndex }
     requires agrees { ForSome (F.told f.old).files (Agrees files.now) }
-    requires check { ForSome (F.told f.old).files (λ image. AreOf (λ n. (list_of image).checks n ≡ true) (meant write ∷ [])) }
+    ensures checked { OnOk result (ForSome (F.told f.old).files (λ image. AreOf (λ n. (list_of image).checks n ≡ true) (meant write ∷ []))) }
     ensures steps { OnOk result (ForSome (F.told f.old).files (λ from. Applies (F.told f.old) (F.told f.new) (write_steps (meant write) from))) }
     ensures prefix { ForSome (F.told f.old).files (λ from. AppliesPrefix (F.told f.old) (F.told f.new) (write_steps (meant write) from)) }
+    ensures damaged { IfDamaged result (IsNodeDamage files.now (F.told f.new)) }
+    ensures untold { ForSome (F.told f.old).files (λ image. AreOf (λ n. (list_of image).checks n ≡ true) (meant write ∷ [])) → IfDamaged result (λ _. (F.told f.old).files ≡ None) }
     ensures silent { (F.told f.old).files ≡ None → (F.told f.new).files ≡ None }
-    ensures damaged { IfDamaged result (IsNodeDamage files.now) }
-    ensures untold { IfDamaged result (λ _. (F.told f.old).files ≡ None) }
     ensures later { F.faults f.old ≤ F.faults f.new }
     ensures device { IfDevice result (Rises (F.faults f.old) (F.faults f.new)) }
 {
@@ -102,14 +105,14 @@ fn set_link<F: Folder>(
     word: u32,
 ) -> Result<(), Fault>
     requires place { IsLinkPlace at }
-    requires stands { is_node files.now node ≡ true }
+    requires stands { is_node_among files.now node ≡ true }
     requires agrees { ForSome (F.told f.old).files (Agrees files.now) }
-    requires check { ForSome (F.told f.old).files (λ image. (list_of image).checks node ≡ true) }
+    ensures checked { OnOk result (ForSome (F.told f.old).files (λ image. (list_of image).checks node ≡ true)) }
     ensures steps { OnOk result (ForSome (F.told f.old).files (λ from. Applies (F.told f.old) (F.told f.new) (sealed_steps from node ((at, word) ∷ [])))) }
     ensures prefix { ForSome (F.told f.old).files (λ from. AppliesPrefix (F.told f.old) (F.told f.new) (sealed_steps from node ((at, word) ∷ []))) }
+    ensures damaged { IfDamaged result (IsNodeDamage files.now (F.told f.new)) }
+    ensures untold { ForSome (F.told f.old).files (λ image. (list_of image).checks node ≡ true) → IfDamaged result (λ _. (F.told f.old).files ≡ None) }
     ensures silent { (F.told f.old).files ≡ None → (F.told f.new).files ≡ None }
-    ensures damaged { IfDamaged result (IsNodeDamage files.now) }
-    ensures untold { IfDamaged result (λ _. (F.told f.old).files ≡ None) }
     ensures later { F.faults f.old ≤ F.faults f.new }
     ensures device { IfDevice result (Rises (F.faults f.old) (F.faults f.new)) }
 {
@@ -123,8 +126,8 @@ fn set_index<F: Folder>(f: &mut F, at: u32, word: u32) -> Result<(), Fault>
     requires complete { ForSome (F.told f.old).files HasWholeIndex }
     ensures steps { OnOk result (Applies (F.told f.old) (F.told f.new) (word_step index at word)) }
     ensures prefix { AppliesPrefix (F.told f.old) (F.told f.new) (word_step index at word) }
-    ensures silent { (F.told f.old).files ≡ None → (F.told f.new).files ≡ None }
     ensures damaged { IfDamaged result (λ _. ⊥) }
+    ensures silent { (F.told f.old).files ≡ None → (F.told f.new).files ≡ None }
     ensures later { F.faults f.old ≤ F.faults f.new }
     ensures device { IfDevice result (Rises (F.faults f.old) (F.faults f.new)) }
 {

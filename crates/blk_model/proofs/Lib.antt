@@ -26,3 +26,4 @@ pub mod Stopped
 pub mod StopRests
 pub mod Sums
 pub mod Refused
+pub mod EvictedFirst

@@ -30,11 +30,11 @@ same_rows f g (j ∷ list) same =
     ap (λ o. cons_option o (filter_map f list)) (same j (omega arith)) ∙ ap (cons_option (g j)) rest
 
 -- who has an item is live
-owner_live : (object : Object) (item : Item) → has_item object item ≡ true → object.live ≡ true
+pub owner_live : (object : Object) (item : Item) → has_item object item ≡ true → object.live ≡ true
 owner_live object (main key) has = (and_parts _ _ has).0
 owner_live object (part key n) has = (and_parts object.live _ (and_parts (object.live && bytes_eq key object.key) _ has).0).0
 
-owner_key : (object : Object) (item : Item) → has_item object item ≡ true → key_of item ≡ object.key
+pub owner_key : (object : Object) (item : Item) → has_item object item ≡ true → key_of item ≡ object.key
 owner_key object (main key) has = same_bytes key object.key (and_parts object.live _ has).1
 owner_key object (part key n) has = same_bytes key object.key (and_parts object.live _ (and_parts (object.live && bytes_eq key object.key) _ has).0).1
 
@@ -112,7 +112,7 @@ before_stays true Fresh old slot leads = unturned_stay old.settled (is_live slot
 before_stays false Fresh old slot leads = turned_stay old.settled (is_live slot) (after_of slot) (none_settled false Fresh old slot leads refl)
 
 -- what is at rest before is picked from the use list before
-picked_before : (before after : State) (closes : Bool) → ((n : ℕ) → Leads closes (IsFresh before) (object_at before n) (object_at after n)) → (item : Item) → picked before after (not closes) item ≡ settled_row before item
+pub picked_before : (before after : State) (closes : Bool) → ((n : ℕ) → Leads closes (IsFresh before) (object_at before n) (object_at after n)) → (item : Item) → picked before after (not closes) item ≡ settled_row before item
 picked_before before after closes leads item =
     let picks = picked_chooses before after (not closes) in
     let settles = settled_chooses before in

@@ -1,12 +1,19 @@
 -- Worked stops on the model, computed: the items that a stop inside a command may leave.
-use Rattle.std.proofs.Common.{◌≡◌, ℕ, Bool, true, false, List, [], ◌∷◌, ◌++◌, refl, codes, length, map}
-use Rattle.blk_model.specs.Items.{Item, main, part, item_of}
+use Rattle.std.proofs.Common.{◌≡◌, ℕ, Bool, true, false, List, [], ◌∷◌, ◌++◌, refl, codes, length, map, ◌<◌, arith}
+use Rattle.std.specs.List.{AllByRecursion}
+use Rattle.std.proofs.lemmas.List.Elements.{All-nil, All-cons}
+use Rattle.blk_model.specs.Items.{Item, Row, main, part, item_of, IsBytes}
+use Rattle.blk_model.specs.Room.{whole, without}
+use Rattle.blk_model.specs.EvictionLaws.{EvictsFirst, later_steps}
+use Rattle.blk_model.proofs.EvictedFirst.{evictions-stop, evictions-first, rests-of}
+use Rattle.blk_model.proofs.Opened.{open_valid}
+use Rattle.blk_model.proofs.Steps.{step_valid}
 use Rattle.blk_model.specs.Request.{Request, to_create, to_open, to_write, to_close, to_trim, to_doom_key, to_sparse_write, to_sparse_read}
-use Rattle.blk_model.specs.State.{State}
+use Rattle.blk_model.specs.State.{State, IsValidState}
 use Rattle.blk_model.specs.Holding.{rest}
 use Rattle.blk_model.specs.Step.{step}
-use Rattle.blk_model.specs.ListSteps.{list_steps, list_after}
-use Rattle.blk_model.specs.Stops.{pick}
+use Rattle.blk_model.specs.ListSteps.{out, after_steps, dooms, uses_of, list_steps, list_after}
+use Rattle.blk_model.specs.Stops.{pick, StopOutcome}
 use Rattle.blk_model.proofs.Computing.{computing}
 use Rattle.blk_model.proofs.Rows.{after_all, new}
 
@@ -95,3 +102,46 @@ evicted_part_first = refl
 at_rest : map item_of (rest changed) ∷ map item_of (rest (after_all sparse_c (to_open 1 c ∷ to_sparse_write 1 7 (codes "z") ∷ []))) ∷ [] ≡ (main c ∷ main b ∷ []) ∷ [] ∷ []
 unfolding computing
 at_rest = refl
+
+-- Evictions come first: of three closed objects a Trim takes them one after another, the last used last.
+
+codes_are_bytes : (k : List ℕ) → AllByRecursion (λ (x : ℕ). x < 256) k → IsBytes k
+codes_are_bytes [] all = All-nil (λ (x : ℕ). x < 256)
+codes_are_bytes (x ∷ k) all = All-cons (λ (x : ℕ). x < 256) x k all.0 (codes_are_bytes k all.1)
+
+new_is_valid : IsValidState new
+new_is_valid = open_valid [] (record { max_bytes = 83886080; max_items = 65536 }) (record { once = λ item. omega arith; each = λ i d less. absurd (omega arith); parents = λ i d less. absurd (omega arith) })
+
+-- an object that is made and closed leaves a valid state
+made_is_valid : (state : State) (key : List ℕ) → IsValidState state → IsBytes key → IsValidState (after_all state (made key))
+made_is_valid state key valid bytes = step_valid (step state 100 (to_create 0 key)).state 100 (to_close 0) (step_valid state 100 (to_create 0 key) valid (omega arith, bytes)) (omega arith)
+
+pair_is_valid : IsValidState (after_all (after_all new (made a)) (made b))
+pair_is_valid = made_is_valid (after_all new (made a)) b (made_is_valid new a new_is_valid (codes_are_bytes a (omega arith, tt))) (codes_are_bytes b (omega arith, tt))
+
+abbrev pair : State
+pair = after_all (after_all new (made a)) (made b)
+
+-- `a` goes first
+a_goes_first : EvictsFirst pair 100 (to_trim 0) (whole a [] ∷ []) (whole b [] ∷ [])
+unfolding computing
+a_goes_first = record { passes = refl; groups = refl }
+
+-- so what is at rest without it may be left by a stop
+b_alone_is_left : StopOutcome pair 100 (to_trim 0) (step pair 100 (to_trim 0)).state (rest (without (whole a [] ∷ []) pair))
+b_alone_is_left = evictions-stop pair 100 (to_trim 0) (whole a [] ∷ []) (whole b [] ∷ []) pair_is_valid a_goes_first
+
+-- and so may what a stop before the second group leaves
+none_is_left : StopOutcome pair 100 (to_trim 0) (step pair 100 (to_trim 0)).state (pick (without (whole a [] ∷ []) pair) (step pair 100 (to_trim 0)).state true (after_steps (out (whole b []) ∷ []) (without (whole a [] ∷ []) pair).uses))
+unfolding dooms uses_of
+none_is_left = evictions-first pair 100 (to_trim 0) (whole a [] ∷ []) (whole b [] ∷ []) _ pair_is_valid a_goes_first (record { step_count = 1; within = omega arith; with_turned = true; picked_rows = refl })
+
+-- the rest of the Trim is a Trim of what is left
+rest_is_a_trim : (held : List Row) → StopOutcome (without (whole a [] ∷ []) pair) 100 (to_trim 0) (step (without (whole a [] ∷ []) pair) 100 (to_trim 0)).state held → StopOutcome pair 100 (to_trim 0) (step pair 100 (to_trim 0)).state held
+rest_is_a_trim held stop = rests-of pair 100 (to_trim 0) (whole a [] ∷ []) (whole b [] ∷ []) held pair_is_valid a_goes_first steps_are ends_alike stop
+  where
+    steps_are : list_steps (without (whole a [] ∷ []) pair) 100 (to_trim 0) ≡ later_steps pair (to_trim 0) (whole b [] ∷ [])
+    steps_are = unfold computing in refl
+
+    ends_alike : (step (without (whole a [] ∷ []) pair) 100 (to_trim 0)).state ≡ (step pair 100 (to_trim 0)).state
+    ends_alike = unfold computing in refl

@@ -18,7 +18,7 @@ use Rattle.blk_model.proofs.States.{named_object}
 use Rattle.blk_model.proofs.Written.{object_left}
 use Rattle.blk_model.proofs.Steps.{none_comes, room_for_is_loose}
 
-after_steps-append : (a b : List ListStep) (items : List Item) → after_steps (a ++ b) items ≡ after_steps b (after_steps a items)
+pub after_steps-append : (a b : List ListStep) (items : List Item) → after_steps (a ++ b) items ≡ after_steps b (after_steps a items)
 after_steps-append [] b items = refl
 after_steps-append (step ∷ a) b items = after_steps-append a b (after_step items step)
 
@@ -35,7 +35,7 @@ not_or true b = refl
 not_or false b = refl
 
 -- groups that go one after another
-outs : (groups : List Group) (items : List Item) → after_steps (map out groups) items ≡ not_out groups items
+pub outs : (groups : List Group) (items : List Item) → after_steps (map out groups) items ≡ not_out groups items
 outs [] items = sym (filter_all items)
   where
     filter_all : (items : List Item) → filter (λ (i : Item). true) items ≡ items
@@ -47,7 +47,7 @@ outs (group ∷ groups) items =
     ∙ filter_agree (λ i. not (takes i group) && not (is_out groups i)) (λ i. not (is_out (group ∷ groups) i)) (λ i. not_or (takes i group) (is_out groups i)) items
 
 -- and all at once
-without_uses : (groups : List Group) (state : State) → not_out groups state.uses ≡ (without groups state).uses
+pub without_uses : (groups : List Group) (state : State) → not_out groups state.uses ≡ (without groups state).uses
 unfolding without
 without_uses [] state = sym (outs [] state.uses)
 without_uses (group ∷ groups) state = refl

@@ -4,13 +4,9 @@ use Rattle.std.specs.Fmt.{digits}
 use Rattle.blk_model.specs.Sizes.{parts_index_charge, blocks_index_charge}
 use Rattle.blk_model.specs.Items.{Shape, Streams, plain, sparse, PartValue}
 
--- a number in lower-case hexadecimal, without leading zeros
-abbrev pub hexadecimal : ℕ → List ℕ
-hexadecimal n = digits 16 false n
-
--- the name of a part of a sparse object: its parent's key, the signature and the number
+-- the name of a part of a sparse object: its parent's key, and the signature and the number in lower-case hexadecimal
 unfoldable pub part_name : List ℕ → ℕ → ℕ → List ℕ
-part_name key signature n = codes "Range_" ++ key ++ codes ":" ++ hexadecimal signature ++ codes ":" ++ hexadecimal n
+part_name key signature n = codes "Range_" ++ key ++ codes ":" ++ digits 16 false signature ++ codes ":" ++ digits 16 false n
 
 -- a main item is charged its key and its streams, where a sparse object's stream 2 is its parts' index
 abbrev pub main_charge : List ℕ → Shape → Streams → ℕ

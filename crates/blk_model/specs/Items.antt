@@ -1,7 +1,7 @@
 -- What a cache keeps: items, rows and holdings.
 use Rattle.std.specs.Prelude.{◌≡◌, ℕ, ◌+◌, ◌*◌, ◌<◌, ◌≤◌, Bool, true, false, ◌&&◌, ◌==◌, List, [], length, map, Option, IfSome, All, IsTrue, slice_index_or, count_by}
 use Rattle.std.specs.Str.{bytes_eq}
-use Rattle.blk_model.specs.Sizes.{byte_values, longest_key, part_size, block_size, part_blocks, part_count, signatures}
+use Rattle.blk_model.specs.Sizes.{byte_values, longest_key, part_size, part_block_size, part_blocks, part_count, signatures}
 
 -- a main item has the key alone; a part has its parent's key and its number
 pub data Item : Type 0 where
@@ -72,12 +72,12 @@ pub record IsPartial (presence : Presence) (block length_of_piece : ℕ) : Type 
   pub below : block < part_blocks
   pub apart : is_block_present presence block ≡ false
   pub some : 1 ≤ length_of_piece
-  pub not_whole : length_of_piece < block_size
+  pub not_whole : length_of_piece < part_block_size
 
 -- the present bytes lie inside so many bytes
 pub record LiesInside (presence : Presence) (size : ℕ) : Type 0 where
-  pub whole : (block : ℕ) → IsTrue (is_block_present presence block) → (block + 1) * block_size ≤ size
-  pub piece : IfSome presence.partial (λ p. p.0 * block_size + p.1 ≤ size)
+  pub whole : (block : ℕ) → IsTrue (is_block_present presence block) → (block + 1) * part_block_size ≤ size
+  pub piece : IfSome presence.partial (λ p. p.0 * part_block_size + p.1 ≤ size)
 
 -- bytes, and not other numbers
 abbrev pub IsBytes : List ℕ → Type 0

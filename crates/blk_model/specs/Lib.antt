@@ -17,3 +17,4 @@ pub mod Step
 pub mod ListSteps
 pub mod Stops
 pub mod Laws
+pub mod EvictionLaws

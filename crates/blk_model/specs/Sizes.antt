@@ -30,8 +30,8 @@ abbrev pub part_size : ℕ
 part_size = 1048576
 
 -- a block of a part has this many bytes
-abbrev pub block_size : ℕ
-block_size = 1024
+abbrev pub part_block_size : ℕ
+part_block_size = 1024
 
 -- a part has this many blocks
 abbrev pub part_blocks : ℕ

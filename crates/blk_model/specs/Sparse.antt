@@ -3,7 +3,7 @@ use Rattle.std.specs.Prelude.{ℕ, zero, suc, ◌+◌, ◌-◌, ◌*◌, ◌/◌
 use Rattle.std.specs.Ordering.{nat_cmp}
 use Rattle.std.specs.FinMap.{find, put}
 use Rattle.blk_model.specs.Bytes.{overwritten, numbers_from}
-use Rattle.blk_model.specs.Sizes.{part_size, block_size, part_blocks}
+use Rattle.blk_model.specs.Sizes.{part_size, part_block_size, part_blocks}
 use Rattle.blk_model.specs.Items.{Presence, PartValue, is_block_present}
 use Rattle.blk_model.specs.State.{Object, part_at}
 
@@ -14,11 +14,11 @@ piece_in (Some partial) block = if partial.0 == block then partial.1 else 0
 
 -- whether a write from a place on makes the place's own block whole up to where it goes: it begins there, or what lies before the place is present
 unfoldable pub counts_from : Presence → ℕ → Bool
-counts_from presence place = place % block_size == 0 || is_block_present presence (place / block_size) || nat_le (place % block_size) (piece_in presence.partial (place / block_size))
+counts_from presence place = place % part_block_size == 0 || is_block_present presence (place / part_block_size) || nat_le (place % part_block_size) (piece_in presence.partial (place / part_block_size))
 
 -- the first block that a write from a place on may make present
 abbrev pub first_whole : Presence → ℕ → ℕ
-first_whole presence place = if counts_from presence place then place / block_size else place / block_size + 1
+first_whole presence place = if counts_from presence place then place / part_block_size else place / part_block_size + 1
 
 -- the blocks, counted from a number on, where each from first up to last becomes present
 abbrev pub with_blocks : ℕ → ℕ → ℕ → List Bool → List Bool
@@ -28,15 +28,15 @@ with_blocks first last number (was ∷ blocks) = (was || (nat_le first number &&
 -- the partial block after the blocks have become present: the last block that the write reached, if it is not whole; else the old one, unless it has become present
 unfoldable pub partial_after : Presence → List Bool → ℕ → ℕ → Option (ℕ × ℕ)
 partial_after presence blocks first end =
-    if nat_lt 0 (end % block_size) && nat_le first (end / block_size) && not (is_block_present (record { blocks = blocks; partial = None }) (end / block_size))
-    then Some (end / block_size, max (end % block_size) (piece_in presence.partial (end / block_size)))
+    if nat_lt 0 (end % part_block_size) && nat_le first (end / part_block_size) && not (is_block_present (record { blocks = blocks; partial = None }) (end / part_block_size))
+    then Some (end / part_block_size, max (end % part_block_size) (piece_in presence.partial (end / part_block_size)))
     else option_and_then (λ partial. if is_block_present (record { blocks = blocks; partial = None }) partial.0 then None else Some partial) presence.partial
 
 -- what is present after a write from a place up to an end inside a part
 unfoldable pub presence_after : Presence → ℕ → ℕ → Presence
 presence_after presence place end =
     let first = first_whole presence place in
-    let blocks = with_blocks first (end / block_size) 0 presence.blocks in
+    let blocks = with_blocks first (end / part_block_size) 0 presence.blocks in
     record { blocks = blocks; partial = partial_after presence blocks first end }
 
 -- a part with no data
@@ -64,7 +64,7 @@ parts_after (n ∷ ns) offset bytes parts =
 
 -- whether the byte at a place inside a part is present
 abbrev pub is_present_in : Presence → ℕ → Bool
-is_present_in presence place = is_block_present presence (place / block_size) || nat_lt (place % block_size) (piece_in presence.partial (place / block_size))
+is_present_in presence place = is_block_present presence (place / part_block_size) || nat_lt (place % part_block_size) (piece_in presence.partial (place / part_block_size))
 
 -- the byte at a place inside a part, if it is present
 abbrev pub byte_in : ℕ → PartValue → Option ℕ

@@ -2,6 +2,7 @@
 ghost use Rattle.blk_model.specs.Request.{IsRequest, request_of};
 ghost use Rattle.blk_model.specs.Items.{IsBytes};
 ghost use Rattle.blk_model.specs.Laws.{StepsKeepStatesValid, ListStepsLeadToTheUseList, OpenedStatesAreValid, WhatIsFoundIsAtRest, RestsAreHoldings, StopsLeaveHoldings, StopsMayLeaveWhatWas, StopsMayLeaveWhatIs, RefusalsChangeNothing, RefusalsAreTheFirst, NoneIsRefusedForMemory, TotalsAreSums};
+ghost use Rattle.blk_model.specs.EvictionLaws.{EvictionsMayStop, EvictionsComeFirst, RestsOfCommandsAreOfThem};
 
 use crate::Command;
 
@@ -70,4 +71,11 @@ pub fn refusals_change_nothing()
 /// The totals are the sums over the listed rows and the doomed objects.
 pub fn totals_are_sums()
     ensures { TotalsAreSums }
+{}
+
+/// What a command evicts goes first: what is at rest without the first groups may be left by a stop in it, and so may what a stop in the rest of it leaves.
+pub fn evictions_come_first()
+    ensures stops { EvictionsMayStop }
+    ensures later { EvictionsComeFirst }
+    ensures rest { RestsOfCommandsAreOfThem }
 {}

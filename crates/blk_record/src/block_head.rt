@@ -39,7 +39,7 @@ impl<'a> BlockHead<'a> {
     /// The most blocks of a file.
     pub const MOST_BLOCKS: u32 = 64896;
 
-    /// The place of the number of the next file of the type.
+    /// The place of the number of the next file of the kind.
     pub const NEXT_FILE: u64 = 10;
 
     /// The place of the number of allocations.
@@ -97,7 +97,7 @@ impl<'a> BlockHead<'a> {
         half(self.window, 8)
     }
 
-    /// The number of the next file of its type, or 0.
+    /// The number of the next file of its kind, or 0.
     pub fn next_file(&self) -> u16
         ensures { result ≡ next_file_of (content self.now) }
     {

@@ -27,6 +27,12 @@ impl<'a> EntryView<'a> {
     /// The place of the address of the next record of the chain.
     pub const NEXT: u32 = 4;
 
+    /// The place of the address of the rankings node.
+    pub const NODE: u32 = 8;
+
+    /// The place of the creation time.
+    pub const CREATION_TIME: u32 = 24;
+
     /// The place of the key's length.
     pub const KEY_LEN: u32 = 32;
 

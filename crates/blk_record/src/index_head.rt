@@ -39,6 +39,12 @@ impl<'a> IndexHead<'a> {
     /// The number of the table's words.
     pub const BUCKETS: u32 = 65536;
 
+    /// The place of the number of entries.
+    pub const NUM_ENTRIES: u64 = 8;
+
+    /// The place of the number of bytes.
+    pub const NUM_BYTES: u64 = 12;
+
     /// The place of the last external number that was made.
     pub const LAST_FILE: u64 = 16;
 
@@ -47,6 +53,9 @@ impl<'a> IndexHead<'a> {
 
     /// The place of the moment of making, which takes two words.
     pub const CREATE_TIME: u64 = 40;
+
+    /// The place of the length of the use list.
+    pub const SIZES: u64 = 268;
 
     /// The place of the head of the use list.
     pub const HEADS: u64 = 288;

@@ -1,5 +1,5 @@
 -- Which walked nodes are kept, and why the others are dropped.
-use Rattle.std.specs.Prelude.{ℕ, List, [], ◌∷◌, ◌++◌, map, Bool, false, not, ◌&&◌, ◌||◌, ◌==◌, if◌then◌else◌}
+use Rattle.std.specs.Prelude.{ℕ, List, [], ◌∷◌, ◌++◌, map, Bool, false, not, ◌&&◌, ◌||◌, ◌==◌, if◌then◌else◌, is_some}
 use Rattle.std.specs.Option.{option_map_or}
 use Rattle.std.specs.List.{list_any, filter, filter_map, flat_map, range_with_len}
 use Rattle.std.specs.Str.{bytes_eq}
@@ -31,8 +31,8 @@ abbrev pub same_answer : Bool → Bool → Bool
 same_answer one other = if one then other else not other
 
 -- a kept record with the same child flag has the same key
-unfoldable pub is_named : List Loaded → Loaded → Bool
-is_named kept loaded = list_any (λ k. same_answer (is_part k) (is_part loaded) && bytes_eq k.key loaded.key) kept
+unfoldable pub shares_key : List Loaded → Loaded → Bool
+shares_key kept loaded = list_any (λ k. same_answer (is_part k) (is_part loaded) && bytes_eq k.key loaded.key) kept
 
 -- a key and a role are those of the parent that a part's name says, with the bit of the part
 abbrev pub is_parent_role : Name → List ℕ → Role → Bool
@@ -58,7 +58,7 @@ is_orphan kept loaded = is_orphan_role kept loaded.role
 unfoldable pub admit : List Loaded → Loaded → Result Loaded Reason
 admit kept loaded = do
   _ ← demand (not (is_claimed kept loaded)) reason.Claimed
-  _ ← demand (not (is_named kept loaded)) reason.Name
+  _ ← demand (not (shares_key kept loaded)) reason.Name
   _ ← demand (not (is_orphan kept loaded)) reason.Parent
   Ok loaded
 
@@ -116,6 +116,18 @@ kept_among store rule nodes = filter_map (λ node. kept_of (verdict_on (judged s
 -- those that are dropped, each with its reason, in that order
 unfoldable pub dropped_among : StoreView → Rule → List ℕ → List (ℕ × Reason)
 dropped_among store rule nodes = filter_map (λ node. dropped_of node (verdict_on (judged store rule nodes) node)) nodes
+
+-- what a node of a walk is kept as, if it is kept
+abbrev pub kept_as : StoreView → Rule → List ℕ → ℕ → Option Loaded
+kept_as store rule nodes node = kept_of (verdict_on (judged store rule nodes) node)
+
+-- whether it is kept
+abbrev pub is_kept : StoreView → Rule → List ℕ → ℕ → Bool
+is_kept store rule nodes node = is_some (kept_as store rule nodes node)
+
+-- the nodes that are kept, in the order of the walk
+abbrev pub kept_nodes : StoreView → Rule → List ℕ → List ℕ
+kept_nodes store rule nodes = filter (is_kept store rule nodes) nodes
 
 -- The whole audit.
 

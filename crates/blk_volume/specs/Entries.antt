@@ -9,7 +9,7 @@ use Rattle.blk_format.specs.Storage.{entry_blocks}
 use Rattle.blk_format.specs.Records.{parent, child}
 use Rattle.blk_format.specs.Names.{Name, read_name}
 use Rattle.blk_format.specs.SparseIndex.{ParentIndex, read_parent_index, PartIndex, read_part_index}
-use Rattle.blk_volume.specs.View.{StoreView, RecordFields, size_of, address_of}
+use Rattle.blk_volume.specs.View.{StoreView, RecordFields, data_size_of, address_of}
 
 -- what the flags and the streams of a record make it: a plain entry, the parent of an index, or a part with its name and index
 pub data Role : Type 0 where
@@ -18,8 +18,8 @@ pub data Role : Type 0 where
   IsPart : Name → PartIndex → Role
 
 -- the longest key of a record; a child's key is a name
-abbrev pub longest_key : RecordFields → ℕ
-longest_key fields = if fields.flags == child then 32796 else 32768
+abbrev pub longest_key_with : RecordFields → ℕ
+longest_key_with fields = if fields.flags == child then 32796 else 32768
 
 -- the longest key that lies in its record
 abbrev pub longest_short_key : ℕ
@@ -31,7 +31,7 @@ most_stream_bytes = 2147483647
 
 -- the length of the key is right, and so is the number of blocks of the record's address
 unfoldable pub is_key_length : ℕ → RecordFields → Bool
-is_key_length contents fields = nat_le 1 fields.key_len && nat_le fields.key_len (longest_key fields) && (block_count contents == entry_blocks fields.key_len)
+is_key_length contents fields = nat_le 1 fields.key_len && nat_le fields.key_len (longest_key_with fields) && (block_count contents == entry_blocks fields.key_len)
 
 -- the key: in its place in the record, or stored with one zero byte behind it
 unfoldable pub key_of : StoreView → ℕ → RecordFields → Option (List ℕ)
@@ -42,12 +42,12 @@ key_of store contents fields =
 
 -- the bytes of stream i
 unfoldable pub stream_of : StoreView → RecordFields → ℕ → Option (List ℕ)
-stream_of store fields i = if nat_le (size_of fields i) most_stream_bytes then store.stored (size_of fields i) (address_of fields i) else None
+stream_of store fields i = if nat_le (data_size_of fields i) most_stream_bytes then store.stored (data_size_of fields i) (address_of fields i) else None
 
 -- the three streams, where stream 3 is 0
 unfoldable pub streams_of : StoreView → RecordFields → Option (List (List ℕ))
 streams_of store fields =
-    if not ((size_of fields 3 == 0) && (address_of fields 3 == 0)) then None else
+    if not ((data_size_of fields 3 == 0) && (address_of fields 3 == 0)) then None else
     option_and_then (λ first. option_and_then (λ second. option_map (λ third. first ∷ second ∷ third ∷ []) (stream_of store fields 2)) (stream_of store fields 1)) (stream_of store fields 0)
 
 -- stream i of some

@@ -1,5 +1,6 @@
 -- Two views that agree outside a footprint: some blocks and external numbers; and which bytes of files these cover.
 use Rattle.std.specs.Prelude.{◌≡◌, ◌⊎◌, ℕ, ◌+◌, ◌<◌, ◌≤◌, Bool, true, false, not, ◌&&◌, ◌||◌, ◌==◌, nat_le, is_some}
+use Rattle.std.specs.Option.{option_map_or}
 use Rattle.std.specs.declared.option.Option.TheVariants.{Some}
 use Rattle.std.specs.declared.result.Result.TheVariants.{Ok}
 use Rattle.blk_model.specs.Items.{Item, main, part}
@@ -109,7 +110,7 @@ abbrev pub KeepsName : StoreView → StoreView → Item → ℕ → Type 0
 KeepsName old new (main key) contents = Unit {0}
 KeepsName old new (part key n) contents = (was now : RecordFields) → old.entry contents ≡ Some was → new.entry contents ≡ Some now → (now.flags ≡ was.flags) × (key_of new contents now ≡ key_of old contents was)
 
--- a block is there as one of a type: its file is linked as that, and the block is below max_entries and ends inside the file
+-- a block is there as one of a kind: its file is linked as that, and the block is below max_entries and ends inside the file
 unfoldable pub is_there : Image → ℕ → ℕ → ℕ → Bool
 is_there image n kind b = is_linked_as (linked_as image n) kind && nat_le (b + 1) (max_entries_in image n) && nat_le (block_place kind (b + 1)) (length_of image (Block n))
 
@@ -124,3 +125,8 @@ pub record AgreeBut (touched : Claim → Bool) (old new : Image) : Type 0 where
 abbrev pub is_past : Image → Claim → Bool
 is_past image (BlockOf n b) = not (is_some (linked_as image n)) || nat_le (max_entries_in image n) b
 is_past image (ExternalOf n) = false
+
+-- a claim is of a block that isn't there
+unfoldable pub is_absent : Image → Claim → Bool
+is_absent image (BlockOf n b) = not (option_map_or (λ kind. is_there image n kind b) (linked_as image n) false)
+is_absent image (ExternalOf n) = false

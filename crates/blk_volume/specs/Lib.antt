@@ -22,3 +22,5 @@ pub mod Emptiness
 pub mod Sound
 pub mod StandsFor
 pub mod Candidates
+pub mod Tidy
+pub mod Searches

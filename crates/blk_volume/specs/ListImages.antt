@@ -7,7 +7,7 @@ use Rattle.blk_format.specs.BlockFiles.{IsWellFormed}
 use Rattle.blk_volume.specs.ListView.{ListWrite, IsAtRest}
 use Rattle.blk_volume.specs.Walk.{walk}
 use Rattle.blk_volume.specs.Completion.{completed_list}
-use Rattle.blk_volume.specs.ListPlans.{writes_of, touch_writes, completion_writes, outcome}
+use Rattle.blk_volume.specs.ListPlans.{writes_of, touch_writes, completion_writes, completed_but_operation}
 use Rattle.blk_volume.specs.View.{list_of, store_of}
 use Rattle.blk_volume.specs.ListSteps.{AreOf, AreWords, steps_of, touch_steps}
 use Rattle.blk_volume.specs.ShownChanges.{ShowsTheSame}
@@ -52,11 +52,11 @@ completion_steps image = steps_of (completion_writes (list_of image)) image
 
 -- completing gives the same as of another image, but for the operation word, which nobody reads then
 abbrev pub CompletesAlike : Image → Image → Type 0
-CompletesAlike from image = outcome (list_of image) ≡ outcome (list_of from)
+CompletesAlike from image = completed_but_operation (list_of image) ≡ completed_but_operation (list_of from)
 
 -- the list is what completing gives of the old one, but for the operation word, and no operation is in flight; nothing else is shown to change
 pub record IsCompleted (from image : Image) : Type 0 where
-  pub list : record (list_of image) { operation = 0 } ≡ outcome (list_of from)
+  pub list : record (list_of image) { operation = 0 } ≡ completed_but_operation (list_of from)
   pub idle : (list_of image).transaction ≡ 0
   pub walk : walked image ≡ completed_walk from
   pub store : ShowsTheSame (store_of from) (store_of image)

@@ -16,9 +16,9 @@ operation_writes list =
 abbrev pub pending_writes : ListView → List ListWrite
 pending_writes list = operation_writes list ++ Transaction 0 ∷ []
 
--- what completing writes
+-- what completing writes: nothing where no operation is in flight, what is pending of one that counts, and else the end of its transaction alone
 unfoldable pub completion_writes : ListView → List ListWrite
-completion_writes list = if counts list then pending_writes list else Transaction 0 ∷ []
+completion_writes list = if list.transaction == 0 then [] else (if counts list then pending_writes list else Transaction 0 ∷ [])
 
 -- the writes of an operation on a node, by its code: the operation word, the transaction word, and then what is pending
 abbrev pub writes_of : (code node : ℕ) → ListView → List ListWrite
@@ -29,8 +29,8 @@ abbrev pub touch_writes : (node : ℕ) → ListView → List ListWrite
 touch_writes node list = if list.head == node then [] else writes_of move node list
 
 -- what completing gives, but for the operation word, which nobody reads while no transaction is in flight
-unfoldable pub outcome : ListView → ListView
-outcome list = record (completed_list list) { operation = 0 }
+unfoldable pub completed_but_operation : ListView → ListView
+completed_but_operation list = record (completed_list list) { operation = 0 }
 
 -- P holds before each of these writes and after the last
 abbrev pub AtEachWrite : (ListView → Type 0) → List ListWrite → ListView → Type 0

@@ -3,6 +3,7 @@ use Rattle.std.specs.Prelude.{ℕ, ◌≡◌, ◌≤◌, ◌<◌, ◌^◌, ◌/�
 use Rattle.blk_image.specs.Image.{Index, Image}
 use Rattle.blk_image.specs.Steps.{TrailStep, word_step, after}
 use Rattle.blk_image.specs.Footprint.{Footprint, SameOutside, nothing, one_word, either}
+use Rattle.blk_format.specs.Address.{kind_of, rankings}
 use Rattle.blk_format.specs.Records.{node_is_sealed}
 use Rattle.blk_format.specs.BlockFiles.{IsWellFormed}
 use Rattle.blk_format.specs.Sealed.{sealed_steps, record_range}
@@ -25,19 +26,19 @@ steps_of [] image = []
 steps_of (write ∷ writes) image = write_steps write image ++ steps_of writes (after (write_steps write image) image)
 
 -- what a write may touch: the word of the index, or the node's bytes
-unfoldable pub touched_by : ListWrite → Footprint
-touched_by (Next node word) = record_range node
-touched_by (Prev node word) = record_range node
-touched_by (Head word) = one_word Index 288
-touched_by (Tail word) = one_word Index 308
-touched_by (Transaction word) = one_word Index 328
-touched_by (Operation word) = one_word Index 332
+unfoldable pub touched_by_write : ListWrite → Footprint
+touched_by_write (Next node word) = record_range node
+touched_by_write (Prev node word) = record_range node
+touched_by_write (Head word) = one_word Index 288
+touched_by_write (Tail word) = one_word Index 308
+touched_by_write (Transaction word) = one_word Index 328
+touched_by_write (Operation word) = one_word Index 332
 
 abbrev pub touched_by_writes : List ListWrite → Footprint
 touched_by_writes [] = nothing
-touched_by_writes (write ∷ writes) = either (touched_by write) (touched_by_writes writes)
+touched_by_writes (write ∷ writes) = either (touched_by_write write) (touched_by_writes writes)
 
--- at a moment of some writes a front of them is made: the list is the old one after them, and what nodes name, the chains, the records and the
+-- in the midst of some writes a front of them is made: the list is the old one after them, and what nodes name, the chains, the records and the
 -- data are as before, and so is every byte outside the nodes and the words of the index that are written
 pub record IsPartly (from : Image) (writes : List ListWrite) (image : Image) : Type 0 where
   pub made : ℕ
@@ -60,9 +61,18 @@ AreOf P (Operation word ∷ writes) = AreOf P writes
 abbrev pub IsSealed : Image → ℕ → Type 0
 IsSealed image node = node_is_sealed (node_at image node) ≡ true
 
+-- nodes that were sealed are so still
+abbrev pub KeepsSealed : Image → Image → Type 0
+KeepsSealed from image = (node : ℕ) → kind_of node ≡ rankings → IsSealed from node → IsSealed image node
+
 -- each node that is written is sealed
 abbrev pub AreSealed : List ListWrite → Image → Type 0
 AreSealed writes image = AreOf (IsSealed image) writes
+
+-- the nodes that are written are sealed, and so is each that was
+pub record Seals (from : Image) (writes : List ListWrite) (image : Image) : Type 0 where
+  pub sealed : AreSealed writes image
+  pub keeps : KeepsSealed from image
 
 -- both times of a node are a moment
 pub record AreTimes (node moment : ℕ) (image : Image) : Type 0 where
@@ -91,7 +101,7 @@ times_of moment = (0, moment % 2 ^ 32) ∷ (4, moment / 2 ^ 32) ∷ (8, moment %
 abbrev pub touch_steps : ℕ → ℕ → List ListWrite → Image → List TrailStep
 touch_steps node moment writes image = steps_of writes image ++ sealed_steps (after (steps_of writes image) image) node (times_of moment)
 
--- at a moment of a touch a front of its writes is made; nothing else is shown to change, and every byte is as before outside the words of the index
+-- in the midst of a touch a front of its writes is made; nothing else is shown to change, and every byte is as before outside the words of the index
 -- and the nodes that are written and the node itself
 pub record IsTouched (from : Image) (node : ℕ) (writes : List ListWrite) (image : Image) : Type 0 where
   pub made : ℕ

@@ -11,12 +11,12 @@ use Rattle.blk_volume.specs.ListView.{Distinct}
 use Rattle.blk_volume.specs.View.{StoreView}
 use Rattle.blk_volume.specs.Entries.{IsPart}
 use Rattle.blk_volume.specs.Loads.{Rule, Loaded, load, record_claims, all_claims}
-use Rattle.blk_volume.specs.Audit.{is_named, is_parent_of}
+use Rattle.blk_volume.specs.Audit.{shares_key, is_parent_of}
 
 -- one has no block and no external number of the other, and another name
 pub record Apart (one other : Loaded) : Type 0 where
   pub claims : overlap (all_claims one) (all_claims other) ≡ false
-  pub names : is_named (one ∷ []) other ≡ false
+  pub names : shares_key (one ∷ []) other ≡ false
 
 -- a part whose parent is not among what is given
 pub record IsOrphanIn (nodes : List ℕ) (given : ℕ → Option Loaded) (loaded : Loaded) : Type 0 where

@@ -12,7 +12,7 @@ use Rattle.blk_format.specs.Records.{Node, node_in, node_checks, Entry, entry_in
 use Rattle.blk_format.specs.BlockFiles.{stands_in}
 use Rattle.blk_volume.specs.ListView.{ListView}
 
--- whether a word is an address of a type that stands
+-- whether a word is an address of a kind that stands
 abbrev pub stands_as : Image → ℕ → ℕ → Bool
 stands_as image kind w = stands_in image w && (kind_of w == kind)
 
@@ -92,16 +92,16 @@ fields_of e = record {
 }
 
 -- the size of stream i
-abbrev pub size_of : RecordFields → ℕ → ℕ
-size_of fields i = slice_index fields.data_size i
+abbrev pub data_size_of : RecordFields → ℕ → ℕ
+data_size_of fields i = slice_index fields.data_size i
 
 -- its address
 abbrev pub address_of : RecordFields → ℕ → ℕ
 address_of fields i = slice_index fields.data_addr i
 
 -- the record that a word names
-unfoldable pub core_at : Image → ℕ → Option RecordFields
-core_at image w = if stands_as image blocks_256 w then Some (fields_of (entry_at image w)) else None
+unfoldable pub fields_at : Image → ℕ → Option RecordFields
+fields_at image w = if stands_as image blocks_256 w then Some (fields_of (entry_at image w)) else None
 
 -- a record's next, or 0 where no record stands
 unfoldable pub follow_at : Image → ℕ → ℕ
@@ -136,7 +136,7 @@ store_of image = record {
   node_fields = node_fields_at image;
   table = bucket_of (byte image Index);
   chain_next = follow_at image;
-  entry = core_at image;
+  entry = fields_at image;
   key_place = key_place_at image;
   stored = stored_at image;
 }

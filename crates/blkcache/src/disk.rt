@@ -1,21 +1,47 @@
 // The files of a folder that are kept open.
+ghost use Rattle.std.specs.Prelude.{◌<ℤ◌, pos, IfOk};
+ghost use Rattle.std.specs.Fd.{file_raw_fd};
+
+use crate::again::again;
 use crate::spelling::name_of;
 use blk_io::FileId;
 use std::alloc::{AllocError, Global};
 use std::fs::{File, OpenOptions};
+use std::io::ErrorKind;
+use std::os::fd::AsRawFd;
 use std::rt::Files;
 use std::{array, fs, io};
 
 // How many block files a folder can have: their numbers are 0 to 255.
 const BLOCK_FILES: usize = 256;
 
+// The descriptors of the standard streams are 0 to this one.
+const LAST_STREAM: i32 = 2;
+
+// An open file of the folder. Its descriptor is none of the standard streams', so nothing that is printed gets into it.
+#[derive(Drop)]
+struct OpenFile {
+    file: File,
+    ghost above: { pos 2 <ℤ file_raw_fd file },
+}
+
+impl OpenFile {
+    // The file, unless it has the descriptor of a standard stream.
+    fn new(file: File) -> io::Result<Self> {
+        if file.as_raw_fd() <= LAST_STREAM {
+            return Err(io::Error::from(ErrorKind::Other));
+        }
+        Ok(OpenFile { file })
+    }
+}
+
 // The open files: the index, the block files, and the external file that was used last.
 #[derive(Drop)]
 struct OpenFiles {
-    index: Option<File>,
+    index: Option<OpenFile>,
     // Each block file stands at its number.
-    blocks: [Option<File>; BLOCK_FILES],
-    external: Option<File>,
+    blocks: [Option<OpenFile>; BLOCK_FILES],
+    external: Option<OpenFile>,
     // The number of the external file.
     number: u32,
 }
@@ -32,7 +58,7 @@ impl OpenFiles {
     }
 
     // The place of a file, with nothing where it is not open. The place of an external file closes another one.
-    fn place(&mut self, file: FileId) -> &mut Option<File> {
+    fn place(&mut self, file: FileId) -> &mut Option<OpenFile> {
         match file {
             FileId::Index => &mut self.index,
             FileId::Block(n) => &mut self.blocks[usize::from(n)],
@@ -67,37 +93,41 @@ impl<R: Files<File = File> + Drop> Disk<R> {
         }
     }
 
-    /// A file that is there, which is opened unless it is open.
-    pub fn open(&mut self, file: FileId) -> io::Result<&File> {
+    /// A file that is there, which is opened unless it is open. It has the descriptor of no standard stream.
+    pub fn open(&mut self, file: FileId) -> io::Result<&File>
+        ensures above { IfOk result (λ found. pos 2 <ℤ file_raw_fd found.now) }
+    {
         let place = self.open.place(file);
         match place {
-            Some(open) => Ok(open),
+            Some(open) => Ok(&open.file),
             None => {
                 let path = path_of(self.alloc, self.path.as_str(), file)?;
                 let open = OpenOptions::new()
                     .read(true)
                     .write(true)
                     .open(&self.rt, path)?;
-                Ok(place.insert(open))
+                Ok(&place.insert(OpenFile::new(open)?).file)
             }
         }
     }
 
-    /// Makes a file that is not there, with no bytes.
-    pub fn create(&mut self, file: FileId) -> io::Result<&File> {
+    /// Makes a file that is not there, with no bytes. It fails where there is one. The file has the descriptor of no standard stream.
+    pub fn create(&mut self, file: FileId) -> io::Result<&File>
+        ensures above { IfOk result (λ found. pos 2 <ℤ file_raw_fd found.now) }
+    {
         let path = path_of(self.alloc, self.path.as_str(), file)?;
         let open = OpenOptions::new()
             .read(true)
             .write(true)
-            .create(true)
+            .create_new(true)
             .open(&self.rt, path)?;
-        Ok(self.open.place(file).insert(open))
+        Ok(&self.open.place(file).insert(OpenFile::new(open)?).file)
     }
 
     /// Removes a file that is there, and closes it.
     pub fn remove(&mut self, file: FileId) -> io::Result<()> {
         let path = path_of(self.alloc, self.path.as_str(), file)?;
-        fs::remove_file(&self.rt, path)?;
+        again(|| fs::remove_file(&self.rt, path.as_str()))?;
         *self.open.place(file) = None;
         Ok(())
     }

@@ -6,13 +6,14 @@ ghost use Rattle.blkcache.specs.Names.{has, IsLeastName};
 ghost use Rattle.std.specs.Option.{ForSome, is_some};
 ghost use Rattle.blkcache.specs.FileIds.{IsAfter};
 
+use crate::again::{again, read_again};
 use crate::disk::Disk;
 use crate::names::Names;
 use crate::spelling::file_of_name;
 use blk_io::FileId;
 use std::alloc::{AllocError, Global};
 use std::fs::{File, OpenFile, OpenOptions};
-use std::io::ErrorKind;
+use std::io::{ErrorKind, Read};
 use std::os::unix::fs::FileExt;
 use std::rt::Files;
 use std::{fs, io};
@@ -26,8 +27,10 @@ pub struct DiskFiles<R: Files<File = File> + Drop> {
 
 impl<R: Files<File = File> + AllocGlobal + Clone + Drop> DiskFiles<R> {
     /// The files of the folder at a path, whose names are read here and never again.
+    ///
+    /// It fails where a cache file's name belongs to something else than a regular file. No file is opened.
     pub fn new(rt: R, alloc: Global, path: String) -> io::Result<Self> {
-        let names = read_names(&rt, alloc, path.as_str())?;
+        let names = again(|| read_names(&rt, alloc, path.as_str()))?;
         Ok(DiskFiles {
             names,
             disk: Disk::new(rt, alloc, path),
@@ -35,7 +38,7 @@ impl<R: Files<File = File> + AllocGlobal + Clone + Drop> DiskFiles<R> {
     }
 }
 
-// The names of the cache files in the folder at a path.
+// The names of the cache files in the folder at a path, each of a regular file.
 fn read_names<R: Files + AllocGlobal + Clone + Drop>(
     rt: &R,
     alloc: Global,
@@ -50,6 +53,10 @@ fn read_names<R: Files + AllocGlobal + Clone + Drop>(
             Err(error) => return Err(error),
         };
         if let Some(file) = file_of_name(alloc, entry.file_name())? {
+            // A link is not followed here.
+            if !entry.file_type()?.is_file() {
+                return Err(io::Error::from(ErrorKind::InvalidData));
+            }
             names.add(file)?;
         }
     }
@@ -65,7 +72,8 @@ impl<R: Files<File = File> + Drop> DiskFiles<R> {
         if !self.names.has(file) {
             return Ok(None);
         }
-        Ok(Some(self.disk.open(file)?.metadata()?.len()))
+        let open = self.disk.open(file)?;
+        Ok(Some(again(|| open.metadata())?.len()))
     }
 
     /// Moves the file's bytes from a place on into the front of `out`, as many as there are, and gives their number.
@@ -128,13 +136,30 @@ impl<R: Files<File = File> + Drop> DiskFiles<R> {
     }
 }
 
+// The bytes of a file from a place on, as a reader.
+#[derive(Drop)]
+struct Rest<'a> {
+    file: &'a File,
+    at: u64,
+}
+
+impl Read for Rest<'_> {
+    fn read(&mut self, buf: &mut [u8]) -> io::Result<usize> {
+        self.file.read_at(buf, self.at)
+    }
+}
+
 // Moves the bytes of a file from a place on into the front of `out`, as many as there are.
 fn read_from(file: &File, at: u64, out: &mut [u8]) -> io::Result<usize>
     ensures { IfOk result (λ n. n ≤ length out.old) }
 {
     let mut done = 0;
     while done < out.len() {
-        let n = file.read_at(&mut out[done..], at.saturating_add(done as u64))?;
+        let mut rest = Rest {
+            file,
+            at: at.saturating_add(done as u64),
+        };
+        let n = read_again(&mut rest, &mut out[done..])?;
         if n == 0 {
             break;
         }

@@ -4,7 +4,7 @@ use crate::folder::RealFolder;
 use crate::spelling::{file_of_name, name_of};
 use crate::streams::{StdSink, StdSource, SystemClock};
 use blk_io::{Clock, Failed, FileId, Folder, Sink, Source};
-use std::io::{Read, Write};
+use std::io::{ErrorKind, Read, Write};
 use std::test::Fail;
 use std::{env, fs, io};
 
@@ -137,10 +137,33 @@ fn a_failure_of_the_machine_is_answered(rt: HostRuntime) -> Result<(), Fail> {
     Ok(())
 }
 
-// A stream of the machine that gives and takes two bytes in a call, and fails in the third call.
+#[test]
+fn a_file_that_came_later_is_not_taken(rt: HostRuntime) -> Result<(), Fail> {
+    let alloc = rt.alloc();
+    let path = new_folder(rt, "later")?;
+    let mut folder = RealFolder::new(rt, alloc, path.clone()?)?;
+    let text = path.as_str();
+    let later = format!(in alloc; "{text}/data_1")?;
+    fs::write(&rt, later.as_str(), "kept")?;
+    assert_eq!(rt; folder.set_len(FileId::Block(1), 0), Err(Failed));
+    assert_eq!(rt; folder.length(FileId::Block(1)), Ok(None));
+    let kept = fs::read_to_string(&rt, later)?;
+    assert_eq!(rt; kept.as_str(), "kept");
+    fs::remove_dir_all(&rt, text)?;
+    Ok(())
+}
+
+// A stream of the machine that gives and takes two bytes in a call, and has an error of a kind in the third call.
 #[derive(Drop)]
 struct Halting {
     calls: u64,
+    kind: ErrorKind,
+}
+
+impl Halting {
+    fn new(kind: ErrorKind) -> Self {
+        Halting { calls: 0, kind }
+    }
 }
 
 impl Halting {
@@ -149,7 +172,7 @@ impl Halting {
     {
         self.calls = self.calls.saturating_add(1);
         if self.calls == 3 {
-            return Err(io::Error::from(io::ErrorKind::BrokenPipe));
+            return Err(io::Error::from(self.kind));
         }
         Ok(length.min(2))
     }
@@ -174,13 +197,24 @@ impl Write for Halting {
 #[test]
 fn a_stream_that_fails_once_is_answered_once(rt: HostRuntime) {
     let mut out = [0; 3];
-    let mut source = StdSource::new(Halting { calls: 0 });
+    let mut source = StdSource::new(Halting::new(ErrorKind::BrokenPipe));
     for answer in [Ok(2), Ok(2), Err(Failed), Ok(2)] {
         assert_eq!(rt; source.take(&mut out), answer);
     }
-    let mut sink = StdSink::new(Halting { calls: 0 });
+    let mut sink = StdSink::new(Halting::new(ErrorKind::BrokenPipe));
     for answer in [Ok(()), Err(Failed), Ok(())] {
         assert_eq!(rt; sink.put(b"abc"), answer);
+    }
+}
+
+#[test]
+fn a_stream_that_is_interrupted_goes_on(rt: HostRuntime) {
+    let mut out = [0; 3];
+    let mut source = StdSource::new(Halting::new(ErrorKind::Interrupted));
+    let mut sink = StdSink::new(Halting::new(ErrorKind::Interrupted));
+    for _ in 0..3 {
+        assert_eq!(rt; source.take(&mut out), Ok(2));
+        assert_eq!(rt; sink.put(b"abc"), Ok(()));
     }
 }
 

@@ -1,10 +1,14 @@
-use Rattle.blk_laws.proofs.Created.{creates-moments, creates-end, creates-rest, create-stops}
+use Rattle.blk_laws.proofs.Created.{written-stay, before-insert, at-each-write, at-end, after-link, at-the-step, creates-rest, create-stops}
 use Rattle.blk_laws.proofs.creates_at_each_write.Goals as goal
 
 pub returns : goal.returns
 returns c = record {
-  at_each_word = λ old new state layout key loaded written count. creates-moments old new state layout key loaded written count;
-  ends = λ old new state layout key loaded written handle. creates-end old new state layout key loaded written handle;
+  written = written-stay;
+  before = before-insert;
+  at_each_word = at-each-write;
+  ends = at-end;
+  after = after-link;
+  step = at-the-step;
   rests = λ old new state layout key loaded written handle. creates-rest old new state layout key loaded written handle;
   stops = create-stops;
 }

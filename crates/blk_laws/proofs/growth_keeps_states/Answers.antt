@@ -1,8 +1,12 @@
-use Rattle.blk_laws.proofs.Growing.{growth-keeps, longer-grown}
+use Rattle.blk_laws.proofs.Growing.{longer-grown}
+use Rattle.blk_laws.proofs.Files.{growth-absent, growth-keeps, headers-change, unlinked-go}
 use Rattle.blk_laws.proofs.growth_keeps_states.Goals as goal
 
 pub returns : goal.returns
 returns c = record {
   longer = λ image m length longer. longer-grown image m length longer;
+  absent = growth-absent;
+  headers = headers-change;
   kept = growth-keeps;
+  gone = unlinked-go;
 }

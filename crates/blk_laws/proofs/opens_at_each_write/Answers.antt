@@ -1,8 +1,5 @@
-use Rattle.blk_laws.proofs.Opening.{open-moments, open-ends}
+use Rattle.blk_laws.proofs.Touches.{opens-each, opens-end}
 use Rattle.blk_laws.proofs.opens_at_each_write.Goals as goal
 
 pub returns : goal.returns
-returns c = record {
-  at_each_word = open-moments;
-  ends = open-ends;
-}
+returns c = record { at_each_word = opens-each; ends = opens-end }

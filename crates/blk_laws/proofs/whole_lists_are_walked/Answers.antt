@@ -1,5 +1,6 @@
+use Rattle.blk_laws.proofs.Walked.{walks-distinct}
 use Rattle.blk_laws.proofs.Walks.{walk_list}
 use Rattle.blk_laws.proofs.whole_lists_are_walked.Goals as goal
 
 pub returns : goal.returns
-returns c = walk_list
+returns c = record { nodes = walk_list; distinct = walks-distinct }

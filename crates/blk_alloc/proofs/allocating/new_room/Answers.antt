@@ -9,7 +9,7 @@ use Rattle.std.specs.List.{All}
 use Rattle.blk_alloc.specs.Extending.{HasMostBlocks, HasNoHints, IsFirstGrowing, KeepsLinks}
 use Rattle.blk_alloc.specs.Allocating.{ExtendsAnd, MakesRoomInProgress, updating_word}
 use Rattle.blk_io.proofs.Carried.{carried}
-use Rattle.blk_alloc.proofs.Formed.{count_whole}
+use Rattle.blk_format.proofs.LinkedHeads.{count_whole}
 use Rattle.blk_alloc.proofs.Members.{member_all, member_head, member_split}
 use Rattle.blk_alloc.proofs.Rooms.{has_counters, if_damaged_any, room_added, room_grown}
 use Rattle.blk_alloc.proofs.Moments.{added_moment, grown_count, grown_moment, no_moment}

@@ -10,7 +10,7 @@ use Rattle.blk_alloc.specs.Changes.{IsReady}
 use Rattle.blk_alloc.proofs.Members.{member_all, member_head}
 use Rattle.blk_format.specs.BlockFiles.{is_among}
 use Rattle.blk_addr.specs.Kind.{kind_number}
-use Rattle.blk_alloc.proofs.Formed.{count_whole}
+use Rattle.blk_format.proofs.LinkedHeads.{count_whole}
 use Rattle.blk_alloc.proofs.Growing.{grow_widens}
 use Rattle.blk_alloc.proofs.Kept.{grow_larger, standing_kept, standing_same}
 use Rattle.blk_alloc.proofs.Grown.{grown_ready, grown_free, grown_keeps}

@@ -9,7 +9,7 @@ use Rattle.blk_addr.specs.Kind.{kind_number}
 use Rattle.blk_disk.specs.Tables.{blocks_of, files_of}
 use Rattle.blk_alloc.specs.Fitting.{HasMapOf, HasNoRoom, HaveMaps, IsLeastFrom, IsPlace, IsShortOf, IsShortPiece}
 use Rattle.blk_io.proofs.Carried.{carried, if_damaged_weaker}
-use Rattle.blk_alloc.proofs.Formed.{count_whole}
+use Rattle.blk_format.proofs.LinkedHeads.{count_whole}
 use Rattle.blk_alloc.proofs.Members.{member_all, member_head, member_at, split_at, at_place}
 use Rattle.blk_alloc.proofs.fitting.first_fit.Goals as goal
 

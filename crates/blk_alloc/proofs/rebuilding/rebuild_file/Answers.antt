@@ -12,7 +12,8 @@ use Rattle.blk_io.proofs.Carried.{if_damaged_weaker, told_at_end}
 use Rattle.blk_image.specs.Steps.{after}
 use Rattle.blk_disk.specs.Growth.{fit_steps}
 use Rattle.blk_alloc.proofs.Causes.{none_before}
-use Rattle.blk_alloc.proofs.Formed.{agrees_kept, count_whole}
+use Rattle.blk_alloc.proofs.Formed.{agrees_kept}
+use Rattle.blk_format.proofs.LinkedHeads.{count_whole}
 use Rattle.blk_alloc.proofs.Kept.{fit_larger, standing_kept, standing_same}
 use Rattle.blk_alloc.proofs.Members.{all_head}
 use Rattle.blk_alloc.proofs.Remade.{lengthened_is, rebuilding_begin, remade_is}

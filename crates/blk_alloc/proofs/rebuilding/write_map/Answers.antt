@@ -6,7 +6,7 @@ use Rattle.blk_image.specs.Told.{PassesTo}
 use Rattle.blk_addr.specs.Bits.{has_bit}
 use Rattle.blk_alloc.specs.Rebuilding.{is_block_claimed}
 use Rattle.blk_io.proofs.Carried.{silent_part}
-use Rattle.blk_alloc.proofs.Claiming.{groups_same}
+use Rattle.blk_format.proofs.Groups.{groups_same}
 use Rattle.blk_alloc.proofs.Written.{map_outside, map_written}
 use Rattle.blk_alloc.proofs.rebuilding.write_map.Goals as goal
 

@@ -1,9 +1,9 @@
-use Rattle.std.specs.Prelude.{◌≡◌, ◌+◌, ◌≤◌, IfSome, IsTrue, None}
+use Rattle.std.specs.Prelude.{◌≡◌, ◌+◌, ◌-◌, ◌≤◌, IfSome, IsTrue, None}
 use Rattle.std.specs.Option.{ForSome}
 use Rattle.blk_image.specs.Told.{Stays}
 use Rattle.blk_format.specs.Address.{blocks_256, kind_of}
 use Rattle.blk_disk.specs.Tables.{stands_among}
-use Rattle.blk_chain.specs.Finding.{IsOnTheWay, StandsBefore, most_searched}
+use Rattle.blk_chain.specs.Finding.{HasPassed, StandsBefore, most_searched}
 use Rattle.blk_chain.proofs.finding.search.Given as goal
 
 abbrev pub invariant-loop-link : goal.invariant-loop-link
@@ -14,7 +14,8 @@ invariant-loop-link g l = record {
   stands_before : IfSome l.link.before (λ before. IsTrue (stands_among l.files before));
   named_before : StandsBefore l.files l.link.before;
   begun : l.link.before ≡ None → l.left ≡ most_searched + 1;
-  way : ForSome (g.F.Folder.told l.initial.f).files (IsOnTheWay l.key l.sought.child l.link.word l.link.before l.left);
+  most : l.left ≤ most_searched + 1;
+  passed : ForSome (g.F.Folder.told l.initial.f).files (HasPassed l.files l.key l.sought.child l.link.word l.link.before (most_searched + 1 - l.left));
 }
 
 abbrev pub decreases-loop-link : goal.decreases-loop-link

@@ -18,19 +18,16 @@ returns-in_err-hash-clause-commits g c = link_not_yet (g.F.Folder.told c.args.f.
 left_failed : (g : given.Over) (c : goal.After-from_residual-in_err-set_bucket g) → IsPut c.args.files.now c.args.entry (g.F.Folder.told c.args.f.now) (g.F.Folder.told c.set_bucket.new.f)
 left_failed g c =
     put_by c.args.files.now (g.F.Folder.told c.args.f.now) (g.F.Folder.told c.set_bucket.new.f) c.args.entry c.in_ok-hash.hash c.word.result c.word.ensures.word c.word.ensures.address
-    c.requires.agrees c.requires.complete c.requires.linkable c.in_ok-hash.ensures.value (g.F.Folder.told c.field.new.f) c.in_ok-hash.ensures.stays c.in_err-set_bucket.ensures.prefix
+    c.requires.agrees c.requires.complete c.in_ok-hash.ensures.value (g.F.Folder.told c.field.new.f) c.in_ok-hash.ensures.stays c.in_err-set_bucket.ensures.prefix
 
 -- what the write leaves
 left_done : (g : given.Over) (c : goal.In_ok-set_bucket g) → IsPut c.args.files.now c.args.entry (g.F.Folder.told c.args.f.now) (g.F.Folder.told c.set_bucket.new.f)
 left_done g c =
     put_by c.args.files.now (g.F.Folder.told c.args.f.now) (g.F.Folder.told c.set_bucket.new.f) c.args.entry c.in_ok-hash.hash c.word.result c.word.ensures.word c.word.ensures.address
-    c.requires.agrees c.requires.complete c.requires.linkable c.in_ok-hash.ensures.value (g.F.Folder.told c.field.new.f) c.in_ok-hash.ensures.stays (part_whole c.in_ok-set_bucket.ensures.steps)
+    c.requires.agrees c.requires.complete c.in_ok-hash.ensures.value (g.F.Folder.told c.field.new.f) c.in_ok-hash.ensures.stays (part_whole c.in_ok-set_bucket.ensures.steps)
 
 pub returns-in_err-set_bucket-clause-prefix : goal.returns-in_err-set_bucket-clause-prefix
 returns-in_err-set_bucket-clause-prefix g c = (left_failed g c).part
-
-pub returns-in_err-set_bucket-clause-stops : goal.returns-in_err-set_bucket-clause-stops
-returns-in_err-set_bucket-clause-stops g c = (left_failed g c).stops
 
 pub returns-in_err-set_bucket-clause-commits : goal.returns-in_err-set_bucket-clause-commits
 returns-in_err-set_bucket-clause-commits g c = (left_failed g c).commits
@@ -41,18 +38,15 @@ returns-in_err-set_bucket-clause-agrees g c = (left_failed g c).agrees
 pub returns-clause-steps : goal.returns-clause-steps
 returns-clause-steps g c =
     whole_by c.args.files.now (g.F.Folder.told c.args.f.now) (g.F.Folder.told c.set_bucket.new.f) c.args.entry c.in_ok-hash.hash c.word.result c.word.ensures.word c.word.ensures.address
-    c.requires.agrees c.requires.complete c.requires.linkable c.in_ok-hash.ensures.value (g.F.Folder.told c.field.new.f) c.in_ok-hash.ensures.stays c.in_ok-set_bucket.ensures.steps
+    c.requires.agrees c.requires.complete c.in_ok-hash.ensures.value (g.F.Folder.told c.field.new.f) c.in_ok-hash.ensures.stays c.in_ok-set_bucket.ensures.steps
 
 pub returns-clause-linked : goal.returns-clause-linked
 returns-clause-linked g c =
     linked_by c.args.files.now (g.F.Folder.told c.args.f.now) (g.F.Folder.told c.set_bucket.new.f) c.args.entry c.in_ok-hash.hash c.word.result c.word.ensures.word c.word.ensures.address
-    c.requires.agrees c.requires.complete c.requires.linkable c.in_ok-hash.ensures.value (g.F.Folder.told c.field.new.f) c.in_ok-hash.ensures.stays c.in_ok-set_bucket.ensures.steps
+    c.requires.agrees c.requires.complete c.in_ok-hash.ensures.value (g.F.Folder.told c.field.new.f) c.in_ok-hash.ensures.stays c.in_ok-set_bucket.ensures.steps
 
 pub returns-clause-prefix : goal.returns-clause-prefix
 returns-clause-prefix g c = (left_done g c).part
-
-pub returns-clause-stops : goal.returns-clause-stops
-returns-clause-stops g c = (left_done g c).stops
 
 pub returns-clause-commits : goal.returns-clause-commits
 returns-clause-commits g c = (left_done g c).commits
@@ -61,4 +55,4 @@ pub returns-clause-agrees : goal.returns-clause-agrees
 returns-clause-agrees g c = (left_done g c).agrees
 
 pub returns-clause-gains : goal.returns-clause-gains
-returns-clause-gains g c from there image now = gains-one from image c.args.entry (c.requires.linkable from there) (returns-clause-linked g c from there image now)
+returns-clause-gains g c from there can image now = gains-one from image c.args.entry can (returns-clause-linked g c from there can image now)

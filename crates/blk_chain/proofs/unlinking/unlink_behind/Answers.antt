@@ -1,14 +1,15 @@
-use Rattle.std.proofs.Common.{◌≡◌, ℕ, None, sym, subst}
+use Rattle.std.proofs.Common.{◌≡◌, ℕ, None, sym, ◌∙◌, subst}
 use Rattle.std.specs.Option.{ForSome}
 use Rattle.std.proofs.lemmas.Result.{on_ok_weaker}
 use Rattle.blk_image.specs.Image.{Image, Index, length_of}
 use Rattle.blk_format.specs.Headers.{index_length}
-use Rattle.blk_io.proofs.Carried.{told_at_end}
+use Rattle.blk_io.proofs.Carried.{if_damaged_weaker, told_at_end}
+use Rattle.blk_io.specs.Faults.{IfDamaged}
 use Rattle.blk_image.specs.Told.{Told, Applies, AppliesPrefix, Passes}
 use Rattle.blk_format.specs.Sealed.{IsMidUpdate, IsUpdated, RecordChecks, sealed_steps}
 use Rattle.blk_disk.specs.Tables.{Agrees}
 use Rattle.blk_chain.specs.Unlinking.{next_of}
-use Rattle.blk_chain.proofs.Unlinks.{next_changes, before_checks, moved, with_next, not_yet, turns_yet, turns_then, unlinking_stops, unlinked_then, still_complete}
+use Rattle.blk_chain.proofs.Unlinks.{next_changes, moved, with_next, turns_yet, turns_then, unlinked_then, still_complete}
 use Rattle.blk_chain.proofs.unlinking.unlink_behind.Given as given
 use Rattle.blk_chain.proofs.unlinking.unlink_behind.Goals as goal
 use Rattle.blk_chain.proofs.unlinking.unlink_behind.Goals.{After-update_sealed}
@@ -16,24 +17,15 @@ use Rattle.blk_chain.proofs.unlinking.unlink_behind.Goals.{After-update_sealed}
 pub returns-in_err-next-clause-agrees : goal.returns-in_err-next-clause-agrees
 returns-in_err-next-clause-agrees g c = subst (λ (t : Told). ForSome t.files (Agrees c.args.files.now)) (sym c.in_err-next.ensures.stays) c.requires.agrees
 
-pub returns-in_err-next-clause-stops : goal.returns-in_err-next-clause-stops
-returns-in_err-next-clause-stops g c =
-    not_yet (g.F.Folder.told c.args.f.now) (g.F.Folder.told c.field.new.f) (g.met.F.Folder.are_bytes c.args.f.now) c.args.entry c.args.before c.requires.linked c.in_err-next.ensures.stays
-
 pub returns-in_err-next-clause-commits : goal.returns-in_err-next-clause-commits
 returns-in_err-next-clause-commits g c =
-    turns_yet (g.F.Folder.told c.args.f.now) (g.F.Folder.told c.field.new.f) (g.met.F.Folder.are_bytes c.args.f.now) c.args.entry c.args.before c.requires.linked c.in_err-next.ensures.stays
+    turns_yet (g.F.Folder.told c.args.f.now) (g.F.Folder.told c.field.new.f) (g.met.F.Folder.are_bytes c.args.f.now) c.args.entry c.args.before c.in_err-next.ensures.stays
 
 pub update_sealed-requires-clause-agrees : goal.update_sealed-requires-clause-agrees
 update_sealed-requires-clause-agrees g c = subst (λ (t : Told). ForSome t.files (Agrees c.args.files.now)) (sym c.in_ok-next.ensures.stays) c.requires.agrees
 
 pub update_sealed-requires-clause-changes : goal.update_sealed-requires-clause-changes
 update_sealed-requires-clause-changes g c = next_changes c.args.before c.in_ok-next.next c.requires.kind_before
-
-pub update_sealed-requires-clause-checks : goal.update_sealed-requires-clause-checks
-update_sealed-requires-clause-checks g c =
-    subst (λ (t : Told). ForSome t.files (RecordChecks c.args.before)) (sym c.in_ok-next.ensures.stays)
-    (λ from there. before_checks from (g.met.F.Folder.are_bytes c.args.f.now from there) c.args.entry c.args.before (c.requires.linked from there))
 
 -- what a call says of the next that was read
 said : (g : given.Over) (c : goal.After-update_sealed g) (P : Told → Image → ℕ → Type 0) → ForSome (g.F.Folder.told c.field.new.f).files (λ from. P (g.F.Folder.told c.field.new.f) from c.in_ok-next.next)
@@ -49,23 +41,19 @@ returns-clause-prefix g c = said g c (λ (t : Told) (from : Image) (n : ℕ). Ap
 
 pub returns-clause-commits : goal.returns-clause-commits
 returns-clause-commits g c =
-    turns_then (g.F.Folder.told c.args.f.now) (g.F.Folder.told c.update_sealed.new.f) (g.met.F.Folder.are_bytes c.args.f.now) c.args.entry c.args.before c.requires.linked c.args.files.now c.requires.agrees c.requires.stands_before (returns-clause-prefix g c)
+    turns_then (g.F.Folder.told c.args.f.now) (g.F.Folder.told c.update_sealed.new.f) (g.met.F.Folder.are_bytes c.args.f.now) c.args.entry c.args.before c.args.files.now c.requires.agrees c.requires.stands_before (returns-clause-prefix g c)
 
 pub returns-clause-sealed : goal.returns-clause-sealed
 returns-clause-sealed g c =
     on_ok_weaker c.update_sealed.result (λ updated. said g c (λ (t : Told) (from : Image) (n : ℕ). ForSome (g.F.Folder.told c.update_sealed.new.f).files (IsUpdated from c.args.before (with_next n))) updated) c.update_sealed.ensures.updated
 
-moments : (g : given.Over) (c : goal.After-update_sealed g) → ForSome (g.F.Folder.told c.args.f.now).files (λ from. Passes (g.F.Folder.told c.args.f.now) (g.F.Folder.told c.update_sealed.new.f) (IsMidUpdate from c.args.before (with_next (next_of from c.args.entry))))
-moments g c = said g c (λ (t : Told) (from : Image) (n : ℕ). Passes t (g.F.Folder.told c.update_sealed.new.f) (IsMidUpdate from c.args.before (with_next n))) c.update_sealed.ensures.stops
-
-pub returns-clause-stops : goal.returns-clause-stops
-returns-clause-stops g c =
-    unlinking_stops (g.F.Folder.told c.args.f.now) (g.F.Folder.told c.update_sealed.new.f) (g.met.F.Folder.are_bytes c.args.f.now) c.args.entry c.args.before c.requires.linked (moments g c)
+moments : (g : given.Over) (c : goal.After-update_sealed g) → ForSome (g.F.Folder.told c.args.f.now).files (λ from. RecordChecks c.args.before from → Passes (g.F.Folder.told c.args.f.now) (g.F.Folder.told c.update_sealed.new.f) (IsMidUpdate from c.args.before (with_next (next_of from c.args.entry))))
+moments g c = said g c (λ (t : Told) (from : Image) (n : ℕ). RecordChecks c.args.before from → Passes t (g.F.Folder.told c.update_sealed.new.f) (IsMidUpdate from c.args.before (with_next n))) c.update_sealed.ensures.stops
 
 pub returns-clause-unlinked : goal.returns-clause-unlinked
 returns-clause-unlinked g c =
     on_ok_weaker c.update_sealed.result
-    (λ updated. unlinked_then (g.F.Folder.told c.args.f.now) (g.F.Folder.told c.update_sealed.new.f) (g.met.F.Folder.are_bytes c.args.f.now) c.args.entry c.args.before c.requires.linked (moments g c)
+    (λ updated. unlinked_then (g.F.Folder.told c.args.f.now) (g.F.Folder.told c.update_sealed.new.f) (g.met.F.Folder.are_bytes c.args.f.now) c.args.entry c.args.before (moments g c)
     (said g c (λ (t : Told) (from : Image) (n : ℕ). ForSome (g.F.Folder.told c.update_sealed.new.f).files (IsUpdated from c.args.before (with_next n))) updated)) c.update_sealed.ensures.updated
 
 pub returns-clause-silent : goal.returns-clause-silent
@@ -74,4 +62,15 @@ returns-clause-silent g c none = c.update_sealed.ensures.silent (subst (λ (t : 
 pub returns-clause-complete : goal.returns-clause-complete
 returns-clause-complete g c =
     told_at_end (g.F.Folder.told c.args.f.now).files (g.F.Folder.told c.update_sealed.new.f).files (λ image. length_of image Index ≡ index_length) (returns-clause-silent g c)
-    (still_complete (g.F.Folder.told c.args.f.now) (g.F.Folder.told c.update_sealed.new.f) (g.met.F.Folder.are_bytes c.args.f.now) c.args.entry c.args.before c.requires.linked c.requires.complete (moments g c))
+    (still_complete (g.F.Folder.told c.args.f.now) (g.F.Folder.told c.update_sealed.new.f) (g.met.F.Folder.are_bytes c.args.f.now) c.args.entry c.args.before c.requires.complete (returns-clause-prefix g c))
+
+pub returns-clause-checked : goal.returns-clause-checked
+returns-clause-checked g c = on_ok_weaker c.update_sealed.result (λ good. subst (λ (t : Told). ForSome t.files (RecordChecks c.args.before)) c.in_ok-next.ensures.stays good) c.update_sealed.ensures.checked
+
+pub returns-clause-unwritten : goal.returns-clause-unwritten
+returns-clause-unwritten g c = if_damaged_weaker c.update_sealed.result _ _ (λ damage stays. stays ∙ c.in_ok-next.ensures.stays) c.update_sealed.ensures.unwritten
+
+pub returns-clause-untold : goal.returns-clause-untold
+returns-clause-untold g c good =
+    subst (λ (t : Told). IfDamaged c.update_sealed.result (λ _. t.files ≡ None)) c.in_ok-next.ensures.stays
+    (c.update_sealed.ensures.untold (subst (λ (t : Told). ForSome t.files (RecordChecks c.args.before)) (sym c.in_ok-next.ensures.stays) good))

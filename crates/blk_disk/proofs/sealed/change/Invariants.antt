@@ -3,4 +3,4 @@ use Rattle.blk_image.specs.Steps.{with_words}
 use Rattle.blk_disk.proofs.sealed.change.Given as goal
 
 abbrev pub invariant-loop-at : goal.invariant-loop-at
-invariant-loop-at g l = g.R.Record.window_of l.view ≡ with_words (take l.at-index l.changes) (g.R.Record.window_of l.initial.view)
+invariant-loop-at g l = (g.R.Record.window_of l.view ≡ with_words (take l.at-index l.changes) (g.R.Record.window_of l.initial.view)) × (g.R.RecordMut.reference l.view ≡ g.R.RecordMut.reference l.initial.view)

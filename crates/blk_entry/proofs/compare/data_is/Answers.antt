@@ -1,15 +1,45 @@
-use Rattle.std.proofs.Common.{◌≡◌, inr, ⊎_elim, ◌+◌, ◌-◌, ◌%◌, ◌<◌, ◌≤◌, length, Some, sym, ◌∙◌, ap, subst, refl, arith}
+use Rattle.std.proofs.Common.{◌≡◌, None, inl, inr, ⊎_elim, ◌+◌, ◌-◌, ◌%◌, ◌<◌, ◌≤◌, length, Some, sym, ◌∙◌, ap, subst, refl, arith}
 use Rattle.std.specs.Option.{ForSome}
-use Rattle.blk_image.specs.Image.{byte}
+use Rattle.blk_image.specs.Image.{HasRange, byte}
 use Rattle.blk_image.specs.Told.{Told}
 use Rattle.blk_disk.specs.Tables.{Agrees}
+use Rattle.std.proofs.lemmas.Bool.{eqb-true}
+use Rattle.blk_io.specs.Faults.{IfDamaged}
 use Rattle.blk_io.proofs.Carried.{carried, if_damaged_weaker}
 use Rattle.blk_entry.specs.Keys.{IsCutPiece, data_at, data_file, data_start}
 use Rattle.blk_entry.proofs.KeyPlaces.{clash, first_same, next_is_cut, next_same, none_same, next_pieces, some_left}
 use Rattle.blk_entry.proofs.compare.data_is.Goals as goal
 
-pub piece_is-requires-clause-agrees : goal.piece_is-requires-clause-agrees
-piece_is-requires-clause-agrees g c = subst (λ (t : Told). ForSome t.files (Agrees c.args.files.now)) (sym c.loop-rest.invariant.told) c.requires.agrees
+pub loop-rest-init : goal.loop-rest-init
+loop-rest-init g c = record {
+  told = refl;
+  later = omega arith;
+  order = omega arith;
+  sum = refl;
+  pieces = inl (let e : (c.args.at - c.args.at) % 16398 ≡ 0 = omega arith in e);
+  inside = c.requires.inside;
+  there = λ image there. inr refl;
+  same = λ image there. (λ h. h, λ h. h);
+}
+
+pub returns-in_err-piece_is-clause-untold : goal.returns-in_err-piece_is-clause-untold
+returns-in_err-piece_is-clause-untold g c agrees external =
+    subst (λ (t : Told). IfDamaged c.from_residual.result (λ _. t.files ≡ None)) c.loop-rest.invariant.told
+    (carried c.piece_is.result c.from_residual.result c.in_err-piece_is.field-0.0 (λ _. (g.F.Folder.told c.loop-rest.f).files ≡ None) c.in_err-piece_is.was c.from_residual.ensures.1
+    (c.piece_is.ensures.untold (subst (λ (t : Told). ForSome t.files (Agrees c.args.files.now)) (sym c.loop-rest.invariant.told) agrees)
+    (λ image now outside. let there : (g.F.Folder.told c.args.f.now).files ≡ Some image = ap (λ (t : Told). t.files) (sym c.loop-rest.invariant.told) ∙ now in
+    let h = external image there outside in
+    let order = c.loop-rest.invariant.order in
+    let sum = c.loop-rest.invariant.sum in
+    omega (arith, h, order, sum, c.split_at.ensures.front_len, c.min.ensures))))
+
+pub returns-clause-there : goal.returns-clause-there
+returns-clause-there g c same image there =
+    let none : length c.loop-rest.rest.now ≡ 0 = eqb-true (length c.loop-rest.rest.now) 0 (sym c.is_empty.ensures ∙ c.loop-rest-test.false) in
+    let sum = c.loop-rest.invariant.sum in
+    let all : c.loop-rest.place - c.args.at ≡ length c.args.bytes.now = omega (arith, none, sum) in
+    ⊎_elim (λ (h : HasRange image (data_file c.args.addr) (data_start c.args.addr + c.args.at) (c.loop-rest.place - c.args.at)). inl (omega (arith, h, all)))
+    (λ (e : c.loop-rest.place ≡ c.args.at). inr (omega (arith, none, sum, e))) (c.loop-rest.invariant.there image there)
 
 pub returns-then-not-branch-clause-same : goal.returns-then-not-branch-clause-same
 returns-then-not-branch-clause-same g c image there = (
@@ -48,7 +78,13 @@ loop-rest-preserved g c = record {
     stands = i.stands;
     room = λ block_kind. let h = i.room block_kind in omega (arith, h, sizes);
   };
-  outside = λ image there e. let h = c.loop-rest.invariant.outside image there e in omega (arith, h, sizes);
+  there = λ image there.
+      let now : (g.F.Folder.told c.loop-rest.f).files ≡ Some image = ap (λ (t : Told). t.files) c.loop-rest.invariant.told ∙ there in
+      let order = c.loop-rest.invariant.order in
+      let some : 0 < length c.loop-rest.rest.now = some_left c.loop-rest.rest.now (sym c.is_empty.ensures ∙ c.loop-rest-test.true) in
+      ⊎_elim (λ (h : HasRange image (data_file c.args.addr) (data_start c.args.addr + c.loop-rest.place) (length c.split_at.result.0.now)). inl (omega (arith, h, order)))
+      (λ (none : length c.split_at.result.0.now ≡ 0). absurd (omega (arith, none, some, c.split_at.ensures.front_len, c.min.ensures)))
+      (c.in_ok-piece_is.ensures.there c.if-not-branch.false image now);
   same =
       λ image there. let now : (g.F.Folder.told c.loop-rest.f).files ≡ Some image = ap (λ (t : Told). t.files) c.loop-rest.invariant.told ∙ there in
       next_same image c.args.addr c.loop-rest.place c.min.result c.loop-rest.rest.now c.split_at.result.0.now c.split_at.result.1.now c.split_at.ensures.front c.split_at.ensures.back fits

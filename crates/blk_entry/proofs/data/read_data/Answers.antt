@@ -1,12 +1,12 @@
-use Rattle.std.proofs.Common.{◌≡◌, ◌≢◌, ℕ, length, sym, ◌∙◌, ap, subst, arith}
+use Rattle.std.proofs.Common.{◌≡◌, ◌≢◌, ◌⊎◌, ℕ, length, sym, ◌∙◌, ap, subst, arith}
 use Rattle.std.proofs.lemmas.Bool.{eqb-true}
 use Rattle.std.proofs.lemmas.Result.{on_ok_weaker}
 use Rattle.blk_image.specs.Bytes.{range_at}
-use Rattle.blk_image.specs.Image.{External, byte}
+use Rattle.blk_image.specs.Image.{External, HasRange, byte}
 use Rattle.blk_format.specs.Address.{kind_of, external, external_number}
 use Rattle.blk_io.proofs.Carried.{if_damaged_weaker}
 use Rattle.blk_external.specs.Reading.{IsFew}
-use Rattle.blk_entry.proofs.KeyPlaces.{of_other, data_of_blocks, data_of_external, few_is_cut, short_is_cut}
+use Rattle.blk_entry.proofs.KeyPlaces.{of_other, data_of_blocks, data_of_external, few_is_cut, short_is_cut, data_in_blocks, data_in_external}
 use Rattle.blk_entry.proofs.data.read_data.Goals as goal
 
 pub returns-then-is_of-clause-bytes : goal.returns-then-is_of-clause-bytes
@@ -35,3 +35,15 @@ pub returns-else-is_of-clause-short : goal.returns-else-is_of-clause-short
 returns-else-is_of-clause-short g c =
     let block_kind : kind_of c.args.addr ≢ external = of_other (kind_of c.args.addr) external (sym c.is_of.ensures ∙ c.if-is_of.false) in
     if_damaged_weaker c.read_block.result _ _ (λ damage short. short_is_cut (g.F.Folder.told c.args.f.now) c.args.addr c.args.at (length c.args.out.now) damage block_kind short) c.read_block.ensures.short
+
+pub returns-then-is_of-clause-checked : goal.returns-then-is_of-clause-checked
+returns-then-is_of-clause-checked g c =
+    let kind : kind_of c.args.addr ≡ external = eqb-true (kind_of c.args.addr) external (sym c.is_of.ensures ∙ c.if-is_of.true) in
+    on_ok_weaker c.read.result
+    (λ h image there. data_in_external image c.args.addr c.args.at (length c.args.out.now) kind (subst (λ (i : ℕ). HasRange image (External (external_number c.args.addr)) i (length c.args.out.now) ⊎ (length c.args.out.now ≡ 0)) c.from.ensures (h image there)))
+    c.read.ensures.checked
+
+pub returns-else-is_of-clause-checked : goal.returns-else-is_of-clause-checked
+returns-else-is_of-clause-checked g c =
+    let block_kind : kind_of c.args.addr ≢ external = of_other (kind_of c.args.addr) external (sym c.is_of.ensures ∙ c.if-is_of.false) in
+    on_ok_weaker c.read_block.result (λ h image there. data_in_blocks image c.args.addr c.args.at (length c.args.out.now) block_kind (h image there)) c.read_block.ensures.checked

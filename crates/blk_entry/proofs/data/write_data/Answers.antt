@@ -1,12 +1,13 @@
-use Rattle.std.proofs.Common.{◌≡◌, ◌≢◌, ◌+◌, ℕ, List, sym, ◌∙◌, ap, subst}
+use Rattle.std.proofs.Common.{◌≡◌, ◌≢◌, ◌+◌, ℕ, List, length, sym, ◌∙◌, ap, subst}
 use Rattle.std.proofs.lemmas.Bool.{eqb-true}
 use Rattle.std.proofs.lemmas.Result.{on_ok_weaker}
 use Rattle.blk_image.specs.Image.{Block, External}
 use Rattle.blk_image.specs.Steps.{TrailStep, words}
-use Rattle.blk_image.specs.Told.{Applies, AppliesPrefix}
+use Rattle.blk_image.specs.Footprint.{Footprint, SameOutside, range}
+use Rattle.blk_image.specs.Told.{Applies, AppliesPrefix, Passes}
 use Rattle.blk_format.specs.Address.{kind_of, external, external_number, file_selector, place}
 use Rattle.blk_entry.specs.Steps.{data_steps}
-use Rattle.blk_entry.proofs.KeyPlaces.{of_other}
+use Rattle.blk_entry.proofs.KeyPlaces.{of_other, range_of_blocks, range_of_external}
 use Rattle.blk_entry.proofs.DataSteps.{steps_of_blocks, steps_of_external, agrees_outside}
 use Rattle.blk_entry.proofs.data.write_data.Given as given
 use Rattle.blk_entry.proofs.data.write_data.Goals as goal
@@ -40,3 +41,16 @@ returns-else-is_of-clause-steps g c =
 
 pub returns-else-is_of-clause-prefix : goal.returns-else-is_of-clause-prefix
 returns-else-is_of-clause-prefix g c = subst (λ (s : List TrailStep). AppliesPrefix (g.F.Folder.told c.args.f.now) (g.F.Folder.told c.write_block.new.f) s) (inside g c) c.write_block.ensures.prefix
+
+pub returns-then-is_of-clause-outside : goal.returns-then-is_of-clause-outside
+returns-then-is_of-clause-outside g c from there =
+    let kind : kind_of c.args.addr ≡ external = eqb-true (kind_of c.args.addr) external (sym c.is_of.ensures ∙ c.if-is_of.true) in
+    subst (λ (fp : Footprint). Passes (g.F.Folder.told c.args.f.now) (g.F.Folder.told c.write.new.f) (SameOutside fp from))
+    (ap (λ (i : ℕ). range (External (external_number c.args.addr)) i (length c.args.bytes.now)) c.from.ensures ∙ range_of_external c.args.addr c.args.at (length c.args.bytes.now) kind)
+    (c.write.ensures.stops from there)
+
+pub returns-else-is_of-clause-outside : goal.returns-else-is_of-clause-outside
+returns-else-is_of-clause-outside g c from there =
+    let block_kind : kind_of c.args.addr ≢ external = of_other (kind_of c.args.addr) external (sym c.is_of.ensures ∙ c.if-is_of.false) in
+    subst (λ (fp : Footprint). Passes (g.F.Folder.told c.args.f.now) (g.F.Folder.told c.write_block.new.f) (SameOutside fp from))
+    (range_of_blocks c.args.addr c.args.at (length c.args.bytes.now) block_kind) (c.write_block.ensures.outside from there)

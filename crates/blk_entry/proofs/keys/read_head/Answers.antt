@@ -1,7 +1,9 @@
-use Rattle.std.proofs.Common.{◌≡◌, ◌⊎◌, ℕ, List, inr, None, Some, false, Bool, if◌then◌else◌, sym, ◌∙◌, ap, arith}
-use Rattle.blk_image.specs.Bytes.{content, word_at}
+use Rattle.std.proofs.Common.{◌≡◌, ◌⊎◌, ◌+◌, ◌≤◌, ⊎_elim, true, subst, ℕ, List, inr, None, Some, false, Bool, if◌then◌else◌, sym, ◌∙◌, ap, arith}
+use Rattle.blk_image.specs.Bytes.{content, word_at, words_at}
+use Rattle.blk_image.specs.Image.{Block, length_of}
 use Rattle.blk_format.specs.Address.{file_selector, place}
 use Rattle.blk_format.specs.Records.{entry_size, checks}
+use Rattle.blk_format.specs.Sealed.{seal_place}
 use Rattle.blk_io.specs.declared.folder.FileId.TheVariants as FileId
 use Rattle.blk_io.specs.Faults.{IsShort}
 use Rattle.blk_disk.specs.Unsealed.{IsUnsealed}
@@ -31,14 +33,26 @@ returns-then-not-checks-clause-damaged g c =
     c.record_damage.ensures.is (inr (unsealed_here g c))
 
 pub returns-then-not-checks-clause-untold : goal.returns-then-not-checks-clause-untold
-returns-then-not-checks-clause-untold g c =
+returns-then-not-checks-clause-untold g c agrees good =
     err_damaged Head c.record_damage.result c.record_damage.ensures.damage (λ _. (g.F.Folder.told c.args.f.now).files ≡ None) c.record_damage.ensures.is
-    (untold_unsealed (g.F.Folder.told c.args.f.now) c.args.entry c.record_damage.ensures.damage (unsealed_here g c) c.requires.checks)
+    (untold_unsealed (g.F.Folder.told c.args.f.now) c.args.entry c.record_damage.ensures.damage (unsealed_here g c) good)
 
 pub returns-clause-head : goal.returns-clause-head
 returns-clause-head g c image there =
     let window : List ℕ = c.read_block.new.out in
     let same = c.in-Some.ensures.same in
     head_is image c.args.entry window _ c.requires.kind (c.in_ok-read_block.ensures.bytes image there)
-    (c.word-2.ensures ∙ ap (λ (l : List ℕ). word_at (content l) 0) same) (c.word-3.ensures ∙ ap (λ (l : List ℕ). word_at (content l) 4) same) (c.word-4.ensures ∙ ap (λ (l : List ℕ). word_at (content l) 32) same)
-    (c.word-5.ensures ∙ ap (λ (l : List ℕ). word_at (content l) 36) same) (c.word-6.ensures ∙ ap (λ (l : List ℕ). word_at (content l) 72) same)
+    (c.word-2.ensures ∙ ap (λ (l : List ℕ). word_at (content l) 0) same) (c.word-3.ensures ∙ ap (λ (l : List ℕ). word_at (content l) 4) same) (c.word-4.ensures ∙ ap (λ (l : List ℕ). word_at (content l) 8) same) (c.word-5.ensures ∙ ap (λ (l : List ℕ). word_at (content l) 32) same)
+    (c.word-6.ensures ∙ ap (λ (l : List ℕ). word_at (content l) 36) same)
+    (c.four_words.ensures ∙ ap (λ (l : List ℕ). words_at (content l) 40 4) same) (c.four_words-2.ensures ∙ ap (λ (l : List ℕ). words_at (content l) 56 4) same)
+    (c.word-7.ensures ∙ ap (λ (l : List ℕ). word_at (content l) 72) same)
+
+pub returns-clause-checked : goal.returns-clause-checked
+returns-clause-checked g c image there =
+    let window : List ℕ = c.read_block.new.out in
+    let holds : checks 92 window ≡ true = ap (checks 92) (sym c.in-Some.ensures.same) ∙ sym c.checks.ensures ∙ c.if-not-checks.false in
+    record {
+      there = ⊎_elim (λ (h : place c.args.entry + 0 + 96 ≤ length_of image (Block (file_selector c.args.entry))). omega (arith, h)) (λ (none : ◌≡◌ {A = ℕ} 96 0). absurd (omega (arith, none))) (c.in_ok-read_block.ensures.checked image there);
+      checks = subst (λ (bytes : List ℕ). checks (seal_place c.args.entry) bytes ≡ true) (record_read image c.args.entry 96 window (sym (entry_bytes c.args.entry c.requires.kind)) (c.in_ok-read_block.ensures.bytes image there))
+          (subst (λ (s : ℕ). checks s window ≡ true) (sym (entry_seal c.args.entry c.requires.kind)) holds);
+    }

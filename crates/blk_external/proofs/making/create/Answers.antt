@@ -9,45 +9,45 @@ use Rattle.blk_format.specs.Headers.{index_length}
 use Rattle.blk_external.specs.Numbers.{IsSearched}
 use Rattle.blk_external.specs.Making.{Creates}
 use Rattle.blk_io.proofs.Carried.{carried, untold_where}
-use Rattle.blk_external.proofs.Makings.{passes_making, makes_none, makes_part, made_is, size_kept}
+use Rattle.blk_external.proofs.Makings.{passes_free, passes_making, makes_none, makes_part, made_is, size_kept}
 use Rattle.blk_external.proofs.Searches.{not_all_taken}
 use Rattle.blk_external.proofs.making.create.Goals as goal
 
 pub returns-in_err-last-clause-prefix : goal.returns-in_err-last-clause-prefix
-returns-in_err-last-clause-prefix g c = makes_none c.in_err-last.ensures.stays c.requires.free
+returns-in_err-last-clause-prefix g c free = makes_none c.in_err-last.ensures.stays free
 
 pub returns-in_err-last-clause-stops : goal.returns-in_err-last-clause-stops
-returns-in_err-last-clause-stops g c = passes_making (makes_none c.in_err-last.ensures.stays c.requires.free)
+returns-in_err-last-clause-stops g c = passes_free (makes_none c.in_err-last.ensures.stays)
 
 pub returns-in_err-last-clause-untold : goal.returns-in_err-last-clause-untold
-returns-in_err-last-clause-untold g c =
+returns-in_err-last-clause-untold g c free =
     carried c.read_word.result c.from_residual.result c.in_err-last.field-0.0 _ c.in_err-last.was c.from_residual.ensures.1
     (untold_if c.read_word.result (g.F.Folder.told c.args.f.now) names.Index 16 4 c.read_word.ensures.short
     (λ image there. let size = c.requires.complete image there in omega (arith, size)))
 
 pub returns-in_err-number-clause-prefix : goal.returns-in_err-number-clause-prefix
-returns-in_err-number-clause-prefix g c = makes_none (c.in_err-number.ensures.stays ∙ c.in_ok-last.ensures.stays) c.requires.free
+returns-in_err-number-clause-prefix g c free = makes_none (c.in_err-number.ensures.stays ∙ c.in_ok-last.ensures.stays) free
 
 pub returns-in_err-number-clause-stops : goal.returns-in_err-number-clause-stops
-returns-in_err-number-clause-stops g c = passes_making (makes_none (c.in_err-number.ensures.stays ∙ c.in_ok-last.ensures.stays) c.requires.free)
+returns-in_err-number-clause-stops g c = passes_free (makes_none (c.in_err-number.ensures.stays ∙ c.in_ok-last.ensures.stays))
 
 pub returns-in_default-clause-prefix : goal.returns-in_default-clause-prefix
-returns-in_default-clause-prefix g c = makes_none (c.in_ok-number.ensures.stays ∙ c.in_ok-last.ensures.stays) c.requires.free
+returns-in_default-clause-prefix g c free = makes_none (c.in_ok-number.ensures.stays ∙ c.in_ok-last.ensures.stays) free
 
 pub returns-in_default-clause-stops : goal.returns-in_default-clause-stops
-returns-in_default-clause-stops g c = passes_making (makes_none (c.in_ok-number.ensures.stays ∙ c.in_ok-last.ensures.stays) c.requires.free)
+returns-in_default-clause-stops g c = passes_free (makes_none (c.in_ok-number.ensures.stays ∙ c.in_ok-last.ensures.stays))
 
 none_of : (o : Option ℕ) → ((n : ℕ) → o ≡ Some n → ⊥) → o ≡ None
 none_of None none = refl
 none_of (Some n) none = absurd (none n refl)
 
 pub returns-in_default-clause-untold : goal.returns-in_default-clause-untold
-returns-in_default-clause-untold g c =
+returns-in_default-clause-untold g c free =
     untold_where (g.F.Folder.told c.args.f.now).files
     (λ image there.
     let there_then = ap (λ (t : Told). t.files) c.in_ok-last.ensures.stays ∙ there in
     let none = none_of c.in_ok-number.field-0 c.in_default.not-Some in
-    not_all_taken image (c.requires.free image there) (subst (IsSearched image c.in_ok-last.last) none (c.in_ok-number.ensures.first image there_then)))
+    not_all_taken image (free image there) (subst (IsSearched image c.in_ok-last.last) none (c.in_ok-number.ensures.first image there_then)))
 
 pub returns-in_err-make-clause-complete : goal.returns-in_err-make-clause-complete
 returns-in_err-make-clause-complete g c =
@@ -55,13 +55,13 @@ returns-in_err-make-clause-complete g c =
     size_kept c.in-Some.number c.in_err-make.ensures.prefix (subst (λ (t : Told). ForSome t.files (λ image. length_of image Index ≡ index_length)) (sym stays) c.requires.complete)
 
 pub returns-in_err-make-clause-stops : goal.returns-in_err-make-clause-stops
-returns-in_err-make-clause-stops g c =
+returns-in_err-make-clause-stops g c from there free =
     let stays = c.in_ok-number.ensures.stays ∙ c.in_ok-last.ensures.stays in
     let fits = c.in_ok-number.ensures.number c.in-Some.number c.in-Some.is in
     passes_making
     (makes_part c.in_ok-last.last c.in-Some.number stays c.in_ok-last.ensures.word fits
     (λ image there. subst (IsSearched image c.in_ok-last.last) c.in-Some.is (c.in_ok-number.ensures.first image (ap (λ (t : Told). t.files) (sym c.in_ok-number.ensures.stays) ∙ there)))
-    c.in_err-make.ensures.prefix)
+    c.in_err-make.ensures.prefix) from there
 
 pub returns-clause-made : goal.returns-clause-made
 returns-clause-made g c =
@@ -72,13 +72,13 @@ returns-clause-made g c =
     subst (λ (n : ℕ). ForSome (g.F.Folder.told c.make.new.f).files (λ image. Creates image n)) (sym c.address_of.ensures.number) made
 
 pub returns-clause-stops : goal.returns-clause-stops
-returns-clause-stops g c =
+returns-clause-stops g c from there free =
     let stays = c.in_ok-number.ensures.stays ∙ c.in_ok-last.ensures.stays in
     let fits = c.in_ok-number.ensures.number c.in-Some.number c.in-Some.is in
     passes_making
     (makes_part c.in_ok-last.last c.in-Some.number stays c.in_ok-last.ensures.word fits
     (λ image there. subst (IsSearched image c.in_ok-last.last) c.in-Some.is (c.in_ok-number.ensures.first image (ap (λ (t : Told). t.files) (sym c.in_ok-number.ensures.stays) ∙ there)))
-    (part_whole c.in_ok-make.ensures.steps))
+    (part_whole c.in_ok-make.ensures.steps)) from there
 
 pub returns-clause-complete : goal.returns-clause-complete
 returns-clause-complete g c =

@@ -1,30 +1,23 @@
-use Rattle.std.proofs.Common.{◌≡◌, List, Some, map, sym, ap, ◌∙◌, subst, true}
+use Rattle.std.proofs.Common.{◌≡◌, Some, map, sym, ap, ◌∙◌, subst, true}
+use Rattle.std.specs.Prelude.{OnOk}
 use Rattle.std.specs.Option.{ForSome}
-use Rattle.blk_image.specs.Image.{Image}
-use Rattle.blk_image.specs.Told.{AppliesPrefix}
-use Rattle.blk_volume.specs.ListView.{ListWrite}
+use Rattle.std.proofs.lemmas.Result.{on_ok_weaker}
 use Rattle.blk_volume.specs.ListPlans.{writes_of}
 use Rattle.blk_volume.specs.View.{list_of}
-use Rattle.blk_volume.specs.ListImages.{IsWritable, CanBeMade, walked}
-use Rattle.blk_volume.specs.ListSteps.{AreOf, IsPartly, steps_of}
-use Rattle.blk_laws.proofs.WordTurns.{moves-can}
-use Rattle.blk_laws.proofs.WriteSteps.{quiet-writes, writes-in_turn}
+use Rattle.blk_volume.specs.ListImages.{CanBeMade}
 use Rattle.blk_laws.proofs.WriteWords.{Each, Good, each_nodes, each_words}
-use Rattle.blk_disk.specs.Tables.{Agrees}
+use Rattle.blk_disk.specs.Tables.{Agrees, is_node_among}
 use Rattle.blk_lru.specs.declared.plans.Operation.TheVariants as operations
-use Rattle.blk_lru.specs.Nodes.{is_node}
 use Rattle.blk_lru.specs.Plans.{whole_plan}
 use Rattle.blk_lru.specs.Writes.{meant}
-use Rattle.blk_lru.proofs.Conditions.{head_read, told_before, told_stays, around}
-use Rattle.blk_lru.proofs.Operating.{part_as, part_passes, stops_none, whole_as}
+use Rattle.blk_lru.proofs.Operating.{checked_as, part_as, untold_as, whole_as}
 use Rattle.blk_lru.proofs.PlanNodes.{whole_good}
-use Rattle.blk_lru.proofs.Performing.{ready_writable, told_ready}
 use Rattle.blk_lru.proofs.PlanWords.{whole_is}
+use Rattle.blk_laws.proofs.WordTurns.{moves-can}
+use Rattle.blk_lru.proofs.Beside.{move_linked}
+use Rattle.blk_lru.proofs.Conditions.{around, told_stays}
 use Rattle.blk_lru.proofs.changing.move_behind.Given as given
 use Rattle.blk_lru.proofs.changing.move_behind.Goals as goal
-
-pub returns-in_err-neighbours-clause-stops : goal.returns-in_err-neighbours-clause-stops
-returns-in_err-neighbours-clause-stops g c from there = stops_none (g.F.Folder.told c.args.f.now) (g.F.Folder.told c.neighbours.new.f) from (writes_of 3 c.args.node (list_of from)) there c.in_err-neighbours.ensures.stays
 
 pub returns-in_err-neighbours-clause-agrees : goal.returns-in_err-neighbours-clause-agrees
 returns-in_err-neighbours-clause-agrees g c = told_stays (Agrees c.args.files.now) c.in_err-neighbours.ensures.stays c.requires.agrees
@@ -34,42 +27,39 @@ words_are : (g : given.Over) (c : goal.After-deref g) → map meant c.deref.resu
 words_are g c = ap (map meant) c.deref.ensures.0 ∙ c.plan_of-plan.ensures
 
 plan_is : (g : given.Over) (c : goal.After-deref g) → ForSome (g.F.Folder.told c.args.f.now).files (λ from. map meant c.deref.result.now ≡ writes_of 3 c.args.node (list_of from))
-plan_is g c from there = words_are g c ∙ whole_is (list_of from) c.args.node (operations.Move (Some c.in_ok-neighbours.neighbours) c.args.head) (c.in_ok-neighbours.ensures.words from there, sym (head_read (list_of from) (walked from) c.args.head (c.requires.listed from there).rest.whole (c.requires.head from there)))
+plan_is g c from there = words_are g c ∙ whole_is (list_of from) c.args.node (operations.Move (Some c.in_ok-neighbours.neighbours) c.args.head) (c.in_ok-neighbours.ensures.words from there, c.requires.head from there)
 
-good_here : (g : given.Over) (c : goal.After-deref g) → Each (Good (λ n. is_node c.args.files.now n ≡ true)) (map meant c.deref.result.now)
-good_here g c = subst (Each (Good (λ n. is_node c.args.files.now n ≡ true))) (sym (words_are g c)) (whole_good c.args.files.now c.args.node c.requires.stands (operations.Move (Some c.in_ok-neighbours.neighbours) c.args.head) (c.in_ok-neighbours.ensures.stand, c.requires.first))
-
-can_here : (g : given.Over) (c : goal.After-deref g) (from : Image) → (g.F.Folder.told c.args.f.now).files ≡ Some from → CanBeMade from (writes_of 3 c.args.node (list_of from))
-can_here g c from there = (let a = around c.args.node from (c.requires.listed from there) in moves-can from c.args.node a.0 a.1 a.2)
+good_here : (g : given.Over) (c : goal.After-deref g) → Each (Good (λ n. is_node_among c.args.files.now n ≡ true)) (map meant c.deref.result.now)
+good_here g c = subst (Each (Good (λ n. is_node_among c.args.files.now n ≡ true))) (sym (words_are g c)) (whole_good c.args.files.now c.args.node c.requires.stands (operations.Move (Some c.in_ok-neighbours.neighbours) c.args.head) (c.in_ok-neighbours.ensures.stand, c.requires.first))
 
 pub perform-requires-clause-stand : goal.perform-requires-clause-stand
-perform-requires-clause-stand g c = each_nodes (λ n. is_node c.args.files.now n ≡ true) (map meant c.deref.result.now) (good_here g c)
+perform-requires-clause-stand g c = each_nodes (λ n. is_node_among c.args.files.now n ≡ true) (map meant c.deref.result.now) (good_here g c)
 
 pub perform-requires-clause-words : goal.perform-requires-clause-words
-perform-requires-clause-words g c = each_words (λ n. is_node c.args.files.now n ≡ true) (map meant c.deref.result.now) (good_here g c)
+perform-requires-clause-words g c = each_words (λ n. is_node_among c.args.files.now n ≡ true) (map meant c.deref.result.now) (good_here g c)
 
 pub perform-requires-clause-agrees : goal.perform-requires-clause-agrees
 perform-requires-clause-agrees g c = told_stays (Agrees c.args.files.now) c.in_ok-neighbours.ensures.stays c.requires.agrees
 
-pub perform-requires-clause-check : goal.perform-requires-clause-check
-perform-requires-clause-check g c image there =
-    let here = told_before image c.in_ok-neighbours.ensures.stays there in
-    subst (AreOf (λ n. (list_of image).checks n ≡ true)) (sym (plan_is g c image here)) (can_here g c image here).nodes
-
 pub returns-clause-steps : goal.returns-clause-steps
 returns-clause-steps g c = whole_as (g.F.Folder.told c.args.f.now) (g.F.Folder.told c.neighbours.new.f) (g.F.Folder.told c.perform.new.f) c.in_ok-neighbours.ensures.stays (map meant c.deref.result.now) (λ from. writes_of 3 c.args.node (list_of from)) (plan_is g c.before) c.perform.result c.perform.ensures.steps
 
-part_here : (g : given.Over) (c : goal.After-perform g) → ForSome (g.F.Folder.told c.args.f.now).files (λ from. AppliesPrefix (g.F.Folder.told c.args.f.now) (g.F.Folder.told c.perform.new.f) (steps_of (writes_of 3 c.args.node (list_of from)) from))
-part_here g c = part_as (g.F.Folder.told c.args.f.now) (g.F.Folder.told c.neighbours.new.f) (g.F.Folder.told c.perform.new.f) c.in_ok-neighbours.ensures.stays (map meant c.deref.result.now) (λ from. writes_of 3 c.args.node (list_of from)) (plan_is g c.before) c.perform.ensures.prefix
-
-writable_here : (g : given.Over) (c : goal.After-perform g) (from : Image) → (g.F.Folder.told c.args.f.now).files ≡ Some from → IsWritable from
-writable_here g c from there = ready_writable (told_ready c.args.files.now (g.F.Folder.told c.args.f.now) c.requires.agrees c.requires.complete (g.met.F.Folder.are_bytes c.args.f.now) from there)
-
 pub returns-clause-prefix : goal.returns-clause-prefix
-returns-clause-prefix g c = part_here g c
+returns-clause-prefix g c = part_as (g.F.Folder.told c.args.f.now) (g.F.Folder.told c.neighbours.new.f) (g.F.Folder.told c.perform.new.f) c.in_ok-neighbours.ensures.stays (map meant c.deref.result.now) (λ from. writes_of 3 c.args.node (list_of from)) (plan_is g c.before) c.perform.ensures.prefix
 
-pub returns-clause-stops : goal.returns-clause-stops
-returns-clause-stops g c from there =
-    let ws : List ListWrite = writes_of 3 c.args.node (list_of from) in
-    part_passes (g.F.Folder.told c.args.f.now) (g.F.Folder.told c.perform.new.f) from there (steps_of ws from) (quiet-writes ws from) (part_here g c from there) (IsPartly from ws)
-    (writes-in_turn from ws (writable_here g c from there) (can_here g c.before from there))
+checked_here : (g : given.Over) (c : goal.After-perform g) → OnOk c.perform.result (ForSome (g.F.Folder.told c.args.f.now).files (λ from. CanBeMade from (writes_of 3 c.args.node (list_of from))))
+checked_here g c = checked_as (g.F.Folder.told c.args.f.now) (g.F.Folder.told c.neighbours.new.f) (g.F.Folder.told c.perform.new.f) c.in_ok-neighbours.ensures.stays (map meant c.deref.result.now) (λ from. writes_of 3 c.args.node (list_of from)) (plan_is g c.before) c.perform.result c.perform.ensures.checked
+
+pub returns-clause-untold : goal.returns-clause-untold
+returns-clause-untold g c holds = untold_as (g.F.Folder.told c.args.f.now) (g.F.Folder.told c.neighbours.new.f) (g.F.Folder.told c.perform.new.f) c.in_ok-neighbours.ensures.stays (map meant c.deref.result.now) (λ from. writes_of 3 c.args.node (list_of from)) (plan_is g c.before) c.perform.result c.perform.ensures.untold (λ from there. (let a = around c.args.node from (holds from there) in moves-can from c.args.node a.0 a.1 a.2))
+
+pub returns-clause-checked : goal.returns-clause-checked
+returns-clause-checked g c = checked_here g c
+
+pub returns-clause-linked : goal.returns-clause-linked
+returns-clause-linked g c =
+    on_ok_weaker c.perform.result
+    (λ can from there.
+    let words = c.in_ok-neighbours.ensures.words from there in
+    move_linked (list_of from) c.args.node words.0 (can from there).nodes)
+    (checked_here g c)

@@ -1,39 +1,47 @@
-use Rattle.std.proofs.Common.{◌≡◌, ◌∙◌, ℕ, List, Option, None, Some, true, false, nat_eq, ap, sym, subst, refl}
+use Rattle.std.proofs.Common.{◌≡◌, ◌∙◌, ℕ, List, [], Option, None, Some, true, false, nat_eq, ap, sym, subst, refl}
 use Rattle.std.specs.Prelude.{◌==◌}
-use Rattle.std.specs.Option.{option_eq}
-use Rattle.std.proofs.lemmas.Bool.{ne_eqb}
+use Rattle.std.specs.Option.{option_eq, ForSome}
+use Rattle.std.proofs.lemmas.Bool.{eq-eqb, eqb-true, ne_eqb}
 use Rattle.std.proofs.lemmas.Result.{on_ok_weaker}
-use Rattle.blk_image.specs.Told.{Told, Applies}
+use Rattle.blk_image.specs.Image.{Image}
+use Rattle.blk_image.specs.Told.{Told, Applies, AppliesPrefix}
+use Rattle.blk_image.proofs.Runs.{grows_none}
 use Rattle.blk_volume.specs.ListPlans.{touch_writes, writes_of}
 use Rattle.blk_volume.specs.ListView.{ListView, ListWrite}
 use Rattle.blk_volume.specs.View.{list_of}
-use Rattle.blk_volume.specs.ListImages.{walked}
+use Rattle.blk_volume.specs.ListImages.{CanBeMade}
 use Rattle.blk_volume.specs.ListSteps.{steps_of}
+use Rattle.blk_io.proofs.Carried.{carried}
+use Rattle.blk_io.specs.Faults.{IfDamaged}
 use Rattle.blk_disk.specs.declared.tables.BlockFiles.{BlockFiles}
-use Rattle.blk_disk.specs.Tables.{Agrees}
-use Rattle.blk_lru.specs.Nodes.{is_node}
+use Rattle.blk_disk.specs.Tables.{Agrees, is_node_among}
+use Rattle.blk_lru.specs.Lists.{IsListed}
 use Rattle.blk_lru.specs.Plans.{word_or_zero}
-use Rattle.blk_lru.proofs.Conditions.{head_read, told_stays}
-use Rattle.blk_lru.proofs.Operating.{stops_none}
+use Rattle.blk_lru.proofs.Conditions.{told_stays}
 use Rattle.blk_lru.proofs.PlanNodes.{node_apart}
+use Rattle.blk_lru.proofs.changing.move_front.Given as given
 use Rattle.blk_lru.proofs.changing.move_front.Goals as goal
 
 some_touch : (list : ListView) (node : ℕ) → (list.head == node) ≡ false → writes_of 3 node list ≡ touch_writes node list
 some_touch list node e = rw e refl
 
+no_touch : (list : ListView) (node : ℕ) → list.head ≡ node → touch_writes node list ≡ []
+no_touch list node e = let t : (list.head == node) ≡ true = eq-eqb list.head node e in rw t refl
+
+same_head : (head : Option ℕ) (node : ℕ) → option_eq nat_eq head (Some node) ≡ true → word_or_zero head ≡ node
+same_head None node e = absurd (clash e)
+  where
+    clash : false ≡ true → ⊥
+    clash e = cc
+same_head (Some w) node e = eqb-true w node e
+
 -- another node is the first one, or none is
-apart : (files : BlockFiles) (node : ℕ) → is_node files node ≡ true → (head : Option ℕ) → option_eq nat_eq head (Some node) ≡ false → (word_or_zero head == node) ≡ false
+apart : (files : BlockFiles) (node : ℕ) → is_node_among files node ≡ true → (head : Option ℕ) → option_eq nat_eq head (Some node) ≡ false → (word_or_zero head == node) ≡ false
 apart files node stands None e = ne_eqb 0 node (λ zero. node_apart files node stands (sym zero))
 apart files node stands (Some head) e = e
 
-pub returns-in_err-head-clause-stops : goal.returns-in_err-head-clause-stops
-returns-in_err-head-clause-stops g c from there = stops_none (g.F.Folder.told c.args.f.now) (g.F.Folder.told c.first.new.f) from (touch_writes c.args.node (list_of from)) there c.in_err-head.ensures.stays
-
 pub returns-in_err-head-clause-agrees : goal.returns-in_err-head-clause-agrees
 returns-in_err-head-clause-agrees g c = told_stays (Agrees c.args.files.now) c.in_err-head.ensures.stays c.requires.agrees
-
-pub returns-then-eq-clause-stops : goal.returns-then-eq-clause-stops
-returns-then-eq-clause-stops g c from there = stops_none (g.F.Folder.told c.args.f.now) (g.F.Folder.told c.first.new.f) from (touch_writes c.args.node (list_of from)) there c.in_ok-head.ensures.stays
 
 pub returns-then-eq-clause-agrees : goal.returns-then-eq-clause-agrees
 returns-then-eq-clause-agrees g c = told_stays (Agrees c.args.files.now) c.in_ok-head.ensures.stays c.requires.agrees
@@ -41,12 +49,51 @@ returns-then-eq-clause-agrees g c = told_stays (Agrees c.args.files.now) c.in_ok
 pub move_behind-requires-clause-agrees : goal.move_behind-requires-clause-agrees
 move_behind-requires-clause-agrees g c = told_stays (Agrees c.args.files.now) c.in_ok-head.ensures.stays c.requires.agrees
 
+pub returns-in_err-head-clause-untold : goal.returns-in_err-head-clause-untold
+returns-in_err-head-clause-untold g c listed =
+    carried c.first.result c.from_residual.result c.in_err-head.field-0.0 (λ _. (g.F.Folder.told c.args.f.now).files ≡ None) c.in_err-head.was c.from_residual.ensures.1 (c.first.ensures.untold c.requires.complete c.requires.agrees (λ image there. (listed image there).rest))
+
+-- the head is another node
+other : (g : given.Over) (c : goal.After-move_behind g) → ForSome (g.F.Folder.told c.args.f.now).files (λ from. ((list_of from).head == c.args.node) ≡ false)
+other g c from there =
+    ap (λ (w : ℕ). w == c.args.node) (sym (c.in_ok-head.ensures.word from there)) ∙ apart c.args.files.now c.args.node c.requires.stands c.in_ok-head.head (sym c.eq.ensures ∙ c.if-eq.false)
+
+-- what is written is what a touch writes
+touching : (g : given.Over) (c : goal.After-move_behind g) (P : Image → List ListWrite → Type 0) → ForSome (g.F.Folder.told c.first.new.f).files (λ from. P from (writes_of 3 c.args.node (list_of from))) → ForSome (g.F.Folder.told c.args.f.now).files (λ from. P from (touch_writes c.args.node (list_of from)))
+touching g c P holds from there = subst (P from) (some_touch (list_of from) c.args.node (other g c from there)) (holds from (ap (λ (t : Told). t.files) c.in_ok-head.ensures.stays ∙ there))
+
 pub returns-clause-steps : goal.returns-clause-steps
 returns-clause-steps g c =
     on_ok_weaker c.move_behind.result
-    (λ grows from there.
-    let head = head_read (list_of from) (walked from) c.in_ok-head.head (c.requires.listed from there).rest.whole (c.in_ok-head.ensures.node from there) in
-    let other : ((list_of from).head == c.args.node) ≡ false = ap (λ (w : ℕ). w == c.args.node) head ∙ apart c.args.files.now c.args.node c.requires.stands c.in_ok-head.head (sym c.eq.ensures ∙ c.if-eq.false) in
-    subst (λ (ws : List ListWrite). Applies (g.F.Folder.told c.args.f.now) (g.F.Folder.told c.move_behind.new.f) (steps_of ws from)) (some_touch (list_of from) c.args.node other)
-    (subst (λ (t : Told). Applies t (g.F.Folder.told c.move_behind.new.f) (steps_of (writes_of 3 c.args.node (list_of from)) from)) c.in_ok-head.ensures.stays (grows from (ap (λ (t : Told). t.files) c.in_ok-head.ensures.stays ∙ there))))
+    (λ grows. touching g c (λ from ws. Applies (g.F.Folder.told c.args.f.now) (g.F.Folder.told c.move_behind.new.f) (steps_of ws from))
+    (subst (λ (t : Told). ForSome t.files (λ from. Applies t (g.F.Folder.told c.move_behind.new.f) (steps_of (writes_of 3 c.args.node (list_of from)) from)) → ForSome (g.F.Folder.told c.first.new.f).files (λ from. Applies (g.F.Folder.told c.args.f.now) (g.F.Folder.told c.move_behind.new.f) (steps_of (writes_of 3 c.args.node (list_of from)) from))) (sym c.in_ok-head.ensures.stays) (λ h. subst (λ (t : Told). ForSome t.files (λ from. Applies (g.F.Folder.told c.args.f.now) (g.F.Folder.told c.move_behind.new.f) (steps_of (writes_of 3 c.args.node (list_of from)) from))) (sym c.in_ok-head.ensures.stays) h) grows))
     c.move_behind.ensures.steps
+
+pub returns-clause-prefix : goal.returns-clause-prefix
+returns-clause-prefix g c =
+    touching g c (λ from ws. AppliesPrefix (g.F.Folder.told c.args.f.now) (g.F.Folder.told c.move_behind.new.f) (steps_of ws from))
+    (subst (λ (t : Told). ForSome (g.F.Folder.told c.first.new.f).files (λ from. AppliesPrefix t (g.F.Folder.told c.move_behind.new.f) (steps_of (writes_of 3 c.args.node (list_of from)) from))) c.in_ok-head.ensures.stays c.move_behind.ensures.prefix)
+
+pub returns-clause-checked : goal.returns-clause-checked
+returns-clause-checked g c = on_ok_weaker c.move_behind.result (λ can. touching g c (λ from ws. CanBeMade from ws) can) c.move_behind.ensures.checked
+
+pub returns-clause-linked : goal.returns-clause-linked
+returns-clause-linked g c = on_ok_weaker c.move_behind.result (λ is from there apart. is from (ap (λ (t : Told). t.files) c.in_ok-head.ensures.stays ∙ there)) c.move_behind.ensures.linked
+
+pub returns-clause-untold : goal.returns-clause-untold
+returns-clause-untold g c listed =
+    subst (λ (t : Told). IfDamaged c.move_behind.result (λ _. t.files ≡ None)) c.in_ok-head.ensures.stays (c.move_behind.ensures.untold (told_stays (IsListed c.args.node) c.in_ok-head.ensures.stays listed))
+
+-- where the node is the head
+is_head : (g : given.Over) (c : goal.Then-eq g) → ForSome (g.F.Folder.told c.args.f.now).files (λ from. (list_of from).head ≡ c.args.node)
+is_head g c from there = sym (c.in_ok-head.ensures.word from there) ∙ same_head c.in_ok-head.head c.args.node (sym c.eq.ensures ∙ c.if-eq.true)
+
+pub returns-then-eq-clause-steps : goal.returns-then-eq-clause-steps
+returns-then-eq-clause-steps g c from there =
+    subst (λ (ws : List ListWrite). Applies (g.F.Folder.told c.args.f.now) (g.F.Folder.told c.first.new.f) (steps_of ws from)) (sym (no_touch (list_of from) c.args.node (is_head g c from there))) (grows_none c.in_ok-head.ensures.stays)
+
+pub returns-then-eq-clause-checked : goal.returns-then-eq-clause-checked
+returns-then-eq-clause-checked g c from there = subst (CanBeMade from) (sym (no_touch (list_of from) c.args.node (is_head g c from there))) (record { nodes = tt; words = tt })
+
+pub returns-then-eq-clause-linked : goal.returns-then-eq-clause-linked
+returns-then-eq-clause-linked g c from there apart = absurd (apart (is_head g c from there))

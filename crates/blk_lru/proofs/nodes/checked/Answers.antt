@@ -1,14 +1,15 @@
+use Rattle.blk_disk.specs.Tables.{is_node_among}
 use Rattle.std.proofs.Common.{rules, ◌≡◌, ℕ, List, Option, false, sym, subst}
 use Rattle.blk_volume.specs.View.{list_of}
 use Rattle.blk_lru.specs.declared.nodes.Links.{Links}
-use Rattle.blk_lru.specs.Nodes.{is_node, FindsNode}
+use Rattle.blk_lru.specs.Nodes.{FindsNode}
 use Rattle.blk_lru.proofs.NodeRecords.{found_in, found_none}
 use Rattle.blk_lru.proofs.NodeWords.{node_kind, node_room, node_stands}
 use Rattle.blk_lru.proofs.nodes.checked.Goals as goal
 
 pub returns-in_default-clause-found : goal.returns-in_default-clause-found
 returns-in_default-clause-found g c image there =
-    let none : is_node c.args.files.now c.args.word ≡ false = search rules in
+    let none : is_node_among c.args.files.now c.args.word ≡ false = search rules in
     found_none c.args.files.now image c.args.word (c.requires.agrees image there) none
 
 pub read_block-requires-clause-stands : goal.read_block-requires-clause-stands

@@ -1,6 +1,7 @@
+use Rattle.blk_disk.specs.Tables.{is_node_among}
 use Rattle.std.proofs.Common.{rules, inr, ⊎_elim, ◌≡◌, ◌+◌, ◌*◌, ◌≤◌, ◌∙◌, sym, ap, ap₂, arith, ℕ, true, false}
 use Rattle.blk_format.specs.Address.{place, byte_size}
-use Rattle.blk_lru.specs.Nodes.{is_node, link_at, IsDangling}
+use Rattle.blk_lru.specs.Nodes.{link_at, IsDangling}
 use Rattle.blk_disk.proofs.Ranges.{name_is, stands_blocky}
 use Rattle.blk_lru.proofs.NodeWords.{node_kind, node_stands, node_room, node_place}
 use Rattle.blk_lru.proofs.LinkReads.{read_link, dangling_untold}
@@ -31,11 +32,11 @@ pub returns-in_default-clause-damaged : goal.returns-in_default-clause-damaged
 returns-in_default-clause-damaged g c = inr (dangling_here g c)
 
 pub returns-in_default-clause-untold : goal.returns-in_default-clause-untold
-returns-in_default-clause-untold g c =
-    let unlike : is_node c.args.files.now c.from_le_bytes-found.result ≡ false = search rules in
-    dangling_untold (g.F.Folder.told c.args.f.now).files (λ image. is_node c.args.files.now (link_at image c.args.node c.args.at) ≡ true)
-    (λ image there named. clash (sym named ∙ ap (is_node c.args.files.now) (sym (read_link image c.args.node c.args.at c.read_block.new.out c.from_le_bytes-found.result (c.in_ok-read_block.ensures.bytes image there) c.from_le_bytes-found.ensures)) ∙ unlike))
-    c.requires.named
+returns-in_default-clause-untold g c agrees named =
+    let unlike : is_node_among c.args.files.now c.from_le_bytes-found.result ≡ false = search rules in
+    dangling_untold (g.F.Folder.told c.args.f.now).files (λ image. is_node_among c.args.files.now (link_at image c.args.node c.args.at) ≡ true)
+    (λ image there names. clash (sym names ∙ ap (is_node_among c.args.files.now) (sym (read_link image c.args.node c.args.at c.read_block.new.out c.from_le_bytes-found.result (c.in_ok-read_block.ensures.bytes image there) c.from_le_bytes-found.ensures)) ∙ unlike))
+    named
   where
     clash : true ≡ false → ⊥
     clash e = cc

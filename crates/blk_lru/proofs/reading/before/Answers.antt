@@ -1,28 +1,22 @@
-use Rattle.std.proofs.Common.{◌≡◌, true, ◌∙◌, sym, ap, subst, ℕ, ◌++◌, ◌∷◌, if◌then◌else◌, None, Some}
+use Rattle.std.proofs.Common.{◌≡◌, ◌∙◌, sym, ap, ℕ, if◌then◌else◌, None, Some}
 use Rattle.std.specs.Prelude.{◌==◌}
-use Rattle.blk_volume.specs.ListView.{IsList}
 use Rattle.blk_volume.specs.View.{list_of}
-use Rattle.blk_volume.specs.ListImages.{walked}
-use Rattle.blk_lru.specs.Nodes.{is_node}
-use Rattle.blk_lru.proofs.Listed.{linked, splits}
-use Rattle.blk_lru.proofs.NodeWords.{checked_names, stands_as_node, prev_link}
+use Rattle.blk_io.proofs.Carried.{carried}
+use Rattle.blk_lru.proofs.Conditions.{prev_names}
+use Rattle.blk_lru.proofs.Listed.{linked}
+use Rattle.blk_lru.proofs.NodeWords.{stands_as_node, prev_link}
 use Rattle.blk_lru.proofs.reading.before.Goals as goal
 
-pub link-requires-clause-named : goal.link-requires-clause-named
-link-requires-clause-named g c image there =
-    let is = c.requires.listed image there in
-    let s = splits (walked image) c.args.node is.listed in
-    let whole : IsList (list_of image) (s.prefix ++ c.args.node ∷ s.suffix) = subst (IsList (list_of image)) s.is is.rest.whole in
-    let agrees = c.requires.agrees image there in
-    subst (λ (w : ℕ). is_node c.args.files.now w ≡ true) (prev_link image c.args.node (stands_as_node c.args.files.now image agrees c.args.node c.requires.stands))
-    (checked_names c.args.files.now image agrees _ (linked (list_of image) s.prefix c.args.node s.suffix whole).prev_good)
+pub returns-clause-word : goal.returns-clause-word
+returns-clause-word g c image there = c.unless_same.ensures ∙ ap (λ (w : ℕ). if w == c.args.node then None else Some w) (c.in_ok-other.ensures.word image there)
 
 pub returns-clause-node : goal.returns-clause-node
-returns-clause-node g c image there prefix suffix is =
-    let listed = c.requires.listed image there in
-    let whole : IsList (list_of image) (prefix ++ c.args.node ∷ suffix) = subst (IsList (list_of image)) is listed.rest.whole in
-    let agrees = c.requires.agrees image there in
-    let word : c.in_ok-other.other ≡ (list_of image).prev c.args.node = c.in_ok-other.ensures.word image there ∙ sym (prev_link image c.args.node (stands_as_node c.args.files.now image agrees c.args.node c.requires.stands)) in
-    c.unless_same.ensures
-    ∙ ap (λ (w : ℕ). if w == c.args.node then None else Some w) word
-    ∙ (linked (list_of image) prefix c.args.node suffix whole).prev_is
+returns-clause-node g c image there agrees prefix suffix rest =
+    returns-clause-word g c image there
+    ∙ ap (λ (w : ℕ). if w == c.args.node then None else Some w) (sym (prev_link image c.args.node (stands_as_node c.args.files.now image agrees c.args.node c.requires.stands)))
+    ∙ (linked (list_of image) prefix c.args.node suffix rest.whole).prev_is
+
+pub returns-in_err-other-clause-untold : goal.returns-in_err-other-clause-untold
+returns-in_err-other-clause-untold g c agrees listed =
+    carried c.link.result c.from_residual.result c.in_err-other.field-0.0 (λ _. (g.F.Folder.told c.args.f.now).files ≡ None) c.in_err-other.was c.from_residual.ensures.1
+    (c.link.ensures.untold agrees (λ image there. prev_names c.args.files.now image c.args.node (agrees image there) c.requires.stands (listed image there)))

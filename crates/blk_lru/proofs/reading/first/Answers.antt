@@ -1,15 +1,20 @@
-use Rattle.std.proofs.Common.{◌∙◌}
+use Rattle.std.proofs.Common.{◌∙◌, ap}
 use Rattle.blk_volume.specs.View.{list_of}
-use Rattle.blk_lru.proofs.Listed.{head_names, head_checks}
+use Rattle.blk_lru.specs.Plans.{word_or_zero}
+use Rattle.blk_lru.proofs.Listed.{head_names, head_checks, word_back}
 use Rattle.blk_lru.proofs.NodeWords.{names_or_zero}
 use Rattle.blk_lru.proofs.Results.{if_ok_weaker}
 use Rattle.blk_lru.proofs.reading.first.Goals as goal
 
-pub end_of_list-requires-clause-named : goal.end_of_list-requires-clause-named
-unfolding list_of
-end_of_list-requires-clause-named g c image there = names_or_zero c.args.files.now image (c.requires.agrees image there) _ (head_checks (list_of image) _ (c.requires.rest image there).whole)
-
 pub returns-clause-node : goal.returns-clause-node
 unfolding list_of
-returns-clause-node g c =
-    if_ok_weaker c.end_of_list.result (λ node h image there. h image there ∙ head_names (list_of image) _ (c.requires.rest image there).whole) c.end_of_list.ensures.node
+returns-clause-node g c = if_ok_weaker c.end_of_list.result (λ node h image there rest. h image there ∙ head_names (list_of image) _ rest.whole) c.end_of_list.ensures.node
+
+pub returns-clause-word : goal.returns-clause-word
+unfolding list_of
+returns-clause-word g c = if_ok_weaker c.end_of_list.result (λ node h image there. ap word_or_zero (h image there) ∙ word_back (list_of image).head) c.end_of_list.ensures.node
+
+pub returns-clause-untold : goal.returns-clause-untold
+unfolding list_of
+returns-clause-untold g c index agrees rest =
+    c.end_of_list.ensures.untold index (λ image there. names_or_zero c.args.files.now image (agrees image there) _ (head_checks (list_of image) _ (rest image there).whole))

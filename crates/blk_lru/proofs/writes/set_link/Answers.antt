@@ -1,6 +1,8 @@
 use Rattle.std.proofs.Common.{inl, ⊎_elim, ◌≡◌, arith, refl, ◌<◌, ◌%◌}
+use Rattle.std.proofs.lemmas.Result.{on_ok_weaker}
 use Rattle.blk_laws.proofs.NodeRecords.{record_checks, one_change}
 use Rattle.blk_lru.proofs.FailedChecks.{short_or_unsealed}
+use Rattle.blk_lru.proofs.NodeRecords.{checks_back}
 use Rattle.blk_lru.proofs.NodeWords.{node_kind, node_stands}
 use Rattle.blk_lru.proofs.writes.set_link.Goals as goal
 
@@ -17,9 +19,13 @@ update_sealed-requires-clause-changes g c =
     let before : c.args.at < 32 = ⊎_elim (λ (e : c.args.at ≡ 16). let h : c.args.at < 32 = omega (arith, e) in h) (λ (e : c.args.at ≡ 20). let h : c.args.at < 32 = omega (arith, e) in h) c.requires.place in
     one_change c.args.node c.args.at c.args.word kind aligned before
 
-pub update_sealed-requires-clause-checks : goal.update_sealed-requires-clause-checks
-update_sealed-requires-clause-checks g c image there =
-    record_checks image c.args.node (g.met.F.Folder.are_bytes c.args.f.now image there) (node_kind c.args.files.now c.args.node c.requires.stands) (c.requires.check image there)
+pub returns-clause-untold : goal.returns-clause-untold
+returns-clause-untold g c good =
+    c.update_sealed.ensures.untold (λ image there. record_checks image c.args.node (g.met.F.Folder.are_bytes c.args.f.now image there) (node_kind c.args.files.now c.args.node c.requires.stands) (good image there))
+
+pub returns-clause-checked : goal.returns-clause-checked
+returns-clause-checked g c =
+    on_ok_weaker c.update_sealed.result (λ good image there. checks_back c.args.files.now image c.args.node (c.requires.agrees image there) (g.met.F.Folder.are_bytes c.args.f.now image there) c.requires.stands (good image there)) c.update_sealed.ensures.checked
 
 pub returns-clause-damaged : goal.returns-clause-damaged
-returns-clause-damaged g c = short_or_unsealed c.update_sealed.result c.args.files.now (g.F.Folder.told c.args.f.now) c.args.node c.requires.stands c.update_sealed.ensures.damaged
+returns-clause-damaged g c = short_or_unsealed c.update_sealed.result c.args.files.now (g.F.Folder.told c.args.f.now) (g.F.Folder.told c.update_sealed.new.f) c.args.node c.requires.stands c.update_sealed.ensures.damaged c.update_sealed.ensures.unwritten

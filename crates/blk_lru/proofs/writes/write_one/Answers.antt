@@ -1,6 +1,7 @@
 use Rattle.std.proofs.Common.{◌≡◌, ◌∷◌, [], sym, subst, true}
 use Rattle.std.specs.Prelude.{OnOk}
 use Rattle.std.specs.Option.{ForSome}
+use Rattle.std.proofs.lemmas.Result.{on_ok_weaker}
 use Rattle.blk_image.specs.Told.{Applies}
 use Rattle.blk_volume.specs.View.{list_of}
 use Rattle.blk_volume.specs.ListSteps.{AreOf, write_steps}
@@ -8,11 +9,19 @@ use Rattle.blk_lru.specs.declared.writes.Write.{Write}
 use Rattle.blk_lru.specs.Writes.{meant}
 use Rattle.blk_lru.proofs.writes.write_one.Goals as goal
 
-pub set_link-requires-clause-check : goal.set_link-requires-clause-check
-set_link-requires-clause-check g c image there = (subst (λ (v : Write). AreOf (λ n. (list_of image).checks n ≡ true) (meant v ∷ [])) c.in-Next.is (c.requires.check image there)).0
+pub returns-in-Next-clause-checked : goal.returns-in-Next-clause-checked
+returns-in-Next-clause-checked g c =
+    on_ok_weaker c.set_link.result (λ good image there. subst (λ (v : Write). AreOf (λ n. (list_of image).checks n ≡ true) (meant v ∷ [])) (sym c.in-Next.is) (good image there, tt)) c.set_link.ensures.checked
 
-pub set_link-requires-in-Prev-clause-check : goal.set_link-requires-in-Prev-clause-check
-set_link-requires-in-Prev-clause-check g c image there = (subst (λ (v : Write). AreOf (λ n. (list_of image).checks n ≡ true) (meant v ∷ [])) c.in-Prev.is (c.requires.check image there)).0
+pub returns-in-Next-clause-untold : goal.returns-in-Next-clause-untold
+returns-in-Next-clause-untold g c good = c.set_link.ensures.untold (λ image there. (subst (λ (v : Write). AreOf (λ n. (list_of image).checks n ≡ true) (meant v ∷ [])) c.in-Next.is (good image there)).0)
+
+pub returns-in-Prev-clause-checked : goal.returns-in-Prev-clause-checked
+returns-in-Prev-clause-checked g c =
+    on_ok_weaker c.set_link-in-Prev.result (λ good image there. subst (λ (v : Write). AreOf (λ n. (list_of image).checks n ≡ true) (meant v ∷ [])) (sym c.in-Prev.is) (good image there, tt)) c.set_link-in-Prev.ensures.checked
+
+pub returns-in-Prev-clause-untold : goal.returns-in-Prev-clause-untold
+returns-in-Prev-clause-untold g c good = c.set_link-in-Prev.ensures.untold (λ image there. (subst (λ (v : Write). AreOf (λ n. (list_of image).checks n ≡ true) (meant v ∷ [])) c.in-Prev.is (good image there)).0)
 
 pub returns-in-Next-clause-steps : goal.returns-in-Next-clause-steps
 unfolding write_steps

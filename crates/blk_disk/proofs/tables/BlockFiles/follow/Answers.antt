@@ -1,8 +1,8 @@
-use Rattle.std.proofs.Common.{ℕ, length, Some, refl, sym, ap, subst, arith, List}
+use Rattle.std.proofs.Common.{inl, ℕ, length, Some, refl, sym, ap, subst, arith, List}
 use Rattle.std.specs.declared.option.Option.{Option}
 use Rattle.std.proofs.lemmas.Result.{err_from_is_err_and}
 use Rattle.blk_addr.specs.Kind.{kind_number}
-use Rattle.blk_disk.specs.Loading.{Follows}
+use Rattle.blk_disk.specs.Loading.{Follows, MayBeNext}
 use Rattle.blk_disk.proofs.Following.{caused_if, follows_kind}
 use Rattle.blk_disk.proofs.tables.BlockFiles.follow.Goals as goal
 
@@ -12,6 +12,7 @@ loop-next-init g c = record {
   follows =
       λ image there. subst (λ (n : ℕ). Follows c.args.self.now image (kind_number c.args.kind) (Some n)) (sym c.first_file.ensures)
       (follows_kind c.args.kind c.args.self.now image c.requires.block_kind (c.requires.begun image there));
+  number = inl c.first_file.ensures;
   others = λ other differs. refl;
   stays = refl;
   later = omega arith;
@@ -27,4 +28,5 @@ pub returns-in_err-next-clause-cause : goal.returns-in_err-next-clause-cause
 returns-in_err-next-clause-cause g c =
     let p = err_from_is_err_and c.from_residual.result c.from_residual.ensures.1 in
     rw (p.1, p.2)
-    (caused_if (Option ℕ) Unit c.in_err-next.field-0.0 (g.F.Folder.told c.args.f.now) (g.F.Folder.told c.loop-next.f) c.loop-next.self c.args.kind c.in-Some.n c.requires.block_kind c.loop-next.invariant.stays c.in_err-next.ensures.cause)
+    (caused_if (Option ℕ) Unit c.in_err-next.field-0.0 (g.F.Folder.told c.args.f.now) (g.F.Folder.told c.loop-next.f) c.loop-next.self c.args.kind c.in-Some.n c.requires.block_kind
+    (subst (MayBeNext (kind_number c.args.kind)) c.in-Some.is c.loop-next.invariant.number) c.loop-next.invariant.stays c.in_err-next.ensures.cause)

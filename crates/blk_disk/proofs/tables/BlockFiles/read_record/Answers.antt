@@ -30,7 +30,7 @@ pub returns-clause-damaged : goal.returns-clause-damaged
 returns-clause-damaged g c = inr (unsealed_here g c)
 
 pub returns-clause-untold : goal.returns-clause-untold
-returns-clause-untold g c checks = untold_unsealed _ _ _ (unsealed_here g c) checks
+returns-clause-untold g c agrees checks = untold_unsealed _ _ _ (unsealed_here g c) checks
 
 -- a record whose seal isn't wrong checks
 right_seal : (seal : ℕ) (bytes : List ℕ) → wrong_seal seal bytes ≡ None → checks seal bytes ≡ true

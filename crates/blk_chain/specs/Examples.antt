@@ -1,0 +1,15 @@
+-- What the calls ask of a folder is met.
+use Rattle.std.specs.Prelude.{ℕ, List, false}
+use Rattle.std.specs.declared.option.Option.TheVariants.{None}
+use Rattle.blk_image.specs.Image.{Image}
+use Rattle.blk_chain.specs.Finding.{CanBeSearched, IsFound}
+use Rattle.blk_chain.specs.Unlinking.{CanBeUnlinked}
+
+-- some folder has a chain that can be searched, in which a record is found, and can be unlinked
+pub record SomeChainIsSearched : Type 0 where
+  pub image : Image
+  pub key : List ℕ
+  pub entry : ℕ
+  pub searched : CanBeSearched key image
+  pub found : IsFound key false entry None image
+  pub unlinked : CanBeUnlinked entry None image

@@ -1,0 +1,14 @@
+-- Each block file is linked once.
+use Rattle.std.specs.Prelude.{◌≡◌, ℕ, ◌==◌, true, None, Some}
+use Rattle.std.specs.List.{IsDistinct}
+use Rattle.blk_image.specs.Image.{Image}
+use Rattle.blk_format.specs.Address.{is_block_kind}
+use Rattle.blk_format.specs.BlockFiles.{first_block_damage, is_among, linked, linked_as}
+
+-- where no check of a header fails, the linked files of a kind are distinct
+abbrev pub LinkedFilesAreDistinct : Type 0
+LinkedFilesAreDistinct = (image : Image) → first_block_damage image ≡ None → (kind : ℕ) → is_block_kind kind ≡ true → IsDistinct (λ m n. m == n) (linked image kind)
+
+-- and each of them is linked as of that kind
+abbrev pub LinkedFilesHaveOneKind : Type 0
+LinkedFilesHaveOneKind = (image : Image) → first_block_damage image ≡ None → (kind : ℕ) → is_block_kind kind ≡ true → (n : ℕ) → is_among (linked image kind) n ≡ true → linked_as image n ≡ Some kind

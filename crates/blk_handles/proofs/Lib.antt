@@ -1,0 +1,6 @@
+pub mod Basics
+pub mod BindingLemmas
+pub mod KeyMapLemmas
+pub mod ObjectsLemmas
+pub mod SlotLemmas
+pub mod StoredLemmas

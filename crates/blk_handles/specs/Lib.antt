@@ -1,0 +1,4 @@
+pub mod Bindings
+pub mod KeyMap
+pub mod Objects
+pub mod Stored

@@ -1,0 +1,12 @@
+pub mod Keeping
+pub mod Empty
+pub mod Headers
+pub mod Free
+pub mod Writes
+pub mod Opened
+pub mod Examples
+pub mod Stopping
+pub mod Touching
+pub mod Allocating
+pub mod Freeing
+pub mod MakingFiles

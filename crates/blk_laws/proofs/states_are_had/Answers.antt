@@ -1,0 +1,6 @@
+use Rattle.blk_laws.proofs.Counting.{files-stand}
+use Rattle.blk_laws.proofs.TouchedStates.{states-stand, touched-state}
+use Rattle.blk_laws.proofs.states_are_had.Goals as goal
+
+pub returns : goal.returns
+returns c = record { files = files-stand; stands = states-stand; touched = touched-state }

@@ -1,0 +1,92 @@
+# The statuses of the program, with what it prints, on folders that are whole and folders that fail.
+. "$(dirname "${BASH_SOURCE[0]}")/common.sh"
+
+# Runs count on a folder, and compares the status and all that is said.
+answers() {
+    count_in "$2"
+    is "$1" "$3" "$status $said$complained"
+}
+
+for kind in $kinds; do
+    make "$kind" "$room/$kind"
+    answers "a folder that is $kind" "$room/$kind" "$(status_of "$kind") $(line_of "$kind")"
+done
+finished=$(both "$room/finished")
+answers 'a finished folder once more' "$room/finished" "0 $empty_line"
+is 'a finished folder is not written to' "$finished" "$(both "$room/finished")"
+
+# What a stop leaves is made anew.
+make finished "$room/stopped"
+patch "$room/stopped/index" 0 '\0\0\0\0'
+answers 'a folder without its magic word' "$room/stopped" "0 $empty_line"
+: >"$room/stopped/index"
+answers 'an index without bytes' "$room/stopped" "0 $empty_line"
+
+# Files with other names stay.
+mkdir "$room/others"
+printf kept >"$room/others/readme"
+answers 'a folder with a file of another name' "$room/others" "0 $empty_line"
+is 'that file stays' kept "$(cat "$room/others/readme")"
+
+answers 'a folder that is not there' "$room/nowhere" '3 '
+run "$room/nowhere" session
+is 'it goes before words that are not built' '3 ' "$status $said$complained"
+printf x >"$room/file"
+answers 'a file in place of the folder' "$room/file" '3 '
+is 'that file stays as it is' x "$(cat "$room/file")"
+answers 'a path without a byte' '' '3 '
+answers 'a path that is too long' "$(printf '%05000d' 0)" '3 '
+
+# As root every folder can be read and written, so the program is run as nobody there.
+as_nobody=()
+mkdir -m 711 "$room/bin"
+cp "$program" "$room/bin/blkcache"
+chmod 711 "$room"
+chmod 755 "$room/bin/blkcache"
+[ "$(id -u)" != 0 ] || as_nobody=(chroot --userspec=65534:65534 /)
+make finished "$room/shut"
+chmod 444 "$room/shut/"*
+if [ "$("${as_nobody[@]}" cat "$room/bin/blkcache" 2>/dev/null | cksum)" != "$(cksum <"$program")" ]; then
+    skip 'a folder that cannot be read or written' 'the program cannot be run as nobody here'
+else
+    for mode in 000 444 111; do
+        chmod "$mode" "$room/shut"
+        "${as_nobody[@]}" "$room/bin/blkcache" "$room/shut" count <"$room/input" >"$room/said" 2>&1
+        is "a folder of mode $mode" '3 ' "$? $(cat "$room/said")"
+    done
+    chmod 755 "$room/shut"
+    before=$(both "$room/shut")
+    "${as_nobody[@]}" "$room/bin/blkcache" "$room/shut" count <"$room/input" >"$room/said" 2>&1
+    is 'files that cannot be written' '3 ' "$? $(cat "$room/said")"
+    is 'and they are as they were' "$before" "$(both "$room/shut")"
+    rm "$room/shut/"*
+    chmod 555 "$room/shut"
+    "${as_nobody[@]}" "$room/bin/blkcache" "$room/shut" count <"$room/input" >"$room/said" 2>&1
+    is 'an empty folder that cannot be written' '3 ' "$? $(cat "$room/said")"
+    is 'and it is empty' '' "$(picture "$room/shut")"
+fi
+chmod 755 "$room/shut"
+
+# A file may get no longer than this: a write fails, and no signal ends the program.
+mkdir "$room/full"
+(ulimit -f 64 && trap '' XFSZ && exec timeout 60 "$program" "$room/full" count) >"$room/said" 2>&1
+is 'no room for the files' '3 ' "$? $(cat "$room/said")"
+answers 'and the next run makes the folder' "$room/full" "0 $empty_line"
+
+# An output that fails, or that nobody reads, is a status, and no signal.
+if [ -w /dev/full ]; then
+    timeout 60 "$program" "$room/finished" count >/dev/full 2>"$room/complained"
+    is 'an output that is full' '5 ' "$? $(cat "$room/complained")"
+else
+    skip 'an output that is full' 'there is no /dev/full'
+fi
+mkfifo "$room/pipe"
+# Both ends are opened, and the reader's is closed before the program writes.
+exec 8<>"$room/pipe" 9>"$room/pipe" 8<&-
+timeout 60 "$program" "$room/finished" count >&9 2>"$room/complained"
+is 'an output that nobody reads' '5 ' "$? $(cat "$room/complained")"
+exec 9>&-
+timeout 60 "$program" "$room/finished" count <"$room/finished" >"$room/said" 2>&1
+is 'an input that cannot be read is not asked' "0 $empty_line" "$? $(cat "$room/said")"
+is 'nothing of all this was written' "$finished" "$(both "$room/finished")"
+finish
