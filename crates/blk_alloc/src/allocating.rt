@@ -18,8 +18,8 @@ ghost use Rattle.blk_alloc.specs.Allocating.{AllocatesIn, AreCounted, ExtendsAnd
 ghost use Rattle.blk_format.specs.Growth.{StaysWhole};
 
 use crate::blocks::Blocks;
-use crate::fitting::first_fit;
 use crate::extending::{add_room, grow_room, growing_file};
+use crate::fitting::first_fit;
 use crate::marking::mark;
 use blk_addr::{Addr, Kind};
 use blk_disk::BlockFiles;

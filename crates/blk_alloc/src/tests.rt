@@ -1,4 +1,4 @@
-// Blocks are given and freed in a folder in memory that tells nothing.
+// Blocks are allocated and freed, in a folder in memory that mostly tells nothing.
 ghost use Rattle.std.specs.Prelude.{◌≤◌, ◌<◌};
 ghost use Rattle.std.specs.Option.{ForSome};
 
@@ -427,8 +427,8 @@ fn a_wrong_map_is_made_that_of_the_claims(rt: HostRuntime) -> Result<(), Fail> {
     let before = f.calls();
     assert_eq!(rt; rebuild_all(&mut f, &mut files, &claims), Ok(()));
 
-    // Five writes for each of the four files, and one is lengthened.
-    assert_eq!(rt; f.calls().wrapping_sub(before), 21);
+    // Two reads of each of the three files that are right, and of the other one read, its length, and five writes.
+    assert_eq!(rt; f.calls().wrapping_sub(before), 13);
     assert_eq!(rt; f.length(FileId::Block(1)), Ok(Some(270_336)));
     let expected = [
         (0, MAGIC),
@@ -449,5 +449,99 @@ fn a_wrong_map_is_made_that_of_the_claims(rt: HostRuntime) -> Result<(), Fail> {
     found.resize(HEADER_LEN, 0)?;
     f.read_at(FileId::Block(1), 0, &mut found)?;
     assert!(rt; found == header);
+
+    // Nothing is written where all are right: two reads of each file.
+    let before = f.calls();
+    assert_eq!(rt; rebuild_all(&mut f, &mut files, &claims), Ok(()));
+    assert_eq!(rt; f.calls().wrapping_sub(before), 8);
+    Ok(())
+}
+
+#[test]
+fn a_map_that_is_too_short_is_a_damage_and_no_lack_of_room(rt: HostRuntime) -> Result<(), Fail> {
+    let mut f = made_folder(rt.alloc(), 1024, 256, 0xFF)?;
+    let Ok(files) = BlockFiles::load(&mut f) else {
+        panic!(rt; "the files are whole");
+    };
+    let mut files = files;
+    f.set_len(FileId::Block(1), 100)?;
+    let damage = Damage {
+        file: FileId::Block(1),
+        at: 80,
+        found: 20,
+    };
+    let before = f.calls();
+    assert_eq!(rt; give(&mut f, &mut files, 1), Err(Fault::Damaged(damage)));
+    assert_eq!(rt; f.calls().wrapping_sub(before), 1);
+    assert_eq!(rt; f.length(FileId::Block(1)), Ok(Some(100)));
+    Ok(())
+}
+
+#[test]
+fn a_header_that_is_too_short_is_a_damage(rt: HostRuntime) -> Result<(), Fail> {
+    let mut f = folder_with(rt.alloc(), 3, [0, 0, 0, 254], 0xFF)?;
+    let Ok(files) = BlockFiles::load(&mut f) else {
+        panic!(rt; "the files are whole");
+    };
+    let mut files = files;
+
+    // The word of the map that has blocks 4 to 7 is cut, and then the fields.
+    f.set_len(FileId::Block(1), 82)?;
+    let map = Damage {
+        file: FileId::Block(1),
+        at: 80,
+        found: 2,
+    };
+    assert_eq!(rt;
+        free_word(&mut f, &files, 0xA001_0004),
+        Err(Fault::Damaged(map))
+    );
+    f.set_len(FileId::Block(1), 50)?;
+    let fields = Damage {
+        file: FileId::Block(1),
+        at: 0,
+        found: 50,
+    };
+    assert_eq!(rt;
+        free_word(&mut f, &files, 0xA001_0004),
+        Err(Fault::Damaged(fields))
+    );
+    assert_eq!(rt; word_at(&mut f, 16), Ok(3));
+    let claims = Claims::new(rt.alloc());
+    assert_eq!(rt;
+        rebuild_all(&mut f, &mut files, &claims),
+        Err(Fault::Damaged(fields))
+    );
+    Ok(())
+}
+
+// Allocates blocks, frees them, allocates them again, and makes the maps those of claims, in a folder that
+// may tell its files.
+fn play<F: Folder>(f: &mut F, claims: &Claims) -> Result<u32, Fault> {
+    let mut files = BlockFiles::load(f)?;
+    let first = allocate(f, &mut files, Kind::B256, 2)?;
+    free(f, &files, first)?;
+    let again = allocate(f, &mut files, Kind::B256, 3)?;
+    rebuild(f, &mut files, claims)?;
+    Ok(again.word())
+}
+
+#[test]
+fn each_call_runs_over_a_folder_that_tells_its_files(rt: HostRuntime) -> Result<(), Fail> {
+    let mut f = MemFolder::new(rt.alloc());
+    let first = file_with(rt.alloc(), HEADER_LEN, &fields(0, 36))?;
+    f.add_file(FileId::Block(0), &first)?;
+    let second = file_with(rt.alloc(), HEADER_LEN, &fields(1, 256))?;
+    f.add_file(FileId::Block(1), &second)?;
+    let third = file_with(rt.alloc(), HEADER_LEN, &fields(2, 1024))?;
+    f.add_file(FileId::Block(2), &third)?;
+    let fourth = file_with(rt.alloc(), HEADER_LEN, &fields(3, 4096))?;
+    f.add_file(FileId::Block(3), &fourth)?;
+    let mut claims = Claims::new(rt.alloc());
+    assert!(rt; add_words(&mut claims, &[0xA201_0000]));
+    assert_eq!(rt; play(&mut f, &claims), Ok(0xA201_0000));
+    let mut entries = [0; 4];
+    f.read_at(FileId::Block(1), 16, &mut entries)?;
+    assert_eq!(rt; entries, [1, 0, 0, 0]);
     Ok(())
 }

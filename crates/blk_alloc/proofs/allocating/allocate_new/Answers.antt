@@ -105,8 +105,7 @@ returns-clause-allocates g c =
     let mid = told_later (c.in_ok-place.ensures.stops from there) there in
     let file = ap file_selector word ∙ word_file c.new_room.new.files c.args.kind c.args.count c.in_ok-place.place c.requires.some c.in_ok-place.ensures.fits in
     let made = c.in_ok-place.ensures.made from there counted mid.0 mid.1 in
-    let used = taken mid.0 mid.1 made.takeable image now in
-    (
+    let used = taken mid.0 mid.1 made.takeable image now in (
       given_made c.args.files.now c.new_room.new.files from mid.0 image c.in_ok-place.place addr file c.in_ok-place.ensures.all made used,
       room_marked c.args.files.now kind (file_selector addr) from mid.0 image (subst (λ (m : ℕ). ExtendsAnd updating_word c.args.files.now kind from m mid.0) (sym file) (c.in_ok-place.ensures.within from there mid.0 mid.1)) used.same,
     ))

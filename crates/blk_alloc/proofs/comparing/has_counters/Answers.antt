@@ -26,8 +26,7 @@ returns-clause-same g c image there equal =
     let p3 = and_parts (c.empty-2.result == slice_index c.args.empty.now 1) _ p2.1 in
     let p4 = and_parts (c.empty-3.result == slice_index c.args.empty.now 2) _ p3.1 in
     let p5 = and_parts (c.empty-4.result == slice_index c.args.empty.now 3) _ p4.1 in
-    let p6 = and_parts (c.updating.result == 0) _ p5.1 in
-    (
+    let p6 = and_parts (c.updating.result == 0) _ p5.1 in (
       sym (c.num_entries.ensures ∙ at 16 (omega arith)) ∙ eqb-true _ _ p1.0,
       each_of_four f c.args.empty.now (sym (c.empty.ensures ∙ at 24 (omega arith)) ∙ eqb-true _ _ p2.0) (sym (c.empty-2.ensures ∙ at 28 (omega arith)) ∙ eqb-true _ _ p3.0) (sym (c.empty-3.ensures ∙ at 32 (omega arith)) ∙ eqb-true _ _ p4.0) (sym (c.empty-4.ensures ∙ at 36 (omega arith)) ∙ eqb-true _ _ p5.0),
       sym (c.updating.ensures ∙ at 56 (omega arith)) ∙ eqb-true _ _ p6.0,
