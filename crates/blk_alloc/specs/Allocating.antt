@@ -1,4 +1,4 @@
--- Blocks are allocated: at the first place where they fit, or where no file of a type has room, in a file that grows or is added.
+-- Blocks are allocated: at the first place where they fit, or where no file of a kind has room, in a file that grows or is added.
 use Rattle.std.specs.Prelude.{◌≡◌, ◌≢◌, ◌⊎◌, ℕ, ◌+◌, ◌-◌, ◌<◌, ◌≤◌, List, [], ◌∷◌, length, slice_get, true, false, if◌then◌else◌, Some}
 use Rattle.std.specs.List.{All, sum_by}
 use Rattle.std.specs.Option.{ForSome}
@@ -25,7 +25,7 @@ use Rattle.blk_alloc.specs.Extending.{HasMostBlocks, HasNoHints, IsFirstGrowing,
 
 -- What is asked of the files.
 
--- the most allocations of the files of a type
+-- the most allocations of the files of a kind
 abbrev pub most_allocations : ℕ
 most_allocations = 655362
 
@@ -35,30 +35,30 @@ pub record HasAllocations (image : Image) (n : ℕ) : Type 0 where
   pub are : AreAllocations image n words
   pub empty : EmptyAgrees image n
 
--- each file of a type has its allocations, and all of them together are no more than 655362
+-- each file of a kind has its allocations, and all of them together are no more than 655362
 pub record AreCounted (files : BlockFiles) (kind : ℕ) (image : Image) : Type 0 where
   pub each : (n : ℕ) → is_among (files_of files kind) n ≡ true → HasAllocations image n
   pub most : sum_by (λ n. allocations_of (byte image (Block n))) (files_of files kind) ≤ most_allocations
 
 -- Where the blocks lie.
 
--- the first file of a type that may grow gives the first blocks after its old ones
+-- the first file of a kind that may grow gives the first blocks after its old ones
 pub record IsGrownPlace (files : BlockFiles) (kind : ℕ) (place : Blocks) : Type 0 where
   pub growing : IsFirstGrowing files (files_of files kind) place.file
   pub start : place.start ≡ blocks_of files place.file
 
--- no file of a type may grow, and a new one with the least free number gives its first blocks
+-- no file of a kind may grow, and a new one with the least free number gives its first blocks
 pub record IsAddedPlace (files : BlockFiles) (kind : ℕ) (place : Blocks) : Type 0 where
   pub full : All (HasMostBlocks files) (files_of files kind)
   pub few : length (files_of files kind) < most_files
   pub least : IsLeastFree files place.file
   pub start : place.start ≡ 0
 
--- no file of a type has room for so many blocks
+-- no file of a kind has room for so many blocks
 abbrev pub HaveNoRoom : BlockFiles → ℕ → ℕ → Image → Type 0
 HaveNoRoom files kind count image = All (HasNoRoom image count) (files_of files kind)
 
--- the blocks of an address: the first fit, or where no file of the type has room, those of a file that grows, or of a new one where none may grow
+-- the blocks of an address: the first fit, or where no file of the kind has room, those of a file that grows, or of a new one where none may grow
 pub record IsChosen (files : BlockFiles) (image : Image) (kind count w : ℕ) : Type 0 where
   pub place : Blocks
   pub word : w ≡ block_word kind place.file place.start count
@@ -115,7 +115,7 @@ pub record ExtendsInProgress (files : BlockFiles) (kind : ℕ) (from image : Ima
   pub within : ExtendsAnd taking_of files kind from file image
   pub updating : (updating_of (byte image (Block file)) ≡ 1) ⊎ (ExtendsAnd updating_word files kind from file image ⊎ ((w : ℕ) × (file_selector w ≡ file) × Allocates files from w image))
 
--- nothing differs yet; or the first fit is being marked, or is marked; or no file of the type has room, and it is made
+-- nothing differs yet; or the first fit is being marked, or is marked; or no file of the kind has room, and it is made
 abbrev pub AllocatesByStage : BlockFiles → ℕ → ℕ → Image → Image → Type 0
 AllocatesByStage files kind count from image =
     (image ≡ from)
@@ -137,7 +137,7 @@ IsCountedOnce files from w image = is_among (all_files files) (file_selector w) 
 abbrev pub last_place : ℕ
 last_place = 8188
 
--- a type has the most files, which are 60, and each has the most blocks: the damage has the place of the last word that was read, which is the last of the map of the last of them, and finds this word
+-- a kind has the most files, which are 60, and each has the most blocks: the damage has the place of the last word that was read, which is the last of the map of the last of them, and finds this word
 pub record IsFull (files : BlockFiles) (kind : ℕ) (told : Told) (damage : Damage) : Type 0 where
   pub number : most_files ≤ length (files_of files kind)
   pub full : All (HasMostBlocks files) (files_of files kind)
@@ -148,13 +148,13 @@ pub record IsFull (files : BlockFiles) (kind : ℕ) (told : Told) (damage : Dama
   pub there : ForSome told.files (λ image. last_place + 4 ≤ length_of image (Block file))
   pub found : ForSome told.files (λ image. damage.found ≡ word image (Block file) last_place)
 
--- the header of one of the files of a type is damaged, of which so many blocks were to be taken: a read of it gave too few bytes, or a counter would leave its range
+-- the header of one of the files of a kind is damaged, of which so many blocks were to be taken: a read of it gave too few bytes, or a counter would leave its range
 pub record IsCauseOf (files : BlockFiles) (kind count : ℕ) (told : Told) (damage : Damage) : Type 0 where
   pub place : Blocks
   pub is : IsPlace files kind count place
   pub cause : IsCause told place.file place.start place.count true damage
 
--- so many blocks of one of the files of a type, which were to be taken, don't stand
+-- so many blocks of one of the files of a kind, which were to be taken, don't stand
 pub record IsDanglingOf (files : BlockFiles) (kind count : ℕ) (damage : Damage) : Type 0 where
   pub place : Blocks
   pub is : IsPlace files kind count place

@@ -64,7 +64,7 @@ pub record HasBlocks (image : Image) (n start count : ℕ) : Type 0 where
   pub most : max_entries_in image n ≤ most_blocks
   pub below : start + count ≤ max_entries_in image n
 
--- a moment of a change: only map, counters and updating of the file differ, and where another of its bytes than updating differs, updating is 1
+-- in the midst of a change: only map, counters and updating of the file differ, and where another of its bytes than updating differs, updating is 1
 pub record IsMapInProgress (n : ℕ) (from image : Image) : Type 0 where
   pub same : SameOutside (map_of n) from image
   pub updating : (updating_of (byte image (Block n)) ≡ 1) ⊎ SameOutside (one_word (Block n) updating_place) from image

@@ -34,11 +34,11 @@ KeepsMarks files from image = (n b : ℕ) → is_among (all_files files) n ≡ t
 abbrev pub KeepsAll : BlockFiles → BlockFiles → Type 0
 KeepsAll old new = (n : ℕ) → is_among (all_files old) n ≡ true → is_among (all_files new) n ≡ true
 
--- the files of each type are the old ones
+-- the files of each kind are the old ones
 abbrev pub KeepsLists : BlockFiles → BlockFiles → Type 0
 KeepsLists old new = (kind : ℕ) → files_of new kind ≡ files_of old kind
 
--- but for one file, the files of each type are the old ones
+-- but for one file, the files of each kind are the old ones
 abbrev pub KeepsLinks : BlockFiles → BlockFiles → ℕ → Type 0
 KeepsLinks old new n = (m kind : ℕ) → m ≢ n → is_among (files_of new kind) m ≡ is_among (files_of old kind) m
 

@@ -1,4 +1,4 @@
--- The first place where blocks fit: the files of a type in the order of their links, and in a file the least place.
+-- The first place where blocks fit: the files of a kind in the order of their links, and in a file the least place.
 use Rattle.std.specs.Prelude.{◌≡◌, ℕ, ◌+◌, ◌-◌, ◌*◌, ◌/◌, ◌%◌, min, ◌<◌, ◌≤◌, List, ◌∷◌, ◌++◌, true, Option, None, Some}
 use Rattle.std.specs.List.{All}
 use Rattle.blk_image.specs.Image.{Block, Image, length_of}
@@ -44,7 +44,7 @@ abbrev pub IsFitting : Image → List ℕ → ℕ → Option Blocks → Type 0
 IsFitting image files count None = All (HasNoRoom image count) files
 IsFitting image files count (Some place) = IsFirstFit image files count place
 
--- blocks in a file of a type, so many and in one group, of which the first is below the file's number of blocks
+-- blocks in a file of a kind, so many and in one group, of which the first is below the file's number of blocks
 pub record IsPlace (files : BlockFiles) (kind count : ℕ) (place : Blocks) : Type 0 where
   pub linked : is_among (files_of files kind) place.file ≡ true
   pub number : place.file < 256
@@ -59,7 +59,7 @@ pub record IsShortPiece (told : Told) (n blocks : ℕ) (damage : Damage) : Type 
   pub inside : piece * 8192 < blocks
   pub short : IsShort told (names.Block n) (map_place + piece * 1024) ((min (blocks - piece * 8192) 8192 + 7) / 8) damage
 
--- the same, of the map of one of the files of a type
+-- the same, of the map of one of the files of a kind
 pub record IsShortOf (files : BlockFiles) (kind : ℕ) (told : Told) (damage : Damage) : Type 0 where
   pub file : ℕ
   pub linked : is_among (files_of files kind) file ≡ true

@@ -17,11 +17,11 @@ pub record SparesHeadersAndSizes (footprint : Footprint) : Type 0 where
   pub headers : (n i : ℕ) → i < header_size → footprint.bytes (Block n) i ≡ false
   pub sizes : (file : File) → footprint.sizes file ≡ false
 
--- the one file of a type, just made, is counted
+-- the one file of a kind, just made, is counted
 abbrev pub NewFilesAreCounted : Type 0
 NewFilesAreCounted = (files : BlockFiles) (image : Image) (kind n : ℕ) → files_of files kind ≡ n ∷ [] → image (Block n) ≡ Some (with_words (header_words kind n) (zeros header_size)) → AreCounted files kind image
 
--- what was allocated in a file of a counted type, or in one that wasn't there, may be freed
+-- what was allocated in a file of a counted kind, or in one that wasn't there, may be freed
 abbrev pub AllocatedMayBeFreed : Type 0
 AllocatedMayBeFreed = (files : BlockFiles) (kind w : ℕ) (from image : Image) → AreCounted files kind from
     → (is_among (files_of files kind) (file_selector w) ≡ true) ⊎ (is_among (all_files files) (file_selector w) ≡ false) → (is_among (files_of files kind) (file_selector w) ≡ true → is_among (all_files files) (file_selector w) ≡ true)

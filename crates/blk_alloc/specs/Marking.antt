@@ -24,7 +24,7 @@ pub record CanBeMarked (image : Image) (place : Blocks) : Type 0 where
 abbrev pub taking_of : ℕ → Footprint
 taking_of n = either (size_of (Block n)) (map_of n)
 
--- a moment of it: nothing else differs, the file is no shorter, and where more than the length and updating differ, updating is 1
+-- in the midst of it: nothing else differs, the file is no shorter, and where more than the length and updating differ, updating is 1
 pub record MarksUsedInProgress (n : ℕ) (from image : Image) : Type 0 where
   pub same : SameOutside (taking_of n) from image
   pub longer : length_of from (Block n) ≤ length_of image (Block n)
@@ -52,7 +52,7 @@ pub record CountsUsed (n start : ℕ) (from image : Image) : Type 0 where
 abbrev pub blocks_place : ℕ
 blocks_place = 20
 
--- blocks of a type don't stand among the files: the type of their file isn't theirs, or its number of blocks ends among them; the damage has the place of this number, and finds what is kept of it
+-- blocks of a kind don't stand among the files: the kind of their file isn't theirs, or its number of blocks ends among them; the damage has the place of this number, and finds what is kept of it
 pub record IsDangling (files : BlockFiles) (kind : ℕ) (place : Blocks) (damage : Damage) : Type 0 where
   pub dangling : stands_among files (block_word kind place.file place.start place.count) ≡ false
   pub why : (kind_among (files_of files) place.file ≢ Some kind) ⊎ (blocks_of files place.file < place.start + place.count)

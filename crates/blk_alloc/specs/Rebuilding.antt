@@ -84,7 +84,7 @@ is_block_file numbers _ = false
 abbrev pub rebuilding_of : List ℕ → Footprint
 rebuilding_of numbers = record { bytes = λ file i. is_block_file numbers file && (is_counted_place i || is_updating_place i); sizes = is_block_file numbers }
 
--- The moments of it.
+-- What holds at each word of it.
 
 -- each byte of a file but those of updating is as before
 abbrev pub KeepsBytes : ℕ → Image → Image → Type 0
