@@ -5,6 +5,7 @@ use Rattle.blk_image.specs.Image.{Block, External}
 use Rattle.blk_image.specs.Steps.{TrailStep, words}
 use Rattle.blk_image.specs.Footprint.{Footprint, SameOutside, range}
 use Rattle.blk_image.specs.Told.{Applies, AppliesPrefix, Passes}
+use Rattle.blk_image.proofs.Runs.{passes_weaker}
 use Rattle.blk_format.specs.Address.{kind_of, external, external_number, file_selector, place}
 use Rattle.blk_entry.specs.Steps.{data_steps}
 use Rattle.blk_entry.proofs.KeyPlaces.{of_other, range_of_blocks, range_of_external}
@@ -47,7 +48,7 @@ returns-then-is_of-clause-outside g c from there =
     let kind : kind_of c.args.addr ≡ external = eqb-true (kind_of c.args.addr) external (sym c.is_of.ensures ∙ c.if-is_of.true) in
     subst (λ (fp : Footprint). Passes (g.F.Folder.told c.args.f.now) (g.F.Folder.told c.write.new.f) (SameOutside fp from))
     (ap (λ (i : ℕ). range (External (external_number c.args.addr)) i (length c.args.bytes.now)) c.from.ensures ∙ range_of_external c.args.addr c.args.at (length c.args.bytes.now) kind)
-    (c.write.ensures.stops from there)
+    (passes_weaker (c.write.ensures.stops from there) (λ image changed. changed.outside) (λ image changed. changed.outside))
 
 pub returns-else-is_of-clause-outside : goal.returns-else-is_of-clause-outside
 returns-else-is_of-clause-outside g c from there =
