@@ -205,45 +205,25 @@ fn a_broken_record_is_not_updated(rt: HostRuntime) -> Result<(), Fail> {
     Ok(())
 }
 
-// Seals the last node, or updates it twice after one read.
-fn seal_or_update<F: Folder>(f: &mut F, seals: bool) -> Result<bool, Fault> {
+// Seals the last node.
+fn seal_last<F: Folder>(f: &mut F) -> Result<bool, Fault> {
     let files = BlockFiles::load(f)?;
     let Some(addr) = files.node(LAST_NODE) else {
         return Ok(false);
     };
-    if seals {
-        files.seal(f, addr)?;
-        return Ok(true);
-    }
-    let mut bytes = [0; 36];
-    files.read_record(f, addr, &mut bytes)?;
-    for values in [OLD, NEW] {
-        let changes = [(16, values[0]), (4, values[1]), (28, values[2])];
-        files.update_record(f, addr, &mut bytes, &changes)?;
-    }
+    files.seal(f, addr)?;
     Ok(true)
-}
-
-#[test]
-fn a_record_is_updated_twice_after_one_read(rt: HostRuntime) -> Result<(), Fail> {
-    let mut f = zeros(rt.alloc())?;
-    assert_eq!(rt; seal_or_update(&mut f, false), Ok(true));
-
-    // Eight calls load the files.
-    assert_eq!(rt; f.calls(), 8 + 1 + 5 + 5);
-    assert_eq!(rt; show_node(&mut f)?, Some((NEW, NEW_NODE_SEAL, true)));
-    Ok(())
 }
 
 #[test]
 fn a_record_is_sealed_by_one_word(rt: HostRuntime) -> Result<(), Fail> {
     let mut f = zeros(rt.alloc())?;
-    assert_eq!(rt; seal_or_update(&mut f, true), Ok(true));
+    assert_eq!(rt; seal_last(&mut f), Ok(true));
     assert_eq!(rt; f.steps(), Some(1));
     assert_eq!(rt; show_node(&mut f)?, Some(([0, 0, 0], ZERO_NODE_SEAL, true)));
 
     // The seal is there, so nothing is written.
-    assert_eq!(rt; seal_or_update(&mut f, true), Ok(true));
+    assert_eq!(rt; seal_last(&mut f), Ok(true));
     assert_eq!(rt; f.steps(), Some(1));
     Ok(())
 }
