@@ -9,10 +9,11 @@ use Rattle.blk_image.specs.Image.{Image, Block, length_of}
 use Rattle.blk_format.specs.Address.{kind_of, external, file_selector, first_block, block_count, place, byte_size}
 use Rattle.blk_format.specs.Claims.{BlockOf, is_in_file}
 use Rattle.blk_format.specs.BlockFiles.{is_among, kind_among, stands_in, most_blocks, first_block_damage}
+use Rattle.blk_format.specs.Growth.{StaysWhole}
 use Rattle.blk_format.specs.Maps.{is_block_marked, AreAllocations}
 use Rattle.blk_addr.specs.Bits.{is_between}
-use Rattle.blk_alloc.specs.Changes.{map_of, with_marks, HasBlocks, IsReady, IsMapInProgress, IsChanged}
-use Rattle.blk_alloc.specs.Owning.{is_of, others, CanBeFreed, FreesInProgress, IsAllocated, IsFreed}
+use Rattle.blk_alloc.specs.Changes.{map_of, with_marks, HasBlocks, IsReady, IsChanged}
+use Rattle.blk_alloc.specs.Owning.{is_of, others, CanBeFreed, IsAllocated, IsFreed}
 use Rattle.blk_alloc.proofs.Lists.{IsBlocks, LeavesOut, leaves_out, claims_blocks}
 use Rattle.blk_format.proofs.LinkedHeads.{HasHead, linked_checked, count_whole}
 use Rattle.blk_alloc.proofs.Formed.{stands_kept, other_kept, file_kept}
@@ -119,14 +120,8 @@ standing_blocks files image w agrees stands =
     let same = agrees.blocks n among in
     record { whole = whole.0; most = whole.1; below = omega (arith, below, same) }
 
--- a moment while blocks are freed
-pub frees_moment : (from image : Image) (w : ℕ) → SameOutside (map_of (file_selector w)) from image → IsMapInProgress (file_selector w) from image ⊎ IsFreed from w image → FreesInProgress w from image
-frees_moment from image w same marks =
+-- while blocks are freed, and when they are, the folder stays whole
+pub frees_whole : (from image : Image) (w : ℕ) → SameOutside (map_of (file_selector w)) from image → StaysWhole from image
+frees_whole from image w same =
     let longer : (m : ℕ) → length_of from (Block m) ≤ length_of image (Block m) = (λ m. let e = same.lengths (Block m) refl in omega (arith, e)) in
-    record {
-      marks = marks;
-      stays = record {
-        grown = grown_spared (map_of (file_selector w)) from image (map_spares (file_selector w)) same longer;
-        formed = formed_spared (map_of (file_selector w)) from image (map_spares (file_selector w)) same longer;
-      };
-    }
+    record { grown = grown_spared (map_of (file_selector w)) from image (map_spares (file_selector w)) same longer; formed = formed_spared (map_of (file_selector w)) from image (map_spares (file_selector w)) same longer }

@@ -1,5 +1,5 @@
 -- What holds at each word while room is made and blocks are marked.
-use Rattle.std.proofs.Common.{◌≡◌, ℕ, ◌≤◌, ◌<◌, Bool, true, false, ◌&&◌, ◌||◌, nat_le, nat_lt, refl, inl, inr, arith, subst, ⊎_elim}
+use Rattle.std.proofs.Common.{◌≡◌, ℕ, ◌≤◌, ◌<◌, Bool, true, false, ◌&&◌, ◌||◌, nat_le, nat_lt, refl, ◌⊎◌, inl, inr, arith, subst, ⊎_elim}
 use Rattle.std.specs.List.{All}
 use Rattle.std.proofs.lemmas.Bool.Decides.{nat_tests}
 use Rattle.blk_image.specs.Image.{Block, Image, byte, same_file}
@@ -13,8 +13,9 @@ use Rattle.blk_disk.specs.Tables.{files_of}
 use Rattle.blk_disk.specs.Growth.{addition_of, free_number, growth_of}
 use Rattle.blk_alloc.specs.Extending.{HasMostBlocks, IsFirstGrowing}
 use Rattle.blk_alloc.specs.Marking.{MarksUsed, MarksUsedInProgress, taking_of}
-use Rattle.blk_alloc.specs.Allocating.{Allocates, ExtendsAnd, ExtendsInProgress, MakesRoomInProgress, updating_word}
-use Rattle.blk_format.specs.Address.{file_selector}
+use Rattle.blk_alloc.specs.Allocating.{Allocates, ExtendsAnd, ExtendsAndAllocates, ExtendsInProgress, IsAddedPlace, IsGrownPlace, MakesRoomInProgress, updating_word}
+use Rattle.blk_alloc.specs.declared.blocks.Blocks.{Blocks}
+use Rattle.blk_format.specs.Address.{block_word, file_selector}
 use Rattle.blk_alloc.proofs.Staying.{taking_whole}
 use Rattle.blk_alloc.proofs.Rooms.{room_added, room_begun, room_grown, room_marked}
 
@@ -42,7 +43,7 @@ grown_count n m from image same = same_word_outside (growth_of n) from image (Bl
 -- room is made, and its blocks aren't marked yet
 pub room_moment : (files : BlockFiles) (kind : ℕ) (from image : Image) → MakesRoomInProgress files kind from image → ExtendsInProgress files kind from image × StaysWhole from image
 room_moment files kind from image room =
-    (record { file = room.file; within = room_marked files kind room.file from image image room.within (outside-refl (taking_of room.file) image); updating = inr (inl room.within) }, room.stays)
+    (record { file = room.file; within = room_marked files kind room.file from image image room.within (outside-refl (taking_of room.file) image); updating = inr room.within }, room.stays)
 
 -- its blocks are being marked
 pub mark_moment : (files : BlockFiles) (kind n : ℕ) (from mid image : Image) → ExtendsAnd updating_word files kind from n mid → StaysWhole from mid → MarksUsedInProgress n mid image → ExtendsInProgress files kind from image × StaysWhole from image
@@ -50,18 +51,20 @@ mark_moment files kind n from mid image room stays marks = (
   record {
     file = n;
     within = room_marked files kind n from mid image room marks.same;
-    updating = ⊎_elim (λ one. inl one) (λ begun. inr (inl (room_begun files kind n from mid image room begun))) marks.updating;
+    updating = ⊎_elim (λ one. inl one) (λ begun. inr (room_begun files kind n from mid image room begun)) marks.updating;
   },
   whole_then from mid image stays (taking_whole n mid image marks.same marks.longer),
 )
 
 -- its blocks are marked
-pub marked_moment : (files new : BlockFiles) (kind n w : ℕ) (from mid image : Image) → file_selector w ≡ n → ExtendsAnd updating_word files kind from n mid → StaysWhole from mid → MarksUsed new mid w image → Allocates files from w image → ExtendsInProgress files kind from image × StaysWhole from image
-marked_moment files new kind n w from mid image file room stays used allocates = (
+pub marked_moment : (files new : BlockFiles) (kind count : ℕ) (place : Blocks) (from mid image : Image) → file_selector (block_word kind place.file place.start count) ≡ place.file → IsGrownPlace files kind place ⊎ IsAddedPlace files kind place → ExtendsAnd updating_word files kind from place.file mid → StaysWhole from mid
+    → MarksUsed new mid (block_word kind place.file place.start count) image → Allocates files from (block_word kind place.file place.start count) image → ExtendsAndAllocates files kind count from image × StaysWhole from image
+marked_moment files new kind count place from mid image file chosen room stays used allocates = (
   record {
-    file = n;
-    within = room_marked files kind n from mid image room (subst (λ (m : ℕ). SameOutside (taking_of m) mid image) file used.same);
-    updating = inr (inr (w, file, allocates));
+    place = place;
+    room = chosen;
+    within = room_marked files kind place.file from mid image room (subst (λ (m : ℕ). SameOutside (taking_of m) mid image) file used.same);
+    allocates = allocates;
   },
-  whole_then from mid image stays (taking_whole (file_selector w) mid image used.same used.longer),
+  whole_then from mid image stays (taking_whole (file_selector (block_word kind place.file place.start count)) mid image used.same used.longer),
 )

@@ -109,23 +109,45 @@ pub record MakesRoomInProgress (files : BlockFiles) (kind : ℕ) (from image : I
   pub within : ExtendsAnd updating_word files kind from file image
   pub stays : StaysWhole from image
 
--- room is made in a file, and its first blocks are marked: until more than the growth differs, and from then until map and counters are done, updating is 1
+-- room is made in a file, and its first blocks are being marked: where more than the growth differs, updating is 1
 pub record ExtendsInProgress (files : BlockFiles) (kind : ℕ) (from image : Image) : Type 0 where
   pub file : ℕ
   pub within : ExtendsAnd taking_of files kind from file image
-  pub updating : (updating_of (byte image (Block file)) ≡ 1) ⊎ (ExtendsAnd updating_word files kind from file image ⊎ ((w : ℕ) × (file_selector w ≡ file) × Allocates files from w image))
+  pub updating : (updating_of (byte image (Block file)) ≡ 1) ⊎ ExtendsAnd updating_word files kind from file image
 
--- nothing differs yet; or the first fit is being marked, or is marked; or no file of the kind has room, and it is made
+-- room was made in a file, and its first blocks are allocated
+pub record ExtendsAndAllocates (files : BlockFiles) (kind count : ℕ) (from image : Image) : Type 0 where
+  pub place : Blocks
+  pub room : IsGrownPlace files kind place ⊎ IsAddedPlace files kind place
+  pub within : ExtendsAnd taking_of files kind from place.file image
+  pub allocates : Allocates files from (block_word kind place.file place.start count) image
+
+-- nothing differs yet; or the first fit is being marked; or no file of the kind has room, and it is made, and being marked
 abbrev pub AllocatesByStage : BlockFiles → ℕ → ℕ → Image → Image → Type 0
 AllocatesByStage files kind count from image =
     (image ≡ from)
-    ⊎ ((place : Blocks) × IsFirstFit from (files_of files kind) count place × (MarksUsedInProgress place.file from image ⊎ MarksUsed files from (block_word kind place.file place.start count) image))
+    ⊎ ((place : Blocks) × IsFirstFit from (files_of files kind) count place × MarksUsedInProgress place.file from image)
     ⊎ (HaveNoRoom files kind count from × ExtendsInProgress files kind from image)
 
--- at each word of an allocation: what differs, and updating; files that have grown at most, and a folder that stays well formed
+-- before the last word of an allocation, at each word: what differs, and updating, which is 1 from before the first to after the last word of map and counters; files that have grown at most, and a folder that stays well formed
 pub record AllocatesInProgress (files : BlockFiles) (kind count : ℕ) (from image : Image) : Type 0 where
   pub stage : AllocatesByStage files kind count from image
   pub stays : StaysWhole from image
+
+-- the first fit is marked; or no file of the kind had room, and the first blocks of the room that was made are allocated
+abbrev pub AllocatesByChoice : BlockFiles → ℕ → ℕ → Image → Image → Type 0
+AllocatesByChoice files kind count from image =
+    ((place : Blocks) × IsFirstFit from (files_of files kind) count place × MarksUsed files from (block_word kind place.file place.start count) image)
+    ⊎ (HaveNoRoom files kind count from × ExtendsAndAllocates files kind count from image)
+
+-- an allocation is done, which its last word does
+pub record AllocatesAtLast (files : BlockFiles) (kind count : ℕ) (from image : Image) : Type 0 where
+  pub choice : AllocatesByChoice files kind count from image
+  pub stays : StaysWhole from image
+
+-- after the last word that was written: the allocation is done, or some of its words were left out
+abbrev pub AllocatesOrStops : BlockFiles → ℕ → ℕ → Image → Image → Type 0
+AllocatesOrStops files kind count from image = AllocatesInProgress files kind count from image ⊎ AllocatesAtLast files kind count from image
 
 -- where its file was there, an allocation is counted once more, whatever its counters were
 abbrev pub IsCountedOnce : BlockFiles → Image → ℕ → Image → Type 0

@@ -54,10 +54,19 @@ pub record IsFreed (from : Image) (w : ℕ) (image : Image) : Type 0 where
   pub updating : updating_of (byte image (Block (file_selector w))) ≡ 0
   pub elsewhere : (n : ℕ) → n ≢ file_selector w → KeepsFile from image n
 
--- at each word of a free: only map, counters and updating of the file differ, and updating is 1 from the first to the last; block files have grown at most, so each block still stands with its bytes, and a well-formed folder is well formed
+-- before the last word of a free, at each word: only map, counters and updating of the file differ, and updating is 1 from the first to the last; block files have grown at most, so each block still stands with its bytes, and a well-formed folder is well formed
 pub record FreesInProgress (w : ℕ) (from image : Image) : Type 0 where
-  pub marks : IsMapInProgress (file_selector w) from image ⊎ IsFreed from w image
+  pub marks : IsMapInProgress (file_selector w) from image
   pub stays : StaysWhole from image
+
+-- a free is done, which its last word does
+pub record FreesAtLast (w : ℕ) (from image : Image) : Type 0 where
+  pub freed : IsFreed from w image
+  pub stays : StaysWhole from image
+
+-- after the last word that was written: the free is done, or some of its words were left out
+abbrev pub FreesOrStops : ℕ → Image → Image → Type 0
+FreesOrStops w from image = FreesInProgress w from image ⊎ FreesAtLast w from image
 
 -- a counter of a file would leave its range where so many blocks from one on, in one group, come into use or go out of it: by the fields of the header that were read, and the four bytes of the map that have the blocks
 pub record IsCount (told : Told) (n start count : ℕ) (used : Bool) (damage : Damage) : Type 0 where

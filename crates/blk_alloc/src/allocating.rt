@@ -3,7 +3,7 @@ ghost use Rattle.std.specs.Prelude.{◌≡◌, ◌≢◌, ◌⊎◌, ◌≤◌, 
 ghost use Rattle.std.specs.List.{All};
 ghost use Rattle.std.specs.Option.{ForSome};
 ghost use Rattle.blk_image.specs.Image.{Block as block, byte};
-ghost use Rattle.blk_image.specs.Told.{Passes, Rises, Stays};
+ghost use Rattle.blk_image.specs.Told.{Passes, PassesTo, Rises, Stays};
 ghost use Rattle.blk_format.specs.Address.{block_count, external, file_selector, is_address, kind_of, rankings};
 ghost use Rattle.blk_format.specs.BlockFiles.{is_among, most_files};
 ghost use Rattle.blk_format.specs.Headers.{allocations_of};
@@ -14,7 +14,7 @@ ghost use Rattle.blk_disk.specs.Tables.{Agrees, all_files, files_of, stands_amon
 ghost use Rattle.blk_alloc.specs.Fitting.{IsPlace};
 ghost use Rattle.blk_alloc.specs.Extending.{HasItsBlocks, HasMostBlocks, KeepsAll, KeepsLinks, KeepsStanding};
 ghost use Rattle.blk_alloc.specs.Marking.{taking_of};
-ghost use Rattle.blk_alloc.specs.Allocating.{AllocatesIn, AreCounted, ExtendsAnd, HaveNoRoom, IsAddedPlace, IsChosen, IsCountedOnce, IsFull, Allocates, AllocatesInProgress, IsGrownPlace, Extends, ExtendsInProgress, IsRefusal, MakesRoomInProgress, updating_word};
+ghost use Rattle.blk_alloc.specs.Allocating.{AllocatesIn, AreCounted, ExtendsAnd, HaveNoRoom, IsAddedPlace, IsChosen, IsCountedOnce, IsFull, Allocates, AllocatesInProgress, AllocatesOrStops, IsGrownPlace, Extends, ExtendsAndAllocates, ExtendsInProgress, IsRefusal, MakesRoomInProgress, updating_word};
 ghost use Rattle.blk_format.specs.Growth.{StaysWhole};
 
 use crate::blocks::Blocks;
@@ -118,7 +118,7 @@ fn allocate_new<F: Folder>(
     ensures counted { IfOk result (λ addr. ForSome (F.told f.old).files (λ from. ForSome (F.told f.new).files (IsCountedOnce files.old from addr))) }
     ensures allocates { IfOk result (λ addr. ForSome (F.told f.old).files (λ from. AreCounted files.old (kind_number kind) from → ForSome (F.told f.new).files (λ image. Allocates files.old from addr image × ExtendsAnd taking_of files.old (kind_number kind) from (file_selector addr) image))) }
     ensures agrees { OnOk result (ForSome (F.told f.new).files (Agrees files.new)) }
-    ensures stops { ForSome (F.told f.old).files (λ from. AreCounted files.old (kind_number kind) from → Passes (F.told f.old) (F.told f.new) (λ image. ExtendsInProgress files.old (kind_number kind) from image × StaysWhole from image)) }
+    ensures stops { ForSome (F.told f.old).files (λ from. AreCounted files.old (kind_number kind) from → PassesTo (F.told f.old) (F.told f.new) (λ image. ExtendsInProgress files.old (kind_number kind) from image × StaysWhole from image) (λ image. (ExtendsInProgress files.old (kind_number kind) from image ⊎ ExtendsAndAllocates files.old (kind_number kind) count from image) × StaysWhole from image)) }
     ensures silent { (F.told f.old).files ≡ None → (F.told f.new).files ≡ None }
     ensures cause { IfDamaged result (IsRefusal files.old files.new (kind_number kind) count (F.told f.old) (F.told f.new)) }
     ensures untold { ForSome (F.told f.old).files (AreCounted files.old (kind_number kind)) → IfDamaged result (λ _. (F.told f.old).files ≡ None) }
@@ -169,8 +169,8 @@ pub fn allocate<F: Folder>(
     ensures within { IfOk result (λ addr. ForSome (F.told f.old).files (λ from. AreCounted files.old (kind_number kind) from → ForSome (F.told f.new).files (AllocatesIn files.old (kind_number kind) from (file_selector addr)))) }
     ensures agrees { OnOk result (ForSome (F.told f.new).files (Agrees files.new)) }
 
-    // At each word only one file of the kind differs, in its length, map and counters, and where it grows or is added in what these touch; updating is 1 until map and counters are done; files have grown at most, and a well-formed folder is well formed.
-    ensures stops { ForSome (F.told f.old).files (λ from. AreCounted files.old (kind_number kind) from → Passes (F.told f.old) (F.told f.new) (AllocatesInProgress files.old (kind_number kind) blocks from)) }
+    // At each word only one file of the kind differs, in its length, map and counters, and where it grows or is added in what these touch; updating is 1 until the last word, with which the allocation is done; files have grown at most, and a well-formed folder is well formed.
+    ensures stops { ForSome (F.told f.old).files (λ from. AreCounted files.old (kind_number kind) from → PassesTo (F.told f.old) (F.told f.new) (AllocatesInProgress files.old (kind_number kind) blocks from) (AllocatesOrStops files.old (kind_number kind) blocks from)) }
 
     // Of a damage of a map or of full files nothing is written.
     ensures cause { IfDamaged result (IsRefusal files.old files.new (kind_number kind) blocks (F.told f.old) (F.told f.new)) }

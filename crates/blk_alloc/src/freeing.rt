@@ -1,11 +1,11 @@
 // Blocks are freed.
 ghost use Rattle.std.specs.Prelude.{◌≡◌, ◌≤◌, false, None, IsTrue, OnOk};
 ghost use Rattle.std.specs.Option.{ForSome};
-ghost use Rattle.blk_image.specs.Told.{Passes, Rises, Stays};
+ghost use Rattle.blk_image.specs.Told.{PassesTo, Rises, Stays};
 ghost use Rattle.blk_format.specs.Address.{block_count, file_selector, first_block};
 ghost use Rattle.blk_io.specs.Faults.{IfDamaged, IfDevice};
 ghost use Rattle.blk_disk.specs.Tables.{Agrees, stands_among};
-ghost use Rattle.blk_alloc.specs.Owning.{CanBeFreed, FreesInProgress, IsFreed, IsCause};
+ghost use Rattle.blk_alloc.specs.Owning.{CanBeFreed, FreesInProgress, FreesOrStops, IsFreed, IsCause};
 
 use crate::blocks::blocks_of;
 use crate::change::change;
@@ -24,8 +24,8 @@ pub fn free<F: Folder>(f: &mut F, files: &BlockFiles, addr: Addr) -> Result<(), 
     ensures freed { OnOk result (ForSome (F.told f.old).files (λ from. ForSome (F.told f.new).files (IsFreed from addr))) }
     ensures agrees { ForSome (F.told f.new).files (Agrees files.now) }
 
-    // At each word only map, counters and updating of the file have changed, and updating is 1 until all of it is done; each block that stood still stands with its bytes, and a well-formed folder is well formed.
-    ensures stops { ForSome (F.told f.old).files (λ from. Passes (F.told f.old) (F.told f.new) (FreesInProgress addr from)) }
+    // At each word only map, counters and updating of the file have changed, and updating is 1 until the last word, with which all of it is done; each block that stood still stands with its bytes, and a well-formed folder is well formed.
+    ensures stops { ForSome (F.told f.old).files (λ from. PassesTo (F.told f.old) (F.told f.new) (FreesInProgress addr from) (FreesOrStops addr from)) }
 
     ensures cause { IfDamaged result (IsCause (F.told f.old) (file_selector addr) (first_block addr) (block_count addr) false) }
     ensures unwritten { IfDamaged result (λ _. Stays (F.told f.old) (F.told f.new)) }

@@ -2,13 +2,13 @@ use Rattle.std.proofs.Common.{◌≡◌, ◌⊎◌, inl, inr, refl, ℕ, ◌<◌
 use Rattle.std.specs.Option.{ForSome}
 use Rattle.blk_image.specs.Image.{Block, Image, byte}
 use Rattle.blk_image.specs.Told.{Told}
-use Rattle.blk_image.proofs.Runs.{passes_none, passes_weaker, passes_stayed, some_inj}
+use Rattle.blk_image.proofs.Runs.{passes_none, passes_to, passes_weaker, passes_stayed, some_inj}
 use Rattle.blk_addr.specs.Kind.{kind_number}
 use Rattle.blk_format.specs.Growth.{StaysWhole}
 use Rattle.blk_format.proofs.Growths.{whole_not}
 use Rattle.blk_disk.specs.Tables.{Agrees, all_files, files_of}
 use Rattle.blk_alloc.specs.Fitting.{IsFitting, IsFirstFit, IsPlace, IsShortOf}
-use Rattle.blk_alloc.specs.Allocating.{AllocatesIn, AreCounted, ExtendsAnd, HaveNoRoom, Allocates, AllocatesInProgress, ExtendsInProgress, IsChosen, IsCountedOnce, IsRefusal}
+use Rattle.blk_alloc.specs.Allocating.{AllocatesIn, AreCounted, ExtendsAnd, HaveNoRoom, Allocates, AllocatesAtLast, AllocatesInProgress, AllocatesOrStops, ExtendsAndAllocates, ExtendsInProgress, IsChosen, IsCountedOnce, IsRefusal}
 use Rattle.std.specs.Prelude.{IfOk}
 use Rattle.blk_format.specs.Address.{block_count, block_word, file_selector, is_address, kind_of}
 use Rattle.blk_format.specs.Headers.{allocations_of}
@@ -58,7 +58,7 @@ returns-in-Some-clause-kind g c =
 pub returns-in_err-place-clause-stops : goal.returns-in_err-place-clause-stops
 returns-in_err-place-clause-stops g c from there counted =
     let P = AllocatesInProgress c.args.files.now (kind_number c.args.kind) c.args.blocks from in
-    passes_none P c.in_err-place.ensures.stays (λ image is. subst P (some_inj (sym there ∙ is)) (record { stage = inl refl; stays = whole_not from }))
+    passes_to (passes_none P c.in_err-place.ensures.stays (λ image is. subst P (some_inj (sym there ∙ is)) (record { stage = inl refl; stays = whole_not from }))) (λ image is. inl is)
 
 pub returns-in_err-place-clause-cause : goal.returns-in_err-place-clause-cause
 returns-in_err-place-clause-cause g c =
@@ -138,10 +138,10 @@ returns-in-Some-clause-stops g c from there counted =
     let fit = there_fit from there in
     let w : ℕ = block_word kind c.in-Some.place.file c.in-Some.place.start c.in-Some.place.count in
     let keeps : (i : Image) → MarksUsedInProgress c.in-Some.place.file from i → AllocatesInProgress c.args.files.now kind c.args.blocks from i =
-    (λ i marks. record { stage = inr (inl (c.in-Some.place, fit, inl marks)); stays = taking_whole c.in-Some.place.file from i marks.same marks.longer }) in
-    let ends : (i : Image) → MarksUsed c.args.files.now from w i → AllocatesInProgress c.args.files.now kind c.args.blocks from i =
-    (λ i used. record { stage = inr (inl (c.in-Some.place, fit, inr (subst (λ (k : ℕ). MarksUsed c.args.files.now from (block_word kind c.in-Some.place.file c.in-Some.place.start k) i) fit.counted used))); stays = taking_whole (file_selector w) from i used.same used.longer }) in
-    passes_stayed c.in_ok-place.ensures.stays (passes_weaker (c.mark.ensures.stops from told (markable from there counted)) keeps (λ i. ⊎_elim (keeps i) (ends i)))
+    (λ i marks. record { stage = inr (inl (c.in-Some.place, fit, marks)); stays = taking_whole c.in-Some.place.file from i marks.same marks.longer }) in
+    let ends : (i : Image) → MarksUsed c.args.files.now from w i → AllocatesAtLast c.args.files.now kind c.args.blocks from i =
+    (λ i used. record { choice = inl (c.in-Some.place, fit, subst (λ (k : ℕ). MarksUsed c.args.files.now from (block_word kind c.in-Some.place.file c.in-Some.place.start k) i) fit.counted used); stays = taking_whole (file_selector w) from i used.same used.longer }) in
+    passes_stayed c.in_ok-place.ensures.stays (passes_weaker (c.mark.ensures.stops from told (markable from there counted)) keeps (λ i. ⊎_elim (λ marks. inl (keeps i marks)) (λ used. inr (ends i used))))
 
 pub returns-in-Some-clause-cause : goal.returns-in-Some-clause-cause
 returns-in-Some-clause-cause g c =
@@ -191,7 +191,9 @@ returns-in-None-clause-stops g c from there counted =
     let told = ap (λ (t : Told). t.files) c.in_ok-place.ensures.stays ∙ there in
     let none : HaveNoRoom c.args.files.now kind c.args.blocks from = subst (λ (o : Option Blocks). IsFitting from (files_of c.args.files.now kind) c.args.blocks o) c.in-None.is (c.in_ok-place.ensures.fit from there (c.requires.agrees from there)) in
     let keeps : (i : Image) → ExtendsInProgress c.args.files.now kind from i × StaysWhole from i → AllocatesInProgress c.args.files.now kind c.args.blocks from i = (λ i extends. record { stage = inr (inr (none, extends.0)); stays = extends.1 }) in
-    passes_stayed c.in_ok-place.ensures.stays (passes_weaker (c.allocate_new.ensures.stops from told counted) keeps keeps)
+    let ends : (i : Image) → (ExtendsInProgress c.args.files.now kind from i ⊎ ExtendsAndAllocates c.args.files.now kind c.args.blocks from i) × StaysWhole from i → AllocatesOrStops c.args.files.now kind c.args.blocks from i =
+    (λ i both. ⊎_elim (λ (midst : ExtendsInProgress c.args.files.now kind from i). inl (keeps i (midst, both.1))) (λ (done : ExtendsAndAllocates c.args.files.now kind c.args.blocks from i). inr (record { choice = inr (none, done); stays = both.1 })) both.0) in
+    passes_stayed c.in_ok-place.ensures.stays (passes_weaker (c.allocate_new.ensures.stops from told counted) keeps ends)
 
 pub returns-in-None-clause-cause : goal.returns-in-None-clause-cause
 returns-in-None-clause-cause g c =

@@ -15,7 +15,7 @@ use Rattle.blk_alloc.specs.Counting.{IsCounted}
 use Rattle.blk_alloc.specs.Owning.{IsCause}
 use Rattle.blk_alloc.specs.Extending.{HasItsBlocks, HasMostBlocks, KeepsLinks, KeepsLists}
 use Rattle.blk_alloc.specs.Marking.{CanBeMarked, CountsUsed, IsDangling, MarksUsed, taking_of}
-use Rattle.blk_alloc.specs.Allocating.{Allocates, AreCounted, ExtendsAnd, ExtendsInProgress, IsChosen, IsCountedOnce, IsFull, IsRefusal, MakesRoomInProgress, updating_word}
+use Rattle.blk_alloc.specs.Allocating.{Allocates, AreCounted, ExtendsAnd, ExtendsAndAllocates, IsChosen, IsCountedOnce, IsFull, IsRefusal, MakesRoomInProgress, updating_word}
 use Rattle.blk_alloc.proofs.Causes.{if_damaged_both}
 use Rattle.blk_io.proofs.Carried.{carried, if_damaged_weaker, untold_where}
 use Rattle.blk_alloc.proofs.Links.{if_ok_on, links_then}
@@ -53,7 +53,7 @@ silent_start {old} {mid} P T stops made none = by_files old.files refl
 pub returns-in_err-place-clause-stops : goal.returns-in_err-place-clause-stops
 returns-in_err-place-clause-stops g c from there counted =
     let keeps = room_moment c.args.files.now (kind_number c.args.kind) from in
-    passes_weaker (c.in_err-place.ensures.stops from there) keeps keeps
+    passes_weaker (c.in_err-place.ensures.stops from there) keeps (λ i room. (inl (keeps i room).0, (keeps i room).1))
 
 pub returns-in_err-place-clause-cause : goal.returns-in_err-place-clause-cause
 returns-in_err-place-clause-cause g c =
@@ -119,13 +119,17 @@ returns-clause-stops g c from there counted =
     let room = c.in_ok-place.ensures.within from there mid.0 mid.1 in
     let stays = (passes_end (c.in_ok-place.ensures.stops from there) mid.0 mid.1).stays in
     let made = c.in_ok-place.ensures.made from there counted mid.0 mid.1 in
-    let file = word_file c.new_room.new.files c.args.kind c.args.count c.in_ok-place.place c.requires.some c.in_ok-place.ensures.fits in
-    let w : ℕ = block_word kind n c.in_ok-place.place.start c.in_ok-place.place.count in
+    let count : ℕ = c.args.count in
+    let w : ℕ = block_word kind n c.in_ok-place.place.start count in
+    let counted = c.in_ok-place.ensures.fits.counted in
+    let file : file_selector w ≡ n = subst (λ (k : ℕ). file_selector (block_word kind n c.in_ok-place.place.start k) ≡ n) counted (word_file c.new_room.new.files c.args.kind c.args.count c.in_ok-place.place c.requires.some c.in_ok-place.ensures.fits) in
     let first = room_moment c.args.files.now kind from in
     let keeps = (λ (i : Image). mark_moment c.args.files.now kind n from mid.0 i room stays) in
-    let ends : (i : Image) → MarksUsed c.new_room.new.files mid.0 w i → ExtendsInProgress c.args.files.now kind from i × StaysWhole from i =
-    (λ i used. marked_moment c.args.files.now c.new_room.new.files kind n w from mid.0 i file room stays used (given_made c.args.files.now c.new_room.new.files from mid.0 i c.in_ok-place.place w file c.in_ok-place.ensures.all made used)) in
-    passes_then (passes_weaker (c.in_ok-place.ensures.stops from there) first first) (passes_weaker (c.mark.ensures.stops mid.0 mid.1 made.takeable) keeps (λ i. ⊎_elim (keeps i) (ends i)))
+    let ends : (i : Image) → MarksUsed c.new_room.new.files mid.0 (block_word kind n c.in_ok-place.place.start c.in_ok-place.place.count) i → ExtendsAndAllocates c.args.files.now kind count from i × StaysWhole from i =
+    (λ i used. let is : MarksUsed c.new_room.new.files mid.0 w i = subst (λ (k : ℕ). MarksUsed c.new_room.new.files mid.0 (block_word kind n c.in_ok-place.place.start k) i) counted used in
+    marked_moment c.args.files.now c.new_room.new.files kind count c.in_ok-place.place from mid.0 i file (c.in_ok-place.ensures.place from there) room stays is (given_made c.args.files.now c.new_room.new.files from mid.0 i c.in_ok-place.place w file c.in_ok-place.ensures.all made is)) in
+    passes_then (passes_weaker (c.in_ok-place.ensures.stops from there) first first)
+    (passes_weaker (c.mark.ensures.stops mid.0 mid.1 made.takeable) keeps (λ i. ⊎_elim (λ marks. (inl (keeps i marks).0, (keeps i marks).1)) (λ used. (inr (ends i used).0, (ends i used).1))))
 
 pub returns-clause-cause : goal.returns-clause-cause
 returns-clause-cause g c =

@@ -11,10 +11,10 @@ use Rattle.std.specs.Option.{ForSome}
 use Rattle.blk_image.specs.Footprint.{SameOutside}
 use Rattle.blk_format.specs.BlockFiles.{max_entries_in, most_blocks}
 use Rattle.blk_io.specs.Faults.{IfDamaged}
-use Rattle.blk_alloc.specs.Owning.{FreesInProgress, IsCause}
+use Rattle.blk_alloc.specs.Owning.{FreesAtLast, FreesInProgress, IsCause}
 use Rattle.blk_io.proofs.Carried.{if_damaged_weaker, told_at_end}
 use Rattle.blk_alloc.proofs.Formed.{agrees_kept}
-use Rattle.blk_alloc.proofs.Freed.{free_ready, frees_moment, freed_is, standing_blocks}
+use Rattle.blk_alloc.proofs.Freed.{free_ready, frees_whole, freed_is, standing_blocks}
 use Rattle.blk_alloc.proofs.Members.{all_head}
 use Rattle.blk_alloc.proofs.freeing.free.Goals as goal
 
@@ -60,9 +60,9 @@ returns-clause-stops g c from there =
     let w = c.args.addr in
     let stops : PassesTo (g.F.Folder.told c.args.f.now) (g.F.Folder.told c.change.new.f) (IsMapInProgress (file_selector w) from) (λ image. IsMapInProgress (file_selector w) from image ⊎ IsChanged from (file_selector w) (first_block w) (block_count w) false image) =
     back (λ n s k. PassesTo (g.F.Folder.told c.args.f.now) (g.F.Folder.told c.change.new.f) (IsMapInProgress n from) (λ image. IsMapInProgress n from image ⊎ IsChanged from n s k false image)) w b.result.file b.result.start b.result.count b.ensures.file b.ensures.start b.ensures.count (c.change.ensures.stops from there) in
-    let midst : (image : Image) → IsMapInProgress (file_selector w) from image → FreesInProgress w from image = λ image is. frees_moment from image w is.same (inl is) in
-    let last : (image : Image) → IsChanged from (file_selector w) (first_block w) (block_count w) false image → FreesInProgress w from image = λ image is. frees_moment from image w is.same (inr (freed_is from image w (stands_blocky c.args.files.now w c.requires.stands) (standing_blocks c.args.files.now from w (c.requires.agrees from there) c.requires.stands) is)) in
-    passes_weaker stops midst (λ image. ⊎_elim (midst image) (last image))
+    let midst : (image : Image) → IsMapInProgress (file_selector w) from image → FreesInProgress w from image = λ image is. record { marks = is; stays = frees_whole from image w is.same } in
+    let last : (image : Image) → IsChanged from (file_selector w) (first_block w) (block_count w) false image → FreesAtLast w from image = λ image is. record { freed = freed_is from image w (stands_blocky c.args.files.now w c.requires.stands) (standing_blocks c.args.files.now from w (c.requires.agrees from there) c.requires.stands) is; stays = frees_whole from image w is.same } in
+    passes_weaker stops midst (λ image. ⊎_elim (λ is. inl (midst image is)) (λ is. inr (last image is)))
 
 pub returns-clause-agrees : goal.returns-clause-agrees
 returns-clause-agrees g c =
