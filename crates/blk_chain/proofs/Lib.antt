@@ -10,3 +10,4 @@ pub mod Searches
 pub mod Heads
 pub mod Pairs
 pub mod Examples
+pub mod LinkExamples

@@ -4,3 +4,4 @@ pub mod Unlinking
 pub mod Finding
 pub mod Mapping
 pub mod Examples
+pub mod LinkExamples

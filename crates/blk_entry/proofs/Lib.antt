@@ -9,3 +9,4 @@ pub mod NewImages
 pub mod NewShown
 pub mod NewClaims
 pub mod NewSingle
+pub mod Parts

@@ -31,7 +31,7 @@ use Rattle.blk_entry.proofs.NewPlaces.{length_kept}
 use Rattle.blk_entry.proofs.Windows.{not_external}
 
 -- a record and a node that are sealed check
-record_is_good : (new : NewEntry) (key : List ℕ) (moment : ℕ) → entry_checks (new_record new key moment) ≡ true
+pub record_is_good : (new : NewEntry) (key : List ℕ) (moment : ℕ) → entry_checks (new_record new key moment) ≡ true
 unfolding entry_checks entry_is_sealed new_record
 record_is_good new key moment = or_right ((new_record new key moment).self_hash == 0) _ (eq-eqb (new_record new key moment).self_hash _ refl)
 
@@ -62,19 +62,19 @@ external_stands image w address is some =
     by_file (Some bytes) some = refl
 
 -- fields of the record
-state_is : (new : NewEntry) (key : List ℕ) (moment : ℕ) → (new_record new key moment).state ≡ 0
+pub state_is : (new : NewEntry) (key : List ℕ) (moment : ℕ) → (new_record new key moment).state ≡ 0
 unfolding new_record
 state_is new key moment = refl
 
-back_is : (new : NewEntry) (key : List ℕ) (moment : ℕ) → (new_record new key moment).rankings_node ≡ new.node
+pub back_is : (new : NewEntry) (key : List ℕ) (moment : ℕ) → (new_record new key moment).rankings_node ≡ new.node
 unfolding new_record
 back_is new key moment = refl
 
-hash_is : (new : NewEntry) (key : List ℕ) (moment : ℕ) → (new_record new key moment).hash ≡ hash key
+pub hash_is : (new : NewEntry) (key : List ℕ) (moment : ℕ) → (new_record new key moment).hash ≡ hash key
 unfolding new_record
 hash_is new key moment = refl
 
-flags_is : (new : NewEntry) (key : List ℕ) (moment : ℕ) → (new_record new key moment).flags ≡ (if new.child then child else plain)
+pub flags_is : (new : NewEntry) (key : List ℕ) (moment : ℕ) → (new_record new key moment).flags ≡ (if new.child then child else plain)
 unfolding new_record
 flags_is new key moment = refl
 
@@ -84,7 +84,7 @@ unfolding new_record
 others_are new key moment = refl
 
 -- a record that checks loads as what it says
-checked_loads : (store : StoreView) (node contents dirty : ℕ) (fields : RecordFields) (answer : Result Loaded Reason) → fields.checks ≡ true → load_record store (unchained_rule normal) node contents dirty fields ≡ answer
+pub checked_loads : (store : StoreView) (node contents dirty : ℕ) (fields : RecordFields) (answer : Result Loaded Reason) → fields.checks ≡ true → load_record store (unchained_rule normal) node contents dirty fields ≡ answer
     → (demand fields.checks reason.Seal >>= (λ _. load_record store (unchained_rule normal) node contents dirty fields)) ≡ answer
 checked_loads store node contents dirty fields answer good is = ap (λ (b : Bool). demand b reason.Seal >>= (λ _. load_record store (unchained_rule normal) node contents dirty fields)) good ∙ is
 

@@ -106,7 +106,7 @@ module _ (files : BlockFiles) (new : NewEntry) (key : List ℕ) (fits : FitsKey 
   entry_blocky = not_external new.entry fits.entry_kind
 
   -- what is known of the claims of the long key
-  long_known : (repeats (claims_of (unwrap_or new.long_key 0)) ≡ false) × (((c : Claim) → has_claim (claims_of new.entry) c ≡ true → has_claim (claims_of (unwrap_or new.long_key 0)) c ≡ true → ⊥) × ((c : Claim) → has_claim (claims_of new.node) c ≡ true → has_claim (claims_of (unwrap_or new.long_key 0)) c ≡ true → ⊥))
+  pub long_known : (repeats (claims_of (unwrap_or new.long_key 0)) ≡ false) × (((c : Claim) → has_claim (claims_of new.entry) c ≡ true → has_claim (claims_of (unwrap_or new.long_key 0)) c ≡ true → ⊥) × ((c : Claim) → has_claim (claims_of new.node) c ≡ true → has_claim (claims_of (unwrap_or new.long_key 0)) c ≡ true → ⊥))
   long_known = by_place new.long_key fits.long lies (key_is_inside files new key fits)
     where
       by_place : (o : Option ℕ) → IsLongPlace files (length key) o → LiesApart new.entry o → IsInside files (address_of_key new.entry o) (before_key o) (length key + 1)

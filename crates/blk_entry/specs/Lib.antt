@@ -3,3 +3,4 @@ pub mod Keys
 pub mod Steps
 pub mod Writing
 pub mod Covering
+pub mod Parts

@@ -19,7 +19,7 @@ const PIECE: usize = 4096;
 /// Reads the word of the header at a place in bytes.
 ///
 /// Too few bytes are a damage. `Device` comes only where the folder failed in this call.
-pub fn word<F: Folder>(f: &mut F, at: u32) -> Result<u32, Fault>
+pub fn word<F: Folder>(f: &mut F, at: u64) -> Result<u32, Fault>
     requires aligned { at % 4 ≡ 0 }
     requires inside { at < header_length }
     ensures word { IfOk result (λ w. ForSome (F.told f.old).files (λ image. w ≡ word image index at)) }
@@ -33,7 +33,7 @@ pub fn word<F: Folder>(f: &mut F, at: u32) -> Result<u32, Fault>
     ensures later { F.faults f.old ≤ F.faults f.new }
     ensures device { IfDevice result (Rises (F.faults f.old) (F.faults f.new)) }
 {
-    read_word(f, FileId::Index, u64::from(at))
+    read_word(f, FileId::Index, at)
 }
 
 /// Reads the word of a bucket: the first address of its chain, or 0.
@@ -104,7 +104,7 @@ fn read_piece<F: Folder>(
 /// Writes the word of the header at a place in bytes, by one folder call.
 ///
 /// `Failed` comes only where the folder failed in this call.
-pub fn set_word<F: Folder>(f: &mut F, at: u32, value: u32) -> Result<(), Failed>
+pub fn set_word<F: Folder>(f: &mut F, at: u64, value: u32) -> Result<(), Failed>
     requires aligned { at % 4 ≡ 0 }
     requires inside { at < header_length }
     requires complete { ForSome (F.told f.old).files HasWholeIndex }
@@ -118,7 +118,7 @@ pub fn set_word<F: Folder>(f: &mut F, at: u32, value: u32) -> Result<(), Failed>
     ensures later { F.faults f.old ≤ F.faults f.new }
     ensures failed { OnErr result (Rises (F.faults f.old) (F.faults f.new)) }
 {
-    write_word(f, FileId::Index, u64::from(at), value)
+    write_word(f, FileId::Index, at, value)
 }
 
 /// Writes the word of a bucket, by one folder call: the first address of its chain, or 0.

@@ -23,9 +23,9 @@ use blk_io::{Damage, Fault, FileId, Folder};
 use blk_record::{IndexHead, NodeView};
 
 // The places of the first and the last node in the index.
-pub(crate) const HEAD: u32 = IndexHead::HEADS as u32;
+pub(crate) const HEAD: u64 = IndexHead::HEADS;
 
-pub(crate) const TAIL: u32 = IndexHead::TAILS as u32;
+pub(crate) const TAIL: u64 = IndexHead::TAILS;
 
 /// The node that was used last, or `None` where the list is empty, by one folder call.
 ///
@@ -122,7 +122,7 @@ fn unless_same(node: Addr, other: Addr) -> Option<Addr>
 pub(crate) fn end_of_list<F: Folder>(
     f: &mut F,
     files: &BlockFiles,
-    at: u32,
+    at: u64,
 ) -> Result<Option<Addr>, Fault>
     requires aligned { at % 4 ≡ 0 }
     requires inside { at < header_length }
@@ -141,7 +141,6 @@ pub(crate) fn end_of_list<F: Folder>(
     }
     let Some(node) = files.node(found) else {
         let file = FileId::Index;
-        let at = u64::from(at);
         return Err(Fault::Damaged(Damage { file, at, found }));
     };
     Ok(Some(node))

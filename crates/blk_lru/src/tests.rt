@@ -114,7 +114,7 @@ fn node_word<F: Folder>(f: &mut F, word: u32, at: u32) -> Result<u32, Fault> {
 fn shown<F: Folder>(f: &mut F) -> Result<([u32; 4], [u32; 3], [u32; 3]), Fault> {
     let mut words = [0; 4];
     for (slot, at) in words.iter_mut().zip([HEAD, TAIL, TRANSACTION, OPERATION]) {
-        *slot = read_word(f, FileId::Index, u64::from(at))?;
+        *slot = read_word(f, FileId::Index, at)?;
     }
     let mut nexts = [0; 3];
     let mut prevs = [0; 3];
@@ -284,7 +284,7 @@ fn changes_take_few_calls(rt: HostRuntime) -> Result<(), Fail> {
 // The nodes from the head on, as far as each checks and has the one before it as its previous one, and then zeros.
 fn walked<F: Folder>(f: &mut F) -> Result<[u32; 3], Fault> {
     let mut order = [0; 3];
-    let mut word = read_word(f, FileId::Index, u64::from(HEAD))?;
+    let mut word = read_word(f, FileId::Index, HEAD)?;
     let mut before = word;
     for slot in order.iter_mut() {
         if word == 0 {
@@ -422,8 +422,8 @@ fn in_flight(
     broken: Option<u32>,
 ) -> Result<(Silent, BlockFiles), Fail> {
     let (mut f, files) = listing(alloc, &NODES)?;
-    write_word(&mut f, FileId::Index, u64::from(OPERATION), operation)?;
-    write_word(&mut f, FileId::Index, u64::from(TRANSACTION), transaction)?;
+    write_word(&mut f, FileId::Index, OPERATION, operation)?;
+    write_word(&mut f, FileId::Index, TRANSACTION, transaction)?;
     if let Some(node) = broken {
         let seal = 1u32.to_le_bytes();
         f.write_at(FileId::Block(0), place_of(node, SEAL), &seal)?;
@@ -516,7 +516,7 @@ fn with_word(
 // And where a file is cut.
 fn cut(alloc: Global, call: Call, file: FileId, size: u64) -> Result<Result<(), Fault>, Fail> {
     let (mut f, files) = listing(alloc, &NODES)?;
-    write_word(&mut f, FileId::Index, u64::from(TRANSACTION), NODES[1])?;
+    write_word(&mut f, FileId::Index, TRANSACTION, NODES[1])?;
     f.set_len(file, size)?;
     Ok(outcome(&mut f, &files, call, NODES[1]))
 }
@@ -527,14 +527,14 @@ fn words_that_name_no_node_are_damages(rt: HostRuntime) -> Result<(), Fail> {
     let prev = place_of(NODES[1], NodeView::PREV);
     let next = place_of(NODES[1], NodeView::NEXT);
     for (call, file, at) in [
-        (Call::First, FileId::Index, u64::from(HEAD)),
-        (Call::Last, FileId::Index, u64::from(TAIL)),
+        (Call::First, FileId::Index, HEAD),
+        (Call::Last, FileId::Index, TAIL),
         (Call::Before, nodes, prev),
         (Call::After, nodes, next),
-        (Call::Insert, FileId::Index, u64::from(HEAD)),
+        (Call::Insert, FileId::Index, HEAD),
         (Call::Remove, nodes, prev),
         (Call::Remove, nodes, next),
-        (Call::Touch, FileId::Index, u64::from(HEAD)),
+        (Call::Touch, FileId::Index, HEAD),
         (Call::Touch, nodes, prev),
     ] {
         let found = 0x9000_0400;
@@ -579,15 +579,15 @@ fn short_reads_are_damages(rt: HostRuntime) -> Result<(), Fail> {
     let nodes = FileId::Block(0);
     let node = place_of(NODES[1], 0);
     for (call, file, at, found) in [
-        (Call::First, FileId::Index, u64::from(HEAD), 3),
-        (Call::Last, FileId::Index, u64::from(TAIL), 0),
+        (Call::First, FileId::Index, HEAD, 3),
+        (Call::Last, FileId::Index, TAIL, 0),
         (Call::Before, nodes, place_of(NODES[1], NodeView::PREV), 2),
         (Call::After, nodes, place_of(NODES[1], NodeView::NEXT), 1),
-        (Call::Insert, FileId::Index, u64::from(HEAD), 2),
+        (Call::Insert, FileId::Index, HEAD, 2),
         (Call::Remove, nodes, place_of(NODES[1], NodeView::NEXT), 3),
-        (Call::Touch, FileId::Index, u64::from(HEAD), 0),
-        (Call::Pending, FileId::Index, u64::from(TRANSACTION), 2),
-        (Call::Pending, FileId::Index, u64::from(OPERATION), 1),
+        (Call::Touch, FileId::Index, HEAD, 0),
+        (Call::Pending, FileId::Index, TRANSACTION, 2),
+        (Call::Pending, FileId::Index, OPERATION, 1),
         (Call::Pending, nodes, node, 35),
         (Call::Complete, nodes, node, 20),
     ] {

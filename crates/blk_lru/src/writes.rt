@@ -23,9 +23,9 @@ use blk_io::{Fault, Folder};
 use blk_record::{IndexHead, NodeView};
 
 // The places of the operation in flight and of its node in the index.
-pub(crate) const TRANSACTION: u32 = IndexHead::TRANSACTION as u32;
+pub(crate) const TRANSACTION: u64 = IndexHead::TRANSACTION;
 
-pub(crate) const OPERATION: u32 = IndexHead::OPERATION as u32;
+pub(crate) const OPERATION: u64 = IndexHead::OPERATION;
 
 /// A word of the use list becomes another one.
 #[derive(Clone, Copy, Debug)]
@@ -120,7 +120,7 @@ fn set_link<F: Folder>(
 }
 
 // Writes a word of the index.
-fn set_index<F: Folder>(f: &mut F, at: u32, word: u32) -> Result<(), Fault>
+fn set_index<F: Folder>(f: &mut F, at: u64, word: u32) -> Result<(), Fault>
     requires aligned { at % 4 ≡ 0 }
     requires inside { at < header_length }
     requires complete { ForSome (F.told f.old).files HasWholeIndex }

@@ -3,7 +3,7 @@ ghost use Rattle.std.specs.Prelude.{◌≡◌, ℕ, ◌+◌, ◌*◌};
 ghost use Rattle.blk_image.specs.Bytes.{half_at, long_at, word_at, words_at};
 ghost use Rattle.blk_format.specs.Address.{header_size};
 ghost use Rattle.blk_format.specs.BlockFiles.{most_blocks};
-ghost use Rattle.blk_format.specs.Headers.{allocations_of, block_fields_length, block_magic, create_time_of, empty_of, header_length, heads_of, index_length, index_magic, last_file_of, max_entries_of, next_file_of, operation_of, place_of_bucket, table_len_of, table_length, tails_of, transaction_of, updating_of, version};
+ghost use Rattle.blk_format.specs.Headers.{allocations_of, block_fields_length, block_magic, create_time_of, empty_of, header_length, heads_of, index_length, index_magic, last_file_of, max_entries_of, next_file_of, num_bytes_of, num_entries_of, operation_of, place_of_bucket, sizes_of, table_len_of, table_length, tails_of, transaction_of, updating_of, version};
 ghost use Rattle.blk_format.specs.Maps.{map_place};
 ghost use Rattle.blk_format.specs.Records.{entry_in, node_in};
 ghost use Rattle.blk_format.specs.SparseIndex.{sparse_head_length};
@@ -15,6 +15,7 @@ pub fn index_heads_have_the_places_of_the_format()
     ensures lengths { (IndexHead.LEN ≡ header_length) × (IndexHead.INDEX_LEN ≡ index_length) }
     ensures numbers { (IndexHead.MAGIC ≡ index_magic) × (IndexHead.VERSION ≡ version) × (IndexHead.BUCKETS ≡ table_length) }
     ensures words { (f : ℕ → ℕ) → (last_file_of f ≡ word_at f IndexHead.LAST_FILE) × (table_len_of f ≡ word_at f IndexHead.TABLE_LEN) × (create_time_of f ≡ long_at f IndexHead.CREATE_TIME) }
+    ensures counters { (f : ℕ → ℕ) → (num_entries_of f ≡ word_at f IndexHead.NUM_ENTRIES) × (num_bytes_of f ≡ word_at f IndexHead.NUM_BYTES) × (sizes_of f 0 ≡ word_at f IndexHead.SIZES) }
     ensures list { (f : ℕ → ℕ) → (heads_of f 0 ≡ word_at f IndexHead.HEADS) × (tails_of f 0 ≡ word_at f IndexHead.TAILS) × (transaction_of f ≡ word_at f IndexHead.TRANSACTION) × (operation_of f ≡ word_at f IndexHead.OPERATION) }
     ensures table { (b : ℕ) → place_of_bucket b ≡ IndexHead.TABLE + 4 * b }
 {}
@@ -37,6 +38,8 @@ pub fn sparse_heads_have_the_length_of_the_format()
 #[tactic(auto, unfolding(blk_format::specs::Records::entry_in))]
 pub fn entry_records_have_the_places_of_the_format()
     ensures chain { (f : ℕ → ℕ) (at : ℕ) → ((entry_in f at).hash ≡ word_at f (at + EntryView.HASH)) × ((entry_in f at).next ≡ word_at f (at + EntryView.NEXT)) }
+    ensures node { (f : ℕ → ℕ) (at : ℕ) → (entry_in f at).rankings_node ≡ word_at f (at + EntryView.NODE) }
+    ensures created { (f : ℕ → ℕ) (at : ℕ) → (entry_in f at).creation_time ≡ long_at f (at + EntryView.CREATION_TIME) }
     ensures key { (f : ℕ → ℕ) (at : ℕ) → ((entry_in f at).key_len ≡ word_at f (at + EntryView.KEY_LEN)) × ((entry_in f at).long_key ≡ word_at f (at + EntryView.LONG_KEY)) }
     ensures streams { (f : ℕ → ℕ) (at : ℕ) → ((entry_in f at).data_size ≡ words_at f (at + EntryView.DATA_SIZE) 4) × ((entry_in f at).data_addr ≡ words_at f (at + EntryView.DATA_ADDR) 4) }
     ensures flags { (f : ℕ → ℕ) (at : ℕ) → (entry_in f at).flags ≡ word_at f (at + EntryView.FLAGS) }

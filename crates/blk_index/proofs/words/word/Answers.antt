@@ -5,5 +5,5 @@ use Rattle.blk_index.proofs.words.word.Goals as goal
 
 pub returns-clause-untold : goal.returns-clause-untold
 returns-clause-untold g c whole =
-    untold_if c.read_word.result (g.F.Folder.told c.args.f.now) Index c.from.result 4 c.read_word.ensures.short
-    (λ image there. let size = whole image there in omega (arith, size, c.from.ensures, c.requires.aligned, c.requires.inside))
+    untold_if c.read_word.result (g.F.Folder.told c.args.f.now) Index c.args.at 4 c.read_word.ensures.short
+    (λ image there. let size = whole image there in omega (arith, size, c.requires.aligned, c.requires.inside))
