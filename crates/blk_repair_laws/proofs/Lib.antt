@@ -1,0 +1,13 @@
+pub mod EndRepair
+pub mod Same
+pub mod ListRepair
+pub mod Paths
+pub mod Frames
+pub mod RecordWords
+pub mod ChainRepair
+pub mod OwnClaims
+pub mod MendedLinks
+pub mod LinkRepair
+pub mod MendedChanges
+pub mod Rows
+pub mod FoundHolding

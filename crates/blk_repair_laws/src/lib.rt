@@ -1,0 +1,55 @@
+//! The laws of repair, each the contract of a function with an empty body: at each word of the repair the same is kept and found, and in the end the folder stands for what it holds.
+#![tactic(auto)]
+
+ghost use Rattle.blk_repair_laws.specs.EndRepair.{EndsAreMended};
+ghost use Rattle.blk_repair_laws.specs.ListRepair.{ListsAreRepaired};
+ghost use Rattle.blk_repair_laws.specs.ChainRepair.{ChainsAreRepaired};
+ghost use Rattle.blk_repair_laws.specs.LinkRepair.{LinksAreRepaired};
+ghost use Rattle.blk_repair_laws.specs.MendedLinks.{MendedLinksRepresent};
+ghost use Rattle.blk_repair_laws.specs.MendedChanges.{MendedLinksStayOutside, MendedLinksMayGrow, RecordsMayBeSealed, NodesMayBeSealed};
+ghost use Rattle.blk_repair_laws.specs.Mended.{MendedFoldersStandFor, MendedFoldersAreSound};
+ghost use Rattle.blk_repair_laws.specs.FoundHolding.{FoundIsAHolding};
+
+/// While the end of a list is mended the same nodes are walked; in the end the list is whole.
+pub fn ends_are_mended()
+    ensures { EndsAreMended }
+{}
+
+/// At each word of the repair of the list the same is kept and found; in the end the list is that of the kept nodes.
+pub fn lists_are_repaired()
+    ensures { ListsAreRepaired }
+{}
+
+/// At each word of the repair of the chains the same is kept and found; in the end each chain is that of the kept records of its bucket.
+pub fn chains_are_repaired()
+    ensures { ChainsAreRepaired }
+{}
+
+/// Both, one after the other: of every well-formed image the same is kept and found at each word, and in the end its links are mended.
+pub fn links_are_repaired()
+    ensures { LinksAreRepaired }
+{}
+
+/// A folder whose links are mended represents what it holds, opened.
+pub fn mended_links_represent()
+    ensures { MendedLinksRepresent }
+{}
+
+/// Mended links stay mended, with the same kept and found, where what isn't kept changes, where block files grow, and at each word of a seal.
+pub fn mended_links_stay_mended()
+    ensures outside { MendedLinksStayOutside }
+    ensures grow { MendedLinksMayGrow }
+    ensures records { RecordsMayBeSealed }
+    ensures nodes { NodesMayBeSealed }
+{}
+
+/// A mended folder stands for what it holds, opened, and is sound.
+pub fn mended_folders_stand_for()
+    ensures stands { MendedFoldersStandFor }
+    ensures sound { MendedFoldersAreSound }
+{}
+
+/// Of every image of bytes what is found is a valid holding.
+pub fn found_is_a_holding()
+    ensures { FoundIsAHolding }
+{}
