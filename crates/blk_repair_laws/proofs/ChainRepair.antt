@@ -27,6 +27,9 @@ use Rattle.blk_volume.specs.Found.{kept, found, row_of}
 use Rattle.blk_volume.specs.Footprint.{IsClear}
 use Rattle.blk_volume.specs.ListImages.{IsWritable, walked}
 use Rattle.blk_volume.specs.ShownChanges.{OnlyChainNextChanges}
+use Rattle.blk_laws.proofs.Central.{walk-idle}
+use Rattle.blk_laws.proofs.Walked.{walk-once}
+use Rattle.blk_repair_laws.proofs.ListRepair.{append-one}
 use Rattle.blk_laws.proofs.ChainLinks.{others-stay}
 use Rattle.blk_format.proofs.Finished.{well_formed-finished}
 use Rattle.blk_laws.proofs.ListWrites.{put-here, put-else}
@@ -36,7 +39,6 @@ use Rattle.blk_volume.specs.Audit.{kept_as, is_kept, kept_nodes}
 use Rattle.blk_repair_laws.specs.ListRepair.{HoldsTheSame}
 use Rattle.blk_repair_laws.specs.Paths.{Path, IsPath, skip}
 use Rattle.blk_repair_laws.specs.ChainRepair.{is_kept_record, kept_records, bucket_steps, next_steps, link_steps, chain_steps, chains_steps, chain_repair_steps, KeepsAll, ChainsAreRepaired}
-use Rattle.blk_repair_laws.proofs.EndRepair.{walked-is, idle-walk}
 use Rattle.blk_repair_laws.proofs.Frames.{OnlyLinks, apart-clear, own-clear, load-chained, IsRecordOf, record-of, load-linked}
 use Rattle.blk_laws.proofs.Kept.{kept-shown}
 use Rattle.blk_repair_laws.proofs.Paths.{on-path, chain-path, chain-stays, skip-path, skip-few, skip-has, skip-once, suffix-once, suffix-few, suffix-has, path-linked, suffix-apart, skip-apart, path-suffix, path-whole, end-suffix}
@@ -104,17 +106,12 @@ skip-none : (test : ℕ → Bool) (xs : List ℕ) → filter test xs ≡ [] → 
 skip-none test [] e = refl
 skip-none test (x ∷ xs) e = ⊎_elim (λ (good : test x ≡ true). let is : x ∷ filter test xs ≡ [] = rw good at e in cc) (λ (bad : test x ≡ false). rw bad (skip-none test xs (rw bad at e))) (cases_Bool (test x))
 
-append-one : (prefix : List ℕ) (c : ℕ) (suffix : List ℕ) → (prefix ++ c ∷ []) ++ suffix ≡ prefix ++ c ∷ suffix
-append-one [] c suffix = refl
-append-one (x ∷ prefix) c suffix = ap (λ (ys : List ℕ). x ∷ ys) (append-one prefix c suffix)
-
 module _ (from : Image) (well_from : IsWellFormed from) (all : KeepsAll from) where
   abbrev pub given : ℕ → Option Loaded
   given = kept_as (store_of from) held_rule (walked from)
 
   once : Distinct (walked from)
-  unfolding walk
-  once = (walked-is (list_of from).checks (list_of from).next (list_of from).prev 131072 [] (list_of from).head (list_of from).head).distinct
+  once = walk-once (list_of from)
 
   pub shown : IsShown (store_of from) held_rule (walked from) given
   shown = subst (λ (ns : List ℕ). IsShown (store_of from) held_rule ns given) all.all_kept (kept-shown (store_of from) held_rule (walked from) once)
@@ -131,7 +128,7 @@ module _ (from : Image) (well_from : IsWellFormed from) (all : KeepsAll from) wh
 
   pub kept-from : kept from ≡ filter_map given (walked from)
   unfolding kept kept_among
-  kept-from = ap (kept_among (store_of from) held_rule) (idle-walk (list_of from) all.idle)
+  kept-from = ap (kept_among (store_of from) held_rule) (walk-idle (list_of from) all.idle)
 
   -- the list is as it was, and each kept node loads as it did
   record IsSteady (i : Image) : Type 0 where
@@ -156,7 +153,7 @@ module _ (from : Image) (well_from : IsWellFormed from) (all : KeepsAll from) wh
   unfolding found kept
   steady-holds i s =
       let keeps : kept i ≡ kept from =
-      ap (λ (l : ListView). kept_among (store_of i) held_rule (walk (completed_list l))) s.list ∙ ap (kept_among (store_of i) held_rule) (idle-walk (list_of from) all.idle)
+      ap (λ (l : ListView). kept_among (store_of i) held_rule (walk (completed_list l))) s.list ∙ ap (kept_among (store_of i) held_rule) (walk-idle (list_of from) all.idle)
       ∙ kept-given (store_of i) held_rule (walked from) given (steady-shown i s) ∙ sym kept-from in
       record {
         well_formed = s.well_formed;
@@ -214,9 +211,6 @@ module _ (from : Image) (well_from : IsWellFormed from) (all : KeepsAll from) wh
   of-test c e = kept-in (walked from) c (λ x h. h) (ap (λ (ks : List Loaded). is_kept_record ks c) (sym kept-from) ∙ e)
 
   -- ---- one link
-
-  eqb-back : (a b : ℕ) → (a == b) ≡ false → (b == a) ≡ false
-  eqb-back a b e = ⊎_elim (λ (f : (eqb b a ≡ true) × (b ≡ a)). let t : (a == b) ≡ true = eq-eqb a b (sym f.1) in cc) (λ (f : (eqb b a ≡ false) × _). f.0) (eqb_tells b a)
 
   some-one : {k l : Loaded} → ◌≡◌ {A = Option Loaded} (Some k) (Some l) → k ≡ l
   some-one e = cc

@@ -1,5 +1,5 @@
 -- The end of the use list, mended.
-use Rattle.std.proofs.Common.{◌≡◌, ℕ, zero, suc, ◌≤◌, Bool, true, false, not, ◌&&◌, List, [], ◌∷◌, ◌++◌, length, refl, sym, ap, ◌∙◌, subst, ⊎_elim, arith}
+use Rattle.std.proofs.Common.{◌≡◌, ℕ, zero, suc, ◌≤◌, Bool, true, false, not, ◌&&◌, List, [], ◌∷◌, ◌++◌, length, refl, sym, ◌∙◌, subst, ⊎_elim, arith}
 use Rattle.std.specs.Prelude.{◌==◌}
 use Rattle.std.proofs.lemmas.Bool.{cases_Bool, eqb-true, or_parts}
 use Rattle.blk_format.specs.BlockFiles.{is_among}
@@ -8,11 +8,10 @@ use Rattle.blk_volume.specs.Completion.{completed_list}
 use Rattle.blk_volume.specs.ListPlans.{AtEachWrite}
 use Rattle.blk_volume.specs.Walk.{walk, walk_from}
 use Rattle.blk_volume.specs.ListView.{IsAtRest}
-use Rattle.blk_laws.proofs.ListWrites.{outcome_done}
-use Rattle.blk_laws.proofs.ListCompletions.{at_moment, walk_outcome}
+use Rattle.blk_laws.proofs.Central.{walk-idle}
+use Rattle.blk_laws.proofs.ListCompletions.{at_moment}
 use Rattle.blk_laws.proofs.Lists.{reend, eqb-sym}
 use Rattle.blk_laws.proofs.Walks.{Fresh, walk_list}
-use Rattle.blk_laws.proofs.WordStops.{walk_rested}
 use Rattle.blk_repair_laws.specs.EndRepair.{unless, end_writes_of, end_writes, EndsAreMended}
 
 -- what was not met, with one more node met
@@ -87,10 +86,6 @@ module _ (checks : ℕ → Bool) (next prev : ℕ → ℕ) where
       (λ (stops : (checks word && not (is_among met word) && (prev word == before)) ≡ false). rw stops (none_walked (suc most) met before word))
       (cases_Bool (checks word && not (is_among met word) && (prev word == before)))
 
--- where no operation is in flight the completed list is walked as it is
-pub idle-walk : (list : ListView) → list.transaction ≡ 0 → walk (completed_list list) ≡ walk list
-idle-walk list idle = walk_outcome list ∙ ap walk (outcome_done list idle) ∙ walk_rested list
-
 -- the tail isn't read by the walk
 walk-tail : (list : ListView) (word : ℕ) → walk (record list { tail = word }) ≡ walk list
 unfolding walk
@@ -138,18 +133,18 @@ module _ (list : ListView) (idle : list.transaction ≡ 0) (zero_bad : list.chec
   no_nodes : walk list ≡ [] → (a b : Bool) → (list.head == 0) ≡ a → (list.tail == 0) ≡ b
       → AtEachWrite (λ other. walk (completed_list other) ≡ []) (unless a (Head 0) ++ unless b (Tail 0)) list × IsAtRest (after_writes (unless a (Head 0) ++ unless b (Tail 0)) list) []
   no_nodes none true true a b =
-      (idle-walk list idle ∙ none, none_first none list idle (eqb-true list.head 0 a) (eqb-true list.tail 0 b) zero_bad)
+      (walk-idle list idle ∙ none, none_first none list idle (eqb-true list.head 0 a) (eqb-true list.tail 0 b) zero_bad)
   no_nodes none true false a b =
       let end : IsAtRest (record list { tail = 0 }) [] = none_first none (record list { tail = 0 }) idle (eqb-true list.head 0 a) refl zero_bad in
-      ((idle-walk list idle ∙ none, idle-walk (record list { tail = 0 }) idle ∙ walk_list (record list { tail = 0 }) [] end.whole), end)
+      ((walk-idle list idle ∙ none, walk-idle (record list { tail = 0 }) idle ∙ walk_list (record list { tail = 0 }) [] end.whole), end)
   no_nodes none false true a b =
       let end : IsAtRest (record list { head = 0 }) [] = none_first none (record list { head = 0 }) idle refl (eqb-true list.tail 0 b) zero_bad in
-      ((idle-walk list idle ∙ none, idle-walk (record list { head = 0 }) idle ∙ walk_list (record list { head = 0 }) [] end.whole), end)
+      ((walk-idle list idle ∙ none, walk-idle (record list { head = 0 }) idle ∙ walk_list (record list { head = 0 }) [] end.whole), end)
   no_nodes none false false a b =
       let end : IsAtRest (record list { head = 0; tail = 0 }) [] = none_first none (record list { head = 0; tail = 0 }) idle refl refl zero_bad in
-      let last : walk (completed_list (record list { head = 0; tail = 0 })) ≡ [] = idle-walk (record list { head = 0; tail = 0 }) idle ∙ walk_list (record list { head = 0; tail = 0 }) [] end.whole in
-      let middle : walk (completed_list (record list { head = 0 })) ≡ [] = idle-walk (record list { head = 0 }) idle ∙ sym (walk-tail (record list { head = 0 }) 0) ∙ walk_list (record list { head = 0; tail = 0 }) [] end.whole in
-      ((idle-walk list idle ∙ none, (middle, last)), end)
+      let last : walk (completed_list (record list { head = 0; tail = 0 })) ≡ [] = walk-idle (record list { head = 0; tail = 0 }) idle ∙ walk_list (record list { head = 0; tail = 0 }) [] end.whole in
+      let middle : walk (completed_list (record list { head = 0 })) ≡ [] = walk-idle (record list { head = 0 }) idle ∙ sym (walk-tail (record list { head = 0 }) 0) ∙ walk_list (record list { head = 0; tail = 0 }) [] end.whole in
+      ((walk-idle list idle ∙ none, (middle, last)), end)
 
   some_nodes : (node : ℕ) (nodes : List ℕ) → walk list ≡ node ∷ nodes → (a b : Bool) → (list.next (last_or node nodes) == last_or node nodes) ≡ a → (list.tail == last_or node nodes) ≡ b
       → AtEachWrite (λ other. walk (completed_list other) ≡ node ∷ nodes) (unless a (Next (last_or node nodes) (last_or node nodes)) ++ unless b (Tail (last_or node nodes))) list
@@ -172,7 +167,7 @@ module _ (list : ListView) (idle : list.transaction ≡ 0) (zero_bad : list.chec
     right = right-nodes list idle zero_bad node nodes walked
 
     before : walk (completed_list list) ≡ node ∷ nodes
-    before = idle-walk list idle ∙ is
+    before = walk-idle list idle ∙ is
 
     tailed : (other : ListView) → other.tail ≡ last → record other { tail = last } ≡ other
     tailed other e = λ i. record { head = other.head; tail = sym e i; transaction = other.transaction; operation = other.operation; checks = other.checks; next = other.next; prev = other.prev }
@@ -182,13 +177,13 @@ module _ (list : ListView) (idle : list.transaction ≡ 0) (zero_bad : list.chec
     cases true true a b = (before, record { whole = subst (λ (l : ListView). IsList l (node ∷ nodes)) (tailed list (eqb-true list.tail last b)) (right (eqb-true (list.next last) last a)); idle = idle })
     cases true false a b =
         let end : IsList (record list { tail = last }) (node ∷ nodes) = right (eqb-true (list.next last) last a) in
-        ((before, idle-walk (record list { tail = last }) idle ∙ walk_list (record list { tail = last }) (node ∷ nodes) end), record { whole = end; idle = idle })
+        ((before, walk-idle (record list { tail = last }) idle ∙ walk_list (record list { tail = last }) (node ∷ nodes) end), record { whole = end; idle = idle })
     cases false true a b =
         let end : IsList linked (node ∷ nodes) = subst (λ (l : ListView). IsList l (node ∷ nodes)) (tailed linked (eqb-true list.tail last b)) whole in
-        ((before, idle-walk linked idle ∙ walk_list linked (node ∷ nodes) end), record { whole = end; idle = idle })
+        ((before, walk-idle linked idle ∙ walk_list linked (node ∷ nodes) end), record { whole = end; idle = idle })
     cases false false a b =
-        let middle : walk (completed_list linked) ≡ node ∷ nodes = idle-walk linked idle ∙ sym (walk-tail linked last) ∙ walk_list (record linked { tail = last }) (node ∷ nodes) whole in
-        ((before, (middle, idle-walk (record linked { tail = last }) idle ∙ walk_list (record linked { tail = last }) (node ∷ nodes) whole)), record { whole = whole; idle = idle })
+        let middle : walk (completed_list linked) ≡ node ∷ nodes = walk-idle linked idle ∙ sym (walk-tail linked last) ∙ walk_list (record linked { tail = last }) (node ∷ nodes) whole in
+        ((before, (middle, walk-idle (record linked { tail = last }) idle ∙ walk_list (record linked { tail = last }) (node ∷ nodes) whole)), record { whole = whole; idle = idle })
 
   -- for each list of nodes
   by_nodes : (nodes : List ℕ) → walk list ≡ nodes → AtEachWrite (λ other. walk (completed_list other) ≡ nodes) (end_writes_of list nodes) list × IsAtRest (after_writes (end_writes_of list nodes) list) nodes

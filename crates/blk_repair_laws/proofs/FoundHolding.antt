@@ -30,7 +30,7 @@ use Rattle.blk_laws.proofs.Loads.{load-then}
 use Rattle.blk_laws.proofs.Shown.{is_among-filter, role-name}
 use Rattle.blk_repair_laws.specs.FoundHolding.{FoundIsAHolding}
 use Rattle.blk_volume.specs.Audit.{kept_as, is_kept, kept_nodes}
-use Rattle.blk_repair_laws.proofs.EndRepair.{walked-is}
+use Rattle.blk_laws.proofs.Walked.{walk-once}
 use Rattle.blk_laws.proofs.Kept.{kept-shown}
 use Rattle.blk_repair_laws.proofs.Rows.{row-is}
 
@@ -42,8 +42,7 @@ module _ (image : Image) (are : AreBytes image) where
   given = kept_as (store_of image) held_rule (walk (completed_list (list_of image)))
 
   once : Distinct nodes
-  unfolding walk
-  once = let l = completed_list (list_of image) in (walked-is l.checks l.next l.prev 131072 [] l.head l.head).distinct
+  once = walk-once (completed_list (list_of image))
 
   shown : IsShown (store_of image) held_rule (kept_nodes (store_of image) held_rule nodes) given
   shown = kept-shown (store_of image) held_rule nodes once

@@ -1,29 +1,25 @@
 -- Kept records load as before where a link of one of them changes.
-use Rattle.std.proofs.Common.{◌≡◌, ◌⊎◌, ℕ, suc, ◌+◌, List, [], ◌∷◌, ◌++◌, refl, ap, ap₂, sym, ◌∙◌, subst, ⊎_elim, Bool, true, false, Some, Ok}
-use Rattle.std.specs.Prelude.{not, ◌||◌, ◌==◌, nat_le, slice_index}
+use Rattle.std.proofs.Common.{◌≡◌, ◌⊎◌, ℕ, suc, ◌+◌, List, [], ◌∷◌, ◌++◌, refl, ap, sym, ◌∙◌, subst, ⊎_elim, Bool, true, false, Some, Ok}
+use Rattle.std.specs.Prelude.{not, ◌||◌, nat_le, slice_index}
 use Rattle.std.specs.List.{list_any, flat_map}
-use Rattle.std.proofs.lemmas.Bool.{cases_Bool, and_parts, eqb-true, or_parts}
+use Rattle.std.proofs.lemmas.Bool.{cases_Bool, eqb-true, or_parts}
 use Rattle.std.proofs.lemmas.List.Folds.{list_any-append}
 use Rattle.blk_format.specs.Hash.{hash}
 use Rattle.blk_format.specs.BlockFiles.{is_among}
-use Rattle.blk_format.specs.Claims.{Claim, BlockOf, ExternalOf, same_claim, claims_of, has_claim, overlap, repeats}
+use Rattle.blk_format.specs.Claims.{Claim, same_claim, claims_of, has_claim, overlap, repeats}
 use Rattle.blk_volume.specs.View.{StoreView, RecordFields, data_size_of, address_of}
 use Rattle.blk_volume.specs.Chains.{chain, bucket_of_hash}
 use Rattle.blk_volume.specs.Entries.{is_key_length, longest_short_key, key_of, stream_of, streams_of}
 use Rattle.blk_volume.specs.Loads.{Rule, held_rule, Loaded, load, record_claims, all_claims}
 use Rattle.blk_volume.specs.Shown.{Apart}
 use Rattle.blk_volume.specs.Footprint.{IsClear}
+use Rattle.blk_laws.proofs.ClaimLists.{contents-claims}
+use Rattle.blk_laws.proofs.Laid.{same_claim-eq}
 use Rattle.blk_laws.proofs.Loads.{load-then}
 use Rattle.blk_laws.proofs.Loading.{load-from}
 use Rattle.blk_laws.proofs.Outside.{AreClear, all-clear, index-claims}
 
 -- ---- claims
-
-same_claim-is : (c d : Claim) → same_claim c d ≡ true → c ≡ d
-same_claim-is (BlockOf f b) (BlockOf g c) e = let p = and_parts (f == g) (b == c) e in ap₂ BlockOf (eqb-true f g p.0) (eqb-true b c p.1)
-same_claim-is (BlockOf f b) (ExternalOf n) e = cc
-same_claim-is (ExternalOf n) (BlockOf f b) e = cc
-same_claim-is (ExternalOf m) (ExternalOf n) e = ap ExternalOf (eqb-true m n e)
 
 -- what the one has of claims that don't overlap the other has not
 pub apart-claim : (xs ys : List Claim) (c : Claim) → overlap xs ys ≡ false → has_claim ys c ≡ true → has_claim xs c ≡ false
@@ -32,7 +28,7 @@ apart-claim xs [] c none there = cc
 apart-claim xs (y ∷ ys) c none there =
     let parts = or_parts (list_any (same_claim y) xs) (list_any (has_claim xs) ys) none in
     ⊎_elim
-    (λ (e : same_claim c y ≡ true). subst (λ (d : Claim). list_any (same_claim d) xs ≡ false) (sym (same_claim-is c y e)) parts.0)
+    (λ (e : same_claim c y ≡ true). subst (λ (d : Claim). list_any (same_claim d) xs ≡ false) (sym (same_claim-eq c y e)) parts.0)
     (λ (e : same_claim c y ≡ false). apart-claim xs ys c parts.1 (rw e at there))
     (cases_Bool (same_claim c y))
 
@@ -44,20 +40,11 @@ once-claim (x ∷ xs) ys c once there =
     let parts = or_parts (list_any (same_claim x) (xs ++ ys)) (repeats (xs ++ ys)) once in
     ⊎_elim
     (λ (e : same_claim c x ≡ true).
-    let same : c ≡ x = same_claim-is c x e in
+    let same : c ≡ x = same_claim-eq c x e in
     let none : list_any (same_claim x) ys ≡ false = (or_parts (list_any (same_claim x) xs) (list_any (same_claim x) ys) (sym (list_any-append (same_claim x) xs ys) ∙ parts.0)).1 in
     let is : list_any (same_claim x) ys ≡ true = subst (λ (d : Claim). list_any (same_claim d) ys ≡ true) same there in cc)
     (λ (e : same_claim c x ≡ false). rw e (once-claim xs ys c parts.1 there))
     (cases_Bool (same_claim c x))
-
--- the blocks of a record are among all that its node claims
-contents-claim : (k : Loaded) (c : Claim) → has_claim (claims_of k.contents) c ≡ true → has_claim (all_claims k) c ≡ true
-contents-claim k c there =
-    let clear : AreClear (λ d. not (has_claim (all_claims k) d)) k = all-clear (λ d. not (has_claim (all_claims k) d)) k (λ d h. ap not h) in
-    not_false (has_claim (all_claims k) c) (clear.contents c there) where
-      not_false : (b : Bool) → not b ≡ false → b ≡ true
-      not_false true e = refl
-      not_false false e = cc
 
 false_is : (b : Bool) → (b ≡ true → false ≡ true) → b ≡ false
 false_is true f = sym (f refl)
@@ -66,7 +53,7 @@ false_is false f = refl
 -- a record that is apart from another has none of its blocks
 pub apart-clear : (one other : Loaded) → Apart one other → AreClear (has_claim (claims_of one.contents)) other
 apart-clear one other apart = all-clear (has_claim (claims_of one.contents)) other (λ c there.
-    false_is (has_claim (claims_of one.contents) c) (λ h. let no : has_claim (all_claims one) c ≡ false = apart-claim (all_claims one) (all_claims other) c apart.claims there in sym no ∙ contents-claim one c h))
+    false_is (has_claim (claims_of one.contents) c) (λ h. let no : has_claim (all_claims one) c ≡ false = apart-claim (all_claims one) (all_claims other) c apart.claims there in sym no ∙ contents-claims one c h))
 
 -- and the long key and the streams of a record are not in its own blocks
 pub own-clear : (k : Loaded) → repeats (record_claims k) ≡ false → (i : ℕ) → IsClear (has_claim (claims_of k.contents)) (slice_index k.others i)

@@ -16,6 +16,7 @@ use Rattle.blk_volume.specs.Audit.{kept_among}
 use Rattle.blk_volume.specs.Found.{kept}
 use Rattle.blk_volume.specs.ListView.{IsAtRest}
 use Rattle.blk_volume.specs.ListImages.{walked, HasListAtRest}
+use Rattle.blk_laws.proofs.Central.{walk-idle}
 use Rattle.blk_laws.proofs.Bare.{no-record}
 use Rattle.blk_laws.proofs.Chains.{chain-is}
 use Rattle.blk_laws.proofs.Walks.{walk_list}
@@ -25,7 +26,6 @@ use Rattle.blk_repair_laws.specs.ChainRepair.{is_kept_record, kept_records, chai
 use Rattle.blk_repair_laws.specs.MendedLinks.{HasMendedLinks}
 use Rattle.blk_repair_laws.specs.LinkRepair.{LinksAreRepaired}
 use Rattle.blk_repair_laws.proofs.ChainRepair.{chains-repaired}
-use Rattle.blk_repair_laws.proofs.EndRepair.{idle-walk}
 use Rattle.blk_laws.proofs.Kept.{kept-nodes}
 use Rattle.blk_repair_laws.proofs.ListRepair.{holds-trans, lists-repaired}
 
@@ -46,7 +46,7 @@ rests-list l k e rest = subst (λ (v : ListView). IsAtRest v (walk v)) (sym e) r
 -- where the list is at rest, what is kept is what is kept of its nodes
 pub rest-kept : (image : Image) (nodes : List ℕ) → HasListAtRest nodes image → kept image ≡ kept_among (store_of image) held_rule (walked image)
 unfolding kept
-rest-kept image nodes rest = ap (kept_among (store_of image) held_rule) (idle-walk (list_of image) rest.idle)
+rest-kept image nodes rest = ap (kept_among (store_of image) held_rule) (walk-idle (list_of image) rest.idle)
 
 pub links-repaired : LinksAreRepaired
 links-repaired image well ready =

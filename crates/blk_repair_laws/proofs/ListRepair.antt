@@ -25,6 +25,8 @@ use Rattle.blk_volume.specs.ListView.{IsAtRest}
 use Rattle.blk_volume.specs.ListSteps.{IsPartly, steps_of}
 use Rattle.blk_volume.specs.ListImages.{IsWritable, CanBeMade, IsCompleted, walked, HasListAtRest, operation_steps, completion_steps}
 use Rattle.blk_volume.specs.ShownChanges.{ShowsTheSame}
+use Rattle.blk_laws.proofs.ChainSizes.{unchanged}
+use Rattle.blk_laws.proofs.Central.{walk-idle}
 use Rattle.blk_laws.proofs.Adding.{shows-both}
 use Rattle.blk_laws.proofs.AtRest.{removals-turn}
 use Rattle.blk_laws.proofs.IndexWords.{same-shown}
@@ -38,7 +40,7 @@ use Rattle.blk_laws.proofs.WriteSteps.{checked-small, writes_show, writes-go_on,
 use Rattle.blk_repair_laws.specs.EndRepair.{unless, end_writes_of, end_writes}
 use Rattle.blk_volume.specs.Audit.{is_kept, kept_nodes}
 use Rattle.blk_repair_laws.specs.ListRepair.{finishing_steps, end_steps, removal_steps, dropped_nodes, completed_image, ended_image, list_repair_steps, HoldsTheSame, IsListMended, ListsAreRepaired}
-use Rattle.blk_repair_laws.proofs.EndRepair.{IsWalked, walked-is, ends-mended, idle-walk}
+use Rattle.blk_repair_laws.proofs.EndRepair.{IsWalked, walked-is, ends-mended}
 use Rattle.blk_laws.proofs.Kept.{kept-without, kept-alone, kept-nodes}
 use Rattle.blk_repair_laws.proofs.Same.{holds-from, shown-same}
 
@@ -52,20 +54,14 @@ filter-both p q (x ∷ xs) =
     (λ (a : p x ≡ false). rw a (filter-both p q xs))
     (cases_Bool (p x))
 
-without-none : (node : ℕ) (xs : List ℕ) → is_among xs node ≡ false → filter (λ x. not (x == node)) xs ≡ xs
-without-none node [] lacks = refl
-without-none node (x ∷ xs) lacks =
-    let parts = or_parts (x == node) (is_among xs node) lacks in
-    rw parts.0 (ap (λ (ys : List ℕ). x ∷ ys) (without-none node xs parts.1))
-
 without-one : (prefix : List ℕ) (node : ℕ) (suffix : List ℕ) → Distinct (prefix ++ node ∷ suffix) → filter (λ x. not (x == node)) (prefix ++ node ∷ suffix) ≡ prefix ++ suffix
-without-one [] node suffix once = rw (eq-eqb node node refl) (without-none node suffix once.0)
+without-one [] node suffix once = rw (eq-eqb node node refl) (unchanged node suffix once.0)
 without-one (x ∷ prefix) node suffix once =
     let here = or_parts (is_among prefix x) (is_among (node ∷ suffix) x) (sym (is_among-append prefix (node ∷ suffix) x) ∙ once.0) in
     let apart : (x == node) ≡ false = eqb-sym node x (or_parts (node == x) (is_among suffix x) here.1).0 in
     rw apart (ap (λ (ys : List ℕ). x ∷ ys) (without-one prefix node suffix once.1))
 
-append-one : (prefix : List ℕ) (node : ℕ) (suffix : List ℕ) → (prefix ++ node ∷ []) ++ suffix ≡ prefix ++ node ∷ suffix
+pub append-one : (prefix : List ℕ) (node : ℕ) (suffix : List ℕ) → (prefix ++ node ∷ []) ++ suffix ≡ prefix ++ node ∷ suffix
 append-one [] node suffix = refl
 append-one (x ∷ prefix) node suffix = ap (λ (ys : List ℕ). x ∷ ys) (append-one prefix node suffix)
 
@@ -102,7 +98,7 @@ module _ (from : Image) (well_from : IsWellFormed from) (rests : HasListAtRest (
 
   kept-walked : kept from ≡ kept_among (store_of from) held_rule (walked from)
   unfolding kept
-  kept-walked = ap (kept_among (store_of from) held_rule) (idle-walk (list_of from) rests.idle)
+  kept-walked = ap (kept_among (store_of from) held_rule) (walk-idle (list_of from) rests.idle)
 
   -- nodes of the list that are chosen so that no kept one is left out
   record IsChoice (nodes : List ℕ) : Type 0 where
@@ -133,7 +129,7 @@ module _ (from : Image) (well_from : IsWellFormed from) (rests : HasListAtRest (
   left-holds : (nodes : List ℕ) (image : Image) → IsLeft nodes image → HoldsTheSame from image
   left-holds nodes image left =
       holds-from from image well_from left.well_formed left.writable left.same
-      (ap (kept_among (store_of from) held_rule) (idle-walk (list_of image) left.rest.idle ∙ walk_list (list_of image) nodes left.rest.whole) ∙ choice-keeps nodes left.choice)
+      (ap (kept_among (store_of from) held_rule) (walk-idle (list_of image) left.rest.idle ∙ walk_list (list_of image) nodes left.rest.whole) ∙ choice-keeps nodes left.choice)
 
   one-removal : (prefix : List ℕ) (node : ℕ) (suffix : List ℕ) (image : Image) → keep node ≡ false → IsLeft (prefix ++ node ∷ suffix) image
       → Along (HoldsTheSame from) image (operation_steps remove node image) × IsLeft (prefix ++ suffix) (after (operation_steps remove node image) image)
@@ -245,7 +241,7 @@ ends-hold image well ready idle =
     let mended = ends-mended list idle (zero_bad image) in
     let shows : WritesShow image (end_writes list) = writes_show (end_writes list) image ready (end-can image) in
     record {
-      along = writes-hold image image (end_writes list) well well ready (same-shown (store_of image)) (end-can image) (λ count. ap (kept_among (store_of image) held_rule) (mended.0 count ∙ sym (idle-walk list idle)));
+      along = writes-hold image image (end_writes list) well well ready (same-shown (store_of image)) (end-can image) (λ count. ap (kept_among (store_of image) held_rule) (mended.0 count ∙ sym (walk-idle list idle)));
       rests = subst (λ (l : ListView). IsAtRest l (walk list)) (sym shows.ends.list) mended.1;
       same = shows.ends.store;
     }
@@ -272,7 +268,7 @@ lists-repaired image well ready =
     let whole : Along (HoldsTheSame image) image (list_repair_steps image) = until-append (HoldsTheSame image) (HoldsTheSame image) (finishing_steps image) _ image along1 (until-append (HoldsTheSame image) (HoldsTheSame image) (end_steps c) _ c along2 along3) in
     let at : after (list_repair_steps image) image ≡ last = after-append (finishing_steps image) (end_steps c ++ removal_steps (dropped_nodes e) e) image ∙ after-append (end_steps c) (removal_steps (dropped_nodes e) e) c in
     let nodes : List ℕ = kept_nodes (store_of e) held_rule (walked e) in
-    let kept-e : kept e ≡ kept_among (store_of e) held_rule (walked e) = ap (kept_among (store_of e) held_rule) (idle-walk (list_of e) rests.idle) in
+    let kept-e : kept e ≡ kept_among (store_of e) held_rule (walked e) = ap (kept_among (store_of e) held_rule) (walk-idle (list_of e) rests.idle) in
     let node_fields : map (λ (k : Loaded). k.node) (kept image) ≡ nodes = ap (map (λ (k : Loaded). k.node)) (sym holds2.kept_same ∙ kept-e) ∙ kept-nodes (store_of e) held_rule (walked e) rests.whole.distinct in
     let final : IsLeft e holds2.well_formed rests nodes last = out.1 in
     let walks_last : walked last ≡ nodes = walk_list (list_of last) nodes final.rest.whole in

@@ -2,8 +2,8 @@
 use Rattle.std.proofs.Common.{◌≡◌, ◌≢◌, ⊎_elim, ℕ, zero, suc, ◌<◌, ◌≤◌, Bool, true, false, cond, List, [], ◌∷◌, ◌++◌, length, Option, Some, None, Ok, refl, sym, ap, ap₂, ◌∙◌, subst, arith}
 use Rattle.std.specs.Prelude.{◌==◌, ◌&&◌, ◌||◌, map, is_some, IfSome, slice_index_or}
 use Rattle.std.specs.Option.{option_map, option_map_or, option_and_then}
-use Rattle.std.specs.List.{filter, filter_map, cons_option, AllByRecursion}
-use Rattle.std.proofs.lemmas.Bool.{cases_Bool, and_parts, eqb-true, eq-eqb, or_left, or_right, or_parts}
+use Rattle.std.specs.List.{filter_map, cons_option, AllByRecursion}
+use Rattle.std.proofs.lemmas.Bool.{cases_Bool, and_parts, eqb-true, eq-eqb, or_left, or_right}
 use Rattle.std.proofs.lemmas.Bool.Decides.{eqb_tells}
 use Rattle.std.proofs.Math.Dec.{eqb}
 use Rattle.blk_image.specs.Image.{Image, AreBytes}
@@ -25,17 +25,20 @@ use Rattle.blk_volume.specs.View.{list_of, store_of, view_of}
 use Rattle.blk_volume.specs.Chains.{Chain, bucket_of_hash, chain, IsChain}
 use Rattle.blk_volume.specs.Completion.{completed_list}
 use Rattle.blk_volume.specs.Reasons.{Reason}
+use Rattle.blk_laws.proofs.Central.{walk-idle}
+use Rattle.blk_laws.proofs.Allocations.{repeats-head}
+use Rattle.blk_laws.proofs.Kept.{flat-append}
+use Rattle.blk_laws.proofs.Central.{filter-none}
 use Rattle.blk_laws.proofs.Chains.{chain-is}
 use Rattle.blk_laws.proofs.Central.{flat_map-none}
 use Rattle.blk_laws.proofs.Loads.{load-then}
-use Rattle.blk_repair_laws.proofs.EndRepair.{idle-walk}
 use Rattle.blk_volume.specs.Entries.{Role, IsPlain, IsParent, IsPart}
 use Rattle.blk_volume.specs.Loads.{held_rule, listed_rule, unchained_rule, Loaded, load, all_claims, claims_of_loaded}
 use Rattle.blk_volume.specs.Audit.{kept_by, dropped_among, unlisted, is_unlisted, unlisted_in}
 use Rattle.blk_volume.specs.Sound.{IsInOrder, IsSound}
 use Rattle.blk_volume.specs.StandsFor.{IsOwner, IsAllocated, StandsFor}
 use Rattle.blk_model.proofs.Opened.{open_valid}
-use Rattle.blk_laws.proofs.ClaimLists.{claim-append, no-claim, neither}
+use Rattle.blk_laws.proofs.ClaimLists.{claim-append, no-claim}
 use Rattle.blk_laws.proofs.Standing.{stands-for}
 use Rattle.blk_repair_laws.specs.Mended.{IsMended, MendedFoldersStandFor, MendedFoldersAreSound}
 use Rattle.blk_repair_laws.proofs.FoundHolding.{found-holding}
@@ -615,11 +618,7 @@ module _ (image : Image) (mended : IsMended image) (are : AreBytes image) where
         no e = cc
 
   walk-now : walk (completed_list (list_of image)) ≡ walked image
-  walk-now = idle-walk (list_of image) mended.links.rests.idle
-
-  filter-out : (test : ℕ → Bool) (xs : List ℕ) → ((x : ℕ) → is_among xs x ≡ true → test x ≡ false) → filter test xs ≡ []
-  filter-out test [] out = refl
-  filter-out test (x ∷ xs) out = rw (out x (or_left (x == x) (is_among xs x) (eq-eqb x x refl))) (filter-out test xs (λ y h. out y (or_right (x == y) (is_among xs y) h)))
+  walk-now = walk-idle (list_of image) mended.links.rests.idle
 
   -- a kept record is listed
   record-listed : (c : ℕ) → is_kept_record (kept image) c ≡ true → is_unlisted (completed (view_of image)) c ≡ false
@@ -639,7 +638,7 @@ module _ (image : Image) (mended : IsMended image) (are : AreBytes image) where
   chain-listed : (bucket : ℕ) → bucket < 65536 → unlisted_in (completed (view_of image)) bucket ≡ []
   chain-listed bucket below =
       let reached : (chain (store_of image) bucket).reached ≡ kept_records image bucket = ap (λ (c : Chain). c.reached) (chain-is (store_of image) bucket (kept_records image bucket) (no-record image) (mended.links.chains bucket below)) in
-      ap (map _) (filter-out (is_unlisted (completed (view_of image))) (chain (store_of image) bucket).reached (λ c among. record-listed c (chain-has-test image bucket c (ap (λ (ws : List ℕ). is_among ws c) (sym reached) ∙ among))))
+      ap (map _) (filter-none (is_unlisted (completed (view_of image))) (chain (store_of image) bucket).reached (λ c among. record-listed c (chain-has-test image bucket c (ap (λ (ws : List ℕ). is_among ws c) (sym reached) ∙ among))))
 
   unlisted-none : unlisted (completed (view_of image)) ≡ []
   unfolding unlisted
@@ -649,26 +648,12 @@ module _ (image : Image) (mended : IsMended image) (are : AreBytes image) where
   unfolding dropped
   nothing-dropped = ap₂ (λ (xs ys : List (ℕ × Reason)). xs ++ ys) (ap (dropped_among (store_of image) held_rule) walk-now ∙ none-left) unlisted-none
 
-  repeats-front : (xs ys : List Claim) → repeats (xs ++ ys) ≡ false → repeats xs ≡ false
-  unfolding repeats
-  repeats-front [] ys e = refl
-  repeats-front (x ∷ xs) ys e =
-      let p = or_parts (has_claim (xs ++ ys) x) (repeats (xs ++ ys)) e in
-      neither (has_claim xs x) (repeats xs) (or_parts (has_claim xs x) (has_claim ys x) (sym (claim-append xs ys x) ∙ p.0)).0 (repeats-front xs ys p.1)
-
-  loaded-append : (xs ys : List Loaded) → claims_of_loaded (xs ++ ys) ≡ claims_of_loaded xs ++ claims_of_loaded ys
-  loaded-append [] ys = refl
-  loaded-append (x ∷ xs) ys = ap (λ (cs : List Claim). all_claims x ++ cs) (loaded-append xs ys) ∙ assoc (all_claims x) (claims_of_loaded xs) (claims_of_loaded ys) where
-    assoc : (us vs ws : List Claim) → us ++ (vs ++ ws) ≡ (us ++ vs) ++ ws
-    assoc [] vs ws = refl
-    assoc (u ∷ us) vs ws = ap (λ (xs : List Claim). u ∷ xs) (assoc us vs ws)
-
   one-owner : repeats (claims_of_loaded (kept image)) ≡ false
   one-owner =
       let s = stands-here in
       subst (λ (ks : List Loaded). repeats (claims_of_loaded ks) ≡ false) (listed-same image some-limits mended (found-holding image are))
-      (repeats-front (claims_of_loaded (kept_by listed_rule (view_of image))) (claims_of_loaded (map (λ d. d.1) s.doomed))
-      (subst (λ (cs : List Claim). repeats cs ≡ false) (loaded-append (kept_by listed_rule (view_of image)) (map (λ d. d.1) s.doomed)) s.owned.one_owner))
+      (repeats-head (claims_of_loaded (kept_by listed_rule (view_of image))) (claims_of_loaded (map (λ d. d.1) s.doomed))
+      (subst (λ (cs : List Claim). repeats cs ≡ false) (flat-append (kept_by listed_rule (view_of image)) (map (λ d. d.1) s.doomed)) s.owned.one_owner))
 
   sound-here : IsSound image
   sound-here = record {

@@ -15,6 +15,7 @@ use Rattle.blk_format.specs.Records.{entry_in}
 use Rattle.blk_volume.specs.View.{RecordFields, NodeFields, fields_of, entry_at, store_of, node_fields_at, fields_at, stored_at, stands_as, data_size_of, address_of}
 use Rattle.blk_volume.specs.Entries.{key_of, stream_of, streams_of}
 use Rattle.blk_volume.specs.Loads.{Rule, Loaded, load, record_claims, all_claims}
+use Rattle.blk_laws.proofs.Allocations.{storage-of_none}
 use Rattle.blk_laws.proofs.ByteChanges.{stands-linked}
 use Rattle.blk_laws.proofs.ClaimLists.{claim-append, no-claim, repeats-append}
 use Rattle.blk_laws.proofs.Loads.{load-then}
@@ -41,10 +42,6 @@ fields-here image c e is = ⊎_elim
       no : ◌≡◌ {A = Option RecordFields} None (Some e) → ⊥
       no e = cc
 
-storage-none : (size x : ℕ) → (size == 0) ≡ true → is_storage size x ≡ true → (x == 0) ≡ true
-unfolding is_storage
-storage-none size x none is = rw none at is
-
 storage-kind : (size x : ℕ) → (size == 0) ≡ false → is_storage size x ≡ true → kind_of x ≢ rankings
 unfolding is_storage kind_for
 storage-kind size x some is node = let h = is in grind (arith, nat_tests, some, node)
@@ -55,7 +52,7 @@ stored-no_node image size x bytes e some = go (is_storage size x) (size == 0) (s
   go : (a b c : Bool) (last : Option (List ℕ)) → is_storage size x ≡ a → (size == 0) ≡ b → stands_in image x ≡ c
       → (if not a then None else if b then Some [] else if not c then None else last) ≡ Some bytes → (stands_in image x ≡ true) × (kind_of x ≢ rankings)
   go false b c last is none stands h = cc
-  go true true c last is none stands h = let z : (x == 0) ≡ true = storage-none size x none is in absurd (clash (sym z ∙ some)) where
+  go true true c last is none stands h = let z : (x == 0) ≡ true = storage-of_none size x none is in absurd (clash (sym z ∙ some)) where
     clash : true ≡ false → ⊥
     clash e = cc
   go true false false last is none stands h = cc

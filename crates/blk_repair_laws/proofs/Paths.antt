@@ -2,13 +2,14 @@
 use Rattle.std.proofs.Common.{◌≡◌, ℕ, zero, suc, ◌≤◌, ◌^◌, List, [], ◌∷◌, ◌++◌, length, refl, ap, sym, ◌∙◌, subst, ⊎_elim, Bool, true, false, arith}
 use Rattle.std.specs.Prelude.{map, not, ◌&&◌, ◌==◌}
 use Rattle.std.specs.List.{filter}
-use Rattle.std.proofs.lemmas.Bool.{cases_Bool, eq-eqb, or_parts, or_left, or_right}
+use Rattle.std.proofs.lemmas.Bool.{cases_Bool, or_parts, or_left, or_right}
 use Rattle.std.proofs.lemmas.Bool.Decides.{eqb_tells}
 use Rattle.std.proofs.Math.Dec.{eqb}
 use Rattle.blk_format.specs.BlockFiles.{is_among}
 use Rattle.blk_volume.specs.ListView.{Distinct, first_or}
 use Rattle.blk_volume.specs.View.{StoreView}
 use Rattle.blk_volume.specs.Chains.{chain, chain_from, is_of_bucket, is_reached, file_and_block, Linked}
+use Rattle.blk_laws.proofs.Changing.{apart-sym}
 use Rattle.blk_laws.proofs.Walks.{Fresh, Fresh-none, Fresh-more}
 use Rattle.blk_repair_laws.specs.Paths.{Path, IsPath, skip}
 use Rattle.blk_repair_laws.proofs.EndRepair.{Fresh-less}
@@ -160,9 +161,6 @@ module _ (test : ℕ → Bool) where
 abbrev pub OthersChainNext : StoreView → StoreView → ℕ → Type 0
 OthersChainNext v u c = (x : ℕ) → (file_and_block x == file_and_block c) ≡ false → u.chain_next x ≡ v.chain_next x
 
-eqb-back : (a b : ℕ) → (a == b) ≡ false → (b == a) ≡ false
-eqb-back a b e = ⊎_elim (λ (f : (eqb b a ≡ true) × (b ≡ a)). let t : (a == b) ≡ true = eq-eqb a b (sym f.1) in cc) (λ (f : (eqb b a ≡ false) × _). f.0) (eqb_tells b a)
-
 module _ (v u : StoreView) (b c : ℕ) (bucket : (x : ℕ) → is_of_bucket u b x ≡ is_of_bucket v b x) (chain_next : OthersChainNext v u c) where
   path-stays : (w : ℕ) (xs : List ℕ) → is_among (map file_and_block xs) (file_and_block c) ≡ false → Path v b w xs → Path u b w xs
   path-stays w [] lacks path = tt
@@ -175,7 +173,7 @@ module _ (v u : StoreView) (b c : ℕ) (bucket : (x : ℕ) → is_of_bucket u b 
       → Path v b w (prefix ++ c ∷ old) → Path u b w (prefix ++ c ∷ new)
   path-linked [] w old new once lacks path was = (was.0, bucket c ∙ was.1, path-stays (u.chain_next c) new lacks path)
   path-linked (x ∷ prefix) w old new once lacks path was =
-      let apart : (file_and_block x == file_and_block c) ≡ false = eqb-back _ _ (middle prefix once.0) in
+      let apart : (file_and_block x == file_and_block c) ≡ false = apart-sym _ _ (middle prefix once.0) in
       (was.0, bucket x ∙ was.1, subst (λ (y : ℕ). Path u b y (prefix ++ c ∷ new)) (sym (chain_next x apart)) (path-linked prefix (v.chain_next x) old new once.1 lacks path was.2)) where
         middle : (ys : List ℕ) → is_among (map file_and_block (ys ++ c ∷ old)) (file_and_block x) ≡ false → (file_and_block c == file_and_block x) ≡ false
         middle [] lacks = (or_parts (file_and_block c == file_and_block x) (is_among (map file_and_block old) (file_and_block x)) lacks).0
