@@ -2,7 +2,7 @@
 use Rattle.std.proofs.Common.{◌≡◌, ℕ, List, [], ◌∷◌, ◌++◌, take, refl, ap, sym, ◌∙◌, subst, ⊎_elim, Bool, true, false, arith}
 use Rattle.std.specs.Prelude.{if◌then◌else◌, not, ◌&&◌, ◌==◌, map, nat_lt}
 use Rattle.std.specs.List.{filter}
-use Rattle.std.proofs.lemmas.Bool.{cases_Bool, eq-eqb, eqb-true, or_parts}
+use Rattle.std.proofs.lemmas.Bool.{cases_Bool, eq-eqb, or_parts}
 use Rattle.std.proofs.lemmas.Bool.Decides.{eqb_tells}
 use Rattle.std.proofs.Math.Dec.{eqb}
 use Rattle.blk_image.specs.Image.{Image}
@@ -39,7 +39,7 @@ use Rattle.blk_laws.proofs.ListCompletions.{at_moment, walk_outcome, last_good}
 use Rattle.blk_laws.proofs.WriteSteps.{checked-small, writes_show, writes-go_on, WritesShow}
 use Rattle.blk_repair_laws.specs.EndRepair.{unless, end_writes_of, end_writes}
 use Rattle.blk_volume.specs.Audit.{is_kept, kept_nodes}
-use Rattle.blk_repair_laws.specs.ListRepair.{finishing_steps, end_steps, removal_steps, dropped_nodes, completed_image, ended_image, list_repair_steps, HoldsTheSame, IsListMended, ListsAreRepaired}
+use Rattle.blk_repair_laws.specs.ListRepair.{end_steps, removal_steps, dropped_nodes, completed_image, ended_image, list_repair_steps, HoldsTheSame, IsListMended, ListsAreRepaired}
 use Rattle.blk_repair_laws.proofs.EndRepair.{IsWalked, walked-is, ends-mended}
 use Rattle.blk_laws.proofs.Kept.{kept-without, kept-alone, kept-nodes}
 use Rattle.blk_repair_laws.proofs.Same.{holds-from, shown-same}
@@ -216,18 +216,6 @@ completion-holds image well ready =
     ap (kept_among (store_of image) held_rule)
     (walk_outcome (after_writes (take count (completion_writes list)) list) ∙ ap walk (at_moment (λ u. completed_but_operation u ≡ completed_but_operation list) (completion_writes list) list count (completion_keeps list)) ∙ sym (walk_outcome list)))
 
--- no operation is in flight, and the store is as it was
-record IsIdleNow (from image : Image) : Type 0 where
-  idle : (list_of image).transaction ≡ 0
-  store : ShowsTheSame (store_of from) (store_of image)
-
-finishing-holds : (image : Image) → IsWellFormed image → IsWritable image → Along (HoldsTheSame image) image (finishing_steps image) × IsIdleNow image (after (finishing_steps image) image)
-finishing-holds image well ready =
-    ⊎_elim
-    (λ (e : ((list_of image).transaction == 0) ≡ true). rw e (record { well_formed = well; writable = ready; kept_same = refl; found_same = refl }, record { idle = eqb-true (list_of image).transaction 0 e; store = same-shown (store_of image) }))
-    (λ (e : ((list_of image).transaction == 0) ≡ false). let done : IsCompleted image (after (completion_steps image) image) = completions-done image ready in rw e (completion-holds image well ready, record { idle = done.idle; store = done.store }))
-    (cases_Bool ((list_of image).transaction == 0))
-
 -- the end of a list at which no operation is in flight
 record IsEnded (from image : Image) : Type 0 where
   along : Along (HoldsTheSame from) from (end_steps from)
@@ -252,10 +240,9 @@ unfolding kept
 lists-repaired image well ready =
     let c : Image = completed_image image in
     let e : Image = ended_image image in
-    let finished = finishing-holds image well ready in
-    let along1 = finished.0 in
-    let holds1 : HoldsTheSame image c = until_last (HoldsTheSame image) (HoldsTheSame image) (finishing_steps image) image along1 in
-    let done : IsIdleNow image c = finished.1 in
+    let along1 = completion-holds image well ready in
+    let holds1 : HoldsTheSame image c = until_last (HoldsTheSame image) (HoldsTheSame image) (completion_steps image) image along1 in
+    let done : IsCompleted image c = completions-done image ready in
     let ended : IsEnded c e = ends-hold c holds1.well_formed holds1.writable done.idle in
     let along2 : Along (HoldsTheSame image) c (end_steps c) = until_weaker2 (HoldsTheSame c) (HoldsTheSame image) (HoldsTheSame c) (HoldsTheSame image) (end_steps c) c (λ i. holds-trans image c i holds1) (λ i. holds-trans image c i holds1) ended.along in
     let holds2 : HoldsTheSame image e = until_last (HoldsTheSame image) (HoldsTheSame image) (end_steps c) c along2 in
@@ -265,8 +252,8 @@ lists-repaired image well ready =
     let out = removals e holds2.well_formed rests (walked e) [] e left in
     let last : Image = after (removal_steps (dropped_nodes e) e) e in
     let along3 : Along (HoldsTheSame image) e (removal_steps (dropped_nodes e) e) = until_weaker2 (HoldsTheSame e) (HoldsTheSame image) (HoldsTheSame e) (HoldsTheSame image) (removal_steps (dropped_nodes e) e) e (λ i. holds-trans image e i holds2) (λ i. holds-trans image e i holds2) out.0 in
-    let whole : Along (HoldsTheSame image) image (list_repair_steps image) = until-append (HoldsTheSame image) (HoldsTheSame image) (finishing_steps image) _ image along1 (until-append (HoldsTheSame image) (HoldsTheSame image) (end_steps c) _ c along2 along3) in
-    let at : after (list_repair_steps image) image ≡ last = after-append (finishing_steps image) (end_steps c ++ removal_steps (dropped_nodes e) e) image ∙ after-append (end_steps c) (removal_steps (dropped_nodes e) e) c in
+    let whole : Along (HoldsTheSame image) image (list_repair_steps image) = until-append (HoldsTheSame image) (HoldsTheSame image) (completion_steps image) _ image along1 (until-append (HoldsTheSame image) (HoldsTheSame image) (end_steps c) _ c along2 along3) in
+    let at : after (list_repair_steps image) image ≡ last = after-append (completion_steps image) (end_steps c ++ removal_steps (dropped_nodes e) e) image ∙ after-append (end_steps c) (removal_steps (dropped_nodes e) e) c in
     let nodes : List ℕ = kept_nodes (store_of e) held_rule (walked e) in
     let kept-e : kept e ≡ kept_among (store_of e) held_rule (walked e) = ap (kept_among (store_of e) held_rule) (walk-idle (list_of e) rests.idle) in
     let node_fields : map (λ (k : Loaded). k.node) (kept image) ≡ nodes = ap (map (λ (k : Loaded). k.node)) (sym holds2.kept_same ∙ kept-e) ∙ kept-nodes (store_of e) held_rule (walked e) rests.whole.distinct in

@@ -1,5 +1,5 @@
 -- The steps by which the use list is repaired, and what is held at each of their words.
-use Rattle.std.specs.Prelude.{◌≡◌, ℕ, not, ◌==◌, if◌then◌else◌, List, [], ◌∷◌, ◌++◌, map}
+use Rattle.std.specs.Prelude.{◌≡◌, ℕ, not, List, [], ◌∷◌, ◌++◌, map}
 use Rattle.std.specs.List.{filter}
 use Rattle.blk_image.specs.Image.{Image}
 use Rattle.blk_image.specs.Steps.{TrailStep, after}
@@ -28,13 +28,9 @@ removal_steps (node ∷ nodes) image = operation_steps remove node image ++ remo
 abbrev pub dropped_nodes : Image → List ℕ
 dropped_nodes image = filter (λ node. not (is_kept (store_of image) held_rule (walked image) node)) (walked image)
 
--- the operation in flight is completed, if there is one
-abbrev pub finishing_steps : Image → List TrailStep
-finishing_steps image = if (list_of image).transaction == 0 then [] else completion_steps image
-
--- the image with the operation in flight completed
+-- the image with the operation in flight completed, if there is one
 abbrev pub completed_image : Image → Image
-completed_image image = after (finishing_steps image) image
+completed_image image = after (completion_steps image) image
 
 -- and the end of the list mended
 abbrev pub ended_image : Image → Image
@@ -42,16 +38,16 @@ ended_image image = after (end_steps (completed_image image)) (completed_image i
 
 -- the operation in flight is completed, the end of the list is mended, and each node that isn't kept is taken out
 abbrev pub list_repair_steps : Image → List TrailStep
-list_repair_steps image = finishing_steps image ++ (end_steps (completed_image image) ++ removal_steps (dropped_nodes (ended_image image)) (ended_image image))
+list_repair_steps image = completion_steps image ++ (end_steps (completed_image image) ++ removal_steps (dropped_nodes (ended_image image)) (ended_image image))
 
--- the image is well formed, and the same is kept: the same nodes in the same order, with the same records; so the same is found
+-- the image is well formed and can be written, and the same is kept, the same nodes in the same order with the same records; so the same is found
 pub record HoldsTheSame (from image : Image) : Type 0 where
   pub well_formed : IsWellFormed image
   pub writable : IsWritable image
   pub kept_same : kept image ≡ kept from
   pub found_same : found image ≡ found from
 
--- the list is whole and at rest with the kept nodes alone, and all of them are kept; nothing else is shown to change
+-- the list is whole and at rest with the kept nodes alone, all of which are kept still; nothing else is shown to change
 pub record IsListMended (from image : Image) : Type 0 where
   pub rests : HasListAtRest (map (λ k. k.node) (kept from)) image
   pub store : ShowsTheSame (store_of from) (store_of image)
