@@ -2,7 +2,7 @@
 #![tactic(auto)]
 
 ghost use Rattle.blk_repair_laws.specs.EndRepair.{EndsAreMended};
-ghost use Rattle.blk_repair_laws.specs.ListRepair.{ListsAreRepaired};
+ghost use Rattle.blk_repair_laws.specs.ListRepair.{ListsAreRepaired, CompletedListsAreEnded, ListsAtRestNeedNoEnd, DroppedNodesAreTheOthers, RemovalsBegin, KeptNodesArePassed, OtherNodesAreRemoved, RemovalsEnd};
 ghost use Rattle.blk_repair_laws.specs.ChainRepair.{ChainsAreRepaired};
 ghost use Rattle.blk_repair_laws.specs.LinkRepair.{LinksAreRepaired};
 ghost use Rattle.blk_repair_laws.specs.MendedLinks.{MendedLinksRepresent};
@@ -18,6 +18,21 @@ pub fn ends_are_mended()
 /// At each word of the repair of the list the same is kept and found; in the end the list is that of the kept nodes.
 pub fn lists_are_repaired()
     ensures { ListsAreRepaired }
+{}
+
+/// Once the operation in flight is completed and the end is mended the list is at rest, and one at rest needs neither.
+pub fn lists_are_ended()
+    ensures rests { CompletedListsAreEnded }
+    ensures none { ListsAtRestNeedNoEnd }
+{}
+
+/// Then the dropped nodes are taken out one after the other, while the walked nodes and the kept ones are gone through side by side.
+pub fn dropped_nodes_are_removed()
+    ensures others { DroppedNodesAreTheOthers }
+    ensures begins { RemovalsBegin }
+    ensures passes { KeptNodesArePassed }
+    ensures removes { OtherNodesAreRemoved }
+    ensures ends { RemovalsEnd }
 {}
 
 /// At each word of the repair of the chains the same is kept and found; in the end each chain is that of the kept records of its bucket.
