@@ -1,6 +1,6 @@
 -- The chains, repaired at each of their words.
 use Rattle.std.proofs.Common.{inl, inr, ◌≡◌, ◌≢◌, ⊎_elim, ℕ, zero, suc, ◌+◌, ◌^◌, ◌<◌, ◌≤◌, Bool, true, false, List, [], ◌∷◌, ◌++◌, length, Option, Some, None, Ok, refl, sym, ap, ◌∙◌, subst, arith}
-use Rattle.std.specs.Prelude.{◌==◌, ◌&&◌, ◌||◌, map, is_some, slice_index}
+use Rattle.std.specs.Prelude.{if◌then◌else◌, ◌==◌, ◌&&◌, map, is_some, slice_index}
 use Rattle.std.specs.List.{filter, filter_map, cons_option}
 use Rattle.std.proofs.lemmas.Bool.{cases_Bool, and_parts, eqb-true, eq-eqb, or_left, or_right}
 use Rattle.std.proofs.lemmas.Bool.Decides.{eqb_tells}
@@ -38,7 +38,10 @@ use Rattle.blk_laws.proofs.Shown.{kept-given, is_among-filter}
 use Rattle.blk_volume.specs.Audit.{kept_as, is_kept, kept_nodes}
 use Rattle.blk_repair_laws.specs.ListRepair.{HoldsTheSame}
 use Rattle.blk_repair_laws.specs.Paths.{Path, IsPath, skip}
-use Rattle.blk_repair_laws.specs.ChainRepair.{is_kept_record, kept_records, bucket_steps, next_steps, link_steps, chain_steps, chains_steps, chain_repair_steps, KeepsAll, ChainsAreRepaired}
+use Rattle.blk_repair_laws.specs.ChainRepair.{is_kept_record, kept_records, bucket_steps, next_steps, link_steps, chain_steps, chains_steps, chain_repair_steps, KeepsAll, ChainsAreRepaired, HasChainsUpTo, ChainsBegin, BucketsAreMended, WholeChainsNeedNoSteps, ChainsEnd, KeptRecordsStay, WholeChainsStay}
+use Rattle.blk_repair_laws.proofs.KeptRecords.{IsGivenAt, given-at}
+use Rattle.blk_repair_laws.proofs.Same.{chain-same, of_bucket-same}
+use Rattle.blk_volume.specs.ShownChanges.{ShowsTheSame}
 use Rattle.blk_repair_laws.proofs.Frames.{OnlyLinks, apart-clear, own-clear, load-chained, IsRecordOf, record-of, load-linked}
 use Rattle.blk_laws.proofs.Kept.{kept-shown}
 use Rattle.blk_repair_laws.proofs.Paths.{on-path, chain-path, chain-stays, skip-path, skip-few, skip-has, skip-once, suffix-once, suffix-few, suffix-has, path-linked, suffix-apart, skip-apart, path-suffix, path-whole, end-suffix}
@@ -195,20 +198,10 @@ module _ (from : Image) (well_from : IsWellFormed from) (all : KeepsAll from) wh
   pub test-of : (node : ℕ) (k : Loaded) → is_among (walked from) node ≡ true → given node ≡ Some k → test k.contents ≡ true
   test-of node k among is = ap (λ (ks : List Loaded). is_kept_record ks k.contents) kept-from ∙ in-kept (walked from) node k among is
 
-  kept-in : (xs : List ℕ) (c : ℕ) → ((x : ℕ) → is_among xs x ≡ true → is_among (walked from) x ≡ true) → is_kept_record (filter_map given xs) c ≡ true → IsKeptRecord c
-  kept-in [] c sub e = cc
-  kept-in (x ∷ xs) c sub e = go (given x) refl (kept-in xs c (λ y h. sub y (or_right (x == y) (is_among xs y) h))) e where
-    go : (o : Option Loaded) → given x ≡ o → (is_kept_record (filter_map given xs) c ≡ true → IsKeptRecord c) → is_kept_record (cons_option (given x) (filter_map given xs)) c ≡ true → IsKeptRecord c
-    go None is more h = more (rw is at h)
-    go (Some l) is more h =
-        let h1 : (l.contents == c || is_kept_record (filter_map given xs) c) ≡ true = rw is at h in
-        ⊎_elim
-        (λ (here : (l.contents == c) ≡ true). record { node = x; k = l; among = sub x (or_left (x == x) (is_among xs x) (eq-eqb x x refl)); is = is; contents = eqb-true l.contents c here })
-        (λ (other : (l.contents == c) ≡ false). more (rw other at h1))
-        (cases_Bool (l.contents == c))
-
   pub of-test : (c : ℕ) → test c ≡ true → IsKeptRecord c
-  of-test c e = kept-in (walked from) c (λ x h. h) (ap (λ (ks : List Loaded). is_kept_record ks c) (sym kept-from) ∙ e)
+  of-test c e =
+      let r : IsGivenAt given (walked from) c = given-at given (walked from) (walked from) c (λ x h. h) (ap (λ (ks : List Loaded). is_kept_record ks c) (sym kept-from) ∙ e) in
+      record { node = r.node; k = r.k; among = r.among; is = r.is; contents = r.contents }
 
   -- ---- one link
 
@@ -533,11 +526,8 @@ module _ (from : Image) (well_from : IsWellFormed from) (all : KeepsAll from) wh
 
   -- ---- all buckets
 
-  -- the buckets below one are made, and the chains of the others are as they were
-  record IsMadeUpTo (i : Image) (b : ℕ) : Type 0 where
-    steady : IsSteady i
-    made : (o : ℕ) → o < b → IsChain (store_of i) o (kept_records from o)
-    left : (o : ℕ) → b ≤ o → chain (store_of i) o ≡ chain (store_of from) o
+  steady-of : (i : Image) (b : ℕ) → HasChainsUpTo from b i → IsSteady i
+  steady-of i b m = record { well_formed = m.holds.well_formed; writable = m.holds.writable; list = m.list; loads = m.loads }
 
   apart-lt : (o b : ℕ) → o < b → (b == o) ≡ false
   apart-lt o b below = ⊎_elim (λ (e : (eqb b o ≡ true) × (b ≡ o)). absurd (let same = e.1 in omega (arith, same, below))) (λ (e : (eqb b o ≡ false) × _). e.0) (eqb_tells b o)
@@ -545,43 +535,94 @@ module _ (from : Image) (well_from : IsWellFormed from) (all : KeepsAll from) wh
   apart-gt : (o b : ℕ) → b < o → (b == o) ≡ false
   apart-gt o b above = ⊎_elim (λ (e : (eqb b o ≡ true) × (b ≡ o)). absurd (let same = e.1 in omega (arith, same, above))) (λ (e : (eqb b o ≡ false) × _). e.0) (eqb_tells b o)
 
-  one-bucket : (i : Image) (b : ℕ) → b < 65536 → IsMadeUpTo i b → Along (HoldsTheSame from) i (chain_steps b (kept_records from b) i) × IsMadeUpTo (after (chain_steps b (kept_records from b) i) i) (b + 1)
+  one-bucket : (i : Image) (b : ℕ) → b < 65536 → HasChainsUpTo from b i → Along (HoldsTheSame from) i (chain_steps b (kept_records from b) i) × HasChainsUpTo from (b + 1) (after (chain_steps b (kept_records from b) i) i)
   unfolding kept_records
   one-bucket i b below m =
       let words : List ℕ = kept_records from b in
-      let same : filter test (chain (store_of i) b).reached ≡ words = ap (λ (c : Chain). filter test c.reached) (m.left b (omega arith)) in
-      let one = made-by i b below m.steady words same in
+      let same : filter test (chain (store_of i) b).reached ≡ words = ap (λ (c : Chain). filter test c.reached) (m.as_before b (omega arith)) in
+      let one = made-by i b below (steady-of i b m) words same in
       let j : Image = after (chain_steps b words i) i in (
         one.0,
         record {
-          steady = one.1.steady;
-          made = λ o under. ⊎_elim
+          holds = steady-holds j one.1.steady;
+          list = one.1.steady.list;
+          loads = one.1.steady.loads;
+          mended = λ o under. ⊎_elim
               (λ (e : (eqb b o ≡ true) × (b ≡ o)). subst (λ (y : ℕ). IsChain (store_of j) y (kept_records from y)) e.1 one.1.chain_is)
-              (λ (e : (eqb b o ≡ false) × (b ≢ o)). elsewhere-whole i j b o (kept_records from o) one.1.elsewhere e.0 (m.made o (let ne = e.1 in under-then o b under ne)))
+              (λ (e : (eqb b o ≡ false) × (b ≢ o)). elsewhere-whole i j b o (kept_records from o) one.1.elsewhere e.0 (m.mended o (let ne = e.1 in under-then o b under ne)))
               (eqb_tells b o);
-          left = λ o over. elsewhere-chain i j b o one.1.elsewhere (apart-gt o b (omega (arith, over))) ∙ m.left o (omega (arith, over));
+          as_before = λ o over. elsewhere-chain i j b o one.1.elsewhere (apart-gt o b (omega (arith, over))) ∙ m.as_before o (omega (arith, over));
         },
       ) where
         under-then : (o b : ℕ) → o < b + 1 → b ≢ o → o < b
         under-then o b under ne = omega (arith, under, ne)
 
-  buckets : (count b : ℕ) (i : Image) → b + count ≤ 65536 → IsMadeUpTo i b → Along (HoldsTheSame from) i (chains_steps (kept_records from) b count i) × IsMadeUpTo (after (chains_steps (kept_records from) b count i) i) (b + count)
-  buckets zero b i few m = (steady-holds i m.steady, subst (IsMadeUpTo i) (omega arith) m)
+  buckets : (count b : ℕ) (i : Image) → b + count ≤ 65536 → HasChainsUpTo from b i → Along (HoldsTheSame from) i (chains_steps (kept_records from) b count i) × HasChainsUpTo from (b + count) (after (chains_steps (kept_records from) b count i) i)
+  buckets zero b i few m = (steady-holds i (steady-of i b m), subst (λ (n : ℕ). HasChainsUpTo from n i) (omega arith) m)
   buckets (suc count) b i few m =
       let one = one-bucket i b (omega (arith, few)) m in
       let j : Image = after (chain_steps b (kept_records from b) i) i in
       let more = buckets count (b + 1) j (omega (arith, few)) one.1 in (
         until-append (HoldsTheSame from) (HoldsTheSame from) (chain_steps b (kept_records from b) i) (chains_steps (kept_records from) (b + 1) count j) i one.0 more.0,
-        subst (λ (im : Image). IsMadeUpTo im (b + suc count)) (sym (after-append (chain_steps b (kept_records from b) i) (chains_steps (kept_records from) (b + 1) count j) i)) (subst (IsMadeUpTo (after (chains_steps (kept_records from) (b + 1) count j) j)) (omega arith) more.1),
+        subst (HasChainsUpTo from (b + suc count)) (sym (after-append (chain_steps b (kept_records from b) i) (chains_steps (kept_records from) (b + 1) count j) i)) (subst (λ (n : ℕ). HasChainsUpTo from n (after (chains_steps (kept_records from) (b + 1) count j) j)) (omega arith) more.1),
       )
+
+pub chains-begin : ChainsBegin
+chains-begin image well ready all = record {
+  holds = record { well_formed = well; writable = ready; kept_same = refl; found_same = refl };
+  list = refl;
+  loads = (shown image well all).loads;
+  mended = λ o below. absurd (let e = below in omega (arith, e));
+  as_before = λ o over. refl;
+}
+
+pub buckets-mended : BucketsAreMended
+buckets-mended from image bucket well all below m = one-bucket from well all image bucket below m
+
+pub chains-end : ChainsEnd
+chains-end from image m = record { list = m.list; chains = m.mended }
 
 pub chains-repaired : ChainsAreRepaired
 unfolding chain_repair_steps
 chains-repaired image well ready all =
-    let start : IsMadeUpTo image well all image 0 = record {
-      steady = record { well_formed = well; writable = ready; list = refl; loads = (shown image well all).loads };
-      made = λ o below. absurd (let e = below in omega (arith, e));
-      left = λ o over. refl;
-    } in
-    let whole = buckets image well all 65536 0 image (omega arith) start in
-    (whole.0, record { list = whole.1.steady.list; chains = λ b below. whole.1.made b (omega (arith, below)) })
+    let whole = buckets image well all 65536 0 image (omega arith) (chains-begin image well ready all) in
+    (whole.0, chains-end image (after (chain_repair_steps image) image) (subst (λ (n : ℕ). HasChainsUpTo image n (after (chain_repair_steps image) image)) (omega arith) whole.1))
+
+-- ---- what is right already
+
+unless-right : (word other : ℕ) (steps : List TrailStep) → word ≡ other → (if word == other then [] else steps) ≡ []
+unless-right word other steps same = rw (eq-eqb word other same) refl
+
+links-right : (image : Image) (bucket : ℕ) (words : List ℕ) (word : ℕ) → Linked (store_of image) bucket word words → (word ≡ first_or 0 words) × (link_steps words image ≡ [])
+links-right image bucket [] word linked = (linked, refl)
+links-right image bucket (w ∷ words) word linked =
+    let rest = links-right image bucket words ((store_of image).chain_next w) linked.2 in
+    let none : next_steps w (first_or 0 words) image ≡ [] = unless-right ((store_of image).chain_next w) (first_or 0 words) (sealed_steps image w ((4, first_or 0 words) ∷ [])) rest.0 in
+    (linked.0, rw none rest.1)
+
+pub none-to_link : WholeChainsNeedNoSteps
+none-to_link image bucket words is =
+    let right = links-right image bucket words ((store_of image).table bucket) is.linked in
+    let none : bucket_steps bucket (first_or 0 words) image ≡ [] = unless-right ((store_of image).table bucket) (first_or 0 words) (word_step Index (place_of_bucket bucket) (first_or 0 words)) right.0 in
+    rw none right.1
+
+-- ---- where nothing of the store is shown to change
+
+pub records-stay : KeptRecordsStay
+unfolding kept_records
+records-stay from image holds same bucket =
+    ap (λ (ks : List Loaded). filter (is_kept_record ks) (chain (store_of image) bucket).reached) holds.kept_same ∙ ap (λ (c : Chain). filter (is_kept_record (kept from)) c.reached) (chain-same (store_of from) (store_of image) same bucket)
+
+linked-stay : (v u : StoreView) → ShowsTheSame v u → (bucket word : ℕ) (words : List ℕ) → Linked v bucket word words → Linked u bucket word words
+linked-stay v u same bucket word [] linked = linked
+linked-stay v u same bucket word (w ∷ words) linked = (
+  linked.0,
+  of_bucket-same v u (λ x. same.store.entry x (λ c h. refl)) (λ x. same.store.chain_next x (λ c h. refl)) bucket w ∙ linked.1,
+  subst (λ (x : ℕ). Linked u bucket x words) (same.store.chain_next w (λ c h. refl)) (linked-stay v u same bucket (v.chain_next w) words linked.2),
+)
+
+pub chains-stay : WholeChainsStay
+chains-stay from image same bucket words is = record {
+  linked = subst (λ (x : ℕ). Linked (store_of image) bucket x words) (same.table bucket) (linked-stay (store_of from) (store_of image) same bucket ((store_of from).table bucket) words is.linked);
+  once = is.once;
+}

@@ -4,6 +4,7 @@ pub mod ListRepair
 pub mod Paths
 pub mod Frames
 pub mod RecordWords
+pub mod KeptRecords
 pub mod ChainRepair
 pub mod OwnClaims
 pub mod MendedLinks

@@ -24,7 +24,7 @@ use Rattle.blk_volume.specs.Audit.{kept_nodes}
 use Rattle.blk_repair_laws.specs.ListRepair.{list_repair_steps, HoldsTheSame, IsListMended}
 use Rattle.blk_repair_laws.specs.ChainRepair.{is_kept_record, kept_records, chain_repair_steps, AreChainsMended}
 use Rattle.blk_repair_laws.specs.MendedLinks.{HasMendedLinks}
-use Rattle.blk_repair_laws.specs.LinkRepair.{LinksAreRepaired}
+use Rattle.blk_repair_laws.specs.LinkRepair.{LinksAreRepaired, MendedChainsAreMendedLinks}
 use Rattle.blk_repair_laws.proofs.ChainRepair.{chains-repaired}
 use Rattle.blk_laws.proofs.Kept.{kept-nodes}
 use Rattle.blk_repair_laws.proofs.ListRepair.{holds-trans, lists-repaired}
@@ -48,30 +48,43 @@ pub rest-kept : (image : Image) (nodes : List ℕ) → HasListAtRest nodes image
 unfolding kept
 rest-kept image nodes rest = ap (kept_among (store_of image) held_rule) (walk-idle (list_of image) rest.idle)
 
+module _ (image mid last : Image) (list_mended : IsListMended image mid) (holds_last : HoldsTheSame mid last) (chained : AreChainsMended mid last) where
+  walks-mid : walked mid ≡ map (λ (k : Loaded). k.node) (kept image)
+  walks-mid = walk_list (list_of mid) (map (λ (k : Loaded). k.node) (kept image)) list_mended.rests.whole
+
+  rest-mid : HasListAtRest (walked mid) mid
+  rest-mid = subst (λ (ns : List ℕ). HasListAtRest ns mid) (sym walks-mid) list_mended.rests
+
+  rest-last : HasListAtRest (walked last) last
+  rest-last = rests-list (list_of mid) (list_of last) chained.list rest-mid
+
+  all-last : kept_nodes (store_of last) held_rule (walked last) ≡ walked last
+  all-last =
+      sym (kept-nodes (store_of last) held_rule (walked last) rest-last.whole.distinct) ∙ ap (map (λ (k : Loaded). k.node)) (sym (rest-kept last (walked last) rest-last) ∙ holds_last.kept_same ∙ rest-kept mid (walked mid) rest-mid)
+      ∙ kept-nodes (store_of mid) held_rule (walked mid) rest-mid.whole.distinct ∙ list_mended.all_kept ∙ sym (ap walk chained.list)
+
+  links-mended : HasMendedLinks last
+  links-mended = record {
+    well_formed = holds_last.well_formed;
+    rests = rest-last;
+    all_kept = all-last;
+    chains = λ bucket below. subst (IsChain (store_of last) bucket) (sym (records-still mid last bucket holds_last.kept_same (chained.chains bucket below))) (chained.chains bucket below);
+  }
+
+pub chains-links : MendedChainsAreMendedLinks
+chains-links image between last holds list_mended holds_last chained = links-mended image between last list_mended holds_last chained
+
 pub links-repaired : LinksAreRepaired
 links-repaired image well ready =
     let H : Image → Type 0 = HoldsTheSame image in
     let first = lists-repaired image well ready in
     let mid : Image = after (list_repair_steps image) image in
     let holds : HoldsTheSame image mid = until_last H H (list_repair_steps image) image first.0 in
-    let list_mended : IsListMended image mid = first.1 in
-    let walks : walked mid ≡ map (λ (k : Loaded). k.node) (kept image) = walk_list (list_of mid) (map (λ (k : Loaded). k.node) (kept image)) list_mended.rests.whole in
-    let rest_mid : HasListAtRest (walked mid) mid = subst (λ (ns : List ℕ). HasListAtRest ns mid) (sym walks) list_mended.rests in
-    let second = chains-repaired mid holds.well_formed holds.writable (record { idle = list_mended.rests.idle; all_kept = list_mended.all_kept }) in
+    let second = chains-repaired mid holds.well_formed holds.writable (record { idle = first.1.rests.idle; all_kept = first.1.all_kept }) in
     let last : Image = after (chain_repair_steps mid) mid in
     let M : Image → Type 0 = HoldsTheSame mid in
     let holds_last : HoldsTheSame mid last = until_last M M (chain_repair_steps mid) mid second.0 in
-    let along = until_weaker2 M H M H (chain_repair_steps mid) mid (λ i. holds-trans image mid i holds) (λ i. holds-trans image mid i holds) second.0 in
-    let chained : AreChainsMended mid last = second.1 in
-    let rest_last : HasListAtRest (walked last) last = rests-list (list_of mid) (list_of last) chained.list rest_mid in
-    let walks_last : walked last ≡ walked mid = ap walk chained.list in
-    let all_last : kept_nodes (store_of last) held_rule (walked last) ≡ walked last =
-    sym (kept-nodes (store_of last) held_rule (walked last) rest_last.whole.distinct) ∙ ap (map (λ (k : Loaded). k.node)) (sym (rest-kept last (walked last) rest_last) ∙ holds_last.kept_same ∙ rest-kept mid (walked mid) rest_mid)
-    ∙ kept-nodes (store_of mid) held_rule (walked mid) rest_mid.whole.distinct ∙ list_mended.all_kept ∙ sym walks_last in
-    let mended : HasMendedLinks last = record {
-      well_formed = holds_last.well_formed;
-      rests = rest_last;
-      all_kept = all_last;
-      chains = λ bucket below. subst (IsChain (store_of last) bucket) (sym (records-still mid last bucket holds_last.kept_same (chained.chains bucket below))) (chained.chains bucket below);
-    } in
-    (until-append H H (list_repair_steps image) (chain_repair_steps mid) image first.0 along, subst HasMendedLinks (sym (after-append (list_repair_steps image) (chain_repair_steps mid) image)) mended)
+    let along = until_weaker2 M H M H (chain_repair_steps mid) mid (λ i. holds-trans image mid i holds) (λ i. holds-trans image mid i holds) second.0 in (
+      until-append H H (list_repair_steps image) (chain_repair_steps mid) image first.0 along,
+      subst HasMendedLinks (sym (after-append (list_repair_steps image) (chain_repair_steps mid) image)) (links-mended image mid last first.1 holds_last second.1),
+    )

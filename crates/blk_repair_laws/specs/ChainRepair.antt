@@ -1,19 +1,22 @@
 -- The steps by which the chains are repaired, and what is held at each of their words.
-use Rattle.std.specs.Prelude.{◌≡◌, ℕ, zero, suc, ◌+◌, ◌<◌, ◌==◌, if◌then◌else◌, List, [], ◌∷◌, ◌++◌, Bool}
+use Rattle.std.specs.declared.result.Result.TheVariants.{Ok}
+use Rattle.std.specs.declared.option.Option.TheVariants.{Some}
+use Rattle.std.specs.Prelude.{◌≤◌, true, ◌≡◌, ℕ, zero, suc, ◌+◌, ◌<◌, ◌==◌, if◌then◌else◌, List, [], ◌∷◌, ◌++◌, Bool, map}
 use Rattle.std.specs.List.{list_any, filter}
 use Rattle.blk_image.specs.Image.{Index, Image}
 use Rattle.blk_image.specs.Steps.{TrailStep, word_step, after}
 use Rattle.blk_image.specs.Told.{Along}
 use Rattle.blk_format.specs.Headers.{table_length, place_of_bucket}
-use Rattle.blk_format.specs.BlockFiles.{IsWellFormed}
-use Rattle.blk_format.specs.Sealed.{sealed_steps}
+use Rattle.blk_format.specs.BlockFiles.{is_among, IsWellFormed}
+use Rattle.blk_format.specs.Sealed.{RecordChecks, sealed_steps}
 use Rattle.blk_volume.specs.ListView.{first_or}
 use Rattle.blk_volume.specs.View.{list_of, store_of}
 use Rattle.blk_volume.specs.Chains.{chain, IsChain}
-use Rattle.blk_volume.specs.Loads.{held_rule, Loaded}
+use Rattle.blk_volume.specs.Loads.{held_rule, Loaded, load}
 use Rattle.blk_volume.specs.Found.{kept}
 use Rattle.blk_volume.specs.ListImages.{IsWritable, walked}
-use Rattle.blk_volume.specs.Audit.{kept_nodes}
+use Rattle.blk_volume.specs.Audit.{kept_nodes, kept_as}
+use Rattle.blk_volume.specs.ShownChanges.{ShowsTheSame}
 use Rattle.blk_repair_laws.specs.ListRepair.{HoldsTheSame}
 
 -- a word names the record of a kept node
@@ -63,3 +66,50 @@ pub record AreChainsMended (from image : Image) : Type 0 where
 -- at each word of the repair of the chains the same is held; in the end they are repaired
 abbrev pub ChainsAreRepaired : Type 0
 ChainsAreRepaired = (image : Image) → IsWellFormed image → IsWritable image → KeepsAll image → Along (HoldsTheSame image) image (chain_repair_steps image) × AreChainsMended image (after (chain_repair_steps image) image)
+
+-- The buckets, one after the other.
+
+-- the chains of the buckets below one are those of their kept records, and the others are as they were; the list is as it was, and each kept node loads as it did
+pub record HasChainsUpTo (from : Image) (bucket : ℕ) (image : Image) : Type 0 where
+  pub holds : HoldsTheSame from image
+  pub list : list_of image ≡ list_of from
+  pub loads : (node : ℕ) (loaded : Loaded) → is_among (walked from) node ≡ true → kept_as (store_of from) held_rule (walked from) node ≡ Some loaded → load (store_of image) held_rule node ≡ Ok loaded
+  pub mended : (other : ℕ) → other < bucket → IsChain (store_of image) other (kept_records from other)
+  pub as_before : (other : ℕ) → bucket ≤ other → chain (store_of image) other ≡ chain (store_of from) other
+
+-- at first none is mended
+abbrev pub ChainsBegin : Type 0
+ChainsBegin = (image : Image) → IsWellFormed image → IsWritable image → KeepsAll image → HasChainsUpTo image 0 image
+
+-- a bucket is made the chain of its kept records, and the same is held at each word of that
+abbrev pub BucketsAreMended : Type 0
+BucketsAreMended = (from image : Image) (bucket : ℕ) → IsWellFormed from → KeepsAll from → bucket < table_length → HasChainsUpTo from bucket image
+    → Along (HoldsTheSame from) image (chain_steps bucket (kept_records from bucket) image) × HasChainsUpTo from (bucket + 1) (after (chain_steps bucket (kept_records from bucket) image) image)
+
+-- a bucket that is the chain of these records already needs no step
+abbrev pub WholeChainsNeedNoSteps : Type 0
+WholeChainsNeedNoSteps = (image : Image) (bucket : ℕ) (words : List ℕ) → IsChain (store_of image) bucket words → chain_steps bucket words image ≡ []
+
+-- in the end all are mended
+abbrev pub ChainsEnd : Type 0
+ChainsEnd = (from image : Image) → HasChainsUpTo from table_length image → AreChainsMended from image
+
+-- What the repair of the list leaves of the chains.
+
+-- where the same is kept, and nothing else is shown to change, each bucket has the same kept records
+abbrev pub KeptRecordsStay : Type 0
+KeptRecordsStay = (from image : Image) → HoldsTheSame from image → ShowsTheSame (store_of from) (store_of image) → (bucket : ℕ) → kept_records image bucket ≡ kept_records from bucket
+
+-- and a whole chain stays one
+abbrev pub WholeChainsStay : Type 0
+WholeChainsStay = (from image : Image) → ShowsTheSame (store_of from) (store_of image) → (bucket : ℕ) (words : List ℕ) → IsChain (store_of from) bucket words → IsChain (store_of image) bucket words
+
+-- What is kept can be written.
+
+-- the node of what is kept checks
+abbrev pub KeptNodesCheck : Type 0
+KeptNodesCheck = (image : Image) → IsWritable image → (node : ℕ) → is_among (map (λ k. k.node) (kept image)) node ≡ true → RecordChecks node image
+
+-- and so does its record
+abbrev pub KeptRecordsCheck : Type 0
+KeptRecordsCheck = (image : Image) → IsWritable image → (w : ℕ) → is_kept_record (kept image) w ≡ true → RecordChecks w image

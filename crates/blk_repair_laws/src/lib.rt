@@ -3,8 +3,8 @@
 
 ghost use Rattle.blk_repair_laws.specs.EndRepair.{EndsAreMended};
 ghost use Rattle.blk_repair_laws.specs.ListRepair.{ListsAreRepaired, CompletedListsAreEnded, ListsAtRestNeedNoEnd, DroppedNodesAreTheOthers, RemovalsBegin, KeptNodesArePassed, OtherNodesAreRemoved, RemovalsEnd};
-ghost use Rattle.blk_repair_laws.specs.ChainRepair.{ChainsAreRepaired};
-ghost use Rattle.blk_repair_laws.specs.LinkRepair.{LinksAreRepaired};
+ghost use Rattle.blk_repair_laws.specs.ChainRepair.{ChainsAreRepaired, ChainsBegin, BucketsAreMended, WholeChainsNeedNoSteps, ChainsEnd, KeptRecordsStay, WholeChainsStay, KeptNodesCheck, KeptRecordsCheck};
+ghost use Rattle.blk_repair_laws.specs.LinkRepair.{LinksAreRepaired, MendedChainsAreMendedLinks};
 ghost use Rattle.blk_repair_laws.specs.MendedLinks.{MendedLinksRepresent};
 ghost use Rattle.blk_repair_laws.specs.MendedChanges.{MendedLinksStayOutside, MendedLinksMayGrow, RecordsMayBeSealed, NodesMayBeSealed};
 ghost use Rattle.blk_repair_laws.specs.Mended.{MendedFoldersStandFor, MendedFoldersAreSound};
@@ -40,9 +40,30 @@ pub fn chains_are_repaired()
     ensures { ChainsAreRepaired }
 {}
 
+/// The buckets are mended one after the other; one that is right needs no step.
+pub fn buckets_are_mended()
+    ensures begins { ChainsBegin }
+    ensures mends { BucketsAreMended }
+    ensures none { WholeChainsNeedNoSteps }
+    ensures ends { ChainsEnd }
+{}
+
+/// What the repair of the list leaves of the chains: the kept records of each bucket, and whole chains.
+pub fn chains_stay()
+    ensures records { KeptRecordsStay }
+    ensures whole { WholeChainsStay }
+{}
+
+/// The nodes and the records of what is kept check, so they can be written.
+pub fn kept_records_check()
+    ensures nodes { KeptNodesCheck }
+    ensures records { KeptRecordsCheck }
+{}
+
 /// Both, one after the other: of every well-formed image the same is kept and found at each word, and in the end its links are mended.
 pub fn links_are_repaired()
-    ensures { LinksAreRepaired }
+    ensures at_each_word { LinksAreRepaired }
+    ensures mended { MendedChainsAreMendedLinks }
 {}
 
 /// A folder whose links are mended represents what it holds, opened.
