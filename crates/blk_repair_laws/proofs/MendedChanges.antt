@@ -2,19 +2,39 @@
 use Rattle.std.proofs.Common.{inl, inr, ◌≡◌, ◌≢◌, ⊎_elim, ℕ, zero, suc, ◌+◌, ◌^◌, ◌<◌, Bool, true, false, List, [], ◌∷◌, ◌++◌, take, Option, Some, None, Ok, refl, sym, ap, ◌∙◌, subst, arith}
 use Rattle.std.specs.Prelude.{◌==◌, if◌then◌else◌, map, slice_index}
 use Rattle.std.specs.List.{filter_map, cons_option}
-use Rattle.std.proofs.lemmas.Bool.{eq-eqb, or_left, or_right, or_cases, cases_eq}
+use Rattle.std.specs.Prelude.{length}
+use Rattle.std.specs.Option.{unwrap_or}
+use Rattle.std.proofs.lemmas.List.Elements.{All-nil}
+use Rattle.blk_image.specs.Image.{Index, External}
+use Rattle.blk_image.specs.Bytes.{content}
+use Rattle.blk_image.specs.Footprint.{whole}
+use Rattle.blk_image.specs.Checks.{first_of}
+use Rattle.blk_image.specs.Steps.{Delete, applied, with_words}
+use Rattle.blk_image.proofs.Footprints.{same_file_outside}
+use Rattle.blk_format.specs.Headers.{head_checks, list_checks}
+use Rattle.blk_format.specs.Claims.{ExternalOf, same_claim}
+use Rattle.blk_format.specs.Sealed.{IsMidUpdate, record_at, seal_place}
+use Rattle.blk_volume.specs.ListImages.{IsWritable}
+use Rattle.blk_laws.proofs.Covers.{externals-covered}
+use Rattle.blk_laws.proofs.Files.{unlinked-go}
+use Rattle.blk_laws.proofs.IndexWords.{others-hidden, others-unchecked, same-shown}
+use Rattle.blk_laws.proofs.Laid.{same_claim-eq}
+use Rattle.blk_laws.proofs.Nodes.{times-hidden}
+use Rattle.blk_laws.proofs.Walked.{walks-distinct}
+use Rattle.blk_laws.proofs.WellFormed.{well_formed_still}
+use Rattle.std.proofs.lemmas.Bool.{eq-eqb, or_left, or_right, or_cases, cases_eq, cases_Bool}
 use Rattle.std.proofs.lemmas.Bool.Decides.{eqb_tells}
 use Rattle.std.proofs.Math.Dec.{eqb}
 use Rattle.blk_image.specs.Bytes.{word_at}
 use Rattle.blk_image.specs.Image.{Image, Block, AreBytes, byte}
 use Rattle.blk_image.proofs.Words.{word-fits}
 use Rattle.blk_format.specs.Address.{file_selector, place, rankings, blocks_256}
-use Rattle.blk_format.specs.Records.{node_in, entry_in}
+use Rattle.blk_format.specs.Records.{entry_in}
 use Rattle.blk_format.specs.Hash.{hash}
 use Rattle.blk_format.specs.Claims.{Claim, claims_of, has_claim}
 use Rattle.blk_format.specs.BlockFiles.{is_among, IsWellFormed}
-use Rattle.blk_volume.specs.ListView.{ListView, Next, after_writes, put, Segment, IsList}
-use Rattle.blk_volume.specs.View.{RecordFields, stands_as, next_at, follow_at, list_of, store_of, view_of}
+use Rattle.blk_volume.specs.ListView.{ListView, IsList}
+use Rattle.blk_volume.specs.View.{RecordFields, stands_as, follow_at, list_of, store_of, view_of}
 use Rattle.blk_volume.specs.Chains.{Chain, chain, file_and_block, bucket_of_hash, Linked, IsChain}
 use Rattle.blk_volume.specs.Loads.{held_rule, unchained_rule, Loaded, load, all_claims, claims_of_loaded}
 use Rattle.blk_volume.specs.Audit.{kept_among}
@@ -25,7 +45,7 @@ use Rattle.blk_volume.specs.Sound.{words_of}
 use Rattle.blk_volume.specs.ListImages.{walked, HasListAtRest}
 use Rattle.blk_volume.specs.ShownChanges.{OnlyListChanges, OnlyChainNextChanges}
 use Rattle.blk_laws.proofs.Inside.{updates-inside}
-use Rattle.blk_laws.proofs.Nodes.{nexts-written, good-stands}
+use Rattle.blk_laws.proofs.Nodes.{good-stands}
 use Rattle.blk_laws.proofs.Records.{follows-written}
 use Rattle.blk_laws.proofs.StillShown.{standing-parts, core-standing}
 use Rattle.blk_repair_laws.proofs.Frames.{IsRecordOf, record-of, apart-clear, own-clear, load-linked}
@@ -35,7 +55,7 @@ use Rattle.blk_laws.proofs.Allocations.{words-stand, words-claims}
 use Rattle.blk_laws.proofs.Bare.{no-record}
 use Rattle.blk_laws.proofs.Chains.{chain-is}
 use Rattle.blk_laws.proofs.ClaimLists.{claim-append, no-claim}
-use Rattle.blk_laws.proofs.ByteChanges.{agreeing-views}
+use Rattle.blk_laws.proofs.ByteChanges.{agreeing-views, views-same}
 use Rattle.blk_format.proofs.Finished.{well_formed-finished}
 use Rattle.blk_laws.proofs.Loading.{load-rule, load-clean}
 use Rattle.blk_laws.proofs.Outside.{AreClear, all-clear, load-outside, linked-same, list-outside}
@@ -45,7 +65,7 @@ use Rattle.blk_volume.specs.Audit.{kept_as}
 use Rattle.blk_repair_laws.specs.ChainRepair.{kept_records, KeepsAll}
 use Rattle.blk_volume.specs.Footprint.{is_absent}
 use Rattle.blk_repair_laws.specs.MendedLinks.{HasMendedLinks}
-use Rattle.blk_repair_laws.specs.MendedChanges.{KeepsMendedLinks, IsUnkept, MendedLinksStayOutside, MendedLinksMayGrow, RecordsMayBeSealed, NodesMayBeSealed}
+use Rattle.blk_repair_laws.specs.MendedChanges.{KeepsMendedLinks, RepairedLinksAreKept, MendedLinksGoOn, MendedLinksHoldTheSame, IsUnkept, MendedLinksStayOutside, MendedLinksMayGrow, UnlinkedFilesMayBeDeleted, UnclaimedFilesMayChange, HiddenWordsMayChange, KeptNodesMayBeSealed, KeptRecordsMayBeSealed}
 use Rattle.blk_repair_laws.proofs.ChainRepair.{shown, given-some, kept-from, IsKeptRecord, of-test}
 use Rattle.blk_laws.proofs.Files.{growth-absent, words-there}
 use Rattle.blk_laws.proofs.Kept.{kept-nodes}
@@ -191,27 +211,56 @@ module _ (from : Image) (mended : HasMendedLinks from) where
         (or_cases (has_claim (all_claims k) c) (has_claim (claims_of_loaded (filter_map asked-of xs)) c) (sym (claim-append (all_claims k) (claims_of_loaded (filter_map asked-of xs)) c) ∙ split))
 
 pub links-grow : MendedLinksMayGrow
-links-grow from image mended well grown =
-    links-outside (is_absent from) from image mended well (agreeing-views (is_absent from) from image (growth-absent from image grown))
+links-grow from image mended whole =
+    links-outside (is_absent from) from image mended (whole.formed mended.well_formed) (agreeing-views (is_absent from) from image (growth-absent from image whole.grown))
     (λ c there. claims-there from mended (walked from) c (λ x h. h) (ap (λ (ks : List Loaded). has_claim (claims_of_loaded ks) c) (sym (kept-from from mended.well_formed (record { idle = mended.rests.idle; all_kept = mended.all_kept }))) ∙ there))
 
+-- ---- one change after another
+
+pub repaired-kept : RepairedLinksAreKept
+repaired-kept from image holds mended = record { mended = mended; kept_same = holds.kept_same; found_same = holds.found_same }
+
+pub links-on : MendedLinksGoOn
+links-on from between image first second = record { mended = second.mended; kept_same = second.kept_same ∙ first.kept_same; found_same = second.found_same ∙ first.found_same }
+
+pub links-hold : MendedLinksHoldTheSame
+links-hold from image keeps ready = record { well_formed = keeps.mended.well_formed; writable = ready; kept_same = keeps.kept_same; found_same = keeps.found_same }
+
+-- ---- files that go, and words of the index
+
+none-touched : (from image : Image) → HasMendedLinks from → IsWellFormed image → SameBut (λ claim. false) (view_of from) (view_of image) → KeepsMendedLinks from image
+none-touched from image mended well same = links-outside (λ claim. false) from image mended well same (λ claim there. refl)
+
+pub unlinked-deleted : UnlinkedFilesMayBeDeleted
+unlinked-deleted from n mended free =
+    let gone = unlinked-go from n free in
+    none-touched from (applied (Delete (Block n)) from) mended (gone.well_formed mended.well_formed) gone.shown
+
+pub unclaimed-change : UnclaimedFilesMayChange
+unclaimed-change from image n mended unclaimed same =
+    let index : image Index ≡ from Index = same_file_outside (whole (External n)) from image Index same (λ i. refl) refl in
+    let well : IsWellFormed image = well_formed_still (whole (External n)) from image (record { bytes = λ m i small. refl }) (λ m. refl) same
+    (ap (λ (bytes : Option (List ℕ)). first_of (head_checks (content (unwrap_or bytes [])) (length (unwrap_or bytes [])))) index)
+    (ap (λ (bytes : Option (List ℕ)). first_of (list_checks (content (unwrap_or bytes [])))) index) mended.well_formed in
+    links-outside (λ claim. same_claim claim (ExternalOf n)) from image mended well (views-same (whole (External n)) from image (λ claim. same_claim claim (ExternalOf n)) same (externals-covered from n))
+    (λ claim there. apart claim unclaimed there) where
+      apart : (claim : Claim) → has_claim (claims_of_loaded (kept from)) (ExternalOf n) ≡ false → has_claim (claims_of_loaded (kept from)) claim ≡ true → same_claim claim (ExternalOf n) ≡ false
+      apart claim unclaimed there = ⊎_elim
+          (λ (e : same_claim claim (ExternalOf n) ≡ true). let c : true ≡ false = sym there ∙ ap (has_claim (claims_of_loaded (kept from))) (same_claim-eq claim (ExternalOf n) e) ∙ unclaimed in cc)
+          (λ (e : same_claim claim (ExternalOf n) ≡ false). e)
+          (cases_Bool (same_claim claim (ExternalOf n)))
+
+pub hidden-change : HiddenWordsMayChange
+hidden-change from image at mended aligned inside hidden unchecked same =
+    let views : view_of image ≡ view_of from = others-hidden from image at aligned inside hidden same in
+    none-touched from image mended (others-unchecked from image at aligned unchecked same mended.well_formed)
+    (subst (SameBut (λ claim. false) (view_of from)) (sym views) (record {
+      links = record { head = refl; tail = refl; transaction = refl; checks = λ w c. refl; next = λ w c. refl; prev = λ w c. refl };
+      store = (same-shown (store_of from)).store;
+      table = λ b. refl;
+    }))
+
 -- ---- seals
-
--- each node of a whole list checks
-segment-good : (list : ListView) (before suffix : ℕ) (xs : List ℕ) (w : ℕ) → Segment list.checks list.next list.prev before xs suffix → is_among xs w ≡ true → list.checks w ≡ true
-segment-good list before suffix [] w s among = cc
-segment-good list before suffix (x ∷ xs) w s among =
-    ⊎_elim
-    (λ (e : (eqb x w ≡ true) × (x ≡ w)). subst (λ (y : ℕ). list.checks y ≡ true) e.1 s.0.good)
-    (λ (e : (eqb x w ≡ false) × _). segment-good list x suffix xs w s.1 (rw e.0 at among))
-    (eqb_tells x w)
-
-next-small : (image : Image) (w : ℕ) → AreBytes image → (list_of image).next w < 2 ^ 32
-unfolding list_of next_at node_in
-next-small image w bytes = go (stands_as image rankings w) where
-  go : (b : Bool) → (if b then word_at (byte image (Block (file_selector w))) (place w + 16) else 0) < 2 ^ 32
-  go true = word-fits (byte image (Block (file_selector w))) (bytes (Block (file_selector w))) (place w + 16)
-  go false = omega arith
 
 chain_next-small : (image : Image) (w : ℕ) → AreBytes image → (store_of image).chain_next w < 2 ^ 32
 unfolding store_of follow_at entry_in
@@ -220,35 +269,39 @@ chain_next-small image w bytes = go (stands_as image blocks_256 w) where
   go true = word-fits (byte image (Block (file_selector w))) (bytes (Block (file_selector w))) (place w + 4)
   go false = omega arith
 
--- a value put where it is already
-put-same-value : (f : ℕ → ℕ) (a k : ℕ) → put f a (f a) k ≡ f k
-unfolding put
-put-same-value f a k = ⊎_elim (λ (e : (eqb k a ≡ true) × (k ≡ a)). rw e.0 (ap f (sym e.1))) (λ (e : (eqb k a ≡ false) × _). rw e.0 refl) (eqb_tells k a)
+-- at a word of a seal a change is not made yet
+sealing-mid : (from image : Image) (w : ℕ) (change : ℕ × ℕ) → IsMidUpdate from w [] image → IsMidUpdate from w (change ∷ []) image
+sealing-mid from image w change mid = record {
+  made = 0;
+  within = omega arith;
+  fields = mid.fields ∙ ap (λ (changes : List (ℕ × ℕ)). take (seal_place w) (with_words changes (record_at from w))) (none mid.made);
+  checks = mid.checks;
+  outside = mid.outside;
+} where
+  none : (made : ℕ) → take {A = ℕ × ℕ} made [] ≡ []
+  none zero = refl
+  none (suc made) = refl
 
-pub nodes-sealed : NodesMayBeSealed
-nodes-sealed from image node k mended ready here moment =
+pub nodes-sealed : KeptNodesMayBeSealed
+nodes-sealed from image node mended ready there mid =
     let list : ListView = list_of from in
-    let good : list.checks node ≡ true = segment-good list _ _ (walked from) node mended.rests.whole.linked here.among in
-    let only : OnlyListChanges (take moment.made (Next node (list.next node) ∷ [])) from image = nexts-written from image node (list.next node) (record { good = good; bytes = ready.bytes }) (next-small from node ready.bytes) moment in
+    let nodes : map (λ (k : Loaded). k.node) (kept from) ≡ walked from =
+    ap (map (λ (k : Loaded). k.node)) (rest-kept from (walked from) mended.rests) ∙ kept-nodes (store_of from) held_rule (walked from) mended.rests.whole.distinct ∙ mended.all_kept in
+    let good : list.checks node ≡ true = (walks-distinct list).1 node (ap (λ (ns : List ℕ). is_among ns node) (sym nodes) ∙ there) in
     let p = standing-parts from rankings node (good-stands from node good) in
-    let well : IsWellFormed image = (updates-inside from image node ((16, list.next node) ∷ []) p.0 (inl p.1) moment).well_formed mended.well_formed in
-    let same : list_of image ≡ list = only.list ∙ prefix moment.made list in
-    links-outside (λ claim. false) from image mended well
+    let only : OnlyListChanges [] from image = times-hidden from image node [] (record { good = good; bytes = ready.bytes }) (record { few = omega arith; aligned = All-nil _; before = All-nil _; different = tt }) (All-nil _) mid in
+    let same : list_of image ≡ list = only.list in
+    none-touched from image mended ((updates-inside from image node [] p.0 (inl p.1) mid).well_formed mended.well_formed)
     (record {
       links = record { head = ap (λ (l : ListView). l.head) (sym same); tail = ap (λ (l : ListView). l.tail) (sym same); transaction = ap (λ (l : ListView). l.transaction) (sym same); checks = λ w c. ap (λ (l : ListView). l.checks w) (sym same); next = λ w c. ap (λ (l : ListView). l.next w) (sym same); prev = λ w c. ap (λ (l : ListView). l.prev w) (sym same) };
       store = only.store.store;
       table = only.store.table;
     })
-    (λ claim there. refl) where
-      prefix : (made : ℕ) (list : ListView) → after_writes (take made (Next node (list.next node) ∷ [])) list ≡ list
-      prefix zero list = refl
-      prefix (suc zero) list = λ i. record { head = list.head; tail = list.tail; transaction = list.transaction; operation = list.operation; checks = list.checks; next = λ x. put-same-value list.next node x i; prev = list.prev }
-      prefix (suc (suc made)) list = λ i. record { head = list.head; tail = list.tail; transaction = list.transaction; operation = list.operation; checks = list.checks; next = λ x. put-same-value list.next node x i; prev = list.prev }
 
-pub records-sealed : RecordsMayBeSealed
-records-sealed from image node k mended ready here moment =
+record-sealed : (from image : Image) (node : ℕ) (k : Loaded) → HasMendedLinks from → IsWritable from → is_among (walked from) node ≡ true → kept_as (store_of from) held_rule (walked from) node ≡ Some k → IsMidUpdate from k.contents ((4, (store_of from).chain_next k.contents) ∷ []) image → KeepsMendedLinks from image
+record-sealed from image node k mended ready among_k is_k moment =
     let s = shown from mended.well_formed (record { idle = mended.rests.idle; all_kept = mended.all_kept }) in
-    let ok = s.loads node k here.among here.is in
+    let ok = s.loads node k among_k is_k in
     let rc : IsRecordOf (store_of from) k = record-of (store_of from) node k ok in
     let w : ℕ = k.contents in
     let x : ℕ = (store_of from).chain_next w in
@@ -265,10 +318,10 @@ records-sealed from image node k mended ready here moment =
     let alone_ok = loads-alone from image mended well other l among is in
     ⊎_elim
     (λ (e : (eqb node other ≡ true) × (node ≡ other)).
-    let same : l ≡ k = some-one (sym is ∙ ap (kept_as (store_of from) held_rule (walked from)) (sym e.1) ∙ here.is) in
+    let same : l ≡ k = some-one (sym is ∙ ap (kept_as (store_of from) held_rule (walked from)) (sym e.1) ∙ is_k) in
     load-linked (store_of from) (store_of image) w links (unchained_rule 0) other l alone_ok (inr (ap (λ (m : Loaded). m.contents) same)) (λ n. subst (λ (m : Loaded). IsClear (has_claim (claims_of m.contents)) (slice_index l.others n)) same (own-clear l (s.single other l among is) n)) refl)
     (λ (e : (eqb node other ≡ false) × _).
-    let clear : AreClear (has_claim (claims_of w)) l = apart-clear k l (s.apart node other k l here.among among e.0 here.is is) in
+    let clear : AreClear (has_claim (claims_of w)) l = apart-clear k l (s.apart node other k l among_k among e.0 is_k is) in
     load-linked (store_of from) (store_of image) w links (unchained_rule 0) other l alone_ok (inl clear.contents) clear.others refl)
     (eqb_tells node other))
     (λ bucket below. let was = mended.chains bucket below in record {
@@ -292,3 +345,8 @@ records-sealed from image node k mended ready here moment =
           (λ (e : file_and_block x ≢ file_and_block w). sym (only.chain_next x e))
           (cases_eq (file_and_block x) (file_and_block w)) in
           (l.0, buckets-same from image w fields at only bucket x ∙ l.1, subst (λ (z : ℕ). Linked (store_of image) bucket z xs) (sym same) (go from image w fields at only link bucket ((store_of from).chain_next x) xs l.2))
+
+pub records-sealed : KeptRecordsMayBeSealed
+records-sealed from image w mended ready there mid =
+    let r : IsKeptRecord from mended.well_formed (all from from mended mended.well_formed) w = of-test from mended.well_formed (all from from mended mended.well_formed) w there in
+    record-sealed from image r.node r.k mended ready r.among r.is (sealing-mid from image r.k.contents (4, (store_of from).chain_next r.k.contents) (subst (λ (x : ℕ). IsMidUpdate from x [] image) (sym r.contents) mid))

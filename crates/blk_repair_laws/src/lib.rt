@@ -6,7 +6,7 @@ ghost use Rattle.blk_repair_laws.specs.ListRepair.{ListsAreRepaired, CompletedLi
 ghost use Rattle.blk_repair_laws.specs.ChainRepair.{ChainsAreRepaired, ChainsBegin, BucketsAreMended, WholeChainsNeedNoSteps, ChainsEnd, KeptRecordsStay, WholeChainsStay, KeptNodesCheck, KeptRecordsCheck};
 ghost use Rattle.blk_repair_laws.specs.LinkRepair.{LinksAreRepaired, MendedChainsAreMendedLinks};
 ghost use Rattle.blk_repair_laws.specs.MendedLinks.{MendedLinksRepresent};
-ghost use Rattle.blk_repair_laws.specs.MendedChanges.{MendedLinksStayOutside, MendedLinksMayGrow, RecordsMayBeSealed, NodesMayBeSealed};
+ghost use Rattle.blk_repair_laws.specs.MendedChanges.{RepairedLinksAreKept, MendedLinksGoOn, MendedLinksHoldTheSame, MendedLinksStayOutside, MendedLinksMayGrow, UnlinkedFilesMayBeDeleted, UnclaimedFilesMayChange, HiddenWordsMayChange, KeptNodesMayBeSealed, KeptRecordsMayBeSealed};
 ghost use Rattle.blk_repair_laws.specs.Mended.{MendedFoldersStandFor, MendedFoldersAreSound};
 ghost use Rattle.blk_repair_laws.specs.FoundHolding.{FoundIsAHolding};
 
@@ -71,12 +71,26 @@ pub fn mended_links_represent()
     ensures { MendedLinksRepresent }
 {}
 
-/// Mended links stay mended, with the same kept and found, where what isn't kept changes, where block files grow, and at each word of a seal.
-pub fn mended_links_stay_mended()
+/// Once the links are repaired they are mended with the same kept and found, and stay so through one change after another; then the same is held.
+pub fn mended_links_go_on()
+    ensures begins { RepairedLinksAreKept }
+    ensures goes_on { MendedLinksGoOn }
+    ensures holds { MendedLinksHoldTheSame }
+{}
+
+/// Mended links stay mended, with the same kept and found, where what isn't kept changes: where block files grow, where one that isn't linked or an external file that nobody claims goes, and where a counter of the index is written.
+pub fn mended_links_stay_outside()
     ensures outside { MendedLinksStayOutside }
     ensures grow { MendedLinksMayGrow }
-    ensures records { RecordsMayBeSealed }
-    ensures nodes { NodesMayBeSealed }
+    ensures unlinked { UnlinkedFilesMayBeDeleted }
+    ensures unclaimed { UnclaimedFilesMayChange }
+    ensures words { HiddenWordsMayChange }
+{}
+
+/// They stay so at each word at which what is kept is sealed.
+pub fn kept_records_may_be_sealed()
+    ensures nodes { KeptNodesMayBeSealed }
+    ensures records { KeptRecordsMayBeSealed }
 {}
 
 /// A mended folder stands for what it holds, opened, and is sound.
