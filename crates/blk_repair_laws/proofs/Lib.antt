@@ -10,5 +10,6 @@ pub mod OwnClaims
 pub mod MendedLinks
 pub mod LinkRepair
 pub mod MendedChanges
+pub mod Mended
 pub mod Rows
 pub mod FoundHolding

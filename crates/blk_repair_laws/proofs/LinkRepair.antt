@@ -48,6 +48,10 @@ pub rest-kept : (image : Image) (nodes : List ℕ) → HasListAtRest nodes image
 unfolding kept
 rest-kept image nodes rest = ap (kept_among (store_of image) held_rule) (walk-idle (list_of image) rest.idle)
 
+-- where the links are mended, the kept nodes are the walked ones
+pub kept-walked : (image : Image) → HasMendedLinks image → map (λ (k : Loaded). k.node) (kept image) ≡ walked image
+kept-walked image mended = ap (map (λ (k : Loaded). k.node)) (rest-kept image (walked image) mended.rests) ∙ kept-nodes (store_of image) held_rule (walked image) mended.rests.whole.distinct ∙ mended.all_kept
+
 module _ (image mid last : Image) (list_mended : IsListMended image mid) (holds_last : HoldsTheSame mid last) (chained : AreChainsMended mid last) where
   walks-mid : walked mid ≡ map (λ (k : Loaded). k.node) (kept image)
   walks-mid = walk_list (list_of mid) (map (λ (k : Loaded). k.node) (kept image)) list_mended.rests.whole

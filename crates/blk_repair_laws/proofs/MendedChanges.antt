@@ -69,7 +69,7 @@ use Rattle.blk_repair_laws.specs.MendedChanges.{KeepsMendedLinks, RepairedLinksA
 use Rattle.blk_repair_laws.proofs.ChainRepair.{shown, given-some, kept-from, IsKeptRecord, of-test}
 use Rattle.blk_laws.proofs.Files.{growth-absent, words-there}
 use Rattle.blk_laws.proofs.Kept.{kept-nodes}
-use Rattle.blk_repair_laws.proofs.LinkRepair.{rest-kept, records-still}
+use Rattle.blk_repair_laws.proofs.LinkRepair.{rest-kept, records-still, kept-walked}
 use Rattle.blk_repair_laws.proofs.MendedLinks.{chain-has-test, has-chain-of, node-at}
 
 module _ (from image : Image) (mended : HasMendedLinks from) (well : IsWellFormed image) where
@@ -285,8 +285,7 @@ sealing-mid from image w change mid = record {
 pub nodes-sealed : KeptNodesMayBeSealed
 nodes-sealed from image node mended ready there mid =
     let list : ListView = list_of from in
-    let nodes : map (λ (k : Loaded). k.node) (kept from) ≡ walked from =
-    ap (map (λ (k : Loaded). k.node)) (rest-kept from (walked from) mended.rests) ∙ kept-nodes (store_of from) held_rule (walked from) mended.rests.whole.distinct ∙ mended.all_kept in
+    let nodes : map (λ (k : Loaded). k.node) (kept from) ≡ walked from = kept-walked from mended in
     let good : list.checks node ≡ true = (walks-distinct list).1 node (ap (λ (ns : List ℕ). is_among ns node) (sym nodes) ∙ there) in
     let p = standing-parts from rankings node (good-stands from node good) in
     let only : OnlyListChanges [] from image = times-hidden from image node [] (record { good = good; bytes = ready.bytes }) (record { few = omega arith; aligned = All-nil _; before = All-nil _; different = tt }) (All-nil _) mid in

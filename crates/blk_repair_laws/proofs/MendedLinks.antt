@@ -1,12 +1,12 @@
 -- A folder whose list and chains are repaired represents what it holds, opened.
-use Rattle.std.proofs.Common.{◌≡◌, ◌≢◌, ⊎_elim, ℕ, zero, suc, ◌<◌, ◌≤◌, Bool, true, false, cond, List, [], ◌∷◌, ◌++◌, length, Option, Some, None, Ok, refl, sym, ap, ap₂, ◌∙◌, subst, arith}
-use Rattle.std.specs.Prelude.{◌==◌, ◌&&◌, ◌||◌, map, is_some, IfSome, slice_index_or}
+use Rattle.std.proofs.Common.{◌≡◌, ◌≢◌, ⊎_elim, ℕ, zero, suc, ◌≤◌, Bool, true, false, cond, List, [], ◌∷◌, length, Option, Some, None, Ok, refl, sym, ap, ap₂, ◌∙◌, subst, arith}
+use Rattle.std.specs.Prelude.{◌==◌, ◌&&◌, ◌||◌, map, IfSome, slice_index_or}
 use Rattle.std.specs.Option.{option_map, option_map_or, option_and_then}
 use Rattle.std.specs.List.{filter_map, cons_option, AllByRecursion}
 use Rattle.std.proofs.lemmas.Bool.{cases_Bool, and_parts, eqb-true, eq-eqb, or_left, or_right}
 use Rattle.std.proofs.lemmas.Bool.Decides.{eqb_tells}
 use Rattle.std.proofs.Math.Dec.{eqb}
-use Rattle.blk_image.specs.Image.{Image, AreBytes}
+use Rattle.blk_image.specs.Image.{Image}
 use Rattle.blk_model.specs.Items.{Item, main, part, Row, main_row, part_row, item_of, same_item, times, IsValidHolding}
 use Rattle.blk_model.specs.State.{Bounds, State, Object, object_at}
 use Rattle.blk_model.specs.Holding as model
@@ -18,42 +18,25 @@ use Rattle.blk_format.specs.Hash.{hash}
 use Rattle.blk_format.specs.BlockFiles.{is_among}
 use Rattle.blk_format.specs.Names.{Name}
 use Rattle.blk_format.specs.SparseIndex.{PartIndex}
-use Rattle.blk_format.specs.Claims.{Claim, BlockOf, ExternalOf, has_claim, repeats}
-use Rattle.blk_volume.specs.ListView.{Distinct, IsList}
-use Rattle.blk_volume.specs.Walk.{walk}
+use Rattle.blk_format.specs.Claims.{Claim, has_claim}
+use Rattle.blk_volume.specs.ListView.{IsList}
 use Rattle.blk_volume.specs.View.{list_of, store_of, view_of}
-use Rattle.blk_volume.specs.Chains.{Chain, bucket_of_hash, chain, IsChain}
-use Rattle.blk_volume.specs.Completion.{completed_list}
-use Rattle.blk_volume.specs.Reasons.{Reason}
-use Rattle.blk_laws.proofs.Central.{walk-idle}
-use Rattle.blk_laws.proofs.Allocations.{repeats-head}
-use Rattle.blk_laws.proofs.Kept.{flat-append}
-use Rattle.blk_laws.proofs.Central.{filter-none}
-use Rattle.blk_laws.proofs.Chains.{chain-is}
-use Rattle.blk_laws.proofs.Central.{flat_map-none}
-use Rattle.blk_laws.proofs.Loads.{load-then}
+use Rattle.blk_volume.specs.Chains.{bucket_of_hash, chain, IsChain}
 use Rattle.blk_volume.specs.Entries.{Role, IsPlain, IsParent, IsPart}
-use Rattle.blk_volume.specs.Loads.{held_rule, listed_rule, unchained_rule, Loaded, load, all_claims, claims_of_loaded}
-use Rattle.blk_volume.specs.Audit.{kept_by, dropped_among, unlisted, is_unlisted, unlisted_in}
-use Rattle.blk_volume.specs.Sound.{IsInOrder, IsSound}
-use Rattle.blk_volume.specs.StandsFor.{IsOwner, IsAllocated, StandsFor}
-use Rattle.blk_model.proofs.Opened.{open_valid}
-use Rattle.blk_laws.proofs.ClaimLists.{claim-append, no-claim}
-use Rattle.blk_laws.proofs.Standing.{stands-for}
-use Rattle.blk_repair_laws.specs.Mended.{IsMended, MendedFoldersStandFor, MendedFoldersAreSound}
+use Rattle.blk_volume.specs.Loads.{held_rule, unchained_rule, Loaded, load, all_claims}
 use Rattle.blk_repair_laws.proofs.FoundHolding.{found-holding}
-use Rattle.blk_volume.specs.Shown.{HasParentIn, IsShown}
-use Rattle.blk_volume.specs.Found.{kept, found, dropped, completed, row_of}
+use Rattle.blk_volume.specs.Shown.{HasParentIn}
+use Rattle.blk_volume.specs.Found.{kept, found, row_of}
 use Rattle.blk_volume.specs.Layout.{Layout, is_in, is_listed, order, HasDirtyMark, HasParentAt, IsPlacedAt, IsLayoutOf, Shows, Represents}
 use Rattle.blk_volume.specs.ListImages.{walked}
 use Rattle.blk_laws.proofs.Bare.{no-record}
 use Rattle.blk_format.proofs.Finished.{well_formed-finished}
 use Rattle.blk_laws.proofs.Laid.{parent-main}
 use Rattle.blk_laws.proofs.Loading.{load-rule, load-clean}
-use Rattle.blk_laws.proofs.Shown.{is_among-filter, node-is, kept-given, dropped-none}
+use Rattle.blk_laws.proofs.Shown.{is_among-filter, node-is}
 use Rattle.blk_volume.specs.Audit.{kept_as}
 use Rattle.blk_repair_laws.specs.ChainRepair.{is_kept_record, kept_records, KeepsAll}
-use Rattle.blk_repair_laws.specs.MendedLinks.{HasMendedLinks, first_with, node_with, kept_layout, MendedLinksRepresent}
+use Rattle.blk_repair_laws.specs.MendedLinks.{HasMendedLinks, first_with, kept_layout, MendedLinksRepresent}
 use Rattle.blk_repair_laws.proofs.ChainRepair.{shown, given-some, kept-from, IsKeptRecord, test-of, of-test}
 use Rattle.blk_repair_laws.proofs.Frames.{load-chained, apart-claim}
 use Rattle.blk_repair_laws.proofs.OwnClaims.{all-once}
@@ -122,7 +105,7 @@ settled-in state item row e = go (model.owner_object state item) refl e where
       record { row_is = rw is both.0; settled = rw is both.1 }
 
 module _ (image : Image) (limits : Bounds) (mended : HasMendedLinks image) (valid : IsValidHolding (found image)) where
-  all : KeepsAll image
+  pub all : KeepsAll image
   all = record { idle = mended.rests.idle; all_kept = mended.all_kept }
 
   abbrev asked : ℕ → Option Loaded
@@ -141,7 +124,7 @@ module _ (image : Image) (limits : Bounds) (mended : HasMendedLinks image) (vali
   ks-are : kept image ≡ filter_map asked (walked image)
   ks-are = kept-from image mended.well_formed all
 
-  node-of : (node : ℕ) (k : Loaded) → is_among (walked image) node ≡ true → asked node ≡ Some k → k.node ≡ node
+  pub node-of : (node : ℕ) (k : Loaded) → is_among (walked image) node ≡ true → asked node ≡ Some k → k.node ≡ node
   node-of node k among is = node-is (store_of image) held_rule node k ((shown image mended.well_formed all).loads node k among is)
 
   -- the first that passes a test which no other passes
@@ -161,11 +144,11 @@ module _ (image : Image) (limits : Bounds) (mended : HasMendedLinks image) (vali
             (cases_Bool (test l))
 
   -- and what passes it is among them
-  record IsFirst (test : Loaded → Bool) (k : Loaded) : Type 0 where
-    node : ℕ
-    among : is_among (walked image) node ≡ true
-    is : asked node ≡ Some k
-    good : test k ≡ true
+  pub record IsFirst (test : Loaded → Bool) (k : Loaded) : Type 0 where
+    pub node : ℕ
+    pub among : is_among (walked image) node ≡ true
+    pub is : asked node ≡ Some k
+    pub good : test k ≡ true
 
   first-in : (xs : List ℕ) (test : Loaded → Bool) (k : Loaded) → ((x : ℕ) → is_among xs x ≡ true → is_among (walked image) x ≡ true) → first_with test (filter_map asked xs) ≡ Some k → IsFirst test k
   first-in [] test k sub e = cc
@@ -184,12 +167,12 @@ module _ (image : Image) (limits : Bounds) (mended : HasMendedLinks image) (vali
         (λ (t : test l ≡ false). more (rw (is, t) at h))
         (cases_Bool (test l))
 
-  first-here : (test : Loaded → Bool) (k : Loaded) → first_with test (kept image) ≡ Some k → IsFirst test k
+  pub first-here : (test : Loaded → Bool) (k : Loaded) → first_with test (kept image) ≡ Some k → IsFirst test k
   first-here test k e = first-in (walked image) test k (λ x h. h) (ap (first_with test) (sym ks-are) ∙ e)
 
   -- ---- what lies where
 
-  at-node : (node : ℕ) (k : Loaded) → is_among (walked image) node ≡ true → asked node ≡ Some k → layout.at node ≡ Some k
+  pub at-node : (node : ℕ) (k : Loaded) → is_among (walked image) node ≡ true → asked node ≡ Some k → layout.at node ≡ Some k
   unfolding kept_layout
   at-node node k among is =
       ap (first_with (λ l. l.node == node)) ks-are
@@ -291,7 +274,7 @@ module _ (image : Image) (limits : Bounds) (mended : HasMendedLinks image) (vali
       let g = given-some image mended.well_formed all x here in
       rw g.1 (ap₂ (λ (y : ℕ) (ys : List ℕ). y ∷ ys) (place-is x g.0 here g.1) (order-of xs (λ y h. sub y (or_right (x == y) (is_among xs y) h))))
 
-  order-is : order state layout ≡ walked image
+  pub order-is : order state layout ≡ walked image
   unfolding open_state
   order-is = ap (map layout.place) items-are ∙ order-of (walked image) (λ x h. h)
 
@@ -450,7 +433,7 @@ module _ (image : Image) (limits : Bounds) (mended : HasMendedLinks image) (vali
   state-is node = refl
 
   -- each object of an opened state is live
-  all-live : (number : ℕ) (object : Object) → object_at state number ≡ Some object → object.live ≡ false → ⊥
+  pub all-live : (number : ℕ) (object : Object) → object_at state number ≡ Some object → object.live ≡ false → ⊥
   unfolding open_state objects_in found_object
   all-live number object here dead = go (found image) number here where
     clash : true ≡ false → ⊥
@@ -492,7 +475,7 @@ module _ (image : Image) (limits : Bounds) (mended : HasMendedLinks image) (vali
     chains = λ bucket below. subst (IsChain (store_of image) bucket) (sym (chains-are bucket)) (mended.chains bucket below);
   }
 
-  mended-represents : Represents (view_of image) state layout
+  pub mended-represents : Represents (view_of image) state layout
   mended-represents = record {
     holds = record { shows = mended-shows; lies = mended-lies };
     list = subst (IsList (list_of image)) (sym order-is) mended.rests.whole;
@@ -501,170 +484,3 @@ module _ (image : Image) (limits : Bounds) (mended : HasMendedLinks image) (vali
 
 pub links-represent : MendedLinksRepresent
 links-represent image limits mended are = mended-represents image limits mended (found-holding image are)
-
--- ---- a mended folder
-
-claimed-first : (ks : List Loaded) (c : Claim) → has_claim (claims_of_loaded ks) c ≡ is_some (node_with (λ k. has_claim (all_claims k) c) ks)
-claimed-first [] c = no-claim c
-claimed-first (k ∷ ks) c =
-    ⊎_elim
-    (λ (e : has_claim (all_claims k) c ≡ true). claim-append (all_claims k) (claims_of_loaded ks) c ∙ rw e refl)
-    (λ (e : has_claim (all_claims k) c ≡ false). claim-append (all_claims k) (claims_of_loaded ks) c ∙ rw e (claimed-first ks c))
-    (cases_Bool (has_claim (all_claims k) c))
-
-append-none : (xs : List ℕ) → xs ++ [] ≡ xs
-append-none [] = refl
-append-none (x ∷ xs) = ap (λ (ys : List ℕ). x ∷ ys) (append-none xs)
-
-module _ (image : Image) (limits : Bounds) (mended : IsMended image) (valid : IsValidHolding (found image)) where
-  abbrev links_of : HasMendedLinks image
-  links_of = mended.links
-
-  abbrev all_of : KeepsAll image
-  all_of = all image limits mended.links valid
-
-  abbrev state_of : State
-  state_of = open_state (found image) limits
-
-  abbrev layout_of : Layout
-  layout_of = kept_layout image
-
-  -- where dirty nodes are kept too, the same is kept
-  listed-shown : IsShown (store_of image) listed_rule (walked image) (kept_as (store_of image) held_rule (walked image))
-  listed-shown =
-      let s = shown image links_of.well_formed all_of in
-      record {
-        once = s.once;
-        loads = λ node k among is. load-rule (store_of image) held_rule listed_rule node k (s.loads node k among is) refl refl (load-chained (store_of image) node k (s.loads node k among is));
-        single = s.single;
-        apart = s.apart;
-        parents = s.parents;
-        out = λ node k among none ok. absurd (let g = given-some image links_of.well_formed all_of node among in no (sym none ∙ g.1));
-      } where
-        no : {k : Loaded} → ◌≡◌ {A = Option Loaded} None (Some k) → ⊥
-        no e = cc
-
-  listed-same : kept_by listed_rule (view_of image) ≡ kept image
-  listed-same = kept-given (store_of image) listed_rule (walked image) (kept_as (store_of image) held_rule (walked image)) listed-shown ∙ sym (kept-from image links_of.well_formed all_of)
-
-  owner-some : (c : Claim) → has_claim (claims_of_loaded (kept image)) c ≡ is_some (layout_of.owner c)
-  unfolding kept_layout
-  owner-some c = claimed-first (kept image) c
-
-  owner-first : (c : Claim) (node : ℕ) → layout_of.owner c ≡ Some node → (k : Loaded) × (first_with (λ k. has_claim (all_claims k) c) (kept image) ≡ Some k) × (k.node ≡ node)
-  unfolding kept_layout
-  owner-first c node e = go (first_with (λ k. has_claim (all_claims k) c) (kept image)) refl e where
-    same : {a b : ℕ} → ◌≡◌ {A = Option ℕ} (Some a) (Some b) → a ≡ b
-    same e = cc
-
-    go : (o : Option Loaded) → first_with (λ k. has_claim (all_claims k) c) (kept image) ≡ o → option_map (λ (k : Loaded). k.node) o ≡ Some node → (k : Loaded) × (first_with (λ k. has_claim (all_claims k) c) (kept image) ≡ Some k) × (k.node ≡ node)
-    go None is h = cc
-    go (Some k) is h = (k, is, same h)
-
-  exact-owner : (c : Claim) (node : ℕ) → layout_of.owner c ≡ Some node → IsOwner state_of layout_of [] c node
-  exact-owner c node e =
-      let f = owner-first c node e in
-      let first : IsFirst image limits links_of valid (λ k. has_claim (all_claims k) c) f.0 = first-here image limits links_of valid (λ k. has_claim (all_claims k) c) f.0 f.1 in
-      let at : first.node ≡ node = sym (node-of image limits links_of valid first.node f.0 first.among first.is) ∙ f.2 in
-      let among : is_among (walked image) node ≡ true = subst (λ (x : ℕ). is_among (walked image) x ≡ true) at first.among in
-      record {
-        among = ap (λ (ns : List ℕ). is_among ns node) (append-none (order state_of layout_of) ∙ order-is image limits links_of valid) ∙ among;
-        loaded = f.0;
-        here = subst (λ (x : ℕ). layout_of.at x ≡ Some f.0) at (at-node image limits links_of valid first.node f.0 first.among first.is);
-        claims = first.good;
-      }
-
-  allocated-here : IsAllocated image state_of layout_of []
-  allocated-here = record {
-    blocks = λ n b linked_n below. mended.maps n b linked_n below ∙ owner-some (BlockOf n b);
-    files = λ n below. mended.only_claimed n below ∙ owner-some (ExternalOf n);
-    exact = exact-owner;
-    once = subst Distinct (sym (append-none (order state_of layout_of) ∙ order-is image limits links_of valid)) links_of.rests.whole.distinct;
-    doomed = record {
-      each = tt;
-      once = tt;
-      all = λ number object here dead. absurd (all-live image limits links_of valid number object here dead);
-      records = λ number among. absurd (clash among);
-    };
-  } where
-    clash : false ≡ true → ⊥
-    clash e = cc
-
-  mended-stands : StandsFor image state_of
-  mended-stands =
-      stands-for image state_of layout_of (mended-represents image limits links_of valid) (open_valid (found image) limits valid) [] allocated-here links_of.well_formed
-      (subst (λ (ks : List Loaded). IsInOrder image ks []) (sym listed-same) mended.in_order)
-
-pub mended-folders : MendedFoldersStandFor
-mended-folders image limits mended are = mended-stands image limits mended (found-holding image are)
-
--- ---- soundness
-
--- any limits
-some-limits : Bounds
-some-limits = record { max_bytes = 1; max_items = 1 }
-
-module _ (image : Image) (mended : IsMended image) (are : AreBytes image) where
-  stands-here : StandsFor image (open_state (found image) some-limits)
-  stands-here = mended-folders image some-limits mended are
-
-  none-left : dropped_among (store_of image) held_rule (walked image) ≡ []
-  none-left =
-      let t = mended.links in
-      let k = all image some-limits t (found-holding image are) in
-      let s : IsShown (store_of image) held_rule (walked image) (kept_as (store_of image) held_rule (walked image)) = shown image t.well_formed k in
-      dropped-none (store_of image) held_rule (walked image) (kept_as (store_of image) held_rule (walked image)) s (λ node among none. let g = given-some image t.well_formed k node among in no (sym none ∙ g.1)) where
-        no : {l : Loaded} → ◌≡◌ {A = Option Loaded} None (Some l) → ⊥
-        no e = cc
-
-  walk-now : walk (completed_list (list_of image)) ≡ walked image
-  walk-now = walk-idle (list_of image) mended.links.rests.idle
-
-  -- a kept record is listed
-  record-listed : (c : ℕ) → is_kept_record (kept image) c ≡ true → is_unlisted (completed (view_of image)) c ≡ false
-  unfolding is_unlisted
-  record-listed c good =
-      let t = mended.links in
-      let k = all image some-limits t (found-holding image are) in
-      let r : IsKeptRecord image t.well_formed k c = of-test image t.well_formed k c good in
-      load-then (store_of image) held_rule r.node r.k ((shown image t.well_formed k).loads r.node r.k r.among r.is) (λ n e f.
-      let contents : n.contents ≡ c = sym f.facts.contents_is ∙ r.contents in
-      let entry : (store_of image).entry c ≡ Some e = ap (store_of image).entry (sym contents) ∙ f.entry in
-      let back : e.rankings_node ≡ r.node = eqb-true e.rankings_node r.node f.facts.keyed.back in
-      let walks : is_among (walk (completed_list (list_of image))) e.rankings_node ≡ true = ap₂ is_among walk-now back ∙ r.among in
-      let node_fields : (store_of image).node_fields e.rankings_node ≡ Some n = ap (store_of image).node_fields back ∙ f.node in
-      rw (entry, walks, node_fields, eq-eqb n.contents c contents) refl)
-
-  chain-listed : (bucket : ℕ) → bucket < 65536 → unlisted_in (completed (view_of image)) bucket ≡ []
-  chain-listed bucket below =
-      let reached : (chain (store_of image) bucket).reached ≡ kept_records image bucket = ap (λ (c : Chain). c.reached) (chain-is (store_of image) bucket (kept_records image bucket) (no-record image) (mended.links.chains bucket below)) in
-      ap (map _) (filter-none (is_unlisted (completed (view_of image))) (chain (store_of image) bucket).reached (λ c among. record-listed c (chain-has-test image bucket c (ap (λ (ws : List ℕ). is_among ws c) (sym reached) ∙ among))))
-
-  unlisted-none : unlisted (completed (view_of image)) ≡ []
-  unfolding unlisted
-  unlisted-none = flat_map-none (unlisted_in (completed (view_of image))) 0 65536 (λ b low high. chain-listed b high)
-
-  nothing-dropped : dropped image ≡ []
-  unfolding dropped
-  nothing-dropped = ap₂ (λ (xs ys : List (ℕ × Reason)). xs ++ ys) (ap (dropped_among (store_of image) held_rule) walk-now ∙ none-left) unlisted-none
-
-  one-owner : repeats (claims_of_loaded (kept image)) ≡ false
-  one-owner =
-      let s = stands-here in
-      subst (λ (ks : List Loaded). repeats (claims_of_loaded ks) ≡ false) (listed-same image some-limits mended (found-holding image are))
-      (repeats-head (claims_of_loaded (kept_by listed_rule (view_of image))) (claims_of_loaded (map (λ d. d.1) s.doomed))
-      (subst (λ (cs : List Claim). repeats cs ≡ false) (flat-append (kept_by listed_rule (view_of image)) (map (λ d. d.1) s.doomed)) s.owned.one_owner))
-
-  sound-here : IsSound image
-  sound-here = record {
-    well_formed = mended.links.well_formed;
-    transaction = stands-here.shows.transaction;
-    list_end = stands-here.shows.list_end;
-    chain_ends = stands-here.shows.chain_ends;
-    nothing_dropped = nothing-dropped;
-    owned = record { one_owner = one-owner; maps = mended.maps; only_claimed = mended.only_claimed };
-    in_order = mended.in_order;
-  }
-
-pub mended-sound : MendedFoldersAreSound
-mended-sound image mended are = sound-here image mended are

@@ -1,4 +1,4 @@
-use Rattle.blk_repair_laws.proofs.MendedLinks.{mended-folders, mended-sound}
+use Rattle.blk_repair_laws.proofs.Mended.{mended-folders, mended-sound}
 use Rattle.blk_repair_laws.proofs.mended_folders_stand_for.Goals as goal
 
 pub returns : goal.returns
