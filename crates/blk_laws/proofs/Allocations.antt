@@ -92,7 +92,7 @@ core-stands image c e is = ⊎_elim
     (λ (s : stands_as image blocks_256 c ≡ false). let none : ◌≡◌ {A = Option RecordFields} None (Some e) = rw s at is in absurd (cc))
     (cases_Bool (stands_as image blocks_256 c))
 
-storage-of_none : (size x : ℕ) → (size == 0) ≡ true → is_storage size x ≡ true → (x == 0) ≡ true
+pub storage-of_none : (size x : ℕ) → (size == 0) ≡ true → is_storage size x ≡ true → (x == 0) ≡ true
 unfolding is_storage
 storage-of_none size x none is = rw none at is
 

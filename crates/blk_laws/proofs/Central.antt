@@ -94,7 +94,7 @@ pub flat_map-none : {X : Type 0} (f : ℕ → List X) (s n : ℕ) → ((b : ℕ)
 flat_map-none f s zero none = refl
 flat_map-none f s (suc n) none = rw (none s (omega arith) (omega arith)) (flat_map-none f (s + 1) n (λ b low high. none b (omega arith) (omega arith)))
 
-filter-none : (p : ℕ → Bool) (xs : List ℕ) → ((x : ℕ) → is_among xs x ≡ true → p x ≡ false) → filter p xs ≡ []
+pub filter-none : (p : ℕ → Bool) (xs : List ℕ) → ((x : ℕ) → is_among xs x ≡ true → p x ≡ false) → filter p xs ≡ []
 filter-none p [] none = refl
 filter-none p (x ∷ xs) none = rw (none x (or_left (x == x) (is_among xs x) (eq-eqb x x refl))) (filter-none p xs (λ z h. none z (or_right (x == z) (is_among xs z) h)))
 

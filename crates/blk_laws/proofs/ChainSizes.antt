@@ -13,7 +13,7 @@ use Rattle.blk_laws.specs.ListLaws.{WholeChainsAreShort}
 use Rattle.blk_laws.proofs.Shown.{is_among-filter, Distinct-filter}
 
 -- a list without a number that it hasn't
-unchanged : (n : ℕ) (xs : List ℕ) → is_among xs n ≡ false → filter (λ x. not (x == n)) xs ≡ xs
+pub unchanged : (n : ℕ) (xs : List ℕ) → is_among xs n ≡ false → filter (λ x. not (x == n)) xs ≡ xs
 unchanged n [] e = refl
 unchanged n (x ∷ xs) e = let p = or_parts (x == n) (is_among xs n) e in rw p.0 (ap (λ (ys : List ℕ). x ∷ ys) (unchanged n xs p.1))
 

@@ -1,0 +1,15 @@
+pub mod EndRepair
+pub mod Same
+pub mod ListRepair
+pub mod Paths
+pub mod Frames
+pub mod RecordWords
+pub mod KeptRecords
+pub mod ChainRepair
+pub mod OwnClaims
+pub mod MendedLinks
+pub mod LinkRepair
+pub mod MendedChanges
+pub mod Mended
+pub mod Rows
+pub mod FoundHolding

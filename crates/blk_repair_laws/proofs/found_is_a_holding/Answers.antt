@@ -1,0 +1,5 @@
+use Rattle.blk_repair_laws.proofs.FoundHolding.{found-holding}
+use Rattle.blk_repair_laws.proofs.found_is_a_holding.Goals as goal
+
+pub returns : goal.returns
+returns c = found-holding

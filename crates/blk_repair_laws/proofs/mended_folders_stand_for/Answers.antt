@@ -1,0 +1,5 @@
+use Rattle.blk_repair_laws.proofs.Mended.{mended-folders, mended-sound}
+use Rattle.blk_repair_laws.proofs.mended_folders_stand_for.Goals as goal
+
+pub returns : goal.returns
+returns c = record { stands = mended-folders; sound = mended-sound }

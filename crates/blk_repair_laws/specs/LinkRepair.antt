@@ -1,0 +1,22 @@
+-- The repair of all links: of the use list, and then of the chains.
+use Rattle.std.specs.Prelude.{◌++◌, List}
+use Rattle.blk_image.specs.Image.{Image}
+use Rattle.blk_image.specs.Steps.{TrailStep, after}
+use Rattle.blk_image.specs.Told.{Along}
+use Rattle.blk_format.specs.BlockFiles.{IsWellFormed}
+use Rattle.blk_volume.specs.ListImages.{IsWritable}
+use Rattle.blk_repair_laws.specs.ListRepair.{list_repair_steps, HoldsTheSame, IsListMended}
+use Rattle.blk_repair_laws.specs.ChainRepair.{chain_repair_steps, AreChainsMended}
+use Rattle.blk_repair_laws.specs.MendedLinks.{HasMendedLinks}
+
+-- the list is repaired, and then the chains
+abbrev pub link_repair_steps : Image → List TrailStep
+link_repair_steps image = list_repair_steps image ++ chain_repair_steps (after (list_repair_steps image) image)
+
+-- where both are mended all links are
+abbrev pub MendedChainsAreMendedLinks : Type 0
+MendedChainsAreMendedLinks = (image between last : Image) → HoldsTheSame image between → IsListMended image between → HoldsTheSame between last → AreChainsMended between last → HasMendedLinks last
+
+-- of every well-formed image the same is held at each word of that, and in the end its links are mended
+abbrev pub LinksAreRepaired : Type 0
+LinksAreRepaired = (image : Image) → IsWellFormed image → IsWritable image → Along (HoldsTheSame image) image (link_repair_steps image) × HasMendedLinks (after (link_repair_steps image) image)

@@ -1,0 +1,105 @@
+//! The laws of repair, each the contract of a function with an empty body: at each word of the repair the same is kept and found, and in the end the folder stands for what it holds.
+#![tactic(auto)]
+
+ghost use Rattle.blk_repair_laws.specs.EndRepair.{EndsAreMended};
+ghost use Rattle.blk_repair_laws.specs.ListRepair.{ListsAreRepaired, CompletedListsAreEnded, ListsAtRestNeedNoEnd, DroppedNodesAreTheOthers, RemovalsBegin, KeptNodesArePassed, OtherNodesAreRemoved, RemovalsEnd};
+ghost use Rattle.blk_repair_laws.specs.ChainRepair.{ChainsAreRepaired, ChainsBegin, BucketsAreMended, WholeChainsNeedNoSteps, ChainsEnd, KeptRecordsStay, WholeChainsStay, KeptNodesCheck, KeptRecordsCheck};
+ghost use Rattle.blk_repair_laws.specs.LinkRepair.{LinksAreRepaired, MendedChainsAreMendedLinks};
+ghost use Rattle.blk_repair_laws.specs.MendedLinks.{MendedLinksRepresent};
+ghost use Rattle.blk_repair_laws.specs.MendedChanges.{RepairedLinksAreKept, MendedLinksGoOn, MendedLinksHoldTheSame, MendedLinksStayOutside, MendedLinksMayGrow, UnlinkedFilesMayBeDeleted, UnclaimedFilesMayChange, HiddenWordsMayChange, KeptNodesMayBeSealed, KeptRecordsMayBeSealed};
+ghost use Rattle.blk_repair_laws.specs.Mended.{MendedFoldersStandFor, MendedFoldersAreSound};
+ghost use Rattle.blk_repair_laws.specs.FoundHolding.{FoundIsAHolding};
+
+/// While the end of a list is mended the same nodes are walked; in the end the list is whole.
+pub fn ends_are_mended()
+    ensures { EndsAreMended }
+{}
+
+/// At each word of the repair of the list the same is kept and found; in the end the list is that of the kept nodes.
+pub fn lists_are_repaired()
+    ensures { ListsAreRepaired }
+{}
+
+/// Once the operation in flight is completed and the end is mended the list is at rest, and one at rest needs neither.
+pub fn lists_are_ended()
+    ensures rests { CompletedListsAreEnded }
+    ensures none { ListsAtRestNeedNoEnd }
+{}
+
+/// Then the dropped nodes are taken out one after the other, while the walked nodes and the kept ones are gone through side by side.
+pub fn dropped_nodes_are_removed()
+    ensures others { DroppedNodesAreTheOthers }
+    ensures begins { RemovalsBegin }
+    ensures passes { KeptNodesArePassed }
+    ensures removes { OtherNodesAreRemoved }
+    ensures ends { RemovalsEnd }
+{}
+
+/// At each word of the repair of the chains the same is kept and found; in the end each chain is that of the kept records of its bucket.
+pub fn chains_are_repaired()
+    ensures { ChainsAreRepaired }
+{}
+
+/// The buckets are mended one after the other; one that is right needs no step.
+pub fn buckets_are_mended()
+    ensures begins { ChainsBegin }
+    ensures mends { BucketsAreMended }
+    ensures none { WholeChainsNeedNoSteps }
+    ensures ends { ChainsEnd }
+{}
+
+/// What the repair of the list leaves of the chains: the kept records of each bucket, and whole chains.
+pub fn chains_stay()
+    ensures records { KeptRecordsStay }
+    ensures whole { WholeChainsStay }
+{}
+
+/// The nodes and the records of what is kept check, so they can be written.
+pub fn kept_records_check()
+    ensures nodes { KeptNodesCheck }
+    ensures records { KeptRecordsCheck }
+{}
+
+/// Both, one after the other: of every well-formed image the same is kept and found at each word, and in the end its links are mended.
+pub fn links_are_repaired()
+    ensures at_each_word { LinksAreRepaired }
+    ensures mended { MendedChainsAreMendedLinks }
+{}
+
+/// A folder whose links are mended represents what it holds, opened.
+pub fn mended_links_represent()
+    ensures { MendedLinksRepresent }
+{}
+
+/// Once the links are repaired they are mended with the same kept and found, and stay so through one change after another; then the same is held.
+pub fn mended_links_go_on()
+    ensures begins { RepairedLinksAreKept }
+    ensures goes_on { MendedLinksGoOn }
+    ensures holds { MendedLinksHoldTheSame }
+{}
+
+/// Mended links stay mended, with the same kept and found, where what isn't kept changes: where block files grow, where one that isn't linked or an external file that nobody claims goes, and where a counter of the index is written.
+pub fn mended_links_stay_outside()
+    ensures outside { MendedLinksStayOutside }
+    ensures grow { MendedLinksMayGrow }
+    ensures unlinked { UnlinkedFilesMayBeDeleted }
+    ensures unclaimed { UnclaimedFilesMayChange }
+    ensures words { HiddenWordsMayChange }
+{}
+
+/// They stay so at each word at which what is kept is sealed.
+pub fn kept_records_may_be_sealed()
+    ensures nodes { KeptNodesMayBeSealed }
+    ensures records { KeptRecordsMayBeSealed }
+{}
+
+/// A mended folder stands for what it holds, opened, and is sound.
+pub fn mended_folders_stand_for()
+    ensures stands { MendedFoldersStandFor }
+    ensures sound { MendedFoldersAreSound }
+{}
+
+/// Of every image of bytes what is found is a valid holding.
+pub fn found_is_a_holding()
+    ensures { FoundIsAHolding }
+{}
