@@ -10,3 +10,4 @@ pub mod Touching
 pub mod Allocating
 pub mod Freeing
 pub mod MakingFiles
+pub mod Arranging

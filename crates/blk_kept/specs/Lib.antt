@@ -5,3 +5,4 @@ pub mod ChangeLaws
 pub mod Commands
 pub mod CommandLaws
 pub mod TouchLaws
+pub mod Arranging
