@@ -11,3 +11,5 @@ pub mod Allocating
 pub mod Freeing
 pub mod MakingFiles
 pub mod Arranging
+pub mod Leaving
+pub mod Touched

@@ -6,3 +6,4 @@ pub mod Commands
 pub mod CommandLaws
 pub mod TouchLaws
 pub mod Arranging
+pub mod ListLaws
