@@ -13,3 +13,5 @@ pub mod MakingFiles
 pub mod Arranging
 pub mod Leaving
 pub mod Touched
+pub mod Claimed
+pub mod NodeChanges
