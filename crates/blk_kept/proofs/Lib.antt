@@ -15,3 +15,5 @@ pub mod Leaving
 pub mod Touched
 pub mod Claimed
 pub mod NodeChanges
+pub mod AtNodes
+pub mod Dirtying

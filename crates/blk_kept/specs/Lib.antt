@@ -7,3 +7,4 @@ pub mod CommandLaws
 pub mod TouchLaws
 pub mod Arranging
 pub mod ListLaws
+pub mod RecordLaws

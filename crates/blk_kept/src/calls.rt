@@ -2,6 +2,7 @@
 
 ghost use Rattle.blk_kept.specs.Arranging.{StatesAreRearranged};
 ghost use Rattle.blk_kept.specs.ListLaws.{TouchesKeepTheState, TouchesKeepTheCounters};
+ghost use Rattle.blk_kept.specs.RecordLaws.{RecordUpdatesChangeOnly, RecordUpdatesLeaveCounters, MarkingFindsEither, MarkingKeepsTheState, MarkingKeepsTheCounters};
 
 /// Where a call leaves the files, another state that lies there with the same words in use is kept.
 pub fn other_states_are_kept()
@@ -12,4 +13,13 @@ pub fn other_states_are_kept()
 pub fn touches_keep_states()
     ensures uncounted { TouchesKeepTheState }
     ensures counted { TouchesKeepTheCounters }
+{}
+
+/// An update of a record is a change of its blocks; the dirty word of a main item settles or unsettles its object, at each word and in the end.
+pub fn objects_are_marked()
+    ensures blocks { RecordUpdatesChangeOnly }
+    ensures counters { RecordUpdatesLeaveCounters }
+    ensures find { MarkingFindsEither }
+    ensures uncounted { MarkingKeepsTheState }
+    ensures counted { MarkingKeepsTheCounters }
 {}
