@@ -17,3 +17,5 @@ pub mod Claimed
 pub mod NodeChanges
 pub mod AtNodes
 pub mod Dirtying
+pub mod Counters
+pub mod Externals

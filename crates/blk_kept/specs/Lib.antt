@@ -8,3 +8,5 @@ pub mod TouchLaws
 pub mod Arranging
 pub mod ListLaws
 pub mod RecordLaws
+pub mod CounterLaws
+pub mod ExternalLaws

@@ -1,6 +1,8 @@
 // What each kind of call does to a folder that keeps a state.
 
 ghost use Rattle.blk_kept.specs.Arranging.{StatesAreRearranged};
+ghost use Rattle.blk_kept.specs.CounterLaws.{CountersMayBeWritten, WrittenCountersCount};
+ghost use Rattle.blk_kept.specs.ExternalLaws.{MakingFilesFindsTheSame, MadeFilesAreAdded, DeletingFilesFindsTheSame, DeletedFilesAreRemoved};
 ghost use Rattle.blk_kept.specs.ListLaws.{TouchesKeepTheState, TouchesKeepTheCounters};
 ghost use Rattle.blk_kept.specs.RecordLaws.{RecordUpdatesChangeOnly, RecordUpdatesLeaveCounters, MarkingFindsEither, MarkingKeepsTheState, MarkingKeepsTheCounters};
 
@@ -22,4 +24,18 @@ pub fn objects_are_marked()
     ensures find { MarkingFindsEither }
     ensures uncounted { MarkingKeepsTheState }
     ensures counted { MarkingKeepsTheCounters }
+{}
+
+/// Each counter of the index may be written, and once the three are, the state is counted.
+pub fn counters_are_written()
+    ensures each { CountersMayBeWritten }
+    ensures counted { WrittenCountersCount }
+{}
+
+/// While an external file is made or deleted what is at rest is found, and in the end it is made or deleted.
+pub fn external_files_come_and_go()
+    ensures making { MakingFilesFindsTheSame }
+    ensures made { MadeFilesAreAdded }
+    ensures deleting { DeletingFilesFindsTheSame }
+    ensures deleted { DeletedFilesAreRemoved }
 {}
