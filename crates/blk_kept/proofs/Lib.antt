@@ -10,3 +10,12 @@ pub mod Touching
 pub mod Allocating
 pub mod Freeing
 pub mod MakingFiles
+pub mod Arranging
+pub mod Leaving
+pub mod Touched
+pub mod Claimed
+pub mod NodeChanges
+pub mod AtNodes
+pub mod Dirtying
+pub mod Counters
+pub mod Externals

@@ -5,3 +5,8 @@ pub mod ChangeLaws
 pub mod Commands
 pub mod CommandLaws
 pub mod TouchLaws
+pub mod Arranging
+pub mod ListLaws
+pub mod RecordLaws
+pub mod CounterLaws
+pub mod ExternalLaws

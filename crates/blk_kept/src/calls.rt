@@ -1,0 +1,41 @@
+// What each kind of call does to a folder that keeps a state.
+
+ghost use Rattle.blk_kept.specs.Arranging.{StatesAreRearranged};
+ghost use Rattle.blk_kept.specs.CounterLaws.{CountersMayBeWritten, WrittenCountersCount};
+ghost use Rattle.blk_kept.specs.ExternalLaws.{MakingFilesFindsTheSame, MadeFilesAreAdded, DeletingFilesFindsTheSame, DeletedFilesAreRemoved};
+ghost use Rattle.blk_kept.specs.ListLaws.{TouchesKeepTheState, TouchesKeepTheCounters};
+ghost use Rattle.blk_kept.specs.RecordLaws.{RecordUpdatesChangeOnly, RecordUpdatesLeaveCounters, MarkingFindsEither, MarkingKeepsTheState, MarkingKeepsTheCounters};
+
+/// Where a call leaves the files, another state that lies there with the same words in use is kept.
+pub fn other_states_are_kept()
+    ensures { StatesAreRearranged }
+{}
+
+/// Once a listed item is touched, the state with it in front is kept, and counted.
+pub fn touches_keep_states()
+    ensures uncounted { TouchesKeepTheState }
+    ensures counted { TouchesKeepTheCounters }
+{}
+
+/// An update of a record is a change of its blocks; the dirty word of a main item settles or unsettles its object, at each word and in the end.
+pub fn objects_are_marked()
+    ensures blocks { RecordUpdatesChangeOnly }
+    ensures counters { RecordUpdatesLeaveCounters }
+    ensures find { MarkingFindsEither }
+    ensures uncounted { MarkingKeepsTheState }
+    ensures counted { MarkingKeepsTheCounters }
+{}
+
+/// Each counter of the index may be written, and once the three are, the state is counted.
+pub fn counters_are_written()
+    ensures each { CountersMayBeWritten }
+    ensures counted { WrittenCountersCount }
+{}
+
+/// While an external file is made or deleted what is at rest is found, and in the end it is made or deleted.
+pub fn external_files_come_and_go()
+    ensures making { MakingFilesFindsTheSame }
+    ensures made { MadeFilesAreAdded }
+    ensures deleting { DeletingFilesFindsTheSame }
+    ensures deleted { DeletedFilesAreRemoved }
+{}
