@@ -10,3 +10,6 @@ pub mod Touching
 pub mod Allocating
 pub mod Freeing
 pub mod MakingFiles
+pub mod Orders
+pub mod NotAtRest
+pub mod Unsettling

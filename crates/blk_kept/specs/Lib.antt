@@ -5,3 +5,5 @@ pub mod ChangeLaws
 pub mod Commands
 pub mod CommandLaws
 pub mod TouchLaws
+pub mod CommandStates
+pub mod StopLaws

@@ -7,6 +7,10 @@ ghost use Rattle.blk_kept.specs.TouchLaws.{TouchesFindEither, OpensMayStop};
 ghost use Rattle.blk_kept.specs.CommandLaws.{RequestsMayStopBefore, RequestsMayStopAfter, RequestsMayStopOnceEvicted, KeptStatesMayStop, SaysKept, NothingMayStop, NothingIsDone, RefusalsAreDone, QuietRequestsKeepTheState, CallsMayStop};
 ghost use Rattle.blk_kept.specs.ChangeLaws.{WhatIsKeptIsFound, SameCountersCountTheSame, UnlinkedPlacesMayChange, BlockWritesChangeOnly, ExternalWritesChangeOnly, OtherWordsChangeOnly, GrowthFindsTheSame, AllocatedBlocksAreUnlinked, FreedBlocksAreGone, MadeFilesAreUnlinked, DeletedFilesAreGone};
 
+mod commands;
+
+pub use commands::{orders_may_be_left, others_may_be_left, rests_leave_them_out};
+
 /// What is found in a folder that keeps a state is what is at rest in it. With nothing unlinked the folder stands for the state, and it is sound where each object is live and settled.
 pub fn kept_states_are_stood_for()
     ensures found { KeptStatesAreFound }
