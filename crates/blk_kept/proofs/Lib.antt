@@ -13,3 +13,4 @@ pub mod MakingFiles
 pub mod Orders
 pub mod NotAtRest
 pub mod Unsettling
+pub mod CommandEnding

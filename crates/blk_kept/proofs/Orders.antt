@@ -1,7 +1,7 @@
 -- What a stop may leave in each order that a request makes.
 use Rattle.std.proofs.Common.{◌≡◌, ℕ, zero, suc, List, [], ◌∷◌, Option, None, Some, refl, ap, sym, ◌∙◌, subst, arith, inl, inr, length, map, take, not, ◌++◌, ◌+◌}
 use Rattle.std.specs.List.{filter_map}
-use Rattle.std.proofs.lemmas.List.{append-nil}
+use Rattle.std.proofs.lemmas.List.{append-nil, length-append}
 use Rattle.blk_model.specs.EvictionLaws.{EvictsFirst, later_steps}
 use Rattle.blk_model.specs.Items.{Item, Row}
 use Rattle.blk_model.specs.State.{State, IsValidState}
@@ -19,7 +19,7 @@ use Rattle.blk_model.proofs.Leads.{is_close, step_leads}
 use Rattle.blk_model.proofs.StopRests.{picked_before}
 use Rattle.blk_laws.proofs.Owner.{filter_map-same}
 use Rattle.blk_kept.specs.CommandStates.{MayLeave, in_order, with_room}
-use Rattle.blk_kept.specs.StopLaws.{OrdersMayBeLeft, RoomMayBeLeft, UsesMayBeLeft, WhatIsLeftMayStop}
+use Rattle.blk_kept.specs.StopLaws.{OrdersMayBeLeft, RoomMayBeLeft, UsesGoOn, UsesMayBeLeft, WhatIsLeftMayStop}
 
 pub left-stops : WhatIsLeftMayStop
 left-stops state moment request held image left finds = record {
@@ -63,19 +63,22 @@ fronts-length : (items : List Item) → length (map front items) ≡ length item
 fronts-length [] = refl
 fronts-length (item ∷ items) = ap suc (fronts-length items)
 
-fronts-used : (count : ℕ) (items uses : List Item) → after_steps (take count (map front items)) uses ≡ used_all (take count items) uses
-fronts-used zero items uses = refl
-fronts-used (suc count) [] uses = refl
-fronts-used (suc count) (item ∷ items) uses = fronts-used count items (used item uses)
+fronts-used : (first others uses : List Item) → after_steps (take (length first) (map front (first ++ others))) uses ≡ used_all first uses
+fronts-used [] others uses = refl
+fronts-used (item ∷ first) others uses = fronts-used first others (used item uses)
+
+pub uses-go-on : UsesGoOn
+uses-go-on [] item uses = refl
+uses-go-on (other ∷ first) item uses = uses-go-on first item (used other uses)
 
 pub uses-left : UsesMayBeLeft
-uses-left state moment request valid passes none count within =
-    let items = uses_of request state in
-    let later : later_steps state request [] ≡ map front items = ap (λ (steps : List ListStep). ([] ++ steps) ++ map front items) none in
+uses-left state moment request first others valid passes none split =
     let base = with_room state moment request in
+    let later : later_steps state request [] ≡ map front (first ++ others) = ap (λ (steps : List ListStep). ([] ++ steps) ++ map front (uses_of request state)) none ∙ ap (map front) split in
+    let long : length (later_steps state request []) ≡ length first + length others = ap length later ∙ fronts-length (first ++ others) ∙ length-append first others in
     subst (λ (uses : List Item). MayLeave state moment request (rest (in_order uses base)))
-    (ap (λ (steps : List ListStep). after_steps (take count steps) base.uses) later ∙ fronts-used count items base.uses)
-    (orders-left state moment request (evicted moment request state) [] valid (all-first state moment request passes) count (let l = ap length later ∙ fronts-length items in omega (arith, within, l)))
+    (ap (λ (steps : List ListStep). after_steps (take (length first) steps) base.uses) later ∙ fronts-used first others base.uses)
+    (orders-left state moment request (evicted moment request state) [] valid (all-first state moment request passes) (length first) (omega (arith, long)))
 
 pub room-left : RoomMayBeLeft
 room-left state moment request valid passes = evictions-stop state moment request (evicted moment request state) [] valid (all-first state moment request passes)

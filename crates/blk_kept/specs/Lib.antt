@@ -7,3 +7,4 @@ pub mod CommandLaws
 pub mod TouchLaws
 pub mod CommandStates
 pub mod StopLaws
+pub mod CommandEnds

@@ -1,5 +1,5 @@
 -- What a stop may leave, for every request.
-use Rattle.std.specs.Prelude.{◌≡◌, ℕ, ◌≤◌, List, [], ◌∷◌, length, take, Option, Some, None, true, false}
+use Rattle.std.specs.Prelude.{◌≡◌, ℕ, ◌≤◌, List, [], ◌∷◌, ◌++◌, length, take, Option, Some, None, true, false}
 use Rattle.blk_image.specs.Image.{Image}
 use Rattle.blk_model.specs.EvictionLaws.{EvictsFirst, later_steps}
 use Rattle.blk_model.specs.Items.{Item, Row, key_of}
@@ -26,10 +26,14 @@ abbrev pub OrdersMayBeLeft : Type 0
 OrdersMayBeLeft = (state : State) (moment : ℕ) (request : Request) (first others : List Group) → IsValidState state → EvictsFirst state moment request first others → (count : ℕ) → count ≤ length (later_steps state request others)
     → MayLeave state moment request (rest (in_order (after_steps (take count (later_steps state request others)) (without first state).uses) (without first state)))
 
--- and where nothing is doomed, once all groups are out and some uses are made
+-- and where nothing is doomed, once all groups are out and the first uses are made
 abbrev pub UsesMayBeLeft : Type 0
-UsesMayBeLeft = (state : State) (moment : ℕ) (request : Request) → IsValidState state → refused moment request state ≡ None → dooms request state ≡ [] → (count : ℕ) → count ≤ length (uses_of request state)
-    → MayLeave state moment request (rest (in_order (used_all (take count (uses_of request state)) (with_room state moment request).uses) (with_room state moment request)))
+UsesMayBeLeft = (state : State) (moment : ℕ) (request : Request) (first others : List Item) → IsValidState state → refused moment request state ≡ None → dooms request state ≡ [] → uses_of request state ≡ first ++ others
+    → MayLeave state moment request (rest (in_order (used_all first (with_room state moment request).uses) (with_room state moment request)))
+
+-- where one more is a use of its item
+abbrev pub UsesGoOn : Type 0
+UsesGoOn = (first : List Item) (item : Item) (uses : List Item) → used_all (first ++ item ∷ []) uses ≡ used item (used_all first uses)
 
 -- such as none
 abbrev pub RoomMayBeLeft : Type 0
