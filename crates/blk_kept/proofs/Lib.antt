@@ -14,3 +14,4 @@ pub mod Orders
 pub mod NotAtRest
 pub mod Unsettling
 pub mod CommandEnding
+pub mod Stages

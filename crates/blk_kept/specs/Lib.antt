@@ -8,3 +8,4 @@ pub mod TouchLaws
 pub mod CommandStates
 pub mod StopLaws
 pub mod CommandEnds
+pub mod StageLaws

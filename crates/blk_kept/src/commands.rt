@@ -1,5 +1,7 @@
 //! What a stop in a command may leave, and how commands end: laws, each the contract of a function with an empty body.
 ghost use Rattle.blk_kept.specs.CommandEnds.{PassedRequestsTakeEffect, GroupsGoInTurn, UsesEnd, OnlyUsesMayBeLeft, OpensEndOnceUsed, OpensMayLeave, CreatesEndOnceMade, CreatesMayLeave, WritesUnsettle, WritesEndOnceWritten, DoomedWritesEnd, SparseWritesUnsettle, SparseWritesEnd, EmptySparseWritesEnd, ClosesFreeTheName, ClosesSettle, ClosesMayLeave, ClosesOfDoomedEnd, DoomsEndOnceDoomed, DoomKeysEndOnceDoomed, DoomsMayLeave, DoomKeysMayLeave, TrimsEndOnceOut, TrimsMayLeave};
+ghost use Rattle.blk_kept.specs.Keeping.{KeepsSome};
+ghost use Rattle.blk_kept.specs.StageLaws.{StagesGoOn, StagesMayStop, WhatIsFoundMayStop, CallsFollow, CallsEnd, HandlesAreNotKept, EndsAreKept, EffectsAreDone, NotesEndSteps};
 ghost use Rattle.blk_kept.specs.StopLaws.{WhatIsLeftMayStop, OrdersMayBeLeft, UsesMayBeLeft, UsesGoOn, RoomMayBeLeft, HandlesAreNotAtRest, DoomedObjectsAreNotAtRest, UnsettledObjectsAreNotAtRest, OwnUsesKeepOthers, OthersMayBeLeftOnceUnsettled, OthersMayBeLeftWhileDoomed};
 
 /// Once some groups are out and some of the later list steps are made, a stop may leave what is at rest in that order; where that is found the request may be stopped.
@@ -71,4 +73,21 @@ pub fn dooms_end_once_doomed()
     ensures leaves { DoomsMayLeave }
     ensures keys_end { DoomKeysEndOnceDoomed }
     ensures keys_leave { DoomKeysMayLeave }
+{}
+
+/// The calls of a command follow each other: between them the folder keeps a state whose rest a stop may leave, and at each word of a call from there the command may be stopped, also where the call failed.
+pub fn calls_follow_each_other()
+    ensures go_on { StagesGoOn }
+    ensures stop { StagesMayStop KeepsSome }
+    ensures find { WhatIsFoundMayStop KeepsSome }
+    ensures follow { CallsFollow KeepsSome }
+    ensures end { CallsEnd KeepsSome }
+{}
+
+/// A command is done where its effect is kept and its answer is the map's, whatever handles there are; with its note behind all else it is stepped.
+pub fn commands_are_done()
+    ensures handles { HandlesAreNotKept }
+    ensures ends { EndsAreKept }
+    ensures done { EffectsAreDone KeepsSome }
+    ensures noted { NotesEndSteps }
 {}
