@@ -15,3 +15,5 @@ pub mod NotAtRest
 pub mod Unsettling
 pub mod CommandEnding
 pub mod Stages
+pub mod GroupsGone
+pub mod MarkedStates

@@ -1,13 +1,13 @@
 -- Where each command ends, and what a stop in it may leave.
-use Rattle.std.specs.Prelude.{◌≡◌, ℕ, Bool, List, [], ◌∷◌, ◌++◌, None, Some, true, false, slice_set}
-use Rattle.blk_model.specs.Items.{Item, main}
+use Rattle.std.specs.Prelude.{◌≡◌, ◌==◌, ℕ, Bool, filter, not, List, [], ◌∷◌, ◌++◌, None, Some, true, false, slice_set}
+use Rattle.blk_model.specs.Items.{Item, main, part, same_item}
 use Rattle.blk_model.specs.State.{Object, State, IsValidState, is_named, live_with, named_by, object_at}
 use Rattle.blk_model.specs.Effects.{created, doomed, effect, number_of, object_of, sparse_after, stream_after, stream_of, used, used_all, with_name, with_slot, with_stream}
 use Rattle.blk_model.specs.Holding.{rest}
 use Rattle.blk_model.specs.ListSteps.{uses_of}
 use Rattle.blk_model.specs.Refusals.{evicted, refused}
 use Rattle.blk_model.specs.Request.{IsRequest, Request, to_close, to_create, to_doom, to_doom_key, to_open, to_read, to_sparse_range, to_sparse_read, to_sparse_write, to_trim, to_write}
-use Rattle.blk_model.specs.Room.{Group, without}
+use Rattle.blk_model.specs.Room.{Group, single, whole, without}
 use Rattle.blk_model.specs.Step.{reply, step}
 use Rattle.blk_laws.specs.CommandLaws.{marked, turned}
 use Rattle.blk_kept.specs.CommandStates.{IsAffected, IsLast, MayLeave, Unsettles, amidst, in_order, with_names, with_room}
@@ -22,6 +22,23 @@ PassedRequestsTakeEffect = (state : State) (moment : ℕ) (request : Request) �
 -- groups go one after another
 abbrev pub GroupsGoInTurn : Type 0
 GroupsGoInTurn = (state : State) (first others : List Group) → without others (without first state) ≡ without (first ++ others) state
+
+-- the group of an object that no handle names goes as the object is doomed
+abbrev pub WholeGroupsGoAsDoomed : Type 0
+WholeGroupsGoAsDoomed = (state : State) (number : ℕ) (object : Object) (parts : List ℕ) → IsValidState state → object_at state number ≡ Some object → object.live ≡ true → is_named state number ≡ false → without (whole object.key parts ∷ []) state ≡ doomed number state (Some object)
+
+-- the object without a part
+abbrev pub without_part : Object → ℕ → Object
+without_part object n = record object { parts = filter (λ p. not (n == p.0)) object.parts }
+
+-- a part that goes alone leaves its object without it, and all else
+abbrev pub PartsGoAlone : Type 0
+PartsGoAlone = (state : State) (number : ℕ) (object : Object) (n : ℕ) → IsValidState state → object_at state number ≡ Some object → object.live ≡ true
+    → without (single object.key n ∷ []) state ≡ in_order (filter (λ item. not (same_item (part object.key n) item)) state.uses) (with_slot number (Some (without_part object n)) state)
+
+-- an object that is settled, or unsettled and named, leaves the state valid
+abbrev pub MarkedStatesAreValid : Type 0
+MarkedStatesAreValid = (state : State) (number : ℕ) (object : Object) (settled : Bool) → IsValidState state → object_at state number ≡ Some object → object.live ≡ true → (settled ≡ false → is_named state number ≡ true) → IsValidState (marked state number object settled)
 
 -- Uses: Open, Read and the two sparse reads.
 

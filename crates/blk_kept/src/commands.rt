@@ -1,5 +1,5 @@
 //! What a stop in a command may leave, and how commands end: laws, each the contract of a function with an empty body.
-ghost use Rattle.blk_kept.specs.CommandEnds.{PassedRequestsTakeEffect, GroupsGoInTurn, UsesEnd, OnlyUsesMayBeLeft, OpensEndOnceUsed, OpensMayLeave, CreatesEndOnceMade, CreatesMayLeave, WritesUnsettle, WritesEndOnceWritten, DoomedWritesEnd, SparseWritesUnsettle, SparseWritesEnd, EmptySparseWritesEnd, ClosesFreeTheName, ClosesSettle, ClosesMayLeave, ClosesOfDoomedEnd, DoomsEndOnceDoomed, DoomKeysEndOnceDoomed, DoomsMayLeave, DoomKeysMayLeave, TrimsEndOnceOut, TrimsMayLeave};
+ghost use Rattle.blk_kept.specs.CommandEnds.{PassedRequestsTakeEffect, GroupsGoInTurn, WholeGroupsGoAsDoomed, PartsGoAlone, MarkedStatesAreValid, UsesEnd, OnlyUsesMayBeLeft, OpensEndOnceUsed, OpensMayLeave, CreatesEndOnceMade, CreatesMayLeave, WritesUnsettle, WritesEndOnceWritten, DoomedWritesEnd, SparseWritesUnsettle, SparseWritesEnd, EmptySparseWritesEnd, ClosesFreeTheName, ClosesSettle, ClosesMayLeave, ClosesOfDoomedEnd, DoomsEndOnceDoomed, DoomKeysEndOnceDoomed, DoomsMayLeave, DoomKeysMayLeave, TrimsEndOnceOut, TrimsMayLeave};
 ghost use Rattle.blk_kept.specs.Keeping.{KeepsSome};
 ghost use Rattle.blk_kept.specs.StageLaws.{StagesGoOn, StagesMayStop, WhatIsFoundMayStop, CallsFollow, CallsEnd, HandlesAreNotKept, EndsAreKept, EffectsAreDone, NotesEndSteps};
 ghost use Rattle.blk_kept.specs.StopLaws.{WhatIsLeftMayStop, OrdersMayBeLeft, UsesMayBeLeft, UsesGoOn, RoomMayBeLeft, HandlesAreNotAtRest, DoomedObjectsAreNotAtRest, UnsettledObjectsAreNotAtRest, OwnUsesKeepOthers, OthersMayBeLeftOnceUnsettled, OthersMayBeLeftWhileDoomed};
@@ -13,12 +13,13 @@ pub fn orders_may_be_left()
     ensures room { RoomMayBeLeft }
 {}
 
-/// Which handles there are is nothing to what is at rest; nor is a doomed object, whatever becomes of it, nor an unsettled one and where its items stand.
+/// Which handles there are is nothing to what is at rest; nor is a doomed object, whatever becomes of it, nor an unsettled one and where its items stand. A live object that is settled, or unsettled and named, leaves the state valid.
 pub fn rests_leave_them_out()
     ensures handles { HandlesAreNotAtRest }
     ensures doomed { DoomedObjectsAreNotAtRest }
     ensures unsettled { UnsettledObjectsAreNotAtRest }
     ensures uses { OwnUsesKeepOthers }
+    ensures marked { MarkedStatesAreValid }
 {}
 
 /// Once the object that a request unsettles isn't settled, a stop may leave what is at rest, whatever became of it; and so while a doomed object changes.
@@ -31,6 +32,8 @@ pub fn others_may_be_left()
 pub fn requests_take_effect()
     ensures effect { PassedRequestsTakeEffect }
     ensures in_turn { GroupsGoInTurn }
+    ensures as_doomed { WholeGroupsGoAsDoomed }
+    ensures alone { PartsGoAlone }
     ensures trims { TrimsEndOnceOut }
     ensures trims_leave { TrimsMayLeave }
 {}
