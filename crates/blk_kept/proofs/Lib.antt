@@ -17,3 +17,5 @@ pub mod CommandEnding
 pub mod Stages
 pub mod GroupsGone
 pub mod MarkedStates
+pub mod PartChanges
+pub mod MainChanges

@@ -9,3 +9,4 @@ pub mod CommandStates
 pub mod StopLaws
 pub mod CommandEnds
 pub mod StageLaws
+pub mod PartStates

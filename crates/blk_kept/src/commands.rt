@@ -1,6 +1,7 @@
 //! What a stop in a command may leave, and how commands end: laws, each the contract of a function with an empty body.
 ghost use Rattle.blk_kept.specs.CommandEnds.{PassedRequestsTakeEffect, GroupsGoInTurn, WholeGroupsGoAsDoomed, PartsGoAlone, MarkedStatesAreValid, UsesEnd, OnlyUsesMayBeLeft, OpensEndOnceUsed, OpensMayLeave, CreatesEndOnceMade, CreatesMayLeave, WritesUnsettle, WritesEndOnceWritten, DoomedWritesEnd, SparseWritesUnsettle, SparseWritesEnd, EmptySparseWritesEnd, ClosesFreeTheName, ClosesSettle, ClosesMayLeave, ClosesOfDoomedEnd, DoomsEndOnceDoomed, DoomKeysEndOnceDoomed, DoomsMayLeave, DoomKeysMayLeave, TrimsEndOnceOut, TrimsMayLeave};
 ghost use Rattle.blk_kept.specs.Keeping.{KeepsSome};
+ghost use Rattle.blk_kept.specs.PartStates.{PartsChangeAlone, NewPartsKeepValid, PartsAreLeftOut, MainsChangeAlone};
 ghost use Rattle.blk_kept.specs.StageLaws.{StagesGoOn, StagesMayStop, WhatIsFoundMayStop, CallsFollow, CallsEnd, HandlesAreNotKept, EndsAreKept, EffectsAreDone, NotesEndSteps};
 ghost use Rattle.blk_kept.specs.StopLaws.{WhatIsLeftMayStop, OrdersMayBeLeft, UsesMayBeLeft, UsesGoOn, RoomMayBeLeft, HandlesAreNotAtRest, DoomedObjectsAreNotAtRest, UnsettledObjectsAreNotAtRest, OwnUsesKeepOthers, OthersMayBeLeftOnceUnsettled, OthersMayBeLeftWhileDoomed};
 
@@ -60,6 +61,14 @@ pub fn writes_end_once_written()
     ensures sparse_unsettle { SparseWritesUnsettle }
     ensures sparse_ends { SparseWritesEnd }
     ensures empty { EmptySparseWritesEnd }
+{}
+
+/// Inside a sparse write one part changes alone, or one more keeps the state valid, or one goes and leaves all else, or the main item changes alone.
+pub fn parts_change_alone()
+    ensures alone { PartsChangeAlone }
+    ensures more { NewPartsKeepValid }
+    ensures less { PartsAreLeftOut }
+    ensures mains { MainsChangeAlone }
 {}
 
 /// A Close frees its name; of the last handle it settles a live object, whose rest a stop may leave, and ends without a doomed one.
