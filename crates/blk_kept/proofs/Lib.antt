@@ -19,3 +19,12 @@ pub mod AtNodes
 pub mod Dirtying
 pub mod Counters
 pub mod Externals
+pub mod Orders
+pub mod NotAtRest
+pub mod Unsettling
+pub mod CommandEnding
+pub mod Stages
+pub mod GroupsGone
+pub mod MarkedStates
+pub mod PartChanges
+pub mod MainChanges

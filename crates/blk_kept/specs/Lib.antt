@@ -10,3 +10,8 @@ pub mod ListLaws
 pub mod RecordLaws
 pub mod CounterLaws
 pub mod ExternalLaws
+pub mod CommandStates
+pub mod StopLaws
+pub mod CommandEnds
+pub mod StageLaws
+pub mod PartStates

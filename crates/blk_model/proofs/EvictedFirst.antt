@@ -73,7 +73,7 @@ module _ (state : State) (group : Group) (groups : List Group) where
   unfolding without
   left_owner item stays = left_first (group ∷ groups) item 0 state.objects stays
 
-  left_nobody : (item : Item) → owner state item ≡ None → owner (without (group ∷ groups) state) item ≡ None
+  pub left_nobody : (item : Item) → owner state item ≡ None → owner (without (group ∷ groups) state) item ≡ None
   unfolding without
   left_nobody item none = left_none (group ∷ groups) item 0 state.objects none
 
@@ -120,7 +120,7 @@ module _ (state : State) (group : Group) (groups : List Group) where
         ∙ sym ((picked_chooses state after with).somebody item o)
 
   -- and is at rest as it was
-  settled_left : (item : Item) → is_out (group ∷ groups) item ≡ false → settled_row (without (group ∷ groups) state) item ≡ settled_row state item
+  pub settled_left : (item : Item) → is_out (group ∷ groups) item ≡ false → settled_row (without (group ∷ groups) state) item ≡ settled_row state item
   unfolding left_has settled_row
   settled_left item stays = go (owner state item) refl where
     go : (w : Option ℕ) → owner state item ≡ w → settled_row (without (group ∷ groups) state) item ≡ settled_row state item
@@ -134,7 +134,7 @@ module _ (state : State) (group : Group) (groups : List Group) where
 
 -- Items that stay, or that nobody has.
 
-abbrev StaysOrNobody : State → List Group → Item → Type 0
+abbrev pub StaysOrNobody : State → List Group → Item → Type 0
 StaysOrNobody state groups item = (is_out groups item ≡ false) ⊎ (owner state item ≡ None)
 
 picked_either : (state : State) (groups : List Group) (after : State) (with : Bool) (item : Item) → StaysOrNobody state groups item → picked (without groups state) after with item ≡ picked state after with item
@@ -143,7 +143,7 @@ picked_either state [] after with item either = refl
 picked_either state (group ∷ groups) after with item (inl stays) = picked_left state group groups after with item stays
 picked_either state (group ∷ groups) after with item (inr none) = (picked_chooses (without (group ∷ groups) state) after with).nobody item (left_nobody state group groups item none) ∙ sym ((picked_chooses state after with).nobody item none)
 
-each_same : (f g : Item → Option Row) (P : Item → Type 0) (list : List Item) → ((item : Item) → P item → f item ≡ g item) → AllByRecursion P list → filter_map f list ≡ filter_map g list
+pub each_same : (f g : Item → Option Row) (P : Item → Type 0) (list : List Item) → ((item : Item) → P item → f item ≡ g item) → AllByRecursion P list → filter_map f list ≡ filter_map g list
 each_same f g P [] same each = refl
 each_same f g P (i ∷ list) same each = ap (λ o. cons_option o (filter_map f list)) (same i each.0) ∙ ap (cons_option (g i)) (each_same f g P list same each.1)
 
@@ -329,7 +329,7 @@ module _ (state : State) (moment : ℕ) (request : Request) (first others : List
     regroup : (a b c d : List ListStep) → (a ++ b) ++ c ++ d ≡ a ++ (b ++ c ++ d)
     regroup a b c d = ap (λ (l : List ListStep). l ++ d) (append_assoc a b c) ∙ append_assoc a (b ++ c) d
 
-  after-first : (n : ℕ) → list_after state moment request (length first + n) ≡ after_steps (take n (later_steps state request others)) (without first state).uses
+  pub after-first : (n : ℕ) → list_after state moment request (length first + n) ≡ after_steps (take n (later_steps state request others)) (without first state).uses
   unfolding list_after
   after-first n =
       ap (λ (l : List ListStep). after_steps (take (length first + n) l) state.uses) steps-are
@@ -338,7 +338,7 @@ module _ (state : State) (moment : ℕ) (request : Request) (first others : List
       ∙ after_steps-append (map out first) (take n (later_steps state request others)) state.uses
       ∙ ap (after_steps (take n (later_steps state request others))) (outs first state.uses ∙ without_uses first state)
 
-  each-stays : (n : ℕ) → AllByRecursion (StaysOrNobody state first) (after_steps (take n (later_steps state request others)) (without first state).uses)
+  pub each-stays : (n : ℕ) → AllByRecursion (StaysOrNobody state first) (after_steps (take n (later_steps state request others)) (without first state).uses)
   each-stays n =
       let P : Item → Type 0 = StaysOrNobody state first in
       let fronts : AllFronts P (later_steps state request others) = fronts_append P (map out others ++ dooms request state) (map front (uses_of request state)) (fronts_append P (map out others) (dooms request state) (fronts_outs P others) (fronts_dooms P request state))
@@ -346,7 +346,7 @@ module _ (state : State) (moment : ℕ) (request : Request) (first others : List
       each_after P (take n (later_steps state request others)) (without first state).uses (fronts_take P n (later_steps state request others) fronts)
       (subst (AllByRecursion P) (without_uses first state) (each_left state first state.uses))
 
-  long : length (list_steps state moment request) ≡ length first + length (later_steps state request others)
+  pub long : length (list_steps state moment request) ≡ length first + length (later_steps state request others)
   long = ap length steps-are ∙ length-append (map out first) (later_steps state request others) ∙ ap (λ (k : ℕ). k + length (later_steps state request others)) (length-map-out first)
 
   later : (held : List Row) → LaterOutcome state moment request first others held → StopOutcome state moment request (step state moment request).state held

@@ -1,0 +1,97 @@
+-- How the calls of a command follow each other, and how it ends.
+use Rattle.std.proofs.Common.{◌≡◌, ℕ, List, [], ◌∷◌, Option, None, Some, refl, ap, sym, ◌∙◌, subst, inl, inr}
+use Rattle.std.specs.Option.{ForSome}
+use Rattle.blk_image.specs.Image.{Image}
+use Rattle.blk_image.specs.Steps.{Note, after}
+use Rattle.blk_image.specs.Told.{Along, Applies, Passes, Told}
+use Rattle.blk_image.proofs.Runs.{grows_then, passes_then, passes_weaker, told_whole, until_weaker2}
+use Rattle.blk_model.specs.Holding.{rest}
+use Rattle.blk_model.specs.Reply.{answer_of}
+use Rattle.blk_model.specs.Request.{IsRequest, Request}
+use Rattle.blk_model.specs.State.{IsValidState, State}
+use Rattle.blk_model.specs.Step.{step}
+use Rattle.blk_model.proofs.Steps.{step_valid}
+use Rattle.blk_volume.specs.Layout.{Layout}
+use Rattle.blk_volume.specs.StandsFor.{StandsFor}
+use Rattle.blk_volume.specs.View.{view_of}
+use Rattle.blk_laws.proofs.DoomedChanges.{handles-not_shown}
+use Rattle.blk_kept.specs.Changes.{StillFinds}
+use Rattle.blk_kept.specs.Commands.{MayStop}
+use Rattle.blk_kept.specs.CommandStates.{with_names}
+use Rattle.blk_kept.specs.Keeping.{AreOwners, Keeps}
+use Rattle.blk_kept.specs.StageLaws.{CallsEnd, CallsFollow, EffectsAreDone, EndsAreKept, FindsLeft, HandlesAreNotKept, IsAtStage, NotesEndSteps, StagesGoOn, StagesMayStop, WhatIsFoundMayStop}
+use Rattle.blk_kept.proofs.CommandEnding.{passed}
+use Rattle.blk_kept.proofs.Orders.{left-stops}
+
+-- ---- stages
+
+pub stages-go-on : StagesGoOn
+stages-go-on before after state moment request from image keeps at = record { inner = at.inner; layout = at.layout; unlinked = at.unlinked; kept = keeps at.inner at.layout at.unlinked at.kept; left = at.left }
+
+found-stops : (state : State) (moment : ℕ) (request : Request) (image : Image) → FindsLeft state moment request image → MayStop state moment request image
+found-stops state moment request image f = left-stops state moment request f.held image f.left f.finds
+
+pub what-is-found-stops : (keeps : State → Image → Type 0) → WhatIsFoundMayStop keeps
+what-is-found-stops keeps told now later moment request passes image there state k = passes_weaker (passes image there state k) (found-stops state moment request) (found-stops state moment request)
+
+pub stages-stop : (keeps : State → Image → Type 0) → StagesMayStop keeps
+stages-stop keeps told now later moment request words stage passes image there state k = record {
+  steps = passes.steps;
+  applies = passes.applies;
+  quiet = passes.quiet;
+  along = λ from is.
+      let at : IsAtStage words state moment request from = stage image there state k from is in
+      let stops : (i : Image) → ForSome now.files (λ old. StillFinds words old i) → MayStop state moment request i = λ i finds. left-stops state moment request (rest at.inner) i at.left (finds from is at.inner at.layout at.unlinked at.kept) in
+      until_weaker2 (λ i. ForSome now.files (λ old. StillFinds words old i)) (MayStop state moment request) (λ i. ForSome now.files (λ old. StillFinds words old i)) (MayStop state moment request) passes.steps from stops stops (passes.along from is);
+}
+
+pub calls-follow : (keeps : State → Image → Type 0) → CallsFollow keeps
+calls-follow keeps told now later last moment request first second image there state k = passes_then (first image there state k) (second image there state k)
+
+pub calls-end : (keeps : State → Image → Type 0) → CallsEnd keeps
+calls-end keeps told now moment request goes = goes
+
+-- ---- ends
+
+-- who owns what, and which numbers the doomed objects have, says nothing of names
+owners-unnamed : (state : State) (names : List (Option ℕ)) (layout : Layout) (numbers : List ℕ) → AreOwners state layout numbers → AreOwners (with_names names state) layout numbers
+owners-unnamed state names layout numbers o = record {
+  exact = λ claim node own. let e = o.exact claim node own in record { among = e.among; loaded = e.loaded; here = e.here; claims = e.claims };
+  once = o.once;
+  doomed = record { each = o.doomed.each; once = o.doomed.once; all = o.doomed.all; records = o.doomed.records };
+}
+
+pub handles-kept : HandlesAreNotKept
+handles-kept state names layout unlinked image valid k = record {
+  entries = record {
+    valid = valid;
+    well_formed = k.entries.well_formed;
+    represents = handles-not_shown (view_of image) state layout k.entries.represents names;
+    numbers = k.entries.numbers;
+    owners = owners-unnamed state names layout k.entries.numbers k.entries.owners;
+    files = k.entries.files;
+    unlinked_words = k.entries.unlinked_words;
+    sealed = k.entries.sealed;
+    session = record { crash = k.entries.session.crash; id = k.entries.session.id; marked = k.entries.session.marked };
+  };
+  counters = record { sizes = k.counters.sizes; num_entries = k.counters.num_entries; num_bytes = k.counters.num_bytes };
+}
+
+pub ends-kept : EndsAreKept
+ends-kept state inner moment request names layout unlinked image valid can ends k =
+    subst (λ (m : State). Keeps m layout unlinked image) (sym ends) (handles-kept inner names layout unlinked image (subst IsValidState ends (step_valid state moment request valid can)) k)
+
+pub effects-done : (keeps : State → Image → Type 0) → EffectsAreDone keeps
+effects-done keeps told now moment request answer has image there state k =
+    let h = has image there state k in
+    let p = passed state moment request h.passes in
+    record { answered = h.answered ∙ sym (ap answer_of p.1); kept = λ other is. subst (λ (m : State). keeps m other) (sym p.0) (h.kept other is) }
+
+pub notes-end : NotesEndSteps
+notes-end told done now moment request number state passes stands noted = inr (record {
+  steps = passes.steps;
+  quiet = passes.quiet;
+  applies = grows_then passes.applies noted;
+  stops = passes.along;
+  stands = told_whole (λ image. StandsFor image (step state moment request).state) noted (λ image is. stands image is);
+})

@@ -1,0 +1,105 @@
+//! What a stop in a command may leave, and how commands end: laws, each the contract of a function with an empty body.
+ghost use Rattle.blk_kept.specs.CommandEnds.{PassedRequestsTakeEffect, GroupsGoInTurn, WholeGroupsGoAsDoomed, PartsGoAlone, MarkedStatesAreValid, UsesEnd, OnlyUsesMayBeLeft, OpensEndOnceUsed, OpensMayLeave, CreatesEndOnceMade, CreatesMayLeave, WritesUnsettle, WritesEndOnceWritten, DoomedWritesEnd, SparseWritesUnsettle, SparseWritesEnd, EmptySparseWritesEnd, ClosesFreeTheName, ClosesSettle, ClosesMayLeave, ClosesOfDoomedEnd, DoomsEndOnceDoomed, DoomKeysEndOnceDoomed, DoomsMayLeave, DoomKeysMayLeave, TrimsEndOnceOut, TrimsMayLeave};
+ghost use Rattle.blk_kept.specs.Keeping.{KeepsSome};
+ghost use Rattle.blk_kept.specs.PartStates.{PartsChangeAlone, NewPartsKeepValid, PartsAreLeftOut, MainsChangeAlone};
+ghost use Rattle.blk_kept.specs.StageLaws.{StagesGoOn, StagesMayStop, WhatIsFoundMayStop, CallsFollow, CallsEnd, HandlesAreNotKept, EndsAreKept, EffectsAreDone, NotesEndSteps};
+ghost use Rattle.blk_kept.specs.StopLaws.{WhatIsLeftMayStop, OrdersMayBeLeft, UsesMayBeLeft, UsesGoOn, RoomMayBeLeft, HandlesAreNotAtRest, DoomedObjectsAreNotAtRest, UnsettledObjectsAreNotAtRest, OwnUsesKeepOthers, OthersMayBeLeftOnceUnsettled, OthersMayBeLeftWhileDoomed};
+
+/// Once some groups are out and some of the later list steps are made, a stop may leave what is at rest in that order; where that is found the request may be stopped.
+pub fn orders_may_be_left()
+    ensures stops { WhatIsLeftMayStop }
+    ensures orders { OrdersMayBeLeft }
+    ensures uses { UsesMayBeLeft }
+    ensures go_on { UsesGoOn }
+    ensures room { RoomMayBeLeft }
+{}
+
+/// Which handles there are is nothing to what is at rest; nor is a doomed object, whatever becomes of it, nor an unsettled one and where its items stand. A live object that is settled, or unsettled and named, leaves the state valid.
+pub fn rests_leave_them_out()
+    ensures handles { HandlesAreNotAtRest }
+    ensures doomed { DoomedObjectsAreNotAtRest }
+    ensures unsettled { UnsettledObjectsAreNotAtRest }
+    ensures uses { OwnUsesKeepOthers }
+    ensures marked { MarkedStatesAreValid }
+{}
+
+/// Once the object that a request unsettles isn't settled, a stop may leave what is at rest, whatever became of it; and so while a doomed object changes.
+pub fn others_may_be_left()
+    ensures unsettled { OthersMayBeLeftOnceUnsettled }
+    ensures doomed { OthersMayBeLeftWhileDoomed }
+{}
+
+/// A request that isn't refused has its effect once all that it evicts is out, group after group. A Trim ends there, and a stop in it may leave what is at rest without the first groups.
+pub fn requests_take_effect()
+    ensures effect { PassedRequestsTakeEffect }
+    ensures in_turn { GroupsGoInTurn }
+    ensures as_doomed { WholeGroupsGoAsDoomed }
+    ensures alone { PartsGoAlone }
+    ensures trims { TrimsEndOnceOut }
+    ensures trims_leave { TrimsMayLeave }
+{}
+
+/// A Read and the two sparse reads end once their items are used, an Open once its item is used and its handle bound. A stop may leave what is at rest in each order between.
+pub fn reads_end_once_used()
+    ensures ends { UsesEnd }
+    ensures leaves { OnlyUsesMayBeLeft }
+    ensures opens { OpensEndOnceUsed }
+    ensures opens_leave { OpensMayLeave }
+{}
+
+/// A Create ends with the new object, whose rest a stop may leave.
+pub fn creates_end_once_made()
+    ensures ends { CreatesEndOnceMade }
+    ensures leaves { CreatesMayLeave }
+{}
+
+/// A Write and a SparseWrite of some bytes unsettle their object, and end once it is written and used; of no bytes a SparseWrite uses the main item alone, and of a doomed object a Write makes no use.
+pub fn writes_end_once_written()
+    ensures unsettle { WritesUnsettle }
+    ensures ends { WritesEndOnceWritten }
+    ensures doomed { DoomedWritesEnd }
+    ensures sparse_unsettle { SparseWritesUnsettle }
+    ensures sparse_ends { SparseWritesEnd }
+    ensures empty { EmptySparseWritesEnd }
+{}
+
+/// Inside a sparse write one part changes alone, or one more keeps the state valid, or one goes and leaves all else, or the main item changes alone.
+pub fn parts_change_alone()
+    ensures alone { PartsChangeAlone }
+    ensures more { NewPartsKeepValid }
+    ensures less { PartsAreLeftOut }
+    ensures mains { MainsChangeAlone }
+{}
+
+/// A Close frees its name; of the last handle it settles a live object, whose rest a stop may leave, and ends without a doomed one.
+pub fn closes_settle()
+    ensures several { ClosesFreeTheName }
+    ensures ends { ClosesSettle }
+    ensures leaves { ClosesMayLeave }
+    ensures doomed { ClosesOfDoomedEnd }
+{}
+
+/// A Doom and a DoomKey end with the object doomed, and a stop may leave what is at rest then.
+pub fn dooms_end_once_doomed()
+    ensures ends { DoomsEndOnceDoomed }
+    ensures leaves { DoomsMayLeave }
+    ensures keys_end { DoomKeysEndOnceDoomed }
+    ensures keys_leave { DoomKeysMayLeave }
+{}
+
+/// The calls of a command follow each other: between them the folder keeps a state whose rest a stop may leave, and at each word of a call from there the command may be stopped, also where the call failed.
+pub fn calls_follow_each_other()
+    ensures go_on { StagesGoOn }
+    ensures stop { StagesMayStop KeepsSome }
+    ensures find { WhatIsFoundMayStop KeepsSome }
+    ensures follow { CallsFollow KeepsSome }
+    ensures end { CallsEnd KeepsSome }
+{}
+
+/// A command is done where its effect is kept and its answer is the map's, whatever handles there are; with its note behind all else it is stepped.
+pub fn commands_are_done()
+    ensures handles { HandlesAreNotKept }
+    ensures ends { EndsAreKept }
+    ensures done { EffectsAreDone KeepsSome }
+    ensures noted { NotesEndSteps }
+{}
