@@ -6,6 +6,7 @@ use Rattle.blk_format.specs.BlockFiles.{is_among, kind_among}
 use Rattle.blk_disk.specs.declared.tables.BlockFiles.{BlockFiles}
 use Rattle.blk_disk.specs.Tables.{files_of, all_files, blocks_of, length_in, Resizes}
 use Rattle.blk_disk.specs.Growth.{size_as, whole_length}
+use Rattle.blk_alloc.specs.Extending.{HasItsBlocks}
 use Rattle.blk_alloc.proofs.Kept.{IsLarger}
 
 -- the files whose numbers are below one are as long as they are to be, and all others as before
@@ -23,6 +24,10 @@ none_fitted files = record { files = λ kind. refl; all = refl; blocks = λ n. r
 whole_same : (old new : BlockFiles) (n : ℕ) → ((kind : ℕ) → files_of new kind ≡ files_of old kind) → ((m : ℕ) → blocks_of new m ≡ blocks_of old m) → whole_length new n ≡ whole_length old n
 unfolding whole_length
 whole_same old new n files blocks = λ j. header_size + blocks n j * size_as (kind_among (λ kind. files kind j) n)
+
+-- a file that isn't lengthened yet has all its blocks where it had
+pub long_still : (old mid : BlockFiles) (n : ℕ) → HasFitted old mid n → HasItsBlocks old n → HasItsBlocks mid n
+long_still old mid n before long = let size = before.rest n (omega arith) in let wanted = whole_same old mid n before.files before.blocks in omega (arith, long, size, wanted)
 
 -- one file more is lengthened
 pub one_fitted : (old mid new : BlockFiles) (n : ℕ) → HasFitted old mid n → Resizes mid new n (max (length_in mid n) (whole_length mid n)) → HasFitted old new (n + 1)

@@ -1,23 +1,51 @@
 -- Files that are rebuilt one after another, in the order of their numbers.
-use Rattle.std.proofs.Common.{◌≡◌, ◌≢◌, ℕ, ◌+◌, ◌<◌, ◌≤◌, List, [], ◌∷◌, true, false, max, None, refl, sym, ◌∙◌, ap, subst, arith, ⊎_elim}
-use Rattle.std.specs.Option.{ForSome}
+use Rattle.std.proofs.Common.{◌≡◌, ◌≢◌, ℕ, ◌+◌, ◌<◌, ◌≤◌, List, [], ◌∷◌, Bool, true, false, if◌then◌else◌, max, nat_lt, Option, None, Some, refl, sym, ◌∙◌, ap, ap₂, subst, arith, ⊎_elim}
+use Rattle.std.specs.Option.{ForSome, option_map}
+use Rattle.std.proofs.lemmas.List.{append-nil}
+use Rattle.std.proofs.lemmas.Bool.Decides.{nat_tests}
 use Rattle.std.proofs.lemmas.Bool.{cases_eq}
 use Rattle.blk_image.specs.Image.{Image, Block, External}
-use Rattle.blk_image.specs.Told.{Told, Passes}
+use Rattle.blk_image.specs.Steps.{SetLength, TrailStep, after}
+use Rattle.blk_image.specs.Told.{Applies, Passes, Stays, Told, Trail, longer}
 use Rattle.blk_image.proofs.Runs.{passes_end, passes_none, passes_weaker, some_inj}
 use Rattle.blk_format.specs.BlockFiles.{is_among}
 use Rattle.blk_addr.specs.declared.claim_set.Claims.{Claims}
 use Rattle.blk_disk.specs.declared.tables.BlockFiles.{BlockFiles}
 use Rattle.blk_disk.specs.Tables.{Agrees, Resizes, all_files, length_in}
-use Rattle.blk_disk.specs.Growth.{whole_length}
-use Rattle.blk_alloc.specs.Rebuilding.{is_block_file, AreItsAllocations, IsRebuilding, IsRebuilt}
+use Rattle.blk_disk.specs.Growth.{fit_steps, whole_length}
+use Rattle.blk_alloc.specs.Extending.{HasItsBlocks}
+use Rattle.blk_alloc.specs.Rebuilding.{is_block_file, AreItsAllocations, AreRight, IsRebuilding, IsRebuilt}
 use Rattle.blk_io.proofs.Carried.{told_at_end}
-use Rattle.blk_alloc.proofs.Fitted.{HasFitted, none_fitted, none_more, one_fitted}
+use Rattle.blk_alloc.proofs.Fitted.{HasFitted, long_still, none_fitted, none_more, one_fitted}
 use Rattle.blk_alloc.proofs.Members.{all_head}
 use Rattle.blk_alloc.proofs.Owned.{allocations_are, stands_still}
 use Rattle.blk_alloc.proofs.Remade.{one_more, others_kept, rebuilding_begin, rebuilt_same}
 use Rattle.blk_format.proofs.Growths.{grown_blocks}
 use Rattle.blk_alloc.proofs.Written.{passes_on}
+
+-- what is told, of its two parts
+abbrev told_of : Option Image → Option Trail → Told
+told_of files trail = record { files = files; trail = trail }
+
+-- no step was made
+told_same : (a b : Told) → Applies a b [] → b ≡ a
+told_same a b applies = ap₂ told_of (applies.files ∙ files_none a.files) (applies.trail ∙ trail_none a.trail)
+  where
+    files_none : (o : Option Image) → option_map (after []) o ≡ o
+    files_none None = refl
+    files_none (Some image) = refl
+
+    trail_none : (o : Option Trail) → option_map (longer []) o ≡ o
+    trail_none None = refl
+    trail_none (Some trail) = ap (λ (s : List TrailStep). Some (record { start = trail.start; steps = s })) (append-nil trail.steps)
+
+-- a file that has all its blocks isn't lengthened
+pub fitted_none : (files : BlockFiles) (n : ℕ) (a b : Told) → HasItsBlocks files n → Applies a b (fit_steps files n) → b ≡ a
+fitted_none files n a b long applies =
+    told_same a b (subst (λ (t : Bool). Applies a b (if t then SetLength (Block n) (whole_length files n) ∷ [] else [])) (short (length_in files n) (whole_length files n) long) applies)
+  where
+    short : (x y : ℕ) → y ≤ x → nat_lt x y ≡ false
+    short x y low = grind (arith, nat_tests)
 
 -- the linked files whose numbers are below one are rebuilt, and all others are as before
 pub record HasRebuilt (a b : Told) (old now : BlockFiles) (claims : Claims) (count : ℕ) : Type 0 where
@@ -26,6 +54,7 @@ pub record HasRebuilt (a b : Told) (old now : BlockFiles) (claims : Claims) (cou
   pub fitted : HasFitted old now count
   pub agrees : ForSome b.files (Agrees now)
   pub stops : ForSome a.files (λ from. Passes a b (IsRebuilding claims (all_files old) from))
+  pub clean : ForSome a.files (λ from. AreRight claims old from → Stays a b)
   pub silent : a.files ≡ None → b.files ≡ None
 
 pub none_rebuilt : (a : Told) (files : BlockFiles) (claims : Claims) → ForSome a.files (Agrees files) → HasRebuilt a a files files claims 0
@@ -35,6 +64,7 @@ none_rebuilt a files claims agrees = record {
   fitted = none_fitted files;
   agrees = agrees;
   stops = λ from there. passes_none (IsRebuilding claims (all_files files) from) refl (λ image is. subst (IsRebuilding claims (all_files files) from) (some_inj (sym there ∙ is)) (rebuilding_begin claims (all_files files) from));
+  clean = λ from there right. refl;
   silent = λ none. none;
 }
 
@@ -47,6 +77,7 @@ module _ (a b : Told) (old mid : BlockFiles) (claims : Claims) (n : ℕ) (before
     fitted = none_more old mid n apart before.fitted;
     agrees = before.agrees;
     stops = before.stops;
+    clean = before.clean;
     silent = before.silent;
   }
     where
@@ -65,9 +96,16 @@ module _ (a b : Told) (old mid : BlockFiles) (claims : Claims) (n : ℕ) (before
         let keeps : (i : Image) → IsRebuilding claims (n ∷ []) image i → IsRebuilding claims (all_files old) from i = λ i more. one_more claims (all_files old) n among from image so_far (before.untouched from there image now n (omega arith)) i more in
         passes_weaker (stops image now) keeps keeps)
 
+    -- where all are right, nothing is written
+    pub next_clean : ForSome b.files (λ from. HasItsBlocks mid n → IsRebuilt claims from n → Stays b c) → ForSome a.files (λ from. AreRight claims old from → Stays a c)
+    next_clean clean from there right =
+        let same = before.clean from there right in
+        let here = right n among in
+        clean from (ap (λ (t : Told). t.files) same ∙ there) (long_still old mid n before.fitted here.0) here.1 ∙ same
+
     -- and is rebuilt
-    pub next_rebuilt : (new : BlockFiles) → (b.files ≡ None → c.files ≡ None) → ForSome c.files (λ image. IsRebuilt claims image n) → Resizes mid new n (max (length_in mid n) (whole_length mid n)) → ForSome c.files (Agrees new) → HasRebuilt a c old new claims (n + 1)
-    next_rebuilt new silent done resizes agrees = record {
+    pub next_rebuilt : (new : BlockFiles) → (b.files ≡ None → c.files ≡ None) → ForSome c.files (λ image. IsRebuilt claims image n) → Resizes mid new n (max (length_in mid n) (whole_length mid n)) → ForSome c.files (Agrees new) → ForSome b.files (λ from. HasItsBlocks mid n → IsRebuilt claims from n → Stays b c) → HasRebuilt a c old new claims (n + 1)
+    next_rebuilt new silent done resizes agrees clean = record {
       rebuilt =
           told_at_end b.files c.files (λ image. (m : ℕ) → m < n + 1 → is_among (all_files old) m ≡ true → IsRebuilt claims image m) silent
           (λ image now later is m below there.
@@ -79,6 +117,7 @@ module _ (a b : Told) (old mid : BlockFiles) (claims : Claims) (n : ℕ) (before
       fitted = one_fitted old mid new n before.fitted resizes;
       agrees = agrees;
       stops = next_stops;
+      clean = next_clean clean;
       silent = λ none. silent (before.silent none);
     }
       where

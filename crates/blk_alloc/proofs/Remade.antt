@@ -1,5 +1,5 @@
 -- Maps and counters that are made anew: one file, and one file after another.
-use Rattle.std.proofs.Common.{◌≡◌, ◌≢◌, ℕ, ◌<◌, ◌≤◌, ◌⊎◌, inl, inr, List, [], ◌∷◌, Bool, true, false, ◌&&◌, ◌||◌, nat_le, nat_lt, Option, Some, refl, sym, ◌∙◌, ap, ap₂, subst, arith, lit<, ⊎_elim, unwrap_or}
+use Rattle.std.proofs.Common.{◌≡◌, ◌≢◌, ℕ, ◌+◌, ◌<◌, ◌≤◌, ◌⊎◌, inl, inr, List, [], ◌∷◌, Bool, true, false, ◌&&◌, ◌||◌, nat_le, nat_lt, Option, Some, refl, sym, ◌∙◌, ap, ap₂, subst, arith, lit<, ⊎_elim, unwrap_or}
 use Rattle.std.proofs.lemmas.Bool.{cases_eq}
 use Rattle.std.proofs.lemmas.Bool.Decides.{nat_tests}
 use Rattle.blk_image.specs.Bytes.{content, word_bytes}
@@ -11,27 +11,32 @@ use Rattle.blk_image.proofs.Images.{word-after_same}
 use Rattle.blk_image.proofs.Footprints.{outside-refl, outside-trans, outside_wider, outside_write, same_file_outside}
 use Rattle.blk_image.proofs.Runs.{passes_part, passes_weaker, some_inj}
 use Rattle.blk_image.proofs.WordSteps.{quiet-word_step, until_word}
-use Rattle.blk_format.specs.Headers.{allocations_of, updating_of}
+use Rattle.blk_format.specs.Headers.{allocations_of, empty_of, max_entries_of, updating_of}
 use Rattle.blk_format.specs.BlockFiles.{is_among, max_entries_in}
-use Rattle.blk_format.specs.Maps.{is_block_marked, EmptyAgrees}
+use Rattle.blk_format.specs.Maps.{is_block_marked_at, groups_of, groups_with, EmptyAgrees}
 use Rattle.blk_addr.specs.declared.claim_set.Claims.{Claims}
 use Rattle.blk_alloc.specs.Changes.{map_of}
-use Rattle.blk_alloc.specs.Rebuilding.{counts_of, is_block_file, is_counted_place, is_updating_place, rebuilding_of, IsInHand, IsRebuilding, IsRebuilt, KeepsBytes}
+use Rattle.blk_alloc.specs.Rebuilding.{counts_of, is_block_file, is_counted_place, is_updating_place, rebuilding_of, IsInHand, IsRebuilding, IsRebuilt, KeepsBytes, RemakesInProgress}
 use Rattle.blk_alloc.proofs.Changing.{at_updating}
 use Rattle.blk_alloc.proofs.Counted.{counts_within, updating_kept}
 use Rattle.blk_alloc.proofs.Sparing.{SparesFields, formed_spared, grown_spared}
 
 -- One file.
 
+-- a file with the bytes that it had is rebuilt as it was
+pub rebuilt_bytes : (claims : Claims) (a b : Image) (n : ℕ) → ((i : ℕ) → byte b (Block n) i ≡ byte a (Block n) i) → IsRebuilt claims a n → IsRebuilt claims b n
+unfolding EmptyAgrees max_entries_in
+rebuilt_bytes claims a b n same rebuilt =
+    let bytes : byte b (Block n) ≡ byte a (Block n) = λ j i. same i j in record {
+      marks = λ k small. ap (λ (f : ℕ → ℕ). is_block_marked_at f k) bytes ∙ rebuilt.marks k small;
+      allocations = ap allocations_of bytes ∙ rebuilt.allocations;
+      empty = λ i small. ap (λ (f : ℕ → ℕ). empty_of f i) bytes ∙ rebuilt.empty i small ∙ sym (ap (λ (f : ℕ → ℕ). groups_with (is_block_marked_at f) (groups_of (max_entries_of f)) (i + 1)) bytes);
+      updating = ap updating_of bytes ∙ rebuilt.updating;
+    }
+
 -- a file that is as it was is rebuilt as it was
 pub rebuilt_same : (claims : Claims) (a b : Image) (n : ℕ) → b (Block n) ≡ a (Block n) → IsRebuilt claims a n → IsRebuilt claims b n
-unfolding EmptyAgrees max_entries_in
-rebuilt_same claims a b n same rebuilt = record {
-  marks = λ k small. ap (λ (o : Option (List ℕ)). is_block_marked (λ file. o) n k) same ∙ rebuilt.marks k small;
-  allocations = ap (λ (o : Option (List ℕ)). allocations_of (content (unwrap_or o []))) same ∙ rebuilt.allocations;
-  empty = subst (λ (o : Option (List ℕ)). EmptyAgrees (λ file. o) n) (sym same) rebuilt.empty;
-  updating = ap (λ (o : Option (List ℕ)). updating_of (content (unwrap_or o []))) same ∙ rebuilt.updating;
-}
+rebuilt_same claims a b n same = rebuilt_bytes claims a b n (λ i. ap (λ (o : Option (List ℕ)). content (unwrap_or o []) i) same)
 
 -- and is in hand as it was
 pub in_hand_same : (claims : Claims) (n : ℕ) (from a b : Image) → b (Block n) ≡ a (Block n) → IsInHand claims n from a → IsInHand claims n from b
@@ -179,17 +184,18 @@ unfolding is_block_file
 other_file_kept numbers m a b apart same = same_file_outside (rebuilding_of numbers) a b (Block m) same (λ i. ap (λ (t : Bool). t && (is_counted_place i || is_updating_place i)) apart) apart
 
 -- what differs leaves the folder whole
-rebuilding_is : (claims : Claims) (numbers : List ℕ) (from image : Image) → SameOutside (rebuilding_of numbers) from image → ((n : ℕ) → length_of from (Block n) ≤ length_of image (Block n)) → ((n : ℕ) → is_among numbers n ≡ true → IsInHand claims n from image) → IsRebuilding claims numbers from image
-rebuilding_is claims numbers from image same longer each = record {
+rebuilding_is : (claims : Claims) (numbers : List ℕ) (from image : Image) → SameOutside (rebuilding_of numbers) from image → ((n : ℕ) → length_of from (Block n) ≤ length_of image (Block n)) → ((n : ℕ) → is_among numbers n ≡ true → IsInHand claims n from image) → ((n : ℕ) → is_among numbers n ≡ true → IsRebuilt claims from n → (i : ℕ) → byte image (Block n) i ≡ byte from (Block n) i) → IsRebuilding claims numbers from image
+rebuilding_is claims numbers from image same longer each right = record {
   same = same;
   longer = longer;
   each = each;
+  right = right;
   stays = record { grown = grown_spared (rebuilding_of numbers) from image (rebuilding_spares numbers) same longer; formed = formed_spared (rebuilding_of numbers) from image (rebuilding_spares numbers) same longer };
 }
 
 -- nothing is done yet
 pub rebuilding_begin : (claims : Claims) (numbers : List ℕ) (from : Image) → IsRebuilding claims numbers from from
-rebuilding_begin claims numbers from = rebuilding_is claims numbers from from (outside-refl (rebuilding_of numbers) from) (λ n. omega arith) (λ n there. inl (λ i beside. refl))
+rebuilding_begin claims numbers from = rebuilding_is claims numbers from from (outside-refl (rebuilding_of numbers) from) (λ n. omega arith) (λ n there. inl (λ i beside. refl)) (λ n there rebuilt i. refl)
 
 module _ (claims : Claims) (n : ℕ) (from mid : Image) (lengthened : SameOutside (size_of (Block n)) from mid) (longer : length_of from (Block n) ≤ length_of mid (Block n)) where
   all_longer : (m : ℕ) → length_of from (Block m) ≤ length_of mid (Block m)
@@ -201,17 +207,19 @@ module _ (claims : Claims) (n : ℕ) (from mid : Image) (lengthened : SameOutsid
   pub lengthened_is : IsRebuilding claims (n ∷ []) from mid
   lengthened_is =
       rebuilding_is claims (n ∷ []) from mid (outside_wider (size_of (Block n)) (rebuilding_of (n ∷ [])) from mid (size_within (n ∷ []) n (is_only n)) lengthened) all_longer
-      (λ m there. inl (λ i beside. lengthened.bytes (Block m) i refl))
+      (λ m there. inl (λ i beside. lengthened.bytes (Block m) i refl)) (λ m there rebuilt i. lengthened.bytes (Block m) i refl)
 
   -- and its map and counters are under way
-  pub remade_is : (image : Image) → SameOutside (map_of n) mid image × IsInHand claims n mid image → IsRebuilding claims (n ∷ []) from image
+  pub remade_is : (image : Image) → RemakesInProgress claims n mid image → IsRebuilding claims (n ∷ []) from image
   remade_is image remade =
       rebuilding_is claims (n ∷ []) from image
-      (outside-trans (rebuilding_of (n ∷ [])) from mid image lengthened_is.same (outside_wider (map_of n) (rebuilding_of (n ∷ [])) mid image (map_within (n ∷ []) n (is_only n)) remade.0))
-      (λ m. let first = all_longer m in let then_ = remade.0.lengths (Block m) refl in omega (arith, first, then_))
+      (outside-trans (rebuilding_of (n ∷ [])) from mid image lengthened_is.same (outside_wider (map_of n) (rebuilding_of (n ∷ [])) mid image (map_within (n ∷ []) n (is_only n)) remade.same))
+      (λ m. let first = all_longer m in let then_ = remade.same.lengths (Block m) refl in omega (arith, first, then_))
       (λ m there.
       subst (λ (k : ℕ). IsInHand claims k from image) (sym (only_one n m there))
-      (in_hand_before claims n from mid image (λ i beside. lengthened.bytes (Block n) i refl) remade.1))
+      (in_hand_before claims n from mid image (λ i beside. lengthened.bytes (Block n) i refl) remade.hand))
+      (λ m there. subst (λ (k : ℕ). IsRebuilt claims from k → (i : ℕ) → byte image (Block k) i ≡ byte from (Block k) i) (sym (only_one n m there))
+      (λ rebuilt i. ap (λ (j : Image). byte j (Block n) i) (remade.right (rebuilt_bytes claims from mid n (λ k. lengthened.bytes (Block n) k refl) rebuilt)) ∙ lengthened.bytes (Block n) i refl))
 
 -- one file more
 module _ (claims : Claims) (numbers : List ℕ) (n : ℕ) (there : is_among numbers n ≡ true) (from mid : Image) (before : IsRebuilding claims numbers from mid) (untouched : mid (Block n) ≡ from (Block n)) where
@@ -224,7 +232,16 @@ module _ (claims : Claims) (numbers : List ℕ) (n : ℕ) (there : is_among numb
       ⊎_elim
       (λ (e : m ≡ n). subst (λ (k : ℕ). IsInHand claims k from image) (sym e) (in_hand_before claims n from mid image (λ i beside. ap (λ (o : Option (List ℕ)). content (unwrap_or o []) i) untouched) (more.each n (is_only n))))
       (λ (differs : m ≢ n). in_hand_same claims m from mid image (other_file_kept (n ∷ []) m mid image (not_only n m differs) more.same) (before.each m among)) (cases_eq m n))
+      (λ m among.
+      ⊎_elim
+      (λ (e : m ≡ n). subst (λ (k : ℕ). IsRebuilt claims from k → (i : ℕ) → byte image (Block k) i ≡ byte from (Block k) i) (sym e)
+      (λ rebuilt i. more.right n (is_only n) (rebuilt_same claims from mid n untouched rebuilt) i ∙ ap (λ (o : Option (List ℕ)). content (unwrap_or o []) i) untouched))
+      (λ (differs : m ≢ n) rebuilt i. ap (λ (o : Option (List ℕ)). content (unwrap_or o []) i) (other_file_kept (n ∷ []) m mid image (not_only n m differs) more.same) ∙ before.right m among rebuilt i) (cases_eq m n))
 
 -- another file stays
 pub others_kept : (claims : Claims) (n m : ℕ) (mid image : Image) → m ≢ n → IsRebuilding claims (n ∷ []) mid image → image (Block m) ≡ mid (Block m)
 others_kept claims n m mid image differs more = other_file_kept (n ∷ []) m mid image (not_only n m differs) more.same
+
+-- a file that is right is in hand where nothing is written
+pub remakes_none : (claims : Claims) (n : ℕ) (from : Image) → 8192 ≤ length_of from (Block n) → RemakesInProgress claims n from from
+remakes_none claims n from long = let begin = remade_begin claims n from long in record { same = begin.0; hand = begin.1; right = λ rebuilt. refl }

@@ -1,14 +1,14 @@
 -- Maps and counters are made anew, and are then those of claims.
-use Rattle.std.specs.Prelude.{◌≡◌, ◌⊎◌, ℕ, ◌<◌, ◌≤◌, List, filter, max, Bool, false, true, ◌&&◌, ◌||◌}
+use Rattle.std.specs.Prelude.{◌≡◌, ◌⊎◌, ℕ, ◌<◌, ◌≤◌, List, filter, max, slice_index, Bool, false, true, ◌&&◌, ◌||◌}
 use Rattle.std.specs.List.{All}
 use Rattle.blk_image.specs.Image.{File, Block, Image, byte, length_of}
 use Rattle.blk_image.specs.Footprint.{Footprint, SameOutside, either, one_word, range}
 use Rattle.blk_format.specs.Growth.{StaysWhole}
 use Rattle.blk_format.specs.Claims.{BlockOf, is_in_file}
-use Rattle.blk_format.specs.Headers.{allocations_of, block_fields_length, updating_of}
+use Rattle.blk_format.specs.Headers.{allocations_of, block_fields_length, empty_of, updating_of}
 use Rattle.blk_format.specs.BlockFiles.{is_among, most_blocks, stands_in}
 use Rattle.blk_format.specs.Maps.{is_block_marked, map_place, AreAllocations, EmptyAgrees}
-use Rattle.blk_addr.specs.Bits.{is_between}
+use Rattle.blk_addr.specs.Bits.{has_bit, is_between}
 use Rattle.blk_addr.specs.Claims.{contains_claim, allocations_in, IsClaimsOf}
 use Rattle.blk_addr.specs.declared.claim_set.Claims.{Claims}
 use Rattle.blk_image.specs.Told.{Told}
@@ -19,7 +19,8 @@ use Rattle.blk_disk.specs.declared.tables.BlockFiles.{BlockFiles}
 use Rattle.blk_disk.specs.Tables.{files_of, all_files, blocks_of, length_in}
 use Rattle.blk_disk.specs.Growth.{whole_length}
 use Rattle.blk_alloc.specs.Counting.{allocations_place, empty_place}
-use Rattle.blk_alloc.specs.Changes.{map_length}
+use Rattle.blk_alloc.specs.Changes.{map_length, map_of}
+use Rattle.blk_alloc.specs.Extending.{HasItsBlocks}
 
 -- whether a block of a file is claimed
 abbrev pub is_block_claimed : Claims → ℕ → ℕ → Bool
@@ -35,6 +36,20 @@ pub record IsRebuilt (claims : Claims) (image : Image) (n : ℕ) : Type 0 where
   pub allocations : allocations_of (byte image (Block n)) ≡ allocations_in claims n
   pub empty : EmptyAgrees image n
   pub updating : updating_of (byte image (Block n)) ≡ 0
+
+-- the header of a file has these counters, and no change is under way
+pub record HasTheseCounters (image : Image) (n count : ℕ) (runs : List ℕ) : Type 0 where
+  pub allocations : allocations_of (byte image (Block n)) ≡ count
+  pub empty : (i : ℕ) → i < 4 → empty_of (byte image (Block n)) i ≡ slice_index runs i
+  pub updating : updating_of (byte image (Block n)) ≡ 0
+
+-- the first so many bits of a map are set just where these blocks of a file are claimed
+abbrev pub AreBitsOf : Claims → ℕ → ℕ → List ℕ → Type 0
+AreBitsOf claims n blocks map = (b : ℕ) → b < blocks → has_bit map b ≡ is_block_claimed claims n b
+
+-- each linked file is right: it has all its blocks, and its map and its counters are those of claims
+abbrev pub AreRight : Claims → BlockFiles → Image → Type 0
+AreRight claims files image = (n : ℕ) → is_among (all_files files) n ≡ true → HasItsBlocks files n × IsRebuilt claims image n
 
 -- the added addresses of blocks of a file
 abbrev pub words_in : ℕ → List ℕ → List ℕ
@@ -94,9 +109,16 @@ KeepsBytes n from image = (i : ℕ) → is_updating_place i ≡ false → byte i
 abbrev pub IsInHand : Claims → ℕ → Image → Image → Type 0
 IsInHand claims n from image = KeepsBytes n from image ⊎ ((updating_of (byte image (Block n)) ≡ 1) ⊎ IsRebuilt claims image n)
 
--- at each word: some block files are in hand, none is shorter than before, and nothing else differs; so files have grown at most, and a well-formed folder is well formed
+-- in the midst of one file: only map, counters and updating differ, it is in hand, and where they were right nothing differs
+pub record RemakesInProgress (claims : Claims) (n : ℕ) (from image : Image) : Type 0 where
+  pub same : SameOutside (map_of n) from image
+  pub hand : IsInHand claims n from image
+  pub right : IsRebuilt claims from n → image ≡ from
+
+-- at each word: some block files are in hand, none is shorter than before, one whose map and counters were right has each byte as before, updating too, and nothing else differs; so files have grown at most, and a well-formed folder is well formed
 pub record IsRebuilding (claims : Claims) (numbers : List ℕ) (from image : Image) : Type 0 where
   pub same : SameOutside (rebuilding_of numbers) from image
   pub longer : (n : ℕ) → length_of from (Block n) ≤ length_of image (Block n)
   pub each : (n : ℕ) → is_among numbers n ≡ true → IsInHand claims n from image
+  pub right : (n : ℕ) → is_among numbers n ≡ true → IsRebuilt claims from n → (i : ℕ) → byte image (Block n) i ≡ byte from (Block n) i
   pub stays : StaysWhole from image

@@ -13,7 +13,7 @@ const BITS_OF_BYTE: u32 = 8;
 
 // Whether a block is marked.
 #[tactic(auto, unfolding(blk_addr::specs::Bits::has_bit))]
-fn is_marked(bytes: &[u8], b: u32) -> bool
+pub(crate) fn is_marked(bytes: &[u8], b: u32) -> bool
     ensures { result ≡ has_bit bytes.now b }
 {
     let place = (b / BITS_OF_BYTE) as usize;

@@ -3,15 +3,15 @@ ghost use Rattle.std.specs.Prelude.{◌≡◌, ℕ, ◌⊎◌, ◌+◌, ◌/◌,
 ghost use Rattle.std.specs.Option.{ForSome};
 ghost use Rattle.blk_image.specs.Image.{Block as block, length_of};
 ghost use Rattle.blk_image.specs.Footprint.{SameOutside, range};
-ghost use Rattle.blk_image.specs.Told.{Passes, PassesTo, Rises};
+ghost use Rattle.blk_image.specs.Told.{Passes, PassesTo, Rises, Stays};
 ghost use Rattle.blk_format.specs.BlockFiles.{is_among, max_entries_in};
 ghost use Rattle.blk_format.specs.Maps.{groups_of, groups_with, map_place};
 ghost use Rattle.blk_io.specs.Faults.{IfDamaged, IfDevice};
 ghost use Rattle.blk_disk.specs.Growth.{whole_length};
 ghost use Rattle.blk_disk.specs.Tables.{Agrees, Resizes, all_files, files_of, length_in};
 ghost use Rattle.blk_alloc.specs.Changes.{map_length, map_of};
-ghost use Rattle.blk_alloc.specs.Extending.{KeepsStanding};
-ghost use Rattle.blk_alloc.specs.Rebuilding.{AreFitted, AreItsAllocations, AreMarked, IsInHand, IsRebuilding, IsRebuilt, IsShortRead, IsShortReadOf, counts_of, is_block_claimed};
+ghost use Rattle.blk_alloc.specs.Extending.{HasItsBlocks, KeepsStanding};
+ghost use Rattle.blk_alloc.specs.Rebuilding.{AreFitted, AreItsAllocations, AreMarked, AreRight, IsInHand, IsRebuilding, IsRebuilt, IsShortRead, IsShortReadOf, RemakesInProgress, counts_of, is_block_claimed};
 
 use crate::claimed::{count_runs, mark_claimed};
 use crate::comparing::is_rebuilt;
@@ -87,7 +87,8 @@ fn remake<F: Folder>(f: &mut F, claims: &Claims, file: u8, groups: u32) -> Resul
     requires header { ForSome (F.told f.old).files (λ image. 8192 ≤ length_of image (block file)) }
     requires groups { ForSome (F.told f.old).files (λ image. groups ≡ groups_of (max_entries_in image file)) }
     ensures done { OnOk result (ForSome (F.told f.new).files (λ image. IsRebuilt claims.now image file)) }
-    ensures stops { ForSome (F.told f.old).files (λ from. Passes (F.told f.old) (F.told f.new) (λ image. SameOutside (map_of file) from image × IsInHand claims.now file from image)) }
+    ensures stops { ForSome (F.told f.old).files (λ from. Passes (F.told f.old) (F.told f.new) (RemakesInProgress claims.now file from)) }
+    ensures clean { ForSome (F.told f.old).files (λ from. IsRebuilt claims.now from file → Stays (F.told f.old) (F.told f.new)) }
     ensures cause { IfDamaged result (IsShortRead (F.told f.new) file) }
     ensures untold { IfDamaged result (λ _. (F.told f.old).files ≡ None) }
     ensures silent { (F.told f.old).files ≡ None → (F.told f.new).files ≡ None }
@@ -118,6 +119,7 @@ fn rebuild_file<F: Folder>(
     ensures all { (kind : ℕ) → files_of files.new kind ≡ files_of files.old kind }
     ensures keeps { KeepsStanding files.old files.new }
     ensures stops { ForSome (F.told f.old).files (λ from. Passes (F.told f.old) (F.told f.new) (IsRebuilding claims.now (file ∷ []) from)) }
+    ensures clean { ForSome (F.told f.old).files (λ from. HasItsBlocks files.old file → IsRebuilt claims.now from file → Stays (F.told f.old) (F.told f.new)) }
     ensures cause { IfDamaged result (IsShortRead (F.told f.new) file) }
     ensures untold { IfDamaged result (λ _. (F.told f.old).files ≡ None) }
     ensures silent { (F.told f.old).files ≡ None → (F.told f.new).files ≡ None }
@@ -145,8 +147,11 @@ pub fn rebuild<F: Folder>(f: &mut F, files: &mut BlockFiles, claims: &Claims) ->
     ensures fitted { OnOk result (AreFitted files.old files.new) }
     ensures agrees { ForSome (F.told f.new).files (Agrees files.new) }
 
-    // At each word only lengths, maps, counters and updating differ, and in each file updating is 1 until map and counters are done; files have grown at most, and a well-formed folder is well formed.
+    // At each word only lengths, maps, counters and updating differ, and in each file updating is 1 until map and counters are done; a file whose map and counters were right has each byte as before; files have grown at most, and a well-formed folder is well formed.
     ensures stops { ForSome (F.told f.old).files (λ from. Passes (F.told f.old) (F.told f.new) (IsRebuilding claims.now (all_files files.old) from)) }
+
+    // Where each file has all its blocks, and its map and its counters are right, no step is made.
+    ensures clean { ForSome (F.told f.old).files (λ from. AreRight claims.now files.old from → Stays (F.told f.old) (F.told f.new)) }
 
     ensures cause { IfDamaged result (IsShortReadOf (F.told f.new) (all_files files.old)) }
     ensures untold { IfDamaged result (λ _. (F.told f.old).files ≡ None) }

@@ -18,8 +18,8 @@ use blk_record::BlockHead;
 // The blocks of a group.
 const GROUP: u32 = 4;
 
-// The place of the counter of empty groups.
-const EMPTY_GROUPS: u64 = 36;
+// The place of the counter of empty groups, the last of the four.
+const EMPTY_GROUPS: u64 = BlockHead::EMPTY + 12;
 
 impl BlockFiles {
     /// Gives a linked file of fewer than 64896 blocks 1024 more, or 384 for the last time.

@@ -141,7 +141,7 @@ impl BlockFiles {
             check(file, 8, numbers, head.this_file() == u16::from(n)),
             check(file, 8, numbers, self.is_link(kind, n, head.next_file())),
             check_is(file, 12, head.entry_size(), block_size(kind)),
-            check(file, 20, blocks, is_block_count(blocks)),
+            check(file, BlockHead::MAX_ENTRIES, blocks, is_block_count(blocks)),
         ])
     }
 

@@ -15,7 +15,7 @@ mod tables;
 
 pub use laws::files_are_linked_once;
 pub use names::file_of;
-pub use tables::BlockFiles;
+pub use tables::{BlockFiles, MOST_FILES};
 
 #[cfg(test)]
 mod sealed_tests;

@@ -8,8 +8,8 @@ ghost use Rattle.blk_addr.specs.Kind.{kind_number};
 use arrayvec::ArrayVec;
 use blk_addr::Kind;
 
-// The most files of one kind.
-pub(crate) const MOST_FILES: usize = 60;
+/// The most files of one kind.
+pub const MOST_FILES: usize = 60;
 
 // The kinds of the linked files, in the order in which they are taken up.
 pub(crate) const KINDS: [Kind; 4] = [Kind::Rankings, Kind::B256, Kind::B1K, Kind::B4K];

@@ -6,9 +6,7 @@ ghost use Rattle.blk_disk.specs.Tables.{Agrees};
 use crate::standing::room_of;
 use crate::{BlockFiles, file_of};
 use blk_addr::{Addr, Kind};
-use blk_io::{
-    Damage, Failed, Fault, FileId, Folder, MemFolder, SilentFolder, StopFolder, read_word,
-};
+use blk_io::{Damage, Fault, FileId, Folder, MemFolder, SilentFolder, read_word};
 use std::alloc::Global;
 use std::test::Fail;
 
@@ -81,30 +79,9 @@ fn files_are_found_in_the_order_of_the_links(rt: HostRuntime) -> Result<(), Fail
     let Ok(files) = BlockFiles::load(&mut f) else {
         panic!(rt; "the files are whole");
     };
-    assert_eq!(rt; files.count(Kind::External), 0);
-    assert_eq!(rt; files.count(Kind::Rankings), 1);
-    assert_eq!(rt; files.count(Kind::B1K), 3);
-    assert_eq!(rt; files.file_at(Kind::B1K, 0), Some(2));
-    assert_eq!(rt; files.file_at(Kind::B1K, 1), Some(6));
-    assert_eq!(rt; files.file_at(Kind::B1K, 2), Some(4));
-    assert_eq!(rt; files.file_at(Kind::B1K, 3), None);
+    assert_eq!(rt; files.files(Kind::B1K), [2, 6, 4].as_slice());
     assert_eq!(rt; files.max_entries(2), Some(64896));
-    assert_eq!(rt; files.max_entries(4), Some(0));
     assert_eq!(rt; files.max_entries(5), None);
-    Ok(())
-}
-
-#[test]
-fn a_missing_file_is_a_damage(rt: HostRuntime) -> Result<(), Fail> {
-    let mut f = folder_of(rt.alloc(), &[FILES[0], FILES[1], FILES[3]], HEADER_LEN)?;
-    assert_eq!(rt; damage_of(&mut f, 2), Some((8192, 0)));
-    Ok(())
-}
-
-#[test]
-fn a_file_that_ends_inside_its_header_is_a_damage(rt: HostRuntime) -> Result<(), Fail> {
-    let mut f = folder_of(rt.alloc(), &FILES, HEADER_LEN - 1)?;
-    assert_eq!(rt; damage_of(&mut f, 0), Some((8192, 8191)));
     Ok(())
 }
 
@@ -128,7 +105,6 @@ fn each_check_of_a_header_names_its_word(rt: HostRuntime) -> Result<(), Fail> {
         (4, 0x20001),
         (8, 0x0004_0005),
         (8, 0x0001_0006),
-        (8, 0x0002_0006),
         (8, 0x0003_0006),
         (8, 0x0006_0006),
         (8, 0x0100_0006),
@@ -144,21 +120,16 @@ fn each_check_of_a_header_names_its_word(rt: HostRuntime) -> Result<(), Fail> {
             "{at} {word}"
         );
     }
-    Ok(())
-}
 
-#[test]
-fn a_file_is_linked_once(rt: HostRuntime) -> Result<(), Fail> {
+    // A file that ends inside its header, one that is missing, and one that was taken up before.
+    let mut f = folder_of(rt.alloc(), &FILES, HEADER_LEN - 1)?;
+    assert_eq!(rt; damage_of(&mut f, 0), Some((8192, 8191)));
+    let mut f = folder_of(rt.alloc(), &[FILES[0], FILES[1], FILES[3]], HEADER_LEN)?;
+    assert_eq!(rt; damage_of(&mut f, 2), Some((8192, 0)));
     let mut headers = FILES;
     headers[3] = (3, 6, 4096, 0);
     let mut f = folder_of(rt.alloc(), &headers, HEADER_LEN)?;
     assert_eq!(rt; damage_of(&mut f, 3), Some((8, 0x0006_0003)));
-
-    // An earlier file of the same kind.
-    let mut headers = FILES;
-    headers[5] = (4, 6, 1024, 0);
-    let mut f = folder_of(rt.alloc(), &headers, HEADER_LEN)?;
-    assert_eq!(rt; damage_of(&mut f, 4), Some((8, 0x0006_0004)));
     Ok(())
 }
 
@@ -208,28 +179,16 @@ fn write_and_read<F: Folder>(
 
 #[test]
 fn bytes_are_written_over_the_end_of_a_block(rt: HostRuntime) -> Result<(), Fail> {
-    let alloc = rt.alloc();
     let headers = [FILES[0], (1, 0, 256, 1024), (2, 0, 1024, 0), FILES[3]];
-    let mut f = folder_of(alloc, &headers, HEADER_LEN + 1024)?;
+    let mut f = folder_of(rt.alloc(), &headers, HEADER_LEN + 1024)?;
     let mut out = [7; 512];
-    match write_and_read(&mut f, 0xA101_0001, 254, b"abcd", &mut out) {
-        Ok(done) => assert!(rt; done),
-        Err(_) => panic!(rt; "the blocks are there"),
-    }
+    let done = write_and_read(&mut f, 0xA101_0001, 254, b"abcd", &mut out);
+    assert_eq!(rt; done, Ok(true));
     assert_eq!(rt; &out[252..260], b"\0\0abcd\0\0".as_slice());
 
-    let mut block = [7; 256];
-
     // Block 3 is the last that ends inside the file.
-    assert_eq!(rt;
-        write_and_read(&mut f, 0xA001_0003, 255, b"z", &mut block),
-        Ok(true)
-    );
-    assert_eq!(rt; block[255], b'z');
-    assert_eq!(rt;
-        write_and_read(&mut f, 0xA001_0004, 0, b"z", &mut block),
-        Ok(false)
-    );
+    let done = write_and_read(&mut f, 0xA001_0004, 0, b"z", &mut out);
+    assert_eq!(rt; done, Ok(false));
     Ok(())
 }
 
@@ -249,12 +208,6 @@ fn a_short_file_is_fitted_to_its_blocks(rt: HostRuntime) -> Result<(), Fail> {
     let mut f = folder_of(rt.alloc(), &headers, HEADER_LEN)?;
     assert_eq!(rt; fit_file(&mut f, 1), Ok(true));
     assert_eq!(rt; f.length(FileId::Block(1)), Ok(Some(270_336)));
-    assert_eq!(rt; f.steps(), Some(1));
-
-    // A file that is long enough stays as it is, and so does one that isn't linked.
-    assert_eq!(rt; fit_file(&mut f, 1), Ok(true));
-    assert_eq!(rt; fit_file(&mut f, 4), Ok(false));
-    assert_eq!(rt; f.steps(), Some(1));
     Ok(())
 }
 
@@ -277,7 +230,7 @@ fn grow_file<F: Folder>(f: &mut F, file: u8) -> Result<bool, Fault> {
 }
 
 // A word of a block file, where the file has it.
-fn word_of(f: &mut MemFolder, file: u8, at: u64) -> Option<u32> {
+pub(crate) fn word_of(f: &mut MemFolder, file: u8, at: u64) -> Option<u32> {
     read_word(f, FileId::Block(file), at).ok()
 }
 
@@ -295,62 +248,15 @@ fn with_counter(alloc: Global, blocks: u32, empty: u32) -> Result<MemFolder, Fai
 }
 
 #[test]
-fn a_file_grows_by_1024_blocks(rt: HostRuntime) -> Result<(), Fail> {
-    let mut f = folder_of(rt.alloc(), &EMPTY, HEADER_LEN)?;
-    assert_eq!(rt; grow_file(&mut f, 1), Ok(true));
-    assert_eq!(rt; f.length(FileId::Block(1)), Ok(Some(270_336)));
-    assert_eq!(rt; word_of(&mut f, 1, 20), Some(1024));
-    for at in [24, 28, 32] {
-        assert_eq!(rt; word_of(&mut f, 1, at), Some(0), "{at}");
-    }
-    assert_eq!(rt; word_of(&mut f, 1, 36), Some(256));
-    assert_eq!(rt; f.steps(), Some(3));
-
-    // A file that isn't linked doesn't grow.
-    assert_eq!(rt; grow_file(&mut f, 4), Ok(false));
-    Ok(())
-}
-
-#[test]
-fn a_file_grows_to_64896_blocks(rt: HostRuntime) -> Result<(), Fail> {
+fn a_file_grows_by_1024_and_at_last_by_384_blocks(rt: HostRuntime) -> Result<(), Fail> {
+    // The counter is raised modulo 2^32, by 256 groups and then by 96.
     let mut f = with_counter(rt.alloc(), 63488, 0xFFFF_FFFF)?;
     assert_eq!(rt; grow_file(&mut f, 1), Ok(true));
-    assert_eq!(rt; word_of(&mut f, 1, 20), Some(64512));
-
-    // The counter is raised modulo 2^32.
     assert_eq!(rt; word_of(&mut f, 1, 36), Some(255));
-
-    // The last growth is of 384 blocks, which are 96 groups.
     assert_eq!(rt; grow_file(&mut f, 1), Ok(true));
-    assert_eq!(rt; f.length(FileId::Block(1)), Ok(Some(16_621_568)));
-    assert_eq!(rt; word_of(&mut f, 1, 20), Some(64896));
     assert_eq!(rt; word_of(&mut f, 1, 36), Some(351));
-    assert_eq!(rt; grow_file(&mut f, 1), Ok(false));
-    Ok(())
-}
-
-#[test]
-fn a_stopped_growth_leaves_a_good_header(rt: HostRuntime) -> Result<(), Fail> {
-    let lengths = [8192, 270_336, 270_336, 270_336];
-    let counters = [7, 7, 263, 263];
-    let blocks = [0, 0, 0, 1024];
-    for steps in 0..4usize {
-        let f = with_counter(rt.alloc(), 0, 7)?;
-        let mut stopped = StopFolder::new(f, steps as u64);
-        assert_eq!(rt; grow_file(&mut stopped, 1).is_ok(), steps == 3, "{steps}");
-        let mut f = stopped.into_inner();
-        assert!(rt; BlockFiles::load(&mut f).is_ok(), "{steps}");
-        assert_eq!(rt;
-            f.length(FileId::Block(1)),
-            Ok(Some(lengths[steps])),
-            "{steps}"
-        );
-        assert_eq!(rt; word_of(&mut f, 1, 36), Some(counters[steps]), "{steps}");
-        assert_eq!(rt; word_of(&mut f, 1, 20), Some(blocks[steps]), "{steps}");
-
-        // The growth is done where it is tried again.
-        assert_eq!(rt; grow_file(&mut f, 1).is_ok(), true, "{steps}");
-    }
+    assert_eq!(rt; word_of(&mut f, 1, 20), Some(64896));
+    assert_eq!(rt; f.length(FileId::Block(1)), Ok(Some(16_621_568)));
     Ok(())
 }
 
@@ -371,63 +277,10 @@ fn the_first_new_file_is_data_4(rt: HostRuntime) -> Result<(), Fail> {
     let mut f = folder_of(rt.alloc(), &headers, 9000)?;
     assert_eq!(rt; add_to(&mut f, Kind::B256), Ok(Some(4)));
     assert_eq!(rt; word_of(&mut f, 1, 8), Some(0x0004_0001));
-
-    // The new file has its header alone.
-    assert_eq!(rt; f.length(FileId::Block(4)), Ok(Some(8192)));
-    for (at, word) in [
-        (0, MAGIC),
-        (4, 0x20000),
-        (8, 4),
-        (12, 256),
-        (16, 0),
-        (20, 0),
-        (36, 0),
-        (80, 0),
-    ] {
+    for (at, word) in [(0, MAGIC), (4, 0x20000), (8, 4), (12, 256), (20, 0)] {
         assert_eq!(rt; word_of(&mut f, 4, at), Some(word), "{at}");
     }
-
-    // The next one is linked behind it.
-    assert_eq!(rt; add_to(&mut f, Kind::B256), Ok(Some(5)));
-    assert_eq!(rt; word_of(&mut f, 4, 8), Some(0x0005_0004));
-    assert_eq!(rt; add_to(&mut f, Kind::External), Ok(None));
-    Ok(())
-}
-
-#[test]
-fn a_new_file_takes_the_least_number(rt: HostRuntime) -> Result<(), Fail> {
-    let mut f = folder_of(rt.alloc(), &FILES, HEADER_LEN)?;
-    assert_eq!(rt; add_to(&mut f, Kind::B1K), Ok(Some(5)));
-    assert_eq!(rt; word_of(&mut f, 4, 8), Some(0x0005_0004));
-    let Ok(files) = BlockFiles::load(&mut f) else {
-        panic!(rt; "the files are whole");
-    };
-    assert_eq!(rt; files.count(Kind::B1K), 4);
-    assert_eq!(rt; files.file_at(Kind::B1K, 3), Some(5));
-    assert_eq!(rt; files.max_entries(5), Some(0));
-    Ok(())
-}
-
-#[test]
-fn a_stopped_addition_leaves_a_good_folder(rt: HostRuntime) -> Result<(), Fail> {
-    for steps in 0..8u64 {
-        let f = folder_of(rt.alloc(), &FILES, HEADER_LEN)?;
-        let mut stopped = StopFolder::new(f, steps);
-        assert_eq!(rt;
-            add_to(&mut stopped, Kind::B256).is_ok(),
-            steps == 7,
-            "{steps}"
-        );
-        let mut f = stopped.into_inner();
-        match BlockFiles::load(&mut f) {
-            Ok(files) => assert_eq!(rt;
-                files.count(Kind::B256),
-                if steps == 7 { 2 } else { 1 },
-                "{steps}"
-            ),
-            Err(_) => panic!(rt; "the files are whole"),
-        }
-    }
+    assert_eq!(rt; f.length(FileId::Block(4)), Ok(Some(8192)));
     Ok(())
 }
 

@@ -1,6 +1,7 @@
-use Rattle.std.proofs.Common.{◌≡◌, ℕ, zero, suc, ◌+◌, ◌<◌, ◌≤◌, List, sym, ◌∙◌, ap, arith}
+use Rattle.std.proofs.Common.{◌≡◌, ℕ, zero, suc, ◌+◌, ◌<◌, ◌≤◌, List, Bool, true, ◌&&◌, refl, sym, ◌∙◌, ap, ap₂, arith}
 use Rattle.std.specs.Prelude.{◌==◌, slice_index}
 use Rattle.std.proofs.lemmas.Bool.{and_parts, eqb-true}
+use Rattle.std.proofs.lemmas.Bool.Decides.{nat_tests}
 use Rattle.blk_image.specs.Bytes.{content, range_at, word_at}
 use Rattle.blk_image.specs.Image.{Block, byte}
 use Rattle.blk_format.specs.Headers.{empty_of}
@@ -26,8 +27,28 @@ returns-clause-same g c image there equal =
     let p3 = and_parts (c.empty-2.result == slice_index c.args.empty.now 1) _ p2.1 in
     let p4 = and_parts (c.empty-3.result == slice_index c.args.empty.now 2) _ p3.1 in
     let p5 = and_parts (c.empty-4.result == slice_index c.args.empty.now 3) _ p4.1 in
-    let p6 = and_parts (c.updating.result == 0) _ p5.1 in (
-      sym (c.num_entries.ensures ∙ at 16 (omega arith)) ∙ eqb-true _ _ p1.0,
-      each_of_four f c.args.empty.now (sym (c.empty.ensures ∙ at 24 (omega arith)) ∙ eqb-true _ _ p2.0) (sym (c.empty-2.ensures ∙ at 28 (omega arith)) ∙ eqb-true _ _ p3.0) (sym (c.empty-3.ensures ∙ at 32 (omega arith)) ∙ eqb-true _ _ p4.0) (sym (c.empty-4.ensures ∙ at 36 (omega arith)) ∙ eqb-true _ _ p5.0),
-      sym (c.updating.ensures ∙ at 56 (omega arith)) ∙ eqb-true _ _ p6.0,
-    )
+    let p6 = and_parts (c.updating.result == 0) _ p5.1 in record {
+      allocations = sym (c.num_entries.ensures ∙ at 16 (omega arith)) ∙ eqb-true _ _ p1.0;
+      empty = each_of_four f c.args.empty.now (sym (c.empty.ensures ∙ at 24 (omega arith)) ∙ eqb-true _ _ p2.0) (sym (c.empty-2.ensures ∙ at 28 (omega arith)) ∙ eqb-true _ _ p3.0) (sym (c.empty-3.ensures ∙ at 32 (omega arith)) ∙ eqb-true _ _ p4.0) (sym (c.empty-4.ensures ∙ at 36 (omega arith)) ∙ eqb-true _ _ p5.0);
+      updating = sym (c.updating.ensures ∙ at 56 (omega arith)) ∙ eqb-true _ _ p6.0;
+    }
+
+-- equal numbers test equal, and so do rows of tests
+equal : (x y : ℕ) → x ≡ y → (x == y) ≡ true
+equal x y e = grind (arith, nat_tests)
+
+both : (s t : Bool) → s ≡ true → t ≡ true → (s && t) ≡ true
+both s t e h = ap₂ (λ (x y : Bool). x && y) e h
+
+pub returns-clause-found : goal.returns-clause-found
+returns-clause-found g c image there has =
+    let f : ℕ → ℕ = byte image (Block c.args.file) in
+    let bytes : c.in-Some.head ≡ range_at f 0 80 = c.in-Some.ensures.same ∙ c.in_ok-read_exact.ensures.bytes image there in
+    let at : (i : ℕ) → i + 4 ≤ 80 → word_at (content c.in-Some.head) i ≡ word_at f i = λ i small. ap (λ (l : List ℕ). word_at (content l) i) bytes ∙ field_read f i small in
+    c.eq.ensures
+    ∙ both _ _ (equal _ _ (c.num_entries.ensures ∙ at 16 (omega arith) ∙ has.allocations))
+    (both _ _ (equal _ _ (c.empty.ensures ∙ at 24 (omega arith) ∙ has.empty 0 (omega arith)))
+    (both _ _ (equal _ _ (c.empty-2.ensures ∙ at 28 (omega arith) ∙ has.empty 1 (omega arith)))
+    (both _ _ (equal _ _ (c.empty-3.ensures ∙ at 32 (omega arith) ∙ has.empty 2 (omega arith)))
+    (both _ _ (equal _ _ (c.empty-4.ensures ∙ at 36 (omega arith) ∙ has.empty 3 (omega arith)))
+    (both _ _ (equal _ _ (c.updating.ensures ∙ at 56 (omega arith) ∙ has.updating)) refl)))))

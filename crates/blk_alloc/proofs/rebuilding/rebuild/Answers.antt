@@ -6,7 +6,7 @@ use Rattle.blk_disk.specs.declared.tables.BlockFiles.{BlockFiles}
 use Rattle.blk_disk.specs.Tables.{all_files}
 use Rattle.blk_alloc.proofs.Fitted.{fitted_larger}
 use Rattle.blk_alloc.proofs.Kept.{standing_kept}
-use Rattle.blk_alloc.proofs.Rebuilt.{HasRebuilt, none_rebuilt, next_none, next_rebuilt, next_stops, all_allocations, all_rebuilt}
+use Rattle.blk_alloc.proofs.Rebuilt.{HasRebuilt, none_rebuilt, next_clean, next_none, next_rebuilt, next_stops, all_allocations, all_rebuilt}
 use Rattle.blk_io.proofs.Carried.{carried, if_damaged_weaker}
 use Rattle.blk_alloc.specs.Rebuilding.{IsRebuilding, IsShortRead, IsShortReadOf}
 use Rattle.blk_alloc.proofs.Rooms.{untold_before}
@@ -35,7 +35,7 @@ loop-number-preserved g c = elim c.if-is_some.branch [
             (subst (λ (files : BlockFiles). HasRebuilt (g.F.Folder.told c.args.f.now) (g.F.Folder.told w.rebuild_file.new.f) c.args.files.now files c.args.claims.now (c.loop-number.number + 1)) (sym w.files-is)
             (next_rebuilt (g.F.Folder.told c.args.f.now) (g.F.Folder.told c.loop-number.f) c.args.files.now c.loop-number.files c.args.claims.now c.loop-number.number c.loop-number.invariant.has (g.F.Folder.told w.rebuild_file.new.f)
             (sym (linked_is (is_among (all_files c.loop-number.files) c.loop-number.number) _ c.max_entries.result c.is_some.result c.max_entries.ensures c.is_some.ensures) ∙ w.if-is_some.true) w.rebuild_file.ensures.stops
-            w.rebuild_file.new.files w.rebuild_file.ensures.silent w.in_ok-rebuild_file.ensures.done w.in_ok-rebuild_file.ensures.fitted w.rebuild_file.ensures.agrees));
+            w.rebuild_file.new.files w.rebuild_file.ensures.silent w.in_ok-rebuild_file.ensures.done w.in_ok-rebuild_file.ensures.fitted w.rebuild_file.ensures.agrees w.rebuild_file.ensures.clean));
         later = let one = c.loop-number.invariant.later in let other = w.rebuild_file.ensures.later in subst (λ f. g.F.Folder.faults c.args.f.now ≤ g.F.Folder.faults f) (sym w.f-is) (omega (arith, one, other));
       }
   | else-is_some w ↦
@@ -80,3 +80,11 @@ returns-in_err-rebuild_file-clause-untold g c =
     carried c.rebuild_file.result c.from_residual.result c.in_err-rebuild_file.field-0.0 _ c.in_err-rebuild_file.was c.from_residual.ensures.1
     (if_damaged_weaker c.rebuild_file.result (λ _. (g.F.Folder.told c.loop-number.f).files ≡ None) (λ _. (g.F.Folder.told c.args.f.now).files ≡ None)
     (λ damage none. untold_before (IsRebuilding c.args.claims.now (all_files c.args.files.now)) c.loop-number.invariant.has.stops none) c.rebuild_file.ensures.untold)
+
+pub returns-in_err-rebuild_file-clause-clean : goal.returns-in_err-rebuild_file-clause-clean
+returns-in_err-rebuild_file-clause-clean g c =
+    next_clean (g.F.Folder.told c.args.f.now) (g.F.Folder.told c.loop-number.f) c.args.files.now c.loop-number.files c.args.claims.now c.loop-number.number c.loop-number.invariant.has (g.F.Folder.told c.rebuild_file.new.f)
+    (sym (linked_is (is_among (all_files c.loop-number.files) c.loop-number.number) _ c.max_entries.result c.is_some.result c.max_entries.ensures c.is_some.ensures) ∙ c.if-is_some.true) c.rebuild_file.ensures.stops c.rebuild_file.ensures.clean
+
+pub returns-clause-clean : goal.returns-clause-clean
+returns-clause-clean g c = c.loop-number.invariant.has.clean

@@ -1,17 +1,17 @@
 use Rattle.std.proofs.Common.{◌≡◌, ℕ, ◌/◌, List, [], ◌∷◌, None, sym, ◌∙◌, ap, subst, arith}
 use Rattle.blk_image.specs.Image.{Image}
-use Rattle.blk_image.specs.Footprint.{SameOutside}
 use Rattle.blk_image.proofs.Runs.{passes_none, passes_then, passes_weaker, passes_end, some_inj}
 use Rattle.blk_format.specs.BlockFiles.{is_among, max_entries_in}
 use Rattle.blk_disk.specs.declared.tables.BlockFiles.{BlockFiles}
 use Rattle.blk_disk.specs.Tables.{Agrees, files_of}
-use Rattle.blk_alloc.specs.Changes.{map_of}
-use Rattle.blk_alloc.specs.Rebuilding.{IsInHand, IsRebuilding}
+use Rattle.blk_alloc.specs.Rebuilding.{IsRebuilding, RemakesInProgress}
 use Rattle.blk_alloc.specs.declared.blocks.Blocks.{Blocks}
 use Rattle.blk_io.proofs.Carried.{if_damaged_weaker, told_at_end}
 use Rattle.blk_image.specs.Steps.{after}
 use Rattle.blk_disk.specs.Growth.{fit_steps}
 use Rattle.blk_alloc.proofs.Causes.{none_before}
+use Rattle.blk_alloc.proofs.Rebuilt.{fitted_none}
+use Rattle.blk_image.specs.Told.{Told}
 use Rattle.blk_alloc.proofs.Formed.{agrees_kept}
 use Rattle.blk_format.proofs.LinkedHeads.{count_whole}
 use Rattle.blk_alloc.proofs.Kept.{fit_larger, standing_kept, standing_same}
@@ -41,14 +41,14 @@ remake-requires-clause-groups g c mid now =
 pub returns-clause-agrees : goal.returns-clause-agrees
 returns-clause-agrees g c =
     told_at_end (g.F.Folder.told c.fit.new.f).files (g.F.Folder.told c.remake.new.f).files (Agrees c.fit.new.self) c.remake.ensures.silent
-    (λ mid now. let keeps : (i : Image) → SameOutside (map_of c.args.file) mid i × IsInHand c.args.claims.now c.args.file mid i → Agrees c.fit.new.self i = λ i remade. agrees_kept c.args.file mid i remade.0 c.fit.new.self (c.in_ok-fit.ensures.agrees mid now) in
+    (λ mid now. let keeps : (i : Image) → RemakesInProgress c.args.claims.now c.args.file mid i → Agrees c.fit.new.self i = λ i remade. agrees_kept c.args.file mid i remade.same c.fit.new.self (c.in_ok-fit.ensures.agrees mid now) in
     passes_end (passes_weaker (c.remake.ensures.stops mid now) keeps keeps))
 
 pub returns-clause-stops : goal.returns-clause-stops
 returns-clause-stops g c from there =
     let place : Blocks = record { file = c.args.file; start = 0; count = 0 } in
     let found = mid_of (g.F.Folder.told c.args.f.now) (g.F.Folder.told c.fit.new.f) c.args.files.now c.fit.new.self place c.requires.agrees c.requires.linked c.in_ok-fit.ensures.fitted c.in_ok-fit.ensures.kept c.in_ok-fit.ensures.agrees from there in
-    let keeps : (i : Image) → SameOutside (map_of c.args.file) found.0 i × IsInHand c.args.claims.now c.args.file found.0 i → IsRebuilding c.args.claims.now (c.args.file ∷ []) from i =
+    let keeps : (i : Image) → RemakesInProgress c.args.claims.now c.args.file found.0 i → IsRebuilding c.args.claims.now (c.args.file ∷ []) from i =
     λ i remade. remade_is c.args.claims.now c.args.file from found.0 found.1.same found.1.longer i remade in
     passes_then
     (fit_passes c.args.files.now c.args.file from (c.requires.agrees from there) c.requires.linked (IsRebuilding c.args.claims.now (c.args.file ∷ []) from) there c.in_ok-fit.ensures.fitted
@@ -71,3 +71,12 @@ pub returns-clause-untold : goal.returns-clause-untold
 returns-clause-untold g c =
     if_damaged_weaker c.remake.result (λ _. (g.F.Folder.told c.fit.new.f).files ≡ None) (λ _. (g.F.Folder.told c.args.f.now).files ≡ None)
     (λ damage none. none_before (after (fit_steps c.args.files.now c.args.file)) (g.F.Folder.told c.args.f.now).files (g.F.Folder.told c.fit.new.f).files c.in_ok-fit.ensures.fitted.files none) c.remake.ensures.untold
+
+pub returns-in_err-fit-clause-clean : goal.returns-in_err-fit-clause-clean
+returns-in_err-fit-clause-clean g c from there long rebuilt = c.in_err-fit.ensures.undone
+
+-- a file with all its blocks isn't lengthened
+pub returns-clause-clean : goal.returns-clause-clean
+returns-clause-clean g c from there long rebuilt =
+    let stays = fitted_none c.args.files.now c.args.file (g.F.Folder.told c.args.f.now) (g.F.Folder.told c.fit.new.f) long c.in_ok-fit.ensures.fitted in
+    c.remake.ensures.clean from (ap (λ (t : Told). t.files) stays ∙ there) rebuilt ∙ stays
