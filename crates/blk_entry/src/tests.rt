@@ -1,12 +1,15 @@
 // Entries in a folder in memory that tells nothing.
-ghost use Rattle.std.specs.Prelude.{◌≡◌, ◌≢◌, ◌≤◌, IfSome, IsTrue};
+ghost use Rattle.std.specs.Prelude.{◌≡◌, ◌≢◌, ◌≤◌, IfSome, IsTrue, None, length};
 ghost use Rattle.blk_format.specs.Address.{blocks_256, kind_of, rankings};
 ghost use Rattle.blk_disk.specs.Tables.{stands_among};
 ghost use Rattle.blk_entry.specs.Keys.{may_hold, most_key};
 ghost use Rattle.blk_entry.specs.Writing.{FitsKey};
 
 use crate::keys::{long_key, may_have};
-use crate::{NewEntry, field, key_equals, key_piece, read_head, set_clean, set_dirty, write_entry};
+use crate::{
+    NewEntry, field, key_equals, key_piece, read_data, read_head, set_clean, set_dirty, write_data,
+    write_entry,
+};
 use blk_addr::{Addr, Kind};
 use blk_disk::BlockFiles;
 use blk_io::{Failed, Fault, FileId, Folder, MemFolder, SilentFolder};
@@ -638,5 +641,51 @@ fn new_entries_are_written_and_read(rt: HostRuntime) -> Result<(), Fail> {
         }
         assert_eq!(rt; counted_equals(&mut f, entry, &key), Ok((false, 8 + 1)));
     }
+    Ok(())
+}
+
+// A new plain entry with a key of three bytes, in the first block and with the first node, where they stand.
+fn short_entry(files: &BlockFiles, key: &[u8]) -> Option<NewEntry>
+    requires { length key.now ≡ 3 }
+    ensures fits { IfSome result (λ new. FitsKey files.now new key.now) }
+    ensures short { IfSome result (λ new. new.long_key ≡ None) }
+{
+    let entry = entry_of(files, 0xA001_0000)?;
+    let node = node_of(files, NODE)?;
+    if !may_have(entry, 3) {
+        return None;
+    }
+    Some(NewEntry {
+        entry,
+        node,
+        long_key: None,
+        child: false,
+        dirty: MARK,
+        next: NEXT,
+    })
+}
+
+// Writes that entry, writes its key once more as data of its block, and reads it there.
+fn write_and_read<F: Folder>(f: &mut F, key: &[u8], out: &mut [u8]) -> Result<bool, Fault>
+    requires key { length key.now ≡ 3 }
+    requires out { length out.old ≡ 3 }
+{
+    let files = BlockFiles::load(f)?;
+    let Some(new) = short_entry(&files, key) else {
+        return Ok(false);
+    };
+    write_entry(f, &files, &new, key, MOMENT)?;
+    write_data(f, &files, new.entry, 96, key)?;
+    read_data(f, &files, new.entry, 96, out)?;
+    Ok(true)
+}
+
+#[test]
+fn a_folder_that_tells_its_files_gets_an_entry(rt: HostRuntime) -> Result<(), Fail> {
+    let mut f = folder(rt.alloc())?.into_inner();
+    let mut out = [0; 3];
+    assert_eq!(rt; write_and_read(&mut f, b"key", &mut out), Ok(true));
+    assert_eq!(rt; out, *b"key");
+    assert_eq!(rt; equals(&mut f, 0xA001_0000, b"key"), Ok(true));
     Ok(())
 }
