@@ -19,3 +19,4 @@ pub mod AtNodes
 pub mod Dirtying
 pub mod Counters
 pub mod Externals
+pub mod NewEntries

@@ -10,3 +10,4 @@ pub mod ListLaws
 pub mod RecordLaws
 pub mod CounterLaws
 pub mod ExternalLaws
+pub mod NewEntryLaws
