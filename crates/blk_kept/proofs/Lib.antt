@@ -20,3 +20,5 @@ pub mod Dirtying
 pub mod Counters
 pub mod Externals
 pub mod NewEntries
+pub mod LinkedOnce
+pub mod Bounds

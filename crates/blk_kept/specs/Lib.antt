@@ -11,3 +11,4 @@ pub mod RecordLaws
 pub mod CounterLaws
 pub mod ExternalLaws
 pub mod NewEntryLaws
+pub mod BoundLaws

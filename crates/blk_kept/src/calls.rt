@@ -1,6 +1,7 @@
 // What each kind of call does to a folder that keeps a state.
 
 ghost use Rattle.blk_kept.specs.Arranging.{StatesAreRearranged};
+ghost use Rattle.blk_kept.specs.BoundLaws.{KeptAllocationsAreFew};
 ghost use Rattle.blk_kept.specs.CounterLaws.{CountersMayBeWritten, WrittenCountersCount};
 ghost use Rattle.blk_kept.specs.ExternalLaws.{MakingFilesFindsTheSame, MadeFilesAreAdded, DeletingFilesFindsTheSame, DeletedFilesAreRemoved};
 ghost use Rattle.blk_kept.specs.ListLaws.{TouchesKeepTheState, TouchesKeepTheCounters};
@@ -47,4 +48,9 @@ pub fn new_entries_are_kept()
     ensures linking { LinksFindTheSame }
     ensures kept { NewEntriesAreKept }
     ensures one_more { NewEntriesAreOneMore }
+{}
+
+/// The allocations of the files of a kind are at most five for each item and doomed object, and one for each unlinked word.
+pub fn kept_allocations_are_few()
+    ensures { KeptAllocationsAreFew }
 {}
