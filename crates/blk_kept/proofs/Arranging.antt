@@ -24,7 +24,7 @@ use Rattle.blk_kept.proofs.Headers.{files-same}
 use Rattle.blk_kept.proofs.Keeping.{used-claims}
 
 -- as many pass a test, in whatever order
-as-sum : (p : ℕ → Bool) (xs : List ℕ) → length (filter p xs) ≡ sum_by (λ w. cond (p w) 1 0) xs
+pub as-sum : {X : Type 0} (p : X → Bool) (xs : List X) → length (filter p xs) ≡ sum_by (λ w. cond (p w) 1 0) xs
 as-sum p [] = refl
 as-sum p (x ∷ xs) =
     let rest = as-sum p xs in

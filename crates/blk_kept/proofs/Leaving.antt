@@ -1,5 +1,5 @@
 -- Changes that leave the files as they stand, told by what they touch.
-use Rattle.std.proofs.Common.{◌≡◌, ℕ, false}
+use Rattle.std.proofs.Common.{◌≡◌, ◌∙◌, ℕ, false}
 use Rattle.blk_image.specs.Image.{File, Image, Block}
 use Rattle.blk_image.specs.Footprint.{Footprint, SameOutside}
 use Rattle.blk_format.specs.BlockFiles.{IsWellFormed}
@@ -17,4 +17,16 @@ leaves-files F from image headers sizes same session formed = record {
   };
   session = session;
   well_formed = formed;
+}
+
+-- and one after another
+pub leaves-then : (from between image : Image) → LeavesFiles from between → LeavesFiles between image → LeavesFiles from image
+leaves-then from between image one two = record {
+  headers = record {
+    headers = λ n i small. two.headers.headers n i small ∙ one.headers.headers n i small;
+    lengths = λ n. two.headers.lengths n ∙ one.headers.lengths n;
+    files = λ file. two.headers.files file ∙ one.headers.files file;
+  };
+  session = record { crash = two.session.crash ∙ one.session.crash; id = two.session.id ∙ one.session.id };
+  well_formed = λ well. two.well_formed (one.well_formed well);
 }

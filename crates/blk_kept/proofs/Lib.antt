@@ -28,3 +28,6 @@ pub mod GroupsGone
 pub mod MarkedStates
 pub mod PartChanges
 pub mod MainChanges
+pub mod NewEntries
+pub mod LinkedOnce
+pub mod Bounds

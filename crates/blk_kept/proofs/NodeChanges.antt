@@ -106,12 +106,12 @@ module _ (at : ℕ → Option Loaded) (node : ℕ) (was now : Loaded) (here : at
 abbrev pub is_dead : Option Object → Bool
 is_dead o = option_map_or (λ object. not object.live) o false
 
-pub numbers-same : (state other : State) (layout now : Layout) (numbers : List ℕ) → ((number : ℕ) → is_dead (object_at other number) ≡ is_dead (object_at state number)) → now.place_of_doomed ≡ layout.place_of_doomed → now.state ≡ layout.state → AreNumbers state layout numbers → AreNumbers other now numbers
-numbers-same state other layout now numbers same place kinds a = record {
+pub numbers-same : (state other : State) (layout now : Layout) (numbers : List ℕ) → ((number : ℕ) → is_dead (object_at other number) ≡ is_dead (object_at state number)) → ((number : ℕ) → is_among numbers number ≡ true → now.state (now.place_of_doomed number) ≡ layout.state (layout.place_of_doomed number)) → AreNumbers state layout numbers → AreNumbers other now numbers
+numbers-same state other layout now numbers same kinds a = record {
   each = each numbers a.each;
   once = a.once;
   all = λ number object is dead. found number (object_at state number) refl (sym (same number) ∙ ap is_dead is ∙ ap not dead);
-  records = λ number among. (λ i. kinds i (place i number)) ∙ a.records number among;
+  records = λ number among. kinds number among ∙ a.records number among;
 } where
   found : (number : ℕ) (o : Option Object) → object_at state number ≡ o → is_dead (object_at state number) ≡ true → is_among numbers number ≡ true
   found number None is dead = absurd (let z : false ≡ true = ap is_dead (sym is) ∙ dead in cc)
@@ -178,7 +178,7 @@ module _ (state other : State) (layout : Layout) (unlinked left : List ℕ) (nod
     owners = record {
       exact = exact;
       once = subst Distinct (sym nodes-same) k.owners.once;
-      doomed = numbers-same state other layout (changed_at layout node now owner) k.numbers dead refl refl k.owners.doomed;
+      doomed = numbers-same state other layout (changed_at layout node now owner) k.numbers dead (λ number there. refl) k.owners.doomed;
     };
     unlinked_words = record {
       stand = stand-same from image leaves.headers left (first-of (λ w. stands_in from w ≡ true) left (words_of now) (all-to (λ w. stands_in from w ≡ true) (left ++ words_of now) (All-permutation (λ w. stands_in from w ≡ true) (unlinked ++ words_of was) (left ++ words_of now) same (all-from (λ w. stands_in from w ≡ true) (unlinked ++ words_of was) stood))));

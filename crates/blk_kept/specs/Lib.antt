@@ -15,3 +15,5 @@ pub mod StopLaws
 pub mod CommandEnds
 pub mod StageLaws
 pub mod PartStates
+pub mod NewEntryLaws
+pub mod BoundLaws

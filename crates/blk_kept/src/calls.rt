@@ -1,9 +1,11 @@
 // What each kind of call does to a folder that keeps a state.
 
 ghost use Rattle.blk_kept.specs.Arranging.{StatesAreRearranged};
+ghost use Rattle.blk_kept.specs.BoundLaws.{KeptAllocationsAreFew};
 ghost use Rattle.blk_kept.specs.CounterLaws.{CountersMayBeWritten, WrittenCountersCount};
 ghost use Rattle.blk_kept.specs.ExternalLaws.{MakingFilesFindsTheSame, MadeFilesAreAdded, DeletingFilesFindsTheSame, DeletedFilesAreRemoved};
 ghost use Rattle.blk_kept.specs.ListLaws.{TouchesKeepTheState, TouchesKeepTheCounters};
+ghost use Rattle.blk_kept.specs.NewEntryLaws.{InsertsFindTheSame, LinksFindTheSame, NewEntriesAreKept, NewEntriesAreOneMore};
 ghost use Rattle.blk_kept.specs.RecordLaws.{RecordUpdatesChangeOnly, RecordUpdatesLeaveCounters, MarkingFindsEither, MarkingKeepsTheState, MarkingKeepsTheCounters};
 
 /// Where a call leaves the files, another state that lies there with the same words in use is kept.
@@ -38,4 +40,17 @@ pub fn external_files_come_and_go()
     ensures made { MadeFilesAreAdded }
     ensures deleting { DeletingFilesFindsTheSame }
     ensures deleted { DeletedFilesAreRemoved }
+{}
+
+/// While the entry of a new object comes into the list and its chain what was at rest is found; then the state with the object is kept, which has one item more.
+pub fn new_entries_are_kept()
+    ensures inserting { InsertsFindTheSame }
+    ensures linking { LinksFindTheSame }
+    ensures kept { NewEntriesAreKept }
+    ensures one_more { NewEntriesAreOneMore }
+{}
+
+/// The allocations of the files of a kind are at most five for each item and doomed object, and one for each unlinked word.
+pub fn kept_allocations_are_few()
+    ensures { KeptAllocationsAreFew }
 {}

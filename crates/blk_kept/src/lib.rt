@@ -10,8 +10,8 @@ ghost use Rattle.blk_kept.specs.ChangeLaws.{WhatIsKeptIsFound, SameCountersCount
 mod calls;
 
 pub use calls::{
-    counters_are_written, external_files_come_and_go, objects_are_marked, other_states_are_kept,
-    touches_keep_states,
+    counters_are_written, external_files_come_and_go, kept_allocations_are_few,
+    new_entries_are_kept, objects_are_marked, other_states_are_kept, touches_keep_states,
 };
 
 mod commands;
