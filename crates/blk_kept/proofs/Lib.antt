@@ -19,3 +19,4 @@ pub mod GroupsGone
 pub mod MarkedStates
 pub mod PartChanges
 pub mod MainChanges
+pub mod WordStops

@@ -10,3 +10,4 @@ pub mod StopLaws
 pub mod CommandEnds
 pub mod StageLaws
 pub mod PartStates
+pub mod WordStops
