@@ -20,3 +20,4 @@ pub mod MarkedStates
 pub mod PartChanges
 pub mod MainChanges
 pub mod WordStops
+pub mod CommandExamples

@@ -1,23 +1,23 @@
 -- Where each command may be stopped, at each word of its calls.
-use Rattle.std.proofs.Common.{◌≡◌, ℕ, List, [], ◌∷◌, ◌++◌, map, refl, ap, sym, ◌∙◌, subst, Bool, true, false, inl, inr, Some, None}
+use Rattle.std.proofs.Common.{◌≡◌, ℕ, List, [], ◌∷◌, ◌++◌, map, refl, ap, sym, ◌∙◌, subst, Bool, true, false, inl, inr, Some}
 use Rattle.std.specs.Prelude.{◌⊎◌, if◌then◌else◌, nat_lt, take}
 use Rattle.std.specs.List.{filter}
 use Rattle.std.proofs.lemmas.List.{append_assoc}
 use Rattle.blk_image.specs.Image.{Image}
 use Rattle.blk_format.specs.BlockFiles.{IsWellFormed}
 use Rattle.blk_model.specs.EvictionLaws.{EvictsFirst}
-use Rattle.blk_model.specs.Items.{Item, Row, key_of, main, part}
-use Rattle.blk_model.specs.State.{IsValidState, Object, State, object_at}
+use Rattle.blk_model.specs.Items.{Item, Row, main, part}
+use Rattle.blk_model.specs.State.{State}
 use Rattle.blk_model.specs.Effects.{doomed, used, used_all}
 use Rattle.blk_model.specs.Holding.{rest}
 use Rattle.blk_model.specs.Request.{Request, to_close}
-use Rattle.blk_model.specs.Room.{Group, whole, without}
+use Rattle.blk_model.specs.Room.{whole, without}
 use Rattle.blk_model.proofs.EvictedFirst.{evictions-stop}
 use Rattle.blk_model.proofs.StopRests.{rest_before}
 use Rattle.blk_volume.specs.Audit.{kept_among, kept_by}
 use Rattle.blk_volume.specs.Completion.{remove}
 use Rattle.blk_volume.specs.Found.{completed, found, row_of}
-use Rattle.blk_volume.specs.Layout.{HoldsExcept, Layout, Represents, nodes_of}
+use Rattle.blk_volume.specs.Layout.{HoldsExcept, Represents, nodes_of}
 use Rattle.blk_volume.specs.ListPlans.{writes_of}
 use Rattle.blk_volume.specs.ListSteps.{IsPartly}
 use Rattle.blk_volume.specs.ListView.{ListWrite, after_writes}
@@ -32,8 +32,8 @@ use Rattle.blk_laws.proofs.Touches.{same-represents}
 use Rattle.blk_laws.proofs.Walks.{walk_list}
 use Rattle.blk_kept.specs.Changes.{Finds}
 use Rattle.blk_kept.specs.Commands.{MayStop}
-use Rattle.blk_kept.specs.CommandStates.{IsUnsettled, MayLeave, amidst, in_order, with_room}
-use Rattle.blk_kept.specs.WordStops.{DoomedPartsFindTheSame, DoomsFindEither, DoomsMayStop, GroupsMayStop, IsMidRemoval, IsOut, OutIsDoomed, SettlingMayStop, UnsettledUsesMayStop, UnsettlingMayStop, UsesMayStop, WholeGroupsMayStop}
+use Rattle.blk_kept.specs.CommandStates.{MayLeave, amidst, in_order, with_room}
+use Rattle.blk_kept.specs.WordStops.{DoomedPartsFindTheSame, DoomsFindEither, DoomsMayStop, GroupsMayStop, OutIsDoomed, SettlingMayStop, UnsettledUsesMayStop, UnsettlingMayStop, UsesMayStop, WholeGroupsMayStop}
 use Rattle.blk_kept.proofs.CommandEnding.{closes-left, dooms-left, groups-turn}
 use Rattle.blk_kept.proofs.GroupsGone.{whole-groups-go}
 use Rattle.blk_kept.proofs.NotAtRest.{own-uses}

@@ -2,7 +2,7 @@
 use Rattle.std.specs.Prelude.{◌≡◌, ◌==◌, ℕ, Bool, filter, not, List, [], ◌∷◌, ◌++◌, None, Some, true, false, slice_set}
 use Rattle.blk_model.specs.Items.{Item, main, part, same_item}
 use Rattle.blk_model.specs.State.{Object, State, IsValidState, is_named, live_with, named_by, object_at}
-use Rattle.blk_model.specs.Effects.{created, doomed, effect, number_of, object_of, sparse_after, stream_after, stream_of, used, used_all, with_name, with_slot, with_stream}
+use Rattle.blk_model.specs.Effects.{created, doomed, effect, sparse_after, stream_after, stream_of, used, used_all, with_name, with_slot, with_stream}
 use Rattle.blk_model.specs.Holding.{rest}
 use Rattle.blk_model.specs.ListSteps.{uses_of}
 use Rattle.blk_model.specs.Refusals.{evicted, refused}
