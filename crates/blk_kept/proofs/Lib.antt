@@ -21,3 +21,4 @@ pub mod PartChanges
 pub mod MainChanges
 pub mod WordStops
 pub mod CommandExamples
+pub mod StageExamples
