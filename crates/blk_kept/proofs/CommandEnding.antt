@@ -1,15 +1,15 @@
 -- Where each command ends, and what a stop in it may leave.
-use Rattle.std.proofs.Common.{◌≡◌, ◌≢◌, ℕ, zero, suc, ◌<◌, ◌≤◌, List, [], ◌∷◌, ◌++◌, refl, ap, ap₂, sym, ◌∙◌, subst, Bool, true, false, arith, cond, get_or, set, Option, Some, None, ⊎_elim, not, length, map}
+use Rattle.std.proofs.Common.{◌≡◌, ℕ, zero, suc, ◌<◌, ◌≤◌, List, [], ◌∷◌, ◌++◌, refl, ap, ap₂, sym, ◌∙◌, subst, Bool, true, false, arith, cond, get_or, set, Option, Some, None, ⊎_elim, not, length, map}
 use Rattle.std.specs.Prelude.{slice_set, unwrap_or, nat_le, ◌||◌, ◌&&◌}
-use Rattle.std.specs.List.{filter, list_any}
+use Rattle.std.specs.List.{filter}
 use Rattle.std.specs.Option.{option_and_then}
 use Rattle.std.proofs.lemmas.Bool.{cases_Bool, cases_lt}
 use Rattle.std.proofs.lemmas.Bool.Decides.{nat_tests}
 use Rattle.std.proofs.lemmas.List.{append-nil, get_or-set_other, get_or-set_same, get_or_past}
 use Rattle.std.proofs.lemmas.List.Folds.{list_any-append}
 use Rattle.blk_model.specs.Items.{Item, PartValue, main, part}
-use Rattle.blk_model.specs.State.{IsValidState, Object, State, is_named, live_with, named_by, object_at}
-use Rattle.blk_model.specs.Effects.{closed, created, doomed, doomed_key, effect, new_object, number_of, object_of, opened, released, released_slot, sparse_after, sparse_used, sparse_written, stream_after, stream_of, used, used_all, used_main, used_sparse, with_name, with_slot, written}
+use Rattle.blk_model.specs.State.{IsValidState, Object, State, is_named, named_by, object_at}
+use Rattle.blk_model.specs.Effects.{closed, created, doomed, doomed_key, effect, new_object, number_of, object_of, opened, released, released_slot, sparse_after, sparse_used, sparse_written, used, used_all, used_main, used_sparse, with_name, with_slot, written}
 use Rattle.blk_model.specs.Holding.{rest}
 use Rattle.blk_model.specs.ListSteps.{dooms, uses_of}
 use Rattle.blk_model.specs.Refusals.{evicted, refusals, refused}
@@ -17,14 +17,13 @@ use Rattle.blk_model.specs.Request.{IsRequest, Request, to_create, to_open, to_r
 use Rattle.blk_model.specs.Room.{Group, is_out, left_of, not_out, takes, without}
 use Rattle.blk_model.specs.Sparse.{covered_parts}
 use Rattle.blk_model.specs.Step.{outcome, step}
-use Rattle.blk_model.specs.Stops.{StopOutcome}
 use Rattle.blk_model.proofs.EvictedFirst.{evictions-stop}
 use Rattle.blk_model.proofs.States.{if_some_is, some_of}
 use Rattle.blk_model.proofs.StopRests.{rest_after}
 use Rattle.blk_model.proofs.Written.{without_names}
 use Rattle.blk_laws.specs.CommandLaws.{marked, turned}
-use Rattle.blk_kept.specs.CommandStates.{IsAffected, IsLast, IsUnsettled, MayLeave, Unsettles, amidst, in_order, with_names, with_room}
-use Rattle.blk_kept.specs.CommandEnds.{ClosesFreeTheName, ClosesMayLeave, ClosesOfDoomedEnd, ClosesSettle, CreatesEndOnceMade, CreatesMayLeave, DoomKeysEndOnceDoomed, DoomKeysMayLeave, DoomedWritesEnd, DoomsEndOnceDoomed, DoomsMayLeave, EmptySparseWritesEnd, GroupsGoInTurn, IsNamedBy, OnlyUses, OnlyUsesMayBeLeft, OpensEndOnceUsed, OpensMayLeave, PassedRequestsTakeEffect, SparseWritesEnd, SparseWritesUnsettle, TrimsEndOnceOut, TrimsMayLeave, UsesEnd, WritesEndOnceWritten, WritesUnsettle, after_write}
+use Rattle.blk_kept.specs.CommandStates.{IsAffected, IsUnsettled, MayLeave, Unsettles, amidst, in_order, with_room}
+use Rattle.blk_kept.specs.CommandEnds.{ClosesFreeTheName, ClosesMayLeave, ClosesOfDoomedEnd, ClosesSettle, CreatesEndOnceMade, CreatesMayLeave, DoomedWritesEnd, DoomsEndOnceDoomed, DoomsMayLeave, EmptySparseWritesEnd, GroupsGoInTurn, OnlyUsesMayBeLeft, OpensEndOnceUsed, OpensMayLeave, PassedRequestsTakeEffect, SparseWritesEnd, SparseWritesUnsettle, TrimsEndOnceOut, TrimsMayLeave, UsesEnd, WritesEndOnceWritten, WritesUnsettle, after_write}
 use Rattle.blk_kept.proofs.NotAtRest.{handles-rest, within-slots}
 use Rattle.blk_kept.proofs.Orders.{uses-left}
 
@@ -225,18 +224,24 @@ closes-doomed state moment handle number object valid names here dead last =
 
 pub dooms-end : DoomsEndOnceDoomed
 unfolding effect evicted without
-dooms-end state moment handle number object passes names here =
-    (passed state moment (to_doom handle) passes).0 ∙ ap (λ (o : Option ℕ). doomed (unwrap_or o (length state.objects)) state (object_at state (unwrap_or o (length state.objects)))) names ∙ ap (doomed number state) here
-
-pub doom-keys-end : DoomKeysEndOnceDoomed
-unfolding effect evicted without
-doom-keys-end state moment number key object passes names here = (passed state moment (to_doom_key key) passes).0 ∙ ap (doomed_key state) names ∙ ap (doomed number state) here
+dooms-end state moment (to_doom handle) number object passes is here =
+    (passed state moment (to_doom handle) passes).0 ∙ ap (λ (o : Option ℕ). doomed (unwrap_or o (length state.objects)) state (object_at state (unwrap_or o (length state.objects)))) is ∙ ap (doomed number state) here
+dooms-end state moment (to_doom_key key) number object passes is here = (passed state moment (to_doom_key key) passes).0 ∙ ap (doomed_key state) is ∙ ap (doomed number state) here
+dooms-end state moment (to_create handle key) number object passes is here = absurd is
+dooms-end state moment (to_open handle key) number object passes is here = absurd is
+dooms-end state moment (to_read handle stream offset count) number object passes is here = absurd is
+dooms-end state moment (to_write handle stream offset cut bytes) number object passes is here = absurd is
+dooms-end state moment (to_size handle stream) number object passes is here = absurd is
+dooms-end state moment (to_sparse_write handle offset bytes) number object passes is here = absurd is
+dooms-end state moment (to_sparse_read handle offset count) number object passes is here = absurd is
+dooms-end state moment (to_sparse_range handle offset count) number object passes is here = absurd is
+dooms-end state moment (to_close handle) number object passes is here = absurd is
+dooms-end state moment (to_trim bytes) number object passes is here = absurd is
+dooms-end state moment to_list number object passes is here = absurd is
+dooms-end state moment to_total number object passes is here = absurd is
 
 pub dooms-left : DoomsMayLeave
-dooms-left state moment handle number object valid can passes names here = after-left state moment (to_doom handle) (doomed number state (Some object)) valid can (dooms-end state moment handle number object passes names here)
-
-pub doom-keys-left : DoomKeysMayLeave
-doom-keys-left state moment number key object valid can passes names here = after-left state moment (to_doom_key key) (doomed number state (Some object)) valid can (doom-keys-end state moment number key object passes names here)
+dooms-left state moment request number object valid can passes is here = after-left state moment request (doomed number state (Some object)) valid can (dooms-end state moment request number object passes is here)
 
 -- ---- Trim
 

@@ -18,10 +18,10 @@ use Rattle.blk_kept.specs.Keeping.{AreMarkedBy, IsInSession, Keeps}
 use Rattle.blk_kept.proofs.Opened.{opened-kept}
 
 -- a folder in which the session of a number is opened
-abbrev numbered : Image → ℕ → Image
+abbrev pub numbered : Image → ℕ → Image
 numbered from id = applied (Word Index 20 (word_bytes id)) from
 
-abbrev opened : Image → ℕ → Image
+abbrev pub opened : Image → ℕ → Image
 opened from id = applied (Word Index 32 (word_bytes 1)) (numbered from id)
 
 -- the whole folder is in order by its layout

@@ -1,21 +1,17 @@
 -- A group that goes: an object that no handle names goes as it is doomed, and a part goes alone.
 use Rattle.std.proofs.Common.{◌≡◌, ◌≢◌, ℕ, zero, suc, ◌<◌, List, [], ◌∷◌, refl, ap, ap₂, sym, ◌∙◌, subst, Bool, true, false, arith, cond, get_or, set, Option, Some, None, ⊎_elim, not, length, map}
-use Rattle.std.specs.Prelude.{◌&&◌, ◌||◌, ◌==◌, is_none}
-use Rattle.std.specs.List.{filter, list_any}
+use Rattle.std.specs.Prelude.{◌&&◌, ◌||◌, ◌==◌}
+use Rattle.std.specs.List.{filter}
 use Rattle.std.specs.Option.{option_and_then}
 use Rattle.std.specs.Str.{bytes_eq}
-use Rattle.std.proofs.lemmas.Bool.{and_from, cases_Bool}
+use Rattle.std.proofs.lemmas.Bool.{cases_Bool}
 use Rattle.blk_model.specs.Items.{Item, PartValue, key_of, main, part, same_item}
-use Rattle.blk_model.specs.State.{IsObject, IsValidState, Object, State, has_item, is_named, object_at, slot_has_item}
+use Rattle.blk_model.specs.State.{IsObject, IsValidState, Object, State, has_item, is_named, object_at}
 use Rattle.blk_model.specs.Effects.{doomed, doomed_slot, with_slot}
-use Rattle.blk_model.specs.Room.{Group, is_out, left_of, not_out, single, whole, without}
+use Rattle.blk_model.specs.Room.{Group, is_out, left_of, single, whole, without}
 use Rattle.blk_model.proofs.Chosen.{owned_at}
-use Rattle.blk_model.proofs.Doomed.{still_there, bound_name}
-use Rattle.blk_model.proofs.Each.{Each-set}
 use Rattle.blk_model.proofs.Same.{bytes_eq_self, same_bytes}
 use Rattle.blk_model.proofs.States.{has_main, if_some_is}
-use Rattle.blk_model.proofs.Written.{state_changed}
-use Rattle.blk_laws.specs.CommandLaws.{marked}
 use Rattle.blk_kept.specs.CommandStates.{in_order}
 use Rattle.blk_kept.specs.CommandEnds.{PartsGoAlone, WholeGroupsGoAsDoomed, without_part}
 use Rattle.blk_kept.proofs.NotAtRest.{within-slots}

@@ -31,3 +31,6 @@ pub mod MainChanges
 pub mod NewEntries
 pub mod LinkedOnce
 pub mod Bounds
+pub mod WordStops
+pub mod CommandExamples
+pub mod StageExamples

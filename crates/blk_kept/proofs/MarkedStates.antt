@@ -1,13 +1,12 @@
 -- States in which an object is settled or unsettled.
-use Rattle.std.proofs.Common.{◌≡◌, ℕ, ◌+◌, refl, ap, sym, ◌∙◌, Bool, true, false, arith, cond, set, Option, Some, None}
+use Rattle.std.proofs.Common.{◌≡◌, ℕ, refl, ap, Bool, true, false, arith, cond, Some}
 use Rattle.std.specs.Prelude.{◌&&◌}
-use Rattle.blk_model.specs.Items.{Item, main, part, times}
-use Rattle.blk_model.specs.State.{IsObject, IsValidState, Object, State, has_item, is_named, object_at, owners, slot_has_item}
+use Rattle.blk_model.specs.Items.{Item, main, part}
+use Rattle.blk_model.specs.State.{IsObject, Object, has_item, is_named, object_at, slot_has_item}
 use Rattle.blk_model.proofs.Doomed.{bound_name, contrary, still_there}
 use Rattle.blk_model.proofs.Each.{Each-set}
 use Rattle.blk_model.proofs.Slots.{owners-set}
 use Rattle.blk_model.proofs.States.{if_some_is}
-use Rattle.blk_laws.specs.CommandLaws.{marked}
 use Rattle.blk_kept.specs.CommandEnds.{MarkedStatesAreValid}
 use Rattle.blk_kept.proofs.NotAtRest.{within-slots}
 

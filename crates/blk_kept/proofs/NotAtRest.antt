@@ -1,5 +1,5 @@
 -- What is nothing to what is at rest: handles, doomed objects, and what an unsettled object is.
-use Rattle.std.proofs.Common.{◌≡◌, ◌≢◌, ℕ, zero, suc, ◌+◌, ◌<◌, ◌≤◌, List, [], ◌∷◌, length, refl, ap, ap₂, sym, ◌∙◌, subst, Bool, true, false, arith, cond, get_or, set, Option, Some, None, ⊎_elim, not}
+use Rattle.std.proofs.Common.{◌≡◌, ◌≢◌, ℕ, zero, suc, ◌+◌, ◌<◌, ◌≤◌, List, [], ◌∷◌, length, refl, ap, ap₂, sym, ◌∙◌, Bool, true, false, arith, cond, get_or, set, Option, Some, None, ⊎_elim, not}
 use Rattle.std.specs.Option.{option_and_then}
 use Rattle.std.specs.List.{filter, filter_map, cons_option}
 use Rattle.std.specs.Str.{bytes_eq}
@@ -10,7 +10,7 @@ use Rattle.std.proofs.lemmas.List.{get_or-set_same, get_or-set_other}
 use Rattle.std.proofs.lemmas.Slice.Eq.{bytes_eq-Decides}
 use Rattle.blk_model.specs.Items.{Item, Row, key_of, main, same_item}
 use Rattle.blk_model.specs.State.{IsValidState, Object, State, has_item, object_at, owners, slot_has_item}
-use Rattle.blk_model.specs.Effects.{used, with_slot}
+use Rattle.blk_model.specs.Effects.{with_slot}
 use Rattle.blk_model.specs.Holding.{owner, rest, row_in, settled_row}
 use Rattle.blk_model.specs.Stops.{is_live}
 use Rattle.blk_model.proofs.Doomed.{dead_has}

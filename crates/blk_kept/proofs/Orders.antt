@@ -1,13 +1,13 @@
 -- What a stop may leave in each order that a request makes.
-use Rattle.std.proofs.Common.{◌≡◌, ℕ, zero, suc, List, [], ◌∷◌, Option, None, Some, refl, ap, sym, ◌∙◌, subst, arith, inl, inr, length, map, take, not, ◌++◌, ◌+◌}
+use Rattle.std.proofs.Common.{◌≡◌, ℕ, suc, List, [], ◌∷◌, None, refl, ap, sym, ◌∙◌, subst, arith, inl, inr, length, map, take, not, ◌++◌, ◌+◌}
 use Rattle.std.specs.List.{filter_map}
 use Rattle.std.proofs.lemmas.List.{append-nil, length-append}
 use Rattle.blk_model.specs.EvictionLaws.{EvictsFirst, later_steps}
 use Rattle.blk_model.specs.Items.{Item, Row}
-use Rattle.blk_model.specs.State.{State, IsValidState}
+use Rattle.blk_model.specs.State.{State}
 use Rattle.blk_model.specs.Effects.{used, used_all}
 use Rattle.blk_model.specs.Holding.{rest, settled_row}
-use Rattle.blk_model.specs.ListSteps.{ListStep, after_steps, dooms, front, uses_of}
+use Rattle.blk_model.specs.ListSteps.{ListStep, after_steps, front, uses_of}
 use Rattle.blk_model.specs.Refusals.{evicted, refused}
 use Rattle.blk_model.specs.Request.{Request}
 use Rattle.blk_model.specs.Room.{Group, without}

@@ -1,13 +1,12 @@
 -- How the calls of a command follow each other, and how it ends.
-use Rattle.std.proofs.Common.{◌≡◌, ℕ, List, [], ◌∷◌, Option, None, Some, refl, ap, sym, ◌∙◌, subst, inl, inr}
+use Rattle.std.proofs.Common.{ℕ, List, Option, ap, sym, ◌∙◌, subst, inr}
 use Rattle.std.specs.Option.{ForSome}
 use Rattle.blk_image.specs.Image.{Image}
-use Rattle.blk_image.specs.Steps.{Note, after}
-use Rattle.blk_image.specs.Told.{Along, Applies, Passes, Told}
+use Rattle.blk_image.specs.Steps.{after}
 use Rattle.blk_image.proofs.Runs.{grows_then, passes_then, passes_weaker, told_whole, until_weaker2}
 use Rattle.blk_model.specs.Holding.{rest}
 use Rattle.blk_model.specs.Reply.{answer_of}
-use Rattle.blk_model.specs.Request.{IsRequest, Request}
+use Rattle.blk_model.specs.Request.{Request}
 use Rattle.blk_model.specs.State.{IsValidState, State}
 use Rattle.blk_model.specs.Step.{step}
 use Rattle.blk_model.proofs.Steps.{step_valid}

@@ -6,10 +6,10 @@ use Rattle.std.specs.List.{filter_map}
 use Rattle.std.proofs.lemmas.Bool.Decides.{eqb_tells}
 use Rattle.std.proofs.Math.Dec.{eqb}
 use Rattle.std.proofs.lemmas.List.{get_or-set_same, get_or-set_other}
-use Rattle.blk_model.specs.Items.{Item, Row}
+use Rattle.blk_model.specs.Items.{Item}
 use Rattle.blk_model.specs.State.{IsValidState, Object, State, object_at}
 use Rattle.blk_model.specs.Holding.{owner, rest, row_of}
-use Rattle.blk_model.specs.Refusals.{covered, evicted, refused}
+use Rattle.blk_model.specs.Refusals.{covered, evicted}
 use Rattle.blk_model.specs.Request.{Request, to_create, to_open, to_read, to_write, to_size, to_sparse_write, to_sparse_read, to_sparse_range, to_doom, to_doom_key, to_close, to_list, to_trim, to_total}
 use Rattle.blk_model.specs.Room.{without}
 use Rattle.blk_model.specs.Step.{step}

@@ -2,15 +2,15 @@
 use Rattle.std.specs.Prelude.{◌≡◌, ◌==◌, ℕ, Bool, filter, not, List, [], ◌∷◌, ◌++◌, None, Some, true, false, slice_set}
 use Rattle.blk_model.specs.Items.{Item, main, part, same_item}
 use Rattle.blk_model.specs.State.{Object, State, IsValidState, is_named, live_with, named_by, object_at}
-use Rattle.blk_model.specs.Effects.{created, doomed, effect, number_of, object_of, sparse_after, stream_after, stream_of, used, used_all, with_name, with_slot, with_stream}
+use Rattle.blk_model.specs.Effects.{created, doomed, effect, sparse_after, stream_after, stream_of, used, used_all, with_name, with_slot, with_stream}
 use Rattle.blk_model.specs.Holding.{rest}
 use Rattle.blk_model.specs.ListSteps.{uses_of}
 use Rattle.blk_model.specs.Refusals.{evicted, refused}
-use Rattle.blk_model.specs.Request.{IsRequest, Request, to_close, to_create, to_doom, to_doom_key, to_open, to_read, to_sparse_range, to_sparse_read, to_sparse_write, to_trim, to_write}
+use Rattle.blk_model.specs.Request.{IsRequest, Request, to_close, to_create, to_open, to_read, to_sparse_range, to_sparse_read, to_sparse_write, to_trim, to_write}
 use Rattle.blk_model.specs.Room.{Group, single, whole, without}
 use Rattle.blk_model.specs.Step.{reply, step}
 use Rattle.blk_laws.specs.CommandLaws.{marked, turned}
-use Rattle.blk_kept.specs.CommandStates.{IsAffected, IsLast, MayLeave, Unsettles, amidst, in_order, with_names, with_room}
+use Rattle.blk_kept.specs.CommandStates.{IsAffected, IsDoomOf, IsLast, MayLeave, Unsettles, amidst, in_order, with_names, with_room}
 
 -- Every command.
 
@@ -144,24 +144,15 @@ ClosesOfDoomedEnd = (state : State) (moment handle number : ℕ) (object : Objec
 
 -- Doom and DoomKey.
 
--- a Doom dooms the object of its handle
+-- either ends with its object doomed
 abbrev pub DoomsEndOnceDoomed : Type 0
-DoomsEndOnceDoomed = (state : State) (moment handle number : ℕ) (object : Object) → refused moment (to_doom handle) state ≡ None → named_by state handle ≡ Some number → object_at state number ≡ Some object
-    → (step state moment (to_doom handle)).state ≡ doomed number state (Some object)
+DoomsEndOnceDoomed = (state : State) (moment : ℕ) (request : Request) (number : ℕ) (object : Object) → refused moment request state ≡ None → IsDoomOf request state number → object_at state number ≡ Some object
+    → (step state moment request).state ≡ doomed number state (Some object)
 
--- a DoomKey that of its key
-abbrev pub DoomKeysEndOnceDoomed : Type 0
-DoomKeysEndOnceDoomed = (state : State) (moment number : ℕ) (key : List ℕ) (object : Object) → refused moment (to_doom_key key) state ≡ None → live_with state key ≡ Some number → object_at state number ≡ Some object
-    → (step state moment (to_doom_key key)).state ≡ doomed number state (Some object)
-
--- a stop in either may leave what is at rest with it doomed
+-- and a stop in it may leave what is at rest then
 abbrev pub DoomsMayLeave : Type 0
-DoomsMayLeave = (state : State) (moment handle number : ℕ) (object : Object) → IsValidState state → IsRequest (to_doom handle) → refused moment (to_doom handle) state ≡ None → named_by state handle ≡ Some number → object_at state number ≡ Some object
-    → MayLeave state moment (to_doom handle) (rest (doomed number state (Some object)))
-
-abbrev pub DoomKeysMayLeave : Type 0
-DoomKeysMayLeave = (state : State) (moment number : ℕ) (key : List ℕ) (object : Object) → IsValidState state → IsRequest (to_doom_key key) → refused moment (to_doom_key key) state ≡ None → live_with state key ≡ Some number → object_at state number ≡ Some object
-    → MayLeave state moment (to_doom_key key) (rest (doomed number state (Some object)))
+DoomsMayLeave = (state : State) (moment : ℕ) (request : Request) (number : ℕ) (object : Object) → IsValidState state → IsRequest request → refused moment request state ≡ None → IsDoomOf request state number → object_at state number ≡ Some object
+    → MayLeave state moment request (rest (doomed number state (Some object)))
 
 -- Trim.
 

@@ -1,13 +1,13 @@
 -- The states that a folder keeps between two calls of a command.
 use Rattle.std.specs.Prelude.{◌≡◌, ◌≢◌, ℕ, List, filter, Option, Some, None, true, false}
-use Rattle.blk_model.specs.Items.{Item, Row, main}
-use Rattle.blk_model.specs.State.{Object, State, object_at, named_by, is_named}
+use Rattle.blk_model.specs.Items.{Item, Row}
+use Rattle.blk_model.specs.State.{Object, State, object_at, named_by, is_named, live_with}
 use Rattle.blk_model.specs.Effects.{with_name, with_slot}
 use Rattle.blk_model.specs.Refusals.{evicted, refused}
-use Rattle.blk_model.specs.Request.{Request}
+use Rattle.blk_model.specs.Request.{Request, to_doom, to_doom_key}
 use Rattle.blk_model.specs.Room.{without}
 use Rattle.blk_model.specs.Step.{step}
-use Rattle.blk_model.specs.Stops.{StopOutcome, is_live}
+use Rattle.blk_model.specs.Stops.{StopOutcome}
 use Rattle.blk_volume.specs.Removal.{is_of_another}
 
 -- a stop in a request may leave these rows
@@ -60,3 +60,9 @@ pub record IsLast (state : State) (handle number : ℕ) (object : Object) : Type
   pub here : object_at state number ≡ Some object
   pub live : object.live ≡ true
   pub last : is_named (with_name handle None state) number ≡ false
+
+-- a request dooms the object with a number
+abbrev pub IsDoomOf : Request → State → ℕ → Type 0
+IsDoomOf (to_doom handle) state number = named_by state handle ≡ Some number
+IsDoomOf (to_doom_key key) state number = live_with state key ≡ Some number
+IsDoomOf request state number = ⊥

@@ -17,3 +17,4 @@ pub mod StageLaws
 pub mod PartStates
 pub mod NewEntryLaws
 pub mod BoundLaws
+pub mod WordStops

@@ -1,5 +1,5 @@
 -- The states inside a sparse write: one part of an object changed, one more, or its main item's value changed. Each is a premise of the laws on changed and new items.
-use Rattle.std.specs.Prelude.{◌≡◌, ℕ, ◌<◌, List, true, false, Some, filter, is_some, not, slice_set}
+use Rattle.std.specs.Prelude.{◌≡◌, ℕ, ◌<◌, true, false, Some, is_some, not, slice_set}
 use Rattle.std.specs.Ordering.{nat_cmp}
 use Rattle.std.specs.FinMap.{put}
 use Rattle.blk_model.specs.Items.{IsPartValue, PartValue, Shape, Streams, is_sparse, main, main_row, part, part_row, same_item}

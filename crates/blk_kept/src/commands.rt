@@ -1,8 +1,9 @@
 //! What a stop in a command may leave, and how commands end: laws, each the contract of a function with an empty body.
-ghost use Rattle.blk_kept.specs.CommandEnds.{PassedRequestsTakeEffect, GroupsGoInTurn, WholeGroupsGoAsDoomed, PartsGoAlone, MarkedStatesAreValid, UsesEnd, OnlyUsesMayBeLeft, OpensEndOnceUsed, OpensMayLeave, CreatesEndOnceMade, CreatesMayLeave, WritesUnsettle, WritesEndOnceWritten, DoomedWritesEnd, SparseWritesUnsettle, SparseWritesEnd, EmptySparseWritesEnd, ClosesFreeTheName, ClosesSettle, ClosesMayLeave, ClosesOfDoomedEnd, DoomsEndOnceDoomed, DoomKeysEndOnceDoomed, DoomsMayLeave, DoomKeysMayLeave, TrimsEndOnceOut, TrimsMayLeave};
+ghost use Rattle.blk_kept.specs.CommandEnds.{PassedRequestsTakeEffect, GroupsGoInTurn, WholeGroupsGoAsDoomed, PartsGoAlone, MarkedStatesAreValid, UsesEnd, OnlyUsesMayBeLeft, OpensEndOnceUsed, OpensMayLeave, CreatesEndOnceMade, CreatesMayLeave, WritesUnsettle, WritesEndOnceWritten, DoomedWritesEnd, SparseWritesUnsettle, SparseWritesEnd, EmptySparseWritesEnd, ClosesFreeTheName, ClosesSettle, ClosesMayLeave, ClosesOfDoomedEnd, DoomsEndOnceDoomed, DoomsMayLeave, TrimsEndOnceOut, TrimsMayLeave};
 ghost use Rattle.blk_kept.specs.Keeping.{KeepsSome};
 ghost use Rattle.blk_kept.specs.PartStates.{PartsChangeAlone, NewPartsKeepValid, PartsAreLeftOut, MainsChangeAlone};
 ghost use Rattle.blk_kept.specs.StageLaws.{StagesGoOn, StagesMayStop, WhatIsFoundMayStop, CallsFollow, CallsEnd, HandlesAreNotKept, EndsAreKept, EffectsAreDone, NotesEndSteps};
+ghost use Rattle.blk_kept.specs.WordStops.{UsesMayStop, UnsettledUsesMayStop, UnsettlingMayStop, SettlingMayStop, DoomsFindEither, OutIsDoomed, DoomedPartsFindTheSame, DoomsMayStop, GroupsMayStop, WholeGroupsMayStop};
 ghost use Rattle.blk_kept.specs.StopLaws.{WhatIsLeftMayStop, OrdersMayBeLeft, UsesMayBeLeft, UsesGoOn, RoomMayBeLeft, HandlesAreNotAtRest, DoomedObjectsAreNotAtRest, UnsettledObjectsAreNotAtRest, OwnUsesKeepOthers, OthersMayBeLeftOnceUnsettled, OthersMayBeLeftWhileDoomed};
 
 /// Once some groups are out and some of the later list steps are made, a stop may leave what is at rest in that order; where that is found the request may be stopped.
@@ -83,8 +84,6 @@ pub fn closes_settle()
 pub fn dooms_end_once_doomed()
     ensures ends { DoomsEndOnceDoomed }
     ensures leaves { DoomsMayLeave }
-    ensures keys_end { DoomKeysEndOnceDoomed }
-    ensures keys_leave { DoomKeysMayLeave }
 {}
 
 /// The calls of a command follow each other: between them the folder keeps a state whose rest a stop may leave, and at each word of a call from there the command may be stopped, also where the call failed.
@@ -102,4 +101,22 @@ pub fn commands_are_done()
     ensures ends { EndsAreKept }
     ensures done { EffectsAreDone KeepsSome }
     ensures noted { NotesEndSteps }
+{}
+
+/// At each word of the touch of the next item that a request uses it may be stopped, also of an item of the object that it has unsettled; and while it settles or unsettles its object.
+pub fn uses_may_be_stopped()
+    ensures uses { UsesMayStop }
+    ensures unsettled_uses { UnsettledUsesMayStop }
+    ensures unsettles { UnsettlingMayStop }
+    ensures settles { SettlingMayStop }
+{}
+
+/// At each word of the removal of an object's main item what was at rest is found, or what is with it doomed, and this from then on; so a Doom may be stopped, and a request while a group goes.
+pub fn removals_may_be_stopped()
+    ensures either { DoomsFindEither }
+    ensures out { OutIsDoomed }
+    ensures parts { DoomedPartsFindTheSame }
+    ensures dooms { DoomsMayStop }
+    ensures groups { GroupsMayStop }
+    ensures whole { WholeGroupsMayStop }
 {}

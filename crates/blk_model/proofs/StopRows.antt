@@ -17,13 +17,13 @@ use Rattle.blk_model.specs.Stops.{pick, StopOutcome}
 use Rattle.blk_model.proofs.Computing.{computing}
 use Rattle.blk_model.proofs.Rows.{after_all, new}
 
-abbrev a : List ℕ
+abbrev pub a : List ℕ
 a = codes "a"
 
-abbrev b : List ℕ
+abbrev pub b : List ℕ
 b = codes "b"
 
-abbrev c : List ℕ
+abbrev pub c : List ℕ
 c = codes "c"
 
 -- an empty object, made and closed
@@ -105,25 +105,25 @@ at_rest = refl
 
 -- Evictions come first: of three closed objects a Trim takes them one after another, the last used last.
 
-codes_are_bytes : (k : List ℕ) → AllByRecursion (λ (x : ℕ). x < 256) k → IsBytes k
+pub codes_are_bytes : (k : List ℕ) → AllByRecursion (λ (x : ℕ). x < 256) k → IsBytes k
 codes_are_bytes [] all = All-nil (λ (x : ℕ). x < 256)
 codes_are_bytes (x ∷ k) all = All-cons (λ (x : ℕ). x < 256) x k all.0 (codes_are_bytes k all.1)
 
-new_is_valid : IsValidState new
+pub new_is_valid : IsValidState new
 new_is_valid = open_valid [] (record { max_bytes = 83886080; max_items = 65536 }) (record { once = λ item. omega arith; each = λ i d less. absurd (omega arith); parents = λ i d less. absurd (omega arith) })
 
 -- an object that is made and closed leaves a valid state
-made_is_valid : (state : State) (key : List ℕ) → IsValidState state → IsBytes key → IsValidState (after_all state (made key))
+pub made_is_valid : (state : State) (key : List ℕ) → IsValidState state → IsBytes key → IsValidState (after_all state (made key))
 made_is_valid state key valid bytes = step_valid (step state 100 (to_create 0 key)).state 100 (to_close 0) (step_valid state 100 (to_create 0 key) valid (omega arith, bytes)) (omega arith)
 
-pair_is_valid : IsValidState (after_all (after_all new (made a)) (made b))
+pub pair_is_valid : IsValidState (after_all (after_all new (made a)) (made b))
 pair_is_valid = made_is_valid (after_all new (made a)) b (made_is_valid new a new_is_valid (codes_are_bytes a (omega arith, tt))) (codes_are_bytes b (omega arith, tt))
 
-abbrev pair : State
+abbrev pub pair : State
 pair = after_all (after_all new (made a)) (made b)
 
 -- `a` goes first
-a_goes_first : EvictsFirst pair 100 (to_trim 0) (whole a [] ∷ []) (whole b [] ∷ [])
+pub a_goes_first : EvictsFirst pair 100 (to_trim 0) (whole a [] ∷ []) (whole b [] ∷ [])
 unfolding computing
 a_goes_first = record { passes = refl; groups = refl }
 

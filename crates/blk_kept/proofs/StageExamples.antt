@@ -1,0 +1,107 @@
+-- The laws on folders in the midst of a command speak of something: in the whole folder of one entry, whose handle is 0, a Read, a Doom and a List are begun; and in the folder of one doomed object its key is out.
+use Rattle.std.proofs.Common.{◌≡◌, [], ◌∷◌, refl, sym, subst, true, false, arith, None, Some, codes}
+use Rattle.std.specs.Option.{ForSome}
+use Rattle.blk_image.specs.Footprint.{Footprint, SameOutside}
+use Rattle.blk_image.specs.Image.{Image}
+use Rattle.blk_image.specs.Steps.{Note}
+use Rattle.blk_image.specs.Told.{Applies, Told}
+use Rattle.blk_image.proofs.Runs.{passes_none, some_inj}
+use Rattle.blk_model.specs.Effects.{doomed}
+use Rattle.blk_model.specs.Holding.{rest}
+use Rattle.blk_model.specs.Items.{main}
+use Rattle.blk_model.specs.Request.{to_doom, to_list, to_read}
+use Rattle.blk_model.specs.State.{State}
+use Rattle.blk_model.specs.Step.{step}
+use Rattle.blk_model.proofs.Computing.{computing}
+use Rattle.blk_model.proofs.StopRests.{rest_before}
+use Rattle.blk_volume.specs.Removal.{is_of_another}
+use Rattle.blk_volume.specs.StandsFor.{StandsFor}
+use Rattle.blk_volume.specs.View.{store_of, view_of}
+use Rattle.blk_laws.proofs.ExampleDoomed.{doomed_layout, doomed_object, doomed_state}
+use Rattle.blk_laws.proofs.DoomedFolder.{doomed_folder}
+use Rattle.blk_laws.proofs.IndexWords.{same-shown}
+use Rattle.blk_laws.proofs.OneEntry as one
+use Rattle.blk_laws.proofs.OthersHold.{represented-but}
+use Rattle.blk_laws.proofs.WholeFolder.{whole_folder}
+use Rattle.blk_kept.specs.Changes.{Finds, StillFinds}
+use Rattle.blk_kept.specs.Commands.{IsStepped, MayStop}
+use Rattle.blk_kept.specs.Keeping.{Keeps}
+use Rattle.blk_kept.specs.StageLaws.{GoesOn, IsAtStage}
+use Rattle.blk_kept.specs.WordStops.{IsMidRemoval, IsMidUse, IsOut}
+use Rattle.blk_kept.proofs.Examples.{doomed-keeps, opened, whole-keeps}
+use Rattle.blk_kept.proofs.Keeping.{kept-found, kept-stands}
+use Rattle.blk_kept.proofs.Stages.{ends-kept, notes-end, stages-stop}
+use Rattle.blk_kept.proofs.Stopping.{quiet-keep, stop-before}
+use Rattle.blk_kept.proofs.WordStops.{dooms-find, dooms-stop, out-doomed, uses-stop}
+
+abbrev folder : Image
+folder = opened whole_folder 7
+
+abbrev state : State
+state = one.state true
+
+unchanged : (footprint : Footprint) (image : Image) → SameOutside footprint image image
+unchanged footprint image = record { bytes = λ file i out. refl; lengths = λ file out. refl; files = λ file out. refl }
+
+-- before the first word of a touch of its item, a Read may be stopped
+before_use : IsMidUse (one.layout 0) (main (codes "a")) folder folder
+before_use = record { made = 0; within = omega arith; shown = record { list = refl; store = same-shown (store_of folder) }; outside = unchanged _ folder; well_formed = λ well. well }
+
+read_stops : MayStop state 100 (to_read 0 0 0 1) folder
+unfolding computing
+read_stops = uses-stop state 100 (to_read 0 0 0 1) [] [] (main (codes "a")) (one.layout 0) [] folder folder whole-keeps.entries.valid refl refl refl whole-keeps.entries refl before_use
+
+-- and before the removal of its item, a Doom
+before_removal : IsMidRemoval (one.layout 0) (main (codes "a")) folder folder
+before_removal = record { made = 0; within = omega arith; shown = record { list = refl; store = same-shown (store_of folder) }; outside = unchanged _ folder; well_formed = λ well. well }
+
+doom_finds : Finds (rest state) folder
+unfolding before_removal
+doom_finds = dooms-find state (one.layout 0) [] folder folder 0 (one.object true) whole-keeps.entries refl refl before_removal
+
+doom_stops : MayStop state 100 (to_doom 0) folder
+unfolding computing
+doom_stops = dooms-stop state 100 (to_doom 0) 0 (one.object true) true folder whole-keeps.entries.valid (omega arith) refl refl refl doom_finds
+
+-- the key of a doomed object is out of the list
+key_is_out : IsOut (doomed_state true) (doomed_layout 0) (codes "a") (is_of_another (codes "a")) (opened doomed_folder 7)
+key_is_out = record {
+  well_formed = doomed-keeps.entries.well_formed;
+  except = λ node. false;
+  holds = represented-but (λ node. false) (view_of (opened doomed_folder 7)) (doomed_state true) (doomed_layout 0) doomed-keeps.entries.represents;
+  out = refl;
+  others = λ item other. other;
+  there = λ item listed keeps. refl;
+  list = record { whole = doomed-keeps.entries.represents.list; idle = doomed-keeps.entries.represents.idle };
+}
+
+out_is_doomed : Finds (rest (doomed 0 (doomed_state true) (Some (doomed_object true)))) (opened doomed_folder 7)
+out_is_doomed = out-doomed (doomed_state true) (doomed_layout 0) 0 (doomed_object true) (is_of_another (codes "a")) (opened doomed_folder 7) doomed-keeps.entries.valid refl key_is_out
+
+-- a List is at its first stage, and a call that changes nothing may be stopped there
+abbrev told : Told
+told = record { files = Some folder; trail = None }
+
+at_first : IsAtStage [] state 100 to_list folder
+at_first = record { inner = state; layout = one.layout 0; unlinked = []; kept = whole-keeps.entries; left = rest_before state 100 to_list whole-keeps.entries.valid }
+
+still : StillFinds [] folder folder
+still inner layout unlinked k = (k.well_formed, kept-found inner layout unlinked folder k)
+
+only-folder : (P : Image → Type 0) → P folder → ForSome told.files P
+only-folder P holds image is = subst P (some_inj is) holds
+
+list_goes_on : GoesOn (λ m image. Keeps m (one.layout 0) [] image × (m ≡ state)) told told told 100 to_list
+list_goes_on = stages-stop (λ m image. Keeps m (one.layout 0) [] image × (m ≡ state)) told told told 100 to_list [] (λ image is m k. subst (λ (s : State). ForSome told.files (IsAtStage [] s 100 to_list)) (sym k.1) (only-folder (IsAtStage [] state 100 to_list) at_first))
+    (passes_none (λ image. ForSome told.files (λ from. StillFinds [] from image)) refl (only-folder (λ image. ForSome told.files (λ from. StillFinds [] from image)) (only-folder (λ from. StillFinds [] from folder) still)))
+
+-- it ends with the state that it began with, and is noted
+list_ends : Keeps (step state 100 to_list).state (one.layout 0) [] folder
+list_ends = ends-kept state state 100 to_list state.names (one.layout 0) [] folder whole-keeps.entries.valid tt (quiet-keep state 100 0 0).0 whole-keeps
+
+noted : Applies told told (Note 1 ∷ [])
+noted = record { files = refl; trail = refl }
+
+list_is_stepped : IsStepped told told 100 to_list 1 state
+list_is_stepped = notes-end told told told 100 to_list 1 state (passes_none (MayStop state 100 to_list) refl (only-folder (MayStop state 100 to_list) (stop-before state 100 to_list folder whole-keeps.entries.valid (still state (one.layout 0) [] whole-keeps.entries))))
+    (only-folder (λ image. StandsFor image (step state 100 to_list).state) (kept-stands (step state 100 to_list).state (one.layout 0) folder list_ends)) noted
