@@ -7,7 +7,7 @@ ghost use Rattle.blk_repair_laws.specs.ChainRepair.{ChainsAreRepaired, ChainsBeg
 ghost use Rattle.blk_repair_laws.specs.LinkRepair.{LinksAreRepaired, MendedChainsAreMendedLinks};
 ghost use Rattle.blk_repair_laws.specs.MendedLinks.{MendedLinksRepresent};
 ghost use Rattle.blk_repair_laws.specs.MendedChanges.{RepairedLinksAreKept, MendedLinksGoOn, MendedLinksHoldTheSame, MendedLinksStayOutside, MendedLinksMayGrow, UnlinkedFilesMayBeDeleted, UnclaimedFilesMayChange, HiddenWordsMayChange, KeptNodesMayBeSealed, KeptRecordsMayBeSealed};
-ghost use Rattle.blk_repair_laws.specs.Mended.{MendedFoldersStandFor, MendedFoldersAreSound};
+ghost use Rattle.blk_repair_laws.specs.Mended.{MendedFoldersStandFor, MendedFoldersAreSound, UnlinkedFilesLeaveTheOthers, ExternalFilesLeaveTheBlocks, MendedFilesStand, IndexWordsLeaveSeals, SealsAreMade, SealsStand, KeptAreSealed};
 ghost use Rattle.blk_repair_laws.specs.FoundHolding.{FoundIsAHolding};
 
 /// While the end of a list is mended the same nodes are walked; in the end the list is whole.
@@ -91,6 +91,21 @@ pub fn mended_links_stay_outside()
 pub fn kept_records_may_be_sealed()
     ensures nodes { KeptNodesMayBeSealed }
     ensures records { KeptRecordsMayBeSealed }
+{}
+
+/// What was mended of files and seals stays so while what comes after it is mended.
+pub fn mended_parts_stand()
+    ensures unlinked { UnlinkedFilesLeaveTheOthers }
+    ensures external { ExternalFilesLeaveTheBlocks }
+    ensures files { MendedFilesStand }
+    ensures words { IndexWordsLeaveSeals }
+{}
+
+/// What is kept is sealed one record after the other, and each leaves the others sealed.
+pub fn kept_records_are_sealed()
+    ensures made { SealsAreMade }
+    ensures stand { SealsStand }
+    ensures all { KeptAreSealed }
 {}
 
 /// A mended folder stands for what it holds, opened, and is sound.
