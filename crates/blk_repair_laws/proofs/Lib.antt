@@ -12,6 +12,7 @@ pub mod LinkRepair
 pub mod MendedChanges
 pub mod Mended
 pub mod MendedParts
+pub mod SoundFolders
 pub mod Seals
 pub mod Rows
 pub mod FoundHolding

@@ -58,6 +58,10 @@ MendedFoldersStandFor = (image : Image) (limits : Bounds) → IsMended image →
 abbrev pub MendedFoldersAreSound : Type 0
 MendedFoldersAreSound = (image : Image) → IsMended image → AreBytes image → IsSound image
 
+-- a sound folder is mended already
+abbrev pub SoundFoldersAreMended : Type 0
+SoundFoldersAreMended = (image : Image) → IsSound image → IsMended image
+
 -- What leaves the parts mended that were mended before.
 
 -- where an unlinked block file goes the linked ones stay mended
