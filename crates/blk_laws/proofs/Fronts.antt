@@ -146,7 +146,7 @@ front-words s bytes even d aligned inside =
     let e : 0 + d ≡ d = omega arith in
     ap (word_at (content (take s bytes))) e ∙ same-word (content (take s bytes)) (content bytes) d (part_of 0 s d 4 (content (take s bytes)) (content bytes) (same-front s bytes) (omega arith) (omega arith)) ∙ ap (word_at (content bytes)) (sym e)
 
-front-range : (s : ℕ) (bytes : List ℕ) → s ≤ length bytes → range_at (content (take s bytes)) 0 s ≡ take s bytes
+pub front-range : (s : ℕ) (bytes : List ℕ) → s ≤ length bytes → range_at (content (take s bytes)) 0 s ≡ take s bytes
 front-range s bytes enough = range-is s 0 (take s bytes) (omega (arith, length-take s bytes)) ∙ twice s bytes where
   twice : (s : ℕ) (bytes : List ℕ) → take s (take s bytes) ≡ take s bytes
   twice zero [] = refl

@@ -31,7 +31,7 @@ use Rattle.blk_laws.proofs.WordTurns.{each, still_checks, times_are, touches-can
 use Rattle.blk_laws.proofs.WriteSteps.{good-node, checked-kind, first_can, one_write, rest_can, writable-after, writable-sealed, writable-writes}
 
 -- a node is sealed where the word of its seal is the hash of its bytes before it
-sealed_bytes : (image : Image) (w : ℕ) → AreBytes image → kind_of w ≡ rankings → node_is_sealed (node_at image w) ≡ (word_at (content (record_at image w)) 32 == hash (take 32 (record_at image w)))
+pub sealed_bytes : (image : Image) (w : ℕ) → AreBytes image → kind_of w ≡ rankings → node_is_sealed (node_at image w) ≡ (word_at (content (record_at image w)) 32 == hash (take 32 (record_at image w)))
 unfolding node_is_sealed node_body node_in
 sealed_bytes image w bytes kind =
     let f = byte image (Block (file_selector w)) in
@@ -64,11 +64,11 @@ index_apart : (at : ℕ) (u i : ℕ) → (one_word Index at).bytes (Block (file_
 index_apart at u i = refl
 
 -- two nodes are at one place, or apart
-node_at_place : (w : ℕ) → kind_of w ≡ rankings → place w ≡ 8192 + first_block w * 36
+pub node_at_place : (w : ℕ) → kind_of w ≡ rankings → place w ≡ 8192 + first_block w * 36
 unfolding place block_place block_size
 node_at_place w kind = rw kind refl
 
-range_apart : (p q n i : ℕ) → (q + n ≤ p) ⊎ (p + n ≤ q) → p ≤ i → i < p + n → (nat_le q i && nat_lt i (q + n)) ≡ false
+pub range_apart : (p q n i : ℕ) → (q + n ≤ p) ⊎ (p + n ≤ q) → p ≤ i → i < p + n → (nat_le q i && nat_lt i (q + n)) ≡ false
 range_apart p q n i apart low high = grind (arith, nat_tests)
 
 -- the update of a node leaves each other one sealed

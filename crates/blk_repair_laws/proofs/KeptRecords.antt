@@ -4,9 +4,8 @@ use Rattle.std.specs.Prelude.{if◌then◌else◌, ◌==◌, ◌||◌, map}
 use Rattle.std.specs.List.{filter_map, cons_option}
 use Rattle.std.proofs.lemmas.Bool.{cases_Bool, and_parts, eq-eqb, eqb-true, or_left, or_right}
 use Rattle.blk_image.specs.Image.{Image}
-use Rattle.blk_format.specs.Address.{rankings}
+use Rattle.blk_format.specs.Address.{rankings, blocks_256}
 use Rattle.blk_format.specs.BlockFiles.{is_among}
-use Rattle.blk_format.specs.Sealed.{RecordChecks}
 use Rattle.blk_volume.specs.ListView.{ListView}
 use Rattle.blk_volume.specs.Completion.{insert, remove, completed_list, operated, put_front, take_out, putting_in_front, counts}
 use Rattle.blk_volume.specs.Walk.{walk}
@@ -20,9 +19,9 @@ use Rattle.blk_laws.proofs.Kept.{kept-shown, kept-nodes}
 use Rattle.blk_laws.proofs.ListWrites.{checks_stay, checks_out}
 use Rattle.blk_laws.proofs.NodeRecords as nodes
 use Rattle.blk_laws.proofs.Shown.{is_among-filter}
-use Rattle.blk_laws.proofs.StillShown.{standing-parts}
+use Rattle.blk_laws.proofs.StillShown.{standing-parts, core-standing}
 use Rattle.blk_laws.proofs.Walked.{walk-once, walks-distinct}
-use Rattle.blk_repair_laws.specs.ChainRepair.{is_kept_record, KeptNodesCheck, KeptRecordsCheck}
+use Rattle.blk_repair_laws.specs.ChainRepair.{is_kept_record, IsStandingRecord, KeptNodesCheck, KeptRecordsCheck}
 use Rattle.blk_repair_laws.proofs.Frames.{IsRecordOf, record-of}
 
 -- ---- what is given to some nodes
@@ -64,32 +63,34 @@ checks-completed list = go (counts list) (list.operation == insert) (list.operat
   go true false false = checks-front list.transaction (take_out list.transaction list) ∙ checks_out list.transaction list
 
 module _ (image : Image) (ready : IsWritable image) where
-  abbrev walk-of : List ℕ
+  abbrev pub walk-of : List ℕ
   walk-of = walk (completed_list (list_of image))
 
-  abbrev given-of : ℕ → Option Loaded
+  abbrev pub given-of : ℕ → Option Loaded
   given-of = kept_as (store_of image) held_rule walk-of
 
-  loads-of : (node : ℕ) (k : Loaded) → is_among walk-of node ≡ true → given-of node ≡ Some k → load (store_of image) held_rule node ≡ Ok k
+  pub loads-of : (node : ℕ) (k : Loaded) → is_among walk-of node ≡ true → given-of node ≡ Some k → load (store_of image) held_rule node ≡ Ok k
   loads-of node k among is =
       (kept-shown (store_of image) held_rule walk-of (walk-once (completed_list (list_of image)))).loads node k
       (is_among-filter (is_kept (store_of image) held_rule walk-of) walk-of node ∙ rw (is, among) refl) is
 
-  kept-node-checks : (node : ℕ) → is_among (map (λ k. k.node) (kept image)) node ≡ true → RecordChecks node image
+  kept-node-checks : (node : ℕ) → is_among (map (λ k. k.node) (kept image)) node ≡ true → IsStandingRecord rankings image node
   unfolding kept list_of checks_at
   kept-node-checks node there =
       let among : is_among (kept_nodes (store_of image) held_rule walk-of) node ≡ true = ap (λ (ns : List ℕ). is_among ns node) (sym (kept-nodes (store_of image) held_rule walk-of (walk-once (completed_list (list_of image))))) ∙ there in
       let walks : is_among walk-of node ≡ true = (and_parts _ _ (sym (is_among-filter (is_kept (store_of image) held_rule walk-of) walk-of node) ∙ among)).1 in
       let good : (list_of image).checks node ≡ true = ap (λ (checks : ℕ → Bool). checks node) (sym (checks-completed (list_of image))) ∙ (walks-distinct (completed_list (list_of image))).1 node walks in
-      nodes.record_checks image node ready.bytes (standing-parts image rankings node (and_parts _ _ good).0).1 good
+      let stands = standing-parts image rankings node (and_parts _ _ good).0 in
+      record { stands = stands.0; kind_is = stands.1; checks = nodes.record_checks image node ready.bytes stands.1 good }
 
-  kept-record-checks : (w : ℕ) → is_kept_record (kept image) w ≡ true → RecordChecks w image
+  kept-record-checks : (w : ℕ) → is_kept_record (kept image) w ≡ true → IsStandingRecord blocks_256 image w
   unfolding kept kept_among
   kept-record-checks w there =
       let r : IsGivenAt given-of walk-of w = given-at given-of walk-of walk-of w (λ x h. h) there in
       let rc : IsRecordOf (store_of image) r.k = record-of (store_of image) r.node r.k (loads-of r.node r.k r.among r.is) in
-      subst (λ (x : ℕ). RecordChecks x image) r.contents
-      (words.record_checks image r.k.contents ready.bytes (words.shown-kind image r.k.contents rc.fields rc.here) (ap (λ (c : RecordFields). c.checks) (words.shown-fields image r.k.contents rc.fields rc.here) ∙ rc.good))
+      let stands = standing-parts image blocks_256 r.k.contents (core-standing image r.k.contents rc.fields rc.here) in
+      subst (IsStandingRecord blocks_256 image) r.contents
+      (record { stands = stands.0; kind_is = stands.1; checks = words.record_checks image r.k.contents ready.bytes stands.1 (ap (λ (c : RecordFields). c.checks) (words.shown-fields image r.k.contents rc.fields rc.here) ∙ rc.good) })
 
 pub kept-nodes-check : KeptNodesCheck
 kept-nodes-check image ready node there = kept-node-checks image ready node there

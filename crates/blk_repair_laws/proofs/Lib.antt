@@ -11,5 +11,8 @@ pub mod MendedLinks
 pub mod LinkRepair
 pub mod MendedChanges
 pub mod Mended
+pub mod MendedParts
+pub mod SoundFolders
+pub mod Seals
 pub mod Rows
 pub mod FoundHolding

@@ -93,7 +93,7 @@ without-other : (x : ℕ) (xs others : List ℕ) → is_first x others ≡ false
 without-other x xs [] other = refl
 without-other x xs (o ∷ others) other = rw other refl
 
-filter-without : (p : ℕ → Bool) (xs : List ℕ) → Distinct xs → filter (λ x. not (p x)) xs ≡ without xs (filter p xs)
+pub filter-without : (p : ℕ → Bool) (xs : List ℕ) → Distinct xs → filter (λ x. not (p x)) xs ≡ without xs (filter p xs)
 filter-without p [] once = refl
 filter-without p (x ∷ xs) once =
     ⊎_elim
@@ -236,7 +236,7 @@ module _ (from : Image) (well_from : IsWellFormed from) (rests : HasListAtRest (
 
 -- ---- the end
 
-zero_bad : (image : Image) → (list_of image).checks 0 ≡ false
+pub zero_bad : (image : Image) → (list_of image).checks 0 ≡ false
 unfolding list_of checks_at stands is_address is_initialized
 zero_bad image = refl
 

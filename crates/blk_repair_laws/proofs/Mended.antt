@@ -58,7 +58,7 @@ claimed-first (k ∷ ks) c =
     (λ (e : has_claim (all_claims k) c ≡ false). claim-append (all_claims k) (claims_of_loaded ks) c ∙ rw e (claimed-first ks c))
     (cases_Bool (has_claim (all_claims k) c))
 
-append-none : {A : Type 0} (xs : List A) → xs ++ [] ≡ xs
+pub append-none : {A : Type 0} (xs : List A) → xs ++ [] ≡ xs
 append-none [] = refl
 append-none {A} (x ∷ xs) = ap (λ (ys : List A). x ∷ ys) (append-none xs)
 

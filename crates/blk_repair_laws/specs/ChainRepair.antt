@@ -7,7 +7,8 @@ use Rattle.blk_image.specs.Image.{Index, Image}
 use Rattle.blk_image.specs.Steps.{TrailStep, word_step, after}
 use Rattle.blk_image.specs.Told.{Along}
 use Rattle.blk_format.specs.Headers.{table_length, place_of_bucket}
-use Rattle.blk_format.specs.BlockFiles.{is_among, IsWellFormed}
+use Rattle.blk_format.specs.BlockFiles.{is_among, stands_in, IsWellFormed}
+use Rattle.blk_format.specs.Address.{kind_of, rankings, blocks_256}
 use Rattle.blk_format.specs.Sealed.{RecordChecks, sealed_steps}
 use Rattle.blk_volume.specs.ListView.{first_or}
 use Rattle.blk_volume.specs.View.{list_of, store_of}
@@ -106,10 +107,16 @@ WholeChainsStay = (from image : Image) → ShowsTheSame (store_of from) (store_o
 
 -- What is kept can be written.
 
--- the node of what is kept checks
+-- a record of a kind stands and checks
+pub record IsStandingRecord (kind : ℕ) (image : Image) (w : ℕ) : Type 0 where
+  pub stands : stands_in image w ≡ true
+  pub kind_is : kind_of w ≡ kind
+  pub checks : RecordChecks w image
+
+-- the node of what is kept stands and checks
 abbrev pub KeptNodesCheck : Type 0
-KeptNodesCheck = (image : Image) → IsWritable image → (node : ℕ) → is_among (map (λ k. k.node) (kept image)) node ≡ true → RecordChecks node image
+KeptNodesCheck = (image : Image) → IsWritable image → (node : ℕ) → is_among (map (λ k. k.node) (kept image)) node ≡ true → IsStandingRecord rankings image node
 
 -- and so does its record
 abbrev pub KeptRecordsCheck : Type 0
-KeptRecordsCheck = (image : Image) → IsWritable image → (w : ℕ) → is_kept_record (kept image) w ≡ true → RecordChecks w image
+KeptRecordsCheck = (image : Image) → IsWritable image → (w : ℕ) → is_kept_record (kept image) w ≡ true → IsStandingRecord blocks_256 image w

@@ -1,5 +1,5 @@
 -- The repair of all links: of the use list, and then of the chains.
-use Rattle.std.specs.Prelude.{◌++◌, List}
+use Rattle.std.specs.Prelude.{◌≡◌, [], ◌++◌, List}
 use Rattle.blk_image.specs.Image.{Image}
 use Rattle.blk_image.specs.Steps.{TrailStep, after}
 use Rattle.blk_image.specs.Told.{Along}
@@ -20,3 +20,7 @@ MendedChainsAreMendedLinks = (image between last : Image) → HoldsTheSame image
 -- of every well-formed image the same is held at each word of that, and in the end its links are mended
 abbrev pub LinksAreRepaired : Type 0
 LinksAreRepaired = (image : Image) → IsWellFormed image → IsWritable image → Along (HoldsTheSame image) image (link_repair_steps image) × HasMendedLinks (after (link_repair_steps image) image)
+
+-- a folder whose links are mended needs no step
+abbrev pub MendedLinksNeedNoSteps : Type 0
+MendedLinksNeedNoSteps = (image : Image) → HasMendedLinks image → link_repair_steps image ≡ []

@@ -1,5 +1,5 @@
 -- Folders in which nothing is left to repair: they stand for what they hold, opened.
-use Rattle.std.specs.Prelude.{◌≡◌, ◌%◌, ◌^◌, ℕ, true, length, is_some, None}
+use Rattle.std.specs.Prelude.{◌≡◌, ◌%◌, ◌^◌, ℕ, true, length, is_some, None, map, []}
 use Rattle.std.specs.List.{AllByRecursion, flat_map, sum_by}
 use Rattle.blk_image.specs.Image.{Index, Block, External, Image, AreBytes, byte}
 use Rattle.blk_image.specs.Footprint.{Footprint, SameOutside, one_word, whole}
@@ -7,7 +7,10 @@ use Rattle.blk_image.specs.Steps.{Delete, applied}
 use Rattle.blk_model.specs.State.{Bounds}
 use Rattle.blk_model.specs.Holding.{open_state}
 use Rattle.blk_format.specs.Headers.{sizes_of, num_entries_of, num_bytes_of}
-use Rattle.blk_format.specs.BlockFiles.{linked_as}
+use Rattle.blk_format.specs.BlockFiles.{linked_as, is_among, stands_in}
+use Rattle.blk_format.specs.Sealed.{BeginsWithRecord, IsUpdated, is_sealed, record_at, record_range, seal_place}
+use Rattle.blk_volume.specs.ListImages.{IsWritable}
+use Rattle.blk_repair_laws.specs.ChainRepair.{is_kept_record}
 use Rattle.blk_volume.specs.Loads.{claims_of_loaded}
 use Rattle.blk_volume.specs.Found.{charge_of, kept, found}
 use Rattle.blk_volume.specs.Sound.{MapsAre, OnlyClaimed, OnlyLinked, AreLongEnough, words_of, IsCounted, AreSealed, IsSound}
@@ -55,6 +58,10 @@ MendedFoldersStandFor = (image : Image) (limits : Bounds) → IsMended image →
 abbrev pub MendedFoldersAreSound : Type 0
 MendedFoldersAreSound = (image : Image) → IsMended image → AreBytes image → IsSound image
 
+-- a sound folder is mended already
+abbrev pub SoundFoldersAreMended : Type 0
+SoundFoldersAreMended = (image : Image) → IsSound image → IsMended image
+
 -- What leaves the parts mended that were mended before.
 
 -- where an unlinked block file goes the linked ones stay mended
@@ -72,3 +79,21 @@ MendedFilesStand = (footprint : Footprint) (from image : Image) → IsBehindHead
 -- a word of the index leaves the seals
 abbrev pub IndexWordsLeaveSeals : Type 0
 IndexWordsLeaveSeals = (from image : Image) (at : ℕ) → SameOutside (one_word Index at) from image → KeepsMendedLinks from image → AreKeptSealed from → AreKeptSealed image
+
+-- Seals, one after the other.
+
+-- a record has its hash as its seal
+abbrev pub IsSealedAt : Image → ℕ → Type 0
+IsSealedAt image w = is_sealed (seal_place w) (record_at image w) ≡ true
+
+-- a record that was sealed is so
+abbrev pub SealsAreMade : Type 0
+SealsAreMade = (from image : Image) (w : ℕ) → IsUpdated from w [] image → IsSealedAt image w
+
+-- and leaves each other record sealed that was
+abbrev pub SealsStand : Type 0
+SealsStand = (from image : Image) (w other : ℕ) → stands_in from w ≡ true → BeginsWithRecord w → stands_in from other ≡ true → BeginsWithRecord other → IsUpdated from w [] image → SameOutside (record_range w) from image → IsSealedAt from other → IsSealedAt image other
+
+-- once the nodes and the records of what is kept are sealed, it is
+abbrev pub KeptAreSealed : Type 0
+KeptAreSealed = (image : Image) → IsWritable image → ((node : ℕ) → is_among (map (λ k. k.node) (kept image)) node ≡ true → IsSealedAt image node) → ((w : ℕ) → is_kept_record (kept image) w ≡ true → IsSealedAt image w) → AreKeptSealed image

@@ -4,10 +4,10 @@
 ghost use Rattle.blk_repair_laws.specs.EndRepair.{EndsAreMended};
 ghost use Rattle.blk_repair_laws.specs.ListRepair.{ListsAreRepaired, CompletedListsAreEnded, ListsAtRestNeedNoEnd, DroppedNodesAreTheOthers, RemovalsBegin, KeptNodesArePassed, OtherNodesAreRemoved, RemovalsEnd};
 ghost use Rattle.blk_repair_laws.specs.ChainRepair.{ChainsAreRepaired, ChainsBegin, BucketsAreMended, WholeChainsNeedNoSteps, ChainsEnd, KeptRecordsStay, WholeChainsStay, KeptNodesCheck, KeptRecordsCheck};
-ghost use Rattle.blk_repair_laws.specs.LinkRepair.{LinksAreRepaired, MendedChainsAreMendedLinks};
+ghost use Rattle.blk_repair_laws.specs.LinkRepair.{LinksAreRepaired, MendedChainsAreMendedLinks, MendedLinksNeedNoSteps};
 ghost use Rattle.blk_repair_laws.specs.MendedLinks.{MendedLinksRepresent};
 ghost use Rattle.blk_repair_laws.specs.MendedChanges.{RepairedLinksAreKept, MendedLinksGoOn, MendedLinksHoldTheSame, MendedLinksStayOutside, MendedLinksMayGrow, UnlinkedFilesMayBeDeleted, UnclaimedFilesMayChange, HiddenWordsMayChange, KeptNodesMayBeSealed, KeptRecordsMayBeSealed};
-ghost use Rattle.blk_repair_laws.specs.Mended.{MendedFoldersStandFor, MendedFoldersAreSound};
+ghost use Rattle.blk_repair_laws.specs.Mended.{MendedFoldersStandFor, MendedFoldersAreSound, SoundFoldersAreMended, UnlinkedFilesLeaveTheOthers, ExternalFilesLeaveTheBlocks, MendedFilesStand, IndexWordsLeaveSeals, SealsAreMade, SealsStand, KeptAreSealed};
 ghost use Rattle.blk_repair_laws.specs.FoundHolding.{FoundIsAHolding};
 
 /// While the end of a list is mended the same nodes are walked; in the end the list is whole.
@@ -60,10 +60,11 @@ pub fn kept_records_check()
     ensures records { KeptRecordsCheck }
 {}
 
-/// Both, one after the other: of every well-formed image the same is kept and found at each word, and in the end its links are mended.
+/// Both, one after the other: of every well-formed image the same is kept and found at each word, and in the end its links are mended; where they are so already there is no step.
 pub fn links_are_repaired()
     ensures at_each_word { LinksAreRepaired }
     ensures mended { MendedChainsAreMendedLinks }
+    ensures none { MendedLinksNeedNoSteps }
 {}
 
 /// A folder whose links are mended represents what it holds, opened.
@@ -93,10 +94,26 @@ pub fn kept_records_may_be_sealed()
     ensures records { KeptRecordsMayBeSealed }
 {}
 
-/// A mended folder stands for what it holds, opened, and is sound.
+/// What was mended of files and seals stays so while what comes after it is mended.
+pub fn mended_parts_stand()
+    ensures unlinked { UnlinkedFilesLeaveTheOthers }
+    ensures external { ExternalFilesLeaveTheBlocks }
+    ensures files { MendedFilesStand }
+    ensures words { IndexWordsLeaveSeals }
+{}
+
+/// What is kept is sealed one record after the other, and each leaves the others sealed.
+pub fn kept_records_are_sealed()
+    ensures made { SealsAreMade }
+    ensures stand { SealsStand }
+    ensures all { KeptAreSealed }
+{}
+
+/// A mended folder stands for what it holds, opened, and is sound; and a sound one is mended.
 pub fn mended_folders_stand_for()
     ensures stands { MendedFoldersStandFor }
     ensures sound { MendedFoldersAreSound }
+    ensures converse { SoundFoldersAreMended }
 {}
 
 /// Of every image of bytes what is found is a valid holding.

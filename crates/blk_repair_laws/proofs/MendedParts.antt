@@ -1,0 +1,102 @@
+-- What leaves mended files and seals as they are.
+use Rattle.std.proofs.Common.{⊎_elim, Some, false, ◌≡◌, ℕ, ◌+◌, ◌≤◌, Bool, true, List, [], ◌∷◌, length, Option, refl, ap, sym, ◌∙◌, subst}
+use Rattle.std.specs.Prelude.{is_some}
+use Rattle.std.specs.Option.{unwrap_or}
+use Rattle.std.specs.List.{AllByRecursion, flat_map}
+use Rattle.std.proofs.Math.Dec.{eqb}
+use Rattle.std.proofs.lemmas.Bool.Decides.{eqb_tells}
+use Rattle.blk_image.specs.Bytes.{content}
+use Rattle.blk_image.specs.Image.{Index, Block, External, Image}
+use Rattle.blk_image.specs.Footprint.{one_word, whole}
+use Rattle.blk_image.specs.Steps.{Delete, applied}
+use Rattle.blk_image.proofs.Footprints.{same_file_outside}
+use Rattle.blk_format.specs.Address.{file_selector, place, block_place}
+use Rattle.blk_format.specs.Headers.{allocations_of, empty_of, max_entries_of, next_file_of, updating_of}
+use Rattle.blk_format.specs.Records.{node_in, entry_in, node_is_sealed, entry_is_sealed}
+use Rattle.blk_format.specs.Claims.{Claim, BlockOf, ExternalOf, has_claim}
+use Rattle.blk_format.specs.BlockFiles.{linked_as, max_entries_in, next_file_in}
+use Rattle.blk_format.specs.Maps.{EmptyAgrees, groups_of, groups_with, is_block_marked_at}
+use Rattle.blk_volume.specs.Loads.{Loaded, claims_of_loaded}
+use Rattle.blk_volume.specs.Found.{kept}
+use Rattle.blk_volume.specs.Sound as sound
+use Rattle.blk_volume.specs.Sound.{OnlyLinked, words_of, IsCounted}
+use Rattle.blk_volume.specs.Tidy.{FilesStand}
+use Rattle.blk_laws.proofs.ByteChanges.{same-links}
+use Rattle.blk_laws.proofs.Counting.{files-stand}
+use Rattle.blk_laws.proofs.Files.{unlinked-go}
+use Rattle.blk_repair_laws.specs.Mended.{HasMendedFiles, UnlinkedFilesLeaveTheOthers, ExternalFilesLeaveTheBlocks, MendedFilesStand, IndexWordsLeaveSeals}
+
+-- linked files that are the same are mended alike
+blocks-alike : (from image : Image) → ((n : ℕ) → linked_as image n ≡ linked_as from n) → ((n : ℕ) → is_some (linked_as from n) ≡ true → image (Block n) ≡ from (Block n)) → kept image ≡ kept from → HasMendedFiles from → HasMendedFiles image
+unfolding EmptyAgrees max_entries_in
+blocks-alike from image links same keeps files = record {
+  maps = λ n b linked small. ap (λ (o : Option (List ℕ)). is_block_marked_at (content (unwrap_or o [])) b) (at n linked) ∙ files.maps n b (was n linked) small ∙ ap (λ (ks : List Loaded). has (claims_of_loaded ks) n b) (sym keeps);
+  counted = λ n linked. let c = files.counted n (was n linked) in subst (λ (ks : List Loaded). IsCounted image (flat_map words_of ks) n) (sym keeps) (record {
+    num_entries = ap (λ (o : Option (List ℕ)). allocations_of (content (unwrap_or o []))) (at n linked) ∙ c.num_entries;
+    empty = λ i small. ap (λ (o : Option (List ℕ)). empty_of (content (unwrap_or o [])) i) (at n linked) ∙ c.empty i small
+        ∙ sym (ap (λ (o : Option (List ℕ)). groups_with (is_block_marked_at (content (unwrap_or o []))) (groups_of (max_entries_of (content (unwrap_or o [])))) (i + 1)) (at n linked));
+    updating = ap (λ (o : Option (List ℕ)). updating_of (content (unwrap_or o []))) (at n linked) ∙ c.updating;
+  });
+  long_enough = λ n kind linked. let l : linked_as from n ≡ Some kind = sym (links n) ∙ linked in
+      subst (λ (o : Option (List ℕ)). block_place kind (max_entries_of (content (unwrap_or o []))) ≤ length (unwrap_or o [])) (sym (same n (ap is_some l))) (files.long_enough n kind l);
+} where
+  has : List Claim → ℕ → ℕ → Bool
+  has claims n b = has_claim claims (BlockOf n b)
+
+  was : (n : ℕ) → is_some (linked_as image n) ≡ true → is_some (linked_as from n) ≡ true
+  was n linked = ap is_some (sym (links n)) ∙ linked
+
+  at : (n : ℕ) → is_some (linked_as image n) ≡ true → image (Block n) ≡ from (Block n)
+  at n linked = same n (was n linked)
+
+clash : true ≡ false → ⊥
+clash e = cc
+
+pub unlinked-leave : UnlinkedFilesLeaveTheOthers
+unlinked-leave from n free keeps files =
+    blocks-alike from (applied (Delete (Block n)) from) (unlinked-go from n free).linked (λ m linked. other m linked) keeps.kept_same files where
+      other : (m : ℕ) → is_some (linked_as from m) ≡ true → applied (Delete (Block n)) from (Block m) ≡ from (Block m)
+      other m linked =
+          ⊎_elim
+          (λ (e : (eqb n m ≡ true) × (n ≡ m)). absurd (clash (sym linked ∙ ap is_some (ap (linked_as from) (sym e.1) ∙ free))))
+          (λ (e : (eqb n m ≡ false) × _). rw e.0 refl)
+          (eqb_tells n m)
+
+pub external-leaves : ExternalFilesLeaveTheBlocks
+unfolding next_file_in
+external-leaves from image n outside keeps =
+    let blocks : (m : ℕ) → image (Block m) ≡ from (Block m) = λ m. same_file_outside (whole (External n)) from image (Block m) outside (λ i. refl) refl in
+    let links : (m : ℕ) → linked_as image m ≡ linked_as from m = same-links from image (λ m. ap (λ (o : Option (List ℕ)). next_file_of (content (unwrap_or o []))) (blocks m)) in (
+      blocks-alike from image links (λ m linked. blocks m) keeps.kept_same,
+      λ only m small. ap is_some (blocks m) ∙ only m small ∙ ap is_some (sym (links m)),
+    )
+
+pub files-mended : MendedFilesStand
+files-mended footprint from image behind outside mended keeps =
+    let f : FilesStand from image = files-stand footprint from image behind outside mended.well_formed in (
+      λ files. record {
+        maps = λ n b linked small. f.marks n b small ∙ files.maps n b (ap is_some (sym (f.links n)) ∙ linked) small ∙ ap (λ (ks : List Loaded). has_claim (claims_of_loaded ks) (BlockOf n b)) (sym keeps.kept_same);
+        counted = λ n linked. let was = ap is_some (sym (f.links n)) ∙ linked in
+            subst (λ (ks : List Loaded). IsCounted image (flat_map words_of ks) n) (sym keeps.kept_same) (f.counted n (flat_map words_of (kept from)) was (files.counted n was));
+        long_enough = f.long_enough files.long_enough;
+      },
+      λ only. record {
+        only_linked = f.only_linked only.only_linked;
+        only_claimed = λ n small. f.externals n ∙ only.only_claimed n small ∙ ap (λ (ks : List Loaded). has_claim (claims_of_loaded ks) (ExternalOf n)) (sym keeps.kept_same);
+      },
+    )
+
+pub words-leave : IndexWordsLeaveSeals
+words-leave from image at outside keeps sealed = subst (AllByRecursion (sound.AreSealed image)) (sym keeps.kept_same) (each (kept from) sealed) where
+  blocks : (m : ℕ) → image (Block m) ≡ from (Block m)
+  blocks m = same_file_outside (one_word Index at) from image (Block m) outside (λ i. refl) refl
+
+  each : (ks : List Loaded) → AllByRecursion (sound.AreSealed from) ks → AllByRecursion (sound.AreSealed image) ks
+  each [] all = tt
+  each (k ∷ ks) all = (
+    record {
+      node = ap (λ (o : Option (List ℕ)). node_is_sealed (node_in (content (unwrap_or o [])) (place k.node))) (blocks (file_selector k.node)) ∙ all.0.node;
+      entry = ap (λ (o : Option (List ℕ)). entry_is_sealed (entry_in (content (unwrap_or o [])) (place k.contents))) (blocks (file_selector k.contents)) ∙ all.0.entry;
+    },
+    each ks all.1,
+  )
