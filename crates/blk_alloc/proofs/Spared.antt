@@ -36,13 +36,13 @@ module _ (F : Footprint) (from image : Image) (spares : SparesHeadersAndSizes F)
   stands_kept : stands_in image ≡ stands_in from
   stands_kept = λ j w. stands (λ m. kind_among (λ kind. linked_same F from image none same kind j) m) (λ m. blocks_same F from image none same m j) (λ m. same.lengths (Block m) (spares.sizes (Block m)) j) (λ m. same.files (External m) (spares.sizes (External m)) j) w
 
-  marks_kept : (n b : ℕ) → b < most_blocks → is_block_marked image n b ≡ is_block_marked from n b
+  pub marks_kept : (n b : ℕ) → b < most_blocks → is_block_marked image n b ≡ is_block_marked from n b
   marks_kept n b small = mark_kept from image n b (header n (80 + b / 8) (omega (arith, small)))
 
   count_kept : (n : ℕ) → allocations_of (byte image (Block n)) ≡ allocations_of (byte from (Block n))
   count_kept n = word_kept n 16 (omega arith)
 
-  allocations_kept : (n : ℕ) (words : List ℕ) → AreAllocations from n words → AreAllocations image n words
+  pub allocations_kept : (n : ℕ) (words : List ℕ) → AreAllocations from n words → AreAllocations image n words
   allocations_kept n words are = record {
     stand = subst (λ (f : ℕ → Bool). All (λ w. f w ≡ true) words) (sym stands_kept) are.stand;
     here = are.here;
@@ -51,7 +51,7 @@ module _ (F : Footprint) (from image : Image) (spares : SparesHeadersAndSizes F)
     counted = count_kept n ∙ are.counted;
   }
 
-  empty_kept : (n : ℕ) → max_entries_in from n ≤ most_blocks → EmptyAgrees from n → EmptyAgrees image n
+  pub empty_kept : (n : ℕ) → max_entries_in from n ≤ most_blocks → EmptyAgrees from n → EmptyAgrees image n
   unfolding EmptyAgrees
   empty_kept n few was i small =
       word_kept n (24 + 4 * i) (omega (arith, small)) ∙ was i small

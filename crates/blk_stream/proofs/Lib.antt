@@ -1,0 +1,4 @@
+pub mod StreamPlaces
+pub mod PlacesFreed
+pub mod Naming
+pub mod Drops

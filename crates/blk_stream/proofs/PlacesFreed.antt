@@ -1,0 +1,144 @@
+-- The place of data is freed.
+use Rattle.std.proofs.Common.{◌≡◌, ◌≢◌, ⊎_elim, ℕ, ◌+◌, ◌/◌, ◌<◌, Bool, true, false, if◌then◌else◌, List, [], ◌∷◌, Option, None, Some, refl, sym, ◌∙◌, ap, subst, arith}
+use Rattle.std.specs.Prelude.{◌==◌, ◌&&◌, not, is_some, unwrap_or}
+use Rattle.std.specs.Option.{ForSome}
+use Rattle.std.proofs.lemmas.Bool.{cases_eq}
+use Rattle.std.proofs.lemmas.Bool.Decides.{nat_tests}
+use Rattle.blk_image.specs.Bytes.{content}
+use Rattle.blk_image.specs.Image.{Block, External, Image, byte, has_file, length_of}
+use Rattle.blk_image.specs.Steps.{Delete, applied}
+use Rattle.blk_image.specs.Footprint.{Footprint, SameOutside, whole}
+use Rattle.blk_image.specs.Told.{Told, AppliesPrefix}
+use Rattle.blk_image.proofs.Footprints.{outside_step, same_file_outside}
+use Rattle.blk_image.proofs.Runs.{told_part}
+use Rattle.blk_format.specs.Address.{kind_of, is_address, external, external_number, file_selector}
+use Rattle.blk_format.specs.BlockFiles.{is_among, kind_among, max_entries_in, stands_in, stands_in_blocks}
+use Rattle.blk_format.specs.Claims.{is_in_file}
+use Rattle.blk_format.specs.Headers.{allocations_of}
+use Rattle.blk_format.specs.Maps.{AreAllocations, EmptyAgrees, is_block_marked}
+use Rattle.blk_format.specs.Standing.{stands, stands_as_blocks}
+use Rattle.blk_format.proofs.SpareHeaders.{SparesHeaders, blocks_same, linked_same}
+use Rattle.blk_disk.specs.declared.tables.BlockFiles.{BlockFiles}
+use Rattle.blk_disk.specs.Tables.{Agrees}
+use Rattle.blk_disk.proofs.Agreeing.{agrees_still}
+use Rattle.blk_alloc.specs.Changes.{IsMapInProgress, map_of}
+use Rattle.blk_alloc.specs.Owning.{FreesInProgress, IsFreed, KeepsFile, others}
+use Rattle.blk_alloc.proofs.Widening.{mark_kept}
+use Rattle.blk_stream.specs.Freeing.{IsPlaceFreed, freeing_of, is_block_of, left_by}
+
+pub freeing_external : (w : ℕ) → kind_of w ≡ external → freeing_of w ≡ whole (External (external_number w))
+unfolding freeing_of
+freeing_external w kind = let t : (kind_of w == external) ≡ true = grind (arith, nat_tests) in rw t refl
+
+pub freeing_blocks : (w : ℕ) → kind_of w ≢ external → freeing_of w ≡ map_of (file_selector w)
+unfolding freeing_of
+freeing_blocks w blocky = let t : (kind_of w == external) ≡ false = grind (arith, nat_tests) in rw t refl
+
+-- Blocks that are freed.
+
+-- while they are, only map, counters and updating of their file differ
+pub map_only : (w : ℕ) (from image : Image) → FreesInProgress w from image → SameOutside (map_of (file_selector w)) from image
+map_only w from image h = ⊎_elim (λ (midst : IsMapInProgress (file_selector w) from image). midst.same) (λ (freed : IsFreed from w image). freed.same) h.marks
+
+in_file_blocks : (n w : ℕ) → kind_of w ≢ external → is_in_file n w ≡ (file_selector w == n)
+unfolding is_in_file
+in_file_blocks n w blocky = let t : (kind_of w == external) ≡ false = grind (arith, nat_tests) in rw t refl
+
+in_file_external : (n w : ℕ) → kind_of w ≡ external → is_in_file n w ≡ false
+unfolding is_in_file
+in_file_external n w kind = let t : (kind_of w == external) ≡ true = grind (arith, nat_tests) in rw t refl
+
+pub left_here : (w n : ℕ) (words : List ℕ) → is_in_file n w ≡ true → left_by w n words ≡ others w words
+unfolding left_by
+left_here w n words t = rw t refl
+
+pub left_elsewhere : (w n : ℕ) (words : List ℕ) → is_in_file n w ≡ false → left_by w n words ≡ words
+unfolding left_by
+left_elsewhere w n words t = rw t refl
+
+module _ (w : ℕ) (from image : Image) (blocky : kind_of w ≢ external) (freed : IsFreed from w image) where
+  blocks_left : (n : ℕ) (words : List ℕ) → AreAllocations from n words → (is_in_file n w ≡ true → is_among words w ≡ true) → AreAllocations image n (left_by w n words)
+  blocks_left n words are among = ⊎_elim here there (cases_eq (file_selector w) n)
+    where
+      here : file_selector w ≡ n → AreAllocations image n (left_by w n words)
+      here e =
+          let t : is_in_file n w ≡ true = in_file_blocks n w blocky ∙ (let z : (file_selector w == n) ≡ true = grind (arith, nat_tests) in z) in
+          subst (AreAllocations image n) (sym (left_here w n words t))
+          (subst (λ (m : ℕ). AreAllocations image m (others w words)) e (freed.allocations words (subst (λ (m : ℕ). AreAllocations from m words) (sym e) are) (among t)))
+
+      there : file_selector w ≢ n → AreAllocations image n (left_by w n words)
+      there differs =
+          let t : is_in_file n w ≡ false = in_file_blocks n w blocky ∙ (let z : (file_selector w == n) ≡ false = grind (arith, nat_tests) in z) in
+          subst (AreAllocations image n) (sym (left_elsewhere w n words t)) ((freed.elsewhere n (λ e. differs (sym e))).allocations words are)
+
+  blocks_agree : (n : ℕ) → EmptyAgrees from n → EmptyAgrees image n
+  blocks_agree n was = ⊎_elim
+      (λ (e : file_selector w ≡ n). subst (EmptyAgrees image) e (freed.empty (subst (EmptyAgrees from) (sym e) was)))
+      (λ (differs : file_selector w ≢ n). (freed.elsewhere n (λ e. differs (sym e))).empty was)
+      (cases_eq (file_selector w) n)
+
+  pub freed_blocks : IsPlaceFreed w from image
+  unfolding is_block_of
+  freed_blocks =
+      let t : (kind_of w == external) ≡ false = grind (arith, nat_tests) in
+      record {
+        same = subst (λ (F : Footprint). SameOutside F from image) (sym (freeing_blocks w blocky)) freed.same;
+        marks = λ n b small. rw t (freed.marks n b small);
+        allocations = blocks_left;
+        empty = blocks_agree;
+        gone = λ kind. absurd (blocky kind);
+      }
+
+-- A file that is deleted.
+
+whole_spares : (number : ℕ) → SparesHeaders (whole (External number))
+whole_spares number = record { bytes = λ m i small. refl }
+
+module _ (number : ℕ) (from image : Image) (same : SameOutside (whole (External number)) from image) where
+  block_file : (n : ℕ) → image (Block n) ≡ from (Block n)
+  block_file n = same_file_outside (whole (External number)) from image (Block n) same (λ i. refl) refl
+
+  blocks_stand : (v : ℕ) → kind_of v ≢ external → stands_in image v ≡ stands_in from v
+  unfolding stands kind_among max_entries_in stands_as_blocks
+  blocks_stand v blocky =
+      let t : (kind_of v == external) ≡ false = grind (arith, nat_tests) in
+      rw t (λ j. is_address v && stands_as_blocks (kind_among (λ kind. linked_same (whole (External number)) from image (whole_spares number) same kind j)) (λ m. blocks_same (whole (External number)) from image (whole_spares number) same m j) (λ m. same.lengths (Block m) refl j) (λ number. false) v)
+
+  pub file_kept : (n : ℕ) → KeepsFile from image n
+  unfolding EmptyAgrees max_entries_in is_in_file
+  file_kept n = record {
+    allocations = λ words are. record {
+      stand = λ i d within. blocks_stand _ (in_blocks _ (are.here i d within)) ∙ are.stand i d within;
+      here = are.here;
+      apart = are.apart;
+      marks = λ b small. ap (λ (o : Option (List ℕ)). is_block_marked (λ file. o) n b) (block_file n) ∙ are.marks b small;
+      counted = ap (λ (o : Option (List ℕ)). allocations_of (content (unwrap_or o []))) (block_file n) ∙ are.counted;
+    };
+    empty = λ was. subst (λ (o : Option (List ℕ)). EmptyAgrees (λ file. o) n) (sym (block_file n)) was;
+  }
+    where
+      in_blocks : (v : ℕ) → is_in_file n v ≡ true → kind_of v ≢ external
+      in_blocks v t e = let z : (kind_of v == external) ≡ true = grind (arith, nat_tests) in clashes (kind_of v == external) (file_selector v == n) z t
+        where
+          clashes : (a b : Bool) → a ≡ true → (not a && b) ≡ true → ⊥
+          clashes a b e h = let k : false ≡ true = rw e at h in cc
+
+pub freed_file : (w : ℕ) (from image : Image) → kind_of w ≡ external → SameOutside (whole (External (external_number w))) from image → image (External (external_number w)) ≡ None → IsPlaceFreed w from image
+unfolding is_block_of
+freed_file w from image kind same none =
+    let t : (kind_of w == external) ≡ true = grind (arith, nat_tests) in
+    record {
+      same = subst (λ (F : Footprint). SameOutside F from image) (sym (freeing_external w kind)) same;
+      marks = λ n b small. rw t (mark_kept from image n b (same.bytes (Block n) (80 + b / 8) refl));
+      allocations = λ n words are among. subst (AreAllocations image n) (sym (left_elsewhere w n words (in_file_external n w kind))) ((file_kept (external_number w) from image same n).allocations words are);
+      empty = λ n was. (file_kept (external_number w) from image same n).empty was;
+      gone = λ k. ap (λ (o : Option (List ℕ)). is_some o) none;
+    }
+
+-- an external file that is deleted leaves the headers
+pub agrees_deleted : (files : BlockFiles) (a b : Told) (n : ℕ) → AppliesPrefix a b (Delete (External n) ∷ []) → ForSome a.files (Agrees files) → ForSome b.files (Agrees files)
+agrees_deleted files a b n part agrees =
+    told_part (Agrees files) part (λ image there. (agrees image there, kept image (applied (Delete (External n)) image) (outside_step (Delete (External n)) image) (agrees image there)))
+  where
+    kept : (from image : Image) → SameOutside (whole (External n)) from image → Agrees files from → Agrees files image
+    kept from image same was = agrees_still (whole (External n)) from image (whole_spares n) same files (λ m. refl) was

@@ -1,0 +1,18 @@
+use Rattle.std.proofs.Common.{◌≡◌, ℕ, true, false, sym, ◌∙◌, arith}
+use Rattle.blk_stream.proofs.StreamPlaces.{may_both, may_parts, not_stored_by, stored_by_is}
+use Rattle.blk_stream.proofs.places.place_of.Goals as goal
+
+pub returns-then-size-gt-MOST_BYTES-clause-right : goal.returns-then-size-gt-MOST_BYTES-clause-right
+returns-then-size-gt-MOST_BYTES-clause-right c may =
+    let p = may_parts c.args.files.now c.args.size c.args.word may in
+    absurd (omega (arith, p.0, c.if-size-gt-MOST_BYTES.true))
+
+pub returns-in-None-clause-right : goal.returns-in-None-clause-right
+returns-in-None-clause-right c may =
+    let p = may_parts c.args.files.now c.args.size c.args.word may in
+    sym (not_stored_by c.args.files.now c.args.size c.args.word (sym c.storage.ensures ∙ c.in-None.is)) ∙ p.1
+
+pub returns-in-Some-clause-keeps : goal.returns-in-Some-clause-keeps
+returns-in-Some-clause-keeps c =
+    may_both c.args.files.now c.args.size c.args.word (omega (arith, c.if-size-gt-MOST_BYTES.false))
+    (stored_by_is c.args.files.now c.args.size c.args.word c.in-Some.addr (sym c.in-Some.is ∙ c.storage.ensures)).1

@@ -1,0 +1,24 @@
+-- The record names another place for a stream.
+use Rattle.std.specs.Prelude.{ℕ, ◌+◌, List, [], ◌∷◌}
+use Rattle.blk_image.specs.Image.{Block, Image}
+use Rattle.blk_image.specs.Footprint.{Footprint, SameOutside, either, one_word}
+use Rattle.blk_format.specs.Address.{file_selector, place}
+use Rattle.blk_format.specs.Sealed.{RecordChecks}
+use Rattle.blk_stream.specs.Streams.{address_place, size_place}
+
+-- a word of a record
+abbrev pub record_word : ℕ → ℕ → Footprint
+record_word entry at = one_word (Block (file_selector entry)) (place entry + at)
+
+-- of a record the size and the address of a stream, and the seal
+abbrev pub stream_words : ℕ → ℕ → Footprint
+stream_words entry i = either (record_word entry (size_place i)) (either (record_word entry (address_place i)) (record_word entry 92))
+
+-- the two changes of the record
+abbrev pub place_changes : ℕ → ℕ → ℕ → List (ℕ × ℕ)
+place_changes i size word = (size_place i, size) ∷ (address_place i, word) ∷ []
+
+-- while a stream gets other words nothing else differs, and the record checks
+pub record NamesInProgress (entry i : ℕ) (from image : Image) : Type 0 where
+  pub same : SameOutside (stream_words entry i) from image
+  pub checks : RecordChecks entry image

@@ -1,0 +1,34 @@
+-- The place of data is freed.
+use Rattle.std.specs.Prelude.{ℕ, ◌≡◌, ◌≢◌, ◌<◌, ◌==◌, List, Bool, true, false, if◌then◌else◌}
+use Rattle.blk_image.specs.Image.{External, Image, has_file}
+use Rattle.blk_image.specs.Footprint.{Footprint, SameOutside, whole}
+use Rattle.blk_format.specs.Address.{kind_of, external, external_number, file_selector}
+use Rattle.blk_format.specs.BlockFiles.{is_among, most_blocks}
+use Rattle.blk_format.specs.Claims.{is_in_file}
+use Rattle.blk_format.specs.Maps.{AreAllocations, EmptyAgrees, is_block_marked}
+use Rattle.blk_alloc.specs.Changes.{map_of}
+use Rattle.blk_alloc.specs.Owning.{CanBeFreed, is_of, others}
+
+-- where it is one of blocks, an address may be freed
+abbrev pub MayBeFreed : ℕ → Image → Type 0
+MayBeFreed w image = kind_of w ≢ external → CanBeFreed image w
+
+-- what is touched: the file, or the map of the file of the blocks and its counters
+unfoldable pub freeing_of : ℕ → Footprint
+freeing_of w = if kind_of w == external then whole (External (external_number w)) else map_of (file_selector w)
+
+-- whether a block of a file is one of an address of blocks
+unfoldable pub is_block_of : ℕ → ℕ → ℕ → Bool
+is_block_of w n b = if kind_of w == external then false else is_of w n b
+
+-- the allocations of a file that are left of some, once an address is freed
+unfoldable pub left_by : ℕ → ℕ → List ℕ → List ℕ
+left_by w n words = if is_in_file n w then others w words else words
+
+-- the file is gone, or the marks of the blocks are cleared, and no other; the allocations of each file are those before without the address, and nothing else has changed but the counters of its file
+pub record IsPlaceFreed (w : ℕ) (from image : Image) : Type 0 where
+  pub same : SameOutside (freeing_of w) from image
+  pub marks : (n b : ℕ) → b < most_blocks → is_block_marked image n b ≡ (if is_block_of w n b then false else is_block_marked from n b)
+  pub allocations : (n : ℕ) (words : List ℕ) → AreAllocations from n words → (is_in_file n w ≡ true → is_among words w ≡ true) → AreAllocations image n (left_by w n words)
+  pub empty : (n : ℕ) → EmptyAgrees from n → EmptyAgrees image n
+  pub gone : kind_of w ≡ external → has_file image (External (external_number w)) ≡ false

@@ -1,0 +1,4 @@
+pub mod Streams
+pub mod Freeing
+pub mod Changing
+pub mod Dropping

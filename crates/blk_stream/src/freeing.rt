@@ -1,0 +1,52 @@
+// The place of data is freed.
+ghost use Rattle.std.specs.Prelude.{◌≡◌, ◌≢◌, ◌≤◌, false, IsTrue, None, OnErr, OnOk};
+ghost use Rattle.std.specs.Option.{ForSome};
+ghost use Rattle.blk_image.specs.Footprint.{SameOutside};
+ghost use Rattle.blk_image.specs.Told.{Passes, Rises, Stays};
+ghost use Rattle.blk_format.specs.Address.{block_count, external, file_selector, first_block, kind_of};
+ghost use Rattle.blk_io.specs.Faults.{IfDamaged, IfDevice};
+ghost use Rattle.blk_disk.specs.Tables.{Agrees, stands_among};
+ghost use Rattle.blk_alloc.specs.Owning.{IsCause};
+ghost use Rattle.blk_stream.specs.Freeing.{IsPlaceFreed, MayBeFreed, freeing_of};
+
+use crate::places::is_of;
+use blk_addr::{Addr, Kind};
+use blk_disk::BlockFiles;
+use blk_io::{Failed, Fault, Folder};
+
+// Frees the place of data: its blocks, or its file.
+pub(crate) fn free_place<F: Folder>(f: &mut F, files: &BlockFiles, addr: Addr) -> Result<(), Fault>
+    requires stands { kind_of addr ≢ external → IsTrue (stands_among files.now addr) }
+    requires agrees { ForSome (F.told f.old).files (Agrees files.now) }
+    ensures freed { OnOk result (ForSome (F.told f.old).files (λ from. ForSome (F.told f.new).files (IsPlaceFreed addr from))) }
+    ensures stops { ForSome (F.told f.old).files (λ from. Passes (F.told f.old) (F.told f.new) (SameOutside (freeing_of addr) from)) }
+    ensures agrees { ForSome (F.told f.new).files (Agrees files.now) }
+    ensures cause { IfDamaged result (λ damage. (kind_of addr ≢ external) × IsCause (F.told f.old) (file_selector addr) (first_block addr) (block_count addr) false damage) }
+    ensures unwritten { IfDamaged result (λ _. Stays (F.told f.old) (F.told f.new)) }
+    ensures untold { ForSome (F.told f.old).files (MayBeFreed addr) → IfDamaged result (λ _. (F.told f.old).files ≡ None) }
+    ensures silent { (F.told f.old).files ≡ None → (F.told f.new).files ≡ None }
+    ensures later { F.faults f.old ≤ F.faults f.new }
+    ensures device { IfDevice result (Rises (F.faults f.old) (F.faults f.new)) }
+{
+    if is_of(addr, Kind::External) {
+        delete_file(f, files, addr)?;
+        Ok(())
+    } else {
+        blk_alloc::free(f, files, addr)
+    }
+}
+
+// Removes an external file.
+fn delete_file<F: Folder>(f: &mut F, files: &BlockFiles, addr: Addr) -> Result<(), Failed>
+    requires kind { kind_of addr ≡ external }
+    requires agrees { ForSome (F.told f.old).files (Agrees files.now) }
+    ensures freed { OnOk result (ForSome (F.told f.old).files (λ from. ForSome (F.told f.new).files (IsPlaceFreed addr from))) }
+    ensures stops { ForSome (F.told f.old).files (λ from. Passes (F.told f.old) (F.told f.new) (SameOutside (freeing_of addr) from)) }
+    ensures agrees { ForSome (F.told f.new).files (Agrees files.now) }
+    ensures silent { (F.told f.old).files ≡ None → (F.told f.new).files ≡ None }
+    ensures later { F.faults f.old ≤ F.faults f.new }
+    ensures failed { OnErr result (Rises (F.faults f.old) (F.faults f.new)) }
+{
+    let _files = files;
+    blk_external::delete(f, addr)
+}

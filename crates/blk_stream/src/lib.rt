@@ -1,0 +1,10 @@
+//! The streams of entries: each is a list of bytes, in the storage of its length.
+#![tactic(auto)]
+
+mod changing;
+mod dropping;
+mod freeing;
+mod places;
+mod reading;
+
+pub use reading::read;

@@ -1,0 +1,69 @@
+// The bytes of a stream are read.
+ghost use Rattle.std.specs.Prelude.{◌≡◌, ◌≤◌, ◌<◌, min, IfOk, IsTrue, None, OnOk, length};
+ghost use Rattle.std.specs.Option.{ForSome};
+ghost use Rattle.blk_image.specs.Told.{Rises, Stays};
+ghost use Rattle.blk_format.specs.Address.{blocks_256, kind_of};
+ghost use Rattle.blk_volume.specs.Entries.{stream as stream_in};
+ghost use Rattle.blk_io.specs.Faults.{IfDamaged, IfDevice};
+ghost use Rattle.blk_disk.specs.Tables.{stands_among};
+ghost use Rattle.blk_entry.specs.Keys.{HasData, HasRecord, IsPiece};
+ghost use Rattle.blk_stream.specs.Streams.{HasStreamPlace, IsReadDamage, StreamsCanBeRead, address_word, size_word, stream_bytes, streams_at};
+
+use crate::places::place_of;
+use blk_addr::Addr;
+use blk_disk::BlockFiles;
+use blk_entry::{read_data, read_head};
+use blk_io::{Fault, Folder};
+
+/// Copies bytes of a stream into the front of `out`: those from an offset on, as many as there are and
+/// as fit. The number of them is given, which is 0 at or past the stream's end.
+///
+/// One folder call reads the record, and one the bytes, where there are any to be read. A damage is a read
+/// that gave too few bytes, a record that doesn't check, a size above 2147483647, or an address word that is
+/// not the storage of the size or doesn't stand.
+pub fn read<F: Folder>(
+    f: &mut F,
+    files: &BlockFiles,
+    entry: Addr,
+    stream: u8,
+    offset: u64,
+    out: &mut [u8],
+) -> Result<usize, Fault>
+    requires stream { stream < 3 }
+    requires kind { kind_of entry ≡ blocks_256 }
+    requires stands { IsTrue (stands_among files.now entry) }
+    ensures within { IfOk result (λ n. n ≤ length out.old) }
+
+    // A piece of the bytes where the record's words say that the stream lies, and so one of the stream.
+    ensures bytes { IfOk result (λ n. ForSome (F.told f.old).files (λ image. IsPiece (stream_bytes image entry stream) offset out.old out.new n)) }
+    ensures piece { IfOk result (λ n. ForSome (F.told f.old).files (λ image. ForSome (streams_at image entry) (λ streams. IsPiece (stream_in stream streams) offset out.old out.new n))) }
+
+    // The record checks, its words give the stream its storage, and the piece is in the file.
+    ensures checked { OnOk result (ForSome (F.told f.old).files (HasRecord entry)) }
+    ensures placed { OnOk result (ForSome (F.told f.old).files (HasStreamPlace files.now entry stream)) }
+    ensures there { IfOk result (λ n. ForSome (F.told f.old).files (λ image. HasData (address_word image entry stream) (min offset (size_word image entry stream)) n image)) }
+    ensures stays { Stays (F.told f.old) (F.told f.new) }
+
+    // A folder that tells its files gives a damage only where the record doesn't check or has no three streams.
+    ensures damaged { IfDamaged result (IsReadDamage files.now (F.told f.old) entry stream offset (length out.old)) }
+    ensures untold { ForSome (F.told f.old).files (StreamsCanBeRead files.now entry) → IfDamaged result (λ _. (F.told f.old).files ≡ None) }
+
+    ensures later { F.faults f.old ≤ F.faults f.new }
+    ensures device { IfDevice result (Rises (F.faults f.old) (F.faults f.new)) }
+{
+    let head = read_head(f, files, entry)?;
+    let size = head.sizes[usize::from(stream)];
+    let word = head.addrs[usize::from(stream)];
+    let stored = place_of(files, entry, stream, size, word)?;
+    let at = offset.min(u64::from(size)) as u32;
+    let n = ((size - at) as usize).min(out.len());
+    let Some(addr) = stored.addr else {
+        return Ok(0);
+    };
+    if n == 0 {
+        return Ok(0);
+    }
+    let piece = &mut out[..n];
+    read_data(f, files, addr, at, piece)?;
+    Ok(n)
+}
