@@ -1,0 +1,117 @@
+-- What was read are the nodes of the image.
+use Rattle.std.proofs.Common.{◌≡◌, ℕ, ◌+◌, ◌*◌, ◌<◌, ◌≤◌, Bool, true, false, ◌&&◌, List, None, Some, refl, sym, ap, ◌∙◌, arith, if◌then◌else◌}
+use Rattle.std.specs.Prelude.{◌==◌, nat_lt, slice_get, slice_index}
+use Rattle.std.proofs.lemmas.Bool.{eqb-true, eq-eqb}
+use Rattle.blk_image.specs.Bytes.{content, word_at, range_at}
+use Rattle.blk_image.specs.Image.{Block, Image, AreBytes, byte, word}
+use Rattle.blk_format.specs.Address.{is_address, kind_of, file_selector, first_block, rankings, external, place}
+use Rattle.blk_format.specs.Records.{checks, node_in}
+use Rattle.blk_format.specs.Sealed.{record_at}
+use Rattle.blk_format.specs.Standing.{stands}
+use Rattle.blk_format.proofs.Words.{AreFields-of}
+use Rattle.blk_format.proofs.SealedFields.{record_word}
+use Rattle.blk_format.proofs.SealedRecords.{node_bytes}
+use Rattle.blk_volume.specs.View.{stands_as}
+use Rattle.blk_format.specs.BlockFiles.{stands_in}
+use Rattle.std.proofs.lemmas.Bool.Decides.{nat_tests}
+use Rattle.blk_laws.proofs.NodeRecords.{checks_bytes}
+use Rattle.blk_disk.proofs.SealedReads.{record_read}
+use Rattle.blk_disk.specs.declared.tables.BlockFiles.{BlockFiles}
+use Rattle.blk_disk.specs.Tables.{Agrees, stands_among, names_among}
+use Rattle.blk_lru.proofs.NodeWords.{stands_as_node, names_node, node_stands, node_place}
+use Rattle.blk_audit.specs.Filling.{said_by}
+use Rattle.blk_audit.specs.Filled.{IsFilled}
+use Rattle.blk_audit.specs.Nodes.{node_of, node_at, said_at, AreNodesOf}
+use Rattle.blk_audit.specs.Walking.{IsNodeWord}
+use Rattle.blk_audit.specs.declared.nodes.Node.{Node}
+use Rattle.blk_audit.specs.declared.nodes.Nodes.{Nodes}
+use Rattle.blk_audit.proofs.Truths.{both_or_neither}
+use Rattle.blk_audit.proofs.MetNodes.{node_word}
+use Rattle.blk_audit.proofs.Steps.{node_unnamed}
+
+same_fields : (a b : Node) → a.checks ≡ b.checks → a.next ≡ b.next → a.prev ≡ b.prev → a.contents ≡ b.contents → a.dirty ≡ b.dirty → a ≡ b
+same_fields a b c n p x d =
+    ap (λ (v : Bool). record a { checks = v }) c
+    ∙ ap (λ (v : ℕ). record a { checks = b.checks; next = v }) n
+    ∙ ap (λ (v : ℕ). record a { checks = b.checks; next = b.next; prev = v }) p
+    ∙ ap (λ (v : ℕ). record a { checks = b.checks; next = b.next; prev = b.prev; contents = v }) x
+    ∙ ap (λ (v : ℕ). record a { checks = b.checks; next = b.next; prev = b.prev; contents = b.contents; dirty = v }) d
+
+module _ (image : Image) (w : ℕ) (small : AreBytes image) (kind : kind_of w ≡ rankings) where
+  bytes : List ℕ
+  bytes = range_at (byte image (Block (file_selector w))) (8192 + first_block w * 36) 36
+
+  at_place : 8192 + first_block w * 36 ≡ place w + 0
+  at_place =
+      let blocky : (kind_of w == external) ≡ false = rw kind refl in
+      let there = node_place w (first_block w) kind (sym (ap (λ (t : Bool). if t then 0 else first_block w) blocky)) in omega (arith, there)
+
+  bytes_are : bytes ≡ record_at image w
+  unfolding bytes
+  bytes_are = record_read image w 36 bytes (sym (node_bytes w kind)) (ap (λ (at : ℕ). range_at (byte image (Block (file_selector w))) at 36) at_place)
+
+  word_is : (q : ℕ) → q + 4 ≤ 36 → word_at (content bytes) q ≡ word image (Block (file_selector w)) (place w + q)
+  word_is q inside = ap (λ (b : List ℕ). word_at (content b) q) bytes_are ∙ record_word image w q (let size = node_bytes w kind in omega (arith, size, inside))
+
+  said_is : said_by (range_at (byte image (Block (file_selector w))) (8192 + first_block w * 36) 36) ≡ said_at image w
+  unfolding bytes node_in
+  said_is =
+      same_fields (said_by bytes) (said_at image w)
+      (sym (checks_bytes image w small kind ∙ ap (checks 32) (sym bytes_are)))
+      (word_is 16 (omega arith)) (word_is 20 (omega arith)) (word_is 24 (omega arith)) (word_is 28 (omega arith))
+
+module _ (files : BlockFiles) (image : Image) (nodes : Nodes) (agrees : Agrees files image) (small : AreBytes image) (filled : (n : ℕ) → n < 256 → IsFilled files image nodes n) where
+  no_address : (w : ℕ) → is_address w ≡ false → stands_as image rankings w ≡ false
+  unfolding stands
+  no_address w e = rw e refl
+
+  and_none : (a : Bool) → (a && false) ≡ false
+  and_none true = refl
+  and_none false = refl
+
+  no_node : (w : ℕ) → (kind_of w == rankings) ≡ false → node_at nodes w ≡ None
+  unfolding node_at node_of
+  no_node w e = by (is_address w) refl
+    where
+      by : (t : Bool) → is_address w ≡ t → node_at nodes w ≡ None
+      by true a = rw (a, e) refl
+      by false a = rw a refl
+
+  is_there : (w : ℕ) → IsNodeWord w → stands_as image rankings w ≡ stands_among files w
+  unfolding names_among
+  is_there w is =
+      both_or_neither (stands_as image rankings w) (stands_among files w)
+      (λ st. node_stands files w (names_node files image agrees w st))
+      (λ st. stands_as_node files image agrees w (let k = eq-eqb (kind_of w) rankings is.kind in rw (is.address, k, st) refl))
+
+  counted : (w : ℕ) → IsNodeWord w → stands_as image rankings w ≡ nat_lt (first_block w) (slice_index nodes.counts (file_selector w))
+  counted w is = is_there w is ∙ ap (stands_among files) (sym (node_word w is)) ∙ (filled (file_selector w) (AreFields-of w).file).count (first_block w) (AreFields-of w).start
+
+  opened : (w : ℕ) → IsNodeWord w → node_at nodes w ≡ (if nat_lt (first_block w) (slice_index nodes.counts (file_selector w)) then slice_get nodes.nodes.items (slice_index nodes.begins (file_selector w) + first_block w) else None)
+  unfolding node_at node_of
+  opened w is = let k = eq-eqb (kind_of w) rankings is.kind in rw (is.address, k) refl
+
+  below : (a b : ℕ) → nat_lt a b ≡ true → a < b
+  below a b e = grind (arith, nat_tests)
+
+  at_node : (w : ℕ) → IsNodeWord w → (t : Bool) → nat_lt (first_block w) (slice_index nodes.counts (file_selector w)) ≡ t → node_at nodes w ≡ (if stands_as image rankings w then Some (said_at image w) else None)
+  at_node w is true e =
+      opened w is ∙ ap (λ (t : Bool). if t then slice_get nodes.nodes.items (slice_index nodes.begins (file_selector w) + first_block w) else None) e
+      ∙ (filled (file_selector w) (AreFields-of w).file).some (first_block w) (below (first_block w) (slice_index nodes.counts (file_selector w)) e)
+      ∙ ap (λ (s : Node). Some s) (said_is image w small is.kind)
+      ∙ sym (ap (λ (t : Bool). if t then Some (said_at image w) else None) (counted w is ∙ e))
+  at_node w is false e =
+      opened w is ∙ ap (λ (t : Bool). if t then slice_get nodes.nodes.items (slice_index nodes.begins (file_selector w) + first_block w) else None) e
+      ∙ sym (ap (λ (t : Bool). if t then Some (said_at image w) else None) (counted w is ∙ e))
+
+  by_kind : (w : ℕ) → is_address w ≡ true → (t : Bool) → (kind_of w == rankings) ≡ t → node_at nodes w ≡ (if stands_as image rankings w then Some (said_at image w) else None)
+  by_kind w address true e = at_node w (record { address = address; kind = eqb-true (kind_of w) rankings e }) (nat_lt (first_block w) (slice_index nodes.counts (file_selector w))) refl
+  by_kind w address false e =
+      no_node w e ∙ sym (ap (λ (t : Bool). if t then Some (said_at image w) else None) (ap (λ (t : Bool). stands_in image w && t) e ∙ and_none (stands_in image w)))
+
+  by_address : (w : ℕ) (t : Bool) → is_address w ≡ t → node_at nodes w ≡ (if stands_as image rankings w then Some (said_at image w) else None)
+  by_address w true e = by_kind w e (kind_of w == rankings) refl
+  by_address w false e = node_unnamed nodes w e ∙ sym (ap (λ (t : Bool). if t then Some (said_at image w) else None) (no_address w e))
+
+  pub are_nodes : AreNodesOf image nodes
+  are_nodes = record { each = λ w. by_address w (is_address w) refl }

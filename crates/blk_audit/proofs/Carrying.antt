@@ -1,0 +1,50 @@
+-- Faults that `?` hands on, and reads that can't give too few bytes.
+use Rattle.std.proofs.Common.{◌≡◌, ℕ, ◌+◌, ◌≤◌, None, Result, Ok, Err, sym, subst}
+use Rattle.std.specs.Prelude.{IsErrAnd}
+use Rattle.std.specs.Option.{ForSome}
+use Rattle.blk_image.specs.Image.{length_of}
+use Rattle.blk_image.specs.Told.{Told}
+use Rattle.blk_io.specs.declared.folder.FileId.{FileId}
+use Rattle.blk_io.specs.declared.fault.Damage.{Damage}
+use Rattle.blk_io.specs.declared.fault.Fault.{Fault}
+use Rattle.blk_io.specs.declared.fault.Fault.TheVariants as fault
+use Rattle.blk_io.specs.FileNames.{file_of}
+use Rattle.blk_io.specs.Faults.{IfDamaged, IsShort}
+use Rattle.blk_io.proofs.Shorts.{untold_if}
+use Rattle.blk_audit.specs.declared.fault.ScanFault.{ScanFault}
+use Rattle.blk_audit.specs.declared.fault.ScanFault.TheVariants.{Device, Damaged, Memory}
+use Rattle.blk_audit.specs.Faults.{IfScanDamaged, scan_fault}
+
+-- a fault of a call on a folder becomes one of the scan
+pub converted : {A B : Type 0} (r : Result A Fault) (q : Result B ScanFault) (e : Fault) (P : Damage → Type 0) → r ≡ Err e → IsErrAnd q (λ (x : ScanFault). x ≡ scan_fault e) → IfDamaged r P → IfScanDamaged q P
+converted {A} {B} r (Ok b) e P is same holds = tt
+converted {A} {B} r (Err x) e P is same holds =
+    let at : IfDamaged {A = A} (Err e) P = subst (λ (s : Result A Fault). IfDamaged s P) is holds in
+    subst (λ (y : ScanFault). IfScanDamaged {A = B} (Err y) P) (sym same) (of_fault e at)
+  where
+    of_fault : (e : Fault) → IfDamaged {A = A} (Err e) P → IfScanDamaged {A = B} (Err (scan_fault e)) P
+    of_fault fault.Device at = tt
+    of_fault (fault.Damaged damage) at = at
+
+-- a fault of the scan is handed on
+pub carried : {A B : Type 0} (r : Result A ScanFault) (q : Result B ScanFault) (e : ScanFault) (P : Damage → Type 0) → r ≡ Err e → IsErrAnd q (λ (x : ScanFault). x ≡ e) → IfScanDamaged r P → IfScanDamaged q P
+carried {A} {B} r (Ok b) e P is same holds = tt
+carried {A} {B} r (Err x) e P is same holds =
+    let at : IfScanDamaged {A = A} (Err e) P = subst (λ (s : Result A ScanFault). IfScanDamaged s P) is holds in
+    subst (λ (y : ScanFault). IfScanDamaged {A = B} (Err y) P) (sym same) (of_fault e at)
+  where
+    of_fault : (e : ScanFault) → IfScanDamaged {A = A} (Err e) P → IfScanDamaged {A = B} (Err e) P
+    of_fault Device at = tt
+    of_fault (Damaged damage) at = at
+    of_fault Memory at = tt
+
+-- what a damage says, from what it says
+pub weaker : {A : Type 0} (r : Result A ScanFault) (P Q : Damage → Type 0) → ((damage : Damage) → P damage → Q damage) → IfScanDamaged r P → IfScanDamaged r Q
+weaker {A} (Ok a) P Q by holds = tt
+weaker {A} (Err Device) P Q by holds = tt
+weaker {A} (Err (Damaged damage)) P Q by holds = by damage holds
+weaker {A} (Err Memory) P Q by holds = tt
+
+-- where the file has what was asked, only a folder that tells nothing gives too few bytes
+pub untold_piece : {A : Type 0} (r : Result A Fault) (old new : Told) (file : FileId) (place count : ℕ) → new ≡ old → IfDamaged r (IsShort old file place count) → ForSome new.files (λ image. place + count ≤ length_of image (file_of file)) → IfDamaged r (λ _. new.files ≡ None)
+untold_piece r old new file place count stays short inside = untold_if r new file place count (subst (λ (t : Told). IfDamaged r (IsShort t file place count)) (sym stays) short) inside

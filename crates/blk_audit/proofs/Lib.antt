@@ -1,0 +1,11 @@
+pub mod Carrying
+pub mod AllNodes
+pub mod Fills
+pub mod Firsts
+pub mod Pieces
+pub mod Steps
+pub mod Written
+pub mod MetNodes
+pub mod Truths
+pub mod Walks
+pub mod Completed

@@ -1,0 +1,19 @@
+use Rattle.std.proofs.Common.{◌≡◌, ℕ, ◌+◌, ◌*◌, ◌++◌, List, ap, ◌∙◌, arith}
+use Rattle.blk_image.specs.Image.{Block, byte}
+use Rattle.blk_io.specs.declared.folder.FileId.TheVariants as names
+use Rattle.blk_audit.specs.declared.nodes.Node.{Node}
+use Rattle.blk_audit.proofs.Carrying.{converted, untold_piece}
+use Rattle.blk_audit.proofs.Pieces.{are_read}
+use Rattle.blk_audit.proofs.filling.read_piece.Goals as goal
+
+pub returns-in_err-read_exact-clause-untold : goal.returns-in_err-read_exact-clause-untold
+returns-in_err-read_exact-clause-untold g c inside =
+    converted c.read_exact.result c.from_residual.result c.in_err-read_exact.field-0.0 _ c.in_err-read_exact.was c.from_residual.ensures.1
+    (untold_piece c.read_exact.result (g.F.Folder.told c.args.f.now) (g.F.Folder.told c.read_exact.new.f) (names.Block c.args.file) _ _ c.read_exact.ensures.stays c.read_exact.ensures.short
+    (λ image there. let h = inside image there in omega (arith, h, c.from.ensures, c.requires.size)))
+
+pub returns-clause-nodes : goal.returns-clause-nodes
+returns-clause-nodes g c image there =
+    let place : 8192 + c.from.result * 36 ≡ 8192 + c.args.first * 36 = ap (λ (n : ℕ). 8192 + n * 36) c.from.ensures in
+    c.in_ok-add_nodes.ensures
+    ∙ ap (λ (t : List Node). c.args.nodes.now.items ++ t) (are_read (byte image (Block c.args.file)) c.read_exact.new.out c.args.bytes.now (8192 + c.from.result * 36) (8192 + c.args.first * 36) c.args.count (c.in_ok-read_exact.ensures.bytes image there) c.requires.size place)

@@ -1,0 +1,47 @@
+-- The answers of calls that read, check and take memory.
+use Rattle.std.specs.Prelude.{ℕ, ◌⊎◌, ◌+◌, ◌*◌, Result, Ok, Err}
+use Rattle.blk_image.specs.Told.{Told}
+use Rattle.blk_record.specs.declared.index_head.TheConstants.IndexHead as IndexHead
+use Rattle.blk_io.specs.declared.folder.FileId.TheVariants as names
+use Rattle.blk_io.specs.declared.fault.Damage.{Damage}
+use Rattle.blk_io.specs.declared.fault.Fault.{Fault}
+use Rattle.blk_io.specs.declared.fault.Fault.TheVariants as fault
+use Rattle.blk_io.specs.Faults.{IsShort}
+use Rattle.blk_disk.specs.declared.tables.BlockFiles.{BlockFiles}
+use Rattle.blk_lru.specs.Damages.{IsCompletingDamage}
+use Rattle.blk_audit.specs.declared.fault.ScanFault.{ScanFault}
+use Rattle.blk_audit.specs.declared.fault.ScanFault.TheVariants.{Device, Damaged, Memory}
+
+-- the fault of a call on a folder, as one of the scan
+abbrev pub scan_fault : Fault → ScanFault
+scan_fault fault.Device = Device
+scan_fault (fault.Damaged damage) = Damaged damage
+
+-- where the answer is a damage, the damage is so
+abbrev pub IfScanDamaged : {A : Type 0} → Result A ScanFault → (Damage → Type 0) → Type 0
+IfScanDamaged (Ok a) P = Unit {0}
+IfScanDamaged (Err Device) P = Unit {0}
+IfScanDamaged (Err (Damaged damage)) P = P damage
+IfScanDamaged (Err Memory) P = Unit {0}
+
+-- where the answer is that the device failed, this holds
+abbrev pub IfScanDevice : {A : Type 0} → Result A ScanFault → Type 0 → Type 0
+IfScanDevice (Ok a) P = Unit {0}
+IfScanDevice (Err Device) P = P
+IfScanDevice (Err (Damaged damage)) P = Unit {0}
+IfScanDevice (Err Memory) P = Unit {0}
+
+-- neighbouring nodes of a file were read, from one on: their bytes are too few
+pub record IsShortOfNodes (told : Told) (file : ℕ) (damage : Damage) : Type 0 where
+  pub first : ℕ
+  pub count : ℕ
+  pub short : IsShort told (names.Block file) (8192 + first * 36) (36 * count) damage
+
+-- so it was in some file
+pub record IsNodesDamage (told : Told) (damage : Damage) : Type 0 where
+  pub file : ℕ
+  pub short : IsShortOfNodes told file damage
+
+-- a walk was damaged at the head, at a word or a node of the operation in flight, or at nodes that stand
+abbrev pub IsWalkDamage : BlockFiles → Told → Damage → Type 0
+IsWalkDamage files told damage = IsShort told names.Index IndexHead.HEADS 4 damage ⊎ (IsCompletingDamage files told damage ⊎ IsNodesDamage told damage)

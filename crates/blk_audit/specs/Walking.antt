@@ -1,0 +1,46 @@
+-- A walk as it goes.
+use Rattle.std.specs.Prelude.{ℕ, suc, ◌≡◌, Bool, true, false, List, [], ◌∷◌, ◌++◌}
+use Rattle.std.specs.declared.option.Option.{Option}
+use Rattle.std.specs.declared.option.Option.TheVariants.{None, Some}
+use Rattle.blk_addr.specs.Claims.{IsClaimsOf}
+use Rattle.blk_format.specs.Address.{is_address, kind_of, rankings}
+use Rattle.blk_format.specs.BlockFiles.{is_among}
+use Rattle.blk_volume.specs.ListView.{ListView}
+use Rattle.blk_volume.specs.Walk.{walk_from}
+use Rattle.blk_audit.specs.declared.list_walk.Walked.{Walked}
+use Rattle.blk_audit.specs.declared.list_walk.Link.{Link}
+use Rattle.blk_audit.specs.declared.list_walk.Standing.{Standing}
+use Rattle.blk_audit.specs.declared.nodes.Nodes.{Nodes}
+use Rattle.blk_audit.specs.Nodes.{node_at}
+
+-- the walked nodes, in order
+abbrev pub nodes_of : Walked → List ℕ
+nodes_of walk = walk.nodes.items
+
+-- a word is the address of a node
+pub record IsNodeWord (w : ℕ) : Type 0 where
+  pub address : is_address w ≡ true
+  pub kind : kind_of w ≡ rankings
+
+-- the walked nodes are those that were met
+pub record AreMet (walk : Walked) : Type 0 where
+  pub claims : IsClaimsOf walk.met walk.nodes.items
+  pub nodes : (w : ℕ) → is_among walk.nodes.items w ≡ true → IsNodeWord w
+
+-- a step of a walk: it ends with what is walked from the word on, or it goes on behind the node of the word
+abbrev pub IsStep : ListView → List ℕ → Link → List ℕ → Option Link → Type 0
+IsStep list old link new None = (most : ℕ) → new ≡ old ++ walk_from list.checks list.next list.prev (suc most) old link.before link.word
+IsStep list old link new (Some next) =
+    (new ≡ old ++ link.word ∷ [])
+    × ((most : ℕ) → walk_from list.checks list.next list.prev (suc most) old link.before link.word ≡ link.word ∷ walk_from list.checks list.next list.prev most new next.before next.word)
+
+-- a node stands at the address that a word is
+pub record IsStanding (nodes : Nodes) (w : ℕ) (found : Standing) : Type 0 where
+  pub addr : found.addr ≡ w
+  pub node : node_at nodes w ≡ Some found.node
+  pub is : IsNodeWord w
+
+-- a node was added to these, or it was among them
+abbrev pub IsAdded : List ℕ → ℕ → List ℕ → Bool → Type 0
+IsAdded old node new true = (is_among old node ≡ false) × (new ≡ old ++ node ∷ [])
+IsAdded old node new false = (is_among old node ≡ true) × (new ≡ old)

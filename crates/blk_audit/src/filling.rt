@@ -1,0 +1,105 @@
+// Nodes that are read side by side, many by one folder call.
+ghost use Rattle.std.specs.Prelude.{◌≡◌, ◌+◌, ◌*◌, ◌≤◌, ◌<◌, ◌++◌, length, None, OnOk};
+ghost use Rattle.std.specs.Option.{ForSome};
+ghost use Rattle.blk_image.specs.Image.{Block as block, HasRange, byte};
+ghost use Rattle.blk_image.specs.Told.{Rises, Stays};
+ghost use Rattle.blk_audit.specs.Faults.{IfScanDamaged, IfScanDevice, IsShortOfNodes};
+ghost use Rattle.blk_audit.specs.Filling.{said_by, nodes_in, nodes_from};
+
+use crate::fault::ScanFault;
+use crate::nodes::Node;
+use blk_addr::NoMemory;
+use blk_io::{FileId, Folder, read_exact};
+use blk_record::{BlockHead, NodeView, Record};
+
+// The most nodes that are read by one call.
+const NODES_OF_PIECE: usize = 1024;
+
+// What a node with these bytes says.
+fn said(window: &[u8]) -> Node
+    requires { length window.now ≡ 36 }
+    ensures { result ≡ said_by window.now }
+{
+    let Some(view) = NodeView::over(window) else {
+        unreachable!();
+    };
+    Node {
+        checks: view.checks(),
+        next: view.word(16),
+        prev: view.word(20),
+        contents: view.word(24),
+        dirty: view.word(28),
+    }
+}
+
+// Adds so many nodes with these bytes.
+fn add_nodes(nodes: &mut Vec<Node>, bytes: &[u8], count: usize) -> Result<(), NoMemory>
+    requires { length bytes.now ≡ 36 * count }
+    ensures { OnOk result (nodes.new.items ≡ nodes.old.items ++ nodes_in bytes.now count) }
+{
+    for i in 0..count {
+        let window = &bytes[NodeView::SIZE * i..NodeView::SIZE * i + NodeView::SIZE];
+        nodes.push(said(window))?;
+    }
+    Ok(())
+}
+
+// Reads so many nodes of a file from one on into a buffer of their size, by one folder call, and adds them.
+fn read_piece<F: Folder>(
+    f: &mut F,
+    file: u8,
+    first: u32,
+    count: usize,
+    bytes: &mut [u8],
+    nodes: &mut Vec<Node>,
+) -> Result<(), ScanFault>
+    requires few { count ≤ 1024 }
+    requires size { length bytes.old ≡ 36 * count }
+    ensures nodes { OnOk result (ForSome (F.told f.old).files (λ image. nodes.new.items ≡ nodes.old.items ++ nodes_from (byte image (block file)) (8192 + first * 36) count)) }
+    ensures stays { Stays (F.told f.old) (F.told f.new) }
+    ensures damaged { IfScanDamaged result (IsShortOfNodes (F.told f.new) file) }
+    ensures untold { ForSome (F.told f.new).files (λ image. HasRange image (block file) (8192 + first * 36) (36 * count)) → IfScanDamaged result (λ _. (F.told f.new).files ≡ None) }
+    ensures later { F.faults f.old ≤ F.faults f.new }
+    ensures device { IfScanDevice result (Rises (F.faults f.old) (F.faults f.new)) }
+{
+    let at = BlockHead::HEADER_LEN + u64::from(first) * NodeView::SIZE as u64;
+    read_exact(f, FileId::Block(file), at, bytes)?;
+    add_nodes(nodes, bytes, count)?;
+    Ok(())
+}
+
+// Reads the first nodes of a file, piece after piece, and adds them.
+pub(crate) fn read_file<F: Folder>(
+    f: &mut F,
+    file: u8,
+    count: u32,
+    nodes: &mut Vec<Node>,
+) -> Result<(), ScanFault>
+    requires few { count ≤ 65536 }
+    ensures nodes { OnOk result (ForSome (F.told f.old).files (λ image. nodes.new.items ≡ nodes.old.items ++ nodes_from (byte image (block file)) 8192 count)) }
+    ensures stays { Stays (F.told f.old) (F.told f.new) }
+    ensures damaged { IfScanDamaged result (IsShortOfNodes (F.told f.new) file) }
+    ensures untold { ForSome (F.told f.new).files (λ image. 0 < count → HasRange image (block file) 8192 (36 * count)) → IfScanDamaged result (λ _. (F.told f.new).files ≡ None) }
+    ensures later { F.faults f.old ≤ F.faults f.new }
+    ensures device { IfScanDevice result (Rises (F.faults f.old) (F.faults f.new)) }
+{
+    let mut buffer = [0u8; NodeView::SIZE * NODES_OF_PIECE];
+    let mut first: u32 = 0;
+    while first < count {
+        let piece = piece_from(first, count);
+        let bytes = &mut buffer[..NodeView::SIZE * piece as usize];
+        read_piece(f, file, first, piece as usize, bytes, nodes)?;
+        first += piece;
+    }
+    Ok(())
+}
+
+// The number of nodes that are read from one on.
+fn piece_from(first: u32, count: u32) -> u32
+    requires { first < count }
+    ensures some { 0 < result }
+    ensures most { result ≤ 1024 }
+    ensures within { first + result ≤ count }
+{
+    (count - first).min(NODES_OF_PIECE as u32)
+}

@@ -1,0 +1,153 @@
+// The walk of the use list.
+ghost use Rattle.std.specs.Prelude.{◌≡◌, ℕ, IfOk, OnOk, MatchOption, None, length, map, slice_get};
+ghost use Rattle.blk_volume.specs.ListView.{after_writes};
+ghost use Rattle.blk_volume.specs.Walk as walking;
+ghost use Rattle.blk_lru.specs.Writes.{meant};
+ghost use Rattle.blk_volume.specs.ListPlans.{completion_writes};
+ghost use Rattle.blk_image.specs.Image.{Image};
+ghost use Rattle.blk_volume.specs.View.{list_of};
+ghost use Rattle.blk_volume.specs.ListImages.{completed_walk};
+ghost use Rattle.blk_audit.specs.Nodes.{list_in, node_at, AreNodesOf};
+ghost use Rattle.blk_audit.specs.Walking.{AreMet, IsAdded, IsNodeWord, IsStanding, IsStep};
+
+use crate::changes::{head_after, next_after, prev_after};
+use crate::nodes::{Node, Nodes};
+use blk_addr::{Addr, Claims, NoMemory};
+use blk_lru::Write;
+use std::alloc::Global;
+
+// The most nodes that are walked.
+const MOST_NODES: u32 = 131_072;
+
+/// The walked nodes of a use list, in its order: no node stands twice, and there are at most 131072.
+#[derive(Drop)]
+pub struct Walked {
+    nodes: Vec<Addr>,
+    met: Claims,
+}
+
+// Where a walk stands: at a word, behind the node before it.
+#[derive(Clone, Copy, Debug)]
+struct Link {
+    word: u32,
+    before: u32,
+}
+
+// A node and its address.
+#[derive(Clone, Copy, Debug)]
+struct Standing {
+    addr: Addr,
+    node: Node,
+}
+
+// Walks the use list with this head after these writes.
+pub(crate) fn walk_nodes(
+    alloc: Global,
+    nodes: &Nodes,
+    head: u32,
+    writes: &[Write],
+) -> Result<Walked, NoMemory>
+    ensures walked { IfOk result (λ walk. walk.nodes.items ≡ walking.walk (after_writes (map meant writes.now) (list_in nodes.now head))) }
+    ensures met { IfOk result AreMet }
+
+    // With the nodes of a folder, its head and what completing would write, it is the walk that completing leaves.
+    ensures completed { (image : Image) → AreNodesOf image nodes.now → head ≡ (list_of image).head → map meant writes.now ≡ completion_writes (list_of image) → IfOk result (λ walk. walk.nodes.items ≡ completed_walk image) }
+{
+    let mut walk = Walked {
+        nodes: Vec::new(alloc),
+        met: Claims::new(alloc),
+    };
+    let first = head_after(writes, head);
+    let mut link = Link {
+        word: first,
+        before: first,
+    };
+    for i in 0..MOST_NODES {
+        match visit(nodes, writes, &mut walk, link)? {
+            Some(next) => link = next,
+            None => return Ok(walk),
+        }
+    }
+    Ok(walk)
+}
+
+// Walks the node of a word, where one stands that checks, was not met, and has the node before it as its prev.
+// Gives where the walk goes on.
+fn visit(
+    nodes: &Nodes,
+    writes: &[Write],
+    walk: &mut Walked,
+    link: Link,
+) -> Result<Option<Link>, NoMemory>
+    requires met { AreMet walk.old }
+    ensures met { OnOk result (AreMet walk.new) }
+    ensures step { IfOk result (λ next. (head : ℕ) → IsStep (after_writes (map meant writes.now) (list_in nodes.now head)) walk.old.nodes.items link walk.new.nodes.items next) }
+{
+    let Some(here) = node_named(nodes, link.word) else {
+        return Ok(None);
+    };
+    if !here.node.checks {
+        return Ok(None);
+    }
+    let before = prev_after(writes, link.word, here.node.prev);
+    if before != link.before {
+        return Ok(None);
+    }
+    let added = walk.add(here.addr)?;
+    if !added {
+        return Ok(None);
+    }
+    let next = next_after(writes, link.word, here.node.next);
+    if next == link.word {
+        return Ok(None);
+    }
+    Ok(Some(Link {
+        word: next,
+        before: link.word,
+    }))
+}
+
+// The node that a word names, if one stands there.
+fn node_named(nodes: &Nodes, word: u32) -> Option<Standing>
+    ensures { MatchOption result (node_at nodes.now word ≡ None) (IsStanding nodes.now word) }
+{
+    let Some(addr) = Addr::from_word(word) else {
+        return None;
+    };
+    let Some(node) = nodes.get(addr) else {
+        return None;
+    };
+    Some(Standing { addr, node })
+}
+
+impl Walked {
+    ghost use Rattle.blk_audit.specs.Walking.{nodes_of};
+
+    /// The number of walked nodes.
+    pub fn count(&self) -> usize
+        ensures { result ≡ length (nodes_of self.now) }
+    {
+        self.nodes.len()
+    }
+
+    /// The address of one of the walked nodes, counted from 0.
+    pub fn at(&self, i: usize) -> Option<Addr>
+        ensures { result ≡ slice_get (nodes_of self.now) i }
+    {
+        self.nodes.get(i).copied()
+    }
+
+    // Adds a node, unless it was met. Gives whether it was added.
+    fn add(&mut self, addr: Addr) -> Result<bool, NoMemory>
+        requires met { AreMet self.old }
+        requires node { IsNodeWord addr }
+        ensures met { OnOk result (AreMet self.new) }
+        ensures added { IfOk result (λ added. IsAdded self.old.nodes.items addr self.new.nodes.items added) }
+    {
+        let added = self.met.add(addr)?;
+        if added {
+            self.nodes.push(addr)?;
+        }
+        Ok(added)
+    }
+}

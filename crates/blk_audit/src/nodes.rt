@@ -1,0 +1,108 @@
+// The nodes of a folder, as they were read.
+ghost use Rattle.std.specs.Prelude.{◌≡◌, ◌≢◌, ℕ, ◌<◌, ◌≤◌, ◌==◌, if◌then◌else◌, None, Some, IfSome, OnOk, length};
+ghost use Rattle.std.specs.Option.{ForSome};
+ghost use Rattle.blk_image.specs.Told.{Rises, Stays};
+ghost use Rattle.blk_disk.specs.Tables.{Agrees};
+ghost use Rattle.blk_audit.specs.Faults.{IfScanDamaged, IfScanDevice, IsNodesDamage};
+ghost use Rattle.blk_format.specs.Address.{file_selector, kind_of, rankings};
+
+use crate::counting::count_there;
+use crate::fault::ScanFault;
+use crate::filling::read_file;
+use blk_addr::{Addr, FileId, Kind};
+use blk_disk::BlockFiles;
+use blk_io::Folder;
+use std::alloc::Global;
+
+// The numbers of block files.
+const FILES: usize = 256;
+
+// What a node says, and whether it checks.
+#[derive(Clone, Copy, Debug)]
+pub(crate) struct Node {
+    pub(crate) checks: bool,
+    pub(crate) next: u32,
+    pub(crate) prev: u32,
+    pub(crate) contents: u32,
+    pub(crate) dirty: u32,
+}
+
+// The nodes of the linked files, file after file: where those of each file begin, and how many there are.
+#[derive(Drop)]
+pub(crate) struct Nodes {
+    begins: [u32; FILES],
+    counts: [u32; FILES],
+    nodes: Vec<Node>,
+    ghost all_begins: { length begins ≡ 256 },
+    ghost all_counts: { length counts ≡ 256 },
+}
+
+impl Nodes {
+    ghost use Rattle.blk_audit.specs.Filled.{IsFilled};
+    ghost use Rattle.blk_audit.specs.Nodes.{node_of};
+
+    // No nodes.
+    pub(crate) fn none(alloc: Global) -> Nodes {
+        Nodes {
+            begins: [0; FILES],
+            counts: [0; FILES],
+            nodes: Vec::new(alloc),
+        }
+    }
+
+    // Reads the nodes of a file, and adds them.
+    pub(crate) fn add_file<F: Folder>(
+        &mut self,
+        f: &mut F,
+        files: &BlockFiles,
+        file: u8,
+    ) -> Result<(), ScanFault>
+        ensures here { OnOk result (ForSome (F.told f.old).files (λ image. IsFilled files.now image self.new file)) }
+        ensures others { OnOk result (ForSome (F.told f.old).files (λ image. (n : ℕ) → n ≢ file → IsFilled files.now image self.old n → IsFilled files.now image self.new n)) }
+        ensures stays { Stays (F.told f.old) (F.told f.new) }
+        ensures damaged { IfScanDamaged result (IsNodesDamage (F.told f.new)) }
+        ensures untold { ForSome (F.told f.new).files (Agrees files.now) → IfScanDamaged result (λ _. (F.told f.new).files ≡ None) }
+        ensures later { F.faults f.old ≤ F.faults f.new }
+        ensures device { IfScanDevice result (Rises (F.faults f.old) (F.faults f.new)) }
+    {
+        let count = count_there(files, file);
+        let Ok(begin) = u32::try_from(self.nodes.as_slice().len()) else {
+            return Err(ScanFault::Memory);
+        };
+        read_file(f, file, count, &mut self.nodes)?;
+        self.begins[usize::from(file)] = begin;
+        self.counts[usize::from(file)] = count;
+        Ok(())
+    }
+
+    // The node at an address, if one stands there.
+    #[tactic(auto, using(std::proofs::lemmas::Bool::Decides::nat_tests), unfolding(crate::specs::Nodes::node_of))]
+    pub(crate) fn get(&self, addr: Addr) -> Option<Node>
+        ensures { result ≡ node_of self.now addr }
+    {
+        let Some(file) = file_of_node(addr) else {
+            return None;
+        };
+        let start = addr.start();
+        if start >= self.counts[file] {
+            return None;
+        }
+        let begin = self.begins[file] as usize;
+        self.nodes.get(begin + start as usize).copied()
+    }
+}
+
+// The number of the file of an address, where it is that of a node.
+#[tactic(auto, using(std::proofs::lemmas::Bool::Decides::nat_tests), unfolding(blk_addr::specs::FileId::file_of_word))]
+fn file_of_node(addr: Addr) -> Option<usize>
+    ensures file { result ≡ (if kind_of addr == rankings then Some (file_selector addr) else None) }
+    ensures small { IfSome result (λ file. file < 256) }
+{
+    if addr.kind() != Kind::Rankings {
+        return None;
+    }
+    match addr.file() {
+        FileId::Block(file) => Some(usize::from(file)),
+        _ => None,
+    }
+}

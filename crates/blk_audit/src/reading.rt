@@ -1,0 +1,34 @@
+// All nodes of a folder.
+ghost use Rattle.std.specs.Prelude.{◌≡◌, ◌≤◌, None, IfOk};
+ghost use Rattle.std.specs.Option.{ForSome};
+ghost use Rattle.blk_image.specs.Told.{Rises, Stays};
+ghost use Rattle.blk_audit.specs.Faults.{IfScanDamaged, IfScanDevice, IsNodesDamage};
+ghost use Rattle.blk_disk.specs.Tables.{Agrees};
+ghost use Rattle.blk_audit.specs.Nodes.{AreNodesOf};
+
+use crate::fault::ScanFault;
+use crate::nodes::Nodes;
+use blk_disk::BlockFiles;
+use blk_io::Folder;
+use std::alloc::Global;
+
+// Reads the nodes that stand, file after file, each file in pieces.
+pub(crate) fn read_nodes<F: Folder>(
+    alloc: Global,
+    f: &mut F,
+    files: &BlockFiles,
+) -> Result<Nodes, ScanFault>
+    requires agrees { ForSome (F.told f.old).files (Agrees files.now) }
+    ensures nodes { IfOk result (λ nodes. ForSome (F.told f.old).files (λ image. AreNodesOf image nodes)) }
+    ensures stays { Stays (F.told f.old) (F.told f.new) }
+    ensures damaged { IfScanDamaged result (IsNodesDamage (F.told f.new)) }
+    ensures untold { IfScanDamaged result (λ _. (F.told f.old).files ≡ None) }
+    ensures later { F.faults f.old ≤ F.faults f.new }
+    ensures device { IfScanDevice result (Rises (F.faults f.old) (F.faults f.new)) }
+{
+    let mut nodes = Nodes::none(alloc);
+    for n in 0..256u32 {
+        nodes.add_file(f, files, n as u8)?;
+    }
+    Ok(nodes)
+}

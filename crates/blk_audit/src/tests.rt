@@ -1,0 +1,72 @@
+// The walk of a small folder in memory that tells nothing.
+use crate::{Walked, walk};
+use blk_disk::BlockFiles;
+use blk_io::{Failed, FileId, Folder, MemFolder, SilentFolder, StopFolder, write_word};
+use std::alloc::Global;
+use std::test::Fail;
+
+type Silent = SilentFolder<StopFolder>;
+
+// A folder with an index of zeros and four block files, of which the first has room for 1024 nodes.
+fn folder(alloc: Global) -> Result<Silent, Failed> {
+    let inner = StopFolder::new(MemFolder::without_trail(alloc), u64::MAX);
+    let mut f = SilentFolder::new(inner);
+    f.set_len(FileId::Index, 262512)?;
+    for (n, size) in [36u32, 256, 1024, 4096].iter().enumerate() {
+        let file = FileId::Block(n as u8);
+        f.set_len(file, 45056)?;
+        let blocks = if n == 0 { 1024 } else { 0 };
+        let words = [0xC104_CAC3, 0x20000, n as u32, *size, 0, blocks];
+        for (i, word) in words.iter().enumerate() {
+            f.write_at(file, 4 * i as u64, &word.to_le_bytes())?;
+        }
+    }
+    Ok(f)
+}
+
+// Writes the links of node n; its seal stays 0, so it checks.
+fn link(f: &mut Silent, n: u32, next: u32, prev: u32) -> Result<(), Failed> {
+    write_word(f, FileId::Block(0), 8192 + 36 * u64::from(n) + 16, next)?;
+    write_word(f, FileId::Block(0), 8192 + 36 * u64::from(n) + 20, prev)
+}
+
+// The words of the first three walked nodes, and zeros behind them.
+fn words_of(walked: &Walked) -> [u32; 3] {
+    let mut words = [0; 3];
+    for i in 0..3 {
+        if let Some(node) = walked.at(i) {
+            words[i] = node.word();
+        }
+    }
+    words
+}
+
+#[test]
+fn a_walk_goes_along_the_completed_list(rt: HostRuntime) -> Result<(), Fail> {
+    let (a, b, c) = (0x9000_0000, 0x9000_0001, 0x9000_03FF);
+    let mut f = folder(rt.alloc())?;
+    write_word(&mut f, FileId::Index, 288, b)?;
+    link(&mut f, 1, c, b)?;
+    link(&mut f, 1023, a, b)?;
+    link(&mut f, 0, a, c)?;
+    let files = BlockFiles::load(&mut f)?;
+    let start = f.calls();
+    match walk(rt.alloc(), &mut f, &files) {
+        Ok(walked) => assert_eq!(rt; words_of(&walked), [b, c, a]),
+        Err(_) => panic!(rt; "it is walked"),
+    }
+    assert_eq!(rt; f.calls().wrapping_sub(start), 3);
+    write_word(&mut f, FileId::Index, 328, c)?;
+    write_word(&mut f, FileId::Index, 332, 2)?;
+    match walk(rt.alloc(), &mut f, &files) {
+        Ok(walked) => assert_eq!(rt; words_of(&walked), [b, a, 0]),
+        Err(_) => panic!(rt; "it is walked"),
+    }
+    link(&mut f, 0, b, c)?;
+    write_word(&mut f, FileId::Index, 328, 0)?;
+    match walk(rt.alloc(), &mut f, &files) {
+        Ok(walked) => assert_eq!(rt; words_of(&walked), [b, c, a]),
+        Err(_) => panic!(rt; "it is walked"),
+    }
+    Ok(())
+}

@@ -1,0 +1,47 @@
+// The walk of a folder.
+ghost use Rattle.std.specs.Prelude.{◌≡◌, ◌≤◌, None, IfOk};
+ghost use Rattle.std.specs.Option.{ForSome};
+ghost use Rattle.blk_image.specs.Told.{Rises, Stays};
+ghost use Rattle.blk_audit.specs.Faults.{IfScanDamaged, IfScanDevice, IsWalkDamage};
+ghost use Rattle.blk_format.specs.Headers.{HasWholeIndex};
+ghost use Rattle.blk_volume.specs.ListImages.{completed_walk};
+ghost use Rattle.blk_disk.specs.Tables.{Agrees};
+ghost use Rattle.blk_audit.specs.Walking.{AreMet, nodes_of};
+
+use crate::fault::ScanFault;
+use crate::list_walk::{Walked, walk_nodes};
+use crate::reading::read_nodes;
+use blk_disk::BlockFiles;
+use blk_index::word;
+use blk_io::Folder;
+use blk_lru::pending;
+use std::alloc::Global;
+
+// The place of the head in the index.
+const HEAD: u32 = 288;
+
+/// Walks the use list of a folder as it is once its operation in flight is completed. Nothing is written.
+///
+/// Two calls read the head and the operation, at most six its nodes, and one each 1024 nodes of a file; what a node says
+/// takes 20 bytes. A damage is a read that gave too few bytes, or a node of the operation that does not check; a
+/// folder whose files are those of `files` gives none. `Device` comes only where the folder failed in this call.
+pub fn walk<F: Folder>(alloc: Global, f: &mut F, files: &BlockFiles) -> Result<Walked, ScanFault>
+    requires complete { ForSome (F.told f.old).files HasWholeIndex }
+    requires agrees { ForSome (F.told f.old).files (Agrees files.now) }
+    ensures walked { IfOk result (λ walked. ForSome (F.told f.old).files (λ image. nodes_of walked ≡ completed_walk image)) }
+    ensures met { IfOk result AreMet }
+    ensures stays { Stays (F.told f.old) (F.told f.new) }
+
+    // A folder that tells its files never gives a damage.
+    ensures damaged { IfScanDamaged result (IsWalkDamage files.now (F.told f.new)) }
+    ensures untold { IfScanDamaged result (λ _. (F.told f.old).files ≡ None) }
+
+    ensures later { F.faults f.old ≤ F.faults f.new }
+    ensures device { IfScanDevice result (Rises (F.faults f.old) (F.faults f.new)) }
+{
+    let head = word(f, HEAD)?;
+    let plan = pending(f, files)?;
+    let nodes = read_nodes(alloc, f, files)?;
+    let walked = walk_nodes(alloc, &nodes, head, plan.as_slice())?;
+    Ok(walked)
+}
