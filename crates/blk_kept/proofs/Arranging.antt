@@ -15,7 +15,8 @@ use Rattle.blk_volume.specs.Layout.{Layout, rule_of}
 use Rattle.blk_volume.specs.Loads.{Loaded, claims_of_loaded}
 use Rattle.blk_volume.specs.Sound.{words_of}
 use Rattle.blk_volume.specs.View.{store_of}
-use Rattle.blk_laws.proofs.Allocations.{IsLoadedBy, all-from, all-stand, each-some, fewer-repeats, join, passing, same-marks, still}
+use Rattle.blk_laws.proofs.Allocations.{IsLoadedBy, all-from, all-stand, each-some, fewer-repeats, join, same-marks, still}
+use Rattle.blk_laws.proofs.Shown.{filter-all}
 use Rattle.blk_laws.proofs.ClaimLists.{claim-append, no-claim, repeats-append}
 use Rattle.blk_laws.proofs.Standing.{claimed-exactly, no-repeats}
 use Rattle.blk_kept.specs.Arranging.{IsArranged, LeavesFiles, StatesAreRearranged}
@@ -63,7 +64,7 @@ module _ (state : State) (layout : Layout) (numbers unlinked : List ℕ) (image 
     mapped n linked = let m = files.mapped n linked in record {
       allocations = record {
         stand = all-from (λ w. stands_in image w ≡ true) (filter (is_in_file n) (words_in_use unlinked (all_loaded state layout numbers))) (still (λ w. stands_in image w ≡ true) (is_in_file n) (words_in_use unlinked (all_loaded state layout numbers)) arranged-stand);
-        here = all-from (λ w. is_in_file n w ≡ true) (filter (is_in_file n) (words_in_use unlinked (all_loaded state layout numbers))) (passing (is_in_file n) (words_in_use unlinked (all_loaded state layout numbers)));
+        here = all-from (λ w. is_in_file n w ≡ true) (filter (is_in_file n) (words_in_use unlinked (all_loaded state layout numbers))) (filter-all (is_in_file n) (words_in_use unlinked (all_loaded state layout numbers)));
         apart = fewer-repeats (is_in_file n) (words_in_use unlinked (all_loaded state layout numbers)) arranged-once;
         marks = λ b below. m.allocations.marks b below ∙ same-marks n b words ∙ claimed-alike (BlockOf n b) words (words_in_use unlinked (all_loaded state layout numbers)) same ∙ sym (same-marks n b (words_in_use unlinked (all_loaded state layout numbers)));
         counted = m.allocations.counted ∙ counted-alike (is_in_file n) words (words_in_use unlinked (all_loaded state layout numbers)) same;

@@ -21,7 +21,7 @@ use Rattle.blk_format.specs.Headers.{allocations_of}
 use Rattle.blk_format.specs.Records.{entry_in}
 use Rattle.blk_format.proofs.Among.{is_among-append}
 use Rattle.blk_image.proofs.Runs.{some_inj}
-use Rattle.blk_volume.specs.Entries.{streams_of}
+use Rattle.blk_volume.specs.Entries.{stored_streams}
 use Rattle.blk_volume.specs.Layout.{Layout, order, rule_of}
 use Rattle.blk_volume.specs.ListView.{Distinct}
 use Rattle.blk_volume.specs.Loads.{Loaded}
@@ -187,8 +187,8 @@ unfolding image_bytes.words_at entry_in
 seven kind a b c image w apart none = seven-words kind a b c (address_of (fields_of (entry_at image w)) 0) (address_of (fields_of (entry_at image w)) 1) (address_of (fields_of (entry_at image w)) 2) (address_of (fields_of (entry_at image w)) 3) apart none
 
 -- the fourth address of what has streams is 0
-fourth-none : (image : Image) (e : RecordFields) (streams : List (List ℕ)) → streams_of (store_of image) e ≡ Some streams → (address_of e 3 == 0) ≡ true
-unfolding streams_of
+fourth-none : (image : Image) (e : RecordFields) (streams : List (List ℕ)) → stored_streams (store_of image) e ≡ Some streams → (address_of e 3 == 0) ≡ true
+unfolding stored_streams
 fourth-none image e streams is = ⊎_elim
     (λ (h : ((data_size_of e 3 == 0) && (address_of e 3 == 0)) ≡ true). (and_parts (data_size_of e 3 == 0) (address_of e 3 == 0) h).1)
     (λ (h : ((data_size_of e 3 == 0) && (address_of e 3 == 0)) ≡ false). absurd (let c : ◌≡◌ {A = Option (List (List ℕ))} None (Some streams) = rw h at is in cc))

@@ -24,7 +24,7 @@ use Rattle.blk_laws.proofs.ClaimLists.{claim-append, claim-head, no-claim}
 use Rattle.blk_laws.proofs.Covers.{covers-either, covers-more, externals-covered, hidden-covered}
 use Rattle.blk_laws.proofs.IndexWords.{others-unchecked}
 use Rattle.blk_laws.proofs.Laid.{same_claim-self}
-use Rattle.blk_laws.proofs.ListFootprints.{or_none}
+use Rattle.std.proofs.lemmas.Bool.{or_from}
 use Rattle.blk_laws.proofs.Outside.{represents-outside}
 use Rattle.blk_laws.proofs.Standing.{found-at_rest}
 use Rattle.blk_laws.proofs.WellFormed.{well_formed_still}
@@ -148,17 +148,17 @@ module _ (from image : Image) (n : ℕ) (m : IsMakingExternal from n image) wher
     bytes : (file : File) (i : ℕ) → (whole (External n)).bytes file i ≡ false → byte image file i ≡ byte (indexed from image) file i
     bytes Index i e = refl
     bytes (Block x) i e = m.same.bytes (Block x) i refl
-    bytes (External x) i e = m.same.bytes (External x) i (or_none _ _ e refl)
+    bytes (External x) i e = m.same.bytes (External x) i (or_from _ _ e refl)
 
     lengths : (file : File) → (whole (External n)).sizes file ≡ false → length_of image file ≡ length_of (indexed from image) file
     lengths Index e = refl
     lengths (Block x) e = m.same.lengths (Block x) refl
-    lengths (External x) e = m.same.lengths (External x) (or_none _ _ e refl)
+    lengths (External x) e = m.same.lengths (External x) (or_from _ _ e refl)
 
     files : (file : File) → (whole (External n)).sizes file ≡ false → has_file image file ≡ has_file (indexed from image) file
     files Index e = refl
     files (Block x) e = m.same.files (Block x) refl
-    files (External x) e = m.same.files (External x) (or_none _ _ e refl)
+    files (External x) e = m.same.files (External x) (or_from _ _ e refl)
 
   pub making-formed : IsWellFormed from → IsWellFormed image
   making-formed well = file-formed (indexed from image) image n file-only (others-unchecked from (indexed from image) 16 refl refl index-only well)
@@ -179,7 +179,7 @@ module _ (from image : Image) (n : ℕ) (m : IsMakingExternal from n image) wher
   making-stays well = stays from image n (λ x i. m.same.bytes (Block x) i refl) (λ x. m.same.lengths (Block x) refl) (λ x. m.same.files (Block x) refl) (m.same.files Index refl) making-agrees well
 
   others-there : (x : ℕ) → x ≢ n → has_file image (External x) ≡ has_file from (External x)
-  others-there x apart = m.same.files (External x) (or_none _ _ (not_equal n x (λ e. apart (sym e))) refl)
+  others-there x apart = m.same.files (External x) (or_from _ _ (not_equal n x (λ e. apart (sym e))) refl)
 
 pub making-finds : MakingFilesFindsTheSame
 making-finds from image n m state layout unlinked k = (formed, found-at_rest image state layout represents k.valid (well_formed-finished image formed)) where

@@ -23,16 +23,16 @@ use Rattle.blk_format.specs.BlockFiles.{is_among, stands_in, IsWellFormed}
 use Rattle.blk_format.specs.Claims.{Claim, claims_of, claims_of_all, has_claim, repeats}
 use Rattle.blk_format.specs.Hash.{hash}
 use Rattle.blk_format.specs.Headers.{header_length, place_of_bucket, this_id_of}
-use Rattle.blk_format.specs.Records.{entry_in, entry_is_sealed, node_in, node_is_sealed, normal}
+use Rattle.blk_format.specs.Records.{entry_in, entry_is_sealed, node_in, node_is_sealed, entry_normal}
 use Rattle.blk_format.specs.Sealed.{record_range}
 use Rattle.blk_format.proofs.Among.{is_among-append}
 use Rattle.blk_format.proofs.Finished.{well_formed-finished}
-use Rattle.blk_laws.specs.CommandLaws.{IsWritten}
+use Rattle.blk_laws.specs.CommandLaws.{IsWrittenApart}
 use Rattle.blk_volume.specs.Chains.{bucket_of_hash}
 use Rattle.blk_volume.specs.Completion.{insert}
 use Rattle.blk_volume.specs.Creation.{IsFrontOfChain, IsNewEntry, linked_front, with_new}
 use Rattle.blk_volume.specs.Footprint.{IsClear, SameLinks}
-use Rattle.blk_volume.specs.Found.{charge_of, completed, row_of}
+use Rattle.blk_volume.specs.Found.{charge_of, completed, row_of_loaded}
 use Rattle.blk_volume.specs.Layout.{Layout, Represents, order, rule_of}
 use Rattle.blk_volume.specs.ListImages.{CanBeMade, HasListAtRest, IsWritable, walked}
 use Rattle.blk_volume.specs.ListPlans.{writes_of}
@@ -79,7 +79,7 @@ module _ (state : State) (layout : Layout) (unlinked key : List ℕ) (l : Loaded
   none : Claim → Bool
   none claim = false
 
-  pub written : IsWritten (view_of from) (view_of from) state layout key l
+  pub written : IsWrittenApart (view_of from) (view_of from) state layout key l
   written = record {
     represents = k.represents;
     valid = k.valid;
@@ -110,7 +110,7 @@ module _ (state : State) (layout : Layout) (unlinked key : List ℕ) (l : Loaded
   insert-found image partly =
       let well : IsWellFormed image = partly.well_formed k.well_formed in (
         well,
-        found-kept image well ∙ ap (λ (ls : ListView). map row_of (kept_by held_rule (complete ls (store_of image)))) partly.shown.list
+        found-kept image well ∙ ap (λ (ls : ListView). map row_of_loaded (kept_by held_rule (complete ls (store_of image)))) partly.shown.list
             ∙ at-each-write (view_of from) (view_of from) state layout key l written (store_of image) partly.shown.store partly.made,
       )
     where
@@ -119,7 +119,7 @@ module _ (state : State) (layout : Layout) (unlinked key : List ℕ) (l : Loaded
 
   -- the bucket of its record is that of its key
   pub bucket-is : (image : Image) → ShowsTheSame (store_of from) (store_of image) → bucket_at image l.contents ≡ bucket_of_hash (hash l.key)
-  bucket-is image same = load-then (store_of from) (record { state = normal; clean = false; chained = false }) l.node l n.entry.loads (λ nf e f.
+  bucket-is image same = load-then (store_of from) (record { state = entry_normal; clean = false; chained = false }) l.node l n.entry.loads (λ nf e f.
       let here : (store_of image).entry l.contents ≡ Some e = sym (same.store.entry l.contents (λ c h. refl)) ∙ ap (store_of from).entry f.facts.contents_is ∙ f.entry in
       ap (λ (h : ℕ). bucket_of_hash h) (ap (λ (x : RecordFields). x.hash) (shown-fields image l.contents e here) ∙ eqb-true e.hash (hash l.key) f.facts.keyed.hashed))
 
@@ -292,7 +292,7 @@ module _ (state : State) (layout : Layout) (unlinked key : List ℕ) (l : Loaded
 
   -- the new entry's seals
   new-sealed : AreSealed image l
-  new-sealed = table-seals (bucket_at between l.contents) between image l linked.outside (load-then (store_of from) (record { state = normal; clean = false; chained = false }) l.node l n.entry.loads (λ nf e f.
+  new-sealed = table-seals (bucket_at between l.contents) between image l linked.outside (load-then (store_of from) (record { state = entry_normal; clean = false; chained = false }) l.node l n.entry.loads (λ nf e f.
       let stands : stands_as from blocks_256 l.contents ≡ true = subst (λ (c : ℕ). stands_as from blocks_256 c ≡ true) (sym f.facts.contents_is) (core-standing from nf.contents e f.entry) in
       record {
         node = inserted.sealed l.node (checked-kind from l.node n.good) n.sealed.node;
@@ -363,7 +363,7 @@ module _ (state : State) (layout : Layout) (unlinked key : List ℕ) (l : Loaded
         (cases_Bool (m == number))
 
     kinds : (number : ℕ) → is_among k.numbers number ≡ true → now.state (now.place_of_doomed number) ≡ layout.state (layout.place_of_doomed number)
-    kinds number among = at-elsewhere layout.state l.node normal (layout.place_of_doomed number) (other-node (layout.place_of_doomed number)
+    kinds number among = at-elsewhere layout.state l.node entry_normal (layout.place_of_doomed number) (other-node (layout.place_of_doomed number)
         (is_among-append (order state layout) (doomed_nodes layout k.numbers) (layout.place_of_doomed number) ∙ or_right (is_among (order state layout) (layout.place_of_doomed number)) _ (among-doomed k.numbers number among)))
 
   pub new-kept : KeepsUncounted (created handle key state) now unlinked image

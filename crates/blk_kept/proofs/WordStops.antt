@@ -16,7 +16,7 @@ use Rattle.blk_model.proofs.EvictedFirst.{evictions-stop}
 use Rattle.blk_model.proofs.StopRests.{rest_before}
 use Rattle.blk_volume.specs.Audit.{kept_among, kept_by}
 use Rattle.blk_volume.specs.Completion.{remove}
-use Rattle.blk_volume.specs.Found.{completed, found, row_of}
+use Rattle.blk_volume.specs.Found.{completed, found, row_of_loaded}
 use Rattle.blk_volume.specs.Layout.{HoldsExcept, Represents, nodes_of}
 use Rattle.blk_volume.specs.ListPlans.{writes_of}
 use Rattle.blk_volume.specs.ListSteps.{IsPartly}
@@ -85,8 +85,8 @@ settling-stops state moment handle number object image valid can is finds =
 
 -- in the midst of writes into the list the image shows them so far
 found-partly : (from image : Image) (writes : List ListWrite) → IsWellFormed from → (partly : IsPartly from writes image)
-    → found image ≡ map row_of (kept_by held_rule (completed (record { list = after_writes (take partly.made writes) (list_of from); store = store_of image })))
-found-partly from image writes well partly = found-kept image (partly.well_formed well) ∙ ap (λ (v : View). map row_of (kept_by held_rule (completed v))) (shows partly.shown.list) where
+    → found image ≡ map row_of_loaded (kept_by held_rule (completed (record { list = after_writes (take partly.made writes) (list_of from); store = store_of image })))
+found-partly from image writes well partly = found-kept image (partly.well_formed well) ∙ ap (λ (v : View). map row_of_loaded (kept_by held_rule (completed v))) (shows partly.shown.list) where
   shows : list_of image ≡ after_writes (take partly.made writes) (list_of from) → ◌≡◌ {A = View} (view_of image) (record { list = after_writes (take partly.made writes) (list_of from); store = store_of image })
   shows e = λ i. let v : View = record { list = e i; store = store_of image } in v
 
@@ -103,7 +103,7 @@ pub out-doomed : OutIsDoomed
 out-doomed state layout number object keep image valid here out = (
   out.well_formed,
   found-kept image out.well_formed
-      ∙ ap (λ (nodes : List ℕ). map row_of (kept_among (store_of image) held_rule nodes)) (walk-idle (list_of image) out.list.idle ∙ walk_list (list_of image) (nodes_of layout (filter keep state.uses)) out.list.whole)
+      ∙ ap (λ (nodes : List ℕ). map row_of_loaded (kept_among (store_of image) held_rule nodes)) (walk-idle (list_of image) out.list.idle ∙ walk_list (list_of image) (nodes_of layout (filter keep state.uses)) out.list.whole)
       ∙ dooms-keep out.except (store_of image) state layout out.holds valid number object here keep out.out out.others out.list.whole.distinct out.there,
 )
 
