@@ -14,7 +14,7 @@ use Rattle.blk_format.specs.NewFolder.{new_file_words, new_index}
 use Rattle.blk_format.specs.Records.{child, entry_in, entry_checks}
 use Rattle.blk_format.specs.Standing.{stands, stands_as_blocks}
 use Rattle.blk_volume.specs.Chains.{IsChain}
-use Rattle.blk_volume.specs.Entries.{key_of}
+use Rattle.blk_volume.specs.Entries.{stored_key}
 use Rattle.blk_volume.specs.View.{RecordFields, fields_at, fields_of, entry_at, follow_at, key_place_at, store_of}
 use Rattle.blk_laws.proofs.SmallFolder.{small_records, folder_with}
 use Rattle.blk_chain.specs.LinkExamples.{FirstCanBeLinked, NextCanBeLinked}
@@ -45,15 +45,15 @@ abbrev key : List ℕ
 key = 97 ∷ []
 
 made_fields : (store_of made).entry entry ≡ Some (fields_of (entry_at made entry))
-unfolding store_of fields_at follow_at key_place_at made zeros with_word spliced next_file_in max_entries_in linked files_along kind_among stands stands_as_blocks is_address is_initialized names_external names_blocks kind_of reserved_bits block_count file_selector first_block external_number block_size block_place place byte_size entry_in entry_checks key_of hash mixed of_bytes of_one of_three range_at
+unfolding store_of fields_at follow_at key_place_at made zeros with_word spliced next_file_in max_entries_in linked files_along kind_among stands stands_as_blocks is_address is_initialized names_external names_blocks kind_of reserved_bits block_count file_selector first_block external_number block_size block_place place byte_size entry_in entry_checks stored_key hash mixed of_bytes of_one of_three range_at
 made_fields = refl
 
 made_key : HasKey (store_of made) key ((fields_of (entry_at made entry)).flags == child) entry
-unfolding store_of fields_at follow_at key_place_at made zeros with_word spliced next_file_in max_entries_in linked files_along kind_among stands stands_as_blocks is_address is_initialized names_external names_blocks kind_of reserved_bits block_count file_selector first_block external_number block_size block_place place byte_size entry_in entry_checks key_of hash mixed of_bytes of_one of_three range_at
+unfolding store_of fields_at follow_at key_place_at made zeros with_word spliced next_file_in max_entries_in linked files_along kind_among stands stands_as_blocks is_address is_initialized names_external names_blocks kind_of reserved_bits block_count file_selector first_block external_number block_size block_place place byte_size entry_in entry_checks stored_key hash mixed of_bytes of_one of_three range_at
 made_key = record { fields = fields_of (entry_at made entry); here = refl; hashed = refl; key = refl; flag = refl }
 
 made_facts : ((fields_of (entry_at made entry)).checks ≡ true) × (((store_of made).chain_next entry ≡ (store_of made).table (bucket_at made entry)) × IsChain (store_of made) (bucket_at made entry) [])
-unfolding store_of fields_at follow_at key_place_at made zeros with_word spliced next_file_in max_entries_in linked files_along kind_among stands stands_as_blocks is_address is_initialized names_external names_blocks kind_of reserved_bits block_count file_selector first_block external_number block_size block_place place byte_size entry_in entry_checks key_of hash mixed of_bytes of_one of_three range_at
+unfolding store_of fields_at follow_at key_place_at made zeros with_word spliced next_file_in max_entries_in linked files_along kind_among stands stands_as_blocks is_address is_initialized names_external names_blocks kind_of reserved_bits block_count file_selector first_block external_number block_size block_place place byte_size entry_in entry_checks stored_key hash mixed of_bytes of_one of_three range_at
 made_facts = (refl, (refl, record { linked = refl; once = tt }))
 
 made_chain : chained_with made entry ≡ []
@@ -90,19 +90,19 @@ abbrev other_key : List ℕ
 other_key = 82 ∷ 87 ∷ 74 ∷ []
 
 entry_key : HasKey (store_of small) key false entry
-unfolding store_of fields_at follow_at key_place_at folder_with zeros with_word spliced next_file_in max_entries_in linked files_along kind_among stands stands_as_blocks is_address is_initialized names_external names_blocks kind_of reserved_bits block_count file_selector first_block external_number block_size block_place place byte_size entry_in entry_checks key_of hash mixed of_bytes of_one of_three range_at
+unfolding store_of fields_at follow_at key_place_at folder_with zeros with_word spliced next_file_in max_entries_in linked files_along kind_among stands stands_as_blocks is_address is_initialized names_external names_blocks kind_of reserved_bits block_count file_selector first_block external_number block_size block_place place byte_size entry_in entry_checks stored_key hash mixed of_bytes of_one of_three range_at
 entry_key = record { fields = fields_of (entry_at small entry); here = refl; hashed = refl; key = refl; flag = refl }
 
 other_has_key : HasKey (store_of small) other_key ((fields_of (entry_at small other)).flags == child) other
-unfolding store_of fields_at follow_at key_place_at folder_with zeros with_word spliced next_file_in max_entries_in linked files_along kind_among stands stands_as_blocks is_address is_initialized names_external names_blocks kind_of reserved_bits block_count file_selector first_block external_number block_size block_place place byte_size entry_in entry_checks key_of hash mixed of_bytes of_one of_three range_at
+unfolding store_of fields_at follow_at key_place_at folder_with zeros with_word spliced next_file_in max_entries_in linked files_along kind_among stands stands_as_blocks is_address is_initialized names_external names_blocks kind_of reserved_bits block_count file_selector first_block external_number block_size block_place place byte_size entry_in entry_checks stored_key hash mixed of_bytes of_one of_three range_at
 other_has_key = record { fields = fields_of (entry_at small other); here = refl; hashed = refl; key = refl; flag = refl }
 
 other_fields : (store_of small).entry other ≡ Some (fields_of (entry_at small other))
-unfolding store_of fields_at follow_at key_place_at folder_with zeros with_word spliced next_file_in max_entries_in linked files_along kind_among stands stands_as_blocks is_address is_initialized names_external names_blocks kind_of reserved_bits block_count file_selector first_block external_number block_size block_place place byte_size entry_in entry_checks key_of hash mixed of_bytes of_one of_three range_at
+unfolding store_of fields_at follow_at key_place_at folder_with zeros with_word spliced next_file_in max_entries_in linked files_along kind_among stands stands_as_blocks is_address is_initialized names_external names_blocks kind_of reserved_bits block_count file_selector first_block external_number block_size block_place place byte_size entry_in entry_checks stored_key hash mixed of_bytes of_one of_three range_at
 other_fields = refl
 
 other_facts : ((fields_of (entry_at small other)).checks ≡ true) × (((store_of small).chain_next other ≡ (store_of small).table (bucket_at small other)) × IsChain (store_of small) (bucket_at small other) (entry ∷ []))
-unfolding store_of fields_at follow_at key_place_at folder_with zeros with_word spliced next_file_in max_entries_in linked files_along kind_among stands stands_as_blocks is_address is_initialized names_external names_blocks kind_of reserved_bits block_count file_selector first_block external_number block_size block_place place byte_size entry_in entry_checks key_of hash mixed of_bytes of_one of_three range_at
+unfolding store_of fields_at follow_at key_place_at folder_with zeros with_word spliced next_file_in max_entries_in linked files_along kind_among stands stands_as_blocks is_address is_initialized names_external names_blocks kind_of reserved_bits block_count file_selector first_block external_number block_size block_place place byte_size entry_in entry_checks stored_key hash mixed of_bytes of_one of_three range_at
 other_facts = (refl, (refl, record { linked = (refl, refl, refl); once = (refl, tt) }))
 
 other_chain : chained_with small other ≡ entry ∷ []

@@ -14,7 +14,7 @@ use Rattle.blk_image.proofs.Words.{word-beside, word-there, length-with_word}
 use Rattle.blk_format.specs.Address.{kind_of, blocks_256}
 use Rattle.blk_format.specs.Claims.{claims_of, has_claim}
 use Rattle.blk_format.specs.Hash.{hash}
-use Rattle.blk_format.specs.Records.{Entry, entry_in, normal, plain, child}
+use Rattle.blk_format.specs.Records.{Entry, entry_in, entry_normal, plain, child}
 use Rattle.blk_format.specs.Sealed.{AreChanges, IsUpdated, record_at, record_range, seal_place}
 use Rattle.blk_format.proofs.SealedRecords.{length-record, whole_update}
 use Rattle.blk_laws.specs.RecordUpdates.{IsRecord, sealed_fields}
@@ -26,7 +26,7 @@ use Rattle.blk_volume.specs.View.{RecordFields, entry_at, fields_at, fields_of, 
 use Rattle.blk_volume.specs.ShownChanges.{OnlyRecordFieldsChange}
 use Rattle.blk_volume.specs.Footprint.{IsClear}
 use Rattle.blk_format.specs.Storage.{is_storage}
-use Rattle.blk_volume.specs.Entries.{Role, is_key_length, key_of, part_role, role_of, stream_of, streams_of}
+use Rattle.blk_volume.specs.Entries.{Role, is_key_length, stored_key, part_role, role_of, stored_stream, stored_streams}
 use Rattle.blk_volume.specs.Loads.{load, load_key, load_record, unchained_rule}
 use Rattle.blk_disk.specs.declared.tables.BlockFiles.{BlockFiles}
 use Rattle.blk_entry.specs.declared.writing.NewEntry.{NewEntry}
@@ -158,14 +158,14 @@ module _ (files : BlockFiles) (new : NewEntry) (key : List ℕ) (moment : ℕ) (
   node_now = sym (changed.0.rest.node_fields new.node) ∙ shown.node_fields
 
   -- the key's length is right, and so is its place
-  key_was : (is_key_length new.entry (fields_of (new_record new key moment)) ≡ true) × (key_of (store_of from) new.entry (fields_of (new_record new key moment)) ≡ Some key)
+  key_was : (is_key_length new.entry (fields_of (new_record new key moment)) ≡ true) × (stored_key (store_of from) new.entry (fields_of (new_record new key moment)) ≡ Some key)
   unfolding key_at store_of
   key_was =
-      let all : (if is_key_length new.entry (fields_of (new_record new key moment)) then key_of (store_of from) new.entry (fields_of (new_record new key moment)) else None) ≡ Some key =
-      ap (option_and_then (λ (fields : RecordFields). if is_key_length new.entry fields then key_of (store_of from) new.entry fields else None)) (sym shown.fields) ∙ shown.key_is in
+      let all : (if is_key_length new.entry (fields_of (new_record new key moment)) then stored_key (store_of from) new.entry (fields_of (new_record new key moment)) else None) ≡ Some key =
+      ap (option_and_then (λ (fields : RecordFields). if is_key_length new.entry fields then stored_key (store_of from) new.entry fields else None)) (sym shown.fields) ∙ shown.key_is in
       by_length (is_key_length new.entry (fields_of (new_record new key moment))) all
     where
-      by_length : (b : Bool) → (if b then key_of (store_of from) new.entry (fields_of (new_record new key moment)) else None) ≡ Some key → (b ≡ true) × (key_of (store_of from) new.entry (fields_of (new_record new key moment)) ≡ Some key)
+      by_length : (b : Bool) → (if b then stored_key (store_of from) new.entry (fields_of (new_record new key moment)) else None) ≡ Some key → (b ≡ true) × (stored_key (store_of from) new.entry (fields_of (new_record new key moment)) ≡ Some key)
       by_length true e = (refl, e)
       by_length false e = absurd (never e)
         where
@@ -184,8 +184,8 @@ module _ (files : BlockFiles) (new : NewEntry) (key : List ℕ) (moment : ℕ) (
       by_claim true e = absurd ((long_known files new key fits lies are).1.0 claim e has)
       by_claim false e = e
 
-  key_now : key_of (store_of image) new.entry (part_fields new key moment s) ≡ Some key
-  unfolding key_of new_record
+  key_now : stored_key (store_of image) new.entry (part_fields new key moment s) ≡ Some key
+  unfolding stored_key new_record
   key_now =
       ⊎_elim
       (λ (short : nat_le (length key) 927 ≡ true).
@@ -209,8 +209,8 @@ module _ (files : BlockFiles) (new : NewEntry) (key : List ℕ) (moment : ℕ) (
   unfolding store_of stored_at is_storage
   empty_now = refl
 
-  streams_now : streams_of (store_of image) (part_fields new key moment s) ≡ Some ([] ∷ s.stored ∷ s.index ∷ [])
-  unfolding streams_of stream_of new_record
+  streams_now : stored_streams (store_of image) (part_fields new key moment s) ≡ Some ([] ∷ s.stored ∷ s.index ∷ [])
+  unfolding stored_streams stored_stream new_record
   streams_now =
       let few1 : nat_le (length s.stored) 2147483647 ≡ true = (let few = first.few in grind (arith, nat_tests)) in
       let few2 : nat_le (length s.index) 2147483647 ≡ true = (let few = index.few in grind (arith, nat_tests)) in
@@ -220,7 +220,7 @@ module _ (files : BlockFiles) (new : NewEntry) (key : List ℕ) (moment : ℕ) (
   unfolding role_of new_record
   role_now = rw is_child part
 
-  key_loads_now : load_key (store_of image) (unchained_rule normal) new.node new.entry new.dirty (part_fields new key moment s) ≡ Ok key
+  key_loads_now : load_key (store_of image) (unchained_rule entry_normal) new.node new.entry new.dirty (part_fields new key moment s) ≡ Ok key
   unfolding load_key
   key_loads_now =
       let state : ((new_record new key moment).state == 0) ≡ true = eq-eqb _ _ (state_is new key moment) in
@@ -229,11 +229,11 @@ module _ (files : BlockFiles) (new : NewEntry) (key : List ℕ) (moment : ℕ) (
       let sound : ((new_record new key moment).hash == hash key) ≡ true = eq-eqb _ _ (hash_is new key moment) in
       rw (state, back, flags, length_now, key_now, sound) refl
 
-  record_loads_now : load_record (store_of image) (unchained_rule normal) new.node new.entry new.dirty (part_fields new key moment s) ≡ Ok (loaded_part new key s role)
+  record_loads_now : load_record (store_of image) (unchained_rule entry_normal) new.node new.entry new.dirty (part_fields new key moment s) ≡ Ok (loaded_part new key s role)
   unfolding load_record new_record
   record_loads_now = rw (key_loads_now, streams_now, role_now) refl
 
-  loads_now : load (store_of image) (unchained_rule normal) new.node ≡ Ok (loaded_part new key s role)
+  loads_now : load (store_of image) (unchained_rule entry_normal) new.node ≡ Ok (loaded_part new key s role)
   unfolding load
   loads_now = rw (node_now, entry_now) (checked_loads (store_of image) new.node new.entry new.dirty (part_fields new key moment s) (Ok (loaded_part new key s role)) (record_is_good new key moment) record_loads_now)
 

@@ -5,7 +5,7 @@ use Rattle.std.specs.declared.result.Result.TheVariants.{Ok}
 use Rattle.blk_image.specs.Image.{Image, AreBytes}
 use Rattle.blk_image.specs.Footprint.{SameOutside}
 use Rattle.blk_format.specs.Claims.{claims_of, has_claim}
-use Rattle.blk_format.specs.Records.{normal}
+use Rattle.blk_format.specs.Records.{entry_normal}
 use Rattle.blk_format.specs.Sealed.{IsUpdated, record_range}
 use Rattle.blk_volume.specs.View.{store_of}
 use Rattle.blk_volume.specs.Entries.{Role, most_stream_bytes, part_role}
@@ -49,4 +49,4 @@ WrittenPartsLoad = (files : BlockFiles) (new : NewEntry) (key : List ℕ) (momen
     → IsStoredBeside new.entry streams.stored streams.stored_addr from → IsStoredBeside new.entry streams.index streams.index_addr from
     → part_role key ([] ∷ streams.stored ∷ streams.index ∷ []) ≡ Some role
     → IsUpdated from new.entry (stream_changes streams) image → SameOutside (record_range new.entry) from image
-    → load (store_of image) (unchained_rule normal) new.node ≡ Ok (loaded_part new key streams role)
+    → load (store_of image) (unchained_rule entry_normal) new.node ≡ Ok (loaded_part new key streams role)

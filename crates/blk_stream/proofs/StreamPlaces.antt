@@ -13,7 +13,7 @@ use Rattle.blk_format.specs.Storage.{is_storage, kind_for, blocks_for}
 use Rattle.blk_format.specs.Standing.{stands}
 use Rattle.blk_format.specs.BlockFiles.{stands_in, stands_in_blocks}
 use Rattle.blk_volume.specs.View.{RecordFields, fields_at, fields_of, entry_at, data_size_of, address_of, stands_as, stored_at, store_of}
-use Rattle.blk_volume.specs.Entries.{most_stream_bytes, stream, stream_of, streams_of}
+use Rattle.blk_volume.specs.Entries.{most_stream_bytes, stream, stored_stream, stored_streams}
 use Rattle.blk_disk.specs.declared.tables.BlockFiles.{BlockFiles}
 use Rattle.blk_disk.specs.Tables.{Agrees, stands_among}
 use Rattle.blk_disk.proofs.Ranges.{stands_agree}
@@ -147,9 +147,9 @@ module _ (files : BlockFiles) (image : Image) (size w : ℕ) (bytes : List ℕ) 
       record { keep = rw (most, stored_stores) refl; len = stored_length; is = stored_bytes; there = stored_there }
 
 -- the streams of a record, one by one
-pub streams_parts : (image : Image) (fields : RecordFields) (streams : List (List ℕ)) → streams_of (store_of image) fields ≡ Some streams → (i : ℕ) → i < 3 → stream_of (store_of image) fields i ≡ Some (stream i streams)
-unfolding streams_of
-streams_parts image fields streams e i small = one i small (parts ((data_size_of fields 3 == 0) && (address_of fields 3 == 0)) (stream_of (store_of image) fields 0) (stream_of (store_of image) fields 1) (stream_of (store_of image) fields 2) e)
+pub streams_parts : (image : Image) (fields : RecordFields) (streams : List (List ℕ)) → stored_streams (store_of image) fields ≡ Some streams → (i : ℕ) → i < 3 → stored_stream (store_of image) fields i ≡ Some (stream i streams)
+unfolding stored_streams
+streams_parts image fields streams e i small = one i small (parts ((data_size_of fields 3 == 0) && (address_of fields 3 == 0)) (stored_stream (store_of image) fields 0) (stored_stream (store_of image) fields 1) (stored_stream (store_of image) fields 2) e)
   where
     none_some : None ≡ Some streams → ⊥
     none_some h = cc
@@ -166,7 +166,7 @@ streams_parts image fields streams e i small = one i small (parts ((data_size_of
         let all : x ∷ y ∷ z ∷ [] ≡ streams = cc in
         (ap (λ (s : List (List ℕ)). Some (stream 0 s)) all, ap (λ (s : List (List ℕ)). Some (stream 1 s)) all, ap (λ (s : List (List ℕ)). Some (stream 2 s)) all)
 
-    one : (i : ℕ) → i < 3 → Parts (stream_of (store_of image) fields 0) (stream_of (store_of image) fields 1) (stream_of (store_of image) fields 2) → stream_of (store_of image) fields i ≡ Some (stream i streams)
+    one : (i : ℕ) → i < 3 → Parts (stored_stream (store_of image) fields 0) (stored_stream (store_of image) fields 1) (stored_stream (store_of image) fields 2) → stored_stream (store_of image) fields i ≡ Some (stream i streams)
     one zero small p = p.0
     one (suc zero) small p = p.1
     one (suc (suc zero)) small p = p.2
@@ -184,8 +184,8 @@ pub none_stores : (files : BlockFiles) (w : ℕ) → w ≢ 0 → stores files 0 
 unfolding stores is_storage
 none_stores files w some = let t : (w == 0) ≡ false = grind (arith, nat_tests) in rw t refl
 
-stream_known : (files : BlockFiles) (image : Image) (fields : RecordFields) (i : ℕ) (bytes : List ℕ) → Agrees files image → stream_of (store_of image) fields i ≡ Some bytes → IsStream files image (data_size_of fields i) (address_of fields i) bytes
-unfolding stream_of store_of
+stream_known : (files : BlockFiles) (image : Image) (fields : RecordFields) (i : ℕ) (bytes : List ℕ) → Agrees files image → stored_stream (store_of image) fields i ≡ Some bytes → IsStream files image (data_size_of fields i) (address_of fields i) bytes
+unfolding stored_stream store_of
 stream_known files image fields i bytes agrees e = by_test (nat_le (data_size_of fields i) most_stream_bytes) refl e
   where
     none_some : None ≡ Some bytes → ⊥
@@ -207,7 +207,7 @@ stream_facts files image entry i streams agrees small e = by_stands (stands_as i
     none_some : None ≡ Some streams → ⊥
     none_some h = cc
 
-    by_stands : (t : Bool) → option_and_then (streams_of (store_of image)) (if t then Some (fields_of (entry_at image entry)) else None) ≡ Some streams → IsStream files image (size_word image entry i) (address_word image entry i) (stream i streams)
+    by_stands : (t : Bool) → option_and_then (stored_streams (store_of image)) (if t then Some (fields_of (entry_at image entry)) else None) ≡ Some streams → IsStream files image (size_word image entry i) (address_word image entry i) (stream i streams)
     by_stands true h = stream_known files image (fields_of (entry_at image entry)) i (stream i streams) agrees (streams_parts image (fields_of (entry_at image entry)) streams h i small)
     by_stands false h = absurd (none_some h)
 
@@ -272,8 +272,8 @@ unfolding range_at
 stored_data image zero w bytes e = (stored_none image w bytes e).1
 stored_data image (suc n) w bytes e = at_data image (suc n) w bytes (stored_is image (suc n) w bytes (omega arith) e)
 
-stream_data : (image : Image) (fields : RecordFields) (i : ℕ) (bytes : List ℕ) → stream_of (store_of image) fields i ≡ Some bytes → bytes ≡ data_at image (address_of fields i) 0 (data_size_of fields i)
-unfolding stream_of store_of
+stream_data : (image : Image) (fields : RecordFields) (i : ℕ) (bytes : List ℕ) → stored_stream (store_of image) fields i ≡ Some bytes → bytes ≡ data_at image (address_of fields i) 0 (data_size_of fields i)
+unfolding stored_stream store_of
 stream_data image fields i bytes e = by_test (nat_le (data_size_of fields i) most_stream_bytes) e
   where
     none_some : None ≡ Some bytes → ⊥
@@ -290,7 +290,7 @@ stream_is_bytes image entry i streams small e = by_stands (stands_as image block
     none_some : None ≡ Some streams → ⊥
     none_some h = cc
 
-    by_stands : (t : Bool) → option_and_then (streams_of (store_of image)) (if t then Some (fields_of (entry_at image entry)) else None) ≡ Some streams → stream i streams ≡ data_at image (address_word image entry i) 0 (size_word image entry i)
+    by_stands : (t : Bool) → option_and_then (stored_streams (store_of image)) (if t then Some (fields_of (entry_at image entry)) else None) ≡ Some streams → stream i streams ≡ data_at image (address_word image entry i) 0 (size_word image entry i)
     by_stands true h = stream_data image (fields_of (entry_at image entry)) i (stream i streams) (streams_parts image (fields_of (entry_at image entry)) streams h i small)
     by_stands false h = absurd (none_some h)
 

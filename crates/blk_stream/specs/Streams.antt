@@ -6,7 +6,7 @@ use Rattle.blk_image.specs.Told.{Told}
 use Rattle.blk_format.specs.Address.{file_selector, place}
 use Rattle.blk_format.specs.Sealed.{RecordChecks}
 use Rattle.blk_volume.specs.View.{fields_at, entry_at, store_of}
-use Rattle.blk_volume.specs.Entries.{most_stream_bytes, streams_of}
+use Rattle.blk_volume.specs.Entries.{most_stream_bytes, stored_streams}
 use Rattle.blk_io.specs.declared.folder.FileId.TheVariants as names
 use Rattle.blk_io.specs.declared.fault.Damage.{Damage}
 use Rattle.blk_disk.specs.declared.tables.BlockFiles.{BlockFiles}
@@ -16,7 +16,7 @@ use Rattle.blk_stream.specs.declared.places.Stored.{Stored}
 
 -- the streams of the record that a word names
 unfoldable pub streams_at : Image → ℕ → Option (List (List ℕ))
-streams_at image entry = option_and_then (streams_of (store_of image)) (fields_at image entry)
+streams_at image entry = option_and_then (stored_streams (store_of image)) (fields_at image entry)
 
 -- a word names a record with three streams
 pub record HasStreams (entry : ℕ) (image : Image) : Type 0 where
