@@ -21,12 +21,17 @@ fn put_word(bytes: &mut [u8], at: usize, word: u32) {
     }
 }
 
-// A block file whose map has one byte all over, with these words, each at its place.
-fn file_with(alloc: Global, size: usize, map: u8, words: &[(usize, u32)]) -> Result<Vec<u8>, Fail> {
+// A block file in which so many bytes of the map are 0xFF, with these words, each at its place.
+fn file_with(
+    alloc: Global,
+    size: usize,
+    marked: usize,
+    words: &[(usize, u32)],
+) -> Result<Vec<u8>, Fail> {
     let mut bytes = Vec::new(alloc);
     bytes.resize(size, 0)?;
-    for byte in bytes.iter_mut().take(HEADER_LEN).skip(MAP) {
-        *byte = map;
+    for byte in bytes.iter_mut().skip(MAP).take(marked) {
+        *byte = 0xFF;
     }
     for (at, word) in words {
         put_word(&mut bytes, *at, *word);
@@ -68,16 +73,16 @@ fn header(blocks: u32, entries: u32, empty: [u32; 4]) -> [(usize, u32); 10] {
     ]
 }
 
-// A folder whose `data_1` has 1024 blocks, of which the first eight are marked, and says that it has so many
+// A folder whose `data_1` has 1024 blocks and this first byte of the map, and says that it has so many
 // allocations, and 254 free groups.
-fn half_used(alloc: Global, entries: u32) -> Result<MemFolder, Fail> {
+fn folder_with(alloc: Global, entries: u32, map: u32) -> Result<MemFolder, Fail> {
     let mut second = file_with(
         alloc,
         HEADER_LEN + 1024 * 256,
         0,
         &header(1024, entries, [0, 0, 0, 254]),
     )?;
-    put_word(&mut second, MAP, 0xFF);
+    put_word(&mut second, MAP, map);
     folder_of(alloc, &second)
 }
 
@@ -147,9 +152,8 @@ fn blocks_lie_at_the_first_place_inside_a_group_and_are_freed(rt: HostRuntime) -
 fn a_file_grows_where_none_has_room_and_one_is_added_where_none_may_grow(
     rt: HostRuntime,
 ) -> Result<(), Fail> {
-    let full = file_with(rt.alloc(), HEADER_LEN, 0xFF, &header(1024, 256, [0; 4]))?;
+    let full = file_with(rt.alloc(), HEADER_LEN, 128, &header(1024, 256, [0; 4]))?;
     let mut f = folder_of(rt.alloc(), &full)?;
-    f.write_at(FileId::Block(1), 208, &[0; 48])?;
     assert_eq!(rt; give(&mut f, 2), Ok(0xA101_0400));
     let grown = [(16, 257), (20, 2048), (28, 1), (36, 255)];
     assert_eq!(rt; has_words(&mut f, 1, &grown), Ok(true));
@@ -157,7 +161,7 @@ fn a_file_grows_where_none_has_room_and_one_is_added_where_none_may_grow(
     let most = file_with(
         rt.alloc(),
         HEADER_LEN,
-        0xFF,
+        8112,
         &header(64_896, 16_224, [0; 4]),
     )?;
     let mut f = folder_of(rt.alloc(), &most)?;
@@ -175,15 +179,14 @@ fn a_file_grows_where_none_has_room_and_one_is_added_where_none_may_grow(
 fn a_counter_at_its_end_is_a_damage(rt: HostRuntime) -> Result<(), Fail> {
     // No allocation is counted; then no group with a longest free run of 3, as the freed block's group has it.
     let file = FileId::Block(1);
-    let mut f = half_used(rt.alloc(), 0)?;
+    let mut f = folder_with(rt.alloc(), 0, 0xFF)?;
     let damage = Damage {
         file,
         at: 16,
         found: 0,
     };
     assert_eq!(rt; free_word(&mut f, 0xA301_0000), Err(Fault::Damaged(damage)));
-    let mut f = half_used(rt.alloc(), 2)?;
-    f.write_at(file, 80, &[0xF1])?;
+    let mut f = folder_with(rt.alloc(), 2, 0xF1)?;
     let damage = Damage {
         file,
         at: 32,
@@ -213,7 +216,7 @@ fn a_wrong_map_is_made_that_of_the_claims(rt: HostRuntime) -> Result<(), Fail> {
     let mut second = file_with(
         rt.alloc(),
         HEADER_LEN + 1000 * 256,
-        0x30,
+        8112,
         &header(1024, 77, [9, 0, 0, 9]),
     )?;
     put_word(&mut second, 40, 5);
@@ -270,7 +273,7 @@ fn free_cut(f: &mut SilentFolder<MemFolder>, length: u64, word: u32) -> Result<b
 
 #[test]
 fn a_map_that_is_too_short_is_a_damage_and_no_lack_of_room(rt: HostRuntime) -> Result<(), Fail> {
-    let full = file_with(rt.alloc(), HEADER_LEN, 0xFF, &header(1024, 256, [0; 4]))?;
+    let full = file_with(rt.alloc(), HEADER_LEN, 128, &header(1024, 256, [0; 4]))?;
     let mut f = SilentFolder::new(folder_of(rt.alloc(), &full)?);
     let damage = Damage {
         file: FileId::Block(1),
@@ -286,7 +289,7 @@ fn a_map_that_is_too_short_is_a_damage_and_no_lack_of_room(rt: HostRuntime) -> R
 fn a_header_that_is_too_short_is_a_damage(rt: HostRuntime) -> Result<(), Fail> {
     // The word of the map that has blocks 4 to 7 is cut, and then the fields.
     for (length, at, found) in [(82, 80, 2), (50, 0, 50)] {
-        let mut f = SilentFolder::new(half_used(rt.alloc(), 3)?);
+        let mut f = SilentFolder::new(folder_with(rt.alloc(), 3, 0xFF)?);
         let damage = Damage {
             file: FileId::Block(1),
             at,
