@@ -5,7 +5,7 @@ use Rattle.std.specs.Option.{ForSome}
 use Rattle.blk_image.specs.Image.{Block, Image, byte, length_of, word}
 use Rattle.blk_image.specs.Told.{Stays, Told}
 use Rattle.blk_image.specs.Footprint.{Footprint, SameOutside, either, one_word}
-use Rattle.blk_format.specs.Address.{file_selector, block_word}
+use Rattle.blk_format.specs.Address.{file_selector, block_word, header_size}
 use Rattle.blk_format.specs.Headers.{allocations_of, updating_of}
 use Rattle.blk_format.specs.BlockFiles.{is_among, most_blocks, most_files}
 use Rattle.blk_format.specs.Growth.{StaysWhole}
@@ -157,7 +157,7 @@ IsCountedOnce files from w image = is_among (all_files files) (file_selector w) 
 
 -- the place of the last word of a map
 abbrev pub last_place : ℕ
-last_place = 8188
+last_place = header_size - 4
 
 -- a kind has the most files, which are 60, and each has the most blocks: the damage has the place of the last word that was read, which is the last of the map of the last of them, and finds this word
 pub record IsFull (files : BlockFiles) (kind : ℕ) (told : Told) (damage : Damage) : Type 0 where

@@ -1,8 +1,9 @@
 -- A change of the marks of blocks in one group of a file, with the counters that go with it.
-use Rattle.std.specs.Prelude.{◌≡◌, ◌⊎◌, ℕ, ◌+◌, ◌*◌, ◌/◌, ◌%◌, ◌<◌, ◌≤◌, List, [], ◌∷◌, ◌++◌, Bool, true, false, if◌then◌else◌, slice_index}
+use Rattle.std.specs.Prelude.{◌≡◌, ◌⊎◌, ℕ, ◌+◌, ◌-◌, ◌*◌, ◌/◌, ◌%◌, ◌<◌, ◌≤◌, List, [], ◌∷◌, ◌++◌, Bool, true, false, if◌then◌else◌, slice_index}
 use Rattle.blk_image.specs.Bytes.{word_bytes}
 use Rattle.blk_image.specs.Image.{Block, Image, byte, length_of}
 use Rattle.blk_image.specs.Footprint.{Footprint, SameOutside, either, one_word, range}
+use Rattle.blk_format.specs.Address.{header_size}
 use Rattle.blk_format.specs.Headers.{allocations_of, empty_of, updating_of}
 use Rattle.blk_format.specs.BlockFiles.{max_entries_in, most_blocks}
 use Rattle.blk_format.specs.Maps.{is_block_marked, longest_run, map_place, EmptyAgrees}
@@ -16,7 +17,7 @@ updating_place = 56
 
 -- the bytes of the map
 abbrev pub map_length : ℕ
-map_length = 8112
+map_length = header_size - map_place
 
 -- what a change of marks touches: num_entries, empty, updating and the map
 abbrev pub map_of : ℕ → Footprint

@@ -1,9 +1,10 @@
 -- Maps and counters are made anew, and are then those of claims.
-use Rattle.std.specs.Prelude.{◌≡◌, ◌⊎◌, ℕ, ◌<◌, ◌≤◌, List, filter, max, slice_index, Bool, false, true, ◌&&◌, ◌||◌}
+use Rattle.std.specs.Prelude.{◌≡◌, ◌⊎◌, ℕ, ◌+◌, ◌<◌, ◌≤◌, List, filter, max, slice_index, Bool, false, true, ◌&&◌, ◌||◌}
 use Rattle.std.specs.List.{All}
 use Rattle.blk_image.specs.Image.{File, Block, Image, byte, length_of}
 use Rattle.blk_image.specs.Footprint.{Footprint, SameOutside, either, one_word, range}
 use Rattle.blk_format.specs.Growth.{StaysWhole}
+use Rattle.blk_format.specs.Address.{header_size}
 use Rattle.blk_format.specs.Claims.{BlockOf, is_in_file}
 use Rattle.blk_format.specs.Headers.{allocations_of, block_fields_length, empty_of, updating_of}
 use Rattle.blk_format.specs.BlockFiles.{is_among, most_blocks, stands_in}
@@ -19,7 +20,7 @@ use Rattle.blk_disk.specs.declared.tables.BlockFiles.{BlockFiles}
 use Rattle.blk_disk.specs.Tables.{files_of, all_files, blocks_of, length_in}
 use Rattle.blk_disk.specs.Growth.{whole_length}
 use Rattle.blk_alloc.specs.Counting.{allocations_place, empty_place}
-use Rattle.blk_alloc.specs.Changes.{map_length, map_of}
+use Rattle.blk_alloc.specs.Changes.{map_length, map_of, updating_place}
 use Rattle.blk_alloc.specs.Extending.{HasItsBlocks}
 
 -- whether a block of a file is claimed
@@ -84,11 +85,11 @@ counts_of n = either (one_word (Block n) allocations_place) (either (range (Bloc
 
 -- the places of num_entries, empty and the map in a header
 abbrev pub is_counted_place : ℕ → Bool
-is_counted_place i = is_between 16 20 i || is_between 24 40 i || is_between 80 8192 i
+is_counted_place i = is_between allocations_place (allocations_place + 4) i || is_between (empty_place 0) (empty_place 4) i || is_between map_place header_size i
 
 -- the places of updating
 abbrev pub is_updating_place : ℕ → Bool
-is_updating_place i = is_between 56 60 i
+is_updating_place i = is_between updating_place (updating_place + 4) i
 
 -- whether a file is one of some block files
 unfoldable pub is_block_file : List ℕ → File → Bool

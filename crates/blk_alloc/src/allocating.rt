@@ -24,12 +24,13 @@ use crate::marking::mark;
 use blk_addr::{Addr, Kind};
 use blk_disk::BlockFiles;
 use blk_io::{Damage, Fault, FileId, Folder, read_word};
+use blk_record::BlockHead;
 
 // The most files of one kind.
-const MOST_FILES: u8 = 60;
+const MOST_FILES: u8 = blk_disk::MOST_FILES as u8;
 
 // The last word of a map.
-const LAST_PLACE: u64 = 8188;
+const LAST_PLACE: u64 = BlockHead::HEADER_LEN - 4;
 
 // The damage where a kind has 60 files and none may grow.
 fn full_damage<F: Folder>(f: &mut F, files: &BlockFiles, kind: Kind) -> Result<Damage, Fault>
