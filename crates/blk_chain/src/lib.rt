@@ -17,3 +17,5 @@ pub use unlinking::unlink;
 
 #[cfg(test)]
 mod tests;
+#[cfg(test)]
+mod told_tests;

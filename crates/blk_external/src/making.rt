@@ -74,7 +74,7 @@ fn first_free<F: Folder>(f: &mut F, last: u32) -> Result<Option<u32>, Failed>
 }
 
 // The least free number from one on and below another.
-fn least_free<F: Folder>(f: &mut F, low: u32, end: u32) -> Result<Option<u32>, Failed>
+pub(crate) fn least_free<F: Folder>(f: &mut F, low: u32, end: u32) -> Result<Option<u32>, Failed>
     ensures within { IfOk result (λ found. ForSome found (λ n. (low ≤ n) × (n < end))) }
     ensures least { IfOk result (λ found. ForSome (F.told f.old).files (λ image. IsLeastFree image low end found)) }
     ensures stays { Stays (F.told f.old) (F.told f.new) }

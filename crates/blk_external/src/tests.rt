@@ -6,6 +6,7 @@ ghost use Rattle.blk_format.specs.Address.{kind_of, external};
 ghost use Rattle.blk_external.specs.Numbers.{named_file};
 
 use crate::bytes::name_of;
+use crate::making::least_free;
 use crate::{create, delete, read, resize, write};
 use blk_addr::{Addr, Kind};
 use blk_io::{Damage, Failed, Fault, FileId, Folder, MemFolder, NoMemory, SilentFolder};
@@ -162,5 +163,15 @@ fn too_few_bytes_are_a_damage(rt: HostRuntime) -> Result<(), Fail> {
             found: 2
         }))
     );
+    Ok(())
+}
+
+// That all 2^28 numbers are used is more than a folder in memory holds: the search is shown at three.
+#[test]
+fn no_number_is_free_where_all_are_used(rt: HostRuntime) -> Result<(), Fail> {
+    let mut f = with_last(rt.alloc(), 0)?;
+    prepare(&mut f, &[1, 2, 3])?;
+    assert_eq!(rt; least_free(&mut f, 1, 4), Ok(None));
+    assert_eq!(rt; least_free(&mut f, 1, 5), Ok(Some(4)));
     Ok(())
 }

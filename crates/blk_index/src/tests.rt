@@ -1,6 +1,8 @@
 // Words of an index in memory are written, and read again.
 use super::*;
+use crate::start::judge;
 use blk_io::{Damage, Fault, FileId, Folder, MemFolder, SilentFolder};
+use blk_record::IndexHead;
 use std::test::Fail;
 
 const INDEX_LEN: u64 = 262512;
@@ -116,4 +118,12 @@ fn the_last_piece_of_the_table_is_read_by_one_call(rt: HostRuntime) -> Result<()
     assert_eq!(rt; f.calls(), 5 + 1);
     assert_eq!(rt; (out[0], out[1022], out[1023]), (0, 0, 0xA101_0002));
     Ok(())
+}
+
+// A folder in memory gives as many bytes as its length says, so what is judged is shown without one.
+#[test]
+fn a_short_header_of_a_whole_index_is_a_damage(rt: HostRuntime) {
+    let window = [7; IndexHead::LEN];
+    let head = IndexHead::new(&window);
+    assert_eq!(rt; judge(&head, 100, INDEX_LEN), Err(damage(0, 100)));
 }

@@ -245,6 +245,9 @@ impl Folder for MemFolder {
         ensures later { (mem_counts self.old).faults ≤ (mem_counts self.new).faults }
         ensures failed { OnErr result (Rises (mem_counts self.old).faults (mem_counts self.new).faults) }
         ensures counted { CountsCall (mem_counts self.old) (mem_counts self.new) (is_err result) (fails_next (mem_counts self.old)) }
+
+        // It fails exactly where it is listed, since it wants no memory.
+        ensures exact { is_err result ≡ fails_next (mem_counts self.old) }
     {
         self.calls.pass()?;
         Ok(length_in(&self.files, file))
@@ -257,6 +260,10 @@ impl Folder for MemFolder {
         ensures later { (mem_counts self.old).faults ≤ (mem_counts self.new).faults }
         ensures failed { OnErr result (Rises (mem_counts self.old).faults (mem_counts self.new).faults) }
         ensures counted { CountsCall (mem_counts self.old) (mem_counts self.new) (is_err result) (fails_next (mem_counts self.old)) }
+
+        // It fails exactly where it is listed, since it wants no memory, and then leaves `out` as it was.
+        ensures exact { is_err result ≡ fails_next (mem_counts self.old) }
+        ensures unfilled { OnErr result (out.new ≡ out.old) }
     {
         self.calls.pass()?;
         Ok(read_in(&self.files, file, at, out))
@@ -313,6 +320,9 @@ impl Folder for MemFolder {
         ensures later { (mem_counts self.old).faults ≤ (mem_counts self.new).faults }
         ensures failed { OnErr result (Rises (mem_counts self.old).faults (mem_counts self.new).faults) }
         ensures counted { CountsCall (mem_counts self.old) (mem_counts self.new) (is_err result) (fails_next (mem_counts self.old)) }
+
+        // It fails exactly where it is listed, since it wants no memory.
+        ensures exact { is_err result ≡ fails_next (mem_counts self.old) }
     {
         self.calls.pass()?;
         Ok(next_file(&self.files, after))

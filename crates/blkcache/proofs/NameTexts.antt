@@ -6,11 +6,12 @@ use Rattle.std.specs.Fmt.{decimal}
 use Rattle.std.specs.Str.Pattern.{FindsTextPrefix, StripsPrefix}
 use Rattle.blk_io.specs.declared.folder.FileId.{FileId}
 use Rattle.blk_io.specs.declared.folder.FileId.TheVariants.{Index, Block, External}
-use Rattle.blkcache.specs.Spelling.{IsCacheFile, name_text, hex_text}
+use Rattle.blk_io.specs.Texts.{hex_text, name_of}
+use Rattle.blkcache.specs.Spelling.{IsCacheFile, name_text}
 
 -- the name of the index is no other file's
 pub index-named : (file : FileId) → codes "index" ≡ name_text file → file ≡ Index
-unfolding name_text
+unfolding name_of
 index-named Index e = refl
 index-named (Block n) e = absurd (differs e)
   where
@@ -21,7 +22,7 @@ index-named (Block n) e = absurd (differs e)
         unequal first = grind (arith)
 index-named (External n) e = absurd (differs e)
   where
-    differs : codes "index" ≡ codes "f_" ++ hex_text n → ⊥
+    differs : codes "index" ≡ codes "f_" ++ hex_text 6 n → ⊥
     differs e = unequal (ap (λ (l : List ℕ). get_or l 0 0) e)
       where
         unequal : ◌≡◌ {A = ℕ} 105 102 → ⊥
@@ -30,7 +31,7 @@ index-named (External n) e = absurd (differs e)
 -- a name that begins as a block file's is that of a block file
 pub block-named : (file : FileId) (number : List ℕ) → codes "data_" ++ number ≡ name_text file
     → IsCacheFile file → (P : FileId → Type 0) → ((n : ℕ) → IsCacheFile (Block n) → number ≡ decimal n → P (Block n)) → P file
-unfolding name_text
+unfolding name_of
 block-named Index number e there P goal = absurd (differs e)
   where
     differs : codes "data_" ++ number ≡ codes "index" → ⊥
@@ -41,7 +42,7 @@ block-named Index number e there P goal = absurd (differs e)
 block-named (Block n) number e there P goal = goal n there (ap (λ (l : List ℕ). drop 5 l) e)
 block-named (External n) number e there P goal = absurd (differs e)
   where
-    differs : codes "data_" ++ number ≡ codes "f_" ++ hex_text n → ⊥
+    differs : codes "data_" ++ number ≡ codes "f_" ++ hex_text 6 n → ⊥
     differs e = unequal (ap (λ (l : List ℕ). get_or l 0 0) e)
       where
         unequal : ◌≡◌ {A = ℕ} 100 102 → ⊥
@@ -49,8 +50,8 @@ block-named (External n) number e there P goal = absurd (differs e)
 
 -- and likewise of an external file
 pub external-named : (file : FileId) (number : List ℕ) → codes "f_" ++ number ≡ name_text file
-    → IsCacheFile file → (P : FileId → Type 0) → ((n : ℕ) → IsCacheFile (External n) → number ≡ hex_text n → P (External n)) → P file
-unfolding name_text
+    → IsCacheFile file → (P : FileId → Type 0) → ((n : ℕ) → IsCacheFile (External n) → number ≡ hex_text 6 n → P (External n)) → P file
+unfolding name_of
 external-named Index number e there P goal = absurd (differs e)
   where
     differs : codes "f_" ++ number ≡ codes "index" → ⊥
@@ -70,10 +71,10 @@ external-named (External n) number e there P goal = goal n there (ap (λ (l : Li
 -- a name with none of the three fronts is no file's
 pub none-named : (file : FileId) (name : List ℕ) → name ≡ name_text file → name ≢ codes "index"
     → FindsTextPrefix (codes "data_") name None → FindsTextPrefix (codes "f_") name None → ⊥
-unfolding name_text
+unfolding name_of
 none-named Index name e other no_block no_external = other e
 none-named (Block n) name e other no_block no_external = no_block (decimal n) e
-none-named (External n) name e other no_block no_external = no_external (hex_text n) e
+none-named (External n) name e other no_block no_external = no_external (hex_text 6 n) e
 
 -- what is left behind a front
 pub stripped : (front name rest : List ℕ) → StripsPrefix (FindsTextPrefix front) name rest → name ≡ front ++ rest

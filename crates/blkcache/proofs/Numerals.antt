@@ -1,12 +1,11 @@
 -- Numbers in hexadecimal are read back, with their leading zeros.
 use Rattle.std.proofs.Common.{◌≡◌, Bool, true, false, cond, ℕ, zero, suc, ◌-◌, ◌<◌, ◌^◌, List, [], ◌∷◌, ◌++◌, length, drop, replicate, Result, Ok, refl, ◌∙◌, sym, ap, subst, ◌==◌, arith}
 use Rattle.std.specs.Char.{digit_value}
-use Rattle.std.specs.Fmt.{digits, padded_integral, format_spec, char_count}
-use Rattle.std.proofs.lemmas.Grind.{common_steps}
+use Rattle.std.specs.Fmt.{digits}
 use Rattle.std.specs.Str.Parse.{AllDigits, IsNumeral, digits_value, without_leading_plus, ParsesUnsigned}
 use Rattle.std.proofs.lemmas.Fmt.{digits_is_IsNumeral}
 use Rattle.std.proofs.lemmas.Result.{Ok-from_Ok_iff}
-use Rattle.blkcache.specs.Spelling.{hex_text}
+use Rattle.blk_io.specs.Texts.{hex_text}
 
 -- zeros in front
 all_digits-zeros : (k : ℕ) (ds : List ℕ) → AllDigits 16 ds → AllDigits 16 (replicate k 48 ++ ds)
@@ -40,7 +39,7 @@ no_plus (c ∷ cs) all = by_test (c == 43) refl
 hex_digits : (n : ℕ) → n < 2 ^ 28 → IsNumeral 16 (digits 16 false n) × (digits_value 16 (digits 16 false n) ≡ n)
 hex_digits n small = digits_is_IsNumeral 16 false (grind (arith)) (grind (arith)) n (grind (arith))
 
-pub hex_text-reads : {E : Type 0} (n : ℕ) (bs : List ℕ) (r : Result ℕ E) → n < 2 ^ 28 → bs ≡ hex_text n → ParsesUnsigned 32 16 bs r → r ≡ Ok n
+pub hex_text-reads : {E : Type 0} (n : ℕ) (bs : List ℕ) (r : Result ℕ E) → n < 2 ^ 28 → bs ≡ hex_text 6 n → ParsesUnsigned 32 16 bs r → r ≡ Ok n
 unfolding hex_text
 hex_text-reads n bs r small is parses =
     let k : ℕ = 6 - length (digits 16 false n) in
@@ -53,8 +52,3 @@ hex_text-reads n bs r small is parses =
     Ok-from_Ok_iff r (IsNumeral 16 (without_leading_plus bs) × (digits_value 16 (without_leading_plus bs) < 2 ^ 32)) (digits_value 16 (without_leading_plus bs)) parses
     (whole, subst (λ (m : ℕ). m < 2 ^ 32) (sym value) (grind (arith)))
     ∙ ap (λ (m : ℕ). Ok m) value
-
--- what is printed of the digits of a number, with zeros up to six of them
-pub padded_six : (ds : List ℕ) → padded_integral (format_spec 32 0 4 6 (2 ^ 64 - 1)) false [] ds ≡ replicate (6 - length ds) 48 ++ ds
-unfolding padded_integral char_count
-padded_six ds = grind (arith, common_steps)

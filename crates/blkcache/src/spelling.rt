@@ -2,7 +2,8 @@
 ghost use Rattle.std.specs.Prelude.{◌≡◌, ◌↔◌, ◌<◌, ◌≤◌, ◌^◌, ℕ, Some, IfOk, IfSome, string_bytes};
 ghost use Rattle.std.specs.Fmt.{decimal};
 ghost use Rattle.blk_io.specs.declared.folder.FileId.{FileId};
-ghost use Rattle.blkcache.specs.Spelling.{IsCacheFile, name_text, hex_text};
+ghost use Rattle.blk_io.specs.Texts.{hex_text};
+ghost use Rattle.blkcache.specs.Spelling.{IsCacheFile, name_text};
 
 use blk_io::FileId;
 use std::alloc::{AllocError, Global};
@@ -11,15 +12,10 @@ use std::alloc::{AllocError, Global};
 const LAST_EXTERNAL: u32 = 0x0fff_ffff;
 
 /// The name of a cache file.
-#[tactic(auto, using(crate::proofs::Numerals::padded_six), unfolding(crate::specs::Spelling::name_text, crate::specs::Spelling::hex_text))]
 pub fn name_of(alloc: Global, file: FileId) -> Result<String, AllocError>
     ensures { IfOk result (λ name. string_bytes name ≡ name_text file) }
 {
-    match file {
-        FileId::Index => String::from_str(alloc, "index"),
-        FileId::Block(n) => format!(in alloc; "data_{n}"),
-        FileId::External(n) => format!(in alloc; "f_{n:06x}"),
-    }
+    format!(in alloc; "{file}")
 }
 
 /// The cache file with a name, or None where no cache file has it.
@@ -64,7 +60,7 @@ fn read_block(number: &str) -> Option<FileId>
 
 // The external file with a number, which may be spelled in any way.
 fn read_external(number: &str) -> Option<FileId>
-    ensures read { (n : ℕ) → 1 ≤ n → n < 2 ^ 28 → number.now ≡ hex_text n → result ≡ Some (FileId.External n) }
+    ensures read { (n : ℕ) → 1 ≤ n → n < 2 ^ 28 → number.now ≡ hex_text 6 n → result ≡ Some (FileId.External n) }
     ensures file { IfSome result IsCacheFile }
 {
     match u32::from_str_radix(number, 16) {
