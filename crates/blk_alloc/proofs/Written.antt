@@ -5,7 +5,7 @@ use Rattle.std.specs.Int.{bit_at}
 use Rattle.std.specs.Option.{ForSome, option_map}
 use Rattle.blk_image.specs.Bytes.{content}
 use Rattle.blk_image.specs.Image.{Image, File, Block, byte, bytes_of, length_of}
-use Rattle.blk_image.specs.Steps.{after, words, written}
+use Rattle.blk_image.specs.Steps.{after, words, written_over}
 use Rattle.blk_image.specs.Footprint.{SameOutside, range}
 use Rattle.blk_image.specs.Told.{Told, Applies, AppliesPrefix, PassesTo, Until}
 use Rattle.blk_image.proofs.Cuts.{after-words}
@@ -22,7 +22,7 @@ use Rattle.blk_alloc.specs.Rebuilding.{is_block_claimed, AreMarked}
 written_there : (f : File) (place k j : ℕ) (bs : List ℕ) (image : Image) → j ≡ place + k → k < length bs → place + length bs ≤ length_of image f → byte (after (words f place bs) image) f j ≡ content bs k
 written_there f place k j bs image is few fits =
     ap (λ (i : Image). byte i f j) (after-words f place bs image)
-    ∙ ap (λ (o : Option (List ℕ)). byte (λ file. o) f j) (with_file-same image f (written place bs (image f)))
+    ∙ ap (λ (o : Option (List ℕ)). byte (λ file. o) f j) (with_file-same image f (written_over place bs (image f)))
     ∙ ap (λ (l : List ℕ). content l j) (bytes-written (image f) place bs)
     ∙ content-spliced_inside place bs (bytes_of image f) k j is few (omega (arith, is, few, fits))
 

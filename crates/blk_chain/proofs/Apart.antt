@@ -16,12 +16,9 @@ among-blocks (w ∷ words) x h =
     (or_cases (w == x) (is_among words x) h)
 
 -- the middle one is there
-among-middle : (prefix : List ℕ) (p : ℕ) (rest : List ℕ) → is_among (prefix ++ p ∷ rest) p ≡ true
-among-middle [] p rest = or_left (p == p) (is_among rest p) (eq-eqb p p refl)
-among-middle (y ∷ prefix) p rest = or_right (y == p) (is_among (prefix ++ p ∷ rest) p) (among-middle prefix p rest)
-
 pub middle-there : (prefix : List ℕ) (p : ℕ) (rest : List ℕ) → is_among (prefix ++ p ∷ rest) p ≡ true
-middle-there prefix p rest = among-middle prefix p rest
+middle-there [] p rest = or_left (p == p) (is_among rest p) (eq-eqb p p refl)
+middle-there (y ∷ prefix) p rest = or_right (y == p) (is_among (prefix ++ p ∷ rest) p) (middle-there prefix p rest)
 
 pub behind-there : (prefix : List ℕ) (p c : ℕ) (rest : List ℕ) → is_among (prefix ++ p ∷ c ∷ rest) c ≡ true
 behind-there [] p c rest = or_right (p == c) (is_among (c ∷ rest) c) (or_left (c == c) (is_among rest c) (eq-eqb c c refl))
@@ -37,7 +34,7 @@ front-apart [] p rest d x h e = cc
 front-apart (y ∷ prefix) p rest d x h e =
     ⊎_elim
     (λ (s : (y == x) ≡ true). no-both (is_among (map file_and_block (prefix ++ p ∷ rest)) (file_and_block y))
-    (ap (is_among (map file_and_block (prefix ++ p ∷ rest))) (ap file_and_block (eqb-true y x s) ∙ e) ∙ among-blocks (prefix ++ p ∷ rest) p (among-middle prefix p rest)) d.0)
+    (ap (is_among (map file_and_block (prefix ++ p ∷ rest))) (ap file_and_block (eqb-true y x s) ∙ e) ∙ among-blocks (prefix ++ p ∷ rest) p (middle-there prefix p rest)) d.0)
     (λ (s : is_among prefix x ≡ true). front-apart prefix p rest d.1 x s e)
     (or_cases (y == x) (is_among prefix x) h)
 

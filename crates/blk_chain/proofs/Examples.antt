@@ -12,13 +12,13 @@ use Rattle.blk_format.specs.Records.{entry_in, entry_checks}
 use Rattle.blk_format.specs.Standing.{stands, stands_as_blocks}
 use Rattle.blk_format.specs.Storage.{entry_blocks}
 use Rattle.blk_volume.specs.Chains.{IsChain}
-use Rattle.blk_volume.specs.Entries.{is_key_length, key_of}
+use Rattle.blk_volume.specs.Entries.{is_key_length, stored_key}
 use Rattle.blk_volume.specs.View.{fields_at, fields_of, entry_at, follow_at, key_place_at, store_of}
 use Rattle.blk_laws.proofs.SmallFolder.{small_records, folder_with}
 use Rattle.blk_entry.specs.Keys.{HasReadableKey, key_at}
 use Rattle.blk_chain.specs.Examples.{SomeChainIsSearched}
-use Rattle.blk_chain.specs.Finding.{CanBeSearched, IsFound, bucket_of_key, chained_for}
-use Rattle.blk_chain.specs.Naming.{HasKey}
+use Rattle.blk_chain.specs.Finding.{CanBeSearched, IsFound}
+use Rattle.blk_volume.specs.Searches.{bucket_of_key, chained_for, HasKey}
 use Rattle.blk_chain.specs.Unlinking.{StandsBehind}
 use Rattle.blk_chain.proofs.Pairs.{chain-words}
 use Rattle.blk_chain.proofs.Searches.{found-linked}
@@ -33,18 +33,18 @@ abbrev key : List ℕ
 key = 97 ∷ []
 
 is_named : HasKey (store_of small) key false entry
-unfolding store_of fields_at key_place_at folder_with zeros with_word spliced next_file_in max_entries_in linked files_along kind_among stands stands_as_blocks is_address is_initialized names_external names_blocks kind_of reserved_bits block_count file_selector first_block external_number block_size block_place place byte_size entry_in entry_checks key_of hash mixed of_bytes of_one range_at
+unfolding store_of fields_at key_place_at folder_with zeros with_word spliced next_file_in max_entries_in linked files_along kind_among stands stands_as_blocks is_address is_initialized names_external names_blocks kind_of reserved_bits block_count file_selector first_block external_number block_size block_place place byte_size entry_in entry_checks stored_key hash mixed of_bytes of_one range_at
 is_named = record { fields = fields_of (entry_at small entry); here = refl; hashed = refl; key = refl; flag = refl }
 
 is_readable : HasReadableKey entry small
-unfolding key_at is_key_length entry_blocks store_of fields_at key_place_at folder_with zeros with_word spliced next_file_in max_entries_in linked files_along kind_among stands stands_as_blocks is_address is_initialized names_external names_blocks kind_of reserved_bits block_count file_selector first_block external_number block_size block_place place byte_size entry_in entry_checks key_of range_at
+unfolding key_at is_key_length entry_blocks store_of fields_at key_place_at folder_with zeros with_word spliced next_file_in max_entries_in linked files_along kind_among stands stands_as_blocks is_address is_initialized names_external names_blocks kind_of reserved_bits block_count file_selector first_block external_number block_size block_place place byte_size entry_in entry_checks stored_key range_at
 is_readable = record { key = key; is = refl }
 
 is_chained : IsChain (store_of small) (bucket_of_key key) (entry ∷ [])
 unfolding store_of fields_at follow_at folder_with zeros with_word spliced next_file_in max_entries_in linked files_along kind_among stands stands_as_blocks is_address is_initialized names_external names_blocks kind_of reserved_bits block_count file_selector first_block external_number block_size block_place place byte_size entry_in entry_checks hash mixed of_bytes of_one range_at
 is_chained = record { linked = (refl, refl, refl); once = (refl, tt) }
 
-words : chained_for small key ≡ entry ∷ []
+words : chained_for (store_of small) key ≡ entry ∷ []
 words = chain-words small (bucket_of_key key) (entry ∷ []) is_chained
 
 can_be_searched : CanBeSearched key small

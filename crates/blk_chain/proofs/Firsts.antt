@@ -21,18 +21,18 @@ use Rattle.blk_laws.specs.IndexWrites.{IsIndexWord}
 use Rattle.blk_laws.proofs.IndexWords.{buckets-written, buckets-unchecked}
 use Rattle.blk_disk.specs.declared.tables.BlockFiles.{BlockFiles}
 use Rattle.blk_disk.specs.Tables.{Agrees}
-use Rattle.blk_volume.specs.Entries.{key_of}
-use Rattle.blk_chain.specs.Naming.{HasKey}
+use Rattle.blk_volume.specs.Entries.{stored_key}
+use Rattle.blk_volume.specs.Searches.{HasKey}
 use Rattle.blk_chain.specs.Linking.{bucket_at, chained_with, place_of_front}
-use Rattle.blk_chain.specs.Unlinking.{CanBeUnlinked, IsStillLinked, IsUnlinked, next_of, unlink_range, unlink_steps}
+use Rattle.blk_chain.specs.Unlinking.{CanBeUnlinked, IsStillLinked, IsUnlinked, next_record, unlink_range, unlink_steps}
 use Rattle.blk_chain.proofs.Links.{bucket_read, front_inside, index_agrees, index_word}
-use Rattle.blk_chain.proofs.Names.{IsShownOf, shown-of, shown-follow}
+use Rattle.blk_laws.proofs.ChainWords.{IsShownOf, shown-of, shown-chain_next}
 use Rattle.blk_image.proofs.Commits.{commits_none, commits_prefix, commits_word}
 use Rattle.blk_chain.proofs.Unlinks.{next_read}
 
 -- no key is read in the table
-key-still : (store : StoreView) (table : ℕ → ℕ) (w : ℕ) (fields : RecordFields) → key_of (record store { table = table }) w fields ≡ key_of store w fields
-unfolding key_of
+key-still : (store : StoreView) (table : ℕ → ℕ) (w : ℕ) (fields : RecordFields) → stored_key (record store { table = table }) w fields ≡ stored_key store w fields
+unfolding stored_key
 key-still store table w fields = refl
 
 pub named-table : (store : StoreView) (table : ℕ → ℕ) (name : List ℕ) (is_child : Bool) (w : ℕ) → HasKey store name is_child w ↔ HasKey (record store { table = table }) name is_child w
@@ -50,27 +50,27 @@ unchanged from entry before = record {
 
 module _ (from : Image) (entry : ℕ) (can : CanBeUnlinked entry None from) where
   -- the chain without its first record
-  chain-behind : (suffix : List ℕ) → chained_with from entry ≡ entry ∷ suffix → IsChain (record (store_of from) { table = put (store_of from).table (bucket_at from entry) (next_of from entry) }) (bucket_at from entry) suffix
+  chain-behind : (suffix : List ℕ) → chained_with from entry ≡ entry ∷ suffix → IsChain (record (store_of from) { table = put (store_of from).table (bucket_at from entry) (next_record from entry) }) (bucket_at from entry) suffix
   chain-behind suffix is =
       let v = store_of from in
       let b : ℕ = bucket_at from entry in
       let was : IsChain v b (entry ∷ suffix) = subst (λ (ws : List ℕ). IsChain v b ws) is can.whole in
       let shown : IsShownOf v b entry = shown-of v b entry was.linked.1 in
-      first-leaves v (record v { table = put v.table b (next_of from entry) }) b entry suffix (λ w among. (refl, refl)) (at-itself v.table b (next_of from entry) ∙ sym (shown-follow from entry shown.fields shown.here)) was
+      first-leaves v (record v { table = put v.table b (next_record from entry) }) b entry suffix (λ w among. (refl, refl)) (at-itself v.table b (next_record from entry) ∙ sym (shown-chain_next from entry shown.fields shown.here)) was
 
   -- the word of the bucket is its next
-  pub first_unlinked : (image : Image) → IsIndexWord (place_of_front from entry) (next_of from entry) from image → IsUnlinked from entry None image
+  pub first_unlinked : (image : Image) → IsIndexWord (place_of_front from entry) (next_record from entry) from image → IsUnlinked from entry None image
   first_unlinked image is =
       let b : ℕ = bucket_at from entry in
-      let w = buckets-written from image b (next_of from entry) is in
+      let w = buckets-written from image b (next_record from entry) is in
       record {
-        keeps = record { list = w.0; records = λ u. ap (λ (s : StoreView). s.entry u) w.1; names = λ u name is_child apart. subst (λ (s : StoreView). HasKey (store_of from) name is_child u ↔ HasKey s name is_child u) (sym w.1) (named-table (store_of from) (put (store_of from).table b (next_of from entry)) name is_child u); well_formed = buckets-unchecked from image b is.outside; outside = is.outside };
+        keeps = record { list = w.0; records = λ u. ap (λ (s : StoreView). s.entry u) w.1; names = λ u name is_child apart. subst (λ (s : StoreView). HasKey (store_of from) name is_child u ↔ HasKey s name is_child u) (sym w.1) (named-table (store_of from) (put (store_of from).table b (next_record from entry)) name is_child u); well_formed = buckets-unchecked from image b is.outside; outside = is.outside };
         chain_now = λ prefix suffix stands. subst (λ (s : StoreView). IsChain s b suffix) (sym w.1) (chain-behind suffix stands.1);
-        others = λ other e. ap (λ (s : StoreView). chain s other) w.1 ∙ others-stay (store_of from) b other (next_of from entry) e;
+        others = λ other e. ap (λ (s : StoreView). chain s other) w.1 ∙ others-stay (store_of from) b other (next_record from entry) e;
         links = w.1;
       }
 
-next_small : (from : Image) (entry : ℕ) → AreBytes from → next_of from entry < 2 ^ 32
+next_small : (from : Image) (entry : ℕ) → AreBytes from → next_record from entry < 2 ^ 32
 unfolding entry_in
 next_small from entry bytes = word-fits (byte from (Block (file_selector entry))) (bytes (Block (file_selector entry))) (place entry + 4)
 
@@ -93,7 +93,7 @@ module _ (files : BlockFiles) (a b : Told) (entry hash next : ℕ) (tells : Tell
       ap₂ (λ (n x : ℕ). word_step Index (place_of_bucket n) x) bucket (next_read from entry next (read from there))
 
   after-first : (from : Image) → a.files ≡ Some from → CanBeUnlinked entry None from → IsUnlinked from entry None (after (unlink_steps from entry None) from)
-  after-first from there can = first_unlinked from entry can (after (unlink_steps from entry None) from) (index_word from (place_of_front from entry) (next_of from entry) (next_small from entry (tells from there)) (front_inside from entry (complete from there)))
+  after-first from there can = first_unlinked from entry can (after (unlink_steps from entry None) from) (index_word from (place_of_front from entry) (next_record from entry) (next_small from entry (tells from there)) (front_inside from entry (complete from there)))
 
   pub first_left : AppliesPrefix second b (word_step Index (place_of_bucket (hash % 65536)) next) → IsTaken files entry a b
   first_left made =
@@ -102,8 +102,8 @@ module _ (files : BlockFiles) (a b : Told) (entry hash next : ℕ) (tells : Tell
       record {
         part = mine;
         commits = λ from there can.
-            commits_prefix 1 a b from (IsStillLinked from entry None) (IsUnlinked from entry None) (unlink_steps from entry None) there (quiet-word_step Index (place_of_front from entry) (next_of from entry))
-            (commits_word (IsStillLinked from entry None) (IsUnlinked from entry None) Index (place_of_front from entry) (next_of from entry) from (unchanged from entry None) (after-first from there can)) (mine from there);
+            commits_prefix 1 a b from (IsStillLinked from entry None) (IsUnlinked from entry None) (unlink_steps from entry None) there (quiet-word_step Index (place_of_front from entry) (next_record from entry))
+            (commits_word (IsStillLinked from entry None) (IsUnlinked from entry None) Index (place_of_front from entry) (next_record from entry) from (unchanged from entry None) (after-first from there can)) (mine from there);
         agrees = index_agrees files a b (place_of_bucket (hash % 65536)) next here agrees;
       }
 

@@ -3,13 +3,13 @@ use Rattle.std.proofs.Common.{◌≡◌, ℕ, Bool, true, false, List, Option, S
 use Rattle.std.specs.Prelude.{◌==◌, ◌&&◌, not, if◌then◌else◌}
 use Rattle.std.proofs.Math.Bool.{beq}
 use Rattle.std.specs.Option.{option_and_then}
-use Rattle.std.proofs.lemmas.Bool.{and_parts, eqb-true}
+use Rattle.std.proofs.lemmas.Bool.{and_parts, eqb-true, and_from}
 use Rattle.blk_image.specs.Image.{AreBytes, External, Image, has_file}
 use Rattle.blk_image.proofs.Runs.{some_inj}
 use Rattle.blk_format.specs.Address.{kind_of, is_address, external, external_number, blocks_256}
 use Rattle.blk_format.specs.BlockFiles.{stands_in_blocks}
 use Rattle.blk_format.specs.Standing.{stands}
-use Rattle.blk_volume.specs.Entries.{is_key_length, key_of}
+use Rattle.blk_volume.specs.Entries.{is_key_length, stored_key}
 use Rattle.blk_volume.specs.View.{RecordFields, fields_at, fields_of, entry_at, store_of}
 use Rattle.blk_disk.specs.declared.tables.BlockFiles.{BlockFiles}
 use Rattle.blk_format.specs.Sealed.{RecordChecks}
@@ -17,14 +17,10 @@ use Rattle.blk_disk.specs.Tables.{Agrees, is_record_among, names_among, stands_a
 use Rattle.blk_disk.proofs.Ranges.{stands_agree}
 use Rattle.blk_entry.specs.Keys.{CanBeRead, HasReadableKey, HasRecord, IsEntryOf, key_at}
 use Rattle.blk_laws.proofs.StillShown.{core-standing, standing-parts}
-use Rattle.blk_chain.specs.Naming.{HasKey}
+use Rattle.blk_volume.specs.Searches.{HasKey}
 use Rattle.blk_entry.proofs.KeyPlaces.{key_by_bytes}
 use Rattle.blk_chain.specs.Finding.{IsFollowed, IsKeyed, IsSought}
-use Rattle.blk_chain.proofs.Names.{shown-core, shown-kind}
-use Rattle.blk_chain.proofs.Unlinks.{record_checks}
-
-both : (a b : Bool) → a ≡ true → b ≡ true → (a && b) ≡ true
-both a b e f = rw (e, f) refl
+use Rattle.blk_laws.proofs.ChainWords.{record_checks, shown-fields, shown-kind}
 
 -- a word that names a record that stands
 pub names-parts : (files : BlockFiles) (w : ℕ) → is_record_among files w ≡ true → (is_address w ≡ true) × ((kind_of w ≡ blocks_256) × (stands_among files w ≡ true))
@@ -47,7 +43,7 @@ shown-names files image w fields agrees here =
     let of = and_parts (is_address w) (if kind_of w == external then has_file image (External (external_number w)) else stands_in_blocks image w) parts.0 in
     let inside : stands_in_blocks image w ≡ true = by_kind (kind_of w) parts.1 of.1 in
     let kind : (kind_of w == 2) ≡ true = is_two (kind_of w) parts.1 in
-    both (is_address w) ((kind_of w == 2) && stands_among files w) of.0 (both (kind_of w == 2) (stands_among files w) kind (stands_agree files image w agrees ∙ inside))
+    and_from (is_address w) ((kind_of w == 2) && stands_among files w) of.0 (and_from (kind_of w == 2) (stands_among files w) kind (stands_agree files image w agrees ∙ inside))
   where
     by_kind : (k : ℕ) → k ≡ 2 → (if k == 0 then has_file image (External (external_number w)) else stands_in_blocks image w) ≡ true → stands_in_blocks image w ≡ true
     by_kind k e h = rw e at h
@@ -58,7 +54,7 @@ shown-names files image w fields agrees here =
 -- a record that a search meets checks in its bytes
 pub keyed-checks : (image : Image) (w : ℕ) → AreBytes image → IsKeyed w image → RecordChecks w image
 keyed-checks image w bytes keyed =
-    record_checks image w bytes (shown-kind image w keyed.fields keyed.here) (ap (λ (c : RecordFields). c.checks) (shown-core image w keyed.fields keyed.here) ∙ keyed.good)
+    record_checks image w bytes (shown-kind image w keyed.fields keyed.here) (ap (λ (c : RecordFields). c.checks) (shown-fields image w keyed.fields keyed.here) ∙ keyed.good)
 
 -- so it can be read
 pub can-be-read : (files : BlockFiles) (image : Image) (entry word : ℕ) → entry ≡ word → AreBytes image → Agrees files image → IsKeyed word image → CanBeRead files entry image
@@ -73,24 +69,24 @@ pub followed : (files : BlockFiles) (image : Image) (entry word : ℕ) → entry
 followed files image entry word is stands whole = subst (λ (w : ℕ). IsFollowed files w image) is (record { stands = stands; whole = whole })
 
 -- the key of a record that has one
-key-is : (image : Image) (w : ℕ) (fields : RecordFields) → (store_of image).entry w ≡ Some fields → HasReadableKey w image → key_at image w ≡ key_of (store_of image) w fields
+key-is : (image : Image) (w : ℕ) (fields : RecordFields) → (store_of image).entry w ≡ Some fields → HasReadableKey w image → key_at image w ≡ stored_key (store_of image) w fields
 unfolding key_at store_of
 key-is image w fields here has = by_core (fields_at image w) here has.is
   where
-    by_length : (t : Bool) → (if t then key_of (store_of image) w fields else None) ≡ Some has.key → (if t then key_of (store_of image) w fields else None) ≡ key_of (store_of image) w fields
+    by_length : (t : Bool) → (if t then stored_key (store_of image) w fields else None) ≡ Some has.key → (if t then stored_key (store_of image) w fields else None) ≡ stored_key (store_of image) w fields
     by_length true e = refl
     by_length false e = absurd (never e)
       where
         never : None ≡ Some has.key → ⊥
         never c = cc
 
-    by_core : (o : Option RecordFields) → o ≡ Some fields → option_and_then (λ c. if is_key_length w c then key_of (store_of image) w c else None) o ≡ Some has.key
-        → option_and_then (λ c. if is_key_length w c then key_of (store_of image) w c else None) o ≡ key_of (store_of image) w fields
+    by_core : (o : Option RecordFields) → o ≡ Some fields → option_and_then (λ c. if is_key_length w c then stored_key (store_of image) w c else None) o ≡ Some has.key
+        → option_and_then (λ c. if is_key_length w c then stored_key (store_of image) w c else None) o ≡ stored_key (store_of image) w fields
     by_core o e h = rw e (by_length (is_key_length w fields) (rw e at h))
 
 module _ (image : Image) (w : ℕ) (keyed : IsKeyed w image) (key : List ℕ) (is_child : Bool) where
   here-core : fields_of (entry_at image w) ≡ keyed.fields
-  here-core = shown-core image w keyed.fields keyed.here
+  here-core = shown-fields image w keyed.fields keyed.here
 
   -- a record with the key and the flag has the name
   pub to-name : IsEntryOf key w image → ((entry_at image w).flags == 2) ≡ is_child → HasKey (store_of image) key is_child w

@@ -17,7 +17,7 @@ use Rattle.blk_volume.specs.Footprint.{IsClear}
 use Rattle.blk_volume.specs.View.{RecordFields, fields_of, fields_at, entry_at, stands_as, store_of}
 use Rattle.blk_format.specs.Sealed.{IsMidUpdate, record_at, record_size, seal_place, size_by_kind, seal_by_kind}
 use Rattle.blk_laws.proofs.StillShown.{core-standing, standing-parts}
-use Rattle.blk_chain.proofs.Names.{record-at, shown-core, shown-kind}
+use Rattle.blk_laws.proofs.ChainWords.{record-at, shown-fields, shown-kind}
 
 -- the address of the first block of a record alone
 pub first_word : ℕ → ℕ
@@ -97,7 +97,7 @@ first-record image w own_fields here =
     let stands_first : stands_as image blocks_256 (first_word w) ≡ true =
     both (stands_in image (first_word w)) (kind_of (first_word w)) (first-stands image w kind (standing-parts image blocks_256 w (core-standing image w own_fields here)).0) (first-kind w) in
     let same : fields_of (entry_at image (first_word w)) ≡ fields_of (entry_at image w) = ap₂ (λ (f i : ℕ). fields_of (entry_in (byte image (Block f)) i)) (first-file w) (first-place w kind) in
-    rw stands_first (ap (λ (c : RecordFields). Some c) (same ∙ shown-core image w own_fields here))
+    rw stands_first (ap (λ (c : RecordFields). Some c) (same ∙ shown-fields image w own_fields here))
   where
     both : (b : Bool) (k : ℕ) → b ≡ true → k ≡ 2 → (b && (k == 2)) ≡ true
     both b k e f = rw (e, f) refl

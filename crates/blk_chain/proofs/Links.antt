@@ -26,9 +26,10 @@ use Rattle.blk_disk.specs.declared.tables.BlockFiles.{BlockFiles}
 use Rattle.blk_disk.specs.Tables.{Agrees}
 use Rattle.blk_format.proofs.SpareHeaders.{SparesHeaders}
 use Rattle.blk_disk.proofs.Agreeing.{agrees_still}
-use Rattle.blk_chain.specs.Linking.{bucket_at, chained_with, place_of_front, CanBeLinked, link_steps, IsLinked}
+use Rattle.blk_chain.specs.Linking.{bucket_at, chained_with, place_of_front, CanBeLinked, link_front_steps, IsLinkedInFront}
 use Rattle.blk_image.proofs.Commits.{commits_none, commits_prefix, commits_word}
-use Rattle.blk_chain.proofs.Names.{shown-core, same-name, shown-of}
+use Rattle.blk_laws.proofs.ChainWords.{shown-fields, shown-of}
+use Rattle.blk_chain.proofs.Names.{same-name}
 use Rattle.blk_chain.proofs.Words.{linked-good, WithFirstBlock, with_first_block}
 
 -- one word of the index is written
@@ -49,7 +50,7 @@ core-of-bucket store b w fields here good is = rw (here, good) (eq-eqb (bucket_o
 
 module _ (from : Image) (entry : ℕ) (can : CanBeLinked entry from) where
   in_bucket : is_of_bucket (store_of from) (bucket_at from entry) entry ≡ true
-  in_bucket = core-of-bucket (store_of from) (bucket_at from entry) entry can.fields can.here can.good (ap (λ (c : RecordFields). bucket_of_hash c.hash) (sym (shown-core from entry can.fields can.here)))
+  in_bucket = core-of-bucket (store_of from) (bucket_at from entry) entry can.fields can.here can.good (ap (λ (c : RecordFields). bucket_of_hash c.hash) (sym (shown-fields from entry can.fields can.here)))
 
   -- no record of the chain has its first block, since it would have its name
   apart : is_among (map file_and_block (chained_with from entry)) (file_and_block entry) ≡ false
@@ -64,7 +65,7 @@ module _ (from : Image) (entry : ℕ) (can : CanBeLinked entry from) where
           let shown = shown-of (store_of from) (bucket_at from entry) other.word (linked-good (store_of from) (bucket_at from entry) ((store_of from).table (bucket_at from entry)) (chained_with from entry) other.word can.whole.linked other.among) in
           can.fresh other.word other.among (same-name from entry other.word can.fields shown.fields can.here shown.here (sym other.has) can.key (can.fields.flags == 2) can.has_key)
 
-  pub linked_at : (image : Image) → IsIndexWord (place_of_front from entry) entry from image → IsLinked from entry image
+  pub linked_at : (image : Image) → IsIndexWord (place_of_front from entry) entry from image → IsLinkedInFront from entry image
   linked_at image is =
       let b : ℕ = bucket_at from entry in
       let w = buckets-written from image b entry is in
@@ -97,30 +98,30 @@ index_agrees files a b at x part agrees =
 
 -- the write of the word of the bucket that was read
 module _ (a b : Told) (entry n : ℕ) (read : ForSome a.files (λ from. n ≡ bucket_at from entry)) where
-  pub link_part : AppliesPrefix a b (word_step Index (place_of_bucket n) entry) → ForSome a.files (λ from. AppliesPrefix a b (link_steps from entry))
+  pub link_part : AppliesPrefix a b (word_step Index (place_of_bucket n) entry) → ForSome a.files (λ from. AppliesPrefix a b (link_front_steps from entry))
   link_part part from there = subst (λ (m : ℕ). AppliesPrefix a b (word_step Index (place_of_bucket m) entry)) (read from there) part
 
-  pub link_whole : Applies a b (word_step Index (place_of_bucket n) entry) → ForSome a.files (λ from. Applies a b (link_steps from entry))
+  pub link_whole : Applies a b (word_step Index (place_of_bucket n) entry) → ForSome a.files (λ from. Applies a b (link_front_steps from entry))
   link_whole whole from there = subst (λ (m : ℕ). Applies a b (word_step Index (place_of_bucket m) entry)) (read from there) whole
 
   module _ (small : entry < 2 ^ 32) (complete : ForSome a.files (λ image. length_of image Index ≡ 262512)) where
-    after_link : (from : Image) → a.files ≡ Some from → CanBeLinked entry from → IsLinked from entry (after (link_steps from entry) from)
-    after_link from there can = linked_at from entry can (after (link_steps from entry) from) (index_word from (place_of_front from entry) entry small (front_inside from entry (complete from there)))
+    after_link : (from : Image) → a.files ≡ Some from → CanBeLinked entry from → IsLinkedInFront from entry (after (link_front_steps from entry) from)
+    after_link from there can = linked_at from entry can (after (link_front_steps from entry) from) (index_word from (place_of_front from entry) entry small (front_inside from entry (complete from there)))
 
-    pub link_turns : AppliesPrefix a b (word_step Index (place_of_bucket n) entry) → ForSome a.files (λ from. CanBeLinked entry from → Commits 1 a b (λ image. image ≡ from) (IsLinked from entry))
+    pub link_turns : AppliesPrefix a b (word_step Index (place_of_bucket n) entry) → ForSome a.files (λ from. CanBeLinked entry from → Commits 1 a b (λ image. image ≡ from) (IsLinkedInFront from entry))
     link_turns part from there can =
         let P : Image → Type 0 = (λ image. image ≡ from) in
-        commits_prefix 1 a b from P (IsLinked from entry) (link_steps from entry) there (quiet-word_step Index (place_of_front from entry) entry)
-        (commits_word P (IsLinked from entry) Index (place_of_front from entry) entry from refl (after_link from there can)) (link_part part from there)
+        commits_prefix 1 a b from P (IsLinkedInFront from entry) (link_front_steps from entry) there (quiet-word_step Index (place_of_front from entry) entry)
+        (commits_word P (IsLinkedInFront from entry) Index (place_of_front from entry) entry from refl (after_link from there can)) (link_part part from there)
 
-    pub link_done : Applies a b (word_step Index (place_of_bucket n) entry) → ForSome a.files (λ from. CanBeLinked entry from → ForSome b.files (IsLinked from entry))
+    pub link_done : Applies a b (word_step Index (place_of_bucket n) entry) → ForSome a.files (λ from. CanBeLinked entry from → ForSome b.files (IsLinkedInFront from entry))
     link_done whole from there can =
-        told_whole (IsLinked from entry) (link_whole whole from there)
-        (λ image here. subst (λ (i : Image). IsLinked from entry (after (link_steps from entry) i)) (some_inj (sym there ∙ here)) (after_link from there can))
+        told_whole (IsLinkedInFront from entry) (link_whole whole from there)
+        (λ image here. subst (λ (i : Image). IsLinkedInFront from entry (after (link_front_steps from entry) i)) (some_inj (sym there ∙ here)) (after_link from there can))
 
 -- before the write
-pub link_not_yet : (a b : Told) (entry : ℕ) → b ≡ a → ForSome a.files (λ from. CanBeLinked entry from → Commits 1 a b (λ image. image ≡ from) (IsLinked from entry))
-link_not_yet a b entry stays from there can = commits_none 0 a b from (λ image. image ≡ from) (IsLinked from entry) there stays refl
+pub link_not_yet : (a b : Told) (entry : ℕ) → b ≡ a → ForSome a.files (λ from. CanBeLinked entry from → Commits 1 a b (λ image. image ≡ from) (IsLinkedInFront from entry))
+link_not_yet a b entry stays from there can = commits_none 0 a b from (λ image. image ≡ from) (IsLinkedInFront from entry) there stays refl
 
 -- an address is a word
 pub address_small : (w : ℕ) → is_address w ≡ true → w < 2 ^ 32
@@ -131,8 +132,8 @@ address_small w address =
 
 -- what the write of the bucket's word leaves, made or not
 pub record IsPut (files : BlockFiles) (entry : ℕ) (a b : Told) : Type 0 where
-  pub part : ForSome a.files (λ from. AppliesPrefix a b (link_steps from entry))
-  pub commits : ForSome a.files (λ from. CanBeLinked entry from → Commits 1 a b (λ image. image ≡ from) (IsLinked from entry))
+  pub part : ForSome a.files (λ from. AppliesPrefix a b (link_front_steps from entry))
+  pub commits : ForSome a.files (λ from. CanBeLinked entry from → Commits 1 a b (λ image. image ≡ from) (IsLinkedInFront from entry))
   pub agrees : ForSome b.files (Agrees files)
 
 module _ (files : BlockFiles) (a b : Told) (entry hash word : ℕ) (is : word ≡ entry) (address : is_address word ≡ true) (agrees : ForSome a.files (Agrees files)) (complete : ForSome a.files (λ image. length_of image Index ≡ 262512))
@@ -154,8 +155,8 @@ module _ (files : BlockFiles) (a b : Told) (entry hash word : ℕ) (is : word �
   whole_here whole =
       subst (λ (t : Told). Applies t b (word_step Index (place_of_bucket (hash % 65536)) entry)) stays (subst (λ (v : ℕ). Applies between b (word_step Index (place_of_bucket (hash % 65536)) v)) is whole)
 
-  pub whole_by : Applies between b (word_step Index (place_of_bucket (hash % 65536)) word) → ForSome a.files (λ from. Applies a b (link_steps from entry))
+  pub whole_by : Applies between b (word_step Index (place_of_bucket (hash % 65536)) word) → ForSome a.files (λ from. Applies a b (link_front_steps from entry))
   whole_by whole = link_whole a b entry (hash % 65536) bucket_is (whole_here whole)
 
-  pub linked_by : Applies between b (word_step Index (place_of_bucket (hash % 65536)) word) → ForSome a.files (λ from. CanBeLinked entry from → ForSome b.files (IsLinked from entry))
+  pub linked_by : Applies between b (word_step Index (place_of_bucket (hash % 65536)) word) → ForSome a.files (λ from. CanBeLinked entry from → ForSome b.files (IsLinkedInFront from entry))
   linked_by whole = link_done a b entry (hash % 65536) bucket_is (address_small entry (subst (λ (v : ℕ). is_address v ≡ true) is address)) complete (whole_here whole)

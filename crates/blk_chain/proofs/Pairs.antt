@@ -7,45 +7,33 @@ use Rattle.blk_image.proofs.Runs.{some_inj}
 use Rattle.blk_format.specs.Address.{kind_of}
 use Rattle.blk_format.specs.BlockFiles.{is_among}
 use Rattle.blk_format.specs.Hash.{hash as hash_of}
-use Rattle.blk_volume.specs.Entries.{key_of}
+use Rattle.blk_volume.specs.Entries.{stored_key}
 use Rattle.blk_volume.specs.ListView.{Distinct, put}
 use Rattle.blk_volume.specs.View.{StoreView, RecordFields, store_of, entry_at}
 use Rattle.blk_volume.specs.Chains.{Chain, bucket_of_hash, chain, file_and_block, IsChain}
 use Rattle.blk_laws.proofs.Chains.{chain-is}
-use Rattle.blk_chain.specs.Naming.{HasKey}
-use Rattle.blk_chain.specs.Linking.{bucket_at, chained_with, CanBeLinked, IsLinked}
-use Rattle.blk_chain.specs.Unlinking.{CanBeUnlinked, IsUnlinked, KeyIsApart, StandsBehind, without}
-use Rattle.blk_chain.specs.Finding.{bucket_of_key, chained_for}
+use Rattle.blk_volume.specs.Searches.{HasKey, bucket_of_key, chained_for}
+use Rattle.blk_chain.specs.Linking.{bucket_at, chained_with, CanBeLinked, IsLinkedInFront}
+use Rattle.blk_chain.specs.Unlinking.{CanBeUnlinked, IsUnlinked, KeyIsApart, StandsBehind, without_record}
 use Rattle.blk_chain.specs.Mapping.{GainsOne, IsRecordOf, LosesOne}
 use Rattle.blk_chain.proofs.Apart.{among-blocks, still-there}
 use Rattle.blk_chain.proofs.Firsts.{named-table}
-use Rattle.blk_chain.proofs.Names.{shown-core, shown-kind}
-
--- the word 0 names no record
-not-zero : (image : Image) (fields : RecordFields) → (store_of image).entry 0 ≡ Some fields → ⊥
-unfolding kind_of
-not-zero image fields here = let kind : kind_of 0 ≡ 2 = shown-kind image 0 fields here in cc
-
-zero-none : (image : Image) → (store_of image).entry 0 ≡ None
-zero-none image = by ((store_of image).entry 0) refl
-  where
-    by : (o : Option RecordFields) → (store_of image).entry 0 ≡ o → (store_of image).entry 0 ≡ None
-    by None e = e
-    by (Some fields) e = absurd (not-zero image fields e)
+use Rattle.blk_laws.proofs.Bare.{no-record}
+use Rattle.blk_laws.proofs.ChainWords.{shown-fields}
 
 -- a whole chain is its records
 pub chain-words : (image : Image) (b : ℕ) (words : List ℕ) → IsChain (store_of image) b words → (chain (store_of image) b).reached ≡ words
-chain-words image b words is = ap (λ (c : Chain). c.reached) (chain-is (store_of image) b words (zero-none image) is)
+chain-words image b words is = ap (λ (c : Chain). c.reached) (chain-is (store_of image) b words (no-record image) is)
 
 -- the bucket of a record with a name is that of the key
 pub named-bucket : (image : Image) (key : List ℕ) (is_child : Bool) (w : ℕ) → HasKey (store_of image) key is_child w → bucket_at image w ≡ bucket_of_key key
-named-bucket image key is_child w named = ap bucket_of_hash (ap (λ (c : RecordFields). c.hash) (shown-core image w named.fields named.here) ∙ named.hashed)
+named-bucket image key is_child w named = ap bucket_of_hash (ap (λ (c : RecordFields). c.hash) (shown-fields image w named.fields named.here) ∙ named.hashed)
 
 -- one record has one name
 pub one-name : (store : StoreView) (w : ℕ) (key other : List ℕ) (is_child flag : Bool) → HasKey store key is_child w → HasKey store other flag w → HasKey store other flag w × ((key ≡ other) × (is_child ≡ flag))
 one-name store w key other is_child flag one two =
     let fields : one.fields ≡ two.fields = some_inj (sym one.here ∙ two.here) in
-    (two, (some_inj (sym one.key ∙ ap (λ (c : RecordFields). key_of store w c) fields ∙ two.key), sym one.flag ∙ ap (λ (c : RecordFields). c.flags == 2) fields ∙ two.flag))
+    (two, (some_inj (sym one.key ∙ ap (λ (c : RecordFields). stored_key store w c) fields ∙ two.key), sym one.flag ∙ ap (λ (c : RecordFields). c.flags == 2) fields ∙ two.flag))
 
 -- a word that isn't the first one is behind it
 not-first : (v w : ℕ) (words : List ℕ) → w ≢ v → is_among (v ∷ words) w ≡ true → is_among words w ≡ true
@@ -79,7 +67,7 @@ behind-once (y ∷ prefix) p c rest once among =
     there [] = or_right (p == c) (is_among (c ∷ rest) c) (or_left (c == c) (is_among rest c) (eq-eqb c c refl))
     there (z ∷ more) = or_right (z == c) (is_among (more ++ p ∷ c ∷ rest) c) (there more)
 
-module _ (from image : Image) (entry : ℕ) (can : CanBeLinked entry from) (is : IsLinked from entry image) where
+module _ (from image : Image) (entry : ℕ) (can : CanBeLinked entry from) (is : IsLinkedInFront from entry image) where
   -- the names are as they were
   named-then : (key : List ℕ) (is_child : Bool) (w : ℕ) → HasKey (store_of image) key is_child w → HasKey (store_of from) key is_child w
   named-then key is_child w named = (named-table (store_of from) (put (store_of from).table (bucket_at from entry) entry) key is_child w).1 (subst (λ (s : StoreView). HasKey s key is_child w) is.store named)
@@ -88,25 +76,25 @@ module _ (from image : Image) (entry : ℕ) (can : CanBeLinked entry from) (is :
   named-now key is_child w named = subst (λ (s : StoreView). HasKey s key is_child w) (sym is.store) ((named-table (store_of from) (put (store_of from).table (bucket_at from entry) entry) key is_child w).0 named)
 
   -- the chains of the bucket and of the others
-  here : (key : List ℕ) → bucket_at from entry ≡ bucket_of_key key → chained_for image key ≡ entry ∷ chained_for from key
+  here : (key : List ℕ) → bucket_at from entry ≡ bucket_of_key key → chained_for (store_of image) key ≡ entry ∷ chained_for (store_of from) key
   here key same =
       subst (λ (b : ℕ). (chain (store_of image) b).reached ≡ entry ∷ (chain (store_of from) b).reached) same
       (chain-words image (bucket_at from entry) (entry ∷ chained_with from entry) is.chain_now)
 
-  there : (key : List ℕ) → (bucket_at from entry == bucket_of_key key) ≡ false → chained_for image key ≡ chained_for from key
+  there : (key : List ℕ) → (bucket_at from entry == bucket_of_key key) ≡ false → chained_for (store_of image) key ≡ chained_for (store_of from) key
   there key apart = ap (λ (c : Chain). c.reached) (is.others (bucket_of_key key) apart)
 
-  among-then : (key : List ℕ) (w : ℕ) → w ≢ entry → is_among (chained_for image key) w ≡ true → is_among (chained_for from key) w ≡ true
+  among-then : (key : List ℕ) (w : ℕ) → w ≢ entry → is_among (chained_for (store_of image) key) w ≡ true → is_among (chained_for (store_of from) key) w ≡ true
   among-then key w apart among = ⊎_elim
       (λ (e : (bucket_at from entry == bucket_of_key key) ≡ true).
-      not-first entry w (chained_for from key) apart (subst (λ (words : List ℕ). is_among words w ≡ true) (here key (eqb-true (bucket_at from entry) (bucket_of_key key) e)) among))
+      not-first entry w (chained_for (store_of from) key) apart (subst (λ (words : List ℕ). is_among words w ≡ true) (here key (eqb-true (bucket_at from entry) (bucket_of_key key) e)) among))
       (λ (e : (bucket_at from entry == bucket_of_key key) ≡ false). subst (λ (words : List ℕ). is_among words w ≡ true) (there key e) among)
       (cases_Bool (bucket_at from entry == bucket_of_key key))
 
-  among-now : (key : List ℕ) (w : ℕ) → is_among (chained_for from key) w ≡ true → is_among (chained_for image key) w ≡ true
+  among-now : (key : List ℕ) (w : ℕ) → is_among (chained_for (store_of from) key) w ≡ true → is_among (chained_for (store_of image) key) w ≡ true
   among-now key w among = ⊎_elim
       (λ (e : (bucket_at from entry == bucket_of_key key) ≡ true).
-      subst (λ (words : List ℕ). is_among words w ≡ true) (sym (here key (eqb-true (bucket_at from entry) (bucket_of_key key) e))) (or_right (entry == w) (is_among (chained_for from key) w) among))
+      subst (λ (words : List ℕ). is_among words w ≡ true) (sym (here key (eqb-true (bucket_at from entry) (bucket_of_key key) e))) (or_right (entry == w) (is_among (chained_for (store_of from) key) w) among))
       (λ (e : (bucket_at from entry == bucket_of_key key) ≡ false). subst (λ (words : List ℕ). is_among words w ≡ true) (sym (there key e)) among)
       (cases_Bool (bucket_at from entry == bucket_of_key key))
 
@@ -124,7 +112,7 @@ module _ (from image : Image) (entry : ℕ) (can : CanBeLinked entry from) (is :
   pub gains-one : GainsOne from entry image
   gains-one = record {
     added = λ key is_child named. (
-      subst (λ (words : List ℕ). is_among words entry ≡ true) (sym (here key (named-bucket from key is_child entry named))) (or_left (entry == entry) (is_among (chained_for from key) entry) (eq-eqb entry entry refl)),
+      subst (λ (words : List ℕ). is_among words entry ≡ true) (sym (here key (named-bucket from key is_child entry named))) (or_left (entry == entry) (is_among (chained_for (store_of from) key) entry) (eq-eqb entry entry refl)),
       named-now key is_child entry named,
     );
     others = λ key is_child w apart. (then-of key is_child w apart, λ of. (among-now key w of.0, named-now key is_child w of.1));
@@ -138,32 +126,32 @@ module _ (from image : Image) (entry : ℕ) (can : CanBeLinked entry from) (is :
   }
 
 module _ (from image : Image) (entry : ℕ) (before : Option ℕ) (can : CanBeUnlinked entry before from) (is : IsUnlinked from entry before image) where
-  left-here : (key : List ℕ) → bucket_at from entry ≡ bucket_of_key key → chained_for image key ≡ without before can.prefix can.suffix
+  left-here : (key : List ℕ) → bucket_at from entry ≡ bucket_of_key key → chained_for (store_of image) key ≡ without_record before can.prefix can.suffix
   left-here key same =
-      subst (λ (b : ℕ). (chain (store_of image) b).reached ≡ without before can.prefix can.suffix) same
-      (chain-words image (bucket_at from entry) (without before can.prefix can.suffix) (is.chain_now can.prefix can.suffix can.stands))
+      subst (λ (b : ℕ). (chain (store_of image) b).reached ≡ without_record before can.prefix can.suffix) same
+      (chain-words image (bucket_at from entry) (without_record before can.prefix can.suffix) (is.chain_now can.prefix can.suffix can.stands))
 
-  left-there : (key : List ℕ) → (bucket_at from entry == bucket_of_key key) ≡ false → chained_for image key ≡ chained_for from key
+  left-there : (key : List ℕ) → (bucket_at from entry == bucket_of_key key) ≡ false → chained_for (store_of image) key ≡ chained_for (store_of from) key
   left-there key apart = ap (λ (c : Chain). c.reached) (is.others (bucket_of_key key) apart)
 
   -- the words of the chain but for this one
-  less : (o : Option ℕ) (prefix suffix words : List ℕ) (w : ℕ) → w ≢ entry → StandsBehind words entry o prefix suffix → is_among (without o prefix suffix) w ≡ true ↔ is_among words w ≡ true
+  less : (o : Option ℕ) (prefix suffix words : List ℕ) (w : ℕ) → w ≢ entry → StandsBehind words entry o prefix suffix → is_among (without_record o prefix suffix) w ≡ true ↔ is_among words w ≡ true
   less None prefix suffix words w apart stands =
       (λ among. subst (λ (l : List ℕ). is_among l w ≡ true) (sym stands.1) (or_right (entry == w) (is_among suffix w) among), λ among. not-first entry w suffix apart (subst (λ (l : List ℕ). is_among l w ≡ true) stands.1 among))
   less (Some p) prefix suffix words w apart stands =
       (λ among. subst (λ (l : List ℕ). is_among l w ≡ true) (sym stands) (still-there prefix p entry suffix w among), λ among. not-behind prefix p entry w suffix apart (subst (λ (l : List ℕ). is_among l w ≡ true) stands among))
 
   -- which isn't among them
-  not-left : (o : Option ℕ) (prefix suffix words : List ℕ) → StandsBehind words entry o prefix suffix → Distinct (map file_and_block words) → is_among (without o prefix suffix) entry ≡ true → ⊥
+  not-left : (o : Option ℕ) (prefix suffix words : List ℕ) → StandsBehind words entry o prefix suffix → Distinct (map file_and_block words) → is_among (without_record o prefix suffix) entry ≡ true → ⊥
   not-left None prefix suffix words stands once among = first-once entry suffix (subst (λ (l : List ℕ). Distinct (map file_and_block l)) stands.1 once) among
   not-left (Some p) prefix suffix words stands once among = behind-once prefix p entry suffix (subst (λ (l : List ℕ). Distinct (map file_and_block l)) stands once) among
 
-  among-left : (key : List ℕ) (w : ℕ) → w ≢ entry → is_among (chained_for image key) w ≡ true ↔ is_among (chained_for from key) w ≡ true
+  among-left : (key : List ℕ) (w : ℕ) → w ≢ entry → is_among (chained_for (store_of image) key) w ≡ true ↔ is_among (chained_for (store_of from) key) w ≡ true
   among-left key w apart = ⊎_elim
       (λ (e : (bucket_at from entry == bucket_of_key key) ≡ true).
       let same : bucket_at from entry ≡ bucket_of_key key = eqb-true (bucket_at from entry) (bucket_of_key key) e in
       let both = less before can.prefix can.suffix (chained_with from entry) w apart can.stands in
-      let then-words : chained_with from entry ≡ chained_for from key = ap (λ (b : ℕ). (chain (store_of from) b).reached) same in (
+      let then-words : chained_with from entry ≡ chained_for (store_of from) key = ap (λ (b : ℕ). (chain (store_of from) b).reached) same in (
         λ among. subst (λ (l : List ℕ). is_among l w ≡ true) then-words (both.0 (subst (λ (l : List ℕ). is_among l w ≡ true) (left-here key same) among)),
         λ among. subst (λ (l : List ℕ). is_among l w ≡ true) (sym (left-here key same)) (both.1 (subst (λ (l : List ℕ). is_among l w ≡ true) (sym then-words) among)),
       ))
@@ -174,7 +162,7 @@ module _ (from image : Image) (entry : ℕ) (before : Option ℕ) (can : CanBeUn
   gone : (key : List ℕ) (is_child : Bool) → IsRecordOf image key is_child entry → ⊥
   gone key is_child of =
       let here-then : (store_of from).entry entry ≡ Some of.1.fields = sym (is.keeps.records entry) ∙ of.1.here in
-      let hash : (entry_at from entry).hash ≡ hash_of key = ap (λ (c : RecordFields). c.hash) (shown-core from entry of.1.fields here-then) ∙ of.1.hashed in
+      let hash : (entry_at from entry).hash ≡ hash_of key = ap (λ (c : RecordFields). c.hash) (shown-fields from entry of.1.fields here-then) ∙ of.1.hashed in
       let same : bucket_at from entry ≡ bucket_of_key key = ap bucket_of_hash hash in
       not-left before can.prefix can.suffix (chained_with from entry) can.stands can.whole.once (subst (λ (l : List ℕ). is_among l entry ≡ true) (left-here key same) of.0)
 

@@ -12,12 +12,12 @@ use Rattle.blk_volume.specs.View.{RecordFields, entry_at, store_of}
 use Rattle.blk_volume.specs.Chains.{bucket_of_hash, chain, is_of_bucket, IsChain, Linked}
 use Rattle.blk_format.proofs.Among.{is_among_more}
 use Rattle.blk_disk.specs.Tables.{is_record_among}
-use Rattle.blk_chain.specs.Naming.{HasKey}
+use Rattle.blk_volume.specs.Searches.{HasKey, bucket_of_key, chained_for, NoneHasKey}
 use Rattle.blk_chain.specs.Linking.{bucket_at}
-use Rattle.blk_chain.specs.Unlinking.{CanBeUnlinked, StandsBehind, next_of}
-use Rattle.blk_chain.specs.Finding.{bucket_of_key, chained_for, last_of, up_to, CanBeSearched, EndsWith, HasPassed, IsAnswer, IsFollowed, IsFound, IsKeyed, IsOnTheWay, IsOutcome, IsSought, NoneHasKey, Walks}
+use Rattle.blk_chain.specs.Unlinking.{CanBeUnlinked, StandsBehind, next_record}
+use Rattle.blk_chain.specs.Finding.{last_passed, up_to, CanBeSearched, EndsWith, HasPassed, IsAnswer, IsFollowed, IsFound, IsKeyed, IsOnTheWay, IsOutcome, IsSought, Walks}
 use Rattle.blk_chain.proofs.Apart.{middle-there}
-use Rattle.blk_chain.proofs.Names.{shown-core, shown-follow, shown-kind, shown-of}
+use Rattle.blk_laws.proofs.ChainWords.{shown-fields, shown-chain_next, shown-kind, shown-of}
 use Rattle.blk_chain.proofs.Heads.{named-some, named-sought, sought-named}
 use Rattle.blk_chain.specs.declared.found.Found.{Found}
 use Rattle.blk_disk.specs.declared.tables.BlockFiles.{BlockFiles}
@@ -71,11 +71,11 @@ module _ (image : Image) (key : List ℕ) (is_child : Bool) where
   pub way-begun : (word : ℕ) → CanBeSearched key image → word ≡ (store_of image).table (bucket_of_key key) → IsOnTheWay key is_child word None 131073 image
   way-begun word can prefix = record {
     passed = [];
-    rest = chained_for image key;
+    rest = chained_for (store_of image) key;
     all = refl;
     last = refl;
     others = λ w among named. absurd (never among);
-    linked = subst (λ (x : ℕ). Linked (store_of image) (bucket_of_key key) x (chained_for image key)) (sym prefix) can.whole.linked;
+    linked = subst (λ (x : ℕ). Linked (store_of image) (bucket_of_key key) x (chained_for (store_of image) key)) (sym prefix) can.whole.linked;
     few = omega (arith, can.few);
   } where
     never : false ≡ true → ⊥
@@ -87,16 +87,16 @@ module _ (image : Image) (key : List ℕ) (is_child : Bool) where
     way-left none = let few = way.few in omega (arith, none, few)
 
     -- at the word 0 all is passed
-    pub way-ended : word ≡ 0 → NoneHasKey (chained_for image key) key is_child image
+    pub way-ended : word ≡ 0 → NoneHasKey (store_of image) (chained_for (store_of image) key) key is_child
     way-ended zero =
         let nothing : way.rest ≡ [] = none-next image (bucket_of_key key) word way.rest zero way.linked in
-        subst (λ (words : List ℕ). NoneHasKey words key is_child image) (sym (way.all ∙ ap (λ (l : List ℕ). way.passed ++ l) nothing ∙ append-nil way.passed)) way.others
+        subst (λ (words : List ℕ). NoneHasKey (store_of image) words key is_child) (sym (way.all ∙ ap (λ (l : List ℕ). way.passed ++ l) nothing ∙ append-nil way.passed)) way.others
 
     module _ (some : word ≢ 0) where
       next : IsNext image (bucket_of_key key) word way.rest
       next = next-of image (bucket_of_key key) word way.rest some way.linked
 
-      all-here : chained_for image key ≡ way.passed ++ word ∷ next.suffix
+      all-here : chained_for (store_of image) key ≡ way.passed ++ word ∷ next.suffix
       all-here = way.all ∙ ap (λ (l : List ℕ). way.passed ++ l) next.is
 
       -- another word names a record that checks and has a key
@@ -128,20 +128,20 @@ module _ (image : Image) (key : List ℕ) (is_child : Bool) where
       -- it is found where it has the name
       pub way-found : HasKey (store_of image) key is_child word → IsFound key is_child word before image
       way-found named =
-          let place = ends way.passed before next.suffix (chained_for image key) word way.last all-here in
+          let place = ends way.passed before next.suffix (chained_for (store_of image) key) word way.last all-here in
           record {
             has_key = named;
             prefix = place.0;
             suffix = next.suffix;
             stands = place.1.0;
-            first = subst (λ (words : List ℕ). NoneHasKey words key is_child image) (sym place.1.1) way.others;
+            first = subst (λ (words : List ℕ). NoneHasKey (store_of image) words key is_child) (sym place.1.1) way.others;
           }
 
   -- what is found can be unlinked
   pub found-linked : (entry : ℕ) (before : Option ℕ) → CanBeSearched key image → IsFound key is_child entry before image → CanBeUnlinked entry before image
   found-linked entry before can found =
       let fields : RecordFields = found.has_key.fields in
-      let hash : (entry_at image entry).hash ≡ hash_of key = ap (λ (c : RecordFields). c.hash) (shown-core image entry found.has_key.fields found.has_key.here) ∙ found.has_key.hashed in
+      let hash : (entry_at image entry).hash ≡ hash_of key = ap (λ (c : RecordFields). c.hash) (shown-fields image entry found.has_key.fields found.has_key.here) ∙ found.has_key.hashed in
       let bucket : bucket_at image entry ≡ bucket_of_key key = ap bucket_of_hash hash in
       record {
         whole = subst (λ (n : ℕ). IsChain (store_of image) n (chain (store_of image) n).reached) (sym bucket) can.whole;
@@ -154,11 +154,11 @@ module _ (image : Image) (key : List ℕ) (is_child : Bool) where
 
 -- a walk goes on at the next of a record that is not the one
 pub walks-on : (files : BlockFiles) (key : List ℕ) (is_child : Bool) (image : Image) (start : ℕ) (passed : List ℕ) (word : ℕ) → Walks files key is_child image start passed word → IsFollowed files word image → (IsSought key is_child word image → ⊥)
-    → Walks files key is_child image start (passed ++ word ∷ []) (next_of image word)
+    → Walks files key is_child image start (passed ++ word ∷ []) (next_record image word)
 walks-on files key is_child image start [] word walk followed other = (walk, (followed, (other, refl)))
-walks-on files key is_child image start (w ∷ passed) word walk followed other = (walk.0, (walk.1.0, (walk.1.1.0, walks-on files key is_child image (next_of image w) passed word walk.1.1.1 followed other)))
+walks-on files key is_child image start (w ∷ passed) word walk followed other = (walk.0, (walk.1.0, (walk.1.1.0, walks-on files key is_child image (next_record image w) passed word walk.1.1.1 followed other)))
 
-pub last-on : (before : Option ℕ) (passed : List ℕ) (word : ℕ) → last_of before (passed ++ word ∷ []) ≡ Some word
+pub last-on : (before : Option ℕ) (passed : List ℕ) (word : ℕ) → last_passed before (passed ++ word ∷ []) ≡ Some word
 last-on before [] word = refl
 last-on before (w ∷ passed) word = last-on (Some w) passed word
 
@@ -168,7 +168,7 @@ length-on (w ∷ passed) word = let h = length-on passed word in omega (arith, h
 
 -- one more record is passed
 pub passed-on : (files : BlockFiles) (key : List ℕ) (is_child : Bool) (word : ℕ) (before : Option ℕ) (count more : ℕ) (image : Image) → HasPassed files key is_child word before count image → IsFollowed files word image → (IsSought key is_child word image → ⊥) → more ≡ count + 1
-    → HasPassed files key is_child (next_of image word) (Some word) more image
+    → HasPassed files key is_child (next_record image word) (Some word) more image
 passed-on files key is_child word before count more image has followed other one = record {
   passed = has.passed ++ word ∷ [];
   many = length-on has.passed word ∙ ap (λ (n : ℕ). n + 1) has.many ∙ sym one;
@@ -178,7 +178,7 @@ passed-on files key is_child word before count more image has followed other one
 
 module _ (files : BlockFiles) (image : Image) (key : List ℕ) (is_child : Bool) (can : CanBeSearched key image) where
   -- a walk through a chain that can be searched is on the way
-  way-walked : (passed : List ℕ) (start : ℕ) (before : Option ℕ) (left on : ℕ) → IsOnTheWay key is_child start before left image → Walks files key is_child image start passed on → IsOnTheWay key is_child on (last_of before passed) (left - length passed) image
+  way-walked : (passed : List ℕ) (start : ℕ) (before : Option ℕ) (left on : ℕ) → IsOnTheWay key is_child start before left image → Walks files key is_child image start passed on → IsOnTheWay key is_child on (last_passed before passed) (left - length passed) image
   way-walked [] start before left on way walk =
       let same : left ≡ left - 0 = omega arith in
       subst (λ (n : ℕ). IsOnTheWay key is_child on before n image) same (subst (λ (w : ℕ). IsOnTheWay key is_child w before left image) walk way)
@@ -188,15 +188,15 @@ module _ (files : BlockFiles) (image : Image) (key : List ℕ) (is_child : Bool)
       let other : HasKey (store_of image) key is_child start → ⊥ = (λ named. walk.1.1.0 (subst (λ (x : ℕ). IsSought key is_child x image) walk.0 (named-sought image start keyed key is_child named))) in
       let few = way.few in
       let one : left - 1 + 1 ≡ left = omega (arith, few) in
-      let next : IsOnTheWay key is_child (next_of image start) (Some start) (left - 1) image = way-on image key is_child start before left way some (next_of image start) (left - 1) (sym (shown-follow image start keyed.fields keyed.here)) other one in
-      let there : IsOnTheWay key is_child (next_of image w) (Some w) (left - 1) image = subst (λ (x : ℕ). IsOnTheWay key is_child (next_of image x) (Some x) (left - 1) image) walk.0 next in
+      let next : IsOnTheWay key is_child (next_record image start) (Some start) (left - 1) image = way-on image key is_child start before left way some (next_record image start) (left - 1) (sym (shown-chain_next image start keyed.fields keyed.here)) other one in
+      let there : IsOnTheWay key is_child (next_record image w) (Some w) (left - 1) image = subst (λ (x : ℕ). IsOnTheWay key is_child (next_record image x) (Some x) (left - 1) image) walk.0 next in
       let less : left - 1 - length passed ≡ left - length (w ∷ passed) = omega arith in
-      subst (λ (n : ℕ). IsOnTheWay key is_child on (last_of (Some w) passed) n image) less (way-walked passed (next_of image w) (Some w) (left - 1) on there walk.1.1.1)
+      subst (λ (n : ℕ). IsOnTheWay key is_child on (last_passed (Some w) passed) n image) less (way-walked passed (next_record image w) (Some w) (left - 1) on there walk.1.1.1)
 
   pub way-passed : (word : ℕ) (before : Option ℕ) (count : ℕ) → HasPassed files key is_child word before count image → IsOnTheWay key is_child word before (131073 - count) image
   way-passed word before count has =
       subst (λ (o : Option ℕ). IsOnTheWay key is_child word o (131073 - count) image) has.last
-      (subst (λ (n : ℕ). IsOnTheWay key is_child word (last_of None has.passed) (131073 - n) image) has.many
+      (subst (λ (n : ℕ). IsOnTheWay key is_child word (last_passed None has.passed) (131073 - n) image) has.many
       (way-walked has.passed ((store_of image).table (bucket_of_key key)) None 131073 word (way-begun image key is_child ((store_of image).table (bucket_of_key key)) can refl) has.walk))
 
   -- so what it gives is the answer

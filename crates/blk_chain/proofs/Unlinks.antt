@@ -19,7 +19,7 @@ use Rattle.blk_format.specs.Records.{entry_in, entry_checks, checks}
 use Rattle.blk_volume.specs.View.{RecordFields, entry_at, store_of}
 use Rattle.blk_volume.specs.Chains.{bucket_of_hash, file_and_block, IsChain}
 use Rattle.blk_format.specs.Claims.{claims_of, has_claim}
-use Rattle.blk_volume.specs.Entries.{key_of}
+use Rattle.blk_volume.specs.Entries.{stored_key}
 use Rattle.blk_laws.proofs.ChainLinks.{later-leaves}
 use Rattle.blk_volume.specs.ShownChanges.{OnlyChainNextChanges}
 use Rattle.blk_laws.specs.RecordUpdates.{IsRecord}
@@ -35,9 +35,10 @@ use Rattle.blk_disk.specs.Tables.{Agrees, stands_among}
 use Rattle.blk_format.specs.Sealed.{RecordChecks, AreChanges, IsMidUpdate, IsUpdated, new_seal, placed, record_at, record_range, record_size, seal_place, sealed_steps, size_by_kind, seal_by_kind, update_steps, update_words}
 use Rattle.blk_format.proofs.SealedFields.{record_word, updated_is_new}
 use Rattle.blk_chain.specs.Linking.{bucket_at}
-use Rattle.blk_chain.specs.Unlinking.{CanBeUnlinked, first_claim, IsApart, NamesStay, IsStillLinked, IsUnlinked, KeepsRecords, next_of}
+use Rattle.blk_chain.specs.Unlinking.{CanBeUnlinked, first_claim, IsApart, NamesStay, IsStillLinked, IsUnlinked, KeepsRecords, next_record}
 use Rattle.blk_image.proofs.Commits.{commits_none, commits_prefix}
-use Rattle.blk_chain.proofs.Names.{IsShownOf, shown-of, shown-core, shown-kind, shown-follow, same-core, same-follow}
+use Rattle.blk_laws.proofs.WriteSteps.{quiet-sealed}
+use Rattle.blk_laws.proofs.ChainWords.{record_checks, IsShownOf, shown-of, shown-fields, shown-kind, shown-chain_next, same-fields, same-chain_next}
 use Rattle.blk_chain.proofs.Words.{linked-good}
 use Rattle.blk_chain.proofs.Keys.{first_word, first-clear, first-record, first-moment}
 use Rattle.blk_chain.proofs.Apart.{middle-there, behind-there, front-apart, rest-apart}
@@ -80,7 +81,7 @@ module _ (from : Image) (bytes : AreBytes from) (entry before : ℕ) (can : CanB
   pub is-record : IsRecord from before shown-before.fields
   is-record = record { here = shown-before.here; good = shown-before.good; bytes = bytes }
 
-  next-small : next_of from entry < 2 ^ 32
+  next-small : next_record from entry < 2 ^ 32
   unfolding entry_in
   next-small = word-fits (byte from (Block (file_selector entry))) (bytes (Block (file_selector entry))) (place entry + 4)
 
@@ -112,12 +113,12 @@ module _ (from : Image) (bytes : AreBytes from) (entry before : ℕ) (can : CanB
       follow-same : {bucket : ℕ} (w : ℕ) → IsShownOf (store_of from) bucket w → (store_of image).chain_next w ≡ (store_of from).chain_next w
       follow-same w shown = ⊎_elim
           (λ (e : file_and_block w ≡ file_and_block before).
-          same-follow image w before shown.fields shown-before.fields (records w ∙ shown.here) here-now e ∙ same ∙ sym (same-follow from w before shown.fields shown-before.fields shown.here shown-before.here e))
+          same-chain_next image w before shown.fields shown-before.fields (records w ∙ shown.here) here-now e ∙ same ∙ sym (same-chain_next from w before shown.fields shown-before.fields shown.here shown-before.here e))
           (λ (e : file_and_block w ≢ file_and_block before). sym (only.chain_next w e))
           (cases_eq (file_and_block w) (file_and_block before))
 
     -- where it is the next of the record behind, that one is unlinked
-    now-unlinked : (store_of image).chain_next before ≡ next_of from entry → IsUnlinked from entry (Some before) image
+    now-unlinked : (store_of image).chain_next before ≡ next_record from entry → IsUnlinked from entry (Some before) image
     now-unlinked link = record {
       keeps = keeps;
       chain_now = λ prefix suffix stands. chain-without prefix suffix (subst (λ (ws : List ℕ). IsChain (store_of from) (bucket_at from entry) ws) stands can.whole);
@@ -126,7 +127,7 @@ module _ (from : Image) (bytes : AreBytes from) (entry before : ℕ) (can : CanB
     } where
       elsewhere : (other : ℕ) → (bucket_at from entry == other) ≡ false → (w : ℕ) → IsShownOf (store_of from) other w → (store_of image).chain_next w ≡ (store_of from).chain_next w
       elsewhere other apart w shown = sym (only.chain_next w (λ e.
-          let fields : shown.fields ≡ shown-before.fields = same-core from w before shown.fields shown-before.fields shown.here shown-before.here e in
+          let fields : shown.fields ≡ shown-before.fields = same-fields from w before shown.fields shown-before.fields shown.here shown-before.here e in
           let bucket : bucket_at from entry ≡ other = sym shown-before.in_bucket ∙ ap (λ (c : RecordFields). bucket_of_hash c.hash) (sym fields) ∙ shown.in_bucket in
           let no : true ≡ false = sym (eq-eqb (bucket_at from entry) other bucket) ∙ apart in cc))
 
@@ -136,23 +137,23 @@ module _ (from : Image) (bytes : AreBytes from) (entry before : ℕ) (can : CanB
           (λ x among. ap (λ (o : Option RecordFields). option_map_or (λ fields. fields.checks && (bucket_of_hash fields.hash == bucket_at from entry)) o false) (records x))
           (λ x among. sym (only.chain_next x (front-apart prefix before (entry ∷ suffix) was.once x among)))
           (λ x among. sym (only.chain_next x (rest-apart prefix before (entry ∷ suffix) was.once x (or_right (entry == x) (is_among suffix x) among))))
-          (link ∙ sym (shown-follow from entry shown-entry.fields shown-entry.here))
+          (link ∙ sym (shown-chain_next from entry shown-entry.fields shown-entry.here))
           (sym (only.rest.table (bucket_at from entry)))
           was
 
-  module _ (image : Image) (moment : IsMidUpdate from before ((4, next_of from entry) ∷ []) image) where
-    written : OnlyChainNextChanges before from image × ((store_of image).chain_next before ≡ (if moment.made == 0 then (store_of from).chain_next before else next_of from entry))
-    written = follows-written from image before (next_of from entry) shown-before.fields is-record next-small moment
+  module _ (image : Image) (moment : IsMidUpdate from before ((4, next_record from entry) ∷ []) image) where
+    written : OnlyChainNextChanges before from image × ((store_of image).chain_next before ≡ (if moment.made == 0 then (store_of from).chain_next before else next_record from entry))
+    written = follows-written from image before (next_record from entry) shown-before.fields is-record next-small moment
 
     -- the update as one of the first block alone
     of-first : OnlyChainNextChanges (first_word before) from image
     of-first =
         let kind : kind_of before ≡ 2 = shown-kind from before shown-before.fields shown-before.here in
-        (follows-written from image (first_word before) (next_of from entry) shown-before.fields (record { here = first-record from before shown-before.fields shown-before.here; good = shown-before.good; bytes = bytes }) next-small
-        (first-moment from image before (next_of from entry) kind moment)).0
+        (follows-written from image (first_word before) (next_record from entry) shown-before.fields (record { here = first-record from before shown-before.fields shown-before.here; good = shown-before.good; bytes = bytes }) next-small
+        (first-moment from image before (next_record from entry) kind moment)).0
 
-    key-same : (w : ℕ) (apart : IsApart before (store_of from) w) → key_of (store_of from) w apart.fields ≡ key_of (store_of image) w apart.fields
-    unfolding key_of
+    key-same : (w : ℕ) (apart : IsApart before (store_of from) w) → stored_key (store_of from) w apart.fields ≡ stored_key (store_of image) w apart.fields
+    unfolding stored_key
     key-same w apart = ⊎_elim
         (λ (e : nat_le apart.fields.key_len 927 ≡ true).
         let place : (store_of from).key_place w apart.fields.key_len ≡ (store_of image).key_place w apart.fields.key_len =
@@ -169,60 +170,60 @@ module _ (from : Image) (bytes : AreBytes from) (entry before : ℕ) (can : CanB
         fields = named.fields;
         here = sym (written.0.entry w) ∙ named.here;
         hashed = named.hashed;
-        key = subst (λ (c : RecordFields). key_of (store_of image) w c ≡ key_of (store_of from) w c) (some_inj (sym apart.here ∙ named.here)) (sym (key-same w apart)) ∙ named.key;
+        key = subst (λ (c : RecordFields). stored_key (store_of image) w c ≡ stored_key (store_of from) w c) (some_inj (sym apart.here ∙ named.here)) (sym (key-same w apart)) ∙ named.key;
         flag = named.flag;
       },
       λ named. record {
         fields = named.fields;
         here = written.0.entry w ∙ named.here;
         hashed = named.hashed;
-        key = subst (λ (c : RecordFields). key_of (store_of from) w c ≡ key_of (store_of image) w c) (some_inj (sym apart.here ∙ written.0.entry w ∙ named.here)) (key-same w apart) ∙ named.key;
+        key = subst (λ (c : RecordFields). stored_key (store_of from) w c ≡ stored_key (store_of image) w c) (some_inj (sym apart.here ∙ written.0.entry w ∙ named.here)) (key-same w apart) ∙ named.key;
         flag = named.flag;
       },
     )
 
     -- after it the record is
-    pub unlinked_at : IsUpdated from before ((4, next_of from entry) ∷ []) image → IsUnlinked from entry (Some before) image
+    pub unlinked_at : IsUpdated from before ((4, next_record from entry) ∷ []) image → IsUnlinked from entry (Some before) image
     unfolding entry_in size_by_kind
     unlinked_at done =
         let kind : kind_of before ≡ blocks_256 = shown-kind from before shown-before.fields shown-before.here in
-        let new : word_at (content (record_at image before)) 4 ≡ next_of from entry =
-        updated_is_new from image before ((4, next_of from entry) ∷ []) (next_changes before (next_of from entry) kind) done 0 (4, next_of from entry) (omega arith) (All-cons (λ c. c.1 < 2 ^ 32) (4, next_of from entry) [] next-small (All-nil (λ c. c.1 < 2 ^ 32))) in
+        let new : word_at (content (record_at image before)) 4 ≡ next_record from entry =
+        updated_is_new from image before ((4, next_record from entry) ∷ []) (next_changes before (next_record from entry) kind) done 0 (4, next_record from entry) (omega arith) (All-cons (λ c. c.1 < 2 ^ 32) (4, next_record from entry) [] next-small (All-nil (λ c. c.1 < 2 ^ 32))) in
         let inside : 4 + 4 ≤ record_size before = rw kind (omega arith) in
         let there : (entry_at image before).next ≡ word_at (content (record_at image before)) 4 = sym (record_word image before 4 inside) in
-        now-unlinked image written.0 moment.outside names-stay (shown-follow image before shown-before.fields (sym (written.0.entry before) ∙ shown-before.here) ∙ there ∙ new)
+        now-unlinked image written.0 moment.outside names-stay (shown-chain_next image before shown-before.fields (sym (written.0.entry before) ∙ shown-before.here) ∙ there ∙ new)
 
     -- the link of the record before is the word at its place
     pub link-is : (store_of image).chain_next before ≡ word image (Block (file_selector before)) (place before + 4)
     unfolding entry_in
-    link-is = shown-follow image before shown-before.fields (sym (written.0.entry before) ∙ shown-before.here)
+    link-is = shown-chain_next image before shown-before.fields (sym (written.0.entry before) ∙ shown-before.here)
 
     pub still-at : (store_of image).chain_next before ≡ (store_of from).chain_next before → IsStillLinked from entry (Some before) image
     still-at same = still-linked image written.0 moment.outside names-stay same
 
-    pub unlinked-by : (store_of image).chain_next before ≡ next_of from entry → IsUnlinked from entry (Some before) image
+    pub unlinked-by : (store_of image).chain_next before ≡ next_record from entry → IsUnlinked from entry (Some before) image
     unlinked-by link = now-unlinked image written.0 moment.outside names-stay link
 
   kind-before : kind_of before ≡ blocks_256
   kind-before = shown-kind from before shown-before.fields shown-before.here
 
   -- the record is unlinked from the write of the next on
-  pub turns-with_next : RecordChecks before from → place before + record_size before ≤ length_of from (Block (file_selector before)) → CommitsAt 2 (IsStillLinked from entry (Some before)) (IsUnlinked from entry (Some before)) from (sealed_steps from before ((4, next_of from entry) ∷ []))
+  pub turns-with_next : RecordChecks before from → place before + record_size before ≤ length_of from (Block (file_selector before)) → CommitsAt 2 (IsStillLinked from entry (Some before)) (IsUnlinked from entry (Some before)) from (sealed_steps from before ((4, next_record from entry) ∷ []))
   unfolding update_steps word_step size_by_kind seal_by_kind
   turns-with_next checks fits =
       let f : File = Block (file_selector before) in
       let p : ℕ = place before in
-      let x : ℕ = next_of from entry in
-      let s : ℕ = new_seal from before ((4, next_of from entry) ∷ []) in
+      let x : ℕ = next_record from entry in
+      let s : ℕ = new_seal from before ((4, next_record from entry) ∷ []) in
       let i1 : Image = applied (Word f (p + seal_place before) (word_bytes 0)) from in
       let i2 : Image = applied (Word f (p + 4) (word_bytes x)) i1 in
       let i3 : Image = applied (Word f (p + seal_place before) (word_bytes s)) i2 in
       let at_seal : seal_place before ≡ 92 = entry-seal before kind-before in
       let size : record_size before ≡ 96 = rw kind-before refl in
-      let m = moments before from ((4, next_of from entry) ∷ []) fits checks (All-cons (λ c. c.0 + 4 ≤ seal_place before) (4, next_of from entry) [] (omega (arith, at_seal)) (All-nil (λ c. c.0 + 4 ≤ seal_place before))) in
-      let m1 : IsMidUpdate from before ((4, next_of from entry) ∷ []) i1 = m.1.0 in
-      let m2 : IsMidUpdate from before ((4, next_of from entry) ∷ []) i2 = m.1.1.0 in
-      let m3 : IsMidUpdate from before ((4, next_of from entry) ∷ []) i3 = m.1.1.1 in
+      let m = moments before from ((4, next_record from entry) ∷ []) fits checks (All-cons (λ c. c.0 + 4 ≤ seal_place before) (4, next_record from entry) [] (omega (arith, at_seal)) (All-nil (λ c. c.0 + 4 ≤ seal_place before))) in
+      let m1 : IsMidUpdate from before ((4, next_record from entry) ∷ []) i1 = m.1.0 in
+      let m2 : IsMidUpdate from before ((4, next_record from entry) ∷ []) i2 = m.1.1.0 in
+      let m3 : IsMidUpdate from before ((4, next_record from entry) ∷ []) i3 = m.1.1.1 in
       let long : length_of i1 f ≡ length_of from f = length-after_write from f f (p + seal_place before) (word_bytes 0) in
       let w1 : word i1 f (p + 4) ≡ word from f (p + 4) = word-beside_write from f (p + seal_place before) 0 (p + 4) (inl (omega (arith, at_seal))) in
       let w2 : word i2 f (p + 4) ≡ x = word-after_same i1 f (p + 4) x next-small (omega (arith, fits, size, long)) in
@@ -234,36 +235,21 @@ module _ (from : Image) (bytes : AreBytes from) (entry before : ℕ) (can : CanB
         ),
       )
 
--- a record that is shown to check does so in its bytes
-pub record_checks : (image : Image) (w : ℕ) → AreBytes image → kind_of w ≡ blocks_256 → entry_checks (entry_at image w) ≡ true → RecordChecks w image
-unfolding entry_in record_at
-record_checks image w bytes kind good =
-    let s : seal_place w ≡ 92 = entry-seal w kind in
-    let small : AreSmall (take 92 (record_at image w)) = small-take 92 (record_at image w) (small-range (record_size w) (place w) (byte image (Block (file_selector w))) (bytes (Block (file_selector w)))) in
-    let seal : word_at (byte image (Block (file_selector w))) (place w + 92) ≡ word_at (content (record_at image w)) 92 = sym (record_word image w 92 (omega (arith, s, seal_last (kind_of w)))) in
-    let same : checks 92 (record_at image w) ≡ true =
-    sym (entry_checks-front (record_at image w) small (omega (arith, s, length-record w image))) ∙ sym (entry_checks-by (entry_at image w) (entry_in (content (record_at image w)) 0) seal (entry-here image w kind)) ∙ good in
-    subst (λ (n : ℕ). checks n (record_at image w) ≡ true) (sym s) same
-
 -- the record before checks in its bytes
 pub before_checks : (from : Image) (bytes : AreBytes from) (entry before : ℕ) → CanBeUnlinked entry (Some before) from → RecordChecks before from
 before_checks from bytes entry before can =
     let shown = shown-before from bytes entry before can in
-    record_checks from before bytes (shown-kind from before shown.fields shown.here) (ap (λ (c : RecordFields). c.checks) (shown-core from before shown.fields shown.here) ∙ shown.good)
+    record_checks from before bytes (shown-kind from before shown.fields shown.here) (ap (λ (c : RecordFields). c.checks) (shown-fields from before shown.fields shown.here) ∙ shown.good)
 
 -- the next that was read
-pub next_read : (image : Image) (entry next : ℕ) → next ≡ word image (Block (file_selector entry)) (place entry + 4) → next ≡ next_of image entry
+pub next_read : (image : Image) (entry next : ℕ) → next ≡ word image (Block (file_selector entry)) (place entry + 4) → next ≡ next_record image entry
 unfolding entry_in
 next_read image entry next read = read
 
 -- what is said of the next that was read, after a read
 pub moved : (a m : Told) (entry next : ℕ) (P : Told → Image → ℕ → Type 0) → ForSome a.files (λ image. next ≡ word image (Block (file_selector entry)) (place entry + 4)) → m ≡ a
-    → ForSome m.files (λ from. P m from next) → ForSome a.files (λ from. P a from (next_of from entry))
+    → ForSome m.files (λ from. P m from next) → ForSome a.files (λ from. P a from (next_record from entry))
 moved a m entry next P read stays holds from there = subst (λ (n : ℕ). P a from n) (next_read from entry next (read from there)) (subst (λ (t : Told). ForSome t.files (λ from. P t from next)) stays holds from there)
-
-quiet-sealed : (image : Image) (w : ℕ) (changes : List (ℕ × ℕ)) → IsQuiet (sealed_steps image w changes)
-unfolding update_steps
-quiet-sealed image w changes = quiet-word_steps (Block (file_selector w)) (placed (place w) (update_words (seal_place w) changes (new_seal image w changes)))
 
 -- a list of changes with this next
 abbrev pub with_next : ℕ → List (ℕ × ℕ)
@@ -275,27 +261,27 @@ module _ (a b : Told) (tells : TellsBytes a) (entry before : ℕ) where
   turns_yet stays from there can =
       let checks : RecordChecks before from = before_checks from (tells from there) entry before can in
       commits_none 1 a b from (IsStillLinked from entry (Some before)) (IsUnlinked from entry (Some before)) there stays
-      (still-at from (tells from there) entry before can from (moment_before before from (with_next (next_of from entry)) checks) refl)
+      (still-at from (tells from there) entry before can from (moment_before before from (with_next (next_record from entry)) checks) refl)
 
-  pub turns_then : (files : BlockFiles) → ForSome a.files (Agrees files) → stands_among files before ≡ true → ForSome a.files (λ from. AppliesPrefix a b (sealed_steps from before (with_next (next_of from entry))))
+  pub turns_then : (files : BlockFiles) → ForSome a.files (Agrees files) → stands_among files before ≡ true → ForSome a.files (λ from. AppliesPrefix a b (sealed_steps from before (with_next (next_record from entry))))
       → ForSome a.files (λ from. CanBeUnlinked entry (Some before) from → Commits 2 a b (IsStillLinked from entry (Some before)) (IsUnlinked from entry (Some before)))
   turns_then files agrees stands part from there can =
       let checks : RecordChecks before from = before_checks from (tells from there) entry before can in
       let shown = shown-before from (tells from there) entry before can in
       let inside = stands_range files from before 0 (record_size before) (agrees from there) stands (omega (arith, record_inside before (inr (shown-kind from before shown.fields shown.here)))) in
-      commits_prefix 2 a b from (IsStillLinked from entry (Some before)) (IsUnlinked from entry (Some before)) (sealed_steps from before (with_next (next_of from entry))) there
-      (quiet-sealed from before (with_next (next_of from entry)))
+      commits_prefix 2 a b from (IsStillLinked from entry (Some before)) (IsUnlinked from entry (Some before)) (sealed_steps from before (with_next (next_record from entry))) there
+      (quiet-sealed from before (with_next (next_record from entry)))
       (turns-with_next from (tells from there) entry before can checks (omega (arith, inside))) (part from there)
 
-  pub unlinked_then : ForSome a.files (λ from. RecordChecks before from → Passes a b (IsMidUpdate from before (with_next (next_of from entry)))) → ForSome a.files (λ from. ForSome b.files (IsUpdated from before (with_next (next_of from entry))))
+  pub unlinked_then : ForSome a.files (λ from. RecordChecks before from → Passes a b (IsMidUpdate from before (with_next (next_record from entry)))) → ForSome a.files (λ from. ForSome b.files (IsUpdated from before (with_next (next_record from entry))))
       → ForSome a.files (λ from. CanBeUnlinked entry (Some before) from → ForSome b.files (IsUnlinked from entry (Some before)))
   unlinked_then stops updated from there can image now =
       unlinked_at from (tells from there) entry before can image (passes_end (stops from there (before_checks from (tells from there) entry before can)) image now) (updated from there image now)
 
   -- no length changes
-  pub still_complete : ForSome a.files (λ image. length_of image Index ≡ 262512) → ForSome a.files (λ from. AppliesPrefix a b (sealed_steps from before (with_next (next_of from entry)))) → ForSome a.files (λ from. ForSome b.files (λ image. length_of image Index ≡ 262512))
+  pub still_complete : ForSome a.files (λ image. length_of image Index ≡ 262512) → ForSome a.files (λ from. AppliesPrefix a b (sealed_steps from before (with_next (next_record from entry)))) → ForSome a.files (λ from. ForSome b.files (λ image. length_of image Index ≡ 262512))
   unfolding update_steps
   still_complete complete part from there =
       let whole : Image → Type 0 = (λ image. length_of image Index ≡ 262512) in
       told_part whole (part from there)
-      (λ image here. along_put whole (Block (file_selector before)) (λ i bytes h. h) (placed (place before) (update_words (seal_place before) (with_next (next_of from entry)) (new_seal from before (with_next (next_of from entry))))) image (complete image here))
+      (λ image here. along_put whole (Block (file_selector before)) (λ i bytes h. h) (placed (place before) (update_words (seal_place before) (with_next (next_record from entry)) (new_seal from before (with_next (next_record from entry))))) image (complete image here))

@@ -15,6 +15,7 @@ use Rattle.blk_io.specs.declared.fault.Fault.{Fault}
 use Rattle.blk_io.specs.declared.fault.Fault.TheVariants.{Damaged}
 use Rattle.blk_io.specs.Faults.{IsShort}
 use Rattle.blk_format.specs.Records.{child}
+use Rattle.blk_volume.specs.ListView.{most_nodes}
 use Rattle.blk_volume.specs.View.{RecordFields, entry_at, store_of}
 use Rattle.blk_volume.specs.Chains.{bucket_of_hash, chain, Linked}
 use Rattle.blk_disk.specs.declared.tables.BlockFiles.{BlockFiles}
@@ -23,30 +24,18 @@ use Rattle.blk_entry.specs.Keys.{HasBytesOf, HasReadableKey, HasRecord, IsKeyDam
 use Rattle.blk_chain.specs.declared.found.Found.{Found}
 use Rattle.blk_chain.specs.declared.finding.Step.{Step}
 use Rattle.blk_chain.specs.declared.finding.Step.TheVariants.{Here, On}
-use Rattle.blk_chain.specs.Naming.{HasKey, IsWhole}
-use Rattle.blk_chain.specs.Unlinking.{StandsBehind, next_of}
+use Rattle.blk_volume.specs.Searches.{bucket_of_key, chained_for, HasKey, IsWholeChain, NoneHasKey}
+use Rattle.blk_chain.specs.Unlinking.{StandsBehind, next_record}
 
--- the bucket of a key
-abbrev pub bucket_of_key : List ℕ → ℕ
-bucket_of_key key = bucket_of_hash (hash_of key)
-
--- the records of its chain
-abbrev pub chained_for : Image → List ℕ → List ℕ
-chained_for image key = (chain (store_of image) (bucket_of_key key)).reached
-
--- the most records of a chain that is searched
+-- the most records of a chain that is searched: as many as a list has nodes
 abbrev pub most_searched : ℕ
-most_searched = 131072
+most_searched = most_nodes
 
 -- the chain of a key's bucket can be searched: it ends at the word 0, it isn't too long, and each of its records has a key
 pub record CanBeSearched (key : List ℕ) (image : Image) : Type 0 where
-  pub whole : IsWhole (store_of image) (bucket_of_key key)
-  pub few : length (chained_for image key) ≤ most_searched
-  pub keys : (w : ℕ) → is_among (chained_for image key) w ≡ true → HasReadableKey w image
-
--- none of these words names a record with this key and child flag
-abbrev pub NoneHasKey : List ℕ → List ℕ → Bool → Image → Type 0
-NoneHasKey words key is_child image = (w : ℕ) → is_among words w ≡ true → HasKey (store_of image) key is_child w → ⊥
+  pub whole : IsWholeChain (store_of image) (bucket_of_key key)
+  pub few : length (chained_for (store_of image) key) ≤ most_searched
+  pub keys : (w : ℕ) → is_among (chained_for (store_of image) key) w ≡ true → HasReadableKey w image
 
 -- words up to one, if there is one
 abbrev pub up_to : List ℕ → Option ℕ → List ℕ
@@ -58,12 +47,12 @@ pub record IsFound (key : List ℕ) (is_child : Bool) (entry : ℕ) (before : Op
   pub has_key : HasKey (store_of image) key is_child entry
   pub prefix : List ℕ
   pub suffix : List ℕ
-  pub stands : StandsBehind (chained_for image key) entry before prefix suffix
-  pub first : NoneHasKey (up_to prefix before) key is_child image
+  pub stands : StandsBehind (chained_for (store_of image) key) entry before prefix suffix
+  pub first : NoneHasKey (store_of image) (up_to prefix before) key is_child
 
 -- what a search gives: a record that is found, or nothing where no record of the chain has the key and the child flag
 abbrev pub IsAnswer : List ℕ → Bool → Option Found → Image → Type 0
-IsAnswer key is_child None image = NoneHasKey (chained_for image key) key is_child image
+IsAnswer key is_child None image = NoneHasKey (store_of image) (chained_for (store_of image) key) key is_child
 IsAnswer key is_child (Some found) image = IsFound key is_child found.entry found.before image
 
 -- A search as it goes, from record to record.
@@ -81,18 +70,18 @@ pub record IsFollowed (files : BlockFiles) (w : ℕ) (image : Image) : Type 0 wh
 -- records are passed from a word on up to another one: each word was followed, and no record is the one that is sought
 abbrev pub Walks : BlockFiles → List ℕ → Bool → Image → ℕ → List ℕ → ℕ → Type 0
 Walks files key is_child image word [] on = word ≡ on
-Walks files key is_child image word (w ∷ words) on = (word ≡ w) × (IsFollowed files w image × ((IsSought key is_child w image → ⊥) × Walks files key is_child image (next_of image w) words on))
+Walks files key is_child image word (w ∷ words) on = (word ≡ w) × (IsFollowed files w image × ((IsSought key is_child w image → ⊥) × Walks files key is_child image (next_record image w) words on))
 
 -- the last of words, or what stood before them
-abbrev pub last_of : Option ℕ → List ℕ → Option ℕ
-last_of before [] = before
-last_of before (w ∷ words) = last_of (Some w) words
+abbrev pub last_passed : Option ℕ → List ℕ → Option ℕ
+last_passed before [] = before
+last_passed before (w ∷ words) = last_passed (Some w) words
 
 -- a search has passed so many records, from the word of the bucket on, and stands at a word behind the last of them
 pub record HasPassed (files : BlockFiles) (key : List ℕ) (is_child : Bool) (word : ℕ) (before : Option ℕ) (count : ℕ) (image : Image) : Type 0 where
   pub passed : List ℕ
   pub many : length passed ≡ count
-  pub last : last_of None passed ≡ before
+  pub last : last_passed None passed ≡ before
   pub walk : Walks files key is_child image ((store_of image).table (bucket_of_key key)) passed word
 
 -- it ends at the word 0
@@ -132,8 +121,8 @@ pub record IsDanglingLink (files : BlockFiles) (bucket : ℕ) (damage : Damage) 
   pub some : damage.found ≢ 0
   pub dangling : is_record_among files damage.found ≡ false
 
--- a chain goes on behind the last record that a search passes, which has passed 131073 of them
-pub record IsLong (files : BlockFiles) (told : Told) (key : List ℕ) (is_child : Bool) (damage : Damage) : Type 0 where
+-- a chain goes on behind the last record that a search passes, which has passed one more than is searched
+pub record IsTooLong (files : BlockFiles) (told : Told) (key : List ℕ) (is_child : Bool) (damage : Damage) : Type 0 where
   pub last : ℕ
   pub stands : is_record_among files last ≡ true
   pub link : IsOfLink (bucket_of_key key) (Some last) damage
@@ -148,7 +137,7 @@ pub record IsWrongRecord (files : BlockFiles) (told : Told) (key_len : ℕ) (dam
 
 -- a damage of a chain that is followed: a word that names no record, a wrong record, or a chain that is too long
 abbrev pub IsChainDamage : BlockFiles → Told → List ℕ → Bool → Damage → Type 0
-IsChainDamage files told key is_child damage = IsDanglingLink files (bucket_of_key key) damage ⊎ (IsWrongRecord files told (length key) damage ⊎ IsLong files told key is_child damage)
+IsChainDamage files told key is_child damage = IsDanglingLink files (bucket_of_key key) damage ⊎ (IsWrongRecord files told (length key) damage ⊎ IsTooLong files told key is_child damage)
 
 -- a damage of a search: too few bytes of the bucket's word, or one of the chain
 abbrev pub IsSearchDamage : BlockFiles → Told → List ℕ → Bool → Damage → Type 0
@@ -164,7 +153,7 @@ pub record IsKeyed (w : ℕ) (image : Image) : Type 0 where
   pub key : HasReadableKey w image
 
 -- a fault is a damage of the word of a link
-pub record IsLinkDamage (bucket : ℕ) (before : Option ℕ) (found : ℕ) (fault : Fault) : Type 0 where
+pub record IsFaultOfLink (bucket : ℕ) (before : Option ℕ) (found : ℕ) (fault : Fault) : Type 0 where
   pub damage : Damage
   pub is : fault ≡ Damaged damage
   pub link : IsOfLink bucket before damage
@@ -176,9 +165,9 @@ StandsAt files w (Here entry) = (entry ≡ w) × (is_record_among files w ≡ tr
 StandsAt files w (On link) = (link.before ≡ Some w) × (is_record_among files w ≡ true)
 
 -- the word is followed, and the record is the one that is sought, or it isn't and the search goes on at its next
-abbrev pub IsStep : BlockFiles → List ℕ → Bool → ℕ → Step → Image → Type 0
-IsStep files key is_child w (Here entry) image = IsFollowed files w image × IsSought key is_child w image
-IsStep files key is_child w (On link) image = IsFollowed files w image × ((link.word ≡ next_of image w) × (IsSought key is_child w image → ⊥))
+abbrev pub IsSearchStep : BlockFiles → List ℕ → Bool → ℕ → Step → Image → Type 0
+IsSearchStep files key is_child w (Here entry) image = IsFollowed files w image × IsSought key is_child w image
+IsSearchStep files key is_child w (On link) image = IsFollowed files w image × ((link.word ≡ next_record image w) × (IsSought key is_child w image → ⊥))
 
 -- words end with this one, or there is none
 abbrev pub EndsWith : List ℕ → Option ℕ → Type 0
@@ -189,8 +178,8 @@ EndsWith words (Some w) = (prefix : List ℕ) × (words ≡ prefix ++ w ∷ [])
 pub record IsOnTheWay (key : List ℕ) (is_child : Bool) (word : ℕ) (before : Option ℕ) (left : ℕ) (image : Image) : Type 0 where
   pub passed : List ℕ
   pub rest : List ℕ
-  pub all : chained_for image key ≡ passed ++ rest
+  pub all : chained_for (store_of image) key ≡ passed ++ rest
   pub last : EndsWith passed before
-  pub others : NoneHasKey passed key is_child image
+  pub others : NoneHasKey (store_of image) passed key is_child
   pub linked : Linked (store_of image) (bucket_of_key key) word rest
   pub few : length rest < left

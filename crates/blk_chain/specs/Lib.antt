@@ -1,4 +1,3 @@
-pub mod Naming
 pub mod Linking
 pub mod Unlinking
 pub mod Finding

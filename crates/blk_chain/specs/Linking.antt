@@ -10,7 +10,7 @@ use Rattle.blk_format.specs.Records.{child}
 use Rattle.blk_volume.specs.ListView.{put}
 use Rattle.blk_volume.specs.View.{RecordFields, entry_at, list_of, store_of}
 use Rattle.blk_volume.specs.Chains.{bucket_of_hash, chain, IsChain}
-use Rattle.blk_chain.specs.Naming.{HasKey, IsWhole}
+use Rattle.blk_volume.specs.Searches.{HasKey, IsWholeChain}
 
 -- the bucket of the record that a word names
 abbrev pub bucket_at : Image → ℕ → ℕ
@@ -32,15 +32,15 @@ pub record CanBeLinked (entry : ℕ) (image : Image) : Type 0 where
   pub next : (store_of image).chain_next entry ≡ (store_of image).table (bucket_at image entry)
   pub key : List ℕ
   pub has_key : HasKey (store_of image) key (fields.flags == child) entry
-  pub whole : IsWhole (store_of image) (bucket_at image entry)
+  pub whole : IsWholeChain (store_of image) (bucket_at image entry)
   pub fresh : (w : ℕ) → is_among (chained_with image entry) w ≡ true → HasKey (store_of image) key (fields.flags == child) w → ⊥
 
 -- the one step: the word of the bucket becomes the record
-abbrev pub link_steps : Image → ℕ → List TrailStep
-link_steps image entry = word_step Index (place_of_front image entry) entry
+abbrev pub link_front_steps : Image → ℕ → List TrailStep
+link_front_steps image entry = word_step Index (place_of_front image entry) entry
 
 -- a record is linked: the word of its bucket is all that has changed, the record is in front of the old chain, and the other chains are as before
-pub record IsLinked (from : Image) (entry : ℕ) (image : Image) : Type 0 where
+pub record IsLinkedInFront (from : Image) (entry : ℕ) (image : Image) : Type 0 where
   pub list : list_of image ≡ list_of from
   pub store : store_of image ≡ record (store_of from) { table = put (store_of from).table (bucket_at from entry) entry }
   pub chain_now : IsChain (store_of image) (bucket_at from entry) (entry ∷ chained_with from entry)

@@ -4,13 +4,12 @@ use Rattle.std.specs.declared.option.Option.{Option}
 use Rattle.blk_image.specs.Image.{Image}
 use Rattle.blk_format.specs.BlockFiles.{is_among}
 use Rattle.blk_volume.specs.View.{store_of}
-use Rattle.blk_chain.specs.Naming.{HasKey}
+use Rattle.blk_volume.specs.Searches.{HasKey, chained_for}
 use Rattle.blk_chain.specs.Unlinking.{KeyIsApart}
-use Rattle.blk_chain.specs.Finding.{chained_for}
 
 -- a record is that of a key and a child flag: it has them, and it is in the chain of the key's bucket
 abbrev pub IsRecordOf : Image → List ℕ → Bool → ℕ → Type 0
-IsRecordOf image key is_child w = (is_among (chained_for image key) w ≡ true) × HasKey (store_of image) key is_child w
+IsRecordOf image key is_child w = (is_among (chained_for (store_of image) key) w ≡ true) × HasKey (store_of image) key is_child w
 
 -- the chains are a map: no two records are those of one key and child flag
 abbrev pub AreMap : Image → Type 0

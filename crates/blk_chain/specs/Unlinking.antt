@@ -14,12 +14,13 @@ use Rattle.blk_io.specs.declared.fault.Damage.{Damage}
 use Rattle.blk_io.specs.Faults.{IsShort}
 use Rattle.blk_volume.specs.ListView.{put}
 use Rattle.blk_volume.specs.View.{RecordFields, StoreView, entry_at, list_of, store_of}
-use Rattle.blk_volume.specs.Entries.{is_key_length, longest_short_key}
+use Rattle.blk_volume.specs.Entries.{is_key_length}
 use Rattle.blk_volume.specs.Chains.{chain, file_and_block, IsChain}
 use Rattle.blk_disk.specs.Unsealed.{IsUnsealed}
 use Rattle.blk_format.specs.Sealed.{IsUpdated, RecordChecks, record_range, record_size, sealed_steps}
-use Rattle.blk_chain.specs.Naming.{HasKey, IsWhole}
+use Rattle.blk_volume.specs.Searches.{HasKey, IsWholeChain}
 use Rattle.blk_chain.specs.Linking.{bucket_at, chained_with, place_of_front}
+use Rattle.blk_format.specs.Storage.{longest_short_key}
 
 -- words have this one, with the word before it, if there is one, so many before that, and these behind
 abbrev pub StandsBehind : List ℕ → ℕ → Option ℕ → List ℕ → List ℕ → Type 0
@@ -27,25 +28,25 @@ StandsBehind words w None prefix suffix = (prefix ≡ []) × (words ≡ w ∷ su
 StandsBehind words w (Some before) prefix suffix = words ≡ prefix ++ before ∷ w ∷ suffix
 
 -- those words without this one
-abbrev pub without : Option ℕ → List ℕ → List ℕ → List ℕ
-without None prefix suffix = suffix
-without (Some before) prefix suffix = prefix ++ before ∷ suffix
+abbrev pub without_record : Option ℕ → List ℕ → List ℕ → List ℕ
+without_record None prefix suffix = suffix
+without_record (Some before) prefix suffix = prefix ++ before ∷ suffix
 
 -- a record of a whole chain can be taken out, with the record before it in the chain
 pub record CanBeUnlinked (entry : ℕ) (before : Option ℕ) (image : Image) : Type 0 where
-  pub whole : IsWhole (store_of image) (bucket_at image entry)
+  pub whole : IsWholeChain (store_of image) (bucket_at image entry)
   pub prefix : List ℕ
   pub suffix : List ℕ
   pub stands : StandsBehind (chained_with image entry) entry before prefix suffix
 
 -- a record's next
-abbrev pub next_of : Image → ℕ → ℕ
-next_of image w = (entry_at image w).next
+abbrev pub next_record : Image → ℕ → ℕ
+next_record image w = (entry_at image w).next
 
 -- the steps: the word of the bucket becomes the record's next, or that of the record before does, by a sealed update
 abbrev pub unlink_steps : Image → ℕ → Option ℕ → List TrailStep
-unlink_steps image entry None = word_step Index (place_of_front image entry) (next_of image entry)
-unlink_steps image entry (Some before) = sealed_steps image before ((4, next_of image entry) ∷ [])
+unlink_steps image entry None = word_step Index (place_of_front image entry) (next_record image entry)
+unlink_steps image entry (Some before) = sealed_steps image before ((4, next_record image entry) ∷ [])
 
 -- what they touch: the bucket's word, or the record before
 abbrev pub unlink_range : Image → ℕ → Option ℕ → Footprint
@@ -88,27 +89,27 @@ pub record IsStillLinked (from : Image) (entry : ℕ) (before : Option ℕ) (ima
 
 -- the record before links to the next of the one behind it, and no other link has changed: the table, what the nodes say, and the link of each word of another file or first block are as they were
 pub record IsRelinked (from : Image) (entry : ℕ) (before : ℕ) (image : Image) : Type 0 where
-  pub link : (store_of image).chain_next before ≡ next_of from entry
+  pub link : (store_of image).chain_next before ≡ next_record from entry
   pub table : (bucket : ℕ) → (store_of image).table bucket ≡ (store_of from).table bucket
   pub node_fields : (w : ℕ) → (store_of image).node_fields w ≡ (store_of from).node_fields w
   pub chain_next : (w : ℕ) → file_and_block w ≢ file_and_block before → (store_of image).chain_next w ≡ (store_of from).chain_next w
 
 -- one link has become the record's next: the word of the bucket, or the link of the record before
 abbrev pub OneLinkChanges : Image → ℕ → Option ℕ → Image → Type 0
-OneLinkChanges from entry None image = store_of image ≡ record (store_of from) { table = put (store_of from).table (bucket_at from entry) (next_of from entry) }
+OneLinkChanges from entry None image = store_of image ≡ record (store_of from) { table = put (store_of from).table (bucket_at from entry) (next_record from entry) }
 OneLinkChanges from entry (Some before) image = IsRelinked from entry before image
 
 -- a record is unlinked: its chain is whole without it, the other chains are as they were, and one link alone has changed
 pub record IsUnlinked (from : Image) (entry : ℕ) (before : Option ℕ) (image : Image) : Type 0 where
   pub keeps : KeepsRecords from before (unlink_range from entry before) image
-  pub chain_now : (prefix suffix : List ℕ) → StandsBehind (chained_with from entry) entry before prefix suffix → IsChain (store_of image) (bucket_at from entry) (without before prefix suffix)
+  pub chain_now : (prefix suffix : List ℕ) → StandsBehind (chained_with from entry) entry before prefix suffix → IsChain (store_of image) (bucket_at from entry) (without_record before prefix suffix)
   pub others : (other : ℕ) → (bucket_at from entry == other) ≡ false → chain (store_of image) other ≡ chain (store_of from) other
   pub links : OneLinkChanges from entry before image
 
 -- the record before is the old one with the next of the record that is taken out, and sealed
 abbrev pub IsSealedAgain : Image → ℕ → Option ℕ → Image → Type 0
 IsSealedAgain from entry None image = Unit {0}
-IsSealedAgain from entry (Some before) image = IsUpdated from before ((4, next_of from entry) ∷ []) image
+IsSealedAgain from entry (Some before) image = IsUpdated from before ((4, next_record from entry) ∷ []) image
 
 -- the words that are written until the record is unlinked, that one too: the word of the bucket, or the seal of the record before and its next
 abbrev pub words_to_unlink : Option ℕ → ℕ

@@ -12,7 +12,8 @@ ghost use Rattle.blk_volume.specs.View.{store_of};
 ghost use Rattle.blk_disk.specs.Tables.{Agrees, is_record_among, stands_among};
 ghost use Rattle.blk_entry.specs.Keys.{CanBeRead, IsHead, IsPlaceDamage};
 ghost use Rattle.blk_chain.specs.Unlinking.{CanBeUnlinked};
-ghost use Rattle.blk_chain.specs.Finding.{CanBeSearched, IsAnswer, IsDanglingLink, IsChainDamage, IsKeyed, IsLinkDamage, IsOutcome, IsSearchDamage, IsSought, IsStep, StandsAt, StandsBefore, bucket_of_key};
+ghost use Rattle.blk_chain.specs.Finding.{CanBeSearched, IsAnswer, IsDanglingLink, IsChainDamage, IsKeyed, IsFaultOfLink, IsOutcome, IsSearchDamage, IsSought, IsSearchStep, StandsAt, StandsBefore};
+ghost use Rattle.blk_volume.specs.Searches.{bucket_of_key};
 
 use crate::found::Found;
 use bitflags::Flags;
@@ -149,7 +150,7 @@ fn look_at<F: Folder>(
     requires some { link.now.word ≢ 0 }
     requires kind_before { IfSome link.now.before (λ before. kind_of before ≡ blocks_256) }
     requires named_before { StandsBefore files.now link.now.before }
-    ensures step { IfOk result (λ step. ForSome (F.told f.old).files (IsStep files.now key.now sought.now.child link.now.word step)) }
+    ensures step { IfOk result (λ step. ForSome (F.told f.old).files (IsSearchStep files.now key.now sought.now.child link.now.word step)) }
     ensures stands { IfOk result (StandsAt files.now link.now.word) }
     ensures stays { Stays (F.told f.old) (F.told f.new) }
     ensures damaged { IfDamaged result (IsChainDamage files.now (F.told f.old) key.now sought.now.child) }
@@ -217,7 +218,7 @@ fn record_of(files: &BlockFiles, hash: u32, link: &Link) -> Result<Addr, Fault>
 // The damage of the word of a link: of the word of a bucket, or of a record's next.
 fn damage_of(hash: u32, link: &Link) -> Fault
     requires kind_before { IfSome link.now.before (λ before. kind_of before ≡ blocks_256) }
-    ensures { IsLinkDamage (bucket_of_hash hash) link.now.before link.now.word result }
+    ensures { IsFaultOfLink (bucket_of_hash hash) link.now.before link.now.word result }
 {
     match link.before {
         Some(before) => record_damage(before, EntryView::NEXT, link.word),

@@ -8,7 +8,7 @@ ghost use Rattle.blk_format.specs.Headers.{HasWholeIndex};
 ghost use Rattle.blk_io.specs.declared.folder.FileId.TheVariants as FileId;
 ghost use Rattle.blk_io.specs.Faults.{IfDamaged, IfDevice, IsShort};
 ghost use Rattle.blk_disk.specs.Tables.{Agrees, stands_among};
-ghost use Rattle.blk_chain.specs.Linking.{CanBeLinked, IsLinked, link_steps};
+ghost use Rattle.blk_chain.specs.Linking.{CanBeLinked, IsLinkedInFront, link_front_steps};
 ghost use Rattle.blk_chain.specs.Mapping.{GainsOne};
 
 use blk_addr::Addr;
@@ -29,16 +29,16 @@ pub fn link_front<F: Folder>(f: &mut F, files: &BlockFiles, entry: Addr) -> Resu
     requires agrees { ForSome (F.told f.old).files (Agrees files.now) }
 
     // A record that can be linked is linked, and the chains, a map from keys and child flags to records, have one record more.
-    ensures linked { OnOk result (ForSome (F.told f.old).files (λ from. CanBeLinked entry from → ForSome (F.told f.new).files (IsLinked from entry))) }
+    ensures linked { OnOk result (ForSome (F.told f.old).files (λ from. CanBeLinked entry from → ForSome (F.told f.new).files (IsLinkedInFront from entry))) }
     ensures gains { OnOk result (ForSome (F.told f.old).files (λ from. CanBeLinked entry from → ForSome (F.told f.new).files (GainsOne from entry))) }
     ensures checked { OnOk result (ForSome (F.told f.old).files (λ image. HasRange image (block (file_selector entry)) (place entry) 4)) }
     ensures complete { ForSome (F.told f.new).files HasWholeIndex }
     ensures agrees { ForSome (F.told f.new).files (Agrees files.now) }
-    ensures steps { OnOk result (ForSome (F.told f.old).files (λ from. Applies (F.told f.old) (F.told f.new) (link_steps from entry))) }
-    ensures prefix { ForSome (F.told f.old).files (λ from. AppliesPrefix (F.told f.old) (F.told f.new) (link_steps from entry)) }
+    ensures steps { OnOk result (ForSome (F.told f.old).files (λ from. Applies (F.told f.old) (F.told f.new) (link_front_steps from entry))) }
+    ensures prefix { ForSome (F.told f.old).files (λ from. AppliesPrefix (F.told f.old) (F.told f.new) (link_front_steps from entry)) }
 
     // Until the word of the bucket is written all is as before, and from then on the record is linked and nothing else has changed.
-    ensures commits { ForSome (F.told f.old).files (λ from. CanBeLinked entry from → Commits 1 (F.told f.old) (F.told f.new) (λ image. image ≡ from) (IsLinked from entry)) }
+    ensures commits { ForSome (F.told f.old).files (λ from. CanBeLinked entry from → Commits 1 (F.told f.old) (F.told f.new) (λ image. image ≡ from) (IsLinkedInFront from entry)) }
 
     // A damage is too few bytes, which a folder that tells its files never gives, and nothing was written.
     ensures short { IfDamaged result (IsShort (F.told f.old) (FileId.Block (file_selector entry)) (place entry) 4) }

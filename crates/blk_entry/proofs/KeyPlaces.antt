@@ -19,7 +19,7 @@ use Rattle.blk_format.specs.Standing.{stands}
 use Rattle.blk_format.specs.BlockFiles.{stands_in, stands_in_blocks}
 use Rattle.blk_format.proofs.Bodies.{range-add}
 use Rattle.blk_volume.specs.View.{RecordFields, fields_at, fields_of, entry_at, key_place_at, stands_as, stored_at, store_of}
-use Rattle.blk_volume.specs.Entries.{is_key_length, key_of, longest_key_with}
+use Rattle.blk_volume.specs.Entries.{is_key_length, stored_key, longest_key_with}
 use Rattle.blk_disk.specs.declared.tables.BlockFiles.{BlockFiles}
 use Rattle.blk_disk.specs.Tables.{Agrees, stands_among}
 use Rattle.blk_disk.proofs.Ranges.{stands_agree}
@@ -419,7 +419,7 @@ length_right entry fields e =
 -- what the key of a record is by its words
 record IsKeyOf (image : Image) (entry : ℕ) (key : List ℕ) : Type 0 where
   right : is_key_length entry (fields_of (entry_at image entry)) ≡ true
-  of : key_of (store_of image) entry (fields_of (entry_at image entry)) ≡ Some key
+  of : stored_key (store_of image) entry (fields_of (entry_at image entry)) ≡ Some key
 
 key_parts : (image : Image) (entry : ℕ) (key : List ℕ) → key_at image entry ≡ Some key → IsKeyOf image entry key
 unfolding key_at fields_at
@@ -428,23 +428,23 @@ key_parts image entry key e = by_stands (stands_as image blocks_256 entry) e
     none_some : None ≡ Some key → ⊥
     none_some h = cc
 
-    by_length : (t : Bool) → is_key_length entry (fields_of (entry_at image entry)) ≡ t → (if t then key_of (store_of image) entry (fields_of (entry_at image entry)) else None) ≡ Some key → IsKeyOf image entry key
+    by_length : (t : Bool) → is_key_length entry (fields_of (entry_at image entry)) ≡ t → (if t then stored_key (store_of image) entry (fields_of (entry_at image entry)) else None) ≡ Some key → IsKeyOf image entry key
     by_length true l h = record { right = l; of = h }
     by_length false l h = absurd (none_some h)
 
-    by_stands : (t : Bool) → option_and_then (λ fields. if is_key_length entry fields then key_of (store_of image) entry fields else None) (if t then Some (fields_of (entry_at image entry)) else None) ≡ Some key → IsKeyOf image entry key
+    by_stands : (t : Bool) → option_and_then (λ fields. if is_key_length entry fields then stored_key (store_of image) entry fields else None) (if t then Some (fields_of (entry_at image entry)) else None) ≡ Some key → IsKeyOf image entry key
     by_stands true h = by_length (is_key_length entry (fields_of (entry_at image entry))) refl h
     by_stands false h = absurd (none_some h)
 
 pub key_facts : (files : BlockFiles) (image : Image) (entry : ℕ) (key : List ℕ) → Agrees files image → kind_of entry ≡ blocks_256 → key_at image entry ≡ Some key → IsKey files image entry key (entry_at image entry).key_len (entry_at image entry).long_key
-unfolding key_of store_of key_place_at
+unfolding stored_key store_of key_place_at
 key_facts files image entry key agrees kind e =
     let parts = key_parts image entry key e in
     keyed files image entry key (entry_at image entry).key_len (entry_at image entry).long_key agrees kind (length_right entry (fields_of (entry_at image entry)) parts.right) parts.of
 
 -- a key that is read is the bytes where the words of its record say that it lies
 pub key_is_bytes : (image : Image) (entry : ℕ) (key : List ℕ) → kind_of entry ≡ blocks_256 → key_at image entry ≡ Some key → key ≡ key_bytes image entry
-unfolding key_of store_of key_place_at key_bytes
+unfolding stored_key store_of key_place_at key_bytes
 key_is_bytes image entry key kind e = bytes_keyed image entry key (entry_at image entry).key_len (entry_at image entry).long_key kind (key_parts image entry key e).of
 
 -- A read that gave too few bytes.

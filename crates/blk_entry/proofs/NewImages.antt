@@ -8,7 +8,7 @@ use Rattle.std.proofs.lemmas.Bool.Decides.{nat_tests}
 use Rattle.std.specs.Option.{ForSome}
 use Rattle.blk_image.specs.Bytes.{content, range_at, spliced}
 use Rattle.blk_image.specs.Image.{File, Block, Image, HasRange, byte, bytes_of, same_file}
-use Rattle.blk_image.specs.Steps.{TrailStep, after, words, written}
+use Rattle.blk_image.specs.Steps.{TrailStep, after, words, written_over}
 use Rattle.blk_image.specs.Footprint.{Footprint, SameOutside, range}
 use Rattle.blk_image.specs.Told.{Told, Applies}
 use Rattle.blk_image.proofs.Cuts.{after-append, after-words}
@@ -47,7 +47,7 @@ there_after : (f : File) (p : ℕ) (bs : List ℕ) (image : Image) → HasRange 
 there_after f p bs image fits =
     let old : List ℕ = bytes_of image f in
     let file : bytes_of (after (words f p bs) image) f ≡ spliced p bs old =
-    ap (λ (i : Image). bytes_of i f) (after-words f p bs image) ∙ ap (λ (o : Option (List ℕ)). unwrap_or o []) (with_file-same image f (written p bs (image f))) ∙ bytes-written (image f) p bs in
+    ap (λ (i : Image). bytes_of i f) (after-words f p bs image) ∙ ap (λ (o : Option (List ℕ)). unwrap_or o []) (with_file-same image f (written_over p bs (image f))) ∙ bytes-written (image f) p bs in
     ap (λ (l : List ℕ). range_at (content l) p (length bs)) file
     ∙ range-is (length bs) p (spliced p bs old) (omega (arith, fits, length-spliced p bs old))
     ∙ ap (λ (l : List ℕ). take (length bs) (drop p l)) (spliced-is p bs old fits)

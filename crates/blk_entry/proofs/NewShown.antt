@@ -8,12 +8,12 @@ use Rattle.blk_image.specs.Bytes.{range_at}
 use Rattle.blk_image.specs.Image.{Block, External, Image, byte, has_file, length_of}
 use Rattle.blk_format.specs.Address.{is_address, kind_of, block_count, blocks_256, external, external_number, file_selector, place, rankings}
 use Rattle.blk_format.specs.Hash.{hash}
-use Rattle.blk_format.specs.Records.{entry_checks, entry_is_sealed, node_checks, node_is_sealed, child, plain, parent, normal}
+use Rattle.blk_format.specs.Records.{entry_checks, entry_is_sealed, node_checks, node_is_sealed, child, plain, parent, entry_normal}
 use Rattle.blk_format.specs.Storage.{entry_blocks, is_storage}
 use Rattle.blk_format.specs.Standing.{stands}
 use Rattle.blk_format.specs.BlockFiles.{stands_in, stands_in_blocks}
 use Rattle.blk_volume.specs.View.{RecordFields, StoreView, checks_at, fields_at, fields_of, follow_at, key_place_at, list_of, node_fields_at, next_at, stands_as, store_of, stored_at}
-use Rattle.blk_volume.specs.Entries.{IsPlain, is_key_length, key_of, role_of, stream_of, streams_of}
+use Rattle.blk_volume.specs.Entries.{IsPlain, is_key_length, stored_key, role_of, stored_stream, stored_streams}
 use Rattle.blk_volume.specs.Loads.{Loaded, unchained_rule, load, load_key, load_record}
 use Rattle.blk_volume.specs.Reasons.{Reason, ◌>>=◌, demand}
 use Rattle.blk_volume.specs.Reasons as reason
@@ -84,9 +84,9 @@ unfolding new_record
 others_are new key moment = refl
 
 -- a record that checks loads as what it says
-checked_loads : (store : StoreView) (node contents dirty : ℕ) (fields : RecordFields) (answer : Result Loaded Reason) → fields.checks ≡ true → load_record store (unchained_rule normal) node contents dirty fields ≡ answer
-    → (demand fields.checks reason.Seal >>= (λ _. load_record store (unchained_rule normal) node contents dirty fields)) ≡ answer
-checked_loads store node contents dirty fields answer good is = ap (λ (b : Bool). demand b reason.Seal >>= (λ _. load_record store (unchained_rule normal) node contents dirty fields)) good ∙ is
+checked_loads : (store : StoreView) (node contents dirty : ℕ) (fields : RecordFields) (answer : Result Loaded Reason) → fields.checks ≡ true → load_record store (unchained_rule entry_normal) node contents dirty fields ≡ answer
+    → (demand fields.checks reason.Seal >>= (λ _. load_record store (unchained_rule entry_normal) node contents dirty fields)) ≡ answer
+checked_loads store node contents dirty fields answer good is = ap (λ (b : Bool). demand b reason.Seal >>= (λ _. load_record store (unchained_rule entry_normal) node contents dirty fields)) good ∙ is
 
 -- data whose address is its storage, and stands
 stored_there : (image : Image) (size w : ℕ) → 0 < size → is_storage size w ≡ true → stands_in image w ≡ true → (kind_of w ≡ external → length_of image (External (external_number w)) ≡ size) → stored_at image size w ≡ Some (data_at image w 0 size)
@@ -144,8 +144,8 @@ module _ (files : BlockFiles) (new : NewEntry) (key : List ℕ) (moment : ℕ) (
       by_child true less = grind (arith, nat_tests)
       by_child false less = grind (arith, nat_tests)
 
-  key_found : key_of (store_of image) new.entry (fields_of (new_record new key moment)) ≡ Some key
-  unfolding key_of store_of new_record key_place_at stores
+  key_found : stored_key (store_of image) new.entry (fields_of (new_record new key moment)) ≡ Some key
+  unfolding stored_key store_of new_record key_place_at stores
   key_found = by_place new.long_key fits.long has done.key_there
     where
       by_place : (o : Option ℕ) → IsLongPlace files (length key) o → HasItsLength o (length key) image → data_at image (address_of_key new.entry o) (before_key o) (length key) ≡ key
@@ -170,12 +170,12 @@ module _ (files : BlockFiles) (new : NewEntry) (key : List ℕ) (moment : ℕ) (
   key_shown : key_at image new.entry ≡ Some key
   unfolding key_at
   key_shown =
-      ap (option_and_then (λ (fields : RecordFields). if is_key_length new.entry fields then key_of (store_of image) new.entry fields else None)) core_here
-      ∙ ap (λ (b : Bool). if b then key_of (store_of image) new.entry (fields_of (new_record new key moment)) else None) length_right
+      ap (option_and_then (λ (fields : RecordFields). if is_key_length new.entry fields then stored_key (store_of image) new.entry fields else None)) core_here
+      ∙ ap (λ (b : Bool). if b then stored_key (store_of image) new.entry (fields_of (new_record new key moment)) else None) length_right
       ∙ key_found
 
-  streams_shown : streams_of (store_of image) (fields_of (new_record new key moment)) ≡ Some ([] ∷ [] ∷ [] ∷ [])
-  unfolding streams_of stream_of store_of stored_at is_storage new_record
+  streams_shown : stored_streams (store_of image) (fields_of (new_record new key moment)) ≡ Some ([] ∷ [] ∷ [] ∷ [])
+  unfolding stored_streams stored_stream store_of stored_at is_storage new_record
   streams_shown = refl
 
   shown_here : IsShownNew new key moment image
@@ -183,7 +183,7 @@ module _ (files : BlockFiles) (new : NewEntry) (key : List ℕ) (moment : ℕ) (
   shown_here = record { checks = node_checks_here; next = node_next; node_fields = node_named; fields = core_here; chain_next = follow_here; key_is = key_shown; streams = streams_shown }
 
   -- a plain entry loads
-  key_loads : load_key (store_of image) (unchained_rule normal) new.node new.entry new.dirty (fields_of (new_record new key moment)) ≡ Ok key
+  key_loads : load_key (store_of image) (unchained_rule entry_normal) new.node new.entry new.dirty (fields_of (new_record new key moment)) ≡ Ok key
   unfolding load_key
   key_loads =
       let back : ((new_record new key moment).rankings_node == new.node) ≡ true = record_back in
@@ -216,11 +216,11 @@ module _ (files : BlockFiles) (new : NewEntry) (key : List ℕ) (moment : ℕ) (
       let two : ((new_record new key moment).flags == child) ≡ false = ap (λ (n : ℕ). n == 2) flags in
       rw (one, two) refl
 
-  record_loads_here : new.child ≡ false → load_record (store_of image) (unchained_rule normal) new.node new.entry new.dirty (fields_of (new_record new key moment)) ≡ Ok (loaded_new new key)
+  record_loads_here : new.child ≡ false → load_record (store_of image) (unchained_rule entry_normal) new.node new.entry new.dirty (fields_of (new_record new key moment)) ≡ Ok (loaded_new new key)
   unfolding load_record
   record_loads_here none = rw (key_loads, streams_shown, role_is none) (ap (λ (others : List ℕ). Ok (record { node = new.node; contents = new.entry; dirty = new.dirty; key = key; role = IsPlain; streams = [] ∷ [] ∷ [] ∷ []; others = others })) (others_are new key moment))
 
-  loads_here : new.child ≡ false → load (store_of image) (unchained_rule normal) new.node ≡ Ok (loaded_new new key)
+  loads_here : new.child ≡ false → load (store_of image) (unchained_rule entry_normal) new.node ≡ Ok (loaded_new new key)
   unfolding load
   loads_here none = rw (shown_here.node_fields, shown_here.fields) (checked_loads (store_of image) new.node new.entry new.dirty (fields_of (new_record new key moment)) (Ok (loaded_new new key)) (record_is_good new key moment) (record_loads_here none))
 
@@ -235,5 +235,5 @@ module _ (files : BlockFiles) (new : NewEntry) (key : List ℕ) (moment : ℕ) (
   pub shown_there : ForSome c.files (IsShownNew new key moment)
   shown_there image there = shown_here files new key moment fits are image (agrees image there) (lengths_last image there) (done image there)
 
-  pub loads_there : new.child ≡ false → ForSome c.files (λ image. load (store_of image) (unchained_rule normal) new.node ≡ Ok (loaded_new new key))
+  pub loads_there : new.child ≡ false → ForSome c.files (λ image. load (store_of image) (unchained_rule entry_normal) new.node ≡ Ok (loaded_new new key))
   loads_there none image there = loads_here files new key moment fits are image (agrees image there) (lengths_last image there) (done image there) none

@@ -8,9 +8,9 @@ use Rattle.blk_image.specs.Told.{Told}
 use Rattle.blk_format.specs.Address.{kind_of, block_count, external, external_number, file_selector, place, byte_size}
 use Rattle.blk_format.specs.Hash.{hash as hash_of}
 use Rattle.blk_format.specs.Records.{entry_size}
-use Rattle.blk_format.specs.Storage.{entry_blocks, is_storage}
+use Rattle.blk_format.specs.Storage.{entry_blocks, is_storage, longest_short_key}
 use Rattle.blk_volume.specs.View.{fields_at, entry_at, store_of}
-use Rattle.blk_volume.specs.Entries.{is_key_length, key_of, longest_short_key}
+use Rattle.blk_volume.specs.Entries.{is_key_length, stored_key}
 use Rattle.blk_io.specs.declared.folder.FileId.{FileId}
 use Rattle.blk_io.specs.declared.folder.FileId.TheVariants as names
 use Rattle.blk_io.specs.declared.fault.Damage.{Damage}
@@ -26,7 +26,7 @@ use Rattle.blk_entry.specs.declared.keys.KeyPlace.{KeyPlace}
 
 -- the key of the record that a word names, where the length and the place of the key are right
 unfoldable pub key_at : Image → ℕ → Option (List ℕ)
-key_at image entry = option_and_then (λ fields. if is_key_length entry fields then key_of (store_of image) entry fields else None) (fields_at image entry)
+key_at image entry = option_and_then (λ fields. if is_key_length entry fields then stored_key (store_of image) entry fields else None) (fields_at image entry)
 
 -- the bytes of the key's place in a record of one block
 abbrev pub key_place_bytes : ℕ

@@ -8,10 +8,10 @@ use Rattle.blk_format.specs.Address.{is_address, kind_of, block_count, first_blo
 use Rattle.blk_format.specs.BlockFiles.{IsWellFormed}
 use Rattle.blk_format.specs.Headers.{HasWholeIndex}
 use Rattle.blk_format.specs.Hash.{hash as hash_of}
-use Rattle.blk_format.specs.Records.{Entry, Node, entry_body, entry_size, sealed_entry, node_body, sealed_node, normal, plain, child}
+use Rattle.blk_format.specs.Records.{Entry, Node, entry_body, entry_size, sealed_entry, node_body, sealed_node, entry_normal, plain, child}
 use Rattle.blk_format.specs.Storage.{entry_blocks}
 use Rattle.blk_volume.specs.View.{entry_at, node_at, fields_of, list_of, store_of}
-use Rattle.blk_volume.specs.Entries.{IsPlain, streams_of}
+use Rattle.blk_volume.specs.Entries.{IsPlain, stored_streams}
 use Rattle.blk_volume.specs.Loads.{Loaded}
 use Rattle.blk_disk.specs.declared.tables.BlockFiles.{BlockFiles}
 use Rattle.blk_disk.specs.Tables.{stands_among}
@@ -82,7 +82,7 @@ new_record new key moment = sealed_entry (record {
   rankings_node = new.node;
   reuse_count = 0;
   refetch_count = 0;
-  state = normal;
+  state = entry_normal;
   creation_time = moment;
   key_len = length key;
   long_key = unwrap_or new.long_key 0;
@@ -182,4 +182,4 @@ pub record IsShownNew (new : NewEntry) (key : List ℕ) (moment : ℕ) (image : 
   pub fields : (store_of image).entry new.entry ≡ Some (fields_of (new_record new key moment))
   pub chain_next : (store_of image).chain_next new.entry ≡ new.next
   pub key_is : key_at image new.entry ≡ Some key
-  pub streams : streams_of (store_of image) (fields_of (new_record new key moment)) ≡ Some ([] ∷ [] ∷ [] ∷ [])
+  pub streams : stored_streams (store_of image) (fields_of (new_record new key moment)) ≡ Some ([] ∷ [] ∷ [] ∷ [])

@@ -68,7 +68,7 @@ pub fn write_entry<F: Folder>(
     ensures shown { OnOk result (ForSome (F.told f.new).files (IsShownNew new.now key.now moment)) }
 
     // A plain entry loads by itself. A part has no index yet.
-    ensures loads { OnOk result (new.now.child ≡ false → ForSome (F.told f.new).files (λ image. load (store_of image) (unchained_rule records.normal) new.now.node ≡ Ok (loaded_new new.now key.now))) }
+    ensures loads { OnOk result (new.now.child ≡ false → ForSome (F.told f.new).files (λ image. load (store_of image) (unchained_rule records.entry_normal) new.now.node ≡ Ok (loaded_new new.now key.now))) }
 
     ensures agrees { ForSome (F.told f.new).files (Agrees files.now) }
     ensures complete { ForSome (F.told f.old).files HasWholeIndex → ForSome (F.told f.new).files HasWholeIndex }

@@ -3,6 +3,7 @@ use Rattle.std.proofs.Common.{◌≡◌, ℕ, zero, suc, ◌-◌, ◌≤◌, ◌
 use Rattle.std.specs.Prelude.{◌==◌, nat_le, nat_lt}
 use Rattle.std.specs.declared.option.Option.{Option}
 use Rattle.std.proofs.lemmas.Bool.Decides.{nat_tests}
+use Rattle.std.proofs.Math.Bool.{or-true}
 use Rattle.blk_image.specs.Bytes.{word_at}
 use Rattle.blk_image.specs.Image.{Block, Image, byte, length_of}
 use Rattle.blk_image.specs.Checks as checks
@@ -112,11 +113,7 @@ first_along next (suc left) k = let e : (k == k) ≡ true = grind (arith, nat_te
 
 pub later_along : (next : ℕ → ℕ) (left k m : ℕ) → (next k == 0) ≡ false → is_among (files_along next left (next k)) m ≡ true → is_among (files_along next (suc left) k) m ≡ true
 unfolding files_along
-later_along next left k m some inside = rw (some, inside) (or_true (k == m))
-  where
-    or_true : (t : Bool) → (t || true) ≡ true
-    or_true true = refl
-    or_true false = refl
+later_along next left k m some inside = rw (some, inside) (or-true (k == m))
 
 -- the link of a file whose checks hold
 pub link_of : (image : Image) (kind : ℕ) (met : List ℕ) (left k : ℕ) → first_of (file_checks kind met left k (byte image (Block k)) (length_of image (Block k))) ≡ None → is_link met left (next_file_in image k) ≡ true

@@ -2,6 +2,7 @@
 use Rattle.std.proofs.Common.{◌≡◌, ℕ, zero, suc, ◌-◌, ◌<◌, ◌≤◌, ◌⊎◌, inl, inr, List, [], ◌∷◌, ◌++◌, Bool, true, false, ◌||◌, if◌then◌else◌, Option, None, Some, refl, subst, arith, ⊎_elim}
 use Rattle.std.specs.Prelude.{◌==◌, ◌%◌, is_some}
 use Rattle.std.proofs.lemmas.Bool.Decides.{nat_tests}
+use Rattle.std.proofs.lemmas.Bool.{or_cases}
 use Rattle.blk_image.specs.Bytes.{word_at}
 use Rattle.blk_image.specs.Image.{Image, Block, byte, length_of}
 use Rattle.blk_image.specs.Checks.{first_of}
@@ -33,24 +34,20 @@ head_checked : (image : Image) (kind : ℕ) (met : List ℕ) (left m : ℕ) → 
 unfolding max_entries_in
 head_checked image kind met left m small none = let passed = checks_hold kind met left m (byte image (Block m)) (length_of image (Block m)) none in let whole = passed.whole in record { number = small; header = grind (arith, nat_tests); count = passed.count }
 
-or_true : (a b : Bool) → (a || b) ≡ true → (a ≡ true) ⊎ (b ≡ true)
-or_true true b e = inl refl
-or_true false b e = inr e
-
 same_number : (k m : ℕ) → (k == m) ≡ true → k ≡ m
 same_number k m e = grind (arith, nat_tests)
 
 along_checked : (image : Image) (kind left k : ℕ) (met : List ℕ) (m : ℕ) → k < 256 → is_among (files_along (next_file_in image) left k) m ≡ true → first_of (checks_along image kind met left k) ≡ None → HasHead image m
 unfolding files_along checks_along
 along_checked image kind zero k met m small among none =
-    ⊎_elim (λ here. subst (HasHead image) (same_number k m here) (head_checked image kind (met ++ k ∷ []) 0 k small none)) (λ e. absurd (clash e)) (or_true (k == m) false among)
+    ⊎_elim (λ here. subst (HasHead image) (same_number k m here) (head_checked image kind (met ++ k ∷ []) 0 k small none)) (λ e. absurd (clash e)) (or_cases (k == m) false among)
   where
     clash : false ≡ true → ⊥
     clash e = cc
 along_checked image kind (suc left) k met m small among none =
     ⊎_elim (λ here. subst (HasHead image) (same_number k m here) (head_checked image kind (met ++ k ∷ []) (suc left) k small parts.0))
     (λ there. by_test (next_file_in image k == 0) there parts.1 (along_checked image kind left (next_file_in image k) (met ++ k ∷ []) m (unfold next_file_in in next_small kind (met ++ k ∷ []) (suc left) k (byte image (Block k)) (length_of image (Block k)) parts.0)))
-    (or_true (k == m) (is_among (if next_file_in image k == 0 then [] else files_along (next_file_in image) left (next_file_in image k)) m) among)
+    (or_cases (k == m) (is_among (if next_file_in image k == 0 then [] else files_along (next_file_in image) left (next_file_in image k)) m) among)
   where
     parts : (first_of (file_checks kind (met ++ k ∷ []) (suc left) k (byte image (Block k)) (length_of image (Block k))) ≡ None) × (first_of (if next_file_in image k == 0 then [] else checks_along image kind (met ++ k ∷ []) left (next_file_in image k)) ≡ None)
     parts = none_parts (file_checks kind (met ++ k ∷ []) (suc left) k (byte image (Block k)) (length_of image (Block k))) (if next_file_in image k == 0 then [] else checks_along image kind (met ++ k ∷ []) left (next_file_in image k)) none

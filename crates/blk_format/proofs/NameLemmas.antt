@@ -4,19 +4,15 @@ use Rattle.std.specs.Prelude.{map, ◌==◌, ◌&&◌, nat_lt, drop, if◌then�
 use Rattle.std.specs.Str.{bytes_eq}
 use Rattle.std.specs.List.{AllByRecursion}
 use Rattle.std.specs.Fmt.{digits, digits_onto, digit_glyph}
-use Rattle.std.proofs.lemmas.List.{append-nil}
+use Rattle.std.proofs.lemmas.List.{append-nil, map-append}
 use Rattle.std.specs.Int.Digits.{digits_of, number_from_digits, AllBelowBase}
 use Rattle.std.proofs.lemmas.Int.Digits.{digits_of_step, all_below_base_digits_of, number_digits_of}
-use Rattle.std.proofs.lemmas.Bool.{eqb-true, eq-eqb, ne_eqb, cases_lt, lt-ltb, le-ltb, cases_Bool}
+use Rattle.std.proofs.lemmas.Bool.{eqb-true, eq-eqb, ne_eqb, cases_lt, lt-ltb, le-ltb, cases_Bool, and_parts}
 use Rattle.std.proofs.lemmas.Bool.Decides.{nat_tests}
 use Rattle.std.proofs.lemmas.Option.{option_and_then_some, cond_some}
 use Rattle.std.proofs.lemmas.Slice.Eq.{bytes_eq-Decides}
 use Rattle.std.proofs.Math.Nat.{pow-zero, pow-suc}
 use Rattle.blk_format.specs.Names.{hexadecimal, name_head, colon, child_name, Name, may_be_named, IsName, hex_digit, hex_number, split_last, where_printed, said_by, name_in_halves, read_name, ReadsNames}
-
-map-append : (f : ℕ → ℕ) (xs ys : List ℕ) → map f (xs ++ ys) ≡ map f xs ++ map f ys
-map-append f [] ys = refl
-map-append f (x ∷ xs) ys = ap (λ (l : List ℕ). f x ∷ l) (map-append f xs ys)
 
 -- the digits of a number, behind its last one
 glyphs_step : (n : ℕ) (acc : List ℕ) → 0 < n → map (digit_glyph false) (digits_of 16 n) ++ acc ≡ map (digit_glyph false) (digits_of 16 (n / 16)) ++ digit_glyph false (n % 16) ∷ acc
@@ -104,10 +100,6 @@ hexadecimal-no_colon n fits = ⊎_elim
     (λ (some : (n == 0) ≡ false). ap split_last (text-of n fits (grind (arith, nat_tests))) ∙ no_colon (map (digit_glyph false) (digits_of 16 n)) (digits-no_colon (digits_of 16 n) (all_below_base_digits_of 16 n (omega arith))))
     (cases_Bool (n == 0))
 
-both : (a b : Bool) → (a && b) ≡ true → (a ≡ true) × (b ≡ true)
-both true b e = (refl, e)
-both false b e = cc
-
 -- what is read of the three parts
 read_parts : (bytes front text rest middle : List ℕ) → split_last bytes ≡ Some (front, text) → split_last front ≡ Some (rest, middle)
     → read_name bytes ≡ where_printed bytes (record { key = drop 6 rest; signature = hex_number middle; part = hex_number text })
@@ -140,7 +132,7 @@ read_name-child_name name fits =
 printed-IsName : (bytes : List ℕ) (said name : Name) → where_printed bytes said ≡ Some name → IsName bytes name
 printed-IsName bytes said name e =
     let parts = cond_some (may_be_named said && bytes_eq bytes (child_name said.key said.signature said.part)) said name e in
-    let tests : (may_be_named said ≡ true) × (bytes_eq bytes (child_name said.key said.signature said.part) ≡ true) = both _ _ parts.0 in
+    let tests : (may_be_named said ≡ true) × (bytes_eq bytes (child_name said.key said.signature said.part) ≡ true) = and_parts _ _ parts.0 in
     subst (λ (x : Name). IsName bytes x) parts.1 (record { fits = tests.0; printed = (bytes_eq-Decides bytes (child_name said.key said.signature said.part)).0 tests.1 })
 
 -- what is read is a name

@@ -98,21 +98,34 @@ filled_of f = word_at f 264
 abbrev pub sizes_of : (ℕ → ℕ) → ℕ → ℕ
 sizes_of f i = word_at f (268 + 4 * i)
 
+-- the places of the four words that say where the use list begins and ends, and what is in flight
+abbrev pub heads_place : ℕ
+heads_place = 288
+
+abbrev pub tails_place : ℕ
+tails_place = 308
+
+abbrev pub transaction_place : ℕ
+transaction_place = 328
+
+abbrev pub operation_place : ℕ
+operation_place = 332
+
 -- word i of 5: the head of the use list, and then zeros
 abbrev pub heads_of : (ℕ → ℕ) → ℕ → ℕ
-heads_of f i = word_at f (288 + 4 * i)
+heads_of f i = word_at f (heads_place + 4 * i)
 
 -- word i of 5: the tail of the use list, and then zeros
 abbrev pub tails_of : (ℕ → ℕ) → ℕ → ℕ
-tails_of f i = word_at f (308 + 4 * i)
+tails_of f i = word_at f (tails_place + 4 * i)
 
 -- the node of the operation in flight, or 0
 abbrev pub transaction_of : (ℕ → ℕ) → ℕ
-transaction_of f = word_at f 328
+transaction_of f = word_at f transaction_place
 
 -- the operation: 1 insert, 2 remove, 3 move
 abbrev pub operation_of : (ℕ → ℕ) → ℕ
-operation_of f = word_at f 332
+operation_of f = word_at f operation_place
 
 -- always 0
 abbrev pub operation_list_of : (ℕ → ℕ) → ℕ
@@ -219,7 +232,7 @@ is_in_word word i = nat_le word i && nat_lt i (word + 4)
 
 -- the places of the index that are compared here: the head, the tail, the transaction, and the table; the operation is not among them
 abbrev pub is_shown_place : ℕ → Bool
-is_shown_place i = is_in_word 288 i || is_in_word 308 i || is_in_word 328 i || nat_le 368 i
+is_shown_place i = is_in_word heads_place i || is_in_word tails_place i || is_in_word transaction_place i || nat_le header_length i
 
 -- the places of a block file's header that say which blocks there are: next_file and max_entries
 abbrev pub is_extent_place : ℕ → Bool

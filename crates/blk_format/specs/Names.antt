@@ -1,11 +1,12 @@
 -- Names of the parts of a sparse entry: `Range_`, the parent's key, `:`, the signature, `:`, the part, both numbers in lower-case hexadecimal.
-use Rattle.std.specs.Prelude.{◌≡◌, ℕ, ◌-◌, ◌^◌, List, [], ◌∷◌, ◌++◌, length, drop, map, codes, Bool, true, false, ◌&&◌, nat_lt, nat_le, ◌==◌, if◌then◌else◌}
+use Rattle.std.specs.Prelude.{◌≡◌, ℕ, ◌+◌, ◌-◌, List, [], ◌∷◌, ◌++◌, length, drop, map, codes, Bool, true, false, ◌&&◌, nat_lt, nat_le, ◌==◌, if◌then◌else◌}
 use Rattle.std.specs.Option.{option_and_then}
 use Rattle.std.specs.Str.{bytes_eq}
 use Rattle.std.specs.Fmt.{digits}
 use Rattle.std.specs.Int.Digits.{number_from_digits}
 use Rattle.std.specs.declared.option.Option.{Option}
 use Rattle.std.specs.declared.option.Option.TheVariants.{None, Some}
+use Rattle.blk_model.specs.Sizes.{longest_key, signatures, part_count}
 
 -- a number in lower-case hexadecimal, without leading zeros; 0 is `0`
 abbrev pub hexadecimal : ℕ → List ℕ
@@ -29,9 +30,13 @@ pub record Name : Type 0 where
   pub signature : ℕ
   pub part : ℕ
 
--- what a name may say: a key of 1 to 32768 bytes, a signature of 0 to 2 ^ 63 - 1, a part below 65536
+-- the longest name: `Range_`, the longest key, and two numbers of 16 and of 4 digits, each behind a `:`
+abbrev pub longest_name : ℕ
+longest_name = longest_key + 28
+
+-- what a name may say: a key of a byte or more, up to the longest, a signature and a part that there are
 abbrev pub may_be_named : Name → Bool
-may_be_named name = nat_lt 0 (length name.key) && nat_le (length name.key) 32768 && nat_lt name.signature (2 ^ 63) && nat_lt name.part 65536
+may_be_named name = nat_lt 0 (length name.key) && nat_le (length name.key) longest_key && nat_lt name.signature signatures && nat_lt name.part part_count
 
 -- these bytes are the name that says this
 pub record IsName (bytes : List ℕ) (name : Name) : Type 0 where

@@ -20,6 +20,23 @@ entry_size = 96
 abbrev pub entry_seal_place : ℕ
 entry_seal_place = 92
 
+-- the places of a node's words
+abbrev pub node_next_place : ℕ
+node_next_place = 16
+
+abbrev pub node_prev_place : ℕ
+node_prev_place = 20
+
+abbrev pub node_contents_place : ℕ
+node_contents_place = 24
+
+abbrev pub node_dirty_place : ℕ
+node_dirty_place = 28
+
+-- the place of an entry record's word of the next record in its chain
+abbrev pub entry_next_place : ℕ
+entry_next_place = 4
+
 -- the hash of a record's bytes before the place of its seal
 abbrev pub seal_of : ℕ → List ℕ → ℕ
 seal_of place bytes = hash (take place bytes)
@@ -51,11 +68,11 @@ unfoldable pub node_in : (ℕ → ℕ) → ℕ → Node
 node_in f i = record {
   last_used = long_at f i;
   last_modified = long_at f (i + 8);
-  next = word_at f (i + 16);
-  prev = word_at f (i + 20);
-  contents = word_at f (i + 24);
-  dirty = word_at f (i + 28);
-  self_hash = word_at f (i + 32);
+  next = word_at f (i + node_next_place);
+  prev = word_at f (i + node_prev_place);
+  contents = word_at f (i + node_contents_place);
+  dirty = word_at f (i + node_dirty_place);
+  self_hash = word_at f (i + node_seal_place);
 }
 
 -- its bytes before the seal
@@ -102,7 +119,7 @@ pub record Entry : Type 0 where
 unfoldable pub entry_in : (ℕ → ℕ) → ℕ → Entry
 entry_in f i = record {
   hash = word_at f i;
-  next = word_at f (i + 4);
+  next = word_at f (i + entry_next_place);
   rankings_node = word_at f (i + 8);
   reuse_count = word_at f (i + 12);
   refetch_count = word_at f (i + 16);
@@ -143,12 +160,12 @@ abbrev pub sealed_entry : Entry → Entry
 sealed_entry e = record e { self_hash = entry_seal e }
 
 -- the state of a live entry
-abbrev pub normal : ℕ
-normal = 0
+abbrev pub entry_normal : ℕ
+entry_normal = 0
 
 -- the state of a doomed entry
-abbrev pub doomed : ℕ
-doomed = 2
+abbrev pub entry_doomed : ℕ
+entry_doomed = 2
 
 -- the flags of an entry that is neither parent nor child
 abbrev pub plain : ℕ

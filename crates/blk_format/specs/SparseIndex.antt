@@ -5,14 +5,23 @@ use Rattle.std.specs.Int.{bit_at, cast_signed, w32, w64}
 use Rattle.std.specs.declared.option.Option.{Option}
 use Rattle.blk_image.specs.Bytes.{content, word_at, long_at, words_at}
 use Rattle.blk_format.specs.Headers.{index_magic}
+use Rattle.blk_model.specs.Sizes.{longest_key, signatures, part_count, part_blocks}
 
 -- the bytes before the bitmap
 abbrev pub sparse_head_length : ℕ
 sparse_head_length = 64
 
+-- the bytes of a parent's index: a bit for each part
+abbrev pub parent_index_length : ℕ
+parent_index_length = 8256
+
+-- the bytes of a part's index: a bit for each block
+abbrev pub part_index_length : ℕ
+part_index_length = 192
+
 -- the signature, a signed number
-abbrev pub signature_of : (ℕ → ℕ) → ℤ
-signature_of f = cast_signed w64 (long_at f 0)
+abbrev pub sparse_signature_of : (ℕ → ℕ) → ℤ
+sparse_signature_of f = cast_signed w64 (long_at f 0)
 
 -- the magic number
 abbrev pub sparse_magic_of : (ℕ → ℕ) → ℕ
@@ -38,11 +47,11 @@ zeros_of f i = word_at f (24 + 4 * i)
 abbrev pub map_bit : (ℕ → ℕ) → ℕ → ℕ → Bool
 map_bit f i b = bit_at (f (i + b / 8)) (b % 8) == 1
 
--- the magic is right, the signature is not negative, the ten words are 0, the key's length is 1 to 32768
+-- the magic is right, the signature is not negative, the ten words are 0, the key has a byte or more, up to the longest
 abbrev pub is_index_head : (ℕ → ℕ) → Bool
 is_index_head f =
-    (sparse_magic_of f == index_magic) && nat_lt (long_at f 0) (2 ^ 63) && list_all (λ v. v == 0) (words_at f 24 10)
-    && nat_le 1 (parent_key_len_of f) && nat_le (parent_key_len_of f) 32768
+    (sparse_magic_of f == index_magic) && nat_lt (long_at f 0) signatures && list_all (λ v. v == 0) (words_at f 24 10)
+    && nat_le 1 (parent_key_len_of f) && nat_le (parent_key_len_of f) longest_key
 
 -- the word of -1
 abbrev pub minus_one : ℕ
@@ -58,8 +67,8 @@ pub record ParentIndex : Type 0 where
 unfoldable pub read_parent_index : List ℕ → Option ParentIndex
 read_parent_index bytes =
     let f = content bytes in
-    if (length bytes == 8256) && is_index_head f && (word_at f 16 == minus_one) && (last_block_len_of f == 0)
-    then Some (record { signature = long_at f 0; key_len = parent_key_len_of f; has_part = λ n. nat_lt n 65536 && map_bit f 64 n })
+    if (length bytes == parent_index_length) && is_index_head f && (word_at f 16 == minus_one) && (last_block_len_of f == 0)
+    then Some (record { signature = long_at f 0; key_len = parent_key_len_of f; has_part = λ n. nat_lt n part_count && map_bit f sparse_head_length n })
     else None
 
 -- a part's index: the signature, the length of the parent's key, whether block b is there, and the partial block with its length
@@ -74,17 +83,17 @@ abbrev pub is_partial : (ℕ → ℕ) → Bool
 is_partial f =
     let block = word_at f 16 in
     let len = last_block_len_of f in
-    ((block == minus_one) && (len == 0)) || (nat_le block 1023 && nat_le 1 len && nat_le len 1023 && not (map_bit f 64 block))
+    ((block == minus_one) && (len == 0)) || (nat_le block 1023 && nat_le 1 len && nat_le len 1023 && not (map_bit f sparse_head_length block))
 
 -- the part's index that some bytes are
 unfoldable pub read_part_index : List ℕ → Option PartIndex
 read_part_index bytes =
     let f = content bytes in
-    if (length bytes == 192) && is_index_head f && is_partial f
+    if (length bytes == part_index_length) && is_index_head f && is_partial f
     then Some (record {
       signature = long_at f 0;
       key_len = parent_key_len_of f;
-      present = λ b. nat_lt b 1024 && map_bit f 64 b;
+      present = λ b. nat_lt b part_blocks && map_bit f sparse_head_length b;
       partial = if last_block_len_of f == 0 then None else Some (word_at f 16, last_block_len_of f);
     })
     else None

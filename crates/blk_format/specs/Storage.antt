@@ -18,11 +18,15 @@ divided_up size block = (size + block - 1) / block
 unfoldable pub blocks_for : ℕ → ℕ
 blocks_for size = if kind_for size == external then 0 else divided_up size (block_size (kind_for size))
 
--- the number of blocks of an entry record whose key has so many bytes: a key of more than 927 bytes lies elsewhere
+-- the longest key that lies in its record
+abbrev pub longest_short_key : ℕ
+longest_short_key = 927
+
+-- the number of blocks of an entry record whose key has so many bytes: a longer key than those lies elsewhere
 unfoldable pub entry_blocks : ℕ → ℕ
 entry_blocks key_len =
     if nat_lt key_len 160 then 1 else
-    if nat_le key_len 927 then (key_len - 160) / 256 + 2 else
+    if nat_le key_len longest_short_key then (key_len - 160) / 256 + 2 else
     1
 
 -- whether a word is the storage of data of a size: the word 0 of none, else an address of its kind and number of blocks

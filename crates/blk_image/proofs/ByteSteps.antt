@@ -4,7 +4,7 @@ use Rattle.std.proofs.lemmas.Bool.{cases_lt}
 use Rattle.std.proofs.lemmas.List.Elements.{All-head, All-tail}
 use Rattle.blk_image.specs.Bytes.{content, spliced, resized}
 use Rattle.blk_image.specs.Image.{File, Image, AreBytes, HasRange, same_file, byte, bytes_of, word, with_file}
-use Rattle.blk_image.specs.Steps.{TrailStep, Word, SetLength, Delete, Note, applied, written, words, IsStep, IsTrail}
+use Rattle.blk_image.specs.Steps.{TrailStep, Word, SetLength, Delete, Note, applied, written_over, words, IsStep, IsTrail}
 use Rattle.blk_image.specs.Told.{Along}
 use Rattle.blk_image.proofs.Splices.{content-resized, content-resized_past}
 use Rattle.blk_image.proofs.Images.{bytes-written}
@@ -37,7 +37,7 @@ are_bytes-with_file image f new small fresh g k = by_test (same_file f g)
 
 -- one step
 pub are_bytes-step : (image : Image) (step : TrailStep) → IsStep image step → AreBytes image → AreBytes (applied step image)
-are_bytes-step image (Word f place bs) is small = are_bytes-with_file image f (written place bs (image f)) small
+are_bytes-step image (Word f place bs) is small = are_bytes-with_file image f (written_over place bs (image f)) small
     (λ k. subst (λ (l : List ℕ). content l k < 256) (sym (bytes-written (image f) place bs)) (small-spliced place bs (bytes_of image f) is.are_bytes (small f) k))
 are_bytes-step image (SetLength f n) is small = are_bytes-with_file image f (Some (resized n (bytes_of image f))) small (small-resized n (bytes_of image f) (small f))
 are_bytes-step image (Delete f) is small = are_bytes-with_file image f None small (λ k. lit< tt)

@@ -3,7 +3,7 @@ use Rattle.std.proofs.Common.{◌≡◌, ℕ, zero, suc, List, [], ◌∷◌, �
 use Rattle.blk_image.specs.Image.{File, Image}
 use Rattle.blk_image.specs.Steps.{TrailStep, Word, SetLength, Delete, Note, applied, after, word_step}
 use Rattle.blk_image.specs.Told.{Told, AppliesPrefix, Along, IsQuiet, Passes, CommitsAt, Commits}
-use Rattle.blk_image.proofs.Runs.{grows_none, some_inj, until_front}
+use Rattle.blk_image.proofs.Runs.{grows_none, quiet_front, some_inj, until_front}
 
 -- the steps from the first on commit at the same step
 commits_front : (count : ℕ) (P Q : Image → Type 0) (s t : List TrailStep) (image : Image) → CommitsAt count P Q image (s ++ t) → CommitsAt count P Q image s
@@ -11,14 +11,6 @@ commits_front zero P Q s t image all = until_front Q Q s t image (λ i q. q) all
 commits_front (suc count) P Q [] [] image all = all
 commits_front (suc count) P Q [] (x ∷ t) image all = all.0
 commits_front (suc count) P Q (x ∷ s) t image all = (all.0, commits_front count P Q s t (applied x image) all.1)
-
--- a front of quiet steps is quiet
-pub quiet_front : (s t : List TrailStep) → IsQuiet (s ++ t) → IsQuiet s
-quiet_front [] t quiet = tt
-quiet_front (Word f at bs ∷ s) t quiet = quiet_front s t quiet
-quiet_front (SetLength f n ∷ s) t quiet = quiet_front s t quiet
-quiet_front (Delete f ∷ s) t quiet = quiet_front s t quiet
-quiet_front (Note n ∷ s) t quiet = absurd quiet
 
 -- a call that wrote nothing
 pub commits_none : (count : ℕ) (old new : Told) (from : Image) (P Q : Image → Type 0) → old.files ≡ Some from → new ≡ old → P from → Commits (suc count) old new P Q

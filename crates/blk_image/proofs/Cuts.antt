@@ -5,7 +5,7 @@ use Rattle.std.proofs.lemmas.List.Elements.{All-head, All-tail, All-cons, All-ni
 use Rattle.std.proofs.lemmas.Bool.Decides.{nat_tests}
 use Rattle.blk_image.specs.Bytes.{word_bytes}
 use Rattle.blk_image.specs.Image.{File, Image, HasRange, with_file}
-use Rattle.blk_image.specs.Steps.{TrailStep, Word, SetLength, Delete, Note, written, applied, after, IsWordStep, IsTrail, words, before_words, word_step, word_steps, with_word, with_words}
+use Rattle.blk_image.specs.Steps.{TrailStep, Word, SetLength, Delete, Note, written_over, applied, after, IsWordStep, IsTrail, words, before_words, word_step, word_steps, with_word, with_words}
 use Rattle.blk_image.proofs.Splices.{spliced-join, spliced-none}
 use Rattle.blk_image.proofs.Images.{with_file-id, with_file-twice, with_file-same, length-after_write}
 
@@ -13,17 +13,17 @@ pub after-append : (s t : List TrailStep) (image : Image) → after (s ++ t) ima
 after-append [] t image = refl
 after-append (x ∷ s) t image = after-append s t (applied x image)
 
-written-none : (place : ℕ) (o : Option (List ℕ)) → written place [] o ≡ o
+written-none : (place : ℕ) (o : Option (List ℕ)) → written_over place [] o ≡ o
 written-none place None = refl
 written-none place (Some old) = ap Some (spliced-none place old)
 
 -- two writes, the second right behind the first
 word_join : (f : File) (place b : ℕ) (w : List ℕ) (image : Image) → applied (Word f (place + 1) w) (applied (Word f place (b ∷ [])) image) ≡ applied (Word f place (b ∷ w)) image
 word_join f place b w image =
-    with_file-twice image f (written place (b ∷ []) (image f)) _
-    ∙ ap (with_file image f) (ap (written (place + 1) w) (with_file-same image f _) ∙ both (image f))
+    with_file-twice image f (written_over place (b ∷ []) (image f)) _
+    ∙ ap (with_file image f) (ap (written_over (place + 1) w) (with_file-same image f _) ∙ both (image f))
   where
-    both : (o : Option (List ℕ)) → written (place + 1) w (written place (b ∷ []) o) ≡ written place (b ∷ w) o
+    both : (o : Option (List ℕ)) → written_over (place + 1) w (written_over place (b ∷ []) o) ≡ written_over place (b ∷ w) o
     both None = refl
     both (Some old) = ap Some (spliced-join place b w old)
 
@@ -65,7 +65,7 @@ after-before f place b (Delete g ∷ steps) image starts = refl
 after-before f place b (Note n ∷ steps) image starts = refl
 
 -- the words of a write change its bytes alone
-pub after-words : (f : File) (place : ℕ) (bs : List ℕ) (image : Image) → after (words f place bs) image ≡ with_file image f (written place bs (image f))
+pub after-words : (f : File) (place : ℕ) (bs : List ℕ) (image : Image) → after (words f place bs) image ≡ with_file image f (written_over place bs (image f))
 unfolding words
 after-words f place [] image = sym (ap (with_file image f) (written-none place (image f)) ∙ with_file-id image f)
 after-words f place (b ∷ bs) image =
@@ -167,12 +167,12 @@ word_steps-split f ws i d within =
     ap (word_steps f) (sym (take-append-drop (i + 1) ws)) ∙ word_steps-append f (take (i + 1) ws) (drop (i + 1) ws) ∙ ap (λ (s : List TrailStep). s ++ word_steps f (drop (i + 1) ws)) (word_steps-more f ws i d within)
 
 -- the file with a word over it, and the other files as they were
-pub after-word_step : (f : File) (place value : ℕ) (image : Image) → after (word_step f place value) image ≡ with_file image f (written place (word_bytes value) (image f))
+pub after-word_step : (f : File) (place value : ℕ) (image : Image) → after (word_step f place value) image ≡ with_file image f (written_over place (word_bytes value) (image f))
 unfolding word_step
 after-word_step f place value image = refl
 
 -- a file that is there, with a word over it
-pub written-word : (place value : ℕ) (old : List ℕ) → written place (word_bytes value) (Some old) ≡ Some (with_word place value old)
+pub written-word : (place value : ℕ) (old : List ℕ) → written_over place (word_bytes value) (Some old) ≡ Some (with_word place value old)
 unfolding with_word
 written-word place value old = refl
 
@@ -180,7 +180,7 @@ written-word place value old = refl
 pub after-word_steps : (f : File) (ws : List (ℕ × ℕ)) (image : Image) (old : List ℕ) → image f ≡ Some old → after (word_steps f ws) image ≡ with_file image f (Some (with_words ws old))
 after-word_steps f [] image old there = sym (ap (with_file image f) (sym there) ∙ with_file-id image f)
 after-word_steps f (w ∷ ws) image old there =
-    let first : after (word_step f w.0 w.1) image ≡ with_file image f (Some (with_word w.0 w.1 old)) = after-word_step f w.0 w.1 image ∙ ap (λ (o : Option (List ℕ)). with_file image f (written w.0 (word_bytes w.1) o)) there ∙ ap (with_file image f) (written-word w.0 w.1 old) in
+    let first : after (word_step f w.0 w.1) image ≡ with_file image f (Some (with_word w.0 w.1 old)) = after-word_step f w.0 w.1 image ∙ ap (λ (o : Option (List ℕ)). with_file image f (written_over w.0 (word_bytes w.1) o)) there ∙ ap (with_file image f) (written-word w.0 w.1 old) in
     after-append (word_step f w.0 w.1) (word_steps f ws) image
     ∙ ap (after (word_steps f ws)) first
     ∙ after-word_steps f ws (with_file image f (Some (with_word w.0 w.1 old))) (with_word w.0 w.1 old) (with_file-same image f _)

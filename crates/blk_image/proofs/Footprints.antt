@@ -1,10 +1,10 @@
 -- What is as before outside a footprint.
 use Rattle.std.proofs.Common.{◌≡◌, ℕ, ◌+◌, ◌<◌, ◌≤◌, Bool, true, false, ◌&&◌, ◌||◌, nat_le, nat_lt, List, [], ◌∷◌, length, Option, None, Some, unwrap_or, is_some, if◌then◌else◌, ◌%◌, ◌==◌, suc, ⊎_elim, refl, sym, ◌∙◌, ap, subst, arith, ◌⊎◌}
-use Rattle.std.proofs.lemmas.Bool.{cases_lt}
+use Rattle.std.proofs.lemmas.Bool.{cases_lt, or_left, or_right}
 use Rattle.std.proofs.lemmas.Bool.Decides.{nat_tests}
 use Rattle.blk_image.specs.Bytes.{content, resized}
 use Rattle.blk_image.specs.Image.{File, Image, same_file, bytes_of, length_of, byte, word, with_file}
-use Rattle.blk_image.specs.Steps.{TrailStep, Word, SetLength, Delete, Note, written, applied, words, before_words}
+use Rattle.blk_image.specs.Steps.{TrailStep, Word, SetLength, Delete, Note, written_over, applied, words, before_words}
 use Rattle.blk_image.specs.Told.{Along}
 use Rattle.blk_image.specs.Footprint.{Footprint, SameOutside, IsWithin, nothing, range, whole, size_of, either, touched_by, touched_by_all}
 use Rattle.std.proofs.lemmas.List.{get_or_past}
@@ -36,17 +36,6 @@ outside_wider F G a b within same = record {
   lengths = λ file e. same.lengths file (not_touched (F.sizes file) (G.sizes file) (within.sizes file) e);
   files = λ file e. same.files file (not_touched (F.sizes file) (G.sizes file) (within.sizes file) e);
 }
-
-or_left : (s t : Bool) → s ≡ true → (s || t) ≡ true
-or_left true t e = refl
-or_left false t e = absurd (clash e)
-  where
-    clash : false ≡ true → ⊥
-    clash c = cc
-
-or_right : (s t : Bool) → t ≡ true → (s || t) ≡ true
-or_right true t e = refl
-or_right false t e = e
 
 pub within_left : (F G : Footprint) → IsWithin F (either F G)
 within_left F G = record { bytes = λ file i e. or_left (F.bytes file i) (G.bytes file i) e; sizes = λ file e. or_left (F.sizes file) (G.sizes file) e }
@@ -94,7 +83,7 @@ outside_write f place bs image = record {
 }
   where
     by_test : (g : File) (i : ℕ) → (same_file f g && (nat_le place i && nat_lt i (place + length bs))) ≡ false → (t : Bool) → same_file f g ≡ t
-        → content (unwrap_or (if t then written place bs (image f) else image g) []) i ≡ byte image g i
+        → content (unwrap_or (if t then written_over place bs (image f) else image g) []) i ≡ byte image g i
     by_test g i e true same =
         ap (λ (l : List ℕ). content l i) (bytes-written (image f) place bs)
         ∙ content-spliced_outside place bs (bytes_of image f) i (out_of_range f g place (length bs) i e same)

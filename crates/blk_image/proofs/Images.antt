@@ -4,7 +4,7 @@ use Rattle.std.proofs.lemmas.Bool.{eqb-true, eq-eqb}
 use Rattle.std.proofs.lemmas.List.{same_lists, get_or_default}
 use Rattle.blk_image.specs.Bytes.{content, spliced, resized, word_at, word_bytes}
 use Rattle.blk_image.specs.Image.{File, Index, Block, External, same_file, Image, bytes_of, length_of, has_file, byte, word, with_file}
-use Rattle.blk_image.specs.Steps.{Word, SetLength, written, applied}
+use Rattle.blk_image.specs.Steps.{Word, SetLength, written_over, applied}
 use Rattle.blk_image.proofs.Splices.{length-spliced, length-resized, content-resized}
 use Rattle.blk_image.proofs.Words.{word-written, word-other}
 
@@ -31,7 +31,7 @@ with_file-same image file bytes = rw (same_file-refl file)
 pub with_file-other : (image : Image) (file other : File) (bytes : Option (List ℕ)) → same_file file other ≡ false → with_file image file bytes other ≡ image other
 with_file-other image file other bytes e = rw e
 
-pub bytes-written : (old : Option (List ℕ)) (place : ℕ) (new : List ℕ) → unwrap_or (written place new old) [] ≡ spliced place new (unwrap_or old [])
+pub bytes-written : (old : Option (List ℕ)) (place : ℕ) (new : List ℕ) → unwrap_or (written_over place new old) [] ≡ spliced place new (unwrap_or old [])
 unfolding spliced
 bytes-written None place new = refl
 bytes-written (Some old) place new = refl
@@ -42,7 +42,7 @@ bytes_of-written image file place new = rw (same_file-refl file) (bytes-written 
 
 -- a step on another file
 pub other-word : (image : Image) (file other : File) (place : ℕ) (new : List ℕ) → same_file file other ≡ false → applied (Word file place new) image other ≡ image other
-other-word image file other place new e = with_file-other image file other (written place new (image file)) e
+other-word image file other place new e = with_file-other image file other (written_over place new (image file)) e
 
 -- a word that is written is read again
 pub word-after_same : (image : Image) (file : File) (place v : ℕ) → v < 2 ^ 32 → place + 4 ≤ length_of image file → word (applied (Word file place (word_bytes v)) image) file place ≡ v
@@ -97,7 +97,7 @@ same_file-swap f g e = by_test (same_file g f) refl
 pub length-after_write : (image : Image) (f g : File) (place : ℕ) (bytes : List ℕ) → length_of (applied (Word f place bytes) image) g ≡ length_of image g
 length-after_write image f g place bytes = by_test (same_file f g) refl
   where
-    by_test : (t : Bool) → same_file f g ≡ t → length (unwrap_or (if t then written place bytes (image f) else image g) []) ≡ length_of image g
+    by_test : (t : Bool) → same_file f g ≡ t → length (unwrap_or (if t then written_over place bytes (image f) else image g) []) ≡ length_of image g
     by_test true e = ap length (bytes-written (image f) place bytes) ∙ length-spliced place bytes (bytes_of image f) ∙ ap (length_of image) (same_file-true f g e)
     by_test false e = refl
 
@@ -105,11 +105,11 @@ length-after_write image f g place bytes = by_test (same_file f g) refl
 pub has-after_write : (image : Image) (f g : File) (place : ℕ) (bytes : List ℕ) → has_file (applied (Word f place bytes) image) g ≡ has_file image g
 has-after_write image f g place bytes = by_test (same_file f g) refl
   where
-    by_file : (o : Option (List ℕ)) → is_some (written place bytes o) ≡ is_some o
+    by_file : (o : Option (List ℕ)) → is_some (written_over place bytes o) ≡ is_some o
     by_file None = refl
     by_file (Some old) = refl
 
-    by_test : (t : Bool) → same_file f g ≡ t → is_some (if t then written place bytes (image f) else image g) ≡ is_some (image g)
+    by_test : (t : Bool) → same_file f g ≡ t → is_some (if t then written_over place bytes (image f) else image g) ≡ is_some (image g)
     by_test true e = by_file (image f) ∙ ap (has_file image) (same_file-true f g e)
     by_test false e = refl
 

@@ -80,7 +80,7 @@ told_rel {a} {b} {s} P part all old there new now =
     told_part (P old) part (λ image is. subst (λ (i : Image). Along (P old) i s) (some_inj (sym there ∙ is)) (all old)) new now
 
 -- a front of quiet steps is quiet
-quiet_front : (s t : List TrailStep) → IsQuiet (s ++ t) → IsQuiet s
+pub quiet_front : (s t : List TrailStep) → IsQuiet (s ++ t) → IsQuiet s
 quiet_front [] t quiet = tt
 quiet_front (Word f at bs ∷ s) t quiet = quiet_front s t quiet
 quiet_front (SetLength f n ∷ s) t quiet = quiet_front s t quiet

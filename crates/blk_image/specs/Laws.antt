@@ -2,14 +2,14 @@
 use Rattle.std.specs.Prelude.{◌≡◌, ℕ, ◌+◌, ◌<◌, List, ◌++◌, Some, length}
 use Rattle.std.specs.List.{All}
 use Rattle.blk_image.specs.Image.{File, Image, HasRange, with_file}
-use Rattle.blk_image.specs.Steps.{TrailStep, IsTrail, after, words, written}
+use Rattle.blk_image.specs.Steps.{TrailStep, IsTrail, after, words, written_over}
 use Rattle.blk_image.specs.Told.{Told, Trail, Applies, Along}
 use Rattle.blk_image.specs.Notes.{AreTrue, notes_in}
 use Rattle.blk_image.specs.Footprint.{SameOutside, range, touched_by_all}
 
 -- the word steps of a write leave the file with the bytes at their place, and every other file as it was
 abbrev pub WordsWriteTheBytes : Type 0
-WordsWriteTheBytes = (file : File) (place : ℕ) (bytes : List ℕ) (image : Image) → after (words file place bytes) image ≡ with_file image file (written place bytes (image file))
+WordsWriteTheBytes = (file : File) (place : ℕ) (bytes : List ℕ) (image : Image) → after (words file place bytes) image ≡ with_file image file (written_over place bytes (image file))
 
 -- each of them is a write of one to four bytes inside one aligned word
 abbrev pub WordsAreAligned : Type 0

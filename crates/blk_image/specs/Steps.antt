@@ -14,13 +14,13 @@ pub data TrailStep : Type 0 where
   Note : ℕ → TrailStep
 
 -- the bytes of a file after a write
-abbrev pub written : ℕ → List ℕ → Option (List ℕ) → Option (List ℕ)
-written place bytes None = None
-written place bytes (Some old) = Some (spliced place bytes old)
+abbrev pub written_over : ℕ → List ℕ → Option (List ℕ) → Option (List ℕ)
+written_over place bytes None = None
+written_over place bytes (Some old) = Some (spliced place bytes old)
 
 -- the image after a step
 abbrev pub applied : TrailStep → Image → Image
-applied (Word file place bytes) image = with_file image file (written place bytes (image file))
+applied (Word file place bytes) image = with_file image file (written_over place bytes (image file))
 applied (SetLength file length) image = with_file image file (Some (resized length (bytes_of image file)))
 applied (Delete file) image = with_file image file None
 applied (Note number) image = image

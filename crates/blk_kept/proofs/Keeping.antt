@@ -20,7 +20,7 @@ use Rattle.blk_volume.specs.Given.{given_by, GoesWith}
 use Rattle.blk_volume.specs.Shown.{IsShown}
 use Rattle.blk_volume.specs.Layout.{Layout, is_in, order, IsPlacedAt, Represents}
 use Rattle.blk_volume.specs.Sound.{AreOwned, IsInOrder, IsSound, words_of}
-use Rattle.blk_volume.specs.StandsFor.{KeepsDoomed, StandsFor, IsAllocated}
+use Rattle.blk_volume.specs.StandsFor.{KeepsDoomed, StandsFor, AllIsOwned}
 use Rattle.blk_volume.specs.Tidy.{IsTidy}
 use Rattle.blk_laws.proofs.Allocations.{all-claims, flat_map-append, same-marks}
 use Rattle.blk_laws.proofs.Bare.{idle-list}
@@ -42,7 +42,7 @@ module _ (state : State) (layout : Layout) (image : Image) (k : Keeps state layo
   exactly c = ap (λ (cs : List Claim). has_claim cs c) (all-claims (all_loaded state layout k.entries.numbers))
       ∙ claimed-exactly layout k.entries.represents.holds.lies.own k.entries.represents.holds.lies.single state (map layout.place_of_doomed k.entries.numbers) k.entries.owners.exact c
 
-  allocated : IsAllocated image state layout k.entries.numbers
+  allocated : AllIsOwned image state layout k.entries.numbers
   allocated = record {
     blocks = λ n b linked below. (k.entries.files.mapped n linked).allocations.marks b below ∙ same-marks n b (words_in_use [] (all_loaded state layout k.entries.numbers)) ∙ exactly (BlockOf n b);
     files = λ n small. k.entries.files.externals n small ∙ exactly (ExternalOf n);

@@ -10,7 +10,7 @@ use Rattle.blk_volume.specs.Footprint.{AgreeBut}
 use Rattle.blk_volume.specs.Layout.{Layout, rule_of, Represents}
 use Rattle.blk_volume.specs.Loads.{claims_of_loaded}
 use Rattle.blk_volume.specs.Sound.{AreOwned}
-use Rattle.blk_volume.specs.StandsFor.{IsAllocated}
+use Rattle.blk_volume.specs.StandsFor.{AllIsOwned}
 use Rattle.blk_volume.specs.Tidy.{IsTidy}
 use Rattle.blk_volume.specs.View.{store_of, view_of}
 use Rattle.blk_laws.proofs.Allocations.{IsLoadedBy, all-claims, allocated, each-some}
@@ -25,7 +25,7 @@ use Rattle.blk_kept.proofs.Headers.{files-same}
 use Rattle.blk_kept.proofs.Writes.{other-word, word-agrees, word-formed, word-headers}
 
 -- the files of a folder in order are those of the words in use
-module _ (image : Image) (state : State) (layout : Layout) (numbers : List ℕ) (r : Represents (view_of image) state layout) (a : IsAllocated image state layout numbers) (tidy : IsTidy image state layout numbers) where
+module _ (image : Image) (state : State) (layout : Layout) (numbers : List ℕ) (r : Represents (view_of image) state layout) (a : AllIsOwned image state layout numbers) (tidy : IsTidy image state layout numbers) where
   exactly : (c : Claim) → has_claim (claims_of_loaded (all_loaded state layout numbers)) c ≡ is_some (layout.owner c)
   exactly = claimed-exactly layout r.holds.lies.own r.holds.lies.single state (map layout.place_of_doomed numbers) a.exact
 

@@ -9,7 +9,7 @@ use Rattle.blk_model.specs.Request.{to_open}
 use Rattle.blk_model.specs.Step.{step}
 use Rattle.blk_model.specs.Stops.{StopOutcome}
 use Rattle.blk_volume.specs.Audit.{kept_by}
-use Rattle.blk_volume.specs.Found.{found, kept, completed, row_of}
+use Rattle.blk_volume.specs.Found.{found, kept, completed, row_of_loaded}
 use Rattle.blk_volume.specs.ListPlans.{touch_writes}
 use Rattle.blk_volume.specs.ListSteps.{IsTouched}
 use Rattle.blk_volume.specs.ListView.{after_writes}
@@ -20,7 +20,7 @@ use Rattle.blk_laws.proofs.Touches.{opens-each}
 use Rattle.blk_kept.specs.TouchLaws.{OpensMayStop, TouchesFindEither}
 
 -- what is found in a finished folder
-pub found-kept : (image : Image) → IsWellFormed image → found image ≡ map row_of (kept_by held_rule (completed (view_of image)))
+pub found-kept : (image : Image) → IsWellFormed image → found image ≡ map row_of_loaded (kept_by held_rule (completed (view_of image)))
 unfolding found kept
 found-kept image well = rw (well_formed-finished image well) refl
 
@@ -29,8 +29,8 @@ shows : (from image : Image) (node : ℕ) (touched : IsTouched from node (touch_
 shows from image node touched = λ i. let v : View = record { list = touched.shown.list i; store = store_of image } in v
 
 found-there : (from image : Image) (node : ℕ) → IsWellFormed from → (touched : IsTouched from node (touch_writes node (list_of from)) image)
-    → found image ≡ map row_of (kept_by held_rule (completed (record { list = after_writes (take touched.made (touch_writes node (list_of from))) (list_of from); store = store_of image })))
-found-there from image node well touched = found-kept image (touched.well_formed well) ∙ ap (λ (v : View). map row_of (kept_by held_rule (completed v))) (shows from image node touched)
+    → found image ≡ map row_of_loaded (kept_by held_rule (completed (record { list = after_writes (take touched.made (touch_writes node (list_of from))) (list_of from); store = store_of image })))
+found-there from image node well touched = found-kept image (touched.well_formed well) ∙ ap (λ (v : View). map row_of_loaded (kept_by held_rule (completed v))) (shows from image node touched)
 
 pub touches-find : TouchesFindEither
 touches-find state layout unlinked from image k item listed touched = (

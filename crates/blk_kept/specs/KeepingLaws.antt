@@ -11,7 +11,7 @@ use Rattle.blk_volume.specs.Found.{found}
 use Rattle.blk_volume.specs.Layout.{Layout, Represents}
 use Rattle.blk_volume.specs.Emptiness.{no_layout}
 use Rattle.blk_volume.specs.Sound.{IsSound}
-use Rattle.blk_volume.specs.StandsFor.{IsAllocated, StandsFor}
+use Rattle.blk_volume.specs.StandsFor.{AllIsOwned, StandsFor}
 use Rattle.blk_volume.specs.Tidy.{IsTidy}
 use Rattle.blk_laws.specs.BareLaws.{HasNoEntries}
 use Rattle.blk_kept.specs.Keeping.{IsInSession, KeepsUncounted, Keeps}
@@ -44,5 +44,5 @@ ChangesWord at from image = SameOutside (one_word Index at) from image
 
 -- where a folder represents a state, with exact maps and all in order, and the number of the session and then the crash word are written, it keeps the state
 abbrev pub OpenedFoldersKeepTheirState : Type 0
-OpenedFoldersKeepTheirState = (from between image : Image) (state : State) (layout : Layout) (numbers : List ℕ) → IsValidState state → IsWellFormed from → Represents (view_of from) state layout → IsAllocated from state layout numbers → IsTidy from state layout numbers
+OpenedFoldersKeepTheirState = (from between image : Image) (state : State) (layout : Layout) (numbers : List ℕ) → IsValidState state → IsWellFormed from → Represents (view_of from) state layout → AllIsOwned from state layout numbers → IsTidy from state layout numbers
     → ChangesWord 20 from between → ChangesWord 32 between image → IsInSession image state layout → Keeps state layout [] image

@@ -3,7 +3,7 @@ use Rattle.std.proofs.Common.{◌≡◌, ℕ, zero, suc, ◌+◌, List, [], ◌�
 use Rattle.std.specs.Prelude.{if◌then◌else◌, ◌&&◌, ◌||◌, ◌==◌, not, nat_le, is_some, All}
 use Rattle.std.specs.Option.{option_and_then, option_map}
 use Rattle.std.specs.List.{AllByRecursion, filter, filter_map, flat_map, cons_option, count_by, range_with_len}
-use Rattle.std.proofs.lemmas.Bool.{cases_Bool, eqb-true, eq-eqb, and_parts, or_right, or_parts}
+use Rattle.std.proofs.lemmas.Bool.{cases_Bool, eqb-true, eq-eqb, and_parts, or_right, or_parts, or_from}
 use Rattle.std.proofs.lemmas.List.Sums.{length-filter}
 use Rattle.std.proofs.lemmas.List.{append_assoc, append-nil}
 use Rattle.blk_image.specs.Bytes.{words_at}
@@ -16,7 +16,7 @@ use Rattle.blk_format.specs.Claims.{Claim, BlockOf, ExternalOf, same_claim, clai
 use Rattle.blk_format.specs.Headers.{allocations_of}
 use Rattle.blk_format.specs.Maps.{AreAllocations}
 use Rattle.blk_volume.specs.View.{StoreView, NodeFields, RecordFields, stands_as, entry_at, fields_of, node_fields_at, fields_at, stored_at, store_of, view_of, data_size_of, address_of}
-use Rattle.blk_volume.specs.Entries.{key_of, stream_of, streams_of}
+use Rattle.blk_volume.specs.Entries.{stored_key, stored_stream, stored_streams}
 use Rattle.blk_volume.specs.Reasons.{Reason}
 use Rattle.blk_volume.specs.Loads.{Rule, held_rule, listed_rule, unchained_rule, Loaded, load, all_claims, record_claims, claims_of_loaded}
 use Rattle.blk_volume.specs.Audit.{verdict, with_verdict, verdicts, verdict_on, kept_of, kept_among, kept_by, admit}
@@ -28,9 +28,10 @@ use Rattle.std.specs.Option.{IsSomeAnd}
 use Rattle.blk_laws.specs.AllocationLaws.{SoundFilesAreAllocated, StoodForFilesAreAllocated}
 use Rattle.blk_laws.proofs.Laid.{repeats-tail}
 use Rattle.blk_laws.proofs.Marking.{repeats-apart}
-use Rattle.blk_laws.proofs.ClaimLists.{claim-append, claim-head, no-claim, neither, repeats-append}
+use Rattle.blk_laws.proofs.ClaimLists.{claim-append, claim-head, no-claim, repeats-append}
 use Rattle.blk_laws.proofs.Loads.{bind_then, load-then}
 use Rattle.blk_laws.proofs.FrameLaw.{admit-then}
+use Rattle.blk_laws.proofs.Shown.{filter-all}
 
 -- ---- what is kept was loaded
 
@@ -106,8 +107,8 @@ stored-stands image size x bytes e some = go (is_storage size x) (size == 0) (st
   go true false false last is none stands h = cc
   go true false true last is none stands h = stands
 
-long_key-stands : (image : Image) (c : ℕ) (e : RecordFields) (key : List ℕ) → key_of (store_of image) c e ≡ Some key → StandsIf image e.long_key
-unfolding key_of store_of
+long_key-stands : (image : Image) (c : ℕ) (e : RecordFields) (key : List ℕ) → stored_key (store_of image) c e ≡ Some key → StandsIf image e.long_key
+unfolding stored_key store_of
 long_key-stands image c e key is some = go (nat_le e.key_len 927) is where
   lone : (o : Option (List ℕ)) → stored_at image (e.key_len + 1) e.long_key ≡ o → option_map (take e.key_len) o ≡ Some key → stands_in image e.long_key ≡ true
   lone None at h = cc
@@ -117,8 +118,8 @@ long_key-stands image c e key is some = go (nat_le e.key_len 927) is where
   go true h = let none : ◌≡◌ {A = Option (List ℕ)} None (Some key) = rw some at h in absurd (cc)
   go false h = lone (stored_at image (e.key_len + 1) e.long_key) refl h
 
-stream-stands : (image : Image) (e : RecordFields) (i : ℕ) (bytes : List ℕ) → stream_of (store_of image) e i ≡ Some bytes → StandsIf image (address_of e i)
-unfolding stream_of store_of
+stream-stands : (image : Image) (e : RecordFields) (i : ℕ) (bytes : List ℕ) → stored_stream (store_of image) e i ≡ Some bytes → StandsIf image (address_of e i)
+unfolding stored_stream store_of
 stream-stands image e i bytes is = go (nat_le (data_size_of e i) 2147483647) is where
   go : (b : Bool) → (if b then stored_at image (data_size_of e i) (address_of e i) else None) ≡ Some bytes → StandsIf image (address_of e i)
   go true h = stored-stands image (data_size_of e i) (address_of e i) bytes h
@@ -131,10 +132,10 @@ record StreamsStand (image : Image) (e : RecordFields) : Type 0 where
   third : StandsIf image (address_of e 2)
   fourth : StandsIf image (address_of e 3)
 
-streams-stand : (image : Image) (e : RecordFields) (streams : List (List ℕ)) → streams_of (store_of image) e ≡ Some streams → StreamsStand image e
-unfolding streams_of
-streams-stand image e streams is = go ((data_size_of e 3 == 0) && (address_of e 3 == 0)) (stream_of (store_of image) e 0) (stream_of (store_of image) e 1) (stream_of (store_of image) e 2) refl refl refl refl is where
-  go : (b : Bool) (s0 s1 s2 : Option (List ℕ)) → ((data_size_of e 3 == 0) && (address_of e 3 == 0)) ≡ b → stream_of (store_of image) e 0 ≡ s0 → stream_of (store_of image) e 1 ≡ s1 → stream_of (store_of image) e 2 ≡ s2
+streams-stand : (image : Image) (e : RecordFields) (streams : List (List ℕ)) → stored_streams (store_of image) e ≡ Some streams → StreamsStand image e
+unfolding stored_streams
+streams-stand image e streams is = go ((data_size_of e 3 == 0) && (address_of e 3 == 0)) (stored_stream (store_of image) e 0) (stored_stream (store_of image) e 1) (stored_stream (store_of image) e 2) refl refl refl refl is where
+  go : (b : Bool) (s0 s1 s2 : Option (List ℕ)) → ((data_size_of e 3 == 0) && (address_of e 3 == 0)) ≡ b → stored_stream (store_of image) e 0 ≡ s0 → stored_stream (store_of image) e 1 ≡ s1 → stored_stream (store_of image) e 2 ≡ s2
       → (if not b then None else option_and_then (λ first. option_and_then (λ second. option_map (λ third. first ∷ second ∷ third ∷ []) s2) s1) s0) ≡ Some streams → StreamsStand image e
   go false s0 s1 s2 b0 e0 e1 e2 h = cc
   go true None s1 s2 b0 e0 e1 e2 h = cc
@@ -192,7 +193,7 @@ unfolding repeats
 repeats-head [] ys e = refl
 repeats-head (x ∷ xs) ys e =
     let p = or_parts (has_claim (xs ++ ys) x) (repeats (xs ++ ys)) e in
-    neither (has_claim xs x) (repeats xs) (or_parts (has_claim xs x) (has_claim ys x) (sym (claim-append xs ys x) ∙ p.0)).0 (repeats-head xs ys p.1)
+    or_from (has_claim xs x) (repeats xs) (or_parts (has_claim xs x) (has_claim ys x) (sym (claim-append xs ys x) ∙ p.0)).0 (repeats-head xs ys p.1)
 
 -- fewer words claim less
 pub fewer-claims : (p : ℕ → Bool) (xs : List ℕ) (c : Claim) → has_claim (claims_of_all (filter p xs)) c ≡ true → has_claim (claims_of_all xs) c ≡ true
@@ -219,7 +220,7 @@ fewer-repeats p (x ∷ xs) e = ⊎_elim
 -- a word of another file claims no block of this one
 range-none : (f n b first count : ℕ) → (f == n) ≡ false → has_claim (map (λ x. BlockOf f x) (range_with_len first count)) (BlockOf n b) ≡ false
 range-none f n b first zero apart = no-claim (BlockOf n b)
-range-none f n b first (suc count) apart = claim-head (BlockOf f first) (map (λ x. BlockOf f x) (range_with_len (first + 1) count)) (BlockOf n b) ∙ neither (same_claim (BlockOf n b) (BlockOf f first)) _ (other (b == first)) (range-none f n b (first + 1) count apart) where
+range-none f n b first (suc count) apart = claim-head (BlockOf f first) (map (λ x. BlockOf f x) (range_with_len (first + 1) count)) (BlockOf n b) ∙ or_from (same_claim (BlockOf n b) (BlockOf f first)) _ (other (b == first)) (range-none f n b (first + 1) count apart) where
   other : (t : Bool) → ((n == f) && t) ≡ false
   other t = rw (swap n f apart) refl where
     swap : (n f : ℕ) → (f == n) ≡ false → (n == f) ≡ false
@@ -230,7 +231,7 @@ unfolding is_in_file claims_of
 other-file n b x out = go (x == 0) (kind_of x == external) refl where
   go : (a k : Bool) → (kind_of x == external) ≡ k → has_claim (if a then [] else if k then ExternalOf (external_number x) ∷ [] else map (λ b. BlockOf (file_selector x) b) (range_with_len (first_block x) (block_count x))) (BlockOf n b) ≡ false
   go true k e = no-claim (BlockOf n b)
-  go false true e = claim-head (ExternalOf (external_number x)) [] (BlockOf n b) ∙ neither (same_claim (BlockOf n b) (ExternalOf (external_number x))) (has_claim [] (BlockOf n b)) refl (no-claim (BlockOf n b))
+  go false true e = claim-head (ExternalOf (external_number x)) [] (BlockOf n b) ∙ or_from (same_claim (BlockOf n b) (ExternalOf (external_number x))) (has_claim [] (BlockOf n b)) refl (no-claim (BlockOf n b))
   go false false e = range-none (file_selector x) n b (first_block x) (block_count x) (let h : (not (kind_of x == external) && (file_selector x == n)) ≡ false = out in rw e at h)
 
 pub same-marks : (n b : ℕ) (xs : List ℕ) → has_claim (claims_of_all (filter (is_in_file n) xs)) (BlockOf n b) ≡ has_claim (claims_of_all xs) (BlockOf n b)
@@ -246,10 +247,6 @@ pub all-from : {X : Type 0} (P : X → Type 0) (xs : List X) → AllByRecursion 
 all-from P [] h i d less = absurd (omega arith)
 all-from P (x ∷ xs) h zero d less = h.0
 all-from P (x ∷ xs) h (suc i) d less = all-from P xs h.1 i d (omega arith)
-
-pub passing : (p : ℕ → Bool) (xs : List ℕ) → AllByRecursion (λ x. p x ≡ true) (filter p xs)
-passing p [] = tt
-passing p (x ∷ xs) = ⊎_elim (λ (e : p x ≡ true). rw e (e, passing p xs)) (λ (e : p x ≡ false). rw e (passing p xs)) (cases_Bool (p x))
 
 pub still : (P : ℕ → Type 0) (p : ℕ → Bool) (xs : List ℕ) → AllByRecursion P xs → AllByRecursion P (filter p xs)
 still P p [] h = tt
@@ -267,7 +264,7 @@ pub allocated : (image : Image) (ls : List Loaded) (n : ℕ) → AllByRecursion 
     → allocations_of (byte image (Block n)) ≡ count_by (is_in_file n) (flat_map words_of ls) → AreAllocations image n (filter (is_in_file n) (flat_map words_of ls))
 allocated image ls n loaded owned linked counted = record {
   stand = all-from (λ x. stands_in image x ≡ true) (filter (is_in_file n) (flat_map words_of ls)) (still (λ x. stands_in image x ≡ true) (is_in_file n) (flat_map words_of ls) (all-stand image ls loaded));
-  here = all-from (λ x. is_in_file n x ≡ true) (filter (is_in_file n) (flat_map words_of ls)) (passing (is_in_file n) (flat_map words_of ls));
+  here = all-from (λ x. is_in_file n x ≡ true) (filter (is_in_file n) (flat_map words_of ls)) (filter-all (is_in_file n) (flat_map words_of ls));
   apart = fewer-repeats (is_in_file n) (flat_map words_of ls) (ap repeats (all-claims ls) ∙ owned.one_owner);
   marks = λ b below. owned.maps n b linked below ∙ ap (λ (cs : List Claim). has_claim cs (BlockOf n b)) (sym (all-claims ls)) ∙ sym (same-marks n b (flat_map words_of ls));
   counted = counted ∙ sym (length-filter (is_in_file n) (flat_map words_of ls));

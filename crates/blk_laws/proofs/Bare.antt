@@ -22,7 +22,7 @@ use Rattle.blk_volume.specs.Found.{completed, kept, dropped, found}
 use Rattle.blk_volume.specs.Layout.{Represents}
 use Rattle.blk_volume.specs.Emptiness.{no_layout}
 use Rattle.blk_volume.specs.Sound.{AreOwned, IsInOrder, IsSound}
-use Rattle.blk_volume.specs.StandsFor.{StandsFor, IsAllocated}
+use Rattle.blk_volume.specs.StandsFor.{StandsFor, AllIsOwned}
 use Rattle.blk_laws.specs.BareLaws.{HasNoEntries, IsFileWithoutBlocks, FoldersWithoutEntriesHoldNothing}
 use Rattle.blk_laws.proofs.Empty.{no-object, empty-valid, empty-view}
 use Rattle.blk_laws.proofs.Chains.{chain-is}
@@ -121,7 +121,7 @@ module _ (image : Image) (bare : HasNoEntries image) where
     in_order = subst (λ (ls : List Loaded). IsInOrder image ls []) (sym found-none) in-order;
   }
 
-  allocated : (limits : Bounds) → IsAllocated image (open_state [] limits) no_layout []
+  allocated : (limits : Bounds) → AllIsOwned image (open_state [] limits) no_layout []
   unfolding open_state
   allocated limits = record {
     blocks = λ n b linked below. (bare.blocks n linked).map b below;

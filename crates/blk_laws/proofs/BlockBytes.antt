@@ -1,7 +1,7 @@
 -- What is read of blocks whose bytes are the same, and how data fits into its blocks.
 use Rattle.std.proofs.Common.{◌≡◌, ℕ, zero, suc, ◌+◌, ◌-◌, ◌*◌, ◌/◌, ◌≤◌, ◌≢◌, List, ◌∷◌, refl, ap, ap₂, ◌∙◌, arith, ◌⊎◌, inl, inr, ⊎_elim, Bool, true, false, cond}
 use Rattle.std.specs.Prelude.{if◌then◌else◌, not, ◌==◌, nat_le}
-use Rattle.std.proofs.lemmas.Bool.{eq-eqb}
+use Rattle.std.proofs.lemmas.Bool.{eq-eqb, not-false}
 use Rattle.std.proofs.lemmas.Bool.Decides.{nat_tests}
 use Rattle.blk_image.specs.Bytes.{word_at, words_at}
 use Rattle.blk_format.specs.Address.{kind_of, block_count, byte_size, external, block_size}
@@ -98,10 +98,6 @@ storage_inside size w h apart =
 pub same_else : {A : Type 0} (b : Bool) (x y z : A) → (b ≡ false → x ≡ y) → cond b z x ≡ cond b z y
 same_else true x y z same = refl
 same_else false x y z same = same refl
-
-pub not_false : (b : Bool) → not b ≡ false → b ≡ true
-not_false true e = refl
-not_false false e = cc
 
 pub not_same : (m n : ℕ) → (m == n) ≡ false → m ≢ n
 not_same m n e is = let yes : (m == n) ≡ true = eq-eqb m n is in cc

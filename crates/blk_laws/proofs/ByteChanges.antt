@@ -2,7 +2,7 @@
 use Rattle.std.proofs.Common.{◌≡◌, ℕ, zero, suc, ◌+◌, ◌-◌, ◌*◌, ◌/◌, ◌<◌, ◌≤◌, ◌≢◌, List, [], map, refl, ap, sym, ◌∙◌, subst, arith, ◌⊎◌, inl, inr, ⊎_elim, Bool, true, false, Option, Some, None}
 use Rattle.std.specs.Prelude.{if◌then◌else◌, ◌&&◌, ◌==◌, nat_le, nat_lt, not, is_some}
 use Rattle.std.specs.List.{range_with_len}
-use Rattle.std.proofs.lemmas.Bool.{eqb-true, eq-eqb, cases_Bool, cases_lt, and_parts, or_parts, or_left, or_right, lt-ltb, le-ltb, le-leb, leb-true}
+use Rattle.std.proofs.lemmas.Bool.{eqb-true, eq-eqb, cases_Bool, cases_lt, and_parts, or_parts, or_left, or_right, lt-ltb, le-ltb, le-leb, leb-true, false_from_ne_true, not-false}
 use Rattle.std.specs.Cmp.Derive.{both_true}
 use Rattle.std.proofs.Math.Nat.{mul-le-mul_left}
 use Rattle.blk_image.specs.Bytes.{word_at}
@@ -25,7 +25,7 @@ use Rattle.blk_laws.specs.ByteLaws.{BlocksStandByTheirLast}
 use Rattle.blk_format.specs.Growth.{HaveGrown}
 use Rattle.blk_laws.proofs.Laid.{same_claim-self}
 use Rattle.blk_laws.proofs.ClaimLists.{claim-head, some-blocks}
-use Rattle.blk_laws.proofs.BlockBytes.{part_of, same-node_in, same-entry_in, same_under, same_else, room_is, storage_inside, not_false, not_same}
+use Rattle.blk_laws.proofs.BlockBytes.{part_of, same-node_in, same-entry_in, same_under, same_else, room_is, storage_inside, not_same}
 
 claim-range : (f from n b : ℕ) → from ≤ b → b < from + n → has_claim (map (λ x. BlockOf f x) (range_with_len from n)) (BlockOf f b) ≡ true
 claim-range f from zero b low high = absurd (omega arith)
@@ -36,12 +36,8 @@ claim-range f from (suc n) b low high =
     (λ (e : b ≤ from). let s : b ≡ from = omega arith in or_left (same_claim (BlockOf f b) (BlockOf f from)) (has_claim (map (λ x. BlockOf f x) (range_with_len (from + 1) n)) (BlockOf f b)) (rw s (same_claim-self (BlockOf f from))))
     (cases_lt from b)
 
-pub false_unless : (b : Bool) → (b ≡ true → ⊥) → b ≡ false
-false_unless true never = absurd (never refl)
-false_unless false never = refl
-
 pub not_equal : (m n : ℕ) → m ≢ n → (m == n) ≡ false
-not_equal m n apart = false_unless (m == n) (λ e. apart (eqb-true m n e))
+not_equal m n apart = false_from_ne_true (m == n) (λ e. apart (eqb-true m n e))
 
 -- each block of an address is claimed by it
 pub block-claim : (w b : ℕ) → w ≢ 0 → kind_of w ≢ external → first_block w ≤ b → b < first_block w + block_count w → has_claim (claims_of w) (BlockOf (file_selector w) b) ≡ true
@@ -115,7 +111,7 @@ record_stands image w e is = ⊎_elim
     (cases_Bool (stands_as image blocks_256 w))
 
 -- a file is linked as the type of a standing address of blocks
-linked-some : (o : Option ℕ) (kind : ℕ) → is_linked_as o kind ≡ true → o ≡ Some kind
+pub linked-some : (o : Option ℕ) (kind : ℕ) → is_linked_as o kind ≡ true → o ≡ Some kind
 linked-some None kind e = absurd (let z : false ≡ true = e in cc)
 linked-some (Some k) kind e = ap Some (eqb-true k kind e)
 
@@ -149,7 +145,7 @@ ends-at w = ap (λ (r : ℕ). 8192 + first_block w * block_size (kind_of w) + r)
   spread size first count (inr (inr (inr e))) = rw e (omega arith)
 
 -- places of blocks rise
-places-rise : (kind less more : ℕ) → less ≤ more → block_place kind less ≤ block_place kind more
+pub places-rise : (kind less more : ℕ) → less ≤ more → block_place kind less ≤ block_place kind more
 unfolding block_place
 places-rise kind less more rises = let p : block_size kind * less ≤ block_size kind * more = mul-le-mul_left (block_size kind) rises in omega arith
 
@@ -278,11 +274,11 @@ module _ (touched : Claim → Bool) (old new : Image) (same : AgreeBut touched o
   stored-same size w clear =
       rw (stands-same w clear)
       (same_else (not (is_storage size w)) _ _ _ (λ is. same_else (size == 0) _ _ _ (λ _. same_else (not (stands_in old w)) _ _ _ (λ st. ⊎_elim
-      (λ (e : (kind_of w == external) ≡ true). rw (e, external-of w (stands-address old w (not_false (stands_in old w) st)) (eqb-true (kind_of w) external e) clear) refl)
+      (λ (e : (kind_of w == external) ≡ true). rw (e, external-of w (stands-address old w (not-false (stands_in old w) st)) (eqb-true (kind_of w) external e) clear) refl)
       (λ (e : (kind_of w == external) ≡ false). rw e (
       let apart : kind_of w ≢ external = not_same (kind_of w) external e in
-      let inside : size ≤ byte_size w = storage_inside size w (not_false (is_storage size w) is) apart in
-      ap Some (same-range size (place w) (block_bytes old w) (block_bytes new w) (part_of (place w) (byte_size w) (place w) size _ _ (blocks-same w (not_false (stands_in old w) st) apart clear) (omega arith) (omega arith)))))
+      let inside : size ≤ byte_size w = storage_inside size w (not-false (is_storage size w) is) apart in
+      ap Some (same-range size (place w) (block_bytes old w) (block_bytes new w) (part_of (place w) (byte_size w) (place w) size _ _ (blocks-same w (not-false (stands_in old w) st) apart clear) (omega arith) (omega arith)))))
       (cases_Bool (kind_of w == external))))))
 
   stock-same : SameStore touched (store_of old) (store_of new)
@@ -329,8 +325,8 @@ module _ (F : files.Footprint) (old new : Image) (touched : Claim → Bool) (sam
   -- an external file that is not touched
   external-same : (n : ℕ) → touched (ExternalOf n) ≡ false → new (External n) ≡ old (External n)
   external-same n clear = same_file_outside F old new (External n) same
-      (λ i. false_unless (F.bytes (External n) i) (λ e. let t : touched (ExternalOf n) ≡ true = covers.external_bytes n i e in let z : true ≡ false = sym t ∙ clear in cc))
-      (false_unless (F.sizes (External n)) (λ e. let t : touched (ExternalOf n) ≡ true = covers.external_sizes n e in let z : true ≡ false = sym t ∙ clear in cc))
+      (λ i. false_from_ne_true (F.bytes (External n) i) (λ e. let t : touched (ExternalOf n) ≡ true = covers.external_bytes n i e in let z : true ≡ false = sym t ∙ clear in cc))
+      (false_from_ne_true (F.sizes (External n)) (λ e. let t : touched (ExternalOf n) ≡ true = covers.external_sizes n e in let z : true ≡ false = sym t ∙ clear in cc))
 
   external_file-same : (w : ℕ) → is_address w ≡ true → kind_of w ≡ external → IsClear touched w → new (External (external_number w)) ≡ old (External (external_number w))
   external_file-same w address is clear =
@@ -350,7 +346,7 @@ module _ (F : files.Footprint) (old new : Image) (touched : Claim → Bool) (sam
   covered-agrees = record {
     index = λ i e. same.bytes Index i (covers.index i e);
     there = λ n kind b _. rw (linked_as-same, count-same) (ap (λ (f : ℕ → ℕ). is_linked_as (linked_as old n) kind && nat_le (b + 1) (max_entries_in old n) && nat_le (block_place kind (b + 1)) (f n)) lengths-same);
-    bytes = λ n kind b i clear there low high. same.bytes (Block n) i (false_unless (F.bytes (Block n) i) (λ e.
+    bytes = λ n kind b i clear there low high. same.bytes (Block n) i (false_from_ne_true (F.bytes (Block n) i) (λ e.
         let parts = and_parts (is_linked_as (linked_as old n) kind) _ (and_parts (is_linked_as (linked_as old n) kind && nat_le (b + 1) (max_entries_in old n)) _ there).0 in
         let t : touched (BlockOf n b) ≡ true = covers.blocks n kind b i (linked-some (linked_as old n) kind parts.0) low high e in
         let z : true ≡ false = sym t ∙ clear in cc));
@@ -366,10 +362,7 @@ module _ (F : files.Footprint) (old new : Image) (touched : Claim → Bool) (sam
 is-block : (image : Image) (n b : ℕ) → is_past image (BlockOf n b) ≡ false → is_some (linked_as image n) ≡ true × b < max_entries_in image n
 is-block image n b e =
     let parts = or_parts (not (is_some (linked_as image n))) (nat_le (max_entries_in image n) b) e in
-    (opposite (is_some (linked_as image n)) parts.0, ⊎_elim (λ (less : b < max_entries_in image n). less) (λ (more : max_entries_in image n ≤ b). absurd (let t : nat_le (max_entries_in image n) b ≡ true = le-leb (max_entries_in image n) b more in let z : true ≡ false = sym t ∙ parts.1 in cc)) (cases_lt b (max_entries_in image n))) where
-      opposite : (t : Bool) → not t ≡ false → t ≡ true
-      opposite true h = refl
-      opposite false h = cc
+    (not-false (is_some (linked_as image n)) parts.0, ⊎_elim (λ (less : b < max_entries_in image n). less) (λ (more : max_entries_in image n ≤ b). absurd (let t : nat_le (max_entries_in image n) b ≡ true = le-leb (max_entries_in image n) b more in let z : true ≡ false = sym t ∙ parts.1 in cc)) (cases_lt b (max_entries_in image n)))
 
 -- a block of a file that is long enough is there
 block-there : (image : Image) (n kind b : ℕ) → AreLongEnough image → linked_as image n ≡ Some kind → b < max_entries_in image n → block_place kind (b + 1) ≤ length_of image (Block n)
@@ -434,4 +427,4 @@ agreement-more less more old new wider same = record {
   externals = λ n clear. same.externals n (untouched (ExternalOf n) clear);
 } where
   untouched : (claim : Claim) → more claim ≡ false → less claim ≡ false
-  untouched claim clear = false_unless (less claim) (λ e. let z : true ≡ false = sym (wider claim e) ∙ clear in cc)
+  untouched claim clear = false_from_ne_true (less claim) (λ e. let z : true ≡ false = sym (wider claim e) ∙ clear in cc)

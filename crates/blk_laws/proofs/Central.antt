@@ -16,7 +16,7 @@ use Rattle.blk_volume.specs.View.{View, StoreView}
 use Rattle.blk_volume.specs.Chains.{Chain, chain}
 use Rattle.blk_volume.specs.Loads.{held_rule, listed_rule, Loaded}
 use Rattle.blk_volume.specs.Audit.{kept_by, dropped_by, kept_among, dropped_among, is_unlisted, unlisted_in, unlisted}
-use Rattle.blk_volume.specs.Found.{row_of}
+use Rattle.blk_volume.specs.Found.{row_of_loaded}
 use Rattle.blk_volume.specs.Shown.{IsShown}
 use Rattle.blk_volume.specs.Layout.{Layout, is_listed, order, rule_of, IsPlacedAt, IsListedRecord, Holds, Represents, is_in}
 use Rattle.blk_volume.specs.Given.{given_by, GoesWith, IsTest}
@@ -47,7 +47,7 @@ module _ (m : State) (y : Layout) (lay : (i : Item) → is_listed m i ≡ true �
     owners key n there None e =
         let laid : IsPlacedAt m y (part key n) = lay (part key n) there in
         let none : model.row_of m (part key n) ≡ None = rw e refl in
-        absurd (let c : ◌≡◌ {A = Option Row} (Some (row_of laid.loaded)) None = sym laid.row ∙ none in cc)
+        absurd (let c : ◌≡◌ {A = Option Row} (Some (row_of_loaded laid.loaded)) None = sym laid.row ∙ none in cc)
 
   pub settled-is_test : IsTest m y m.uses (λ number. is_live_and_settled (object_at m number))
   settled-is_test = settled-on m.uses (λ i there. there)
@@ -68,12 +68,12 @@ module _ (v : StoreView) (m : State) (y : Layout) (r : Holds v m y) (valid : IsV
   pub all-shown : Distinct (order m y) → IsShown v listed_rule (order m y) (given_by (λ _. true) y)
   all-shown once = laid-shown v m y r listed_rule m.uses (λ _. true) refl (λ i there. there) once all-goes
 
-  all-given : (i : Item) → is_in m.uses i ≡ true → option_map row_of (given_by (λ _. true) y (y.place i)) ≡ model.row_of m i
+  all-given : (i : Item) → is_in m.uses i ≡ true → option_map row_of_loaded (given_by (λ _. true) y (y.place i)) ≡ model.row_of m i
   all-given i there = let laid : IsPlacedAt m y i = r.lies.laid i there in rw laid.here (sym laid.row)
 
-  pub all-rows : Distinct (order m y) → map row_of (kept_among v listed_rule (order m y)) ≡ model.rows m
+  pub all-rows : Distinct (order m y) → map row_of_loaded (kept_among v listed_rule (order m y)) ≡ model.rows m
   unfolding model.rows
-  all-rows once = ap (map row_of) (kept-given v listed_rule (order m y) (given_by (λ _. true) y) (all-shown once)) ∙ rows-given y (given_by (λ _. true) y) (model.row_of m) m.uses all-given
+  all-rows once = ap (map row_of_loaded) (kept-given v listed_rule (order m y) (given_by (λ _. true) y) (all-shown once)) ∙ rows-given y (given_by (λ _. true) y) (model.row_of m) m.uses all-given
 
   pub all-kept : Distinct (order m y) → dropped_among v listed_rule (order m y) ≡ []
   all-kept once = dropped-none v listed_rule (order m y) (given_by (λ _. true) y) (all-shown once) (λ w there none.
@@ -82,7 +82,7 @@ module _ (v : StoreView) (m : State) (y : Layout) (r : Holds v m y) (valid : IsV
       let some : given_by (λ _. true) y w ≡ Some laid.loaded = ap (given_by (λ _. true) y) (sym a.is) ∙ rw laid.here refl in
       let c : ◌≡◌ {A = Option Loaded} (Some laid.loaded) None = sym some ∙ none in cc)
 
-  pub rest-found : Distinct (order m y) → map row_of (kept_among v held_rule (order m y)) ≡ model.rest m
+  pub rest-found : Distinct (order m y) → map row_of_loaded (kept_among v held_rule (order m y)) ≡ model.rest m
   rest-found once = found-picked m y r.lies.laid m.uses (λ i there. there) (λ number. is_live_and_settled (object_at m number)) (settled-is_test m y r.lies.laid valid) v r once (all-closed m y r.lies.laid valid) ∙ sym (rest-picked m)
 
   pub chain-end : (b : ℕ) → b < 65536 → (chain v b).end ≡ 0
@@ -126,12 +126,12 @@ module _ (v : View) (m : State) (y : Layout) (r : Represents v m y) where
   pub none-dropped : IsValidState m → dropped_by listed_rule v ≡ []
   none-dropped valid = rw walk-order (rw (all-kept v.store m y r.holds valid r.list.distinct) none-unlisted)
 
-  pub rows-kept : IsValidState m → map row_of (kept_by listed_rule v) ≡ model.rows m
+  pub rows-kept : IsValidState m → map row_of_loaded (kept_by listed_rule v) ≡ model.rows m
   rows-kept valid = rw walk-order (all-rows v.store m y r.holds valid r.list.distinct)
 
   -- with no operation in flight, completing leaves the walk
   pub idle-walk : walk (completed_list v.list) ≡ order m y
   idle-walk = walk-idle v.list r.idle ∙ walk-order
 
-  pub found-rest : IsValidState m → map row_of (kept_among v.store held_rule (walk (completed_list v.list))) ≡ model.rest m
+  pub found-rest : IsValidState m → map row_of_loaded (kept_among v.store held_rule (walk (completed_list v.list))) ≡ model.rest m
   found-rest valid = rw idle-walk (rest-found v.store m y r.holds valid r.list.distinct)

@@ -12,7 +12,7 @@ use Rattle.blk_format.specs.Sealed.{RecordChecks, record_at, record_size, seal_p
 use Rattle.blk_format.proofs.SealedFields.{record_word}
 use Rattle.blk_format.proofs.SealedRecords.{length-record, seal_last}
 use Rattle.blk_volume.specs.Chains.{bucket_of_hash, file_and_block, is_of_bucket}
-use Rattle.blk_volume.specs.Entries.{key_of}
+use Rattle.blk_volume.specs.Entries.{stored_key}
 use Rattle.blk_volume.specs.View.{StoreView, RecordFields, fields_of, fields_at, entry_at, follow_at, key_place_at, stands_as, store_of}
 use Rattle.blk_laws.proofs.Fronts.{AreSmall, small-take, small-range, entry_checks-front, entry_checks-by}
 use Rattle.blk_laws.proofs.StillShown.{standing-parts, core-standing}
@@ -22,7 +22,7 @@ pub same-file : (u w : ℕ) → file_and_block u ≡ file_and_block w → file_s
 unfolding file_selector
 same-file u w e = omega arith
 
-same-first : (u w : ℕ) → file_and_block u ≡ file_and_block w → first_block u ≡ first_block w
+pub same-first : (u w : ℕ) → file_and_block u ≡ file_and_block w → first_block u ≡ first_block w
 unfolding first_block
 same-first u w e = omega arith
 
@@ -64,11 +64,11 @@ module _ (image : Image) (u w : ℕ) (one other : RecordFields) (first : (store_
   unfolding store_of key_place_at
   same-key_place n = ap₂ (λ (f i : ℕ). range_at (byte image (Block f)) (i + entry_size) n) file at
 
-  pub same-key : key_of (store_of image) u one ≡ key_of (store_of image) w other
-  unfolding key_of
+  pub same-key : stored_key (store_of image) u one ≡ stored_key (store_of image) w other
+  unfolding stored_key
   same-key =
       let key : List ℕ → Option (List ℕ) = (λ short. if nat_le one.key_len 927 then (if one.long_key == 0 then Some short else None) else option_map (take one.key_len) ((store_of image).stored (one.key_len + 1) one.long_key)) in
-      subst (λ (c : RecordFields). key_of (store_of image) u one ≡ key_of (store_of image) w c) same-fields (ap key (same-key_place one.key_len))
+      subst (λ (c : RecordFields). stored_key (store_of image) u one ≡ stored_key (store_of image) w c) same-fields (ap key (same-key_place one.key_len))
 
 -- a word of a bucket names a record that checks
 pub record IsShownOf (store : StoreView) (bucket w : ℕ) : Type 0 where

@@ -1,5 +1,6 @@
 -- The chain of linked records.
 use Rattle.std.proofs.Common.{◌≡◌, ℕ, zero, suc, ◌≤◌, ◌^◌, List, [], ◌∷◌, length, map, refl, ap, Bool, true, false, not, ◌&&◌, arith, None}
+use Rattle.std.proofs.Math.Bool.{and-false}
 use Rattle.blk_volume.specs.ListView.{Distinct}
 use Rattle.blk_laws.proofs.ChainSizes.{chains-short}
 use Rattle.blk_laws.proofs.Walks.{Fresh, Fresh-none, Fresh-more}
@@ -7,16 +8,12 @@ use Rattle.blk_format.specs.BlockFiles.{is_among}
 use Rattle.blk_volume.specs.View.{StoreView}
 use Rattle.blk_volume.specs.Chains.{Chain, chain, chain_from, is_of_bucket, file_and_block, Linked, IsChain}
 
-and_false : (b : Bool) → (b && false) ≡ false
-and_false true = refl
-and_false false = refl
-
 chain-linked : (v : StoreView) (b turns : ℕ) (met : List ℕ) (w : ℕ) (cs : List ℕ) → is_of_bucket v b 0 ≡ false → Linked v b w cs → length cs ≤ turns → Distinct (map file_and_block cs) → Fresh met (map file_and_block cs)
     → chain_from v b turns met w ≡ record { reached = cs; end = 0 }
 unfolding chain_from
 chain-linked v b zero met w [] none linked few once fresh = rw linked refl
 chain-linked v b zero met w (c ∷ cs) none linked few once fresh = absurd (omega arith)
-chain-linked v b (suc turns) met w [] none linked few once fresh = rw (linked, none, and_false (not (is_among met (file_and_block 0)))) refl
+chain-linked v b (suc turns) met w [] none linked few once fresh = rw (linked, none, and-false (not (is_among met (file_and_block 0)))) refl
 chain-linked v b (suc turns) met w (c ∷ cs) none linked few once fresh =
     rw (linked.0, fresh.0, linked.1)
     (ap (λ (x : Chain). let y : Chain = record x { reached = c ∷ x.reached } in y)

@@ -16,7 +16,7 @@ use Rattle.blk_format.specs.Claims.{Claim, has_claim, repeats}
 use Rattle.blk_volume.specs.Chains.{bucket_of_hash}
 use Rattle.blk_volume.specs.Loads.{Loaded, all_claims}
 use Rattle.blk_volume.specs.Audit.{is_parent_of}
-use Rattle.blk_volume.specs.Found.{row_of}
+use Rattle.blk_volume.specs.Found.{row_of_loaded}
 use Rattle.blk_volume.specs.Layout.{Layout, is_listed, order, HasDirtyMark, HasParentAt, IsPartAt, IsPlacedAt, IsDoomedAt, IsListedRecord, IsLayoutOf, OneChanged, changed_at, IsChange}
 use Rattle.blk_laws.proofs.Laid.{item-row, is_among-node}
 
@@ -36,7 +36,7 @@ pub same-place : (m : State) (y : Layout) (r : IsLayoutOf m y) (i j : Item) → 
 same-place m y r i j here there e =
     let a : IsPlacedAt m y i = r.laid i here in let b : IsPlacedAt m y j = r.laid j there in
     let same : a.loaded ≡ b.loaded = let p : y.at (y.place i) ≡ Some a.loaded = a.here in let q : y.at (y.place j) ≡ Some b.loaded = b.here in let s : y.at (y.place i) ≡ y.at (y.place j) = ap y.at e in cc in
-    sym (item-row m i (row_of a.loaded) a.row) ∙ ap (λ (x : Loaded). item_of (row_of x)) same ∙ item-row m j (row_of b.loaded) b.row
+    sym (item-row m i (row_of_loaded a.loaded) a.row) ∙ ap (λ (x : Loaded). item_of (row_of_loaded x)) same ∙ item-row m j (row_of_loaded b.loaded) b.row
 
 -- a dirty word goes with the object of a state where it goes with that of another, which is settled just so
 pub mark-same : (n o : Option Object) (clean : Bool) → option_map (λ (z : Object). z.settled) n ≡ option_map (λ (z : Object). z.settled) o → IfSome o (λ z. clean ≡ z.settled) → IfSome n (λ z. clean ≡ z.settled)

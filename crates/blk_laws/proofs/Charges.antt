@@ -21,10 +21,10 @@ use Rattle.blk_format.specs.Names.{Name, child_name, read_name}
 use Rattle.blk_format.specs.SparseIndex.{ParentIndex, PartIndex, read_parent_index, read_part_index}
 use Rattle.blk_format.proofs.NameLemmas.{read_name-IsName}
 use Rattle.blk_volume.specs.View.{View, StoreView, RecordFields, view_of}
-use Rattle.blk_volume.specs.Entries.{Role, IsPlain, IsParent, IsPart, stream, stream_of, streams_of, parent_role, part_role, role_of, is_covered}
+use Rattle.blk_volume.specs.Entries.{Role, IsPlain, IsParent, IsPart, stream, stored_stream, stored_streams, parent_role, part_role, role_of, is_covered}
 use Rattle.blk_volume.specs.Loads.{Loaded, listed_rule}
 use Rattle.blk_volume.specs.Audit.{kept_by, is_parent_of, is_parent_role}
-use Rattle.blk_volume.specs.Found.{row_with, row_of, charge_of, found}
+use Rattle.blk_volume.specs.Found.{row_with, row_of_loaded, charge_of, found}
 use Rattle.blk_volume.specs.Layout.{Layout, is_in, is_listed, nodes_of, rule_of, IsPlacedAt, IsPartAt, HasParentAt, Represents}
 use Rattle.blk_laws.specs.ChargeLaws.{PartNamesAreNames, ItemsAreChargedAsRows, ListedChargesAreTheRows, ListedChargesAreTheTotals, OpenedChargesAreTheTotals}
 use Rattle.blk_laws.proofs.Laid.{item-of}
@@ -45,9 +45,9 @@ record AreThree (ss : List (List ℕ)) : Type 0 where
   pub third : List ℕ
   pub are : ss ≡ first ∷ second ∷ third ∷ []
 
-three : (v : StoreView) (e : RecordFields) (ss : List (List ℕ)) → streams_of v e ≡ Some ss → AreThree ss
-unfolding streams_of
-three v e ss ok = go _ (stream_of v e 0) (stream_of v e 1) (stream_of v e 2) ok where
+three : (v : StoreView) (e : RecordFields) (ss : List (List ℕ)) → stored_streams v e ≡ Some ss → AreThree ss
+unfolding stored_streams
+three v e ss ok = go _ (stored_stream v e 0) (stored_stream v e 1) (stored_stream v e 2) ok where
   go : (t : Bool) (p q r : Option (List ℕ)) → (if t then None else option_and_then (λ (first : List ℕ). option_and_then (λ (second : List ℕ). option_map (λ (third : List ℕ). first ∷ second ∷ third ∷ []) r) q) p) ≡ Some ss → AreThree ss
   go true p q r e = cc
   go false None q r e = cc
@@ -162,19 +162,19 @@ module _ (view : View) (state : State) (layout : Layout) (r : Represents view st
   signature-is key p index there here role =
       let laid : IsPlacedAt state layout (main key) = r.holds.lies.laid (main key) there in
       let same : laid.loaded ≡ p = some_inj (sym laid.here ∙ here) in
-      go (model.owner_object state (main key)) (laid.row ∙ ap (λ (x : Loaded). Some (row_of x)) same) where
+      go (model.owner_object state (main key)) (laid.row ∙ ap (λ (x : Loaded). Some (row_of_loaded x)) same) where
         shape-of : Row → ℕ
         shape-of (main_row k shape streams) = signature_of shape
         shape-of (part_row k n value) = 0
 
-        go : (o : Option Object) → option_and_then (λ (object : Object). model.row_in object (main key)) o ≡ Some (row_of p) → option_map_or (λ (object : Object). signature_of object.shape) o 0 ≡ index.signature
+        go : (o : Option Object) → option_and_then (λ (object : Object). model.row_in object (main key)) o ≡ Some (row_of_loaded p) → option_map_or (λ (object : Object). signature_of object.shape) o 0 ≡ index.signature
         go None e = cc
         go (Some object) e = ap shape-of (some_inj e) ∙ rw role refl
 
-  charge-item : (item : Item) (l : Loaded) → is_listed state item ≡ true → layout.at (layout.place item) ≡ Some l → charge_of l ≡ row_charge state (row_of l)
+  charge-item : (item : Item) (l : Loaded) → is_listed state item ≡ true → layout.at (layout.place item) ≡ Some l → charge_of l ≡ row_charge state (row_of_loaded l)
   charge-item item l there here = load-then view.store (rule_of layout (layout.place item)) (layout.place item) l (r.holds.shows.each (layout.place item) l here) (λ n e facts.
       by-role e (three view.store e l.streams facts.facts.streams) l.role refl facts.facts.role) where
-        row-is : (role : Role) → l.role ≡ role → row_of l ≡ row_with l.key role l.streams
+        row-is : (role : Role) → l.role ≡ role → row_of_loaded l ≡ row_with l.key role l.streams
         row-is role is = ap (λ (x : Role). row_with l.key x l.streams) is
 
         part-signature : (name : Name) (index : PartIndex) → l.role ≡ IsPart name index → signature_for state name.key ≡ name.signature
@@ -186,7 +186,7 @@ module _ (view : View) (state : State) (layout : Layout) (r : Represents view st
             let p = parent-signature pa.name pa.parent pa.of in
             signature-is name.key pa.parent p.0 pa.listed pa.at_parent p.1.0 ∙ p.1.1 ∙ ap (λ (x : Name). x.signature) (one-name pa.name name pa.index index (sym pa.role ∙ is))
 
-        by-role : (e : RecordFields) → AreThree l.streams → (role : Role) → l.role ≡ role → role_of e l.key l.streams ≡ Some l.role → charge_of l ≡ row_charge state (row_of l)
+        by-role : (e : RecordFields) → AreThree l.streams → (role : Role) → l.role ≡ role → role_of e l.key l.streams ≡ Some l.role → charge_of l ≡ row_charge state (row_of_loaded l)
         by-role e t IsPlain is of = plain-sum (length l.key) l.streams t ∙ ap (row_charge state) (sym (row-is IsPlain is))
         by-role e t (IsParent index) is of =
             let long = role-parent e l.key l.streams index (of ∙ ap (λ (x : Role). Some x) is) in
@@ -206,9 +206,9 @@ module _ (view : View) (state : State) (layout : Layout) (r : Represents view st
       let more = charges-sum items (λ j h. sub j (or_right (same_item j i) (is_in items j) h)) in
       let one = charge-item i laid.loaded there laid.here in
       let first = sum_by-cons charge_of laid.loaded (filter_map layout.at (nodes_of layout items)) in
-      let second = sum_by-cons (row_charge state) (row_of laid.loaded) (filter_map (model.row_of state) items) in
+      let second = sum_by-cons (row_charge state) (row_of_loaded laid.loaded) (filter_map (model.row_of state) items) in
       ap (λ (o : Option Loaded). sum_by charge_of (cons_option o (filter_map layout.at (nodes_of layout items)))) laid.here
-      ∙ (let e : sum_by charge_of (laid.loaded ∷ filter_map layout.at (nodes_of layout items)) ≡ sum_by (row_charge state) (row_of laid.loaded ∷ filter_map (model.row_of state) items) = omega (arith, more, one, first, second) in e)
+      ∙ (let e : sum_by charge_of (laid.loaded ∷ filter_map layout.at (nodes_of layout items)) ≡ sum_by (row_charge state) (row_of_loaded laid.loaded ∷ filter_map (model.row_of state) items) = omega (arith, more, one, first, second) in e)
       ∙ sym (ap (λ (o : Option Row). sum_by (row_charge state) (cons_option o (filter_map (model.row_of state) items))) laid.row)
 
 pub items-charged : ItemsAreChargedAsRows
@@ -223,7 +223,7 @@ listed-totals image state layout r valid =
     let sums = totals_are_sums state valid in
     record {
       bytes = sums.bytes ∙ ap (λ (n : ℕ). n + sum_by doomed_charge state.objects) (sym (listed-charges image state layout r valid));
-      count = sums.count ∙ ap (λ (n : ℕ). n + count_by is_doomed_slot state.objects) (ap length (sym (rows-kept (view_of image) state layout r valid)) ∙ length-map (kept_by listed_rule (view_of image)) row_of);
+      count = sums.count ∙ ap (λ (n : ℕ). n + count_by is_doomed_slot state.objects) (ap length (sym (rows-kept (view_of image) state layout r valid)) ∙ length-map (kept_by listed_rule (view_of image)) row_of_loaded);
     }
 
 -- a state that was just opened has no doomed objects

@@ -2,21 +2,16 @@
 use Rattle.std.proofs.Common.{◌≡◌, ℕ, zero, suc, ◌+◌, ◌<◌, arith, List, [], ◌∷◌, ◌++◌, map, refl, ◌∙◌, Bool, true, false, ⊎_elim}
 use Rattle.std.specs.Prelude.{◌||◌, ◌==◌}
 use Rattle.std.specs.List.{flat_map, range_with_len}
-use Rattle.std.proofs.lemmas.Bool.{cases_Bool, or_left, or_right, or_parts}
+use Rattle.std.proofs.lemmas.Bool.{cases_Bool, or_left, or_right, or_parts, or_from}
 use Rattle.std.proofs.lemmas.Bool.Decides.{eqb_tells}
 use Rattle.std.proofs.Math.Dec.{eqb}
 use Rattle.std.proofs.lemmas.List.Folds.{list_any-append}
+pub use Rattle.std.proofs.lemmas.Bool.{or_from as neither}
 use Rattle.blk_format.specs.Claims.{Claim, BlockOf, ExternalOf, same_claim, has_claim, claims_of, repeats}
 use Rattle.blk_format.specs.Address.{kind_of, block_count, file_selector, first_block, external_number, external}
 use Rattle.blk_volume.specs.Loads.{Loaded, all_claims, record_claims}
 use Rattle.blk_laws.proofs.Laid.{same_claim-self}
-
-pub claim-append : (xs ys : List Claim) (c : Claim) → has_claim (xs ++ ys) c ≡ (has_claim xs c || has_claim ys c)
-unfolding has_claim
-claim-append xs ys c = list_any-append (same_claim c) xs ys
-
-pub neither : (a b : Bool) → a ≡ false → b ≡ false → (a || b) ≡ false
-neither a b p q = rw (p, q) refl
+pub use Rattle.blk_laws.proofs.Shown.{has_claim-append as claim-append}
 
 pub no-claim : (c : Claim) → has_claim [] c ≡ false
 unfolding has_claim
@@ -33,7 +28,7 @@ repeats-append (x ∷ xs) ys a b apart =
     let p = or_parts (has_claim xs x) (repeats xs) a in
     let here : has_claim (x ∷ xs) x ≡ true = claim-head x xs x ∙ or_left (same_claim x x) (has_claim xs x) (same_claim-self x) in
     let lacks : has_claim ys x ≡ false = ⊎_elim (λ (e : has_claim ys x ≡ true). absurd (apart x here e)) (λ (e : has_claim ys x ≡ false). e) (cases_Bool (has_claim ys x)) in
-    neither (has_claim (xs ++ ys) x) (repeats (xs ++ ys)) (claim-append xs ys x ∙ neither (has_claim xs x) (has_claim ys x) p.0 lacks)
+    or_from (has_claim (xs ++ ys) x) (repeats (xs ++ ys)) (claim-append xs ys x ∙ or_from (has_claim xs x) (has_claim ys x) p.0 lacks)
     (repeats-append xs ys p.1 b (λ c h g. apart c (claim-head x xs c ∙ or_right (same_claim c x) (has_claim xs c) h) g))
 
 -- the claims of its record are a loaded record's

@@ -13,7 +13,7 @@ use Rattle.blk_format.proofs.Keeping.{none_parts}
 use Rattle.blk_format.proofs.LinkedHeads.{count_whole, linked_checked}
 use Rattle.std.specs.Int.{bit_at}
 use Rattle.blk_format.proofs.SpareHeaders.{SparesHeaders, next_same, blocks_same}
-use Rattle.blk_volume.specs.Sound.{AreLongEnough, IsCounted, OnlyLinked}
+use Rattle.blk_volume.specs.Sound.{AreLongEnough, CountersAgree, OnlyLinked}
 use Rattle.blk_laws.specs.TidyLaws.{FilesStandBehindHeaders}
 use Rattle.blk_laws.proofs.ByteChanges.{same-links}
 use Rattle.blk_format.proofs.Groups.{groups_same}
@@ -58,7 +58,7 @@ module _ (F : Footprint) (from image : Image) (spares : SparesHeaders F) (sizes 
       ∙ sym (ap (λ (k : ℕ). groups_with (is_block_marked image n) (groups_of k) (i + 1)) (blocks_same F from image spares same n)
       ∙ groups_same (is_block_marked image n) (is_block_marked from n) (groups_of (max_entries_in from n)) (i + 1) (λ b below. marks-same n b (omega arith)))
 
-  pub counted-same : (n : ℕ) (words : List ℕ) → max_entries_in from n ≤ most_blocks → IsCounted from words n → IsCounted image words n
+  pub counted-same : (n : ℕ) (words : List ℕ) → max_entries_in from n ≤ most_blocks → CountersAgree from words n → CountersAgree image words n
   counted-same n words few is = record {
     num_entries = head-word n 16 (omega arith) ∙ is.num_entries;
     empty = empty-same n few is.empty;

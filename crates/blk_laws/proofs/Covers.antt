@@ -1,7 +1,7 @@
 -- What covers the bytes of blocks, of external files, of headers and of the index.
 use Rattle.std.proofs.Common.{◌≡◌, ◌⊎◌, inl, inr, ⊎_elim, ℕ, ◌+◌, ◌*◌, ◌<◌, ◌≤◌, refl, ap, sym, ◌∙◌, subst, arith, Bool, true, false, Some}
 use Rattle.std.specs.Prelude.{◌&&◌, ◌||◌, nat_le, nat_lt}
-use Rattle.std.proofs.lemmas.Bool.{eq-eqb, and_parts, leb-true, ltb-true}
+use Rattle.std.proofs.lemmas.Bool.{eq-eqb, and_parts, leb-true, ltb-true, or_from, false_from_ne_true}
 use Rattle.std.proofs.lemmas.Bool.Decides.{nat_tests}
 use Rattle.blk_image.specs.Image.{Index, Block, External, File, same_file}
 use Rattle.blk_image.specs.Footprint.{range}
@@ -11,7 +11,7 @@ use Rattle.blk_format.specs.BlockFiles.{linked_as}
 use Rattle.blk_format.specs.Claims.{BlockOf, ExternalOf, claims_of, has_claim}
 use Rattle.blk_format.specs.Headers.{is_shown_place, is_extent_place}
 use Rattle.blk_laws.specs.ByteLaws.{BlocksAreCovered, ExternalFilesAreCovered, HeadersNeedNoCover, HiddenWordsNeedNoCover, CoversOfLess, MoreCovers, CoversOfEither}
-use Rattle.blk_laws.proofs.ByteChanges.{block-claim, false_unless, stands-some, stands-linked, size-is}
+use Rattle.blk_laws.proofs.ByteChanges.{block-claim, stands-some, stands-linked, size-is}
 
 -- a byte of a range of a file
 in-range : (file other : File) (at n i : ℕ) → (range file at n).bytes other i ≡ true → (file ≡ other) × (at ≤ i) × (i < at + n)
@@ -21,8 +21,8 @@ in-range file other at n i e =
     (same_file-true file other p.0, leb-true at i q.0, ltb-true i (at + n) q.1)
 
 -- no byte outside it
-out-range : (file other : File) (at n i : ℕ) → (file ≡ other → at ≤ i → i < at + n → ⊥) → (range file at n).bytes other i ≡ false
-out-range file other at n i never = false_unless ((range file at n).bytes other i) (λ e. let p = in-range file other at n i e in never p.0 p.1 p.2)
+pub out-range : (file other : File) (at n i : ℕ) → (file ≡ other → at ≤ i → i < at + n → ⊥) → (range file at n).bytes other i ≡ false
+out-range file other at n i never = false_from_ne_true ((range file at n).bytes other i) (λ e. let p = in-range file other at n i e in never p.0 p.1 p.2)
 
 extent-small : (i : ℕ) → is_extent_place i ≡ true → (i ≡ 10) ⊎ (i ≡ 11) ⊎ ((20 ≤ i) × (i < 24))
 extent-small i e = grind (arith, nat_tests)
@@ -38,7 +38,7 @@ meets size first count b i (inr (inr (inl e))) p q r s =
 meets size first count b i (inr (inr (inr e))) p q r s =
     let p1 : 8192 + b * 4096 ≤ i = rw e at p in let q1 : i < 8192 + (b + 1) * 4096 = rw e at q in let r1 : 8192 + first * 4096 ≤ i = rw e at r in let s1 : i < 8192 + first * 4096 + count * 4096 = rw e at s in (omega arith, omega arith)
 
-block-of : (m n : ℕ) → Block m ≡ Block n → m ≡ n
+pub block-of : (m n : ℕ) → Block m ≡ Block n → m ≡ n
 block-of m n e = cc
 
 place-behind : (w : ℕ) → 8192 ≤ place w
@@ -107,9 +107,9 @@ hidden-covered image at length hidden = record {
 
 pub covers-less : CoversOfLess
 covers-less image less more touched within covers = record {
-  index = λ i e. false_unless (less.bytes Index i) (λ x. let a : more.bytes Index i ≡ true = within.bytes Index i x in let c : true ≡ false = sym a ∙ covers.index i e in cc);
-  extents = λ n i e. false_unless (less.bytes (Block n) i) (λ x. let a : more.bytes (Block n) i ≡ true = within.bytes (Block n) i x in let c : true ≡ false = sym a ∙ covers.extents n i e in cc);
-  lengths = λ n. false_unless (less.sizes (Block n)) (λ x. let a : more.sizes (Block n) ≡ true = within.sizes (Block n) x in let c : true ≡ false = sym a ∙ covers.lengths n in cc);
+  index = λ i e. false_from_ne_true (less.bytes Index i) (λ x. let a : more.bytes Index i ≡ true = within.bytes Index i x in let c : true ≡ false = sym a ∙ covers.index i e in cc);
+  extents = λ n i e. false_from_ne_true (less.bytes (Block n) i) (λ x. let a : more.bytes (Block n) i ≡ true = within.bytes (Block n) i x in let c : true ≡ false = sym a ∙ covers.extents n i e in cc);
+  lengths = λ n. false_from_ne_true (less.sizes (Block n)) (λ x. let a : more.sizes (Block n) ≡ true = within.sizes (Block n) x in let c : true ≡ false = sym a ∙ covers.lengths n in cc);
   blocks = λ n kind b i linked low high e. covers.blocks n kind b i linked low high (within.bytes (Block n) i e);
   external_bytes = λ n i e. covers.external_bytes n i (within.bytes (External n) i e);
   external_sizes = λ n e. covers.external_sizes n (within.sizes (External n) e);
@@ -125,18 +125,15 @@ covers-more image footprint less more wider covers = record {
   external_sizes = λ n e. wider (ExternalOf n) (covers.external_sizes n e);
 }
 
-neither : (a b : Bool) → a ≡ false → b ≡ false → (a || b) ≡ false
-neither a b p q = rw (p, q) refl
-
 one-of : {P : Type 0} (a b : Bool) → (a || b) ≡ true → (a ≡ true → P) → (b ≡ true → P) → P
 one-of true b e f g = f refl
 one-of false b e f g = g e
 
 pub covers-either : CoversOfEither
 covers-either image one other touched first second = record {
-  index = λ i e. neither (one.bytes Index i) (other.bytes Index i) (first.index i e) (second.index i e);
-  extents = λ n i e. neither (one.bytes (Block n) i) (other.bytes (Block n) i) (first.extents n i e) (second.extents n i e);
-  lengths = λ n. neither (one.sizes (Block n)) (other.sizes (Block n)) (first.lengths n) (second.lengths n);
+  index = λ i e. or_from (one.bytes Index i) (other.bytes Index i) (first.index i e) (second.index i e);
+  extents = λ n i e. or_from (one.bytes (Block n) i) (other.bytes (Block n) i) (first.extents n i e) (second.extents n i e);
+  lengths = λ n. or_from (one.sizes (Block n)) (other.sizes (Block n)) (first.lengths n) (second.lengths n);
   blocks = λ n kind b i linked low high e. one-of (one.bytes (Block n) i) (other.bytes (Block n) i) e (first.blocks n kind b i linked low high) (second.blocks n kind b i linked low high);
   external_bytes = λ n i e. one-of (one.bytes (External n) i) (other.bytes (External n) i) e (first.external_bytes n i) (second.external_bytes n i);
   external_sizes = λ n e. one-of (one.sizes (External n)) (other.sizes (External n)) e (first.external_sizes n) (second.external_sizes n);

@@ -22,14 +22,14 @@ use Rattle.blk_volume.specs.Chains.{bucket_of_hash}
 use Rattle.blk_volume.specs.View.{View}
 use Rattle.blk_volume.specs.Loads.{held_rule, Loaded}
 use Rattle.blk_volume.specs.Audit.{kept_among}
-use Rattle.blk_volume.specs.Found.{row_of}
+use Rattle.blk_volume.specs.Found.{row_of_loaded}
 use Rattle.blk_volume.specs.Layout.{Layout, order, Represents}
 use Rattle.blk_volume.specs.Given.{picked_with}
 use Rattle.blk_volume.specs.Footprint.{SameBut, IsFree}
 use Rattle.blk_volume.specs.Creation.{IsNewEntry, IsFrontOfChain, with_new, linked_front}
 use Rattle.blk_laws.proofs.Central.{rest-found, found-rest}
 use Rattle.blk_laws.proofs.Owner.{rest-picked}
-use Rattle.blk_laws.specs.CommandLaws.{IsWritten, WrittenEntriesStay, CreatesBeforeTheInsert, CreatesAtEachWrite, CreatesEnd, CreatesAfterTheLink, CreatesEndAtTheStep}
+use Rattle.blk_laws.specs.CommandLaws.{IsWrittenApart, WrittenEntriesStay, CreatesBeforeTheInsert, CreatesAtEachWrite, CreatesEnd, CreatesAfterTheLink, CreatesEndAtTheStep}
 use Rattle.blk_laws.proofs.Opening.{safe-same}
 use Rattle.blk_laws.proofs.Outside.{represents-outside, load-outside, all-clear, then-same}
 use Rattle.blk_laws.proofs.Touches.{same-represents}
@@ -43,10 +43,10 @@ module _ (v u : View) (m : State) (y : Layout) (r : Represents v m y) (valid : I
   written = represents-outside touched v u m y same free r
 
   -- at each word of the insertion
-  pub insert-moments : (k : ℕ) → map row_of (kept_among u.store held_rule (walk (completed_list (after_writes (take k (writes_of 1 l.node u.list)) u.list)))) ≡ model.rest m
+  pub insert-moments : (k : ℕ) → map row_of_loaded (kept_among u.store held_rule (walk (completed_list (after_writes (take k (writes_of 1 l.node u.list)) u.list)))) ≡ model.rest m
   insert-moments k =
-      ap (λ (ws : List ℕ). map row_of (kept_among u.store held_rule ws)) (insert_turns l.node u.list (order m y) written.list written.idle (new-lacks u.store m y written.holds valid key l new written.list.distinct) good few k) ∙ go (nat_lt k 2) where
-        go : (b : Bool) → map row_of (kept_among u.store held_rule (if b then order m y else l.node ∷ order m y)) ≡ model.rest m
+      ap (λ (ws : List ℕ). map row_of_loaded (kept_among u.store held_rule ws)) (insert_turns l.node u.list (order m y) written.list written.idle (new-lacks u.store m y written.holds valid key l new written.list.distinct) good few k) ∙ go (nat_lt k 2) where
+        go : (b : Bool) → map row_of_loaded (kept_among u.store held_rule (if b then order m y else l.node ∷ order m y)) ≡ model.rest m
         go true = rest-found u.store m y written.holds valid written.list.distinct
         go false = inserted-rest u.store m y written.holds valid key l new written.list.distinct
 
@@ -108,8 +108,8 @@ written-stays v u m y key l w s same = record {
   missing = w.missing;
 }
 
-module _ (v u : View) (m : State) (y : Layout) (key : List ℕ) (l : Loaded) (w : IsWritten v u m y key l) where
-  pub creates-moments : (k : ℕ) → map row_of (kept_among u.store held_rule (walk (completed_list (after_writes (take k (writes_of 1 l.node u.list)) u.list)))) ≡ model.rest m
+module _ (v u : View) (m : State) (y : Layout) (key : List ℕ) (l : Loaded) (w : IsWrittenApart v u m y key l) where
+  pub creates-moments : (k : ℕ) → map row_of_loaded (kept_among u.store held_rule (walk (completed_list (after_writes (take k (writes_of 1 l.node u.list)) u.list)))) ≡ model.rest m
   creates-moments = insert-moments v u m y w.represents w.valid w.touched w.same w.free 0 key l w.entry w.prefix w.good w.few w.missing
 
   pub creates-end : (handle : ℕ) → Represents (record { list = after_writes (writes_of 1 l.node u.list) u.list; store = linked_front u.store l }) (created handle key m) (with_new y key l)

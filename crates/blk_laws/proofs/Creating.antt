@@ -19,8 +19,8 @@ use Rattle.blk_volume.specs.View.{StoreView}
 use Rattle.blk_volume.specs.Chains.{chain, bucket_of_hash, is_of_bucket, Linked, IsChain}
 use Rattle.blk_volume.specs.Loads.{Rule, held_rule, Loaded, load}
 use Rattle.blk_volume.specs.Audit.{kept_among}
-use Rattle.blk_volume.specs.Entries.{key_of, stream_of, streams_of}
-use Rattle.blk_volume.specs.Found.{row_of}
+use Rattle.blk_volume.specs.Entries.{stored_key, stored_stream, stored_streams}
+use Rattle.blk_volume.specs.Found.{row_of_loaded}
 use Rattle.blk_volume.specs.Layout.{Layout, is_listed, nodes_of, order, rule_of, IsPlacedAt, Shows, IsLayoutOf, Holds, OneChanged, is_in}
 use Rattle.blk_volume.specs.Shown.{IsShown, HasParentIn, IsOrphanIn}
 use Rattle.blk_volume.specs.Given.{given_by, is_settled}
@@ -74,7 +74,7 @@ module _ (m : State) (y : Layout) (r : IsLayoutOf m y) (v : StoreView) (handle :
   unfolding model.row_of
   unlisted = ⊎_elim
       (λ (e : is_listed m (main key) ≡ true). let q : IsPlacedAt m y (main key) = r.laid (main key) e in let no_row : model.row_of m (main key) ≡ None = rw none refl in
-      absurd (let c : ◌≡◌ {A = Option Row} (Some (row_of q.loaded)) None = sym q.row ∙ no_row in cc))
+      absurd (let c : ◌≡◌ {A = Option Row} (Some (row_of_loaded q.loaded)) None = sym q.row ∙ no_row in cc))
       (λ (e : is_listed m (main key) ≡ false). e)
       (cases_Bool (is_listed m (main key)))
 
@@ -144,7 +144,7 @@ module _ (m : State) (y : Layout) (r : IsLayoutOf m y) (v : StoreView) (handle :
     free = new.free;
     single = new.single;
   } where
-    row : row_of l ≡ main_row key (new_object key).shape ([], [], [])
+    row : row_of_loaded l ≡ main_row key (new_object key).shape ([], [], [])
     row = rw (new.role, new.streams, new.key_is) refl
 
   -- the use list afterwards: the new item, and the others
@@ -173,7 +173,7 @@ module _ (m : State) (y : Layout) (r : IsLayoutOf m y) (v : StoreView) (handle :
   unfolding model.settled_row created
   rest-item i there =
       let q : IsPlacedAt m y i = r.laid i there in
-      let own = owner-of i (row_of q.loaded) q.row in
+      let own = owner-of i (row_of_loaded q.loaded) q.row in
       ap (option_and_then (λ object. cond object.settled (model.row_in object i) None)) (owner-object i own.0 own.1)
 
   rest-items : (items : List Item) → ((i : Item) → is_in items i ≡ true → is_listed m i ≡ true) → filter_map (model.settled_row (created handle key m)) items ≡ filter_map (model.settled_row m) items
@@ -190,7 +190,7 @@ module _ (m : State) (y : Layout) (r : IsLayoutOf m y) (v : StoreView) (handle :
 -- ---- what is shown
 
 pub load-table : (v : StoreView) (t : ℕ → ℕ) (rule : Rule) (w : ℕ) (l : Loaded) → rule.chained ≡ false → load v rule w ≡ Ok l → load (record v { table = t }) rule w ≡ Ok l
-unfolding key_of streams_of stream_of
+unfolding stored_key stored_streams stored_stream
 load-table v t rule w l free ok = load-then v rule w l ok (λ n e g.
     let r = g.facts in let k = r.keyed in
     load-from (record v { table = t }) rule w l n e (record {
@@ -314,11 +314,11 @@ module _ (v : StoreView) (m : State) (y : Layout) (r : Holds v m y) (valid : IsV
       let c : true ≡ false = sym a ∙ z in cc
 
   -- what is found while the new node is listed and dirty is what was at rest
-  pub inserted-rest : map row_of (kept_among v held_rule (l.node ∷ order m y)) ≡ model.rest m
+  pub inserted-rest : map row_of_loaded (kept_among v held_rule (l.node ∷ order m y)) ≡ model.rest m
   inserted-rest =
       let goes = settled-goes m y r.lies.laid m.uses (λ i h. h) in
       let shown : IsShown v held_rule (order m y) (given_by (is_settled y m.uses) y) = laid-shown v m y r held_rule m.uses (is_settled y m.uses) refl (λ i h. h) once goes in
       let none : given_by (is_settled y m.uses) y l.node ≡ None = rw new.nobody refl in
       let more : IsShown v held_rule (l.node ∷ order m y) (given_by (is_settled y m.uses) y) = shown-more v held_rule (order m y) (given_by (is_settled y m.uses) y) shown l.node new-lacks none dirty-unread in
-      ap (map row_of) (kept-given v held_rule (l.node ∷ order m y) (given_by (is_settled y m.uses) y) more ∙ rw none refl)
-      ∙ ap (map row_of) (sym (kept-given v held_rule (order m y) (given_by (is_settled y m.uses) y) shown)) ∙ rest-found v m y r valid once
+      ap (map row_of_loaded) (kept-given v held_rule (l.node ∷ order m y) (given_by (is_settled y m.uses) y) more ∙ rw none refl)
+      ∙ ap (map row_of_loaded) (sym (kept-given v held_rule (order m y) (given_by (is_settled y m.uses) y) shown)) ∙ rest-found v m y r valid once

@@ -12,7 +12,7 @@ use Rattle.blk_format.specs.SparseIndex.{read_parent_index, read_part_index}
 use Rattle.blk_volume.specs.Walk.{walk, walk_from}
 use Rattle.blk_volume.specs.View.{View, RecordFields}
 use Rattle.blk_volume.specs.Chains.{chain_from}
-use Rattle.blk_volume.specs.Entries.{is_key_length, key_of, stream_of, streams_of, role_of, parent_role, part_role, is_covered}
+use Rattle.blk_volume.specs.Entries.{is_key_length, stored_key, stored_stream, stored_streams, role_of, parent_role, part_role, is_covered}
 use Rattle.blk_volume.specs.Reasons as reason
 use Rattle.blk_volume.specs.Loads.{load, load_key, load_record, record_claims, all_claims}
 use Rattle.blk_volume.specs.Audit.{shares_key, is_orphan, admit, verdicts, kept_among, dropped_among}
@@ -56,12 +56,12 @@ family : View
 family = sparse_view 1 0x90000001 both_nodes
 
 family_is_kept : kept_nodes family ≡ 0x90000001 ∷ 0x90000000 ∷ []
-unfolding family kept_among verdicts load load_record load_key admit is_key_length key_of stream_of streams_of role_of parent_role part_role is_covered read_parent_index read_part_index read_name split_last child_name digits words_at shares_key is_orphan record_claims all_claims claims_of has_claim overlap repeats kind_of block_count file_selector first_block external_number entry_blocks walk walk_from chain_from hash mixed of_bytes of_four of_three of_one
+unfolding family kept_among verdicts load load_record load_key admit is_key_length stored_key stored_stream stored_streams role_of parent_role part_role is_covered read_parent_index read_part_index read_name split_last child_name digits words_at shares_key is_orphan record_claims all_claims claims_of has_claim overlap repeats kind_of block_count file_selector first_block external_number entry_blocks walk walk_from chain_from hash mixed of_bytes of_four of_three of_one
 family_is_kept = refl
 
 -- and both are candidates, the part for its parent
 family_are_candidates : candidates family ≡ 0x90000001 ∷ 0x90000000 ∷ []
-unfolding family is_candidate name_at is_parent_at is_key_length key_of stream_of streams_of role_of parent_role read_parent_index read_name split_last child_name digits words_at block_count entry_blocks walk walk_from
+unfolding family is_candidate name_at is_parent_at is_key_length stored_key stored_stream stored_streams role_of parent_role read_parent_index read_name split_last child_name digits words_at block_count entry_blocks walk walk_from
 family_are_candidates = refl
 
 -- a part whose bit is 0, and one whose parent isn't listed
@@ -72,12 +72,12 @@ orphan : View
 orphan = sparse_view 1 0x90000001 ((0x90000001, node 0x90000001 0x90000001 0xA0010001) ∷ [])
 
 for_parent : (dropped_nodes no_bit ≡ (0x90000001, reason.Parent) ∷ []) × (dropped_nodes orphan ≡ (0x90000001, reason.Parent) ∷ [])
-unfolding no_bit orphan dropped_among verdicts load load_record load_key admit is_key_length key_of stream_of streams_of role_of parent_role part_role is_covered read_parent_index read_part_index read_name split_last child_name digits words_at shares_key is_orphan record_claims all_claims claims_of has_claim overlap repeats kind_of block_count file_selector first_block external_number entry_blocks walk walk_from chain_from hash mixed of_bytes of_four of_three of_one
+unfolding no_bit orphan dropped_among verdicts load load_record load_key admit is_key_length stored_key stored_stream stored_streams role_of parent_role part_role is_covered read_parent_index read_part_index read_name split_last child_name digits words_at shares_key is_orphan record_claims all_claims claims_of has_claim overlap repeats kind_of block_count file_selector first_block external_number entry_blocks walk walk_from chain_from hash mixed of_bytes of_four of_three of_one
 for_parent = (refl, refl)
 
 -- the part whose bit is 0 is a candidate all the same, and the one without its parent is none
 candidate_parts : (candidates no_bit ≡ 0x90000001 ∷ 0x90000000 ∷ []) × (candidates orphan ≡ [])
-unfolding no_bit orphan is_candidate name_at is_parent_at is_key_length key_of stream_of streams_of role_of parent_role read_parent_index read_name split_last child_name digits words_at block_count entry_blocks walk walk_from
+unfolding no_bit orphan is_candidate name_at is_parent_at is_key_length stored_key stored_stream stored_streams role_of parent_role read_parent_index read_name split_last child_name digits words_at block_count entry_blocks walk walk_from
 candidate_parts = (refl, refl)
 
 -- nor is one whose parent is dirty
@@ -85,7 +85,7 @@ dirty_parent : View
 dirty_parent = sparse_view 1 0x90000001 ((0x90000001, node 0x90000000 0x90000001 0xA0010001) ∷ (0x90000000, record { next = 0x90000000; prev = 0x90000001; contents = 0xA0010000; dirty = 5 }) ∷ [])
 
 no_candidates : candidates dirty_parent ≡ []
-unfolding dirty_parent is_candidate name_at is_parent_at is_key_length key_of stream_of streams_of role_of parent_role read_parent_index read_name split_last child_name digits words_at block_count entry_blocks walk walk_from
+unfolding dirty_parent is_candidate name_at is_parent_at is_key_length stored_key stored_stream stored_streams role_of parent_role read_parent_index read_name split_last child_name digits words_at block_count entry_blocks walk walk_from
 no_candidates = refl
 
 -- a record that doesn't check is no child: its node is a candidate, whatever the flags are, and is dropped for its seal

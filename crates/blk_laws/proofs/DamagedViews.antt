@@ -13,7 +13,7 @@ use Rattle.blk_volume.specs.Walk.{walk, walk_from}
 use Rattle.blk_volume.specs.Completion.{counts, completed_list}
 use Rattle.blk_volume.specs.View.{View, NodeFields, RecordFields}
 use Rattle.blk_volume.specs.Chains.{chain_from, chain}
-use Rattle.blk_volume.specs.Entries.{is_key_length, key_of, stream_of, streams_of, role_of, parent_role, part_role}
+use Rattle.blk_volume.specs.Entries.{is_key_length, stored_key, stored_stream, stored_streams, role_of, parent_role, part_role}
 use Rattle.blk_volume.specs.Reasons.{Reason}
 use Rattle.blk_volume.specs.Reasons as reason
 use Rattle.blk_volume.specs.Loads.{held_rule, load, load_key, load_record, record_claims, all_claims}
@@ -98,7 +98,7 @@ looped : View
 looped = shown 0x90000000 0xA0010000 ((0x90000000, node 0x90000000 0x90000000 0xA0010000) ∷ []) ((0xA0010000, entry 0xA0010000 0x90000000) ∷ [])
 
 looped_is_kept : kept_nodes looped ≡ 0x90000000 ∷ []
-unfolding looped kept_among verdicts load load_record load_key admit is_key_length key_of stream_of streams_of role_of shares_key is_orphan record_claims all_claims claims_of has_claim overlap repeats kind_of block_count file_selector first_block external_number entry_blocks walk walk_from chain_from hash mixed of_bytes of_one
+unfolding looped kept_among verdicts load load_record load_key admit is_key_length stored_key stored_stream stored_streams role_of shares_key is_orphan record_claims all_claims claims_of has_claim overlap repeats kind_of block_count file_selector first_block external_number entry_blocks walk walk_from chain_from hash mixed of_bytes of_one
 looped_is_kept = refl
 
 -- and its chain ends at itself
@@ -121,7 +121,7 @@ in_three prev =
 
 -- where it is right all three are kept
 all_three : kept_nodes (in_three 0x90000002) ≡ 0x90000002 ∷ 0x90000001 ∷ 0x90000000 ∷ []
-unfolding in_three kept_among verdicts load load_record load_key admit is_key_length key_of stream_of streams_of role_of shares_key is_orphan record_claims all_claims claims_of has_claim overlap repeats kind_of block_count file_selector first_block external_number entry_blocks walk walk_from chain_from hash mixed of_bytes of_one
+unfolding in_three kept_among verdicts load load_record load_key admit is_key_length stored_key stored_stream stored_streams role_of shares_key is_orphan record_claims all_claims claims_of has_claim overlap repeats kind_of block_count file_selector first_block external_number entry_blocks walk walk_from chain_from hash mixed of_bytes of_one
 all_three = refl
 
 -- where it is wrong the walk ends before it
@@ -134,7 +134,7 @@ crossed_walk = refl
 
 -- so the first alone is kept
 crossed_kept : kept_nodes crossed ≡ 0x90000002 ∷ []
-unfolding crossed in_three kept_among verdicts load load_record load_key admit is_key_length key_of stream_of streams_of role_of shares_key is_orphan record_claims all_claims claims_of has_claim overlap repeats kind_of block_count file_selector first_block external_number entry_blocks walk walk_from chain_from hash mixed of_bytes of_one
+unfolding crossed in_three kept_among verdicts load load_record load_key admit is_key_length stored_key stored_stream stored_streams role_of shares_key is_orphan record_claims all_claims claims_of has_claim overlap repeats kind_of block_count file_selector first_block external_number entry_blocks walk walk_from chain_from hash mixed of_bytes of_one
 crossed_kept = refl
 
 -- and the records of the other two are unlisted
@@ -218,11 +218,11 @@ twins = shown 0x90000000 0xA0010000
     ((0xA0010000, entry 0xA0010001 0x90000000) ∷ (0xA0010001, entry 0 0x90000001) ∷ [])
 
 twins_kept : kept_nodes twins ≡ 0x90000000 ∷ []
-unfolding twins kept_among verdicts load load_record load_key admit is_key_length key_of stream_of streams_of role_of shares_key is_orphan record_claims all_claims claims_of has_claim overlap repeats kind_of block_count file_selector first_block external_number entry_blocks walk walk_from chain_from hash mixed of_bytes of_one
+unfolding twins kept_among verdicts load load_record load_key admit is_key_length stored_key stored_stream stored_streams role_of shares_key is_orphan record_claims all_claims claims_of has_claim overlap repeats kind_of block_count file_selector first_block external_number entry_blocks walk walk_from chain_from hash mixed of_bytes of_one
 twins_kept = refl
 
 twins_dropped : dropped_nodes twins ≡ (0x90000001, reason.Name) ∷ []
-unfolding twins dropped_among verdicts load load_record load_key admit is_key_length key_of stream_of streams_of role_of shares_key is_orphan record_claims all_claims claims_of has_claim overlap repeats kind_of block_count file_selector first_block external_number entry_blocks walk walk_from chain_from hash mixed of_bytes of_one
+unfolding twins dropped_among verdicts load load_record load_key admit is_key_length stored_key stored_stream stored_streams role_of shares_key is_orphan record_claims all_claims claims_of has_claim overlap repeats kind_of block_count file_selector first_block external_number entry_blocks walk walk_from chain_from hash mixed of_bytes of_one
 twins_dropped = refl
 
 -- that claim one block, by a stream: the one nearer the front is kept, and the other has the reason claimed, which comes before name
@@ -235,11 +235,11 @@ rivals = shown 0x90000000 0xA0010000
     ((0xA0010000, with_stream 0xA0010001 0x90000000) ∷ (0xA0010001, with_stream 0 0x90000001) ∷ [])
 
 rivals_kept : kept_nodes rivals ≡ 0x90000000 ∷ []
-unfolding rivals with_stream kept_among verdicts load load_record load_key admit is_key_length key_of stream_of streams_of role_of shares_key is_orphan record_claims all_claims claims_of has_claim overlap repeats kind_of block_count file_selector first_block external_number entry_blocks walk walk_from chain_from hash mixed of_bytes of_one
+unfolding rivals with_stream kept_among verdicts load load_record load_key admit is_key_length stored_key stored_stream stored_streams role_of shares_key is_orphan record_claims all_claims claims_of has_claim overlap repeats kind_of block_count file_selector first_block external_number entry_blocks walk walk_from chain_from hash mixed of_bytes of_one
 rivals_kept = refl
 
 rivals_dropped : dropped_nodes rivals ≡ (0x90000001, reason.Claimed) ∷ []
-unfolding rivals with_stream dropped_among verdicts load load_record load_key admit is_key_length key_of stream_of streams_of role_of shares_key is_orphan record_claims all_claims claims_of has_claim overlap repeats kind_of block_count file_selector first_block external_number entry_blocks walk walk_from chain_from hash mixed of_bytes of_one
+unfolding rivals with_stream dropped_among verdicts load load_record load_key admit is_key_length stored_key stored_stream stored_streams role_of shares_key is_orphan record_claims all_claims claims_of has_claim overlap repeats kind_of block_count file_selector first_block external_number entry_blocks walk walk_from chain_from hash mixed of_bytes of_one
 rivals_dropped = refl
 
 -- so it is where their keys are `b` and `a`, each the first of its bucket, with `b` nearer the front
@@ -256,11 +256,11 @@ strangers =
     }
 
 strangers_kept : kept_nodes strangers ≡ 0x90000001 ∷ []
-unfolding strangers with_stream kept_among verdicts load load_record load_key admit is_key_length key_of stream_of streams_of role_of shares_key is_orphan record_claims all_claims claims_of has_claim overlap repeats kind_of block_count file_selector first_block external_number entry_blocks walk walk_from chain_from hash mixed of_bytes of_one
+unfolding strangers with_stream kept_among verdicts load load_record load_key admit is_key_length stored_key stored_stream stored_streams role_of shares_key is_orphan record_claims all_claims claims_of has_claim overlap repeats kind_of block_count file_selector first_block external_number entry_blocks walk walk_from chain_from hash mixed of_bytes of_one
 strangers_kept = refl
 
 strangers_dropped : dropped_nodes strangers ≡ (0x90000000, reason.Claimed) ∷ []
-unfolding strangers with_stream dropped_among verdicts load load_record load_key admit is_key_length key_of stream_of streams_of role_of shares_key is_orphan record_claims all_claims claims_of has_claim overlap repeats kind_of block_count file_selector first_block external_number entry_blocks walk walk_from chain_from hash mixed of_bytes of_one
+unfolding strangers with_stream dropped_among verdicts load load_record load_key admit is_key_length stored_key stored_stream stored_streams role_of shares_key is_orphan record_claims all_claims claims_of has_claim overlap repeats kind_of block_count file_selector first_block external_number entry_blocks walk walk_from chain_from hash mixed of_bytes of_one
 strangers_dropped = refl
 
 -- One record for each reason.
@@ -275,7 +275,7 @@ good : RecordFields
 good = plain_core 0x90000000
 
 nothing_dropped : dropped_for 0xA0010000 0 good ≡ []
-unfolding dropped_for good dropped_among verdicts load load_record load_key admit is_key_length key_of stream_of streams_of role_of shares_key is_orphan record_claims all_claims claims_of has_claim overlap repeats kind_of block_count file_selector first_block external_number entry_blocks walk walk_from chain_from hash mixed of_bytes of_one
+unfolding dropped_for good dropped_among verdicts load load_record load_key admit is_key_length stored_key stored_stream stored_streams role_of shares_key is_orphan record_claims all_claims claims_of has_claim overlap repeats kind_of block_count file_selector first_block external_number entry_blocks walk walk_from chain_from hash mixed of_bytes of_one
 nothing_dropped = refl
 
 no_contents : dropped_nodes (shown 0x90000000 0 ((0x90000000, node 0x90000000 0x90000000 0xA0010003) ∷ []) []) ≡ (0x90000000, reason.Contents) ∷ []
@@ -303,33 +303,33 @@ for_key_length = (refl, refl, refl, refl)
 -- a place of a long key where the key is short, and none where it is long
 for_key_place : (dropped_for 0xA0010000 0 (record good { long_key = 0xA0010004 }) ≡ (0x90000000, reason.KeyPlace) ∷ [])
     × (dropped_for 0xA0010000 0 (record good { key_len = 928 }) ≡ (0x90000000, reason.KeyPlace) ∷ [])
-unfolding dropped_for good dropped_among verdicts load load_record load_key admit is_key_length key_of block_count entry_blocks walk walk_from
+unfolding dropped_for good dropped_among verdicts load load_record load_key admit is_key_length stored_key block_count entry_blocks walk walk_from
 for_key_place = (refl, refl)
 
 for_hash : dropped_for 0xA0010000 0 (record good { hash = 0x125EA782 }) ≡ (0x90000000, reason.Hash) ∷ []
-unfolding dropped_for good dropped_among verdicts load load_record load_key admit is_key_length key_of block_count entry_blocks walk walk_from hash mixed of_bytes of_one
+unfolding dropped_for good dropped_among verdicts load load_record load_key admit is_key_length stored_key block_count entry_blocks walk walk_from hash mixed of_bytes of_one
 for_hash = refl
 
 -- the table doesn't name it
 for_chain : dropped_nodes (shown 0x90000000 0 ((0x90000000, node 0x90000000 0x90000000 0xA0010000) ∷ []) ((0xA0010000, entry 0 0x90000000) ∷ [])) ≡ (0x90000000, reason.Chain) ∷ []
-unfolding dropped_among verdicts load load_record load_key admit is_key_length key_of block_count entry_blocks walk walk_from chain_from hash mixed of_bytes of_one
+unfolding dropped_among verdicts load load_record load_key admit is_key_length stored_key block_count entry_blocks walk walk_from chain_from hash mixed of_bytes of_one
 for_chain = refl
 
 -- a stream whose storage isn't there, one that is too large, and a stream 3
 for_streams : (dropped_for 0xA0010000 0 (record good { data_size = 6 ∷ 0 ∷ 0 ∷ 0 ∷ [] }) ≡ (0x90000000, reason.Streams) ∷ [])
     × (dropped_for 0xA0010000 0 (record good { data_size = 0x80000000 ∷ 0 ∷ 0 ∷ 0 ∷ [] }) ≡ (0x90000000, reason.Streams) ∷ [])
     × (dropped_for 0xA0010000 0 (record good { data_size = 0 ∷ 0 ∷ 0 ∷ 1 ∷ [] }) ≡ (0x90000000, reason.Streams) ∷ [])
-unfolding dropped_for good dropped_among verdicts load load_record load_key admit is_key_length key_of stream_of streams_of block_count entry_blocks walk walk_from chain_from hash mixed of_bytes of_one
+unfolding dropped_for good dropped_among verdicts load load_record load_key admit is_key_length stored_key stored_stream stored_streams block_count entry_blocks walk walk_from chain_from hash mixed of_bytes of_one
 for_streams = (refl, refl, refl)
 
 -- a parent with no index, and a child whose key is no name
 for_sparse : (dropped_for 0xA0010000 0 (record good { flags = 1 }) ≡ (0x90000000, reason.Sparse) ∷ []) × (dropped_for 0xA0010000 0 (record good { flags = 2 }) ≡ (0x90000000, reason.Sparse) ∷ [])
-unfolding dropped_for good dropped_among verdicts load load_record load_key admit is_key_length key_of stream_of streams_of role_of parent_role part_role read_parent_index read_name split_last block_count entry_blocks walk walk_from chain_from hash mixed of_bytes of_one
+unfolding dropped_for good dropped_among verdicts load load_record load_key admit is_key_length stored_key stored_stream stored_streams role_of parent_role part_role read_parent_index read_name split_last block_count entry_blocks walk walk_from chain_from hash mixed of_bytes of_one
 for_sparse = (refl, refl)
 
 -- the stream of a record that lies in the record itself
 for_claims : dropped_for 0xA0010008 0 (record good { data_size = 5 ∷ 0 ∷ 0 ∷ 0 ∷ []; data_addr = 0xA0010008 ∷ 0 ∷ 0 ∷ 0 ∷ [] }) ≡ (0x90000000, reason.Claimed) ∷ []
-unfolding dropped_for good dropped_among verdicts load load_record load_key admit is_key_length key_of stream_of streams_of role_of shares_key is_orphan record_claims all_claims claims_of has_claim overlap repeats kind_of block_count file_selector first_block external_number entry_blocks walk walk_from chain_from hash mixed of_bytes of_one
+unfolding dropped_for good dropped_among verdicts load load_record load_key admit is_key_length stored_key stored_stream stored_streams role_of shares_key is_orphan record_claims all_claims claims_of has_claim overlap repeats kind_of block_count file_selector first_block external_number entry_blocks walk walk_from chain_from hash mixed of_bytes of_one
 for_claims = refl
 
 -- a chained record of no walked node

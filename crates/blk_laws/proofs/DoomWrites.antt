@@ -13,7 +13,7 @@ use Rattle.blk_volume.specs.Completion.{remove, completed_list}
 use Rattle.blk_volume.specs.ListPlans.{writes_of}
 use Rattle.blk_volume.specs.Loads.{held_rule}
 use Rattle.blk_volume.specs.Audit.{kept_among}
-use Rattle.blk_volume.specs.Found.{row_of}
+use Rattle.blk_volume.specs.Found.{row_of_loaded}
 use Rattle.blk_volume.specs.Layout.{Layout, is_in, is_listed, nodes_of}
 use Rattle.blk_volume.specs.Removal.{is_of_another}
 use Rattle.blk_laws.specs.CommandLaws.{DoomsAtEachWrite, DoomedPartsAtEachWrite}
@@ -64,9 +64,9 @@ dooms-moments v m y r valid number o here live k =
     let there : is_listed m (main o.key) ≡ true = main-listed m valid number o true here live in
     let a : IsAround (main o.key) m.uses = around (main o.key) m.uses there (valid.once (main o.key)) in
     let rest : IsAtRest v.list (nodes_of y m.uses) = record { whole = r.list; idle = r.idle } in
-    ap (λ (ws : List ℕ). map row_of (kept_among v.store held_rule ws)) (removal-walks v.list y m.uses (main o.key) a rest k) ∙ go (nat_lt k 2) (removed-once v.list y m.uses (main o.key) a rest) where
+    ap (λ (ws : List ℕ). map row_of_loaded (kept_among v.store held_rule ws)) (removal-walks v.list y m.uses (main o.key) a rest k) ∙ go (nat_lt k 2) (removed-once v.list y m.uses (main o.key) a rest) where
       go : (b : Bool) → Distinct (nodes_of y (filter (λ other. not (same_item (main o.key) other)) m.uses))
-          → map row_of (kept_among v.store held_rule (nodes_of y (if b then m.uses else filter (λ other. not (same_item (main o.key) other)) m.uses))) ≡ (if b then model.rest m else model.rest (doomed number m (Some o)))
+          → map row_of_loaded (kept_among v.store held_rule (nodes_of y (if b then m.uses else filter (λ other. not (same_item (main o.key) other)) m.uses))) ≡ (if b then model.rest m else model.rest (doomed number m (Some o)))
       go true once = listed-rest (λ w. false) v.store m y (represented-but (λ w. false) v m y r) valid r.list.distinct (λ i h. refl)
       go false once = dooms-keep (λ w. false) v.store m y (represented-but (λ w. false) v m y r) valid number o here (λ other. not (same_item (main o.key) other)) (ap not (same_item_self (main o.key)))
           (λ i other. another-is o.key (main o.key) i refl other) once (λ i h stays. refl)
@@ -88,7 +88,7 @@ doomed-parts except v m y r valid number o here keep out others sound rest n the
     let among : is_in (filter keep m.uses) (part o.key n) ≡ true = in-filter keep m.uses (part o.key n) ∙ both keep (part o.key n) stays there in
     let few : times (part o.key n) (filter keep m.uses) ≤ 1 = fewer (keep (part o.key n)) (times (part o.key n) m.uses) (times (part o.key n) (filter keep m.uses)) (times-filter keep (part o.key n) m.uses) (valid.once (part o.key n)) in
     let a : IsAround (part o.key n) (filter keep m.uses) = around (part o.key n) (filter keep m.uses) among few in
-    ap (λ (ws : List ℕ). map row_of (kept_among v.store held_rule ws)) (removal-walks v.list y (filter keep m.uses) (part o.key n) a rest k) ∙ go (nat_lt k 2) (removed-once v.list y (filter keep m.uses) (part o.key n) a rest) where
+    ap (λ (ws : List ℕ). map row_of_loaded (kept_among v.store held_rule ws)) (removal-walks v.list y (filter keep m.uses) (part o.key n) a rest k) ∙ go (nat_lt k 2) (removed-once v.list y (filter keep m.uses) (part o.key n) a rest) where
       both : (keep : Item → Bool) (i : Item) → keep i ≡ true → is_listed m i ≡ true → (keep i && is_listed m i) ≡ true
       both keep i p q = rw (p, q) refl
 
@@ -100,11 +100,11 @@ doomed-parts except v m y r valid number o here keep out others sound rest n the
       less i = keep i && not (same_item (part o.key n) i)
 
       go : (b : Bool) → Distinct (nodes_of y (filter (λ other. not (same_item (part o.key n) other)) (filter keep m.uses)))
-          → map row_of (kept_among v.store held_rule (nodes_of y (if b then filter keep m.uses else filter (λ other. not (same_item (part o.key n) other)) (filter keep m.uses)))) ≡ model.rest (doomed number m (Some o))
+          → map row_of_loaded (kept_among v.store held_rule (nodes_of y (if b then filter keep m.uses else filter (λ other. not (same_item (part o.key n) other)) (filter keep m.uses)))) ≡ model.rest (doomed number m (Some o))
       go true once = dooms-keep except v.store m y r valid number o here keep out others rest.whole.distinct sound
       go false once =
           let e : filter (λ other. not (same_item (part o.key n) other)) (filter keep m.uses) ≡ filter (λ i. keep i && not (same_item (part o.key n) i)) m.uses = filter-twice keep (λ other. not (same_item (part o.key n) other)) m.uses in
-          ap (λ (xs : List Item). map row_of (kept_among v.store held_rule (nodes_of y xs))) e
+          ap (λ (xs : List Item). map row_of_loaded (kept_among v.store held_rule (nodes_of y xs))) e
           ∙ dooms-keep except v.store m y r valid number o here (λ i. keep i && not (same_item (part o.key n) i)) (rw out refl)
           (λ i other. let p : keep i ≡ true = others i other in let q : not (same_item (part o.key n) i) ≡ true = another-is o.key (part o.key n) i refl other in rw (p, q) refl)
           (subst (λ (xs : List Item). Distinct (nodes_of y xs)) e once)

@@ -4,7 +4,7 @@ use Rattle.std.specs.Prelude.{◌==◌}
 use Rattle.blk_model.specs.State.{State, Object}
 use Rattle.blk_format.specs.Claims.{claims_of, has_claim, repeats}
 use Rattle.blk_volume.specs.Loads.{Loaded, all_claims, record_claims}
-use Rattle.blk_volume.specs.Found.{row_of}
+use Rattle.blk_volume.specs.Found.{row_of_loaded}
 use Rattle.blk_volume.specs.Layout.{Layout, IsDoomedAt, IsLayoutOf, IsDoomedChange}
 use Rattle.blk_laws.specs.CommandLaws.{IsPlacedAsDoomed, ChangedDoomedObjectsArePlaced, ChangedDoomedObjectsAreRepresented, DoomedChangesAreAtRest, GoneDoomedObjectsAreRepresented, DoomedDirtyWordsSettle, WrittenDoomedDirtyWordsSettle, HandlesAreNotShown, dirtied, marked}
 use Rattle.blk_laws.proofs.Opening.{lies-reordered}
@@ -48,7 +48,7 @@ module _ (m : State) (y : Layout) (r : IsLayoutOf m y) (number : ℕ) (o : Objec
   unfolding all_claims record_claims
   dirty-change = record {
     dead = at.dead;
-    row = ap row_of (sym same) ∙ q.row;
+    row = ap row_of_loaded (sym same) ∙ q.row;
     mark = refl;
     own = λ c h. r.own (y.place_of_doomed number) l c at.at h;
     others = λ c w e apart. e;

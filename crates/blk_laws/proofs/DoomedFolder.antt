@@ -13,20 +13,20 @@ use Rattle.blk_format.specs.Hash.{of_four, of_three, of_two, of_one, of_bytes, m
 use Rattle.blk_format.specs.Address.{is_address, is_initialized, names_external, names_blocks, kind_of, reserved_bits, block_count, file_selector, first_block, external_number, block_size, block_place, place, byte_size}
 use Rattle.blk_format.specs.Storage.{kind_for, blocks_for, entry_blocks, is_storage}
 use Rattle.blk_format.specs.Standing.{stands, stands_as_blocks}
-use Rattle.blk_format.specs.Records.{doomed, node_checks, node_is_sealed, entry_checks, entry_is_sealed, node_in, node_body, entry_in, entry_body}
+use Rattle.blk_format.specs.Records.{entry_doomed, node_checks, node_is_sealed, entry_checks, entry_is_sealed, node_in, node_body, entry_in, entry_body}
 use Rattle.blk_format.specs.Claims.{BlockOf, ExternalOf, has_claim, is_in_file}
 use Rattle.blk_format.specs.Headers.{unfinished, head_checks, list_checks, index_length, bucket_of, empty_of}
 use Rattle.blk_format.specs.BlockFiles.{next_file_in, max_entries_in, files_along, linked, linked_up_to, kind_among, is_link, is_block_count, file_checks, checks_along, checks_of_kind, linked_as, is_among, IsWellFormed}
 use Rattle.blk_format.specs.Maps.{is_block_marked_at, is_block_marked, are_free, has_run, longest_run, groups_with, EmptyAgrees}
 use Rattle.blk_volume.specs.ListView.{IsList}
 use Rattle.blk_volume.specs.View.{list_of, checks_at, store_of, node_fields_at, fields_at, follow_at, key_place_at, stored_at, view_of}
-use Rattle.blk_volume.specs.Entries.{is_key_length, key_of, stream_of, streams_of, role_of}
+use Rattle.blk_volume.specs.Entries.{is_key_length, stored_key, stored_stream, stored_streams, role_of}
 use Rattle.blk_volume.specs.Loads.{listed_rule, unchained_rule, load, load_key, load_record, Loaded, all_claims}
 use Rattle.blk_volume.specs.Audit.{kept_among, kept_by}
 use Rattle.blk_volume.specs.Found.{found}
 use Rattle.blk_volume.specs.Layout.{Represents}
-use Rattle.blk_volume.specs.Sound.{OnlyLinked, AreLongEnough, IsCounted, AreSealed, IsIndexCounted, IsInOrder}
-use Rattle.blk_volume.specs.StandsFor.{KeepsDoomed, AreDoomed, StandsFor, IsOwner, IsAllocated}
+use Rattle.blk_volume.specs.Sound.{OnlyLinked, AreLongEnough, CountersAgree, AreSealed, IsIndexCounted, IsInOrder}
+use Rattle.blk_volume.specs.StandsFor.{KeepsDoomed, AreDoomed, StandsFor, IsOwner, AllIsOwned}
 use Rattle.blk_format.specs.NewFolder.{new_index_words, new_file_words}
 use Rattle.blk_laws.proofs.OneEntry as one
 use Rattle.blk_laws.proofs.NewFolders.{new_folder, new-bare, new-is_new}
@@ -65,8 +65,8 @@ doomed-is_well_formed = refl
 -- ---- what it represents
 
 -- the node loads, with a record of state 2
-doomed-loads : load (store_of doomed_folder) (unchained_rule doomed) one.node ≡ Ok (one.loaded 0)
-unfolding doomed_folder zeros with_word spliced next_file_in max_entries_in linked files_along kind_among load load_record load_key is_key_length key_of stream_of streams_of role_of store_of node_fields_at fields_at follow_at key_place_at stored_at stands stands_as_blocks is_address is_initialized names_external names_blocks kind_of reserved_bits block_count file_selector first_block external_number block_size block_place place byte_size kind_for blocks_for entry_blocks is_storage node_checks node_is_sealed entry_checks entry_is_sealed node_in node_body entry_in entry_body range_at words_at hash mixed of_bytes of_four of_three of_two of_one
+doomed-loads : load (store_of doomed_folder) (unchained_rule entry_doomed) one.node ≡ Ok (one.loaded 0)
+unfolding doomed_folder zeros with_word spliced next_file_in max_entries_in linked files_along kind_among load load_record load_key is_key_length stored_key stored_stream stored_streams role_of store_of node_fields_at fields_at follow_at key_place_at stored_at stands stands_as_blocks is_address is_initialized names_external names_blocks kind_of reserved_bits block_count file_selector first_block external_number block_size block_place place byte_size kind_for blocks_for entry_blocks is_storage node_checks node_is_sealed entry_checks entry_is_sealed node_in node_body entry_in entry_body range_at words_at hash mixed of_bytes of_four of_three of_two of_one
 doomed-loads = refl
 
 -- the list is empty
@@ -90,7 +90,7 @@ folder-is_represented = record {
   holds = record {
     shows = record {
       no_record = no-record doomed_folder;
-      each = λ w l is. let p = one.at-node 0 w l is in subst (λ (x : ℕ). load (store_of doomed_folder) (unchained_rule doomed) x ≡ Ok l) (sym p.0) (doomed-loads ∙ ap Ok p.1);
+      each = λ w l is. let p = one.at-node 0 w l is in subst (λ (x : ℕ). load (store_of doomed_folder) (unchained_rule entry_doomed) x ≡ Ok l) (sym p.0) (doomed-loads ∙ ap Ok p.1);
       chains = λ b below. record { linked = no-bucket b below; once = tt };
     };
     lies = (doomed-is_represented 0).holds.lies;
@@ -134,7 +134,7 @@ unfolding doomed_folder
 no-files n = refl
 
 -- they are those of the doomed object, whose number is 0
-pub folder-is_allocated : IsAllocated doomed_folder (doomed_state true) (doomed_layout 0) (0 ∷ [])
+pub folder-is_allocated : AllIsOwned doomed_folder (doomed_state true) (doomed_layout 0) (0 ∷ [])
 folder-is_allocated = record {
   blocks = λ n b is small. doomed-marks n b (below n is) small ∙ sym (whole-owner (BlockOf n b) ∙ has-blocks n b (below n is));
   files = λ n small. no-files n ∙ sym (whole-owner (ExternalOf n) ∙ no-external n);
@@ -217,7 +217,7 @@ folder-empty (suc (suc (suc zero))) small = whole-empty 3 small
 folder-empty (suc (suc (suc (suc n)))) small = absurd (omega arith)
 
 -- the counts have the node, the record and the stream of the doomed object
-folder-counted : (n : ℕ) → n < 4 → IsCounted doomed_folder (one.node ∷ one.contents ∷ 0xA0010001 ∷ []) n
+folder-counted : (n : ℕ) → n < 4 → CountersAgree doomed_folder (one.node ∷ one.contents ∷ 0xA0010001 ∷ []) n
 unfolding doomed_folder zeros with_word spliced is_in_file kind_of file_selector
 folder-counted zero small = record { num_entries = refl; empty = folder-empty 0 small; updating = refl }
 folder-counted (suc zero) small = record { num_entries = refl; empty = folder-empty 1 small; updating = refl }

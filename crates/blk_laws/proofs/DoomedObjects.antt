@@ -17,7 +17,7 @@ use Rattle.blk_volume.specs.View.{View}
 use Rattle.blk_volume.specs.Chains.{Linked, IsChain}
 use Rattle.blk_volume.specs.Loads.{held_rule, Loaded, load, all_claims}
 use Rattle.blk_volume.specs.Audit.{kept_among}
-use Rattle.blk_volume.specs.Found.{row_of}
+use Rattle.blk_volume.specs.Found.{row_of_loaded}
 use Rattle.blk_volume.specs.Layout.{Layout, is_listed, order, rule_of, HasDirtyMark, HasParentAt, IsPlacedAt, IsDoomedAt, IsListedRecord, IsLayoutOf, Shows, Represents, HoldsExcept}
 use Rattle.blk_volume.specs.Footprint.{IsClear, SameBut, IsFreeBut}
 use Rattle.blk_laws.specs.CommandLaws.{ListedItemsAreAtRest}
@@ -65,7 +65,7 @@ dead-slot (Some o) i dead = dead-has o i dead
 pub record IsDoomedSlot (there : Option Loaded) (o : Object) : Type 0 where
   pub loaded : Loaded
   pub here : there ≡ Some loaded
-  pub row : row_of loaded ≡ main_row o.key o.shape o.streams
+  pub row : row_of_loaded loaded ≡ main_row o.key o.shape o.streams
   pub mark : (loaded.dirty == 0) ≡ o.settled
 
 -- a doomed object of a number
@@ -224,8 +224,8 @@ module _ (touched : Claim → Bool) (v u : View) (m : State) (y : Layout) (r : R
   idle = sym same.links.transaction ∙ r.idle
 
   -- what is kept at a moment of this
-  pub aside-rest : IsValidState m → map row_of (kept_among u.store held_rule (walk (completed_list u.list))) ≡ model.rest m
-  aside-rest valid = ap (λ (ws : List ℕ). map row_of (kept_among u.store held_rule ws)) (walk-idle u.list idle ∙ walk_list u.list (order m y) still-listed) ∙
+  pub aside-rest : IsValidState m → map row_of_loaded (kept_among u.store held_rule (walk (completed_list u.list))) ≡ model.rest m
+  aside-rest valid = ap (λ (ws : List ℕ). map row_of_loaded (kept_among u.store held_rule ws)) (walk-idle u.list idle ∙ walk_list u.list (order m y) still-listed) ∙
       listed-rest (λ w. y.place_of_doomed number == w) u.store m y but valid r.list.distinct (λ i listed. apart-item m y lies number o here gone i listed) where
         but : HoldsExcept (λ w. y.place_of_doomed number == w) u.store m y
         but = record {

@@ -7,6 +7,7 @@ use Rattle.std.specs.Str.{bytes_eq}
 use Rattle.std.proofs.lemmas.Bool.{cases_Bool, and_parts, eq-eqb}
 use Rattle.std.proofs.lemmas.Bool.Decides.{eqb_tells}
 use Rattle.std.proofs.Math.Dec.{eqb}
+use Rattle.std.proofs.Math.Bool.{and-false}
 use Rattle.blk_model.specs.Items.{Item, main, main_row, Row, key_of}
 use Rattle.blk_model.specs.State.{State, Object, IsValidState, object_at, is_named, has_item, slot_has_item}
 use Rattle.blk_model.specs.Effects.{doomed, doomed_slot}
@@ -17,7 +18,7 @@ use Rattle.blk_format.specs.BlockFiles.{is_among}
 use Rattle.blk_format.specs.Claims.{Claim}
 use Rattle.blk_volume.specs.ListView.{put}
 use Rattle.blk_volume.specs.Loads.{unchained_rule, Loaded, load}
-use Rattle.blk_volume.specs.Found.{row_of}
+use Rattle.blk_volume.specs.Found.{row_of_loaded}
 use Rattle.blk_volume.specs.Layout.{Layout, is_listed, nodes_of, order, IsPlacedAt, IsDoomedAt, IsLayoutOf}
 use Rattle.blk_volume.specs.Given.{picked_with}
 use Rattle.blk_volume.specs.Removal.{is_of_another, placed_doomed, without_items}
@@ -74,15 +75,11 @@ dooms-keep except v m y r valid number o here keep out others once sound =
     removed-rows except v m y r valid (λ n. is_live_and_settled (object_at m n)) (settled-is_test m y r.laid valid) keep once sound
     ∙ ap (λ (p : Item → Bool). filter_map (picked_with m (λ n. is_live_and_settled (object_at m n))) (filter p m.uses)) (λ i x. same x i)
     ∙ sym (rest-doomed m number o here) where
-      none : (b : Bool) → (b && false) ≡ false
-      none true = refl
-      none false = refl
-
       same : (x : Item) → (keep x && keep (main (key_of x))) ≡ is_of_another o.key x
       same x = ⊎_elim
           (λ (a : bytes_eq o.key (key_of x) ≡ true).
           let gone : keep (main (key_of x)) ≡ false = ap (λ (k : List ℕ). keep (main k)) (sym (same_bytes o.key (key_of x) a)) ∙ out in
-          rw (gone, a) (none (keep x)))
+          rw (gone, a) (and-false (keep x)))
           (λ (a : bytes_eq o.key (key_of x) ≡ false).
           let other : is_of_another o.key x ≡ true = ap not a in
           rw (others x other, others (main (key_of x)) other, a) refl)
@@ -160,13 +157,13 @@ module _ (m : State) (y : Layout) (r : IsLayoutOf m y) (valid : IsValidState m) 
       (λ (e : (eqb number k ≡ false) × _). at-elsewhere y.place_of_doomed number (y.place (main o.key)) k e.0)
       (eqb_tells number k)
 
-  its-row : row_of l ≡ main_row o.key o.shape o.streams
+  its-row : row_of_loaded l ≡ main_row o.key o.shape o.streams
   unfolding model.row_of
   its-row =
       let owned : model.owner_object m (main o.key) ≡ Some o = rw (main-owned m valid number o true here now.lies.live) here in
       let row : model.row_of m (main o.key) ≡ Some (main_row o.key o.shape o.streams) = rw owned refl in
-      let both : ◌≡◌ {A = Option Row} (Some (row_of laid.loaded)) (Some (main_row o.key o.shape o.streams)) = sym laid.row ∙ row in
-      ap row_of (sym its-loaded) ∙ (let s : row_of laid.loaded ≡ main_row o.key o.shape o.streams = cc in s)
+      let both : ◌≡◌ {A = Option Row} (Some (row_of_loaded laid.loaded)) (Some (main_row o.key o.shape o.streams)) = sym laid.row ∙ row in
+      ap row_of_loaded (sym its-loaded) ∙ (let s : row_of_loaded laid.loaded ≡ main_row o.key o.shape o.streams = cc in s)
 
   its-mark : (l.dirty == 0) ≡ o.settled
   its-mark =

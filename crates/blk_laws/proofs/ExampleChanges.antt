@@ -4,6 +4,7 @@ use Rattle.std.specs.Prelude.{if◌then◌else◌, ◌==◌, ◌&&◌, codes, ma
 use Rattle.std.specs.Str.{bytes_eq}
 use Rattle.std.proofs.lemmas.Bool.{eqb-true, eq-eqb, cases_Bool}
 use Rattle.std.proofs.lemmas.Bool.Decides.{nat_tests}
+use Rattle.std.proofs.Math.Bool.{and-false}
 use Rattle.blk_model.specs.Items.{Item, main, part, same_item}
 use Rattle.blk_model.specs.State.{Object, State, object_at}
 use Rattle.blk_model.specs.Holding.{row_of, rest}
@@ -14,7 +15,7 @@ use Rattle.blk_format.specs.Storage.{entry_blocks}
 use Rattle.blk_format.specs.Claims.{Claim, BlockOf, ExternalOf, same_claim, claims_of, has_claim, repeats}
 use Rattle.blk_volume.specs.ListView.{put}
 use Rattle.blk_volume.specs.View.{View, NodeFields}
-use Rattle.blk_volume.specs.Entries.{is_key_length, stream_of, streams_of, role_of}
+use Rattle.blk_volume.specs.Entries.{is_key_length, stored_stream, stored_streams, role_of}
 use Rattle.blk_volume.specs.Entries as entries
 use Rattle.blk_volume.specs.Loads.{unchained_rule, held_rule, Loaded, load, load_key, load_record, record_claims, all_claims}
 use Rattle.blk_volume.specs.Chains.{IsChain}
@@ -40,9 +41,6 @@ not-clear touched w x c in_x mine clear = ⊎_elim
     (cases_Bool (w == x))
 
 -- nothing and anything is nothing
-pub and-false : (b : Bool) → (b && false) ≡ false
-and-false true = refl
-and-false false = refl
 
 -- the words name their blocks
 pub named-blocks : (has_claim (claims_of contents) (BlockOf 1 0) ≡ true) × (has_claim (claims_of 0xA0010001) (BlockOf 1 1) ≡ true) × (has_claim (claims_of 0xA0010002) (BlockOf 1 2) ≡ true) × (has_claim (claims_of node) (BlockOf 0 0) ≡ true)
@@ -97,7 +95,7 @@ same-but bytes = record {
 }
 
 now-loads : load (with_data (Some (codes "yyy"))).store (unchained_rule 0) node ≡ Ok now
-unfolding load load_record load_key is_key_length entries.key_of stream_of streams_of role_of block_count entry_blocks hash mixed of_bytes of_one
+unfolding load load_record load_key is_key_length entries.stored_key stored_stream stored_streams role_of block_count entry_blocks hash mixed of_bytes of_one
 now-loads = refl
 
 -- it claims no block twice
@@ -153,7 +151,7 @@ written-is_represented =
     replaced touched (view 5) (with_data (Some (codes "yyy"))) (state false) (layout 5) (represented 5) (Some written_object ∷ []) (main (codes "a")) (loaded 5) now owners_now (same-but (Some (codes "yyy"))) one-changed refl refl is-change is-replaced
 
 -- at a moment when the record names the new place and the data isn't there yet, what is at rest is kept
-pub torn-is_at_rest : map volume.row_of (kept_by held_rule (volume.completed (with_data None))) ≡ rest (state false)
+pub torn-is_at_rest : map volume.row_of_loaded (kept_by held_rule (volume.completed (with_data None))) ≡ rest (state false)
 torn-is_at_rest =
     moment-rest touched (view 5) (with_data None) (state false) (layout 5) (represented 5) (state_is_valid false) 0 (object false) (main (codes "a")) refl refl refl (loaded 5) refl (same-but None)
     (record { apart = apart-but; node_fields = refl; bucket = λ b. refl; chain_next = refl; links = record { checks = refl; next = refl; prev = refl } }) tt
@@ -184,7 +182,7 @@ unfolding load load_record load_key
 torn-midst = record { of_key = midst.of_key; unsettled = midst.unsettled; dirty = λ l ok. cc; parts = λ n was now h is at ok. absurd (let z : false ≡ true = h in cc); names = midst.names }
 
 -- what is at rest is kept
-pub midst-is_at_rest : map volume.row_of (kept_among (with_data None).store held_rule (node ∷ [])) ≡ rest (state false)
+pub midst-is_at_rest : map volume.row_of_loaded (kept_among (with_data None).store held_rule (node ∷ [])) ≡ rest (state false)
 midst-is_at_rest = midst-rest (λ w. w == node) (with_data None).store (state false) (layout 5) torn-holds (state_is_valid false) (codes "a") torn-midst (refl, tt)
 
 -- Data is written at block 2 of data_1, which is nobody's.

@@ -2,6 +2,7 @@
 use Rattle.std.proofs.Common.{◌≡◌, inl, inr, ℕ, ◌+◌, ◌*◌, [], ◌∷◌, refl, sym, ◌∙◌, arith, lit≤, Bool, true, false}
 use Rattle.std.specs.Prelude.{◌||◌, ◌&&◌}
 use Rattle.std.proofs.lemmas.Bool.Decides.{nat_tests}
+use Rattle.std.proofs.Math.Bool.{and-false}
 use Rattle.blk_image.specs.Bytes.{spliced, zeros}
 use Rattle.blk_image.specs.Image.{Index, Block, External, Image, same_file}
 use Rattle.blk_image.specs.Steps.{Word, applied, with_word}
@@ -79,10 +80,6 @@ first-stays_inside = views-same (range (Block 1) 8448 2) whole_folder first_writ
 -- the images agree but there
 pub first-agrees : AgreeBut (has_claim (claims_of its_stream)) whole_folder first_write
 first-agrees = covered-agrees (range (Block 1) 8448 2) whole_folder first_write (has_claim (claims_of its_stream)) first-outside part-is_covered
-
-and-false : (b : Bool) → (b && false) ≡ false
-and-false true = refl
-and-false false = refl
 
 -- no link changes
 pub first-links_the_same : (n : ℕ) → linked_as first_write n ≡ linked_as whole_folder n

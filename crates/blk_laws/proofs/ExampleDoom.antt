@@ -1,7 +1,7 @@
 -- The laws on a doom, word by word: the entry `a`, which a handle names, is behind `kmyb` in the list and in their chain; it is taken out of both, and its record gets state 2.
 use Rattle.std.proofs.Common.{◌≡◌, ⊎_elim, inr, ℕ, List, [], ◌∷◌, map, refl, ap, sym, ◌∙◌, subst, arith, Bool, true, false, Option, Some, Ok}
 use Rattle.std.specs.Prelude.{if◌then◌else◌, nat_lt, take, ◌==◌, ◌||◌, codes}
-use Rattle.std.proofs.lemmas.Bool.{cases_Bool, eqb-true, eq-eqb}
+use Rattle.std.proofs.lemmas.Bool.{cases_Bool, eqb-true, eq-eqb, false_from_ne_true}
 use Rattle.std.proofs.lemmas.Bool.Decides.{nat_tests}
 use Rattle.blk_model.specs.Items.{Item, main, main_row, plain, same_item, IsKey}
 use Rattle.blk_model.specs.State.{State, IsValidState}
@@ -21,7 +21,7 @@ use Rattle.blk_volume.specs.Completion.{insert, remove}
 use Rattle.blk_volume.specs.ListPlans.{writes_of}
 use Rattle.blk_volume.specs.View.{View, StoreView}
 use Rattle.blk_volume.specs.Chains.{bucket_of_hash, IsChain}
-use Rattle.blk_volume.specs.Entries.{IsPlain, is_key_length, key_of, stream_of, streams_of, role_of}
+use Rattle.blk_volume.specs.Entries.{IsPlain, is_key_length, stored_key, stored_stream, stored_streams, role_of}
 use Rattle.blk_volume.specs.Loads.{unchained_rule, held_rule, Loaded, load, load_key, load_record, record_claims, all_claims}
 use Rattle.blk_volume.specs.Audit.{kept_among, kept_by}
 use Rattle.blk_volume.specs.Found as volume
@@ -29,7 +29,7 @@ use Rattle.blk_volume.specs.Layout.{Layout, is_listed, IsListedRecord, IsLayoutO
 use Rattle.blk_volume.specs.Footprint.{IsClear, SameStore, SameBut, OnlyLinksChange, IsOnlyRecord}
 use Rattle.blk_volume.specs.Creation.{with_new, linked_front}
 use Rattle.blk_volume.specs.Removal.{without_items, placed_less, HasChains, is_of_another, placed_doomed}
-use Rattle.blk_laws.specs.CommandLaws.{IsWritten, IsDoomedNow, marked, dirtied}
+use Rattle.blk_laws.specs.CommandLaws.{IsWrittenApart, IsDoomedNow, marked, dirtied}
 use Rattle.blk_laws.proofs.OneEntry.{object, state, node, contents, bucket, loaded, layout, fields, list, store, view, choice, claims, represented, once-claimed, among-one}
 use Rattle.blk_laws.proofs.Premises.{bytes-small, state_is_valid}
 use Rattle.blk_laws.proofs.AtRest.{removals-end}
@@ -70,7 +70,7 @@ with_second = record {
 }
 
 second-loads : load with_second.store (unchained_rule 0) second_node ≡ Ok (second 5)
-unfolding load load_record load_key is_key_length key_of stream_of streams_of role_of block_count entry_blocks hash mixed of_bytes of_four
+unfolding load load_record load_key is_key_length stored_key stored_stream stored_streams role_of block_count entry_blocks hash mixed of_bytes of_four
 second-loads = refl
 
 second-claims : all_claims (second 5) ≡ BlockOf 0 1 ∷ BlockOf 1 2 ∷ []
@@ -94,10 +94,6 @@ apart (ExternalOf n) one two = let z : false ≡ true = one in cc
 not_both : (claim : Claim) → has_claim (all_claims (loaded 0)) claim ≡ true → has_claim (all_claims (second 5)) claim ≡ true → ⊥
 not_both claim one two = apart claim (subst (λ (cs : List Claim). has_claim cs claim ≡ true) claims one) (subst (λ (cs : List Claim). has_claim cs claim ≡ true) second-claims two)
 
-not_true : (b : Bool) → (b ≡ true → ⊥) → b ≡ false
-not_true true never = absurd (never refl)
-not_true false never = refl
-
 second-same : SameBut (has_claim (all_claims (second 5))) (view 0) with_second
 second-same = record {
   links = record { head = refl; tail = refl; transaction = refl; checks = λ w clear. let n : (w == second_node) ≡ false = not-node w clear in rw n (or-false (w == node)); next = λ w clear. refl; prev = λ w clear. refl };
@@ -120,14 +116,14 @@ second-same = record {
   or-false true = refl
   or-false false = refl
 
-second-is_written : IsWritten (view 0) with_second (state true) (layout 0) key (second 5)
+second-is_written : IsWrittenApart (view 0) with_second (state true) (layout 0) key (second 5)
 unfolding hash mixed of_bytes of_four
 second-is_written = record {
   represents = represented 0;
   valid = state_is_valid true;
   touched = has_claim (all_claims (second 5));
   same = second-same;
-  free = λ claim w owned. not_true (has_claim (all_claims (second 5)) claim) (not_both claim (choice (has_claim (all_claims (loaded 0)) claim) node w owned).0);
+  free = λ claim w owned. false_from_ne_true (has_claim (all_claims (second 5)) claim) (not_both claim (choice (has_claim (all_claims (loaded 0)) claim) node w owned).0);
   entry = record {
     loads = second-loads;
     key_is = refl;
@@ -135,7 +131,7 @@ second-is_written = record {
     streams = refl;
     dirty = refl;
     nobody = refl;
-    free = λ claim h. let n : has_claim (all_claims (loaded 0)) claim ≡ false = not_true (has_claim (all_claims (loaded 0)) claim) (λ one. not_both claim one h) in rw n refl;
+    free = λ claim h. let n : has_claim (all_claims (loaded 0)) claim ≡ false = false_from_ne_true (has_claim (all_claims (loaded 0)) claim) (λ one. not_both claim one h) in rw n refl;
     single = second-once;
   };
   prefix = record { follows = refl; fresh = refl };
@@ -186,14 +182,14 @@ two-is_represented =
 whole-holds : HoldsExcept (λ w. false) two_view.store two two_layout
 whole-holds = represented-but (λ w. false) two_view two two_layout two-is_represented
 
-pub both-are_at_rest : map volume.row_of (kept_among two_view.store held_rule (second_node ∷ node ∷ [])) ≡ main_row key plain ([], [], []) ∷ main_row (codes "a") plain (codes "zz", [], []) ∷ []
+pub both-are_at_rest : map volume.row_of_loaded (kept_among two_view.store held_rule (second_node ∷ node ∷ [])) ≡ main_row key plain ([], [], []) ∷ main_row (codes "a") plain (codes "zz", [], []) ∷ []
 unfolding created closed rest settled_row
 both-are_at_rest = listed-rest (λ w. false) two_view.store two two_layout whole-holds two-is_valid two-is_represented.list.distinct (λ item h. refl)
 
 -- ---- the node of `a` is taken out of the list
 
 -- at each write of that what is kept is what is at rest before the doom, or after it
-pub doom-moments : (count : ℕ) → map volume.row_of (kept_by held_rule (volume.completed (record two_view { list = after_writes (take count (writes_of remove node two_view.list)) two_view.list })))
+pub doom-moments : (count : ℕ) → map volume.row_of_loaded (kept_by held_rule (volume.completed (record two_view { list = after_writes (take count (writes_of remove node two_view.list)) two_view.list })))
     ≡ (if nat_lt count 2 then rest two else rest (doomed 0 two (Some (object true))))
 unfolding created closed
 doom-moments = dooms-moments two_view two two_layout two-is_represented two-is_valid 0 (object true) refl refl
@@ -206,7 +202,7 @@ unfolding created closed
 removed-is_at_rest = removals-end node two_view.list (second_node ∷ []) [] (record { whole = two-is_represented.list; idle = two-is_represented.idle })
 
 -- from its second write on `kmyb` alone is kept
-pub second-is_kept : map volume.row_of (kept_among two_view.store held_rule (second_node ∷ [])) ≡ main_row key plain ([], [], []) ∷ []
+pub second-is_kept : map volume.row_of_loaded (kept_among two_view.store held_rule (second_node ∷ [])) ≡ main_row key plain ([], [], []) ∷ []
 unfolding created closed rest settled_row doomed
 second-is_kept = dooms-keep (λ w. false) two_view.store two two_layout whole-holds two-is_valid 0 (object true) refl others refl (λ item h. h) (refl, tt) (λ item h stays. refl)
 
@@ -268,7 +264,7 @@ unlinked-loads = records-unlinked two_view.store unlinked 0 node second_contents
 -- ---- its record gets state 2
 
 abbrev doomed_stock : StoreView
-doomed_stock = record unlinked { entry = λ w. if w == contents then Some (record fields { state = records.doomed }) else two_view.store.entry w }
+doomed_stock = record unlinked { entry = λ w. if w == contents then Some (record fields { state = records.entry_doomed }) else two_view.store.entry w }
 
 first-block : (has_claim (claims_of contents) (BlockOf 1 0) ≡ true)
 unfolding has_claim claims_of kind_of block_count file_selector first_block external_number
@@ -291,7 +287,7 @@ its-own (ExternalOf n) h = absurd (let z : false ≡ true = h in cc)
 
 not-touched : (claim : Claim) (w : ℕ) → two_layout.owner claim ≡ Some w → gone w ≡ false → has_claim (claims_of contents) claim ≡ false
 unfolding put
-not-touched claim w owned out = not_true (has_claim (claims_of contents) claim) (λ h.
+not-touched claim w owned out = false_from_ne_true (has_claim (claims_of contents) claim) (λ h.
     let p : two_layout.owner claim ≡ Some node = two-is_represented.holds.lies.own node (loaded 0) claim refl (its-own claim h) in
     let s : node ≡ w = cc in
     let z : true ≡ false = sym (eq-eqb w node (sym s)) ∙ out in cc)
@@ -308,8 +304,8 @@ doomed-holds : HoldsExcept gone doomed_stock two (record two_layout { chains = o
 doomed-holds = others-outside (has_claim (claims_of contents)) gone unlinked doomed_stock two (record two_layout { chains = one_chain }) unlinked-holds state-is_written (λ b. refl) not-touched (λ b c below h. chain-is_clear b c (b == bucket) h)
 
 -- now it loads as one of that state
-doomed-loads : load doomed_stock (unchained_rule records.doomed) node ≡ Ok (loaded 0)
-doomed-loads = another-state unlinked doomed_stock 0 records.doomed node (loaded 0) fields unlinked-loads (once-claimed 0) (record { node_fields = λ w. refl; key_place = λ w fields clear is long short. refl; stored = λ size w clear. refl }) refl refl
+doomed-loads : load doomed_stock (unchained_rule records.entry_doomed) node ≡ Ok (loaded 0)
+doomed-loads = another-state unlinked doomed_stock 0 records.entry_doomed node (loaded 0) fields unlinked-loads (once-claimed 0) (record { node_fields = λ w. refl; key_place = λ w fields clear is long short. refl; stored = λ size w clear. refl }) refl refl
 
 -- and the record of `kmyb` as it did
 second-stays : load doomed_stock (unchained_rule 0) second_node ≡ Ok (second 0)
@@ -320,7 +316,7 @@ second-stays = records-outside (has_claim (claims_of contents)) unlinked doomed_
     second-touched claim h = not-touched claim second_node (two-is_represented.holds.lies.own second_node (second 0) claim refl h) refl
 
 -- `kmyb` alone is kept
-pub still-kept : map volume.row_of (kept_among doomed_stock held_rule (second_node ∷ [])) ≡ main_row key plain ([], [], []) ∷ []
+pub still-kept : map volume.row_of_loaded (kept_among doomed_stock held_rule (second_node ∷ [])) ≡ main_row key plain ([], [], []) ∷ []
 unfolding created closed rest settled_row doomed
 still-kept = dooms-keep gone doomed_stock two (record two_layout { chains = one_chain }) doomed-holds two-is_valid 0 (object true) refl others refl (λ item h. h) (refl, tt) sound where
   sound : (item : Item) → is_listed two item ≡ true → others item ≡ true → gone (two_layout.place item) ≡ false

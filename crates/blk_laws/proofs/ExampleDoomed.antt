@@ -7,15 +7,16 @@ use Rattle.blk_model.specs.State.{Object, State, object_at, named_by, is_named, 
 use Rattle.blk_model.specs.Holding.{rest}
 use Rattle.blk_model.specs.Effects.{with_slot}
 use Rattle.std.proofs.lemmas.Bool.{eq-eqb}
+use Rattle.std.proofs.Math.Bool.{and-false}
 use Rattle.blk_format.specs.Hash.{of_one, of_bytes, mixed, hash}
 use Rattle.blk_format.specs.Address.{block_count}
 use Rattle.blk_format.specs.Storage.{entry_blocks}
 use Rattle.blk_format.specs.Claims.{BlockOf, claims_of, has_claim}
-use Rattle.blk_format.specs.Records.{doomed}
+use Rattle.blk_format.specs.Records.{entry_doomed}
 use Rattle.blk_volume.specs.ListView.{put}
 use Rattle.blk_volume.specs.View.{View, NodeFields}
 use Rattle.blk_volume.specs.Walk.{walk}
-use Rattle.blk_volume.specs.Entries.{is_key_length, key_of, stream_of, streams_of, role_of}
+use Rattle.blk_volume.specs.Entries.{is_key_length, stored_key, stored_stream, stored_streams, role_of}
 use Rattle.blk_volume.specs.Loads.{unchained_rule, held_rule, load, load_key, load_record}
 use Rattle.blk_volume.specs.Audit.{kept_by}
 use Rattle.blk_volume.specs.Found as volume
@@ -27,7 +28,7 @@ use Rattle.blk_laws.proofs.Central.{walk-order, found-rest}
 use Rattle.blk_laws.proofs.Outside.{represents-outside}
 use Rattle.blk_laws.specs.CommandLaws.{IsPlacedAsDoomed, marked, dirtied}
 use Rattle.blk_laws.proofs.DoomedChanges.{changed-doomed-lies, changed-doomed, doomed-rest, gone-doomed, doomed-settles, written-doomed-settles}
-use Rattle.blk_laws.proofs.ExampleChanges.{not-clear, and-false, named-blocks, only-node, new_block, block-is_free, touched, touched-claims, now, now-once, owners_now}
+use Rattle.blk_laws.proofs.ExampleChanges.{not-clear, named-blocks, only-node, new_block, block-is_free, touched, touched-claims, now, now-once, owners_now}
 
 -- the object `a`, settled or not
 abbrev pub doomed_object : Bool → Object
@@ -37,20 +38,20 @@ abbrev pub doomed_state : Bool → State
 doomed_state settled = record (one.state settled) { objects = Some (doomed_object settled) ∷ []; uses = [] }
 
 abbrev pub doomed_layout : ℕ → Layout
-doomed_layout dirty = record (one.layout dirty) { place = λ item. 0; place_of_doomed = λ number. one.node; state = λ w. doomed; chains = λ b. [] }
+doomed_layout dirty = record (one.layout dirty) { place = λ item. 0; place_of_doomed = λ number. one.node; state = λ w. entry_doomed; chains = λ b. [] }
 
 -- the view, in which the node has this dirty word and data is stored at block 2 of data_1, or isn't
 abbrev doomed_view : ℕ → Option (List ℕ) → View
 doomed_view dirty bytes = record {
   list = record one.list { head = 0; tail = 0 };
   store = record (one.store 0 dirty) {
-    entry = λ w. if w == one.contents then Some (record one.fields { state = doomed }) else None;
+    entry = λ w. if w == one.contents then Some (record one.fields { state = entry_doomed }) else None;
     stored = λ size w. if (size == 0) && (w == 0) then Some [] else if (size == 2) && (w == 0xA0010001) then Some (codes "zz") else if (size == 3) && (w == 0xA0010002) then bytes else None;
   };
 }
 
-doomed-loads : (dirty : ℕ) → load (doomed_view dirty None).store (unchained_rule doomed) one.node ≡ Ok (one.loaded dirty)
-unfolding load load_record load_key is_key_length key_of stream_of streams_of role_of block_count entry_blocks hash mixed of_bytes of_one
+doomed-loads : (dirty : ℕ) → load (doomed_view dirty None).store (unchained_rule entry_doomed) one.node ≡ Ok (one.loaded dirty)
+unfolding load load_record load_key is_key_length stored_key stored_stream stored_streams role_of block_count entry_blocks hash mixed of_bytes of_one
 doomed-loads dirty = refl
 
 -- the view represents the state
@@ -59,7 +60,7 @@ doomed-is_represented dirty = record {
   holds = record {
     shows = record {
       no_record = refl;
-      each = λ w l is. let p = one.at-node dirty w l is in subst (λ (x : ℕ). load (doomed_view dirty None).store (unchained_rule doomed) x ≡ Ok l) (sym p.0) (doomed-loads dirty ∙ ap Ok p.1);
+      each = λ w l is. let p = one.at-node dirty w l is in subst (λ (x : ℕ). load (doomed_view dirty None).store (unchained_rule entry_doomed) x ≡ Ok l) (sym p.0) (doomed-loads dirty ∙ ap Ok p.1);
       chains = λ b below. record { linked = none b; once = tt };
     };
     lies = record {
@@ -125,7 +126,7 @@ pub doomed-is_not_walked : walk (doomed_view 0 None).list ≡ []
 doomed-is_not_walked = walk-order (doomed_view 0 None) (doomed_state true) (doomed_layout 0) (doomed-is_represented 0)
 
 -- and nothing is held
-pub doomed-is_not_held : map volume.row_of (kept_by held_rule (volume.completed (doomed_view 0 None))) ≡ []
+pub doomed-is_not_held : map volume.row_of_loaded (kept_by held_rule (volume.completed (doomed_view 0 None))) ≡ []
 unfolding rest
 doomed-is_not_held = found-rest (doomed_view 0 None) (doomed_state true) (doomed_layout 0) (doomed-is_represented 0) (doomed-is_valid true)
 
@@ -182,7 +183,7 @@ written_object = record (doomed_object false) { streams = (codes "yyy", [], []) 
 -- the record has the new size and place, and there the view has this
 abbrev written_view : Option (List ℕ) → View
 written_view bytes = record (doomed_view 5 bytes) {
-  store = record (doomed_view 5 bytes).store { entry = λ w. if w == one.contents then Some (record one.fields { state = doomed; data_size = 3 ∷ 0 ∷ 0 ∷ 0 ∷ []; data_addr = 0xA0010002 ∷ 0 ∷ 0 ∷ 0 ∷ [] }) else None };
+  store = record (doomed_view 5 bytes).store { entry = λ w. if w == one.contents then Some (record one.fields { state = entry_doomed; data_size = 3 ∷ 0 ∷ 0 ∷ 0 ∷ []; data_addr = 0xA0010002 ∷ 0 ∷ 0 ∷ 0 ∷ [] }) else None };
 }
 
 written-is_inside : (bytes : Option (List ℕ)) → SameBut touched (doomed_view 5 None) (written_view bytes)
@@ -201,8 +202,8 @@ written-is_inside bytes = record {
 written-alone : IsFreeBut one.node touched (doomed_layout 5)
 written-alone c w owned apart = absurd (let z : true ≡ false = sym (eq-eqb one.node w (only-node 5 w c owned)) ∙ apart in cc)
 
-written-loads : load (written_view (Some (codes "yyy"))).store (unchained_rule doomed) one.node ≡ Ok now
-unfolding load load_record load_key is_key_length key_of stream_of streams_of role_of block_count entry_blocks hash mixed of_bytes of_one
+written-loads : load (written_view (Some (codes "yyy"))).store (unchained_rule entry_doomed) one.node ≡ Ok now
+unfolding load load_record load_key is_key_length stored_key stored_stream stored_streams role_of block_count entry_blocks hash mixed of_bytes of_one
 written-loads = refl
 
 written-change : IsDoomedChange (doomed_layout 5) one.node written_object now owners_now
@@ -226,7 +227,7 @@ written-is_represented =
     (written-is_inside (Some (codes "yyy"))) written-alone written-loads written-change
 
 -- where the data isn't there yet, nothing is held either
-pub torn-is_not_held : map volume.row_of (kept_by held_rule (volume.completed (written_view None))) ≡ []
+pub torn-is_not_held : map volume.row_of_loaded (kept_by held_rule (volume.completed (written_view None))) ≡ []
 unfolding rest
 torn-is_not_held = doomed-rest touched (doomed_view 5 None) (written_view None) (doomed_state false) (doomed_layout 5) (doomed-is_represented 5) (doomed-is_valid false) 0 (doomed_object false) refl refl (written-is_inside None) written-alone
 

@@ -18,7 +18,7 @@ use Rattle.std.specs.Fmt.{digits}
 use Rattle.blk_format.specs.Names.{Name, read_name, split_last, child_name}
 use Rattle.blk_format.specs.SparseIndex.{ParentIndex, PartIndex, map_bit, read_parent_index, read_part_index}
 use Rattle.blk_volume.specs.View.{StoreView}
-use Rattle.blk_volume.specs.Entries.{IsParent, IsPart, is_key_length, key_of, stream_of, streams_of, role_of, parent_role, part_role, is_covered}
+use Rattle.blk_volume.specs.Entries.{IsParent, IsPart, is_key_length, stored_key, stored_stream, stored_streams, role_of, parent_role, part_role, is_covered}
 use Rattle.blk_volume.specs.Loads.{unchained_rule, held_rule, Loaded, load, load_key, load_record, record_claims, all_claims}
 use Rattle.blk_volume.specs.Chains.{bucket_of_hash, IsChain}
 use Rattle.blk_volume.specs.Layout.{Layout, is_listed, IsPlacedAt, IsListedRecord, Holds}
@@ -75,12 +75,12 @@ family_stock = (sparse_view 1 part_node both_nodes).store
 
 -- the parent's node loads
 pub parent-loads : load family_stock (unchained_rule 0) parent_node ≡ Ok the_parent
-unfolding load load_record load_key is_key_length key_of stream_of streams_of role_of parent_role read_parent_index words_at block_count entry_blocks hash mixed of_bytes of_one
+unfolding load load_record load_key is_key_length stored_key stored_stream stored_streams role_of parent_role read_parent_index words_at block_count entry_blocks hash mixed of_bytes of_one
 parent-loads = refl
 
 -- and the part's
 part-loads : load family_stock (unchained_rule 0) part_node ≡ Ok the_part
-unfolding load load_record load_key is_key_length key_of stream_of streams_of role_of part_role is_covered read_part_index read_name split_last child_name digits words_at block_count entry_blocks hash mixed of_bytes of_four of_three
+unfolding load load_record load_key is_key_length stored_key stored_stream stored_streams role_of part_role is_covered read_part_index read_name split_last child_name digits words_at block_count entry_blocks hash mixed of_bytes of_four of_three
 part-loads = refl
 
 -- the state and its layout
@@ -283,6 +283,6 @@ is-test = record {
 }
 
 -- and their rows are picked
-pub family-is_picked : map volume.row_of (kept_among family_stock held_rule (part_node ∷ parent_node ∷ [])) ≡ part_row (codes "a") 0 part_value ∷ main_row (codes "a") (sparse 5) ([], [], []) ∷ []
+pub family-is_picked : map volume.row_of_loaded (kept_among family_stock held_rule (part_node ∷ parent_node ∷ [])) ≡ part_row (codes "a") 0 part_value ∷ main_row (codes "a") (sparse 5) ([], [], []) ∷ []
 unfolding row_of
 family-is_picked = found-picked family_state family_layout family-holds.lies.laid family_state.uses (λ item h. h) (λ number. true) is-test family_stock family-holds (refl, (refl, tt)) main-listed

@@ -24,8 +24,8 @@ use Rattle.blk_volume.specs.Layout.{Represents}
 use Rattle.blk_volume.specs.Emptiness.{no_layout}
 use Rattle.blk_volume.specs.Given.{given_by}
 use Rattle.blk_volume.specs.Shown.{IsShown}
-use Rattle.blk_volume.specs.Sound.{OnlyLinked, AreLongEnough, words_of, AreOwned, IsCounted, AreSealed, IsIndexCounted, IsInOrder, IsSound}
-use Rattle.blk_volume.specs.StandsFor.{KeepsDoomed, AreDoomed, ShowsState, StandsFor, IsOwner, IsAllocated}
+use Rattle.blk_volume.specs.Sound.{OnlyLinked, AreLongEnough, words_of, AreOwned, CountersAgree, AreSealed, IsIndexCounted, IsInOrder, IsSound}
+use Rattle.blk_volume.specs.StandsFor.{KeepsDoomed, AreDoomed, ShowsState, StandsFor, IsOwner, AllIsOwned}
 use Rattle.blk_laws.proofs.OneEntry as one
 use Rattle.blk_laws.proofs.Premises.{state_is_valid}
 use Rattle.blk_laws.proofs.Bare.{idle-list, represents-empty, bare-sound, bare-found, bare-stands}
@@ -76,7 +76,7 @@ unfolding has_claim
 no-external n = refl
 
 -- the marked blocks are those of the entry
-pub whole-is_allocated : IsAllocated whole_folder (one.state true) (one.layout 0) []
+pub whole-is_allocated : AllIsOwned whole_folder (one.state true) (one.layout 0) []
 whole-is_allocated = record {
   blocks = λ n b is small. whole-marks n b (below n is) small ∙ sym (whole-owner (BlockOf n b) ∙ has-blocks n b (below n is));
   files = λ n small. no-externals n ∙ sym (whole-owner (ExternalOf n) ∙ no-external n);
@@ -120,7 +120,7 @@ whole-long n kind is = subst (λ (k : ℕ). block_place k (max_entries_in whole_
 abbrev its_words : List ℕ
 its_words = one.node ∷ one.contents ∷ 0xA0010001 ∷ []
 
-pub whole-counted : (n : ℕ) → n < 4 → IsCounted whole_folder its_words n
+pub whole-counted : (n : ℕ) → n < 4 → CountersAgree whole_folder its_words n
 unfolding whole_folder zeros with_word spliced is_in_file kind_of file_selector
 whole-counted zero small = record { num_entries = refl; empty = whole-empty 0 small; updating = refl }
 whole-counted (suc zero) small = record { num_entries = refl; empty = whole-empty 1 small; updating = refl }

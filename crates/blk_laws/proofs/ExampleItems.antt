@@ -3,7 +3,7 @@ use Rattle.std.proofs.Common.{◌≡◌, ⊎_elim, ℕ, zero, suc, ◌<◌, List
 use Rattle.std.specs.Prelude.{if◌then◌else◌, ◌==◌, ◌||◌, not, codes, map, take}
 use Rattle.std.specs.Option.{option_map}
 use Rattle.std.specs.Str.{bytes_eq}
-use Rattle.std.proofs.lemmas.Bool.{cases_Bool}
+use Rattle.std.proofs.lemmas.Bool.{cases_Bool, false_from_ne_true, not-true}
 use Rattle.std.proofs.lemmas.Bool.Decides.{nat_tests}
 use Rattle.blk_model.specs.Items.{Item, main, part, main_row, plain, key_of, IsKey}
 use Rattle.blk_model.specs.State.{Object, State, IsValidState, object_at}
@@ -25,7 +25,7 @@ use Rattle.blk_volume.specs.ListView.{put, after_writes}
 use Rattle.blk_volume.specs.Completion.{insert}
 use Rattle.blk_volume.specs.ListPlans.{writes_of, touch_writes}
 use Rattle.blk_volume.specs.Chains.{IsChain}
-use Rattle.blk_volume.specs.Entries.{IsPlain, is_key_length, stream_of, streams_of, role_of}
+use Rattle.blk_volume.specs.Entries.{IsPlain, is_key_length, stored_stream, stored_streams, role_of}
 use Rattle.blk_volume.specs.Entries as entries
 use Rattle.blk_volume.specs.Loads.{unchained_rule, held_rule, listed_rule, Loaded, load, load_key, load_record, record_claims, all_claims}
 use Rattle.blk_volume.specs.Audit.{kept_among, dropped_among, kept_by, dropped_by}
@@ -38,7 +38,7 @@ use Rattle.blk_volume.specs.Removal.{without_items, placed_less, ListsLess, HasL
 use Rattle.blk_volume.specs.Given.{given_by, GoesWith, IsTest}
 use Rattle.blk_volume.specs.Footprint.{IsClear, SameBut}
 use Rattle.blk_volume.specs.Creation.{with_new, linked_front}
-use Rattle.blk_laws.specs.CommandLaws.{IsWritten, touched_view}
+use Rattle.blk_laws.specs.CommandLaws.{IsWrittenApart, touched_view}
 use Rattle.blk_laws.proofs.OneEntry.{object, state, node, contents, loaded, layout, fields, list, store, view, choice, at-node, claims, represented}
 use Rattle.blk_laws.proofs.Premises.{bytes-small, state_is_valid}
 use Rattle.blk_laws.proofs.ExampleChanges.{not-clear}
@@ -88,7 +88,7 @@ entry-is_test = record {
 }
 
 -- and its row is picked
-pub entry-is_picked : map volume.row_of (kept_among (store contents 0) held_rule (node ∷ [])) ≡ main_row (codes "a") plain (codes "zz", [], []) ∷ []
+pub entry-is_picked : map volume.row_of_loaded (kept_among (store contents 0) held_rule (node ∷ [])) ≡ main_row (codes "a") plain (codes "zz", [], []) ∷ []
 unfolding row_of
 entry-is_picked =
     found-picked (state true) (layout 0) (represented 0).holds.lies.laid (main (codes "a") ∷ []) (λ item h. h) (λ number. true) entry-is_test (store contents 0) (represented 0).holds (refl, tt)
@@ -120,7 +120,7 @@ with_second = record {
 }
 
 second-loads : load with_second.store (unchained_rule 0) second_node ≡ Ok second
-unfolding load load_record load_key is_key_length entries.key_of stream_of streams_of role_of block_count entry_blocks hash mixed of_bytes of_one
+unfolding load load_record load_key is_key_length entries.stored_key stored_stream stored_streams role_of block_count entry_blocks hash mixed of_bytes of_one
 second-loads = refl
 
 -- its claims
@@ -145,10 +145,6 @@ apart (ExternalOf n) one two = let z : false ≡ true = one in cc
 not_both : (claim : Claim) → has_claim (all_claims (loaded 0)) claim ≡ true → has_claim (all_claims second) claim ≡ true → ⊥
 not_both claim one two = apart claim (subst (λ (cs : List Claim). has_claim cs claim ≡ true) claims one) (subst (λ (cs : List Claim). has_claim cs claim ≡ true) second-claims two)
 
-not_true : (b : Bool) → (b ≡ true → ⊥) → b ≡ false
-not_true true never = absurd (never refl)
-not_true false never = refl
-
 second-same : SameBut (has_claim (all_claims second)) (view 0) with_second
 second-same = record {
   links = record { head = refl; tail = refl; transaction = refl; checks = λ w clear. let n : (w == second_node) ≡ false = not-node w clear in rw n (or-false (w == node)); next = λ w clear. refl; prev = λ w clear. refl };
@@ -172,14 +168,14 @@ second-same = record {
   or-false false = refl
 
 -- the record and the node are written outside what is anybody's
-pub second-is_written : IsWritten (view 0) with_second (state true) (layout 0) (codes "b") second
+pub second-is_written : IsWrittenApart (view 0) with_second (state true) (layout 0) (codes "b") second
 unfolding hash mixed of_bytes of_one
 second-is_written = record {
   represents = represented 0;
   valid = state_is_valid true;
   touched = has_claim (all_claims second);
   same = second-same;
-  free = λ claim w owned. not_true (has_claim (all_claims second) claim) (not_both claim (choice (has_claim (all_claims (loaded 0)) claim) node w owned).0);
+  free = λ claim w owned. false_from_ne_true (has_claim (all_claims second) claim) (not_both claim (choice (has_claim (all_claims (loaded 0)) claim) node w owned).0);
   entry = record {
     loads = second-loads;
     key_is = refl;
@@ -187,7 +183,7 @@ second-is_written = record {
     streams = refl;
     dirty = refl;
     nobody = refl;
-    free = λ claim h. let n : has_claim (all_claims (loaded 0)) claim ≡ false = not_true (has_claim (all_claims (loaded 0)) claim) (λ one. not_both claim one h) in rw n refl;
+    free = λ claim h. let n : has_claim (all_claims (loaded 0)) claim ≡ false = false_from_ne_true (has_claim (all_claims (loaded 0)) claim) (λ one. not_both claim one h) in rw n refl;
     single = second-once;
   };
   prefix = record { follows = refl; fresh = refl };
@@ -197,7 +193,7 @@ second-is_written = record {
 }
 
 -- while its node is inserted, the first entry alone is kept
-pub second-is_created_at : (count : ℕ) → map volume.row_of (kept_by held_rule (volume.completed (record with_second { list = after_writes (take count (writes_of insert second_node with_second.list)) with_second.list }))) ≡ rest (state true)
+pub second-is_created_at : (count : ℕ) → map volume.row_of_loaded (kept_by held_rule (volume.completed (record with_second { list = after_writes (take count (writes_of insert second_node with_second.list)) with_second.list }))) ≡ rest (state true)
 second-is_created_at = creates-moments (view 0) with_second (state true) (layout 0) (codes "b") second second-is_written
 
 -- the state, the view and the layout with both
@@ -244,7 +240,7 @@ unfolding refusals created
 open-is_not_refused = refl
 
 -- at each write of its touch what is kept may be left by a stop in it
-pub open-may_be_stopped : (count : ℕ) → StopOutcome both 7 (to_open 2 (codes "a")) (step both 7 (to_open 2 (codes "a"))).state (map volume.row_of (kept_by held_rule (volume.completed (touched_view both_view node count))))
+pub open-may_be_stopped : (count : ℕ) → StopOutcome both 7 (to_open 2 (codes "a")) (step both 7 (to_open 2 (codes "a"))).state (map volume.row_of_loaded (kept_by held_rule (volume.completed (touched_view both_view node count))))
 open-may_be_stopped = open-moments both_view both both_layout both-are_represented both-are_valid 7 2 (codes "a") open-is_not_refused
 
 -- and in the end `a` is in front
@@ -260,7 +256,7 @@ abbrev without_node : StoreView
 without_node = record both_view.store { node_fields = (store contents 0).node_fields }
 
 first-loads : load without_node (unchained_rule 0) node ≡ Ok (loaded 0)
-unfolding load load_record load_key is_key_length entries.key_of stream_of streams_of role_of block_count entry_blocks hash mixed of_bytes of_one
+unfolding load load_record load_key is_key_length entries.stored_key stored_stream stored_streams role_of block_count entry_blocks hash mixed of_bytes of_one
 first-loads = refl
 
 put-elsewhere : {A : Type 0} (values : ℕ → A) (place : ℕ) (value : A) (other : ℕ) → (other == place) ≡ false → put values place value other ≡ values other
@@ -287,16 +283,12 @@ removal-holds =
       single = r.holds.lies.single;
     }
 
-not_second : (b : Bool) → not b ≡ true → b ≡ false
-not_second true e = cc
-not_second false e = refl
-
 not-there : (item : Item) → is_not_second item ≡ true → (both_layout.place item == second_node) ≡ false
-not-there (main key) stays = rw (not_second (bytes_eq key (codes "b")) stays) refl
+not-there (main key) stays = rw (not-true (bytes_eq key (codes "b")) stays) refl
 not-there (part key n) stays = refl
 
 -- what is kept is the row of `a`
-pub first-stays : map volume.row_of (kept_among without_node held_rule (node ∷ [])) ≡ main_row (codes "a") plain (codes "zz", [], []) ∷ []
+pub first-stays : map volume.row_of_loaded (kept_among without_node held_rule (node ∷ [])) ≡ main_row (codes "a") plain (codes "zz", [], []) ∷ []
 unfolding row_of created put
 first-stays =
     removed-rows (λ w. w == second_node) without_node both both_layout removal-holds both-are_valid (λ number. is_live_and_settled (object_at both number)) (settled-is_test both both_layout both-are_represented.holds.lies.laid both-are_valid)
@@ -310,12 +302,12 @@ lists-less : ListsLess both without_second is_not_second
 unfolding row_of created
 lists-less = record { rows = rows; settled = λ key stays. ap (option_map (λ (z : Object). z.settled)) (objects-of key stays); closed = λ key n stays. stays; doomed_same = doomed-same } where
   rows : (item : Item) → is_not_second item ≡ true → is_listed both item ≡ true → row_of (without_items both without_second is_not_second) item ≡ row_of both item
-  rows (main key) stays h = let n : bytes_eq key (codes "b") ≡ false = not_second (bytes_eq key (codes "b")) stays in
+  rows (main key) stays h = let n : bytes_eq key (codes "b") ≡ false = not-true (bytes_eq key (codes "b")) stays in
       ⊎_elim (λ (e : bytes_eq key (codes "a") ≡ true). rw e refl) (λ (e : bytes_eq key (codes "a") ≡ false). rw (e, n) refl) (cases_Bool (bytes_eq key (codes "a")))
   rows (part key n) stays h = absurd (let z : false ≡ true = h in cc)
 
   objects-of : (key : List ℕ) → is_not_second (main key) ≡ true → owner_object (without_items both without_second is_not_second) (main key) ≡ owner_object both (main key)
-  objects-of key stays = let n : bytes_eq key (codes "b") ≡ false = not_second (bytes_eq key (codes "b")) stays in
+  objects-of key stays = let n : bytes_eq key (codes "b") ≡ false = not-true (bytes_eq key (codes "b")) stays in
       ⊎_elim (λ (e : bytes_eq key (codes "a") ≡ true). rw e refl) (λ (e : bytes_eq key (codes "a") ≡ false). rw (e, n) refl) (cases_Bool (bytes_eq key (codes "a")))
 
   doomed-same : (number : ℕ) (o : Object) → object_at (without_items both without_second is_not_second) number ≡ Some o → o.live ≡ false → object_at both number ≡ Some o
@@ -359,7 +351,7 @@ unfolding created
 both-are_walked = walk-order both_view both both_layout both-are_represented
 
 -- what is listed are both rows
-pub both-are_listed : map volume.row_of (kept_by listed_rule both_view) ≡ main_row (codes "b") plain ([], [], []) ∷ main_row (codes "a") plain (codes "zz", [], []) ∷ []
+pub both-are_listed : map volume.row_of_loaded (kept_by listed_rule both_view) ≡ main_row (codes "b") plain ([], [], []) ∷ main_row (codes "a") plain (codes "zz", [], []) ∷ []
 unfolding created rows row_of
 both-are_listed = rows-kept both_view both both_layout both-are_represented both-are_valid
 
@@ -372,6 +364,6 @@ pub both-chains_end : ChainsEnd both_view.store
 both-chains_end = chain-end both_view.store both both_layout both-are_represented.holds both-are_valid
 
 -- and what is kept is `a` alone, which is settled
-pub both-keep_the_first : map volume.row_of (kept_by held_rule (volume.completed both_view)) ≡ main_row (codes "a") plain (codes "zz", [], []) ∷ []
+pub both-keep_the_first : map volume.row_of_loaded (kept_by held_rule (volume.completed both_view)) ≡ main_row (codes "a") plain (codes "zz", [], []) ∷ []
 unfolding created rest settled_row
 both-keep_the_first = found-rest both_view both both_layout both-are_represented both-are_valid

@@ -16,7 +16,7 @@ use Rattle.blk_volume.specs.Walk.{walk, walk_from}
 use Rattle.blk_volume.specs.Completion.{counts, completed_list}
 use Rattle.blk_volume.specs.View.{StoreView, RecordFields, list_of, checks_at, next_at, prev_at, store_of, node_fields_at, fields_at, follow_at, key_place_at, stored_at, view_of}
 use Rattle.blk_volume.specs.Chains.{chain, chain_from, bucket_of_hash}
-use Rattle.blk_volume.specs.Entries.{is_key_length, key_of, stream_of, streams_of}
+use Rattle.blk_volume.specs.Entries.{is_key_length, stored_key, stored_stream, stored_streams}
 use Rattle.blk_volume.specs.Loads.{held_rule}
 use Rattle.blk_volume.specs.Audit.{kept_among, kept_by}
 use Rattle.blk_volume.specs.Found.{completed, found}
@@ -79,7 +79,7 @@ unfolding folder_with dirty_folder zeros with_word spliced next_file_in max_entr
 its-record = (refl, refl, refl, refl)
 
 its-data : SameData old_stock new_stock 0xA0010000 one.fields
-unfolding folder_with dirty_folder zeros with_word spliced next_file_in max_entries_in linked files_along kind_among is_key_length key_of stream_of streams_of store_of fields_at follow_at key_place_at stored_at stands stands_as_blocks is_address is_initialized names_external names_blocks kind_of reserved_bits block_count file_selector first_block external_number block_size block_place place byte_size kind_for blocks_for entry_blocks is_storage entry_checks entry_in range_at words_at chain_from
+unfolding folder_with dirty_folder zeros with_word spliced next_file_in max_entries_in linked files_along kind_among is_key_length stored_key stored_stream stored_streams store_of fields_at follow_at key_place_at stored_at stands stands_as_blocks is_address is_initialized names_external names_blocks kind_of reserved_bits block_count file_selector first_block external_number block_size block_place place byte_size kind_for blocks_for entry_blocks is_storage entry_checks entry_in range_at words_at chain_from
 its-data = record { key = λ long. refl; chained = refl; streams = refl }
 
 is-same : SameNamed old_stock new_stock 0x90000000

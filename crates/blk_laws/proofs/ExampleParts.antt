@@ -21,7 +21,7 @@ use Rattle.blk_format.specs.Claims.{Claim, BlockOf, ExternalOf, claims_of, has_c
 use Rattle.blk_format.specs.SparseIndex.{PartIndex, map_bit, read_parent_index}
 use Rattle.blk_volume.specs.View.{StoreView}
 use Rattle.blk_volume.specs.Chains.{bucket_of_hash, IsChain}
-use Rattle.blk_volume.specs.Entries.{IsPart, is_key_length, key_of, stream_of, streams_of, role_of, parent_role}
+use Rattle.blk_volume.specs.Entries.{IsPart, is_key_length, stored_key, stored_stream, stored_streams, role_of, parent_role}
 use Rattle.blk_volume.specs.Loads.{unchained_rule, held_rule, Loaded, load, load_key, load_record, record_claims, all_claims}
 use Rattle.blk_volume.specs.Audit.{kept_among}
 use Rattle.blk_volume.specs.Found as volume
@@ -173,7 +173,7 @@ abbrev pub without_node : StoreView
 without_node = record family_stock { node_fields = λ w. if w == parent_node then family_stock.node_fields parent_node else None }
 
 still-loads : load without_node (unchained_rule 0) parent_node ≡ Ok the_parent
-unfolding load load_record load_key is_key_length key_of stream_of streams_of role_of parent_role read_parent_index words_at block_count entry_blocks hash mixed of_bytes of_one
+unfolding load load_record load_key is_key_length stored_key stored_stream stored_streams role_of parent_role read_parent_index words_at block_count entry_blocks hash mixed of_bytes of_one
 still-loads = refl
 
 -- the parent stays meanwhile
@@ -194,7 +194,7 @@ without-holds = record {
 }
 
 -- what is kept is the row of the parent
-pub parent-is_kept : map volume.row_of (kept_among without_node held_rule (parent_node ∷ [])) ≡ main_row (codes "a") (sparse 5) ([], [], []) ∷ []
+pub parent-is_kept : map volume.row_of_loaded (kept_among without_node held_rule (parent_node ∷ [])) ≡ main_row (codes "a") (sparse 5) ([], [], []) ∷ []
 unfolding row_of
 parent-is_kept =
     removed-rows (λ w. w == part_node) without_node family_state family_layout without-holds family-is_valid (λ number. is_live_and_settled (object_at family_state number)) (settled-is_test family_state family_layout family-holds.lies.laid family-is_valid)

@@ -19,7 +19,7 @@ use Rattle.blk_volume.specs.Completion.{remove}
 use Rattle.blk_volume.specs.ListPlans.{writes_of}
 use Rattle.blk_volume.specs.View.{View, StoreView}
 use Rattle.blk_volume.specs.Chains.{bucket_of_hash, IsChain}
-use Rattle.blk_volume.specs.Entries.{is_key_length, key_of, stream_of, streams_of, role_of, parent_role}
+use Rattle.blk_volume.specs.Entries.{is_key_length, stored_key, stored_stream, stored_streams, role_of, parent_role}
 use Rattle.blk_volume.specs.Loads.{unchained_rule, held_rule, Loaded, load, load_key, load_record}
 use Rattle.blk_volume.specs.Audit.{kept_among, kept_by}
 use Rattle.blk_volume.specs.Found as volume
@@ -93,7 +93,7 @@ family-holds_but : HoldsExcept (λ w. false) family_stock named_state family_lay
 family-holds_but = represented-but (λ w. false) family_view named_state family_layout family-is_represented
 
 -- nothing is kept
-pub part-is_not_kept : map volume.row_of (kept_among family_stock held_rule (part_node ∷ [])) ≡ []
+pub part-is_not_kept : map volume.row_of_loaded (kept_among family_stock held_rule (part_node ∷ [])) ≡ []
 unfolding rest settled_row doomed
 part-is_not_kept = dooms-keep (λ w. false) family_stock named_state family_layout family-holds_but (named-is_valid true) 0 family refl not_main refl others-stay (refl, tt) (λ item h keeps. refl)
 
@@ -101,7 +101,7 @@ part-is_not_kept = dooms-keep (λ w. false) family_stock named_state family_layo
 abbrev without_main : View
 without_main = record { list = after_writes (writes_of remove parent_node family_view.list) family_view.list; store = family_stock }
 
-pub part-is_never_kept : (count : ℕ) → map volume.row_of (kept_by held_rule (volume.completed (record without_main { list = after_writes (take count (writes_of remove part_node without_main.list)) without_main.list }))) ≡ []
+pub part-is_never_kept : (count : ℕ) → map volume.row_of_loaded (kept_by held_rule (volume.completed (record without_main { list = after_writes (take count (writes_of remove part_node without_main.list)) without_main.list }))) ≡ []
 unfolding rest settled_row doomed
 part-is_never_kept = doomed-parts (λ w. false) without_main named_state family_layout family-holds_but (named-is_valid true) 0 family refl not_main refl others-stay (λ item h keeps. refl)
     (removals-end parent_node family_view.list (part_node ∷ []) [] family-at_rest) 0 refl refl
@@ -114,11 +114,11 @@ abbrev doomed_stock : StoreView
 doomed_stock = record family_stock {
   node_fields = λ w. if w == parent_node then family_stock.node_fields parent_node else None;
   table = λ b. 0;
-  entry = λ w. if w == 0xA0010000 then Some (record parent_core { state = records.doomed }) else family_stock.entry w;
+  entry = λ w. if w == 0xA0010000 then Some (record parent_core { state = records.entry_doomed }) else family_stock.entry w;
 }
 
-doomed-loads : load doomed_stock (unchained_rule records.doomed) parent_node ≡ Ok the_parent
-unfolding load load_record load_key is_key_length key_of stream_of streams_of role_of parent_role read_parent_index words_at block_count entry_blocks hash mixed of_bytes of_one
+doomed-loads : load doomed_stock (unchained_rule records.entry_doomed) parent_node ≡ Ok the_parent
+unfolding load load_record load_key is_key_length stored_key stored_stream stored_streams role_of parent_role read_parent_index words_at block_count entry_blocks hash mixed of_bytes of_one
 doomed-loads = refl
 
 doomed-holds : HoldsExcept both_gone doomed_stock named_state (record family_layout { chains = λ b. [] })

@@ -10,6 +10,7 @@ use Rattle.blk_image.specs.Bytes.{words_at}
 use Rattle.blk_format.specs.Hash.{of_four, of_three, of_bytes, mixed, hash}
 use Rattle.blk_format.specs.Storage.{entry_blocks}
 use Rattle.std.specs.Fmt.{digits}
+use Rattle.std.proofs.Math.Bool.{and-false}
 use Rattle.blk_format.specs.Names.{read_name, split_last, child_name}
 use Rattle.blk_format.specs.SparseIndex.{read_part_index}
 use Rattle.blk_format.specs.Address.{kind_of, block_count, file_selector, first_block, external_number}
@@ -17,7 +18,7 @@ use Rattle.blk_format.specs.Claims.{Claim, BlockOf, ExternalOf, claims_of, has_c
 use Rattle.blk_volume.specs.ListView.{put}
 use Rattle.blk_volume.specs.View.{View, RecordFields}
 use Rattle.blk_volume.specs.Chains.{chain_from}
-use Rattle.blk_volume.specs.Entries.{is_key_length, key_of, stream_of, streams_of, role_of, part_role, is_covered}
+use Rattle.blk_volume.specs.Entries.{is_key_length, stored_key, stored_stream, stored_streams, role_of, part_role, is_covered}
 use Rattle.blk_volume.specs.Loads.{held_rule, load, load_key, load_record, all_claims}
 use Rattle.blk_volume.specs.Audit.{kept_by}
 use Rattle.blk_volume.specs.Found as volume
@@ -29,7 +30,7 @@ use Rattle.blk_laws.proofs.Opening.{lies-reordered}
 use Rattle.blk_laws.proofs.DirtyWords.{dirty-settles}
 use Rattle.blk_laws.proofs.Writing.{moment-rest}
 use Rattle.blk_laws.proofs.DamagedParts.{sparse_view, both_nodes, part_core}
-use Rattle.blk_laws.proofs.ExampleChanges.{not-clear, and-false}
+use Rattle.blk_laws.proofs.ExampleChanges.{not-clear}
 use Rattle.blk_laws.proofs.ExampleFamily.{family, family_state, family_layout, family_stock, family-holds, parent_node, part_node, the_parent, the_part, part_bytes, parent-claims}
 use Rattle.blk_laws.proofs.ExampleParts.{good-family, one-owner}
 
@@ -161,18 +162,18 @@ apart-but claim w owned apart = go (has_claim (all_claims the_parent) claim) (ha
 
 -- the record keeps its flags and its key
 keeps-name : (bytes : Option (List ℕ)) → KeepsName dirty_view.store (with_data bytes).store (part (codes "a") 0) 0xA0010001
-unfolding key_of
+unfolding stored_key
 keeps-name bytes was now old new =
     let s : part_core ≡ was = cc in let t : written_core ≡ now = cc in
-    (ap (λ (c : RecordFields). c.flags) (sym t) ∙ ap (λ (c : RecordFields). c.flags) s, ap (key_of (with_data bytes).store 0xA0010001) (sym t) ∙ ap (key_of dirty_view.store 0xA0010001) s)
+    (ap (λ (c : RecordFields). c.flags) (sym t) ∙ ap (λ (c : RecordFields). c.flags) s, ap (stored_key (with_data bytes).store 0xA0010001) (sym t) ∙ ap (stored_key dirty_view.store 0xA0010001) s)
 
 -- where the data is there, the part's record loads at this moment
 torn-loads : load (with_data (Some (codes "yyy"))).store held_rule part_node ≡ Ok (record the_part { streams = [] ∷ codes "yyy" ∷ part_bytes ∷ []; others = 0 ∷ 0 ∷ 0xA001000C ∷ 0xA0010008 ∷ 0 ∷ [] })
-unfolding put load load_record load_key is_key_length key_of stream_of streams_of role_of part_role is_covered read_part_index read_name split_last child_name digits words_at block_count entry_blocks chain_from hash mixed of_bytes of_four of_three
+unfolding put load load_record load_key is_key_length stored_key stored_stream stored_streams role_of part_role is_covered read_part_index read_name split_last child_name digits words_at block_count entry_blocks chain_from hash mixed of_bytes of_four of_three
 torn-loads = refl
 
 -- nothing is kept, whether the part's data is there, so that its record loads, or not
-unsettled-are_at_rest : (bytes : Option (List ℕ)) → map volume.row_of (kept_by held_rule (volume.completed (with_data bytes))) ≡ []
+unsettled-are_at_rest : (bytes : Option (List ℕ)) → map volume.row_of_loaded (kept_by held_rule (volume.completed (with_data bytes))) ≡ []
 unfolding rest settled_row put
 unsettled-are_at_rest bytes =
     moment-rest touched dirty_view (with_data bytes) dirty_state dirty_layout dirty-is_represented (named-is_valid false) 0 (record family { settled = false }) (part (codes "a") 0) refl refl refl the_part refl (same-but bytes)

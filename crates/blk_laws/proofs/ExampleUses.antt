@@ -28,7 +28,7 @@ use Rattle.blk_volume.specs.Completion.{insert}
 use Rattle.blk_volume.specs.ListPlans.{writes_of, touch_writes}
 use Rattle.blk_volume.specs.Emptiness.{no_layout}
 use Rattle.blk_volume.specs.Chains.{bucket_of_hash}
-use Rattle.blk_volume.specs.Entries.{key_of}
+use Rattle.blk_volume.specs.Entries.{stored_key}
 use Rattle.blk_volume.specs.Loads.{held_rule, listed_rule, Loaded}
 use Rattle.blk_volume.specs.Audit.{kept_by, kept_as, kept_nodes, kept_among}
 use Rattle.blk_volume.specs.Found as volume
@@ -49,7 +49,7 @@ use Rattle.blk_laws.proofs.Fronts.{AreSmall, small-words}
 use Rattle.blk_volume.specs.Searches.{bucket_of_key, chained_for, HasKey, NoneHasKey, IsOfLive}
 use Rattle.blk_laws.specs.ByteLaws.{IsWithoutFile, IsOfHeaders}
 use Rattle.blk_laws.specs.ChargeLaws.{AreTotals, AreOpenedTotals}
-use Rattle.blk_laws.specs.CommandLaws.{IsWritten, touched_view}
+use Rattle.blk_laws.specs.CommandLaws.{IsWrittenApart, touched_view}
 use Rattle.blk_laws.specs.SearchLaws.{IsSearchable}
 use Rattle.blk_laws.proofs.Charges.{items-charged, listed-charges, listed-totals, opened-totals}
 use Rattle.blk_laws.proofs.Created.{written-stay, before-insert, at-each-write, at-end, after-link, at-the-step}
@@ -80,7 +80,7 @@ itself store = record {
 }
 
 -- the second item is `a`; its touch is stopped after one write, and made
-touch-stopped : map volume.row_of (kept_by held_rule (volume.completed (record { list = after_writes (take 1 (touch_writes one.node both_view.list)) both_view.list; store = both_view.store }))) ≡ rest both
+touch-stopped : map volume.row_of_loaded (kept_by held_rule (volume.completed (record { list = after_writes (take 1 (touch_writes one.node both_view.list)) both_view.list; store = both_view.store }))) ≡ rest both
 unfolding created
 touch-stopped = touched-items both_view both both_layout both-are_represented both-are_valid (main (codes "a")) refl both_view.store (itself both_view.store) 1
 
@@ -88,7 +88,7 @@ touch-made : Represents (record { list = after_writes (touch_writes one.node bot
 unfolding created
 touch-made = (touched-items-end both_view both both_layout both-are_represented both-are_valid (main (codes "a")) refl both_view.store (itself both_view.store)).0
 
-open-stopped : StopOutcome both 7 (to_open 2 (codes "a")) (step both 7 (to_open 2 (codes "a"))).state (map volume.row_of (kept_by held_rule (volume.completed (touched_view both_view one.node 3))))
+open-stopped : StopOutcome both 7 (to_open 2 (codes "a")) (step both 7 (to_open 2 (codes "a"))).state (map volume.row_of_loaded (kept_by held_rule (volume.completed (touched_view both_view one.node 3))))
 open-stopped = opens-each both_view both both_layout both-are_represented both-are_valid 7 2 (codes "a") open-is_not_refused both_view.store (itself both_view.store) 3
 
 open-made : Represents (record { list = after_writes (touch_writes one.node both_view.list) both_view.list; store = both_view.store }) (step both 7 (to_open 2 (codes "a"))).state both_layout
@@ -96,19 +96,19 @@ open-made = opens-end both_view both both_layout both-are_represented both-are_v
 
 -- A Create of `b`: while it is written, while it is inserted, and behind its link.
 
-create-still-written : IsWritten (one.view 0) with_second (one.state true) (one.layout 0) (codes "b") second
+create-still-written : IsWrittenApart (one.view 0) with_second (one.state true) (one.layout 0) (codes "b") second
 create-still-written = written-stay (one.view 0) with_second (one.state true) (one.layout 0) (codes "b") second second-is_written with_second.store (itself with_second.store)
 
-create-before : map volume.row_of (kept_by held_rule (volume.completed with_second)) ≡ rest (one.state true)
+create-before : map volume.row_of_loaded (kept_by held_rule (volume.completed with_second)) ≡ rest (one.state true)
 create-before = before-insert second-is_written.touched (one.view 0) with_second (one.state true) (one.layout 0) second-is_written.represents second-is_written.valid second-is_written.same second-is_written.free
 
-create-during : map volume.row_of (kept_by held_rule (volume.completed (record { list = after_writes (take 3 (writes_of insert second_node with_second.list)) with_second.list; store = with_second.store }))) ≡ rest (one.state true)
+create-during : map volume.row_of_loaded (kept_by held_rule (volume.completed (record { list = after_writes (take 3 (writes_of insert second_node with_second.list)) with_second.list; store = with_second.store }))) ≡ rest (one.state true)
 create-during = at-each-write (one.view 0) with_second (one.state true) (one.layout 0) (codes "b") second second-is_written with_second.store (itself with_second.store) 3
 
 create-made : Represents both_view both both_layout
 create-made = at-end (one.view 0) with_second (one.state true) (one.layout 0) (codes "b") second second-is_written 1 with_second.store both_view.store (itself with_second.store) (itself both_view.store)
 
-create-after : map volume.row_of (kept_by held_rule (volume.completed both_view)) ≡ rest (one.state true)
+create-after : map volume.row_of_loaded (kept_by held_rule (volume.completed both_view)) ≡ rest (one.state true)
 create-after = after-link (one.view 0) with_second (one.state true) (one.layout 0) (codes "b") second second-is_written 1 both-are_valid with_second.store both_view.store (itself with_second.store) (itself both_view.store)
 
 create-steps : (step (one.state true) 7 (to_create 1 (codes "b"))).state ≡ both
@@ -130,7 +130,7 @@ record-is_chained =
     ap (λ (ws : List ℕ). is_among ws one.contents) (chains-are (one.view 0) (one.state true) (one.layout 0) (one.represented 0) (bucket_of_key (codes "a")) (omega arith) ∙ ap (λ (h : ℕ). (one.layout 0).chains (bucket_of_hash h)) one.its-bucket)
 
 its-key : HasKey (one.view 0).store (codes "a") false one.contents
-unfolding key_of hash mixed of_bytes of_one
+unfolding stored_key hash mixed of_bytes of_one
 its-key = record { fields = one.fields; here = refl; hashed = refl; key = refl; flag = refl }
 
 record-is_live : IsOfLive (one.state true) (one.layout 0) (codes "a") one.contents one.node
@@ -230,7 +230,7 @@ whole-small (Block (suc (suc (suc zero)))) = small-words (new_file_words 3) (zer
 whole-small (Block (suc (suc (suc (suc n))))) = λ i. lit< tt
 whole-small (External n) = λ i. lit< tt
 
-whole-writable : IsWritable whole_folder
+pub whole-writable : IsWritable whole_folder
 whole-writable = record { bytes = λ file i. whole-small file i; has_header = let long = whole_index_is whole_folder whole-is_well_formed in omega (arith, long) }
 
 -- its entry is touched

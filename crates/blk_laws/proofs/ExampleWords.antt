@@ -22,7 +22,7 @@ use Rattle.blk_format.proofs.SealedRecords.{node_seal, moments, updated, whole_u
 use Rattle.blk_laws.proofs.NodeRecords.{one_change}
 use Rattle.blk_format.specs.NewFolder.{new_index_words, new_file_words}
 use Rattle.blk_volume.specs.ListSteps.{IsPartly, IsTouched, IsSealed, KeepsSealed, AreSealed, AreTimes}
-use Rattle.blk_volume.specs.ListImages.{IsWritable, CanBeMade, CompletesTo, CompletesAlike, HasListAtRest, IsCompleted, IsStopped, operation_steps, steps_of_touch, completion_steps, stopped_folder}
+use Rattle.blk_volume.specs.ListImages.{IsWritable, CanBeMade, CompletesTo, CompletesAlike, HasListAtRest, IsCompleted, StopsAlike, operation_steps, steps_of_touch, completion_steps, stopped_folder}
 use Rattle.blk_volume.specs.ShownChanges.{OnlyListChanges}
 use Rattle.blk_laws.proofs.ExampleWrites.{small-zeros}
 use Rattle.blk_laws.proofs.Fronts.{AreSmall, small-words}
@@ -204,5 +204,5 @@ pub completion-done : IsCompleted in_flight (after (completion_steps in_flight) 
 completion-done = completions-done in_flight (pair-writable ((328, 0x90000000) ∷ (332, 2) ∷ []))
 
 -- it is stopped inside its first update, after two words, begun again and stopped inside its second, and begun again
-pub completion-stopped : IsStopped in_flight (stopped_folder (2 ∷ 5 ∷ 8 ∷ []) in_flight)
+pub completion-stopped : StopsAlike in_flight (stopped_folder (2 ∷ 5 ∷ 8 ∷ []) in_flight)
 completion-stopped = completions-stop in_flight (2 ∷ 5 ∷ 8 ∷ []) (pair-writable ((328, 0x90000000) ∷ (332, 2) ∷ []))

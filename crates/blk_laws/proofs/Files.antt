@@ -3,7 +3,7 @@ use Rattle.std.proofs.Common.{◌≡◌, ◌≢◌, ℕ, zero, suc, ◌+◌, ◌
 use Rattle.std.specs.Prelude.{if◌then◌else◌, not, ◌&&◌, ◌||◌, ◌==◌, nat_le, unwrap_or}
 use Rattle.std.specs.Option.{option_map_or}
 use Rattle.std.specs.List.{AllByRecursion, range_with_len}
-use Rattle.std.proofs.lemmas.Bool.{cases_Bool, eqb-true, eq-eqb, and_parts, le-leb, leb-true, or_left, or_right, or_parts}
+use Rattle.std.proofs.lemmas.Bool.{cases_Bool, eqb-true, eq-eqb, and_parts, le-leb, leb-true, or_left, or_right, or_parts, not-false}
 use Rattle.std.proofs.lemmas.Bool.Decides.{eqb_tells}
 use Rattle.std.proofs.Math.Dec.{eqb}
 use Rattle.std.proofs.Math.Nat.{mul-le-mul_left}
@@ -25,22 +25,15 @@ use Rattle.blk_volume.specs.Sound.{words_of}
 use Rattle.blk_volume.specs.Footprint.{is_there, is_absent, AgreeBut}
 use Rattle.blk_format.specs.Growth.{HaveGrown}
 use Rattle.blk_laws.proofs.Allocations.{words-stand, words-claims}
-use Rattle.blk_laws.proofs.ByteChanges.{same-links, agreeing-views, last-there, stands-blocks, stands-linked, stands-some}
+use Rattle.blk_laws.proofs.ByteChanges.{same-links, agreeing-views, last-there, stands-blocks, stands-linked, stands-some, linked-some}
 use Rattle.blk_laws.proofs.BlockBytes.{not_same}
 use Rattle.blk_laws.proofs.ClaimLists.{claim-append, claim-head, no-claim, some-blocks}
 use Rattle.blk_laws.proofs.Outside.{represents-outside}
 use Rattle.blk_laws.specs.ByteLaws.{IsOfHeaders, ChangedHeadersHaveGrown, GrowthIsOfAbsentBlocks, GrowthKeepsStates, UnlinkedFilesMayGo}
 use Rattle.blk_laws.proofs.Growing.{claimed-block}
+pub use Rattle.blk_laws.proofs.ByteChanges.{places-rise}
 
 -- ---- growth
-
-linked-some : (o : Option ℕ) (kind : ℕ) → is_linked_as o kind ≡ true → o ≡ Some kind
-linked-some None kind e = cc
-linked-some (Some k) kind e = ap (λ (x : ℕ). Some x) (eqb-true k kind e)
-
-not_false_is : (b : Bool) → not b ≡ false → b ≡ true
-not_false_is true e = refl
-not_false_is false e = cc
 
 module _ (old new : Image) (grown : HaveGrown old new) where
   grown-there : (n kind b : ℕ) → is_absent old (BlockOf n b) ≡ false → is_there new n kind b ≡ is_there old n kind b
@@ -50,7 +43,7 @@ module _ (old new : Image) (grown : HaveGrown old new) where
         → (is_linked_as (linked_as new n) kind && nat_le (b + 1) (max_entries_in new n) && nat_le (block_place kind (b + 1)) (length_of new (Block n))) ≡ (is_linked_as (linked_as old n) kind && nat_le (b + 1) (max_entries_in old n) && nat_le (block_place kind (b + 1)) (length_of old (Block n)))
     go None at is = cc
     go (Some type) at is =
-        let here : (is_linked_as (linked_as old n) type && nat_le (b + 1) (max_entries_in old n) && nat_le (block_place type (b + 1)) (length_of old (Block n))) ≡ true = not_false_is _ is in
+        let here : (is_linked_as (linked_as old n) type && nat_le (b + 1) (max_entries_in old n) && nat_le (block_place type (b + 1)) (length_of old (Block n))) ≡ true = not-false _ is in
         let p = and_parts (is_linked_as (linked_as old n) type && nat_le (b + 1) (max_entries_in old n)) _ here in
         let q = and_parts (is_linked_as (linked_as old n) type) (nat_le (b + 1) (max_entries_in old n)) p.0 in
         let rise : max_entries_in old n ≤ max_entries_in new n = grown.more n type at in
@@ -83,10 +76,6 @@ pub growth-absent : GrowthIsOfAbsentBlocks
 growth-absent old new grown = grown-agree old new grown
 
 -- ---- the blocks of a word that stands are there
-
-pub places-rise : (kind less more : ℕ) → less ≤ more → block_place kind less ≤ block_place kind more
-unfolding block_place
-places-rise kind less more rises = let p : block_size kind * less ≤ block_size kind * more = mul-le-mul_left (block_size kind) rises in omega arith
 
 there-below : (image : Image) (n kind b last : ℕ) → b ≤ last → is_there image n kind last ≡ true → is_there image n kind b ≡ true
 unfolding is_there

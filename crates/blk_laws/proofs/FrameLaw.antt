@@ -3,7 +3,7 @@ use Rattle.std.proofs.Common.{◌≡◌, ℕ, List, [], ◌∷◌, ◌++◌, ref
 use Rattle.std.specs.Prelude.{if◌then◌else◌, not, ◌&&◌, ◌||◌, ◌==◌, is_err}
 use Rattle.std.specs.Option.{option_and_then}
 use Rattle.std.specs.List.{list_any, flat_map, AllByRecursion}
-use Rattle.std.proofs.lemmas.Bool.{eqb-true, eq-eqb, cases_Bool}
+use Rattle.std.proofs.lemmas.Bool.{eqb-true, eq-eqb, cases_Bool, not-true, and_parts, not-false}
 use Rattle.blk_format.specs.Records.{child, parent}
 use Rattle.blk_format.specs.Names.{Name, read_name}
 use Rattle.std.specs.Str.{bytes_eq}
@@ -13,14 +13,15 @@ use Rattle.blk_volume.specs.View.{View, StoreView, NodeFields, RecordFields}
 use Rattle.blk_format.specs.BlockFiles.{is_among}
 use Rattle.blk_volume.specs.Reasons.{Reason}
 use Rattle.blk_volume.specs.Loads.{Rule, held_rule, Loaded, load, record_claims, all_claims}
-use Rattle.blk_volume.specs.Entries.{is_key_length, key_of, Role, IsPlain, IsParent, IsPart, parent_role, part_role, role_of}
+use Rattle.blk_volume.specs.Entries.{is_key_length, stored_key, Role, IsPlain, IsParent, IsPart, parent_role, part_role, role_of}
 use Rattle.blk_volume.specs.Audit.{admit, is_parent_of, is_parent_role, is_orphan, is_orphan_role, shares_key, is_child, verdict, with_verdict, verdicts, tried, kept_among, kept_by}
 use Rattle.blk_laws.specs.KeptLaws.{IsDroppedIfLeftOut, SameCandidatesHoldTheSame}
 use Rattle.blk_volume.specs.Walk.{walk}
-use Rattle.blk_volume.specs.Found.{found, kept, completed, row_of}
+use Rattle.blk_volume.specs.Found.{found, kept, completed, row_of_loaded}
 use Rattle.blk_volume.specs.View.{view_of}
 use Rattle.blk_format.proofs.Finished.{well_formed-finished}
 use Rattle.std.specs.Prelude.{map}
+use Rattle.std.proofs.Math.Bool.{or-true}
 use Rattle.blk_volume.specs.Candidates.{sound_key, SameNamed, name_at, is_parent_with, is_parent_at, is_candidate, candidates}
 use Rattle.blk_laws.proofs.Loads.{bind_then, demand_then, IsLoadedNode, load-then}
 use Rattle.blk_laws.proofs.LeavingOut.{leaving-out}
@@ -34,10 +35,7 @@ admit-then kept l k ok goes =
     demand_then (not (repeats (record_claims l) || overlap (flat_map all_claims kept) (all_claims l))) reason.Claimed _ k ok (λ _ ok.
     demand_then (not (shares_key kept l)) reason.Name _ k ok (λ _ ok.
     demand_then (not (is_orphan kept l)) reason.Parent _ k ok (λ one ok.
-    goes (cc) (not_true (is_orphan kept l) one)))) where
-      not_true : (b : Bool) → not b ≡ true → b ≡ false
-      not_true true e = cc
-      not_true false e = refl
+    goes (cc) (not-true (is_orphan kept l) one))))
 
 -- a kept node is one of the tried that was loaded
 pub record IsLoadOf (v : StoreView) (rule : Rule) (words : List ℕ) (k : Loaded) : Type 0 where
@@ -83,18 +81,13 @@ role-parent e key streams index is = under (e.flags == parent) (e.flags == child
   under false true h = let q = part_is _ _ (read_name key) (read_part_index _) _ (IsParent index) h in (let c : IsParent index ≡ IsPart q.0 q.1 = q.2 in cc)
   under false false h = cc
 
--- both parts of a test that holds
-both : (a b : Bool) → (a && b) ≡ true → (a ≡ true) × (b ≡ true)
-both true b e = (refl, e)
-both false b e = cc
-
 clean-held : (d : ℕ) → (not held_rule.clean || (d == 0)) ≡ true → (d == 0) ≡ true
 clean-held d e = e
 
 -- the key of a record for which those reasons don't hold
-sound-is : (v : StoreView) (c : ℕ) (e : RecordFields) (key : List ℕ) → e.checks ≡ true → is_key_length c e ≡ true → key_of v c e ≡ Some key → sound_key v c e ≡ Some key
+sound-is : (v : StoreView) (c : ℕ) (e : RecordFields) (key : List ℕ) → e.checks ≡ true → is_key_length c e ≡ true → stored_key v c e ≡ Some key → sound_key v c e ≡ Some key
 sound-is v c e key checks long is = under e.checks (is_key_length c e) checks long where
-  under : (a b : Bool) → a ≡ true → b ≡ true → (if a && b then key_of v c e else None) ≡ Some key
+  under : (a b : Bool) → a ≡ true → b ≡ true → (if a && b then stored_key v c e else None) ≡ Some key
   under a b p q = rw (p, q) is
 
 -- a kept parent stands as one
@@ -109,14 +102,10 @@ parent-at v words name k of is =
       by_role n e facts (IsPart other index) r = let never : is_parent_role name k.key (IsPart other index) ≡ true = rw r at is in cc
       by_role n e facts (IsParent index) r =
           let holds : is_parent_role name k.key (IsParent index) ≡ true = rw r at is in
-          let a : (bytes_eq k.key name.key && (index.signature == name.signature) ≡ true) × (index.has_part name.part ≡ true) = both _ _ holds in
-          let b : (bytes_eq k.key name.key ≡ true) × ((index.signature == name.signature) ≡ true) = both _ _ a.0 in
+          let a : (bytes_eq k.key name.key && (index.signature == name.signature) ≡ true) × (index.has_part name.part ≡ true) = and_parts _ _ holds in
+          let b : (bytes_eq k.key name.key ≡ true) × ((index.signature == name.signature) ≡ true) = and_parts _ _ a.0 in
           let role : role_of e k.key k.streams ≡ Some (IsParent index) = rw r at facts.facts.role in
           rw (role-parent e k.key k.streams index role, sound-is v n.contents e k.key facts.checks facts.facts.keyed.key_length facts.facts.keyed.key, b.0, facts.facts.streams, role) b.1
-
-or_true : (b : Bool) → (b || true) ≡ true
-or_true true = refl
-or_true false = refl
 
 -- some element passes
 any-in : {X : Type 0} (test : X → Bool) (P : X → Type 0) (xs : List X) → AllByRecursion P xs → list_any test xs ≡ true → (x : X) × P x × (test x ≡ true)
@@ -128,22 +117,18 @@ any-in test P (x ∷ xs) all e =
 any-of : (test : ℕ → Bool) (xs : List ℕ) (x : ℕ) → is_among xs x ≡ true → test x ≡ true → list_any test xs ≡ true
 any-of test [] x h e = cc
 any-of test (y ∷ xs) x h e =
-    ⊎_elim (λ (is : (y == x) ≡ true). rw (eqb-true y x is, e) refl) (λ (is : (y == x) ≡ false). rw (any-of test xs x (rw is at h) e) (or_true (test y))) (cases_Bool (y == x))
+    ⊎_elim (λ (is : (y == x) ≡ true). rw (eqb-true y x is, e) refl) (λ (is : (y == x) ≡ false). rw (any-of test xs x (rw is at h) e) (or-true (test y))) (cases_Bool (y == x))
 
 -- the name of a loaded part
 name-at : (v : StoreView) (w : ℕ) (m : Loaded) (n : NodeFields) (e : RecordFields) (name : Name) → IsLoadedNode v held_rule w m n e → read_name m.key ≡ Some name → name_at v w ≡ Some name
 unfolding name_at
 name-at v w m n e name facts is = rw (facts.node, facts.entry, sound-is v n.contents e m.key facts.checks facts.facts.keyed.key_length facts.facts.keyed.key) is
 
-not_false : (b : Bool) → not b ≡ false → b ≡ true
-not_false true e = refl
-not_false false e = cc
-
 -- the parent of a part that is no orphan stands among the walked
 parent-among : (v : StoreView) (words : List ℕ) (kept : List Loaded) (role : Role) (name : Name) (index : PartIndex) → AllByRecursion (IsLoadOf v held_rule words) kept → role ≡ IsPart name index → is_orphan_role kept role ≡ false → list_any (is_parent_at v name) words ≡ true
 parent-among v words kept role name index loads is no_orphan =
     let none : is_orphan_role kept (IsPart name index) ≡ false = rw is at no_orphan in
-    let found : (k : Loaded) × IsLoadOf v held_rule words k × (is_parent_of name k ≡ true) = any-in (is_parent_of name) (IsLoadOf v held_rule words) kept loads (not_false _ none) in
+    let found : (k : Loaded) × IsLoadOf v held_rule words k × (is_parent_of name k ≡ true) = any-in (is_parent_of name) (IsLoadOf v held_rule words) kept loads (not-false _ none) in
     any-of (is_parent_at v name) words found.0.node found.1.among (parent-at v words name found.0 found.1 found.2)
 
 -- what is kept is a candidate
@@ -192,7 +177,7 @@ verdicts-candidates v words kept (w ∷ ts) among loads =
 -- each element of a list is in it
 is_among-own : (words : List ℕ) → AllByRecursion (λ w. is_among words w ≡ true) words
 is_among-own [] = tt
-is_among-own (w ∷ words) = (rw (eq-eqb w w refl) refl, All-to (λ x. is_among words x ≡ true) (λ x. is_among (w ∷ words) x ≡ true) (λ x h. rw h (or_true (w == x))) words (is_among-own words))
+is_among-own (w ∷ words) = (rw (eq-eqb w w refl) refl, All-to (λ x. is_among words x ≡ true) (λ x. is_among (w ∷ words) x ≡ true) (λ x h. rw h (or-true (w == x))) words (is_among-own words))
 
 -- no other node than a candidate is kept
 pub only-candidates : (v : View) → kept_by held_rule v ≡ kept_among v.store held_rule (candidates v)
@@ -209,4 +194,4 @@ frame-views v u same agree = only-candidates v ∙ kept_among-same v.store u.sto
 pub frame-law : SameCandidatesHoldTheSame
 unfolding found kept
 frame-law a b well_a well_b same agree =
-    rw (well_formed-finished a well_a, well_formed-finished b well_b) (ap (map row_of) (frame-views (completed (view_of a)) (completed (view_of b)) same agree))
+    rw (well_formed-finished a well_a, well_formed-finished b well_b) (ap (map row_of_loaded) (frame-views (completed (view_of a)) (completed (view_of b)) same agree))

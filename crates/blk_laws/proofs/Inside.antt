@@ -2,7 +2,7 @@
 use Rattle.std.proofs.Common.{◌≡◌, ◌≢◌, ◌⊎◌, inl, inr, ⊎_elim, ℕ, zero, suc, ◌+◌, ◌*◌, ◌<◌, ◌≤◌, Bool, true, false, [], ◌∷◌, map, refl, sym, ◌∙◌, ap, arith}
 use Rattle.std.specs.Prelude.{◌==◌, ◌&&◌, nat_le, nat_lt}
 use Rattle.std.specs.List.{range_with_len}
-use Rattle.std.proofs.lemmas.Bool.{and_parts, cases_Bool, eqb-true, eq-eqb}
+use Rattle.std.proofs.lemmas.Bool.{and_parts, cases_Bool, eqb-true, eq-eqb, or_from}
 use Rattle.blk_image.specs.Checks.{first_of}
 use Rattle.blk_image.specs.Image.{Index, Block, Image, byte, length_of, same_file}
 use Rattle.blk_image.specs.Footprint as files
@@ -15,7 +15,7 @@ use Rattle.blk_volume.specs.View.{view_of}
 use Rattle.blk_volume.specs.Footprint.{IsClear, SameBut, Covers}
 use Rattle.blk_laws.proofs.BlockBytes.{room_is}
 use Rattle.blk_laws.proofs.ByteChanges.{views-same, stands-if_clear, not_equal}
-use Rattle.blk_laws.proofs.ClaimLists.{claim-head, no-claim, neither, some-blocks}
+use Rattle.blk_laws.proofs.ClaimLists.{claim-head, no-claim, some-blocks}
 use Rattle.blk_laws.proofs.Covers.{blocks-covered, covers-less}
 use Rattle.blk_format.specs.Sealed.{BeginsWithRecord, record_range, record_size, size_by_kind}
 use Rattle.blk_format.proofs.SpareHeaders.{SparesHeaders}
@@ -34,10 +34,10 @@ blocks-elsewhere file other start zero b apart = no-claim (BlockOf file b)
 blocks-elsewhere file other start (suc n) b apart =
     let e : (file == other) ≡ false = not_equal file other (λ s. apart (sym s)) in
     claim-head (BlockOf other start) (map (λ x. BlockOf other x) (range_with_len (start + 1) n)) (BlockOf file b)
-    ∙ neither (same_claim (BlockOf file b) (BlockOf other start)) (has_claim (map (λ x. BlockOf other x) (range_with_len (start + 1) n)) (BlockOf file b)) (rw e refl) (blocks-elsewhere file other (start + 1) n b apart)
+    ∙ or_from (same_claim (BlockOf file b) (BlockOf other start)) (has_claim (map (λ x. BlockOf other x) (range_with_len (start + 1) n)) (BlockOf file b)) (rw e refl) (blocks-elsewhere file other (start + 1) n b apart)
 
 external-claims : (n file b : ℕ) → has_claim (ExternalOf n ∷ []) (BlockOf file b) ≡ false
-external-claims n file b = claim-head (ExternalOf n) [] (BlockOf file b) ∙ neither false (has_claim [] (BlockOf file b)) refl (no-claim (BlockOf file b))
+external-claims n file b = claim-head (ExternalOf n) [] (BlockOf file b) ∙ or_from false (has_claim [] (BlockOf file b)) refl (no-claim (BlockOf file b))
 
 abbrev pub IsElsewhere : ℕ → ℕ → Type 0
 IsElsewhere file u = (kind_of u ≡ external) ⊎ (file_selector u ≢ file)

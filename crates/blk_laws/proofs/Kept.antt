@@ -3,7 +3,7 @@ use Rattle.std.proofs.Common.{◌≡◌, ◌≢◌, ℕ, List, [], ◌∷◌, �
 use Rattle.std.specs.Prelude.{map, if◌then◌else◌, not, ◌&&◌, ◌||◌, ◌==◌, is_err, is_some}
 use Rattle.std.specs.List.{list_any, filter, filter_map, cons_option, AllByRecursion}
 use Rattle.std.specs.Str.{bytes_eq}
-use Rattle.std.proofs.lemmas.Bool.{eq-eqb, cases_Bool, or_parts, or_left, or_right}
+use Rattle.std.proofs.lemmas.Bool.{eq-eqb, cases_Bool, or_parts, or_left, or_right, or_from, not-true, not-false}
 use Rattle.std.proofs.lemmas.Bool.Decides.{eqb_tells}
 use Rattle.std.proofs.Math.Dec.{eqb}
 use Rattle.std.proofs.lemmas.List.Folds.{list_any-append}
@@ -15,13 +15,13 @@ use Rattle.blk_volume.specs.View.{StoreView}
 use Rattle.blk_volume.specs.Entries.{IsPart}
 use Rattle.blk_volume.specs.Reasons.{Reason, ◌>>=◌, demand}
 use Rattle.blk_volume.specs.Loads.{Rule, Loaded, load, is_part, record_claims, all_claims, claims_of_loaded}
-use Rattle.blk_volume.specs.Audit.{same_answer, admit, is_child, is_claimed, shares_key, is_parent_of, is_orphan, is_orphan_role, verdict, with_verdict, verdicts, tried, verdict_on, judged, kept_of, kept_as, is_kept, kept_nodes, kept_among}
+use Rattle.blk_volume.specs.Audit.{same_answer, admit, is_child, collides, shares_key, is_parent_of, is_orphan, is_orphan_role, verdict, with_verdict, verdicts, tried, verdict_on, judged, kept_of, kept_as, is_kept, kept_nodes, kept_among}
 use Rattle.blk_volume.specs.Shown.{Apart, IsShown}
 use Rattle.blk_laws.specs.KeptLaws.{IsDroppedIfLeftOut}
 use Rattle.blk_laws.proofs.Lists.{eqb-sym, is_among-append}
 use Rattle.blk_laws.proofs.LeavingOut.{leaving-out}
 use Rattle.blk_laws.proofs.Loads.{bind_then, demand_then}
-use Rattle.blk_laws.proofs.Shown.{is_among-filter, Distinct-filter, node-is}
+use Rattle.blk_laws.proofs.Shown.{is_among-filter, Distinct-filter, node-is, has_claim-append, filter-all, Distinct-append}
 use Rattle.blk_laws.proofs.FoundFrames.{All-to}
 use Rattle.blk_laws.specs.KeptLaws.{KeptAreShown, KeptAloneAreKept}
 use Rattle.blk_volume.specs.Reasons as reason
@@ -41,9 +41,6 @@ same_claim-both (BlockOf f b) (ExternalOf n) = refl
 same_claim-both (ExternalOf m) (BlockOf f b) = refl
 same_claim-both (ExternalOf m) (ExternalOf n) = eqb-both m n
 
-neither : (a b : Bool) → a ≡ false → b ≡ false → (a || b) ≡ false
-neither a b p q = rw (p, q) refl
-
 -- claims that meet none of some are met by none of them
 overlap-cons : (c : Claim) (xs ys : List Claim) → overlap (c ∷ xs) ys ≡ false → (has_claim ys c ≡ false) × (overlap xs ys ≡ false)
 unfolding overlap has_claim
@@ -52,7 +49,7 @@ overlap-cons c xs (y ∷ ys) e =
     let parts = or_parts (same_claim y c || has_claim xs y) (list_any (has_claim (c ∷ xs)) ys) e in
     let here = or_parts (same_claim y c) (has_claim xs y) parts.0 in
     let rest = overlap-cons c xs ys parts.1 in
-    (neither (same_claim c y) (has_claim ys c) (same_claim-both c y ∙ here.0) rest.0, neither (has_claim xs y) (overlap xs ys) here.1 rest.1)
+    (or_from (same_claim c y) (has_claim ys c) (same_claim-both c y ∙ here.0) rest.0, or_from (has_claim xs y) (overlap xs ys) here.1 rest.1)
 
 overlap-none : (xs : List Claim) → overlap xs [] ≡ false
 unfolding overlap
@@ -63,11 +60,7 @@ unfolding overlap
 overlap-back [] ys e = refl
 overlap-back (c ∷ xs) ys e =
     let parts = overlap-cons c xs ys e in
-    neither (has_claim ys c) (overlap ys xs) parts.0 (overlap-back xs ys parts.1)
-
-has_claim-append : (xs ys : List Claim) (c : Claim) → has_claim (xs ++ ys) c ≡ (has_claim xs c || has_claim ys c)
-unfolding has_claim
-has_claim-append xs ys c = list_any-append (same_claim c) xs ys
+    or_from (has_claim ys c) (overlap ys xs) parts.0 (overlap-back xs ys parts.1)
 
 overlap-parts : (xs ys zs : List Claim) → overlap (xs ++ ys) zs ≡ false → (overlap xs zs ≡ false) × (overlap ys zs ≡ false)
 unfolding overlap
@@ -76,7 +69,7 @@ overlap-parts xs ys (z ∷ zs) e =
     let parts = or_parts (has_claim (xs ++ ys) z) (overlap (xs ++ ys) zs) e in
     let here = or_parts (has_claim xs z) (has_claim ys z) (sym (has_claim-append xs ys z) ∙ parts.0) in
     let rest = overlap-parts xs ys zs parts.1 in
-    (neither _ _ here.0 rest.0, neither _ _ here.1 rest.1)
+    (or_from _ _ here.0 rest.0, or_from _ _ here.1 rest.1)
 
 pub flat-append : (xs ys : List Loaded) → claims_of_loaded (xs ++ ys) ≡ claims_of_loaded xs ++ claims_of_loaded ys
 flat-append [] ys = refl
@@ -110,10 +103,6 @@ apart-back k l apart = record { claims = overlap-back (all_claims k) (all_claims
 
 -- ---- what is admitted
 
-not_true : (b : Bool) → not b ≡ true → b ≡ false
-not_true true e = cc
-not_true false e = refl
-
 -- what is known of what is admitted among some that are kept
 pub record IsAdmitted (store : StoreView) (rule : Rule) (kept : List Loaded) (node : ℕ) (loaded : Loaded) : Type 0 where
   pub loads : load store rule node ≡ Ok loaded
@@ -126,12 +115,12 @@ pub admitted-is : (store : StoreView) (rule : Rule) (kept : List Loaded) (node :
 unfolding admit
 admitted-is store rule kept node loaded ok =
     bind_then (load store rule node) (admit kept) loaded ok (λ m loads ok.
-    demand_then (not (is_claimed kept m)) reason.Claimed _ loaded ok (λ claimed ok.
+    demand_then (not (collides kept m)) reason.Claimed _ loaded ok (λ claimed ok.
     demand_then (not (shares_key kept m)) reason.Name _ loaded ok (λ node_fields ok.
     demand_then (not (is_orphan kept m)) reason.Parent _ loaded ok (λ orphan ok.
     let same : m ≡ loaded = cc in
-    let claims = or_parts (repeats (record_claims m)) (overlap (claims_of_loaded kept) (all_claims m)) (not_true (is_claimed kept m) claimed) in
-    subst (IsAdmitted store rule kept node) same (record { loads = loads; single = claims.0; claims = claims.1; names = not_true (shares_key kept m) node_fields; parent = not_true (is_orphan kept m) orphan })))))
+    let claims = or_parts (repeats (record_claims m)) (overlap (claims_of_loaded kept) (all_claims m)) (not-true (collides kept m) claimed) in
+    subst (IsAdmitted store rule kept node) same (record { loads = loads; single = claims.0; claims = claims.1; names = not-true (shares_key kept m) node_fields; parent = not-true (is_orphan kept m) orphan })))))
 
 -- what was admitted among more is admitted among less, but for its parent
 pub record IsApartFrom (kept : List Loaded) (loaded : Loaded) : Type 0 where
@@ -230,19 +219,11 @@ module _ (store : StoreView) (rule : Rule) where
 
 -- ---- the nodes are tried once
 
-filter-all : (p : ℕ → Bool) (xs : List ℕ) → AllByRecursion (λ x. p x ≡ true) (filter p xs)
-filter-all p [] = tt
-filter-all p (x ∷ xs) = ⊎_elim (λ (e : p x ≡ true). rw e (e, filter-all p xs)) (λ (e : p x ≡ false). rw e (filter-all p xs)) (cases_Bool (p x))
-
-Distinct-append : (xs ys : List ℕ) → Distinct xs → Distinct ys → AllByRecursion (λ x. is_among ys x ≡ false) xs → Distinct (xs ++ ys)
-Distinct-append [] ys a b h = b
-Distinct-append (x ∷ xs) ys a b h = (is_among-append xs ys x ∙ rw (a.0, h.0) refl, Distinct-append xs ys a.1 b h.1)
-
 module _ (store : StoreView) (nodes : List ℕ) (once : Distinct nodes) where
   pub tried-once : Distinct (tried store nodes)
   tried-once =
       Distinct-append (filter (λ x. not (is_child store x)) nodes) (filter (is_child store) nodes) (Distinct-filter (λ x. not (is_child store x)) nodes once) (Distinct-filter (is_child store) nodes once)
-      (All-to (λ x. not (is_child store x) ≡ true) (λ x. is_among (filter (is_child store) nodes) x ≡ false) (λ x e. is_among-filter (is_child store) nodes x ∙ rw (not_true (is_child store x) e) refl) _ (filter-all (λ x. not (is_child store x)) nodes))
+      (All-to (λ x. not (is_child store x) ≡ true) (λ x. is_among (filter (is_child store) nodes) x ≡ false) (λ x e. is_among-filter (is_child store) nodes x ∙ rw (not-true (is_child store x) e) refl) _ (filter-all (λ x. not (is_child store x)) nodes))
 
   pub tried-among : (w : ℕ) → is_among (tried store nodes) w ≡ is_among nodes w
   tried-among w =
@@ -318,7 +299,7 @@ module _ (store : StoreView) (rule : Rule) (nodes : List ℕ) (once : Distinct n
     parents = λ node loaded name index among is part.
         let found = admitted node loaded is in
         let none : is_orphan_role found.0 (IsPart name index) ≡ false = subst (λ r. is_orphan_role found.0 r ≡ false) part found.2.parent in
-        let one = any-of (is_parent_of name) found.0 found.1 (not_false _ none) in
+        let one = any-of (is_parent_of name) found.0 found.1 (not-false _ none) in
         record {
           at = one.0.node;
           parent = one.0;
@@ -328,10 +309,6 @@ module _ (store : StoreView) (rule : Rule) (nodes : List ℕ) (once : Distinct n
         };
     out = λ node loaded among none ok. absurd (lacks node among none);
   } where
-    not_false : (b : Bool) → not b ≡ false → b ≡ true
-    not_false true e = refl
-    not_false false e = cc
-
     both : (a b : Bool) → (a && b) ≡ true → a ≡ true
     both true b e = refl
     both false b e = cc

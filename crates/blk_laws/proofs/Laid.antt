@@ -21,7 +21,7 @@ use Rattle.blk_volume.specs.Chains.{Chain, chain, bucket_of_hash}
 use Rattle.blk_volume.specs.Loads.{Rule, held_rule, Loaded, load, is_part, is_part_role, record_claims, all_claims}
 use Rattle.blk_volume.specs.Audit.{kept_among, shares_key, is_parent_of, is_parent_role}
 use Rattle.blk_volume.specs.Entries.{Role, IsPlain, IsParent, IsPart}
-use Rattle.blk_volume.specs.Found.{row_of}
+use Rattle.blk_volume.specs.Found.{row_of_loaded}
 use Rattle.blk_volume.specs.Shown.{Apart, IsOrphanIn, HasParentIn, IsShown}
 use Rattle.blk_volume.specs.Layout.{Layout, is_listed, nodes_of, order, rule_of, IsPartAt, IsPlacedAt, Holds, HoldsExcept, is_in}
 use Rattle.blk_volume.specs.Given.{given_by, is_settled_role, is_settled, GoesWith, picked_with, picked_in, IsTest}
@@ -73,7 +73,7 @@ named-same k l e = go (is_part k) (is_part l) (bytes_eq k.key l.key) refl refl r
 
 -- the item that a loaded record is of
 item_at : Loaded → Item
-item_at l = item_of (row_of l)
+item_at l = item_of (row_of_loaded l)
 
 pub item-row : (m : State) (i : Item) (r : Row) → model.row_of m i ≡ Some r → item_of r ≡ i
 unfolding model.row_of
@@ -92,7 +92,7 @@ items-same : (k l : Loaded) → ((name : Name) (index : PartIndex) → k.role �
     → is_part k ≡ is_part l → k.key ≡ l.key → item_at k ≡ item_at l
 unfolding item_at
 items-same k l named_k named_l flags keys = go k.role l.role refl refl where
-  go : (a b : Role) → k.role ≡ a → l.role ≡ b → item_of (row_of k) ≡ item_of (row_of l)
+  go : (a b : Role) → k.role ≡ a → l.role ≡ b → item_of (row_of_loaded k) ≡ item_of (row_of_loaded l)
   go IsPlain IsPlain x y = rw (x, y) (ap main keys)
   go IsPlain (IsParent j) x y = rw (x, y) (ap main keys)
   go IsPlain (IsPart n j) x y = let a : is_part k ≡ false = ap is_part_role x in let b : is_part l ≡ true = ap is_part_role y in cc
@@ -151,16 +151,16 @@ given-not good o l is none =
     (cases_Bool (good l))
 
 -- a laid item is that of its record
-pub item-of : (m : State) (y : Layout) → ((i : Item) → is_listed m i ≡ true → IsPlacedAt m y i) → (i : Item) (l : Loaded) → is_listed m i ≡ true → y.at (y.place i) ≡ Some l → item_of (row_of l) ≡ i
+pub item-of : (m : State) (y : Layout) → ((i : Item) → is_listed m i ≡ true → IsPlacedAt m y i) → (i : Item) (l : Loaded) → is_listed m i ≡ true → y.at (y.place i) ≡ Some l → item_of (row_of_loaded l) ≡ i
 item-of m y lay i l there is =
     let laid : IsPlacedAt m y i = lay i there in
     let same : laid.loaded ≡ l = let a : y.at (y.place i) ≡ Some laid.loaded = laid.here in cc in
-    ap (λ (x : Loaded). item_of (row_of x)) (sym same) ∙ item-row m i (row_of laid.loaded) laid.row
+    ap (λ (x : Loaded). item_of (row_of_loaded x)) (sym same) ∙ item-row m i (row_of_loaded laid.loaded) laid.row
 
 -- the parent that a name says has its key
-pub parent-main : (name : Name) (k : Loaded) → is_parent_of name k ≡ true → item_of (row_of k) ≡ main name.key
+pub parent-main : (name : Name) (k : Loaded) → is_parent_of name k ≡ true → item_of (row_of_loaded k) ≡ main name.key
 parent-main name k of = go k.role refl where
-  go : (a : Role) → k.role ≡ a → item_of (row_of k) ≡ main name.key
+  go : (a : Role) → k.role ≡ a → item_of (row_of_loaded k) ≡ main name.key
   go IsPlain e = let x : false ≡ true = ap (is_parent_role name k.key) (sym e) ∙ of in absurd (cc)
   go (IsParent index) e =
       let x : (bytes_eq k.key name.key && (index.signature == name.signature) && index.has_part name.part) ≡ true = ap (is_parent_role name k.key) (sym e) ∙ of in
@@ -199,7 +199,7 @@ module _ (except : ℕ → Bool) (v : StoreView) (m : State) (y : Layout) (r : H
   item-is i l among is =
       let laid : IsPlacedAt m y i = r.laid i (sub i among) in
       let same : laid.loaded ≡ l = let a : y.at (y.place i) ≡ Some laid.loaded = laid.here in cc in
-      ap (λ (x : Loaded). item_of (row_of x)) (sym same) ∙ item-row m i (row_of laid.loaded) laid.row
+      ap (λ (x : Loaded). item_of (row_of_loaded x)) (sym same) ∙ item-row m i (row_of_loaded laid.loaded) laid.row
 
   name-of : (i : Item) (l : Loaded) → is_in items i ≡ true → y.at (y.place i) ≡ Some l → good l ≡ true → (name : Name) (index : PartIndex) → l.role ≡ IsPart name index → read_name l.key ≡ Some name
   name-of i l among is passes name index role = load-then v (rule_of y (y.place i)) (y.place i) l (loads-alone i l is (whole i l among is passes)) (λ n e f. role-name e l.key l.streams name index (f.facts.role ∙ ap Some role))
@@ -232,7 +232,7 @@ module _ (except : ℕ → Bool) (v : StoreView) (m : State) (y : Layout) (r : H
   main-item : (name : Name) (k : Loaded) → is_parent_of name k ≡ true → item_at k ≡ main name.key
   unfolding item_at
   main-item name k of = go k.role refl where
-    go : (a : Role) → k.role ≡ a → item_of (row_of k) ≡ main name.key
+    go : (a : Role) → k.role ≡ a → item_of (row_of_loaded k) ≡ main name.key
     go IsPlain e = let x : false ≡ true = ap (is_parent_role name k.key) (sym e) ∙ of in absurd (cc)
     go (IsParent index) e =
         let x : (bytes_eq k.key name.key && (index.signature == name.signature) && index.has_part name.part) ≡ true = ap (is_parent_role name k.key) (sym e) ∙ of in
@@ -324,11 +324,11 @@ laid-shown v m y r rule items good state sub once goes =
 
 module _ (m : State) (y : Layout) (lay : (i : Item) → is_listed m i ≡ true → IsPlacedAt m y i) (items : List Item) (sub : (i : Item) → is_in items i ≡ true → is_listed m i ≡ true) where
   -- the role of a main item's record, and of a part's
-  role-item : (i : Item) (l : Loaded) → is_in items i ≡ true → y.at (y.place i) ≡ Some l → item_of (row_of l) ≡ i
+  role-item : (i : Item) (l : Loaded) → is_in items i ≡ true → y.at (y.place i) ≡ Some l → item_of (row_of_loaded l) ≡ i
   role-item i l among is =
       let laid : IsPlacedAt m y i = lay i (sub i among) in
       let same : laid.loaded ≡ l = let a : y.at (y.place i) ≡ Some laid.loaded = laid.here in cc in
-      ap (λ (x : Loaded). item_of (row_of x)) (sym same) ∙ item-row m i (row_of laid.loaded) laid.row
+      ap (λ (x : Loaded). item_of (row_of_loaded x)) (sym same) ∙ item-row m i (row_of_loaded laid.loaded) laid.row
 
   pub settled-main : (key : List ℕ) (l : Loaded) → is_in items (main key) ≡ true → y.at (y.place (main key)) ≡ Some l → is_settled y items l ≡ (l.dirty == 0)
   settled-main key l among is = go l.role refl where
@@ -336,8 +336,8 @@ module _ (m : State) (y : Layout) (lay : (i : Item) → is_listed m i ≡ true �
     go IsPlain e = refl
     go (IsParent index) e = refl
     go (IsPart name index) e =
-        let p : item_of (row_of l) ≡ main key = role-item (main key) l among is in
-        let q : item_of (row_of l) ≡ part name.key name.part = rw e refl in
+        let p : item_of (row_of_loaded l) ≡ main key = role-item (main key) l among is in
+        let q : item_of (row_of_loaded l) ≡ part name.key name.part = rw e refl in
         absurd (let x : main key ≡ part name.key name.part = sym p ∙ q in cc)
 
   pub part-at : (key : List ℕ) (n : ℕ) (l : Loaded) → is_in items (part key n) ≡ true → y.at (y.place (part key n)) ≡ Some l → IsPartAt m y key l × (l.dirty ≡ 0)
@@ -374,14 +374,14 @@ module _ (m : State) (y : Layout) (lay : (i : Item) → is_listed m i ≡ true �
 
 -- where each item's given is what is picked of it
 pub rows-given : (y : Layout) (given : ℕ → Option Loaded) (picked : Item → Option Row) (items : List Item)
-    → ((i : Item) → is_in items i ≡ true → option_map row_of (given (y.place i)) ≡ picked i) → map row_of (filter_map given (nodes_of y items)) ≡ filter_map picked items
+    → ((i : Item) → is_in items i ≡ true → option_map row_of_loaded (given (y.place i)) ≡ picked i) → map row_of_loaded (filter_map given (nodes_of y items)) ≡ filter_map picked items
 rows-given y given picked [] same = refl
 rows-given y given picked (i ∷ items) same =
     one (given (y.place i)) (picked i) (filter_map given (nodes_of y items)) (filter_map picked items) (same i (or_left (same_item i i) (is_in items i) (same_item_self i)))
     (rows-given y given picked items (λ j there. same j (or_right (same_item j i) (is_in items j) there))) where
-      one : (o : Option Loaded) (p : Option Row) (ls : List Loaded) (rs : List Row) → option_map row_of o ≡ p → map row_of ls ≡ rs → map row_of (cons_option o ls) ≡ cons_option p rs
+      one : (o : Option Loaded) (p : Option Row) (ls : List Loaded) (rs : List Row) → option_map row_of_loaded o ≡ p → map row_of_loaded ls ≡ rs → map row_of_loaded (cons_option o ls) ≡ cons_option p rs
       one None p ls rs e f = rw (← e) f
-      one (Some l) p ls rs e f = rw (← e) (ap (λ (xs : List Row). row_of l ∷ xs) f)
+      one (Some l) p ls rs e f = rw (← e) (ap (λ (xs : List Row). row_of_loaded l ∷ xs) f)
 
 module _ (m : State) (y : Layout) (lay : (i : Item) → is_listed m i ≡ true → IsPlacedAt m y i) (items : List Item) (sub : (i : Item) → is_in items i ≡ true → is_listed m i ≡ true) (test : ℕ → Bool) (is_test : IsTest m y items test) where
   -- an item that is laid has an owner
@@ -391,7 +391,7 @@ module _ (m : State) (y : Layout) (lay : (i : Item) → is_listed m i ≡ true �
   owner-of i None e among =
       let laid : IsPlacedAt m y i = lay i (sub i among) in
       let none : model.row_of m i ≡ None = rw e refl in
-      absurd (let c : ◌≡◌ {A = Option Row} (Some (row_of laid.loaded)) None = sym laid.row ∙ none in cc)
+      absurd (let c : ◌≡◌ {A = Option Row} (Some (row_of_loaded laid.loaded)) None = sym laid.row ∙ none in cc)
 
   settled-test : (i : Item) (l : Loaded) (number : ℕ) → is_in items i ≡ true → y.at (y.place i) ≡ Some l → model.owner m i ≡ Some number → is_settled y items l ≡ (is_in items (main (key_of i)) && test number)
   settled-test (main key) l number among is own = settled-main m y lay items sub key l among is ∙ is_test.main_test key l number among is own ∙ ap (λ (b : Bool). b && test number) (sym among)
@@ -402,14 +402,14 @@ module _ (m : State) (y : Layout) (lay : (i : Item) → is_listed m i ≡ true �
         go true here q = is_test.main_test key q.parent number here q.at_parent (sym (is_test.owners key n among) ∙ own)
         go false here q = refl
 
-  pub picked-given : (i : Item) → is_in items i ≡ true → option_map row_of (given_by (is_settled y items) y (y.place i)) ≡ picked_in m test items i
+  pub picked-given : (i : Item) → is_in items i ≡ true → option_map row_of_loaded (given_by (is_settled y items) y (y.place i)) ≡ picked_in m test items i
   picked-given i among =
       let laid : IsPlacedAt m y i = lay i (sub i among) in
       let own = owner-of i (model.owner m i) refl among in
       let good : is_settled y items laid.loaded ≡ (is_in items (main (key_of i)) && test own.0) = settled-test i laid.loaded own.0 among laid.here own.1 in
-      let left : option_map row_of (given_by (is_settled y items) y (y.place i)) ≡ cond (is_in items (main (key_of i))) (cond (test own.0) (Some (row_of laid.loaded)) None) None = rw (laid.here, good) (under (is_in items (main (key_of i))) (test own.0) laid.loaded) in
+      let left : option_map row_of_loaded (given_by (is_settled y items) y (y.place i)) ≡ cond (is_in items (main (key_of i))) (cond (test own.0) (Some (row_of_loaded laid.loaded)) None) None = rw (laid.here, good) (under (is_in items (main (key_of i))) (test own.0) laid.loaded) in
       left ∙ ap (λ (x : Option Row). cond (is_in items (main (key_of i))) (cond (test own.0) x None) None) (sym laid.row) ∙ ap (λ (x : Option ℕ). cond (is_in items (main (key_of i))) (option_and_then (λ (number : ℕ). cond (test number) (model.row_of m i) None) x) None) (sym own.1) where
-        under : (a b : Bool) (l : Loaded) → option_map row_of (if a && b then Some l else None) ≡ cond a (cond b (Some (row_of l)) None) None
+        under : (a b : Bool) (l : Loaded) → option_map row_of_loaded (if a && b then Some l else None) ≡ cond a (cond b (Some (row_of_loaded l)) None) None
         under true true l = refl
         under true false l = refl
         under false b l = refl
@@ -418,10 +418,10 @@ module _ (m : State) (y : Layout) (lay : (i : Item) → is_listed m i ≡ true �
   pub found-but : (except : ℕ → Bool) (v : StoreView) (r : HoldsExcept except v m y) → Distinct (nodes_of y items)
       → ((i : Item) (l : Loaded) → is_in items i ≡ true → y.at (y.place i) ≡ Some l → is_settled y items l ≡ true → except (y.place i) ≡ false)
       → ((i : Item) (k : Loaded) → is_in items i ≡ true → except (y.place i) ≡ true → load v held_rule (y.place i) ≡ Ok k → IsOrphanIn (nodes_of y items) (given_by (is_settled y items) y) k)
-      → map row_of (kept_among v held_rule (nodes_of y items)) ≡ filter_map (picked_in m test items) items
+      → map row_of_loaded (kept_among v held_rule (nodes_of y items)) ≡ filter_map (picked_in m test items) items
   found-but except v h once whole broken =
       let shown : IsShown v held_rule (nodes_of y items) (given_by (is_settled y items) y) = laid-but except v m y h held_rule items (is_settled y items) refl sub once (settled-goes m y lay items sub) whole broken in
-      ap (map row_of) (kept-given v held_rule (nodes_of y items) (given_by (is_settled y items) y) shown) ∙ rows-given y (given_by (is_settled y items) y) (picked_in m test items) items picked-given
+      ap (map row_of_loaded) (kept-given v held_rule (nodes_of y items) (given_by (is_settled y items) y) shown) ∙ rows-given y (given_by (is_settled y items) y) (picked_in m test items) items picked-given
 
   -- where no part is without its main item, all are picked
   pub picked-closed : ((key : List ℕ) (n : ℕ) → is_in items (part key n) ≡ true → is_in items (main key) ≡ true) → filter_map (picked_in m test items) items ≡ filter_map (picked_with m test) items
@@ -436,7 +436,7 @@ module _ (m : State) (y : Layout) (lay : (i : Item) → is_listed m i ≡ true �
 
   -- and where no node is left out
   pub found-picked : (v : StoreView) (h : Holds v m y) → Distinct (nodes_of y items) → ((key : List ℕ) (n : ℕ) → is_in items (part key n) ≡ true → is_in items (main key) ≡ true)
-      → map row_of (kept_among v held_rule (nodes_of y items)) ≡ filter_map (picked_with m test) items
+      → map row_of_loaded (kept_among v held_rule (nodes_of y items)) ≡ filter_map (picked_with m test) items
   found-picked v h once closed =
       let shown : IsShown v held_rule (nodes_of y items) (given_by (is_settled y items) y) = laid-shown v m y h held_rule items (is_settled y items) refl sub once (settled-goes m y lay items sub) in
-      ap (map row_of) (kept-given v held_rule (nodes_of y items) (given_by (is_settled y items) y) shown) ∙ rows-given y (given_by (is_settled y items) y) (picked_in m test items) items picked-given ∙ picked-closed closed
+      ap (map row_of_loaded) (kept-given v held_rule (nodes_of y items) (given_by (is_settled y items) y) shown) ∙ rows-given y (given_by (is_settled y items) y) (picked_in m test items) items picked-given ∙ picked-closed closed

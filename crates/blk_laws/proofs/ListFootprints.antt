@@ -1,5 +1,6 @@
 -- Writes into the list touch no header of a block file, and no file's length.
 use Rattle.std.proofs.Common.{◌≡◌, ℕ, ◌+◌, ◌<◌, Bool, false, ◌||◌, List, [], ◌∷◌, refl, subst, arith}
+use Rattle.std.proofs.lemmas.Bool.{or_from}
 use Rattle.blk_image.specs.Image.{File, Block}
 use Rattle.blk_image.specs.Footprint.{range}
 use Rattle.blk_format.specs.Address.{file_selector, place}
@@ -8,10 +9,7 @@ use Rattle.blk_format.proofs.SpareHeaders.{SparesHeaders, blocks_spare}
 use Rattle.blk_volume.specs.ListView.{ListWrite, Next, Prev, Head, Tail, Transaction, Operation}
 use Rattle.blk_volume.specs.ListSteps.{touched_by_write, touched_by_writes}
 
-pub or_none : (a b : Bool) → a ≡ false → b ≡ false → (a || b) ≡ false
-or_none a b p q = rw (p, q) refl
-
-spare_record : (w n i : ℕ) → i < 8192 → (record_range w).bytes (Block n) i ≡ false
+pub spare_record : (w n i : ℕ) → i < 8192 → (record_range w).bytes (Block n) i ≡ false
 spare_record w n i small = (subst (λ (at : ℕ). SparesHeaders (range (Block (file_selector w)) at (record_size w))) (let e : place w + 0 ≡ place w = omega arith in e) (blocks_spare (Block (file_selector w)) w 0 (record_size w))).bytes n i small
 
 spare_write : (write : ListWrite) (n i : ℕ) → i < 8192 → (touched_by_write write).bytes (Block n) i ≡ false
@@ -25,7 +23,7 @@ spare_write (Operation x) n i small = refl
 
 spares_bytes : (writes : List ListWrite) (n i : ℕ) → i < 8192 → (touched_by_writes writes).bytes (Block n) i ≡ false
 spares_bytes [] n i small = refl
-spares_bytes (write ∷ writes) n i small = or_none _ _ (spare_write write n i small) (spares_bytes writes n i small)
+spares_bytes (write ∷ writes) n i small = or_from _ _ (spare_write write n i small) (spares_bytes writes n i small)
 
 pub spares_headers : (writes : List ListWrite) → SparesHeaders (touched_by_writes writes)
 spares_headers writes = record { bytes = spares_bytes writes }
@@ -41,4 +39,4 @@ spare_size (Operation x) file = refl
 
 pub spares_sizes : (writes : List ListWrite) (file : File) → (touched_by_writes writes).sizes file ≡ false
 spares_sizes [] file = refl
-spares_sizes (write ∷ writes) file = or_none _ _ (spare_size write file) (spares_sizes writes file)
+spares_sizes (write ∷ writes) file = or_from _ _ (spare_size write file) (spares_sizes writes file)

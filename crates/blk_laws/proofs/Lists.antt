@@ -1,7 +1,7 @@
 -- Putting a node in front of a whole list, and taking one out of it, leaves a whole list.
 use Rattle.std.proofs.Common.{◌≡◌, ℕ, ◌+◌, ◌≤◌, Bool, true, false, ◌||◌, eqb, List, [], ◌∷◌, ◌++◌, length, refl, sym, ap, ◌∙◌, subst, arith, length-append}
 use Rattle.std.proofs.lemmas.Bool.Decides.{nat_tests}
-use Rattle.std.proofs.lemmas.Bool.{eq-eqb, ne_eqb, or_parts, or_left, or_right}
+use Rattle.std.proofs.lemmas.Bool.{eq-eqb, ne_eqb, or_parts, or_left, or_right, or_from}
 use Rattle.std.proofs.lemmas.List.{append-nil}
 use Rattle.blk_volume.specs.ListView.{ListView, put, first_or, last_or, Distinct, Segment, IsList}
 use Rattle.blk_volume.specs.Completion.{take_out, put_front}
@@ -72,11 +72,8 @@ apart_left [] ys w d h = refl
 apart_left (x ∷ xs) ys w d h =
     let ih = apart_left xs ys w d.1 h in
     let lacks = or_parts (is_among xs x) (is_among ys x) (sym (is_among-append xs ys x) ∙ d.0) in
-    or_false (eqb x w) (is_among xs w) (eqb-sym w x (other w x ys h lacks.1)) ih
+    or_from (eqb x w) (is_among xs w) (eqb-sym w x (other w x ys h lacks.1)) ih
   where
-    or_false : (a b : Bool) → a ≡ false → b ≡ false → (a || b) ≡ false
-    or_false a b p q = grind arith
-
     other : (w x : ℕ) (ys : List ℕ) → is_among ys w ≡ true → is_among ys x ≡ false → eqb w x ≡ false
     other w x ys p q = ne_eqb w x (λ e. grind (arith, ap (is_among ys) e))
 
@@ -100,10 +97,7 @@ Distinct-without (x ∷ xs) n ys d = (drop_middle x xs n ys d.0, Distinct-withou
 
 -- the node that is taken out is in neither part
 pub has_not : (xs : List ℕ) (n : ℕ) (ys : List ℕ) → Distinct (xs ++ n ∷ ys) → is_among (xs ++ ys) n ≡ false
-has_not xs n ys d = is_among-append xs ys n ∙ rw (apart_left xs (n ∷ ys) n d (or_left_true (eqb n n) (is_among ys n) (eq-eqb n n refl)), (Distinct-right xs (n ∷ ys) d).0)
-  where
-    or_left_true : (a b : Bool) → a ≡ true → (a || b) ≡ true
-    or_left_true a b e = or_left a b e
+has_not xs n ys d = is_among-append xs ys n ∙ rw (apart_left xs (n ∷ ys) n d (or_left (eqb n n) (is_among ys n) (eq-eqb n n refl)), (Distinct-right xs (n ∷ ys) d).0)
 
 pub last-append : (d : ℕ) (xs ys : List ℕ) → last_or d (xs ++ ys) ≡ last_or (last_or d xs) ys
 last-append d [] ys = refl

@@ -7,7 +7,7 @@ use Rattle.blk_format.specs.BlockFiles.{is_among}
 use Rattle.blk_volume.specs.View.{StoreView, NodeFields, RecordFields}
 use Rattle.blk_volume.specs.Chains.{chain, bucket_of_hash}
 use Rattle.blk_volume.specs.Loads.{Rule, Loaded, load, load_record, load_key}
-use Rattle.blk_volume.specs.Entries.{key_of, streams_of, role_of}
+use Rattle.blk_volume.specs.Entries.{stored_key, stored_streams, role_of}
 use Rattle.blk_laws.proofs.Loads.{IsLoadedRecord, IsLoadedNode, load-then}
 
 -- what has all these facts loads
@@ -55,8 +55,8 @@ load-rule v a b w l ok state clean chained = load-then v a w l ok (λ n e f.
 -- what loads under two rules is one
 one-record : (v : StoreView) (a b : Rule) (w c d : ℕ) (e : RecordFields) (l k : Loaded) → IsLoadedRecord v a w c d e l → IsLoadedRecord v b w c d e k → l ≡ k
 one-record v a b w c d e l k p q =
-    let key : l.key ≡ k.key = let x : key_of v c e ≡ Some l.key = p.keyed.key in let y : key_of v c e ≡ Some k.key = q.keyed.key in cc in
-    let streams : l.streams ≡ k.streams = let x : streams_of v e ≡ Some l.streams = p.streams in let y : streams_of v e ≡ Some k.streams = q.streams in cc in
+    let key : l.key ≡ k.key = let x : stored_key v c e ≡ Some l.key = p.keyed.key in let y : stored_key v c e ≡ Some k.key = q.keyed.key in cc in
+    let streams : l.streams ≡ k.streams = let x : stored_streams v e ≡ Some l.streams = p.streams in let y : stored_streams v e ≡ Some k.streams = q.streams in cc in
     let role : l.role ≡ k.role = let x : role_of e l.key l.streams ≡ Some l.role = p.role in let y : role_of e k.key k.streams ≡ Some k.role = q.role in let z : role_of e l.key l.streams ≡ role_of e k.key k.streams = ap₂ (role_of e) key streams in cc in
     λ i. record {
       node = (p.node_is ∙ sym q.node_is) i;

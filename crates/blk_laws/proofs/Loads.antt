@@ -9,7 +9,7 @@ use Rattle.blk_format.specs.BlockFiles.{is_among}
 use Rattle.blk_volume.specs.Chains.{chain, bucket_of_hash}
 use Rattle.blk_volume.specs.Reasons.{Reason, ◌>>=◌, demand}
 use Rattle.blk_volume.specs.Loads.{Rule, held_rule, Loaded, load, load_record, load_key}
-use Rattle.blk_volume.specs.Entries.{is_key_length, key_of, streams_of, role_of}
+use Rattle.blk_volume.specs.Entries.{is_key_length, stored_key, stored_streams, role_of}
 use Rattle.blk_volume.specs.Reasons as reason
 
 -- what went on to a value
@@ -32,7 +32,7 @@ pub record IsKeyed (v : StoreView) (rule : Rule) (w contents dirty : ℕ) (e : R
   pub flags : nat_le e.flags 2 ≡ true
   pub clean : (not rule.clean || (dirty == 0)) ≡ true
   pub key_length : is_key_length contents e ≡ true
-  pub key : key_of v contents e ≡ Some key_is
+  pub key : stored_key v contents e ≡ Some key_is
   pub hashed : (e.hash == hash key_is) ≡ true
   pub chained : (not rule.chained || is_among (chain v (bucket_of_hash e.hash)).reached contents) ≡ true
 
@@ -44,7 +44,7 @@ load_key-facts v rule w contents dirty e l ok =
     demand_then (nat_le e.flags 2) reason.Flags _ l ok (λ flags ok.
     demand_then (not rule.clean || (dirty == 0)) reason.Dirty _ l ok (λ clean ok.
     demand_then (is_key_length contents e) reason.KeyLength _ l ok (λ key_length ok.
-    some_then (key_of v contents e) reason.KeyPlace _ l ok (λ key key_is ok.
+    some_then (stored_key v contents e) reason.KeyPlace _ l ok (λ key key_is ok.
     demand_then (e.hash == hash key) reason.Hash _ l ok (λ hashed ok.
     demand_then (not rule.chained || is_among (chain v (bucket_of_hash e.hash)).reached contents) reason.Chain _ l ok (λ chained ok.
     let one : key ≡ l = cc in
@@ -53,7 +53,7 @@ load_key-facts v rule w contents dirty e l ok =
 -- what holds of a record that was loaded
 pub record IsLoadedRecord (v : StoreView) (rule : Rule) (w contents dirty : ℕ) (e : RecordFields) (l : Loaded) : Type 0 where
   pub keyed : IsKeyed v rule w contents dirty e l.key
-  pub streams : streams_of v e ≡ Some l.streams
+  pub streams : stored_streams v e ≡ Some l.streams
   pub role : role_of e l.key l.streams ≡ Some l.role
   pub node_is : l.node ≡ w
   pub contents_is : l.contents ≡ contents
@@ -64,7 +64,7 @@ pub load_record-facts : (v : StoreView) (rule : Rule) (w contents dirty : ℕ) (
 unfolding load_record
 load_record-facts v rule w contents dirty e l ok =
     bind_then (load_key v rule w contents dirty e) _ l ok (λ key loaded ok.
-    some_then (streams_of v e) reason.Streams _ l ok (λ streams streams_are ok.
+    some_then (stored_streams v e) reason.Streams _ l ok (λ streams streams_are ok.
     some_then (role_of e key streams) reason.Sparse _ l ok (λ role role_is ok.
     let m : Loaded = record { node = w; contents = contents; dirty = dirty; key = key; role = role; streams = streams; others = e.long_key ∷ e.data_addr } in
     let made : m ≡ l = cc in

@@ -21,13 +21,7 @@ use Rattle.blk_laws.proofs.ClaimLists.{claim-append, claim-head, no-claim}
 use Rattle.blk_laws.proofs.Outside.{key-same, streams-same, index-claims}
 use Rattle.blk_laws.proofs.Settling.{settle-one, main-listed, settle-change}
 use Rattle.blk_laws.proofs.Replacing.{replaced}
-
--- claims that do not repeat are in one of two parts alone
-same-eq : (c d : Claim) → same_claim c d ≡ true → c ≡ d
-same-eq (BlockOf f b) (BlockOf g a) e = let p = and_parts (f == g) (b == a) e in ap₂ BlockOf (eqb-true f g p.0) (eqb-true b a p.1)
-same-eq (BlockOf f b) (ExternalOf n) e = cc
-same-eq (ExternalOf n) (BlockOf f b) e = cc
-same-eq (ExternalOf m) (ExternalOf n) e = ap ExternalOf (eqb-true m n e)
+use Rattle.blk_laws.proofs.Laid.{same_claim-eq}
 
 pub repeats-apart : (xs ys : List Claim) (c : Claim) → repeats (xs ++ ys) ≡ false → has_claim xs c ≡ true → has_claim ys c ≡ false
 unfolding repeats
@@ -37,7 +31,7 @@ repeats-apart (x ∷ xs) ys c e h =
     ⊎_elim
     (λ (s : same_claim c x ≡ true).
     let q = or_parts (has_claim xs x) (has_claim ys x) (sym (claim-append xs ys x) ∙ p.0) in
-    ap (has_claim ys) (same-eq c x s) ∙ q.1)
+    ap (has_claim ys) (same_claim-eq c x s) ∙ q.1)
     (λ (s : same_claim c x ≡ false). let t : (same_claim c x || has_claim xs c) ≡ true = sym (claim-head x xs c) ∙ h in repeats-apart xs ys c p.1 (rw s at t))
     (cases_Bool (same_claim c x))
 

@@ -11,7 +11,7 @@ use Rattle.blk_volume.specs.View.{StoreView}
 use Rattle.blk_volume.specs.Loads.{held_rule, Loaded, load, is_part, is_part_role}
 use Rattle.blk_volume.specs.Entries.{Role, IsPlain, IsParent, IsPart}
 use Rattle.blk_volume.specs.Audit.{kept_among, is_parent_of}
-use Rattle.blk_volume.specs.Found.{row_of}
+use Rattle.blk_volume.specs.Found.{row_of_loaded}
 use Rattle.blk_volume.specs.Shown.{IsOrphanIn}
 use Rattle.blk_volume.specs.Layout.{Layout, is_listed, order, IsPartAt, IsPlacedAt, HoldsExcept, IsInProgress, is_in}
 use Rattle.blk_volume.specs.Given.{given_by, is_settled}
@@ -77,6 +77,6 @@ module _ (except : ℕ → Bool) (v : StoreView) (m : State) (y : Layout) (r : H
               (cases_Bool (is_parent_of a.0 g));
         }
 
-  pub midst-rest : map row_of (kept_among v held_rule (order m y)) ≡ model.rest m
+  pub midst-rest : map row_of_loaded (kept_among v held_rule (order m y)) ≡ model.rest m
   midst-rest = found-but m y r.laid m.uses (λ i h. h) (λ number. is_live_and_settled (object_at m number)) (settled-is_test m y r.laid valid) except v r once whole broken
       ∙ picked-closed m y r.laid m.uses (λ i h. h) (λ number. is_live_and_settled (object_at m number)) (settled-is_test m y r.laid valid) (all-closed m y r.laid valid) ∙ sym (rest-picked m)

@@ -6,7 +6,7 @@ use Rattle.std.proofs.lemmas.List.Elements.{All-nil, All-cons}
 use Rattle.std.proofs.lemmas.Bool.{and_parts}
 use Rattle.blk_image.specs.Bytes.{content, word_at, range_at, word_bytes}
 use Rattle.blk_image.specs.Image.{File, Block, Image, AreBytes, byte, bytes_of}
-use Rattle.blk_image.specs.Steps.{Word, applied, written}
+use Rattle.blk_image.specs.Steps.{Word, applied, written_over}
 use Rattle.blk_image.proofs.Images.{bytes-written}
 use Rattle.blk_image.proofs.Words.{length-range, word_bytes-small}
 use Rattle.blk_image.proofs.ByteSteps.{small-spliced, are_bytes-with_file}
@@ -47,7 +47,7 @@ record_checks image w bytes kind good =
 -- words that are written are bytes
 pub are_bytes-word : (f : File) (p v : ℕ) (image : Image) → AreBytes image → AreBytes (applied (Word f p (word_bytes v)) image)
 are_bytes-word f p v image bytes =
-    are_bytes-with_file image f (written p (word_bytes v) (image f)) bytes
+    are_bytes-with_file image f (written_over p (word_bytes v) (image f)) bytes
     (λ k. subst (λ (l : List ℕ). content l k < 256) (sym (bytes-written (image f) p (word_bytes v))) (small-spliced p (word_bytes v) (bytes_of image f) (word_bytes-small v) (bytes f) k))
 
 -- a link of a node: its one change

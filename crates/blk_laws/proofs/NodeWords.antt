@@ -11,6 +11,7 @@ use Rattle.blk_volume.specs.View.{stands_as}
 use Rattle.blk_volume.specs.Footprint.{IsClear}
 use Rattle.blk_laws.proofs.ClaimLists.{claim-head, no-claim}
 use Rattle.blk_laws.proofs.ByteChanges.{stands-some, stands-address, not_equal}
+use Rattle.blk_laws.proofs.Laid.{same_claim-eq}
 
 pub node_apart : rankings ≢ external
 node_apart e = let x : ◌≡◌ {A = ℕ} 1 0 = e in cc
@@ -63,14 +64,8 @@ node-claims image w node =
     let block_kind : (kind_of w == external) ≡ false = not_equal (kind_of w) external (λ e. node_apart (sym node.kind ∙ e)) in
     rw (some, block_kind, node.one) refl
 
-same_claim-true : (c d : Claim) → same_claim c d ≡ true → c ≡ d
-same_claim-true (BlockOf f b) (BlockOf g c) e = let p = and_parts (f == g) (b == c) e in ap₂ BlockOf (eqb-true f g p.0) (eqb-true b c p.1)
-same_claim-true (BlockOf f b) (ExternalOf n) e = cc
-same_claim-true (ExternalOf m) (BlockOf f b) e = cc
-same_claim-true (ExternalOf m) (ExternalOf n) e = ap ExternalOf (eqb-true m n e)
-
 only-claim : (c d : Claim) → has_claim (d ∷ []) c ≡ true → c ≡ d
-only-claim c d h = same_claim-true c d (left (same_claim c d) (has_claim [] c) (no-claim c) (sym (claim-head d [] c) ∙ h)) where
+only-claim c d h = same_claim-eq c d (left (same_claim c d) (has_claim [] c) (no-claim c) (sym (claim-head d [] c) ∙ h)) where
   left : (a b : Bool) → b ≡ false → (a || b) ≡ true → a ≡ true
   left true b none e = refl
   left false b none e = absurd (let z : false ≡ true = sym none ∙ e in cc)

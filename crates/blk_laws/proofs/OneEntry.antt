@@ -15,13 +15,13 @@ use Rattle.blk_format.specs.BlockFiles.{is_among}
 use Rattle.blk_volume.specs.ListView.{ListView}
 use Rattle.blk_volume.specs.View.{View, StoreView, RecordFields}
 use Rattle.blk_volume.specs.Chains.{bucket_of_hash, IsChain}
-use Rattle.blk_volume.specs.Entries.{IsPlain, is_key_length, stream_of, streams_of, role_of}
+use Rattle.blk_volume.specs.Entries.{IsPlain, is_key_length, stored_stream, stored_streams, role_of}
 use Rattle.blk_volume.specs.Entries as entries
 use Rattle.blk_volume.specs.Loads.{unchained_rule, Loaded, load, load_key, load_record, record_claims, all_claims}
 use Rattle.blk_volume.specs.Layout.{Layout, is_listed, IsPlacedAt, IsListedRecord, Represents, IsInProgress}
 use Rattle.blk_volume.specs.Footprint.{IsClear}
 use Rattle.blk_volume.specs.Emptiness.{no_view, no_layout}
-use Rattle.blk_laws.specs.CommandLaws.{IsPlacedAsLive, IsWritten}
+use Rattle.blk_laws.specs.CommandLaws.{IsPlacedAsLive, IsWrittenApart}
 use Rattle.blk_laws.proofs.Empty.{empty, empty-valid}
 
 -- the object, settled or not
@@ -87,7 +87,7 @@ at-node dirty w l e = let c = choice (w == node) (loaded dirty) l e in (eqb-true
 
 -- the node loads by itself
 pub loads : (first dirty : ℕ) → load (store first dirty) (unchained_rule 0) node ≡ Ok (loaded dirty)
-unfolding load load_record load_key is_key_length entries.key_of stream_of streams_of role_of block_count entry_blocks hash mixed of_bytes of_one
+unfolding load load_record load_key is_key_length entries.stored_key stored_stream stored_streams role_of block_count entry_blocks hash mixed of_bytes of_one
 loads first dirty = refl
 
 -- its claims
@@ -197,7 +197,7 @@ written_view = record {
 }
 
 fresh-loads : load written_view.store (unchained_rule 0) node ≡ Ok fresh
-unfolding load load_record load_key is_key_length entries.key_of stream_of streams_of role_of block_count entry_blocks hash mixed of_bytes of_one
+unfolding load load_record load_key is_key_length entries.stored_key stored_stream stored_streams role_of block_count entry_blocks hash mixed of_bytes of_one
 fresh-loads = refl
 
 fresh-once : repeats (all_claims fresh) ≡ false
@@ -213,7 +213,7 @@ unfolding has_claim all_claims record_claims claims_of kind_of block_count file_
 node_fields-1 = (refl, refl)
 
 -- it is written beside nothing, and goes in front of the empty list and chain
-pub written : IsWritten no_view written_view (open_state [] (record { max_bytes = 1000; max_items = 10 })) no_layout (codes "a") fresh
+pub written : IsWrittenApart no_view written_view (open_state [] (record { max_bytes = 1000; max_items = 10 })) no_layout (codes "a") fresh
 unfolding open_state objects_in
 written = record {
   represents = empty (record { max_bytes = 1000; max_items = 10 });

@@ -25,7 +25,7 @@ use Rattle.blk_format.specs.BlockFiles.{is_among}
 use Rattle.blk_volume.specs.View.{View, StoreView}
 use Rattle.blk_volume.specs.Loads.{held_rule, Loaded}
 use Rattle.blk_volume.specs.Audit.{kept_among}
-use Rattle.blk_volume.specs.Found.{row_of}
+use Rattle.blk_volume.specs.Found.{row_of_loaded}
 use Rattle.blk_volume.specs.Layout.{Layout, is_listed, nodes_of, order, IsPlacedAt, HasDirtyMark, HasParentAt, IsDoomedAt, IsListedRecord, IsLayoutOf, Holds, Represents, is_in}
 use Rattle.blk_volume.specs.Given.{IsTest}
 use Rattle.blk_laws.proofs.Laid.{IsNodeOf, node-of, is_among-node, found-picked}
@@ -181,7 +181,7 @@ safe-same true x = refl
 safe-same false x = refl
 
 module _ (v : StoreView) (m : State) (y : Layout) (r : Holds v m y) (valid : IsValidState m) (uses next : List Item) (names : List (Option ℕ)) (same : SameItems uses m.uses) (once : Distinct (nodes_of y uses)) where
-  pub picked-order : map row_of (kept_among v held_rule (nodes_of y uses)) ≡ pick m (record m { uses = next; names = names }) false uses
+  pub picked-order : map row_of_loaded (kept_among v held_rule (nodes_of y uses)) ≡ pick m (record m { uses = next; names = names }) false uses
   unfolding pick picked picked_by is_safe is_turned
   picked-order =
       let t : ℕ → Bool = λ number. is_safe m (record m { uses = next; names = names }) number || (false && is_turned m (record m { uses = next; names = names }) number) in
@@ -240,10 +240,10 @@ module _ (v : View) (m : State) (y : Layout) (r : Represents v m y) (valid : IsV
   steps-are = rw passed refl
 
   pub open-moments : (k : ℕ) → StopOutcome m moment (to_open handle key) (step m moment (to_open handle key)).state
-      (map row_of (kept_among v.store held_rule (walk (completed_list (after_writes (take k (touch_writes (y.place (main key)) v.list)) v.list)))))
+      (map row_of_loaded (kept_among v.store held_rule (walk (completed_list (after_writes (take k (touch_writes (y.place (main key)) v.list)) v.list)))))
   unfolding list_after opened
   open-moments k =
-      subst (λ (n : State). StopOutcome m moment (to_open handle key) n (map row_of (kept_among v.store held_rule (walk (completed_list (after_writes (take k (touch_writes (y.place (main key)) v.list)) v.list)))))) (sym opens)
+      subst (λ (n : State). StopOutcome m moment (to_open handle key) n (map row_of_loaded (kept_among v.store held_rule (walk (completed_list (after_writes (take k (touch_writes (y.place (main key)) v.list)) v.list)))))) (sym opens)
       (go (nat_lt k 2) (touch-walks v m y r (main key) a k)) where
         names : List (Option ℕ)
         names = slice_set m.names handle (live_with m key)
@@ -253,18 +253,18 @@ module _ (v : View) (m : State) (y : Layout) (r : Represents v m y) (valid : IsV
 
         go : (b : Bool) → walk (completed_list (after_writes (take k (touch_writes (y.place (main key)) v.list)) v.list)) ≡ nodes_of y (if b then m.uses else used (main key) m.uses)
             → StopOutcome m moment (to_open handle key) (record m { uses = used (main key) m.uses; names = names })
-            (map row_of (kept_among v.store held_rule (walk (completed_list (after_writes (take k (touch_writes (y.place (main key)) v.list)) v.list)))))
+            (map row_of_loaded (kept_among v.store held_rule (walk (completed_list (after_writes (take k (touch_writes (y.place (main key)) v.list)) v.list)))))
         go true e = record {
           step_count = 0;
           within = omega arith;
           with_turned = false;
-          picked_rows = ap (λ (ws : List ℕ). map row_of (kept_among v.store held_rule ws)) e ∙ picked-order v.store m y r.holds valid m.uses (used (main key) m.uses) names (λ i. refl) r.list.distinct;
+          picked_rows = ap (λ (ws : List ℕ). map row_of_loaded (kept_among v.store held_rule ws)) e ∙ picked-order v.store m y r.holds valid m.uses (used (main key) m.uses) names (λ i. refl) r.list.distinct;
         }
         go false e = record {
           step_count = 1;
           within = rw steps-are (omega arith);
           with_turned = false;
-          picked_rows = ap (λ (ws : List ℕ). map row_of (kept_among v.store held_rule ws)) e
+          picked_rows = ap (λ (ws : List ℕ). map row_of_loaded (kept_among v.store held_rule ws)) e
               ∙ picked-order v.store m y r.holds valid (used (main key) m.uses) (used (main key) m.uses) names (used-same (main key) m.uses a) (touched-once v m y r (main key) a)
               ∙ ap (pick m (record m { uses = used (main key) m.uses; names = names }) false) listed-after;
         }

@@ -11,7 +11,7 @@ use Rattle.blk_format.specs.BlockFiles.{is_among}
 use Rattle.blk_format.specs.Claims.{Claim, claims_of, has_claim, repeats}
 use Rattle.blk_volume.specs.View.{StoreView, RecordFields, data_size_of, address_of}
 use Rattle.blk_volume.specs.Chains.{chain, bucket_of_hash, Linked, IsChain}
-use Rattle.blk_volume.specs.Entries.{is_key_length, key_of, stream_of, streams_of, role_of, parent_role}
+use Rattle.blk_volume.specs.Entries.{is_key_length, stored_key, stored_stream, stored_streams, role_of, parent_role}
 use Rattle.blk_volume.specs.Loads.{Rule, unchained_rule, Loaded, load, all_claims, record_claims}
 use Rattle.blk_volume.specs.Layout.{Layout, IsListedRecord, HasParentAt, IsPlacedAt, rule_of}
 use Rattle.blk_volume.specs.Footprint.{IsClear, SameExceptAt}
@@ -83,16 +83,16 @@ others-clear l once i c h = ⊎_elim
     (cases_Bool (has_claim (claims_of l.contents) c))
 
 module _ (w : ℕ) (v u : StoreView) (same : SameExceptAt w v u) where
-  key-beside : (c s : ℕ) (e : RecordFields) → IsClear (has_claim (claims_of w)) c ⊎ (c ≡ w) → IsClear (has_claim (claims_of w)) e.long_key → v.entry c ≡ Some e → is_key_length c e ≡ true → key_of u c (record e { state = s }) ≡ key_of v c e
-  unfolding key_of
+  key-beside : (c s : ℕ) (e : RecordFields) → IsClear (has_claim (claims_of w)) c ⊎ (c ≡ w) → IsClear (has_claim (claims_of w)) e.long_key → v.entry c ≡ Some e → is_key_length c e ≡ true → stored_key u c (record e { state = s }) ≡ stored_key v c e
+  unfolding stored_key
   key-beside c s e clear long is fits =
       ⊎_elim
       (λ (short : nat_le e.key_len 927 ≡ true). rw (short, same.key_place c e clear is fits short) refl)
       (λ (short : nat_le e.key_len 927 ≡ false). rw (short, same.stored (e.key_len + 1) e.long_key long) refl)
       (cases_Bool (nat_le e.key_len 927))
 
-  streams-beside : (s : ℕ) (e : RecordFields) → ((i : ℕ) → IsClear (has_claim (claims_of w)) (slice_index e.data_addr i)) → streams_of u (record e { state = s }) ≡ streams_of v e
-  unfolding streams_of stream_of
+  streams-beside : (s : ℕ) (e : RecordFields) → ((i : ℕ) → IsClear (has_claim (claims_of w)) (slice_index e.data_addr i)) → stored_streams u (record e { state = s }) ≡ stored_streams v e
+  unfolding stored_streams stored_stream
   streams-beside s e clear = rw (same.stored (data_size_of e 0) (address_of e 0) (clear 0), same.stored (data_size_of e 1) (address_of e 1) (clear 1), same.stored (data_size_of e 2) (address_of e 2) (clear 2)) refl
 
   -- a node loads where its record is as before, or has another state that is asked for now

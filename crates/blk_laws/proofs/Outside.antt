@@ -12,7 +12,7 @@ use Rattle.blk_format.specs.Claims.{Claim, same_claim, claims_of, has_claim}
 use Rattle.blk_volume.specs.View.{View, StoreView, RecordFields, data_size_of, address_of}
 use Rattle.blk_volume.specs.Chains.{bucket_of_hash, chain, Linked, IsChain}
 use Rattle.blk_volume.specs.Loads.{Rule, Loaded, load, all_claims, record_claims}
-use Rattle.blk_volume.specs.Entries.{is_key_length, key_of, stream_of, streams_of}
+use Rattle.blk_volume.specs.Entries.{is_key_length, stored_key, stored_stream, stored_streams}
 use Rattle.blk_volume.specs.Layout.{Layout, order, rule_of, IsPlacedAt, IsListedRecord, IsLayoutOf, Shows, Represents}
 use Rattle.blk_volume.specs.Footprint.{IsClear, SameStore, SameLinks, SameBut, IsFree}
 use Rattle.blk_laws.proofs.Loads.{load-then}
@@ -67,16 +67,16 @@ then-same touched v u s one two = record {
 -- ---- what loads
 
 module _ (touched : Claim → Bool) (v u : StoreView) (same : SameStore touched v u) where
-  pub key-same : (w : ℕ) (e : RecordFields) → IsClear touched w → IsClear touched e.long_key → v.entry w ≡ Some e → is_key_length w e ≡ true → key_of u w e ≡ key_of v w e
-  unfolding key_of
+  pub key-same : (w : ℕ) (e : RecordFields) → IsClear touched w → IsClear touched e.long_key → v.entry w ≡ Some e → is_key_length w e ≡ true → stored_key u w e ≡ stored_key v w e
+  unfolding stored_key
   key-same w e clear long is fits =
       ⊎_elim
       (λ (short : nat_le e.key_len 927 ≡ true). rw (short, same.key_place w e clear is fits short) refl)
       (λ (short : nat_le e.key_len 927 ≡ false). rw (short, same.stored (e.key_len + 1) e.long_key long) refl)
       (cases_Bool (nat_le e.key_len 927))
 
-  pub streams-same : (e : RecordFields) → ((i : ℕ) → IsClear touched (slice_index e.data_addr i)) → streams_of u e ≡ streams_of v e
-  unfolding streams_of stream_of
+  pub streams-same : (e : RecordFields) → ((i : ℕ) → IsClear touched (slice_index e.data_addr i)) → stored_streams u e ≡ stored_streams v e
+  unfolding stored_streams stored_stream
   streams-same e clear = rw (same.stored (data_size_of e 0) (address_of e 0) (clear 0), same.stored (data_size_of e 1) (address_of e 1) (clear 1), same.stored (data_size_of e 2) (address_of e 2) (clear 2)) refl
 
   -- a node loads the same where nothing of its record is touched

@@ -14,7 +14,7 @@ use Rattle.blk_format.specs.Claims.{claims_of, has_claim, overlap, repeats}
 use Rattle.blk_volume.specs.ListView.{ListView, IsAtRest, CanBeInserted}
 use Rattle.blk_volume.specs.View.{RecordFields, View}
 use Rattle.blk_volume.specs.Chains.{chain_from}
-use Rattle.blk_volume.specs.Entries.{is_key_length, key_of, stream_of, streams_of, role_of}
+use Rattle.blk_volume.specs.Entries.{is_key_length, stored_key, stored_stream, stored_streams, role_of}
 use Rattle.blk_volume.specs.Loads.{held_rule, load, load_key, load_record, record_claims, all_claims}
 use Rattle.blk_volume.specs.Audit.{judged, is_orphan, admit, verdicts}
 use Rattle.blk_volume.specs.Audit as audit
@@ -67,11 +67,11 @@ pair = shown 0x90000000 0xA0010000
     ((0xA0010000, entry 0xA0010001 0x90000000) ∷ (0xA0010001, entry 0 0x90000001) ∷ [])
 
 pub second_is_left_out : AllByRecursion (IsDroppedIfLeftOut (λ w. w == 0x90000000)) (judged pair.store held_rule (0x90000000 ∷ 0x90000001 ∷ []))
-unfolding verdicts load load_record load_key admit is_key_length key_of stream_of streams_of role_of audit.shares_key is_orphan record_claims all_claims claims_of has_claim overlap repeats kind_of block_count file_selector first_block external_number entry_blocks chain_from hash mixed of_bytes of_one
+unfolding verdicts load load_record load_key admit is_key_length stored_key stored_stream stored_streams role_of audit.shares_key is_orphan record_claims all_claims claims_of has_claim overlap repeats kind_of block_count file_selector first_block external_number entry_blocks chain_from hash mixed of_bytes of_one
 second_is_left_out = (λ out. absurd (let c : true ≡ false = out in cc), (λ out. refl, tt))
 
 pub both_are_keyed : (load_key pair.store held_rule 0x90000000 0xA0010000 0 first_core ≡ Ok (codes "a")) × (load_key pair.store held_rule 0x90000001 0xA0010001 0 second_core ≡ Ok (codes "a"))
-unfolding load_key is_key_length key_of block_count entry_blocks chain_from hash mixed of_bytes of_one
+unfolding load_key is_key_length stored_key block_count entry_blocks chain_from hash mixed of_bytes of_one
 both_are_keyed = (refl, refl)
 
 -- A new folder is bare.

@@ -1,7 +1,7 @@
 -- What an update of an entry record shows.
 use Rattle.std.proofs.Common.{◌≡◌, ◌≢◌, ◌⊎◌, inl, inr, ⊎_elim, ℕ, ◌+◌, ◌*◌, ◌^◌, ◌<◌, ◌≤◌, Bool, true, false, if◌then◌else◌, List, [], ◌∷◌, All, length, take, get_or, Some, None, refl, sym, ◌∙◌, ap, ap₂, subst, arith}
 use Rattle.std.specs.Prelude.{◌==◌, ◌&&◌, nat_le, nat_lt}
-use Rattle.std.proofs.lemmas.Bool.{and_parts, cases_Bool, cases_eq, leb-true, ltb-true}
+use Rattle.std.proofs.lemmas.Bool.{and_parts, cases_Bool, cases_eq, leb-true, ltb-true, false_from_ne_true}
 use Rattle.blk_image.specs.Bytes.{content, words_at}
 use Rattle.blk_image.specs.Image.{File, Block, Image, byte, same_file}
 use Rattle.blk_image.specs.Footprint.{range}
@@ -15,7 +15,6 @@ use Rattle.blk_format.specs.BlockFiles.{stands_in}
 use Rattle.blk_volume.specs.Chains.{file_and_block}
 use Rattle.blk_volume.specs.View.{RecordFields, fields_of, stands_as, block_bytes, entry_at, store_of, fields_at, follow_at, key_place_at}
 use Rattle.blk_laws.proofs.BlockBytes.{same-entry_in}
-use Rattle.blk_laws.proofs.ByteChanges.{false_unless}
 use Rattle.blk_format.specs.Sealed.{BeginsWithRecord, IsMidUpdate, record_at, record_range, record_size, seal_place, size_by_kind}
 use Rattle.blk_format.proofs.SealedRecords.{length-record}
 use Rattle.blk_format.proofs.SealedFields.{record_word, field_stays}
@@ -26,24 +25,14 @@ use Rattle.blk_laws.proofs.Inside.{record-changes}
 use Rattle.blk_laws.proofs.Nodes.{none-or-one}
 use Rattle.blk_laws.proofs.Updates.{entry-seal, entry-here, entry-made, entry-checks}
 use Rattle.blk_laws.proofs.StillShown.{standing-parts, core-standing, stands_as-all, table-still, named-still, list-still}
+use Rattle.blk_laws.proofs.ChainWords.{same-file, same-first, record-at}
+use Rattle.blk_laws.proofs.Covers.{block-of, out-range}
 
 -- ---- one first block, or two
-
-same-file_selector : (u w : ℕ) → file_and_block u ≡ file_and_block w → file_selector u ≡ file_selector w
-unfolding file_selector
-same-file_selector u w e = omega arith
-
-same-first_block : (u w : ℕ) → file_and_block u ≡ file_and_block w → first_block u ≡ first_block w
-unfolding first_block
-same-first_block u w e = omega arith
 
 both-same : (u w : ℕ) → file_selector u ≡ file_selector w → first_block u ≡ first_block w → file_and_block u ≡ file_and_block w
 unfolding file_selector first_block
 both-same u w e f = omega arith
-
-record-place : (w : ℕ) → kind_of w ≡ blocks_256 → place w ≡ 8192 + first_block w * 256
-unfolding place block_place block_size
-record-place w kind = rw kind refl
 
 record-96 : (w : ℕ) → kind_of w ≡ blocks_256 → record_size w ≡ 96
 unfolding size_by_kind
@@ -51,23 +40,14 @@ record-96 w kind = rw kind refl
 
 shared : (image : Image) (u w : ℕ) → kind_of u ≡ blocks_256 → kind_of w ≡ blocks_256 → file_and_block u ≡ file_and_block w → entry_at image u ≡ entry_at image w
 shared image u w one other same =
-    let p : place u ≡ place w = record-place u one ∙ ap (λ (b : ℕ). 8192 + b * 256) (same-first_block u w same) ∙ sym (record-place w other) in
-    ap₂ (λ (f i : ℕ). entry_in (byte image (Block f)) i) (same-file_selector u w same) p
-
-out-of : (file other : File) (at n i : ℕ) → (file ≡ other → at ≤ i → i < at + n → ⊥) → (range file at n).bytes other i ≡ false
-out-of file other at n i never = false_unless ((range file at n).bytes other i) (λ e.
-    let p = and_parts (same_file file other) (nat_le at i && nat_lt i (at + n)) e in
-    let q = and_parts (nat_le at i) (nat_lt i (at + n)) p.1 in
-    never (same_file-true file other p.0) (leb-true at i q.0) (ltb-true i (at + n) q.1))
-
-block-of : (m n : ℕ) → Block m ≡ Block n → m ≡ n
-block-of m n e = cc
+    let p : place u ≡ place w = record-at u one ∙ ap (λ (b : ℕ). 8192 + b * 256) (same-first u w same) ∙ sym (record-at w other) in
+    ap₂ (λ (f i : ℕ). entry_in (byte image (Block f)) i) (same-file u w same) p
 
 -- the place of another record lies outside
 apart-places : (u w k : ℕ) → kind_of u ≡ blocks_256 → kind_of w ≡ blocks_256 → file_and_block u ≢ file_and_block w → place u ≤ k → k < place u + 96 → (record_range w).bytes (Block (file_selector u)) k ≡ false
-apart-places u w k one other apart low high = out-of (Block (file_selector w)) (Block (file_selector u)) (place w) (record_size w) k (λ file above below.
+apart-places u w k one other apart low high = out-range (Block (file_selector w)) (Block (file_selector u)) (place w) (record_size w) k (λ file above below.
     let firsts : first_block u ≢ first_block w = (λ e. apart (both-same u w (sym (block-of (file_selector w) (file_selector u) file)) e)) in
-    omega (arith, low, high, above, below, record-place u one, record-place w other, record-96 w other, firsts))
+    omega (arith, low, high, above, below, record-at u one, record-at w other, record-96 w other, firsts))
 
 -- ---- a record of bytes in which its next is written
 with-follow : (b : List ℕ) (x : ℕ) → length b ≡ 96 → x < 2 ^ 32 → open_entry (entry_in (content (with_word 4 x b)) 0) ≡ record (open_entry (entry_in (content b) 0)) { next = x }
@@ -150,7 +130,7 @@ module _ (from image : Image) (w : ℕ) (own_fields : RecordFields) (is : IsReco
   key-kept : (n : ℕ) → key_place_at from w n ≡ key_place_at image w n
   unfolding key_place_at
   key-kept n = same-range n (place w + entry_size) (block_bytes from w) (block_bytes image w) (λ k low high.
-      sym (moment.outside.bytes (Block (file_selector w)) k (out-of (Block (file_selector w)) (Block (file_selector w)) (place w) (record_size w) k (λ file above below. omega (arith, low, below, record-96 w kind)))))
+      sym (moment.outside.bytes (Block (file_selector w)) k (out-range (Block (file_selector w)) (Block (file_selector w)) (place w) (record_size w) k (λ file above below. omega (arith, low, below, record-96 w kind)))))
 
   beside : SameExceptRecord w from image
   unfolding store_of

@@ -3,6 +3,7 @@ use Rattle.std.proofs.Common.{◌≡◌, ℕ, List, [], ◌∷◌, map, refl, ap
 use Rattle.std.specs.Prelude.{◌&&◌}
 use Rattle.std.specs.List.{filter, filter_map, cons_option}
 use Rattle.std.proofs.lemmas.Bool.{cases_Bool, and_parts, or_left, or_right}
+use Rattle.std.proofs.Math.Bool.{and-true}
 use Rattle.blk_volume.specs.ListView.{Distinct}
 use Rattle.blk_model.specs.Items.{Item, main, part, same_item, key_of}
 use Rattle.blk_model.specs.State.{State, IsValidState}
@@ -10,7 +11,7 @@ use Rattle.blk_model.proofs.Same.{one_item, same_item_self}
 use Rattle.blk_volume.specs.View.{StoreView}
 use Rattle.blk_volume.specs.Loads.{held_rule}
 use Rattle.blk_volume.specs.Audit.{kept_among}
-use Rattle.blk_volume.specs.Found.{row_of}
+use Rattle.blk_volume.specs.Found.{row_of_loaded}
 use Rattle.blk_volume.specs.Layout.{Layout, is_listed, nodes_of, HoldsExcept, is_in}
 use Rattle.blk_volume.specs.Given.{picked_with, picked_in, IsTest}
 use Rattle.blk_laws.proofs.Laid.{found-but}
@@ -59,18 +60,15 @@ module _ (except : ℕ → Bool) (v : StoreView) (m : State) (y : Layout) (r : H
       let rest = rows-stay xs (λ i g. h i (or_right (same_item i x) (is_in xs i) g)) in
       ⊎_elim
       (λ (a : keep x ≡ true).
-      let with_main : is_in (filter keep m.uses) (main (key_of x)) ≡ keep (main (key_of x)) = in-filter keep m.uses (main (key_of x)) ∙ ap (λ (b : Bool). keep (main (key_of x)) && b) (main-of x here) ∙ and_true (keep (main (key_of x))) in
+      let with_main : is_in (filter keep m.uses) (main (key_of x)) ≡ keep (main (key_of x)) = in-filter keep m.uses (main (key_of x)) ∙ ap (λ (b : Bool). keep (main (key_of x)) && b) (main-of x here) ∙ and-true (keep (main (key_of x))) in
       ⊎_elim
       (λ (c : keep (main (key_of x)) ≡ true). rw (a, c) (rw (with_main, c) (ap (cons_option (picked_with m test x)) rest)))
       (λ (c : keep (main (key_of x)) ≡ false). rw (a, c) (rw (with_main, c) rest))
       (cases_Bool (keep (main (key_of x)))))
       (λ (a : keep x ≡ false). rw a rest)
-      (cases_Bool (keep x)) where
-        and_true : (b : Bool) → (b && true) ≡ b
-        and_true true = refl
-        and_true false = refl
+      (cases_Bool (keep x))
 
-  pub removed-rows : map row_of (kept_among v held_rule (nodes_of y (filter keep m.uses))) ≡ filter_map (picked_with m test) (filter (λ i. keep i && keep (main (key_of i))) m.uses)
+  pub removed-rows : map row_of_loaded (kept_among v held_rule (nodes_of y (filter keep m.uses))) ≡ filter_map (picked_with m test) (filter (λ i. keep i && keep (main (key_of i))) m.uses)
   removed-rows =
       found-but m y r.laid (filter keep m.uses) (λ i h. (sub i h).1) test is-here except v r once
       (λ i l h here passes. let s = sub i h in sound i s.1 s.0)

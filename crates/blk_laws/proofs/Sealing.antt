@@ -1,7 +1,7 @@
 -- Nodes that are sealed: each that is written into the list is in the end, and the others stay so.
 use Rattle.std.proofs.Common.{◌≡◌, ◌⊎◌, ℕ, ◌+◌, ◌*◌, ◌%◌, ◌/◌, ◌^◌, ◌≤◌, ◌<◌, Bool, true, false, List, [], ◌∷◌, ◌++◌, All, take, refl, ap, ap₂, sym, ◌∙◌, subst, arith}
 use Rattle.std.specs.Prelude.{◌==◌, ◌&&◌, nat_le, nat_lt}
-use Rattle.std.proofs.lemmas.Bool.{eq-eqb, eqb-true}
+use Rattle.std.proofs.lemmas.Bool.{eq-eqb, eqb-true, and_left, and_right}
 use Rattle.std.proofs.lemmas.Bool.Decides.{nat_tests}
 use Rattle.std.proofs.lemmas.List.Elements.{All-nil, All-cons}
 use Rattle.blk_image.specs.Bytes.{content, word_at, range_at, word_bytes}
@@ -22,7 +22,7 @@ use Rattle.blk_format.proofs.SealedRecords.{node_seal, node_bytes, moments, upda
 use Rattle.blk_volume.specs.ListView.{IsAtRest, ListWrite, Next, Prev, Head, Tail, Transaction, Operation}
 use Rattle.blk_volume.specs.ListPlans.{touch_writes}
 use Rattle.blk_volume.specs.View.{list_of, node_at}
-use Rattle.blk_volume.specs.ListSteps.{AreOf, AreSealed, IsSealed, KeepsSealed, Seals, steps_of, times_of, touch_steps, write_steps}
+use Rattle.blk_volume.specs.ListSteps.{AreOf, AreSealed, IsSealed, KeepsSealed, Seals, steps_of_writes, times_of, touch_steps, write_steps}
 use Rattle.blk_volume.specs.ListImages.{IsWritable, CanBeMade, steps_of_touch}
 use Rattle.blk_laws.specs.ListWords.{WritesSealTheirNodes, WritesKeepSeals, NodeUpdatesKeepSeals, TouchesSealTheirNodes, TouchesKeepSeals}
 use Rattle.blk_laws.proofs.ListCompletions.{listed}
@@ -71,13 +71,6 @@ node_at_place w kind = rw kind refl
 pub range_apart : (p q n i : ℕ) → (q + n ≤ p) ⊎ (p + n ≤ q) → p ≤ i → i < p + n → (nat_le q i && nat_lt i (q + n)) ≡ false
 range_apart p q n i apart low high = grind (arith, nat_tests)
 
-pub file_apart : (a b : Bool) → a ≡ false → (a && b) ≡ false
-file_apart a b e = rw e refl
-
-pub file_same : (a b : Bool) → b ≡ false → (a && b) ≡ false
-file_same true b e = e
-file_same false b e = refl
-
 -- the update of a node leaves each other one sealed
 module _ (from image : Image) (w u : ℕ) (changes : List (ℕ × ℕ)) (bytes_from : AreBytes from) (bytes_image : AreBytes image) (kind_w : kind_of w ≡ rankings) (kind_u : kind_of u ≡ rankings)
     (are : AreChanges (seal_place w) changes) (done : IsUpdated from w changes image) (outside : SameOutside (record_range w) from image) (is : IsSealed from u) where
@@ -95,7 +88,7 @@ module _ (from image : Image) (w u : ℕ) (changes : List (ℕ × ℕ)) (bytes_f
   by_place true e file = at_one_place file (node_at_place u kind_u ∙ ap (λ (n : ℕ). 8192 + n * 36) (eqb-true (first_block u) (first_block w) e) ∙ sym (node_at_place w kind_w))
   by_place false e file =
       at_others
-      (λ i low high. file_same _ _
+      (λ i low high. and_right _ _
       (let a = node_at_place u kind_u in
       let b = node_at_place w kind_w in
       let m = node_bytes u kind_u in
@@ -108,7 +101,7 @@ module _ (from image : Image) (w u : ℕ) (changes : List (ℕ × ℕ)) (bytes_f
 
   by_file : (t : Bool) → (file_selector w == file_selector u) ≡ t → IsSealed image u
   by_file true e = by_place (first_block u == first_block w) refl (sym (eqb-true (file_selector w) (file_selector u) e))
-  by_file false e = at_others (λ i low high. file_apart _ _ e)
+  by_file false e = at_others (λ i low high. and_left _ _ e)
 
   update_keeps_sealed : IsSealed image u
   update_keeps_sealed = by_file (file_selector w == file_selector u) refl
@@ -174,7 +167,7 @@ and_first (Tail x) writes image first rest = rest
 and_first (Transaction x) writes image first rest = rest
 and_first (Operation x) writes image first rest = rest
 
-pub writes_seal : (writes : List ListWrite) (from : Image) → IsWritable from → CanBeMade from writes → Seals from writes (after (steps_of writes from) from)
+pub writes_seal : (writes : List ListWrite) (from : Image) → IsWritable from → CanBeMade from writes → Seals from writes (after (steps_of_writes writes from) from)
 writes_seal [] from ready can = record { sealed = tt; keeps = λ u kind sealed. sealed }
 writes_seal (write ∷ writes) from ready can =
     let one = first_can from write writes can in
@@ -184,8 +177,8 @@ writes_seal (write ∷ writes) from ready can =
     let ready_between : IsWritable between = writable-after write from ready in
     let first = write_seals write from ready one ready_between.bytes in
     let rest = writes_seal writes between ready_between (rest_can from between write writes shows.ends can) in
-    let last : Image = after (steps_of writes between) between in
-    subst (Seals from (write ∷ writes)) (sym (after-append steps (steps_of writes between) from))
+    let last : Image = after (steps_of_writes writes between) between in
+    subst (Seals from (write ∷ writes)) (sym (after-append steps (steps_of_writes writes between) from))
     (record { sealed = and_first write writes last (still_sealed from (write ∷ []) between last one.nodes first.sealed rest.keeps) rest.sealed; keeps = λ u kind sealed. rest.keeps u kind (first.keeps u kind sealed) })
 
 pub writes-seal : WritesSealTheirNodes
@@ -201,14 +194,14 @@ node-updates image node changes ready good are inside = let r = reseals image re
 pub touch_seals : (image : Image) (node moment : ℕ) → IsWritable image → (list_of image).checks node ≡ true → (ws : List ListWrite) → CanBeMade image ws
     → Seals image ws (after (touch_steps node moment ws image) image) × IsSealed (after (touch_steps node moment ws image) image) node
 touch_seals image node moment ready good ws can =
-    let i : Image = after (steps_of ws image) image in
+    let i : Image = after (steps_of_writes ws image) image in
     let kind = checked-kind image node good in
     let seal = node_seal node kind in
     let first = writes_seal ws image ready can in
     let all : All (λ c. c.0 + 4 ≤ seal_place node) (times_of moment) = each (λ c. c.0 + 4 ≤ seal_place node) (0, moment % 2 ^ 32) (4, moment / 2 ^ 32) (8, moment % 2 ^ 32) (12, moment / 2 ^ 32) (omega (arith, seal)) (omega (arith, seal)) (omega (arith, seal)) (omega (arith, seal)) in
     let times = reseals i (writable-writes ws image ready) node (still_checks image ready node moment good ws can) (times_of moment) (times_are node moment kind) all in
     let last : Image = after (sealed_steps i node (times_of moment)) i in
-    subst (λ (last : Image). Seals image ws last × IsSealed last node) (sym (after-append (steps_of ws image) (sealed_steps i node (times_of moment)) image))
+    subst (λ (last : Image). Seals image ws last × IsSealed last node) (sym (after-append (steps_of_writes ws image) (sealed_steps i node (times_of moment)) image))
     (record { sealed = still_sealed image ws i last can.nodes first.sealed times.keeps; keeps = λ u kind sealed. times.keeps u kind (first.keeps u kind sealed) }, times.sealed)
 
 -- a touch

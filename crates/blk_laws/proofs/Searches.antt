@@ -12,11 +12,11 @@ use Rattle.blk_format.specs.Records.{child}
 use Rattle.blk_format.specs.BlockFiles.{is_among}
 use Rattle.blk_volume.specs.View.{View, NodeFields, RecordFields}
 use Rattle.blk_volume.specs.Chains.{Chain, chain, IsChain}
-use Rattle.blk_volume.specs.Entries.{Role, IsPlain, IsParent, IsPart, is_key_length, key_of}
+use Rattle.blk_volume.specs.Entries.{Role, IsPlain, IsParent, IsPart, is_key_length, stored_key}
 use Rattle.blk_volume.specs.Loads.{Loaded, is_part, is_part_role}
-use Rattle.blk_volume.specs.Found.{row_of}
+use Rattle.blk_volume.specs.Found.{row_of_loaded}
 use Rattle.blk_volume.specs.Layout.{Layout, is_listed, order, rule_of, IsPlacedAt, IsListedRecord, Represents}
-use Rattle.blk_volume.specs.Searches.{bucket_of_key, chained_for, HasKey, NoneHasKey, HasReadableKey, IsOfLive}
+use Rattle.blk_volume.specs.Searches.{bucket_of_key, chained_for, HasKey, NoneHasKey, HasCheckedKey, IsOfLive}
 use Rattle.blk_laws.specs.SearchLaws.{ChainsAreTheLayouts, RepresentedChainsCanBeSearched, FoundRecordsAreLive, NoneFoundIsMissing}
 use Rattle.blk_laws.proofs.Chains.{chain-is}
 use Rattle.blk_laws.proofs.Laid.{IsNodeOf, node-of, is_among-node, item-of, item-row}
@@ -26,7 +26,7 @@ use Rattle.blk_laws.proofs.Opening.{first-some}
 use Rattle.blk_laws.proofs.ShortChains.{represented-chains-short}
 
 -- the item of a record that is a main item's
-main-of : (l : Loaded) (key : List ℕ) → item_of (row_of l) ≡ main key → (l.key ≡ key) × (is_part l ≡ false)
+main-of : (l : Loaded) (key : List ℕ) → item_of (row_of_loaded l) ≡ main key → (l.key ≡ key) × (is_part l ≡ false)
 main-of l key e = go l.role refl where
   key-of : Item → List ℕ
   key-of (main k) = k
@@ -42,9 +42,9 @@ main-of l key e = go l.role refl where
   go (IsPart name index) h = let bad : false ≡ true = ap is-main (rw h at e) in absurd (cc)
 
 -- a record without the child flag is a main item's
-item-main : (l : Loaded) → is_part l ≡ false → item_of (row_of l) ≡ main l.key
+item-main : (l : Loaded) → is_part l ≡ false → item_of (row_of_loaded l) ≡ main l.key
 item-main l e = go l.role refl where
-  go : (r : Role) → l.role ≡ r → item_of (row_of l) ≡ main l.key
+  go : (r : Role) → l.role ≡ r → item_of (row_of_loaded l) ≡ main l.key
   go IsPlain h = rw h refl
   go (IsParent index) h = rw h refl
   go (IsPart name index) h = let bad : true ≡ false = ap is_part_role (sym h) ∙ e in absurd (cc)
@@ -81,14 +81,14 @@ module _ (view : View) (state : State) (layout : Layout) (rep : Represents view 
   in-chain bucket contents below there = record-at contents (rep.holds.lies.unchained bucket contents below (subst (λ (ws : List ℕ). is_among ws contents ≡ true) (chains-are view state layout rep bucket below) there))
 
   -- a record of a chain has a key
-  has-key : (w : ℕ) → IsRecordAt w → HasReadableKey view.store w
+  has-key : (w : ℕ) → IsRecordAt w → HasCheckedKey view.store w
   has-key w r = record {
     fields = r.fields;
     here = subst (λ (x : ℕ). view.store.entry x ≡ Some r.fields) r.contents_is r.facts.entry;
     checks = r.facts.checks;
     long = subst (λ (x : ℕ). is_key_length x r.fields ≡ true) r.contents_is r.facts.facts.keyed.key_length;
     key = r.loaded.key;
-    is = subst (λ (x : ℕ). key_of view.store x r.fields ≡ Some r.loaded.key) r.contents_is r.facts.facts.keyed.key;
+    is = subst (λ (x : ℕ). stored_key view.store x r.fields ≡ Some r.loaded.key) r.contents_is r.facts.facts.keyed.key;
   }
 
   chain-few : (bucket : ℕ) → bucket < table_length → length (chain view.store bucket).reached ≤ 131072
@@ -106,7 +106,7 @@ module _ (view : View) (state : State) (layout : Layout) (rep : Represents view 
     fields-are = some_inj (sym at.facts.entry ∙ ap view.store.entry at.contents_is ∙ name.here)
 
     key-is : at.loaded.key ≡ key
-    key-is = some_inj (sym at.facts.facts.keyed.key ∙ ap (λ (x : ℕ). key_of view.store x at.fields) at.contents_is ∙ ap (λ (e : RecordFields). key_of view.store entry e) fields-are ∙ name.key)
+    key-is = some_inj (sym at.facts.facts.keyed.key ∙ ap (λ (x : ℕ). stored_key view.store x at.fields) at.contents_is ∙ ap (λ (e : RecordFields). stored_key view.store entry e) fields-are ∙ name.key)
 
     plain : is_part at.loaded ≡ false
     plain = sym (role-part at.fields at.loaded.key at.loaded.streams at.loaded.role at.facts.facts.role) ∙ ap (λ (e : RecordFields). e.flags == child) fields-are ∙ name.flag
@@ -133,7 +133,7 @@ module _ (view : View) (state : State) (layout : Layout) (rep : Represents view 
       by (Some number) e laid = (number, e)
       by None e laid = absurd (none (model.row_of state (main key)) (no-row state key e) laid.row)
         where
-          none : (o : Option Row) → o ≡ None → o ≡ Some (row_of laid.loaded) → ⊥
+          none : (o : Option Row) → o ≡ None → o ≡ Some (row_of_loaded laid.loaded) → ⊥
           none o e h = cc
 
     is-live : IsOfLive state layout key entry name.fields.rankings_node
@@ -154,7 +154,7 @@ module _ (view : View) (state : State) (layout : Layout) (rep : Represents view 
     by (Some number) e =
         let listed : is_listed state (main key) ≡ true = first-some state (main key) number valid e in
         let laid : IsPlacedAt state layout (main key) = rep.holds.lies.laid (main key) listed in
-        let m = main-of laid.loaded key (item-row state (main key) (row_of laid.loaded) laid.row) in
+        let m = main-of laid.loaded key (item-row state (main key) (row_of_loaded laid.loaded) laid.row) in
         absurd (load-then view.store (rule_of layout (layout.place (main key))) (layout.place (main key)) laid.loaded (rep.holds.shows.each (layout.place (main key)) laid.loaded laid.here)
         (λ n fields facts.
         let chained = rep.holds.lies.chained (layout.place (main key)) laid.loaded (is_among-node layout state.uses (main key) listed) laid.here in
@@ -164,7 +164,7 @@ module _ (view : View) (state : State) (layout : Layout) (rep : Represents view 
           fields = fields;
           here = ap view.store.entry facts.facts.contents_is ∙ facts.entry;
           hashed = eqb-true _ _ facts.facts.keyed.hashed ∙ ap hash m.0;
-          key = ap (λ (x : ℕ). key_of view.store x fields) facts.facts.contents_is ∙ facts.facts.keyed.key ∙ ap Some m.0;
+          key = ap (λ (x : ℕ). stored_key view.store x fields) facts.facts.contents_is ∙ facts.facts.keyed.key ∙ ap Some m.0;
           flag = role-part fields laid.loaded.key laid.loaded.streams laid.loaded.role facts.facts.role ∙ m.1;
         })))
 

@@ -18,8 +18,8 @@ use Rattle.blk_format.specs.Claims.{Claim}
 use Rattle.blk_volume.specs.View.{StoreView, NodeFields}
 use Rattle.blk_volume.specs.Chains.{chain, bucket_of_hash, Linked, IsChain}
 use Rattle.blk_volume.specs.Loads.{Rule, Loaded, load, all_claims, record_claims}
-use Rattle.blk_volume.specs.Entries.{key_of, stream_of, streams_of}
-use Rattle.blk_volume.specs.Found.{row_of}
+use Rattle.blk_volume.specs.Entries.{stored_key, stored_stream, stored_streams}
+use Rattle.blk_volume.specs.Found.{row_of_loaded}
 use Rattle.blk_volume.specs.Layout.{Layout, is_listed, rule_of, IsPlacedAt, Shows, IsLayoutOf, OneChanged, changed_at, IsChange}
 use Rattle.blk_laws.proofs.Loads.{load-then}
 use Rattle.blk_laws.proofs.Loading.{load-from}
@@ -119,11 +119,11 @@ module _ (m : State) (valid : IsValidState m) (number : ℕ) (o : Object) (b : B
       owned-after : model.owner_object (record m { objects = set m.objects number (Some (record o { settled = b })) }) (main o.key) ≡ Some (record o { settled = b })
       owned-after = rw (owner-same (main o.key), main-owned) at-number
 
-      laid-row : model.row_of m (main o.key) ≡ Some (row_of l)
+      laid-row : model.row_of m (main o.key) ≡ Some (row_of_loaded l)
       laid-row =
           let q : IsPlacedAt m y (main o.key) = r.laid (main o.key) main-listed in
           let s : q.loaded ≡ l = let z : y.at (y.place (main o.key)) ≡ Some q.loaded = q.here in let t : y.at (y.place (main o.key)) ≡ Some l = at in cc in
-          q.row ∙ ap (λ (z : Loaded). Some (row_of z)) s
+          q.row ∙ ap (λ (z : Loaded). Some (row_of_loaded z)) s
 
     pub settle-lies : IsLayoutOf (record m { objects = set m.objects number (Some (record o { settled = b })) }) (changed_at y (y.place (main o.key)) (record l { dirty = d }) y.owner)
     settle-lies = lies-changed m (set m.objects number (Some (record o { settled = b }))) y (main o.key) l (record l { dirty = d }) y.owner r settle-one main-listed at settle-change
@@ -133,7 +133,7 @@ module _ (m : State) (valid : IsValidState m) (number : ℕ) (o : Object) (b : B
 -- a node with another dirty word loads so
 pub load-named : (v : StoreView) (f : ℕ → Option NodeFields) (rule : Rule) (w d : ℕ) (l : Loaded) → rule.clean ≡ false → rule.chained ≡ false → ((n : NodeFields) → v.node_fields w ≡ Some n → n.dirty ≡ l.dirty → f w ≡ Some (record n { dirty = d }))
     → load v rule w ≡ Ok l → load (record v { node_fields = f }) rule w ≡ Ok (record l { dirty = d })
-unfolding key_of streams_of stream_of
+unfolding stored_key stored_streams stored_stream
 load-named v f rule w d l any free is ok = load-then v rule w l ok (λ n e g.
     let r = g.facts in let k = r.keyed in
     load-from (record v { node_fields = f }) rule w (record l { dirty = d }) (record n { dirty = d }) e (record {

@@ -3,7 +3,7 @@ use Rattle.std.proofs.Common.{◌≡◌, ◌≢◌, ℕ, List, [], ◌∷◌, �
 use Rattle.std.specs.Prelude.{if◌then◌else◌, not, ◌&&◌, ◌||◌, ◌==◌, nat_lt, is_err, length}
 use Rattle.std.specs.Option.{option_and_then}
 use Rattle.std.specs.List.{list_any, flat_map, filter, filter_map, cons_option, AllByRecursion}
-use Rattle.std.proofs.lemmas.Bool.{eq-eqb, cases_Bool, or_parts, or_left, or_right}
+use Rattle.std.proofs.lemmas.Bool.{eq-eqb, cases_Bool, or_parts, or_left, or_right, or_from}
 use Rattle.std.proofs.lemmas.Bool.Decides.{eqb_tells}
 use Rattle.std.proofs.lemmas.List.Folds.{list_any-append}
 use Rattle.std.proofs.Math.Dec.{eqb}
@@ -101,12 +101,9 @@ node-is v rule w l ok = load-then v rule w l ok (λ n e facts. facts.facts.node_
 
 -- ---- claims
 
-has_claim-append : (xs ys : List Claim) (c : Claim) → has_claim (xs ++ ys) c ≡ (has_claim xs c || has_claim ys c)
+pub has_claim-append : (xs ys : List Claim) (c : Claim) → has_claim (xs ++ ys) c ≡ (has_claim xs c || has_claim ys c)
 unfolding has_claim
 has_claim-append xs ys c = list_any-append (same_claim c) xs ys
-
-neither : (a b : Bool) → a ≡ false → b ≡ false → (a || b) ≡ false
-neither a b p q = rw (p, q) refl
 
 overlap-append : (xs ys zs : List Claim) → overlap xs zs ≡ false → overlap ys zs ≡ false → overlap (xs ++ ys) zs ≡ false
 unfolding overlap
@@ -114,7 +111,7 @@ overlap-append xs ys [] p q = refl
 overlap-append xs ys (c ∷ zs) p q =
     let a = or_parts (has_claim xs c) (list_any (has_claim xs) zs) p in
     let b = or_parts (has_claim ys c) (list_any (has_claim ys) zs) q in
-    neither (has_claim (xs ++ ys) c) (list_any (has_claim (xs ++ ys)) zs) (has_claim-append xs ys c ∙ neither (has_claim xs c) (has_claim ys c) a.0 b.0) (overlap-append xs ys zs a.1 b.1)
+    or_from (has_claim (xs ++ ys) c) (list_any (has_claim (xs ++ ys)) zs) (has_claim-append xs ys c ∙ or_from (has_claim xs c) (has_claim ys c) a.0 b.0) (overlap-append xs ys zs a.1 b.1)
 
 overlap-none : (zs : List Claim) → overlap [] zs ≡ false
 unfolding overlap has_claim
@@ -146,7 +143,7 @@ module _ (v : StoreView) (rule : Rule) (ws : List ℕ) (given : ℕ → Option L
   unfolding shares_key
   no_name [] t ts l all among is = refl
   no_name (k ∷ kept) t ts l all among is =
-      neither _ _
+      or_from _ _
       (or_parts _ false (shown.apart k.node t k l all.0.among among (eqb-sym t k.node (or_parts (t == k.node) (is_among ts k.node) all.0.before).0) all.0.is is).names).0
       (no_name kept t ts l all.1 among is)
 
@@ -160,7 +157,7 @@ module _ (v : StoreView) (rule : Rule) (ws : List ℕ) (given : ℕ → Option L
   not_child (t ∷ ts) x isnt all =
       ⊎_elim
       (λ (e : (eqb t x ≡ true) × (t ≡ x)). let yes : is_child v x ≡ true = ap (is_child v) (sym e.1) ∙ all.0 in cc)
-      (λ (e : (eqb t x ≡ false) × _). neither (t == x) (is_among ts x) e.0 (not_child ts x isnt all.1))
+      (λ (e : (eqb t x ≡ false) × _). or_from (t == x) (is_among ts x) e.0 (not_child ts x isnt all.1))
       (eqb_tells t x)
 
   parent-no_part : (name : Name) (k : Loaded) → is_parent_of name k ≡ true → is_part k ≡ false
@@ -184,7 +181,7 @@ module _ (v : StoreView) (rule : Rule) (ws : List ℕ) (given : ℕ → Option L
         let isnt : is_child v p.at ≡ false = child-part v rule p.at p.parent (shown.loads p.at p.parent p.among p.is) ∙ parent-no_part name p.parent p.of in
         let yes : is_child v t ≡ true = flag ∙ ap is_part_role e in
         let other : (t == p.at) ≡ false = ⊎_elim (λ (x : (eqb t p.at ≡ true) × (t ≡ p.at)). let c : is_child v t ≡ is_child v p.at = ap (is_child v) x.1 in cc) (λ (x : (eqb t p.at ≡ false) × _). x.0) (eqb_tells t p.at) in
-        let gone : is_among (t ∷ ts) p.at ≡ false = neither (t == p.at) (is_among ts p.at) other (not_child ts p.at isnt (last.0 yes)) in
+        let gone : is_among (t ∷ ts) p.at ≡ false = or_from (t == p.at) (is_among ts p.at) other (not_child ts p.at isnt (last.0 yes)) in
         rw (far.all p.at p.parent (is_parent_of name) p.among p.is gone p.of) refl
 
   -- the verdict on a given one
@@ -196,7 +193,7 @@ module _ (v : StoreView) (rule : Rule) (ws : List ℕ) (given : ℕ → Option L
   -- an orphan finds no parent among what was given
   orphan-none : (name : Name) (kept : List Loaded) (ts : List ℕ) → ((x : ℕ) (k : Loaded) → is_among ws x ≡ true → given x ≡ Some k → is_parent_of name k ≡ false) → AllByRecursion (IsGivenBefore ts) kept → list_any (is_parent_of name) kept ≡ false
   orphan-none name [] ts none all = refl
-  orphan-none name (k ∷ kept) ts none all = neither (is_parent_of name k) (list_any (is_parent_of name) kept) (none k.node k all.0.among all.0.is) (orphan-none name kept ts none all.1)
+  orphan-none name (k ∷ kept) ts none all = or_from (is_parent_of name k) (list_any (is_parent_of name) kept) (none k.node k all.0.among all.0.is) (orphan-none name kept ts none all.1)
 
   verdict-out : (kept : List Loaded) (t : ℕ) (ts : List ℕ) → IsSoFar kept (t ∷ ts) → is_among ws t ≡ true → given t ≡ None → is_err (verdict v rule kept t) ≡ true
   unfolding admit is_orphan
@@ -230,7 +227,7 @@ module _ (v : StoreView) (rule : Rule) (ws : List ℕ) (given : ℕ → Option L
         all = λ x k p here there gone yes. list_any-append p kept (l ∷ []) ∙
             ⊎_elim
             (λ (e : (eqb t x ≡ true) × (t ≡ x)). let same : k ≡ l = let a : given t ≡ given x = ap given e.1 in cc in or_right (list_any p kept) (p l || false) (or_left (p l) false (ap p (sym same) ∙ yes)))
-            (λ (e : (eqb t x ≡ false) × _). or_left (list_any p kept) (p l || false) (far.all x k p here there (neither (t == x) (is_among ts x) e.0 gone) yes))
+            (λ (e : (eqb t x ≡ false) × _). or_left (list_any p kept) (p l || false) (far.all x k p here there (or_from (t == x) (is_among ts x) e.0 gone) yes))
             (eqb_tells t x);
       }
 
@@ -241,7 +238,7 @@ module _ (v : StoreView) (rule : Rule) (ws : List ℕ) (given : ℕ → Option L
         all = λ x k p here there gone yes.
             ⊎_elim
             (λ (e : (eqb t x ≡ true) × (t ≡ x)). let a : given t ≡ given x = ap given e.1 in cc)
-            (λ (e : (eqb t x ≡ false) × _). far.all x k p here there (neither (t == x) (is_among ts x) e.0 gone) yes)
+            (λ (e : (eqb t x ≡ false) × _). far.all x k p here there (or_from (t == x) (is_among ts x) e.0 gone) yes)
             (eqb_tells t x);
       }
 
@@ -287,7 +284,7 @@ module _ (v : StoreView) (rule : Rule) (ws : List ℕ) (given : ℕ → Option L
   tried-last [] (y ∷ ys) a b = ((λ _. b.1), tried-last [] ys tt b.1)
   tried-last (x ∷ xs) ys a b = ((λ e. absurd (let c : false ≡ true = sym a.0 ∙ e in cc)), tried-last xs ys a.1 b)
 
-filter-all : (p : ℕ → Bool) (xs : List ℕ) → AllByRecursion (λ x. p x ≡ true) (filter p xs)
+pub filter-all : (p : ℕ → Bool) (xs : List ℕ) → AllByRecursion (λ x. p x ≡ true) (filter p xs)
 filter-all p [] = tt
 filter-all p (x ∷ xs) = ⊎_elim (λ (e : p x ≡ true). rw e (e, filter-all p xs)) (λ (e : p x ≡ false). rw e (filter-all p xs)) (cases_Bool (p x))
 
@@ -317,7 +314,7 @@ pub Distinct-filter : (p : ℕ → Bool) (xs : List ℕ) → Distinct xs → Dis
 Distinct-filter p [] d = tt
 Distinct-filter p (x ∷ xs) d = ⊎_elim (λ (e : p x ≡ true). rw e (is_among-filter p xs x ∙ rw (e, d.0) refl, Distinct-filter p xs d.1)) (λ (e : p x ≡ false). rw e (Distinct-filter p xs d.1)) (cases_Bool (p x))
 
-Distinct-append : (xs ys : List ℕ) → Distinct xs → Distinct ys → AllByRecursion (λ x. is_among ys x ≡ false) xs → Distinct (xs ++ ys)
+pub Distinct-append : (xs ys : List ℕ) → Distinct xs → Distinct ys → AllByRecursion (λ x. is_among ys x ≡ false) xs → Distinct (xs ++ ys)
 Distinct-append [] ys a b h = b
 Distinct-append (x ∷ xs) ys a b h = (is_among-append xs ys x ∙ rw (a.0, h.0) refl, Distinct-append xs ys a.1 b h.1)
 

@@ -21,7 +21,7 @@ use Rattle.blk_volume.specs.Walk.{walk, walk_from}
 use Rattle.blk_volume.specs.Completion.{counts, completed_list}
 use Rattle.blk_volume.specs.View.{view_of, list_of, checks_at, next_at, prev_at, store_of, node_fields_at, fields_at, follow_at, key_place_at, stored_at}
 use Rattle.blk_volume.specs.Chains.{chain, chain_from}
-use Rattle.blk_volume.specs.Entries.{IsPlain, is_key_length, key_of, stream_of, streams_of, role_of}
+use Rattle.blk_volume.specs.Entries.{IsPlain, is_key_length, stored_key, stored_stream, stored_streams, role_of}
 use Rattle.blk_volume.specs.Reasons.{Reason}
 use Rattle.blk_volume.specs.Reasons as reason
 use Rattle.blk_volume.specs.Loads.{held_rule, Loaded, load, load_key, load_record, record_claims, all_claims}
@@ -61,7 +61,7 @@ small_is_well_formed = refl
 
 -- it holds the entry
 pub small_is_found : found (folder_with small_records) ≡ main_row (codes "a") plain (codes "zz", [], []) ∷ []
-unfolding folder_with zeros with_word spliced unfinished next_file_in max_entries_in linked files_along kind_among found kept kept_among verdicts load load_record load_key is_key_length key_of stream_of streams_of role_of shares_key is_orphan record_claims all_claims claims_of has_claim overlap repeats admit walk walk_from chain_from completed_list counts list_of checks_at next_at prev_at store_of node_fields_at fields_at follow_at key_place_at stored_at stands stands_as_blocks is_address is_initialized names_external names_blocks kind_of reserved_bits block_count file_selector first_block external_number block_size block_place place byte_size kind_for blocks_for entry_blocks is_storage node_checks node_is_sealed entry_checks entry_is_sealed node_in node_body entry_in entry_body range_at words_at hash mixed of_bytes of_four of_three of_two of_one
+unfolding folder_with zeros with_word spliced unfinished next_file_in max_entries_in linked files_along kind_among found kept kept_among verdicts load load_record load_key is_key_length stored_key stored_stream stored_streams role_of shares_key is_orphan record_claims all_claims claims_of has_claim overlap repeats admit walk walk_from chain_from completed_list counts list_of checks_at next_at prev_at store_of node_fields_at fields_at follow_at key_place_at stored_at stands stands_as_blocks is_address is_initialized names_external names_blocks kind_of reserved_bits block_count file_selector first_block external_number block_size block_place place byte_size kind_for blocks_for entry_blocks is_storage node_checks node_is_sealed entry_checks entry_is_sealed node_in node_body entry_in entry_body range_at words_at hash mixed of_bytes of_four of_three of_two of_one
 small_is_found = refl
 
 -- ---- a folder of two closed entries with no streams, `a` at block 0 of data_1 and `b` at block 1
@@ -82,7 +82,7 @@ abbrev pair_records : List ℕ
 pair_records = with_words (new_file_words 1 ++ (20, 1024) ∷ (8192, 0x115EA782) ∷ (8200, 0x90000000) ∷ (8224, 1) ∷ (8288, 97) ∷ (8448, 0x70C1A0E1) ∷ (8456, 0x90000001) ∷ (8480, 1) ∷ (8544, 98) ∷ []) (zeros 8704)
 
 -- the folder, where data_1 is cut to so many bytes
-unfoldable cut_to : ℕ → Image
+unfoldable pub cut_to : ℕ → Image
 cut_to size Index = Some pair_index
 cut_to size (Block zero) = Some pair_nodes
 cut_to size (Block (suc zero)) = Some (take size pair_records)
@@ -91,27 +91,27 @@ cut_to size (Block (suc (suc (suc zero)))) = Some (with_words (new_file_words 3)
 cut_to size _ = None
 
 -- where block 1 isn't there, no check fails
-cut_is_well_formed : first_damage (cut_to 8448) ≡ None
+pub cut_is_well_formed : first_damage (cut_to 8448) ≡ None
 unfolding cut_to head_checks list_checks checks_of_kind checks_along file_checks next_file_in is_link is_block_count linked_up_to linked files_along zeros with_word spliced block_size
 cut_is_well_formed = refl
 
 -- what a node names, whose record is this, with a key and no streams
-abbrev without_streams : ℕ → ℕ → List ℕ → Loaded
+abbrev pub without_streams : ℕ → ℕ → List ℕ → Loaded
 without_streams node contents key = record { node = node; contents = contents; dirty = 0; key = key; role = IsPlain; streams = [] ∷ [] ∷ [] ∷ []; others = 0 ∷ 0 ∷ 0 ∷ 0 ∷ 0 ∷ [] }
 
 -- both nodes are walked
-cut_is_walked : walk (completed_list (list_of (cut_to 8448))) ≡ 0x90000000 ∷ 0x90000001 ∷ []
+pub cut_is_walked : walk (completed_list (list_of (cut_to 8448))) ≡ 0x90000000 ∷ 0x90000001 ∷ []
 unfolding cut_to zeros with_word spliced next_file_in max_entries_in linked files_along kind_among walk walk_from completed_list counts list_of checks_at next_at prev_at stands stands_as_blocks is_address is_initialized names_external names_blocks kind_of reserved_bits block_count file_selector first_block external_number block_size block_place place byte_size node_checks node_is_sealed node_in node_body words_at hash mixed of_bytes of_four
 cut_is_walked = refl
 
 -- that whose record is block 0 is kept, and the other is dropped, since its contents name no record
 cut_is_judged : judged (store_of (cut_to 8448)) held_rule (0x90000000 ∷ 0x90000001 ∷ []) ≡ (0x90000000, Ok (without_streams 0x90000000 0xA0010000 (codes "a"))) ∷ (0x90000001, Err reason.Contents) ∷ []
-unfolding cut_to zeros with_word spliced next_file_in max_entries_in linked files_along kind_among verdicts load load_record load_key is_key_length key_of stream_of streams_of role_of shares_key is_orphan record_claims all_claims claims_of has_claim overlap repeats admit chain_from store_of node_fields_at fields_at follow_at key_place_at stored_at stands stands_as_blocks is_address is_initialized names_external names_blocks kind_of reserved_bits block_count file_selector first_block external_number block_size block_place place byte_size kind_for blocks_for entry_blocks is_storage entry_checks entry_is_sealed node_in entry_in entry_body range_at words_at hash mixed of_bytes of_four of_three of_two of_one
+unfolding cut_to zeros with_word spliced next_file_in max_entries_in linked files_along kind_among verdicts load load_record load_key is_key_length stored_key stored_stream stored_streams role_of shares_key is_orphan record_claims all_claims claims_of has_claim overlap repeats admit chain_from store_of node_fields_at fields_at follow_at key_place_at stored_at stands stands_as_blocks is_address is_initialized names_external names_blocks kind_of reserved_bits block_count file_selector first_block external_number block_size block_place place byte_size kind_for blocks_for entry_blocks is_storage entry_checks entry_is_sealed node_in entry_in entry_body range_at words_at hash mixed of_bytes of_four of_three of_two of_one
 cut_is_judged = refl
 
 -- with block 1 the other is loaded too
 whole_loads : load (store_of (cut_to 8704)) held_rule 0x90000001 ≡ Ok (without_streams 0x90000001 0xA0010001 (codes "b"))
-unfolding cut_to zeros with_word spliced next_file_in max_entries_in linked files_along kind_among load load_record load_key is_key_length key_of stream_of streams_of role_of chain_from store_of node_fields_at fields_at follow_at key_place_at stored_at stands stands_as_blocks is_address is_initialized names_external names_blocks kind_of reserved_bits block_count file_selector first_block external_number block_size block_place place byte_size kind_for blocks_for entry_blocks is_storage entry_checks entry_is_sealed node_in entry_in entry_body range_at words_at hash mixed of_bytes of_four of_three of_two of_one
+unfolding cut_to zeros with_word spliced next_file_in max_entries_in linked files_along kind_among load load_record load_key is_key_length stored_key stored_stream stored_streams role_of chain_from store_of node_fields_at fields_at follow_at key_place_at stored_at stands stands_as_blocks is_address is_initialized names_external names_blocks kind_of reserved_bits block_count file_selector first_block external_number block_size block_place place byte_size kind_for blocks_for entry_blocks is_storage entry_checks entry_is_sealed node_in entry_in entry_body range_at words_at hash mixed of_bytes of_four of_three of_two of_one
 whole_loads = refl
 
 cut_is_finished : unfinished (cut_to 8448) ≡ false
@@ -122,6 +122,11 @@ cut_is_finished = refl
 cut_is_found : found (cut_to 8448) ≡ main_row (codes "a") plain ([], [], []) ∷ []
 unfolding found kept kept_among
 cut_is_found = rw (cut_is_finished, cut_is_walked, cut_is_judged) refl
+
+-- that of the first is all that is kept
+pub cut_is_kept : kept (cut_to 8448) ≡ without_streams 0x90000000 0xA0010000 (codes "a") ∷ []
+unfolding kept kept_among
+cut_is_kept = rw (cut_is_walked, cut_is_judged) refl
 
 -- no record is unlisted: that of the first is of a walked node, and the other isn't reached
 its_chains : ((chain (store_of (cut_to 8448)) 0xA782).reached ≡ 0xA0010000 ∷ []) × ((chain (store_of (cut_to 8448)) 0xA0E1).reached ≡ [])
@@ -169,5 +174,5 @@ cut_is_dropped = rw (cut_is_walked, cut_is_judged, none_unlisted) refl
 
 -- with one byte less neither is held
 less_is_found : found (cut_to 8447) ≡ []
-unfolding cut_to zeros with_word spliced unfinished next_file_in max_entries_in linked files_along kind_among found kept kept_among verdicts load load_record load_key is_key_length key_of stream_of streams_of role_of shares_key is_orphan record_claims all_claims claims_of has_claim overlap repeats admit walk walk_from chain_from completed_list counts list_of checks_at next_at prev_at store_of node_fields_at fields_at follow_at key_place_at stored_at stands stands_as_blocks is_address is_initialized names_external names_blocks kind_of reserved_bits block_count file_selector first_block external_number block_size block_place place byte_size kind_for blocks_for entry_blocks is_storage node_checks node_is_sealed entry_checks entry_is_sealed node_in node_body entry_in entry_body range_at words_at hash mixed of_bytes of_four of_three of_two of_one
+unfolding cut_to zeros with_word spliced unfinished next_file_in max_entries_in linked files_along kind_among found kept kept_among verdicts load load_record load_key is_key_length stored_key stored_stream stored_streams role_of shares_key is_orphan record_claims all_claims claims_of has_claim overlap repeats admit walk walk_from chain_from completed_list counts list_of checks_at next_at prev_at store_of node_fields_at fields_at follow_at key_place_at stored_at stands stands_as_blocks is_address is_initialized names_external names_blocks kind_of reserved_bits block_count file_selector first_block external_number block_size block_place place byte_size kind_for blocks_for entry_blocks is_storage node_checks node_is_sealed entry_checks entry_is_sealed node_in node_body entry_in entry_body range_at words_at hash mixed of_bytes of_four of_three of_two of_one
 less_is_found = refl

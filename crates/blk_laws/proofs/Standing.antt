@@ -18,10 +18,10 @@ use Rattle.blk_volume.specs.View.{View, RecordFields, view_of}
 use Rattle.blk_volume.specs.Chains.{Chain}
 use Rattle.blk_volume.specs.Loads.{Rule, listed_rule, Loaded, load, all_claims, claims_of_loaded}
 use Rattle.blk_volume.specs.Audit.{kept_by, kept_among}
-use Rattle.blk_volume.specs.Found.{row_of, kept, found}
+use Rattle.blk_volume.specs.Found.{row_of_loaded, kept, found}
 use Rattle.blk_volume.specs.Layout.{Layout, is_listed, order, rule_of, HasDirtyMark, IsPlacedAt, IsListedRecord, IsDoomedAt, IsLayoutOf, Represents}
 use Rattle.blk_volume.specs.Given.{given_by}
-use Rattle.blk_volume.specs.StandsFor.{KeepsDoomed, AreDoomed, ShowsState, StandsFor, doomed_of, IsOwner, IsAllocated}
+use Rattle.blk_volume.specs.StandsFor.{KeepsDoomed, AreDoomed, ShowsState, StandsFor, doomed_of, IsOwner, AllIsOwned}
 use Rattle.blk_volume.specs.Sound.{EndsWhole, AreOwned, IsInOrder}
 use Rattle.blk_laws.specs.StateLaws.{FoundIsAtRest}
 use Rattle.blk_laws.proofs.ClaimLists.{claim-append, no-claim, repeats-append, contents-claims, some-claim}
@@ -123,7 +123,7 @@ module _ (image : Image) (m : State) (y : Layout) (r : Represents (view_of image
         same None = refl
         same (Some l) = refl
 
-module _ (image : Image) (m : State) (y : Layout) (r : Represents (view_of image) m y) (valid : IsValidState m) (numbers : List ℕ) (a : IsAllocated image m y numbers) where
+module _ (image : Image) (m : State) (y : Layout) (r : Represents (view_of image) m y) (valid : IsValidState m) (numbers : List ℕ) (a : AllIsOwned image m y numbers) where
   v : View
   v = view_of image
 
@@ -138,16 +138,16 @@ module _ (image : Image) (m : State) (y : Layout) (r : Represents (view_of image
   exactly = claimed-exactly y lies.own lies.single m (map y.place_of_doomed numbers) a.exact
 
   -- marks
-  mark-of : (i : Item) (l : Loaded) → is_listed m i ≡ true → y.at (y.place i) ≡ Some l → HasDirtyMark m (item_of (row_of l)) l
+  mark-of : (i : Item) (l : Loaded) → is_listed m i ≡ true → y.at (y.place i) ≡ Some l → HasDirtyMark m (item_of (row_of_loaded l)) l
   mark-of i l there here =
       let q : IsPlacedAt m y i = lies.laid i there in
       let same : q.loaded ≡ l = let s : y.at (y.place i) ≡ Some q.loaded = q.here in let t : y.at (y.place i) ≡ Some l = here in cc in
       subst (λ (j : Item). HasDirtyMark m j l) (sym (item-of m y lies.laid i l there here)) (subst (HasDirtyMark m i) same q.mark)
 
-  marks-of : (ws : List ℕ) → ((w : ℕ) → is_among ws w ≡ true → is_among (order m y) w ≡ true) → AllByRecursion (λ k. HasDirtyMark m (item_of (row_of k)) k) (filter_map y.at ws)
+  marks-of : (ws : List ℕ) → ((w : ℕ) → is_among ws w ≡ true → is_among (order m y) w ≡ true) → AllByRecursion (λ k. HasDirtyMark m (item_of (row_of_loaded k)) k) (filter_map y.at ws)
   marks-of [] sub = tt
   marks-of (w ∷ ws) sub = go (y.at w) refl (marks-of ws (λ x h. sub x (or_right (w == x) (is_among ws x) h))) where
-    go : (o : Option Loaded) → y.at w ≡ o → AllByRecursion (λ k. HasDirtyMark m (item_of (row_of k)) k) (filter_map y.at ws) → AllByRecursion (λ k. HasDirtyMark m (item_of (row_of k)) k) (cons_option o (filter_map y.at ws))
+    go : (o : Option Loaded) → y.at w ≡ o → AllByRecursion (λ k. HasDirtyMark m (item_of (row_of_loaded k)) k) (filter_map y.at ws) → AllByRecursion (λ k. HasDirtyMark m (item_of (row_of_loaded k)) k) (cons_option o (filter_map y.at ws))
     go None is rest = rest
     go (Some l) is rest =
         let n : IsNodeOf y m.uses w = node-of y m.uses w (sub w (or_left (w == w) (is_among ws w) (eq-eqb w w refl))) in

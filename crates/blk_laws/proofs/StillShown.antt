@@ -7,10 +7,10 @@ use Rattle.blk_image.specs.Bytes.{word_at}
 use Rattle.blk_image.specs.Image.{Index, Image, byte}
 use Rattle.blk_image.specs.Footprint.{SameOutside}
 use Rattle.blk_format.specs.Address.{kind_of, file_selector, external, rankings, blocks_256}
-use Rattle.blk_format.specs.Storage.{is_storage, kind_for}
+use Rattle.blk_format.specs.Storage.{is_storage, kind_for, longest_short_key}
 use Rattle.blk_format.specs.BlockFiles.{linked_as, stands_in}
 use Rattle.blk_volume.specs.View.{RecordFields, stands_as, list_of, checks_at, next_at, prev_at, store_of, node_fields_at, fields_at, follow_at, stored_at}
-use Rattle.blk_volume.specs.Entries.{is_key_length, longest_short_key}
+use Rattle.blk_volume.specs.Entries.{is_key_length}
 use Rattle.blk_laws.proofs.ByteChanges.{stands-linked}
 use Rattle.blk_format.specs.Sealed.{BeginsWithRecord, record_range}
 use Rattle.blk_laws.proofs.Inside.{IsElsewhere, elsewhere-clear, record-blocky, record-changes, record-elsewhere}

@@ -22,7 +22,7 @@ use Rattle.blk_volume.specs.Entries.{Role, IsPlain, IsParent, IsPart}
 use Rattle.blk_volume.specs.Reasons.{Reason}
 use Rattle.blk_volume.specs.Loads.{Rule, held_rule, listed_rule, Loaded, load}
 use Rattle.blk_volume.specs.Audit.{verdict, with_verdict, verdicts, verdict_on, judged, tried, kept_of, dropped_of, kept_as, is_kept, kept_among, dropped_among, kept_by, is_parent_of}
-use Rattle.blk_volume.specs.Found.{row_with, row_of, kept, found}
+use Rattle.blk_volume.specs.Found.{row_with, row_of_loaded, kept, found}
 use Rattle.blk_volume.specs.Layout.{HasDirtyMark}
 use Rattle.blk_volume.specs.Shown.{IsShown, IsOrphanIn, HasParentIn}
 use Rattle.blk_volume.specs.StandsFor.{ShowsState}
@@ -68,7 +68,7 @@ all-at P f (x ∷ xs) all w l among is = ⊎_elim
     rest None e = e
     rest (Some a) e = e.1
 
-of-rows : (Q : Row → Type 0) (ls : List Loaded) → AllByRecursion Q (map row_of ls) → AllByRecursion (λ (l : Loaded). Q (row_of l)) ls
+of-rows : (Q : Row → Type 0) (ls : List Loaded) → AllByRecursion Q (map row_of_loaded ls) → AllByRecursion (λ (l : Loaded). Q (row_of_loaded l)) ls
 of-rows Q [] all = tt
 of-rows Q (l ∷ ls) all = (all.0, of-rows Q ls all.1)
 
@@ -212,31 +212,31 @@ module _ (view : View) (state : State) (shows : ShowsState view state) where
   unfolding kept_among
   listed-is = refl
 
-  row-at : (w : ℕ) (l : Loaded) → is_among (walk view.list) w ≡ true → K w ≡ Some l → model.row_of state (item_of (row_of l)) ≡ Some (row_of l)
+  row-at : (w : ℕ) (l : Loaded) → is_among (walk view.list) w ≡ true → K w ≡ Some l → model.row_of state (item_of (row_of_loaded l)) ≡ Some (row_of_loaded l)
   unfolding model.rows
   row-at w l among is =
-      all-at (λ (l : Loaded). model.row_of state (item_of (row_of l)) ≡ Some (row_of l)) K (walk view.list)
+      all-at (λ (l : Loaded). model.row_of state (item_of (row_of_loaded l)) ≡ Some (row_of_loaded l)) K (walk view.list)
       (of-rows (λ (r : Row). model.row_of state (item_of r) ≡ Some r) (filter_map K (walk view.list))
-      (subst (AllByRecursion (λ (r : Row). model.row_of state (item_of r) ≡ Some r)) (sym shows.rows ∙ ap (map row_of) listed-is) (own-rows state shows.valid state.uses)))
+      (subst (AllByRecursion (λ (r : Row). model.row_of state (item_of r) ≡ Some r)) (sym shows.rows ∙ ap (map row_of_loaded) listed-is) (own-rows state shows.valid state.uses)))
       w l among is
 
-  mark-at : (w : ℕ) (l : Loaded) → is_among (walk view.list) w ≡ true → K w ≡ Some l → HasDirtyMark state (item_of (row_of l)) l
-  mark-at w l among is = all-at (λ (l : Loaded). HasDirtyMark state (item_of (row_of l)) l) K (walk view.list) (subst (AllByRecursion (λ (l : Loaded). HasDirtyMark state (item_of (row_of l)) l)) listed-is shows.marks) w l among is
+  mark-at : (w : ℕ) (l : Loaded) → is_among (walk view.list) w ≡ true → K w ≡ Some l → HasDirtyMark state (item_of (row_of_loaded l)) l
+  mark-at w l among is = all-at (λ (l : Loaded). HasDirtyMark state (item_of (row_of_loaded l)) l) K (walk view.list) (subst (AllByRecursion (λ (l : Loaded). HasDirtyMark state (item_of (row_of_loaded l)) l)) listed-is shows.marks) w l among is
 
   abbrev good : Loaded → Bool
-  good l = is_settled_item state shows.valid (item_of (row_of l))
+  good l = is_settled_item state shows.valid (item_of (row_of_loaded l))
 
   abbrev G : ℕ → Option Loaded
   G w = option_and_then (λ (l : Loaded). if good l then Some l else None) (K w)
 
-  part-item : (l : Loaded) (name : Name) (index : PartIndex) → l.role ≡ IsPart name index → item_of (row_of l) ≡ part name.key name.part
+  part-item : (l : Loaded) (name : Name) (index : PartIndex) → l.role ≡ IsPart name index → item_of (row_of_loaded l) ≡ part name.key name.part
   part-item l name index is = ap (λ (r : Role). item_of (row_with l.key r l.streams)) is
 
   -- a kept part is settled exactly where its kept parent is
   good-part : (w : ℕ) (l p : Loaded) (name : Name) (index : PartIndex) → is_among (walk view.list) w ≡ true → K w ≡ Some l → l.role ≡ IsPart name index → is_parent_of name p ≡ true → good l ≡ good p
   good-part w l p name index among is role of =
-      let i : item_of (row_of l) ≡ part name.key name.part = part-item l name index role in
-      ap (is_settled_item state shows.valid) i ∙ part-with-main state shows.valid name.key name.part (row_of l) (ap (model.row_of state) (sym i) ∙ row-at w l among is)
+      let i : item_of (row_of_loaded l) ≡ part name.key name.part = part-item l name index role in
+      ap (is_settled_item state shows.valid) i ∙ part-with-main state shows.valid name.key name.part (row_of_loaded l) (ap (model.row_of state) (sym i) ∙ row-at w l among is)
       ∙ ap (is_settled_item state shows.valid) (sym (parent-main name p of))
 
   given-good : (o : Option Loaded) (l : Loaded) → o ≡ Some l → good l ≡ true → option_and_then (λ (k : Loaded). if good k then Some k else None) o ≡ Some l
@@ -268,12 +268,12 @@ module _ (view : View) (state : State) (shows : ShowsState view state) where
         by-role is bad (load-clean view.store held_rule w l ok) l.role refl where
           by-role : K w ≡ Some l → good l ≡ false → (l.dirty == 0) ≡ true → (r : Role) → l.role ≡ r → IsOrphanIn (walk view.list) G l
           by-role is bad clean IsPlain r =
-              let i : item_of (row_of l) ≡ main l.key = ap (λ (x : Role). item_of (row_with l.key x l.streams)) r in
-              let d : (l.dirty == 0) ≡ false = dirty-item state shows.valid l.key l (row_of l) (ap (model.row_of state) (sym i) ∙ row-at w l among is) (subst (λ (x : Item). HasDirtyMark state x l) i (mark-at w l among is)) (ap (is_settled_item state shows.valid) (sym i) ∙ bad) in
+              let i : item_of (row_of_loaded l) ≡ main l.key = ap (λ (x : Role). item_of (row_with l.key x l.streams)) r in
+              let d : (l.dirty == 0) ≡ false = dirty-item state shows.valid l.key l (row_of_loaded l) (ap (model.row_of state) (sym i) ∙ row-at w l among is) (subst (λ (x : Item). HasDirtyMark state x l) i (mark-at w l among is)) (ap (is_settled_item state shows.valid) (sym i) ∙ bad) in
               absurd (let c : true ≡ false = sym clean ∙ d in cc)
           by-role is bad clean (IsParent index) r =
-              let i : item_of (row_of l) ≡ main l.key = ap (λ (x : Role). item_of (row_with l.key x l.streams)) r in
-              let d : (l.dirty == 0) ≡ false = dirty-item state shows.valid l.key l (row_of l) (ap (model.row_of state) (sym i) ∙ row-at w l among is) (subst (λ (x : Item). HasDirtyMark state x l) i (mark-at w l among is)) (ap (is_settled_item state shows.valid) (sym i) ∙ bad) in
+              let i : item_of (row_of_loaded l) ≡ main l.key = ap (λ (x : Role). item_of (row_with l.key x l.streams)) r in
+              let d : (l.dirty == 0) ≡ false = dirty-item state shows.valid l.key l (row_of_loaded l) (ap (model.row_of state) (sym i) ∙ row-at w l among is) (subst (λ (x : Item). HasDirtyMark state x l) i (mark-at w l among is)) (ap (is_settled_item state shows.valid) (sym i) ∙ bad) in
               absurd (let c : true ≡ false = sym clean ∙ d in cc)
           by-role is bad clean (IsPart name index) r = record {
             name = name;
@@ -288,33 +288,33 @@ module _ (view : View) (state : State) (shows : ShowsState view state) where
   held-shown : IsShown view.store held_rule (walk view.list) G
   held-shown = record {
     once = once;
-    loads = λ w l among is. let p = given-parts good (K w) l is in load-cleaned view.store listed_rule held_rule w l refl refl (clean-item state shows.valid (item_of (row_of l)) l (mark-at w l among p.0) p.1) (shown.loads w l among p.0);
+    loads = λ w l among is. let p = given-parts good (K w) l is in load-cleaned view.store listed_rule held_rule w l refl refl (clean-item state shows.valid (item_of (row_of_loaded l)) l (mark-at w l among p.0) p.1) (shown.loads w l among p.0);
     single = λ w l among is. shown.single w l among (given-parts good (K w) l is).0;
     apart = λ one other l k a b ne is are. shown.apart one other l k a b ne (given-parts good (K one) l is).0 (given-parts good (K other) k are).0;
     parents = held-parents;
     out = held-out;
   }
 
-  rows-filtered : (xs : List ℕ) → map row_of (filter_map G xs) ≡ filter (λ (r : Row). is_settled_item state shows.valid (item_of r)) (map row_of (filter_map K xs))
+  rows-filtered : (xs : List ℕ) → map row_of_loaded (filter_map G xs) ≡ filter (λ (r : Row). is_settled_item state shows.valid (item_of r)) (map row_of_loaded (filter_map K xs))
   rows-filtered [] = refl
   rows-filtered (x ∷ xs) = go (K x) (rows-filtered xs) where
-    go : (o : Option Loaded) → map row_of (filter_map G xs) ≡ filter (λ (r : Row). is_settled_item state shows.valid (item_of r)) (map row_of (filter_map K xs))
-        → map row_of (cons_option (option_and_then (λ (l : Loaded). if good l then Some l else None) o) (filter_map G xs)) ≡ filter (λ (r : Row). is_settled_item state shows.valid (item_of r)) (map row_of (cons_option o (filter_map K xs)))
+    go : (o : Option Loaded) → map row_of_loaded (filter_map G xs) ≡ filter (λ (r : Row). is_settled_item state shows.valid (item_of r)) (map row_of_loaded (filter_map K xs))
+        → map row_of_loaded (cons_option (option_and_then (λ (l : Loaded). if good l then Some l else None) o) (filter_map G xs)) ≡ filter (λ (r : Row). is_settled_item state shows.valid (item_of r)) (map row_of_loaded (cons_option o (filter_map K xs)))
     go None more = more
     go (Some l) more = test (good l) where
-      test : (b : Bool) → map row_of (cons_option (if b then Some l else None) (filter_map G xs)) ≡ (if b then (row_of l ∷ filter (λ (r : Row). is_settled_item state shows.valid (item_of r)) (map row_of (filter_map K xs))) else filter (λ (r : Row). is_settled_item state shows.valid (item_of r)) (map row_of (filter_map K xs)))
-      test true = ap (λ (rs : List Row). row_of l ∷ rs) more
+      test : (b : Bool) → map row_of_loaded (cons_option (if b then Some l else None) (filter_map G xs)) ≡ (if b then (row_of_loaded l ∷ filter (λ (r : Row). is_settled_item state shows.valid (item_of r)) (map row_of_loaded (filter_map K xs))) else filter (λ (r : Row). is_settled_item state shows.valid (item_of r)) (map row_of_loaded (filter_map K xs)))
+      test true = ap (λ (rs : List Row). row_of_loaded l ∷ rs) more
       test false = more
 
-  pub held-rest : map row_of (kept_among view.store held_rule (walk view.list)) ≡ model.rest state
+  pub held-rest : map row_of_loaded (kept_among view.store held_rule (walk view.list)) ≡ model.rest state
   unfolding model.rows model.rest
   held-rest =
-      ap (map row_of) (kept-given view.store held_rule (walk view.list) G held-shown) ∙ rows-filtered (walk view.list)
-      ∙ ap (filter (λ (r : Row). is_settled_item state shows.valid (item_of r))) (ap (map row_of) (sym listed-is) ∙ shows.rows)
+      ap (map row_of_loaded) (kept-given view.store held_rule (walk view.list) G held-shown) ∙ rows-filtered (walk view.list)
+      ∙ ap (filter (λ (r : Row). is_settled_item state shows.valid (item_of r))) (ap (map row_of_loaded) (sym listed-is) ∙ shows.rows)
       ∙ rows-rest state shows.valid state.uses
 
 pub stood-found : WhatIsStoodForIsFound
 unfolding found kept
 stood-found image state stands =
     rw (well_formed-finished image stands.well_formed)
-    (ap (λ (ws : List ℕ). map row_of (kept_among (view_of image).store held_rule ws)) (walk-idle (view_of image).list stands.shows.transaction) ∙ held-rest (view_of image) state stands.shows)
+    (ap (λ (ws : List ℕ). map row_of_loaded (kept_among (view_of image).store held_rule ws)) (walk-idle (view_of image).list stands.shows.transaction) ∙ held-rest (view_of image) state stands.shows)

@@ -13,7 +13,7 @@ use Rattle.blk_volume.specs.View.{view_of, store_of}
 use Rattle.blk_volume.specs.Loads.{Loaded, listed_rule}
 use Rattle.blk_volume.specs.Audit.{kept_by}
 use Rattle.blk_volume.specs.Layout.{Layout, Represents, IsPlacedAt, order, rule_of}
-use Rattle.blk_volume.specs.Sound.{AreSealed, IsCounted, IsInOrder, words_of}
+use Rattle.blk_volume.specs.Sound.{AreSealed, CountersAgree, IsInOrder, words_of}
 use Rattle.blk_volume.specs.StandsFor.{doomed_of}
 use Rattle.blk_laws.proofs.Laid.{IsNodeOf, node-of}
 use Rattle.blk_laws.proofs.Loads.{load-then}
@@ -56,7 +56,7 @@ module _ (image : Image) (m : State) (y : Layout) (numbers : List ℕ) (rep : Re
   in-order = record {
     only_linked = tidy.only_linked;
     long_enough = tidy.long_enough;
-    counted = λ n linked. subst (λ (ls : List Loaded). IsCounted image (flat_map words_of ls) n) both (tidy.counted n linked);
+    counted = λ n linked. subst (λ (ls : List Loaded). CountersAgree image (flat_map words_of ls) n) both (tidy.counted n linked);
     index = record {
       tail = rep.list.tail_is ∙ ap (last_or 0) (sym (nodes-are (order m y) (λ w h. h)));
       sizes = tidy.sizes ∙ sym long;

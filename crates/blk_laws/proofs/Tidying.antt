@@ -2,7 +2,7 @@
 use Rattle.std.proofs.Common.{◌≡◌, ◌≢◌, ℕ, ◌+◌, ◌%◌, ◌^◌, ◌<◌, List, [], ◌∷◌, ◌++◌, length, refl, sym, ◌∙◌, ap, subst, Bool, true, false, arith, Option, Some, None, append_assoc, length-append}
 use Rattle.std.specs.Prelude.{◌&&◌, nat_le, nat_lt, is_some, if◌then◌else◌}
 use Rattle.std.specs.List.{flat_map, sum_by, count_by}
-use Rattle.std.proofs.lemmas.Bool.{and_parts}
+use Rattle.std.proofs.lemmas.Bool.{and_parts, and_left, or_from}
 use Rattle.std.proofs.lemmas.Bool.Decides.{nat_tests}
 use Rattle.blk_image.specs.Bytes.{word_at}
 use Rattle.blk_image.specs.Image.{File, Index, Block, External, Image, byte, same_file}
@@ -36,31 +36,26 @@ use Rattle.blk_volume.specs.View.{list_of, store_of, node_at, block_bytes}
 use Rattle.blk_volume.specs.Loads.{Loaded}
 use Rattle.blk_volume.specs.Found.{charge_of}
 use Rattle.blk_volume.specs.Layout.{Layout, order}
-use Rattle.blk_volume.specs.Sound.{words_of, IsCounted}
-use Rattle.blk_volume.specs.StandsFor.{IsAllocated, IsOwner}
+use Rattle.blk_volume.specs.Sound.{words_of, CountersAgree}
+use Rattle.blk_volume.specs.StandsFor.{AllIsOwned, IsOwner}
 use Rattle.blk_volume.specs.ListSteps.{touched_by_write, touched_by_writes}
 use Rattle.blk_volume.specs.Tidy.{IsTidy, loaded_at, doomed_nodes}
 use Rattle.blk_laws.proofs.Moving.{counts-add, sums-add, moved-same, moved-among, moved-distinct}
-use Rattle.blk_laws.proofs.ListFootprints.{or_none, spares_headers, spares_sizes}
-
-file_apart : (a b : Bool) → a ≡ false → (a && b) ≡ false
-file_apart a b e = rw e refl
+use Rattle.blk_laws.proofs.ListFootprints.{spares_headers, spares_sizes, spare_record}
+use Rattle.blk_laws.proofs.Nodes.{good-stands}
 
 record_apart : (w n i : ℕ) → file_selector w ≢ n → (record_range w).bytes (Block n) i ≡ false
-record_apart w n i apart = file_apart (same_file (Block (file_selector w)) (Block n)) _ (other_file (file_selector w) n (λ e. apart (sym e)))
+record_apart w n i apart = and_left (same_file (Block (file_selector w)) (Block n)) _ (other_file (file_selector w) n (λ e. apart (sym e)))
 
 -- what a touch may change
 abbrev pub touch_range : List ListWrite → ℕ → Footprint
 touch_range writes node = either (touched_by_writes writes) (record_range node)
 
-record_spares : (w n i : ℕ) → i < 8192 → (record_range w).bytes (Block n) i ≡ false
-record_spares w n i small = (subst (λ (at : ℕ). SparesHeaders (range (Block (file_selector w)) at (record_size w))) (let e : place w + 0 ≡ place w = omega arith in e) (blocks_spare (Block (file_selector w)) w 0 (record_size w))).bytes n i small
-
 pub touch_spares : (writes : List ListWrite) (node : ℕ) → SparesHeaders (touch_range writes node)
-touch_spares writes node = record { bytes = λ n i small. or_none _ _ ((spares_headers writes).bytes n i small) (record_spares node n i small) }
+touch_spares writes node = record { bytes = λ n i small. or_from _ _ ((spares_headers writes).bytes n i small) (spare_record node n i small) }
 
 pub touch_sizes : (writes : List ListWrite) (node : ℕ) (file : File) → (touch_range writes node).sizes file ≡ false
-touch_sizes writes node file = or_none _ _ (spares_sizes writes file) refl
+touch_sizes writes node file = or_from _ _ (spares_sizes writes file) refl
 
 -- no counter of the index is touched
 word_apart : (at i : ℕ) → i < at → (nat_le at i && nat_lt i (at + 4)) ≡ false
@@ -77,19 +72,14 @@ write_apart (Operation x) i small = word_apart 332 i (omega arith)
 
 writes_apart : (writes : List ListWrite) (i : ℕ) → i < 288 → (touched_by_writes writes).bytes Index i ≡ false
 writes_apart [] i small = refl
-writes_apart (write ∷ writes) i small = or_none _ _ (write_apart write i small) (writes_apart writes i small)
+writes_apart (write ∷ writes) i small = or_from _ _ (write_apart write i small) (writes_apart writes i small)
 
 pub counter-same : (writes : List ListWrite) (node : ℕ) (from image : Image) → SameOutside (touch_range writes node) from image → (i : ℕ) → i + 3 < 288 → word_at (byte image Index) i ≡ word_at (byte from Index) i
 counter-same writes node from image same i small = same-word_at (byte image Index) (byte from Index) i (at i (omega arith)) (at (i + 1) (omega arith)) (at (i + 2) (omega arith)) (at (i + 3) small) where
   at : (k : ℕ) → k < 288 → byte image Index k ≡ byte from Index k
-  at k below = same.bytes Index k (or_none _ _ (writes_apart writes k below) refl)
+  at k below = same.bytes Index k (or_from _ _ (writes_apart writes k below) refl)
 
 -- Records lie in other files than nodes.
-
--- a node that checks stands
-checks-stand : (image : Image) (w : ℕ) → (list_of image).checks w ≡ true → stands_as image rankings w ≡ true
-unfolding list_of checks_at
-checks-stand image w good = (and_parts (stands_as image rankings w) (node_checks (node_at image w)) good).0
 
 named-kind : (image : Image) (w : ℕ) (node_fields : NodeFields) → (store_of image).node_fields w ≡ Some node_fields → kind_of w ≡ rankings
 unfolding store_of node_fields_at
@@ -101,19 +91,19 @@ named-kind image w node_fields e = go (stands_as image rankings w) refl e where
 elsewhere : (writes : List ListWrite) (n : ℕ) → AreOf (λ w. file_selector w ≢ n) writes → (i : ℕ) → (touched_by_writes writes).bytes (Block n) i ≡ false
 unfolding touched_by_write
 elsewhere [] n apart i = refl
-elsewhere (Next w x ∷ writes) n apart i = or_none _ _ (record_apart w n i apart.0) (elsewhere writes n apart.1 i)
-elsewhere (Prev w x ∷ writes) n apart i = or_none _ _ (record_apart w n i apart.0) (elsewhere writes n apart.1 i)
-elsewhere (Head x ∷ writes) n apart i = or_none _ _ refl (elsewhere writes n apart i)
-elsewhere (Tail x ∷ writes) n apart i = or_none _ _ refl (elsewhere writes n apart i)
-elsewhere (Transaction x ∷ writes) n apart i = or_none _ _ refl (elsewhere writes n apart i)
-elsewhere (Operation x ∷ writes) n apart i = or_none _ _ refl (elsewhere writes n apart i)
+elsewhere (Next w x ∷ writes) n apart i = or_from _ _ (record_apart w n i apart.0) (elsewhere writes n apart.1 i)
+elsewhere (Prev w x ∷ writes) n apart i = or_from _ _ (record_apart w n i apart.0) (elsewhere writes n apart.1 i)
+elsewhere (Head x ∷ writes) n apart i = or_from _ _ refl (elsewhere writes n apart i)
+elsewhere (Tail x ∷ writes) n apart i = or_from _ _ refl (elsewhere writes n apart i)
+elsewhere (Transaction x ∷ writes) n apart i = or_from _ _ refl (elsewhere writes n apart i)
+elsewhere (Operation x ∷ writes) n apart i = or_from _ _ refl (elsewhere writes n apart i)
 
 module _ (from image : Image) (writes : List ListWrite) (node : ℕ) (same : SameOutside (touch_range writes node) from image) (checks : AreOf (λ n. (list_of from).checks n ≡ true) writes) (good : (list_of from).checks node ≡ true) where
   -- a node's file is not a record's
   other-file : (contents w : ℕ) → stands_as from blocks_256 contents ≡ true → (list_of from).checks w ≡ true → file_selector w ≢ file_selector contents
   other-file contents w record-stands good-w e =
       let a = standing-parts from blocks_256 contents record-stands in
-      let b = standing-parts from rankings w (checks-stand from w good-w) in
+      let b = standing-parts from rankings w (good-stands from w good-w) in
       let la : linked_as from (file_selector contents) ≡ Some (kind_of contents) = stands-linked from contents a.0 (λ h. let x = a.1 in omega (arith, h, x)) in
       let lb : linked_as from (file_selector w) ≡ Some (kind_of w) = stands-linked from w b.0 (λ h. let x = b.1 in omega (arith, h, x)) in
       let k : kind_of w ≡ kind_of contents = some_inj (sym lb ∙ ap (linked_as from) e ∙ la) in
@@ -121,7 +111,7 @@ module _ (from image : Image) (writes : List ListWrite) (node : ℕ) (same : Sam
 
   record-bytes : (contents : ℕ) → stands_as from blocks_256 contents ≡ true → block_bytes image contents ≡ block_bytes from contents
   record-bytes contents stands = λ j i. same.bytes (Block (file_selector contents)) i
-      (or_none _ _ (elsewhere writes (file_selector contents) (weaker (λ n. (list_of from).checks n ≡ true) (λ w. file_selector w ≢ file_selector contents) writes (λ w g. other-file contents w stands g) checks) i)
+      (or_from _ _ (elsewhere writes (file_selector contents) (weaker (λ n. (list_of from).checks n ≡ true) (λ w. file_selector w ≢ file_selector contents) writes (λ w g. other-file contents w stands g) checks) i)
       (record_apart node (file_selector contents) i (other-file contents node stands good))) j
 
   module _ (state : State) (layout : Layout) (rep : Represents (view_of from) state layout) (keeps : KeepsSealed from image) where
@@ -151,7 +141,7 @@ module _ (from image : Image) (state after : State) (layout : Layout) (numbers :
   objects-at : object_at after ≡ object_at state
   objects-at = ap (λ (os : List (Option Object)). λ (n : ℕ). slice_index_or os n None) objects
 
-  pub moved-allocated : IsAllocated from state layout numbers → IsAllocated image after layout numbers
+  pub moved-allocated : AllIsOwned from state layout numbers → AllIsOwned image after layout numbers
   moved-allocated a = record {
     blocks = λ n b linked small. marks-same F from image spares sizes same n b small ∙ a.blocks n b (ap (λ (o : Option ℕ). is_some o) (sym (links-same F from image spares sizes same n)) ∙ linked) small;
     files = λ n small. same.files (External n) (sizes (External n)) ∙ a.files n small;
@@ -180,7 +170,7 @@ module _ (from image : Image) (state after : State) (layout : Layout) (numbers :
     long_enough = long-same F from image spares sizes same t.long_enough;
     counted = λ n linked.
         let was : is_some (linked_as from n) ≡ true = ap (λ (o : Option ℕ). is_some o) (sym (links-same F from image spares sizes same n)) ∙ linked in
-        let c : IsCounted from (flat_map words_of (loaded_at layout (order state layout ++ doomed_nodes layout numbers))) n = t.counted n was in
+        let c : CountersAgree from (flat_map words_of (loaded_at layout (order state layout ++ doomed_nodes layout numbers))) n = t.counted n was in
         let moved = moved-same (λ (ns : List ℕ). count_by (is_in_file n) (flat_map words_of (loaded_at layout ns))) (counts-add (is_in_file n) words_of layout.at) prefix x (suffix ++ doomed_nodes layout numbers) in
         let counts : count_by (is_in_file n) (flat_map words_of (loaded_at layout (order state layout ++ doomed_nodes layout numbers))) ≡ count_by (is_in_file n) (flat_map words_of (loaded_at layout (order after layout ++ doomed_nodes layout numbers)))
         = ap (λ (ns : List ℕ). count_by (is_in_file n) (flat_map words_of (loaded_at layout ns))) old-all ∙ sym moved ∙ ap (λ (ns : List ℕ). count_by (is_in_file n) (flat_map words_of (loaded_at layout ns))) (sym new-all) in

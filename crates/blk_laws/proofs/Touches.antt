@@ -18,7 +18,7 @@ use Rattle.blk_volume.specs.ShownChanges.{ShowsTheSame}
 use Rattle.blk_laws.proofs.Outside.{clear-zero, all-clear, load-outside, linked-same}
 use Rattle.blk_volume.specs.Loads.{held_rule}
 use Rattle.blk_volume.specs.Audit.{kept_among}
-use Rattle.blk_volume.specs.Found.{row_of}
+use Rattle.blk_volume.specs.Found.{row_of_loaded}
 use Rattle.blk_volume.specs.Layout.{Layout, is_listed, nodes_of, rule_of, Represents, Shows, Holds, is_in}
 use Rattle.blk_laws.proofs.Opening.{IsAround, around, SameItems, lies-reordered, touch-walks, touched-list, touched-once, used-same, open-moments, open-ends}
 use Rattle.blk_laws.proofs.Central.{rest-found}
@@ -61,10 +61,10 @@ module _ (v : View) (m : State) (y : Layout) (r : Represents v m y) (valid : IsV
       same : SameItems (used i m.uses) m.uses
       same = used-same i m.uses (around i m.uses there (valid.once i))
 
-  pub touched-rests : (s : StoreView) → ShowsTheSame v.store s → (count : ℕ) → map row_of (kept_among s held_rule (walk (completed_list (after_writes (take count (touch_writes (y.place i) v.list)) v.list)))) ≡ (if nat_lt count 2 then model.rest m else model.rest (record m { uses = used i m.uses }))
-  touched-rests s same count = ap (λ (ws : List ℕ). map row_of (kept_among s held_rule ws)) (touch-walks v m y r i a count) ∙ go (nat_lt count 2)
+  pub touched-rests : (s : StoreView) → ShowsTheSame v.store s → (count : ℕ) → map row_of_loaded (kept_among s held_rule (walk (completed_list (after_writes (take count (touch_writes (y.place i) v.list)) v.list)))) ≡ (if nat_lt count 2 then model.rest m else model.rest (record m { uses = used i m.uses }))
+  touched-rests s same count = ap (λ (ws : List ℕ). map row_of_loaded (kept_among s held_rule ws)) (touch-walks v m y r i a count) ∙ go (nat_lt count 2)
     where
-      go : (b : Bool) → map row_of (kept_among s held_rule (nodes_of y (if b then m.uses else used i m.uses))) ≡ (if b then model.rest m else model.rest (record m { uses = used i m.uses }))
+      go : (b : Bool) → map row_of_loaded (kept_among s held_rule (nodes_of y (if b then m.uses else used i m.uses))) ≡ (if b then model.rest m else model.rest (record m { uses = used i m.uses }))
       go true = rest-found s m y (record { shows = shows-same v.store s y r.holds.shows same; lies = r.holds.lies }) valid r.list.distinct
       go false = rest-found s (record m { uses = used i m.uses }) y (record { shows = shows-same v.store s y r.holds.shows same; lies = holds-used.lies }) touched-valid (touched-once v m y r i a)
 

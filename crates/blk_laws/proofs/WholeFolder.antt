@@ -17,7 +17,7 @@ use Rattle.blk_format.specs.Headers.{unfinished, head_checks, list_checks, index
 use Rattle.blk_format.specs.BlockFiles.{next_file_in, max_entries_in, files_along, linked, linked_up_to, kind_among, is_link, is_block_count, file_checks, checks_along, checks_of_kind, linked_as, IsWellFormed}
 use Rattle.blk_volume.specs.ListView.{IsList}
 use Rattle.blk_volume.specs.View.{list_of, checks_at, next_at, prev_at, store_of, node_fields_at, fields_at, follow_at, key_place_at, stored_at, view_of}
-use Rattle.blk_volume.specs.Entries.{is_key_length, key_of, stream_of, streams_of, role_of}
+use Rattle.blk_volume.specs.Entries.{is_key_length, stored_key, stored_stream, stored_streams, role_of}
 use Rattle.blk_volume.specs.Chains.{is_of_bucket, IsChain}
 use Rattle.blk_volume.specs.Loads.{unchained_rule, load, load_key, load_record}
 use Rattle.blk_volume.specs.Found.{found}
@@ -59,7 +59,7 @@ whole-is_well_formed = refl
 
 -- its node loads
 pub whole-loads : load (store_of whole_folder) (unchained_rule 0) one.node ≡ Ok (one.loaded 0)
-unfolding whole_folder zeros with_word spliced next_file_in max_entries_in linked files_along kind_among load load_record load_key is_key_length key_of stream_of streams_of role_of store_of node_fields_at fields_at follow_at key_place_at stored_at stands stands_as_blocks is_address is_initialized names_external names_blocks kind_of reserved_bits block_count file_selector first_block external_number block_size block_place place byte_size kind_for blocks_for entry_blocks is_storage node_checks node_is_sealed entry_checks entry_is_sealed node_in node_body entry_in entry_body range_at words_at hash mixed of_bytes of_four of_three of_two of_one
+unfolding whole_folder zeros with_word spliced next_file_in max_entries_in linked files_along kind_among load load_record load_key is_key_length stored_key stored_stream stored_streams role_of store_of node_fields_at fields_at follow_at key_place_at stored_at stands stands_as_blocks is_address is_initialized names_external names_blocks kind_of reserved_bits block_count file_selector first_block external_number block_size block_place place byte_size kind_for blocks_for entry_blocks is_storage node_checks node_is_sealed entry_checks entry_is_sealed node_in node_body entry_in entry_body range_at words_at hash mixed of_bytes of_four of_three of_two of_one
 whole-loads = refl
 
 -- ---- what it represents

@@ -8,8 +8,8 @@ use Rattle.blk_volume.specs.ListView.{ListView, ListWrite}
 use Rattle.blk_volume.specs.Walk.{walk}
 use Rattle.blk_volume.specs.ListPlans.{completion_writes, completed_but_operation}
 use Rattle.blk_volume.specs.View.{list_of, store_of}
-use Rattle.blk_volume.specs.ListSteps.{IsPartly, steps_of}
-use Rattle.blk_volume.specs.ListImages.{IsWritable, CompletesAlike, IsCompleted, IsStopped, completed_walk, completion_steps, stopped_folder}
+use Rattle.blk_volume.specs.ListSteps.{IsPartly, steps_of_writes}
+use Rattle.blk_volume.specs.ListImages.{IsWritable, CompletesAlike, IsCompleted, StopsAlike, completed_walk, completion_steps, stopped_folder}
 use Rattle.blk_laws.specs.ListWords.{CompletionsCanBeMade, CompletionsKeepTheOutcome, CompletionsAreDone, CompletionsMayBeStopped}
 use Rattle.blk_volume.specs.ShownChanges.{OnlyListChanges}
 use Rattle.blk_laws.proofs.Adding.{shows-both}
@@ -32,7 +32,7 @@ pub completions-keep : CompletionsKeepTheOutcome
 completions-keep image ready =
     let P : Image → Type 0 = IsPartly image (completion_writes (list_of image)) in
     let Q : Image → Type 0 = CompletesAlike image in
-    until_weaker2 P Q P Q (steps_of (completion_writes (list_of image)) image) image (partly-alike image) (partly-alike image) (writes_show (completion_writes (list_of image)) image ready (completion_can image)).along
+    until_weaker2 P Q P Q (steps_of_writes (completion_writes (list_of image)) image) image (partly-alike image) (partly-alike image) (writes_show (completion_writes (list_of image)) image ready (completion_can image)).along
 
 -- the walk doesn't go by the transaction and the operation
 pub walk_rested : (list : ListView) → walk (rested list) ≡ walk list
@@ -71,12 +71,12 @@ alike-walk : (from image : Image) → CompletesAlike from image → completed_wa
 alike-walk from image alike = walk_outcome (list_of image) ∙ ap walk alike ∙ sym (walk_outcome (list_of from))
 
 -- one stop, and then the others
-stop_once : (image : Image) (count : ℕ) → IsWritable image → IsWritable (after (take count (completion_steps image)) image) × IsStopped image (after (take count (completion_steps image)) image)
+stop_once : (image : Image) (count : ℕ) → IsWritable image → IsWritable (after (take count (completion_steps image)) image) × StopsAlike image (after (take count (completion_steps image)) image)
 stop_once image count ready =
     let ws : List ListWrite = completion_writes (list_of image) in
-    let stopped : Image = after (take count (steps_of ws image)) image in
-    let part : IsPartly image ws stopped = front_holds (IsPartly image ws) count (steps_of ws image) image (writes_show ws image ready (completion_can image)).along in (
-      front_holds IsWritable count (steps_of ws image) image (writes-go_on image ws ready),
+    let stopped : Image = after (take count (steps_of_writes ws image)) image in
+    let part : IsPartly image ws stopped = front_holds (IsPartly image ws) count (steps_of_writes ws image) image (writes_show ws image ready (completion_can image)).along in (
+      front_holds IsWritable count (steps_of_writes ws image) image (writes-go_on image ws ready),
       record { list = partly-alike image stopped part; walk = alike-walk image stopped (partly-alike image stopped part); store = part.shown.store; well_formed = part.well_formed },
     )
 
@@ -84,7 +84,7 @@ pub completions-stop : CompletionsMayBeStopped
 completions-stop image [] ready = record { list = refl; walk = refl; store = same-shown (store_of image); well_formed = λ well. well }
 completions-stop image (count ∷ counts) ready =
     let once = stop_once image count ready in
-    let between : Image = after (take count (steps_of (completion_writes (list_of image)) image)) image in
+    let between : Image = after (take count (steps_of_writes (completion_writes (list_of image)) image)) image in
     let more = completions-stop between counts once.0 in
     record {
       list = more.list ∙ once.1.list;

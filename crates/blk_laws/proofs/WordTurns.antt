@@ -22,7 +22,7 @@ use Rattle.blk_volume.specs.Walk.{walk}
 use Rattle.blk_volume.specs.Completion.{insert, remove, move, completed_list}
 use Rattle.blk_volume.specs.ListPlans.{CommitsAtTwo, touch_writes, writes_of}
 use Rattle.blk_volume.specs.View.{list_of}
-use Rattle.blk_volume.specs.ListSteps.{IsPartly, IsTouched, AreTimes, steps_of, times_of, touch_steps, touched_by_writes, write_steps}
+use Rattle.blk_volume.specs.ListSteps.{IsPartly, IsTouched, AreTimes, steps_of_writes, times_of, touch_steps, touched_by_writes, write_steps}
 use Rattle.blk_volume.specs.ListImages.{IsWritable, CanBeMade, CompletesTo, HasListAtRest}
 use Rattle.blk_laws.specs.ListWords.{InsertsCanBeMade, InsertsCommitAtTheSecondWord, InsertsEndAtRest, RemovalsCanBeMade, RemovalsCommitAtTheSecondWord, RemovalsEndAtRest, TouchesCanBeMade, TouchesAreMadeInTurn, TouchesCanGoOn, TouchesCommitAtTheSecondWord, TouchesEndAtRest, TouchesSetTheTimes}
 use Rattle.blk_volume.specs.ShownChanges.{OnlyListChanges}
@@ -36,7 +36,7 @@ use Rattle.blk_laws.proofs.WriteWords.{operation_can}
 
 -- an operation turns with its second write
 pub turns_whole : (from : Image) → IsWritable from → (code node : ℕ) (rest : List ListWrite) (before later : List ℕ) → CanBeMade from (Operation code ∷ Transaction node ∷ rest) → CommitsAtTwo (list_of from) (Operation code ∷ Transaction node ∷ rest) before later
-    → CommitsAt 2 (CompletesTo before) (CompletesTo later) from (steps_of (Operation code ∷ Transaction node ∷ rest) from)
+    → CommitsAt 2 (CompletesTo before) (CompletesTo later) from (steps_of_writes (Operation code ∷ Transaction node ∷ rest) from)
 unfolding write_steps word_step
 turns_whole from ready code node rest before later can turn =
     let first = one_write (Operation code) from ready (first_can from (Operation code) (Transaction node ∷ rest) can) in
@@ -53,10 +53,10 @@ turns_whole from ready code node rest before later can turn =
     let Q : Image → Type 0 = CompletesTo later in
     let each : (i : Image) → IsPartly i2 rest i → Q i = λ i part.
     ap done (part.shown.list ∙ ap (after_writes (take part.made rest)) l2) ∙ turn (suc (suc part.made)) ∙ ap (λ (t : Bool). if t then before else later) (le-ltb (suc (suc part.made)) 2 (omega arith)) in
-    (turn 0, (ap done l1 ∙ turn 1, until_weaker2 (IsPartly i2 rest) Q (IsPartly i2 rest) Q (steps_of rest i2) i2 each each shows.along))
+    (turn 0, (ap done l1 ∙ turn 1, until_weaker2 (IsPartly i2 rest) Q (IsPartly i2 rest) Q (steps_of_writes rest i2) i2 each each shows.along))
 
 -- and ends with its list at rest
-rests_after : (from : Image) → IsWritable from → (writes : List ListWrite) (nodes : List ℕ) → CanBeMade from writes → IsAtRest (after_writes writes (list_of from)) nodes → HasListAtRest nodes (after (steps_of writes from) from)
+rests_after : (from : Image) → IsWritable from → (writes : List ListWrite) (nodes : List ℕ) → CanBeMade from writes → IsAtRest (after_writes writes (list_of from)) nodes → HasListAtRest nodes (after (steps_of_writes writes from) from)
 rests_after from ready writes nodes can rest = subst (λ (l : ListView). IsAtRest l nodes) (sym (writes_show writes from ready can).ends.list) rest
 
 pub inserts-can : InsertsCanBeMade
@@ -116,7 +116,7 @@ turns_both (suc count) P Q (x ∷ t) image p q = (p.0, turns_both count P Q t (a
 module _ (from : Image) (ready : IsWritable from) (node moment : ℕ) (good : (list_of from).checks node ≡ true) (ws : List ListWrite) (can : CanBeMade from ws) where
   -- the image once the writes are made
   abbrev pub between : Image
-  between = after (steps_of ws from) from
+  between = after (steps_of_writes ws from) from
 
   abbrev pub times : List TrailStep
   times = sealed_steps between node (times_of moment)
@@ -132,13 +132,13 @@ module _ (from : Image) (ready : IsWritable from) (node moment : ℕ) (good : (l
   pub times_show : Along (λ image. (list_of image ≡ after_writes ws (list_of from)) × IsTouched from node ws image) between times
   times_show =
       let shows = writes_show ws from ready can in
-      let i : Image = after (steps_of ws from) from in
+      let i : Image = after (steps_of_writes ws from) from in
       let is = still_good in
       let seal = node_seal node is.kind in
       let changes : List (ℕ × ℕ) = times_of moment in
       let all : All (λ c. c.0 + 4 ≤ seal_place node) changes = each (λ c. c.0 + 4 ≤ seal_place node) (0, moment % 2 ^ 32) (4, moment / 2 ^ 32) (8, moment % 2 ^ 32) (12, moment / 2 ^ 32) (omega (arith, seal)) (omega (arith, seal)) (omega (arith, seal)) (omega (arith, seal)) in
       let early : All (λ c. c.0 < 16) changes = each (λ c. c.0 < 16) (0, moment % 2 ^ 32) (4, moment / 2 ^ 32) (8, moment % 2 ^ 32) (12, moment / 2 ^ 32) (omega arith) (omega arith) (omega arith) (omega arith) in
-      let here : IsPartly from ws i = until_last (IsPartly from ws) (IsPartly from ws) (steps_of ws from) from shows.along in
+      let here : IsPartly from ws i = until_last (IsPartly from ws) (IsPartly from ws) (steps_of_writes ws from) from shows.along in
       let F : Footprint = touched_by_writes ws in
       let G : Footprint = record_range node in
       let M : Image → Type 0 = IsMidUpdate i node changes in
@@ -166,22 +166,22 @@ module _ (from : Image) (ready : IsWritable from) (node moment : ℕ) (good : (l
       let G : Footprint = record_range node in
       let first : (image : Image) → P image → T image = λ image p. record { made = p.made; within = p.within; shown = p.shown; outside = outside_wider F (either F G) from image (within_left F G) p.outside; well_formed = p.well_formed } in
       let second : (image : Image) → R image → T image = λ image r. r.1 in
-      until-append T T (steps_of ws from) (sealed_steps (after (steps_of ws from) from) node (times_of moment)) from
-      (until_weaker2 P T P T (steps_of ws from) from first first (writes_show ws from ready can).along)
-      (until_weaker2 R T R T (sealed_steps (after (steps_of ws from) from) node (times_of moment)) (after (steps_of ws from) from) second second times_show)
+      until-append T T (steps_of_writes ws from) (sealed_steps (after (steps_of_writes ws from) from) node (times_of moment)) from
+      (until_weaker2 P T P T (steps_of_writes ws from) from first first (writes_show ws from ready can).along)
+      (until_weaker2 R T R T (sealed_steps (after (steps_of_writes ws from) from) node (times_of moment)) (after (steps_of_writes ws from) from) second second times_show)
 
   -- in the end all of the writes are made
   pub touch_list : list_of (after (touch_steps node moment ws from) from) ≡ after_writes ws (list_of from)
   touch_list =
       let R : Image → Type 0 = λ image. (list_of image ≡ after_writes ws (list_of from)) × IsTouched from node ws image in
-      ap list_of (after-append (steps_of ws from) (sealed_steps (after (steps_of ws from) from) node (times_of moment)) from)
-      ∙ (until_last R R (sealed_steps (after (steps_of ws from) from) node (times_of moment)) (after (steps_of ws from) from) times_show).0
+      ap list_of (after-append (steps_of_writes ws from) (sealed_steps (after (steps_of_writes ws from) from) node (times_of moment)) from)
+      ∙ (until_last R R (sealed_steps (after (steps_of_writes ws from) from) node (times_of moment)) (after (steps_of_writes ws from) from) times_show).0
 
   -- and the node has its times
   pub touch_updated : IsUpdated between node (times_of moment) (after (touch_steps node moment ws from) from)
   touch_updated =
-      let i : Image = after (steps_of ws from) from in
-      subst (IsUpdated i node (times_of moment)) (sym (after-append (steps_of ws from) (sealed_steps i node (times_of moment)) from)) (updated node i (times_of moment) still_good.fits)
+      let i : Image = after (steps_of_writes ws from) from in
+      subst (IsUpdated i node (times_of moment)) (sym (after-append (steps_of_writes ws from) (sealed_steps i node (times_of moment)) from)) (updated node i (times_of moment) still_good.fits)
 
   -- the times, at which completing gives the new list
   later_along : (before later : List ℕ) → CommitsAtTwo (list_of from) ws before later → Along (CompletesTo later) between times
@@ -192,18 +192,18 @@ module _ (from : Image) (ready : IsWritable from) (node moment : ℕ) (good : (l
       let is : walk (completed_list (after_writes ws (list_of from))) ≡ later =
       ap (λ (w : List ListWrite). walk (completed_list (after_writes w (list_of from)))) (sym (take_all n ws (omega arith))) ∙ turn n ∙ ap (λ (t : Bool). if t then before else later) (le-ltb n 2 (omega arith)) in
       let step : (image : Image) → R image → Q image = λ image r. ap (λ (l : ListView). walk (completed_list l)) r.0 ∙ is in
-      until_weaker2 R Q R Q (sealed_steps (after (steps_of ws from) from) node (times_of moment)) (after (steps_of ws from) from) step step times_show
+      until_weaker2 R Q R Q (sealed_steps (after (steps_of_writes ws from) from) node (times_of moment)) (after (steps_of_writes ws from) from) step step times_show
 
 -- the image can be written at each word, and no step is a note
 pub touch_goes_on : (from : Image) → IsWritable from → (node moment : ℕ) (ws : List ListWrite) → Along IsWritable from (touch_steps node moment ws from)
 touch_goes_on from ready node moment ws =
-    let i : Image = after (steps_of ws from) from in
-    until-append IsWritable IsWritable (steps_of ws from) (sealed_steps i node (times_of moment)) from (writes-go_on from ws ready) (writable-sealed node (times_of moment) i (writable-writes ws from ready))
+    let i : Image = after (steps_of_writes ws from) from in
+    until-append IsWritable IsWritable (steps_of_writes ws from) (sealed_steps i node (times_of moment)) from (writes-go_on from ws ready) (writable-sealed node (times_of moment) i (writable-writes ws from ready))
 
 pub touch_quiet : (from : Image) (node moment : ℕ) (ws : List ListWrite) → IsQuiet (touch_steps node moment ws from)
 touch_quiet from node moment ws =
-    let i : Image = after (steps_of ws from) from in
-    quiet-append (steps_of ws from) (sealed_steps i node (times_of moment)) (quiet-writes ws from) (quiet-sealed i node (times_of moment))
+    let i : Image = after (steps_of_writes ws from) from in
+    quiet-append (steps_of_writes ws from) (sealed_steps i node (times_of moment)) (quiet-writes ws from) (quiet-sealed i node (times_of moment))
 
 -- both times are a moment once its words are written
 pub times_set : (from image : Image) (node moment : ℕ) → kind_of node ≡ rankings → moment < 2 ^ 64 → IsUpdated from node (times_of moment) image → AreTimes node moment image
@@ -240,7 +240,7 @@ module _ (from : Image) (ready : IsWritable from) (node moment : ℕ) (good : (l
       let q : Along Q from (sealed_steps from node (times_of moment)) = later_along from ready node moment good [] can before later turn in
       turns_both 2 P Q (sealed_steps from node (times_of moment)) from (until_weaker2 Q P Q P (sealed_steps from node (times_of moment)) from (λ i e. e ∙ same) (λ i e. e ∙ same) q) q
 
-  two_steps : (code : ℕ) (rest : List ListWrite) → 2 ≤ length (steps_of (Operation code ∷ Transaction node ∷ rest) from)
+  two_steps : (code : ℕ) (rest : List ListWrite) → 2 ≤ length (steps_of_writes (Operation code ∷ Transaction node ∷ rest) from)
   unfolding write_steps word_step
   two_steps code rest = omega arith
 
@@ -250,7 +250,7 @@ module _ (from : Image) (ready : IsWritable from) (node moment : ℕ) (good : (l
       let P : Image → Type 0 = CompletesTo before in
       let Q : Image → Type 0 = CompletesTo later in
       let ws : List ListWrite = Operation code ∷ Transaction node ∷ rest in
-      turns_then 2 P Q (steps_of ws from) (sealed_steps (after (steps_of ws from) from) node (times_of moment)) from (two_steps code rest)
+      turns_then 2 P Q (steps_of_writes ws from) (sealed_steps (after (steps_of_writes ws from) from) node (times_of moment)) from (two_steps code rest)
       (turns_whole from ready code node rest before later can turn) (later_along from ready node moment good ws can before later turn)
 
   pub touch_turns_words : CanBeMade from (touch_writes node (list_of from)) → CommitsAtTwo (list_of from) (touch_writes node (list_of from)) before later
@@ -295,7 +295,7 @@ touches-rest image node moment prefix suffix ready rest =
 
 pub touch_times : (image : Image) (node moment : ℕ) → IsWritable image → (list_of image).checks node ≡ true → (ws : List ListWrite) → CanBeMade image ws → moment < 2 ^ 64 → AreTimes node moment (after (touch_steps node moment ws image) image)
 touch_times image node moment ready good ws can small =
-    times_set (after (steps_of ws image) image) (after (touch_steps node moment ws image) image) node moment (still_good image ready node moment good ws can).kind small (touch_updated image ready node moment good ws can)
+    times_set (after (steps_of_writes ws image) image) (after (touch_steps node moment ws image) image) node moment (still_good image ready node moment good ws can).kind small (touch_updated image ready node moment good ws can)
 
 pub touches-times : TouchesSetTheTimes
 touches-times image node moment prefix suffix ready rest small =

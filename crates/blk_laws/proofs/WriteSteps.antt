@@ -23,7 +23,7 @@ use Rattle.blk_volume.specs.ListView.{ListView, ListWrite, Next, Prev, Head, Tai
 use Rattle.blk_volume.specs.View.{list_of}
 use Rattle.blk_volume.specs.ShownChanges.{OnlyListChanges}
 use Rattle.blk_laws.specs.IndexWrites.{IsListWord, checked_words}
-use Rattle.blk_volume.specs.ListSteps.{IsPartly, AreOf, write_steps, steps_of, touched_by_write, touched_by_writes}
+use Rattle.blk_volume.specs.ListSteps.{IsPartly, AreOf, write_steps, steps_of_writes, touched_by_write, touched_by_writes}
 use Rattle.blk_volume.specs.ListImages.{IsWritable, CanBeMade}
 use Rattle.blk_laws.specs.ListWords.{WritesAreMadeInTurn, WritesAreMade, WritesCanGoOn}
 use Rattle.blk_laws.proofs.ByteChanges.{stands-address, stands-blocks}
@@ -74,7 +74,7 @@ writable-after write image is = until_last IsWritable IsWritable (write_steps wr
 pub writes-go_on : WritesCanGoOn
 writes-go_on image [] is = is
 writes-go_on image (write ∷ writes) is =
-    until-append IsWritable IsWritable (write_steps write image) (steps_of writes (after (write_steps write image) image)) image (writable-write write image is)
+    until-append IsWritable IsWritable (write_steps write image) (steps_of_writes writes (after (write_steps write image) image)) image (writable-write write image is)
     (writes-go_on (after (write_steps write image) image) writes (writable-after write image is))
 
 -- none of them is made
@@ -248,8 +248,8 @@ first_can from write writes can = record { nodes = first_of write writes (λ n. 
 
 -- writes at each of their words, and what they leave
 pub record WritesShow (from : Image) (writes : List ListWrite) : Type 0 where
-  pub along : Along (IsPartly from writes) from (steps_of writes from)
-  pub ends : OnlyListChanges writes from (after (steps_of writes from) from)
+  pub along : Along (IsPartly from writes) from (steps_of_writes writes from)
+  pub ends : OnlyListChanges writes from (after (steps_of_writes writes from) from)
 
 pub writes_show : (writes : List ListWrite) (from : Image) → IsWritable from → CanBeMade from writes → WritesShow from writes
 writes_show [] from ready can = record { along = nothing_made [] from; ends = changes-begin from }
@@ -262,11 +262,11 @@ writes_show (write ∷ writes) from ready can =
     let one : Image → Type 0 = IsPartly from (write ∷ []) in
     let more : Image → Type 0 = IsPartly between writes in
     let here : one between = until_last one one steps from first.along in
-    let joined : after (steps_of (write ∷ writes) from) from ≡ after (steps_of writes between) between = after-append steps (steps_of writes between) from in
+    let joined : after (steps_of_writes (write ∷ writes) from) from ≡ after (steps_of_writes writes between) between = after-append steps (steps_of_writes writes between) from in
     record {
-      along = until-append P P steps (steps_of writes between) from
+      along = until-append P P steps (steps_of_writes writes between) from
           (until_weaker2 one P one P steps from (first_part from write writes) (first_part from write writes) first.along)
-          (until_weaker2 more P more P (steps_of writes between) between (later_part from between write writes here first.ends) (later_part from between write writes here first.ends) rest.along);
+          (until_weaker2 more P more P (steps_of_writes writes between) between (later_part from between write writes here first.ends) (later_part from between write writes here first.ends) rest.along);
       ends = subst (λ (i : Image). OnlyListChanges (write ∷ writes) from i) (sym joined) (changes-add (write ∷ []) writes from between _ first.ends rest.ends);
     }
 
@@ -276,8 +276,8 @@ writes-in_turn image writes ready can = (writes_show writes image ready can).alo
 pub writes-made : WritesAreMade
 writes-made image writes ready can = (writes_show writes image ready can).ends
 
-pub writable-writes : (writes : List ListWrite) (image : Image) → IsWritable image → IsWritable (after (steps_of writes image) image)
-writable-writes writes image is = until_last IsWritable IsWritable (steps_of writes image) image (writes-go_on image writes is)
+pub writable-writes : (writes : List ListWrite) (image : Image) → IsWritable image → IsWritable (after (steps_of_writes writes image) image)
+writable-writes writes image is = until_last IsWritable IsWritable (steps_of_writes writes image) image (writes-go_on image writes is)
 
 -- no step is a note
 pub quiet-sealed : (image : Image) (w : ℕ) (changes : List (ℕ × ℕ)) → IsQuiet (sealed_steps image w changes)
@@ -293,6 +293,6 @@ quiet-write (Tail x) image = quiet-word_step Index 308 x
 quiet-write (Transaction x) image = quiet-word_step Index 328 x
 quiet-write (Operation x) image = quiet-word_step Index 332 x
 
-pub quiet-writes : (writes : List ListWrite) (image : Image) → IsQuiet (steps_of writes image)
+pub quiet-writes : (writes : List ListWrite) (image : Image) → IsQuiet (steps_of_writes writes image)
 quiet-writes [] image = tt
-quiet-writes (write ∷ writes) image = quiet-append (write_steps write image) (steps_of writes (after (write_steps write image) image)) (quiet-write write image) (quiet-writes writes (after (write_steps write image) image))
+quiet-writes (write ∷ writes) image = quiet-append (write_steps write image) (steps_of_writes writes (after (write_steps write image) image)) (quiet-write write image) (quiet-writes writes (after (write_steps write image) image))

@@ -7,7 +7,7 @@ use Rattle.blk_volume.specs.ListView.{ListView, ListWrite, Next, Prev, Head, Tai
 use Rattle.blk_volume.specs.Completion.{counts, taking_out, putting_in_front, take_out}
 use Rattle.blk_volume.specs.ListPlans.{pending_writes, completion_writes, writes_of}
 use Rattle.blk_volume.specs.View.{list_of}
-use Rattle.blk_volume.specs.ListSteps.{AreOf, AreWords}
+use Rattle.blk_volume.specs.ListSteps.{AreOf, AllWriteWords}
 use Rattle.blk_volume.specs.ListImages.{CanBeMade}
 use Rattle.blk_laws.proofs.ListCompletions.{completion_true, completion_false, completion_none}
 use Rattle.blk_laws.proofs.ListWrites.{Counting, counting, pending_insert, pending_remove, pending_move}
@@ -39,7 +39,7 @@ each_nodes P (Tail w ∷ ws) e = each_nodes P ws e.1
 each_nodes P (Transaction w ∷ ws) e = each_nodes P ws e.1
 each_nodes P (Operation w ∷ ws) e = each_nodes P ws e.1
 
-pub each_words : (P : ℕ → Type 0) (ws : List ListWrite) → Each (Good P) ws → AreWords ws
+pub each_words : (P : ℕ → Type 0) (ws : List ListWrite) → Each (Good P) ws → AllWriteWords ws
 each_words P [] e = tt
 each_words P (Next n w ∷ ws) e = (e.0.1, each_words P ws e.1)
 each_words P (Prev n w ∷ ws) e = (e.0.1, each_words P ws e.1)

@@ -18,9 +18,9 @@ use Rattle.blk_volume.specs.Chains.{is_of_bucket, bucket_of_hash, Linked, IsChai
 use Rattle.blk_volume.specs.Entries as entries
 use Rattle.blk_volume.specs.Loads.{held_rule, Rule, Loaded, load, is_part, is_part_role}
 use Rattle.blk_volume.specs.Audit.{kept_among}
-use Rattle.blk_volume.specs.Found.{row_of}
+use Rattle.blk_volume.specs.Found.{row_of_loaded}
 use Rattle.blk_volume.specs.Layout.{Layout, is_listed, order, rule_of, IsPartAt, IsPlacedAt, IsListedRecord, IsLayoutOf, Shows, Represents, HoldsExcept, IsInProgress}
-use Rattle.blk_volume.specs.Footprint.{IsClear, SameNodeLinks, SameBut, IsInside, KeepsName}
+use Rattle.blk_volume.specs.Footprint.{IsClear, SameNodeLinks, SameBut, IsInsideNode, KeepsName}
 use Rattle.blk_laws.proofs.Loads.{load-then}
 use Rattle.blk_laws.proofs.Loading.{load-clean}
 use Rattle.blk_laws.proofs.Shown.{node-is, role-part, role-name}
@@ -41,7 +41,7 @@ dirty-of : (v : StoreView) (a : Rule) (w : ℕ) (k : Loaded) (n : NodeFields) �
 dirty-of v a w k n ok is = load-then v a w k ok (λ x e f. f.facts.dirty_is ∙ ap (λ (z : NodeFields). z.dirty) (let p : v.node_fields w ≡ Some x = f.node in let q : v.node_fields w ≡ Some n = is in let s : x ≡ n = cc in s))
 
 module _ (touched : Claim → Bool) (v u : View) (m : State) (y : Layout) (r : Represents v m y) (valid : IsValidState m) (number : ℕ) (o : Object) (item : Item) (here : object_at m number ≡ Some o) (has : has_item o item ≡ true) (unsettled : o.settled ≡ false)
-    (l : Loaded) (at : y.at (y.place item) ≡ Some l) (same : SameBut touched v u) (inside : IsInside touched v u y (y.place item) l) (name : KeepsName v.store u.store item l.contents) where
+    (l : Loaded) (at : y.at (y.place item) ≡ Some l) (same : SameBut touched v u) (inside : IsInsideNode touched v u y (y.place item) l) (name : KeepsName v.store u.store item l.contents) where
   lies : IsLayoutOf m y
   lies = r.holds.lies
 
@@ -148,15 +148,15 @@ module _ (touched : Claim → Bool) (v u : View) (m : State) (y : Layout) (r : R
       (eqb_tells (y.place item) (y.place i))
 
   -- what the node loads, if it does, has the flags and the key that it had
-  same-name : ((was now : RecordFields) → v.store.entry l.contents ≡ Some was → u.store.entry l.contents ≡ Some now → (now.flags ≡ was.flags) × (entries.key_of u.store l.contents now ≡ entries.key_of v.store l.contents was))
+  same-name : ((was now : RecordFields) → v.store.entry l.contents ≡ Some was → u.store.entry l.contents ≡ Some now → (now.flags ≡ was.flags) × (entries.stored_key u.store l.contents now ≡ entries.stored_key v.store l.contents was))
       → (k : Loaded) → load u.store held_rule (y.place item) ≡ Ok k → (is_part k ≡ is_part l) × (k.key ≡ l.key)
   same-name keeps k ok = load-then u.store held_rule (y.place item) k ok (λ n e f. load-then v.store (rule_of y (y.place item)) (y.place item) l (shows.each (y.place item) l at) (λ p d g.
       let node : n ≡ p = let a : v.store.node_fields (y.place item) ≡ Some n = sym inside.node_fields ∙ f.node in let b : v.store.node_fields (y.place item) ≡ Some p = g.node in cc in
       let was : v.store.entry l.contents ≡ Some d = ap v.store.entry g.facts.contents_is ∙ g.entry in
       let contents : l.contents ≡ n.contents = g.facts.contents_is ∙ ap (λ (z : NodeFields). z.contents) (sym node) in
       let kept = keeps d e was (ap u.store.entry contents ∙ f.entry) in
-      let old_key : entries.key_of v.store l.contents d ≡ Some l.key = ap (λ (w : ℕ). entries.key_of v.store w d) g.facts.contents_is ∙ g.facts.keyed.key in
-      let new_key : entries.key_of u.store l.contents e ≡ Some k.key = ap (λ (w : ℕ). entries.key_of u.store w e) contents ∙ f.facts.keyed.key in
+      let old_key : entries.stored_key v.store l.contents d ≡ Some l.key = ap (λ (w : ℕ). entries.stored_key v.store w d) g.facts.contents_is ∙ g.facts.keyed.key in
+      let new_key : entries.stored_key u.store l.contents e ≡ Some k.key = ap (λ (w : ℕ). entries.stored_key u.store w e) contents ∙ f.facts.keyed.key in
       let keys : ◌≡◌ {A = Option (List ℕ)} (Some k.key) (Some l.key) = sym new_key ∙ kept.1 ∙ old_key in
       (sym (role-part e k.key k.streams k.role f.facts.role) ∙ ap (λ (z : ℕ). z == 2) kept.0 ∙ role-part d l.key l.streams l.role g.facts.role, (let s : k.key ≡ l.key = cc in s))))
 
@@ -184,7 +184,7 @@ module _ (touched : Claim → Bool) (v u : View) (m : State) (y : Layout) (r : R
     names = λ n x a h e is read. part-name n x a h is read;
   }
 
-  pub moment-rest : map row_of (kept_among u.store held_rule (walk (completed_list u.list))) ≡ model.rest m
+  pub moment-rest : map row_of_loaded (kept_among u.store held_rule (walk (completed_list u.list))) ≡ model.rest m
   moment-rest =
       let walks : walk (completed_list u.list) ≡ order m y = walk-idle u.list (sym same.links.transaction ∙ r.idle) ∙ walk_list u.list (order m y) list-still in
-      ap (λ (ws : List ℕ). map row_of (kept_among u.store held_rule ws)) walks ∙ midst-rest (λ w. y.place item == w) u.store m y but valid o.key midst r.list.distinct
+      ap (λ (ws : List ℕ). map row_of_loaded (kept_among u.store held_rule ws)) walks ∙ midst-rest (λ w. y.place item == w) u.store m y but valid o.key midst r.list.distinct

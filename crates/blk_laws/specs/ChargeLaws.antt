@@ -13,7 +13,7 @@ use Rattle.blk_format.specs.Names.{child_name}
 use Rattle.blk_volume.specs.View.{View, view_of}
 use Rattle.blk_volume.specs.Loads.{listed_rule, Loaded}
 use Rattle.blk_volume.specs.Audit.{kept_by}
-use Rattle.blk_volume.specs.Found.{row_of, charge_of, found}
+use Rattle.blk_volume.specs.Found.{row_of_loaded, charge_of, found}
 use Rattle.blk_volume.specs.Layout.{Layout, is_listed, Represents}
 
 -- the name of a part in the model is its name in the formats
@@ -22,7 +22,7 @@ PartNamesAreNames = (key : List ℕ) (signature n : ℕ) → part_name key signa
 
 -- what lies at the node of a listed item is charged what its row is charged
 abbrev pub ItemsAreChargedAsRows : Type 0
-ItemsAreChargedAsRows = (view : View) (state : State) (layout : Layout) → Represents view state layout → (item : Item) (loaded : Loaded) → is_listed state item ≡ true → layout.at (layout.place item) ≡ Some loaded → charge_of loaded ≡ row_charge state (row_of loaded)
+ItemsAreChargedAsRows = (view : View) (state : State) (layout : Layout) → Represents view state layout → (item : Item) (loaded : Loaded) → is_listed state item ≡ true → layout.at (layout.place item) ≡ Some loaded → charge_of loaded ≡ row_charge state (row_of_loaded loaded)
 
 -- so the charges of what is listed are those of the rows
 abbrev pub ListedChargesAreTheRows : Type 0

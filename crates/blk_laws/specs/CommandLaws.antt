@@ -22,10 +22,10 @@ use Rattle.blk_volume.specs.View.{View, StoreView, NodeFields, RecordFields}
 use Rattle.std.specs.declared.result.Result.TheVariants.{Ok}
 use Rattle.blk_volume.specs.Loads.{held_rule, unchained_rule, Loaded, load, all_claims}
 use Rattle.blk_volume.specs.Audit.{kept_among, kept_by}
-use Rattle.blk_volume.specs.Found.{row_of, completed}
+use Rattle.blk_volume.specs.Found.{row_of_loaded, completed}
 use Rattle.blk_volume.specs.Layout.{Layout, is_listed, nodes_of, order, rule_of, IsLayoutOf, HoldsExcept, IsInProgress, Represents, changed_at, emptied_at, IsDoomedChange}
 use Rattle.blk_volume.specs.Given.{picked_with, IsTest}
-use Rattle.blk_volume.specs.Footprint.{IsClear, SameStore, SameBut, SameExceptAt, OnlyLinksChange, IsFree, IsFreeBut, IsOnlyRecord, SameNodeLinks, IsInside, KeepsName}
+use Rattle.blk_volume.specs.Footprint.{IsClear, SameStore, SameBut, SameExceptAt, OnlyLinksChange, IsFree, IsFreeBut, IsOnlyRecord, SameNodeLinks, IsInsideNode, KeepsName}
 use Rattle.blk_volume.specs.ShownChanges.{ShowsTheSame}
 use Rattle.blk_volume.specs.Removal.{without_items, placed_less, ListsLess, HasLess, HasChains, is_of_another, placed_doomed}
 use Rattle.blk_volume.specs.Creation.{IsNewEntry, IsFrontOfChain, with_new, linked_front}
@@ -35,12 +35,12 @@ use Rattle.blk_volume.specs.Creation.{IsNewEntry, IsFrontOfChain, with_new, link
 -- while the records of one unsettled object are in the midst of a change, what is kept is what is at rest
 abbrev pub UnsettledObjectsMayChange : Type 0
 UnsettledObjectsMayChange = (except : ℕ → Bool) (store : StoreView) (state : State) (layout : Layout) → HoldsExcept except store state layout → IsValidState state → (key : List ℕ) → IsInProgress except store state layout key → Distinct (order state layout)
-    → map row_of (kept_among store held_rule (order state layout)) ≡ rest state
+    → map row_of_loaded (kept_among store held_rule (order state layout)) ≡ rest state
 
 -- in the midst of a change inside the footprint of a node of an unsettled object, its main item's or a part's, what is kept is what is at rest
 abbrev pub UnsettledChangesAreAtRest : Type 0
 UnsettledChangesAreAtRest = (touched : Claim → Bool) (old new : View) (state : State) (layout : Layout) → Represents old state layout → IsValidState state → (number : ℕ) (object : Object) (item : Item) → object_at state number ≡ Some object → has_item object item ≡ true → object.settled ≡ false
-    → (loaded : Loaded) → layout.at (layout.place item) ≡ Some loaded → SameBut touched old new → IsInside touched old new layout (layout.place item) loaded → KeepsName old.store new.store item loaded.contents → map row_of (kept_by held_rule (completed new)) ≡ rest state
+    → (loaded : Loaded) → layout.at (layout.place item) ≡ Some loaded → SameBut touched old new → IsInsideNode touched old new layout (layout.place item) loaded → KeepsName old.store new.store item loaded.contents → map row_of_loaded (kept_by held_rule (completed new)) ≡ rest state
 
 -- Removals.
 
@@ -48,7 +48,7 @@ UnsettledChangesAreAtRest = (touched : Claim → Bool) (old new : View) (state :
 abbrev pub RemovalsKeepTheOthers : Type 0
 RemovalsKeepTheOthers = (except : ℕ → Bool) (store : StoreView) (state : State) (layout : Layout) → HoldsExcept except store state layout → IsValidState state → (test : ℕ → Bool) → IsTest state layout state.uses test
     → (keep : Item → Bool) → Distinct (nodes_of layout (filter keep state.uses)) → ((item : Item) → is_listed state item ≡ true → keep item ≡ true → except (layout.place item) ≡ false)
-    → map row_of (kept_among store held_rule (nodes_of layout (filter keep state.uses))) ≡ filter_map (picked_with state test) (filter (λ item. keep item && keep (main (key_of item))) state.uses)
+    → map row_of_loaded (kept_among store held_rule (nodes_of layout (filter keep state.uses))) ≡ filter_map (picked_with state test) (filter (λ item. keep item && keep (main (key_of item))) state.uses)
 
 -- a layout without some items is laid out for the state without them
 abbrev pub LessIsPlaced : Type 0
@@ -128,7 +128,7 @@ ChangedDoomedObjectsAreRepresented = (touched : Claim → Bool) (old new : View)
 -- in the midst of a change there, also where its record is torn, what is kept is what is at rest
 abbrev pub DoomedChangesAreAtRest : Type 0
 DoomedChangesAreAtRest = (touched : Claim → Bool) (old new : View) (state : State) (layout : Layout) → Represents old state layout → IsValidState state → (number : ℕ) (object : Object) → object_at state number ≡ Some object → object.live ≡ false
-    → SameBut touched old new → IsFreeBut (layout.place_of_doomed number) touched layout → map row_of (kept_by held_rule (completed new)) ≡ rest state
+    → SameBut touched old new → IsFreeBut (layout.place_of_doomed number) touched layout → map row_of_loaded (kept_by held_rule (completed new)) ≡ rest state
 
 -- and once it is gone, the state without it is represented
 abbrev pub GoneDoomedObjectsAreRepresented : Type 0
@@ -195,18 +195,18 @@ RecordsOfAnotherStateLoad = (old new : StoreView) (before after node : ℕ) (loa
 -- while all items are listed, and their records are there, what is kept is what is at rest
 abbrev pub ListedItemsAreAtRest : Type 0
 ListedItemsAreAtRest = (except : ℕ → Bool) (store : StoreView) (state : State) (layout : Layout) → HoldsExcept except store state layout → IsValidState state → Distinct (order state layout) → ((item : Item) → is_listed state item ≡ true → except (layout.place item) ≡ false)
-    → map row_of (kept_among store held_rule (order state layout)) ≡ rest state
+    → map row_of_loaded (kept_among store held_rule (order state layout)) ≡ rest state
 
 -- once the main item of an object is out of the list, what is kept is what is at rest after its doom, whether its parts are still listed or not
 abbrev pub DoomsKeepTheOthers : Type 0
 DoomsKeepTheOthers = (except : ℕ → Bool) (store : StoreView) (state : State) (layout : Layout) → HoldsExcept except store state layout → IsValidState state → (number : ℕ) (object : Object) → object_at state number ≡ Some object
     → (keep : Item → Bool) → keep (main object.key) ≡ false → ((item : Item) → is_of_another object.key item ≡ true → keep item ≡ true) → Distinct (nodes_of layout (filter keep state.uses)) → ((item : Item) → is_listed state item ≡ true → keep item ≡ true → except (layout.place item) ≡ false)
-    → map row_of (kept_among store held_rule (nodes_of layout (filter keep state.uses))) ≡ rest (doomed number state (Some object))
+    → map row_of_loaded (kept_among store held_rule (nodes_of layout (filter keep state.uses))) ≡ rest (doomed number state (Some object))
 
 -- at each write of the removal of an object's main item, what is kept is what is at rest before its doom, and from the second on what is at rest after it
 abbrev pub DoomsAtEachWrite : Type 0
 DoomsAtEachWrite = (view : View) (state : State) (layout : Layout) → Represents view state layout → IsValidState state → (number : ℕ) (object : Object) → object_at state number ≡ Some object → object.live ≡ true
-    → (count : ℕ) → map row_of (kept_by held_rule (completed (record view { list = after_writes (take count (writes_of remove (layout.place (main object.key)) view.list)) view.list })))
+    → (count : ℕ) → map row_of_loaded (kept_by held_rule (completed (record view { list = after_writes (take count (writes_of remove (layout.place (main object.key)) view.list)) view.list })))
     ≡ (if nat_lt count 2 then rest state else rest (doomed number state (Some object)))
 
 -- and at each write of the removal of one of its parts after that
@@ -214,7 +214,7 @@ abbrev pub DoomedPartsAtEachWrite : Type 0
 DoomedPartsAtEachWrite = (except : ℕ → Bool) (view : View) (state : State) (layout : Layout) → HoldsExcept except view.store state layout → IsValidState state → (number : ℕ) (object : Object) → object_at state number ≡ Some object
     → (keep : Item → Bool) → keep (main object.key) ≡ false → ((item : Item) → is_of_another object.key item ≡ true → keep item ≡ true) → ((item : Item) → is_listed state item ≡ true → keep item ≡ true → except (layout.place item) ≡ false)
     → IsAtRest view.list (nodes_of layout (filter keep state.uses)) → (n : ℕ) → is_listed state (part object.key n) ≡ true → keep (part object.key n) ≡ true
-    → (count : ℕ) → map row_of (kept_by held_rule (completed (record view { list = after_writes (take count (writes_of remove (layout.place (part object.key n)) view.list)) view.list }))) ≡ rest (doomed number state (Some object))
+    → (count : ℕ) → map row_of_loaded (kept_by held_rule (completed (record view { list = after_writes (take count (writes_of remove (layout.place (part object.key n)) view.list)) view.list }))) ≡ rest (doomed number state (Some object))
 
 -- the object of a number, live and held by a handle, is doomed: what the layout has at its main item's node stays, and what it has of the object's parts goes
 pub record IsDoomedNow (state : State) (layout : Layout) (number : ℕ) (object : Object) (loaded : Loaded) (at : ℕ → Option Loaded) (chains : ℕ → List ℕ) (owner : Claim → Option ℕ) : Type 0 where
@@ -232,7 +232,7 @@ DoomedIsPlaced = (state : State) (layout : Layout) → IsLayoutOf state layout �
 abbrev pub DoomedIsRepresented : Type 0
 DoomedIsRepresented = (except : ℕ → Bool) (view : View) (state : State) (layout : Layout) → IsLayoutOf state layout → IsValidState state → (number : ℕ) (object : Object) (loaded : Loaded) (at : ℕ → Option Loaded) (chains : ℕ → List ℕ) (owner : Claim → Option ℕ)
     → IsDoomedNow state layout number object loaded at chains owner → HoldsExcept except view.store state (record layout { chains = chains }) → ((node : ℕ) (other : Loaded) → at node ≡ Some other → except node ≡ true → layout.place (main object.key) ≡ node)
-    → load view.store (unchained_rule records.doomed) (layout.place (main object.key)) ≡ Ok loaded → IsAtRest view.list (nodes_of layout (filter (is_of_another object.key) state.uses))
+    → load view.store (unchained_rule records.entry_doomed) (layout.place (main object.key)) ≡ Ok loaded → IsAtRest view.list (nodes_of layout (filter (is_of_another object.key) state.uses))
     → Represents view (doomed number state (Some object)) (placed_doomed layout number (layout.place (main object.key)) at chains owner)
 
 -- Handles.
@@ -251,7 +251,7 @@ touched_view view node count = record view { list = after_writes (take count (to
 abbrev pub OpensAtEachWrite : Type 0
 OpensAtEachWrite = (view : View) (state : State) (layout : Layout) → Represents view state layout → IsValidState state → (moment handle : ℕ) (key : List ℕ) → refused moment (to_open handle key) state ≡ None
     → (store : StoreView) → ShowsTheSame view.store store
-    → (count : ℕ) → StopOutcome state moment (to_open handle key) (step state moment (to_open handle key)).state (map row_of (kept_by held_rule (completed (touched_view (record view { store = store }) (layout.place (main key)) count))))
+    → (count : ℕ) → StopOutcome state moment (to_open handle key) (step state moment (to_open handle key)).state (map row_of_loaded (kept_by held_rule (completed (touched_view (record view { store = store }) (layout.place (main key)) count))))
 
 -- and in the end the new state is represented
 abbrev pub OpensEnd : Type 0
@@ -262,7 +262,7 @@ OpensEnd = (view : View) (state : State) (layout : Layout) → Represents view s
 -- Create without evictions.
 
 -- the record and the node of a new object are written outside what is anybody's, and no live object has the key
-pub record IsWritten (old new : View) (state : State) (layout : Layout) (key : List ℕ) (loaded : Loaded) : Type 0 where
+pub record IsWrittenApart (old new : View) (state : State) (layout : Layout) (key : List ℕ) (loaded : Loaded) : Type 0 where
   pub represents : Represents old state layout
   pub valid : IsValidState state
   pub touched : Claim → Bool
@@ -276,31 +276,31 @@ pub record IsWritten (old new : View) (state : State) (layout : Layout) (key : L
 
 -- they are so in each store that shows the same
 abbrev pub WrittenEntriesStay : Type 0
-WrittenEntriesStay = (old new : View) (state : State) (layout : Layout) (key : List ℕ) (loaded : Loaded) → IsWritten old new state layout key loaded
-    → (store : StoreView) → ShowsTheSame new.store store → IsWritten old (record new { store = store }) state layout key loaded
+WrittenEntriesStay = (old new : View) (state : State) (layout : Layout) (key : List ℕ) (loaded : Loaded) → IsWrittenApart old new state layout key loaded
+    → (store : StoreView) → ShowsTheSame new.store store → IsWrittenApart old (record new { store = store }) state layout key loaded
 
 -- while they are written, at any moment at which nothing else is touched, what is kept is what is at rest
 abbrev pub CreatesBeforeTheInsert : Type 0
 CreatesBeforeTheInsert = (touched : Claim → Bool) (old view : View) (state : State) (layout : Layout) → Represents old state layout → IsValidState state → SameBut touched old view → IsFree touched layout
-    → map row_of (kept_by held_rule (completed view)) ≡ rest state
+    → map row_of_loaded (kept_by held_rule (completed view)) ≡ rest state
 
 -- while its node is inserted what is kept is what is at rest
 abbrev pub CreatesAtEachWrite : Type 0
-CreatesAtEachWrite = (old new : View) (state : State) (layout : Layout) (key : List ℕ) (loaded : Loaded) → IsWritten old new state layout key loaded
+CreatesAtEachWrite = (old new : View) (state : State) (layout : Layout) (key : List ℕ) (loaded : Loaded) → IsWrittenApart old new state layout key loaded
     → (store : StoreView) → ShowsTheSame new.store store
-    → (count : ℕ) → map row_of (kept_by held_rule (completed (record { list = after_writes (take count (writes_of insert loaded.node new.list)) new.list; store = store }))) ≡ rest state
+    → (count : ℕ) → map row_of_loaded (kept_by held_rule (completed (record { list = after_writes (take count (writes_of insert loaded.node new.list)) new.list; store = store }))) ≡ rest state
 
 -- with its record in front of its chain the new state is represented
 abbrev pub CreatesEnd : Type 0
-CreatesEnd = (old new : View) (state : State) (layout : Layout) (key : List ℕ) (loaded : Loaded) → IsWritten old new state layout key loaded → (handle : ℕ)
+CreatesEnd = (old new : View) (state : State) (layout : Layout) (key : List ℕ) (loaded : Loaded) → IsWrittenApart old new state layout key loaded → (handle : ℕ)
     → (store linked : StoreView) → ShowsTheSame new.store store → ShowsTheSame (linked_front store loaded) linked
     → Represents (record { list = after_writes (writes_of insert loaded.node new.list) new.list; store = linked }) (created handle key state) (with_new layout key loaded)
 
 -- and so what is kept from then on is what is at rest, in each store that shows the same
 abbrev pub CreatesAfterTheLink : Type 0
-CreatesAfterTheLink = (old new : View) (state : State) (layout : Layout) (key : List ℕ) (loaded : Loaded) → IsWritten old new state layout key loaded → (handle : ℕ) → IsValidState (created handle key state)
+CreatesAfterTheLink = (old new : View) (state : State) (layout : Layout) (key : List ℕ) (loaded : Loaded) → IsWrittenApart old new state layout key loaded → (handle : ℕ) → IsValidState (created handle key state)
     → (store linked : StoreView) → ShowsTheSame new.store store → ShowsTheSame (linked_front store loaded) linked
-    → map row_of (kept_by held_rule (completed (record { list = after_writes (writes_of insert loaded.node new.list) new.list; store = linked }))) ≡ rest state
+    → map row_of_loaded (kept_by held_rule (completed (record { list = after_writes (writes_of insert loaded.node new.list) new.list; store = linked }))) ≡ rest state
 
 -- where nothing is evicted, that is the state after the Create
 abbrev pub CreatesEndAtTheStep : Type 0
@@ -309,7 +309,7 @@ CreatesEndAtTheStep = (state : State) (handle : ℕ) (key : List ℕ) (moment : 
 
 -- which has the same at rest
 abbrev pub CreatesLeaveTheRest : Type 0
-CreatesLeaveTheRest = (old new : View) (state : State) (layout : Layout) (key : List ℕ) (loaded : Loaded) → IsWritten old new state layout key loaded → (handle : ℕ) → rest (created handle key state) ≡ rest state
+CreatesLeaveTheRest = (old new : View) (state : State) (layout : Layout) (key : List ℕ) (loaded : Loaded) → IsWrittenApart old new state layout key loaded → (handle : ℕ) → rest (created handle key state) ≡ rest state
 
 -- and what was at rest may be left by a stop in the Create
 abbrev pub CreatesMayLeaveWhatWas : Type 0

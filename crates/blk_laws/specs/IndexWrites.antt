@@ -2,7 +2,7 @@
 use Rattle.std.specs.Prelude.{◌≡◌, ℕ, ◌<◌, ◌%◌, false, List, [], ◌∷◌}
 use Rattle.blk_image.specs.Image.{Index, Image, word}
 use Rattle.blk_image.specs.Footprint.{SameOutside, one_word}
-use Rattle.blk_format.specs.Headers.{header_length, place_of_bucket, zero_places}
+use Rattle.blk_format.specs.Headers.{header_length, place_of_bucket, zero_places, heads_place, tails_place, transaction_place, operation_place}
 use Rattle.blk_format.specs.BlockFiles.{is_among, stands_in, IsWellFormed}
 use Rattle.blk_volume.specs.ListView.{ListWrite, Head, Tail, Transaction, Operation, put}
 use Rattle.blk_volume.specs.View.{list_of, store_of, view_of}
@@ -13,25 +13,25 @@ pub record IsIndexWord (at x : ℕ) (from image : Image) : Type 0 where
   pub there : word image Index at ≡ x
   pub outside : SameOutside (one_word Index at) from image
 
--- the head of the use list, at place 288, the tail, at 308, the transaction, at 328, and the operation, at 332, are each written as one write into the list
+-- the head of the use list, the tail, the transaction and the operation are each written as one write into the list
 abbrev pub IsListWord : ℕ → (ℕ → ListWrite) → Type 0
 IsListWord at write = (from image : Image) (x : ℕ) → IsIndexWord at x from image → OnlyListChanges (write x ∷ []) from image
 
 abbrev pub HeadsAreWritten : Type 0
-HeadsAreWritten = IsListWord 288 Head
+HeadsAreWritten = IsListWord heads_place Head
 
 abbrev pub TailsAreWritten : Type 0
-TailsAreWritten = IsListWord 308 Tail
+TailsAreWritten = IsListWord tails_place Tail
 
 abbrev pub TransactionsAreWritten : Type 0
-TransactionsAreWritten = IsListWord 328 Transaction
+TransactionsAreWritten = IsListWord transaction_place Transaction
 
 abbrev pub OperationsAreWritten : Type 0
-OperationsAreWritten = IsListWord 332 Operation
+OperationsAreWritten = IsListWord operation_place Operation
 
 -- of the words of the index's header these four are shown
 abbrev pub shown_words : List ℕ
-shown_words = 288 ∷ 308 ∷ 328 ∷ 332 ∷ []
+shown_words = heads_place ∷ tails_place ∷ transaction_place ∷ operation_place ∷ []
 
 -- the others are not
 abbrev pub OtherWordsAreNotShown : Type 0

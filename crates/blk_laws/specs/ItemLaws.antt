@@ -10,7 +10,7 @@ use Rattle.blk_volume.specs.ListPlans.{touch_writes}
 use Rattle.blk_volume.specs.View.{View, StoreView}
 use Rattle.blk_volume.specs.Loads.{held_rule, Loaded}
 use Rattle.blk_volume.specs.Audit.{kept_by}
-use Rattle.blk_volume.specs.Found.{row_of, completed}
+use Rattle.blk_volume.specs.Found.{row_of_loaded, completed}
 use Rattle.blk_volume.specs.Layout.{Layout, is_listed, IsLayoutOf, Represents, OneChanged}
 use Rattle.blk_volume.specs.Creation.{with_first, with_item, IsNewItem}
 use Rattle.blk_volume.specs.ShownChanges.{ShowsTheSame}
@@ -22,7 +22,7 @@ SameStoresRepresent = (view : View) (state : State) (layout : Layout) → Repres
 -- any listed item is touched: what is kept is what is at rest before, and from the second write on what is at rest with the item in front
 abbrev pub TouchedItemsAtEachWrite : Type 0
 TouchedItemsAtEachWrite = (view : View) (state : State) (layout : Layout) → Represents view state layout → IsValidState state → (item : Item) → is_listed state item ≡ true
-    → (store : StoreView) → ShowsTheSame view.store store → (count : ℕ) → map row_of (kept_by held_rule (completed (record { list = after_writes (take count (touch_writes (layout.place item) view.list)) view.list; store = store })))
+    → (store : StoreView) → ShowsTheSame view.store store → (count : ℕ) → map row_of_loaded (kept_by held_rule (completed (record { list = after_writes (take count (touch_writes (layout.place item) view.list)) view.list; store = store })))
     ≡ (if nat_lt count 2 then rest state else rest (record state { uses = used item state.uses }))
 
 -- and in the end the state with the item in front is represented, and valid

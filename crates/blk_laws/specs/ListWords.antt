@@ -8,31 +8,31 @@ use Rattle.blk_volume.specs.ListView.{ListWrite, CanBeInserted}
 use Rattle.blk_volume.specs.Completion.{insert, remove}
 use Rattle.blk_volume.specs.ListPlans.{writes_of, touch_writes, completion_writes}
 use Rattle.blk_volume.specs.View.{list_of}
-use Rattle.blk_volume.specs.ListSteps.{IsPartly, IsTouched, IsSealed, KeepsSealed, AreSealed, AreTimes, steps_of}
-use Rattle.blk_volume.specs.ListImages.{IsWritable, CanBeMade, CompletesTo, HasListAtRest, operation_steps, steps_of_touch, completion_steps, CompletesAlike, IsCompleted, stopped_folder, IsStopped}
+use Rattle.blk_volume.specs.ListSteps.{IsPartly, IsTouched, IsSealed, KeepsSealed, AreSealed, AreTimes, steps_of_writes}
+use Rattle.blk_volume.specs.ListImages.{IsWritable, CanBeMade, CompletesTo, HasListAtRest, operation_steps, steps_of_touch, completion_steps, CompletesAlike, IsCompleted, stopped_folder, StopsAlike}
 use Rattle.blk_volume.specs.ShownChanges.{OnlyListChanges}
 
 -- Writes in turn.
 
 -- at each word of such writes a front of them is made, and nothing else is shown to change
 abbrev pub WritesAreMadeInTurn : Type 0
-WritesAreMadeInTurn = (image : Image) (writes : List ListWrite) → IsWritable image → CanBeMade image writes → Along (IsPartly image writes) image (steps_of writes image)
+WritesAreMadeInTurn = (image : Image) (writes : List ListWrite) → IsWritable image → CanBeMade image writes → Along (IsPartly image writes) image (steps_of_writes writes image)
 
 -- in the end all of them are made
 abbrev pub WritesAreMade : Type 0
-WritesAreMade = (image : Image) (writes : List ListWrite) → IsWritable image → CanBeMade image writes → OnlyListChanges writes image (after (steps_of writes image) image)
+WritesAreMade = (image : Image) (writes : List ListWrite) → IsWritable image → CanBeMade image writes → OnlyListChanges writes image (after (steps_of_writes writes image) image)
 
 -- at each word the image can be written
 abbrev pub WritesCanGoOn : Type 0
-WritesCanGoOn = (image : Image) (writes : List ListWrite) → IsWritable image → Along IsWritable image (steps_of writes image)
+WritesCanGoOn = (image : Image) (writes : List ListWrite) → IsWritable image → Along IsWritable image (steps_of_writes writes image)
 
 -- in the end each node that is written is sealed
 abbrev pub WritesSealTheirNodes : Type 0
-WritesSealTheirNodes = (image : Image) (writes : List ListWrite) → IsWritable image → CanBeMade image writes → AreSealed writes (after (steps_of writes image) image)
+WritesSealTheirNodes = (image : Image) (writes : List ListWrite) → IsWritable image → CanBeMade image writes → AreSealed writes (after (steps_of_writes writes image) image)
 
 -- and each other node that was sealed is so still
 abbrev pub WritesKeepSeals : Type 0
-WritesKeepSeals = (image : Image) (writes : List ListWrite) → IsWritable image → CanBeMade image writes → KeepsSealed image (after (steps_of writes image) image)
+WritesKeepSeals = (image : Image) (writes : List ListWrite) → IsWritable image → CanBeMade image writes → KeepsSealed image (after (steps_of_writes writes image) image)
 
 -- the sealed update of a node seals it, and keeps the seals of the others
 abbrev pub NodeUpdatesKeepSeals : Type 0
@@ -118,4 +118,4 @@ CompletionsAreDone = (image : Image) → IsWritable image → IsCompleted image 
 
 -- however often a completion is stopped
 abbrev pub CompletionsMayBeStopped : Type 0
-CompletionsMayBeStopped = (image : Image) (counts : List ℕ) → IsWritable image → IsStopped image (stopped_folder counts image)
+CompletionsMayBeStopped = (image : Image) (counts : List ℕ) → IsWritable image → StopsAlike image (stopped_folder counts image)

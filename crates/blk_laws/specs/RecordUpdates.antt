@@ -4,7 +4,7 @@ use Rattle.std.specs.declared.option.Option.TheVariants.{Some}
 use Rattle.blk_image.specs.Bytes.{content}
 use Rattle.blk_image.specs.Image.{Image, AreBytes}
 use Rattle.blk_image.specs.Steps.{with_words}
-use Rattle.blk_format.specs.Records.{entry_in}
+use Rattle.blk_format.specs.Records.{entry_in, entry_next_place}
 use Rattle.blk_volume.specs.View.{RecordFields, fields_of, store_of}
 use Rattle.blk_format.specs.Sealed.{AreChanges, IsMidUpdate, seal_place, record_at}
 use Rattle.blk_volume.specs.ShownChanges.{OnlyChainNextChanges, OnlyRecordFieldsChange}
@@ -15,9 +15,9 @@ pub record IsRecord (image : Image) (w : ℕ) (fields : RecordFields) : Type 0 w
   pub good : fields.checks ≡ true
   pub bytes : AreBytes image
 
--- its next, at place 4, is all that changes
+-- its next is all that changes
 abbrev pub ChainNextsAreWritten : Type 0
-ChainNextsAreWritten = (from image : Image) (w x : ℕ) (fields : RecordFields) → IsRecord from w fields → x < 2 ^ 32 → (moment : IsMidUpdate from w ((4, x) ∷ []) image)
+ChainNextsAreWritten = (from image : Image) (w x : ℕ) (fields : RecordFields) → IsRecord from w fields → x < 2 ^ 32 → (moment : IsMidUpdate from w ((entry_next_place, x) ∷ []) image)
     → OnlyChainNextChanges w from image × ((store_of image).chain_next w ≡ (if moment.made == 0 then (store_of from).chain_next w else x))
 
 -- the record of these bytes, sealed

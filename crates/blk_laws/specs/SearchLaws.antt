@@ -8,7 +8,7 @@ use Rattle.blk_volume.specs.ListView.{most_nodes}
 use Rattle.blk_volume.specs.View.{View}
 use Rattle.blk_volume.specs.Chains.{chain}
 use Rattle.blk_volume.specs.Layout.{Layout, order, Represents}
-use Rattle.blk_volume.specs.Searches.{bucket_of_key, chained_for, IsWholeChain, HasKey, NoneHasKey, HasReadableKey, IsOfLive}
+use Rattle.blk_volume.specs.Searches.{bucket_of_key, chained_for, IsWholeChain, HasKey, NoneHasKey, HasCheckedKey, IsOfLive}
 
 -- each chain is the layout's
 abbrev pub ChainsAreTheLayouts : Type 0
@@ -22,7 +22,7 @@ RepresentedChainsAreShort = (view : View) (state : State) (layout : Layout) → 
 pub record IsSearchable (view : View) (key : List ℕ) : Type 0 where
   pub whole : IsWholeChain view.store (bucket_of_key key)
   pub few : length (chained_for view.store key) ≤ most_nodes
-  pub keys : (w : ℕ) → is_among (chained_for view.store key) w ≡ true → HasReadableKey view.store w
+  pub keys : (w : ℕ) → is_among (chained_for view.store key) w ≡ true → HasCheckedKey view.store w
 
 abbrev pub RepresentedChainsCanBeSearched : Type 0
 RepresentedChainsCanBeSearched = (view : View) (state : State) (layout : Layout) → Represents view state layout → (key : List ℕ) → IsSearchable view key

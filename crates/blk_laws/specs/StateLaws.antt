@@ -15,14 +15,14 @@ use Rattle.blk_volume.specs.Walk.{walk}
 use Rattle.blk_volume.specs.View.{View, StoreView, view_of}
 use Rattle.blk_volume.specs.Loads.{Rule, held_rule, listed_rule, Loaded}
 use Rattle.blk_volume.specs.Audit.{kept_among, kept_by, dropped_by}
-use Rattle.blk_volume.specs.Found.{row_of, completed, found}
+use Rattle.blk_volume.specs.Found.{row_of_loaded, completed, found}
 use Rattle.blk_volume.specs.Shown.{IsShown}
 use Rattle.blk_volume.specs.Layout.{Layout, is_in, is_listed, nodes_of, order, IsLayoutOf, Holds, Represents, OneChanged, changed_at, IsChange}
 use Rattle.blk_volume.specs.Given.{given_by, GoesWith, picked_with, IsTest}
 use Rattle.blk_volume.specs.Footprint.{SameBut, IsFree, IsReplaced}
 use Rattle.blk_volume.specs.Sound.{ChainsEnd, IsInOrder}
 use Rattle.blk_volume.specs.Tidy.{IsTidy}
-use Rattle.blk_volume.specs.StandsFor.{ShowsState, StandsFor, doomed_of, IsAllocated}
+use Rattle.blk_volume.specs.StandsFor.{ShowsState, StandsFor, doomed_of, AllIsOwned}
 
 -- What represents a valid state.
 
@@ -32,7 +32,7 @@ WalksAreTheOrder = (view : View) (state : State) (layout : Layout) → Represent
 
 -- the rows that are kept where dirty nodes are kept too are its rows
 abbrev pub ListedAreTheRows : Type 0
-ListedAreTheRows = (view : View) (state : State) (layout : Layout) → Represents view state layout → IsValidState state → map row_of (kept_by listed_rule view) ≡ rows state
+ListedAreTheRows = (view : View) (state : State) (layout : Layout) → Represents view state layout → IsValidState state → map row_of_loaded (kept_by listed_rule view) ≡ rows state
 
 -- nothing is dropped but for dirt
 abbrev pub NothingListedIsDropped : Type 0
@@ -44,7 +44,7 @@ RepresentedChainsEnd = (view : View) (state : State) (layout : Layout) → Repre
 
 -- what is kept is what is at rest
 abbrev pub KeptAreAtRest : Type 0
-KeptAreAtRest = (view : View) (state : State) (layout : Layout) → Represents view state layout → IsValidState state → map row_of (kept_by held_rule (completed view)) ≡ rest state
+KeptAreAtRest = (view : View) (state : State) (layout : Layout) → Represents view state layout → IsValidState state → map row_of_loaded (kept_by held_rule (completed view)) ≡ rest state
 
 -- so a finished folder holds what is at rest
 abbrev pub FoundIsAtRest : Type 0
@@ -52,11 +52,11 @@ FoundIsAtRest = (image : Image) (state : State) (layout : Layout) → Represents
 
 -- a view shows the state that it represents
 abbrev pub RepresentedStatesAreShown : Type 0
-RepresentedStatesAreShown = (image : Image) (state : State) (layout : Layout) (numbers : List ℕ) → Represents (view_of image) state layout → IsValidState state → IsAllocated image state layout numbers → ShowsState (view_of image) state
+RepresentedStatesAreShown = (image : Image) (state : State) (layout : Layout) (numbers : List ℕ) → Represents (view_of image) state layout → IsValidState state → AllIsOwned image state layout numbers → ShowsState (view_of image) state
 
 -- and an image stands for it where it is well formed, its maps are exact, and its files, counters and seals are in order
 abbrev pub RepresentedStatesAreStoodFor : Type 0
-RepresentedStatesAreStoodFor = (image : Image) (state : State) (layout : Layout) (numbers : List ℕ) → Represents (view_of image) state layout → IsValidState state → IsAllocated image state layout numbers → IsWellFormed image
+RepresentedStatesAreStoodFor = (image : Image) (state : State) (layout : Layout) (numbers : List ℕ) → Represents (view_of image) state layout → IsValidState state → AllIsOwned image state layout numbers → IsWellFormed image
     → IsInOrder image (kept_by listed_rule (view_of image)) (map (λ d. d.1) (doomed_of layout numbers)) → StandsFor image state
 
 -- files, counters and seals that are in order by a layout are so for what is listed and doomed
@@ -66,7 +66,7 @@ TidyIsInOrder = (image : Image) (state : State) (layout : Layout) (numbers : Lis
 
 -- so a tidy image with exact maps stands for the state
 abbrev pub TidyStatesAreStoodFor : Type 0
-TidyStatesAreStoodFor = (image : Image) (state : State) (layout : Layout) (numbers : List ℕ) → Represents (view_of image) state layout → IsValidState state → IsAllocated image state layout numbers → IsWellFormed image → IsTidy image state layout numbers → StandsFor image state
+TidyStatesAreStoodFor = (image : Image) (state : State) (layout : Layout) (numbers : List ℕ) → Represents (view_of image) state layout → IsValidState state → AllIsOwned image state layout numbers → IsWellFormed image → IsTidy image state layout numbers → StandsFor image state
 
 -- what stands for a state finds what is at rest in it
 abbrev pub WhatIsStoodForIsFound : Type 0
@@ -86,7 +86,7 @@ PlacedItemsAreShown = (store : StoreView) (state : State) (layout : Layout) → 
 -- what is kept are the rows of the objects that pass a test, where no part is without its main item
 abbrev pub KeptArePicked : Type 0
 KeptArePicked = (store : StoreView) (state : State) (layout : Layout) → Holds store state layout → (items : List Item) → AreItemsOf items state → (test : ℕ → Bool) → IsTest state layout items test
-    → Distinct (nodes_of layout items) → ((key : List ℕ) (n : ℕ) → is_in items (part key n) ≡ true → is_in items (main key) ≡ true) → map row_of (kept_among store held_rule (nodes_of layout items)) ≡ filter_map (picked_with state test) items
+    → Distinct (nodes_of layout items) → ((key : List ℕ) (n : ℕ) → is_in items (part key n) ≡ true → is_in items (main key) ≡ true) → map row_of_loaded (kept_among store held_rule (nodes_of layout items)) ≡ filter_map (picked_with state test) items
 
 -- Changes of a view.
 

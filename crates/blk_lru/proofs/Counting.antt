@@ -2,7 +2,7 @@
 use Rattle.blk_disk.specs.Tables.{is_node_among}
 use Rattle.std.proofs.Common.{⊎_elim, ◌≡◌, ◌≢◌, ℕ, Bool, true, false, ◌||◌, Option, None, Some, refl, sym, ap, ◌∙◌}
 use Rattle.std.specs.Prelude.{◌==◌}
-use Rattle.std.proofs.lemmas.Bool.{eq-eqb, ne_eqb}
+use Rattle.std.proofs.lemmas.Bool.{eq-eqb, ne_eqb, or_right, false_from_ne_true}
 use Rattle.blk_volume.specs.ListView.{ListView}
 use Rattle.blk_volume.specs.Completion.{counts, head_counts, links_count}
 use Rattle.blk_volume.specs.ListPlans.{completion_writes}
@@ -13,7 +13,7 @@ use Rattle.blk_lru.specs.declared.completing.InFlight.{InFlight}
 use Rattle.blk_lru.specs.declared.completing.Usable.TheVariants.{Counts}
 use Rattle.blk_lru.specs.declared.plans.Neighbours.{Neighbours}
 use Rattle.blk_lru.specs.declared.plans.Operation.TheVariants as operations
-use Rattle.blk_lru.specs.Completing.{Finds, FindsNeighbours, FindsHead, IsInFlight}
+use Rattle.blk_lru.specs.Completing.{FindsInFlight, FindsNeighbours, FindsHead, IsInFlight}
 use Rattle.blk_lru.specs.declared.nodes.Links.{Links}
 use Rattle.blk_lru.specs.Nodes.{AreLinksOf, FindsNode}
 use Rattle.blk_lru.specs.Plans.{pending}
@@ -22,14 +22,6 @@ use Rattle.blk_lru.proofs.PlanWords.{pending_is}
 
 clash : {b : Bool} → b ≡ true → b ≡ false → ⊥
 clash e f = let z : true ≡ false = sym e ∙ f in cc
-
-or_second : (a b : Bool) → b ≡ true → (a || b) ≡ true
-or_second true b e = refl
-or_second false b e = e
-
-false_unless : (b : Bool) → (b ≡ true → ⊥) → b ≡ false
-false_unless true never = absurd (never refl)
-false_unless false never = refl
 
 -- whether the head counts, by what is found of it
 module _ (list : ListView) where
@@ -45,22 +37,22 @@ module _ (list : ListView) where
   pub head_good : (head : ℕ) → list.head ≡ head → (links : Links) → FindsNode list head (Some links) → (head_counts list ≡ true) × (links.node ≡ list.head)
   head_good head is links found =
       let b : list.checks list.head ≡ true = ap list.checks is ∙ found.good in
-      (or_second (list.head == 0) (list.checks list.head) b, found.node ∙ sym is)
+      (or_right (list.head == 0) (list.checks list.head) b, found.node ∙ sym is)
 
 -- where it doesn't count
 module _ (list : ListView) where
   not_node : list.checks list.transaction ≡ false → counts list ≡ false
-  not_node bad = false_unless (counts list) (λ e. clash (counting list e).good bad)
+  not_node bad = false_from_ne_true (counts list) (λ e. clash (counting list e).good bad)
 
   pub node_bad : (transaction : ℕ) → list.transaction ≡ transaction → FindsNode list transaction None → counts list ≡ false
   node_bad transaction is bad = not_node (ap list.checks is ∙ bad)
 
   pub not_known : list.operation ≢ 1 → list.operation ≢ 2 → list.operation ≢ 3 → counts list ≡ false
-  not_known one two three = false_unless (counts list) (λ e. ⊎_elim one (λ more. ⊎_elim two three more) (counting list e).known)
+  not_known one two three = false_from_ne_true (counts list) (λ e. ⊎_elim one (λ more. ⊎_elim two three more) (counting list e).known)
 
   pub not_head : (list.operation == 2) ≡ false → head_counts list ≡ false → counts list ≡ false
   not_head other bad =
-      false_unless (counts list)
+      false_from_ne_true (counts list)
       (λ e.
       let h : ((list.operation == 2) || head_counts list) ≡ true = (counting list e).head_good in
       let k : head_counts list ≡ true = rw other at h in
@@ -68,7 +60,7 @@ module _ (list : ListView) where
 
   pub not_links : (list.operation == 1) ≡ false → links_count list list.transaction ≡ false → counts list ≡ false
   not_links other bad =
-      false_unless (counts list)
+      false_from_ne_true (counts list)
       (λ e.
       let h : ((list.operation == 1) || links_count list list.transaction) ≡ true = (counting list e).links in
       let k : links_count list list.transaction ≡ true = rw other at h in
@@ -102,13 +94,13 @@ module _ (files : BlockFiles) (list : ListView) (links : Links) (stands : is_nod
   some_transaction : (list.transaction == 0) ≡ false
   some_transaction = ap (λ (n : ℕ). n == 0) (sym are.node) ∙ node_some files links.node stands
 
-  pub insert_found : list.operation ≡ 1 → (head : Option ℕ) → FindsHead list (Counts head) → Finds list (Some (record { node = links.node; operation = operations.Insert head }))
+  pub insert_found : list.operation ≡ 1 → (head : Option ℕ) → FindsHead list (Counts head) → FindsInFlight list (Some (record { node = links.node; operation = operations.Insert head }))
   insert_found one head first = (insert_counts list some_transaction are.good one first.0, record { node = are.node; operation = sym one; goes_by = first.1 })
 
-  pub removal_found : list.operation ≡ 2 → (neighbours : Option Neighbours) → FindsNeighbours list list.transaction (Counts neighbours) → Finds list (Some (record { node = links.node; operation = operations.Remove neighbours }))
+  pub removal_found : list.operation ≡ 2 → (neighbours : Option Neighbours) → FindsNeighbours list list.transaction (Counts neighbours) → FindsInFlight list (Some (record { node = links.node; operation = operations.Remove neighbours }))
   removal_found two neighbours found = (removal_counts list some_transaction are.good two found.0, record { node = are.node; operation = sym two; goes_by = found.1 })
 
-  pub move_found : list.operation ≡ 3 → (head : Option ℕ) (neighbours : Option Neighbours) → FindsHead list (Counts head) → FindsNeighbours list list.transaction (Counts neighbours) → Finds list (Some (record { node = links.node; operation = operations.Move neighbours head }))
+  pub move_found : list.operation ≡ 3 → (head : Option ℕ) (neighbours : Option Neighbours) → FindsHead list (Counts head) → FindsNeighbours list list.transaction (Counts neighbours) → FindsInFlight list (Some (record { node = links.node; operation = operations.Move neighbours head }))
   move_found three head neighbours first found = (move_counts list some_transaction are.good three first.0 found.0, record { node = are.node; operation = sym three; goes_by = (found.1, first.1) })
 
 -- what completing writes, by the operation that was found

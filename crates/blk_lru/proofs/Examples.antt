@@ -8,7 +8,7 @@ use Rattle.blk_format.specs.BlockFiles.{is_among}
 use Rattle.blk_laws.proofs.ExampleWords.{another, first, last, pair_folder, pair-at_rest, pair-can_be_more}
 use Rattle.blk_laws.proofs.Walks.{walk_list}
 use Rattle.blk_laws.proofs.WordTurns.{touches-can}
-use Rattle.blk_lru.specs.Lists.{CanBeTouched, IsLinked, IsListAtRest, IsListed}
+use Rattle.blk_lru.specs.Lists.{CanBeTouched, HasGoodLinks, IsListAtRest, IsListed}
 use Rattle.blk_lru.proofs.Listed.{linked}
 
 abbrev pub folder : Image
@@ -27,7 +27,7 @@ pub some-can_be_inserted : CanBeInserted (list_of folder) (walked folder) anothe
 some-can_be_inserted = subst (λ (nodes : List ℕ). CanBeInserted (list_of folder) nodes another) (sym pair-walk) pair-can_be_more
 
 -- and what Ok says of them holds
-pub some-linked : IsLinked (list_of folder) last
+pub some-linked : HasGoodLinks (list_of folder) last
 some-linked = let l = linked (list_of folder) (first ∷ []) last [] pair-at_rest.whole in record { good = l.good; next_good = l.next_good; prev_good = l.prev_good }
 
 pub some-can_be_touched : CanBeTouched folder last

@@ -13,7 +13,7 @@ use Rattle.blk_io.specs.declared.fault.Fault.TheVariants.{Device, Damaged}
 use Rattle.blk_io.specs.Faults.{IfDamaged, IsShort}
 use Rattle.blk_disk.specs.declared.tables.BlockFiles.{BlockFiles}
 use Rattle.blk_disk.specs.Unsealed.{IsUnsealed}
-use Rattle.blk_lru.specs.Damages.{IsNodeDamage}
+use Rattle.blk_lru.specs.Damages.{IsWrongNode}
 use Rattle.blk_lru.proofs.NodeWords.{node_kind}
 
 -- what holds of a damage may be weaker
@@ -24,7 +24,7 @@ if_damaged_weaker (Err (Damaged damage)) weaker holds = weaker damage holds
 
 -- a node is read too short, or doesn't check, and nothing was written
 pub short_or_unsealed : {A : Type 0} (r : Result A Fault) (files : BlockFiles) (old new : Told) (w : ℕ) → is_node_among files w ≡ true
-    → IfDamaged r (λ damage. IsShort old (names.Block (file_selector w)) (place w) (record_size w) damage ⊎ IsUnsealed old w damage) → IfDamaged r (λ _. Stays old new) → IfDamaged r (IsNodeDamage files new)
+    → IfDamaged r (λ damage. IsShort old (names.Block (file_selector w)) (place w) (record_size w) damage ⊎ IsUnsealed old w damage) → IfDamaged r (λ _. Stays old new) → IfDamaged r (IsWrongNode files new)
 short_or_unsealed (Ok a) files old new w stands holds stays = tt
 short_or_unsealed (Err Device) files old new w stands holds stays = tt
 short_or_unsealed (Err (Damaged damage)) files old new w stands holds stays = record {

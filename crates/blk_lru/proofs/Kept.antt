@@ -13,7 +13,7 @@ use Rattle.blk_format.specs.Headers.{HasWholeIndex}
 use Rattle.blk_format.specs.Sealed.{placed, seal_place, new_seal, sealed_steps, update_steps, update_words}
 use Rattle.blk_format.proofs.SpareHeaders.{SparesHeaders, blocks_spare}
 use Rattle.blk_volume.specs.ListView.{ListWrite, Next, Prev, Head, Tail, Transaction, Operation}
-use Rattle.blk_volume.specs.ListSteps.{steps_of, write_steps}
+use Rattle.blk_volume.specs.ListSteps.{steps_of_writes, write_steps}
 use Rattle.blk_record.specs.declared.index_head.TheConstants.IndexHead as IndexHead
 use Rattle.blk_record.specs.declared.node.TheConstants.NodeView as NodeView
 use Rattle.blk_disk.proofs.Agreeing.{agrees_still}
@@ -63,8 +63,8 @@ module _ (files : BlockFiles) where
   kept_write (Operation x) image kept = kept_index IndexHead.OPERATION x image kept
 
   -- and writes
-  pub kept_writes : (writes : List ListWrite) (image : Image) → IsKept files image → Along (IsKept files) image (steps_of writes image)
+  pub kept_writes : (writes : List ListWrite) (image : Image) → IsKept files image → Along (IsKept files) image (steps_of_writes writes image)
   kept_writes [] image kept = kept
   kept_writes (write ∷ writes) image kept =
-      until-append (IsKept files) (IsKept files) (write_steps write image) (steps_of writes (after (write_steps write image) image)) image (kept_write write image kept)
+      until-append (IsKept files) (IsKept files) (write_steps write image) (steps_of_writes writes (after (write_steps write image) image)) image (kept_write write image kept)
       (kept_writes writes (after (write_steps write image) image) (until_last (IsKept files) (IsKept files) (write_steps write image) image (kept_write write image kept)))

@@ -1,6 +1,7 @@
 -- What holds at each word of an operation, from a front of its writes.
 use Rattle.std.proofs.Common.{arith, ◌≡◌, ℕ, Bool, false, ◌+◌, ◌<◌, List, [], ◌∷◌, refl, ap, subst, ◌∙◌}
 use Rattle.std.specs.Prelude.{◌||◌}
+use Rattle.std.proofs.lemmas.Bool.{or_from}
 use Rattle.blk_image.specs.Image.{File, Index, Block, Image}
 use Rattle.blk_image.specs.Footprint.{Footprint, SameOutside, range, either}
 use Rattle.blk_image.specs.Steps.{TrailStep}
@@ -8,13 +9,13 @@ use Rattle.blk_image.specs.Told.{Along}
 use Rattle.blk_image.proofs.Runs.{until_weaker2}
 use Rattle.blk_format.specs.Address.{file_selector, place}
 use Rattle.blk_format.specs.Sealed.{record_range, record_size}
-use Rattle.blk_format.proofs.SpareHeaders.{SparesHeaders, blocks_spare}
 use Rattle.blk_volume.specs.ListView.{ListView, ListWrite, Next, Prev, Head, Tail, Transaction, Operation}
 use Rattle.blk_volume.specs.ListPlans.{CommitsAtTwo, completion_writes}
 use Rattle.blk_volume.specs.Completion.{completed_list}
 use Rattle.blk_volume.specs.Walk.{walk}
 use Rattle.blk_volume.specs.View.{list_of}
 use Rattle.blk_volume.specs.ListSteps.{IsPartly, IsTouched, touched_by_write, touched_by_writes}
+use Rattle.blk_laws.proofs.ListFootprints.{spare_record, spares_headers, spares_sizes}
 use Rattle.blk_laws.proofs.WordStops.{partly-alike}
 use Rattle.blk_laws.proofs.WriteSteps.{nothing_made}
 use Rattle.blk_disk.proofs.Agreeing.{agrees_still}
@@ -22,49 +23,17 @@ use Rattle.blk_disk.specs.declared.tables.BlockFiles.{BlockFiles}
 use Rattle.blk_lru.specs.Moments.{IsMidCompletion, IsMidOperation, IsMidTouch}
 use Rattle.blk_lru.proofs.Kept.{IsKept}
 
--- the writes touch no header and no length
-or_none : (a b : Bool) → a ≡ false → b ≡ false → (a || b) ≡ false
-or_none a b p q = rw (p, q) refl
-
-spare_record : (w n i : ℕ) → i < 8192 → (record_range w).bytes (Block n) i ≡ false
-spare_record w n i small = (subst (λ (at : ℕ). SparesHeaders (range (Block (file_selector w)) at (record_size w))) (let e : place w + 0 ≡ place w = omega arith in e) (blocks_spare (Block (file_selector w)) w 0 (record_size w))).bytes n i small
-
-spare_write : (write : ListWrite) (n i : ℕ) → i < 8192 → (touched_by_write write).bytes (Block n) i ≡ false
-unfolding touched_by_write
-spare_write (Next w x) n i small = spare_record w n i small
-spare_write (Prev w x) n i small = spare_record w n i small
-spare_write (Head x) n i small = refl
-spare_write (Tail x) n i small = refl
-spare_write (Transaction x) n i small = refl
-spare_write (Operation x) n i small = refl
-
-spares_bytes : (writes : List ListWrite) (n i : ℕ) → i < 8192 → (touched_by_writes writes).bytes (Block n) i ≡ false
-spares_bytes [] n i small = refl
-spares_bytes (write ∷ writes) n i small = or_none _ _ (spare_write write n i small) (spares_bytes writes n i small)
-
-spare_size : (write : ListWrite) (file : File) → (touched_by_write write).sizes file ≡ false
-unfolding touched_by_write
-spare_size (Next w x) file = refl
-spare_size (Prev w x) file = refl
-spare_size (Head x) file = refl
-spare_size (Tail x) file = refl
-spare_size (Transaction x) file = refl
-spare_size (Operation x) file = refl
-
-spares_sizes : (writes : List ListWrite) (file : File) → (touched_by_writes writes).sizes file ≡ false
-spares_sizes [] file = refl
-spares_sizes (write ∷ writes) file = or_none _ _ (spare_size write file) (spares_sizes writes file)
-
+-- what is kept stays so where a footprint touches no header and no length
 outside_keeps : (files : BlockFiles) (F : Footprint) (from image : Image) → ((n i : ℕ) → i < 8192 → F.bytes (Block n) i ≡ false) → ((file : File) → F.sizes file ≡ false) → SameOutside F from image → IsKept files from → IsKept files image
 outside_keeps files F from image bytes sizes outside kept = record { index = outside.lengths Index (sizes Index) ∙ kept.index; agrees = agrees_still F from image (record { bytes = bytes }) outside files (λ n. sizes (Block n)) kept.agrees }
 
 module _ (files : BlockFiles) (from : Image) (kept : IsKept files from) (writes : List ListWrite) where
   partly_kept : (image : Image) → IsPartly from writes image → IsKept files image
-  partly_kept image partly = outside_keeps files (touched_by_writes writes) from image (spares_bytes writes) (spares_sizes writes) partly.outside kept
+  partly_kept image partly = outside_keeps files (touched_by_writes writes) from image (λ n i small. (spares_headers writes).bytes n i small) (spares_sizes writes) partly.outside kept
 
   touched_kept : (node : ℕ) (image : Image) → IsTouched from node writes image → IsKept files image
   touched_kept node image touched =
-      outside_keeps files (either (touched_by_writes writes) (record_range node)) from image (λ n i small. or_none _ _ (spares_bytes writes n i small) (spare_record node n i small)) (λ file. or_none _ _ (spares_sizes writes file) refl) touched.outside kept
+      outside_keeps files (either (touched_by_writes writes) (record_range node)) from image (λ n i small. or_from _ _ ((spares_headers writes).bytes n i small) (spare_record node n i small)) (λ file. or_from _ _ (spares_sizes writes file) refl) touched.outside kept
 
   -- an operation that commits at its second write
   module _ (old new : List ℕ) (commits : CommitsAtTwo (list_of from) writes old new) where

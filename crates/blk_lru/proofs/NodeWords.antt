@@ -1,7 +1,7 @@
 -- Words that name nodes in an image, and the links of nodes.
 use Rattle.std.proofs.Common.{inl, inr, ⊎_elim, ◌≡◌, ℕ, ◌+◌, ◌*◌, ◌≤◌, Bool, true, false, ◌&&◌, if◌then◌else◌, refl, sym, ap, ◌∙◌, arith}
 use Rattle.std.specs.Prelude.{◌==◌, ◌⊎◌}
-use Rattle.std.proofs.lemmas.Bool.{eqb-true, and_parts}
+use Rattle.std.proofs.lemmas.Bool.{eqb-true, and_parts, and_from}
 use Rattle.blk_image.specs.Image.{External, Image, has_file}
 use Rattle.blk_format.specs.Address.{is_address, kind_of, external, rankings, block_count, block_size, byte_size, place, block_place, first_block, external_number}
 use Rattle.blk_format.specs.Standing.{stands}
@@ -13,9 +13,6 @@ use Rattle.blk_disk.specs.declared.tables.BlockFiles.{BlockFiles}
 use Rattle.blk_disk.specs.Tables.{Agrees, stands_among, is_node_among, names_among}
 use Rattle.blk_disk.proofs.Ranges.{stands_agree}
 use Rattle.blk_lru.specs.Nodes.{link_at, IsNodeOrNone}
-
-and_both : (a b : Bool) → a ≡ true → b ≡ true → (a && b) ≡ true
-and_both a b e f = rw (e, f) refl
 
 pub node_kind : (files : BlockFiles) (w : ℕ) → is_node_among files w ≡ true → kind_of w ≡ rankings
 unfolding names_among
@@ -34,8 +31,8 @@ module _ (files : BlockFiles) (image : Image) (agrees : Agrees files image) wher
       let b = and_parts (kind_of w == rankings) (stands_among files w) a.1 in
       let block_kind : (kind_of w == external) ≡ false = rw (eqb-true (kind_of w) rankings b.0) refl in
       let blocks : stands_in_blocks image w ≡ true = sym (stands_agree files image w agrees) ∙ b.1 in
-      and_both (stands_in image w) (kind_of w == rankings)
-      (and_both (is_address w) (if kind_of w == external then has_file image (External (external_number w)) else stands_in_blocks image w) a.0 (ap (λ (t : Bool). if t then has_file image (External (external_number w)) else stands_in_blocks image w) block_kind ∙ blocks))
+      and_from (stands_in image w) (kind_of w == rankings)
+      (and_from (is_address w) (if kind_of w == external then has_file image (External (external_number w)) else stands_in_blocks image w) a.0 (ap (λ (t : Bool). if t then has_file image (External (external_number w)) else stands_in_blocks image w) block_kind ∙ blocks))
       b.0
 
   -- and what stands as one names a node
@@ -46,7 +43,7 @@ module _ (files : BlockFiles) (image : Image) (agrees : Agrees files image) wher
       let q = and_parts (is_address w) (if kind_of w == external then has_file image (External (external_number w)) else stands_in_blocks image w) p.0 in
       let block_kind : (kind_of w == external) ≡ false = rw (eqb-true (kind_of w) rankings p.1) refl in
       let blocks : stands_in_blocks image w ≡ true = sym (ap (λ (t : Bool). if t then has_file image (External (external_number w)) else stands_in_blocks image w) block_kind) ∙ q.1 in
-      and_both (is_address w) ((kind_of w == rankings) && stands_among files w) q.0 (and_both (kind_of w == rankings) (stands_among files w) p.1 (stands_agree files image w agrees ∙ blocks))
+      and_from (is_address w) ((kind_of w == rankings) && stands_among files w) q.0 (and_from (kind_of w == rankings) (stands_among files w) p.1 (stands_agree files image w agrees ∙ blocks))
 
   pub checked_names : (w : ℕ) → (list_of image).checks w ≡ true → is_node_among files w ≡ true
   unfolding list_of checks_at stands

@@ -8,7 +8,7 @@ use Rattle.blk_image.specs.Steps.{TrailStep, after}
 use Rattle.blk_image.specs.Told.{Told, Along, Applies, AppliesPrefix, Passes, IsQuiet}
 use Rattle.blk_image.proofs.Runs.{passes_none, passes_part, some_inj}
 use Rattle.blk_volume.specs.ListView.{ListWrite}
-use Rattle.blk_volume.specs.ListSteps.{steps_of}
+use Rattle.blk_volume.specs.ListSteps.{steps_of_writes}
 use Rattle.blk_volume.specs.ListImages.{CanBeMade}
 use Rattle.blk_io.specs.declared.fault.Fault.{Fault}
 use Rattle.blk_io.specs.Faults.{IfDamaged}
@@ -30,13 +30,13 @@ module _ (old now : Told) (from : Image) (there : old.files ≡ Some from) (step
 
 -- what was written is the plan of the image
 module _ (a m b : Told) (stays : m ≡ a) (ws : List ListWrite) (plan : Image → List ListWrite) (is : ForSome a.files (λ from. ws ≡ plan from)) where
-  pub whole_as : {T E : Type 0} (r : Result T E) → OnOk r (ForSome m.files (λ from. Applies m b (steps_of ws from))) → OnOk r (ForSome a.files (λ from. Applies a b (steps_of (plan from) from)))
+  pub whole_as : {T E : Type 0} (r : Result T E) → OnOk r (ForSome m.files (λ from. Applies m b (steps_of_writes ws from))) → OnOk r (ForSome a.files (λ from. Applies a b (steps_of_writes (plan from) from)))
   whole_as r whole =
-      on_ok_weaker r (λ grows from there. subst (λ (w : List ListWrite). Applies a b (steps_of w from)) (is from there) (grows from there))
-      (subst (λ (t : Told). OnOk r (ForSome t.files (λ from. Applies t b (steps_of ws from)))) stays whole)
+      on_ok_weaker r (λ grows from there. subst (λ (w : List ListWrite). Applies a b (steps_of_writes w from)) (is from there) (grows from there))
+      (subst (λ (t : Told). OnOk r (ForSome t.files (λ from. Applies t b (steps_of_writes ws from)))) stays whole)
 
-  pub part_as : ForSome m.files (λ from. AppliesPrefix m b (steps_of ws from)) → ForSome a.files (λ from. AppliesPrefix a b (steps_of (plan from) from))
-  part_as part from there = subst (λ (w : List ListWrite). AppliesPrefix a b (steps_of w from)) (is from there) (subst (λ (t : Told). ForSome t.files (λ from. AppliesPrefix t b (steps_of ws from))) stays part from there)
+  pub part_as : ForSome m.files (λ from. AppliesPrefix m b (steps_of_writes ws from)) → ForSome a.files (λ from. AppliesPrefix a b (steps_of_writes (plan from) from))
+  part_as part from there = subst (λ (w : List ListWrite). AppliesPrefix a b (steps_of_writes w from)) (is from there) (subst (λ (t : Told). ForSome t.files (λ from. AppliesPrefix t b (steps_of_writes ws from))) stays part from there)
 
   -- and so is what Ok says of its nodes, and where a damage is untold
   pub checked_as : {T E : Type 0} (r : Result T E) → OnOk r (ForSome m.files (λ from. CanBeMade from ws)) → OnOk r (ForSome a.files (λ from. CanBeMade from (plan from)))

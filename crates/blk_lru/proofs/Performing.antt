@@ -10,7 +10,7 @@ use Rattle.blk_image.proofs.Runs.{grows_none, grows_then, part_then, part_only, 
 use Rattle.blk_format.specs.Headers.{HasWholeIndex}
 use Rattle.blk_volume.specs.ListView.{ListWrite, Next, Prev, Head, Tail, Transaction, Operation}
 use Rattle.blk_volume.specs.View.{list_of}
-use Rattle.blk_volume.specs.ListSteps.{write_steps, steps_of, AreOf, AreWords}
+use Rattle.blk_volume.specs.ListSteps.{write_steps, steps_of_writes, AreOf, AllWriteWords}
 use Rattle.blk_volume.specs.ListImages.{IsWritable, CanBeMade}
 use Rattle.blk_laws.proofs.WriteSteps.{writes_show, writable-after, rest_can, first_can, one_write, still_check}
 use Rattle.blk_disk.specs.declared.tables.BlockFiles.{BlockFiles}
@@ -33,7 +33,7 @@ told_ready files told agrees index bytes image there = record { kept = record { 
 
 -- all of some writes were made
 pub record Wrote (old now : Told) (writes : List ListWrite) : Type 0 where
-  pub applies : ForSome old.files (λ from. Applies old now (steps_of writes from))
+  pub applies : ForSome old.files (λ from. Applies old now (steps_of_writes writes from))
   pub silent : old.files ≡ None → now.files ≡ None
 
 -- the nodes of some writes check
@@ -47,14 +47,14 @@ pub record Reached (old now : Told) (writes left : List ListWrite) : Type 0 wher
   pub wrote : Wrote old now done
   pub checked : ForSome old.files (λ from. Check from done)
 
-pub steps-append : (xs ys : List ListWrite) (image : Image) → steps_of (xs ++ ys) image ≡ steps_of xs image ++ steps_of ys (after (steps_of xs image) image)
+pub steps-append : (xs ys : List ListWrite) (image : Image) → steps_of_writes (xs ++ ys) image ≡ steps_of_writes xs image ++ steps_of_writes ys (after (steps_of_writes xs image) image)
 steps-append [] ys image = refl
 steps-append (x ∷ xs) ys image =
     let steps : List TrailStep = write_steps x image in
     let between : Image = after steps image in
     ap (λ (s : List TrailStep). steps ++ s) (steps-append xs ys between)
-    ∙ sym (append_assoc steps (steps_of xs between) (steps_of ys (after (steps_of xs between) between)))
-    ∙ ap (λ (i : Image). (steps ++ steps_of xs between) ++ steps_of ys i) (sym (after-append steps (steps_of xs between) image))
+    ∙ sym (append_assoc steps (steps_of_writes xs between) (steps_of_writes ys (after (steps_of_writes xs between) between)))
+    ∙ ap (λ (i : Image). (steps ++ steps_of_writes xs between) ++ steps_of_writes ys i) (sym (after-append steps (steps_of_writes xs between) image))
 
 pub no_some : {A : Type 0} (x : A) → None ≡ Some x → ⊥
 no_some x e = cc
@@ -68,8 +68,8 @@ now_has old now after_it Q all silent image here = by_files old.files refl
     by_files (Some from) there = let a = all from there in subst Q (some_inj (sym a.0 ∙ here)) a.1
 
 -- the files after writes
-pub wrote_files : {old now : Told} {writes : List ListWrite} → Wrote old now writes → (from : Image) → old.files ≡ Some from → now.files ≡ Some (after (steps_of writes from) from)
-wrote_files {old} {now} {writes} wrote from there = (wrote.applies from there).files ∙ ap (option_map (after (steps_of writes from))) there
+pub wrote_files : {old now : Told} {writes : List ListWrite} → Wrote old now writes → (from : Image) → old.files ≡ Some from → now.files ≡ Some (after (steps_of_writes writes from) from)
+wrote_files {old} {now} {writes} wrote from there = (wrote.applies from there).files ∙ ap (option_map (after (steps_of_writes writes from))) there
 
 -- no write yet
 pub nothing : (old now : Told) (writes : List ListWrite) → now ≡ old → Reached old now writes writes
@@ -99,17 +99,17 @@ first_nodes P (Tail w ∷ xs) ys h = first_nodes P xs ys h
 first_nodes P (Transaction w ∷ xs) ys h = first_nodes P xs ys h
 first_nodes P (Operation w ∷ xs) ys h = first_nodes P xs ys h
 
-first_words : (xs ys : List ListWrite) → AreWords (xs ++ ys) → AreWords xs
+first_words : (xs ys : List ListWrite) → AllWriteWords (xs ++ ys) → AllWriteWords xs
 first_words [] ys h = tt
 first_words (x ∷ xs) ys h = (h.0, first_words xs ys h.1)
 
 -- all of the writes, in front of others
-split_can : (from : Image) (xs ys : List ListWrite) → IsWritable from → CanBeMade from (xs ++ ys) → CanBeMade (after (steps_of xs from) from) ys
+split_can : (from : Image) (xs ys : List ListWrite) → IsWritable from → CanBeMade from (xs ++ ys) → CanBeMade (after (steps_of_writes xs from) from) ys
 split_can from [] ys is all = all
 split_can from (x ∷ xs) ys is all =
     let first = one_write x from is (first_can from x (xs ++ ys) all) in
     let between : Image = after (write_steps x from) from in
-    subst (λ (i : Image). CanBeMade i ys) (sym (after-append (write_steps x from) (steps_of xs between) from)) (split_can between xs ys (writable-after x from is) (rest_can from between x (xs ++ ys) first.ends all))
+    subst (λ (i : Image). CanBeMade i ys) (sym (after-append (write_steps x from) (steps_of_writes xs between) from)) (split_can between xs ys (writable-after x from is) (rest_can from between x (xs ++ ys) first.ends all))
 
 -- the last step of a part
 pub part_kept : (files : BlockFiles) (old now : Told) (steps : Image → List TrailStep) → ForSome old.files (λ from. Along (IsKept files) from (steps from)) → (old.files ≡ None → now.files ≡ None) → ForSome old.files (λ from. AppliesPrefix old now (steps from)) → ForSome now.files (IsKept files)
@@ -127,26 +127,26 @@ part_kept files old now steps along silent part image here = by_files old.files 
         let is : now.files ≡ Some (after p.made from) = p.applies.files ∙ ap (option_map (after p.made)) there in
         subst (IsKept files) (some_inj (sym is ∙ here)) (cut p.made p.left from (subst (Along (IsKept files) from) p.split (along from there)))
 
-module _ (files : BlockFiles) (old : Told) (writes : List ListWrite) (ready : ForSome old.files (IsReady files)) (words : AreWords writes) where
+module _ (files : BlockFiles) (old : Told) (writes : List ListWrite) (ready : ForSome old.files (IsReady files)) (words : AllWriteWords writes) where
   -- the nodes of the writes that are made checked before the first
   front_can : (now : Told) (left : List ListWrite) (r : Reached old now writes left) → ForSome old.files (λ from. CanBeMade from r.done)
-  front_can now left r from there = record { nodes = r.checked from there; words = first_words r.done left (subst AreWords r.split words) }
+  front_can now left r from there = record { nodes = r.checked from there; words = first_words r.done left (subst AllWriteWords r.split words) }
 
   -- the folder in the midst of the writes
   pub midst : (now : Told) (left : List ListWrite) → Reached old now writes left → ForSome now.files (IsKept files)
   midst now left r =
-      now_has old now (λ from. after (steps_of r.done from) from) (IsKept files)
-      (λ from there. (wrote_files r.wrote from there, until_last (IsKept files) (IsKept files) (steps_of r.done from) from (kept_writes files r.done from (ready from there).kept)))
+      now_has old now (λ from. after (steps_of_writes r.done from) from) (IsKept files)
+      (λ from there. (wrote_files r.wrote from there, until_last (IsKept files) (IsKept files) (steps_of_writes r.done from) from (kept_writes files r.done from (ready from there).kept)))
       r.wrote.silent
 
   -- the rest can be made where all can
   pub rest_made : (now : Told) (write : ListWrite) (left : List ListWrite) → Reached old now writes (write ∷ left) → ForSome old.files (λ image. CanBeMade image writes) → ForSome now.files (λ image. Check image (write ∷ []))
   rest_made now write left r can =
-      now_has old now (λ from. after (steps_of r.done from) from) (λ image. Check image (write ∷ []))
+      now_has old now (λ from. after (steps_of_writes r.done from) from) (λ image. Check image (write ∷ []))
       (λ from there. (
         wrote_files r.wrote from there,
         (let rest = split_can from r.done (write ∷ left) (ready_writable (ready from there)) (subst (CanBeMade from) r.split (can from there)) in
-            first_nodes (λ n. (list_of (after (steps_of r.done from) from)).checks n ≡ true) (write ∷ []) left rest.nodes),
+            first_nodes (λ n. (list_of (after (steps_of_writes r.done from) from)).checks n ≡ true) (write ∷ []) left rest.nodes),
       ))
       r.wrote.silent
 
@@ -158,22 +158,22 @@ module _ (files : BlockFiles) (old : Told) (writes : List ListWrite) (ready : Fo
     split = r.split ∙ sym (append_assoc r.done (write ∷ []) left);
     wrote = record {
       applies = λ from there.
-          let between : Image = after (steps_of r.done from) from in
-          subst (Applies old next) (ap (λ (s : List TrailStep). steps_of r.done from ++ s) (sym (append-nil (write_steps write between))) ∙ sym (steps-append r.done (write ∷ []) from)) (grows_then (r.wrote.applies from there) (grows between (wrote_files r.wrote from there)));
+          let between : Image = after (steps_of_writes r.done from) from in
+          subst (Applies old next) (ap (λ (s : List TrailStep). steps_of_writes r.done from ++ s) (sym (append-nil (write_steps write between))) ∙ sym (steps-append r.done (write ∷ []) from)) (grows_then (r.wrote.applies from there) (grows between (wrote_files r.wrote from there)));
       silent = λ none. silent (r.wrote.silent none);
     };
     checked = λ from there.
-        let between : Image = after (steps_of r.done from) from in
+        let between : Image = after (steps_of_writes r.done from) from in
         let same = still_check r.done from between (writes_show r.done from (ready_writable (ready from there)) (front_can now (write ∷ left) r from there)).ends in
         both_of (λ n. (list_of from).checks n ≡ true) r.done (write ∷ []) (r.checked from there)
         (subst (λ (checks : ℕ → Bool). AreOf (λ n. checks n ≡ true) (write ∷ [])) same (checked between (wrote_files r.wrote from there)));
   }
 
   -- what a failed write leaves
-  pub in_part : (now next : Told) (write : ListWrite) (left : List ListWrite) → Reached old now writes (write ∷ left) → ForSome now.files (λ from. AppliesPrefix now next (write_steps write from)) → ForSome old.files (λ from. AppliesPrefix old next (steps_of writes from))
+  pub in_part : (now next : Told) (write : ListWrite) (left : List ListWrite) → Reached old now writes (write ∷ left) → ForSome now.files (λ from. AppliesPrefix now next (write_steps write from)) → ForSome old.files (λ from. AppliesPrefix old next (steps_of_writes writes from))
   in_part now next write left r part from there =
-      let between : Image = after (steps_of r.done from) from in
-      subst (AppliesPrefix old next) (sym (ap (λ (ws : List ListWrite). steps_of ws from) r.split ∙ steps-append r.done (write ∷ left) from)) (part_then (r.wrote.applies from there) (part_only _ (part between (wrote_files r.wrote from there))))
+      let between : Image = after (steps_of_writes r.done from) from in
+      subst (AppliesPrefix old next) (sym (ap (λ (ws : List ListWrite). steps_of_writes ws from) r.split ∙ steps-append r.done (write ∷ left) from)) (part_then (r.wrote.applies from there) (part_only _ (part between (wrote_files r.wrote from there))))
 
   pub done_all : (now : Told) → Reached old now writes [] → Wrote old now writes
   done_all now r = subst (Wrote old now) (sym (r.split ∙ append-nil r.done)) r.wrote
@@ -182,11 +182,11 @@ module _ (files : BlockFiles) (old : Told) (writes : List ListWrite) (ready : Fo
   all_checked now r from there = subst (CanBeMade from) (sym (r.split ∙ append-nil r.done)) (front_can now [] r from there)
 
   -- a part of the writes keeps the index and the files
-  pub part_ready : (now : Told) → (old.files ≡ None → now.files ≡ None) → ForSome old.files (λ from. AppliesPrefix old now (steps_of writes from)) → ForSome now.files (IsKept files)
-  part_ready now silent part = part_kept files old now (steps_of writes) (λ from there. kept_writes files writes from (ready from there).kept) silent part
+  pub part_ready : (now : Told) → (old.files ≡ None → now.files ≡ None) → ForSome old.files (λ from. AppliesPrefix old now (steps_of_writes writes from)) → ForSome now.files (IsKept files)
+  part_ready now silent part = part_kept files old now (steps_of_writes writes) (λ from there. kept_writes files writes from (ready from there).kept) silent part
 
 -- all of the writes are a part of them
-pub wrote_part : {old now : Told} {writes : List ListWrite} → Wrote old now writes → ForSome old.files (λ from. AppliesPrefix old now (steps_of writes from))
+pub wrote_part : {old now : Told} {writes : List ListWrite} → Wrote old now writes → ForSome old.files (λ from. AppliesPrefix old now (steps_of_writes writes from))
 wrote_part wrote from there = part_whole (wrote.applies from there)
 
 -- the write of this number, and those behind it

@@ -11,7 +11,7 @@ use Rattle.blk_disk.specs.Tables.{stands_among, is_node_among, names_among}
 use Rattle.blk_lru.specs.declared.plans.Neighbours.{Neighbours}
 use Rattle.blk_lru.specs.declared.plans.Operation as code
 use Rattle.blk_lru.specs.declared.plans.Operation.TheVariants as operations
-use Rattle.blk_lru.specs.Plans.{code_of, head_without, leaving, planned, pending, whole_plan, word_or_zero, StandBeside, StandsBy}
+use Rattle.blk_lru.specs.Plans.{operation_code, head_without, leaving, planned, pending, whole_plan, word_or_zero, StandBeside, StandsBy}
 use Rattle.blk_lru.proofs.PlanWords.{leaving_is, some_word}
 
 -- a node's word is below 2 ^ 32
@@ -73,7 +73,7 @@ module _ (files : BlockFiles) (node : ℕ) (stands : is_node_among files node �
   pub whole_good : (operation : code.Operation) → StandsBy files operation → Each (Good Stands) (whole_plan node operation)
   whole_good operation by = (code_small operation, (node_small files node stands, pending_good operation by))
     where
-      code_small : (o : code.Operation) → code_of o < 2 ^ 32
+      code_small : (o : code.Operation) → operation_code o < 2 ^ 32
       code_small (operations.Insert head) = omega arith
       code_small (operations.Remove neighbours) = omega arith
       code_small (operations.Move neighbours head) = omega arith

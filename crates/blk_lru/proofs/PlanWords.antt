@@ -12,7 +12,7 @@ use Rattle.blk_lru.specs.declared.plans.Neighbours.{Neighbours}
 use Rattle.blk_lru.specs.declared.plans.Operation as code
 use Rattle.blk_lru.specs.declared.plans.Operation.TheVariants as operations
 use Rattle.blk_lru.specs.declared.writes.Write.{Write}
-use Rattle.blk_lru.specs.Plans.{code_of, head_without, leaving, pending, whole_plan, word_or_zero, AreBeside, GoesBy}
+use Rattle.blk_lru.specs.Plans.{operation_code, head_without, leaving, pending, whole_plan, word_or_zero, AreBeside, GoesBy}
 use Rattle.blk_lru.specs.Writes.{meant}
 
 -- the word 0 is no address
@@ -83,7 +83,7 @@ head_left node next prev (Some neighbours) head (some, (n, p)) =
     by_tests false b = refl
 
 -- what is pending of the operation in flight of a list, by the nodes that it goes by
-pub pending_is : (list : ListView) (operation : code.Operation) → code_of operation ≡ list.operation → GoesBy list list.transaction operation → pending list.transaction operation ≡ pending_writes list
+pub pending_is : (list : ListView) (operation : code.Operation) → operation_code operation ≡ list.operation → GoesBy list list.transaction operation → pending list.transaction operation ≡ pending_writes list
 pending_is list (operations.Insert head) is by =
     ap (λ (h : ℕ). putting_in_front list.transaction h ++ Transaction 0 ∷ []) by ∙ sym (pending_insert list (sym is))
 pending_is list (operations.Remove neighbours) is by =
@@ -97,12 +97,12 @@ pending_is list (operations.Move neighbours head) is by =
     ∙ ap₂ (λ (ws : List ListWrite) (h : ℕ). (ws ++ Operation 1 ∷ putting_in_front node h) ++ Transaction 0 ∷ []) (leaving_is node (list.next node) (list.prev node) neighbours by.0) left)
 
 -- all of an operation on a node of a list
-pub whole_is : (list : ListView) (node : ℕ) (operation : code.Operation) → GoesBy list node operation → whole_plan node operation ≡ writes_of (code_of operation) node list
+pub whole_is : (list : ListView) (node : ℕ) (operation : code.Operation) → GoesBy list node operation → whole_plan node operation ≡ writes_of (operation_code operation) node list
 whole_is list node operation by =
-    let named : ListView = record list { operation = code_of operation; transaction = node } in
-    ap (λ (ws : List ListWrite). Operation (code_of operation) ∷ Transaction node ∷ ws) (pending_is named operation refl (named_by operation by))
+    let named : ListView = record list { operation = operation_code operation; transaction = node } in
+    ap (λ (ws : List ListWrite). Operation (operation_code operation) ∷ Transaction node ∷ ws) (pending_is named operation refl (named_by operation by))
   where
-    named_by : (o : code.Operation) → GoesBy list node o → GoesBy (record list { operation = code_of operation; transaction = node }) node o
+    named_by : (o : code.Operation) → GoesBy list node o → GoesBy (record list { operation = operation_code operation; transaction = node }) node o
     named_by (operations.Insert head) by = by
     named_by (operations.Remove neighbours) by = by
     named_by (operations.Move neighbours head) by = by

@@ -8,7 +8,7 @@ use Rattle.blk_lru.specs.declared.completing.InFlight.{InFlight}
 use Rattle.blk_lru.specs.declared.completing.Usable.{Usable}
 use Rattle.blk_lru.specs.declared.completing.Usable.TheVariants.{Counts, Fails}
 use Rattle.blk_lru.specs.declared.plans.Neighbours.{Neighbours}
-use Rattle.blk_lru.specs.Plans.{code_of, word_or_zero, AreBeside, GoesBy, StandBeside, StandsBy}
+use Rattle.blk_lru.specs.Plans.{operation_code, word_or_zero, AreBeside, GoesBy, StandBeside, StandsBy}
 
 -- the first node is found where the head counts
 abbrev pub FindsHead : ListView → Usable (Option ℕ) → Type 0
@@ -33,13 +33,13 @@ FoundNeighboursStand files (Counts neighbours) = IfSome neighbours (StandBeside 
 -- an operation in flight is the one of the list
 pub record IsInFlight (list : ListView) (found : InFlight) : Type 0 where
   pub node : found.node ≡ list.transaction
-  pub operation : code_of found.operation ≡ list.operation
+  pub operation : operation_code found.operation ≡ list.operation
   pub goes_by : GoesBy list list.transaction found.operation
 
 -- the operation in flight is found where it counts
-abbrev pub Finds : ListView → Option InFlight → Type 0
-Finds list None = counts list ≡ false
-Finds list (Some found) = (counts list ≡ true) × IsInFlight list found
+abbrev pub FindsInFlight : ListView → Option InFlight → Type 0
+FindsInFlight list None = counts list ≡ false
+FindsInFlight list (Some found) = (counts list ≡ true) × IsInFlight list found
 
 -- its node and the nodes that it goes by stand
 abbrev pub AreNodes : BlockFiles → InFlight → Type 0

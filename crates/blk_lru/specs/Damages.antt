@@ -12,45 +12,45 @@ use Rattle.blk_io.specs.declared.fault.Damage.{Damage}
 use Rattle.blk_io.specs.Faults.{IsShort}
 use Rattle.blk_disk.specs.declared.tables.BlockFiles.{BlockFiles}
 use Rattle.blk_disk.specs.Unsealed.{IsUnsealed}
-use Rattle.blk_lru.specs.Nodes.{IsDangling}
+use Rattle.blk_lru.specs.Nodes.{NamesNoNode}
 
 -- a word was read that is to name a node: its bytes are too few, or it names none
 abbrev pub IsWordDamage : BlockFiles → Told → FileId → (at : ℕ) → Damage → Type 0
-IsWordDamage files told file at damage = IsShort told file at 4 damage ⊎ IsDangling files told file at damage
+IsWordDamage files told file at damage = IsShort told file at 4 damage ⊎ NamesNoNode files told file at damage
 
 -- the head was read
-abbrev pub IsHeadDamage : BlockFiles → Told → Damage → Type 0
-IsHeadDamage files told damage = IsWordDamage files told names.Index IndexHead.HEADS damage
+abbrev pub IsListHeadDamage : BlockFiles → Told → Damage → Type 0
+IsListHeadDamage files told damage = IsWordDamage files told names.Index IndexHead.HEADS damage
 
 -- the tail was read
-abbrev pub IsTailDamage : BlockFiles → Told → Damage → Type 0
-IsTailDamage files told damage = IsWordDamage files told names.Index IndexHead.TAILS damage
+abbrev pub IsListTailDamage : BlockFiles → Told → Damage → Type 0
+IsListTailDamage files told damage = IsWordDamage files told names.Index IndexHead.TAILS damage
 
 -- a link of a node was read, its next or its prev
-abbrev pub IsLinkDamage : (node at : ℕ) → BlockFiles → Told → Damage → Type 0
-IsLinkDamage node at files told damage = IsWordDamage files told (names.Block (file_selector node)) (place node + at) damage
+abbrev pub IsNodeLinkDamage : (node at : ℕ) → BlockFiles → Told → Damage → Type 0
+IsNodeLinkDamage node at files told damage = IsWordDamage files told (names.Block (file_selector node)) (place node + at) damage
 
 -- a node that stands was read whole: its bytes are too few, or it doesn't check
-pub record IsNodeDamage (files : BlockFiles) (told : Told) (damage : Damage) : Type 0 where
+pub record IsWrongNode (files : BlockFiles) (told : Told) (damage : Damage) : Type 0 where
   pub node : ℕ
   pub stands : is_node_among files node ≡ true
   pub failed : IsShort told (names.Block (file_selector node)) (place node) node_size damage ⊎ IsUnsealed told node damage
 
 -- an insert was damaged at the head, before it wrote, or at a node, which is as it was read
 abbrev pub IsInsertDamage : BlockFiles → (old new : Told) → Damage → Type 0
-IsInsertDamage files old new damage = (IsHeadDamage files old damage × Stays old new) ⊎ IsNodeDamage files new damage
+IsInsertDamage files old new damage = (IsListHeadDamage files old damage × Stays old new) ⊎ IsWrongNode files new damage
 
 -- a link of a node was read, before anything was written
 abbrev pub IsNeighbourDamage : (node : ℕ) → BlockFiles → (old new : Told) → Damage → Type 0
-IsNeighbourDamage node files old new damage = (IsLinkDamage node NodeView.NEXT files old damage ⊎ IsLinkDamage node NodeView.PREV files old damage) × Stays old new
+IsNeighbourDamage node files old new damage = (IsNodeLinkDamage node NodeView.NEXT files old damage ⊎ IsNodeLinkDamage node NodeView.PREV files old damage) × Stays old new
 
 -- a removal was damaged at the next or the prev of the node, before it wrote, or at a node, which is as it was read
 abbrev pub IsRemovalDamage : (node : ℕ) → BlockFiles → (old new : Told) → Damage → Type 0
-IsRemovalDamage node files old new damage = IsNeighbourDamage node files old new damage ⊎ IsNodeDamage files new damage
+IsRemovalDamage node files old new damage = IsNeighbourDamage node files old new damage ⊎ IsWrongNode files new damage
 
 -- a touch was damaged at the head, before it wrote, or as a removal is
 abbrev pub IsTouchDamage : (node : ℕ) → BlockFiles → (old new : Told) → Damage → Type 0
-IsTouchDamage node files old new damage = (IsHeadDamage files old damage × Stays old new) ⊎ IsRemovalDamage node files old new damage
+IsTouchDamage node files old new damage = (IsListHeadDamage files old damage × Stays old new) ⊎ IsRemovalDamage node files old new damage
 
 -- a word of the index was read of an operation in flight, its node, its code or the head: its bytes are too few
 abbrev pub IsFlightDamage : Told → Damage → Type 0
@@ -58,4 +58,4 @@ IsFlightDamage told damage = IsShort told names.Index IndexHead.TRANSACTION 4 da
 
 -- completing was damaged at a word of the operation in flight, or at a node; a word that names no node is no damage
 abbrev pub IsCompletingDamage : BlockFiles → Told → Damage → Type 0
-IsCompletingDamage files told damage = IsFlightDamage told damage ⊎ IsNodeDamage files told damage
+IsCompletingDamage files told damage = IsFlightDamage told damage ⊎ IsWrongNode files told damage

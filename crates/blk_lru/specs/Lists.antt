@@ -17,7 +17,7 @@ pub record IsListed (node : ℕ) (image : Image) : Type 0 where
   pub listed : is_among (walked image) node ≡ true
 
 -- a node and both that its links name stand and check
-pub record IsLinked (list : ListView) (node : ℕ) : Type 0 where
+pub record HasGoodLinks (list : ListView) (node : ℕ) : Type 0 where
   pub good : list.checks node ≡ true
   pub next_good : list.checks (list.next node) ≡ true
   pub prev_good : list.checks (list.prev node) ≡ true
@@ -26,7 +26,7 @@ pub record IsLinked (list : ListView) (node : ℕ) : Type 0 where
 pub record CanBeTouched (image : Image) (node : ℕ) : Type 0 where
   pub writes : CanBeMade image (touch_writes node (list_of image))
   pub good : (list_of image).checks node ≡ true
-  pub linked : (list_of image).head ≢ node → IsLinked (list_of image) node
+  pub linked : (list_of image).head ≢ node → HasGoodLinks (list_of image) node
 
 -- the first, and the last, of some words
 abbrev pub first_node_of : List ℕ → Option ℕ

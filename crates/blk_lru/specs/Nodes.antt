@@ -14,7 +14,7 @@ use Rattle.blk_volume.specs.ListView.{ListView}
 use Rattle.blk_lru.specs.declared.nodes.Links.{Links}
 
 -- the word at a place of a file was to name a node, and doesn't: the damage has the place, and finds the word
-pub record IsDangling (files : BlockFiles) (told : Told) (file : FileId) (at : ℕ) (damage : Damage) : Type 0 where
+pub record NamesNoNode (files : BlockFiles) (told : Told) (file : FileId) (at : ℕ) (damage : Damage) : Type 0 where
   pub of_file : damage.file ≡ file
   pub at_place : damage.at ≡ at
   pub unlike : is_node_among files damage.found ≡ false

@@ -35,14 +35,14 @@ abbrev pub pending : (node : ℕ) → code.Operation → List ListWrite
 pending node operation = planned node operation ++ Transaction 0 ∷ []
 
 -- the code of an operation
-abbrev pub code_of : code.Operation → ℕ
-code_of (operations.Insert head) = insert
-code_of (operations.Remove neighbours) = remove
-code_of (operations.Move neighbours head) = move
+abbrev pub operation_code : code.Operation → ℕ
+operation_code (operations.Insert head) = insert
+operation_code (operations.Remove neighbours) = remove
+operation_code (operations.Move neighbours head) = move
 
 -- all of an operation
 abbrev pub whole_plan : (node : ℕ) → code.Operation → List ListWrite
-whole_plan node operation = Operation (code_of operation) ∷ Transaction node ∷ pending node operation
+whole_plan node operation = Operation (operation_code operation) ∷ Transaction node ∷ pending node operation
 
 -- the nodes beside one that has these links: none where its next is 0
 abbrev pub AreBeside : (next prev : ℕ) → Option Neighbours → Type 0

@@ -8,12 +8,12 @@ ghost use Rattle.blk_volume.specs.Completion.{insert, move, remove as removal};
 ghost use Rattle.blk_volume.specs.ListPlans.{touch_writes, writes_of};
 ghost use Rattle.blk_volume.specs.View.{list_of};
 ghost use Rattle.blk_volume.specs.ListView.{CanBeInserted};
-ghost use Rattle.blk_volume.specs.ListSteps.{AreTimes, IsSealed, Seals, steps_of, times_of};
+ghost use Rattle.blk_volume.specs.ListSteps.{AreTimes, IsSealed, Seals, steps_of_writes, times_of};
 ghost use Rattle.blk_volume.specs.ListImages.{CanBeMade, HasListAtRest, operation_steps, steps_of_touch, walked};
 ghost use Rattle.blk_io.specs.Faults.{IfDamaged, IfDevice};
 ghost use Rattle.blk_disk.specs.Tables.{Agrees, is_node_among};
-ghost use Rattle.blk_lru.specs.Damages.{IsInsertDamage, IsNeighbourDamage, IsNodeDamage, IsRemovalDamage, IsTouchDamage};
-ghost use Rattle.blk_lru.specs.Lists.{CanBeTouched, IsLinked, IsListed};
+ghost use Rattle.blk_lru.specs.Damages.{IsInsertDamage, IsNeighbourDamage, IsWrongNode, IsRemovalDamage, IsTouchDamage};
+ghost use Rattle.blk_lru.specs.Lists.{CanBeTouched, HasGoodLinks, IsListed};
 ghost use Rattle.blk_lru.specs.Moments.{IsMidOperation, IsMidTouch};
 ghost use Rattle.blk_lru.specs.Plans.{AreBeside, StandBeside, word_or_zero};
 
@@ -80,7 +80,7 @@ pub fn remove<F: Folder>(f: &mut F, files: &BlockFiles, node: Addr) -> Result<()
     requires agrees { ForSome (F.told f.old).files (Agrees files.now) }
 
     // Where it succeeds the node and both that its links name checked.
-    ensures checked { OnOk result (ForSome (F.told f.old).files (λ from. IsLinked (list_of from) node)) }
+    ensures checked { OnOk result (ForSome (F.told f.old).files (λ from. HasGoodLinks (list_of from) node)) }
     ensures removed { OnOk result (ForSome (F.told f.old).files (λ from. (prefix suffix : List ℕ) → HasListAtRest (prefix ++ node ∷ suffix) from → ForSome (F.told f.new).files (HasListAtRest (prefix ++ suffix)))) }
     ensures sealed { OnOk result (ForSome (F.told f.old).files (λ from. ForSome (F.told f.new).files (Seals from (writes_of removal node (list_of from))))) }
     ensures steps { OnOk result (ForSome (F.told f.old).files (λ from. Applies (F.told f.old) (F.told f.new) (operation_steps removal node from))) }
@@ -153,7 +153,7 @@ fn set_times<F: Folder>(f: &mut F, files: &BlockFiles, node: Addr, moment: u64) 
     ensures prefix { ForSome (F.told f.old).files (λ from. AppliesPrefix (F.told f.old) (F.told f.new) (sealed_steps from node (times_of moment))) }
     ensures complete { ForSome (F.told f.new).files HasWholeIndex }
     ensures agrees { ForSome (F.told f.new).files (Agrees files.now) }
-    ensures damaged { IfDamaged result (IsNodeDamage files.now (F.told f.new)) }
+    ensures damaged { IfDamaged result (IsWrongNode files.now (F.told f.new)) }
     ensures untold { ForSome (F.told f.old).files (λ image. (list_of image).checks node ≡ true) → IfDamaged result (λ _. (F.told f.old).files ≡ None) }
     ensures silent { (F.told f.old).files ≡ None → (F.told f.new).files ≡ None }
     ensures later { F.faults f.old ≤ F.faults f.new }
@@ -176,9 +176,9 @@ fn move_front<F: Folder>(f: &mut F, files: &BlockFiles, node: Addr) -> Result<()
     requires complete { ForSome (F.told f.old).files HasWholeIndex }
     requires agrees { ForSome (F.told f.old).files (Agrees files.now) }
     ensures checked { OnOk result (ForSome (F.told f.old).files (λ from. CanBeMade from (touch_writes node (list_of from)))) }
-    ensures linked { OnOk result (ForSome (F.told f.old).files (λ from. (list_of from).head ≢ node → IsLinked (list_of from) node)) }
-    ensures steps { OnOk result (ForSome (F.told f.old).files (λ from. Applies (F.told f.old) (F.told f.new) (steps_of (touch_writes node (list_of from)) from))) }
-    ensures prefix { ForSome (F.told f.old).files (λ from. AppliesPrefix (F.told f.old) (F.told f.new) (steps_of (touch_writes node (list_of from)) from)) }
+    ensures linked { OnOk result (ForSome (F.told f.old).files (λ from. (list_of from).head ≢ node → HasGoodLinks (list_of from) node)) }
+    ensures steps { OnOk result (ForSome (F.told f.old).files (λ from. Applies (F.told f.old) (F.told f.new) (steps_of_writes (touch_writes node (list_of from)) from))) }
+    ensures prefix { ForSome (F.told f.old).files (λ from. AppliesPrefix (F.told f.old) (F.told f.new) (steps_of_writes (touch_writes node (list_of from)) from)) }
     ensures complete { ForSome (F.told f.new).files HasWholeIndex }
     ensures agrees { ForSome (F.told f.new).files (Agrees files.now) }
     ensures damaged { IfDamaged result (IsTouchDamage node files.now (F.told f.old) (F.told f.new)) }
@@ -207,7 +207,7 @@ fn move_behind<F: Folder>(
     requires agrees { ForSome (F.told f.old).files (Agrees files.now) }
     requires head { ForSome (F.told f.old).files (λ image. word_or_zero head ≡ (list_of image).head) }
     ensures checked { OnOk result (ForSome (F.told f.old).files (λ from. CanBeMade from (writes_of move node (list_of from)))) }
-    ensures linked { OnOk result (ForSome (F.told f.old).files (λ from. IsLinked (list_of from) node)) }
+    ensures linked { OnOk result (ForSome (F.told f.old).files (λ from. HasGoodLinks (list_of from) node)) }
     ensures steps { OnOk result (ForSome (F.told f.old).files (λ from. Applies (F.told f.old) (F.told f.new) (operation_steps move node from))) }
     ensures prefix { ForSome (F.told f.old).files (λ from. AppliesPrefix (F.told f.old) (F.told f.new) (operation_steps move node from)) }
     ensures complete { ForSome (F.told f.new).files HasWholeIndex }

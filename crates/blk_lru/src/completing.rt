@@ -5,15 +5,15 @@ ghost use Rattle.blk_image.specs.Told.{Applies, AppliesPrefix, Passes, Rises, St
 ghost use Rattle.blk_format.specs.Headers.{HasWholeIndex};
 ghost use Rattle.blk_volume.specs.ListPlans.{completion_writes};
 ghost use Rattle.blk_volume.specs.View.{list_of};
-ghost use Rattle.blk_volume.specs.ListSteps.{AreOf, AreWords, Seals};
+ghost use Rattle.blk_volume.specs.ListSteps.{AreOf, AllWriteWords, Seals};
 ghost use Rattle.blk_volume.specs.ListImages.{IsCompleted, completion_steps};
 ghost use Rattle.blk_io.specs.Faults.{IfDamaged, IfDevice};
 ghost use Rattle.blk_disk.specs.Tables.{Agrees, is_node_among};
-ghost use Rattle.blk_lru.specs.Damages.{IsCompletingDamage, IsNodeDamage};
+ghost use Rattle.blk_lru.specs.Damages.{IsCompletingDamage, IsWrongNode};
 ghost use Rattle.blk_lru.specs.Moments.{IsMidCompletion};
 ghost use Rattle.blk_lru.specs.Nodes.{AreLinksOf};
 ghost use Rattle.blk_lru.specs.Writes.{meant};
-ghost use Rattle.blk_lru.specs.Completing.{AreNodes, Finds, FindsNeighbours, FindsHead, FoundNeighboursStand, FoundHeadStands};
+ghost use Rattle.blk_lru.specs.Completing.{AreNodes, FindsInFlight, FindsNeighbours, FindsHead, FoundNeighboursStand, FoundHeadStands};
 
 use crate::nodes::{Links, checked};
 use crate::plans::{INSERT, MOVE, Neighbours, Operation, Plan, REMOVE, ending, pending_of};
@@ -78,7 +78,7 @@ pub fn complete<F: Folder>(f: &mut F, files: &BlockFiles) -> Result<(), Fault>
 pub fn pending<F: Folder>(f: &mut F, files: &BlockFiles) -> Result<Plan, Fault>
     requires complete { ForSome (F.told f.old).files HasWholeIndex }
     requires agrees { ForSome (F.told f.old).files (Agrees files.now) }
-    ensures words { IfOk result (λ plan. AreWords (map meant plan.items)) }
+    ensures words { IfOk result (λ plan. AllWriteWords (map meant plan.items)) }
     ensures plan { IfOk result (λ plan. ForSome (F.told f.old).files (λ image. map meant plan.items ≡ completion_writes (list_of image))) }
     ensures stand { IfOk result (λ plan. AreOf (λ n. is_node_among files.now n ≡ true) (map meant plan.items)) }
     ensures stays { Stays (F.told f.old) (F.told f.new) }
@@ -109,7 +109,7 @@ fn in_flight<F: Folder>(
     requires complete { ForSome (F.told f.old).files HasWholeIndex }
     requires agrees { ForSome (F.told f.old).files (Agrees files.now) }
     requires transaction { ForSome (F.told f.old).files (λ image. (list_of image).transaction ≡ transaction) }
-    ensures found { IfOk result (λ found. ForSome (F.told f.old).files (λ image. Finds (list_of image) found)) }
+    ensures found { IfOk result (λ found. ForSome (F.told f.old).files (λ image. FindsInFlight (list_of image) found)) }
     ensures stand { IfOk result (λ found. IfSome found (AreNodes files.now)) }
     ensures stays { Stays (F.told f.old) (F.told f.new) }
     ensures damaged { IfDamaged result (IsCompletingDamage files.now (F.told f.new)) }
@@ -136,7 +136,7 @@ fn counting<F: Folder>(
     requires stands { is_node_among files.now links.now.node ≡ true }
     requires links { ForSome (F.told f.old).files (λ image. AreLinksOf (list_of image) (list_of image).transaction links.now) }
     requires operation { ForSome (F.told f.old).files (λ image. (list_of image).operation ≡ code) }
-    ensures found { IfOk result (λ found. ForSome (F.told f.old).files (λ image. Finds (list_of image) found)) }
+    ensures found { IfOk result (λ found. ForSome (F.told f.old).files (λ image. FindsInFlight (list_of image) found)) }
     ensures stand { IfOk result (λ found. IfSome found (AreNodes files.now)) }
     ensures stays { Stays (F.told f.old) (F.told f.new) }
     ensures damaged { IfDamaged result (IsCompletingDamage files.now (F.told f.new)) }
@@ -208,7 +208,7 @@ fn usable_links<F: Folder>(
     ensures found { IfOk result (λ found. ForSome (F.told f.old).files (λ image. FindsNeighbours (list_of image) (list_of image).transaction found)) }
     ensures stand { IfOk result (FoundNeighboursStand files.now) }
     ensures stays { Stays (F.told f.old) (F.told f.new) }
-    ensures damaged { IfDamaged result (IsNodeDamage files.now (F.told f.new)) }
+    ensures damaged { IfDamaged result (IsWrongNode files.now (F.told f.new)) }
     ensures untold { IfDamaged result (λ _. (F.told f.old).files ≡ None) }
     ensures later { F.faults f.old ≤ F.faults f.new }
     ensures device { IfDevice result (Rises (F.faults f.old) (F.faults f.new)) }

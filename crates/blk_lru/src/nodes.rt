@@ -9,7 +9,7 @@ ghost use Rattle.blk_format.specs.Records.{checks, node_seal_place, node_size};
 ghost use Rattle.blk_volume.specs.View.{list_of};
 ghost use Rattle.blk_io.specs.Faults.{IfDamaged, IfDevice};
 ghost use Rattle.blk_disk.specs.Tables.{Agrees, is_node_among};
-ghost use Rattle.blk_lru.specs.Damages.{IsLinkDamage, IsNodeDamage};
+ghost use Rattle.blk_lru.specs.Damages.{IsNodeLinkDamage, IsWrongNode};
 ghost use Rattle.blk_lru.specs.Nodes.{link_at, FindsNode, IsLinkPlace};
 
 use blk_addr::Addr;
@@ -38,7 +38,7 @@ pub(crate) fn link<F: Folder>(
     ensures stands { IfOk result (λ found. IsTrue (is_node_among files.now found)) }
     ensures checked { OnOk result (ForSome (F.told f.old).files (λ image. HasRange image (block (file_selector node)) (place node + at) 4)) }
     ensures stays { Stays (F.told f.old) (F.told f.new) }
-    ensures damaged { IfDamaged result (IsLinkDamage node at files.now (F.told f.old)) }
+    ensures damaged { IfDamaged result (IsNodeLinkDamage node at files.now (F.told f.old)) }
     ensures untold { ForSome (F.told f.old).files (Agrees files.now) → ForSome (F.told f.old).files (λ image. is_node_among files.now (link_at image node at) ≡ true) → IfDamaged result (λ _. (F.told f.old).files ≡ None) }
     ensures later { F.faults f.old ≤ F.faults f.new }
     ensures device { IfDevice result (Rises (F.faults f.old) (F.faults f.new)) }
@@ -66,7 +66,7 @@ pub(crate) fn checked<F: Folder>(
     ensures found { IfOk result (λ found. ForSome (F.told f.old).files (λ image. FindsNode (list_of image) word found)) }
     ensures stands { IfOk result (λ found. IfSome found (λ links. is_node_among files.now links.node ≡ true)) }
     ensures stays { Stays (F.told f.old) (F.told f.new) }
-    ensures damaged { IfDamaged result (IsNodeDamage files.now (F.told f.new)) }
+    ensures damaged { IfDamaged result (IsWrongNode files.now (F.told f.new)) }
     ensures untold { IfDamaged result (λ _. (F.told f.old).files ≡ None) }
     ensures later { F.faults f.old ≤ F.faults f.new }
     ensures device { IfDevice result (Rises (F.faults f.old) (F.faults f.new)) }

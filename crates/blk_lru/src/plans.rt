@@ -2,7 +2,7 @@
 ghost use Rattle.std.specs.Prelude.{◌≡◌, ◌+◌, ◌++◌, ◌∷◌, ◌≤◌, [], length, map};
 ghost use Rattle.blk_volume.specs.Completion.{putting_in_front};
 ghost use Rattle.blk_volume.specs.ListView as list;
-ghost use Rattle.blk_lru.specs.Plans.{code_of, leaving, pending, whole_plan, word_or_zero};
+ghost use Rattle.blk_lru.specs.Plans.{operation_code, leaving, pending, whole_plan, word_or_zero};
 ghost use Rattle.blk_lru.specs.Plans as plans;
 ghost use Rattle.blk_lru.specs.Writes.{meant};
 
@@ -50,7 +50,7 @@ pub(crate) enum Operation {
 impl Operation {
     // The word of the index that stands for the operation.
     fn code(&self) -> u32
-        ensures { result ≡ code_of self.now }
+        ensures { result ≡ operation_code self.now }
     {
         match self {
             Operation::Insert { .. } => INSERT,

@@ -10,7 +10,7 @@ ghost use Rattle.blk_volume.specs.ListImages.{HasListAtRest, walked};
 ghost use Rattle.blk_io.specs.declared.folder.FileId.TheVariants as names;
 ghost use Rattle.blk_io.specs.Faults.{IfDamaged, IfDevice};
 ghost use Rattle.blk_disk.specs.Tables.{Agrees, is_node_among};
-ghost use Rattle.blk_lru.specs.Damages.{IsHeadDamage, IsLinkDamage, IsTailDamage, IsWordDamage};
+ghost use Rattle.blk_lru.specs.Damages.{IsListHeadDamage, IsNodeLinkDamage, IsListTailDamage, IsWordDamage};
 ghost use Rattle.blk_lru.specs.Nodes.{link_at, IsNodeOrNone};
 ghost use Rattle.blk_lru.specs.Lists.{IsListed, IsListAtRest, first_node_of, last_node_of};
 ghost use Rattle.blk_lru.specs.Plans.{word_or_zero};
@@ -38,7 +38,7 @@ pub fn first<F: Folder>(f: &mut F, files: &BlockFiles) -> Result<Option<Addr>, F
     ensures stays { Stays (F.told f.old) (F.told f.new) }
 
     // Too few bytes, or a word that names no node, which no told folder gives whose list is at rest.
-    ensures damaged { IfDamaged result (IsHeadDamage files.now (F.told f.old)) }
+    ensures damaged { IfDamaged result (IsListHeadDamage files.now (F.told f.old)) }
     ensures untold { ForSome (F.told f.old).files HasWholeIndex → ForSome (F.told f.old).files (Agrees files.now) → ForSome (F.told f.old).files IsListAtRest → IfDamaged result (λ _. (F.told f.old).files ≡ None) }
 
     ensures later { F.faults f.old ≤ F.faults f.new }
@@ -58,7 +58,7 @@ pub fn last<F: Folder>(f: &mut F, files: &BlockFiles) -> Result<Option<Addr>, Fa
     ensures stays { Stays (F.told f.old) (F.told f.new) }
 
     // Too few bytes, or a word that names no node, which no told folder gives whose list is at rest.
-    ensures damaged { IfDamaged result (IsTailDamage files.now (F.told f.old)) }
+    ensures damaged { IfDamaged result (IsListTailDamage files.now (F.told f.old)) }
     ensures untold { ForSome (F.told f.old).files HasWholeIndex → ForSome (F.told f.old).files (Agrees files.now) → ForSome (F.told f.old).files IsListAtRest → IfDamaged result (λ _. (F.told f.old).files ≡ None) }
 
     ensures later { F.faults f.old ≤ F.faults f.new }
@@ -79,7 +79,7 @@ pub fn before<F: Folder>(f: &mut F, files: &BlockFiles, node: Addr) -> Result<Op
     ensures stays { Stays (F.told f.old) (F.told f.new) }
 
     // Too few bytes, or a word that names no node, which no told folder gives in whose list the node is.
-    ensures damaged { IfDamaged result (IsLinkDamage node NodeView.PREV files.now (F.told f.old)) }
+    ensures damaged { IfDamaged result (IsNodeLinkDamage node NodeView.PREV files.now (F.told f.old)) }
     ensures untold { ForSome (F.told f.old).files (Agrees files.now) → ForSome (F.told f.old).files (IsListed node) → IfDamaged result (λ _. (F.told f.old).files ≡ None) }
 
     ensures later { F.faults f.old ≤ F.faults f.new }
@@ -101,7 +101,7 @@ pub fn after<F: Folder>(f: &mut F, files: &BlockFiles, node: Addr) -> Result<Opt
     ensures stays { Stays (F.told f.old) (F.told f.new) }
 
     // Too few bytes, or a word that names no node, which no told folder gives in whose list the node is.
-    ensures damaged { IfDamaged result (IsLinkDamage node NodeView.NEXT files.now (F.told f.old)) }
+    ensures damaged { IfDamaged result (IsNodeLinkDamage node NodeView.NEXT files.now (F.told f.old)) }
     ensures untold { ForSome (F.told f.old).files (Agrees files.now) → ForSome (F.told f.old).files (IsListed node) → IfDamaged result (λ _. (F.told f.old).files ≡ None) }
 
     ensures later { F.faults f.old ≤ F.faults f.new }

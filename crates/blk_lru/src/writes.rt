@@ -8,10 +8,10 @@ ghost use Rattle.blk_format.specs.Headers.{header_length, HasWholeIndex};
 ghost use Rattle.blk_format.specs.Sealed.{sealed_steps};
 ghost use Rattle.blk_volume.specs.View.{list_of};
 ghost use Rattle.blk_volume.specs.ListImages.{CanBeMade};
-ghost use Rattle.blk_volume.specs.ListSteps.{AreOf, AreWords, steps_of, write_steps};
+ghost use Rattle.blk_volume.specs.ListSteps.{AreOf, AllWriteWords, steps_of_writes, write_steps};
 ghost use Rattle.blk_io.specs.Faults.{IfDamaged, IfDevice};
 ghost use Rattle.blk_disk.specs.Tables.{Agrees, is_node_among};
-ghost use Rattle.blk_lru.specs.Damages.{IsNodeDamage};
+ghost use Rattle.blk_lru.specs.Damages.{IsWrongNode};
 ghost use Rattle.blk_lru.specs.Nodes.{IsLinkPlace};
 ghost use Rattle.blk_lru.specs.Writes.{meant};
 
@@ -51,15 +51,15 @@ pub(crate) fn perform<F: Folder>(
     writes: &[Write],
 ) -> Result<(), Fault>
     requires stand { AreOf (λ n. is_node_among files.now n ≡ true) (map meant writes.now) }
-    requires words { AreWords (map meant writes.now) }
+    requires words { AllWriteWords (map meant writes.now) }
     requires complete { ForSome (F.told f.old).files HasWholeIndex }
     requires agrees { ForSome (F.told f.old).files (Agrees files.now) }
     ensures checked { OnOk result (ForSome (F.told f.old).files (λ image. CanBeMade image (map meant writes.now))) }
-    ensures steps { OnOk result (ForSome (F.told f.old).files (λ from. Applies (F.told f.old) (F.told f.new) (steps_of (map meant writes.now) from))) }
-    ensures prefix { ForSome (F.told f.old).files (λ from. AppliesPrefix (F.told f.old) (F.told f.new) (steps_of (map meant writes.now) from)) }
+    ensures steps { OnOk result (ForSome (F.told f.old).files (λ from. Applies (F.told f.old) (F.told f.new) (steps_of_writes (map meant writes.now) from))) }
+    ensures prefix { ForSome (F.told f.old).files (λ from. AppliesPrefix (F.told f.old) (F.told f.new) (steps_of_writes (map meant writes.now) from)) }
     ensures complete { ForSome (F.told f.new).files HasWholeIndex }
     ensures agrees { ForSome (F.told f.new).files (Agrees files.now) }
-    ensures damaged { IfDamaged result (IsNodeDamage files.now (F.told f.new)) }
+    ensures damaged { IfDamaged result (IsWrongNode files.now (F.told f.new)) }
     ensures untold { ForSome (F.told f.old).files (λ image. CanBeMade image (map meant writes.now)) → IfDamaged result (λ _. (F.told f.old).files ≡ None) }
     ensures silent { (F.told f.old).files ≡ None → (F.told f.new).files ≡ None }
     ensures later { F.faults f.old ≤ F.faults f.new }
@@ -80,7 +80,7 @@ fn write_one<F: Folder>(f: &mut F, files: &BlockFiles, write: Write) -> Result<(
     ensures checked { OnOk result (ForSome (F.told f.old).files (λ image. AreOf (λ n. (list_of image).checks n ≡ true) (meant write ∷ []))) }
     ensures steps { OnOk result (ForSome (F.told f.old).files (λ from. Applies (F.told f.old) (F.told f.new) (write_steps (meant write) from))) }
     ensures prefix { ForSome (F.told f.old).files (λ from. AppliesPrefix (F.told f.old) (F.told f.new) (write_steps (meant write) from)) }
-    ensures damaged { IfDamaged result (IsNodeDamage files.now (F.told f.new)) }
+    ensures damaged { IfDamaged result (IsWrongNode files.now (F.told f.new)) }
     ensures untold { ForSome (F.told f.old).files (λ image. AreOf (λ n. (list_of image).checks n ≡ true) (meant write ∷ [])) → IfDamaged result (λ _. (F.told f.old).files ≡ None) }
     ensures silent { (F.told f.old).files ≡ None → (F.told f.new).files ≡ None }
     ensures later { F.faults f.old ≤ F.faults f.new }
@@ -110,7 +110,7 @@ fn set_link<F: Folder>(
     ensures checked { OnOk result (ForSome (F.told f.old).files (λ image. (list_of image).checks node ≡ true)) }
     ensures steps { OnOk result (ForSome (F.told f.old).files (λ from. Applies (F.told f.old) (F.told f.new) (sealed_steps from node ((at, word) ∷ [])))) }
     ensures prefix { ForSome (F.told f.old).files (λ from. AppliesPrefix (F.told f.old) (F.told f.new) (sealed_steps from node ((at, word) ∷ []))) }
-    ensures damaged { IfDamaged result (IsNodeDamage files.now (F.told f.new)) }
+    ensures damaged { IfDamaged result (IsWrongNode files.now (F.told f.new)) }
     ensures untold { ForSome (F.told f.old).files (λ image. (list_of image).checks node ≡ true) → IfDamaged result (λ _. (F.told f.old).files ≡ None) }
     ensures silent { (F.told f.old).files ≡ None → (F.told f.new).files ≡ None }
     ensures later { F.faults f.old ≤ F.faults f.new }

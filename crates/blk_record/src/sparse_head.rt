@@ -1,7 +1,7 @@
 // The head of a sparse index.
 ghost use Rattle.std.specs.Prelude.{◌≡◌, ◌<◌, ◌≤◌, ◌↔◌, length, IsSome, IfSome};
 ghost use Rattle.blk_image.specs.Bytes.{content};
-ghost use Rattle.blk_format.specs.SparseIndex.{last_block_len_of, last_block_of, parent_key_len_of, signature_of, sparse_head_length, sparse_magic_of, zeros_of};
+ghost use Rattle.blk_format.specs.SparseIndex.{last_block_len_of, last_block_of, parent_key_len_of, sparse_signature_of, sparse_head_length, sparse_magic_of, zeros_of};
 
 use crate::words::{long, word};
 use std::marker::Model;
@@ -48,7 +48,7 @@ impl<'a> SparseHead<'a> {
 
     /// The signature, which parts share with their parent.
     pub fn signature(&self) -> i64
-        ensures { result ≡ signature_of (content self.now) }
+        ensures { result ≡ sparse_signature_of (content self.now) }
     {
         long(self.window, 0).cast_signed()
     }

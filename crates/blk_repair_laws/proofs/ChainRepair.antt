@@ -23,7 +23,7 @@ use Rattle.blk_volume.specs.Chains.{Chain, chain, bucket_of_hash, file_and_block
 use Rattle.blk_volume.specs.Loads.{held_rule, Loaded, load}
 use Rattle.blk_volume.specs.Audit.{kept_among}
 use Rattle.blk_volume.specs.Shown.{IsShown}
-use Rattle.blk_volume.specs.Found.{kept, found, row_of}
+use Rattle.blk_volume.specs.Found.{kept, found, row_of_loaded}
 use Rattle.blk_volume.specs.Footprint.{IsClear}
 use Rattle.blk_volume.specs.ListImages.{IsWritable, walked}
 use Rattle.blk_volume.specs.ShownChanges.{OnlyChainNextChanges}
@@ -162,7 +162,7 @@ module _ (from : Image) (well_from : IsWellFormed from) (all : KeepsAll from) wh
         well_formed = s.well_formed;
         writable = s.writable;
         kept_same = keeps;
-        found_same = rw (well_formed-finished i s.well_formed, well_formed-finished from well_from) (ap (map row_of) keeps);
+        found_same = rw (well_formed-finished i s.well_formed, well_formed-finished from well_from) (ap (map row_of_loaded) keeps);
       }
 
   -- ---- kept records

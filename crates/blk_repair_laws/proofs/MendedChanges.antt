@@ -39,7 +39,7 @@ use Rattle.blk_volume.specs.Chains.{Chain, chain, file_and_block, bucket_of_hash
 use Rattle.blk_volume.specs.Loads.{held_rule, unchained_rule, Loaded, load, all_claims, claims_of_loaded}
 use Rattle.blk_volume.specs.Audit.{kept_among}
 use Rattle.blk_volume.specs.Shown.{IsShown}
-use Rattle.blk_volume.specs.Found.{kept, found, row_of}
+use Rattle.blk_volume.specs.Found.{kept, found, row_of_loaded}
 use Rattle.blk_volume.specs.Footprint.{IsClear, SameBut}
 use Rattle.blk_volume.specs.Sound.{words_of}
 use Rattle.blk_volume.specs.ListImages.{walked, HasListAtRest}
@@ -131,7 +131,7 @@ module _ (from image : Image) (mended : HasMendedLinks from) (well : IsWellForme
         chains = λ bucket below. subst (IsChain (store_of image) bucket) (sym (records-still from image bucket keeps (chains bucket below))) (chains bucket below);
       };
       kept_same = keeps;
-      found_same = rw (well_formed-finished image well, well_formed-finished from mended.well_formed) (ap (map row_of) keeps);
+      found_same = rw (well_formed-finished image well, well_formed-finished from mended.well_formed) (ap (map row_of_loaded) keeps);
     }
 
   -- a kept node loads by itself

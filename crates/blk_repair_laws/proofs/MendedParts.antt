@@ -19,7 +19,7 @@ use Rattle.blk_format.specs.Maps.{EmptyAgrees, groups_of, groups_with, is_block_
 use Rattle.blk_volume.specs.Loads.{Loaded, claims_of_loaded}
 use Rattle.blk_volume.specs.Found.{kept}
 use Rattle.blk_volume.specs.Sound as sound
-use Rattle.blk_volume.specs.Sound.{OnlyLinked, words_of, IsCounted}
+use Rattle.blk_volume.specs.Sound.{OnlyLinked, words_of, CountersAgree}
 use Rattle.blk_volume.specs.Tidy.{FilesStand}
 use Rattle.blk_laws.proofs.ByteChanges.{same-links}
 use Rattle.blk_laws.proofs.Counting.{files-stand}
@@ -31,7 +31,7 @@ blocks-alike : (from image : Image) → ((n : ℕ) → linked_as image n ≡ lin
 unfolding EmptyAgrees max_entries_in
 blocks-alike from image links same keeps files = record {
   maps = λ n b linked small. ap (λ (o : Option (List ℕ)). is_block_marked_at (content (unwrap_or o [])) b) (at n linked) ∙ files.maps n b (was n linked) small ∙ ap (λ (ks : List Loaded). has (claims_of_loaded ks) n b) (sym keeps);
-  counted = λ n linked. let c = files.counted n (was n linked) in subst (λ (ks : List Loaded). IsCounted image (flat_map words_of ks) n) (sym keeps) (record {
+  counted = λ n linked. let c = files.counted n (was n linked) in subst (λ (ks : List Loaded). CountersAgree image (flat_map words_of ks) n) (sym keeps) (record {
     num_entries = ap (λ (o : Option (List ℕ)). allocations_of (content (unwrap_or o []))) (at n linked) ∙ c.num_entries;
     empty = λ i small. ap (λ (o : Option (List ℕ)). empty_of (content (unwrap_or o [])) i) (at n linked) ∙ c.empty i small
         ∙ sym (ap (λ (o : Option (List ℕ)). groups_with (is_block_marked_at (content (unwrap_or o []))) (groups_of (max_entries_of (content (unwrap_or o [])))) (i + 1)) (at n linked));
@@ -77,7 +77,7 @@ files-mended footprint from image behind outside mended keeps =
       λ files. record {
         maps = λ n b linked small. f.marks n b small ∙ files.maps n b (ap is_some (sym (f.links n)) ∙ linked) small ∙ ap (λ (ks : List Loaded). has_claim (claims_of_loaded ks) (BlockOf n b)) (sym keeps.kept_same);
         counted = λ n linked. let was = ap is_some (sym (f.links n)) ∙ linked in
-            subst (λ (ks : List Loaded). IsCounted image (flat_map words_of ks) n) (sym keeps.kept_same) (f.counted n (flat_map words_of (kept from)) was (files.counted n was));
+            subst (λ (ks : List Loaded). CountersAgree image (flat_map words_of ks) n) (sym keeps.kept_same) (f.counted n (flat_map words_of (kept from)) was (files.counted n was));
         long_enough = f.long_enough files.long_enough;
       },
       λ only. record {

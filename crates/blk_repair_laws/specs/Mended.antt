@@ -13,7 +13,7 @@ use Rattle.blk_volume.specs.ListImages.{IsWritable}
 use Rattle.blk_repair_laws.specs.ChainRepair.{is_kept_record}
 use Rattle.blk_volume.specs.Loads.{claims_of_loaded}
 use Rattle.blk_volume.specs.Found.{charge_of, kept, found}
-use Rattle.blk_volume.specs.Sound.{MapsAre, OnlyClaimed, OnlyLinked, AreLongEnough, words_of, IsCounted, AreSealed, IsSound}
+use Rattle.blk_volume.specs.Sound.{MapsAre, OnlyClaimed, OnlyLinked, AreLongEnough, words_of, CountersAgree, AreSealed, IsSound}
 use Rattle.blk_volume.specs.StandsFor.{StandsFor}
 use Rattle.blk_volume.specs.Tidy.{IsBehindHeaders}
 use Rattle.blk_repair_laws.specs.MendedLinks.{HasMendedLinks}
@@ -24,7 +24,7 @@ use Rattle.blk_repair_laws.specs.MendedChanges.{KeepsMendedLinks}
 -- the map and the counters of each linked block file are those of what is kept, no change of them is under way, and the file has all its blocks
 pub record HasMendedFiles (image : Image) : Type 0 where
   pub maps : MapsAre image (claims_of_loaded (kept image))
-  pub counted : (n : ℕ) → is_some (linked_as image n) ≡ true → IsCounted image (flat_map words_of (kept image)) n
+  pub counted : (n : ℕ) → is_some (linked_as image n) ≡ true → CountersAgree image (flat_map words_of (kept image)) n
   pub long_enough : AreLongEnough image
 
 -- the block files that are there are linked, and the external files that are there are claimed by what is kept

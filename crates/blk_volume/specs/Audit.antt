@@ -23,8 +23,8 @@ use Rattle.blk_volume.specs.Loads.{Rule, Loaded, load, is_part, record_claims, a
 -- The reasons 13 to 15, against those that are kept so far.
 
 -- a record shares a block or an external number with what is kept, or claims one twice
-abbrev pub is_claimed : List Loaded → Loaded → Bool
-is_claimed kept loaded = repeats (record_claims loaded) || overlap (claims_of_loaded kept) (all_claims loaded)
+abbrev pub collides : List Loaded → Loaded → Bool
+collides kept loaded = repeats (record_claims loaded) || overlap (claims_of_loaded kept) (all_claims loaded)
 
 -- whether two tests have one answer
 abbrev pub same_answer : Bool → Bool → Bool
@@ -57,7 +57,7 @@ is_orphan kept loaded = is_orphan_role kept loaded.role
 -- the reasons 13 to 15 in their order
 unfoldable pub admit : List Loaded → Loaded → Result Loaded Reason
 admit kept loaded = do
-  _ ← demand (not (is_claimed kept loaded)) reason.Claimed
+  _ ← demand (not (collides kept loaded)) reason.Claimed
   _ ← demand (not (shares_key kept loaded)) reason.Name
   _ ← demand (not (is_orphan kept loaded)) reason.Parent
   Ok loaded

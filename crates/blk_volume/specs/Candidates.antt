@@ -11,7 +11,7 @@ use Rattle.blk_format.specs.BlockFiles.{is_among}
 use Rattle.blk_volume.specs.Walk.{walk}
 use Rattle.blk_volume.specs.View.{View, StoreView, RecordFields}
 use Rattle.blk_volume.specs.Chains.{chain, bucket_of_hash}
-use Rattle.blk_volume.specs.Entries.{Role, IsPlain, IsParent, IsPart, is_key_length, key_of, streams_of, role_of}
+use Rattle.blk_volume.specs.Entries.{Role, IsPlain, IsParent, IsPart, is_key_length, stored_key, stored_streams, role_of}
 use Rattle.blk_volume.specs.Audit.{is_child}
 
 -- the dirty word of a node is 0
@@ -20,7 +20,7 @@ is_clean store node = option_map_or (λ node_fields. node_fields.dirty == 0) (st
 
 -- the key of a record for which none of the reasons contents, seal, key length and key place holds
 abbrev pub sound_key : StoreView → ℕ → RecordFields → Option (List ℕ)
-sound_key store contents fields = if fields.checks && is_key_length contents fields then key_of store contents fields else None
+sound_key store contents fields = if fields.checks && is_key_length contents fields then stored_key store contents fields else None
 
 -- the name that is the key of such a record of a node
 unfoldable pub name_at : StoreView → ℕ → Option Name
@@ -36,7 +36,7 @@ has_signature signature (IsPart name index) = false
 abbrev pub is_parent_with : StoreView → Name → ℕ → RecordFields → Bool
 is_parent_with store name contents fields =
     (fields.flags == parent)
-    && option_map_or (λ key. bytes_eq key name.key && option_map_or (λ streams. option_map_or (has_signature name.signature) (role_of fields key streams) false) (streams_of store fields) false) (sound_key store contents fields) false
+    && option_map_or (λ key. bytes_eq key name.key && option_map_or (λ streams. option_map_or (has_signature name.signature) (role_of fields key streams) false) (stored_streams store fields) false) (sound_key store contents fields) false
 
 -- a clean node with such a record
 unfoldable pub is_parent_at : StoreView → Name → ℕ → Bool
@@ -54,9 +54,9 @@ candidates view = filter (is_candidate view.store (walk view.list)) (walk view.l
 
 -- on the key, the place in its chain and the streams of a record
 pub record SameData (old new : StoreView) (contents : ℕ) (fields : RecordFields) : Type 0 where
-  pub key : is_key_length contents fields ≡ true → key_of old contents fields ≡ key_of new contents fields
+  pub key : is_key_length contents fields ≡ true → stored_key old contents fields ≡ stored_key new contents fields
   pub chained : is_among (chain old (bucket_of_hash fields.hash)).reached contents ≡ is_among (chain new (bucket_of_hash fields.hash)).reached contents
-  pub streams : streams_of old fields ≡ streams_of new fields
+  pub streams : stored_streams old fields ≡ stored_streams new fields
 
 -- the record, if it checks
 abbrev pub checked_fields : Option RecordFields → Option RecordFields

@@ -7,7 +7,7 @@ use Rattle.blk_model.specs.Items.{Item, main, same_item}
 use Rattle.blk_model.specs.State.{State, Object}
 use Rattle.blk_model.specs.Holding as model
 use Rattle.blk_format.specs.Hash.{hash}
-use Rattle.blk_format.specs.Records.{normal}
+use Rattle.blk_format.specs.Records.{entry_normal}
 use Rattle.blk_format.specs.Claims.{Claim, has_claim, repeats}
 use Rattle.blk_format.specs.BlockFiles.{is_among}
 use Rattle.blk_volume.specs.ListView.{put}
@@ -15,7 +15,7 @@ use Rattle.blk_volume.specs.View.{StoreView}
 use Rattle.blk_volume.specs.Chains.{bucket_of_hash, file_and_block}
 use Rattle.blk_volume.specs.Entries.{IsPlain}
 use Rattle.blk_volume.specs.Loads.{unchained_rule, Loaded, load, all_claims}
-use Rattle.blk_volume.specs.Found.{row_of}
+use Rattle.blk_volume.specs.Found.{row_of_loaded}
 use Rattle.blk_volume.specs.Layout.{Layout, is_listed, HasDirtyMark, HasParentAt}
 
 -- the state with other objects, and the item in front
@@ -27,7 +27,7 @@ abbrev pub with_item : Layout → Item → Loaded → Layout
 with_item layout item loaded = record layout {
   place = λ other. if same_item other item then loaded.node else layout.place other;
   at = put layout.at loaded.node (Some loaded);
-  state = put layout.state loaded.node normal;
+  state = put layout.state loaded.node entry_normal;
   chains = put layout.chains (bucket_of_hash (hash loaded.key)) (loaded.contents ∷ layout.chains (bucket_of_hash (hash loaded.key)));
   owner = λ claim. if has_claim (all_claims loaded) claim then Some loaded.node else layout.owner claim;
 }
@@ -35,7 +35,7 @@ with_item layout item loaded = record layout {
 -- the item is new, and what its node names is nobody's, and has its row, its mark and its parent
 pub record IsNewItem (state : State) (objects : List (Option Object)) (layout : Layout) (item : Item) (loaded : Loaded) : Type 0 where
   pub unlisted : is_listed state item ≡ false
-  pub row : model.row_of (record state { objects = objects }) item ≡ Some (row_of loaded)
+  pub row : model.row_of (record state { objects = objects }) item ≡ Some (row_of_loaded loaded)
   pub mark : HasDirtyMark (record state { objects = objects }) item loaded
   pub parent : HasParentAt state layout item loaded
   pub nobody : layout.at loaded.node ≡ None
@@ -46,7 +46,7 @@ pub record IsNewItem (state : State) (objects : List (Option Object)) (layout : 
 
 -- a dirty plain record with a key and no streams, which loads by itself and is nobody's
 pub record IsNewEntry (store : StoreView) (layout : Layout) (key : List ℕ) (loaded : Loaded) : Type 0 where
-  pub loads : load store (unchained_rule normal) loaded.node ≡ Ok loaded
+  pub loads : load store (unchained_rule entry_normal) loaded.node ≡ Ok loaded
   pub key_is : loaded.key ≡ key
   pub role : loaded.role ≡ IsPlain
   pub streams : loaded.streams ≡ [] ∷ [] ∷ [] ∷ []

@@ -14,9 +14,10 @@ use Rattle.blk_format.specs.BlockFiles.{linked_as, max_entries_in}
 use Rattle.blk_volume.specs.ListView.{ListView}
 use Rattle.blk_volume.specs.View.{View, StoreView, RecordFields}
 use Rattle.blk_volume.specs.Chains.{is_of_bucket}
-use Rattle.blk_volume.specs.Entries.{is_key_length, key_of, longest_short_key}
+use Rattle.blk_volume.specs.Entries.{is_key_length, stored_key}
 use Rattle.blk_volume.specs.Loads.{Loaded, load}
 use Rattle.blk_volume.specs.Layout.{Layout, rule_of}
+use Rattle.blk_format.specs.Storage.{longest_short_key}
 
 -- what a word names is outside
 abbrev pub IsClear : (Claim → Bool) → ℕ → Type 0
@@ -98,7 +99,7 @@ pub record IsReplaced (touched : Claim → Bool) (old new : View) (layout : Layo
   pub links : SameNodeLinks node old.list new.list
 
 -- a change in a footprint of one node, which leaves the node's words and its record's place in a chain
-pub record IsInside (touched : Claim → Bool) (old new : View) (layout : Layout) (node : ℕ) (loaded : Loaded) : Type 0 where
+pub record IsInsideNode (touched : Claim → Bool) (old new : View) (layout : Layout) (node : ℕ) (loaded : Loaded) : Type 0 where
   pub apart : IsFreeBut node touched layout
   pub node_fields : new.store.node_fields node ≡ old.store.node_fields node
   pub bucket : (bucket : ℕ) → is_of_bucket new.store bucket loaded.contents ≡ is_of_bucket old.store bucket loaded.contents
@@ -108,7 +109,7 @@ pub record IsInside (touched : Claim → Bool) (old new : View) (layout : Layout
 -- the record of a part keeps its flags and its key, wherever its streams are; of a main item's nothing is asked
 abbrev pub KeepsName : StoreView → StoreView → Item → ℕ → Type 0
 KeepsName old new (main key) contents = Unit {0}
-KeepsName old new (part key n) contents = (was now : RecordFields) → old.entry contents ≡ Some was → new.entry contents ≡ Some now → (now.flags ≡ was.flags) × (key_of new contents now ≡ key_of old contents was)
+KeepsName old new (part key n) contents = (was now : RecordFields) → old.entry contents ≡ Some was → new.entry contents ≡ Some now → (now.flags ≡ was.flags) × (stored_key new contents now ≡ stored_key old contents was)
 
 -- a block is there as one of a kind: its file is linked as that, and the block is below max_entries and ends inside the file
 unfoldable pub is_there : Image → ℕ → ℕ → ℕ → Bool

@@ -10,16 +10,17 @@ use Rattle.blk_volume.specs.Entries.{Role, IsPlain, IsParent, IsPart, stream}
 use Rattle.blk_volume.specs.Reasons.{Reason}
 use Rattle.blk_volume.specs.Loads.{held_rule, Loaded}
 use Rattle.blk_volume.specs.Audit.{kept_by, dropped_by}
+use Rattle.blk_model.specs.Sizes.{part_blocks}
 
 -- the row of a key, a role and streams; the index of a parent is no stream
 abbrev pub row_with : List ℕ → Role → List (List ℕ) → Row
 row_with key IsPlain streams = main_row key plain (stream 0 streams, stream 1 streams, stream 2 streams)
 row_with key (IsParent index) streams = main_row key (sparse index.signature) (stream 0 streams, [], [])
-row_with key (IsPart name index) streams = part_row name.key name.part (record { bytes = stream 1 streams; presence = record { blocks = map index.present (range_with_len 0 1024); partial = index.partial } })
+row_with key (IsPart name index) streams = part_row name.key name.part (record { bytes = stream 1 streams; presence = record { blocks = map index.present (range_with_len 0 part_blocks); partial = index.partial } })
 
 -- the row of a kept node
-abbrev pub row_of : Loaded → Row
-row_of loaded = row_with loaded.key loaded.role loaded.streams
+abbrev pub row_of_loaded : Loaded → Row
+row_of_loaded loaded = row_with loaded.key loaded.role loaded.streams
 
 -- what a kept node is charged: its key, which is a part's name, and its streams, indexes included
 abbrev pub charge_of : Loaded → ℕ
@@ -39,4 +40,4 @@ dropped image = dropped_by held_rule (completed (view_of image))
 
 -- the rows of the kept, in the order of the walk; an unfinished folder holds nothing
 unfoldable pub found : Image → List Row
-found image = if unfinished image then [] else map row_of (kept image)
+found image = if unfinished image then [] else map row_of_loaded (kept image)

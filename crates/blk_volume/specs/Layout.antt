@@ -20,7 +20,7 @@ use Rattle.blk_volume.specs.Chains.{bucket_of_hash, IsChain}
 use Rattle.blk_volume.specs.Entries.{IsPart}
 use Rattle.blk_volume.specs.Loads.{Rule, held_rule, unchained_rule, is_part, Loaded, load, all_claims}
 use Rattle.blk_volume.specs.Audit.{is_parent_of}
-use Rattle.blk_volume.specs.Found.{row_of}
+use Rattle.blk_volume.specs.Found.{row_of_loaded}
 
 -- the node of each listed item, and of each doomed object by its number; what each node that is somebody's names, and the state of its record;
 -- the records of each chain, in order; the node that each block and external number belongs to
@@ -81,7 +81,7 @@ HasParentAt state layout (part key n) loaded = IsPartAt state layout key loaded
 pub record IsPlacedAt (state : State) (layout : Layout) (item : Item) : Type 0 where
   pub loaded : Loaded
   pub here : layout.at (layout.place item) ≡ Some loaded
-  pub row : model.row_of state item ≡ Some (row_of loaded)
+  pub row : model.row_of state item ≡ Some (row_of_loaded loaded)
   pub mark : HasDirtyMark state item loaded
   pub parent : HasParentAt state layout item loaded
 
@@ -89,7 +89,7 @@ pub record IsPlacedAt (state : State) (layout : Layout) (item : Item) : Type 0 w
 pub record IsDoomedAt (state : State) (layout : Layout) (number : ℕ) (object : Object) : Type 0 where
   pub loaded : Loaded
   pub here : layout.at (layout.place_of_doomed number) ≡ Some loaded
-  pub row : row_of loaded ≡ main_row object.key object.shape object.streams
+  pub row : row_of_loaded loaded ≡ main_row object.key object.shape object.streams
   pub mark : (loaded.dirty == 0) ≡ object.settled
   pub unlisted : is_among (order state layout) (layout.place_of_doomed number) ≡ false
   pub alone : (other : ℕ) (object : Object) → object_at state other ≡ Some object → object.live ≡ false → layout.place_of_doomed other ≡ layout.place_of_doomed number → other ≡ number
@@ -166,7 +166,7 @@ changed_at layout node loaded owner = record layout { at = put layout.at node (S
 pub record IsChange (state : State) (objects : List (Option Object)) (layout : Layout) (item : Item) (was now : Loaded) (owner : Claim → Option ℕ) : Type 0 where
   pub key : now.key ≡ was.key
   pub contents : now.contents ≡ was.contents
-  pub row : model.row_of (record state { objects = objects }) item ≡ Some (row_of now)
+  pub row : model.row_of (record state { objects = objects }) item ≡ Some (row_of_loaded now)
   pub mark : HasDirtyMark (record state { objects = objects }) item now
   pub parent : HasParentAt state layout item now
   pub of : (name : Name) → is_parent_of name was ≡ true → is_parent_of name now ≡ true
@@ -177,7 +177,7 @@ pub record IsChange (state : State) (objects : List (Option Object)) (layout : L
 -- what is to be shown of something else at the node of a doomed object, which is this afterwards
 pub record IsDoomedChange (layout : Layout) (node : ℕ) (object : Object) (now : Loaded) (owner : Claim → Option ℕ) : Type 0 where
   pub dead : object.live ≡ false
-  pub row : row_of now ≡ main_row object.key object.shape object.streams
+  pub row : row_of_loaded now ≡ main_row object.key object.shape object.streams
   pub mark : (now.dirty == 0) ≡ object.settled
   pub own : (claim : Claim) → has_claim (all_claims now) claim ≡ true → owner claim ≡ Some node
   pub others : (claim : Claim) (other : ℕ) → layout.owner claim ≡ Some other → (node == other) ≡ false → owner claim ≡ Some other

@@ -9,7 +9,7 @@ use Rattle.blk_volume.specs.Walk.{walk}
 use Rattle.blk_volume.specs.Completion.{completed_list}
 use Rattle.blk_volume.specs.ListPlans.{writes_of, touch_writes, completion_writes, completed_but_operation}
 use Rattle.blk_volume.specs.View.{list_of, store_of}
-use Rattle.blk_volume.specs.ListSteps.{AreOf, AreWords, steps_of, touch_steps}
+use Rattle.blk_volume.specs.ListSteps.{AreOf, AllWriteWords, steps_of_writes, touch_steps}
 use Rattle.blk_volume.specs.ShownChanges.{ShowsTheSame}
 
 -- an image of bytes, whose index has its header
@@ -20,7 +20,7 @@ pub record IsWritable (image : Image) : Type 0 where
 -- the nodes that are written stand and check, and the words are below 2 ^ 32
 pub record CanBeMade (image : Image) (writes : List ListWrite) : Type 0 where
   pub nodes : AreOf (λ node. (list_of image).checks node ≡ true) writes
-  pub words : AreWords writes
+  pub words : AllWriteWords writes
 
 -- the walked nodes
 abbrev pub walked : Image → List ℕ
@@ -40,7 +40,7 @@ HasListAtRest nodes image = IsAtRest (list_of image) nodes
 
 -- the steps of an operation on a node, by its code
 abbrev pub operation_steps : (code node : ℕ) → Image → List TrailStep
-operation_steps code node image = steps_of (writes_of code node (list_of image)) image
+operation_steps code node image = steps_of_writes (writes_of code node (list_of image)) image
 
 -- the steps of a touch of a node at a moment: its writes, and then its times
 abbrev pub steps_of_touch : (node moment : ℕ) → Image → List TrailStep
@@ -48,7 +48,7 @@ steps_of_touch node moment image = touch_steps node moment (touch_writes node (l
 
 -- the steps of a completion
 abbrev pub completion_steps : Image → List TrailStep
-completion_steps image = steps_of (completion_writes (list_of image)) image
+completion_steps image = steps_of_writes (completion_writes (list_of image)) image
 
 -- completing gives the same as of another image, but for the operation word, which nobody reads then
 abbrev pub CompletesAlike : Image → Image → Type 0
@@ -67,7 +67,7 @@ stopped_folder [] image = image
 stopped_folder (count ∷ counts) image = stopped_folder counts (after (take count (completion_steps image)) image)
 
 -- completing gives the same as of another image, with the same walk; nothing but the list is shown to change, and what is well formed stays so
-pub record IsStopped (from image : Image) : Type 0 where
+pub record StopsAlike (from image : Image) : Type 0 where
   pub list : CompletesAlike from image
   pub walk : completed_walk image ≡ completed_walk from
   pub store : ShowsTheSame (store_of from) (store_of image)

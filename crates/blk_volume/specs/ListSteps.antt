@@ -4,35 +4,36 @@ use Rattle.blk_image.specs.Image.{Index, Image}
 use Rattle.blk_image.specs.Steps.{TrailStep, word_step, after}
 use Rattle.blk_image.specs.Footprint.{Footprint, SameOutside, nothing, one_word, either}
 use Rattle.blk_format.specs.Address.{kind_of, rankings}
-use Rattle.blk_format.specs.Records.{node_is_sealed}
+use Rattle.blk_format.specs.Records.{node_is_sealed, node_next_place, node_prev_place}
 use Rattle.blk_format.specs.BlockFiles.{IsWellFormed}
 use Rattle.blk_format.specs.Sealed.{sealed_steps, record_range}
 use Rattle.blk_volume.specs.ListView.{ListWrite, Next, Prev, Head, Tail, Transaction, Operation}
 use Rattle.blk_volume.specs.View.{node_at}
 use Rattle.blk_volume.specs.ShownChanges.{OnlyListChanges}
+use Rattle.blk_format.specs.Headers.{heads_place, tails_place, transaction_place, operation_place}
 
 -- the steps of a write: one word of the index, or the sealed update of the next or the prev of a node
 unfoldable pub write_steps : ListWrite → Image → List TrailStep
-write_steps (Next node word) image = sealed_steps image node ((16, word) ∷ [])
-write_steps (Prev node word) image = sealed_steps image node ((20, word) ∷ [])
-write_steps (Head word) image = word_step Index 288 word
-write_steps (Tail word) image = word_step Index 308 word
-write_steps (Transaction word) image = word_step Index 328 word
-write_steps (Operation word) image = word_step Index 332 word
+write_steps (Next node word) image = sealed_steps image node ((node_next_place, word) ∷ [])
+write_steps (Prev node word) image = sealed_steps image node ((node_prev_place, word) ∷ [])
+write_steps (Head word) image = word_step Index heads_place word
+write_steps (Tail word) image = word_step Index tails_place word
+write_steps (Transaction word) image = word_step Index transaction_place word
+write_steps (Operation word) image = word_step Index operation_place word
 
 -- the steps of writes, each on what the ones before it leave
-abbrev pub steps_of : List ListWrite → Image → List TrailStep
-steps_of [] image = []
-steps_of (write ∷ writes) image = write_steps write image ++ steps_of writes (after (write_steps write image) image)
+abbrev pub steps_of_writes : List ListWrite → Image → List TrailStep
+steps_of_writes [] image = []
+steps_of_writes (write ∷ writes) image = write_steps write image ++ steps_of_writes writes (after (write_steps write image) image)
 
 -- what a write may touch: the word of the index, or the node's bytes
 unfoldable pub touched_by_write : ListWrite → Footprint
 touched_by_write (Next node word) = record_range node
 touched_by_write (Prev node word) = record_range node
-touched_by_write (Head word) = one_word Index 288
-touched_by_write (Tail word) = one_word Index 308
-touched_by_write (Transaction word) = one_word Index 328
-touched_by_write (Operation word) = one_word Index 332
+touched_by_write (Head word) = one_word Index heads_place
+touched_by_write (Tail word) = one_word Index tails_place
+touched_by_write (Transaction word) = one_word Index transaction_place
+touched_by_write (Operation word) = one_word Index operation_place
 
 abbrev pub touched_by_writes : List ListWrite → Footprint
 touched_by_writes [] = nothing
@@ -88,10 +89,10 @@ word_of (Tail word) = word
 word_of (Transaction word) = word
 word_of (Operation word) = word
 
--- all of them are words
-abbrev pub AreWords : List ListWrite → Type 0
-AreWords [] = Unit {0}
-AreWords (write ∷ writes) = (word_of write < 2 ^ 32) × AreWords writes
+-- all of them write words
+abbrev pub AllWriteWords : List ListWrite → Type 0
+AllWriteWords [] = Unit {0}
+AllWriteWords (write ∷ writes) = (word_of write < 2 ^ 32) × AllWriteWords writes
 
 -- the four words of a node's two times, which both become a moment
 abbrev pub times_of : ℕ → List (ℕ × ℕ)
@@ -99,7 +100,7 @@ times_of moment = (0, moment % 2 ^ 32) ∷ (4, moment / 2 ^ 32) ∷ (8, moment %
 
 -- the steps of writes, and then those of a node's times
 abbrev pub touch_steps : ℕ → ℕ → List ListWrite → Image → List TrailStep
-touch_steps node moment writes image = steps_of writes image ++ sealed_steps (after (steps_of writes image) image) node (times_of moment)
+touch_steps node moment writes image = steps_of_writes writes image ++ sealed_steps (after (steps_of_writes writes image) image) node (times_of moment)
 
 -- in the midst of a touch a front of its writes is made; nothing else is shown to change, and every byte is as before outside the words of the index
 -- and the nodes that are written and the node itself

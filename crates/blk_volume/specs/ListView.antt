@@ -1,5 +1,6 @@
 -- The use list as an image shows it, what is written into it, and lists that are whole.
 use Rattle.std.specs.Prelude.{◌≡◌, ℕ, ◌≤◌, ◌<◌, Bool, true, false, ◌==◌, if◌then◌else◌, List, [], ◌∷◌, length}
+use Rattle.blk_model.specs.Sizes.{most_items}
 use Rattle.blk_format.specs.BlockFiles.{is_among}
 
 -- what the list needs of an image; a word that names no node that stands and checks has `checks` false
@@ -12,9 +13,9 @@ pub record ListView : Type 0 where
   pub next : ℕ → ℕ
   pub prev : ℕ → ℕ
 
--- the most nodes of a list
+-- the most nodes of a list, and that are walked: as many as a cache has items
 abbrev pub most_nodes : ℕ
-most_nodes = 131072
+most_nodes = most_items
 
 -- a function with another value at one place
 unfoldable pub put : {A : Type 0} → (ℕ → A) → ℕ → A → ℕ → A

@@ -10,7 +10,7 @@ use Rattle.blk_format.specs.Claims.{Claim, claims_of, claims_of_all}
 use Rattle.blk_format.specs.BlockFiles.{is_among}
 use Rattle.blk_volume.specs.View.{StoreView, RecordFields}
 use Rattle.blk_volume.specs.Chains.{chain, bucket_of_hash}
-use Rattle.blk_volume.specs.Entries.{Role, IsPlain, IsParent, IsPart, is_key_length, key_of, streams_of, role_of}
+use Rattle.blk_volume.specs.Entries.{Role, IsPlain, IsParent, IsPart, is_key_length, stored_key, stored_streams, role_of}
 use Rattle.blk_volume.specs.Reasons.{Reason, ◌>>=◌, demand}
 use Rattle.blk_volume.specs.Reasons as reason
 
@@ -22,11 +22,11 @@ pub record Rule : Type 0 where
 
 -- what a folder holds
 abbrev pub held_rule : Rule
-held_rule = record { state = records.normal; clean = true; chained = true }
+held_rule = record { state = records.entry_normal; clean = true; chained = true }
 
 -- the same, where the reason Dirty is left out
 abbrev pub listed_rule : Rule
-listed_rule = record { state = records.normal; clean = false; chained = true }
+listed_rule = record { state = records.entry_normal; clean = false; chained = true }
 
 -- a record by itself, with the dirty word and the chain left out
 abbrev pub unchained_rule : ℕ → Rule
@@ -50,7 +50,7 @@ load_key store rule node contents dirty fields = do
   _ ← demand (nat_le fields.flags 2) reason.Flags
   _ ← demand (not rule.clean || (dirty == 0)) reason.Dirty
   _ ← demand (is_key_length contents fields) reason.KeyLength
-  key ← ok_or (key_of store contents fields) reason.KeyPlace
+  key ← ok_or (stored_key store contents fields) reason.KeyPlace
   _ ← demand (fields.hash == hash key) reason.Hash
   _ ← demand (not rule.chained || is_among (chain store (bucket_of_hash fields.hash)).reached contents) reason.Chain
   Ok key
@@ -59,7 +59,7 @@ load_key store rule node contents dirty fields = do
 unfoldable pub load_record : StoreView → Rule → ℕ → ℕ → ℕ → RecordFields → Result Loaded Reason
 load_record store rule node contents dirty fields = do
   key ← load_key store rule node contents dirty fields
-  streams ← ok_or (streams_of store fields) reason.Streams
+  streams ← ok_or (stored_streams store fields) reason.Streams
   role ← ok_or (role_of fields key streams) reason.Sparse
   Ok (record { node = node; contents = contents; dirty = dirty; key = key; role = role; streams = streams; others = fields.long_key ∷ fields.data_addr })
 

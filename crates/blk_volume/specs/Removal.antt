@@ -50,7 +50,7 @@ is_of_another key item = not (bytes_eq key (key_of item))
 
 -- the layout without some items, where a node is that of the doomed object of a number, with a record of state 2
 abbrev pub placed_doomed : Layout → ℕ → ℕ → (ℕ → Option Loaded) → (ℕ → List ℕ) → (Claim → Option ℕ) → Layout
-placed_doomed layout number node at chains owner = record (placed_less layout at chains owner) { place_of_doomed = put layout.place_of_doomed number node; state = put layout.state node records.doomed }
+placed_doomed layout number node at chains owner = record (placed_less layout at chains owner) { place_of_doomed = put layout.place_of_doomed number node; state = put layout.state node records.entry_doomed }
 
 -- whole chains, in which the records of the nodes that stay are
 pub record HasChains (except : ℕ → Bool) (store : StoreView) (state : State) (layout : Layout) (chains : ℕ → List ℕ) : Type 0 where

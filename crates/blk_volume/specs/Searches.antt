@@ -8,7 +8,7 @@ use Rattle.blk_format.specs.Records.{child}
 use Rattle.blk_format.specs.BlockFiles.{is_among}
 use Rattle.blk_volume.specs.View.{StoreView, RecordFields}
 use Rattle.blk_volume.specs.Chains.{bucket_of_hash, chain, IsChain}
-use Rattle.blk_volume.specs.Entries.{is_key_length, key_of}
+use Rattle.blk_volume.specs.Entries.{is_key_length, stored_key}
 use Rattle.blk_volume.specs.Loads.{Loaded}
 use Rattle.blk_volume.specs.Layout.{Layout}
 
@@ -29,7 +29,7 @@ pub record HasKey (store : StoreView) (name : List ℕ) (is_child : Bool) (w : �
   pub fields : RecordFields
   pub here : store.entry w ≡ Some fields
   pub hashed : fields.hash ≡ hash name
-  pub key : key_of store w fields ≡ Some name
+  pub key : stored_key store w fields ≡ Some name
   pub flag : (fields.flags == child) ≡ is_child
 
 -- none of these words names a record with this key and child flag
@@ -37,13 +37,13 @@ abbrev pub NoneHasKey : StoreView → List ℕ → List ℕ → Bool → Type 0
 NoneHasKey store words key is_child = (w : ℕ) → is_among words w ≡ true → HasKey store key is_child w → ⊥
 
 -- a word names a record that checks and has a key, whose length and place are right
-pub record HasReadableKey (store : StoreView) (w : ℕ) : Type 0 where
+pub record HasCheckedKey (store : StoreView) (w : ℕ) : Type 0 where
   pub fields : RecordFields
   pub here : store.entry w ≡ Some fields
   pub checks : fields.checks ≡ true
   pub long : is_key_length w fields ≡ true
   pub key : List ℕ
-  pub is : key_of store w fields ≡ Some key
+  pub is : stored_key store w fields ≡ Some key
 
 -- a record and the node that it names are those of the live object of a key
 pub record IsOfLive (state : State) (layout : Layout) (key : List ℕ) (entry node : ℕ) : Type 0 where

@@ -7,8 +7,9 @@ use Rattle.blk_format.specs.Claims.{claims_of, has_claim}
 use Rattle.blk_volume.specs.ListView.{ListWrite, after_writes}
 use Rattle.blk_volume.specs.View.{StoreView, RecordFields, list_of, store_of, view_of}
 use Rattle.blk_volume.specs.Chains.{file_and_block}
-use Rattle.blk_volume.specs.Entries.{is_key_length, longest_short_key}
+use Rattle.blk_volume.specs.Entries.{is_key_length}
 use Rattle.blk_volume.specs.Footprint.{IsClear, SameStore, SameBut}
+use Rattle.blk_format.specs.Storage.{longest_short_key}
 
 -- what is shown changes only inside the blocks of a word, and what stands and what is well formed stays so
 pub record ChangesInside (w : ℕ) (from image : Image) : Type 0 where

@@ -57,7 +57,7 @@ abbrev pub words_of : Loaded → List ℕ
 words_of loaded = filter (λ w. not (w == 0)) (loaded.node ∷ loaded.contents ∷ loaded.others)
 
 -- the counters of a block file agree with its map and with its allocations among some address words, and no change is under way
-pub record IsCounted (image : Image) (words : List ℕ) (n : ℕ) : Type 0 where
+pub record CountersAgree (image : Image) (words : List ℕ) (n : ℕ) : Type 0 where
   pub num_entries : allocations_of (byte image (Block n)) ≡ count_by (is_in_file n) words
   pub empty : EmptyAgrees image n
   pub updating : updating_of (byte image (Block n)) ≡ 0
@@ -78,7 +78,7 @@ pub record IsIndexCounted (image : Image) (listed : List Loaded) : Type 0 where
 pub record IsInOrder (image : Image) (listed doomed : List Loaded) : Type 0 where
   pub only_linked : OnlyLinked image
   pub long_enough : AreLongEnough image
-  pub counted : (n : ℕ) → is_some (linked_as image n) ≡ true → IsCounted image (flat_map words_of (listed ++ doomed)) n
+  pub counted : (n : ℕ) → is_some (linked_as image n) ≡ true → CountersAgree image (flat_map words_of (listed ++ doomed)) n
   pub index : IsIndexCounted image listed
   pub sealed : AllByRecursion (AreSealed image) (listed ++ doomed)
 

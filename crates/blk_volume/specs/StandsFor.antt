@@ -19,15 +19,15 @@ use Rattle.blk_volume.specs.View.{View, view_of}
 use Rattle.blk_volume.specs.Chains.{chain}
 use Rattle.blk_volume.specs.Loads.{listed_rule, unchained_rule, Loaded, load, all_claims, claims_of_loaded}
 use Rattle.blk_volume.specs.Audit.{kept_by, dropped_by}
-use Rattle.blk_volume.specs.Found.{row_of}
+use Rattle.blk_volume.specs.Found.{row_of_loaded}
 use Rattle.blk_volume.specs.Sound.{EndsWhole, ChainsEnd, AreOwned, IsInOrder}
 use Rattle.blk_volume.specs.Layout.{Layout, order, HasDirtyMark}
 
 -- a node and a record of state 2 keep a doomed object with its key, shape and streams, neither listed nor chained
 pub record KeepsDoomed (view : View) (object : Object) (loaded : Loaded) : Type 0 where
   pub doomed : object.live ≡ false
-  pub loads : load view.store (unchained_rule records.doomed) loaded.node ≡ Ok loaded
-  pub row : row_of loaded ≡ main_row object.key object.shape object.streams
+  pub loads : load view.store (unchained_rule records.entry_doomed) loaded.node ≡ Ok loaded
+  pub row : row_of_loaded loaded ≡ main_row object.key object.shape object.streams
   pub mark : (loaded.dirty == 0) ≡ object.settled
   pub unlisted : is_among (walk view.list) loaded.node ≡ false
   pub unchained : (bucket : ℕ) → bucket < table_length → is_among (chain view.store bucket).reached loaded.contents ≡ false
@@ -45,8 +45,8 @@ pub record ShowsState (view : View) (state : State) : Type 0 where
   pub list_end : EndsWhole view.list
   pub chain_ends : ChainsEnd view.store
   pub nothing_dropped : dropped_by listed_rule view ≡ []
-  pub rows : map row_of (kept_by listed_rule view) ≡ model.rows state
-  pub marks : AllByRecursion (λ loaded. HasDirtyMark state (item_of (row_of loaded)) loaded) (kept_by listed_rule view)
+  pub rows : map row_of_loaded (kept_by listed_rule view) ≡ model.rows state
+  pub marks : AllByRecursion (λ loaded. HasDirtyMark state (item_of (row_of_loaded loaded)) loaded) (kept_by listed_rule view)
 
 -- an image stands for a state
 pub record StandsFor (image : Image) (state : State) : Type 0 where
@@ -75,10 +75,10 @@ pub record AreNumbers (state : State) (layout : Layout) (numbers : List ℕ) : T
   pub each : AllByRecursion (λ number. IsSomeAnd (object_at state number) (λ object. object.live ≡ false)) numbers
   pub once : Distinct numbers
   pub all : (number : ℕ) (object : Object) → object_at state number ≡ Some object → object.live ≡ false → is_among numbers number ≡ true
-  pub records : (number : ℕ) → is_among numbers number ≡ true → layout.state (layout.place_of_doomed number) ≡ records.doomed
+  pub records : (number : ℕ) → is_among numbers number ≡ true → layout.state (layout.place_of_doomed number) ≡ records.entry_doomed
 
 -- the blocks that are marked and the external files that are there are the owned ones, and each owner is a node of the layout, listed or of a doomed object of these numbers
-pub record IsAllocated (image : Image) (state : State) (layout : Layout) (numbers : List ℕ) : Type 0 where
+pub record AllIsOwned (image : Image) (state : State) (layout : Layout) (numbers : List ℕ) : Type 0 where
   pub blocks : (n b : ℕ) → is_some (linked_as image n) ≡ true → b < most_blocks → is_block_marked image n b ≡ is_some (layout.owner (BlockOf n b))
   pub files : (n : ℕ) → n < 2 ^ 32 → has_file image (External n) ≡ is_some (layout.owner (ExternalOf n))
   pub exact : (claim : Claim) (node : ℕ) → layout.owner claim ≡ Some node → IsOwner state layout (map layout.place_of_doomed numbers) claim node

@@ -13,8 +13,8 @@ use Rattle.blk_volume.specs.View.{view_of}
 use Rattle.blk_volume.specs.Loads.{Loaded}
 use Rattle.blk_volume.specs.Found.{charge_of}
 use Rattle.blk_volume.specs.Layout.{Layout, Represents, order}
-use Rattle.blk_volume.specs.Sound.{AreLongEnough, AreSealed, IsCounted, OnlyLinked, words_of}
-use Rattle.blk_volume.specs.StandsFor.{IsAllocated}
+use Rattle.blk_volume.specs.Sound.{AreLongEnough, AreSealed, CountersAgree, OnlyLinked, words_of}
+use Rattle.blk_volume.specs.StandsFor.{AllIsOwned}
 
 -- what lies at some nodes
 abbrev pub loaded_at : Layout → List ℕ → List Loaded
@@ -28,7 +28,7 @@ doomed_nodes layout numbers = map layout.place_of_doomed numbers
 pub record IsTidy (image : Image) (state : State) (layout : Layout) (numbers : List ℕ) : Type 0 where
   pub only_linked : OnlyLinked image
   pub long_enough : AreLongEnough image
-  pub counted : (n : ℕ) → is_some (linked_as image n) ≡ true → IsCounted image (flat_map words_of (loaded_at layout (order state layout ++ doomed_nodes layout numbers))) n
+  pub counted : (n : ℕ) → is_some (linked_as image n) ≡ true → CountersAgree image (flat_map words_of (loaded_at layout (order state layout ++ doomed_nodes layout numbers))) n
   pub sizes : sizes_of (byte image Index) 0 ≡ length state.uses
   pub num_entries : num_entries_of (byte image Index) ≡ length state.uses
   pub num_bytes : num_bytes_of (byte image Index) ≡ sum_by charge_of (loaded_at layout (order state layout)) % 2 ^ 32
@@ -39,7 +39,7 @@ pub record HasState (state : State) (layout : Layout) (numbers : List ℕ) (imag
   pub valid : IsValidState state
   pub well_formed : IsWellFormed image
   pub represents : Represents (view_of image) state layout
-  pub allocated : IsAllocated image state layout numbers
+  pub allocated : AllIsOwned image state layout numbers
   pub tidy : IsTidy image state layout numbers
 
 -- Changes behind the headers.
@@ -53,7 +53,7 @@ pub record IsBehindHeaders (footprint : Footprint) : Type 0 where
 pub record FilesStand (from image : Image) : Type 0 where
   pub links : (n : ℕ) → linked_as image n ≡ linked_as from n
   pub marks : (n b : ℕ) → b < most_blocks → is_block_marked image n b ≡ is_block_marked from n b
-  pub counted : (n : ℕ) (words : List ℕ) → is_some (linked_as from n) ≡ true → IsCounted from words n → IsCounted image words n
+  pub counted : (n : ℕ) (words : List ℕ) → is_some (linked_as from n) ≡ true → CountersAgree from words n → CountersAgree image words n
   pub only_linked : OnlyLinked from → OnlyLinked image
   pub long_enough : AreLongEnough from → AreLongEnough image
   pub externals : (n : ℕ) → has_file image (External n) ≡ has_file from (External n)

@@ -6,7 +6,7 @@ use Rattle.blk_io.proofs.Carried.{carried, if_damaged_weaker, untold_where}
 use Rattle.blk_volume.specs.Chains.{bucket_of_hash}
 use Rattle.blk_entry.specs.Keys.{CanBeRead, IsHead, IsPlaceDamage}
 use Rattle.blk_chain.specs.Finding.{IsDanglingLink, IsChainDamage, IsSought}
-use Rattle.blk_chain.specs.Unlinking.{next_of}
+use Rattle.blk_chain.specs.Unlinking.{next_record}
 use Rattle.blk_entry.proofs.KeyPlaces.{clash, damaged_any}
 use Rattle.blk_chain.proofs.Heads.{can-be-read, followed, names-parts, shown-names}
 use Rattle.blk_chain.proofs.finding.look_at.Goals as goal
@@ -80,7 +80,7 @@ returns-clause-step g c image there =
     let is = c.in_ok-entry.ensures.entry in (
       followed c.args.files.now image c.in_ok-entry.entry c.args.link.now.word c.in_ok-entry.ensures.entry c.in_ok-entry.ensures.stands (c.in_ok-head.ensures.checked image there),
       (
-        subst (λ (w : ℕ). c.in_ok-head.head.next ≡ next_of image w) is words.next,
+        subst (λ (w : ℕ). c.in_ok-head.head.next ≡ next_record image w) is words.next,
         λ sought. absurd (clash (sym c.if-branch.false ∙ (c.in_ok-is_sought.ensures.sought image now).1 (subst (λ (w : ℕ). IsSought c.args.key.now c.args.sought.now.child w image) (sym is) sought))),
       ),
     )

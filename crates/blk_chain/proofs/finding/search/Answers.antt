@@ -10,8 +10,9 @@ use Rattle.blk_io.proofs.Carried.{carried, if_damaged_weaker, untold_where}
 use Rattle.blk_entry.proofs.KeyPlaces.{err_damaged}
 use Rattle.blk_chain.specs.declared.found.Found.{Found}
 use Rattle.blk_chain.specs.declared.finding.Step.{Step}
-use Rattle.blk_chain.specs.Finding.{bucket_of_key, HasPassed, IsChainDamage, IsFollowed, IsLong, IsOfLink, IsSought, IsStep, StandsAt, StandsBefore}
-use Rattle.blk_chain.specs.Unlinking.{next_of}
+use Rattle.blk_chain.specs.Finding.{HasPassed, IsChainDamage, IsFollowed, IsTooLong, IsOfLink, IsSought, IsSearchStep, StandsAt, StandsBefore}
+use Rattle.blk_volume.specs.Searches.{bucket_of_key}
+use Rattle.blk_chain.specs.Unlinking.{next_record}
 use Rattle.blk_chain.proofs.Heads.{names-parts}
 use Rattle.blk_chain.proofs.Searches.{found-linked, outcome-answer, passed-on, way-keyed, way-left, way-passed}
 use Rattle.blk_chain.proofs.finding.search.Given as given
@@ -39,7 +40,7 @@ returns-then-left-eq0-clause-untold g c agrees can =
     (way-passed c.args.files.now image c.args.key.now c.args.sought.now.child (can image there) c.loop-link.link.word c.loop-link.link.before (131073 - c.loop-link.left) (c.loop-link.invariant.passed image there)) none))
 
 -- a chain that is too long
-long-here : (g : given.Over) (c : goal.After-damage_of g) → IsLong c.args.files.now (g.F.Folder.told c.args.f.now) c.args.key.now c.args.sought.now.child c.damage_of.ensures.damage
+long-here : (g : given.Over) (c : goal.After-damage_of g) → IsTooLong c.args.files.now (g.F.Folder.told c.args.f.now) c.args.key.now c.args.sought.now.child c.damage_of.ensures.damage
 long-here g c = by c.loop-link.link.before refl
   where
     of-key : IsOfLink (bucket_of_key c.args.key.now) c.loop-link.link.before c.damage_of.ensures.damage
@@ -48,7 +49,7 @@ long-here g c = by c.loop-link.link.before refl
     all : 131073 - c.loop-link.left ≡ 131073
     all = omega (arith, c.if-left-eq0.true)
 
-    by : (o : Option ℕ) → c.loop-link.link.before ≡ o → IsLong c.args.files.now (g.F.Folder.told c.args.f.now) c.args.key.now c.args.sought.now.child c.damage_of.ensures.damage
+    by : (o : Option ℕ) → c.loop-link.link.before ≡ o → IsTooLong c.args.files.now (g.F.Folder.told c.args.f.now) c.args.key.now c.args.sought.now.child c.damage_of.ensures.damage
     by None e = absurd (let begun = c.loop-link.invariant.begun e in omega (arith, begun, c.if-left-eq0.true))
     by (Some last) e = record {
       last = last;
@@ -89,7 +90,7 @@ pub returns-in-Here-clause-outcome : goal.returns-in-Here-clause-outcome
 returns-in-Here-clause-outcome g c image there =
     let now : (g.F.Folder.told c.loop-link.f).files ≡ Some image = ap (λ (t : Told). t.files) c.loop-link.invariant.told ∙ there in
     let step : IsFollowed c.args.files.now c.loop-link.link.word image × IsSought c.args.key.now c.args.sought.now.child c.loop-link.link.word image =
-    subst (λ (s : Step). IsStep c.args.files.now c.args.key.now c.args.sought.now.child c.loop-link.link.word s image) c.in-Here.is (c.in_ok-entry.ensures.step image now) in
+    subst (λ (s : Step). IsSearchStep c.args.files.now c.args.key.now c.args.sought.now.child c.loop-link.link.word s image) c.in-Here.is (c.in_ok-entry.ensures.step image now) in
     let is = sym (stands-here g c).0 in
     record {
       count = 131073 - c.loop-link.left;
@@ -132,8 +133,8 @@ loop-link-preserved g c =
       most = omega (arith, most);
       passed = λ image there.
           let now : (g.F.Folder.told c.loop-link.f).files ≡ Some image = ap (λ (t : Told). t.files) c.loop-link.invariant.told ∙ there in
-          let step : IsFollowed c.args.files.now c.loop-link.link.word image × ((c.in-On.next.word ≡ next_of image c.loop-link.link.word) × (IsSought c.args.key.now c.args.sought.now.child c.loop-link.link.word image → ⊥)) =
-          subst (λ (s : Step). IsStep c.args.files.now c.args.key.now c.args.sought.now.child c.loop-link.link.word s image) c.in-On.is (c.in_ok-entry.ensures.step image now) in
+          let step : IsFollowed c.args.files.now c.loop-link.link.word image × ((c.in-On.next.word ≡ next_record image c.loop-link.link.word) × (IsSought c.args.key.now c.args.sought.now.child c.loop-link.link.word image → ⊥)) =
+          subst (λ (s : Step). IsSearchStep c.args.files.now c.args.key.now c.args.sought.now.child c.loop-link.link.word s image) c.in-On.is (c.in_ok-entry.ensures.step image now) in
           let one : 131073 - (c.loop-link.left - 1) ≡ 131073 - c.loop-link.left + 1 = omega (arith, some, most) in
           subst (λ (o : Option ℕ). HasPassed c.args.files.now c.args.key.now c.args.sought.now.child c.in-On.next.word o (131073 - (c.loop-link.left - 1)) image) (sym stands.0)
           (subst (λ (w : ℕ). HasPassed c.args.files.now c.args.key.now c.args.sought.now.child w (Some c.loop-link.link.word) (131073 - (c.loop-link.left - 1)) image) (sym step.1.0)

@@ -8,7 +8,7 @@ use Rattle.blk_io.specs.Faults.{IfDamaged}
 use Rattle.blk_image.specs.Told.{Told, Applies, AppliesPrefix, Passes}
 use Rattle.blk_format.specs.Sealed.{IsMidUpdate, IsUpdated, RecordChecks, sealed_steps}
 use Rattle.blk_disk.specs.Tables.{Agrees}
-use Rattle.blk_chain.specs.Unlinking.{next_of}
+use Rattle.blk_chain.specs.Unlinking.{next_record}
 use Rattle.blk_chain.proofs.Unlinks.{next_changes, moved, with_next, turns_yet, turns_then, unlinked_then, still_complete}
 use Rattle.blk_chain.proofs.unlinking.unlink_behind.Given as given
 use Rattle.blk_chain.proofs.unlinking.unlink_behind.Goals as goal
@@ -29,7 +29,7 @@ update_sealed-requires-clause-changes g c = next_changes c.args.before c.in_ok-n
 
 -- what a call says of the next that was read
 said : (g : given.Over) (c : goal.After-update_sealed g) (P : Told → Image → ℕ → Type 0) → ForSome (g.F.Folder.told c.field.new.f).files (λ from. P (g.F.Folder.told c.field.new.f) from c.in_ok-next.next)
-    → ForSome (g.F.Folder.told c.args.f.now).files (λ from. P (g.F.Folder.told c.args.f.now) from (next_of from c.args.entry))
+    → ForSome (g.F.Folder.told c.args.f.now).files (λ from. P (g.F.Folder.told c.args.f.now) from (next_record from c.args.entry))
 said g c P = moved (g.F.Folder.told c.args.f.now) (g.F.Folder.told c.field.new.f) c.args.entry c.in_ok-next.next P c.in_ok-next.ensures.value c.in_ok-next.ensures.stays
 
 pub returns-clause-steps : goal.returns-clause-steps
@@ -47,7 +47,7 @@ pub returns-clause-sealed : goal.returns-clause-sealed
 returns-clause-sealed g c =
     on_ok_weaker c.update_sealed.result (λ updated. said g c (λ (t : Told) (from : Image) (n : ℕ). ForSome (g.F.Folder.told c.update_sealed.new.f).files (IsUpdated from c.args.before (with_next n))) updated) c.update_sealed.ensures.updated
 
-moments : (g : given.Over) (c : goal.After-update_sealed g) → ForSome (g.F.Folder.told c.args.f.now).files (λ from. RecordChecks c.args.before from → Passes (g.F.Folder.told c.args.f.now) (g.F.Folder.told c.update_sealed.new.f) (IsMidUpdate from c.args.before (with_next (next_of from c.args.entry))))
+moments : (g : given.Over) (c : goal.After-update_sealed g) → ForSome (g.F.Folder.told c.args.f.now).files (λ from. RecordChecks c.args.before from → Passes (g.F.Folder.told c.args.f.now) (g.F.Folder.told c.update_sealed.new.f) (IsMidUpdate from c.args.before (with_next (next_record from c.args.entry))))
 moments g c = said g c (λ (t : Told) (from : Image) (n : ℕ). RecordChecks c.args.before from → Passes t (g.F.Folder.told c.update_sealed.new.f) (IsMidUpdate from c.args.before (with_next n))) c.update_sealed.ensures.stops
 
 pub returns-clause-unlinked : goal.returns-clause-unlinked

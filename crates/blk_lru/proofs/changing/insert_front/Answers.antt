@@ -6,7 +6,7 @@ use Rattle.blk_volume.specs.ListView.{ListWrite}
 use Rattle.blk_volume.specs.ListPlans.{writes_of}
 use Rattle.blk_volume.specs.View.{list_of}
 use Rattle.blk_volume.specs.ListImages.{CanBeMade, HasListAtRest, walked}
-use Rattle.blk_volume.specs.ListSteps.{Seals, steps_of}
+use Rattle.blk_volume.specs.ListSteps.{Seals, steps_of_writes}
 use Rattle.blk_laws.proofs.Sealing.{writes_seal}
 use Rattle.blk_laws.proofs.WriteSteps.{quiet-writes, writes-in_turn}
 use Rattle.blk_laws.proofs.WriteWords.{Each, Good, each_nodes, each_words}
@@ -82,7 +82,7 @@ pub returns-clause-inserted : goal.returns-clause-inserted
 returns-clause-inserted g c =
     on_ok_weaker c.perform.result
     (λ grows from there can.
-    all_made (g.F.Folder.told c.args.f.now) (g.F.Folder.told c.perform.new.f) from there (steps_of (writes_of 1 c.args.node (list_of from)) from) (HasListAtRest (c.args.node ∷ walked from)) (grows from there)
+    all_made (g.F.Folder.told c.args.f.now) (g.F.Folder.told c.perform.new.f) from there (steps_of_writes (writes_of 1 c.args.node (list_of from)) from) (HasListAtRest (c.args.node ∷ walked from)) (grows from there)
     (inserts-rest from c.args.node (walked from) (ready_writable (ready_here g c from there)) can))
     (returns-clause-steps g c)
 
@@ -91,12 +91,12 @@ returns-clause-sealed g c =
     on_ok_both c.perform.result
     (λ grows can from there.
     let ws : List ListWrite = writes_of 1 c.args.node (list_of from) in
-    all_made (g.F.Folder.told c.args.f.now) (g.F.Folder.told c.perform.new.f) from there (steps_of ws from) (Seals from ws) (grows from there) (writes_seal ws from (ready_writable (ready_here g c from there)) (can from there)))
+    all_made (g.F.Folder.told c.args.f.now) (g.F.Folder.told c.perform.new.f) from there (steps_of_writes ws from) (Seals from ws) (grows from there) (writes_seal ws from (ready_writable (ready_here g c from there)) (can from there)))
     (returns-clause-steps g c) (checked_here g c)
 
 pub returns-clause-stops : goal.returns-clause-stops
 returns-clause-stops g c from there can =
     let ws : List ListWrite = writes_of 1 c.args.node (list_of from) in
     let ready = ready_here g c from there in
-    part_passes (g.F.Folder.told c.args.f.now) (g.F.Folder.told c.perform.new.f) from there (steps_of ws from) (quiet-writes ws from) (returns-clause-prefix g c from there) (IsMidOperation c.args.files.now ws (walked from) (c.args.node ∷ walked from) from)
-    (along_operation c.args.files.now from ready.kept ws (walked from) (c.args.node ∷ walked from) (inserts-turn c.args.node (list_of from) (walked from) can) (steps_of ws from) (writes-in_turn from ws (ready_writable ready) (inserts-can from c.args.node (walked from) can)))
+    part_passes (g.F.Folder.told c.args.f.now) (g.F.Folder.told c.perform.new.f) from there (steps_of_writes ws from) (quiet-writes ws from) (returns-clause-prefix g c from there) (IsMidOperation c.args.files.now ws (walked from) (c.args.node ∷ walked from) from)
+    (along_operation c.args.files.now from ready.kept ws (walked from) (c.args.node ∷ walked from) (inserts-turn c.args.node (list_of from) (walked from) can) (steps_of_writes ws from) (writes-in_turn from ws (ready_writable ready) (inserts-can from c.args.node (walked from) can)))

@@ -10,7 +10,7 @@ use Rattle.blk_volume.specs.ListPlans.{touch_writes, writes_of}
 use Rattle.blk_volume.specs.ListView.{ListView, ListWrite}
 use Rattle.blk_volume.specs.View.{list_of}
 use Rattle.blk_volume.specs.ListImages.{CanBeMade}
-use Rattle.blk_volume.specs.ListSteps.{steps_of}
+use Rattle.blk_volume.specs.ListSteps.{steps_of_writes}
 use Rattle.blk_io.proofs.Carried.{carried}
 use Rattle.blk_io.specs.Faults.{IfDamaged}
 use Rattle.blk_disk.specs.declared.tables.BlockFiles.{BlockFiles}
@@ -65,14 +65,14 @@ touching g c P holds from there = subst (P from) (some_touch (list_of from) c.ar
 pub returns-clause-steps : goal.returns-clause-steps
 returns-clause-steps g c =
     on_ok_weaker c.move_behind.result
-    (λ grows. touching g c (λ from ws. Applies (g.F.Folder.told c.args.f.now) (g.F.Folder.told c.move_behind.new.f) (steps_of ws from))
-    (subst (λ (t : Told). ForSome t.files (λ from. Applies t (g.F.Folder.told c.move_behind.new.f) (steps_of (writes_of 3 c.args.node (list_of from)) from)) → ForSome (g.F.Folder.told c.first.new.f).files (λ from. Applies (g.F.Folder.told c.args.f.now) (g.F.Folder.told c.move_behind.new.f) (steps_of (writes_of 3 c.args.node (list_of from)) from))) (sym c.in_ok-head.ensures.stays) (λ h. subst (λ (t : Told). ForSome t.files (λ from. Applies (g.F.Folder.told c.args.f.now) (g.F.Folder.told c.move_behind.new.f) (steps_of (writes_of 3 c.args.node (list_of from)) from))) (sym c.in_ok-head.ensures.stays) h) grows))
+    (λ grows. touching g c (λ from ws. Applies (g.F.Folder.told c.args.f.now) (g.F.Folder.told c.move_behind.new.f) (steps_of_writes ws from))
+    (subst (λ (t : Told). ForSome t.files (λ from. Applies t (g.F.Folder.told c.move_behind.new.f) (steps_of_writes (writes_of 3 c.args.node (list_of from)) from)) → ForSome (g.F.Folder.told c.first.new.f).files (λ from. Applies (g.F.Folder.told c.args.f.now) (g.F.Folder.told c.move_behind.new.f) (steps_of_writes (writes_of 3 c.args.node (list_of from)) from))) (sym c.in_ok-head.ensures.stays) (λ h. subst (λ (t : Told). ForSome t.files (λ from. Applies (g.F.Folder.told c.args.f.now) (g.F.Folder.told c.move_behind.new.f) (steps_of_writes (writes_of 3 c.args.node (list_of from)) from))) (sym c.in_ok-head.ensures.stays) h) grows))
     c.move_behind.ensures.steps
 
 pub returns-clause-prefix : goal.returns-clause-prefix
 returns-clause-prefix g c =
-    touching g c (λ from ws. AppliesPrefix (g.F.Folder.told c.args.f.now) (g.F.Folder.told c.move_behind.new.f) (steps_of ws from))
-    (subst (λ (t : Told). ForSome (g.F.Folder.told c.first.new.f).files (λ from. AppliesPrefix t (g.F.Folder.told c.move_behind.new.f) (steps_of (writes_of 3 c.args.node (list_of from)) from))) c.in_ok-head.ensures.stays c.move_behind.ensures.prefix)
+    touching g c (λ from ws. AppliesPrefix (g.F.Folder.told c.args.f.now) (g.F.Folder.told c.move_behind.new.f) (steps_of_writes ws from))
+    (subst (λ (t : Told). ForSome (g.F.Folder.told c.first.new.f).files (λ from. AppliesPrefix t (g.F.Folder.told c.move_behind.new.f) (steps_of_writes (writes_of 3 c.args.node (list_of from)) from))) c.in_ok-head.ensures.stays c.move_behind.ensures.prefix)
 
 pub returns-clause-checked : goal.returns-clause-checked
 returns-clause-checked g c = on_ok_weaker c.move_behind.result (λ can. touching g c (λ from ws. CanBeMade from ws) can) c.move_behind.ensures.checked
@@ -90,7 +90,7 @@ is_head g c from there = sym (c.in_ok-head.ensures.word from there) ∙ same_hea
 
 pub returns-then-eq-clause-steps : goal.returns-then-eq-clause-steps
 returns-then-eq-clause-steps g c from there =
-    subst (λ (ws : List ListWrite). Applies (g.F.Folder.told c.args.f.now) (g.F.Folder.told c.first.new.f) (steps_of ws from)) (sym (no_touch (list_of from) c.args.node (is_head g c from there))) (grows_none c.in_ok-head.ensures.stays)
+    subst (λ (ws : List ListWrite). Applies (g.F.Folder.told c.args.f.now) (g.F.Folder.told c.first.new.f) (steps_of_writes ws from)) (sym (no_touch (list_of from) c.args.node (is_head g c from there))) (grows_none c.in_ok-head.ensures.stays)
 
 pub returns-then-eq-clause-checked : goal.returns-then-eq-clause-checked
 returns-then-eq-clause-checked g c from there = subst (CanBeMade from) (sym (no_touch (list_of from) c.args.node (is_head g c from there))) (record { nodes = tt; words = tt })

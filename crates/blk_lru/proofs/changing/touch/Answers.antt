@@ -9,7 +9,7 @@ use Rattle.blk_image.proofs.Runs.{grows_then, part_only, part_then}
 use Rattle.blk_volume.specs.ListPlans.{touch_writes}
 use Rattle.blk_volume.specs.ListView.{ListWrite}
 use Rattle.blk_volume.specs.View.{list_of}
-use Rattle.blk_volume.specs.ListSteps.{AreTimes, IsSealed, Seals, steps_of}
+use Rattle.blk_volume.specs.ListSteps.{AreTimes, IsSealed, Seals, steps_of_writes}
 use Rattle.blk_volume.specs.ListImages.{IsWritable, HasListAtRest, steps_of_touch}
 use Rattle.blk_laws.proofs.AtRest.{touches-turn}
 use Rattle.blk_laws.proofs.Sealing.{touch_seals}
@@ -45,8 +45,8 @@ returns-in_err-move_front-clause-stops g c from there prefix suffix rest =
     (part_only _ (c.in_err-move_front.ensures.prefix from there)) prefix suffix rest
 
 -- the list's part was made
-between_is : (g : given.Over) (c : goal.After-set_times g) (from : Image) → (g.F.Folder.told c.args.f.now).files ≡ Some from → (g.F.Folder.told c.move_front.new.f).files ≡ Some (after (steps_of (touch_writes c.args.node (list_of from)) from) from)
-between_is g c from there = (c.in_ok-move_front.ensures.steps from there).files ∙ ap (option_map (after (steps_of (touch_writes c.args.node (list_of from)) from))) there
+between_is : (g : given.Over) (c : goal.After-set_times g) (from : Image) → (g.F.Folder.told c.args.f.now).files ≡ Some from → (g.F.Folder.told c.move_front.new.f).files ≡ Some (after (steps_of_writes (touch_writes c.args.node (list_of from)) from) from)
+between_is g c from there = (c.in_ok-move_front.ensures.steps from there).files ∙ ap (option_map (after (steps_of_writes (touch_writes c.args.node (list_of from)) from))) there
 
 ready_here : (g : given.Over) (c : goal.After-set_times g) → ForSome (g.F.Folder.told c.args.f.now).files (IsReady c.args.files.now)
 ready_here g c = told_ready c.args.files.now (g.F.Folder.told c.args.f.now) c.requires.agrees c.requires.complete (g.met.F.Folder.are_bytes c.args.f.now)
@@ -56,7 +56,7 @@ good_here : (g : given.Over) (c : goal.After-set_times g) → OnOk c.set_times.r
 good_here g c =
     on_ok_weaker c.set_times.result
     (λ good from there.
-    sym (ap (λ (checks : ℕ → Bool). checks c.args.node) (still_check (touch_writes c.args.node (list_of from)) from (after (steps_of (touch_writes c.args.node (list_of from)) from) from) (writes_show (touch_writes c.args.node (list_of from)) from (ready_writable (ready_here g c from there)) (c.in_ok-move_front.ensures.checked from there)).ends))
+    sym (ap (λ (checks : ℕ → Bool). checks c.args.node) (still_check (touch_writes c.args.node (list_of from)) from (after (steps_of_writes (touch_writes c.args.node (list_of from)) from) from) (writes_show (touch_writes c.args.node (list_of from)) from (ready_writable (ready_here g c from there)) (c.in_ok-move_front.ensures.checked from there)).ends))
     ∙ good _ (between_is g c from there))
     c.set_times.ensures.checked
 
@@ -107,8 +107,8 @@ returns-clause-damaged g c = if_damaged_weaker c.set_times.result (λ damage nod
 pub returns-clause-untold : goal.returns-clause-untold
 returns-clause-untold g c listed =
     if_damaged_weaker c.set_times.result
-    (λ damage none. told_none (g.F.Folder.told c.args.f.now).files (g.F.Folder.told c.move_front.new.f).files (λ from there. (after (steps_of (touch_writes c.args.node (list_of from)) from) from, between_is g c from there)) none)
-    (c.set_times.ensures.untold (now_has (g.F.Folder.told c.args.f.now) (g.F.Folder.told c.move_front.new.f) (λ from. after (steps_of (touch_writes c.args.node (list_of from)) from) from) (λ image. (list_of image).checks c.args.node ≡ true)
+    (λ damage none. told_none (g.F.Folder.told c.args.f.now).files (g.F.Folder.told c.move_front.new.f).files (λ from there. (after (steps_of_writes (touch_writes c.args.node (list_of from)) from) from, between_is g c from there)) none)
+    (c.set_times.ensures.untold (now_has (g.F.Folder.told c.args.f.now) (g.F.Folder.told c.move_front.new.f) (λ from. after (steps_of_writes (touch_writes c.args.node (list_of from)) from) from) (λ image. (list_of image).checks c.args.node ≡ true)
     (λ from there. (
       between_is g c from there,
       (let a = around c.args.node from (listed from there) in

@@ -7,7 +7,7 @@ use Rattle.blk_image.specs.Steps.{after}
 use Rattle.blk_volume.specs.ListView.{ListWrite}
 use Rattle.blk_volume.specs.View.{list_of}
 use Rattle.blk_volume.specs.ListPlans.{completion_writes}
-use Rattle.blk_volume.specs.ListSteps.{AreOf, AreWords, Seals}
+use Rattle.blk_volume.specs.ListSteps.{AreOf, AllWriteWords, Seals}
 use Rattle.blk_volume.specs.ListImages.{IsCompleted, completion_steps}
 use Rattle.blk_laws.proofs.Sealing.{writes_seal}
 use Rattle.blk_laws.proofs.WordStops.{completions-can, completions-done}
@@ -41,7 +41,7 @@ pub perform-requires-clause-stand : goal.perform-requires-clause-stand
 perform-requires-clause-stand g c = words_are g c (AreOf (λ n. is_node_among c.args.files.now n ≡ true)) c.in_ok-plan.ensures.stand
 
 pub perform-requires-clause-words : goal.perform-requires-clause-words
-perform-requires-clause-words g c = words_are g c AreWords c.in_ok-plan.ensures.words
+perform-requires-clause-words g c = words_are g c AllWriteWords c.in_ok-plan.ensures.words
 
 pub perform-requires-clause-agrees : goal.perform-requires-clause-agrees
 perform-requires-clause-agrees g c = told_stays (Agrees c.args.files.now) c.in_ok-plan.ensures.stays c.requires.agrees

@@ -2,11 +2,11 @@ use Rattle.std.proofs.Common.{rules, ◌≡◌, ◌∙◌, ℕ, Some, ap, map, t
 use Rattle.std.proofs.lemmas.Bool.{eq-eqb, ne_eqb}
 use Rattle.blk_image.specs.Image.{Image}
 use Rattle.blk_volume.specs.View.{list_of}
-use Rattle.blk_volume.specs.ListSteps.{AreOf, AreWords}
+use Rattle.blk_volume.specs.ListSteps.{AreOf, AllWriteWords}
 use Rattle.blk_laws.proofs.ListCompletions.{completion_false, completion_none}
 use Rattle.blk_laws.proofs.WriteWords.{Each, Good, each_nodes, each_words}
 use Rattle.blk_disk.specs.Tables.{Agrees, is_node_among}
-use Rattle.blk_lru.specs.Completing.{AreNodes, Finds}
+use Rattle.blk_lru.specs.Completing.{AreNodes, FindsInFlight}
 use Rattle.blk_lru.specs.Plans.{pending}
 use Rattle.blk_lru.specs.Writes.{meant}
 use Rattle.blk_lru.proofs.Conditions.{told_before, told_now, told_stays}
@@ -24,7 +24,7 @@ pub returns-then-transaction-eq0-clause-stand : goal.returns-then-transaction-eq
 returns-then-transaction-eq0-clause-stand g c = subst (AreOf (λ n. is_node_among c.args.files.now n ≡ true)) (ap (map meant) (sym c.new.ensures)) tt
 
 pub returns-then-transaction-eq0-clause-words : goal.returns-then-transaction-eq0-clause-words
-returns-then-transaction-eq0-clause-words g c = subst AreWords (ap (map meant) (sym c.new.ensures)) tt
+returns-then-transaction-eq0-clause-words g c = subst AllWriteWords (ap (map meant) (sym c.new.ensures)) tt
 
 pub in_flight-requires-clause-transaction : goal.in_flight-requires-clause-transaction
 unfolding list_of
@@ -38,11 +38,11 @@ unfolding list_of
 returns-in_default-clause-plan g c image there =
     let found = c.in_ok-found.ensures.found image (told_now image c.in_ok-transaction.ensures.stays there) in
     c.ending.ensures
-    ∙ sym (completion_false (list_of image) (ne_eqb _ 0 (λ zero. c.if-transaction-eq0.false (c.in_ok-transaction.ensures.word image there ∙ zero))) (subst (Finds (list_of image)) c.in_default.is found))
+    ∙ sym (completion_false (list_of image) (ne_eqb _ 0 (λ zero. c.if-transaction-eq0.false (c.in_ok-transaction.ensures.word image there ∙ zero))) (subst (FindsInFlight (list_of image)) c.in_default.is found))
 
 -- the operation that was found
-finds : (g : given.Over) (c : goal.After-pending_of g) (image : Image) → (g.F.Folder.told c.args.f.now).files ≡ Some image → Finds (list_of image) (Some c.in-Some.found)
-finds g c image there = subst (Finds (list_of image)) c.in-Some.is (c.in_ok-found.ensures.found image (told_now image c.in_ok-transaction.ensures.stays there))
+finds : (g : given.Over) (c : goal.After-pending_of g) (image : Image) → (g.F.Folder.told c.args.f.now).files ≡ Some image → FindsInFlight (list_of image) (Some c.in-Some.found)
+finds g c image there = subst (FindsInFlight (list_of image)) c.in-Some.is (c.in_ok-found.ensures.found image (told_now image c.in_ok-transaction.ensures.stays there))
 
 nodes : (g : given.Over) (c : goal.After-pending_of g) → AreNodes c.args.files.now c.in-Some.found
 nodes g c = search rules
@@ -61,4 +61,4 @@ returns-clause-stand g c =
 pub returns-clause-words : goal.returns-clause-words
 returns-clause-words g c =
     let P : ℕ → Type 0 = λ n. is_node_among c.args.files.now n ≡ true in
-    subst AreWords (sym c.pending_of.ensures) (each_words P (pending c.in-Some.found.node c.in-Some.found.operation) (good_here g c))
+    subst AllWriteWords (sym c.pending_of.ensures) (each_words P (pending c.in-Some.found.node c.in-Some.found.operation) (good_here g c))

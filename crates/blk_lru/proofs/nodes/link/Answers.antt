@@ -1,7 +1,7 @@
 use Rattle.blk_disk.specs.Tables.{is_node_among}
 use Rattle.std.proofs.Common.{rules, inr, ⊎_elim, ◌≡◌, ◌+◌, ◌*◌, ◌≤◌, ◌∙◌, sym, ap, ap₂, arith, ℕ, true, false}
 use Rattle.blk_format.specs.Address.{place, byte_size}
-use Rattle.blk_lru.specs.Nodes.{link_at, IsDangling}
+use Rattle.blk_lru.specs.Nodes.{link_at, NamesNoNode}
 use Rattle.blk_disk.proofs.Ranges.{name_is, stands_blocky}
 use Rattle.blk_lru.proofs.NodeWords.{node_kind, node_stands, node_room, node_place}
 use Rattle.blk_lru.proofs.LinkReads.{read_link, dangling_untold}
@@ -18,7 +18,7 @@ read_block-requires-clause-inside g c =
     let enough = node_room c.args.node (node_kind c.args.files.now c.args.node c.requires.stands) in
     ⊎_elim (λ (e : c.args.at ≡ 16). let h : c.args.at + 4 ≤ byte_size c.args.node = omega (arith, e, enough) in h) (λ (e : c.args.at ≡ 20). let h : c.args.at + 4 ≤ byte_size c.args.node = omega (arith, e, enough) in h) c.requires.place
 
-dangling_here : (g : given.Over) (c : goal.After-from-in_default g) → IsDangling c.args.files.now (g.F.Folder.told c.args.f.now) (names.Block (file_selector c.args.node)) (place c.args.node + c.args.at) (record { file = c.file_of-file.result; at = 8192 + c.from.result * 36 + c.from-in_default.result; found = c.from_le_bytes-found.result })
+dangling_here : (g : given.Over) (c : goal.After-from-in_default g) → NamesNoNode c.args.files.now (g.F.Folder.told c.args.f.now) (names.Block (file_selector c.args.node)) (place c.args.node + c.args.at) (record { file = c.file_of-file.result; at = 8192 + c.from.result * 36 + c.from-in_default.result; found = c.from_le_bytes-found.result })
 dangling_here g c =
     let kind = node_kind c.args.files.now c.args.node c.requires.stands in
     record {
