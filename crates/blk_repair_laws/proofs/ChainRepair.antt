@@ -37,7 +37,7 @@ use Rattle.blk_laws.proofs.Outside.{AreClear}
 use Rattle.blk_laws.proofs.Shown.{kept-given, is_among-filter}
 use Rattle.blk_volume.specs.Audit.{kept_as, is_kept, kept_nodes}
 use Rattle.blk_repair_laws.specs.ListRepair.{HoldsTheSame}
-use Rattle.blk_repair_laws.specs.Paths.{Path, IsPath, skip}
+use Rattle.blk_repair_laws.proofs.Paths.{Path, IsPath, skip}
 use Rattle.blk_repair_laws.specs.ChainRepair.{is_kept_record, kept_records, bucket_steps, next_steps, link_steps, chain_steps, chains_steps, chain_repair_steps, KeepsAll, ChainsAreRepaired, HasChainsUpTo, ChainsBegin, BucketsAreMended, WholeChainsNeedNoSteps, ChainsEnd, KeptRecordsStay, WholeChainsStay}
 use Rattle.blk_repair_laws.proofs.KeptRecords.{IsGivenAt, given-at}
 use Rattle.blk_repair_laws.proofs.Same.{chain-same, of_bucket-same}

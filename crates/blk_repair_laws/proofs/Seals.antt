@@ -28,7 +28,7 @@ use Rattle.blk_laws.proofs.Fronts.{AreSmall, small-take, small-range, same-entry
 use Rattle.blk_laws.proofs.Sealing.{sealed_bytes, node_at_place, range_apart}
 use Rattle.blk_laws.proofs.Updates.{entry-here}
 use Rattle.blk_repair_laws.specs.ChainRepair.{is_kept_record, IsStandingRecord}
-use Rattle.blk_repair_laws.specs.Mended.{IsSealedAt, SealsAreMade, SealsStand, KeptAreSealed}
+use Rattle.blk_repair_laws.specs.MendedParts.{IsSealedAt, SealsAreMade, SealsStand, KeptAreSealed}
 use Rattle.blk_repair_laws.proofs.KeptRecords.{kept-nodes-check, kept-records-check}
 
 -- an entry record is sealed where it is so in its bytes

@@ -30,7 +30,7 @@ use Rattle.blk_repair_laws.specs.ChainRepair.{is_kept_record, kept_records, chai
 use Rattle.blk_repair_laws.specs.ListRepair.{without, dropped_nodes, end_steps, removal_steps, list_repair_steps}
 use Rattle.blk_repair_laws.specs.LinkRepair.{MendedLinksNeedNoSteps}
 use Rattle.blk_repair_laws.proofs.Mended.{append-none}
-use Rattle.blk_repair_laws.specs.Paths.{Path, IsPath}
+use Rattle.blk_repair_laws.proofs.Paths.{Path, IsPath}
 use Rattle.blk_repair_laws.specs.MendedLinks.{HasMendedLinks}
 use Rattle.blk_repair_laws.specs.Mended.{IsMended, SoundFoldersAreMended}
 use Rattle.blk_repair_laws.proofs.EndRepair.{IsWalked, walked-is}

@@ -7,7 +7,8 @@ ghost use Rattle.blk_repair_laws.specs.ChainRepair.{ChainsAreRepaired, ChainsBeg
 ghost use Rattle.blk_repair_laws.specs.LinkRepair.{LinksAreRepaired, MendedChainsAreMendedLinks, MendedLinksNeedNoSteps};
 ghost use Rattle.blk_repair_laws.specs.MendedLinks.{MendedLinksRepresent};
 ghost use Rattle.blk_repair_laws.specs.MendedChanges.{RepairedLinksAreKept, MendedLinksGoOn, MendedLinksHoldTheSame, MendedLinksStayOutside, MendedLinksMayGrow, UnlinkedFilesMayBeDeleted, UnclaimedFilesMayChange, HiddenWordsMayChange, KeptNodesMayBeSealed, KeptRecordsMayBeSealed};
-ghost use Rattle.blk_repair_laws.specs.Mended.{MendedFoldersStandFor, MendedFoldersAreSound, SoundFoldersAreMended, UnlinkedFilesLeaveTheOthers, ExternalFilesLeaveTheBlocks, MendedFilesStand, IndexWordsLeaveSeals, SealsAreMade, SealsStand, KeptAreSealed};
+ghost use Rattle.blk_repair_laws.specs.Mended.{MendedFoldersStandFor, MendedFoldersAreSound, SoundFoldersAreMended};
+ghost use Rattle.blk_repair_laws.specs.MendedParts.{KeptWordsStand, KeptWordsClaim, RebuiltFilesAreMended, UnlinkedFilesLeaveTheOthers, ExternalFilesLeaveTheBlocks, MendedFilesStand, IndexWordsLeaveSeals, OtherWordsLeaveCounters, SealsAreMade, SealsStand, KeptAreSealed};
 ghost use Rattle.blk_repair_laws.specs.FoundHolding.{FoundIsAHolding};
 
 /// While the end of a list is mended the same nodes are walked; in the end the list is whole.
@@ -94,12 +95,20 @@ pub fn kept_records_may_be_sealed()
     ensures records { KeptRecordsMayBeSealed }
 {}
 
-/// What was mended of files and seals stays so while what comes after it is mended.
+/// The address words of what is kept stand and claim what it claims; where maps and counters are rebuilt for them, the files are mended.
+pub fn rebuilt_files_are_mended()
+    ensures stand { KeptWordsStand }
+    ensures claim { KeptWordsClaim }
+    ensures mended { RebuiltFilesAreMended }
+{}
+
+/// What was mended of files, seals and counters stays so while what comes after it is mended.
 pub fn mended_parts_stand()
     ensures unlinked { UnlinkedFilesLeaveTheOthers }
     ensures external { ExternalFilesLeaveTheBlocks }
     ensures files { MendedFilesStand }
     ensures words { IndexWordsLeaveSeals }
+    ensures counters { OtherWordsLeaveCounters }
 {}
 
 /// What is kept is sealed one record after the other, and each leaves the others sealed.
