@@ -4,9 +4,9 @@
 ghost use Rattle.blk_repair_laws.specs.EndRepair.{EndsAreMended};
 ghost use Rattle.blk_repair_laws.specs.ListRepair.{ListsAreRepaired, CompletedListsAreEnded, ListsAtRestNeedNoEnd, DroppedNodesAreTheOthers, RemovalsBegin, KeptNodesArePassed, OtherNodesAreRemoved, RemovalsEnd};
 ghost use Rattle.blk_repair_laws.specs.ChainRepair.{ChainsAreRepaired, ChainsBegin, BucketsAreMended, WholeChainsNeedNoSteps, ChainsEnd, KeptRecordsStay, WholeChainsStay, KeptNodesCheck, KeptRecordsCheck};
-ghost use Rattle.blk_repair_laws.specs.LinkRepair.{LinksAreRepaired, MendedChainsAreMendedLinks, MendedLinksNeedNoSteps};
+ghost use Rattle.blk_repair_laws.specs.LinkRepair.{LinksAreRepaired, MendedChainsAreMendedLinks, MendedLinksNeedNoSteps, LinkRepairsMayBeStopped};
 ghost use Rattle.blk_repair_laws.specs.MendedLinks.{MendedLinksRepresent};
-ghost use Rattle.blk_repair_laws.specs.MendedChanges.{RepairedLinksAreKept, MendedLinksGoOn, MendedLinksHoldTheSame, MendedLinksStayOutside, MendedLinksMayGrow, UnlinkedFilesMayBeDeleted, UnclaimedFilesMayChange, HiddenWordsMayChange, KeptNodesMayBeSealed, KeptRecordsMayBeSealed};
+ghost use Rattle.blk_repair_laws.specs.MendedChanges.{RepairedLinksAreKept, MendedLinksGoOn, LinksAreMidRepair, MendedLinksAreMidRepair, MendedLinksStayOutside, MendedLinksMayGrow, UnlinkedFilesMayBeDeleted, UnclaimedFilesMayChange, HiddenWordsMayChange, KeptNodesMayBeSealed, KeptRecordsMayBeSealed};
 ghost use Rattle.blk_repair_laws.specs.Mended.{MendedFoldersStandFor, MendedFoldersAreSound, SoundFoldersAreMended};
 ghost use Rattle.blk_repair_laws.specs.MendedParts.{KeptWordsStand, KeptWordsClaim, RebuiltFilesAreMended, UnlinkedFilesLeaveTheOthers, ExternalFilesLeaveTheBlocks, MendedFilesStand, IndexWordsLeaveSeals, OtherWordsLeaveCounters, SealsAreMade, SealsStand, KeptAreSealed};
 ghost use Rattle.blk_repair_laws.specs.FoundHolding.{FoundIsAHolding};
@@ -73,11 +73,17 @@ pub fn mended_links_represent()
     ensures { MendedLinksRepresent }
 {}
 
-/// Once the links are repaired they are mended with the same kept and found, and stay so through one change after another; then the same is held.
+/// Once the links are repaired they are mended with the same kept and found, and stay so through one change after another.
 pub fn mended_links_go_on()
     ensures begins { RepairedLinksAreKept }
     ensures goes_on { MendedLinksGoOn }
-    ensures holds { MendedLinksHoldTheSame }
+{}
+
+/// So at each word of the repair, while the links are repaired and behind that, the folder is well formed and the same is kept and found.
+pub fn repairs_hold_the_same()
+    ensures links { LinksAreMidRepair }
+    ensures behind { MendedLinksAreMidRepair }
+    ensures stopped { LinkRepairsMayBeStopped }
 {}
 
 /// Mended links stay mended, with the same kept and found, where what isn't kept changes: where block files grow, where one that isn't linked or an external file that nobody claims goes, and where a counter of the index is written.
