@@ -230,7 +230,7 @@ whole-small (Block (suc (suc (suc zero)))) = small-words (new_file_words 3) (zer
 whole-small (Block (suc (suc (suc (suc n))))) = λ i. lit< tt
 whole-small (External n) = λ i. lit< tt
 
-whole-writable : IsWritable whole_folder
+pub whole-writable : IsWritable whole_folder
 whole-writable = record { bytes = λ file i. whole-small file i; has_header = let long = whole_index_is whole_folder whole-is_well_formed in omega (arith, long) }
 
 -- its entry is touched

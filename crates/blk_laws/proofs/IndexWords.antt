@@ -116,10 +116,10 @@ operations-written from image x is =
     }
 
 -- an aligned word that isn't in a list is apart from each in it
-not-among : (places : List ℕ) (p at : ℕ) → is_among places p ≡ true → is_among places at ≡ false → p ≢ at
+pub not-among : (places : List ℕ) (p at : ℕ) → is_among places p ≡ true → is_among places at ≡ false → p ≢ at
 not-among places p at there lacks e = let c : true ≡ false = sym there ∙ ap (is_among places) e ∙ lacks in cc
 
-beside : (p at : ℕ) → p % 4 ≡ 0 → at % 4 ≡ 0 → p ≢ at → (p + 4 ≤ at) ⊎ (at + 4 ≤ p)
+pub beside : (p at : ℕ) → p % 4 ≡ 0 → at % 4 ≡ 0 → p ≢ at → (p + 4 ≤ at) ⊎ (at + 4 ≤ p)
 beside p at one other apart = ⊎_elim (λ (x : p < at). inl (omega arith)) (λ (x : at ≤ p). inr (omega (arith, apart))) (cases_lt p at)
 
 pub others-hidden : OtherWordsAreNotShown

@@ -82,7 +82,7 @@ abbrev pair_records : List ℕ
 pair_records = with_words (new_file_words 1 ++ (20, 1024) ∷ (8192, 0x115EA782) ∷ (8200, 0x90000000) ∷ (8224, 1) ∷ (8288, 97) ∷ (8448, 0x70C1A0E1) ∷ (8456, 0x90000001) ∷ (8480, 1) ∷ (8544, 98) ∷ []) (zeros 8704)
 
 -- the folder, where data_1 is cut to so many bytes
-unfoldable cut_to : ℕ → Image
+unfoldable pub cut_to : ℕ → Image
 cut_to size Index = Some pair_index
 cut_to size (Block zero) = Some pair_nodes
 cut_to size (Block (suc zero)) = Some (take size pair_records)
@@ -91,16 +91,16 @@ cut_to size (Block (suc (suc (suc zero)))) = Some (with_words (new_file_words 3)
 cut_to size _ = None
 
 -- where block 1 isn't there, no check fails
-cut_is_well_formed : first_damage (cut_to 8448) ≡ None
+pub cut_is_well_formed : first_damage (cut_to 8448) ≡ None
 unfolding cut_to head_checks list_checks checks_of_kind checks_along file_checks next_file_in is_link is_block_count linked_up_to linked files_along zeros with_word spliced block_size
 cut_is_well_formed = refl
 
 -- what a node names, whose record is this, with a key and no streams
-abbrev without_streams : ℕ → ℕ → List ℕ → Loaded
+abbrev pub without_streams : ℕ → ℕ → List ℕ → Loaded
 without_streams node contents key = record { node = node; contents = contents; dirty = 0; key = key; role = IsPlain; streams = [] ∷ [] ∷ [] ∷ []; others = 0 ∷ 0 ∷ 0 ∷ 0 ∷ 0 ∷ [] }
 
 -- both nodes are walked
-cut_is_walked : walk (completed_list (list_of (cut_to 8448))) ≡ 0x90000000 ∷ 0x90000001 ∷ []
+pub cut_is_walked : walk (completed_list (list_of (cut_to 8448))) ≡ 0x90000000 ∷ 0x90000001 ∷ []
 unfolding cut_to zeros with_word spliced next_file_in max_entries_in linked files_along kind_among walk walk_from completed_list counts list_of checks_at next_at prev_at stands stands_as_blocks is_address is_initialized names_external names_blocks kind_of reserved_bits block_count file_selector first_block external_number block_size block_place place byte_size node_checks node_is_sealed node_in node_body words_at hash mixed of_bytes of_four
 cut_is_walked = refl
 
@@ -122,6 +122,11 @@ cut_is_finished = refl
 cut_is_found : found (cut_to 8448) ≡ main_row (codes "a") plain ([], [], []) ∷ []
 unfolding found kept kept_among
 cut_is_found = rw (cut_is_finished, cut_is_walked, cut_is_judged) refl
+
+-- that of the first is all that is kept
+pub cut_is_kept : kept (cut_to 8448) ≡ without_streams 0x90000000 0xA0010000 (codes "a") ∷ []
+unfolding kept kept_among
+cut_is_kept = rw (cut_is_walked, cut_is_judged) refl
 
 -- no record is unlisted: that of the first is of a walked node, and the other isn't reached
 its_chains : ((chain (store_of (cut_to 8448)) 0xA782).reached ≡ 0xA0010000 ∷ []) × ((chain (store_of (cut_to 8448)) 0xA0E1).reached ≡ [])

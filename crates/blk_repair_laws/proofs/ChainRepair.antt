@@ -23,7 +23,7 @@ use Rattle.blk_volume.specs.Chains.{Chain, chain, bucket_of_hash, file_and_block
 use Rattle.blk_volume.specs.Loads.{held_rule, Loaded, load}
 use Rattle.blk_volume.specs.Audit.{kept_among}
 use Rattle.blk_volume.specs.Shown.{IsShown}
-use Rattle.blk_volume.specs.Found.{kept, found, row_of}
+use Rattle.blk_volume.specs.Found.{kept, found, row_of_loaded}
 use Rattle.blk_volume.specs.Footprint.{IsClear}
 use Rattle.blk_volume.specs.ListImages.{IsWritable, walked}
 use Rattle.blk_volume.specs.ShownChanges.{OnlyChainNextChanges}
@@ -37,7 +37,7 @@ use Rattle.blk_laws.proofs.Outside.{AreClear}
 use Rattle.blk_laws.proofs.Shown.{kept-given, is_among-filter}
 use Rattle.blk_volume.specs.Audit.{kept_as, is_kept, kept_nodes}
 use Rattle.blk_repair_laws.specs.ListRepair.{HoldsTheSame}
-use Rattle.blk_repair_laws.specs.Paths.{Path, IsPath, skip}
+use Rattle.blk_repair_laws.proofs.Paths.{Path, IsPath, skip}
 use Rattle.blk_repair_laws.specs.ChainRepair.{is_kept_record, kept_records, bucket_steps, next_steps, link_steps, chain_steps, chains_steps, chain_repair_steps, KeepsAll, ChainsAreRepaired, HasChainsUpTo, ChainsBegin, BucketsAreMended, WholeChainsNeedNoSteps, ChainsEnd, KeptRecordsStay, WholeChainsStay}
 use Rattle.blk_repair_laws.proofs.KeptRecords.{IsGivenAt, given-at}
 use Rattle.blk_repair_laws.proofs.Same.{chain-same, of_bucket-same}
@@ -162,7 +162,7 @@ module _ (from : Image) (well_from : IsWellFormed from) (all : KeepsAll from) wh
         well_formed = s.well_formed;
         writable = s.writable;
         kept_same = keeps;
-        found_same = rw (well_formed-finished i s.well_formed, well_formed-finished from well_from) (ap (map row_of) keeps);
+        found_same = rw (well_formed-finished i s.well_formed, well_formed-finished from well_from) (ap (map row_of_loaded) keeps);
       }
 
   -- ---- kept records

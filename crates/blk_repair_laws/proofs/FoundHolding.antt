@@ -25,7 +25,7 @@ use Rattle.blk_volume.specs.Entries.{Role, IsPlain, IsParent, IsPart}
 use Rattle.blk_volume.specs.Loads.{held_rule, Loaded, load, is_part, is_part_role}
 use Rattle.blk_volume.specs.Audit.{shares_key, is_parent_of, is_parent_role, kept_among}
 use Rattle.blk_volume.specs.Shown.{Apart, HasParentIn, IsShown}
-use Rattle.blk_volume.specs.Found.{kept, found, row_of}
+use Rattle.blk_volume.specs.Found.{kept, found, row_of_loaded}
 use Rattle.blk_laws.proofs.Loads.{load-then}
 use Rattle.blk_laws.proofs.Shown.{is_among-filter, role-name}
 use Rattle.blk_repair_laws.specs.FoundHolding.{FoundIsAHolding}
@@ -125,12 +125,12 @@ module _ (image : Image) (are : AreBytes image) where
   never : {a b : List ℕ} {n : ℕ} → main a ≡ part b n → ⊥
   never e = cc
 
-  one-node : (node other : ℕ) (k l : Loaded) → is_among nodes node ≡ true → is_among nodes other ≡ true → given node ≡ Some k → given other ≡ Some l → (node == other) ≡ false → item_of (row_of k) ≡ item_of (row_of l) → ⊥
+  one-node : (node other : ℕ) (k l : Loaded) → is_among nodes node ≡ true → is_among nodes other ≡ true → given node ≡ Some k → given other ≡ Some l → (node == other) ≡ false → item_of (row_of_loaded k) ≡ item_of (row_of_loaded l) → ⊥
   one-node node other k l a b is are_is ne items = go k.role l.role refl refl items where
     mains : is_part k ≡ false → is_part l ≡ false → main k.key ≡ main l.key → ⊥
     mains p q e = one-name node other k l a b is are_is ne (p ∙ sym q) (main-one e)
 
-    go : (r s : Role) → k.role ≡ r → l.role ≡ s → item_of (row_of k) ≡ item_of (row_of l) → ⊥
+    go : (r s : Role) → k.role ≡ r → l.role ≡ s → item_of (row_of_loaded k) ≡ item_of (row_of_loaded l) → ⊥
     go IsPlain IsPlain x y e = let h : main k.key ≡ main l.key = rw (x, y) at e in mains (ap is_part_role x) (ap is_part_role y) h
     go IsPlain (IsParent j) x y e = let h : main k.key ≡ main l.key = rw (x, y) at e in mains (ap is_part_role x) (ap is_part_role y) h
     go (IsParent i) IsPlain x y e = let h : main k.key ≡ main l.key = rw (x, y) at e in mains (ap is_part_role x) (ap is_part_role y) h
@@ -150,30 +150,30 @@ module _ (image : Image) (are : AreBytes image) where
   -- ---- each item once
 
   rows-of : List ℕ → List Row
-  rows-of xs = map row_of (filter_map given xs)
+  rows-of xs = map row_of_loaded (filter_map given xs)
 
-  no-times : (xs : List ℕ) (item : Item) → ((node : ℕ) (k : Loaded) → is_among xs node ≡ true → given node ≡ Some k → same_item item (item_of (row_of k)) ≡ false) → times item (map item_of (map row_of (filter_map given xs))) ≡ 0
+  no-times : (xs : List ℕ) (item : Item) → ((node : ℕ) (k : Loaded) → is_among xs node ≡ true → given node ≡ Some k → same_item item (item_of (row_of_loaded k)) ≡ false) → times item (map item_of (map row_of_loaded (filter_map given xs))) ≡ 0
   no-times [] item none = refl
   no-times (x ∷ xs) item none = go (given x) refl (no-times xs item (λ node k h is. none node k (or_right (x == node) (is_among xs node) h) is)) where
-    go : (o : Option Loaded) → given x ≡ o → times item (map item_of (map row_of (filter_map given xs))) ≡ 0 → times item (map item_of (map row_of (cons_option (given x) (filter_map given xs)))) ≡ 0
+    go : (o : Option Loaded) → given x ≡ o → times item (map item_of (map row_of_loaded (filter_map given xs))) ≡ 0 → times item (map item_of (map row_of_loaded (cons_option (given x) (filter_map given xs)))) ≡ 0
     go None is more = rw is more
-    go (Some k) is more = subst (λ (o : Option Loaded). times item (map item_of (map row_of (cons_option o (filter_map given xs)))) ≡ 0) (sym is) (one k (none x k (or_left (x == x) (is_among xs x) (eq-eqb x x refl)) is) more) where
-      one : (m : Loaded) → same_item item (item_of (row_of m)) ≡ false → times item (map item_of (map row_of (filter_map given xs))) ≡ 0 → times item (map item_of (map row_of (m ∷ filter_map given xs))) ≡ 0
-      one m lacks more = let t = times-cons item (item_of (row_of m)) (map item_of (map row_of (filter_map given xs))) in let u : ◌≡◌ {A = ℕ} (cond (same_item item (item_of (row_of m))) 1 0) 0 = ap (λ (b : Bool). cond b 1 0) lacks in omega (arith, t, u, more)
+    go (Some k) is more = subst (λ (o : Option Loaded). times item (map item_of (map row_of_loaded (cons_option o (filter_map given xs)))) ≡ 0) (sym is) (one k (none x k (or_left (x == x) (is_among xs x) (eq-eqb x x refl)) is) more) where
+      one : (m : Loaded) → same_item item (item_of (row_of_loaded m)) ≡ false → times item (map item_of (map row_of_loaded (filter_map given xs))) ≡ 0 → times item (map item_of (map row_of_loaded (m ∷ filter_map given xs))) ≡ 0
+      one m lacks more = let t = times-cons item (item_of (row_of_loaded m)) (map item_of (map row_of_loaded (filter_map given xs))) in let u : ◌≡◌ {A = ℕ} (cond (same_item item (item_of (row_of_loaded m))) 1 0) 0 = ap (λ (b : Bool). cond b 1 0) lacks in omega (arith, t, u, more)
 
-  few-times : (xs : List ℕ) → Distinct xs → ((x : ℕ) → is_among xs x ≡ true → is_among nodes x ≡ true) → (item : Item) → times item (map item_of (map row_of (filter_map given xs))) ≤ 1
+  few-times : (xs : List ℕ) → Distinct xs → ((x : ℕ) → is_among xs x ≡ true → is_among nodes x ≡ true) → (item : Item) → times item (map item_of (map row_of_loaded (filter_map given xs))) ≤ 1
   few-times [] d sub item = omega arith
   few-times (x ∷ xs) d sub item = go (given x) refl (few-times xs d.1 (λ y h. sub y (or_right (x == y) (is_among xs y) h)) item) where
-    go : (o : Option Loaded) → given x ≡ o → times item (map item_of (map row_of (filter_map given xs))) ≤ 1 → times item (map item_of (map row_of (cons_option (given x) (filter_map given xs)))) ≤ 1
-    go None is more = subst (λ (o : Option Loaded). times item (map item_of (map row_of (cons_option o (filter_map given xs)))) ≤ 1) (sym is) more
-    go (Some k) is more = subst (λ (o : Option Loaded). times item (map item_of (map row_of (cons_option o (filter_map given xs)))) ≤ 1) (sym is)
-        (⊎_elim (λ (t : same_item item (item_of (row_of k)) ≡ true). here k is t) (λ (t : same_item item (item_of (row_of k)) ≡ false). other k t more) (cases_Bool (same_item item (item_of (row_of k))))) where
-          here : (m : Loaded) → given x ≡ Some m → same_item item (item_of (row_of m)) ≡ true → times item (map item_of (map row_of (m ∷ filter_map given xs))) ≤ 1
+    go : (o : Option Loaded) → given x ≡ o → times item (map item_of (map row_of_loaded (filter_map given xs))) ≤ 1 → times item (map item_of (map row_of_loaded (cons_option (given x) (filter_map given xs)))) ≤ 1
+    go None is more = subst (λ (o : Option Loaded). times item (map item_of (map row_of_loaded (cons_option o (filter_map given xs)))) ≤ 1) (sym is) more
+    go (Some k) is more = subst (λ (o : Option Loaded). times item (map item_of (map row_of_loaded (cons_option o (filter_map given xs)))) ≤ 1) (sym is)
+        (⊎_elim (λ (t : same_item item (item_of (row_of_loaded k)) ≡ true). here k is t) (λ (t : same_item item (item_of (row_of_loaded k)) ≡ false). other k t more) (cases_Bool (same_item item (item_of (row_of_loaded k))))) where
+          here : (m : Loaded) → given x ≡ Some m → same_item item (item_of (row_of_loaded m)) ≡ true → times item (map item_of (map row_of_loaded (m ∷ filter_map given xs))) ≤ 1
           here m is_m t =
-              let none : times item (map item_of (map row_of (filter_map given xs))) ≡ 0 = no-times xs item (λ node l h is_l. false_of (same_item item (item_of (row_of l))) (λ same.
+              let none : times item (map item_of (map row_of_loaded (filter_map given xs))) ≡ 0 = no-times xs item (λ node l h is_l. false_of (same_item item (item_of (row_of_loaded l))) (λ same.
               one-node x node m l (sub x (or_left (x == x) (is_among xs x) (eq-eqb x x refl))) (sub node (or_right (x == node) (is_among xs node) h)) is_m is_l (apart node h) (sym (one_item item _ t) ∙ one_item item _ same))) in
-              let c = times-cons item (item_of (row_of m)) (map item_of (map row_of (filter_map given xs))) in
-              let u : ◌≡◌ {A = ℕ} (cond (same_item item (item_of (row_of m))) 1 0) 1 = ap (λ (b : Bool). cond b 1 0) t in
+              let c = times-cons item (item_of (row_of_loaded m)) (map item_of (map row_of_loaded (filter_map given xs))) in
+              let u : ◌≡◌ {A = ℕ} (cond (same_item item (item_of (row_of_loaded m))) 1 0) 1 = ap (λ (b : Bool). cond b 1 0) t in
               omega (arith, none, c, u) where
                 false_of : (b : Bool) → (b ≡ true → ⊥) → b ≡ false
                 false_of true f = absurd (f refl)
@@ -182,47 +182,47 @@ module _ (image : Image) (are : AreBytes image) where
                 apart : (node : ℕ) → is_among xs node ≡ true → (x == node) ≡ false
                 apart node h = ⊎_elim (λ (e : (eqb x node ≡ true) × (x ≡ node)). absurd (clash (sym h ∙ sym (ap (is_among xs) e.1) ∙ d.0))) (λ (e : (eqb x node ≡ false) × _). e.0) (eqb_tells x node)
 
-          other : (m : Loaded) → same_item item (item_of (row_of m)) ≡ false → times item (map item_of (map row_of (filter_map given xs))) ≤ 1 → times item (map item_of (map row_of (m ∷ filter_map given xs))) ≤ 1
-          other m t more = let c = times-cons item (item_of (row_of m)) (map item_of (map row_of (filter_map given xs))) in let u : ◌≡◌ {A = ℕ} (cond (same_item item (item_of (row_of m))) 1 0) 0 = ap (λ (b : Bool). cond b 1 0) t in omega (arith, more, c, u)
+          other : (m : Loaded) → same_item item (item_of (row_of_loaded m)) ≡ false → times item (map item_of (map row_of_loaded (filter_map given xs))) ≤ 1 → times item (map item_of (map row_of_loaded (m ∷ filter_map given xs))) ≤ 1
+          other m t more = let c = times-cons item (item_of (row_of_loaded m)) (map item_of (map row_of_loaded (filter_map given xs))) in let u : ◌≡◌ {A = ℕ} (cond (same_item item (item_of (row_of_loaded m))) 1 0) 0 = ap (λ (b : Bool). cond b 1 0) t in omega (arith, more, c, u)
 
   -- ---- each row
 
-  all-rows : (P : Row → Type 0) (xs : List ℕ) → ((node : ℕ) (k : Loaded) → is_among xs node ≡ true → given node ≡ Some k → P (row_of k)) → All P (map row_of (filter_map given xs))
+  all-rows : (P : Row → Type 0) (xs : List ℕ) → ((node : ℕ) (k : Loaded) → is_among xs node ≡ true → given node ≡ Some k → P (row_of_loaded k)) → All P (map row_of_loaded (filter_map given xs))
   all-rows P [] each = All-nil P
   all-rows P (x ∷ xs) each = go (given x) refl (all-rows P xs (λ node k h is. each node k (or_right (x == node) (is_among xs node) h) is)) where
-    go : (o : Option Loaded) → given x ≡ o → All P (map row_of (filter_map given xs)) → All P (map row_of (cons_option (given x) (filter_map given xs)))
-    go None is more = subst (λ (o : Option Loaded). All P (map row_of (cons_option o (filter_map given xs)))) (sym is) more
-    go (Some k) is more = subst (λ (o : Option Loaded). All P (map row_of (cons_option o (filter_map given xs)))) (sym is) (All-cons P (row_of k) (map row_of (filter_map given xs)) (each x k (or_left (x == x) (is_among xs x) (eq-eqb x x refl)) is) more)
+    go : (o : Option Loaded) → given x ≡ o → All P (map row_of_loaded (filter_map given xs)) → All P (map row_of_loaded (cons_option (given x) (filter_map given xs)))
+    go None is more = subst (λ (o : Option Loaded). All P (map row_of_loaded (cons_option o (filter_map given xs)))) (sym is) more
+    go (Some k) is more = subst (λ (o : Option Loaded). All P (map row_of_loaded (cons_option o (filter_map given xs)))) (sym is) (All-cons P (row_of_loaded k) (map row_of_loaded (filter_map given xs)) (each x k (or_left (x == x) (is_among xs x) (eq-eqb x x refl)) is) more)
 
   -- ---- parents
 
-  some-count : (xs : List ℕ) (key : List ℕ) (node : ℕ) (k : Loaded) → is_among xs node ≡ true → given node ≡ Some k → is_sparse_main key (row_of k) ≡ true → 1 ≤ count_by (is_sparse_main key) (map row_of (filter_map given xs))
+  some-count : (xs : List ℕ) (key : List ℕ) (node : ℕ) (k : Loaded) → is_among xs node ≡ true → given node ≡ Some k → is_sparse_main key (row_of_loaded k) ≡ true → 1 ≤ count_by (is_sparse_main key) (map row_of_loaded (filter_map given xs))
   some-count [] key node k among is good = cc
   some-count (x ∷ xs) key node k among is good =
       ⊎_elim
-      (λ (e : (eqb x node ≡ true) × (x ≡ node)). subst (λ (o : Option Loaded). 1 ≤ count_by (is_sparse_main key) (map row_of (cons_option o (filter_map given xs)))) (sym (ap given e.1 ∙ is)) (one k good))
+      (λ (e : (eqb x node ≡ true) × (x ≡ node)). subst (λ (o : Option Loaded). 1 ≤ count_by (is_sparse_main key) (map row_of_loaded (cons_option o (filter_map given xs)))) (sym (ap given e.1 ∙ is)) (one k good))
       (λ (e : (eqb x node ≡ false) × _). more (given x) (some-count xs key node k (rw e.0 at among) is good))
       (eqb_tells x node) where
-        one : (m : Loaded) → is_sparse_main key (row_of m) ≡ true → 1 ≤ count_by (is_sparse_main key) (map row_of (m ∷ filter_map given xs))
-        one m t = let c = count-cons key (row_of m) (map row_of (filter_map given xs)) in let u : ◌≡◌ {A = ℕ} (cond (is_sparse_main key (row_of m)) 1 0) 1 = ap (λ (b : Bool). cond b 1 0) t in omega (arith, c, u)
+        one : (m : Loaded) → is_sparse_main key (row_of_loaded m) ≡ true → 1 ≤ count_by (is_sparse_main key) (map row_of_loaded (m ∷ filter_map given xs))
+        one m t = let c = count-cons key (row_of_loaded m) (map row_of_loaded (filter_map given xs)) in let u : ◌≡◌ {A = ℕ} (cond (is_sparse_main key (row_of_loaded m)) 1 0) 1 = ap (λ (b : Bool). cond b 1 0) t in omega (arith, c, u)
 
-        more : (o : Option Loaded) → 1 ≤ count_by (is_sparse_main key) (map row_of (filter_map given xs)) → 1 ≤ count_by (is_sparse_main key) (map row_of (cons_option o (filter_map given xs)))
+        more : (o : Option Loaded) → 1 ≤ count_by (is_sparse_main key) (map row_of_loaded (filter_map given xs)) → 1 ≤ count_by (is_sparse_main key) (map row_of_loaded (cons_option o (filter_map given xs)))
         more None h = h
-        more (Some m) h = let c = count-cons key (row_of m) (map row_of (filter_map given xs)) in omega (arith, c, h)
+        more (Some m) h = let c = count-cons key (row_of_loaded m) (map row_of_loaded (filter_map given xs)) in omega (arith, c, h)
 
-  one-parent : (key : List ℕ) (name : Name) → name.key ≡ key → IsParentAt name → count_by (is_sparse_main key) (map row_of (filter_map given nodes)) ≡ 1
+  one-parent : (key : List ℕ) (name : Name) → name.key ≡ key → IsParentAt name → count_by (is_sparse_main key) (map row_of_loaded (filter_map given nodes)) ≡ 1
   one-parent key name of p =
-      let sparse_is : is_sparse_main key (row_of p.parent) ≡ true = is-main p.parent p.index p.role (p.key ∙ of) in
+      let sparse_is : is_sparse_main key (row_of_loaded p.parent) ≡ true = is-main p.parent p.index p.role (p.key ∙ of) in
       let some = some-count nodes key p.at p.parent p.among p.is sparse_is in
-      let most = sparse_mains key (map row_of (filter_map given nodes)) in
+      let most = sparse_mains key (map row_of_loaded (filter_map given nodes)) in
       let few = few-times nodes once (λ x h. h) (main key) in
       omega (arith, some, most, few) where
-        is-main : (l : Loaded) (index : ParentIndex) → l.role ≡ IsParent index → l.key ≡ key → is_sparse_main key (row_of l) ≡ true
+        is-main : (l : Loaded) (index : ParentIndex) → l.role ≡ IsParent index → l.key ≡ key → is_sparse_main key (row_of_loaded l) ≡ true
         is-main l index role same = rw (role, same, bytes_eq_self key) refl
 
-  parent-row : (node : ℕ) (k : Loaded) → is_among nodes node ≡ true → given node ≡ Some k → HasParent (map row_of (filter_map given nodes)) (row_of k)
+  parent-row : (node : ℕ) (k : Loaded) → is_among nodes node ≡ true → given node ≡ Some k → HasParent (map row_of_loaded (filter_map given nodes)) (row_of_loaded k)
   parent-row node k among is = go k.role refl where
-    go : (r : Role) → k.role ≡ r → HasParent (map row_of (filter_map given nodes)) (row_of k)
+    go : (r : Role) → k.role ≡ r → HasParent (map row_of_loaded (filter_map given nodes)) (row_of_loaded k)
     go IsPlain e = rw e tt
     go (IsParent index) e = rw e tt
     go (IsPart name index) e = rw e (one-parent name.key name refl (parent-at node k name index among is e))
@@ -231,11 +231,11 @@ module _ (image : Image) (are : AreBytes image) where
   unfolding kept kept_among
   kept-is = refl
 
-  holding-rows : IsValidHolding (map row_of (filter_map given nodes))
+  holding-rows : IsValidHolding (map row_of_loaded (filter_map given nodes))
   holding-rows = record {
     once = few-times nodes once (λ x h. h);
     each = all-rows IsRow nodes (λ node k h is. row-is image are held_rule node k (loads-at node k h is));
-    parents = all-rows (HasParent (map row_of (filter_map given nodes))) nodes parent-row;
+    parents = all-rows (HasParent (map row_of_loaded (filter_map given nodes))) nodes parent-row;
   }
 
 no-rows : IsValidHolding []
@@ -246,5 +246,5 @@ unfolding found
 found-holding image are =
     ⊎_elim
     (λ (e : unfinished image ≡ true). rw e no-rows)
-    (λ (e : unfinished image ≡ false). rw e (subst (λ (ks : List Loaded). IsValidHolding (map row_of ks)) (sym (kept-is image are)) (holding-rows image are)))
+    (λ (e : unfinished image ≡ false). rw e (subst (λ (ks : List Loaded). IsValidHolding (map row_of_loaded ks)) (sym (kept-is image are)) (holding-rows image are)))
     (cases_Bool (unfinished image))

@@ -9,7 +9,8 @@ use Rattle.blk_format.specs.BlockFiles.{is_among}
 use Rattle.blk_format.specs.Claims.{Claim, same_claim, claims_of, has_claim, overlap, repeats}
 use Rattle.blk_volume.specs.View.{StoreView, RecordFields, data_size_of, address_of}
 use Rattle.blk_volume.specs.Chains.{chain, bucket_of_hash}
-use Rattle.blk_volume.specs.Entries.{is_key_length, longest_short_key, key_of, stream_of, streams_of}
+use Rattle.blk_format.specs.Storage.{longest_short_key}
+use Rattle.blk_volume.specs.Entries.{is_key_length, stored_key, stored_stream, stored_streams}
 use Rattle.blk_volume.specs.Loads.{Rule, held_rule, Loaded, load, record_claims, all_claims}
 use Rattle.blk_volume.specs.Shown.{Apart}
 use Rattle.blk_volume.specs.Footprint.{IsClear}
@@ -92,16 +93,16 @@ record-of v node k ok = load-then v held_rule node k ok (λ n e f. record {
 })
 
 module _ (v u : StoreView) (w : ℕ) (only : OnlyLinks v u w) where
-  key-still : (x : ℕ) (e : RecordFields) → IsClear (has_claim (claims_of w)) x ⊎ (x ≡ w) → IsClear (has_claim (claims_of w)) e.long_key → v.entry x ≡ Some e → is_key_length x e ≡ true → key_of u x e ≡ key_of v x e
-  unfolding key_of
+  key-still : (x : ℕ) (e : RecordFields) → IsClear (has_claim (claims_of w)) x ⊎ (x ≡ w) → IsClear (has_claim (claims_of w)) e.long_key → v.entry x ≡ Some e → is_key_length x e ≡ true → stored_key u x e ≡ stored_key v x e
+  unfolding stored_key
   key-still x e clear long is fits =
       ⊎_elim
       (λ (short : nat_le e.key_len 927 ≡ true). rw (short, only.key_place x e clear is fits short) refl)
       (λ (short : nat_le e.key_len 927 ≡ false). rw (short, only.stored (e.key_len + 1) e.long_key long) refl)
       (cases_Bool (nat_le e.key_len 927))
 
-  streams-still : (e : RecordFields) → ((i : ℕ) → IsClear (has_claim (claims_of w)) (slice_index e.data_addr i)) → streams_of u e ≡ streams_of v e
-  unfolding streams_of stream_of
+  streams-still : (e : RecordFields) → ((i : ℕ) → IsClear (has_claim (claims_of w)) (slice_index e.data_addr i)) → stored_streams u e ≡ stored_streams v e
+  unfolding stored_streams stored_stream
   streams-still e clear = rw (only.stored (data_size_of e 0) (address_of e 0) (clear 0), only.stored (data_size_of e 1) (address_of e 1) (clear 1), only.stored (data_size_of e 2) (address_of e 2) (clear 2)) refl
 
   -- a kept record loads the same, where it is still in its chain

@@ -16,3 +16,4 @@ pub mod SoundFolders
 pub mod Seals
 pub mod Rows
 pub mod FoundHolding
+pub mod Examples

@@ -5,8 +5,14 @@ use Rattle.std.specs.List.{filter}
 use Rattle.std.proofs.lemmas.Bool.{cases_Bool}
 use Rattle.blk_image.specs.Image.{Image}
 use Rattle.blk_image.specs.Steps.{after}
+use Rattle.std.proofs.Common.{take, drop, refl}
+use Rattle.std.proofs.lemmas.List.{take-append-drop}
+use Rattle.blk_image.specs.Steps.{TrailStep}
+use Rattle.blk_image.specs.Told.{Along}
+use Rattle.blk_image.proofs.Runs.{along_front}
 use Rattle.blk_image.proofs.Cuts.{after-append}
 use Rattle.blk_image.proofs.Runs.{until-append, until_weaker2, until_last}
+use Rattle.blk_format.specs.BlockFiles.{IsWellFormed}
 use Rattle.blk_volume.specs.ListView.{ListView}
 use Rattle.blk_volume.specs.Walk.{walk}
 use Rattle.blk_volume.specs.View.{list_of, store_of}
@@ -15,7 +21,7 @@ use Rattle.blk_volume.specs.Loads.{held_rule, Loaded}
 use Rattle.blk_volume.specs.Audit.{kept_among}
 use Rattle.blk_volume.specs.Found.{kept}
 use Rattle.blk_volume.specs.ListView.{IsAtRest}
-use Rattle.blk_volume.specs.ListImages.{walked, HasListAtRest}
+use Rattle.blk_volume.specs.ListImages.{IsWritable, walked, HasListAtRest}
 use Rattle.blk_laws.proofs.Central.{walk-idle}
 use Rattle.blk_laws.proofs.Bare.{no-record}
 use Rattle.blk_laws.proofs.Chains.{chain-is}
@@ -24,7 +30,7 @@ use Rattle.blk_volume.specs.Audit.{kept_nodes}
 use Rattle.blk_repair_laws.specs.ListRepair.{list_repair_steps, HoldsTheSame, IsListMended}
 use Rattle.blk_repair_laws.specs.ChainRepair.{is_kept_record, kept_records, chain_repair_steps, AreChainsMended}
 use Rattle.blk_repair_laws.specs.MendedLinks.{HasMendedLinks}
-use Rattle.blk_repair_laws.specs.LinkRepair.{LinksAreRepaired, MendedChainsAreMendedLinks}
+use Rattle.blk_repair_laws.specs.LinkRepair.{link_repair_steps, stopped_repair, LinkRepairsMayBeStopped, LinksAreRepaired, MendedChainsAreMendedLinks}
 use Rattle.blk_repair_laws.proofs.ChainRepair.{chains-repaired}
 use Rattle.blk_laws.proofs.Kept.{kept-nodes}
 use Rattle.blk_repair_laws.proofs.ListRepair.{holds-trans, lists-repaired}
@@ -92,3 +98,16 @@ links-repaired image well ready =
       until-append H H (list_repair_steps image) (chain_repair_steps mid) image first.0 along,
       subst HasMendedLinks (sym (after-append (list_repair_steps image) (chain_repair_steps mid) image)) (links-mended image mid last first.1 holds_last second.1),
     )
+
+-- after a front of the steps the same is held
+front-holds : (image : Image) (count : ℕ) → IsWellFormed image → IsWritable image → HoldsTheSame image (after (take count (link_repair_steps image)) image)
+front-holds image count well ready =
+    let steps : List TrailStep = link_repair_steps image in
+    along_front (HoldsTheSame image) (take count steps) (drop count steps) image (subst (Along (HoldsTheSame image) image) (sym (take-append-drop count steps)) (links-repaired image well ready).0)
+
+pub repairs-stopped : LinkRepairsMayBeStopped
+repairs-stopped image [] well ready = record { well_formed = well; writable = ready; kept_same = refl; found_same = refl }
+repairs-stopped image (count ∷ counts) well ready =
+    let between : Image = after (take count (link_repair_steps image)) image in
+    let once : HoldsTheSame image between = front-holds image count well ready in
+    holds-trans image between (stopped_repair counts between) once (repairs-stopped between counts once.well_formed once.writable)

@@ -22,7 +22,7 @@ use Rattle.blk_volume.specs.Loads.{held_rule, Loaded}
 use Rattle.blk_volume.specs.Audit.{kept_among}
 use Rattle.blk_volume.specs.Found.{kept}
 use Rattle.blk_volume.specs.ListView.{IsAtRest}
-use Rattle.blk_volume.specs.ListSteps.{IsPartly, steps_of}
+use Rattle.blk_volume.specs.ListSteps.{IsPartly, steps_of_writes}
 use Rattle.blk_volume.specs.ListImages.{IsWritable, CanBeMade, IsCompleted, walked, completed_walk, HasListAtRest, operation_steps, completion_steps}
 use Rattle.blk_volume.specs.ShownChanges.{ShowsTheSame}
 use Rattle.blk_laws.proofs.ChainSizes.{unchanged}
@@ -136,20 +136,20 @@ Distinct-behind (x ∷ xs) ys once = Distinct-behind xs ys once.1
 -- ---- writes at each of their words
 
 -- a prefix of writes is made, and more can be written
-pub made-along : (image : Image) (writes : List ListWrite) → IsWritable image → CanBeMade image writes → Along (λ i. IsPartly image writes i × IsWritable i) image (steps_of writes image)
+pub made-along : (image : Image) (writes : List ListWrite) → IsWritable image → CanBeMade image writes → Along (λ i. IsPartly image writes i × IsWritable i) image (steps_of_writes writes image)
 made-along image writes ready can =
-    until_both (IsPartly image writes) IsWritable (IsPartly image writes) IsWritable (steps_of writes image) image (writes_show writes image ready can).along (writes-go_on image writes ready)
+    until_both (IsPartly image writes) IsWritable (IsPartly image writes) IsWritable (steps_of_writes writes image) image (writes_show writes image ready can).along (writes-go_on image writes ready)
 
 -- writes after which completing leaves nodes that keep the same, after each prefix of them
 pub writes-hold : (from image : Image) (writes : List ListWrite) → IsWellFormed from → IsWellFormed image → IsWritable image → ShowsTheSame (store_of from) (store_of image) → CanBeMade image writes
-    → ((count : ℕ) → kept_among (store_of from) held_rule (walk (completed_list (after_writes (take count writes) (list_of image)))) ≡ kept from) → Along (HoldsTheSame from) image (steps_of writes image)
+    → ((count : ℕ) → kept_among (store_of from) held_rule (walk (completed_list (after_writes (take count writes) (list_of image)))) ≡ kept from) → Along (HoldsTheSame from) image (steps_of_writes writes image)
 writes-hold from image writes well_from well ready same can keeps =
     let P : Image → Type 0 = λ i. IsPartly image writes i × IsWritable i in
     let Q : Image → Type 0 = HoldsTheSame from in
     let each : (i : Image) → P i → Q i = λ i part.
     holds-from from i well_from (part.0.well_formed well) part.1 (shows-both (store_of from) (store_of image) (store_of i) same part.0.shown.store)
     (ap (λ (l : ListView). kept_among (store_of from) held_rule (walk (completed_list l))) part.0.shown.list ∙ keeps part.0.made) in
-    until_weaker2 P Q P Q (steps_of writes image) image each each (made-along image writes ready can)
+    until_weaker2 P Q P Q (steps_of_writes writes image) image each each (made-along image writes ready can)
 
 -- ---- removals
 
@@ -467,6 +467,6 @@ none-pending list idle = rw (eq-eqb list.transaction 0 idle) refl
 pub none-to_end : ListsAtRestNeedNoEnd
 unfolding end_writes
 none-to_end image nodes rest = (
-  ap (λ (writes : List ListWrite). steps_of writes image) (none-pending (list_of image) rest.idle),
-  ap (λ (writes : List ListWrite). steps_of writes image) (ap (end_writes_of (list_of image)) (walk_list (list_of image) nodes rest.whole) ∙ ends-right (list_of image) nodes rest.whole),
+  ap (λ (writes : List ListWrite). steps_of_writes writes image) (none-pending (list_of image) rest.idle),
+  ap (λ (writes : List ListWrite). steps_of_writes writes image) (ap (end_writes_of (list_of image)) (walk_list (list_of image) nodes rest.whole) ∙ ends-right (list_of image) nodes rest.whole),
 )

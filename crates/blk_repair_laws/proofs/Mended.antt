@@ -26,8 +26,8 @@ use Rattle.blk_laws.proofs.Central.{flat_map-none}
 use Rattle.blk_laws.proofs.Loads.{load-then}
 use Rattle.blk_volume.specs.Loads.{held_rule, listed_rule, Loaded, all_claims, claims_of_loaded}
 use Rattle.blk_volume.specs.Audit.{kept_by, dropped_among, unlisted, is_unlisted, unlisted_in}
-use Rattle.blk_volume.specs.Sound.{IsInOrder, IsSound, IsCounted, AreSealed, words_of}
-use Rattle.blk_volume.specs.StandsFor.{IsOwner, IsAllocated, StandsFor}
+use Rattle.blk_volume.specs.Sound.{IsInOrder, IsSound, CountersAgree, AreSealed, words_of}
+use Rattle.blk_volume.specs.StandsFor.{IsOwner, AllIsOwned, StandsFor}
 use Rattle.blk_model.proofs.Opened.{open_valid}
 use Rattle.blk_laws.proofs.ClaimLists.{claim-append, no-claim}
 use Rattle.blk_laws.proofs.Standing.{stands-for}
@@ -67,7 +67,7 @@ mended-in_order : (image : Image) → IsMended image → IsInOrder image (kept i
 mended-in_order image mended = record {
   only_linked = mended.only.only_linked;
   long_enough = mended.files.long_enough;
-  counted = λ n linked. subst (λ (ks : List Loaded). IsCounted image (flat_map words_of ks) n) (sym (append-none (kept image))) (mended.files.counted n linked);
+  counted = λ n linked. subst (λ (ks : List Loaded). CountersAgree image (flat_map words_of ks) n) (sym (append-none (kept image))) (mended.files.counted n linked);
   index = record {
     tail = mended.links.rests.whole.tail_is ∙ ap (last_or 0) (sym (kept-walked image mended.links));
     sizes = mended.counters.sizes;
@@ -135,7 +135,7 @@ module _ (image : Image) (limits : Bounds) (mended : IsMended image) (valid : Is
         claims = first.good;
       }
 
-  allocated-here : IsAllocated image state_of layout_of []
+  allocated-here : AllIsOwned image state_of layout_of []
   allocated-here = record {
     blocks = λ n b linked_n below. mended.files.maps n b linked_n below ∙ owner-some (BlockOf n b);
     files = λ n below. mended.only.only_claimed n below ∙ owner-some (ExternalOf n);

@@ -39,7 +39,7 @@ use Rattle.blk_volume.specs.Chains.{Chain, chain, file_and_block, bucket_of_hash
 use Rattle.blk_volume.specs.Loads.{held_rule, unchained_rule, Loaded, load, all_claims, claims_of_loaded}
 use Rattle.blk_volume.specs.Audit.{kept_among}
 use Rattle.blk_volume.specs.Shown.{IsShown}
-use Rattle.blk_volume.specs.Found.{kept, found, row_of}
+use Rattle.blk_volume.specs.Found.{kept, found, row_of_loaded}
 use Rattle.blk_volume.specs.Footprint.{IsClear, SameBut}
 use Rattle.blk_volume.specs.Sound.{words_of}
 use Rattle.blk_volume.specs.ListImages.{walked, HasListAtRest}
@@ -65,7 +65,7 @@ use Rattle.blk_volume.specs.Audit.{kept_as}
 use Rattle.blk_repair_laws.specs.ChainRepair.{kept_records, KeepsAll}
 use Rattle.blk_volume.specs.Footprint.{is_absent}
 use Rattle.blk_repair_laws.specs.MendedLinks.{HasMendedLinks}
-use Rattle.blk_repair_laws.specs.MendedChanges.{KeepsMendedLinks, RepairedLinksAreKept, MendedLinksGoOn, MendedLinksHoldTheSame, IsUnkept, MendedLinksStayOutside, MendedLinksMayGrow, UnlinkedFilesMayBeDeleted, UnclaimedFilesMayChange, HiddenWordsMayChange, KeptNodesMayBeSealed, KeptRecordsMayBeSealed}
+use Rattle.blk_repair_laws.specs.MendedChanges.{KeepsMendedLinks, RepairedLinksAreKept, MendedLinksGoOn, LinksAreMidRepair, MendedLinksAreMidRepair, IsUnkept, MendedLinksStayOutside, MendedLinksMayGrow, UnlinkedFilesMayBeDeleted, UnclaimedFilesMayChange, HiddenWordsMayChange, KeptNodesMayBeSealed, KeptRecordsMayBeSealed}
 use Rattle.blk_repair_laws.proofs.ChainRepair.{shown, given-some, kept-from, IsKeptRecord, of-test}
 use Rattle.blk_laws.proofs.Files.{growth-absent, words-there}
 use Rattle.blk_laws.proofs.Kept.{kept-nodes}
@@ -131,7 +131,7 @@ module _ (from image : Image) (mended : HasMendedLinks from) (well : IsWellForme
         chains = λ bucket below. subst (IsChain (store_of image) bucket) (sym (records-still from image bucket keeps (chains bucket below))) (chains bucket below);
       };
       kept_same = keeps;
-      found_same = rw (well_formed-finished image well, well_formed-finished from mended.well_formed) (ap (map row_of) keeps);
+      found_same = rw (well_formed-finished image well, well_formed-finished from mended.well_formed) (ap (map row_of_loaded) keeps);
     }
 
   -- a kept node loads by itself
@@ -223,8 +223,11 @@ repaired-kept from image holds mended = record { mended = mended; kept_same = ho
 pub links-on : MendedLinksGoOn
 links-on from between image first second = record { mended = second.mended; kept_same = second.kept_same ∙ first.kept_same; found_same = second.found_same ∙ first.found_same }
 
-pub links-hold : MendedLinksHoldTheSame
-links-hold from image keeps ready = record { well_formed = keeps.mended.well_formed; writable = ready; kept_same = keeps.kept_same; found_same = keeps.found_same }
+pub holds-mid : LinksAreMidRepair
+holds-mid from image holds = record { well_formed = holds.well_formed; kept_same = holds.kept_same; found_same = holds.found_same }
+
+pub keeps-mid : MendedLinksAreMidRepair
+keeps-mid from image keeps = record { well_formed = keeps.mended.well_formed; kept_same = keeps.kept_same; found_same = keeps.found_same }
 
 -- ---- files that go, and words of the index
 

@@ -26,7 +26,7 @@ use Rattle.blk_volume.specs.Entries.{Role, IsPlain, IsParent, IsPart}
 use Rattle.blk_volume.specs.Loads.{held_rule, unchained_rule, Loaded, load, all_claims}
 use Rattle.blk_repair_laws.proofs.FoundHolding.{found-holding}
 use Rattle.blk_volume.specs.Shown.{HasParentIn}
-use Rattle.blk_volume.specs.Found.{kept, found, row_of}
+use Rattle.blk_volume.specs.Found.{kept, found, row_of_loaded}
 use Rattle.blk_volume.specs.Layout.{Layout, is_in, is_listed, order, HasDirtyMark, HasParentAt, IsPlacedAt, IsLayoutOf, Shows, Represents}
 use Rattle.blk_volume.specs.ListImages.{walked}
 use Rattle.blk_laws.proofs.Bare.{no-record}
@@ -117,7 +117,7 @@ module _ (image : Image) (limits : Bounds) (mended : HasMendedLinks image) (vali
   abbrev layout : Layout
   layout = kept_layout image
 
-  rows-are : found image ≡ map row_of (kept image)
+  rows-are : found image ≡ map row_of_loaded (kept image)
   unfolding found
   rows-are = rw (well_formed-finished image mended.well_formed) refl
 
@@ -205,27 +205,27 @@ module _ (image : Image) (limits : Bounds) (mended : HasMendedLinks image) (vali
   -- ---- items
 
   item-at : Loaded → Item
-  item-at k = item_of (row_of k)
+  item-at k = item_of (row_of_loaded k)
 
   items-of : List ℕ → List Item
-  items-of xs = map item_of (map row_of (filter_map asked xs))
+  items-of xs = map item_of (map row_of_loaded (filter_map asked xs))
 
-  some-times : (xs : List ℕ) (item : Item) (node : ℕ) (k : Loaded) → is_among xs node ≡ true → asked node ≡ Some k → same_item item (item_of (row_of k)) ≡ true → 1 ≤ times item (map item_of (map row_of (filter_map asked xs)))
+  some-times : (xs : List ℕ) (item : Item) (node : ℕ) (k : Loaded) → is_among xs node ≡ true → asked node ≡ Some k → same_item item (item_of (row_of_loaded k)) ≡ true → 1 ≤ times item (map item_of (map row_of_loaded (filter_map asked xs)))
   some-times [] item node k among is same = cc
   some-times (x ∷ xs) item node k among is same =
       ⊎_elim
       (λ (e : (eqb x node ≡ true) × (x ≡ node)). rw (ap asked e.1 ∙ is) (one k same))
       (λ (e : (eqb x node ≡ false) × _). more (asked x) (some-times xs item node k (rw e.0 at among) is same))
       (eqb_tells x node) where
-        one : (m : Loaded) → same_item item (item_of (row_of m)) ≡ true → 1 ≤ times item (map item_of (map row_of (m ∷ filter_map asked xs)))
-        one m is_same = let t = times-cons item (item_of (row_of m)) (map item_of (map row_of (filter_map asked xs))) in let u : ◌≡◌ {A = ℕ} (cond (same_item item (item_of (row_of m))) 1 0) 1 = ap (λ (b : Bool). cond b 1 0) is_same in omega (arith, t, u)
+        one : (m : Loaded) → same_item item (item_of (row_of_loaded m)) ≡ true → 1 ≤ times item (map item_of (map row_of_loaded (m ∷ filter_map asked xs)))
+        one m is_same = let t = times-cons item (item_of (row_of_loaded m)) (map item_of (map row_of_loaded (filter_map asked xs))) in let u : ◌≡◌ {A = ℕ} (cond (same_item item (item_of (row_of_loaded m))) 1 0) 1 = ap (λ (b : Bool). cond b 1 0) is_same in omega (arith, t, u)
 
-        more : (o : Option Loaded) → 1 ≤ times item (map item_of (map row_of (filter_map asked xs))) → 1 ≤ times item (map item_of (map row_of (cons_option o (filter_map asked xs))))
+        more : (o : Option Loaded) → 1 ≤ times item (map item_of (map row_of_loaded (filter_map asked xs))) → 1 ≤ times item (map item_of (map row_of_loaded (cons_option o (filter_map asked xs))))
         more None h = h
-        more (Some l) h = let t = times-cons item (item_of (row_of l)) (map item_of (map row_of (filter_map asked xs))) in omega (arith, t, h)
+        more (Some l) h = let t = times-cons item (item_of (row_of_loaded l)) (map item_of (map row_of_loaded (filter_map asked xs))) in omega (arith, t, h)
 
   two-times : (xs : List ℕ) (item : Item) (one other : ℕ) (k l : Loaded) → (one == other) ≡ false → is_among xs one ≡ true → is_among xs other ≡ true → asked one ≡ Some k → asked other ≡ Some l
-      → same_item item (item_of (row_of k)) ≡ true → same_item item (item_of (row_of l)) ≡ true → 2 ≤ times item (map item_of (map row_of (filter_map asked xs)))
+      → same_item item (item_of (row_of_loaded k)) ≡ true → same_item item (item_of (row_of_loaded l)) ≡ true → 2 ≤ times item (map item_of (map row_of_loaded (filter_map asked xs)))
   two-times [] item one other k l ne a b is are p q = cc
   two-times (x ∷ xs) item one other k l ne a b is are p q =
       ⊎_elim
@@ -240,34 +240,34 @@ module _ (image : Image) (limits : Bounds) (mended : HasMendedLinks image) (vali
       (λ (f : (eqb x other ≡ false) × _). more (asked x) (two-times xs item one other k l ne (rw e.0 at a) (rw f.0 at b) is are p q))
       (eqb_tells x other))
       (eqb_tells x one) where
-        two : (m : Loaded) → same_item item (item_of (row_of m)) ≡ true → 1 ≤ times item (map item_of (map row_of (filter_map asked xs))) → 2 ≤ times item (map item_of (map row_of (m ∷ filter_map asked xs)))
-        two m same rest = let t = times-cons item (item_of (row_of m)) (map item_of (map row_of (filter_map asked xs))) in let u : ◌≡◌ {A = ℕ} (cond (same_item item (item_of (row_of m))) 1 0) 1 = ap (λ (b : Bool). cond b 1 0) same in omega (arith, t, u, rest)
+        two : (m : Loaded) → same_item item (item_of (row_of_loaded m)) ≡ true → 1 ≤ times item (map item_of (map row_of_loaded (filter_map asked xs))) → 2 ≤ times item (map item_of (map row_of_loaded (m ∷ filter_map asked xs)))
+        two m same rest = let t = times-cons item (item_of (row_of_loaded m)) (map item_of (map row_of_loaded (filter_map asked xs))) in let u : ◌≡◌ {A = ℕ} (cond (same_item item (item_of (row_of_loaded m))) 1 0) 1 = ap (λ (b : Bool). cond b 1 0) same in omega (arith, t, u, rest)
 
-        more : (o : Option Loaded) → 2 ≤ times item (map item_of (map row_of (filter_map asked xs))) → 2 ≤ times item (map item_of (map row_of (cons_option o (filter_map asked xs))))
+        more : (o : Option Loaded) → 2 ≤ times item (map item_of (map row_of_loaded (filter_map asked xs))) → 2 ≤ times item (map item_of (map row_of_loaded (cons_option o (filter_map asked xs))))
         more None h = h
-        more (Some m) h = let t = times-cons item (item_of (row_of m)) (map item_of (map row_of (filter_map asked xs))) in omega (arith, t, h)
+        more (Some m) h = let t = times-cons item (item_of (row_of_loaded m)) (map item_of (map row_of_loaded (filter_map asked xs))) in omega (arith, t, h)
 
-  items-are : map item_of (found image) ≡ map item_of (map row_of (filter_map asked (walked image)))
-  items-are = ap (map item_of) (rows-are ∙ ap (map row_of) ks-are)
+  items-are : map item_of (found image) ≡ map item_of (map row_of_loaded (filter_map asked (walked image)))
+  items-are = ap (map item_of) (rows-are ∙ ap (map row_of_loaded) ks-are)
 
-  place-is : (node : ℕ) (k : Loaded) → is_among (walked image) node ≡ true → asked node ≡ Some k → layout.place (item_of (row_of k)) ≡ node
+  place-is : (node : ℕ) (k : Loaded) → is_among (walked image) node ≡ true → asked node ≡ Some k → layout.place (item_of (row_of_loaded k)) ≡ node
   unfolding kept_layout
   place-is node k among is =
-      let item : Item = item_of (row_of k) in
-      ap (λ (o : Option Loaded). option_map_or (λ l. l.node) o 0) (ap (first_with (λ l. same_item item (item_of (row_of l)))) ks-are ∙ first-is (walked image) (λ l. same_item item (item_of (row_of l))) node k among is (same_item_self item) alone)
+      let item : Item = item_of (row_of_loaded k) in
+      ap (λ (o : Option Loaded). option_map_or (λ l. l.node) o 0) (ap (first_with (λ l. same_item item (item_of (row_of_loaded l)))) ks-are ∙ first-is (walked image) (λ l. same_item item (item_of (row_of_loaded l))) node k among is (same_item_self item) alone)
       ∙ node-of node k among is where
-        alone : (other : ℕ) (l : Loaded) → is_among (walked image) other ≡ true → asked other ≡ Some l → same_item (item_of (row_of k)) (item_of (row_of l)) ≡ true → other ≡ node
+        alone : (other : ℕ) (l : Loaded) → is_among (walked image) other ≡ true → asked other ≡ Some l → same_item (item_of (row_of_loaded k)) (item_of (row_of_loaded l)) ≡ true → other ≡ node
         alone other l h i g =
             ⊎_elim
             (λ (e : (eqb other node ≡ true) × (other ≡ node)). e.1)
             (λ (e : (eqb other node ≡ false) × _).
-            let two = two-times (walked image) (item_of (row_of k)) other node l k e.0 h among i is g (same_item_self (item_of (row_of k))) in
-            let few = valid.once (item_of (row_of k)) in
-            let same : times (item_of (row_of k)) (map item_of (found image)) ≡ times (item_of (row_of k)) (map item_of (map row_of (filter_map asked (walked image)))) = ap (times (item_of (row_of k))) items-are in
+            let two = two-times (walked image) (item_of (row_of_loaded k)) other node l k e.0 h among i is g (same_item_self (item_of (row_of_loaded k))) in
+            let few = valid.once (item_of (row_of_loaded k)) in
+            let same : times (item_of (row_of_loaded k)) (map item_of (found image)) ≡ times (item_of (row_of_loaded k)) (map item_of (map row_of_loaded (filter_map asked (walked image)))) = ap (times (item_of (row_of_loaded k))) items-are in
             absurd (omega (arith, two, few, same)))
             (eqb_tells other node)
 
-  order-of : (xs : List ℕ) → ((x : ℕ) → is_among xs x ≡ true → is_among (walked image) x ≡ true) → map layout.place (map item_of (map row_of (filter_map asked xs))) ≡ xs
+  order-of : (xs : List ℕ) → ((x : ℕ) → is_among xs x ≡ true → is_among (walked image) x ≡ true) → map layout.place (map item_of (map row_of_loaded (filter_map asked xs))) ≡ xs
   order-of [] sub = refl
   order-of (x ∷ xs) sub =
       let here : is_among (walked image) x ≡ true = sub x (or_left (x == x) (is_among xs x) (eq-eqb x x refl)) in
@@ -284,41 +284,41 @@ module _ (image : Image) (limits : Bounds) (mended : HasMendedLinks image) (vali
     k : Loaded
     among : is_among (walked image) node ≡ true
     is : asked node ≡ Some k
-    item_is : item ≡ item_of (row_of k)
+    item_is : item ≡ item_of (row_of_loaded k)
 
-  item-in : (xs : List ℕ) (item : Item) → ((x : ℕ) → is_among xs x ≡ true → is_among (walked image) x ≡ true) → is_in (map item_of (map row_of (filter_map asked xs))) item ≡ true → IsItemOf item
+  item-in : (xs : List ℕ) (item : Item) → ((x : ℕ) → is_among xs x ≡ true → is_among (walked image) x ≡ true) → is_in (map item_of (map row_of_loaded (filter_map asked xs))) item ≡ true → IsItemOf item
   item-in [] item sub e = cc
   item-in (x ∷ xs) item sub e = go (asked x) refl (item-in xs item (λ y h. sub y (or_right (x == y) (is_among xs y) h))) e where
-    go : (o : Option Loaded) → asked x ≡ o → (is_in (map item_of (map row_of (filter_map asked xs))) item ≡ true → IsItemOf item) → is_in (map item_of (map row_of (cons_option (asked x) (filter_map asked xs)))) item ≡ true → IsItemOf item
+    go : (o : Option Loaded) → asked x ≡ o → (is_in (map item_of (map row_of_loaded (filter_map asked xs))) item ≡ true → IsItemOf item) → is_in (map item_of (map row_of_loaded (cons_option (asked x) (filter_map asked xs)))) item ≡ true → IsItemOf item
     go None is more h = more (rw is at h)
     go (Some l) is more h =
-        let h1 : (same_item item (item_of (row_of l)) || is_in (map item_of (map row_of (filter_map asked xs))) item) ≡ true = rw is at h in
+        let h1 : (same_item item (item_of (row_of_loaded l)) || is_in (map item_of (map row_of_loaded (filter_map asked xs))) item) ≡ true = rw is at h in
         ⊎_elim
-        (λ (t : same_item item (item_of (row_of l)) ≡ true). record { node = x; k = l; among = sub x (or_left (x == x) (is_among xs x) (eq-eqb x x refl)); is = is; item_is = one_item item (item_of (row_of l)) t })
-        (λ (t : same_item item (item_of (row_of l)) ≡ false). more (rw t at h1))
-        (cases_Bool (same_item item (item_of (row_of l))))
+        (λ (t : same_item item (item_of (row_of_loaded l)) ≡ true). record { node = x; k = l; among = sub x (or_left (x == x) (is_among xs x) (eq-eqb x x refl)); is = is; item_is = one_item item (item_of (row_of_loaded l)) t })
+        (λ (t : same_item item (item_of (row_of_loaded l)) ≡ false). more (rw t at h1))
+        (cases_Bool (same_item item (item_of (row_of_loaded l))))
 
   item-listed : (item : Item) → is_listed state item ≡ true → IsItemOf item
   unfolding open_state
   item-listed item e = item-in (walked image) item (λ x h. h) (ap (λ (is : List Item). is_in is item) (sym items-are) ∙ e)
 
-  listed-at : (xs : List ℕ) (node : ℕ) (k : Loaded) → is_among xs node ≡ true → asked node ≡ Some k → is_in (map item_of (map row_of (filter_map asked xs))) (item_of (row_of k)) ≡ true
+  listed-at : (xs : List ℕ) (node : ℕ) (k : Loaded) → is_among xs node ≡ true → asked node ≡ Some k → is_in (map item_of (map row_of_loaded (filter_map asked xs))) (item_of (row_of_loaded k)) ≡ true
   listed-at [] node k among is = cc
   listed-at (x ∷ xs) node k among is =
       ⊎_elim
-      (λ (e : (eqb x node ≡ true) × (x ≡ node)). rw (ap asked e.1 ∙ is) (or_left (same_item (item_of (row_of k)) (item_of (row_of k))) (is_in (map item_of (map row_of (filter_map asked xs))) (item_of (row_of k))) (same_item_self (item_of (row_of k)))))
+      (λ (e : (eqb x node ≡ true) × (x ≡ node)). rw (ap asked e.1 ∙ is) (or_left (same_item (item_of (row_of_loaded k)) (item_of (row_of_loaded k))) (is_in (map item_of (map row_of_loaded (filter_map asked xs))) (item_of (row_of_loaded k))) (same_item_self (item_of (row_of_loaded k)))))
       (λ (e : (eqb x node ≡ false) × _). more (asked x) (listed-at xs node k (rw e.0 at among) is))
       (eqb_tells x node) where
-        more : (o : Option Loaded) → is_in (map item_of (map row_of (filter_map asked xs))) (item_of (row_of k)) ≡ true → is_in (map item_of (map row_of (cons_option o (filter_map asked xs)))) (item_of (row_of k)) ≡ true
+        more : (o : Option Loaded) → is_in (map item_of (map row_of_loaded (filter_map asked xs))) (item_of (row_of_loaded k)) ≡ true → is_in (map item_of (map row_of_loaded (cons_option o (filter_map asked xs)))) (item_of (row_of_loaded k)) ≡ true
         more None h = h
-        more (Some l) h = or_right (same_item (item_of (row_of k)) (item_of (row_of l))) (is_in (map item_of (map row_of (filter_map asked xs))) (item_of (row_of k))) h
+        more (Some l) h = or_right (same_item (item_of (row_of_loaded k)) (item_of (row_of_loaded l))) (is_in (map item_of (map row_of_loaded (filter_map asked xs))) (item_of (row_of_loaded k))) h
 
-  is-listed : (node : ℕ) (k : Loaded) → is_among (walked image) node ≡ true → asked node ≡ Some k → is_listed state (item_of (row_of k)) ≡ true
+  is-listed : (node : ℕ) (k : Loaded) → is_among (walked image) node ≡ true → asked node ≡ Some k → is_listed state (item_of (row_of_loaded k)) ≡ true
   unfolding open_state
-  is-listed node k among is = ap (λ (items : List Item). is_in items (item_of (row_of k))) items-are ∙ listed-at (walked image) node k among is
+  is-listed node k among is = ap (λ (items : List Item). is_in items (item_of (row_of_loaded k))) items-are ∙ listed-at (walked image) node k among is
 
   -- its row in the opened state
-  row-in : (xs : List ℕ) (P : Row → Type 0) (node : ℕ) (k : Loaded) → is_among xs node ≡ true → asked node ≡ Some k → AllByRecursion P (map row_of (filter_map asked xs)) → P (row_of k)
+  row-in : (xs : List ℕ) (P : Row → Type 0) (node : ℕ) (k : Loaded) → is_among xs node ≡ true → asked node ≡ Some k → AllByRecursion P (map row_of_loaded (filter_map asked xs)) → P (row_of_loaded k)
   row-in [] P node k among is each = cc
   row-in (x ∷ xs) P node k among is each = go (asked x) refl (λ h p. row-in xs P node k h is p) each where
     same : {l : Loaded} → ◌≡◌ {A = Option Loaded} (Some l) (Some k) → l ≡ k
@@ -327,16 +327,16 @@ module _ (image : Image) (limits : Bounds) (mended : HasMendedLinks image) (vali
     no : ◌≡◌ {A = Option Loaded} None (Some k) → ⊥
     no e = cc
 
-    go : (o : Option Loaded) → asked x ≡ o → (is_among xs node ≡ true → AllByRecursion P (map row_of (filter_map asked xs)) → P (row_of k)) → AllByRecursion P (map row_of (cons_option (asked x) (filter_map asked xs))) → P (row_of k)
+    go : (o : Option Loaded) → asked x ≡ o → (is_among xs node ≡ true → AllByRecursion P (map row_of_loaded (filter_map asked xs)) → P (row_of_loaded k)) → AllByRecursion P (map row_of_loaded (cons_option (asked x) (filter_map asked xs))) → P (row_of_loaded k)
     go None is_x more all_rows =
         ⊎_elim
         (λ (e : (eqb x node ≡ true) × (x ≡ node)). absurd (no (sym is_x ∙ ap asked e.1 ∙ is)))
         (λ (e : (eqb x node ≡ false) × _). more (rw e.0 at among) (rw is_x at all_rows))
         (eqb_tells x node)
     go (Some l) is_x more all_rows =
-        let split : AllByRecursion P (map row_of (l ∷ filter_map asked xs)) = rw is_x at all_rows in
+        let split : AllByRecursion P (map row_of_loaded (l ∷ filter_map asked xs)) = rw is_x at all_rows in
         ⊎_elim
-        (λ (e : (eqb x node ≡ true) × (x ≡ node)). subst (λ (m : Loaded). P (row_of m)) (same (sym is_x ∙ ap asked e.1 ∙ is)) split.0)
+        (λ (e : (eqb x node ≡ true) × (x ≡ node)). subst (λ (m : Loaded). P (row_of_loaded m)) (same (sym is_x ∙ ap asked e.1 ∙ is)) split.0)
         (λ (e : (eqb x node ≡ false) × _). more (rw e.0 at among) split.1)
         (eqb_tells x node)
 
@@ -344,11 +344,11 @@ module _ (image : Image) (limits : Bounds) (mended : HasMendedLinks image) (vali
   unfolding open_state model.rest
   rest-back = rest-open_state (found image) limits valid
 
-  settled-at : (node : ℕ) (k : Loaded) → is_among (walked image) node ≡ true → asked node ≡ Some k → IsSettledIn state (item_of (row_of k)) (row_of k)
+  settled-at : (node : ℕ) (k : Loaded) → is_among (walked image) node ≡ true → asked node ≡ Some k → IsSettledIn state (item_of (row_of_loaded k)) (row_of_loaded k)
   settled-at node k among is =
       let back : AllByRecursion (λ r. model.settled_row state (item_of r) ≡ Some r) (found image) = all-back (model.settled_row state) (found image) rest-back in
-      settled-in state (item_of (row_of k)) (row_of k)
-      (row-in (walked image) (λ r. model.settled_row state (item_of r) ≡ Some r) node k among is (subst (AllByRecursion (λ r. model.settled_row state (item_of r) ≡ Some r)) (rows-are ∙ ap (map row_of) ks-are) back))
+      settled-in state (item_of (row_of_loaded k)) (row_of_loaded k)
+      (row-in (walked image) (λ r. model.settled_row state (item_of r) ≡ Some r) node k among is (subst (AllByRecursion (λ r. model.settled_row state (item_of r) ≡ Some r)) (rows-are ∙ ap (map row_of_loaded) ks-are) back))
 
   -- ---- the layout
 
@@ -369,7 +369,7 @@ module _ (image : Image) (limits : Bounds) (mended : HasMendedLinks image) (vali
     role : k.role ≡ IsPart name index
     of_key : name.key ≡ key
 
-  part-role : (key : List ℕ) (n : ℕ) (k : Loaded) → part key n ≡ item_of (row_of k) → IsPartRole key k
+  part-role : (key : List ℕ) (n : ℕ) (k : Loaded) → part key n ≡ item_of (row_of_loaded k) → IsPartRole key k
   part-role key n k e = go k.role refl e where
     never : {a b : List ℕ} → part a n ≡ main b → ⊥
     never e = cc
@@ -377,17 +377,17 @@ module _ (image : Image) (limits : Bounds) (mended : HasMendedLinks image) (vali
     key-one : {a b : List ℕ} {m o : ℕ} → part a m ≡ part b o → a ≡ b
     key-one e = cc
 
-    go : (r : Role) → k.role ≡ r → part key n ≡ item_of (row_of k) → IsPartRole key k
+    go : (r : Role) → k.role ≡ r → part key n ≡ item_of (row_of_loaded k) → IsPartRole key k
     go IsPlain is h = let x : part key n ≡ main k.key = rw is at h in absurd (never x)
     go (IsParent index) is h = let x : part key n ≡ main k.key = rw is at h in absurd (never x)
     go (IsPart name index) is h = let x : part key n ≡ part name.key name.part = rw is at h in record { name = name; index = index; role = is; of_key = sym (key-one x) }
 
-  parent-of : (item : Item) (node : ℕ) (k : Loaded) → is_among (walked image) node ≡ true → asked node ≡ Some k → item ≡ item_of (row_of k) → HasParentAt state layout item k
+  parent-of : (item : Item) (node : ℕ) (k : Loaded) → is_among (walked image) node ≡ true → asked node ≡ Some k → item ≡ item_of (row_of_loaded k) → HasParentAt state layout item k
   parent-of (main key) node k among is e = tt
   parent-of (part key n) node k among is e =
       let r : IsPartRole key k = part-role key n k e in
       let p : HasParentIn (walked image) asked r.name = (shown image mended.well_formed all).parents node k r.name r.index among is r.role in
-      let item_is : item_of (row_of p.parent) ≡ main key = parent-main r.name p.parent p.of ∙ ap main r.of_key in
+      let item_is : item_of (row_of_loaded p.parent) ≡ main key = parent-main r.name p.parent p.of ∙ ap main r.of_key in
       record {
         name = r.name;
         index = r.index;
@@ -402,7 +402,7 @@ module _ (image : Image) (limits : Bounds) (mended : HasMendedLinks image) (vali
   laid-item : (item : Item) → is_listed state item ≡ true → IsPlacedAt state layout item
   laid-item item listed =
       let f : IsItemOf item = item-listed item listed in
-      let s : IsSettledIn state (item_of (row_of f.k)) (row_of f.k) = settled-at f.node f.k f.among f.is in
+      let s : IsSettledIn state (item_of (row_of_loaded f.k)) (row_of_loaded f.k) = settled-at f.node f.k f.among f.is in
       record {
         loaded = f.k;
         here = ap layout.at (ap layout.place f.item_is ∙ place-is f.node f.k f.among f.is) ∙ at-node f.node f.k f.among f.is;

@@ -1,12 +1,13 @@
 -- What leaves mended files and seals as they are.
-use Rattle.std.proofs.Common.{⊎_elim, Some, false, ◌≡◌, ℕ, ◌+◌, ◌≤◌, Bool, true, List, [], ◌∷◌, length, Option, refl, ap, sym, ◌∙◌, subst}
-use Rattle.std.specs.Prelude.{is_some}
+use Rattle.std.proofs.Common.{◌%◌, ◌^◌, ◌<◌, ◌⊎◌, arith, ⊎_elim, Some, false, ◌≡◌, ℕ, ◌+◌, ◌≤◌, Bool, true, List, [], ◌∷◌, length, Option, refl, ap, sym, ◌∙◌, subst}
+use Rattle.std.specs.Prelude.{nat_le, nat_lt, ◌&&◌, is_some}
 use Rattle.std.specs.Option.{unwrap_or}
 use Rattle.std.specs.List.{AllByRecursion, flat_map}
 use Rattle.std.proofs.Math.Dec.{eqb}
+use Rattle.std.proofs.lemmas.List.Sums.{length-filter}
 use Rattle.std.proofs.lemmas.Bool.Decides.{eqb_tells}
 use Rattle.blk_image.specs.Bytes.{content}
-use Rattle.blk_image.specs.Image.{Index, Block, External, Image}
+use Rattle.blk_image.specs.Image.{Index, Block, External, Image, byte}
 use Rattle.blk_image.specs.Footprint.{one_word, whole}
 use Rattle.blk_image.specs.Steps.{Delete, applied}
 use Rattle.blk_image.proofs.Footprints.{same_file_outside}
@@ -19,19 +20,32 @@ use Rattle.blk_format.specs.Maps.{EmptyAgrees, groups_of, groups_with, is_block_
 use Rattle.blk_volume.specs.Loads.{Loaded, claims_of_loaded}
 use Rattle.blk_volume.specs.Found.{kept}
 use Rattle.blk_volume.specs.Sound as sound
-use Rattle.blk_volume.specs.Sound.{OnlyLinked, words_of, IsCounted}
+use Rattle.blk_volume.specs.Sound.{OnlyLinked, words_of, CountersAgree}
 use Rattle.blk_volume.specs.Tidy.{FilesStand}
 use Rattle.blk_laws.proofs.ByteChanges.{same-links}
+use Rattle.std.specs.List.{sum_by}
+use Rattle.std.specs.Prelude.{◌∷◌}
+use Rattle.blk_image.specs.Bytes.{word_at}
+use Rattle.blk_image.proofs.Footprints.{same_word_outside}
+use Rattle.blk_volume.specs.Loads.{held_rule}
+use Rattle.blk_volume.specs.View.{store_of}
+use Rattle.blk_volume.specs.Found.{charge_of}
+use Rattle.blk_format.specs.Claims.{is_in_file}
+use Rattle.blk_laws.proofs.Allocations.{all-claims, all-stand, kept-loads, same-marks}
 use Rattle.blk_laws.proofs.Counting.{files-stand}
 use Rattle.blk_laws.proofs.Files.{unlinked-go}
-use Rattle.blk_repair_laws.specs.Mended.{HasMendedFiles, UnlinkedFilesLeaveTheOthers, ExternalFilesLeaveTheBlocks, MendedFilesStand, IndexWordsLeaveSeals}
+use Rattle.blk_laws.proofs.IndexWords.{beside, not-among}
+use Rattle.std.proofs.lemmas.Bool.Decides.{nat_tests}
+use Rattle.blk_format.specs.BlockFiles.{is_among}
+use Rattle.blk_repair_laws.specs.Mended.{HasMendedFiles}
+use Rattle.blk_repair_laws.specs.MendedParts.{KeptWordsStand, KeptWordsClaim, IsRebuiltFor, RebuiltFilesAreMended, OtherWordsLeaveCounters, UnlinkedFilesLeaveTheOthers, ExternalFilesLeaveTheBlocks, MendedFilesStand, IndexWordsLeaveSeals}
 
 -- linked files that are the same are mended alike
 blocks-alike : (from image : Image) → ((n : ℕ) → linked_as image n ≡ linked_as from n) → ((n : ℕ) → is_some (linked_as from n) ≡ true → image (Block n) ≡ from (Block n)) → kept image ≡ kept from → HasMendedFiles from → HasMendedFiles image
 unfolding EmptyAgrees max_entries_in
 blocks-alike from image links same keeps files = record {
   maps = λ n b linked small. ap (λ (o : Option (List ℕ)). is_block_marked_at (content (unwrap_or o [])) b) (at n linked) ∙ files.maps n b (was n linked) small ∙ ap (λ (ks : List Loaded). has (claims_of_loaded ks) n b) (sym keeps);
-  counted = λ n linked. let c = files.counted n (was n linked) in subst (λ (ks : List Loaded). IsCounted image (flat_map words_of ks) n) (sym keeps) (record {
+  counted = λ n linked. let c = files.counted n (was n linked) in subst (λ (ks : List Loaded). CountersAgree image (flat_map words_of ks) n) (sym keeps) (record {
     num_entries = ap (λ (o : Option (List ℕ)). allocations_of (content (unwrap_or o []))) (at n linked) ∙ c.num_entries;
     empty = λ i small. ap (λ (o : Option (List ℕ)). empty_of (content (unwrap_or o [])) i) (at n linked) ∙ c.empty i small
         ∙ sym (ap (λ (o : Option (List ℕ)). groups_with (is_block_marked_at (content (unwrap_or o []))) (groups_of (max_entries_of (content (unwrap_or o [])))) (i + 1)) (at n linked));
@@ -77,7 +91,7 @@ files-mended footprint from image behind outside mended keeps =
       λ files. record {
         maps = λ n b linked small. f.marks n b small ∙ files.maps n b (ap is_some (sym (f.links n)) ∙ linked) small ∙ ap (λ (ks : List Loaded). has_claim (claims_of_loaded ks) (BlockOf n b)) (sym keeps.kept_same);
         counted = λ n linked. let was = ap is_some (sym (f.links n)) ∙ linked in
-            subst (λ (ks : List Loaded). IsCounted image (flat_map words_of ks) n) (sym keeps.kept_same) (f.counted n (flat_map words_of (kept from)) was (files.counted n was));
+            subst (λ (ks : List Loaded). CountersAgree image (flat_map words_of ks) n) (sym keeps.kept_same) (f.counted n (flat_map words_of (kept from)) was (files.counted n was));
         long_enough = f.long_enough files.long_enough;
       },
       λ only. record {
@@ -100,3 +114,33 @@ words-leave from image at outside keeps sealed = subst (AllByRecursion (sound.Ar
     },
     each ks all.1,
   )
+
+-- ---- files that are rebuilt
+
+pub words-stand : KeptWordsStand
+unfolding kept
+words-stand image = all-stand image (kept image) (kept-loads (store_of image) held_rule _)
+
+pub words-claim : KeptWordsClaim
+words-claim image = all-claims (kept image)
+
+pub rebuilt-mended : RebuiltFilesAreMended
+rebuilt-mended image each long = record {
+  maps = λ n b linked small. (each n linked).allocations.marks b small ∙ same-marks n b (flat_map words_of (kept image)) ∙ ap (λ (cs : List Claim). has_claim cs (BlockOf n b)) (all-claims (kept image));
+  counted = λ n linked. let r : IsRebuiltFor image n = each n linked in record { num_entries = r.allocations.counted ∙ length-filter (is_in_file n) (flat_map words_of (kept image)); empty = r.empty; updating = r.updating };
+  long_enough = long;
+}
+
+-- ---- counters
+
+pub counters-left : OtherWordsLeaveCounters
+counters-left from image at aligned other outside keeps counters =
+    let still : (p : ℕ) → p % 4 ≡ 0 → is_among (8 ∷ 12 ∷ 268 ∷ []) p ≡ true → word_at (byte image Index) p ≡ word_at (byte from Index) p = λ p even there.
+    same_word_outside (one_word Index at) from image Index p outside (λ k low high. apart p k low high (beside p at even aligned (not-among (8 ∷ 12 ∷ 268 ∷ []) p at there other))) in
+    record {
+      sizes = still 268 refl refl ∙ counters.sizes ∙ ap length (sym keeps.kept_same);
+      num_entries = still 8 refl refl ∙ counters.num_entries ∙ ap length (sym keeps.kept_same);
+      num_bytes = still 12 refl refl ∙ counters.num_bytes ∙ ap (λ (ks : List Loaded). sum_by charge_of ks % 2 ^ 32) (sym keeps.kept_same);
+    } where
+      apart : (p k : ℕ) → p ≤ k → k < p + 4 → (p + 4 ≤ at) ⊎ (at + 4 ≤ p) → (nat_le at k && nat_lt k (at + 4)) ≡ false
+      apart p k low high away = grind (arith, nat_tests)

@@ -13,7 +13,7 @@ use Rattle.blk_format.specs.BlockFiles.{linked_as, stands_in}
 use Rattle.blk_image.specs.Bytes.{words_at}
 use Rattle.blk_format.specs.Records.{entry_in}
 use Rattle.blk_volume.specs.View.{RecordFields, NodeFields, fields_of, entry_at, store_of, node_fields_at, fields_at, stored_at, stands_as, data_size_of, address_of}
-use Rattle.blk_volume.specs.Entries.{key_of, stream_of, streams_of}
+use Rattle.blk_volume.specs.Entries.{stored_key, stored_stream, stored_streams}
 use Rattle.blk_volume.specs.Loads.{Rule, Loaded, load, record_claims, all_claims}
 use Rattle.blk_laws.proofs.Allocations.{storage-of_none}
 use Rattle.blk_laws.proofs.ByteChanges.{stands-linked}
@@ -58,8 +58,8 @@ stored-no_node image size x bytes e some = go (is_storage size x) (size == 0) (s
   go true false false last is none stands h = cc
   go true false true last is none stands h = (stands, storage-kind size x none is)
 
-long_key-no_node : (image : Image) (c : ℕ) (e : RecordFields) (key : List ℕ) → key_of (store_of image) c e ≡ Some key → IsNoNode image e.long_key
-unfolding key_of store_of
+long_key-no_node : (image : Image) (c : ℕ) (e : RecordFields) (key : List ℕ) → stored_key (store_of image) c e ≡ Some key → IsNoNode image e.long_key
+unfolding stored_key store_of
 long_key-no_node image c e key is some = go (nat_le e.key_len 927) is where
   lone : (o : Option (List ℕ)) → stored_at image (e.key_len + 1) e.long_key ≡ o → option_map (take e.key_len) o ≡ Some key → (stands_in image e.long_key ≡ true) × (kind_of e.long_key ≢ rankings)
   lone None at h = cc
@@ -72,8 +72,8 @@ long_key-no_node image c e key is some = go (nat_le e.key_len 927) is where
   go true h = let none : ◌≡◌ {A = Option (List ℕ)} None (Some key) = rw some at h in absurd (no none)
   go false h = lone (stored_at image (e.key_len + 1) e.long_key) refl h
 
-stream-no_node : (image : Image) (e : RecordFields) (i : ℕ) (bytes : List ℕ) → stream_of (store_of image) e i ≡ Some bytes → IsNoNode image (address_of e i)
-unfolding stream_of store_of
+stream-no_node : (image : Image) (e : RecordFields) (i : ℕ) (bytes : List ℕ) → stored_stream (store_of image) e i ≡ Some bytes → IsNoNode image (address_of e i)
+unfolding stored_stream store_of
 stream-no_node image e i bytes is = go (nat_le (data_size_of e i) 2147483647) is where
   go : (b : Bool) → (if b then stored_at image (data_size_of e i) (address_of e i) else None) ≡ Some bytes → IsNoNode image (address_of e i)
   go true h = stored-no_node image (data_size_of e i) (address_of e i) bytes h
@@ -85,13 +85,13 @@ record AreNoNodes (image : Image) (e : RecordFields) : Type 0 where
   third : IsNoNode image (address_of e 2)
   fourth : IsNoNode image (address_of e 3)
 
-streams-no_nodes : (image : Image) (e : RecordFields) (streams : List (List ℕ)) → streams_of (store_of image) e ≡ Some streams → AreNoNodes image e
-unfolding streams_of
-streams-no_nodes image e streams is = go ((data_size_of e 3 == 0) && (address_of e 3 == 0)) (stream_of (store_of image) e 0) (stream_of (store_of image) e 1) (stream_of (store_of image) e 2) refl refl refl refl is where
+streams-no_nodes : (image : Image) (e : RecordFields) (streams : List (List ℕ)) → stored_streams (store_of image) e ≡ Some streams → AreNoNodes image e
+unfolding stored_streams
+streams-no_nodes image e streams is = go ((data_size_of e 3 == 0) && (address_of e 3 == 0)) (stored_stream (store_of image) e 0) (stored_stream (store_of image) e 1) (stored_stream (store_of image) e 2) refl refl refl refl is where
   clash : true ≡ false → ⊥
   clash e = cc
 
-  go : (b : Bool) (s0 s1 s2 : Option (List ℕ)) → ((data_size_of e 3 == 0) && (address_of e 3 == 0)) ≡ b → stream_of (store_of image) e 0 ≡ s0 → stream_of (store_of image) e 1 ≡ s1 → stream_of (store_of image) e 2 ≡ s2
+  go : (b : Bool) (s0 s1 s2 : Option (List ℕ)) → ((data_size_of e 3 == 0) && (address_of e 3 == 0)) ≡ b → stored_stream (store_of image) e 0 ≡ s0 → stored_stream (store_of image) e 1 ≡ s1 → stored_stream (store_of image) e 2 ≡ s2
       → (if not b then None else option_and_then (λ first. option_and_then (λ second. option_map (λ third. first ∷ second ∷ third ∷ []) s2) s1) s0) ≡ Some streams → AreNoNodes image e
   go false s0 s1 s2 b0 e0 e1 e2 h = cc
   go true None s1 s2 b0 e0 e1 e2 h = cc

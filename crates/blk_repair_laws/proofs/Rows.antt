@@ -21,9 +21,9 @@ use Rattle.blk_format.specs.Names.{Name, read_name, IsName, child_name, name_hea
 use Rattle.blk_format.specs.SparseIndex.{last_block_len_of, parent_key_len_of, ParentIndex, PartIndex, read_parent_index, read_part_index, is_index_head, is_partial, map_bit}
 use Rattle.blk_format.proofs.NameLemmas.{read_name-IsName}
 use Rattle.blk_volume.specs.View.{RecordFields, store_of, stored_at, key_place_at, data_size_of, address_of, block_bytes}
-use Rattle.blk_volume.specs.Entries.{Role, IsPlain, IsParent, IsPart, is_key_length, longest_key_with, key_of, stream_of, streams_of, stream, parent_role, part_role, role_of, is_covered}
+use Rattle.blk_volume.specs.Entries.{Role, IsPlain, IsParent, IsPart, is_key_length, longest_key_with, stored_key, stored_stream, stored_streams, stream, parent_role, part_role, role_of, is_covered}
 use Rattle.blk_volume.specs.Loads.{Rule, Loaded, load, is_part_role}
-use Rattle.blk_volume.specs.Found.{row_of}
+use Rattle.blk_volume.specs.Found.{row_of_loaded}
 use Rattle.blk_laws.proofs.Fronts.{AreSmall, small-take, small-range}
 use Rattle.blk_laws.proofs.Loads.{load-then}
 use Rattle.blk_laws.proofs.Shown.{role-part}
@@ -61,8 +61,8 @@ stored-data image are size w bytes e = go (not (is_storage size w)) (size == 0) 
   go false false false true false is h = absurd (no-data h)
   go false false false false l is h = subst (AreData size) (some-data h) (range-data (block_bytes image w) (place w) size (are (Block (file_selector w))))
 
-key-data : (image : Image) → AreBytes image → (c : ℕ) (e : RecordFields) (key : List ℕ) → key_of (store_of image) c e ≡ Some key → AreData e.key_len key
-unfolding key_of store_of key_place_at
+key-data : (image : Image) → AreBytes image → (c : ℕ) (e : RecordFields) (key : List ℕ) → stored_key (store_of image) c e ≡ Some key → AreData e.key_len key
+unfolding stored_key store_of key_place_at
 key-data image are c e key is = go (nat_le e.key_len 927) (e.long_key == 0) is where
   taken : (o : Option (List ℕ)) → stored_at image (e.key_len + 1) e.long_key ≡ o → option_map (take e.key_len) o ≡ Some key → AreData e.key_len key
   taken None at h = absurd (no-data h)
@@ -76,8 +76,8 @@ key-data image are c e key is = go (nat_le e.key_len 927) (e.long_key == 0) is w
   go true false h = absurd (no-data h)
   go false b h = taken (stored_at image (e.key_len + 1) e.long_key) refl h
 
-stream-data : (image : Image) → AreBytes image → (e : RecordFields) (i : ℕ) (bytes : List ℕ) → stream_of (store_of image) e i ≡ Some bytes → AreData (data_size_of e i) bytes
-unfolding stream_of store_of
+stream-data : (image : Image) → AreBytes image → (e : RecordFields) (i : ℕ) (bytes : List ℕ) → stored_stream (store_of image) e i ≡ Some bytes → AreData (data_size_of e i) bytes
+unfolding stored_stream store_of
 stream-data image are e i bytes is = go (nat_le (data_size_of e i) 2147483647) is where
   go : (b : Bool) → (if b then stored_at image (data_size_of e i) (address_of e i) else None) ≡ Some bytes → AreData (data_size_of e i) bytes
   go true h = stored-data image are (data_size_of e i) (address_of e i) bytes h
@@ -89,16 +89,16 @@ record AreStreams (streams : List (List ℕ)) : Type 0 where
   second : AreSmall (stream 1 streams)
   third : AreSmall (stream 2 streams)
 
-streams-data : (image : Image) → AreBytes image → (e : RecordFields) (streams : List (List ℕ)) → streams_of (store_of image) e ≡ Some streams → AreStreams streams
-unfolding streams_of
-streams-data image are e streams is = go (not ((data_size_of e 3 == 0) && (address_of e 3 == 0))) (stream_of (store_of image) e 0) (stream_of (store_of image) e 1) (stream_of (store_of image) e 2) refl refl refl is where
+streams-data : (image : Image) → AreBytes image → (e : RecordFields) (streams : List (List ℕ)) → stored_streams (store_of image) e ≡ Some streams → AreStreams streams
+unfolding stored_streams
+streams-data image are e streams is = go (not ((data_size_of e 3 == 0) && (address_of e 3 == 0))) (stored_stream (store_of image) e 0) (stored_stream (store_of image) e 1) (stored_stream (store_of image) e 2) refl refl refl is where
   none : {s : List (List ℕ)} → ◌≡◌ {A = Option (List (List ℕ))} None (Some s) → ⊥
   none e = cc
 
   same : {a b : List (List ℕ)} → ◌≡◌ {A = Option (List (List ℕ))} (Some a) (Some b) → a ≡ b
   same e = cc
 
-  go : (b : Bool) (s0 s1 s2 : Option (List ℕ)) → stream_of (store_of image) e 0 ≡ s0 → stream_of (store_of image) e 1 ≡ s1 → stream_of (store_of image) e 2 ≡ s2
+  go : (b : Bool) (s0 s1 s2 : Option (List ℕ)) → stored_stream (store_of image) e 0 ≡ s0 → stored_stream (store_of image) e 1 ≡ s1 → stored_stream (store_of image) e 2 ≡ s2
       → (if b then None else option_and_then (λ first. option_and_then (λ second. option_map (λ third. first ∷ second ∷ third ∷ []) s2) s1) s0) ≡ Some streams → AreStreams streams
   go true s0 s1 s2 e0 e1 e2 h = absurd (none h)
   go false None s1 s2 e0 e1 e2 h = absurd (none h)
@@ -381,7 +381,7 @@ role-of_part e key streams name index is = go (e.flags == parent) (e.flags == ch
 
 -- ---- rows
 
-pub row-is : (image : Image) → AreBytes image → (rule : Rule) (w : ℕ) (k : Loaded) → load (store_of image) rule w ≡ Ok k → IsRow (row_of k)
+pub row-is : (image : Image) → AreBytes image → (rule : Rule) (w : ℕ) (k : Loaded) → load (store_of image) rule w ≡ Ok k → IsRow (row_of_loaded k)
 unfolding IsRow is_key_length
 row-is image are rule w k ok = load-then (store_of image) rule w k ok (λ n e f.
     let kept_key = key-data image are n.contents e k.key f.facts.keyed.key in
@@ -397,9 +397,9 @@ row-is image are rule w k ok = load-then (store_of image) rule w k ok (λ n e f.
           let short : e.key_len ≤ 32768 = subst (λ (b : Bool). e.key_len ≤ (if b then 32796 else 32768)) flag most in
           record { some = omega (arith, long, some); short = omega (arith, long, short); bytes = bytes-of k.key kept_key.small }
 
-      by-role : (e : RecordFields) → AreData e.key_len k.key → AreStreams k.streams → 1 ≤ e.key_len → e.key_len ≤ longest_key_with e → (e.flags == child) ≡ is_part_role k.role → role_of e k.key k.streams ≡ Some k.role → IsRow (row_of k)
+      by-role : (e : RecordFields) → AreData e.key_len k.key → AreStreams k.streams → 1 ≤ e.key_len → e.key_len ≤ longest_key_with e → (e.flags == child) ≡ is_part_role k.role → role_of e k.key k.streams ≡ Some k.role → IsRow (row_of_loaded k)
       by-role e kept_key streams some most flag role = go k.role refl flag where
-        go : (r : Role) → k.role ≡ r → (e.flags == child) ≡ is_part_role k.role → IsRow (row_of k)
+        go : (r : Role) → k.role ≡ r → (e.flags == child) ≡ is_part_role k.role → IsRow (row_of_loaded k)
         go IsPlain is flag =
             let key = main-key e kept_key some most (flag ∙ ap is_part_role is) in
             rw is (key, (bytes-of (stream 0 k.streams) streams.first, bytes-of (stream 1 k.streams) streams.second, bytes-of (stream 2 k.streams) streams.third))

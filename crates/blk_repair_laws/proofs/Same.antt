@@ -11,7 +11,7 @@ use Rattle.blk_volume.specs.Chains.{Chain, chain, chain_from, is_of_bucket, file
 use Rattle.blk_volume.specs.Loads.{Rule, held_rule}
 use Rattle.blk_volume.specs.Audit.{kept_among}
 use Rattle.blk_volume.specs.Candidates.{checked_fields, SameRecord, SameNamed}
-use Rattle.blk_volume.specs.Found.{kept, found, row_of}
+use Rattle.blk_volume.specs.Found.{kept, found, row_of_loaded}
 use Rattle.std.specs.Prelude.{map}
 use Rattle.blk_volume.specs.ShownChanges.{ShowsTheSame}
 use Rattle.blk_volume.specs.ListImages.{IsWritable, completed_walk}
@@ -68,7 +68,7 @@ holds-from from image well_from well ready same is =
       well_formed = well;
       writable = ready;
       kept_same = keeps;
-      found_same = rw (well_formed-finished image well, well_formed-finished from well_from) (ap (map row_of) keeps);
+      found_same = rw (well_formed-finished image well, well_formed-finished from well_from) (ap (map row_of_loaded) keeps);
     } where
       one : kept image ≡ kept_among (store_of from) held_rule (completed_walk image)
       one = sym (shown-same (store_of from) (store_of image) held_rule (completed_walk image) same)

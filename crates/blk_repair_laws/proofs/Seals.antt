@@ -2,7 +2,7 @@
 use Rattle.std.proofs.Common.{◌≡◌, ◌⊎◌, ⊎_elim, ℕ, ◌+◌, ◌*◌, ◌<◌, ◌≤◌, Bool, true, false, List, [], ◌∷◌, take, refl, ap, ap₂, sym, ◌∙◌, subst, arith}
 use Rattle.std.specs.Prelude.{◌==◌, ◌&&◌, nat_le, nat_lt, map}
 use Rattle.std.specs.List.{AllByRecursion}
-use Rattle.std.proofs.lemmas.Bool.{eq-eqb, eqb-true, or_left, or_right}
+use Rattle.std.proofs.lemmas.Bool.{eq-eqb, eqb-true, or_left, or_right, and_left, and_right}
 use Rattle.std.proofs.lemmas.Bool.Decides.{nat_tests}
 use Rattle.std.proofs.lemmas.List.Elements.{All-nil}
 use Rattle.blk_image.specs.Bytes.{content, word_at, range_at}
@@ -25,10 +25,10 @@ use Rattle.blk_volume.specs.Found.{kept}
 use Rattle.blk_laws.proofs.ByteChanges.{stands-linked}
 use Rattle.blk_laws.proofs.ChainWords.{record-at}
 use Rattle.blk_laws.proofs.Fronts.{AreSmall, small-take, small-range, same-entry, front-words, front-range}
-use Rattle.blk_laws.proofs.Sealing.{sealed_bytes, node_at_place, range_apart, file_apart, file_same}
+use Rattle.blk_laws.proofs.Sealing.{sealed_bytes, node_at_place, range_apart}
 use Rattle.blk_laws.proofs.Updates.{entry-here}
 use Rattle.blk_repair_laws.specs.ChainRepair.{is_kept_record, IsStandingRecord}
-use Rattle.blk_repair_laws.specs.Mended.{IsSealedAt, SealsAreMade, SealsStand, KeptAreSealed}
+use Rattle.blk_repair_laws.specs.MendedParts.{IsSealedAt, SealsAreMade, SealsStand, KeptAreSealed}
 use Rattle.blk_repair_laws.proofs.KeptRecords.{kept-nodes-check, kept-records-check}
 
 -- an entry record is sealed where it is so in its bytes
@@ -82,19 +82,19 @@ module _ (from image : Image) (w u : ℕ) (stands_w : stands_in from w ≡ true)
   by_place t e file = ⊎_elim (λ (k : kind_of w ≡ rankings). nodes t e k (one-kind file ∙ k)) (λ (k : kind_of w ≡ blocks_256). entries t e k (one-kind file ∙ k)) kind_w where
     nodes : (t : Bool) → (first_block u == first_block w) ≡ t → kind_of w ≡ rankings → kind_of u ≡ rankings → IsSealedAt image u
     nodes true e k l = at_one_place file (node_at_place u l ∙ ap (λ (n : ℕ). 8192 + n * 36) (eqb-true (first_block u) (first_block w) e) ∙ sym (node_at_place w k))
-    nodes false e k l = at_others (λ i low high. file_same _ _
+    nodes false e k l = at_others (λ i low high. and_right _ _
         (subst (λ (n : ℕ). (nat_le (place w) i && nat_lt i (place w + n)) ≡ false) (sym (node_bytes w k))
         (range_apart (place u) (place w) 36 i (node-places (first_block u) (first_block w) (place u) (place w) e (node_at_place u l) (node_at_place w k)) low (let m = node_bytes u l in omega (arith, high, m)))))
 
     entries : (t : Bool) → (first_block u == first_block w) ≡ t → kind_of w ≡ blocks_256 → kind_of u ≡ blocks_256 → IsSealedAt image u
     entries true e k l = at_one_place file (record-at u l ∙ ap (λ (n : ℕ). 8192 + n * 256) (eqb-true (first_block u) (first_block w) e) ∙ sym (record-at w k))
-    entries false e k l = at_others (λ i low high. file_same _ _
+    entries false e k l = at_others (λ i low high. and_right _ _
         (subst (λ (n : ℕ). (nat_le (place w) i && nat_lt i (place w + n)) ≡ false) (sym (entry_bytes w k))
         (range_apart (place u) (place w) 96 i (entry-places (first_block u) (first_block w) (place u) (place w) e (record-at u l) (record-at w k)) low (let m = entry_bytes u l in omega (arith, high, m)))))
 
   by_file : (t : Bool) → (file_selector w == file_selector u) ≡ t → IsSealedAt image u
   by_file true e = by_place (first_block u == first_block w) refl (sym (eqb-true (file_selector w) (file_selector u) e))
-  by_file false e = at_others (λ i low high. file_apart _ _ e)
+  by_file false e = at_others (λ i low high. and_left _ _ e)
 
   stands-sealed : IsSealedAt image u
   stands-sealed = by_file (file_selector w == file_selector u) refl

@@ -18,7 +18,7 @@ use Rattle.blk_volume.specs.Loads.{Rule, held_rule, Loaded}
 use Rattle.blk_volume.specs.Reasons.{Reason}
 use Rattle.blk_volume.specs.Audit.{kept_of, judged, verdict, verdicts, verdict_on, with_verdict, tried, dropped_of, dropped_among, is_kept, kept_nodes, is_unlisted, unlisted_in, unlisted}
 use Rattle.blk_volume.specs.Found.{kept, dropped, completed}
-use Rattle.blk_volume.specs.Sound.{EndsWhole, IsSound, IsCounted, AreSealed, words_of}
+use Rattle.blk_volume.specs.Sound.{EndsWhole, IsSound, CountersAgree, AreSealed, words_of}
 use Rattle.blk_volume.specs.ListImages.{walked, completion_steps, HasListAtRest}
 use Rattle.blk_image.specs.Steps.{TrailStep, after}
 use Rattle.blk_laws.proofs.Central.{walk-idle}
@@ -30,7 +30,7 @@ use Rattle.blk_repair_laws.specs.ChainRepair.{is_kept_record, kept_records, chai
 use Rattle.blk_repair_laws.specs.ListRepair.{without, dropped_nodes, end_steps, removal_steps, list_repair_steps}
 use Rattle.blk_repair_laws.specs.LinkRepair.{MendedLinksNeedNoSteps}
 use Rattle.blk_repair_laws.proofs.Mended.{append-none}
-use Rattle.blk_repair_laws.specs.Paths.{Path, IsPath}
+use Rattle.blk_repair_laws.proofs.Paths.{Path, IsPath}
 use Rattle.blk_repair_laws.specs.MendedLinks.{HasMendedLinks}
 use Rattle.blk_repair_laws.specs.Mended.{IsMended, SoundFoldersAreMended}
 use Rattle.blk_repair_laws.proofs.EndRepair.{IsWalked, walked-is}
@@ -203,7 +203,7 @@ module _ (image : Image) (sound : IsSound image) where
   folder-mended : IsMended image
   folder-mended = record {
     links = links-mended;
-    files = record { maps = sound.owned.maps; counted = λ n linked. subst (λ (ks : List Loaded). IsCounted image (flat_map words_of ks) n) (append-none (kept image)) (sound.in_order.counted n linked); long_enough = sound.in_order.long_enough };
+    files = record { maps = sound.owned.maps; counted = λ n linked. subst (λ (ks : List Loaded). CountersAgree image (flat_map words_of ks) n) (append-none (kept image)) (sound.in_order.counted n linked); long_enough = sound.in_order.long_enough };
     only = record { only_linked = sound.in_order.only_linked; only_claimed = sound.owned.only_claimed };
     sealed = subst (AllByRecursion (AreSealed image)) (append-none (kept image)) sound.in_order.sealed;
     counters = record { sizes = sound.in_order.index.sizes; num_entries = sound.in_order.index.num_entries; num_bytes = sound.in_order.index.num_bytes };

@@ -1,9 +1,9 @@
 pub mod EndRepair
 pub mod ListRepair
-pub mod Paths
 pub mod ChainRepair
 pub mod MendedLinks
 pub mod LinkRepair
 pub mod MendedChanges
 pub mod Mended
+pub mod MendedParts
 pub mod FoundHolding

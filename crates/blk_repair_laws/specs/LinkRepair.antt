@@ -1,5 +1,5 @@
 -- The repair of all links: of the use list, and then of the chains.
-use Rattle.std.specs.Prelude.{◌≡◌, [], ◌++◌, List}
+use Rattle.std.specs.Prelude.{◌≡◌, [], ◌++◌, List, ℕ, ◌∷◌, take}
 use Rattle.blk_image.specs.Image.{Image}
 use Rattle.blk_image.specs.Steps.{TrailStep, after}
 use Rattle.blk_image.specs.Told.{Along}
@@ -24,3 +24,12 @@ LinksAreRepaired = (image : Image) → IsWellFormed image → IsWritable image �
 -- a folder whose links are mended needs no step
 abbrev pub MendedLinksNeedNoSteps : Type 0
 MendedLinksNeedNoSteps = (image : Image) → HasMendedLinks image → link_repair_steps image ≡ []
+
+-- the repair of the links, stopped after so many words, and begun again on what is there then, as often as there are numbers
+abbrev pub stopped_repair : List ℕ → Image → Image
+stopped_repair [] image = image
+stopped_repair (count ∷ counts) image = stopped_repair counts (after (take count (link_repair_steps image)) image)
+
+-- the same is held however often it is stopped
+abbrev pub LinkRepairsMayBeStopped : Type 0
+LinkRepairsMayBeStopped = (image : Image) (counts : List ℕ) → IsWellFormed image → IsWritable image → HoldsTheSame image (stopped_repair counts image)

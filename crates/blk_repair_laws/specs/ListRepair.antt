@@ -9,7 +9,7 @@ use Rattle.blk_volume.specs.View.{list_of, store_of}
 use Rattle.blk_volume.specs.Completion.{remove}
 use Rattle.blk_volume.specs.Loads.{held_rule}
 use Rattle.blk_volume.specs.Found.{kept, found}
-use Rattle.blk_volume.specs.ListSteps.{steps_of}
+use Rattle.blk_volume.specs.ListSteps.{steps_of_writes}
 use Rattle.blk_volume.specs.ListImages.{IsWritable, walked, completed_walk, HasListAtRest, operation_steps, completion_steps}
 use Rattle.blk_volume.specs.ShownChanges.{ShowsTheSame}
 use Rattle.blk_repair_laws.specs.EndRepair.{end_writes}
@@ -17,7 +17,7 @@ use Rattle.blk_volume.specs.Audit.{is_kept, kept_nodes}
 
 -- the end of the list is mended
 abbrev pub end_steps : Image → List TrailStep
-end_steps image = steps_of (end_writes (list_of image)) image
+end_steps image = steps_of_writes (end_writes (list_of image)) image
 
 -- some nodes are taken out, one after the other
 abbrev pub removal_steps : List ℕ → Image → List TrailStep

@@ -35,9 +35,19 @@ RepairedLinksAreKept = (from image : Image) → HoldsTheSame from image → HasM
 abbrev pub MendedLinksGoOn : Type 0
 MendedLinksGoOn = (from between image : Image) → KeepsMendedLinks from between → KeepsMendedLinks between image → KeepsMendedLinks from image
 
--- then the same is held, where the image can be written
-abbrev pub MendedLinksHoldTheSame : Type 0
-MendedLinksHoldTheSame = (from image : Image) → KeepsMendedLinks from image → IsWritable image → HoldsTheSame from image
+-- at each word of the repair the folder is well formed, and the same is kept and found
+pub record IsMidRepair (from image : Image) : Type 0 where
+  pub well_formed : IsWellFormed image
+  pub kept_same : kept image ≡ kept from
+  pub found_same : found image ≡ found from
+
+-- that is so while the links are repaired
+abbrev pub LinksAreMidRepair : Type 0
+LinksAreMidRepair = (from image : Image) → HoldsTheSame from image → IsMidRepair from image
+
+-- and while what is behind them is mended
+abbrev pub MendedLinksAreMidRepair : Type 0
+MendedLinksAreMidRepair = (from image : Image) → KeepsMendedLinks from image → IsMidRepair from image
 
 -- Changes of what isn't kept.
 

@@ -13,7 +13,7 @@ use Rattle.blk_format.specs.BlockFiles.{IsWellFormed}
 use Rattle.blk_volume.specs.View.{view_of, store_of}
 use Rattle.blk_volume.specs.Chains.{IsChain}
 use Rattle.blk_volume.specs.Loads.{held_rule, Loaded, all_claims}
-use Rattle.blk_volume.specs.Found.{kept, found, row_of}
+use Rattle.blk_volume.specs.Found.{kept, found, row_of_loaded}
 use Rattle.blk_volume.specs.Layout.{Layout, Represents}
 use Rattle.blk_volume.specs.ListImages.{walked, HasListAtRest}
 use Rattle.blk_volume.specs.Audit.{kept_nodes}
@@ -38,7 +38,7 @@ node_with test ks = option_map (λ k. k.node) (first_with test ks)
 -- where what is kept lies
 unfoldable pub kept_layout : Image → Layout
 kept_layout image = record {
-  place = λ item. option_map_or (λ k. k.node) (first_with (λ k. same_item item (item_of (row_of k))) (kept image)) 0;
+  place = λ item. option_map_or (λ k. k.node) (first_with (λ k. same_item item (item_of (row_of_loaded k))) (kept image)) 0;
   place_of_doomed = λ number. 0;
   at = λ node. first_with (λ k. k.node == node) (kept image);
   state = λ node. 0;

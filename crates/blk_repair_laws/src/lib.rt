@@ -4,10 +4,11 @@
 ghost use Rattle.blk_repair_laws.specs.EndRepair.{EndsAreMended};
 ghost use Rattle.blk_repair_laws.specs.ListRepair.{ListsAreRepaired, CompletedListsAreEnded, ListsAtRestNeedNoEnd, DroppedNodesAreTheOthers, RemovalsBegin, KeptNodesArePassed, OtherNodesAreRemoved, RemovalsEnd};
 ghost use Rattle.blk_repair_laws.specs.ChainRepair.{ChainsAreRepaired, ChainsBegin, BucketsAreMended, WholeChainsNeedNoSteps, ChainsEnd, KeptRecordsStay, WholeChainsStay, KeptNodesCheck, KeptRecordsCheck};
-ghost use Rattle.blk_repair_laws.specs.LinkRepair.{LinksAreRepaired, MendedChainsAreMendedLinks, MendedLinksNeedNoSteps};
+ghost use Rattle.blk_repair_laws.specs.LinkRepair.{LinksAreRepaired, MendedChainsAreMendedLinks, MendedLinksNeedNoSteps, LinkRepairsMayBeStopped};
 ghost use Rattle.blk_repair_laws.specs.MendedLinks.{MendedLinksRepresent};
-ghost use Rattle.blk_repair_laws.specs.MendedChanges.{RepairedLinksAreKept, MendedLinksGoOn, MendedLinksHoldTheSame, MendedLinksStayOutside, MendedLinksMayGrow, UnlinkedFilesMayBeDeleted, UnclaimedFilesMayChange, HiddenWordsMayChange, KeptNodesMayBeSealed, KeptRecordsMayBeSealed};
-ghost use Rattle.blk_repair_laws.specs.Mended.{MendedFoldersStandFor, MendedFoldersAreSound, SoundFoldersAreMended, UnlinkedFilesLeaveTheOthers, ExternalFilesLeaveTheBlocks, MendedFilesStand, IndexWordsLeaveSeals, SealsAreMade, SealsStand, KeptAreSealed};
+ghost use Rattle.blk_repair_laws.specs.MendedChanges.{RepairedLinksAreKept, MendedLinksGoOn, LinksAreMidRepair, MendedLinksAreMidRepair, MendedLinksStayOutside, MendedLinksMayGrow, UnlinkedFilesMayBeDeleted, UnclaimedFilesMayChange, HiddenWordsMayChange, KeptNodesMayBeSealed, KeptRecordsMayBeSealed};
+ghost use Rattle.blk_repair_laws.specs.Mended.{MendedFoldersStandFor, MendedFoldersAreSound, SoundFoldersAreMended};
+ghost use Rattle.blk_repair_laws.specs.MendedParts.{KeptWordsStand, KeptWordsClaim, RebuiltFilesAreMended, UnlinkedFilesLeaveTheOthers, ExternalFilesLeaveTheBlocks, MendedFilesStand, IndexWordsLeaveSeals, OtherWordsLeaveCounters, SealsAreMade, SealsStand, KeptAreSealed};
 ghost use Rattle.blk_repair_laws.specs.FoundHolding.{FoundIsAHolding};
 
 /// While the end of a list is mended the same nodes are walked; in the end the list is whole.
@@ -72,11 +73,17 @@ pub fn mended_links_represent()
     ensures { MendedLinksRepresent }
 {}
 
-/// Once the links are repaired they are mended with the same kept and found, and stay so through one change after another; then the same is held.
+/// Once the links are repaired they are mended with the same kept and found, and stay so through one change after another.
 pub fn mended_links_go_on()
     ensures begins { RepairedLinksAreKept }
     ensures goes_on { MendedLinksGoOn }
-    ensures holds { MendedLinksHoldTheSame }
+{}
+
+/// So at each word of the repair, while the links are repaired and behind that, the folder is well formed and the same is kept and found.
+pub fn repairs_hold_the_same()
+    ensures links { LinksAreMidRepair }
+    ensures behind { MendedLinksAreMidRepair }
+    ensures stopped { LinkRepairsMayBeStopped }
 {}
 
 /// Mended links stay mended, with the same kept and found, where what isn't kept changes: where block files grow, where one that isn't linked or an external file that nobody claims goes, and where a counter of the index is written.
@@ -94,12 +101,20 @@ pub fn kept_records_may_be_sealed()
     ensures records { KeptRecordsMayBeSealed }
 {}
 
-/// What was mended of files and seals stays so while what comes after it is mended.
+/// The address words of what is kept stand and claim what it claims; where maps and counters are rebuilt for them, the files are mended.
+pub fn rebuilt_files_are_mended()
+    ensures stand { KeptWordsStand }
+    ensures claim { KeptWordsClaim }
+    ensures mended { RebuiltFilesAreMended }
+{}
+
+/// What was mended of files, seals and counters stays so while what comes after it is mended.
 pub fn mended_parts_stand()
     ensures unlinked { UnlinkedFilesLeaveTheOthers }
     ensures external { ExternalFilesLeaveTheBlocks }
     ensures files { MendedFilesStand }
     ensures words { IndexWordsLeaveSeals }
+    ensures counters { OtherWordsLeaveCounters }
 {}
 
 /// What is kept is sealed one record after the other, and each leaves the others sealed.

@@ -1,0 +1,114 @@
+-- Worked folders: a sound one, in which nothing is left to repair, and one of which a node is dropped.
+use Rattle.std.proofs.Common.{◌++◌, ◌≡◌, ℕ, zero, suc, List, [], ◌∷◌, refl, ap, ◌∙◌, subst, arith, lit<}
+use Rattle.std.specs.Prelude.{map}
+use Rattle.blk_format.specs.NewFolder.{new_index_words, new_file_words}
+use Rattle.blk_format.specs.Headers.{index_length}
+use Rattle.blk_image.specs.Steps.{with_words}
+use Rattle.blk_image.specs.Bytes.{zeros, word_bytes}
+use Rattle.blk_image.specs.Image.{Index, Block, External, File, bytes_of}
+use Rattle.blk_image.specs.Steps.{Delete, Word, applied, after}
+use Rattle.blk_image.specs.Told.{Along}
+use Rattle.blk_image.proofs.Footprints.{outside_write}
+use Rattle.blk_model.specs.State.{Bounds}
+use Rattle.blk_model.specs.Holding.{open_state}
+use Rattle.blk_model.specs.Items.{IsValidHolding}
+use Rattle.blk_volume.specs.View.{view_of}
+use Rattle.blk_volume.specs.Completion.{remove}
+use Rattle.blk_volume.specs.Loads.{Loaded}
+use Rattle.blk_volume.specs.Found.{kept, found}
+use Rattle.blk_volume.specs.Layout.{Represents}
+use Rattle.blk_volume.specs.StandsFor.{StandsFor}
+use Rattle.blk_volume.specs.ListImages.{IsWritable, completed_walk, operation_steps}
+use Rattle.blk_laws.proofs.ExampleFolders.{whole-is_sound}
+use Rattle.blk_laws.proofs.ExampleUses.{whole-writable}
+use Rattle.blk_laws.proofs.ExampleWrites.{small-zeros}
+use Rattle.blk_format.proofs.Finished.{whole_index}
+use Rattle.blk_laws.proofs.Fronts.{AreSmall, small-take, small-words}
+use Rattle.blk_laws.proofs.SmallFolder.{cut_to, cut_is_well_formed, cut_is_walked, cut_is_kept}
+use Rattle.blk_laws.proofs.WholeFolder.{whole_folder, whole-is_well_formed, whole-linked}
+use Rattle.blk_repair_laws.specs.ListRepair.{HoldsTheSame, HasRemoved, IsListMended, dropped_nodes, ended_image, without}
+use Rattle.blk_repair_laws.specs.ChainRepair.{HasChainsUpTo}
+use Rattle.blk_repair_laws.specs.LinkRepair.{link_repair_steps}
+use Rattle.blk_repair_laws.specs.MendedLinks.{HasMendedLinks, kept_layout}
+use Rattle.blk_repair_laws.specs.MendedChanges.{KeepsMendedLinks}
+use Rattle.blk_repair_laws.specs.Mended.{HasMendedFiles, IsMended}
+use Rattle.blk_repair_laws.proofs.ListRepair.{dropped-are, removals-begin, kept-passed_by, others-removed, removals-end}
+use Rattle.blk_repair_laws.proofs.ChainRepair.{chains-begin}
+use Rattle.blk_repair_laws.proofs.LinkRepair.{links-repaired}
+use Rattle.blk_repair_laws.proofs.FoundHolding.{found-holding}
+use Rattle.blk_repair_laws.proofs.MendedLinks.{links-represent}
+use Rattle.blk_repair_laws.proofs.MendedChanges.{unlinked-deleted, hidden-change}
+use Rattle.blk_repair_laws.proofs.Mended.{mended-folders}
+use Rattle.blk_repair_laws.proofs.MendedParts.{unlinked-leave}
+use Rattle.blk_repair_laws.proofs.SoundFolders.{sound-mended, mended-none}
+
+-- ---- a sound folder
+
+whole-mended : IsMended whole_folder
+whole-mended = sound-mended whole_folder whole-is_sound
+
+whole-links : HasMendedLinks whole_folder
+whole-links = whole-mended.links
+
+whole-needs_no_step : link_repair_steps whole_folder ≡ []
+whole-needs_no_step = mended-none whole_folder whole-links
+
+whole-represents : (limits : Bounds) → Represents (view_of whole_folder) (open_state (found whole_folder) limits) (kept_layout whole_folder)
+whole-represents limits = links-represent whole_folder limits whole-links whole-writable.bytes
+
+whole-stands_for : (limits : Bounds) → StandsFor whole_folder (open_state (found whole_folder) limits)
+whole-stands_for limits = mended-folders whole_folder limits whole-mended whole-writable.bytes
+
+whole-holds : IsValidHolding (found whole_folder)
+whole-holds = found-holding whole_folder whole-writable.bytes
+
+-- its buckets are gone through from the first
+whole-begins : HasChainsUpTo whole_folder 0 whole_folder
+whole-begins = chains-begin whole_folder whole-is_well_formed whole-writable (record { idle = whole-links.rests.idle; all_kept = whole-links.all_kept })
+
+-- a block file that isn't linked goes, and the crash word is written
+whole-without_file : KeepsMendedLinks whole_folder (applied (Delete (Block 9)) whole_folder) × HasMendedFiles (applied (Delete (Block 9)) whole_folder)
+whole-without_file = let keeps = unlinked-deleted whole_folder 9 whole-links (whole-linked 9) in (keeps, unlinked-leave whole_folder 9 (whole-linked 9) keeps whole-mended.files)
+
+whole-crashed : KeepsMendedLinks whole_folder (applied (Word Index 32 (word_bytes 1)) whole_folder)
+whole-crashed = hidden-change whole_folder (applied (Word Index 32 (word_bytes 1)) whole_folder) 32 whole-links refl (omega arith) refl refl (outside_write Index 32 (word_bytes 1) whole_folder)
+
+-- ---- a folder of two nodes, of which the second names no record
+
+cut-small : (file : File) → AreSmall (bytes_of (cut_to 8448) file)
+unfolding cut_to
+cut-small Index = small-words (new_index_words 50 ++ (288, 0x90000000) ∷ (308, 0x90000001) ∷ (171896, 0xA0010000) ∷ (165108, 0xA0010001) ∷ []) (zeros index_length) (small-zeros index_length)
+cut-small (Block zero) = small-words (new_file_words 0 ++ (20, 1024) ∷ (8208, 0x90000001) ∷ (8212, 0x90000000) ∷ (8216, 0xA0010000) ∷ (8244, 0x90000001) ∷ (8248, 0x90000000) ∷ (8252, 0xA0010001) ∷ []) (zeros 8264) (small-zeros 8264)
+cut-small (Block (suc zero)) = small-take 8448 (with_words (new_file_words 1 ++ (20, 1024) ∷ (8192, 0x115EA782) ∷ (8200, 0x90000000) ∷ (8224, 1) ∷ (8288, 97) ∷ (8448, 0x70C1A0E1) ∷ (8456, 0x90000001) ∷ (8480, 1) ∷ (8544, 98) ∷ []) (zeros 8704)) (small-words (new_file_words 1 ++ (20, 1024) ∷ (8192, 0x115EA782) ∷ (8200, 0x90000000) ∷ (8224, 1) ∷ (8288, 97) ∷ (8448, 0x70C1A0E1) ∷ (8456, 0x90000001) ∷ (8480, 1) ∷ (8544, 98) ∷ []) (zeros 8704) (small-zeros 8704))
+cut-small (Block (suc (suc zero))) = small-words (new_file_words 2) (zeros 8192) (small-zeros 8192)
+cut-small (Block (suc (suc (suc zero)))) = small-words (new_file_words 3) (zeros 8192) (small-zeros 8192)
+cut-small (Block (suc (suc (suc (suc n))))) = λ i. lit< tt
+cut-small (External n) = λ i. lit< tt
+
+cut-writable : IsWritable (cut_to 8448)
+cut-writable = record { bytes = λ file i. cut-small file i; has_header = let long = whole_index (cut_to 8448) cut_is_well_formed in omega (arith, long) }
+
+-- the same is held at each word of its repair, and in the end its links are mended
+cut-repaired : Along (HoldsTheSame (cut_to 8448)) (cut_to 8448) (link_repair_steps (cut_to 8448)) × HasMendedLinks (after (link_repair_steps (cut_to 8448)) (cut_to 8448))
+cut-repaired = links-repaired (cut_to 8448) cut_is_well_formed cut-writable
+
+cut-kept_nodes : map (λ (k : Loaded). k.node) (kept (cut_to 8448)) ≡ 0x90000000 ∷ []
+cut-kept_nodes = ap (map (λ (k : Loaded). k.node)) cut_is_kept
+
+-- the second node is taken out
+cut-dropped : dropped_nodes (ended_image (cut_to 8448)) ≡ 0x90000001 ∷ []
+cut-dropped = dropped-are (cut_to 8448) cut_is_well_formed cut-writable ∙ ap (λ (nodes : List ℕ). without nodes (map (λ (k : Loaded). k.node) (kept (cut_to 8448)))) cut_is_walked ∙ ap (without (0x90000000 ∷ 0x90000001 ∷ [])) cut-kept_nodes
+
+cut-begins : HasRemoved (cut_to 8448) [] (0x90000000 ∷ 0x90000001 ∷ []) (0x90000000 ∷ []) (ended_image (cut_to 8448))
+cut-begins =
+    subst (λ (nodes : List ℕ). HasRemoved (cut_to 8448) [] nodes (0x90000000 ∷ []) (ended_image (cut_to 8448))) cut_is_walked
+    (subst (λ (others : List ℕ). HasRemoved (cut_to 8448) [] (completed_walk (cut_to 8448)) others (ended_image (cut_to 8448))) cut-kept_nodes (removals-begin (cut_to 8448) cut_is_well_formed cut-writable))
+
+-- the first is passed by, the second is removed, and then the list is mended
+cut-passed : HasRemoved (cut_to 8448) (0x90000000 ∷ []) (0x90000001 ∷ []) [] (ended_image (cut_to 8448))
+cut-passed = kept-passed_by (cut_to 8448) (ended_image (cut_to 8448)) [] 0x90000000 (0x90000001 ∷ []) [] cut_is_well_formed cut-writable cut-begins
+
+cut-ends : IsListMended (cut_to 8448) (after (operation_steps remove 0x90000001 (ended_image (cut_to 8448))) (ended_image (cut_to 8448)))
+cut-ends =
+    let removed = others-removed (cut_to 8448) (ended_image (cut_to 8448)) (0x90000000 ∷ []) 0x90000001 [] [] cut_is_well_formed cut-writable cut-passed refl in
+    removals-end (cut_to 8448) _ (0x90000000 ∷ []) cut_is_well_formed cut-writable removed.1

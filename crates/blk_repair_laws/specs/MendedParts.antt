@@ -1,0 +1,82 @@
+-- How the parts are mended that come behind the links, and what leaves them mended.
+use Rattle.std.specs.Prelude.{◌≡◌, ◌%◌, ℕ, true, is_some, None, map, [], ◌∷◌, false}
+use Rattle.std.specs.List.{AllByRecursion, flat_map}
+use Rattle.blk_image.specs.Image.{Index, Block, External, Image, byte}
+use Rattle.blk_image.specs.Footprint.{Footprint, SameOutside, one_word, whole}
+use Rattle.blk_image.specs.Steps.{Delete, applied}
+use Rattle.blk_format.specs.BlockFiles.{linked_as, is_among, stands_in}
+use Rattle.blk_format.specs.Sealed.{BeginsWithRecord, IsUpdated, is_sealed, record_at, record_range, seal_place}
+use Rattle.blk_volume.specs.ListImages.{IsWritable}
+use Rattle.blk_repair_laws.specs.ChainRepair.{is_kept_record}
+use Rattle.blk_volume.specs.Loads.{claims_of_loaded}
+use Rattle.blk_volume.specs.Found.{kept}
+use Rattle.blk_volume.specs.Sound.{OnlyLinked, AreLongEnough, words_of}
+use Rattle.blk_volume.specs.Tidy.{IsBehindHeaders}
+use Rattle.blk_repair_laws.specs.MendedLinks.{HasMendedLinks}
+use Rattle.blk_repair_laws.specs.MendedChanges.{KeepsMendedLinks}
+use Rattle.std.specs.Prelude.{◌≡◌}
+use Rattle.std.specs.List.{filter}
+use Rattle.blk_format.specs.Headers.{updating_of}
+use Rattle.blk_format.specs.Claims.{claims_of_all, is_in_file}
+use Rattle.blk_format.specs.Maps.{AreAllocations, EmptyAgrees}
+use Rattle.blk_repair_laws.specs.Mended.{HasMendedFiles, HasOnlyKeptFiles, AreKeptSealed, HasMendedCounters}
+
+-- The block files.
+
+-- the address words of what is kept stand
+abbrev pub KeptWordsStand : Type 0
+KeptWordsStand = (image : Image) → AllByRecursion (λ w. stands_in image w ≡ true) (flat_map words_of (kept image))
+
+-- and claim what it claims
+abbrev pub KeptWordsClaim : Type 0
+KeptWordsClaim = (image : Image) → claims_of_all (flat_map words_of (kept image)) ≡ claims_of_loaded (kept image)
+
+-- the map and the counters of a file are those of the words of what is kept, and no change of them is under way
+pub record IsRebuiltFor (image : Image) (n : ℕ) : Type 0 where
+  pub allocations : AreAllocations image n (filter (is_in_file n) (flat_map words_of (kept image)))
+  pub empty : EmptyAgrees image n
+  pub updating : updating_of (byte image (Block n)) ≡ 0
+
+-- where that is so of each linked file, and each has all its blocks, the files are mended
+abbrev pub RebuiltFilesAreMended : Type 0
+RebuiltFilesAreMended = (image : Image) → ((n : ℕ) → is_some (linked_as image n) ≡ true → IsRebuiltFor image n) → AreLongEnough image → HasMendedFiles image
+
+-- What leaves them mended.
+
+-- where an unlinked block file goes the linked ones stay mended
+abbrev pub UnlinkedFilesLeaveTheOthers : Type 0
+UnlinkedFilesLeaveTheOthers = (from : Image) (n : ℕ) → linked_as from n ≡ None → KeepsMendedLinks from (applied (Delete (Block n)) from) → HasMendedFiles from → HasMendedFiles (applied (Delete (Block n)) from)
+
+-- where an external file changes the block files stay mended, and the linked ones are still the only ones
+abbrev pub ExternalFilesLeaveTheBlocks : Type 0
+ExternalFilesLeaveTheBlocks = (from image : Image) (n : ℕ) → SameOutside (whole (External n)) from image → KeepsMendedLinks from image → (HasMendedFiles from → HasMendedFiles image) × (OnlyLinked from → OnlyLinked image)
+
+-- and where neither a header nor the length of a file changes, as in seals and in words of the index, all files stay mended
+abbrev pub MendedFilesStand : Type 0
+MendedFilesStand = (footprint : Footprint) (from image : Image) → IsBehindHeaders footprint → SameOutside footprint from image → HasMendedLinks from → KeepsMendedLinks from image → (HasMendedFiles from → HasMendedFiles image) × (HasOnlyKeptFiles from → HasOnlyKeptFiles image)
+
+-- a word of the index leaves the seals
+abbrev pub IndexWordsLeaveSeals : Type 0
+IndexWordsLeaveSeals = (from image : Image) (at : ℕ) → SameOutside (one_word Index at) from image → KeepsMendedLinks from image → AreKeptSealed from → AreKeptSealed image
+
+-- a word of the index beside the counters leaves these
+abbrev pub OtherWordsLeaveCounters : Type 0
+OtherWordsLeaveCounters = (from image : Image) (at : ℕ) → at % 4 ≡ 0 → is_among (8 ∷ 12 ∷ 268 ∷ []) at ≡ false → SameOutside (one_word Index at) from image → KeepsMendedLinks from image → HasMendedCounters from → HasMendedCounters image
+
+-- Seals, one after the other.
+
+-- a record has its hash as its seal
+abbrev pub IsSealedAt : Image → ℕ → Type 0
+IsSealedAt image w = is_sealed (seal_place w) (record_at image w) ≡ true
+
+-- a record that was sealed is so
+abbrev pub SealsAreMade : Type 0
+SealsAreMade = (from image : Image) (w : ℕ) → IsUpdated from w [] image → IsSealedAt image w
+
+-- and leaves each other record sealed that was
+abbrev pub SealsStand : Type 0
+SealsStand = (from image : Image) (w other : ℕ) → stands_in from w ≡ true → BeginsWithRecord w → stands_in from other ≡ true → BeginsWithRecord other → IsUpdated from w [] image → SameOutside (record_range w) from image → IsSealedAt from other → IsSealedAt image other
+
+-- once the nodes and the records of what is kept are sealed, it is
+abbrev pub KeptAreSealed : Type 0
+KeptAreSealed = (image : Image) → IsWritable image → ((node : ℕ) → is_among (map (λ k. k.node) (kept image)) node ≡ true → IsSealedAt image node) → ((w : ℕ) → is_kept_record (kept image) w ≡ true → IsSealedAt image w) → AreKeptSealed image
