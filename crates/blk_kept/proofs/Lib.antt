@@ -22,3 +22,4 @@ pub mod MainChanges
 pub mod WordStops
 pub mod CommandExamples
 pub mod StageExamples
+pub mod PartsOut

@@ -1,8 +1,9 @@
 -- How the calls of a command follow each other, and how it ends.
-use Rattle.std.proofs.Common.{ℕ, List, Option, ap, sym, ◌∙◌, subst, inr}
-use Rattle.std.specs.Option.{ForSome}
+use Rattle.std.proofs.Common.{◌≡◌, Some, ℕ, List, Option, ap, sym, ◌∙◌, subst, inr}
+use Rattle.std.specs.Option.{ForSome, option_map}
 use Rattle.blk_image.specs.Image.{Image}
 use Rattle.blk_image.specs.Steps.{after}
+use Rattle.blk_image.specs.Told.{Passes, Told}
 use Rattle.blk_image.proofs.Runs.{grows_then, passes_then, passes_weaker, told_whole, until_weaker2}
 use Rattle.blk_model.specs.Holding.{rest}
 use Rattle.blk_model.specs.Reply.{answer_of}
@@ -15,10 +16,10 @@ use Rattle.blk_volume.specs.StandsFor.{StandsFor}
 use Rattle.blk_volume.specs.View.{view_of}
 use Rattle.blk_laws.proofs.DoomedChanges.{handles-not_shown}
 use Rattle.blk_kept.specs.Changes.{StillFinds}
-use Rattle.blk_kept.specs.Commands.{MayStop}
+use Rattle.blk_kept.specs.Commands.{ForKept, MayStop}
 use Rattle.blk_kept.specs.CommandStates.{with_names}
 use Rattle.blk_kept.specs.Keeping.{AreOwners, Keeps}
-use Rattle.blk_kept.specs.StageLaws.{CallsEnd, CallsFollow, EffectsAreDone, EndsAreKept, FindsLeft, HandlesAreNotKept, IsAtStage, NotesEndSteps, StagesGoOn, StagesMayStop, WhatIsFoundMayStop}
+use Rattle.blk_kept.specs.StageLaws.{CallsEnd, CallsFollow, EffectsAreDone, EndsAreKept, FindsLeft, GoesOn, HandlesAreNotKept, IsAtStage, NotesEndSteps, StagesGoOn, StagesMayStop, WhatIsFoundMayStop}
 use Rattle.blk_kept.proofs.CommandEnding.{passed}
 use Rattle.blk_kept.proofs.Orders.{left-stops}
 
@@ -49,6 +50,15 @@ calls-follow keeps told now later last moment request first second image there s
 
 pub calls-end : (keeps : State → Image → Type 0) → CallsEnd keeps
 calls-end keeps told now moment request goes = goes
+
+-- once a request goes on to where a folder tells its files, it goes on by a call whose clause is one of these files, if each of its moments may be stopped
+pub call-then : (keeps : State → Image → Type 0) (told now later : Told) (moment : ℕ) (request : Request) (P : Image → Image → Type 0) → GoesOn keeps told told now moment request → ForSome now.files (λ from. Passes now later (P from))
+    → ForKept keeps told (λ state. ForSome now.files (λ from. (image : Image) → P from image → MayStop state moment request image)) → GoesOn keeps told told later moment request
+call-then keeps told now later moment request P first call stops image there state k =
+    let begun = first image there state k in
+    let from = after begun.steps image in
+    let is : now.files ≡ Some from = begun.applies.files ∙ ap (option_map (after begun.steps)) there in
+    passes_then begun (passes_weaker (call from is) (stops image there state k from is) (stops image there state k from is))
 
 -- ---- ends
 

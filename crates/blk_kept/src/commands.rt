@@ -3,7 +3,7 @@ ghost use Rattle.blk_kept.specs.CommandEnds.{PassedRequestsTakeEffect, GroupsGoI
 ghost use Rattle.blk_kept.specs.Keeping.{KeepsSome};
 ghost use Rattle.blk_kept.specs.PartStates.{PartsChangeAlone, NewPartsKeepValid, PartsAreLeftOut, MainsChangeAlone};
 ghost use Rattle.blk_kept.specs.StageLaws.{StagesGoOn, StagesMayStop, WhatIsFoundMayStop, CallsFollow, CallsEnd, HandlesAreNotKept, EndsAreKept, EffectsAreDone, NotesEndSteps};
-ghost use Rattle.blk_kept.specs.WordStops.{UsesMayStop, UnsettledUsesMayStop, UnsettlingMayStop, SettlingMayStop, DoomsFindEither, OutIsDoomed, DoomedPartsFindTheSame, DoomsMayStop, GroupsMayStop, WholeGroupsMayStop};
+ghost use Rattle.blk_kept.specs.WordStops.{UsesMayStop, UnsettledUsesMayStop, UnsettlingMayStop, SettlingMayStop, DoomsFindEither, OutIsDoomed, DoomedPartsFindTheSame, DoomsMayStop, PartsFindEither, PartOutIsGone, GroupsMayStop, WholeGroupsMayStop};
 ghost use Rattle.blk_kept.specs.StopLaws.{WhatIsLeftMayStop, OrdersMayBeLeft, UsesMayBeLeft, UsesGoOn, RoomMayBeLeft, HandlesAreNotAtRest, DoomedObjectsAreNotAtRest, UnsettledObjectsAreNotAtRest, OwnUsesKeepOthers, OthersMayBeLeftOnceUnsettled, OthersMayBeLeftWhileDoomed};
 
 /// Once some groups are out and some of the later list steps are made, a stop may leave what is at rest in that order; where that is found the request may be stopped.
@@ -111,12 +111,14 @@ pub fn uses_may_be_stopped()
     ensures settles { SettlingMayStop }
 {}
 
-/// At each word of the removal of an object's main item what was at rest is found, or what is with it doomed, and this from then on; so a Doom may be stopped, and a request while a group goes.
+/// At each word of the removal of an object's main item what was at rest is found, or what is with it doomed, and this from then on; a part that goes alone is found, or not, likewise. So a Doom may be stopped, and a request while a group goes.
 pub fn removals_may_be_stopped()
     ensures either { DoomsFindEither }
     ensures out { OutIsDoomed }
     ensures parts { DoomedPartsFindTheSame }
     ensures dooms { DoomsMayStop }
+    ensures alone { PartsFindEither }
+    ensures gone { PartOutIsGone }
     ensures groups { GroupsMayStop }
     ensures whole { WholeGroupsMayStop }
 {}
