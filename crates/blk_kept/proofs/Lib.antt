@@ -23,3 +23,4 @@ pub mod WordStops
 pub mod CommandExamples
 pub mod StageExamples
 pub mod PartsOut
+pub mod NextStates

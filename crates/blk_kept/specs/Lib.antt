@@ -11,3 +11,4 @@ pub mod CommandEnds
 pub mod StageLaws
 pub mod PartStates
 pub mod WordStops
+pub mod NextStates

@@ -4,6 +4,7 @@ ghost use Rattle.blk_kept.specs.Keeping.{KeepsSome};
 ghost use Rattle.blk_kept.specs.PartStates.{PartsChangeAlone, NewPartsKeepValid, PartsAreLeftOut, MainsChangeAlone};
 ghost use Rattle.blk_kept.specs.StageLaws.{StagesGoOn, StagesMayStop, WhatIsFoundMayStop, CallsFollow, CallsEnd, HandlesAreNotKept, EndsAreKept, EffectsAreDone, NotesEndSteps};
 ghost use Rattle.blk_kept.specs.WordStops.{UsesMayStop, UnsettledUsesMayStop, UnsettlingMayStop, SettlingMayStop, DoomsFindEither, OutIsDoomed, DoomedPartsFindTheSame, DoomsMayStop, PartsFindEither, PartOutIsGone, GroupsMayStop, WholeGroupsMayStop};
+ghost use Rattle.blk_kept.specs.NextStates.{UsesKeepNext, OpensKeepNext, CreatesKeepNext, WritesKeepNext, DoomedWritesKeepNext, SparseWritesKeepNext, EmptySparseWritesKeepNext, ClosesOfManyKeepNext, ClosesKeepNext, ClosesOfDoomedKeepNext, DoomsKeepNext, TrimsKeepNext};
 ghost use Rattle.blk_kept.specs.StopLaws.{WhatIsLeftMayStop, OrdersMayBeLeft, UsesMayBeLeft, UsesGoOn, RoomMayBeLeft, HandlesAreNotAtRest, DoomedObjectsAreNotAtRest, UnsettledObjectsAreNotAtRest, OwnUsesKeepOthers, OthersMayBeLeftOnceUnsettled, OthersMayBeLeftWhileDoomed};
 
 /// Once some groups are out and some of the later list steps are made, a stop may leave what is at rest in that order; where that is found the request may be stopped.
@@ -121,4 +122,20 @@ pub fn removals_may_be_stopped()
     ensures gone { PartOutIsGone }
     ensures groups { GroupsMayStop }
     ensures whole { WholeGroupsMayStop }
+{}
+
+/// The end of each command keeps the next state: where what its last call leaves is kept, the state after the command is.
+pub fn commands_keep_the_next_state()
+    ensures uses { UsesKeepNext }
+    ensures opens { OpensKeepNext }
+    ensures creates { CreatesKeepNext }
+    ensures writes { WritesKeepNext }
+    ensures doomed_writes { DoomedWritesKeepNext }
+    ensures sparse_writes { SparseWritesKeepNext }
+    ensures empty_sparse_writes { EmptySparseWritesKeepNext }
+    ensures closes_of_many { ClosesOfManyKeepNext }
+    ensures closes { ClosesKeepNext }
+    ensures closes_of_doomed { ClosesOfDoomedKeepNext }
+    ensures dooms { DoomsKeepNext }
+    ensures trims { TrimsKeepNext }
 {}
