@@ -22,3 +22,4 @@ pub mod Externals
 pub mod NewEntries
 pub mod LinkedOnce
 pub mod Bounds
+pub mod Objects

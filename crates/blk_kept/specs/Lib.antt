@@ -12,3 +12,4 @@ pub mod CounterLaws
 pub mod ExternalLaws
 pub mod NewEntryLaws
 pub mod BoundLaws
+pub mod ObjectLaws

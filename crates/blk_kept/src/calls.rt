@@ -6,6 +6,7 @@ ghost use Rattle.blk_kept.specs.CounterLaws.{CountersMayBeWritten, WrittenCounte
 ghost use Rattle.blk_kept.specs.ExternalLaws.{MakingFilesFindsTheSame, MadeFilesAreAdded, DeletingFilesFindsTheSame, DeletedFilesAreRemoved};
 ghost use Rattle.blk_kept.specs.ListLaws.{TouchesKeepTheState, TouchesKeepTheCounters};
 ghost use Rattle.blk_kept.specs.NewEntryLaws.{InsertsFindTheSame, LinksFindTheSame, NewEntriesAreKept, NewEntriesAreOneMore};
+ghost use Rattle.blk_kept.specs.ObjectLaws.{HandlesMayChange, HandlesAreNotCounted, UnsettledItemsFindTheSame, DoomedObjectsFindTheSame, ChangedItemsAreKept, ChangedDoomedObjectsAreKept};
 ghost use Rattle.blk_kept.specs.RecordLaws.{RecordUpdatesChangeOnly, RecordUpdatesLeaveCounters, MarkingFindsEither, MarkingKeepsTheState, MarkingKeepsTheCounters};
 
 /// Where a call leaves the files, another state that lies there with the same words in use is kept.
@@ -53,4 +54,18 @@ pub fn new_entries_are_kept()
 /// The allocations of the files of a kind are at most five for each item and doomed object, and one for each unlinked word.
 pub fn kept_allocations_are_few()
     ensures { KeptAllocationsAreFew }
+{}
+
+/// Which handles there are is not in the folder.
+pub fn handles_are_not_kept()
+    ensures uncounted { HandlesMayChange }
+    ensures counted { HandlesAreNotCounted }
+{}
+
+/// While an unsettled or a doomed object changes what was at rest is found, and in the end the state with the changed object is kept.
+pub fn changed_objects_are_kept()
+    ensures unsettled { UnsettledItemsFindTheSame }
+    ensures dead { DoomedObjectsFindTheSame }
+    ensures item { ChangedItemsAreKept }
+    ensures doomed { ChangedDoomedObjectsAreKept }
 {}
