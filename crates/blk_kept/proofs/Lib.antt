@@ -23,3 +23,4 @@ pub mod NewEntries
 pub mod LinkedOnce
 pub mod Bounds
 pub mod Objects
+pub mod Gone

@@ -13,3 +13,4 @@ pub mod ExternalLaws
 pub mod NewEntryLaws
 pub mod BoundLaws
 pub mod ObjectLaws
+pub mod GoneLaws

@@ -4,6 +4,7 @@ ghost use Rattle.blk_kept.specs.Arranging.{StatesAreRearranged};
 ghost use Rattle.blk_kept.specs.BoundLaws.{KeptAllocationsAreFew};
 ghost use Rattle.blk_kept.specs.CounterLaws.{CountersMayBeWritten, WrittenCountersCount};
 ghost use Rattle.blk_kept.specs.ExternalLaws.{MakingFilesFindsTheSame, MadeFilesAreAdded, DeletingFilesFindsTheSame, DeletedFilesAreRemoved};
+ghost use Rattle.blk_kept.specs.GoneLaws.{GoneObjectsAreUnlinked, GoneObjectsAreNotCounted};
 ghost use Rattle.blk_kept.specs.ListLaws.{TouchesKeepTheState, TouchesKeepTheCounters};
 ghost use Rattle.blk_kept.specs.NewEntryLaws.{InsertsFindTheSame, LinksFindTheSame, NewEntriesAreKept, NewEntriesAreOneMore};
 ghost use Rattle.blk_kept.specs.ObjectLaws.{HandlesMayChange, HandlesAreNotCounted, UnsettledItemsFindTheSame, DoomedObjectsFindTheSame, ChangedItemsAreKept, ChangedDoomedObjectsAreKept};
@@ -68,4 +69,10 @@ pub fn changed_objects_are_kept()
     ensures dead { DoomedObjectsFindTheSame }
     ensures item { ChangedItemsAreKept }
     ensures doomed { ChangedDoomedObjectsAreKept }
+{}
+
+/// A doomed object that is gone has its words unlinked, in the same folder.
+pub fn gone_objects_are_unlinked()
+    ensures uncounted { GoneObjectsAreUnlinked }
+    ensures counted { GoneObjectsAreNotCounted }
 {}
