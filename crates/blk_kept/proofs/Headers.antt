@@ -50,7 +50,7 @@ module _ (from image : Image) (same : SameHeaders from image) where
   marks-same : (n b : ℕ) → b < most_blocks → is_block_marked image n b ≡ is_block_marked from n b
   marks-same n b small = ap (λ (x : ℕ). bit_at x (b % 8) == 1) (same.headers n (80 + b / 8) (omega arith))
 
-  mapped-same : (n : ℕ) (words : List ℕ) → max_entries_in from n ≤ most_blocks → IsMapped from words n → IsMapped image words n
+  pub mapped-same : (n : ℕ) (words : List ℕ) → max_entries_in from n ≤ most_blocks → IsMapped from words n → IsMapped image words n
   unfolding EmptyAgrees
   mapped-same n words few m = record {
     allocations = record {

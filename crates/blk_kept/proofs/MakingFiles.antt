@@ -26,7 +26,7 @@ use Rattle.blk_kept.proofs.Free.{sealed-same, session-same, standing-at}
 use Rattle.blk_kept.proofs.Keeping.{used-claims}
 
 -- a word of an external file claims its number alone
-its-claims : (w : ℕ) → (w == 0) ≡ false → (kind_of w == external) ≡ true → claims_of w ≡ ExternalOf (external_number w) ∷ []
+pub its-claims : (w : ℕ) → (w == 0) ≡ false → (kind_of w == external) ≡ true → claims_of w ≡ ExternalOf (external_number w) ∷ []
 unfolding claims_of
 its-claims w some kind = rw (some, kind) refl
 

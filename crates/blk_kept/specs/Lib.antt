@@ -5,6 +5,15 @@ pub mod ChangeLaws
 pub mod Commands
 pub mod CommandLaws
 pub mod TouchLaws
+pub mod Arranging
+pub mod ListLaws
+pub mod RecordLaws
+pub mod CounterLaws
+pub mod ExternalLaws
+pub mod NewEntryLaws
+pub mod BoundLaws
+pub mod ObjectLaws
+pub mod GoneLaws
 pub mod CommandStates
 pub mod StopLaws
 pub mod CommandEnds

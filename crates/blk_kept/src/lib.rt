@@ -7,8 +7,14 @@ ghost use Rattle.blk_kept.specs.TouchLaws.{TouchesFindEither, OpensMayStop};
 ghost use Rattle.blk_kept.specs.CommandLaws.{RequestsMayStopBefore, RequestsMayStopAfter, RequestsMayStopOnceEvicted, KeptStatesMayStop, SaysKept, NothingMayStop, NothingIsDone, RefusalsAreDone, QuietRequestsKeepTheState, CallsMayStop};
 ghost use Rattle.blk_kept.specs.ChangeLaws.{WhatIsKeptIsFound, SameCountersCountTheSame, UnlinkedPlacesMayChange, BlockWritesChangeOnly, ExternalWritesChangeOnly, OtherWordsChangeOnly, GrowthFindsTheSame, AllocatedBlocksAreUnlinked, FreedBlocksAreGone, MadeFilesAreUnlinked, DeletedFilesAreGone};
 
+mod calls;
 mod commands;
 
+pub use calls::{
+    changed_objects_are_kept, counters_are_written, external_files_come_and_go,
+    gone_objects_are_unlinked, handles_are_not_kept, kept_allocations_are_few,
+    new_entries_are_kept, objects_are_marked, other_states_are_kept, touches_keep_states,
+};
 pub use commands::{
     calls_follow_each_other, closes_settle, commands_are_done, commands_keep_the_next_state,
     creates_end_once_made, dooms_end_once_doomed, orders_may_be_left, others_may_be_left,

@@ -59,7 +59,7 @@ push-here [] slot k o e = cc
 push-here (s ∷ slots) slot zero o e = e
 push-here (s ∷ slots) slot (suc k) o e = push-here slots slot k o e
 
-push-back : (slots : List (Option Object)) (slot : Option Object) (k : ℕ) (o : Object) → get_or (slots ++ slot ∷ []) k None ≡ Some o → (get_or slots k None ≡ Some o) ⊎ (slot ≡ Some o)
+pub push-back : (slots : List (Option Object)) (slot : Option Object) (k : ℕ) (o : Object) → get_or (slots ++ slot ∷ []) k None ≡ Some o → (get_or slots k None ≡ Some o) ⊎ (slot ≡ Some o)
 push-back [] slot zero o e = inr e
 push-back [] slot (suc k) o e = cc
 push-back (s ∷ slots) slot zero o e = inl e

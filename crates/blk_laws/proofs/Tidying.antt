@@ -119,7 +119,7 @@ module _ (from image : Image) (writes : List ListWrite) (node : ℕ) (same : Sam
       let k : kind_of w ≡ kind_of contents = some_inj (sym lb ∙ ap (linked_as from) e ∙ la) in
       let x = a.1 in let y = b.1 in omega (arith, k, x, y)
 
-  record-bytes : (contents : ℕ) → stands_as from blocks_256 contents ≡ true → block_bytes image contents ≡ block_bytes from contents
+  pub record-bytes : (contents : ℕ) → stands_as from blocks_256 contents ≡ true → block_bytes image contents ≡ block_bytes from contents
   record-bytes contents stands = λ j i. same.bytes (Block (file_selector contents)) i
       (or_none _ _ (elsewhere writes (file_selector contents) (weaker (λ n. (list_of from).checks n ≡ true) (λ w. file_selector w ≢ file_selector contents) writes (λ w g. other-file contents w stands g) checks) i)
       (record_apart node (file_selector contents) i (other-file contents node stands good))) j

@@ -1,0 +1,78 @@
+// What each kind of call does to a folder that keeps a state.
+
+ghost use Rattle.blk_kept.specs.Arranging.{StatesAreRearranged};
+ghost use Rattle.blk_kept.specs.BoundLaws.{KeptAllocationsAreFew};
+ghost use Rattle.blk_kept.specs.CounterLaws.{CountersMayBeWritten, WrittenCountersCount};
+ghost use Rattle.blk_kept.specs.ExternalLaws.{MakingFilesFindsTheSame, MadeFilesAreAdded, DeletingFilesFindsTheSame, DeletedFilesAreRemoved};
+ghost use Rattle.blk_kept.specs.GoneLaws.{GoneObjectsAreUnlinked, GoneObjectsAreNotCounted};
+ghost use Rattle.blk_kept.specs.ListLaws.{TouchesKeepTheState, TouchesKeepTheCounters};
+ghost use Rattle.blk_kept.specs.NewEntryLaws.{InsertsFindTheSame, LinksFindTheSame, NewEntriesAreKept, NewEntriesAreOneMore};
+ghost use Rattle.blk_kept.specs.ObjectLaws.{HandlesMayChange, HandlesAreNotCounted, UnsettledItemsFindTheSame, DoomedObjectsFindTheSame, ChangedItemsAreKept, ChangedDoomedObjectsAreKept};
+ghost use Rattle.blk_kept.specs.RecordLaws.{RecordUpdatesChangeOnly, RecordUpdatesLeaveCounters, MarkingFindsEither, MarkingKeepsTheState, MarkingKeepsTheCounters};
+
+/// Where a call leaves the files, another state that lies there with the same words in use is kept.
+pub fn other_states_are_kept()
+    ensures { StatesAreRearranged }
+{}
+
+/// Once a listed item is touched, the state with it in front is kept, and counted.
+pub fn touches_keep_states()
+    ensures uncounted { TouchesKeepTheState }
+    ensures counted { TouchesKeepTheCounters }
+{}
+
+/// An update of a record is a change of its blocks; the dirty word of a main item settles or unsettles its object, at each word and in the end.
+pub fn objects_are_marked()
+    ensures blocks { RecordUpdatesChangeOnly }
+    ensures counters { RecordUpdatesLeaveCounters }
+    ensures find { MarkingFindsEither }
+    ensures uncounted { MarkingKeepsTheState }
+    ensures counted { MarkingKeepsTheCounters }
+{}
+
+/// Each counter of the index may be written, and once the three are, the state is counted.
+pub fn counters_are_written()
+    ensures each { CountersMayBeWritten }
+    ensures counted { WrittenCountersCount }
+{}
+
+/// While an external file is made or deleted what is at rest is found, and in the end it is made or deleted.
+pub fn external_files_come_and_go()
+    ensures making { MakingFilesFindsTheSame }
+    ensures made { MadeFilesAreAdded }
+    ensures deleting { DeletingFilesFindsTheSame }
+    ensures deleted { DeletedFilesAreRemoved }
+{}
+
+/// While the entry of a new object comes into the list and its chain what was at rest is found; then the state with the object is kept, which has one item more.
+pub fn new_entries_are_kept()
+    ensures inserting { InsertsFindTheSame }
+    ensures linking { LinksFindTheSame }
+    ensures kept { NewEntriesAreKept }
+    ensures one_more { NewEntriesAreOneMore }
+{}
+
+/// The allocations of the files of a kind are at most five for each item and doomed object, and one for each unlinked word.
+pub fn kept_allocations_are_few()
+    ensures { KeptAllocationsAreFew }
+{}
+
+/// Which handles there are is not in the folder.
+pub fn handles_are_not_kept()
+    ensures uncounted { HandlesMayChange }
+    ensures counted { HandlesAreNotCounted }
+{}
+
+/// While an unsettled or a doomed object changes what was at rest is found, and in the end the state with the changed object is kept.
+pub fn changed_objects_are_kept()
+    ensures unsettled { UnsettledItemsFindTheSame }
+    ensures dead { DoomedObjectsFindTheSame }
+    ensures item { ChangedItemsAreKept }
+    ensures doomed { ChangedDoomedObjectsAreKept }
+{}
+
+/// A doomed object that is gone has its words unlinked, in the same folder.
+pub fn gone_objects_are_unlinked()
+    ensures uncounted { GoneObjectsAreUnlinked }
+    ensures counted { GoneObjectsAreNotCounted }
+{}
