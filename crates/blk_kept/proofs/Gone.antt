@@ -29,10 +29,11 @@ use Rattle.blk_laws.proofs.Allocations.{join, words-claims, words-stand}
 use Rattle.blk_laws.proofs.ByteChanges.{not_equal}
 use Rattle.blk_laws.proofs.Changing.{apart-sym, at-elsewhere, at-itself}
 use Rattle.blk_laws.proofs.ClaimLists.{claim-append, repeats-append}
-use Rattle.blk_laws.proofs.DoomedChanges.{gone-doomed}
+use Rattle.blk_laws.proofs.DoomedChanges.{gone-doomed, handles-not_shown}
 use Rattle.blk_laws.proofs.Laid.{is_among-node}
 use Rattle.blk_laws.proofs.Lists.{Distinct-without, has_not}
 use Rattle.blk_laws.proofs.Settling.{main-listed}
+use Rattle.blk_kept.specs.CommandStates.{with_names}
 use Rattle.blk_kept.specs.Arranging.{IsArranged, LeavesFiles}
 use Rattle.blk_kept.specs.GoneLaws.{GoneObjectsAreNotCounted, GoneObjectsAreUnlinked, layout_without, owner_without}
 use Rattle.blk_kept.specs.Keeping.{AllAreSealed, AreMarkedBy, KeepsUncounted, all_loaded, all_nodes, words_in_use}
@@ -141,12 +142,12 @@ module _ (state other : State) (layout now : Layout) (unlinked numbers : List �
 set-none : (state : State) (number : ℕ) (o : Object) → object_at state number ≡ Some o → object_at (with_slot number None state) number ≡ None
 set-none state number o here = let within : number < length state.objects = some_within state.objects number o here in rw get_or-set_same
 
-module _ (state : State) (layout : Layout) (unlinked : List ℕ) (image : Image) (number : ℕ) (object : Object) (was : Loaded) (k : KeepsUncounted state layout unlinked image) (at : IsPlacedAsDoomed state layout number object was) (valid : IsValidState (with_slot number None state)) where
+module _ (state : State) (layout : Layout) (unlinked : List ℕ) (image : Image) (number : ℕ) (object : Object) (was : Loaded) (names : List (Option ℕ)) (k : KeepsUncounted state layout unlinked image) (at : IsPlacedAsDoomed state layout number object was) (valid : IsValidState (with_names names (with_slot number None state))) where
   abbrev node : ℕ
   node = layout.place_of_doomed number
 
   abbrev after : State
-  after = with_slot number None state
+  after = with_names names (with_slot number None state)
 
   abbrev a : IsAmid k.numbers number
   a = amid k.numbers number (k.owners.doomed.all number object at.here at.dead)
@@ -162,11 +163,11 @@ module _ (state : State) (layout : Layout) (unlinked : List ℕ) (image : Image)
   left-are = ap (λ (ns : List ℕ). order state layout ++ ns) (map-append a.prefix a.suffix) ∙ sym (append_assoc (order state layout) (map layout.place_of_doomed a.prefix) (map layout.place_of_doomed a.suffix))
 
   represents-gone : Represents (view_of image) after (layout_without layout node)
-  represents-gone = gone-doomed (λ c. false) (view_of image) (view_of image) state layout k.represents number object was (owner_without layout node) at (record {
+  represents-gone = handles-not_shown (view_of image) (with_slot number None state) (layout_without layout node) (gone-doomed (λ c. false) (view_of image) (view_of image) state layout k.represents number object was (owner_without layout node) at (record {
     links = record { head = refl; tail = refl; transaction = refl; checks = λ w c. refl; next = λ w c. refl; prev = λ w c. refl };
     store = record { node_fields = λ w c. refl; entry = λ w c. refl; chain_next = λ w c. refl; key_place = λ w e c x b d. refl; stored = λ s w c. refl };
     table = λ b. refl;
-  }) (λ c n is apart. refl) (λ c n is apart. others-still layout node c n is apart)
+  }) (λ c n is apart. refl) (λ c n is apart. others-still layout node c n is apart)) names
 
   once-numbers : Distinct (a.prefix ++ number ∷ a.suffix)
   once-numbers = subst Distinct a.is k.owners.doomed.once
@@ -233,10 +234,10 @@ module _ (state : State) (layout : Layout) (unlinked : List ℕ) (image : Image)
       (order state layout ++ map layout.place_of_doomed a.prefix) (map layout.place_of_doomed a.suffix) nodes-are left-are refl refl valid represents-gone numbers-are seals marks
 
 pub gone-unlinked : GoneObjectsAreUnlinked
-gone-unlinked state layout unlinked image number object was k at valid = object-gone state layout unlinked image number object was k at valid
+gone-unlinked state layout unlinked image number object was names k at valid = object-gone state layout unlinked image number object was names k at valid
 
 pub gone-uncounted : GoneObjectsAreNotCounted
-gone-uncounted state layout unlinked image number object was k at valid = record {
-  entries = object-gone state layout unlinked image number object was k.entries at valid;
+gone-uncounted state layout unlinked image number object was names k at valid = record {
+  entries = object-gone state layout unlinked image number object was names k.entries at valid;
   counters = record { sizes = k.counters.sizes; num_entries = k.counters.num_entries; num_bytes = k.counters.num_bytes ∙ ap (λ (n : ℕ). n % 2 ^ 32) (ap (sum_by charge_of) (sym (others-at layout.at (layout.place_of_doomed number) None (order state layout) (k.entries.represents.holds.lies.doomed_objects number object at.here at.dead).unlisted))) };
 }

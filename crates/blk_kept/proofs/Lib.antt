@@ -38,3 +38,4 @@ pub mod CommandExamples
 pub mod StageExamples
 pub mod PartsOut
 pub mod NextStates
+pub mod OneCalls

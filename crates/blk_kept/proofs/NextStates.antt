@@ -8,8 +8,8 @@ use Rattle.blk_model.specs.Step.{step}
 use Rattle.blk_laws.specs.CommandLaws.{marked}
 use Rattle.blk_kept.specs.CommandStates.{with_room}
 use Rattle.blk_kept.specs.Keeping.{Keeps}
-use Rattle.blk_kept.specs.NextStates.{ClosesKeepNext, ClosesOfDoomedKeepNext, ClosesOfManyKeepNext, CreatesKeepNext, DoomedWritesKeepNext, DoomsKeepNext, EmptySparseWritesKeepNext, KeepsNext, OpensKeepNext, SparseWritesKeepNext, TrimsKeepNext, UsesKeepNext, WritesKeepNext}
-use Rattle.blk_kept.proofs.CommandEnding.{closes-doomed, closes-free, closes-settle, creates-end, doomed-writes-end, dooms-end, empty-sparse-writes-end, opens-end, sparse-writes-end, trims-end, uses-end, writes-end}
+use Rattle.blk_kept.specs.NextStates.{ClosesKeepNext, ClosesOfManyKeepNext, CreatesKeepNext, DoomedWritesKeepNext, DoomsKeepNext, EmptySparseWritesKeepNext, KeepsNext, OpensKeepNext, SparseWritesKeepNext, TrimsKeepNext, UsesKeepNext, WritesKeepNext}
+use Rattle.blk_kept.proofs.CommandEnding.{closes-free, closes-settle, creates-end, doomed-writes-end, dooms-end, empty-sparse-writes-end, opens-end, sparse-writes-end, trims-end, uses-end, writes-end}
 use Rattle.blk_kept.proofs.Stages.{ends-kept}
 
 -- where a request ends with the very state
@@ -48,10 +48,6 @@ closes-of-many-next state moment handle number valid can names several layout un
 pub closes-next : ClosesKeepNext
 closes-next state moment handle number object valid can is layout unlinked image k =
     ends-kept state (marked state number object true) moment (to_close handle) (slice_set state.names handle None) layout unlinked image valid can (closes-settle state moment handle number object valid is) k
-
-pub closes-of-doomed-next : ClosesOfDoomedKeepNext
-closes-of-doomed-next state moment handle number object valid can names here dead last layout unlinked image k =
-    ends-kept state _ moment (to_close handle) (slice_set state.names handle None) layout unlinked image valid can (closes-doomed state moment handle number object valid names here dead last) k
 
 pub dooms-next : DoomsKeepNext
 dooms-next state moment request number object passes is here = just-next state _ moment request (dooms-end state moment request number object passes is here)

@@ -21,3 +21,4 @@ pub mod StageLaws
 pub mod PartStates
 pub mod WordStops
 pub mod NextStates
+pub mod OneCallLaws

@@ -60,11 +60,6 @@ ClosesOfManyKeepNext = (state : State) (moment handle number : ℕ) → IsValidS
 abbrev pub ClosesKeepNext : Type 0
 ClosesKeepNext = (state : State) (moment handle number : ℕ) (object : Object) → IsValidState state → IsRequest (to_close handle) → IsLast state handle number object → KeepsNext (marked state number object true) state moment (to_close handle)
 
--- one of the last handle of a doomed object, once that is gone
-abbrev pub ClosesOfDoomedKeepNext : Type 0
-ClosesOfDoomedKeepNext = (state : State) (moment handle number : ℕ) (object : Object) → IsValidState state → IsRequest (to_close handle) → named_by state handle ≡ Some number → object_at state number ≡ Some object → object.live ≡ false → is_named (with_name handle None state) number ≡ false
-    → KeepsNext (with_slot number None state) state moment (to_close handle)
-
 -- a Doom and a DoomKey, once the object is doomed
 abbrev pub DoomsKeepNext : Type 0
 DoomsKeepNext = (state : State) (moment : ℕ) (request : Request) (number : ℕ) (object : Object) → refused moment request state ≡ None → IsDoomOf request state number → object_at state number ≡ Some object → KeepsNext (doomed number state (Some object)) state moment request

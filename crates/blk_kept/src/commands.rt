@@ -4,7 +4,8 @@ ghost use Rattle.blk_kept.specs.Keeping.{KeepsSome};
 ghost use Rattle.blk_kept.specs.PartStates.{PartsChangeAlone, NewPartsKeepValid, PartsAreLeftOut, MainsChangeAlone};
 ghost use Rattle.blk_kept.specs.StageLaws.{StagesGoOn, StagesMayStop, WhatIsFoundMayStop, CallsFollow, CallsEnd, EndsAreKept, EffectsAreDone, NotesEndSteps};
 ghost use Rattle.blk_kept.specs.WordStops.{UsesMayStop, UnsettledUsesMayStop, UnsettlingMayStop, SettlingMayStop, DoomsFindEither, OutIsDoomed, DoomedPartsFindTheSame, DoomsMayStop, PartsFindEither, PartOutIsGone, GroupsMayStop, WholeGroupsMayStop};
-ghost use Rattle.blk_kept.specs.NextStates.{UsesKeepNext, OpensKeepNext, CreatesKeepNext, WritesKeepNext, DoomedWritesKeepNext, SparseWritesKeepNext, EmptySparseWritesKeepNext, ClosesOfManyKeepNext, ClosesKeepNext, ClosesOfDoomedKeepNext, DoomsKeepNext, TrimsKeepNext};
+ghost use Rattle.blk_kept.specs.NextStates.{UsesKeepNext, OpensKeepNext, CreatesKeepNext, WritesKeepNext, DoomedWritesKeepNext, SparseWritesKeepNext, EmptySparseWritesKeepNext, ClosesOfManyKeepNext, ClosesKeepNext, DoomsKeepNext, TrimsKeepNext};
+ghost use Rattle.blk_kept.specs.OneCallLaws.{OpensEndByTouch, ReadsMayStop, ReadsEndByTouch, DoomedReadsEnd, ClosesMayStop, ClosesEndByMark, ClosesOfDoomedUnlink, UnsettlingMarksMayStop};
 ghost use Rattle.blk_kept.specs.StopLaws.{WhatIsLeftMayStop, OrdersMayBeLeft, UsesMayBeLeft, UsesGoOn, RoomMayBeLeft, HandlesAreNotAtRest, DoomedObjectsAreNotAtRest, UnsettledObjectsAreNotAtRest, OwnUsesKeepOthers, OthersMayBeLeftOnceUnsettled, OthersMayBeLeftWhileDoomed};
 
 /// Once some groups are out and some of the later list steps are made, a stop may leave what is at rest in that order; where that is found the request may be stopped.
@@ -134,7 +135,18 @@ pub fn commands_keep_the_next_state()
     ensures empty_sparse_writes { EmptySparseWritesKeepNext }
     ensures closes_of_many { ClosesOfManyKeepNext }
     ensures closes { ClosesKeepNext }
-    ensures closes_of_doomed { ClosesOfDoomedKeepNext }
     ensures dooms { DoomsKeepNext }
     ensures trims { TrimsKeepNext }
+{}
+
+/// Open, Read and Close from the moments of their calls: where each may be stopped, and what is kept in the end. So is a request while it unsettles its object.
+pub fn commands_of_one_call()
+    ensures opens_end { OpensEndByTouch }
+    ensures reads_stop { ReadsMayStop }
+    ensures reads_end { ReadsEndByTouch }
+    ensures doomed_reads { DoomedReadsEnd }
+    ensures closes_stop { ClosesMayStop }
+    ensures closes_end { ClosesEndByMark }
+    ensures doomed_closes { ClosesOfDoomedUnlink }
+    ensures unsettling_stops { UnsettlingMarksMayStop }
 {}
