@@ -24,3 +24,4 @@ pub mod LinkedOnce
 pub mod Bounds
 pub mod Objects
 pub mod Gone
+pub mod Removals

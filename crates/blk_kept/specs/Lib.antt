@@ -14,3 +14,4 @@ pub mod NewEntryLaws
 pub mod BoundLaws
 pub mod ObjectLaws
 pub mod GoneLaws
+pub mod RemovalLaws

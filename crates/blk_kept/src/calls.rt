@@ -9,6 +9,7 @@ ghost use Rattle.blk_kept.specs.ListLaws.{TouchesKeepTheState, TouchesKeepTheCou
 ghost use Rattle.blk_kept.specs.NewEntryLaws.{InsertsFindTheSame, LinksFindTheSame, NewEntriesAreKept, NewEntriesAreOneMore};
 ghost use Rattle.blk_kept.specs.ObjectLaws.{HandlesMayChange, HandlesAreNotCounted, UnsettledItemsFindTheSame, DoomedObjectsFindTheSame, ChangedItemsAreKept, ChangedDoomedObjectsAreKept};
 ghost use Rattle.blk_kept.specs.RecordLaws.{RecordUpdatesChangeOnly, RecordUpdatesLeaveCounters, MarkingFindsEither, MarkingKeepsTheState, MarkingKeepsTheCounters};
+ghost use Rattle.blk_kept.specs.RemovalLaws.{RemovalsFindEither, UnlinkingFindsTheOthers, RemovedItemsAreUnlinked};
 
 /// Where a call leaves the files, another state that lies there with the same words in use is kept.
 pub fn other_states_are_kept()
@@ -75,4 +76,11 @@ pub fn changed_objects_are_kept()
 pub fn gone_objects_are_unlinked()
     ensures uncounted { GoneObjectsAreUnlinked }
     ensures counted { GoneObjectsAreNotCounted }
+{}
+
+/// While an item goes out of the list what was at rest is found, or what is without it, and that while it goes out of its chain; then its words are unlinked.
+pub fn removed_items_are_unlinked()
+    ensures removing { RemovalsFindEither }
+    ensures unlinking { UnlinkingFindsTheOthers }
+    ensures kept { RemovedItemsAreUnlinked }
 {}
