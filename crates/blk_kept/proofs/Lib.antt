@@ -25,3 +25,4 @@ pub mod Bounds
 pub mod Objects
 pub mod Gone
 pub mod Removals
+pub mod DoneSteps

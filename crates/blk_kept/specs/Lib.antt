@@ -15,3 +15,4 @@ pub mod BoundLaws
 pub mod ObjectLaws
 pub mod GoneLaws
 pub mod RemovalLaws
+pub mod DoneLaws

@@ -3,6 +3,7 @@
 ghost use Rattle.blk_kept.specs.Arranging.{StatesAreRearranged};
 ghost use Rattle.blk_kept.specs.BoundLaws.{KeptAllocationsAreFew};
 ghost use Rattle.blk_kept.specs.CounterLaws.{CountersMayBeWritten, WrittenCountersCount};
+ghost use Rattle.blk_kept.specs.DoneLaws.{TouchStepsAreDone, InsertStepsAreDone, RemovalStepsAreDone};
 ghost use Rattle.blk_kept.specs.ExternalLaws.{MakingFilesFindsTheSame, MadeFilesAreAdded, DeletingFilesFindsTheSame, DeletedFilesAreRemoved};
 ghost use Rattle.blk_kept.specs.GoneLaws.{GoneObjectsAreUnlinked, GoneObjectsAreNotCounted};
 ghost use Rattle.blk_kept.specs.ListLaws.{TouchesKeepTheState, TouchesKeepTheCounters};
@@ -83,4 +84,11 @@ pub fn removed_items_are_unlinked()
     ensures removing { RemovalsFindEither }
     ensures unlinking { UnlinkingFindsTheOthers }
     ensures kept { RemovedItemsAreUnlinked }
+{}
+
+/// What the steps of a touch, an insert and a removal leave is what is asked of them when they are done.
+pub fn list_steps_are_done()
+    ensures touch { TouchStepsAreDone }
+    ensures insert { InsertStepsAreDone }
+    ensures removal { RemovalStepsAreDone }
 {}
