@@ -67,7 +67,7 @@ nobodys layout node c whose = ⊎_elim
     (λ (mine : layout.owner c ≡ Some node). let self : (node == node) ≡ true = eq-eqb node node refl in rw (mine, self) refl)
     whose
 
-among-without : (prefix suffix : List ℕ) (node n : ℕ) → (node == n) ≡ false → is_among (prefix ++ node ∷ suffix) n ≡ true → is_among (prefix ++ suffix) n ≡ true
+pub among-without : (prefix suffix : List ℕ) (node n : ℕ) → (node == n) ≡ false → is_among (prefix ++ node ∷ suffix) n ≡ true → is_among (prefix ++ suffix) n ≡ true
 among-without [] suffix node n apart e = rw apart at e
 among-without (x ∷ prefix) suffix node n apart e = ⊎_elim
     (λ (h : (x == n) ≡ true). or_left (x == n) (is_among (prefix ++ suffix) n) h)

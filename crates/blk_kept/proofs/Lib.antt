@@ -24,6 +24,8 @@ pub mod LinkedOnce
 pub mod Bounds
 pub mod Objects
 pub mod Gone
+pub mod Removals
+pub mod DoneSteps
 pub mod Orders
 pub mod NotAtRest
 pub mod Unsettling

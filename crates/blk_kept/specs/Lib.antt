@@ -14,6 +14,8 @@ pub mod NewEntryLaws
 pub mod BoundLaws
 pub mod ObjectLaws
 pub mod GoneLaws
+pub mod RemovalLaws
+pub mod DoneLaws
 pub mod CommandStates
 pub mod StopLaws
 pub mod CommandEnds
