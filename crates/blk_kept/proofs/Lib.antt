@@ -19,6 +19,13 @@ pub mod AtNodes
 pub mod Dirtying
 pub mod Counters
 pub mod Externals
+pub mod NewEntries
+pub mod LinkedOnce
+pub mod Bounds
+pub mod Objects
+pub mod Gone
+pub mod Removals
+pub mod DoneSteps
 pub mod Orders
 pub mod NotAtRest
 pub mod Unsettling
@@ -28,9 +35,9 @@ pub mod GroupsGone
 pub mod MarkedStates
 pub mod PartChanges
 pub mod MainChanges
-pub mod NewEntries
-pub mod LinkedOnce
-pub mod Bounds
 pub mod WordStops
 pub mod CommandExamples
 pub mod StageExamples
+pub mod PartsOut
+pub mod NextStates
+pub mod OneCalls

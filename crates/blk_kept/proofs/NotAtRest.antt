@@ -61,7 +61,7 @@ module _ (state : State) (number : ℕ) (object : Object) (slot : Option Object)
 
 pub doomed-rest : DoomedObjectsAreNotAtRest
 unfolding rest
-doomed-rest state number object slot valid here dead dead_after = filter_map-same (settled_row (with_slot number slot state)) (settled_row state) (doomed-row state number object slot here dead dead_after) state.uses
+doomed-rest state number object slot here dead dead_after = filter_map-same (settled_row (with_slot number slot state)) (settled_row state) (doomed-row state number object slot here dead dead_after) state.uses
 
 -- ---- an unsettled object
 
@@ -73,7 +73,7 @@ filter_map-out f p none (i ∷ items) = ⊎_elim
     (λ (e : p i ≡ false). rw (e, none i e) (filter_map-out f p none items))
     (cases_Bool (p i))
 
-filter_map-on : (f g : Item → Option Row) (p : Item → Bool) → ((i : Item) → p i ≡ true → f i ≡ g i) → (items : List Item) → filter_map f (filter p items) ≡ filter_map g (filter p items)
+pub filter_map-on : (f g : Item → Option Row) (p : Item → Bool) → ((i : Item) → p i ≡ true → f i ≡ g i) → (items : List Item) → filter_map f (filter p items) ≡ filter_map g (filter p items)
 filter_map-on f g p same [] = refl
 filter_map-on f g p same (i ∷ items) = ⊎_elim
     (λ (e : p i ≡ true). rw e (ap₂ cons_option (same i e) (filter_map-on f g p same items)))

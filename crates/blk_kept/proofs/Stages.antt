@@ -1,8 +1,9 @@
 -- How the calls of a command follow each other, and how it ends.
-use Rattle.std.proofs.Common.{ℕ, List, Option, ap, sym, ◌∙◌, subst, inr}
-use Rattle.std.specs.Option.{ForSome}
+use Rattle.std.proofs.Common.{◌≡◌, Some, ℕ, ap, sym, ◌∙◌, subst, inr}
+use Rattle.std.specs.Option.{ForSome, option_map}
 use Rattle.blk_image.specs.Image.{Image}
 use Rattle.blk_image.specs.Steps.{after}
+use Rattle.blk_image.specs.Told.{Passes, Told}
 use Rattle.blk_image.proofs.Runs.{grows_then, passes_then, passes_weaker, told_whole, until_weaker2}
 use Rattle.blk_model.specs.Holding.{rest}
 use Rattle.blk_model.specs.Reply.{answer_of}
@@ -10,16 +11,13 @@ use Rattle.blk_model.specs.Request.{Request}
 use Rattle.blk_model.specs.State.{IsValidState, State}
 use Rattle.blk_model.specs.Step.{step}
 use Rattle.blk_model.proofs.Steps.{step_valid}
-use Rattle.blk_volume.specs.Layout.{Layout}
 use Rattle.blk_volume.specs.StandsFor.{StandsFor}
-use Rattle.blk_volume.specs.View.{view_of}
-use Rattle.blk_laws.proofs.DoomedChanges.{handles-not_shown}
 use Rattle.blk_kept.specs.Changes.{StillFinds}
-use Rattle.blk_kept.specs.Commands.{MayStop}
-use Rattle.blk_kept.specs.CommandStates.{with_names}
-use Rattle.blk_kept.specs.Keeping.{AreOwners, Keeps}
-use Rattle.blk_kept.specs.StageLaws.{CallsEnd, CallsFollow, EffectsAreDone, EndsAreKept, FindsLeft, HandlesAreNotKept, IsAtStage, NotesEndSteps, StagesGoOn, StagesMayStop, WhatIsFoundMayStop}
+use Rattle.blk_kept.specs.Commands.{ForKept, MayStop}
+use Rattle.blk_kept.specs.Keeping.{Keeps}
+use Rattle.blk_kept.specs.StageLaws.{CallsEnd, CallsFollow, EffectsAreDone, EndsAreKept, FindsLeft, GoesOn, IsAtStage, NotesEndSteps, StagesGoOn, StagesMayStop, WhatIsFoundMayStop}
 use Rattle.blk_kept.proofs.CommandEnding.{passed}
+use Rattle.blk_kept.proofs.Objects.{handles-uncounted}
 use Rattle.blk_kept.proofs.Orders.{left-stops}
 
 -- ---- stages
@@ -50,35 +48,20 @@ calls-follow keeps told now later last moment request first second image there s
 pub calls-end : (keeps : State → Image → Type 0) → CallsEnd keeps
 calls-end keeps told now moment request goes = goes
 
+-- once a request goes on to where a folder tells its files, it goes on by a call whose clause is one of these files, if each of its moments may be stopped
+pub call-then : (keeps : State → Image → Type 0) (told now later : Told) (moment : ℕ) (request : Request) (P : Image → Image → Type 0) → GoesOn keeps told told now moment request → ForSome now.files (λ from. Passes now later (P from))
+    → ForKept keeps told (λ state. ForSome now.files (λ from. (image : Image) → P from image → MayStop state moment request image)) → GoesOn keeps told told later moment request
+call-then keeps told now later moment request P first call stops image there state k =
+    let begun = first image there state k in
+    let from = after begun.steps image in
+    let is : now.files ≡ Some from = begun.applies.files ∙ ap (option_map (after begun.steps)) there in
+    passes_then begun (passes_weaker (call from is) (stops image there state k from is) (stops image there state k from is))
+
 -- ---- ends
-
--- who owns what, and which numbers the doomed objects have, says nothing of names
-owners-unnamed : (state : State) (names : List (Option ℕ)) (layout : Layout) (numbers : List ℕ) → AreOwners state layout numbers → AreOwners (with_names names state) layout numbers
-owners-unnamed state names layout numbers o = record {
-  exact = λ claim node own. let e = o.exact claim node own in record { among = e.among; loaded = e.loaded; here = e.here; claims = e.claims };
-  once = o.once;
-  doomed = record { each = o.doomed.each; once = o.doomed.once; all = o.doomed.all; records = o.doomed.records };
-}
-
-pub handles-kept : HandlesAreNotKept
-handles-kept state names layout unlinked image valid k = record {
-  entries = record {
-    valid = valid;
-    well_formed = k.entries.well_formed;
-    represents = handles-not_shown (view_of image) state layout k.entries.represents names;
-    numbers = k.entries.numbers;
-    owners = owners-unnamed state names layout k.entries.numbers k.entries.owners;
-    files = k.entries.files;
-    unlinked_words = k.entries.unlinked_words;
-    sealed = k.entries.sealed;
-    session = record { crash = k.entries.session.crash; id = k.entries.session.id; marked = k.entries.session.marked };
-  };
-  counters = record { sizes = k.counters.sizes; num_entries = k.counters.num_entries; num_bytes = k.counters.num_bytes };
-}
 
 pub ends-kept : EndsAreKept
 ends-kept state inner moment request names layout unlinked image valid can ends k =
-    subst (λ (m : State). Keeps m layout unlinked image) (sym ends) (handles-kept inner names layout unlinked image (subst IsValidState ends (step_valid state moment request valid can)) k)
+    subst (λ (m : State). Keeps m layout unlinked image) (sym ends) (handles-uncounted inner layout unlinked image names k (subst IsValidState ends (step_valid state moment request valid can)))
 
 pub effects-done : (keeps : State → Image → Type 0) → EffectsAreDone keeps
 effects-done keeps told now moment request answer has image there state k =

@@ -94,4 +94,4 @@ unsettled-left state moment request number object valid is changed uses unsettle
 
 pub doomed-left : OthersMayBeLeftWhileDoomed
 doomed-left state moment request number object slot valid passes here dead dead_after =
-    subst (MayLeave state moment request) (sym (doomed-rest (with_room state moment request) number object slot (room-valid state moment request valid) here dead dead_after)) (room-left state moment request valid passes)
+    subst (MayLeave state moment request) (sym (doomed-rest (with_room state moment request) number object slot here dead dead_after)) (room-left state moment request valid passes)

@@ -84,7 +84,7 @@ settling-stops state moment handle number object image valid can is finds =
 -- ---- removals
 
 -- in the midst of writes into the list the image shows them so far
-found-partly : (from image : Image) (writes : List ListWrite) → IsWellFormed from → (partly : IsPartly from writes image)
+pub found-partly : (from image : Image) (writes : List ListWrite) → IsWellFormed from → (partly : IsPartly from writes image)
     → found image ≡ map row_of_loaded (kept_by held_rule (completed (record { list = after_writes (take partly.made writes) (list_of from); store = store_of image })))
 found-partly from image writes well partly = found-kept image (partly.well_formed well) ∙ ap (λ (v : View). map row_of_loaded (kept_by held_rule (completed v))) (shows partly.shown.list) where
   shows : list_of image ≡ after_writes (take partly.made writes) (list_of from) → ◌≡◌ {A = View} (view_of image) (record { list = after_writes (take partly.made writes) (list_of from); store = store_of image })

@@ -63,11 +63,7 @@ CallsEnd keeps = (told now : Told) (moment : ℕ) (request : Request) → GoesOn
 
 -- Ends.
 
--- handles are not kept in the folder: what is kept of a state is kept of that with other names, if it is valid
-abbrev pub HandlesAreNotKept : Type 0
-HandlesAreNotKept = (state : State) (names : List (Option ℕ)) (layout : Layout) (unlinked : List ℕ) (image : Image) → IsValidState (with_names names state) → Keeps state layout unlinked image → Keeps (with_names names state) layout unlinked image
-
--- so where a request ends with a state but for the names, and that is kept, its end is kept
+-- where a request ends with a state but for the names, and that is kept, its end is kept
 abbrev pub EndsAreKept : Type 0
 EndsAreKept = (state inner : State) (moment : ℕ) (request : Request) (names : List (Option ℕ)) (layout : Layout) (unlinked : List ℕ) (image : Image) → IsValidState state → IsRequest request → (step state moment request).state ≡ with_names names inner
     → Keeps inner layout unlinked image → Keeps (step state moment request).state layout unlinked image

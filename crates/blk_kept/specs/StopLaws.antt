@@ -47,7 +47,7 @@ HandlesAreNotAtRest = (state : State) (names : List (Option ℕ)) → rest (with
 
 -- nor is a doomed object, whatever it becomes but live, and whether it stays
 abbrev pub DoomedObjectsAreNotAtRest : Type 0
-DoomedObjectsAreNotAtRest = (state : State) (number : ℕ) (object : Object) (slot : Option Object) → IsValidState state → object_at state number ≡ Some object → object.live ≡ false → is_live slot ≡ false → rest (with_slot number slot state) ≡ rest state
+DoomedObjectsAreNotAtRest = (state : State) (number : ℕ) (object : Object) (slot : Option Object) → object_at state number ≡ Some object → object.live ≡ false → is_live slot ≡ false → rest (with_slot number slot state) ≡ rest state
 
 -- nor is an unsettled one, whatever it becomes but settled, nor where its items stand
 abbrev pub UnsettledObjectsAreNotAtRest : Type 0

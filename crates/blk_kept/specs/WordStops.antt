@@ -1,16 +1,16 @@
 -- Where each command may be stopped, at each word of its calls: uses of items, dirty words, removals and groups.
-use Rattle.std.specs.Prelude.{◌≡◌, ◌⊎◌, ℕ, Bool, List, [], ◌∷◌, ◌++◌, None, Some, filter, false, if◌then◌else◌, nat_lt, true}
+use Rattle.std.specs.Prelude.{◌≡◌, ◌⊎◌, ℕ, Bool, List, [], ◌∷◌, ◌++◌, None, Some, filter, false, not, if◌then◌else◌, nat_lt, true}
 use Rattle.blk_image.specs.Image.{Image}
 use Rattle.blk_format.specs.BlockFiles.{IsWellFormed}
 use Rattle.blk_model.specs.EvictionLaws.{EvictsFirst}
-use Rattle.blk_model.specs.Items.{Item, key_of, main, part}
+use Rattle.blk_model.specs.Items.{Item, key_of, main, part, same_item}
 use Rattle.blk_model.specs.State.{IsValidState, Object, State, is_named, object_at}
 use Rattle.blk_model.specs.Effects.{doomed, used_all}
 use Rattle.blk_model.specs.Holding.{rest}
 use Rattle.blk_model.specs.ListSteps.{dooms, uses_of}
 use Rattle.blk_model.specs.Refusals.{refused}
 use Rattle.blk_model.specs.Request.{IsRequest, Request, to_close}
-use Rattle.blk_model.specs.Room.{Group, whole, without}
+use Rattle.blk_model.specs.Room.{Group, single, whole, without}
 use Rattle.blk_volume.specs.Completion.{remove}
 use Rattle.blk_volume.specs.Layout.{HoldsExcept, Layout, is_listed, nodes_of}
 use Rattle.blk_volume.specs.ListImages.{HasListAtRest}
@@ -88,6 +88,25 @@ DoomedPartsFindTheSame = (state : State) (layout : Layout) (number : ℕ) (objec
 abbrev pub DoomsMayStop : Type 0
 DoomsMayStop = (state : State) (moment : ℕ) (request : Request) (number : ℕ) (object : Object) (before : Bool) (image : Image) → IsValidState state → IsRequest request → refused moment request state ≡ None → IsDoomOf request state number → object_at state number ≡ Some object
     → Finds (if before then rest state else rest (doomed number state (Some object))) image → MayStop state moment request image
+
+-- Parts that go alone.
+
+-- at each word of the removal of a part what was at rest is found, and from the second write on what is at rest without it
+abbrev pub PartsFindEither : Type 0
+PartsFindEither = (state : State) (layout : Layout) (unlinked : List ℕ) (from image : Image) (key : List ℕ) (n : ℕ) → KeepsUncounted state layout unlinked from → is_listed state (part key n) ≡ true
+    → (removed : IsMidRemoval layout (part key n) from image) → Finds (if nat_lt removed.made 2 then rest state else rest (without (single key n ∷ []) state)) image
+
+-- all items but a part are listed, and what lies at their nodes is there, whatever lies at the part's
+pub record IsPartOut (state : State) (layout : Layout) (key : List ℕ) (n : ℕ) (image : Image) : Type 0 where
+  pub well_formed : IsWellFormed image
+  pub except : ℕ → Bool
+  pub holds : HoldsExcept except (store_of image) state layout
+  pub there : (item : Item) → is_listed state item ≡ true → same_item (part key n) item ≡ false → except (layout.place item) ≡ false
+  pub list : HasListAtRest (nodes_of layout (filter (λ item. not (same_item (part key n) item)) state.uses)) image
+
+-- from then on what is at rest without it is found
+abbrev pub PartOutIsGone : Type 0
+PartOutIsGone = (state : State) (layout : Layout) (key : List ℕ) (n : ℕ) (image : Image) → IsValidState state → IsPartOut state layout key n image → Finds (rest (without (single key n ∷ []) state)) image
 
 -- Groups.
 

@@ -3,10 +3,14 @@
 ghost use Rattle.blk_kept.specs.Arranging.{StatesAreRearranged};
 ghost use Rattle.blk_kept.specs.BoundLaws.{KeptAllocationsAreFew};
 ghost use Rattle.blk_kept.specs.CounterLaws.{CountersMayBeWritten, WrittenCountersCount};
+ghost use Rattle.blk_kept.specs.DoneLaws.{TouchStepsAreDone, InsertStepsAreDone, RemovalStepsAreDone};
 ghost use Rattle.blk_kept.specs.ExternalLaws.{MakingFilesFindsTheSame, MadeFilesAreAdded, DeletingFilesFindsTheSame, DeletedFilesAreRemoved};
+ghost use Rattle.blk_kept.specs.GoneLaws.{GoneObjectsAreUnlinked, GoneObjectsAreNotCounted};
 ghost use Rattle.blk_kept.specs.ListLaws.{TouchesKeepTheState, TouchesKeepTheCounters};
 ghost use Rattle.blk_kept.specs.NewEntryLaws.{InsertsFindTheSame, LinksFindTheSame, NewEntriesAreKept, NewEntriesAreOneMore};
+ghost use Rattle.blk_kept.specs.ObjectLaws.{HandlesMayChange, HandlesAreNotCounted, UnsettledItemsFindTheSame, DoomedObjectsFindTheSame, ChangedItemsAreKept, ChangedDoomedObjectsAreKept};
 ghost use Rattle.blk_kept.specs.RecordLaws.{RecordUpdatesChangeOnly, RecordUpdatesLeaveCounters, MarkingFindsEither, MarkingKeepsTheState, MarkingKeepsTheCounters};
+ghost use Rattle.blk_kept.specs.RemovalLaws.{RemovalsFindEither, UnlinkingFindsTheOthers, RemovedItemsAreUnlinked};
 
 /// Where a call leaves the files, another state that lies there with the same words in use is kept.
 pub fn other_states_are_kept()
@@ -53,4 +57,38 @@ pub fn new_entries_are_kept()
 /// The allocations of the files of a kind are at most five for each item and doomed object, and one for each unlinked word.
 pub fn kept_allocations_are_few()
     ensures { KeptAllocationsAreFew }
+{}
+
+/// Which handles there are is not in the folder.
+pub fn handles_are_not_kept()
+    ensures uncounted { HandlesMayChange }
+    ensures counted { HandlesAreNotCounted }
+{}
+
+/// While an unsettled or a doomed object changes what was at rest is found, and in the end the state with the changed object is kept.
+pub fn changed_objects_are_kept()
+    ensures unsettled { UnsettledItemsFindTheSame }
+    ensures dead { DoomedObjectsFindTheSame }
+    ensures item { ChangedItemsAreKept }
+    ensures doomed { ChangedDoomedObjectsAreKept }
+{}
+
+/// A doomed object that is gone has its words unlinked, in the same folder.
+pub fn gone_objects_are_unlinked()
+    ensures uncounted { GoneObjectsAreUnlinked }
+    ensures counted { GoneObjectsAreNotCounted }
+{}
+
+/// While an item goes out of the list what was at rest is found, or what is without it, and that while it goes out of its chain; then its words are unlinked.
+pub fn removed_items_are_unlinked()
+    ensures removing { RemovalsFindEither }
+    ensures unlinking { UnlinkingFindsTheOthers }
+    ensures kept { RemovedItemsAreUnlinked }
+{}
+
+/// What the steps of a touch, an insert and a removal leave is what is asked of them when they are done.
+pub fn list_steps_are_done()
+    ensures touch { TouchStepsAreDone }
+    ensures insert { InsertStepsAreDone }
+    ensures removal { RemovalStepsAreDone }
 {}

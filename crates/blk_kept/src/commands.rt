@@ -2,8 +2,10 @@
 ghost use Rattle.blk_kept.specs.CommandEnds.{PassedRequestsTakeEffect, GroupsGoInTurn, WholeGroupsGoAsDoomed, PartsGoAlone, MarkedStatesAreValid, UsesEnd, OnlyUsesMayBeLeft, OpensEndOnceUsed, OpensMayLeave, CreatesEndOnceMade, CreatesMayLeave, WritesUnsettle, WritesEndOnceWritten, DoomedWritesEnd, SparseWritesUnsettle, SparseWritesEnd, EmptySparseWritesEnd, ClosesFreeTheName, ClosesSettle, ClosesMayLeave, ClosesOfDoomedEnd, DoomsEndOnceDoomed, DoomsMayLeave, TrimsEndOnceOut, TrimsMayLeave};
 ghost use Rattle.blk_kept.specs.Keeping.{KeepsSome};
 ghost use Rattle.blk_kept.specs.PartStates.{PartsChangeAlone, NewPartsKeepValid, PartsAreLeftOut, MainsChangeAlone};
-ghost use Rattle.blk_kept.specs.StageLaws.{StagesGoOn, StagesMayStop, WhatIsFoundMayStop, CallsFollow, CallsEnd, HandlesAreNotKept, EndsAreKept, EffectsAreDone, NotesEndSteps};
-ghost use Rattle.blk_kept.specs.WordStops.{UsesMayStop, UnsettledUsesMayStop, UnsettlingMayStop, SettlingMayStop, DoomsFindEither, OutIsDoomed, DoomedPartsFindTheSame, DoomsMayStop, GroupsMayStop, WholeGroupsMayStop};
+ghost use Rattle.blk_kept.specs.StageLaws.{StagesGoOn, StagesMayStop, WhatIsFoundMayStop, CallsFollow, CallsEnd, EndsAreKept, EffectsAreDone, NotesEndSteps};
+ghost use Rattle.blk_kept.specs.WordStops.{UsesMayStop, UnsettledUsesMayStop, UnsettlingMayStop, SettlingMayStop, DoomsFindEither, OutIsDoomed, DoomedPartsFindTheSame, DoomsMayStop, PartsFindEither, PartOutIsGone, GroupsMayStop, WholeGroupsMayStop};
+ghost use Rattle.blk_kept.specs.NextStates.{UsesKeepNext, OpensKeepNext, CreatesKeepNext, WritesKeepNext, DoomedWritesKeepNext, SparseWritesKeepNext, EmptySparseWritesKeepNext, ClosesOfManyKeepNext, ClosesKeepNext, DoomsKeepNext, TrimsKeepNext};
+ghost use Rattle.blk_kept.specs.OneCallLaws.{OpensEndByTouch, ReadsMayStop, ReadsEndByTouch, DoomedReadsEnd, ClosesMayStop, ClosesEndByMark, ClosesOfDoomedUnlink, UnsettlingMarksMayStop};
 ghost use Rattle.blk_kept.specs.StopLaws.{WhatIsLeftMayStop, OrdersMayBeLeft, UsesMayBeLeft, UsesGoOn, RoomMayBeLeft, HandlesAreNotAtRest, DoomedObjectsAreNotAtRest, UnsettledObjectsAreNotAtRest, OwnUsesKeepOthers, OthersMayBeLeftOnceUnsettled, OthersMayBeLeftWhileDoomed};
 
 /// Once some groups are out and some of the later list steps are made, a stop may leave what is at rest in that order; where that is found the request may be stopped.
@@ -97,7 +99,6 @@ pub fn calls_follow_each_other()
 
 /// A command is done where its effect is kept and its answer is the map's, whatever handles there are; with its note behind all else it is stepped.
 pub fn commands_are_done()
-    ensures handles { HandlesAreNotKept }
     ensures ends { EndsAreKept }
     ensures done { EffectsAreDone KeepsSome }
     ensures noted { NotesEndSteps }
@@ -111,12 +112,41 @@ pub fn uses_may_be_stopped()
     ensures settles { SettlingMayStop }
 {}
 
-/// At each word of the removal of an object's main item what was at rest is found, or what is with it doomed, and this from then on; so a Doom may be stopped, and a request while a group goes.
+/// At each word of the removal of an object's main item what was at rest is found, or what is with it doomed, and this from then on; a part that goes alone is found, or not, likewise. So a Doom may be stopped, and a request while a group goes.
 pub fn removals_may_be_stopped()
     ensures either { DoomsFindEither }
     ensures out { OutIsDoomed }
     ensures parts { DoomedPartsFindTheSame }
     ensures dooms { DoomsMayStop }
+    ensures alone { PartsFindEither }
+    ensures gone { PartOutIsGone }
     ensures groups { GroupsMayStop }
     ensures whole { WholeGroupsMayStop }
+{}
+
+/// The end of each command keeps the next state: where what its last call leaves is kept, the state after the command is.
+pub fn commands_keep_the_next_state()
+    ensures uses { UsesKeepNext }
+    ensures opens { OpensKeepNext }
+    ensures creates { CreatesKeepNext }
+    ensures writes { WritesKeepNext }
+    ensures doomed_writes { DoomedWritesKeepNext }
+    ensures sparse_writes { SparseWritesKeepNext }
+    ensures empty_sparse_writes { EmptySparseWritesKeepNext }
+    ensures closes_of_many { ClosesOfManyKeepNext }
+    ensures closes { ClosesKeepNext }
+    ensures dooms { DoomsKeepNext }
+    ensures trims { TrimsKeepNext }
+{}
+
+/// Open, Read and Close from the moments of their calls: where each may be stopped, and what is kept in the end. So is a request while it unsettles its object.
+pub fn commands_of_one_call()
+    ensures opens_end { OpensEndByTouch }
+    ensures reads_stop { ReadsMayStop }
+    ensures reads_end { ReadsEndByTouch }
+    ensures doomed_reads { DoomedReadsEnd }
+    ensures closes_stop { ClosesMayStop }
+    ensures closes_end { ClosesEndByMark }
+    ensures doomed_closes { ClosesOfDoomedUnlink }
+    ensures unsettling_stops { UnsettlingMarksMayStop }
 {}

@@ -8,19 +8,19 @@ ghost use Rattle.blk_kept.specs.CommandLaws.{RequestsMayStopBefore, RequestsMayS
 ghost use Rattle.blk_kept.specs.ChangeLaws.{WhatIsKeptIsFound, SameCountersCountTheSame, UnlinkedPlacesMayChange, BlockWritesChangeOnly, ExternalWritesChangeOnly, OtherWordsChangeOnly, GrowthFindsTheSame, AllocatedBlocksAreUnlinked, FreedBlocksAreGone, MadeFilesAreUnlinked, DeletedFilesAreGone};
 
 mod calls;
-
-pub use calls::{
-    counters_are_written, external_files_come_and_go, kept_allocations_are_few,
-    new_entries_are_kept, objects_are_marked, other_states_are_kept, touches_keep_states,
-};
-
 mod commands;
 
+pub use calls::{
+    changed_objects_are_kept, counters_are_written, external_files_come_and_go,
+    gone_objects_are_unlinked, handles_are_not_kept, kept_allocations_are_few, list_steps_are_done,
+    new_entries_are_kept, objects_are_marked, other_states_are_kept, removed_items_are_unlinked,
+    touches_keep_states,
+};
 pub use commands::{
-    calls_follow_each_other, closes_settle, commands_are_done, creates_end_once_made,
-    dooms_end_once_doomed, orders_may_be_left, others_may_be_left, parts_change_alone,
-    reads_end_once_used, removals_may_be_stopped, requests_take_effect, rests_leave_them_out,
-    uses_may_be_stopped, writes_end_once_written,
+    calls_follow_each_other, closes_settle, commands_are_done, commands_keep_the_next_state,
+    commands_of_one_call, creates_end_once_made, dooms_end_once_doomed, orders_may_be_left,
+    others_may_be_left, parts_change_alone, reads_end_once_used, removals_may_be_stopped,
+    requests_take_effect, rests_leave_them_out, uses_may_be_stopped, writes_end_once_written,
 };
 
 /// What is found in a folder that keeps a state is what is at rest in it. With nothing unlinked the folder stands for the state, and it is sound where each object is live and settled.
