@@ -19,7 +19,7 @@ use Rattle.blk_volume.specs.View.{RecordFields, fields_at, fields_of, entry_at, 
 use Rattle.blk_laws.proofs.SmallFolder.{small_records, folder_with}
 use Rattle.blk_chain.specs.LinkExamples.{FirstCanBeLinked, NextCanBeLinked}
 use Rattle.blk_chain.specs.Linking.{CanBeLinked, bucket_at, chained_with}
-use Rattle.blk_chain.specs.Naming.{HasKey}
+use Rattle.blk_volume.specs.Searches.{HasKey}
 use Rattle.blk_chain.proofs.Pairs.{chain-words, one-name}
 
 never : false ≡ true → ⊥
