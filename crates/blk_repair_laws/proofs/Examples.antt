@@ -28,6 +28,7 @@ use Rattle.blk_laws.proofs.SmallFolder.{cut_to, cut_is_well_formed, cut_is_walke
 use Rattle.blk_laws.proofs.WholeFolder.{whole_folder, whole-is_well_formed, whole-linked}
 use Rattle.blk_repair_laws.specs.ListRepair.{HoldsTheSame, HasRemoved, IsListMended, dropped_nodes, ended_image, without}
 use Rattle.blk_repair_laws.specs.ChainRepair.{HasChainsUpTo}
+use Rattle.blk_repair_laws.specs.RecordSeals.{KeepsRecordsSealed}
 use Rattle.blk_repair_laws.specs.LinkRepair.{link_repair_steps}
 use Rattle.blk_repair_laws.specs.MendedLinks.{HasMendedLinks, kept_layout}
 use Rattle.blk_repair_laws.specs.MendedChanges.{KeepsMendedLinks}
@@ -89,7 +90,7 @@ cut-writable : IsWritable (cut_to 8448)
 cut-writable = record { bytes = λ file i. cut-small file i; has_header = let long = whole_index (cut_to 8448) cut_is_well_formed in omega (arith, long) }
 
 -- the same is held at each word of its repair, and in the end its links are mended
-cut-repaired : Along (HoldsTheSame (cut_to 8448)) (cut_to 8448) (link_repair_steps (cut_to 8448)) × HasMendedLinks (after (link_repair_steps (cut_to 8448)) (cut_to 8448))
+cut-repaired : Along (HoldsTheSame (cut_to 8448)) (cut_to 8448) (link_repair_steps (cut_to 8448)) × HasMendedLinks (after (link_repair_steps (cut_to 8448)) (cut_to 8448)) × KeepsRecordsSealed (cut_to 8448) (after (link_repair_steps (cut_to 8448)) (cut_to 8448))
 cut-repaired = links-repaired (cut_to 8448) cut_is_well_formed cut-writable
 
 cut-kept_nodes : map (λ (k : Loaded). k.node) (kept (cut_to 8448)) ≡ 0x90000000 ∷ []

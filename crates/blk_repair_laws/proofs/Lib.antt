@@ -1,3 +1,4 @@
+pub mod RecordSeals
 pub mod EndRepair
 pub mod Same
 pub mod ListRepair

@@ -5,7 +5,6 @@ use Rattle.blk_image.specs.Image.{Index, Block, External, Image, byte}
 use Rattle.blk_image.specs.Footprint.{Footprint, SameOutside, one_word, whole}
 use Rattle.blk_image.specs.Steps.{Delete, applied}
 use Rattle.blk_format.specs.BlockFiles.{linked_as, is_among, stands_in}
-use Rattle.blk_format.specs.Sealed.{BeginsWithRecord, IsUpdated, is_sealed, record_at, record_range, seal_place}
 use Rattle.blk_volume.specs.ListImages.{IsWritable}
 use Rattle.blk_repair_laws.specs.ChainRepair.{is_kept_record}
 use Rattle.blk_volume.specs.Loads.{claims_of_loaded}
@@ -19,6 +18,7 @@ use Rattle.std.specs.List.{filter}
 use Rattle.blk_format.specs.Headers.{updating_of}
 use Rattle.blk_format.specs.Claims.{claims_of_all, is_in_file}
 use Rattle.blk_format.specs.Maps.{AreAllocations, EmptyAgrees}
+use Rattle.blk_repair_laws.specs.RecordSeals.{IsSealedAt}
 use Rattle.blk_repair_laws.specs.Mended.{HasMendedFiles, HasOnlyKeptFiles, AreKeptSealed, HasMendedCounters}
 
 -- The block files.
@@ -62,20 +62,6 @@ IndexWordsLeaveSeals = (from image : Image) (at : ℕ) → SameOutside (one_word
 -- a word of the index beside the counters leaves these
 abbrev pub OtherWordsLeaveCounters : Type 0
 OtherWordsLeaveCounters = (from image : Image) (at : ℕ) → at % 4 ≡ 0 → is_among (8 ∷ 12 ∷ 268 ∷ []) at ≡ false → SameOutside (one_word Index at) from image → KeepsMendedLinks from image → HasMendedCounters from → HasMendedCounters image
-
--- Seals, one after the other.
-
--- a record has its hash as its seal
-abbrev pub IsSealedAt : Image → ℕ → Type 0
-IsSealedAt image w = is_sealed (seal_place w) (record_at image w) ≡ true
-
--- a record that was sealed is so
-abbrev pub SealsAreMade : Type 0
-SealsAreMade = (from image : Image) (w : ℕ) → IsUpdated from w [] image → IsSealedAt image w
-
--- and leaves each other record sealed that was
-abbrev pub SealsStand : Type 0
-SealsStand = (from image : Image) (w other : ℕ) → stands_in from w ≡ true → BeginsWithRecord w → stands_in from other ≡ true → BeginsWithRecord other → IsUpdated from w [] image → SameOutside (record_range w) from image → IsSealedAt from other → IsSealedAt image other
 
 -- once the nodes and the records of what is kept are sealed, it is
 abbrev pub KeptAreSealed : Type 0

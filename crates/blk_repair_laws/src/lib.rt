@@ -1,6 +1,7 @@
 //! The laws of repair, each the contract of a function with an empty body: at each word of the repair the same is kept and found, and in the end the folder stands for what it holds.
 #![tactic(auto)]
 
+ghost use Rattle.blk_repair_laws.specs.RecordSeals.{SealsAreMade, SealsStand};
 ghost use Rattle.blk_repair_laws.specs.EndRepair.{EndsAreMended};
 ghost use Rattle.blk_repair_laws.specs.ListRepair.{ListsAreRepaired, CompletedListsAreEnded, ListsAtRestNeedNoEnd, DroppedNodesAreTheOthers, RemovalsBegin, KeptNodesArePassed, OtherNodesAreRemoved, RemovalsEnd};
 ghost use Rattle.blk_repair_laws.specs.ChainRepair.{ChainsAreRepaired, ChainsBegin, BucketsAreMended, WholeChainsNeedNoSteps, ChainsEnd, KeptRecordsStay, WholeChainsStay, KeptNodesCheck, KeptRecordsCheck};
@@ -8,7 +9,7 @@ ghost use Rattle.blk_repair_laws.specs.LinkRepair.{LinksAreRepaired, MendedChain
 ghost use Rattle.blk_repair_laws.specs.MendedLinks.{MendedLinksRepresent};
 ghost use Rattle.blk_repair_laws.specs.MendedChanges.{RepairedLinksAreKept, MendedLinksGoOn, LinksAreMidRepair, MendedLinksAreMidRepair, MendedLinksStayOutside, MendedLinksMayGrow, UnlinkedFilesMayBeDeleted, UnclaimedFilesMayChange, HiddenWordsMayChange, KeptNodesMayBeSealed, KeptRecordsMayBeSealed};
 ghost use Rattle.blk_repair_laws.specs.Mended.{MendedFoldersStandFor, MendedFoldersAreSound, SoundFoldersAreMended};
-ghost use Rattle.blk_repair_laws.specs.MendedParts.{KeptWordsStand, KeptWordsClaim, RebuiltFilesAreMended, UnlinkedFilesLeaveTheOthers, ExternalFilesLeaveTheBlocks, MendedFilesStand, IndexWordsLeaveSeals, OtherWordsLeaveCounters, SealsAreMade, SealsStand, KeptAreSealed};
+ghost use Rattle.blk_repair_laws.specs.MendedParts.{KeptWordsStand, KeptWordsClaim, RebuiltFilesAreMended, UnlinkedFilesLeaveTheOthers, ExternalFilesLeaveTheBlocks, MendedFilesStand, IndexWordsLeaveSeals, OtherWordsLeaveCounters, KeptAreSealed};
 ghost use Rattle.blk_repair_laws.specs.FoundHolding.{FoundIsAHolding};
 
 /// While the end of a list is mended the same nodes are walked; in the end the list is whole.
