@@ -1,5 +1,5 @@
 -- Records that are sealed stay so, by one update after another.
-use Rattle.std.proofs.Common.{inl, ◌≢◌, ◌%◌, All, Option, ◌≡◌, ◌⊎◌, ⊎_elim, ℕ, ◌+◌, ◌*◌, ◌<◌, ◌≤◌, Bool, true, false, List, [], ◌∷◌, refl, ap, ap₂, sym, ◌∙◌, subst, arith}
+use Rattle.std.proofs.Common.{None, Some, inl, ◌≢◌, ◌%◌, All, Option, ◌≡◌, ◌⊎◌, ⊎_elim, ℕ, ◌+◌, ◌*◌, ◌<◌, ◌≤◌, Bool, true, false, List, [], ◌∷◌, refl, ap, ap₂, sym, ◌∙◌, subst, arith}
 use Rattle.std.specs.Prelude.{◌==◌, ◌&&◌, nat_le, nat_lt}
 use Rattle.std.proofs.lemmas.Bool.{eq-eqb, eqb-true, and_left, and_right}
 use Rattle.std.proofs.lemmas.Bool.Decides.{nat_tests}
@@ -16,6 +16,10 @@ use Rattle.blk_format.proofs.SealedFields.{updated_seal}
 use Rattle.blk_format.proofs.SealedRecords.{node_seal, node_bytes, entry_bytes}
 use Rattle.blk_laws.proofs.ByteChanges.{stands-linked}
 use Rattle.blk_laws.proofs.ChainWords.{record-at}
+use Rattle.blk_image.specs.Image.{External}
+use Rattle.blk_image.specs.Footprint.{range, whole}
+use Rattle.blk_image.specs.Steps.{Delete}
+use Rattle.blk_format.proofs.SpareHeaders.{SparesHeaders, blocks_spare}
 use Rattle.blk_laws.proofs.Sealing.{node_at_place, range_apart}
 use Rattle.blk_image.specs.Image.{Index}
 use Rattle.blk_image.specs.Steps.{TrailStep, Word, word_step, applied, after}
@@ -44,7 +48,7 @@ use Rattle.blk_laws.proofs.NodeRecords as nodes
 use Rattle.blk_laws.proofs.Nodes.{good-stands}
 use Rattle.blk_laws.proofs.StillShown.{standing-parts}
 use Rattle.blk_laws.proofs.WriteSteps.{first_can, one_write, rest_can, writable-after}
-use Rattle.blk_repair_laws.specs.RecordSeals.{IsSealedAt, KeepsRecordsSealed, SealsAreMade, SealsStand}
+use Rattle.blk_repair_laws.specs.RecordSeals.{GrowthLeavesSeals, UnlinkedFilesLeaveSeals, ExternalFilesLeaveSeals, RecordsAreBehindHeaders, IndexWordsAreBehindHeaders, IsSealedAt, KeepsRecordsSealed, SealsAreMade, SealsStand}
 
 -- ---- one seal
 
@@ -178,3 +182,46 @@ writes-keep (write ∷ writes) from ready can =
     let ready_between : IsWritable between = writable-after write from ready in
     let rest = writes-keep writes between ready_between (rest_can from between write writes shows.ends can) in
     subst (KeepsRecordsSealed from) (sym (after-append steps (steps_of_writes writes between) from)) (keeps-more from between (after (steps_of_writes writes between) between) (write-keeps write from ready one) rest)
+
+-- ---- growth and files that go
+
+-- a record whose bytes are the same stays sealed
+same-sealed : (from image : Image) (w : ℕ) → ((i : ℕ) → place w ≤ i → i < place w + record_size w → byte image (Block (file_selector w)) i ≡ byte from (Block (file_selector w)) i) → IsSealedAt from w → IsSealedAt image w
+unfolding record_at
+same-sealed from image w same was =
+    ap (is_sealed (seal_place w)) (same-range (record_size w) (place w) (byte image (Block (file_selector w))) (byte from (Block (file_selector w))) same) ∙ was
+
+place-behind : (w : ℕ) → BeginsWithRecord w → 8192 ≤ place w
+place-behind w begins = ⊎_elim (λ (k : kind_of w ≡ rankings). let a = node_at_place w k in omega (arith, a)) (λ (k : kind_of w ≡ blocks_256). let a = record-at w k in omega (arith, a)) begins
+
+linked-of : (from : Image) (w : ℕ) → stands_in from w ≡ true → BeginsWithRecord w → linked_as from (file_selector w) ≡ Some (kind_of w)
+linked-of from w st begins = stands-linked from w st (no-external w begins)
+
+pub growth-leaves : GrowthLeavesSeals
+growth-leaves from image grown w st begins was =
+    same-sealed from image w (λ i low high. grown.bytes (file_selector w) (kind_of w) i (linked-of from w st begins) (let a = place-behind w begins in omega (arith, a, low)) (let a = record-fits from w st begins in omega (arith, a, high))) was
+
+pub unlinked-leaves : UnlinkedFilesLeaveSeals
+unlinked-leaves from n free w st begins was =
+    same-sealed from (applied (Delete (Block n)) from) w (λ i low high. other (n == file_selector w) refl i) was where
+      clash : {kind : ℕ} → ◌≡◌ {A = Option ℕ} None (Some kind) → ⊥
+      clash e = cc
+
+      other : (t : Bool) → (n == file_selector w) ≡ t → (i : ℕ) → byte (applied (Delete (Block n)) from) (Block (file_selector w)) i ≡ byte from (Block (file_selector w)) i
+      other true e i = absurd (clash (sym free ∙ ap (linked_as from) (eqb-true n (file_selector w) e) ∙ linked-of from w st begins))
+      other false e i = ap (λ (o : Option (List ℕ)). content (unwrap_or o []) i) (same e) where
+        same : (n == file_selector w) ≡ false → applied (Delete (Block n)) from (Block (file_selector w)) ≡ from (Block (file_selector w))
+        same e = rw e refl
+
+pub external-leaves_seals : ExternalFilesLeaveSeals
+external-leaves_seals from image n outside w st begins was =
+    same-sealed from image w (λ i low high. ap (λ (o : Option (List ℕ)). content (unwrap_or o []) i) (same_file_outside (whole (External n)) from image (Block (file_selector w)) outside (λ i. refl) refl)) was
+
+pub records-behind : RecordsAreBehindHeaders
+records-behind w = record {
+  bytes = λ n i small. (subst (λ (at : ℕ). SparesHeaders (range (Block (file_selector w)) at (record_size w))) (let e : place w + 0 ≡ place w = omega arith in e) (blocks_spare (Block (file_selector w)) w 0 (record_size w))).bytes n i small;
+  sizes = λ file. refl;
+}
+
+pub words-behind : IndexWordsAreBehindHeaders
+words-behind at = record { bytes = λ n i small. refl; sizes = λ file. refl }

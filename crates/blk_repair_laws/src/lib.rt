@@ -1,7 +1,7 @@
 //! The laws of repair, each the contract of a function with an empty body: at each word of the repair the same is kept and found, and in the end the folder stands for what it holds.
 #![tactic(auto)]
 
-ghost use Rattle.blk_repair_laws.specs.RecordSeals.{SealsAreMade, SealsStand};
+ghost use Rattle.blk_repair_laws.specs.RecordSeals.{SealsAreMade, SealsStand, GrowthLeavesSeals, UnlinkedFilesLeaveSeals, ExternalFilesLeaveSeals, RecordsAreBehindHeaders, IndexWordsAreBehindHeaders};
 ghost use Rattle.blk_repair_laws.specs.EndRepair.{EndsAreMended};
 ghost use Rattle.blk_repair_laws.specs.ListRepair.{ListsAreRepaired, CompletedListsAreEnded, ListsAtRestNeedNoEnd, DroppedNodesAreTheOthers, RemovalsBegin, KeptNodesArePassed, OtherNodesAreRemoved, RemovalsEnd};
 ghost use Rattle.blk_repair_laws.specs.ChainRepair.{ChainsAreRepaired, ChainsBegin, BucketsAreMended, WholeChainsNeedNoSteps, ChainsEnd, KeptRecordsStay, WholeChainsStay, KeptNodesCheck, KeptRecordsCheck};
@@ -100,6 +100,15 @@ pub fn mended_links_stay_outside()
 pub fn kept_records_may_be_sealed()
     ensures nodes { KeptNodesMayBeSealed }
     ensures records { KeptRecordsMayBeSealed }
+{}
+
+/// Growth and the deletion of files leave what was sealed; records and words of the index are behind the headers of the block files.
+pub fn seals_are_left()
+    ensures growth { GrowthLeavesSeals }
+    ensures unlinked { UnlinkedFilesLeaveSeals }
+    ensures external { ExternalFilesLeaveSeals }
+    ensures records { RecordsAreBehindHeaders }
+    ensures words { IndexWordsAreBehindHeaders }
 {}
 
 /// The address words of what is kept stand and claim what it claims; where maps and counters are rebuilt for them, the files are mended.
