@@ -307,7 +307,7 @@ module _ (from : Image) (well_from : IsWellFormed from) (all : KeepsAll from) wh
     fields-c : IsShownOf (store_of i) b c
     fields-c = shown-of (store_of i) b c was.0
 
-    -- at a moment of its update
+    -- at each word of its update
     path-old : (j : Image) → OnlyChainNextChanges c i j → (store_of j).chain_next c ≡ (store_of i).chain_next c → IsPath (store_of j) b (prefix ++ c ∷ suffix)
     path-old j only e =
         path-to (store_of i) (store_of j) b prefix c suffix suffix (buckets-same i j c fields-c.fields fields-c.here only b) (others-chain_next i j c fields-c.fields fields-c.here only) (sym (only.rest.table b)) l.path

@@ -68,7 +68,7 @@ shown-small image w fields here = stands-small image w (standing-parts image blo
 
 -- ---- the next of a record
 
--- a moment of the update of a record's next
+-- at a word of the update of a record's next
 pub record IsMidNext (from : Image) (w x : ℕ) (image : Image) : Type 0 where
   pub only : OnlyChainNextChanges w from image
   pub chain_next : ((store_of image).chain_next w ≡ (store_of from).chain_next w) ⊎ ((store_of image).chain_next w ≡ x)
@@ -143,7 +143,7 @@ record-sealed_next from w x fields here good ready =
     })
     (All-cons (λ (c : ℕ × ℕ). c.0 + 4 ≤ seal_place w) (4, x) [] (omega (arith, seal)) (All-nil (λ (c : ℕ × ℕ). c.0 + 4 ≤ seal_place w)))
 
--- ---- what such a moment leaves
+-- ---- what such a word leaves
 
 module _ (from image : Image) (w : ℕ) (fields : RecordFields) (here : (store_of from).entry w ≡ Some fields) (only : OnlyChainNextChanges w from image) where
   pub links-only : OnlyLinks (store_of from) (store_of image) w
