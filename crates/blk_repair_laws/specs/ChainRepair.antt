@@ -6,6 +6,7 @@ use Rattle.std.specs.List.{list_any, filter}
 use Rattle.blk_image.specs.Image.{Index, Image}
 use Rattle.blk_image.specs.Steps.{TrailStep, word_step, after}
 use Rattle.blk_image.specs.Told.{Along}
+use Rattle.blk_format.specs.Records.{entry_next_place}
 use Rattle.blk_format.specs.Headers.{table_length, place_of_bucket}
 use Rattle.blk_format.specs.BlockFiles.{is_among, stands_in, IsWellFormed}
 use Rattle.blk_format.specs.Address.{kind_of, rankings, blocks_256}
@@ -35,7 +36,7 @@ bucket_steps bucket w image = if (store_of image).table bucket == w then [] else
 
 -- the next of a record becomes this word by a sealed update, unless it is
 abbrev pub next_steps : ℕ → ℕ → Image → List TrailStep
-next_steps record_word w image = if (store_of image).chain_next record_word == w then [] else sealed_steps image record_word ((4, w) ∷ [])
+next_steps record_word w image = if (store_of image).chain_next record_word == w then [] else sealed_steps image record_word ((entry_next_place, w) ∷ [])
 
 -- each of some records gets the one behind it as its next, and the last gets 0
 abbrev pub link_steps : List ℕ → Image → List TrailStep

@@ -1,5 +1,5 @@
 -- How the parts are mended that come behind the links, and what leaves them mended.
-use Rattle.std.specs.Prelude.{◌≡◌, ◌%◌, ℕ, true, is_some, None, map, [], ◌∷◌, false}
+use Rattle.std.specs.Prelude.{List, ◌≡◌, ◌%◌, ℕ, true, is_some, None, map, [], ◌∷◌, false}
 use Rattle.std.specs.List.{AllByRecursion, flat_map}
 use Rattle.blk_image.specs.Image.{Index, Block, External, Image, byte}
 use Rattle.blk_image.specs.Footprint.{Footprint, SameOutside, one_word, whole}
@@ -59,9 +59,13 @@ MendedFilesStand = (footprint : Footprint) (from image : Image) → IsBehindHead
 abbrev pub IndexWordsLeaveSeals : Type 0
 IndexWordsLeaveSeals = (from image : Image) (at : ℕ) → SameOutside (one_word Index at) from image → KeepsMendedLinks from image → AreKeptSealed from → AreKeptSealed image
 
--- a word of the index beside the counters leaves these
+-- the places of the counters of the index: num_entries, num_bytes, sizes
+abbrev pub counter_words : List ℕ
+counter_words = 8 ∷ 12 ∷ 268 ∷ []
+
+-- any other word of the index leaves them
 abbrev pub OtherWordsLeaveCounters : Type 0
-OtherWordsLeaveCounters = (from image : Image) (at : ℕ) → at % 4 ≡ 0 → is_among (8 ∷ 12 ∷ 268 ∷ []) at ≡ false → SameOutside (one_word Index at) from image → KeepsMendedLinks from image → HasMendedCounters from → HasMendedCounters image
+OtherWordsLeaveCounters = (from image : Image) (at : ℕ) → at % 4 ≡ 0 → is_among counter_words at ≡ false → SameOutside (one_word Index at) from image → KeepsMendedLinks from image → HasMendedCounters from → HasMendedCounters image
 
 -- once the nodes and the records of what is kept are sealed, it is
 abbrev pub KeptAreSealed : Type 0
