@@ -17,4 +17,5 @@ pub mod SoundFolders
 pub mod Seals
 pub mod Rows
 pub mod FoundHolding
+pub mod OneOwner
 pub mod Examples

@@ -10,7 +10,7 @@ ghost use Rattle.blk_repair_laws.specs.MendedLinks.{MendedLinksRepresent};
 ghost use Rattle.blk_repair_laws.specs.MendedChanges.{RepairedLinksAreKept, MendedLinksGoOn, LinksAreMidRepair, MendedLinksAreMidRepair, MendedLinksStayOutside, MendedLinksMayGrow, UnlinkedFilesMayBeDeleted, UnclaimedFilesMayChange, HiddenWordsMayChange, KeptNodesMayBeSealed, KeptRecordsMayBeSealed};
 ghost use Rattle.blk_repair_laws.specs.Mended.{MendedFoldersStandFor, MendedFoldersAreSound, SoundFoldersAreMended};
 ghost use Rattle.blk_repair_laws.specs.MendedParts.{KeptWordsStand, KeptWordsClaim, RebuiltFilesAreMended, UnlinkedFilesLeaveTheOthers, ExternalFilesLeaveTheBlocks, MendedFilesStand, IndexWordsLeaveSeals, OtherWordsLeaveCounters, KeptAreSealed};
-ghost use Rattle.blk_repair_laws.specs.FoundHolding.{FoundIsAHolding};
+ghost use Rattle.blk_repair_laws.specs.FoundHolding.{FoundIsAHolding, KeptClaimOnce};
 
 /// While the end of a list is mended the same nodes are walked; in the end the list is whole.
 pub fn ends_are_mended()
@@ -141,7 +141,8 @@ pub fn mended_folders_stand_for()
     ensures converse { SoundFoldersAreMended }
 {}
 
-/// Of every image of bytes what is found is a valid holding.
+/// Of every image of bytes what is found is a valid holding, and no block and no external number of what is kept has two owners.
 pub fn found_is_a_holding()
-    ensures { FoundIsAHolding }
+    ensures holding { FoundIsAHolding }
+    ensures once { KeptClaimOnce }
 {}
