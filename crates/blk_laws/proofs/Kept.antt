@@ -71,7 +71,7 @@ overlap-parts xs ys (z ∷ zs) e =
     let rest = overlap-parts xs ys zs parts.1 in
     (or_from _ _ here.0 rest.0, or_from _ _ here.1 rest.1)
 
-pub flat-append : (xs ys : List Loaded) → claims_of_loaded (xs ++ ys) ≡ claims_of_loaded xs ++ claims_of_loaded ys
+flat-append : (xs ys : List Loaded) → claims_of_loaded (xs ++ ys) ≡ claims_of_loaded xs ++ claims_of_loaded ys
 flat-append [] ys = refl
 flat-append (x ∷ xs) ys = rw (flat-append xs ys) (assoc (all_claims x) (claims_of_loaded xs) (claims_of_loaded ys)) where
   assoc : (us vs ws : List Claim) → us ++ (vs ++ ws) ≡ (us ++ vs) ++ ws

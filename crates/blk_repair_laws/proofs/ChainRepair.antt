@@ -40,12 +40,14 @@ use Rattle.blk_repair_laws.specs.ListRepair.{HoldsTheSame}
 use Rattle.blk_repair_laws.proofs.Paths.{Path, IsPath, skip}
 use Rattle.blk_repair_laws.specs.ChainRepair.{is_kept_record, kept_records, bucket_steps, next_steps, link_steps, chain_steps, chains_steps, chain_repair_steps, KeepsAll, ChainsAreRepaired, HasChainsUpTo, ChainsBegin, BucketsAreMended, WholeChainsNeedNoSteps, ChainsEnd, KeptRecordsStay, WholeChainsStay}
 use Rattle.blk_repair_laws.proofs.KeptRecords.{IsGivenAt, given-at}
+use Rattle.blk_repair_laws.specs.RecordSeals.{KeepsRecordsSealed}
+use Rattle.blk_repair_laws.proofs.RecordSeals.{keeps-none, keeps-more, word-keeps}
 use Rattle.blk_repair_laws.proofs.Same.{chain-same, of_bucket-same}
 use Rattle.blk_volume.specs.ShownChanges.{ShowsTheSame}
 use Rattle.blk_repair_laws.proofs.Frames.{OnlyLinks, apart-clear, own-clear, load-chained, IsRecordOf, record-of, load-linked}
 use Rattle.blk_laws.proofs.Kept.{kept-shown}
 use Rattle.blk_repair_laws.proofs.Paths.{on-path, chain-path, chain-stays, skip-path, skip-few, skip-has, skip-once, suffix-once, suffix-few, suffix-has, path-linked, suffix-apart, skip-apart, path-suffix, path-whole, end-suffix}
-use Rattle.blk_repair_laws.proofs.RecordWords.{BucketWritten, bucket-written, shown-small, IsMidNext, next-along, next-done, links-only, others-chain_next, buckets-same, elsewhere-chain_next}
+use Rattle.blk_repair_laws.proofs.RecordWords.{record-sealed_next, BucketWritten, bucket-written, shown-small, IsMidNext, next-along, next-done, links-only, others-chain_next, buckets-same, elsewhere-chain_next}
 use Rattle.blk_laws.proofs.ChainWords.{IsShownOf, shown-of}
 
 clash : true ≡ false → ⊥
@@ -53,15 +55,17 @@ clash e = cc
 
 -- what changes at most while the chain of a bucket is made
 pub record Elsewhere (i j : Image) (bucket : ℕ) : Type 0 where
+  pub seals : KeepsRecordsSealed i j
   pub table : (b : ℕ) → (bucket == b) ≡ false → (store_of j).table b ≡ (store_of i).table b
   pub buckets : (b x : ℕ) → is_of_bucket (store_of j) b x ≡ is_of_bucket (store_of i) b x
   pub chain_next : (b x : ℕ) → (bucket == b) ≡ false → is_of_bucket (store_of i) b x ≡ true → (store_of j).chain_next x ≡ (store_of i).chain_next x
 
 elsewhere-none : (i : Image) (b : ℕ) → Elsewhere i i b
-elsewhere-none i b = record { table = λ b e. refl; buckets = λ b x. refl; chain_next = λ b x e o. refl }
+elsewhere-none i b = record { seals = keeps-none i; table = λ b e. refl; buckets = λ b x. refl; chain_next = λ b x e o. refl }
 
 elsewhere-more : (i j k : Image) (b : ℕ) → Elsewhere i j b → Elsewhere j k b → Elsewhere i k b
 elsewhere-more i j k b p q = record {
+  seals = keeps-more i j k p.seals q.seals;
   table = λ c e. q.table c e ∙ p.table c e;
   buckets = λ c x. q.buckets c x ∙ p.buckets c x;
   chain_next = λ c x e o. q.chain_next c x e (p.buckets c x ∙ o) ∙ p.chain_next c x e o;
@@ -303,7 +307,7 @@ module _ (from : Image) (well_from : IsWellFormed from) (all : KeepsAll from) wh
     fields-c : IsShownOf (store_of i) b c
     fields-c = shown-of (store_of i) b c was.0
 
-    -- at a moment of its update
+    -- at each word of its update
     path-old : (j : Image) → OnlyChainNextChanges c i j → (store_of j).chain_next c ≡ (store_of i).chain_next c → IsPath (store_of j) b (prefix ++ c ∷ suffix)
     path-old j only e =
         path-to (store_of i) (store_of j) b prefix c suffix suffix (buckets-same i j c fields-c.fields fields-c.here only b) (others-chain_next i j c fields-c.fields fields-c.here only) (sym (only.rest.table b)) l.path
@@ -340,6 +344,7 @@ module _ (from : Image) (well_from : IsWellFormed from) (all : KeepsAll from) wh
             linking = record { steady = steady-at j last; path = path-new j last.only done; has = has-suffix b prefix c suffix l.has; kept_c = l.kept_c };
             chain_next = done;
             elsewhere = record {
+              seals = record-sealed_next i c x fields-c.fields fields-c.here fields-c.good l.steady.writable;
               table = λ o e. sym (last.only.rest.table o);
               buckets = buckets-same i j c fields-c.fields fields-c.here last.only;
               chain_next = λ o y e of. elsewhere-chain_next i j c fields-c.fields fields-c.here last.only o y (ap (λ (h : ℕ). h == o) fields-c.in_bucket ∙ e) of;
@@ -463,8 +468,8 @@ module _ (from : Image) (well_from : IsWellFormed from) (all : KeepsAll from) wh
       elsewhere = elsewhere-none i b;
     }
 
-    first-new : (j : Image) → BucketWritten i b first j → IsLed i b first (skip test reached) j
-    first-new j w =
+    first-new : (j : Image) → BucketWritten i b first j → KeepsRecordsSealed i j → IsLed i b first (skip test reached) j
+    first-new j w seals =
         let here : (store_of j).table b ≡ first = ap (λ (v : StoreView). v.table b) w.store ∙ put-here (store_of i).table b first in
         let path : IsPath (store_of j) b (skip test reached) = record {
           linked = subst (λ (y : ℕ). Path (store_of j) b y (skip test reached)) (sym here)
@@ -477,6 +482,7 @@ module _ (from : Image) (well_from : IsWellFormed from) (all : KeepsAll from) wh
           path = path;
           table = here;
           elsewhere = record {
+            seals = seals;
             table = λ o e. ap (λ (v : StoreView). v.table o) w.store ∙ put-else (store_of i).table b first o e;
             buckets = λ o y. ap (λ (v : StoreView). is_of_bucket v o y) w.store;
             chain_next = λ o y e of. ap (λ (v : StoreView). v.chain_next y) w.store;
@@ -491,7 +497,7 @@ module _ (from : Image) (well_from : IsWellFormed from) (all : KeepsAll from) wh
         (λ (e : ((store_of i).table b == first) ≡ false).
         let j : Image = after (word_step Index (place_of_bucket b) first) i in
         let w : BucketWritten i b first j = bucket-written i b first s.well_formed s.writable below (first-small i b (skip test reached) first-leads) in
-        let end : IsLed i b first (skip test reached) j = first-new j w in
+        let end : IsLed i b first (skip test reached) j = first-new j w (word-keeps i (place_of_bucket b) first) in
         rw e ((steady-holds i s, steady-holds j end.steady), end))
         (cases_Bool ((store_of i).table b == first))
 
@@ -546,6 +552,7 @@ module _ (from : Image) (well_from : IsWellFormed from) (all : KeepsAll from) wh
         record {
           holds = steady-holds j one.1.steady;
           list = one.1.steady.list;
+          seals = keeps-more from i j m.seals one.1.elsewhere.seals;
           loads = one.1.steady.loads;
           mended = λ o under. ⊎_elim
               (λ (e : (eqb b o ≡ true) × (b ≡ o)). subst (λ (y : ℕ). IsChain (store_of j) y (kept_records from y)) e.1 one.1.chain_is)
@@ -571,6 +578,7 @@ pub chains-begin : ChainsBegin
 chains-begin image well ready all = record {
   holds = record { well_formed = well; writable = ready; kept_same = refl; found_same = refl };
   list = refl;
+  seals = keeps-none image;
   loads = (shown image well all).loads;
   mended = λ o below. absurd (let e = below in omega (arith, e));
   as_before = λ o over. refl;
@@ -580,7 +588,7 @@ pub buckets-mended : BucketsAreMended
 buckets-mended from image bucket well all below m = one-bucket from well all image bucket below m
 
 pub chains-end : ChainsEnd
-chains-end from image m = record { list = m.list; chains = m.mended }
+chains-end from image m = record { list = m.list; seals = m.seals; chains = m.mended }
 
 pub chains-repaired : ChainsAreRepaired
 unfolding chain_repair_steps

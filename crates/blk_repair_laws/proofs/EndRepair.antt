@@ -122,7 +122,7 @@ module _ (list : ListView) (idle : list.transaction ≡ 0) (zero_bad : list.chec
         no_zero = zero_bad;
       }
 
--- what is walked, at each moment of mending the end
+-- what is walked, at each write that mends the end
 WalksSame : ListView → ListView → Type 0
 WalksSame list other = walk (completed_list other) ≡ walk list
 

@@ -1,5 +1,5 @@
 -- Worked folders: a sound one, in which nothing is left to repair, and one of which a node is dropped.
-use Rattle.std.proofs.Common.{◌++◌, ◌≡◌, ℕ, zero, suc, List, [], ◌∷◌, refl, ap, ◌∙◌, subst, arith, lit<}
+use Rattle.std.proofs.Common.{false, ◌++◌, ◌≡◌, ℕ, zero, suc, List, [], ◌∷◌, refl, ap, ◌∙◌, subst, arith, lit<}
 use Rattle.std.specs.Prelude.{map}
 use Rattle.blk_format.specs.NewFolder.{new_index_words, new_file_words}
 use Rattle.blk_format.specs.Headers.{index_length}
@@ -8,7 +8,7 @@ use Rattle.blk_image.specs.Bytes.{zeros, word_bytes}
 use Rattle.blk_image.specs.Image.{Index, Block, External, File, bytes_of}
 use Rattle.blk_image.specs.Steps.{Delete, Word, applied, after}
 use Rattle.blk_image.specs.Told.{Along}
-use Rattle.blk_image.proofs.Footprints.{outside_write}
+use Rattle.blk_image.proofs.Footprints.{outside_write, outside_step}
 use Rattle.blk_model.specs.State.{Bounds}
 use Rattle.blk_model.specs.Holding.{open_state}
 use Rattle.blk_model.specs.Items.{IsValidHolding}
@@ -19,7 +19,7 @@ use Rattle.blk_volume.specs.Found.{kept, found}
 use Rattle.blk_volume.specs.Layout.{Represents}
 use Rattle.blk_volume.specs.StandsFor.{StandsFor}
 use Rattle.blk_volume.specs.ListImages.{IsWritable, completed_walk, operation_steps}
-use Rattle.blk_laws.proofs.ExampleFolders.{whole-is_sound}
+use Rattle.blk_laws.proofs.ExampleFolders.{whole-is_kept, whole-is_sound}
 use Rattle.blk_laws.proofs.ExampleUses.{whole-writable}
 use Rattle.blk_laws.proofs.ExampleWrites.{small-zeros}
 use Rattle.blk_format.proofs.Finished.{whole_index}
@@ -28,6 +28,8 @@ use Rattle.blk_laws.proofs.SmallFolder.{cut_to, cut_is_well_formed, cut_is_walke
 use Rattle.blk_laws.proofs.WholeFolder.{whole_folder, whole-is_well_formed, whole-linked}
 use Rattle.blk_repair_laws.specs.ListRepair.{HoldsTheSame, HasRemoved, IsListMended, dropped_nodes, ended_image, without}
 use Rattle.blk_repair_laws.specs.ChainRepair.{HasChainsUpTo}
+use Rattle.blk_repair_laws.specs.RecordSeals.{KeepsRecordsSealed}
+use Rattle.blk_laws.proofs.OneEntry as one
 use Rattle.blk_repair_laws.specs.LinkRepair.{link_repair_steps}
 use Rattle.blk_repair_laws.specs.MendedLinks.{HasMendedLinks, kept_layout}
 use Rattle.blk_repair_laws.specs.MendedChanges.{KeepsMendedLinks}
@@ -37,9 +39,20 @@ use Rattle.blk_repair_laws.proofs.ChainRepair.{chains-begin}
 use Rattle.blk_repair_laws.proofs.LinkRepair.{links-repaired}
 use Rattle.blk_repair_laws.proofs.FoundHolding.{found-holding}
 use Rattle.blk_repair_laws.proofs.MendedLinks.{links-represent}
-use Rattle.blk_repair_laws.proofs.MendedChanges.{unlinked-deleted, hidden-change}
+use Rattle.blk_repair_laws.proofs.MendedChanges.{unclaimed-change, unlinked-deleted, hidden-change}
 use Rattle.blk_repair_laws.proofs.Mended.{mended-folders}
-use Rattle.blk_repair_laws.proofs.MendedParts.{unlinked-leave}
+use Rattle.blk_repair_laws.proofs.MendedParts.{unlinked-leave, files-mended, rebuilt-mended}
+use Rattle.blk_repair_laws.proofs.RecordSeals.{words-behind}
+use Rattle.blk_repair_laws.proofs.KeptRecords.{kept-nodes-check, kept-records-check}
+use Rattle.blk_repair_laws.proofs.ChainRepair.{buckets-mended}
+use Rattle.blk_repair_laws.specs.ChainRepair.{IsStandingRecord, chain_steps, is_kept_record, kept_records}
+use Rattle.blk_laws.proofs.Allocations.{sound-allocated}
+use Rattle.blk_image.specs.Footprint.{one_word}
+use Rattle.blk_format.specs.Address.{rankings, blocks_256}
+use Rattle.blk_format.specs.Claims.{Claim, ExternalOf, has_claim}
+use Rattle.blk_volume.specs.Loads.{claims_of_loaded}
+use Rattle.blk_image.specs.Image.{External}
+use Rattle.blk_format.specs.BlockFiles.{is_among}
 use Rattle.blk_repair_laws.proofs.SoundFolders.{sound-mended, mended-none}
 
 -- ---- a sound folder
@@ -70,8 +83,33 @@ whole-begins = chains-begin whole_folder whole-is_well_formed whole-writable (re
 whole-without_file : KeepsMendedLinks whole_folder (applied (Delete (Block 9)) whole_folder) × HasMendedFiles (applied (Delete (Block 9)) whole_folder)
 whole-without_file = let keeps = unlinked-deleted whole_folder 9 whole-links (whole-linked 9) in (keeps, unlinked-leave whole_folder 9 (whole-linked 9) keeps whole-mended.files)
 
+unclaimed : has_claim (claims_of_loaded (one.loaded 0 ∷ [])) (ExternalOf 7) ≡ false
+unfolding has_claim
+unclaimed = ap (λ (cs : List Claim). has_claim (cs ++ []) (ExternalOf 7)) one.claims
+
+whole-without_external : KeepsMendedLinks whole_folder (applied (Delete (External 7)) whole_folder)
+whole-without_external =
+    unclaimed-change whole_folder (applied (Delete (External 7)) whole_folder) 7 whole-links (ap (λ (ks : List Loaded). has_claim (claims_of_loaded ks) (ExternalOf 7)) whole-is_kept ∙ unclaimed) (outside_step (Delete (External 7)) whole_folder)
+
 whole-crashed : KeepsMendedLinks whole_folder (applied (Word Index 32 (word_bytes 1)) whole_folder)
 whole-crashed = hidden-change whole_folder (applied (Word Index 32 (word_bytes 1)) whole_folder) 32 whole-links refl (omega arith) refl refl (outside_write Index 32 (word_bytes 1) whole_folder)
+
+whole-stands_behind : HasMendedFiles (applied (Word Index 32 (word_bytes 1)) whole_folder)
+whole-stands_behind = (files-mended (one_word Index 32) whole_folder (applied (Word Index 32 (word_bytes 1)) whole_folder) (words-behind 32) (outside_write Index 32 (word_bytes 1) whole_folder) whole-links whole-crashed).0 whole-mended.files
+
+-- its first bucket is gone through, and what it keeps can be written
+whole-bucket : HasChainsUpTo whole_folder 1 (after (chain_steps 0 (kept_records whole_folder 0) whole_folder) whole_folder)
+whole-bucket = (buckets-mended whole_folder whole_folder 0 whole-is_well_formed (record { idle = whole-links.rests.idle; all_kept = whole-links.all_kept }) (omega arith) whole-begins).1
+
+whole-node : IsStandingRecord rankings whole_folder one.node
+whole-node = kept-nodes-check whole_folder whole-writable one.node (ap (λ (ks : List Loaded). is_among (map (λ k. k.node) ks) one.node) whole-is_kept)
+
+whole-record : IsStandingRecord blocks_256 whole_folder one.contents
+whole-record = kept-records-check whole_folder whole-writable one.contents (ap (λ (ks : List Loaded). is_kept_record ks one.contents) whole-is_kept)
+
+-- its files are as rebuilding leaves them
+whole-rebuilt : HasMendedFiles whole_folder
+whole-rebuilt = rebuilt-mended whole_folder (λ n linked. let c = whole-mended.files.counted n linked in record { allocations = sound-allocated whole_folder whole-is_sound n linked; empty = c.empty; updating = c.updating }) whole-mended.files.long_enough
 
 -- ---- a folder of two nodes, of which the second names no record
 
@@ -89,7 +127,7 @@ cut-writable : IsWritable (cut_to 8448)
 cut-writable = record { bytes = λ file i. cut-small file i; has_header = let long = whole_index (cut_to 8448) cut_is_well_formed in omega (arith, long) }
 
 -- the same is held at each word of its repair, and in the end its links are mended
-cut-repaired : Along (HoldsTheSame (cut_to 8448)) (cut_to 8448) (link_repair_steps (cut_to 8448)) × HasMendedLinks (after (link_repair_steps (cut_to 8448)) (cut_to 8448))
+cut-repaired : Along (HoldsTheSame (cut_to 8448)) (cut_to 8448) (link_repair_steps (cut_to 8448)) × HasMendedLinks (after (link_repair_steps (cut_to 8448)) (cut_to 8448)) × KeepsRecordsSealed (cut_to 8448) (after (link_repair_steps (cut_to 8448)) (cut_to 8448))
 cut-repaired = links-repaired (cut_to 8448) cut_is_well_formed cut-writable
 
 cut-kept_nodes : map (λ (k : Loaded). k.node) (kept (cut_to 8448)) ≡ 0x90000000 ∷ []

@@ -1,3 +1,4 @@
+pub mod RecordSeals
 pub mod EndRepair
 pub mod Same
 pub mod ListRepair
@@ -16,4 +17,5 @@ pub mod SoundFolders
 pub mod Seals
 pub mod Rows
 pub mod FoundHolding
+pub mod OneOwner
 pub mod Examples

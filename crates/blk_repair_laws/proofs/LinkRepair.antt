@@ -29,6 +29,8 @@ use Rattle.blk_laws.proofs.Walks.{walk_list}
 use Rattle.blk_volume.specs.Audit.{kept_nodes}
 use Rattle.blk_repair_laws.specs.ListRepair.{list_repair_steps, HoldsTheSame, IsListMended}
 use Rattle.blk_repair_laws.specs.ChainRepair.{is_kept_record, kept_records, chain_repair_steps, AreChainsMended}
+use Rattle.blk_repair_laws.specs.RecordSeals.{KeepsRecordsSealed}
+use Rattle.blk_repair_laws.proofs.RecordSeals.{keeps-more}
 use Rattle.blk_repair_laws.specs.MendedLinks.{HasMendedLinks}
 use Rattle.blk_repair_laws.specs.LinkRepair.{link_repair_steps, stopped_repair, LinkRepairsMayBeStopped, LinksAreRepaired, MendedChainsAreMendedLinks}
 use Rattle.blk_repair_laws.proofs.ChainRepair.{chains-repaired}
@@ -97,6 +99,7 @@ links-repaired image well ready =
     let along = until_weaker2 M H M H (chain_repair_steps mid) mid (λ i. holds-trans image mid i holds) (λ i. holds-trans image mid i holds) second.0 in (
       until-append H H (list_repair_steps image) (chain_repair_steps mid) image first.0 along,
       subst HasMendedLinks (sym (after-append (list_repair_steps image) (chain_repair_steps mid) image)) (links-mended image mid last first.1 holds_last second.1),
+      subst (KeepsRecordsSealed image) (sym (after-append (list_repair_steps image) (chain_repair_steps mid) image)) (keeps-more image mid last first.1.seals second.1.seals),
     )
 
 -- after a front of the steps the same is held

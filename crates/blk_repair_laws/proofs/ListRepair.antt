@@ -43,6 +43,8 @@ use Rattle.blk_volume.specs.Audit.{is_kept, kept_nodes}
 use Rattle.blk_repair_laws.specs.ListRepair.{end_steps, removal_steps, dropped_nodes, completed_image, ended_image, list_repair_steps, HoldsTheSame, IsListMended, ListsAreRepaired, CompletedListsAreEnded, ListsAtRestNeedNoEnd, without, is_first, DroppedNodesAreTheOthers, HasLeft, HasRemoved, RemovalsBegin, KeptNodesArePassed, OtherNodesAreRemoved, RemovalsEnd}
 use Rattle.blk_repair_laws.proofs.EndRepair.{IsWalked, walked-is, ends-mended}
 use Rattle.blk_laws.proofs.Kept.{kept-without, kept-alone, kept-nodes}
+use Rattle.blk_repair_laws.specs.RecordSeals.{KeepsRecordsSealed}
+use Rattle.blk_repair_laws.proofs.RecordSeals.{keeps-none, keeps-more, writes-keep}
 use Rattle.blk_repair_laws.proofs.Same.{holds-from, shown-same}
 
 -- ---- lists of numbers
@@ -204,6 +206,7 @@ module _ (from : Image) (well_from : IsWellFormed from) (rests : HasListAtRest (
           well_formed = last.well_formed;
           writable = last.writable;
           store = shows-both (store_of from) (store_of image) _ left.store shows.ends.store;
+          seals = keeps-more from image _ left.seals (writes-keep (writes_of remove node (list_of image)) image left.writable can);
           rests = removals-rest image node prefix suffix left.writable left.rests;
           stays = less.test;
           kept_stay = less.keeps;
@@ -282,6 +285,7 @@ record HasEnd (from image : Image) : Type 0 where
   along : Along (HoldsTheSame from) from (end_steps from)
   rests : HasListAtRest (walked from) image
   same : ShowsTheSame (store_of from) (store_of image)
+  seals : KeepsRecordsSealed from image
 
 ends-hold : (image : Image) → IsWellFormed image → IsWritable image → (list_of image).transaction ≡ 0 → HasEnd image (after (end_steps image) image)
 unfolding kept
@@ -293,6 +297,7 @@ ends-hold image well ready idle =
       along = writes-hold image image (end_writes list) well well ready (same-shown (store_of image)) (end-can image) (λ count. ap (kept_among (store_of image) held_rule) (mended.0 count ∙ sym (walk-idle list idle)));
       rests = subst (λ (l : ListView). IsAtRest l (walk list)) (sym shows.ends.list) mended.1;
       same = shows.ends.store;
+      seals = writes-keep (end_writes list) image ready (end-can image);
     }
 
 -- ---- the three, one after the other
@@ -331,6 +336,9 @@ module _ (image : Image) (well : IsWellFormed image) (ready : IsWritable image) 
   store-ended : ShowsTheSame (store_of image) (store_of e)
   store-ended = shows-both (store_of image) (store_of c) (store_of e) done.store end.same
 
+  seals-ended : KeepsRecordsSealed image e
+  seals-ended = keeps-more image c e (writes-keep (completion_writes (list_of image)) image ready (completions-can image)) end.seals
+
   walked-ended : walked e ≡ completed_walk image
   walked-ended = walks ∙ done.walk
 
@@ -348,6 +356,7 @@ module _ (image : Image) (well : IsWellFormed image) (ready : IsWritable image) 
     well_formed = holds-ended.well_formed;
     writable = holds-ended.writable;
     store = same-shown (store_of e);
+    seals = keeps-none e;
     rests = rests;
     stays = λ x. true;
     kept_stay = λ node k. refl;
@@ -365,6 +374,7 @@ module _ (image : Image) (well : IsWellFormed image) (ready : IsWritable image) 
       record {
         rests = subst (λ (ns : List ℕ). HasListAtRest ns last) (sym nodes-are) left.rests;
         store = shows-both (store_of image) (store_of e) (store_of last) store-ended left.store;
+        seals = keeps-more image e last seals-ended left.seals;
         all_kept = subst (λ (ns : List ℕ). kept_nodes (store_of last) held_rule ns ≡ ns) (sym walks_last) again;
       }
 
@@ -430,7 +440,7 @@ pub lists-repaired : ListsAreRepaired
 lists-repaired = list-repaired
 
 pub lists-ended : CompletedListsAreEnded
-lists-ended image well ready = record { holds = holds-ended image well ready; rests = subst (λ (ns : List ℕ). HasListAtRest ns (ended_image image)) (walked-ended image well ready) (rests image well ready); store = store-ended image well ready }
+lists-ended image well ready = record { holds = holds-ended image well ready; rests = subst (λ (ns : List ℕ). HasListAtRest ns (ended_image image)) (walked-ended image well ready) (rests image well ready); store = store-ended image well ready; seals = seals-ended image well ready }
 
 pub removals-begin : RemovalsBegin
 removals-begin = removals-begin-here

@@ -10,7 +10,7 @@ use Rattle.blk_model.specs.Items.{IsValidHolding}
 use Rattle.blk_model.specs.State.{Bounds, State}
 use Rattle.blk_model.specs.Holding.{open_state}
 use Rattle.blk_format.specs.BlockFiles.{is_among}
-use Rattle.blk_format.specs.Claims.{Claim, BlockOf, ExternalOf, has_claim, repeats}
+use Rattle.blk_format.specs.Claims.{Claim, BlockOf, ExternalOf, has_claim}
 use Rattle.blk_volume.specs.ListView.{Distinct}
 use Rattle.blk_volume.specs.Walk.{walk}
 use Rattle.blk_volume.specs.View.{list_of, store_of, view_of}
@@ -18,8 +18,6 @@ use Rattle.blk_volume.specs.Chains.{Chain, chain}
 use Rattle.blk_volume.specs.Completion.{completed_list}
 use Rattle.blk_volume.specs.Reasons.{Reason}
 use Rattle.blk_laws.proofs.Central.{walk-idle}
-use Rattle.blk_laws.proofs.Allocations.{repeats-head}
-use Rattle.blk_laws.proofs.Kept.{flat-append}
 use Rattle.blk_laws.proofs.Central.{filter-none}
 use Rattle.blk_laws.proofs.Chains.{chain-is}
 use Rattle.blk_laws.proofs.Central.{flat_map-none}
@@ -32,6 +30,7 @@ use Rattle.blk_model.proofs.Opened.{open_valid}
 use Rattle.blk_laws.proofs.ClaimLists.{claim-append, no-claim}
 use Rattle.blk_laws.proofs.Standing.{stands-for}
 use Rattle.blk_repair_laws.specs.Mended.{IsMended, MendedFoldersStandFor, MendedFoldersAreSound}
+use Rattle.blk_repair_laws.proofs.OneOwner.{kept-claim_once}
 use Rattle.blk_repair_laws.proofs.FoundHolding.{found-holding}
 use Rattle.blk_volume.specs.Shown.{IsShown}
 use Rattle.blk_volume.specs.Found.{kept, found, dropped, completed}
@@ -209,13 +208,6 @@ module _ (image : Image) (mended : IsMended image) (are : AreBytes image) where
   unfolding dropped
   nothing-dropped = ap₂ (λ (xs ys : List (ℕ × Reason)). xs ++ ys) (ap (dropped_among (store_of image) held_rule) walk-now ∙ none-left) unlisted-none
 
-  one-owner : repeats (claims_of_loaded (kept image)) ≡ false
-  one-owner =
-      let s = stands-here in
-      subst (λ (ks : List Loaded). repeats (claims_of_loaded ks) ≡ false) (listed-same image some-limits mended (found-holding image are))
-      (repeats-head (claims_of_loaded (kept_by listed_rule (view_of image))) (claims_of_loaded (map (λ d. d.1) s.doomed))
-      (subst (λ (cs : List Claim). repeats cs ≡ false) (flat-append (kept_by listed_rule (view_of image)) (map (λ d. d.1) s.doomed)) s.owned.one_owner))
-
   sound-here : IsSound image
   sound-here = record {
     well_formed = mended.links.well_formed;
@@ -223,7 +215,7 @@ module _ (image : Image) (mended : IsMended image) (are : AreBytes image) where
     list_end = stands-here.shows.list_end;
     chain_ends = stands-here.shows.chain_ends;
     nothing_dropped = nothing-dropped;
-    owned = record { one_owner = one-owner; maps = mended.files.maps; only_claimed = mended.only.only_claimed };
+    owned = record { one_owner = kept-claim_once image; maps = mended.files.maps; only_claimed = mended.only.only_claimed };
     in_order = mended-in_order image mended;
   }
 

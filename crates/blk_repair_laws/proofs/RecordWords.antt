@@ -1,8 +1,8 @@
 -- The word of a bucket and the next of a record, written.
-use Rattle.std.proofs.Common.{inl, inr, ◌≡◌, ◌≢◌, ◌⊎◌, ⊎_elim, ℕ, ◌+◌, ◌^◌, ◌<◌, ◌≤◌, Bool, true, false, List, [], ◌∷◌, take, Option, Some, sym, ap, ◌∙◌, arith}
-use Rattle.std.specs.Prelude.{◌==◌, ◌&&◌, if◌then◌else◌, nat_le}
+use Rattle.std.proofs.Common.{refl, ◌%◌, inl, inr, ◌≡◌, ◌≢◌, ◌⊎◌, ⊎_elim, ℕ, ◌+◌, ◌^◌, ◌<◌, ◌≤◌, Bool, true, false, List, [], ◌∷◌, take, Option, Some, sym, ap, ◌∙◌, arith}
+use Rattle.std.specs.Prelude.{◌==◌, ◌&&◌, if◌then◌else◌}
 use Rattle.std.specs.Option.{option_map_or}
-use Rattle.std.proofs.lemmas.Bool.{and_parts, eq-eqb, cases_eq, leb-true}
+use Rattle.std.proofs.lemmas.Bool.{eq-eqb, cases_eq}
 use Rattle.std.proofs.lemmas.List.Elements.{All-nil, All-cons}
 use Rattle.blk_image.specs.Bytes.{word_bytes}
 use Rattle.blk_image.specs.Image.{Index, Block, Image, length_of}
@@ -11,12 +11,11 @@ use Rattle.blk_image.specs.Told.{Along}
 use Rattle.blk_image.proofs.Footprints.{outside_write}
 use Rattle.blk_image.proofs.Images.{word-after_same, length-after_write}
 use Rattle.blk_image.proofs.Runs.{until_weaker2, until_last, until_both}
-use Rattle.blk_format.specs.Address.{kind_of, file_selector, first_block, block_count, place, byte_size, blocks_256}
+use Rattle.blk_format.specs.Address.{kind_of, file_selector, place, blocks_256}
 use Rattle.blk_format.specs.Headers.{place_of_bucket}
-use Rattle.blk_format.specs.Standing.{is_linked_as, stands_as_blocks}
-use Rattle.blk_format.specs.BlockFiles.{linked_as, max_entries_in, stands_in, IsWellFormed}
+use Rattle.blk_format.specs.BlockFiles.{stands_in, IsWellFormed}
 use Rattle.blk_format.specs.Sealed.{RecordChecks, IsMidUpdate, IsUpdated, record_at, record_size, seal_place, sealed_steps}
-use Rattle.blk_format.proofs.SealedRecords.{record_inside, moments, updated}
+use Rattle.blk_format.proofs.SealedRecords.{moments, updated}
 use Rattle.blk_format.proofs.RecordBytes.{take-before_word}
 use Rattle.blk_volume.specs.ListView.{put}
 use Rattle.blk_volume.specs.View.{RecordFields, list_of, store_of}
@@ -24,7 +23,6 @@ use Rattle.blk_volume.specs.Chains.{bucket_of_hash, file_and_block, is_of_bucket
 use Rattle.blk_laws.specs.IndexWrites.{IsIndexWord}
 use Rattle.blk_volume.specs.ListImages.{IsWritable}
 use Rattle.blk_volume.specs.ShownChanges.{OnlyChainNextChanges}
-use Rattle.blk_laws.proofs.ByteChanges.{stands-blocks}
 use Rattle.blk_laws.proofs.ChainWords.{shown-of, shown-fields, shown-kind, same-fields, record_checks}
 use Rattle.blk_format.proofs.Finished.{whole_index}
 use Rattle.blk_laws.proofs.IndexWords.{buckets-written, buckets-unchecked}
@@ -34,6 +32,8 @@ use Rattle.blk_laws.proofs.Records.{follows-written}
 use Rattle.blk_laws.proofs.StillShown.{standing-parts, core-standing}
 use Rattle.blk_laws.proofs.Updates.{entry-seal}
 use Rattle.blk_laws.proofs.WriteSteps.{stands-small, writable-sealed}
+use Rattle.blk_repair_laws.specs.RecordSeals.{KeepsRecordsSealed}
+use Rattle.blk_repair_laws.proofs.RecordSeals.{record-fits, update-keeps}
 use Rattle.blk_repair_laws.proofs.Frames.{OnlyLinks}
 use Rattle.blk_repair_laws.proofs.Paths.{OthersChainNext}
 
@@ -68,14 +68,7 @@ shown-small image w fields here = stands-small image w (standing-parts image blo
 
 -- ---- the next of a record
 
-inside-file : (image : Image) (w : ℕ) → stands_in image w ≡ true → kind_of w ≡ blocks_256 → place w + byte_size w ≤ length_of image (Block (file_selector w))
-unfolding stands_as_blocks
-inside-file image w st kind =
-    leb-true _ _ (and_parts (is_linked_as (linked_as image (file_selector w)) (kind_of w) && nat_le (first_block w + block_count w) (max_entries_in image (file_selector w))) _ (stands-blocks image w st (λ e. apart (sym kind ∙ e)))).1 where
-      apart : ◌≡◌ {A = ℕ} 2 0 → ⊥
-      apart e = cc
-
--- a moment of the update of a record's next
+-- at a word of the update of a record's next
 pub record IsMidNext (from : Image) (w x : ℕ) (image : Image) : Type 0 where
   pub only : OnlyChainNextChanges w from image
   pub chain_next : ((store_of image).chain_next w ≡ (store_of from).chain_next w) ⊎ ((store_of image).chain_next w ≡ x)
@@ -90,7 +83,7 @@ module _ (from : Image) (w x : ℕ) (fields : RecordFields) (here : (store_of fr
   kind = shown-kind from w fields here
 
   fits : place w + record_size w ≤ length_of from (Block (file_selector w))
-  fits = let room-inside = inside-file from w stands kind in let inside = record_inside w (inr kind) in omega (arith, room-inside, inside)
+  fits = record-fits from w stands (inr kind)
 
   checked : RecordChecks w from
   checked = record_checks from w ready.bytes kind (ap (λ (c : RecordFields). c.checks) (shown-fields from w fields here) ∙ good)
@@ -135,7 +128,22 @@ module _ (from : Image) (w x : ℕ) (fields : RecordFields) (here : (store_of fr
       } in
       (by-law new full).1
 
--- ---- what such a moment leaves
+-- the update of a record's next leaves what was sealed
+pub record-sealed_next : (from : Image) (w x : ℕ) (fields : RecordFields) → (store_of from).entry w ≡ Some fields → fields.checks ≡ true → IsWritable from → KeepsRecordsSealed from (after (sealed_steps from w ((4, x) ∷ [])) from)
+record-sealed_next from w x fields here good ready =
+    let kind = shown-kind from w fields here in
+    let seal = entry-seal w kind in
+    update-keeps from w ((4, x) ∷ []) (standing-parts from blocks_256 w (core-standing from w fields here)).0 (inr kind)
+    (record_checks from w ready.bytes kind (ap (λ (c : RecordFields). c.checks) (shown-fields from w fields here) ∙ good))
+    (record {
+      few = omega arith;
+      aligned = All-cons (λ (c : ℕ × ℕ). c.0 % 4 ≡ 0) (4, x) [] refl (All-nil (λ (c : ℕ × ℕ). c.0 % 4 ≡ 0));
+      before = All-cons (λ (c : ℕ × ℕ). c.0 < seal_place w) (4, x) [] (omega (arith, seal)) (All-nil (λ (c : ℕ × ℕ). c.0 < seal_place w));
+      different = (All-nil (λ (c : ℕ × ℕ). c.0 ≢ 4), tt);
+    })
+    (All-cons (λ (c : ℕ × ℕ). c.0 + 4 ≤ seal_place w) (4, x) [] (omega (arith, seal)) (All-nil (λ (c : ℕ × ℕ). c.0 + 4 ≤ seal_place w)))
+
+-- ---- what such a word leaves
 
 module _ (from image : Image) (w : ℕ) (fields : RecordFields) (here : (store_of from).entry w ≡ Some fields) (only : OnlyChainNextChanges w from image) where
   pub links-only : OnlyLinks (store_of from) (store_of image) w

@@ -6,6 +6,7 @@ use Rattle.std.specs.List.{list_any, filter}
 use Rattle.blk_image.specs.Image.{Index, Image}
 use Rattle.blk_image.specs.Steps.{TrailStep, word_step, after}
 use Rattle.blk_image.specs.Told.{Along}
+use Rattle.blk_format.specs.Records.{entry_next_place}
 use Rattle.blk_format.specs.Headers.{table_length, place_of_bucket}
 use Rattle.blk_format.specs.BlockFiles.{is_among, stands_in, IsWellFormed}
 use Rattle.blk_format.specs.Address.{kind_of, rankings, blocks_256}
@@ -18,6 +19,7 @@ use Rattle.blk_volume.specs.Found.{kept}
 use Rattle.blk_volume.specs.ListImages.{IsWritable, walked}
 use Rattle.blk_volume.specs.Audit.{kept_nodes, kept_as}
 use Rattle.blk_volume.specs.ShownChanges.{ShowsTheSame}
+use Rattle.blk_repair_laws.specs.RecordSeals.{KeepsRecordsSealed}
 use Rattle.blk_repair_laws.specs.ListRepair.{HoldsTheSame}
 
 -- a word names the record of a kept node
@@ -34,7 +36,7 @@ bucket_steps bucket w image = if (store_of image).table bucket == w then [] else
 
 -- the next of a record becomes this word by a sealed update, unless it is
 abbrev pub next_steps : ℕ → ℕ → Image → List TrailStep
-next_steps record_word w image = if (store_of image).chain_next record_word == w then [] else sealed_steps image record_word ((4, w) ∷ [])
+next_steps record_word w image = if (store_of image).chain_next record_word == w then [] else sealed_steps image record_word ((entry_next_place, w) ∷ [])
 
 -- each of some records gets the one behind it as its next, and the last gets 0
 abbrev pub link_steps : List ℕ → Image → List TrailStep
@@ -59,9 +61,10 @@ pub record KeepsAll (image : Image) : Type 0 where
   pub idle : (list_of image).transaction ≡ 0
   pub all_kept : kept_nodes (store_of image) held_rule (walked image) ≡ walked image
 
--- each chain is that of the kept records of its bucket, and ends at the word 0; the list is as before
+-- each chain is that of the kept records of its bucket, and ends at the word 0; the list is as before, and what was sealed is so still
 pub record AreChainsMended (from image : Image) : Type 0 where
   pub list : list_of image ≡ list_of from
+  pub seals : KeepsRecordsSealed from image
   pub chains : (bucket : ℕ) → bucket < table_length → IsChain (store_of image) bucket (kept_records from bucket)
 
 -- at each word of the repair of the chains the same is held; in the end they are repaired
@@ -70,10 +73,11 @@ ChainsAreRepaired = (image : Image) → IsWellFormed image → IsWritable image 
 
 -- The buckets, one after the other.
 
--- the chains of the buckets below one are those of their kept records, and the others are as they were; the list is as it was, and each kept node loads as it did
+-- the chains of the buckets below one are those of their kept records, and the others are as they were; the list is as it was, what was sealed is so still, and each kept node loads as it did
 pub record HasChainsUpTo (from : Image) (bucket : ℕ) (image : Image) : Type 0 where
   pub holds : HoldsTheSame from image
   pub list : list_of image ≡ list_of from
+  pub seals : KeepsRecordsSealed from image
   pub loads : (node : ℕ) (loaded : Loaded) → is_among (walked from) node ≡ true → kept_as (store_of from) held_rule (walked from) node ≡ Some loaded → load (store_of image) held_rule node ≡ Ok loaded
   pub mended : (other : ℕ) → other < bucket → IsChain (store_of image) other (kept_records from other)
   pub as_before : (other : ℕ) → bucket ≤ other → chain (store_of image) other ≡ chain (store_of from) other

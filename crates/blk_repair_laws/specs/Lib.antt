@@ -1,3 +1,4 @@
+pub mod RecordSeals
 pub mod EndRepair
 pub mod ListRepair
 pub mod ChainRepair

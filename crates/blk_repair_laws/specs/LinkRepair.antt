@@ -7,6 +7,7 @@ use Rattle.blk_format.specs.BlockFiles.{IsWellFormed}
 use Rattle.blk_volume.specs.ListImages.{IsWritable}
 use Rattle.blk_repair_laws.specs.ListRepair.{list_repair_steps, HoldsTheSame, IsListMended}
 use Rattle.blk_repair_laws.specs.ChainRepair.{chain_repair_steps, AreChainsMended}
+use Rattle.blk_repair_laws.specs.RecordSeals.{KeepsRecordsSealed}
 use Rattle.blk_repair_laws.specs.MendedLinks.{HasMendedLinks}
 
 -- the list is repaired, and then the chains
@@ -17,9 +18,9 @@ link_repair_steps image = list_repair_steps image ++ chain_repair_steps (after (
 abbrev pub MendedChainsAreMendedLinks : Type 0
 MendedChainsAreMendedLinks = (image between last : Image) → HoldsTheSame image between → IsListMended image between → HoldsTheSame between last → AreChainsMended between last → HasMendedLinks last
 
--- of every well-formed image the same is held at each word of that, and in the end its links are mended
+-- of every well-formed image the same is held at each word of that, and in the end its links are mended, and what was sealed is so still
 abbrev pub LinksAreRepaired : Type 0
-LinksAreRepaired = (image : Image) → IsWellFormed image → IsWritable image → Along (HoldsTheSame image) image (link_repair_steps image) × HasMendedLinks (after (link_repair_steps image) image)
+LinksAreRepaired = (image : Image) → IsWellFormed image → IsWritable image → Along (HoldsTheSame image) image (link_repair_steps image) × HasMendedLinks (after (link_repair_steps image) image) × KeepsRecordsSealed image (after (link_repair_steps image) image)
 
 -- a folder whose links are mended needs no step
 abbrev pub MendedLinksNeedNoSteps : Type 0

@@ -12,6 +12,7 @@ use Rattle.blk_volume.specs.Found.{kept, found}
 use Rattle.blk_volume.specs.ListSteps.{steps_of_writes}
 use Rattle.blk_volume.specs.ListImages.{IsWritable, walked, completed_walk, HasListAtRest, operation_steps, completion_steps}
 use Rattle.blk_volume.specs.ShownChanges.{ShowsTheSame}
+use Rattle.blk_repair_laws.specs.RecordSeals.{KeepsRecordsSealed}
 use Rattle.blk_repair_laws.specs.EndRepair.{end_writes}
 use Rattle.blk_volume.specs.Audit.{is_kept, kept_nodes}
 
@@ -47,10 +48,11 @@ pub record HoldsTheSame (from image : Image) : Type 0 where
   pub kept_same : kept image ≡ kept from
   pub found_same : found image ≡ found from
 
--- the list is whole and at rest with the kept nodes alone, all of which are kept still; nothing else is shown to change
+-- the list is whole and at rest with the kept nodes alone, all of which are kept still; nothing else is shown to change, and what was sealed is so still
 pub record IsListMended (from image : Image) : Type 0 where
   pub rests : HasListAtRest (map (λ k. k.node) (kept from)) image
   pub store : ShowsTheSame (store_of from) (store_of image)
+  pub seals : KeepsRecordsSealed from image
   pub all_kept : kept_nodes (store_of image) held_rule (walked image) ≡ walked image
 
 -- at each word of the repair of the list the same is held; in the end the list is repaired
@@ -64,6 +66,7 @@ pub record IsEnded (from image : Image) : Type 0 where
   pub holds : HoldsTheSame from image
   pub rests : HasListAtRest (completed_walk from) image
   pub store : ShowsTheSame (store_of from) (store_of image)
+  pub seals : KeepsRecordsSealed from image
 
 abbrev pub CompletedListsAreEnded : Type 0
 CompletedListsAreEnded = (image : Image) → IsWellFormed image → IsWritable image → IsEnded image (ended_image image)
@@ -94,6 +97,7 @@ pub record HasLeft (from : Image) (nodes : List ℕ) (image : Image) : Type 0 wh
   pub well_formed : IsWellFormed image
   pub writable : IsWritable image
   pub store : ShowsTheSame (store_of from) (store_of image)
+  pub seals : KeepsRecordsSealed from image
   pub rests : HasListAtRest nodes image
   pub stays : ℕ → Bool
   pub kept_stay : (node : ℕ) → is_kept (store_of from) held_rule (walked from) node ≡ true → stays node ≡ true

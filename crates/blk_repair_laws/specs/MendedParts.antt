@@ -1,11 +1,10 @@
 -- How the parts are mended that come behind the links, and what leaves them mended.
-use Rattle.std.specs.Prelude.{◌≡◌, ◌%◌, ℕ, true, is_some, None, map, [], ◌∷◌, false}
+use Rattle.std.specs.Prelude.{List, ◌≡◌, ◌%◌, ℕ, true, is_some, None, map, [], ◌∷◌, false}
 use Rattle.std.specs.List.{AllByRecursion, flat_map}
 use Rattle.blk_image.specs.Image.{Index, Block, External, Image, byte}
 use Rattle.blk_image.specs.Footprint.{Footprint, SameOutside, one_word, whole}
 use Rattle.blk_image.specs.Steps.{Delete, applied}
 use Rattle.blk_format.specs.BlockFiles.{linked_as, is_among, stands_in}
-use Rattle.blk_format.specs.Sealed.{BeginsWithRecord, IsUpdated, is_sealed, record_at, record_range, seal_place}
 use Rattle.blk_volume.specs.ListImages.{IsWritable}
 use Rattle.blk_repair_laws.specs.ChainRepair.{is_kept_record}
 use Rattle.blk_volume.specs.Loads.{claims_of_loaded}
@@ -19,6 +18,7 @@ use Rattle.std.specs.List.{filter}
 use Rattle.blk_format.specs.Headers.{updating_of}
 use Rattle.blk_format.specs.Claims.{claims_of_all, is_in_file}
 use Rattle.blk_format.specs.Maps.{AreAllocations, EmptyAgrees}
+use Rattle.blk_repair_laws.specs.RecordSeals.{IsSealedAt}
 use Rattle.blk_repair_laws.specs.Mended.{HasMendedFiles, HasOnlyKeptFiles, AreKeptSealed, HasMendedCounters}
 
 -- The block files.
@@ -59,23 +59,13 @@ MendedFilesStand = (footprint : Footprint) (from image : Image) → IsBehindHead
 abbrev pub IndexWordsLeaveSeals : Type 0
 IndexWordsLeaveSeals = (from image : Image) (at : ℕ) → SameOutside (one_word Index at) from image → KeepsMendedLinks from image → AreKeptSealed from → AreKeptSealed image
 
--- a word of the index beside the counters leaves these
+-- the places of the counters of the index: num_entries, num_bytes, sizes
+abbrev pub counter_words : List ℕ
+counter_words = 8 ∷ 12 ∷ 268 ∷ []
+
+-- any other word of the index leaves them
 abbrev pub OtherWordsLeaveCounters : Type 0
-OtherWordsLeaveCounters = (from image : Image) (at : ℕ) → at % 4 ≡ 0 → is_among (8 ∷ 12 ∷ 268 ∷ []) at ≡ false → SameOutside (one_word Index at) from image → KeepsMendedLinks from image → HasMendedCounters from → HasMendedCounters image
-
--- Seals, one after the other.
-
--- a record has its hash as its seal
-abbrev pub IsSealedAt : Image → ℕ → Type 0
-IsSealedAt image w = is_sealed (seal_place w) (record_at image w) ≡ true
-
--- a record that was sealed is so
-abbrev pub SealsAreMade : Type 0
-SealsAreMade = (from image : Image) (w : ℕ) → IsUpdated from w [] image → IsSealedAt image w
-
--- and leaves each other record sealed that was
-abbrev pub SealsStand : Type 0
-SealsStand = (from image : Image) (w other : ℕ) → stands_in from w ≡ true → BeginsWithRecord w → stands_in from other ≡ true → BeginsWithRecord other → IsUpdated from w [] image → SameOutside (record_range w) from image → IsSealedAt from other → IsSealedAt image other
+OtherWordsLeaveCounters = (from image : Image) (at : ℕ) → at % 4 ≡ 0 → is_among counter_words at ≡ false → SameOutside (one_word Index at) from image → KeepsMendedLinks from image → HasMendedCounters from → HasMendedCounters image
 
 -- once the nodes and the records of what is kept are sealed, it is
 abbrev pub KeptAreSealed : Type 0

@@ -1,6 +1,7 @@
 //! The laws of repair, each the contract of a function with an empty body: at each word of the repair the same is kept and found, and in the end the folder stands for what it holds.
 #![tactic(auto)]
 
+ghost use Rattle.blk_repair_laws.specs.RecordSeals.{SealsAreMade, SealsStand, GrowthLeavesSeals, UnlinkedFilesLeaveSeals, ExternalFilesLeaveSeals, RecordsAreBehindHeaders, IndexWordsAreBehindHeaders};
 ghost use Rattle.blk_repair_laws.specs.EndRepair.{EndsAreMended};
 ghost use Rattle.blk_repair_laws.specs.ListRepair.{ListsAreRepaired, CompletedListsAreEnded, ListsAtRestNeedNoEnd, DroppedNodesAreTheOthers, RemovalsBegin, KeptNodesArePassed, OtherNodesAreRemoved, RemovalsEnd};
 ghost use Rattle.blk_repair_laws.specs.ChainRepair.{ChainsAreRepaired, ChainsBegin, BucketsAreMended, WholeChainsNeedNoSteps, ChainsEnd, KeptRecordsStay, WholeChainsStay, KeptNodesCheck, KeptRecordsCheck};
@@ -8,8 +9,8 @@ ghost use Rattle.blk_repair_laws.specs.LinkRepair.{LinksAreRepaired, MendedChain
 ghost use Rattle.blk_repair_laws.specs.MendedLinks.{MendedLinksRepresent};
 ghost use Rattle.blk_repair_laws.specs.MendedChanges.{RepairedLinksAreKept, MendedLinksGoOn, LinksAreMidRepair, MendedLinksAreMidRepair, MendedLinksStayOutside, MendedLinksMayGrow, UnlinkedFilesMayBeDeleted, UnclaimedFilesMayChange, HiddenWordsMayChange, KeptNodesMayBeSealed, KeptRecordsMayBeSealed};
 ghost use Rattle.blk_repair_laws.specs.Mended.{MendedFoldersStandFor, MendedFoldersAreSound, SoundFoldersAreMended};
-ghost use Rattle.blk_repair_laws.specs.MendedParts.{KeptWordsStand, KeptWordsClaim, RebuiltFilesAreMended, UnlinkedFilesLeaveTheOthers, ExternalFilesLeaveTheBlocks, MendedFilesStand, IndexWordsLeaveSeals, OtherWordsLeaveCounters, SealsAreMade, SealsStand, KeptAreSealed};
-ghost use Rattle.blk_repair_laws.specs.FoundHolding.{FoundIsAHolding};
+ghost use Rattle.blk_repair_laws.specs.MendedParts.{KeptWordsStand, KeptWordsClaim, RebuiltFilesAreMended, UnlinkedFilesLeaveTheOthers, ExternalFilesLeaveTheBlocks, MendedFilesStand, IndexWordsLeaveSeals, OtherWordsLeaveCounters, KeptAreSealed};
+ghost use Rattle.blk_repair_laws.specs.FoundHolding.{FoundIsAHolding, KeptClaimOnce};
 
 /// While the end of a list is mended the same nodes are walked; in the end the list is whole.
 pub fn ends_are_mended()
@@ -101,6 +102,15 @@ pub fn kept_records_may_be_sealed()
     ensures records { KeptRecordsMayBeSealed }
 {}
 
+/// Growth and the deletion of files leave what was sealed; records and words of the index are behind the headers of the block files.
+pub fn seals_are_left()
+    ensures growth { GrowthLeavesSeals }
+    ensures unlinked { UnlinkedFilesLeaveSeals }
+    ensures external { ExternalFilesLeaveSeals }
+    ensures records { RecordsAreBehindHeaders }
+    ensures words { IndexWordsAreBehindHeaders }
+{}
+
 /// The address words of what is kept stand and claim what it claims; where maps and counters are rebuilt for them, the files are mended.
 pub fn rebuilt_files_are_mended()
     ensures stand { KeptWordsStand }
@@ -131,7 +141,8 @@ pub fn mended_folders_stand_for()
     ensures converse { SoundFoldersAreMended }
 {}
 
-/// Of every image of bytes what is found is a valid holding.
+/// Of every image of bytes what is found is a valid holding, and no block and no external number of what is kept has two owners.
 pub fn found_is_a_holding()
-    ensures { FoundIsAHolding }
+    ensures holding { FoundIsAHolding }
+    ensures once { KeptClaimOnce }
 {}

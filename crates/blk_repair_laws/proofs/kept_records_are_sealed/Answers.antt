@@ -1,4 +1,5 @@
-use Rattle.blk_repair_laws.proofs.Seals.{seals-made, seals-stand, all-sealed}
+use Rattle.blk_repair_laws.proofs.RecordSeals.{seals-made, seals-stand}
+use Rattle.blk_repair_laws.proofs.Seals.{all-sealed}
 use Rattle.blk_repair_laws.proofs.kept_records_are_sealed.Goals as goal
 
 pub returns : goal.returns
