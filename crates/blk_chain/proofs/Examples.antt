@@ -14,7 +14,7 @@ use Rattle.blk_format.specs.Storage.{entry_blocks}
 use Rattle.blk_volume.specs.Chains.{IsChain}
 use Rattle.blk_volume.specs.Entries.{is_key_length, stored_key}
 use Rattle.blk_volume.specs.View.{fields_at, fields_of, entry_at, follow_at, key_place_at, store_of}
-use Rattle.blk_laws.proofs.SmallFolder.{small_records, folder_with}
+use Rattle.blk_laws.proofs.examples.SmallFolder.{small_records, folder_with}
 use Rattle.blk_entry.specs.Keys.{HasReadableKey, key_at}
 use Rattle.blk_chain.specs.Examples.{SomeChainIsSearched}
 use Rattle.blk_chain.specs.Finding.{CanBeSearched, IsFound}

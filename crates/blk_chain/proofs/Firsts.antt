@@ -15,10 +15,10 @@ use Rattle.blk_format.specs.Headers.{place_of_bucket}
 use Rattle.blk_volume.specs.ListView.{put}
 use Rattle.blk_volume.specs.View.{StoreView, RecordFields, store_of}
 use Rattle.blk_volume.specs.Chains.{chain, IsChain}
-use Rattle.blk_laws.proofs.ChainLinks.{first-leaves, others-stay}
-use Rattle.blk_laws.proofs.Changing.{at-itself}
+use Rattle.blk_laws.proofs.chains.ChainLinks.{first-leaves, others-stay}
+use Rattle.blk_laws.proofs.states.Changing.{at-itself}
 use Rattle.blk_laws.specs.IndexWrites.{IsIndexWord}
-use Rattle.blk_laws.proofs.IndexWords.{buckets-written, buckets-unchecked}
+use Rattle.blk_laws.proofs.updates.IndexWords.{buckets-written, buckets-unchecked}
 use Rattle.blk_disk.specs.declared.tables.BlockFiles.{BlockFiles}
 use Rattle.blk_disk.specs.Tables.{Agrees}
 use Rattle.blk_volume.specs.Entries.{stored_key}
@@ -26,7 +26,7 @@ use Rattle.blk_volume.specs.Searches.{HasKey}
 use Rattle.blk_chain.specs.Linking.{bucket_at, chained_with, place_of_front}
 use Rattle.blk_chain.specs.Unlinking.{CanBeUnlinked, IsStillLinked, IsUnlinked, next_record, unlink_range, unlink_steps}
 use Rattle.blk_chain.proofs.Links.{bucket_read, front_inside, index_agrees, index_word}
-use Rattle.blk_laws.proofs.ChainWords.{IsShownOf, shown-of, shown-chain_next}
+use Rattle.blk_laws.proofs.chains.ChainWords.{IsShownOf, shown-of, shown-chain_next}
 use Rattle.blk_image.proofs.Commits.{commits_none, commits_prefix, commits_word}
 use Rattle.blk_chain.proofs.Unlinks.{next_read}
 

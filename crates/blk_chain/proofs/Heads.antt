@@ -16,11 +16,11 @@ use Rattle.blk_format.specs.Sealed.{RecordChecks}
 use Rattle.blk_disk.specs.Tables.{Agrees, is_record_among, names_among, stands_among}
 use Rattle.blk_disk.proofs.Ranges.{stands_agree}
 use Rattle.blk_entry.specs.Keys.{CanBeRead, HasReadableKey, HasRecord, IsEntryOf, key_at}
-use Rattle.blk_laws.proofs.StillShown.{core-standing, standing-parts}
+use Rattle.blk_laws.proofs.updates.StillShown.{core-standing, standing-parts}
 use Rattle.blk_volume.specs.Searches.{HasKey}
 use Rattle.blk_entry.proofs.KeyPlaces.{key_by_bytes}
 use Rattle.blk_chain.specs.Finding.{IsFollowed, IsKeyed, IsSought}
-use Rattle.blk_laws.proofs.ChainWords.{record_checks, shown-fields, shown-kind}
+use Rattle.blk_laws.proofs.chains.ChainWords.{record_checks, shown-fields, shown-kind}
 
 -- a word that names a record that stands
 pub names-parts : (files : BlockFiles) (w : ℕ) → is_record_among files w ≡ true → (is_address w ≡ true) × ((kind_of w ≡ blocks_256) × (stands_among files w ≡ true))

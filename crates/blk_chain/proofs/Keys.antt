@@ -16,8 +16,8 @@ use Rattle.blk_format.proofs.Words.{AreFields, AreFields-of, kind_of-block_word,
 use Rattle.blk_volume.specs.Footprint.{IsClear}
 use Rattle.blk_volume.specs.View.{RecordFields, fields_of, fields_at, entry_at, stands_as, store_of}
 use Rattle.blk_format.specs.Sealed.{IsMidUpdate, record_at, record_size, seal_place, size_by_kind, seal_by_kind}
-use Rattle.blk_laws.proofs.StillShown.{core-standing, standing-parts}
-use Rattle.blk_laws.proofs.ChainWords.{record-at, shown-fields, shown-kind}
+use Rattle.blk_laws.proofs.updates.StillShown.{core-standing, standing-parts}
+use Rattle.blk_laws.proofs.chains.ChainWords.{record-at, shown-fields, shown-kind}
 
 -- the address of the first block of a record alone
 pub first_word : ℕ → ℕ

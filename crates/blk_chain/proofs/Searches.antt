@@ -17,7 +17,7 @@ use Rattle.blk_chain.specs.Linking.{bucket_at}
 use Rattle.blk_chain.specs.Unlinking.{CanBeUnlinked, StandsBehind, next_record}
 use Rattle.blk_chain.specs.Finding.{last_passed, up_to, CanBeSearched, EndsWith, HasPassed, IsAnswer, IsFollowed, IsFound, IsKeyed, IsOnTheWay, IsOutcome, IsSought, Walks}
 use Rattle.blk_chain.proofs.Apart.{middle-there}
-use Rattle.blk_laws.proofs.ChainWords.{shown-fields, shown-chain_next, shown-kind, shown-of}
+use Rattle.blk_laws.proofs.chains.ChainWords.{shown-fields, shown-chain_next, shown-kind, shown-of}
 use Rattle.blk_chain.proofs.Heads.{named-some, named-sought, sought-named}
 use Rattle.blk_chain.specs.declared.found.Found.{Found}
 use Rattle.blk_disk.specs.declared.tables.BlockFiles.{BlockFiles}

@@ -8,27 +8,26 @@ use Rattle.blk_image.specs.Bytes.{content, word_at, word_bytes}
 use Rattle.blk_image.specs.Image.{AreBytes, File, Index, Block, Image, byte, bytes_of, length_of, word}
 use Rattle.blk_image.specs.Steps.{Word, applied, word_step, with_word}
 use Rattle.blk_image.specs.Footprint.{SameOutside}
-use Rattle.blk_image.specs.Told.{Told, TellsBytes, AppliesPrefix, IsQuiet, Passes, CommitsAt, Commits}
+use Rattle.blk_image.specs.Told.{Told, TellsBytes, AppliesPrefix, Passes, CommitsAt, Commits}
 use Rattle.blk_image.proofs.Runs.{passes_end, some_inj, told_part}
 use Rattle.blk_image.proofs.Images.{bytes_of-written, length-after_write, word-after_same}
 use Rattle.blk_image.proofs.Words.{word-beside, word-fits}
-use Rattle.blk_image.proofs.WordSteps.{along_put, quiet-word_steps}
+use Rattle.blk_image.proofs.WordSteps.{along_put}
 use Rattle.blk_format.specs.Address.{kind_of, file_selector, place, blocks_256}
 use Rattle.blk_format.specs.BlockFiles.{is_among, stands_in}
-use Rattle.blk_format.specs.Records.{entry_in, entry_checks, checks}
+use Rattle.blk_format.specs.Records.{entry_in, checks}
 use Rattle.blk_volume.specs.View.{RecordFields, entry_at, store_of}
 use Rattle.blk_volume.specs.Chains.{bucket_of_hash, file_and_block, IsChain}
 use Rattle.blk_format.specs.Claims.{claims_of, has_claim}
 use Rattle.blk_volume.specs.Entries.{stored_key}
-use Rattle.blk_laws.proofs.ChainLinks.{later-leaves}
+use Rattle.blk_laws.proofs.chains.ChainLinks.{later-leaves}
 use Rattle.blk_volume.specs.ShownChanges.{OnlyChainNextChanges}
 use Rattle.blk_laws.specs.RecordUpdates.{IsRecord}
-use Rattle.blk_laws.proofs.Inside.{record-changes}
-use Rattle.blk_laws.proofs.Records.{follows-written}
-use Rattle.blk_laws.proofs.StillShown.{core-standing, standing-parts}
-use Rattle.blk_laws.proofs.Fronts.{AreSmall, small-take, small-range, entry_checks-front, entry_checks-by}
-use Rattle.blk_laws.proofs.Updates.{entry-seal, entry-here}
-use Rattle.blk_format.proofs.SealedRecords.{length-record, seal_last, moment_before, moments, record_inside}
+use Rattle.blk_laws.proofs.claims.Inside.{record-changes}
+use Rattle.blk_laws.proofs.updates.Records.{follows-written}
+use Rattle.blk_laws.proofs.updates.StillShown.{core-standing, standing-parts}
+use Rattle.blk_laws.proofs.updates.Updates.{entry-seal}
+use Rattle.blk_format.proofs.SealedRecords.{moment_before, moments, record_inside}
 use Rattle.blk_disk.proofs.Ranges.{stands_range}
 use Rattle.blk_disk.specs.declared.tables.BlockFiles.{BlockFiles}
 use Rattle.blk_disk.specs.Tables.{Agrees, stands_among}
@@ -37,8 +36,8 @@ use Rattle.blk_format.proofs.SealedFields.{record_word, updated_is_new}
 use Rattle.blk_chain.specs.Linking.{bucket_at}
 use Rattle.blk_chain.specs.Unlinking.{CanBeUnlinked, first_claim, IsApart, NamesStay, IsStillLinked, IsUnlinked, KeepsRecords, next_record}
 use Rattle.blk_image.proofs.Commits.{commits_none, commits_prefix}
-use Rattle.blk_laws.proofs.WriteSteps.{quiet-sealed}
-use Rattle.blk_laws.proofs.ChainWords.{record_checks, IsShownOf, shown-of, shown-fields, shown-kind, shown-chain_next, same-fields, same-chain_next}
+use Rattle.blk_laws.proofs.lists.WriteSteps.{quiet-sealed}
+use Rattle.blk_laws.proofs.chains.ChainWords.{record_checks, IsShownOf, shown-of, shown-fields, shown-kind, shown-chain_next, same-fields, same-chain_next}
 use Rattle.blk_chain.proofs.Words.{linked-good}
 use Rattle.blk_chain.proofs.Keys.{first_word, first-clear, first-record, first-moment}
 use Rattle.blk_chain.proofs.Apart.{middle-there, behind-there, front-apart, rest-apart}

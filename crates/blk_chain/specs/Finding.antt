@@ -7,7 +7,6 @@ use Rattle.std.specs.Option.{ForSome}
 use Rattle.blk_image.specs.Told.{Told}
 use Rattle.blk_format.specs.Address.{file_selector, place}
 use Rattle.blk_format.specs.BlockFiles.{is_among}
-use Rattle.blk_format.specs.Hash.{hash as hash_of}
 use Rattle.blk_format.specs.Headers.{place_of_bucket}
 use Rattle.blk_io.specs.declared.folder.FileId.TheVariants as names
 use Rattle.blk_io.specs.declared.fault.Damage.{Damage}
@@ -17,7 +16,7 @@ use Rattle.blk_io.specs.Faults.{IsShort}
 use Rattle.blk_format.specs.Records.{child}
 use Rattle.blk_volume.specs.ListView.{most_nodes}
 use Rattle.blk_volume.specs.View.{RecordFields, entry_at, store_of}
-use Rattle.blk_volume.specs.Chains.{bucket_of_hash, chain, Linked}
+use Rattle.blk_volume.specs.Chains.{Linked}
 use Rattle.blk_disk.specs.declared.tables.BlockFiles.{BlockFiles}
 use Rattle.blk_disk.specs.Tables.{is_record_among}
 use Rattle.blk_entry.specs.Keys.{HasBytesOf, HasReadableKey, HasRecord, IsKeyDamage}

@@ -4,12 +4,12 @@ ghost use Rattle.std.specs.Option.{ForSome};
 ghost use Rattle.blk_image.specs.Image.{Block as block, HasRange};
 ghost use Rattle.blk_image.specs.Told.{Applies, AppliesPrefix, Rises, Commits, Stays};
 ghost use Rattle.blk_format.specs.Address.{blocks_256, file_selector, kind_of, place};
-ghost use Rattle.blk_format.specs.Headers.{HasWholeIndex};
 ghost use Rattle.blk_io.specs.declared.folder.FileId.TheVariants as FileId;
 ghost use Rattle.blk_io.specs.Faults.{IfDamaged, IfDevice, IsShort};
-ghost use Rattle.blk_disk.specs.Tables.{Agrees, stands_among};
+ghost use Rattle.blk_disk.specs.Tables.{stands_among};
 ghost use Rattle.blk_chain.specs.Linking.{CanBeLinked, IsLinkedInFront, link_front_steps};
 ghost use Rattle.blk_chain.specs.Mapping.{GainsOne};
+ghost use Rattle.blk_disk.specs.Open.{IsOpen};
 
 use blk_addr::Addr;
 use blk_disk::BlockFiles;
@@ -25,15 +25,13 @@ use blk_record::{EntryView, IndexHead};
 pub fn link_front<F: Folder>(f: &mut F, files: &BlockFiles, entry: Addr) -> Result<(), Fault>
     requires kind { kind_of entry ≡ blocks_256 }
     requires stands { IsTrue (stands_among files.now entry) }
-    requires complete { ForSome (F.told f.old).files HasWholeIndex }
-    requires agrees { ForSome (F.told f.old).files (Agrees files.now) }
+    requires is_open { ForSome (F.told f.old).files (IsOpen files.now) }
 
     // A record that can be linked is linked, and the chains, a map from keys and child flags to records, have one record more.
     ensures linked { OnOk result (ForSome (F.told f.old).files (λ from. CanBeLinked entry from → ForSome (F.told f.new).files (IsLinkedInFront from entry))) }
     ensures gains { OnOk result (ForSome (F.told f.old).files (λ from. CanBeLinked entry from → ForSome (F.told f.new).files (GainsOne from entry))) }
     ensures checked { OnOk result (ForSome (F.told f.old).files (λ image. HasRange image (block (file_selector entry)) (place entry) 4)) }
-    ensures complete { ForSome (F.told f.new).files HasWholeIndex }
-    ensures agrees { ForSome (F.told f.new).files (Agrees files.now) }
+    ensures is_open { ForSome (F.told f.new).files (IsOpen files.now) }
     ensures steps { OnOk result (ForSome (F.told f.old).files (λ from. Applies (F.told f.old) (F.told f.new) (link_front_steps from entry))) }
     ensures prefix { ForSome (F.told f.old).files (λ from. AppliesPrefix (F.told f.old) (F.told f.new) (link_front_steps from entry)) }
 

@@ -3,12 +3,12 @@ ghost use Rattle.std.specs.Prelude.{◌≡◌, ◌≤◌, IfSome, IsTrue, None, 
 ghost use Rattle.std.specs.Option.{ForSome};
 ghost use Rattle.blk_image.specs.Told.{Applies, AppliesPrefix, Rises, Commits, Stays};
 ghost use Rattle.blk_format.specs.Address.{blocks_256, kind_of};
-ghost use Rattle.blk_format.specs.Headers.{HasWholeIndex};
 ghost use Rattle.blk_io.specs.Faults.{IfDamaged, IfDevice};
 ghost use Rattle.blk_format.specs.Sealed.{RecordChecks};
-ghost use Rattle.blk_disk.specs.Tables.{Agrees, stands_among};
+ghost use Rattle.blk_disk.specs.Tables.{stands_among};
 ghost use Rattle.blk_chain.specs.Mapping.{LosesOne};
 ghost use Rattle.blk_chain.specs.Unlinking.{BeforeChecks, CanBeUnlinked, IsSealedAgain, IsStillLinked, IsUnlinkDamage, IsUnlinked, unlink_steps, words_to_unlink};
+ghost use Rattle.blk_disk.specs.Open.{IsOpen};
 
 use crate::found::Found;
 use blk_addr::Addr;
@@ -29,13 +29,11 @@ fn unlink_behind<F: Folder>(
     requires stands { IsTrue (stands_among files.now entry) }
     requires kind_before { kind_of before ≡ blocks_256 }
     requires stands_before { IsTrue (stands_among files.now before) }
-    requires complete { ForSome (F.told f.old).files HasWholeIndex }
-    requires agrees { ForSome (F.told f.old).files (Agrees files.now) }
+    requires is_open { ForSome (F.told f.old).files (IsOpen files.now) }
     ensures unlinked { OnOk result (ForSome (F.told f.old).files (λ from. CanBeUnlinked entry (Some before) from → ForSome (F.told f.new).files (IsUnlinked from entry (Some before)))) }
     ensures sealed { OnOk result (ForSome (F.told f.old).files (λ from. ForSome (F.told f.new).files (IsSealedAgain from entry (Some before)))) }
     ensures checked { OnOk result (ForSome (F.told f.old).files (RecordChecks before)) }
-    ensures complete { ForSome (F.told f.new).files HasWholeIndex }
-    ensures agrees { ForSome (F.told f.new).files (Agrees files.now) }
+    ensures is_open { ForSome (F.told f.new).files (IsOpen files.now) }
     ensures steps { OnOk result (ForSome (F.told f.old).files (λ from. Applies (F.told f.old) (F.told f.new) (unlink_steps from entry (Some before)))) }
     ensures prefix { ForSome (F.told f.old).files (λ from. AppliesPrefix (F.told f.old) (F.told f.new) (unlink_steps from entry (Some before))) }
     ensures commits { ForSome (F.told f.old).files (λ from. CanBeUnlinked entry (Some before) from → Commits (words_to_unlink (Some before)) (F.told f.old) (F.told f.new) (IsStillLinked from entry (Some before)) (IsUnlinked from entry (Some before))) }
@@ -54,11 +52,9 @@ fn unlink_behind<F: Folder>(
 fn unlink_first<F: Folder>(f: &mut F, files: &BlockFiles, entry: Addr) -> Result<(), Fault>
     requires kind { kind_of entry ≡ blocks_256 }
     requires stands { IsTrue (stands_among files.now entry) }
-    requires complete { ForSome (F.told f.old).files HasWholeIndex }
-    requires agrees { ForSome (F.told f.old).files (Agrees files.now) }
+    requires is_open { ForSome (F.told f.old).files (IsOpen files.now) }
     ensures unlinked { OnOk result (ForSome (F.told f.old).files (λ from. CanBeUnlinked entry None from → ForSome (F.told f.new).files (IsUnlinked from entry None))) }
-    ensures complete { ForSome (F.told f.new).files HasWholeIndex }
-    ensures agrees { ForSome (F.told f.new).files (Agrees files.now) }
+    ensures is_open { ForSome (F.told f.new).files (IsOpen files.now) }
     ensures steps { OnOk result (ForSome (F.told f.old).files (λ from. Applies (F.told f.old) (F.told f.new) (unlink_steps from entry None))) }
     ensures prefix { ForSome (F.told f.old).files (λ from. AppliesPrefix (F.told f.old) (F.told f.new) (unlink_steps from entry None)) }
     ensures commits { ForSome (F.told f.old).files (λ from. CanBeUnlinked entry None from → Commits (words_to_unlink None) (F.told f.old) (F.told f.new) (IsStillLinked from entry None) (IsUnlinked from entry None)) }
@@ -86,8 +82,7 @@ pub fn unlink<F: Folder>(f: &mut F, files: &BlockFiles, found: &Found) -> Result
     requires stands { IsTrue (stands_among files.now found.now.entry) }
     requires kind_before { IfSome found.now.before (λ before. kind_of before ≡ blocks_256) }
     requires stands_before { IfSome found.now.before (λ before. IsTrue (stands_among files.now before)) }
-    requires complete { ForSome (F.told f.old).files HasWholeIndex }
-    requires agrees { ForSome (F.told f.old).files (Agrees files.now) }
+    requires is_open { ForSome (F.told f.old).files (IsOpen files.now) }
 
     // A record of a whole chain is unlinked, and the chains, a map from keys and child flags to records, have one record less.
     ensures unlinked { OnOk result (ForSome (F.told f.old).files (λ from. CanBeUnlinked found.now.entry found.now.before from → ForSome (F.told f.new).files (IsUnlinked from found.now.entry found.now.before))) }
@@ -96,8 +91,7 @@ pub fn unlink<F: Folder>(f: &mut F, files: &BlockFiles, found: &Found) -> Result
     // A record before had checked, and is the old one with that next, sealed.
     ensures checked { OnOk result (ForSome (F.told f.old).files (BeforeChecks found.now.before)) }
     ensures sealed { OnOk result (ForSome (F.told f.old).files (λ from. ForSome (F.told f.new).files (IsSealedAgain from found.now.entry found.now.before))) }
-    ensures complete { ForSome (F.told f.new).files HasWholeIndex }
-    ensures agrees { ForSome (F.told f.new).files (Agrees files.now) }
+    ensures is_open { ForSome (F.told f.new).files (IsOpen files.now) }
     ensures steps { OnOk result (ForSome (F.told f.old).files (λ from. Applies (F.told f.old) (F.told f.new) (unlink_steps from found.now.entry found.now.before))) }
     ensures prefix { ForSome (F.told f.old).files (λ from. AppliesPrefix (F.told f.old) (F.told f.new) (unlink_steps from found.now.entry found.now.before)) }
 

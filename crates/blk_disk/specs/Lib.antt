@@ -4,3 +4,4 @@ pub mod Loading
 pub mod Growth
 pub mod Unsealed
 pub mod Linked
+pub mod Open

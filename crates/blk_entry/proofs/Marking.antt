@@ -19,9 +19,9 @@ use Rattle.blk_volume.specs.View.{checks_at, list_of, node_at, node_fields_at, s
 use Rattle.blk_disk.specs.declared.tables.BlockFiles.{BlockFiles}
 use Rattle.blk_disk.specs.Tables.{Agrees, stands_among}
 use Rattle.blk_laws.specs.NodeUpdates.{IsNode}
-use Rattle.blk_laws.proofs.Inside.{record-changes}
-use Rattle.blk_laws.proofs.Nodes.{dirty-written}
-use Rattle.blk_laws.proofs.Updates.{node-checks}
+use Rattle.blk_laws.proofs.claims.Inside.{record-changes}
+use Rattle.blk_laws.proofs.updates.Nodes.{dirty-written}
+use Rattle.blk_laws.proofs.updates.Updates.{node-checks}
 use Rattle.blk_format.proofs.SealedRecords.{moment_before}
 use Rattle.blk_entry.proofs.NewShown.{stands_as_kind, stands_here}
 use Rattle.blk_entry.specs.Marks.{dirty_change, plain_node, SetsDirtyInProgress, HasDirtySet}

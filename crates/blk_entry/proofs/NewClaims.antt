@@ -10,9 +10,9 @@ use Rattle.blk_format.specs.Address.{is_address, is_initialized, kind_of, extern
 use Rattle.blk_format.specs.Claims.{Claim, ExternalOf, claims_of, claims_of_all, has_claim, same_claim}
 use Rattle.blk_volume.specs.Footprint.{Covers}
 use Rattle.blk_volume.specs.Loads.{all_claims, record_claims}
-use Rattle.blk_laws.proofs.ClaimLists.{claim-append, contents-claims}
-use Rattle.blk_laws.proofs.ByteChanges.{views-same}
-use Rattle.blk_laws.proofs.Covers.{blocks-covered, externals-covered, covers-less, covers-more, covers-either}
+use Rattle.blk_laws.proofs.claims.ClaimLists.{claim-append, contents-claims}
+use Rattle.blk_laws.proofs.claims.ByteChanges.{views-same}
+use Rattle.blk_laws.proofs.claims.Covers.{blocks-covered, externals-covered, covers-less, covers-more, covers-either}
 use Rattle.blk_disk.specs.declared.tables.BlockFiles.{BlockFiles}
 use Rattle.blk_disk.specs.Tables.{Agrees, stands_among}
 use Rattle.blk_format.specs.Sealed.{record_range}

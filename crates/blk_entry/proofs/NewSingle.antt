@@ -2,12 +2,12 @@
 use Rattle.std.proofs.Common.{◌≡◌, ◌≢◌, ◌⊎◌, ⊎_elim, ℕ, zero, suc, ◌+◌, ◌/◌, ◌<◌, ◌≤◌, true, false, List, [], ◌∷◌, ◌++◌, map, Option, None, Some, unwrap_or, length, refl, sym, ◌∙◌, ap, arith, append-nil}
 use Rattle.std.specs.Prelude.{◌==◌}
 use Rattle.std.specs.List.{range_with_len}
-use Rattle.std.proofs.lemmas.Bool.{and_parts, cases_Bool, eqb-true, or_cases}
+use Rattle.std.proofs.lemmas.Bool.{and_parts, cases_Bool, eqb-true, or_cases, or_from}
 use Rattle.std.proofs.lemmas.Bool.Decides.{nat_tests}
 use Rattle.blk_format.specs.Address.{is_address, is_initialized, kind_of, block_count, external, external_number, file_selector, first_block, rankings}
 use Rattle.blk_format.specs.Claims.{Claim, BlockOf, ExternalOf, claims_of, has_claim, repeats, same_claim}
 use Rattle.blk_volume.specs.Loads.{all_claims, record_claims}
-use Rattle.blk_laws.proofs.ClaimLists.{claim-append, claim-head, neither, no-claim, repeats-append}
+use Rattle.blk_laws.proofs.claims.ClaimLists.{claim-append, claim-head, no-claim, repeats-append}
 use Rattle.blk_disk.specs.declared.tables.BlockFiles.{BlockFiles}
 use Rattle.blk_entry.specs.declared.writing.NewEntry.{NewEntry}
 use Rattle.blk_entry.specs.Covering.{NewClaimsAreSingle}
@@ -46,7 +46,7 @@ once : (f first n : ℕ) → repeats (map (λ b. BlockOf f b) (range_with_len fi
 unfolding repeats
 once f first zero = refl
 once f first (suc n) =
-    neither (has_claim (map (λ b. BlockOf f b) (range_with_len (first + 1) n)) (BlockOf f first)) (repeats (map (λ b. BlockOf f b) (range_with_len (first + 1) n)))
+    or_from (has_claim (map (λ b. BlockOf f b) (range_with_len (first + 1) n)) (BlockOf f first)) (repeats (map (λ b. BlockOf f b) (range_with_len (first + 1) n)))
     (⊎_elim (λ (e : has_claim (map (λ b. BlockOf f b) (range_with_len (first + 1) n)) (BlockOf f first) ≡ true). let is = among f (first + 1) n (BlockOf f first) e in let low = is.1 in absurd (omega (arith, low)))
     (λ (e : has_claim (map (λ b. BlockOf f b) (range_with_len (first + 1) n)) (BlockOf f first) ≡ false). e)
     (cases_Bool (has_claim (map (λ b. BlockOf f b) (range_with_len (first + 1) n)) (BlockOf f first))))

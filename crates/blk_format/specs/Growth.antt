@@ -6,7 +6,8 @@ use Rattle.blk_format.specs.Headers.{is_shown_place}
 use Rattle.blk_format.specs.BlockFiles.{linked_as, max_entries_in, stands_in_blocks, IsWellFormed}
 use Rattle.blk_image.specs.Footprint.{Footprint, SameOutside}
 
--- block files have grown or been linked at most: a linked file stays linked as its kind, keeps the bytes behind its header, and gets no shorter and no fewer blocks
+-- block files have grown or been linked at most: a linked file stays linked as its kind, keeps the bytes behind its header, and gets no shorter and
+-- no fewer blocks
 pub record HaveGrown (old new : Image) : Type 0 where
   pub index : (i : ℕ) → is_shown_place i ≡ true → byte new Index i ≡ byte old Index i
   pub externals : (n : ℕ) → new (External n) ≡ old (External n)
@@ -18,7 +19,8 @@ pub record HaveGrown (old new : Image) : Type 0 where
 -- each block that stood still stands, with the bytes that it had
 pub record KeepsBlocks (from image : Image) : Type 0 where
   pub stand : (w : ℕ) → stands_in_blocks from w ≡ true → stands_in_blocks image w ≡ true
-  pub bytes : (w i : ℕ) → stands_in_blocks from w ≡ true → place w ≤ i → i < place w + byte_size w → byte image (Block (file_selector w)) i ≡ byte from (Block (file_selector w)) i
+  pub bytes : (w i : ℕ) → stands_in_blocks from w ≡ true → place w ≤ i → i < place w + byte_size w
+      → byte image (Block (file_selector w)) i ≡ byte from (Block (file_selector w)) i
 
 -- block files have grown at most, and a well-formed folder is well formed
 pub record StaysWhole (from image : Image) : Type 0 where

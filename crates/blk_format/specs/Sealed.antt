@@ -101,4 +101,5 @@ seal_steps image w = if is_sealed (seal_place w) (record_at image w) then [] els
 
 -- once the record is the updated one, it checks, and all changes are made
 abbrev pub WholeUpdatesAreMade : Type 0
-WholeUpdatesAreMade = (from image : Image) (w : ℕ) (changes : List (ℕ × ℕ)) → IsUpdated from w changes image → SameOutside (record_range w) from image → (moment : IsMidUpdate from w changes image) × (moment.made ≡ length changes)
+WholeUpdatesAreMade = (from image : Image) (w : ℕ) (changes : List (ℕ × ℕ)) → IsUpdated from w changes image
+    → SameOutside (record_range w) from image → (moment : IsMidUpdate from w changes image) × (moment.made ≡ length changes)

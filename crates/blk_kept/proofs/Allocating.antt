@@ -15,13 +15,13 @@ use Rattle.blk_volume.specs.Layout.{Layout, rule_of}
 use Rattle.blk_volume.specs.Loads.{claims_of_loaded}
 use Rattle.blk_volume.specs.Sound.{words_of}
 use Rattle.blk_volume.specs.View.{store_of}
-use Rattle.blk_laws.proofs.Allocations.{IsLoadedBy, all-stand, each-some, join, other-file, repeats-head, same-marks}
-use Rattle.blk_laws.proofs.ByteChanges.{stands-linked, stands-same}
-use Rattle.blk_laws.proofs.ClaimLists.{claim-append, no-claim, repeats-append}
-use Rattle.blk_laws.proofs.Files.{growth-absent, growth-keeps, words-there}
-use Rattle.blk_laws.proofs.Marking.{repeats-apart}
-use Rattle.blk_laws.proofs.Outside.{AreClear, clear-at}
-use Rattle.blk_laws.proofs.Standing.{claimed-exactly}
+use Rattle.blk_laws.proofs.claims.Allocations.{IsLoadedBy, all-stand, each-some, join, other-file, repeats-head, same-marks}
+use Rattle.blk_laws.proofs.claims.ByteChanges.{stands-linked, stands-same}
+use Rattle.blk_laws.proofs.claims.ClaimLists.{claim-append, no-claim, repeats-append}
+use Rattle.blk_laws.proofs.claims.Files.{growth-absent, growth-keeps, words-there}
+use Rattle.blk_laws.proofs.states.Marking.{repeats-apart}
+use Rattle.blk_laws.proofs.claims.Outside.{AreClear, clear-at}
+use Rattle.blk_laws.proofs.states.Standing.{claimed-exactly}
 use Rattle.blk_kept.specs.Changes.{AddsAllocation}
 use Rattle.blk_kept.specs.ChangeLaws.{AllocatedBlocksAreUnlinked}
 use Rattle.blk_kept.specs.Keeping.{AllAreSealed, AreFiles, AreUnlinked, IsMapped, KeepsUncounted, all_loaded, all_nodes, words_in_use}

@@ -9,8 +9,8 @@ use Rattle.blk_format.specs.BlockFiles.{linked_as, max_entries_in, stands_in}
 use Rattle.blk_format.specs.Claims.{has_claim, is_in_file, repeats}
 use Rattle.blk_format.specs.Maps.{groups_of, groups_with, is_block_marked, EmptyAgrees}
 use Rattle.blk_laws.specs.BareLaws.{HasNoEntries, IsFileWithoutBlocks}
-use Rattle.blk_laws.proofs.Bare.{represents-empty}
-use Rattle.blk_laws.proofs.Empty.{empty-valid, no-object}
+use Rattle.blk_laws.proofs.states.Bare.{represents-empty}
+use Rattle.blk_laws.proofs.states.Empty.{empty-valid, no-object}
 use Rattle.blk_kept.specs.Keeping.{IsMapped}
 use Rattle.blk_kept.specs.KeepingLaws.{FoldersWithoutEntriesKeepTheEmptyState}
 

@@ -8,12 +8,12 @@ use Rattle.blk_model.specs.State.{Object}
 use Rattle.blk_format.specs.Headers.{this_id_of}
 use Rattle.blk_volume.specs.Sound.{AreSealed}
 use Rattle.blk_volume.specs.Tidy.{IsTidy}
-use Rattle.blk_laws.proofs.OneEntry as one
-use Rattle.blk_laws.proofs.Premises.{state_is_valid}
-use Rattle.blk_laws.proofs.WholeFolder.{whole_folder, whole-is_well_formed, whole-is_represented}
-use Rattle.blk_laws.proofs.ExampleFolders.{whole-is_allocated, whole-is_in_order}
-use Rattle.blk_laws.proofs.ExampleDoomed.{doomed_layout, doomed_object, doomed_state, doomed-is_valid}
-use Rattle.blk_laws.proofs.DoomedFolder.{doomed_folder, doomed-is_well_formed, folder-is_allocated, folder-is_represented, folder-is_in_order}
+use Rattle.blk_laws.proofs.examples.OneEntry as one
+use Rattle.blk_laws.proofs.examples.Premises.{state_is_valid}
+use Rattle.blk_laws.proofs.examples.WholeFolder.{whole_folder, whole-is_well_formed, whole-is_represented}
+use Rattle.blk_laws.proofs.examples.ExampleFolders.{whole-is_allocated, whole-is_in_order}
+use Rattle.blk_laws.proofs.examples.ExampleDoomed.{doomed_layout, doomed_object, doomed_state, doomed-is_valid}
+use Rattle.blk_laws.proofs.examples.DoomedFolder.{doomed_folder, doomed-is_well_formed, folder-is_allocated, folder-is_represented, folder-is_in_order}
 use Rattle.blk_kept.specs.Keeping.{AreMarkedBy, IsInSession, Keeps}
 use Rattle.blk_kept.proofs.Opened.{opened-kept}
 

@@ -11,11 +11,11 @@ use Rattle.blk_volume.specs.Loads.{Loaded}
 use Rattle.blk_volume.specs.Footprint.{AgreeBut, IsClear, IsFree}
 use Rattle.blk_volume.specs.Layout.{Layout, rule_of, Represents}
 use Rattle.blk_volume.specs.Sound.{AreSealed}
-use Rattle.blk_laws.proofs.Allocations.{flat_map-append}
-use Rattle.blk_laws.proofs.ByteChanges.{agreeing-views, entry-same, node-same}
-use Rattle.blk_laws.proofs.ClaimLists.{claim-append}
-use Rattle.blk_laws.proofs.Loads.{load-then}
-use Rattle.blk_laws.proofs.Outside.{AreClear, clear-at, represents-outside}
+use Rattle.blk_laws.proofs.claims.Allocations.{flat_map-append}
+use Rattle.blk_laws.proofs.claims.ByteChanges.{agreeing-views, entry-same, node-same}
+use Rattle.blk_laws.proofs.claims.ClaimLists.{claim-append}
+use Rattle.blk_laws.proofs.walks.Loads.{load-then}
+use Rattle.blk_laws.proofs.claims.Outside.{AreClear, clear-at, represents-outside}
 use Rattle.blk_kept.specs.Keeping.{AllAreSealed, AreMarkedBy, IsInSession, KeepsUncounted}
 use Rattle.blk_kept.specs.Changes.{AreOfWords, ChangesOnly, SameSession}
 use Rattle.blk_kept.specs.ChangeLaws.{UnlinkedPlacesMayChange, WhatIsKeptIsFound, SameCountersCountTheSame}

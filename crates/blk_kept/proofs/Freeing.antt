@@ -11,12 +11,12 @@ use Rattle.blk_format.specs.Claims.{Claim, ExternalOf, claims_of, claims_of_all,
 use Rattle.blk_format.specs.Maps.{AreAllocations}
 use Rattle.blk_volume.specs.Footprint.{AgreeBut, IsClear, IsFree, is_absent}
 use Rattle.blk_volume.specs.Layout.{Layout}
-use Rattle.blk_laws.proofs.ByteChanges.{stands-same, stands-some}
-use Rattle.blk_laws.proofs.ClaimLists.{claim-append, some-claim}
-use Rattle.blk_laws.proofs.Files.{growth-absent, growth-keeps, words-there}
-use Rattle.blk_laws.proofs.Laid.{repeats-tail}
-use Rattle.blk_laws.proofs.Marking.{repeats-apart}
-use Rattle.blk_laws.proofs.Outside.{AreClear, clear-at}
+use Rattle.blk_laws.proofs.claims.ByteChanges.{stands-same, stands-some}
+use Rattle.blk_laws.proofs.claims.ClaimLists.{claim-append, some-claim}
+use Rattle.blk_laws.proofs.claims.Files.{growth-absent, growth-keeps, words-there}
+use Rattle.blk_laws.proofs.states.Laid.{repeats-tail}
+use Rattle.blk_laws.proofs.states.Marking.{repeats-apart}
+use Rattle.blk_laws.proofs.claims.Outside.{AreClear, clear-at}
 use Rattle.blk_kept.specs.Changes.{RemovesAllocation, SameExtent}
 use Rattle.blk_kept.specs.ChangeLaws.{FreedBlocksAreGone}
 use Rattle.blk_kept.specs.Keeping.{AllAreSealed, AreFiles, IsMapped, KeepsUncounted, all_loaded, words_in_use}

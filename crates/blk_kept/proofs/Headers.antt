@@ -15,7 +15,7 @@ use Rattle.blk_format.specs.Standing.{stands}
 use Rattle.blk_format.proofs.Groups.{groups_same}
 use Rattle.blk_format.proofs.LinkedHeads.{count_whole, linked_head, HasHead}
 use Rattle.blk_format.proofs.Keeping.{none_parts}
-use Rattle.blk_laws.proofs.ByteChanges.{same-links}
+use Rattle.blk_laws.proofs.claims.ByteChanges.{same-links}
 use Rattle.blk_kept.specs.Changes.{SameHeaders}
 use Rattle.blk_kept.specs.Keeping.{AreFiles, IsMapped}
 

@@ -22,14 +22,14 @@ use Rattle.blk_volume.specs.Layout.{Layout, is_in, order, IsPlacedAt, Represents
 use Rattle.blk_volume.specs.Sound.{AreOwned, IsInOrder, IsSound, words_of}
 use Rattle.blk_volume.specs.StandsFor.{KeepsDoomed, StandsFor, AllIsOwned}
 use Rattle.blk_volume.specs.Tidy.{IsTidy}
-use Rattle.blk_laws.proofs.Allocations.{all-claims, flat_map-append, same-marks}
-use Rattle.blk_laws.proofs.Bare.{idle-list}
-use Rattle.blk_laws.proofs.Central.{none-unlisted, settled-is_test, walk-order}
-use Rattle.blk_laws.proofs.Laid.{IsNodeOf, laid-shown, node-of}
-use Rattle.blk_laws.proofs.Owner.{IsOwned, owned}
-use Rattle.blk_laws.proofs.Shown.{dropped-none, kept-given}
-use Rattle.blk_laws.proofs.Standing.{claimed-exactly, found-at_rest, kept-at}
-use Rattle.blk_laws.proofs.TidyOrder.{tidy-stands}
+use Rattle.blk_laws.proofs.claims.Allocations.{all-claims, flat_map-append, same-marks}
+use Rattle.blk_laws.proofs.states.Bare.{idle-list}
+use Rattle.blk_laws.proofs.states.Central.{none-unlisted, settled-is_test, walk-order}
+use Rattle.blk_laws.proofs.states.Laid.{IsNodeOf, laid-shown, node-of}
+use Rattle.blk_laws.proofs.claims.Owner.{IsOwned, owned}
+use Rattle.blk_laws.proofs.walks.Shown.{dropped-none, kept-given}
+use Rattle.blk_laws.proofs.states.Standing.{claimed-exactly, found-at_rest, kept-at}
+use Rattle.blk_laws.proofs.states.TidyOrder.{tidy-stands}
 use Rattle.blk_kept.specs.Keeping.{Keeps, all_loaded, words_in_use}
 use Rattle.blk_kept.specs.KeepingLaws.{AllAreAtRest, KeptStatesAreFound, KeptStatesAreStoodFor, KeptStatesAreSound}
 

@@ -2,7 +2,7 @@
 use Rattle.std.proofs.Common.{◌≡◌, ◌≢◌, ℕ, List, [], ◌∷◌, map, refl, ap, sym, ◌∙◌, subst, ⊎_elim, Bool, true, false, Option, None, Some}
 use Rattle.std.specs.Prelude.{◌<◌, ◌^◌, ◌||◌, ◌==◌, ◌≤◌, is_some}
 use Rattle.std.specs.List.{AllByRecursion}
-use Rattle.std.proofs.lemmas.Bool.{cases_Bool, cases_eq, eq-eqb, eqb-true, or_left, or_right}
+use Rattle.std.proofs.lemmas.Bool.{cases_Bool, cases_eq, eq-eqb, eqb-true, or_left, or_right, or_from}
 use Rattle.blk_model.specs.State.{State}
 use Rattle.blk_image.specs.Image.{Image, Block, External, has_file, length_of}
 use Rattle.blk_format.specs.Address.{kind_of, block_place, external, external_number}
@@ -12,12 +12,12 @@ use Rattle.blk_volume.specs.Footprint.{IsFree}
 use Rattle.blk_volume.specs.Layout.{Layout}
 use Rattle.blk_volume.specs.Loads.{claims_of_loaded}
 use Rattle.blk_volume.specs.View.{view_of}
-use Rattle.blk_laws.proofs.ByteChanges.{agreeing-views, stands-same}
-use Rattle.blk_laws.proofs.ClaimLists.{claim-append, claim-head, no-claim, repeats-append, neither}
-use Rattle.blk_laws.proofs.Laid.{repeats-tail}
-use Rattle.blk_laws.proofs.Marking.{repeats-apart}
-use Rattle.blk_laws.proofs.Standing.{claimed-exactly}
-use Rattle.blk_laws.proofs.Outside.{AreClear, clear-at, represents-outside}
+use Rattle.blk_laws.proofs.claims.ByteChanges.{agreeing-views, stands-same}
+use Rattle.blk_laws.proofs.claims.ClaimLists.{claim-append, claim-head, no-claim, repeats-append}
+use Rattle.blk_laws.proofs.states.Laid.{repeats-tail}
+use Rattle.blk_laws.proofs.states.Marking.{repeats-apart}
+use Rattle.blk_laws.proofs.states.Standing.{claimed-exactly}
+use Rattle.blk_laws.proofs.claims.Outside.{AreClear, clear-at, represents-outside}
 use Rattle.blk_kept.specs.Changes.{AddsExternal, RemovesExternal}
 use Rattle.blk_kept.specs.ChangeLaws.{DeletedFilesAreGone, MadeFilesAreUnlinked}
 use Rattle.blk_kept.specs.Keeping.{AllAreSealed, AreFiles, AreUnlinked, IsMapped, KeepsUncounted, all_loaded, words_in_use}
@@ -161,7 +161,7 @@ module _ (w : ℕ) (from image : Image) (a : RemovesExternal from w image) (stat
   -- and no other word in use claims it
   left-free : (c : Claim) → gone c ≡ true → has_claim (claims_of_all (words_in_use unlinked (all_loaded state layout k.numbers))) c ≡ false
   left-free c e = ap (λ (cs : List Claim). has_claim cs c) (used-claims unlinked (all_loaded state layout k.numbers)) ∙ claim-append (claims_of_all unlinked) (claims_of_loaded (all_loaded state layout k.numbers)) c
-      ∙ neither (has_claim (claims_of_all unlinked) c) (has_claim (claims_of_loaded (all_loaded state layout k.numbers)) c)
+      ∙ or_from (has_claim (claims_of_all unlinked) c) (has_claim (claims_of_loaded (all_loaded state layout k.numbers)) c)
       (⊎_elim (λ (t : has_claim (claims_of_all unlinked) c ≡ true). absurd (let z : true ≡ false = sym e ∙ gone-alone c t in cc)) (λ (t : has_claim (claims_of_all unlinked) c ≡ false). t) (cases_Bool (has_claim (claims_of_all unlinked) c)))
       (claimed-exactly layout k.represents.holds.lies.own k.represents.holds.lies.single state (map layout.place_of_doomed k.numbers) k.owners.exact c
       ∙ ap (λ (o : Option ℕ). is_some o) (k.unlinked_words.free c (claim-append (claims_of w) (claims_of_all unlinked) c ∙ or_left (has_claim (claims_of w) c) (has_claim (claims_of_all unlinked) c) (claims-it c ∙ e))))

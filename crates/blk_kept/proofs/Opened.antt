@@ -13,11 +13,11 @@ use Rattle.blk_volume.specs.Sound.{AreOwned}
 use Rattle.blk_volume.specs.StandsFor.{AllIsOwned}
 use Rattle.blk_volume.specs.Tidy.{IsTidy}
 use Rattle.blk_volume.specs.View.{store_of, view_of}
-use Rattle.blk_laws.proofs.Allocations.{IsLoadedBy, all-claims, allocated, each-some}
-use Rattle.blk_laws.proofs.ByteChanges.{agreeing-views, agreement-goes_on}
-use Rattle.blk_laws.proofs.ClaimLists.{no-claim}
-use Rattle.blk_laws.proofs.Outside.{AreClear, clear-at, represents-outside}
-use Rattle.blk_laws.proofs.Standing.{claimed-exactly, no-repeats}
+use Rattle.blk_laws.proofs.claims.Allocations.{IsLoadedBy, all-claims, allocated, each-some}
+use Rattle.blk_laws.proofs.claims.ByteChanges.{agreeing-views, agreement-goes_on}
+use Rattle.blk_laws.proofs.claims.ClaimLists.{no-claim}
+use Rattle.blk_laws.proofs.claims.Outside.{AreClear, clear-at, represents-outside}
+use Rattle.blk_laws.proofs.states.Standing.{claimed-exactly, no-repeats}
 use Rattle.blk_kept.specs.Keeping.{AreFiles, all_loaded, all_nodes, words_in_use}
 use Rattle.blk_kept.specs.KeepingLaws.{OpenedFoldersKeepTheirState}
 use Rattle.blk_kept.proofs.Free.{sealed-same, standing-at}

@@ -15,8 +15,8 @@ use Rattle.blk_volume.specs.ListSteps.{IsTouched}
 use Rattle.blk_volume.specs.ListView.{after_writes}
 use Rattle.blk_volume.specs.Loads.{held_rule}
 use Rattle.blk_volume.specs.View.{View, list_of, store_of, view_of}
-use Rattle.blk_laws.proofs.Touches.{touched-items}
-use Rattle.blk_laws.proofs.Touches.{opens-each}
+use Rattle.blk_laws.proofs.commands.Touches.{touched-items}
+use Rattle.blk_laws.proofs.commands.Touches.{opens-each}
 use Rattle.blk_kept.specs.TouchLaws.{OpensMayStop, TouchesFindEither}
 
 -- what is found in a finished folder

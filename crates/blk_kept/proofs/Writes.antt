@@ -17,13 +17,13 @@ use Rattle.blk_volume.specs.Footprint.{AgreeBut}
 use Rattle.blk_volume.specs.View.{view_of}
 use Rattle.blk_volume.specs.Layout.{Represents}
 use Rattle.blk_laws.specs.IndexWrites.{checked_words, shown_words}
-use Rattle.blk_laws.proofs.ByteChanges.{covered-agrees}
-use Rattle.blk_laws.proofs.Covers.{blocks-covered, covers-less, externals-covered, hidden-covered}
-use Rattle.blk_laws.proofs.Files.{growth-keeps}
-use Rattle.blk_laws.proofs.IndexWords.{others-unchecked}
-use Rattle.blk_laws.proofs.Inside.{writes-inside}
-use Rattle.blk_laws.proofs.Standing.{found-at_rest}
-use Rattle.blk_laws.proofs.WellFormed.{well_formed_still}
+use Rattle.blk_laws.proofs.claims.ByteChanges.{covered-agrees}
+use Rattle.blk_laws.proofs.claims.Covers.{blocks-covered, covers-less, externals-covered, hidden-covered}
+use Rattle.blk_laws.proofs.claims.Files.{growth-keeps}
+use Rattle.blk_laws.proofs.updates.IndexWords.{others-unchecked}
+use Rattle.blk_laws.proofs.claims.Inside.{writes-inside}
+use Rattle.blk_laws.proofs.states.Standing.{found-at_rest}
+use Rattle.blk_laws.proofs.updates.WellFormed.{well_formed_still}
 use Rattle.blk_kept.specs.Changes.{SameHeaders}
 use Rattle.blk_kept.specs.ChangeLaws.{kept_words, BlockWritesChangeOnly, ExternalWritesChangeOnly, OtherWordsChangeOnly, GrowthFindsTheSame}
 

@@ -6,7 +6,7 @@ use Rattle.blk_volume.specs.ListView.{ListView, ListWrite, Next, Prev, Head, Tai
 use Rattle.blk_volume.specs.Completion.{insert, remove, move, taking_out, putting_in_front, take_out}
 use Rattle.blk_volume.specs.ListPlans.{writes_of}
 use Rattle.blk_volume.specs.ListSteps.{AreOf}
-use Rattle.blk_laws.proofs.ListWrites.{pending_remove, pending_move}
+use Rattle.blk_laws.proofs.lists.ListWrites.{pending_remove, pending_move}
 use Rattle.blk_lru.specs.Lists.{HasGoodLinks}
 use Rattle.blk_lru.proofs.Performing.{first_nodes}
 

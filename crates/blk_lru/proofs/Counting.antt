@@ -6,8 +6,8 @@ use Rattle.std.proofs.lemmas.Bool.{eq-eqb, ne_eqb, or_right, false_from_ne_true}
 use Rattle.blk_volume.specs.ListView.{ListView}
 use Rattle.blk_volume.specs.Completion.{counts, head_counts, links_count}
 use Rattle.blk_volume.specs.ListPlans.{completion_writes}
-use Rattle.blk_laws.proofs.ListCompletions.{completion_true}
-use Rattle.blk_laws.proofs.ListWrites.{counting}
+use Rattle.blk_laws.proofs.lists.ListCompletions.{completion_true}
+use Rattle.blk_laws.proofs.lists.ListWrites.{counting}
 use Rattle.blk_disk.specs.declared.tables.BlockFiles.{BlockFiles}
 use Rattle.blk_lru.specs.declared.completing.InFlight.{InFlight}
 use Rattle.blk_lru.specs.declared.completing.Usable.TheVariants.{Counts}

@@ -1,13 +1,13 @@
 -- The conditions of the calls can be met: at a folder of two listed nodes, and a third that isn't listed.
-use Rattle.std.proofs.Common.{◌≡◌, ℕ, List, [], ◌∷◌, refl, sym, ap, subst}
+use Rattle.std.proofs.Common.{◌≡◌, ℕ, List, [], ◌∷◌, sym, ap, subst}
 use Rattle.blk_image.specs.Image.{Image}
 use Rattle.blk_volume.specs.ListView.{CanBeInserted}
 use Rattle.blk_volume.specs.View.{list_of}
 use Rattle.blk_volume.specs.ListImages.{HasListAtRest, walked}
 use Rattle.blk_format.specs.BlockFiles.{is_among}
-use Rattle.blk_laws.proofs.ExampleWords.{another, first, last, pair_folder, pair-at_rest, pair-can_be_more}
-use Rattle.blk_laws.proofs.Walks.{walk_list}
-use Rattle.blk_laws.proofs.WordTurns.{touches-can}
+use Rattle.blk_laws.proofs.examples.ExampleWords.{another, first, last, pair_folder, pair-at_rest, pair-can_be_more}
+use Rattle.blk_laws.proofs.lists.Walks.{walk_list}
+use Rattle.blk_laws.proofs.lists.WordTurns.{touches-can}
 use Rattle.blk_lru.specs.Lists.{CanBeTouched, HasGoodLinks, IsListAtRest, IsListed}
 use Rattle.blk_lru.proofs.Listed.{linked}
 

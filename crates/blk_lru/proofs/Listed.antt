@@ -4,8 +4,8 @@ use Rattle.std.specs.Prelude.{◌==◌, ◌⊎◌}
 use Rattle.std.proofs.lemmas.Bool.{eq-eqb, eqb-true, or_parts}
 use Rattle.blk_format.specs.BlockFiles.{is_among}
 use Rattle.blk_volume.specs.ListView.{ListView, first_or, last_or, Distinct, Segment, IsList}
-use Rattle.blk_laws.proofs.ListCompletions.{last_good}
-use Rattle.blk_laws.proofs.Lists.{split, last-append, not_zero, apart_right, Distinct-right, eqb-sym}
+use Rattle.blk_laws.proofs.lists.ListCompletions.{last_good}
+use Rattle.blk_laws.proofs.lists.Lists.{split, last-append, not_zero, apart_right, Distinct-right, eqb-sym}
 use Rattle.blk_lru.specs.Lists.{first_node_of, last_node_of}
 use Rattle.blk_lru.specs.Plans.{word_or_zero}
 

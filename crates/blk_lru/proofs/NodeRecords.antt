@@ -8,7 +8,7 @@ use Rattle.blk_format.specs.Sealed.{record_at, RecordChecks}
 use Rattle.blk_format.proofs.SealedFields.{record_word}
 use Rattle.blk_format.proofs.SealedRecords.{node_bytes, node_seal}
 use Rattle.blk_volume.specs.View.{checks_at, list_of}
-use Rattle.blk_laws.proofs.NodeRecords.{checks_bytes}
+use Rattle.blk_laws.proofs.updates.NodeRecords.{checks_bytes}
 use Rattle.blk_disk.proofs.SealedReads.{record_read}
 use Rattle.blk_disk.specs.declared.tables.BlockFiles.{BlockFiles}
 use Rattle.blk_disk.specs.Tables.{Agrees, is_node_among}

@@ -7,29 +7,28 @@ use Rattle.blk_image.specs.Steps.{TrailStep, after, applied}
 use Rattle.blk_image.specs.Told.{Told, Along, Applies, AppliesPrefix}
 use Rattle.blk_image.proofs.Cuts.{after-append}
 use Rattle.blk_image.proofs.Runs.{grows_none, grows_then, part_then, part_only, part_whole, some_inj, until_last}
-use Rattle.blk_format.specs.Headers.{HasWholeIndex}
 use Rattle.blk_volume.specs.ListView.{ListWrite, Next, Prev, Head, Tail, Transaction, Operation}
 use Rattle.blk_volume.specs.View.{list_of}
 use Rattle.blk_volume.specs.ListSteps.{write_steps, steps_of_writes, AreOf, AllWriteWords}
 use Rattle.blk_volume.specs.ListImages.{IsWritable, CanBeMade}
-use Rattle.blk_laws.proofs.WriteSteps.{writes_show, writable-after, rest_can, first_can, one_write, still_check}
+use Rattle.blk_laws.proofs.lists.WriteSteps.{writes_show, writable-after, rest_can, first_can, one_write, still_check}
 use Rattle.blk_disk.specs.declared.tables.BlockFiles.{BlockFiles}
-use Rattle.blk_disk.specs.Tables.{Agrees}
 use Rattle.blk_lru.specs.Writes.{meant}
 use Rattle.blk_lru.specs.declared.writes.Write.{Write}
-use Rattle.blk_lru.proofs.Kept.{IsKept, kept_writes}
+use Rattle.blk_lru.proofs.Kept.{kept_writes}
+use Rattle.blk_disk.specs.Open.{IsOpen}
 
 -- what a folder tells before writes: bytes alone, with a whole index and the block files that are kept
 pub record IsReady (files : BlockFiles) (image : Image) : Type 0 where
-  pub kept : IsKept files image
+  pub kept : IsOpen files image
   pub bytes : AreBytes image
 
 -- it can be written
 pub ready_writable : {files : BlockFiles} {image : Image} → IsReady files image → IsWritable image
-ready_writable {files} {image} ready = record { bytes = ready.bytes; has_header = let index = ready.kept.index in omega (arith, index) }
+ready_writable {files} {image} ready = record { bytes = ready.bytes; has_header = let index = ready.kept.whole_index in omega (arith, index) }
 
-pub told_ready : (files : BlockFiles) (told : Told) → ForSome told.files (Agrees files) → ForSome told.files HasWholeIndex → ForSome told.files AreBytes → ForSome told.files (IsReady files)
-told_ready files told agrees index bytes image there = record { kept = record { index = index image there; agrees = agrees image there }; bytes = bytes image there }
+pub told_ready : (files : BlockFiles) (told : Told) → ForSome told.files (IsOpen files) → ForSome told.files AreBytes → ForSome told.files (IsReady files)
+told_ready files told is_open bytes image there = record { kept = is_open image there; bytes = bytes image there }
 
 -- all of some writes were made
 pub record Wrote (old now : Told) (writes : List ListWrite) : Type 0 where
@@ -112,20 +111,20 @@ split_can from (x ∷ xs) ys is all =
     subst (λ (i : Image). CanBeMade i ys) (sym (after-append (write_steps x from) (steps_of_writes xs between) from)) (split_can between xs ys (writable-after x from is) (rest_can from between x (xs ++ ys) first.ends all))
 
 -- the last step of a part
-pub part_kept : (files : BlockFiles) (old now : Told) (steps : Image → List TrailStep) → ForSome old.files (λ from. Along (IsKept files) from (steps from)) → (old.files ≡ None → now.files ≡ None) → ForSome old.files (λ from. AppliesPrefix old now (steps from)) → ForSome now.files (IsKept files)
+pub part_kept : (files : BlockFiles) (old now : Told) (steps : Image → List TrailStep) → ForSome old.files (λ from. Along (IsOpen files) from (steps from)) → (old.files ≡ None → now.files ≡ None) → ForSome old.files (λ from. AppliesPrefix old now (steps from)) → ForSome now.files (IsOpen files)
 part_kept files old now steps along silent part image here = by_files old.files refl
   where
-    cut : (xs ys : List TrailStep) (from : Image) → Along (IsKept files) from (xs ++ ys) → IsKept files (after xs from)
+    cut : (xs ys : List TrailStep) (from : Image) → Along (IsOpen files) from (xs ++ ys) → IsOpen files (after xs from)
     cut [] [] from all = all
     cut [] (y ∷ ys) from all = all.0
     cut (x ∷ xs) ys from all = cut xs ys (applied x from) all.1
 
-    by_files : (o : Option Image) → old.files ≡ o → IsKept files image
+    by_files : (o : Option Image) → old.files ≡ o → IsOpen files image
     by_files None none = absurd (no_some image (sym (silent none) ∙ here))
     by_files (Some from) there =
         let p = part from there in
         let is : now.files ≡ Some (after p.made from) = p.applies.files ∙ ap (option_map (after p.made)) there in
-        subst (IsKept files) (some_inj (sym is ∙ here)) (cut p.made p.left from (subst (Along (IsKept files) from) p.split (along from there)))
+        subst (IsOpen files) (some_inj (sym is ∙ here)) (cut p.made p.left from (subst (Along (IsOpen files) from) p.split (along from there)))
 
 module _ (files : BlockFiles) (old : Told) (writes : List ListWrite) (ready : ForSome old.files (IsReady files)) (words : AllWriteWords writes) where
   -- the nodes of the writes that are made checked before the first
@@ -133,10 +132,10 @@ module _ (files : BlockFiles) (old : Told) (writes : List ListWrite) (ready : Fo
   front_can now left r from there = record { nodes = r.checked from there; words = first_words r.done left (subst AllWriteWords r.split words) }
 
   -- the folder in the midst of the writes
-  pub midst : (now : Told) (left : List ListWrite) → Reached old now writes left → ForSome now.files (IsKept files)
+  pub midst : (now : Told) (left : List ListWrite) → Reached old now writes left → ForSome now.files (IsOpen files)
   midst now left r =
-      now_has old now (λ from. after (steps_of_writes r.done from) from) (IsKept files)
-      (λ from there. (wrote_files r.wrote from there, until_last (IsKept files) (IsKept files) (steps_of_writes r.done from) from (kept_writes files r.done from (ready from there).kept)))
+      now_has old now (λ from. after (steps_of_writes r.done from) from) (IsOpen files)
+      (λ from there. (wrote_files r.wrote from there, until_last (IsOpen files) (IsOpen files) (steps_of_writes r.done from) from (kept_writes files r.done from (ready from there).kept)))
       r.wrote.silent
 
   -- the rest can be made where all can
@@ -182,7 +181,7 @@ module _ (files : BlockFiles) (old : Told) (writes : List ListWrite) (ready : Fo
   all_checked now r from there = subst (CanBeMade from) (sym (r.split ∙ append-nil r.done)) (front_can now [] r from there)
 
   -- a part of the writes keeps the index and the files
-  pub part_ready : (now : Told) → (old.files ≡ None → now.files ≡ None) → ForSome old.files (λ from. AppliesPrefix old now (steps_of_writes writes from)) → ForSome now.files (IsKept files)
+  pub part_ready : (now : Told) → (old.files ≡ None → now.files ≡ None) → ForSome old.files (λ from. AppliesPrefix old now (steps_of_writes writes from)) → ForSome now.files (IsOpen files)
   part_ready now silent part = part_kept files old now (steps_of_writes writes) (λ from there. kept_writes files writes from (ready from there).kept) silent part
 
 -- all of the writes are a part of them

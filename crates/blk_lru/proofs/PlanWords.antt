@@ -7,7 +7,7 @@ use Rattle.blk_format.specs.Address.{is_address, is_initialized}
 use Rattle.blk_volume.specs.ListView.{ListView, after_writes, ListWrite, Next, Prev, Head, Tail, Transaction, Operation}
 use Rattle.blk_volume.specs.Completion.{taking_out, putting_in_front, take_out, unlinking}
 use Rattle.blk_volume.specs.ListPlans.{pending_writes, writes_of}
-use Rattle.blk_laws.proofs.ListWrites.{pending_insert, pending_remove, pending_move}
+use Rattle.blk_laws.proofs.lists.ListWrites.{pending_insert, pending_remove, pending_move}
 use Rattle.blk_lru.specs.declared.plans.Neighbours.{Neighbours}
 use Rattle.blk_lru.specs.declared.plans.Operation as code
 use Rattle.blk_lru.specs.declared.plans.Operation.TheVariants as operations

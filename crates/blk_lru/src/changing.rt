@@ -3,7 +3,6 @@ ghost use Rattle.std.specs.Prelude.{◌≡◌, ◌≢◌, ◌++◌, ◌∷◌, �
 ghost use Rattle.std.specs.Option.{ForSome};
 ghost use Rattle.blk_image.specs.Told.{Applies, AppliesPrefix, Passes, Rises, Stays};
 ghost use Rattle.blk_format.specs.Sealed.{sealed_steps};
-ghost use Rattle.blk_format.specs.Headers.{HasWholeIndex};
 ghost use Rattle.blk_volume.specs.Completion.{insert, move, remove as removal};
 ghost use Rattle.blk_volume.specs.ListPlans.{touch_writes, writes_of};
 ghost use Rattle.blk_volume.specs.View.{list_of};
@@ -16,6 +15,7 @@ ghost use Rattle.blk_lru.specs.Damages.{IsInsertDamage, IsNeighbourDamage, IsWro
 ghost use Rattle.blk_lru.specs.Lists.{CanBeTouched, HasGoodLinks, IsListed};
 ghost use Rattle.blk_lru.specs.Moments.{IsMidOperation, IsMidTouch};
 ghost use Rattle.blk_lru.specs.Plans.{AreBeside, StandBeside, word_or_zero};
+ghost use Rattle.blk_disk.specs.Open.{IsOpen};
 
 use crate::nodes::link;
 use crate::plans::{Neighbours, Operation, plan_of};
@@ -38,8 +38,7 @@ const WORD_VALUES: u64 = 0x1_0000_0000;
 /// is to be written and doesn't check. This takes at most 17 folder calls.
 pub fn insert_front<F: Folder>(f: &mut F, files: &BlockFiles, node: Addr) -> Result<(), Fault>
     requires stands { IsTrue (is_node_among files.now node) }
-    requires complete { ForSome (F.told f.old).files HasWholeIndex }
-    requires agrees { ForSome (F.told f.old).files (Agrees files.now) }
+    requires is_open { ForSome (F.told f.old).files (IsOpen files.now) }
 
     // Where it succeeds each node that was written checked.
     ensures checked { OnOk result (ForSome (F.told f.old).files (λ from. CanBeMade from (writes_of insert node (list_of from)))) }
@@ -51,8 +50,7 @@ pub fn insert_front<F: Folder>(f: &mut F, files: &BlockFiles, node: Addr) -> Res
     // At each word completing gives the old list, or from the transaction word on the new one; nothing but the list changes.
     ensures stops { ForSome (F.told f.old).files (λ from. CanBeInserted (list_of from) (walked from) node → Passes (F.told f.old) (F.told f.new) (IsMidOperation files.now (writes_of insert node (list_of from)) (walked from) (node ∷ walked from) from)) }
 
-    ensures complete { ForSome (F.told f.new).files HasWholeIndex }
-    ensures agrees { ForSome (F.told f.new).files (Agrees files.now) }
+    ensures is_open { ForSome (F.told f.new).files (IsOpen files.now) }
 
     // A folder that tells its files gives a damage only where the node can't be inserted.
     ensures damaged { IfDamaged result (IsInsertDamage files.now (F.told f.old) (F.told f.new)) }
@@ -76,8 +74,7 @@ pub fn insert_front<F: Folder>(f: &mut F, files: &BlockFiles, node: Addr) -> Res
 /// doesn't check. This takes at most 17 folder calls.
 pub fn remove<F: Folder>(f: &mut F, files: &BlockFiles, node: Addr) -> Result<(), Fault>
     requires stands { IsTrue (is_node_among files.now node) }
-    requires complete { ForSome (F.told f.old).files HasWholeIndex }
-    requires agrees { ForSome (F.told f.old).files (Agrees files.now) }
+    requires is_open { ForSome (F.told f.old).files (IsOpen files.now) }
 
     // Where it succeeds the node and both that its links name checked.
     ensures checked { OnOk result (ForSome (F.told f.old).files (λ from. HasGoodLinks (list_of from) node)) }
@@ -89,8 +86,7 @@ pub fn remove<F: Folder>(f: &mut F, files: &BlockFiles, node: Addr) -> Result<()
     // At each word completing gives the old list, or from the transaction word on the new one; nothing but the list changes.
     ensures stops { ForSome (F.told f.old).files (λ from. (prefix suffix : List ℕ) → HasListAtRest (prefix ++ node ∷ suffix) from → Passes (F.told f.old) (F.told f.new) (IsMidOperation files.now (writes_of removal node (list_of from)) (prefix ++ node ∷ suffix) (prefix ++ suffix) from)) }
 
-    ensures complete { ForSome (F.told f.new).files HasWholeIndex }
-    ensures agrees { ForSome (F.told f.new).files (Agrees files.now) }
+    ensures is_open { ForSome (F.told f.new).files (IsOpen files.now) }
 
     // A folder that tells its files gives a damage only where the node isn't listed.
     ensures damaged { IfDamaged result (IsRemovalDamage node files.now (F.told f.old) (F.told f.new)) }
@@ -114,8 +110,7 @@ pub fn remove<F: Folder>(f: &mut F, files: &BlockFiles, node: Addr) -> Result<()
 /// are those of an insert and a removal. This takes at most 39 folder calls.
 pub fn touch<F: Folder>(f: &mut F, files: &BlockFiles, node: Addr, moment: u64) -> Result<(), Fault>
     requires stands { IsTrue (is_node_among files.now node) }
-    requires complete { ForSome (F.told f.old).files HasWholeIndex }
-    requires agrees { ForSome (F.told f.old).files (Agrees files.now) }
+    requires is_open { ForSome (F.told f.old).files (IsOpen files.now) }
 
     // Where it succeeds each node that was written checked, and both that the links name of a node that wasn't the first.
     ensures checked { OnOk result (ForSome (F.told f.old).files (λ from. CanBeTouched from node)) }
@@ -128,8 +123,7 @@ pub fn touch<F: Folder>(f: &mut F, files: &BlockFiles, node: Addr, moment: u64) 
     // At each word completing gives the old list, or from the transaction word on the new one; nothing but the list and the times changes.
     ensures stops { ForSome (F.told f.old).files (λ from. (prefix suffix : List ℕ) → HasListAtRest (prefix ++ node ∷ suffix) from → Passes (F.told f.old) (F.told f.new) (IsMidTouch files.now node (touch_writes node (list_of from)) (prefix ++ node ∷ suffix) (node ∷ prefix ++ suffix) from)) }
 
-    ensures complete { ForSome (F.told f.new).files HasWholeIndex }
-    ensures agrees { ForSome (F.told f.new).files (Agrees files.now) }
+    ensures is_open { ForSome (F.told f.new).files (IsOpen files.now) }
 
     // A folder that tells its files gives a damage only where the node isn't listed.
     ensures damaged { IfDamaged result (IsTouchDamage node files.now (F.told f.old) (F.told f.new)) }
@@ -146,13 +140,11 @@ pub fn touch<F: Folder>(f: &mut F, files: &BlockFiles, node: Addr, moment: u64) 
 // Sets the two times of a node to a moment.
 fn set_times<F: Folder>(f: &mut F, files: &BlockFiles, node: Addr, moment: u64) -> Result<(), Fault>
     requires stands { is_node_among files.now node ≡ true }
-    requires complete { ForSome (F.told f.old).files HasWholeIndex }
-    requires agrees { ForSome (F.told f.old).files (Agrees files.now) }
+    requires is_open { ForSome (F.told f.old).files (IsOpen files.now) }
     ensures checked { OnOk result (ForSome (F.told f.old).files (λ image. (list_of image).checks node ≡ true)) }
     ensures steps { OnOk result (ForSome (F.told f.old).files (λ from. Applies (F.told f.old) (F.told f.new) (sealed_steps from node (times_of moment)))) }
     ensures prefix { ForSome (F.told f.old).files (λ from. AppliesPrefix (F.told f.old) (F.told f.new) (sealed_steps from node (times_of moment))) }
-    ensures complete { ForSome (F.told f.new).files HasWholeIndex }
-    ensures agrees { ForSome (F.told f.new).files (Agrees files.now) }
+    ensures is_open { ForSome (F.told f.new).files (IsOpen files.now) }
     ensures damaged { IfDamaged result (IsWrongNode files.now (F.told f.new)) }
     ensures untold { ForSome (F.told f.old).files (λ image. (list_of image).checks node ≡ true) → IfDamaged result (λ _. (F.told f.old).files ≡ None) }
     ensures silent { (F.told f.old).files ≡ None → (F.told f.new).files ≡ None }
@@ -173,14 +165,12 @@ fn set_times<F: Folder>(f: &mut F, files: &BlockFiles, node: Addr, moment: u64) 
 // Moves a listed node to the front of the list, where it isn't there already.
 fn move_front<F: Folder>(f: &mut F, files: &BlockFiles, node: Addr) -> Result<(), Fault>
     requires stands { IsTrue (is_node_among files.now node) }
-    requires complete { ForSome (F.told f.old).files HasWholeIndex }
-    requires agrees { ForSome (F.told f.old).files (Agrees files.now) }
+    requires is_open { ForSome (F.told f.old).files (IsOpen files.now) }
     ensures checked { OnOk result (ForSome (F.told f.old).files (λ from. CanBeMade from (touch_writes node (list_of from)))) }
     ensures linked { OnOk result (ForSome (F.told f.old).files (λ from. (list_of from).head ≢ node → HasGoodLinks (list_of from) node)) }
     ensures steps { OnOk result (ForSome (F.told f.old).files (λ from. Applies (F.told f.old) (F.told f.new) (steps_of_writes (touch_writes node (list_of from)) from))) }
     ensures prefix { ForSome (F.told f.old).files (λ from. AppliesPrefix (F.told f.old) (F.told f.new) (steps_of_writes (touch_writes node (list_of from)) from)) }
-    ensures complete { ForSome (F.told f.new).files HasWholeIndex }
-    ensures agrees { ForSome (F.told f.new).files (Agrees files.now) }
+    ensures is_open { ForSome (F.told f.new).files (IsOpen files.now) }
     ensures damaged { IfDamaged result (IsTouchDamage node files.now (F.told f.old) (F.told f.new)) }
     ensures untold { ForSome (F.told f.old).files (IsListed node) → IfDamaged result (λ _. (F.told f.old).files ≡ None) }
     ensures silent { (F.told f.old).files ≡ None → (F.told f.new).files ≡ None }
@@ -203,15 +193,13 @@ fn move_behind<F: Folder>(
 ) -> Result<(), Fault>
     requires stands { IsTrue (is_node_among files.now node) }
     requires first { IfSome head (λ n. IsTrue (is_node_among files.now n)) }
-    requires complete { ForSome (F.told f.old).files HasWholeIndex }
-    requires agrees { ForSome (F.told f.old).files (Agrees files.now) }
+    requires is_open { ForSome (F.told f.old).files (IsOpen files.now) }
     requires head { ForSome (F.told f.old).files (λ image. word_or_zero head ≡ (list_of image).head) }
     ensures checked { OnOk result (ForSome (F.told f.old).files (λ from. CanBeMade from (writes_of move node (list_of from)))) }
     ensures linked { OnOk result (ForSome (F.told f.old).files (λ from. HasGoodLinks (list_of from) node)) }
     ensures steps { OnOk result (ForSome (F.told f.old).files (λ from. Applies (F.told f.old) (F.told f.new) (operation_steps move node from))) }
     ensures prefix { ForSome (F.told f.old).files (λ from. AppliesPrefix (F.told f.old) (F.told f.new) (operation_steps move node from)) }
-    ensures complete { ForSome (F.told f.new).files HasWholeIndex }
-    ensures agrees { ForSome (F.told f.new).files (Agrees files.now) }
+    ensures is_open { ForSome (F.told f.new).files (IsOpen files.now) }
     ensures damaged { IfDamaged result (IsRemovalDamage node files.now (F.told f.old) (F.told f.new)) }
     ensures untold { ForSome (F.told f.old).files (IsListed node) → IfDamaged result (λ _. (F.told f.old).files ≡ None) }
     ensures silent { (F.told f.old).files ≡ None → (F.told f.new).files ≡ None }

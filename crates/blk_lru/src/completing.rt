@@ -2,7 +2,6 @@
 ghost use Rattle.std.specs.Prelude.{◌≡◌, ◌≤◌, None, IfOk, IfSome, OnOk, map, true};
 ghost use Rattle.std.specs.Option.{ForSome};
 ghost use Rattle.blk_image.specs.Told.{Applies, AppliesPrefix, Passes, Rises, Stays};
-ghost use Rattle.blk_format.specs.Headers.{HasWholeIndex};
 ghost use Rattle.blk_volume.specs.ListPlans.{completion_writes};
 ghost use Rattle.blk_volume.specs.View.{list_of};
 ghost use Rattle.blk_volume.specs.ListSteps.{AreOf, AllWriteWords, Seals};
@@ -14,6 +13,7 @@ ghost use Rattle.blk_lru.specs.Moments.{IsMidCompletion};
 ghost use Rattle.blk_lru.specs.Nodes.{AreLinksOf};
 ghost use Rattle.blk_lru.specs.Writes.{meant};
 ghost use Rattle.blk_lru.specs.Completing.{AreNodes, FindsInFlight, FindsNeighbours, FindsHead, FoundNeighboursStand, FoundHeadStands};
+ghost use Rattle.blk_disk.specs.Open.{IsOpen};
 
 use crate::nodes::{Links, checked};
 use crate::plans::{INSERT, MOVE, Neighbours, Operation, Plan, REMOVE, ending, pending_of};
@@ -47,8 +47,7 @@ pub(crate) enum Usable<T> {
 /// Where there is none in flight nothing is written. The list need not be whole. This takes at most
 /// 34 folder calls.
 pub fn complete<F: Folder>(f: &mut F, files: &BlockFiles) -> Result<(), Fault>
-    requires complete { ForSome (F.told f.old).files HasWholeIndex }
-    requires agrees { ForSome (F.told f.old).files (Agrees files.now) }
+    requires is_open { ForSome (F.told f.old).files (IsOpen files.now) }
     ensures sealed { OnOk result (ForSome (F.told f.old).files (λ from. ForSome (F.told f.new).files (Seals from (completion_writes (list_of from))))) }
     ensures done { OnOk result (ForSome (F.told f.old).files (λ from. ForSome (F.told f.new).files (IsCompleted from))) }
     ensures steps { OnOk result (ForSome (F.told f.old).files (λ from. Applies (F.told f.old) (F.told f.new) (completion_steps from))) }
@@ -57,8 +56,7 @@ pub fn complete<F: Folder>(f: &mut F, files: &BlockFiles) -> Result<(), Fault>
     // At each word completing gives what it gave at the entry, so it may be stopped and begun again; nothing but the list changes.
     ensures stops { ForSome (F.told f.old).files (λ from. Passes (F.told f.old) (F.told f.new) (IsMidCompletion files.now from)) }
 
-    ensures complete { ForSome (F.told f.new).files HasWholeIndex }
-    ensures agrees { ForSome (F.told f.new).files (Agrees files.now) }
+    ensures is_open { ForSome (F.told f.new).files (IsOpen files.now) }
 
     // A folder that tells its files never gives a damage.
     ensures damaged { IfDamaged result (IsCompletingDamage files.now (F.told f.new)) }
@@ -76,8 +74,7 @@ pub fn complete<F: Folder>(f: &mut F, files: &BlockFiles) -> Result<(), Fault>
 ///
 /// It is nothing where no operation is in flight. Nothing is written, and at most 6 folder calls are made.
 pub fn pending<F: Folder>(f: &mut F, files: &BlockFiles) -> Result<Plan, Fault>
-    requires complete { ForSome (F.told f.old).files HasWholeIndex }
-    requires agrees { ForSome (F.told f.old).files (Agrees files.now) }
+    requires is_open { ForSome (F.told f.old).files (IsOpen files.now) }
     ensures words { IfOk result (λ plan. AllWriteWords (map meant plan.items)) }
     ensures plan { IfOk result (λ plan. ForSome (F.told f.old).files (λ image. map meant plan.items ≡ completion_writes (list_of image))) }
     ensures stand { IfOk result (λ plan. AreOf (λ n. is_node_among files.now n ≡ true) (map meant plan.items)) }
@@ -106,8 +103,7 @@ fn in_flight<F: Folder>(
     files: &BlockFiles,
     transaction: u32,
 ) -> Result<Option<InFlight>, Fault>
-    requires complete { ForSome (F.told f.old).files HasWholeIndex }
-    requires agrees { ForSome (F.told f.old).files (Agrees files.now) }
+    requires is_open { ForSome (F.told f.old).files (IsOpen files.now) }
     requires transaction { ForSome (F.told f.old).files (λ image. (list_of image).transaction ≡ transaction) }
     ensures found { IfOk result (λ found. ForSome (F.told f.old).files (λ image. FindsInFlight (list_of image) found)) }
     ensures stand { IfOk result (λ found. IfSome found (AreNodes files.now)) }
@@ -131,8 +127,7 @@ fn counting<F: Folder>(
     code: u32,
     links: &Links,
 ) -> Result<Option<InFlight>, Fault>
-    requires complete { ForSome (F.told f.old).files HasWholeIndex }
-    requires agrees { ForSome (F.told f.old).files (Agrees files.now) }
+    requires is_open { ForSome (F.told f.old).files (IsOpen files.now) }
     requires stands { is_node_among files.now links.now.node ≡ true }
     requires links { ForSome (F.told f.old).files (λ image. AreLinksOf (list_of image) (list_of image).transaction links.now) }
     requires operation { ForSome (F.told f.old).files (λ image. (list_of image).operation ≡ code) }
@@ -176,8 +171,7 @@ fn counting<F: Folder>(
 
 // The first node or none, where the head is 0 or names a node that checks.
 fn usable_head<F: Folder>(f: &mut F, files: &BlockFiles) -> Result<Usable<Option<Addr>>, Fault>
-    requires complete { ForSome (F.told f.old).files HasWholeIndex }
-    requires agrees { ForSome (F.told f.old).files (Agrees files.now) }
+    requires is_open { ForSome (F.told f.old).files (IsOpen files.now) }
     ensures found { IfOk result (λ found. ForSome (F.told f.old).files (λ image. FindsHead (list_of image) found)) }
     ensures stand { IfOk result (FoundHeadStands files.now) }
     ensures stays { Stays (F.told f.old) (F.told f.new) }

@@ -1,8 +1,8 @@
 // The use list of three nodes in a folder in memory, that tells nothing or all.
 ghost use Rattle.std.specs.Prelude.{IfOk, IfSome, IsTrue};
 ghost use Rattle.std.specs.Option.{ForSome};
-ghost use Rattle.blk_format.specs.Headers.{HasWholeIndex};
-ghost use Rattle.blk_disk.specs.Tables.{Agrees, is_node_among};
+ghost use Rattle.blk_disk.specs.Tables.{is_node_among};
+ghost use Rattle.blk_disk.specs.Open.{IsOpen};
 
 use crate::reading::{HEAD, TAIL};
 use crate::writes::{OPERATION, TRANSACTION};
@@ -600,8 +600,7 @@ fn short_reads_are_damages(rt: HostRuntime) -> Result<(), Fail> {
 
 // The block files of a folder whose index has its length.
 fn opened<F: Folder>(f: &mut F) -> Result<Option<BlockFiles>, Fault>
-    ensures complete { IfOk result (λ files. IfSome files (λ _. ForSome (F.told f.new).files HasWholeIndex)) }
-    ensures agrees { IfOk result (λ files. IfSome files (λ files. ForSome (F.told f.new).files (Agrees files))) }
+    ensures is_open { IfOk result (λ files. IfSome files (λ files. ForSome (F.told f.new).files (IsOpen files))) }
 {
     if f.length(FileId::Index)? != Some(INDEX_LEN as u64) {
         return Ok(None);
@@ -612,8 +611,7 @@ fn opened<F: Folder>(f: &mut F) -> Result<Option<BlockFiles>, Fault>
 
 // Inserts three nodes, touches the last one, and takes the first two out but for that one.
 fn change_each<F: Folder>(f: &mut F) -> Result<Option<BlockFiles>, Fault>
-    ensures complete { IfOk result (λ files. IfSome files (λ _. ForSome (F.told f.new).files HasWholeIndex)) }
-    ensures agrees { IfOk result (λ files. IfSome files (λ files. ForSome (F.told f.new).files (Agrees files))) }
+    ensures is_open { IfOk result (λ files. IfSome files (λ files. ForSome (F.told f.new).files (IsOpen files))) }
 {
     let Some(files) = opened(f)? else {
         return Ok(None);

@@ -14,6 +14,7 @@ ghost use Rattle.blk_disk.specs.Tables.{Agrees, is_node_among};
 ghost use Rattle.blk_lru.specs.Damages.{IsWrongNode};
 ghost use Rattle.blk_lru.specs.Nodes.{IsLinkPlace};
 ghost use Rattle.blk_lru.specs.Writes.{meant};
+ghost use Rattle.blk_disk.specs.Open.{IsOpen};
 
 use crate::reading::{HEAD, TAIL};
 use blk_addr::Addr;
@@ -52,13 +53,11 @@ pub(crate) fn perform<F: Folder>(
 ) -> Result<(), Fault>
     requires stand { AreOf (λ n. is_node_among files.now n ≡ true) (map meant writes.now) }
     requires words { AllWriteWords (map meant writes.now) }
-    requires complete { ForSome (F.told f.old).files HasWholeIndex }
-    requires agrees { ForSome (F.told f.old).files (Agrees files.now) }
+    requires is_open { ForSome (F.told f.old).files (IsOpen files.now) }
     ensures checked { OnOk result (ForSome (F.told f.old).files (λ image. CanBeMade image (map meant writes.now))) }
     ensures steps { OnOk result (ForSome (F.told f.old).files (λ from. Applies (F.told f.old) (F.told f.new) (steps_of_writes (map meant writes.now) from))) }
     ensures prefix { ForSome (F.told f.old).files (λ from. AppliesPrefix (F.told f.old) (F.told f.new) (steps_of_writes (map meant writes.now) from)) }
-    ensures complete { ForSome (F.told f.new).files HasWholeIndex }
-    ensures agrees { ForSome (F.told f.new).files (Agrees files.now) }
+    ensures is_open { ForSome (F.told f.new).files (IsOpen files.now) }
     ensures damaged { IfDamaged result (IsWrongNode files.now (F.told f.new)) }
     ensures untold { ForSome (F.told f.old).files (λ image. CanBeMade image (map meant writes.now)) → IfDamaged result (λ _. (F.told f.old).files ≡ None) }
     ensures silent { (F.told f.old).files ≡ None → (F.told f.new).files ≡ None }
@@ -75,8 +74,7 @@ pub(crate) fn perform<F: Folder>(
 #[tactic(auto, unfolding(blk_volume::specs::ListSteps::write_steps))]
 fn write_one<F: Folder>(f: &mut F, files: &BlockFiles, write: Write) -> Result<(), Fault>
     requires stand { AreOf (λ n. is_node_among files.now n ≡ true) (meant write ∷ []) }
-    requires complete { ForSome (F.told f.old).files HasWholeIndex }
-    requires agrees { ForSome (F.told f.old).files (Agrees files.now) }
+    requires is_open { ForSome (F.told f.old).files (IsOpen files.now) }
     ensures checked { OnOk result (ForSome (F.told f.old).files (λ image. AreOf (λ n. (list_of image).checks n ≡ true) (meant write ∷ []))) }
     ensures steps { OnOk result (ForSome (F.told f.old).files (λ from. Applies (F.told f.old) (F.told f.new) (write_steps (meant write) from))) }
     ensures prefix { ForSome (F.told f.old).files (λ from. AppliesPrefix (F.told f.old) (F.told f.new) (write_steps (meant write) from)) }

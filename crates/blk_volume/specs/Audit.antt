@@ -82,7 +82,8 @@ verdicts store rule kept (node ∷ nodes) =
 
 -- whether a node names a record that checks and has the child flag
 abbrev pub is_child : StoreView → ℕ → Bool
-is_child store node = option_map_or (λ node_fields. option_map_or (λ fields. fields.checks && (fields.flags == child)) (store.entry node_fields.contents) false) (store.node_fields node) false
+is_child store node =
+    option_map_or (λ node_fields. option_map_or (λ fields. fields.checks && (fields.flags == child)) (store.entry node_fields.contents) false) (store.node_fields node) false
 
 -- the nodes in the order of the two passes: first those whose record is not a child, then the children
 abbrev pub tried : StoreView → List ℕ → List ℕ

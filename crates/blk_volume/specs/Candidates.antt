@@ -24,7 +24,8 @@ sound_key store contents fields = if fields.checks && is_key_length contents fie
 
 -- the name that is the key of such a record of a node
 unfoldable pub name_at : StoreView → ℕ → Option Name
-name_at store node = option_and_then (λ node_fields. option_and_then (λ fields. option_and_then read_name (sound_key store node_fields.contents fields)) (store.entry node_fields.contents)) (store.node_fields node)
+name_at store node =
+    option_and_then (λ node_fields. option_and_then (λ fields. option_and_then read_name (sound_key store node_fields.contents fields)) (store.entry node_fields.contents)) (store.node_fields node)
 
 -- a role is a parent's with a signature
 abbrev pub has_signature : ℕ → Role → Bool
@@ -40,11 +41,13 @@ is_parent_with store name contents fields =
 
 -- a clean node with such a record
 unfoldable pub is_parent_at : StoreView → Name → ℕ → Bool
-is_parent_at store name node = is_clean store node && option_map_or (λ node_fields. option_map_or (is_parent_with store name node_fields.contents) (store.entry node_fields.contents) false) (store.node_fields node) false
+is_parent_at store name node =
+    is_clean store node && option_map_or (λ node_fields. option_map_or (is_parent_with store name node_fields.contents) (store.entry node_fields.contents) false) (store.node_fields node) false
 
 -- a clean node; where its record is a child, a walked node is the parent that its name says
 unfoldable pub is_candidate : StoreView → List ℕ → ℕ → Bool
-is_candidate store walked node = is_clean store node && (not (is_child store node) || option_map_or (λ name. list_any (is_parent_at store name) walked) (name_at store node) false)
+is_candidate store walked node =
+    is_clean store node && (not (is_child store node) || option_map_or (λ name. list_any (is_parent_at store name) walked) (name_at store node) false)
 
 -- the candidates, in the order of the walk
 abbrev pub candidates : View → List ℕ

@@ -28,7 +28,8 @@ most_stream_bytes = 2147483647
 
 -- the length of the key is right, and so is the number of blocks of the record's address
 unfoldable pub is_key_length : ℕ → RecordFields → Bool
-is_key_length contents fields = nat_le 1 fields.key_len && nat_le fields.key_len (longest_key_with fields) && (block_count contents == entry_blocks fields.key_len)
+is_key_length contents fields =
+    nat_le 1 fields.key_len && nat_le fields.key_len (longest_key_with fields) && (block_count contents == entry_blocks fields.key_len)
 
 -- the key: in its place in the record, or stored with one zero byte behind it
 unfoldable pub stored_key : StoreView → ℕ → RecordFields → Option (List ℕ)
@@ -45,7 +46,9 @@ stored_stream store fields i = if nat_le (data_size_of fields i) most_stream_byt
 unfoldable pub stored_streams : StoreView → RecordFields → Option (List (List ℕ))
 stored_streams store fields =
     if not ((data_size_of fields 3 == 0) && (address_of fields 3 == 0)) then None else
-    option_and_then (λ first. option_and_then (λ second. option_map (λ third. first ∷ second ∷ third ∷ []) (stored_stream store fields 2)) (stored_stream store fields 1)) (stored_stream store fields 0)
+    option_and_then
+    (λ first. option_and_then (λ second. option_map (λ third. first ∷ second ∷ third ∷ []) (stored_stream store fields 2)) (stored_stream store fields 1))
+    (stored_stream store fields 0)
 
 -- stream i of some
 abbrev pub stream : ℕ → List (List ℕ) → List ℕ
@@ -77,4 +80,7 @@ part_role key streams =
 
 -- what the flags say
 unfoldable pub role_of : RecordFields → List ℕ → List (List ℕ) → Option Role
-role_of fields key streams = if fields.flags == parent then parent_role fields streams else if fields.flags == child then part_role key streams else Some IsPlain
+role_of fields key streams =
+    if fields.flags == parent then parent_role fields streams else
+    if fields.flags == child then part_role key streams else
+    Some IsPlain

@@ -28,7 +28,8 @@ pub record SameStore (touched : Claim → Bool) (old new : StoreView) : Type 0 w
   pub node_fields : (w : ℕ) → IsClear touched w → old.node_fields w ≡ new.node_fields w
   pub entry : (w : ℕ) → IsClear touched w → old.entry w ≡ new.entry w
   pub chain_next : (w : ℕ) → IsClear touched w → old.chain_next w ≡ new.chain_next w
-  pub key_place : (w : ℕ) (fields : RecordFields) → IsClear touched w → old.entry w ≡ Some fields → is_key_length w fields ≡ true → nat_le fields.key_len longest_short_key ≡ true → old.key_place w fields.key_len ≡ new.key_place w fields.key_len
+  pub key_place : (w : ℕ) (fields : RecordFields) → IsClear touched w → old.entry w ≡ Some fields → is_key_length w fields ≡ true
+      → nat_le fields.key_len longest_short_key ≡ true → old.key_place w fields.key_len ≡ new.key_place w fields.key_len
   pub stored : (size w : ℕ) → IsClear touched w → old.stored size w ≡ new.stored size w
 
 -- the links of nodes outside are the same, and so are the words of the index but the operation, which is not read where no transaction is in flight
@@ -51,7 +52,9 @@ pub record SameBut (touched : Claim → Bool) (old new : View) : Type 0 where
 -- beside the record of a word: what the nodes say, its own key, and the keys and data in other blocks than its own are the same
 pub record SameExceptAt (w : ℕ) (old new : StoreView) : Type 0 where
   pub node_fields : (u : ℕ) → old.node_fields u ≡ new.node_fields u
-  pub key_place : (u : ℕ) (fields : RecordFields) → IsClear (has_claim (claims_of w)) u ⊎ (u ≡ w) → old.entry u ≡ Some fields → is_key_length u fields ≡ true → nat_le fields.key_len longest_short_key ≡ true → old.key_place u fields.key_len ≡ new.key_place u fields.key_len
+  pub key_place : (u : ℕ) (fields : RecordFields) → IsClear (has_claim (claims_of w)) u ⊎ (u ≡ w) → old.entry u ≡ Some fields
+      → is_key_length u fields ≡ true → nat_le fields.key_len longest_short_key ≡ true
+      → old.key_place u fields.key_len ≡ new.key_place u fields.key_len
   pub stored : (size u : ℕ) → IsClear (has_claim (claims_of w)) u → old.stored size u ≡ new.stored size u
 
 -- no record changes but for its link: that of the record of a word may, and the table
@@ -66,7 +69,8 @@ pub record Covers (image : Image) (footprint : Footprint) (touched : Claim → B
   pub index : (i : ℕ) → is_shown_place i ≡ true → footprint.bytes Index i ≡ false
   pub extents : (n i : ℕ) → is_extent_place i ≡ true → footprint.bytes (Block n) i ≡ false
   pub lengths : (n : ℕ) → footprint.sizes (Block n) ≡ false
-  pub blocks : (n kind b i : ℕ) → linked_as image n ≡ Some kind → block_place kind b ≤ i → i < block_place kind (b + 1) → footprint.bytes (Block n) i ≡ true → touched (BlockOf n b) ≡ true
+  pub blocks : (n kind b i : ℕ) → linked_as image n ≡ Some kind → block_place kind b ≤ i → i < block_place kind (b + 1)
+      → footprint.bytes (Block n) i ≡ true → touched (BlockOf n b) ≡ true
   pub external_bytes : (n i : ℕ) → footprint.bytes (External n) i ≡ true → touched (ExternalOf n) ≡ true
   pub external_sizes : (n : ℕ) → footprint.sizes (External n) ≡ true → touched (ExternalOf n) ≡ true
 
@@ -82,7 +86,8 @@ IsFreeBut node touched layout = (claim : Claim) (other : ℕ) → layout.owner c
 
 -- whoever has a block of a word has its record there
 abbrev pub IsOnlyRecord : ℕ → Layout → Type 0
-IsOnlyRecord w layout = (claim : Claim) (node : ℕ) (loaded : Loaded) → has_claim (claims_of w) claim ≡ true → layout.owner claim ≡ Some node → layout.at node ≡ Some loaded → loaded.contents ≡ w
+IsOnlyRecord w layout = (claim : Claim) (node : ℕ) (loaded : Loaded) → has_claim (claims_of w) claim ≡ true → layout.owner claim ≡ Some node
+    → layout.at node ≡ Some loaded → loaded.contents ≡ w
 
 -- a node checks as before, with its links as before
 pub record SameNodeLinks (node : ℕ) (old new : ListView) : Type 0 where
@@ -109,17 +114,20 @@ pub record IsInsideNode (touched : Claim → Bool) (old new : View) (layout : La
 -- the record of a part keeps its flags and its key, wherever its streams are; of a main item's nothing is asked
 abbrev pub KeepsName : StoreView → StoreView → Item → ℕ → Type 0
 KeepsName old new (main key) contents = Unit {0}
-KeepsName old new (part key n) contents = (was now : RecordFields) → old.entry contents ≡ Some was → new.entry contents ≡ Some now → (now.flags ≡ was.flags) × (stored_key new contents now ≡ stored_key old contents was)
+KeepsName old new (part key n) contents = (was now : RecordFields) → old.entry contents ≡ Some was → new.entry contents ≡ Some now
+    → (now.flags ≡ was.flags) × (stored_key new contents now ≡ stored_key old contents was)
 
 -- a block is there as one of a kind: its file is linked as that, and the block is below max_entries and ends inside the file
 unfoldable pub is_there : Image → ℕ → ℕ → ℕ → Bool
-is_there image n kind b = is_linked_as (linked_as image n) kind && nat_le (b + 1) (max_entries_in image n) && nat_le (block_place kind (b + 1)) (length_of image (Block n))
+is_there image n kind b =
+    is_linked_as (linked_as image n) kind && nat_le (b + 1) (max_entries_in image n) && nat_le (block_place kind (b + 1)) (length_of image (Block n))
 
 -- two images agree on the index that is shown, and on each block and external file but these: it is there in both or in neither, with the same bytes
 pub record AgreeBut (touched : Claim → Bool) (old new : Image) : Type 0 where
   pub index : (i : ℕ) → is_shown_place i ≡ true → byte new Index i ≡ byte old Index i
   pub there : (n kind b : ℕ) → touched (BlockOf n b) ≡ false → is_there new n kind b ≡ is_there old n kind b
-  pub bytes : (n kind b i : ℕ) → touched (BlockOf n b) ≡ false → is_there old n kind b ≡ true → block_place kind b ≤ i → i < block_place kind (b + 1) → byte new (Block n) i ≡ byte old (Block n) i
+  pub bytes : (n kind b i : ℕ) → touched (BlockOf n b) ≡ false → is_there old n kind b ≡ true → block_place kind b ≤ i → i < block_place kind (b + 1)
+      → byte new (Block n) i ≡ byte old (Block n) i
   pub externals : (n : ℕ) → touched (ExternalOf n) ≡ false → new (External n) ≡ old (External n)
 
 -- a claim is of a block that no linked file has

@@ -26,11 +26,15 @@ is_settled layout items loaded = is_settled_role layout items loaded.role loaded
 
 -- a test that goes with a rule: a main item passes where its dirty word lets it, and a part where its main item is among the items and passes
 pub record GoesWith (layout : Layout) (items : List Item) (rule : Rule) (good : Loaded → Bool) : Type 0 where
-  pub clean : (item : Item) (loaded : Loaded) → is_in items item ≡ true → layout.at (layout.place item) ≡ Some loaded → good loaded ≡ true → (not rule.clean || (loaded.dirty == 0)) ≡ true
-  pub main_out : (key : List ℕ) (loaded : Loaded) → is_in items (main key) ≡ true → layout.at (layout.place (main key)) ≡ Some loaded → good loaded ≡ false → (not rule.clean || (loaded.dirty == 0)) ≡ false
-  pub part_in : (key : List ℕ) (n : ℕ) (loaded parent : Loaded) → is_in items (part key n) ≡ true → layout.at (layout.place (part key n)) ≡ Some loaded → layout.at (layout.place (main key)) ≡ Some parent → good loaded ≡ true
+  pub clean : (item : Item) (loaded : Loaded) → is_in items item ≡ true → layout.at (layout.place item) ≡ Some loaded → good loaded ≡ true
+      → (not rule.clean || (loaded.dirty == 0)) ≡ true
+  pub main_out : (key : List ℕ) (loaded : Loaded) → is_in items (main key) ≡ true → layout.at (layout.place (main key)) ≡ Some loaded
+      → good loaded ≡ false → (not rule.clean || (loaded.dirty == 0)) ≡ false
+  pub part_in : (key : List ℕ) (n : ℕ) (loaded parent : Loaded) → is_in items (part key n) ≡ true
+      → layout.at (layout.place (part key n)) ≡ Some loaded → layout.at (layout.place (main key)) ≡ Some parent → good loaded ≡ true
       → (is_in items (main key) ≡ true) × (good parent ≡ true)
-  pub part_out : (key : List ℕ) (n : ℕ) (loaded parent : Loaded) → is_in items (part key n) ≡ true → layout.at (layout.place (part key n)) ≡ Some loaded → layout.at (layout.place (main key)) ≡ Some parent → good loaded ≡ false
+  pub part_out : (key : List ℕ) (n : ℕ) (loaded parent : Loaded) → is_in items (part key n) ≡ true
+      → layout.at (layout.place (part key n)) ≡ Some loaded → layout.at (layout.place (main key)) ≡ Some parent → good loaded ≡ false
       → is_in items (main key) ≡ true → good parent ≡ false
 
 -- an item's row where its object passes a test
@@ -40,7 +44,8 @@ picked_with state test item = option_and_then (λ number. cond (test number) (mo
 -- a test on objects is the test on dirty words, and a part is its main item's object's
 pub record IsTest (state : State) (layout : Layout) (items : List Item) (test : ℕ → Bool) : Type 0 where
   pub owners : (key : List ℕ) (n : ℕ) → is_in items (part key n) ≡ true → model.owner state (part key n) ≡ model.owner state (main key)
-  pub main_test : (key : List ℕ) (loaded : Loaded) (number : ℕ) → is_in items (main key) ≡ true → layout.at (layout.place (main key)) ≡ Some loaded → model.owner state (main key) ≡ Some number → (loaded.dirty == 0) ≡ test number
+  pub main_test : (key : List ℕ) (loaded : Loaded) (number : ℕ) → is_in items (main key) ≡ true → layout.at (layout.place (main key)) ≡ Some loaded
+      → model.owner state (main key) ≡ Some number → (loaded.dirty == 0) ≡ test number
 
 -- the same among items, where a part goes with its main item
 abbrev pub picked_in : State → (ℕ → Bool) → List Item → Item → Option Row

@@ -92,7 +92,8 @@ pub record IsDoomedAt (state : State) (layout : Layout) (number : ℕ) (object :
   pub row : row_of_loaded loaded ≡ main_row object.key object.shape object.streams
   pub mark : (loaded.dirty == 0) ≡ object.settled
   pub unlisted : is_among (order state layout) (layout.place_of_doomed number) ≡ false
-  pub alone : (other : ℕ) (object : Object) → object_at state other ≡ Some object → object.live ≡ false → layout.place_of_doomed other ≡ layout.place_of_doomed number → other ≡ number
+  pub alone : (other : ℕ) (object : Object) → object_at state other ≡ Some object → object.live ≡ false
+      → layout.place_of_doomed other ≡ layout.place_of_doomed number → other ≡ number
 
 -- a record of a chain is that of a listed node
 pub record IsListedRecord (state : State) (layout : Layout) (contents : ℕ) : Type 0 where
@@ -106,9 +107,11 @@ pub record IsListedRecord (state : State) (layout : Layout) (contents : ℕ) : T
 pub record IsLayoutOf (state : State) (layout : Layout) : Type 0 where
   pub laid : (item : Item) → is_listed state item ≡ true → IsPlacedAt state layout item
   pub normal : (node : ℕ) → is_among (order state layout) node ≡ true → layout.state node ≡ 0
-  pub chained : (node : ℕ) (loaded : Loaded) → is_among (order state layout) node ≡ true → layout.at node ≡ Some loaded → is_among (layout.chains (bucket_of_hash (hash loaded.key))) loaded.contents ≡ true
+  pub chained : (node : ℕ) (loaded : Loaded) → is_among (order state layout) node ≡ true → layout.at node ≡ Some loaded
+      → is_among (layout.chains (bucket_of_hash (hash loaded.key))) loaded.contents ≡ true
   pub unchained : (bucket contents : ℕ) → bucket < table_length → is_among (layout.chains bucket) contents ≡ true → IsListedRecord state layout contents
-  pub own : (node : ℕ) (loaded : Loaded) (claim : Claim) → layout.at node ≡ Some loaded → has_claim (all_claims loaded) claim ≡ true → layout.owner claim ≡ Some node
+  pub own : (node : ℕ) (loaded : Loaded) (claim : Claim) → layout.at node ≡ Some loaded → has_claim (all_claims loaded) claim ≡ true
+      → layout.owner claim ≡ Some node
   pub single : (node : ℕ) (loaded : Loaded) → layout.at node ≡ Some loaded → repeats (all_claims loaded) ≡ false
   pub doomed_objects : (number : ℕ) (object : Object) → object_at state number ≡ Some object → object.live ≡ false → IsDoomedAt state layout number object
 
@@ -138,8 +141,10 @@ pub record HoldsExcept (except : ℕ → Bool) (store : StoreView) (state : Stat
   pub chains : (bucket : ℕ) → bucket < table_length → IsChain store bucket (layout.chains bucket)
   pub laid : (item : Item) → is_listed state item ≡ true → IsPlacedAt state layout item
   pub normal : (node : ℕ) → is_among (order state layout) node ≡ true → layout.state node ≡ 0
-  pub chained : (node : ℕ) (loaded : Loaded) → is_among (order state layout) node ≡ true → layout.at node ≡ Some loaded → except node ≡ false → is_among (layout.chains (bucket_of_hash (hash loaded.key))) loaded.contents ≡ true
-  pub own : (node : ℕ) (loaded : Loaded) (claim : Claim) → layout.at node ≡ Some loaded → has_claim (all_claims loaded) claim ≡ true → layout.owner claim ≡ Some node
+  pub chained : (node : ℕ) (loaded : Loaded) → is_among (order state layout) node ≡ true → layout.at node ≡ Some loaded → except node ≡ false
+      → is_among (layout.chains (bucket_of_hash (hash loaded.key))) loaded.contents ≡ true
+  pub own : (node : ℕ) (loaded : Loaded) (claim : Claim) → layout.at node ≡ Some loaded → has_claim (all_claims loaded) claim ≡ true
+      → layout.owner claim ≡ Some node
   pub single : (node : ℕ) (loaded : Loaded) → layout.at node ≡ Some loaded → repeats (all_claims loaded) ≡ false
 
 -- the records in the midst are those of the unsettled object of a key: its node is dirty, and its parts keep their keys
@@ -147,8 +152,11 @@ pub record IsInProgress (except : ℕ → Bool) (store : StoreView) (state : Sta
   pub of_key : (item : Item) → is_listed state item ≡ true → except (layout.place item) ≡ true → key_of item ≡ key
   pub unsettled : (loaded : Loaded) → layout.at (layout.place (main key)) ≡ Some loaded → (loaded.dirty == 0) ≡ false
   pub dirty : (loaded : Loaded) → load store held_rule (layout.place (main key)) ≡ Ok loaded → ⊥
-  pub parts : (n : ℕ) (was now : Loaded) → is_listed state (part key n) ≡ true → except (layout.place (part key n)) ≡ true → layout.at (layout.place (part key n)) ≡ Some was → load store held_rule (layout.place (part key n)) ≡ Ok now → (is_part now ≡ true) × (now.key ≡ was.key)
-  pub names : (n : ℕ) (was : Loaded) (name : Name) → is_listed state (part key n) ≡ true → except (layout.place (part key n)) ≡ true → layout.at (layout.place (part key n)) ≡ Some was → read_name was.key ≡ Some name → name.key ≡ key
+  pub parts : (n : ℕ) (was now : Loaded) → is_listed state (part key n) ≡ true → except (layout.place (part key n)) ≡ true
+      → layout.at (layout.place (part key n)) ≡ Some was → load store held_rule (layout.place (part key n)) ≡ Ok now
+      → (is_part now ≡ true) × (now.key ≡ was.key)
+  pub names : (n : ℕ) (was : Loaded) (name : Name) → is_listed state (part key n) ≡ true → except (layout.place (part key n)) ≡ true
+      → layout.at (layout.place (part key n)) ≡ Some was → read_name was.key ≡ Some name → name.key ≡ key
 
 -- One object changed.
 
@@ -156,7 +164,8 @@ pub record IsInProgress (except : ℕ → Bool) (store : StoreView) (state : Sta
 pub record OneChanged (state : State) (objects : List (Option Object)) (item : Item) : Type 0 where
   pub rows : (other : Item) → same_item other item ≡ false → model.row_of (record state { objects = objects }) other ≡ model.row_of state other
   pub settled : (key : List ℕ) → same_item (main key) item ≡ false → settled_with (record state { objects = objects }) key ≡ settled_with state key
-  pub doomed_same : (number : ℕ) (object : Object) → object_at (record state { objects = objects }) number ≡ Some object → object.live ≡ false → object_at state number ≡ Some object
+  pub doomed_same : (number : ℕ) (object : Object) → object_at (record state { objects = objects }) number ≡ Some object → object.live ≡ false
+      → object_at state number ≡ Some object
 
 -- the layout with something else at one node, and other owners
 abbrev pub changed_at : Layout → ℕ → Loaded → (Claim → Option ℕ) → Layout

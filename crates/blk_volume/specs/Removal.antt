@@ -27,7 +27,8 @@ pub record ListsLess (state : State) (objects : List (Option Object)) (keep : It
   pub rows : (item : Item) → keep item ≡ true → is_listed state item ≡ true → model.row_of (without_items state objects keep) item ≡ model.row_of state item
   pub settled : (key : List ℕ) → keep (main key) ≡ true → settled_with (without_items state objects keep) key ≡ settled_with state key
   pub closed : (key : List ℕ) (n : ℕ) → keep (part key n) ≡ true → keep (main key) ≡ true
-  pub doomed_same : (number : ℕ) (object : Object) → object_at (without_items state objects keep) number ≡ Some object → object.live ≡ false → object_at state number ≡ Some object
+  pub doomed_same : (number : ℕ) (object : Object) → object_at (without_items state objects keep) number ≡ Some object → object.live ≡ false
+      → object_at state number ≡ Some object
 
 -- the layout with other contents, chains and owners
 abbrev pub placed_less : Layout → (ℕ → Option Loaded) → (ℕ → List ℕ) → (Claim → Option ℕ) → Layout
@@ -35,12 +36,17 @@ placed_less layout at chains owner = record layout { at = at; chains = chains; o
 
 -- it has what is kept, in its chains, and nothing that was not there
 pub record HasLess (state : State) (objects : List (Option Object)) (keep : Item → Bool) (layout : Layout) (at : ℕ → Option Loaded) (chains : ℕ → List ℕ) (owner : Claim → Option ℕ) : Type 0 where
-  pub stays : (item : Item) (loaded : Loaded) → keep item ≡ true → is_listed state item ≡ true → layout.at (layout.place item) ≡ Some loaded → at (layout.place item) ≡ Some loaded
+  pub stays : (item : Item) (loaded : Loaded) → keep item ≡ true → is_listed state item ≡ true → layout.at (layout.place item) ≡ Some loaded
+      → at (layout.place item) ≡ Some loaded
   pub others : (node : ℕ) (loaded : Loaded) → is_among (order state layout) node ≡ false → layout.at node ≡ Some loaded → at node ≡ Some loaded
   pub was : (node : ℕ) (loaded : Loaded) → at node ≡ Some loaded → layout.at node ≡ Some loaded
-  pub chain_stays : (node : ℕ) (loaded : Loaded) → is_among (nodes_of layout (filter keep state.uses)) node ≡ true → at node ≡ Some loaded → is_among (layout.chains (bucket_of_hash (hash loaded.key))) loaded.contents ≡ true → is_among (chains (bucket_of_hash (hash loaded.key))) loaded.contents ≡ true
-  pub chain_was : (bucket contents : ℕ) → bucket < table_length → is_among (chains bucket) contents ≡ true → IsListedRecord (without_items state objects keep) (placed_less layout at chains owner) contents
-  pub own : (node : ℕ) (loaded : Loaded) (claim : Claim) → at node ≡ Some loaded → has_claim (all_claims loaded) claim ≡ true → layout.owner claim ≡ Some node → owner claim ≡ Some node
+  pub chain_stays : (node : ℕ) (loaded : Loaded) → is_among (nodes_of layout (filter keep state.uses)) node ≡ true → at node ≡ Some loaded
+      → is_among (layout.chains (bucket_of_hash (hash loaded.key))) loaded.contents ≡ true
+      → is_among (chains (bucket_of_hash (hash loaded.key))) loaded.contents ≡ true
+  pub chain_was : (bucket contents : ℕ) → bucket < table_length → is_among (chains bucket) contents ≡ true
+      → IsListedRecord (without_items state objects keep) (placed_less layout at chains owner) contents
+  pub own : (node : ℕ) (loaded : Loaded) (claim : Claim) → at node ≡ Some loaded → has_claim (all_claims loaded) claim ≡ true
+      → layout.owner claim ≡ Some node → owner claim ≡ Some node
 
 -- An object that is doomed.
 
@@ -55,4 +61,5 @@ placed_doomed layout number node at chains owner = record (placed_less layout at
 -- whole chains, in which the records of the nodes that stay are
 pub record HasChains (except : ℕ → Bool) (store : StoreView) (state : State) (layout : Layout) (chains : ℕ → List ℕ) : Type 0 where
   pub whole : (bucket : ℕ) → bucket < table_length → IsChain store bucket (chains bucket)
-  pub chained : (node : ℕ) (loaded : Loaded) → is_among (order state layout) node ≡ true → layout.at node ≡ Some loaded → except node ≡ false → is_among (chains (bucket_of_hash (hash loaded.key))) loaded.contents ≡ true
+  pub chained : (node : ℕ) (loaded : Loaded) → is_among (order state layout) node ≡ true → layout.at node ≡ Some loaded → except node ≡ false
+      → is_among (chains (bucket_of_hash (hash loaded.key))) loaded.contents ≡ true

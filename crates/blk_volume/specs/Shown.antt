@@ -39,6 +39,8 @@ pub record IsShown (store : StoreView) (rule : Rule) (nodes : List ℕ) (given :
   pub once : Distinct nodes
   pub loads : (node : ℕ) (loaded : Loaded) → is_among nodes node ≡ true → given node ≡ Some loaded → load store rule node ≡ Ok loaded
   pub single : (node : ℕ) (loaded : Loaded) → is_among nodes node ≡ true → given node ≡ Some loaded → repeats (record_claims loaded) ≡ false
-  pub apart : (one other : ℕ) (loaded others : Loaded) → is_among nodes one ≡ true → is_among nodes other ≡ true → (one == other) ≡ false → given one ≡ Some loaded → given other ≡ Some others → Apart loaded others
-  pub parents : (node : ℕ) (loaded : Loaded) (name : Name) (index : PartIndex) → is_among nodes node ≡ true → given node ≡ Some loaded → loaded.role ≡ IsPart name index → HasParentIn nodes given name
+  pub apart : (one other : ℕ) (loaded others : Loaded) → is_among nodes one ≡ true → is_among nodes other ≡ true → (one == other) ≡ false
+      → given one ≡ Some loaded → given other ≡ Some others → Apart loaded others
+  pub parents : (node : ℕ) (loaded : Loaded) (name : Name) (index : PartIndex) → is_among nodes node ≡ true → given node ≡ Some loaded
+      → loaded.role ≡ IsPart name index → HasParentIn nodes given name
   pub out : (node : ℕ) (loaded : Loaded) → is_among nodes node ≡ true → given node ≡ None → load store rule node ≡ Ok loaded → IsOrphanIn nodes given loaded

@@ -38,7 +38,8 @@ pub record SameExceptRecord (w : ℕ) (from image : Image) : Type 0 where
   pub list : list_of image ≡ list_of from
   pub node_fields : (u : ℕ) → (store_of from).node_fields u ≡ (store_of image).node_fields u
   pub table : (bucket : ℕ) → (store_of from).table bucket ≡ (store_of image).table bucket
-  pub key_place : (u : ℕ) (fields : RecordFields) → IsClear (has_claim (claims_of w)) u ⊎ (u ≡ w) → (store_of from).entry u ≡ Some fields → is_key_length u fields ≡ true → nat_le fields.key_len longest_short_key ≡ true
+  pub key_place : (u : ℕ) (fields : RecordFields) → IsClear (has_claim (claims_of w)) u ⊎ (u ≡ w) → (store_of from).entry u ≡ Some fields
+      → is_key_length u fields ≡ true → nat_le fields.key_len longest_short_key ≡ true
       → (store_of from).key_place u fields.key_len ≡ (store_of image).key_place u fields.key_len
   pub stored : (size u : ℕ) → IsClear (has_claim (claims_of w)) u → (store_of from).stored size u ≡ (store_of image).stored size u
 

@@ -36,9 +36,11 @@ pub record KeepsDoomed (view : View) (object : Object) (loaded : Loaded) : Type 
 pub record AreDoomed (view : View) (state : State) (numbered : List (ℕ × Loaded)) : Type 0 where
   pub each : AllByRecursion (λ doomed. IsSomeAnd (object_at state doomed.0) (λ object. KeepsDoomed view object doomed.1)) numbered
   pub once : Distinct (map (λ doomed. doomed.0) numbered)
-  pub all : (number : ℕ) (object : Object) → object_at state number ≡ Some object → object.live ≡ false → is_among (map (λ doomed. doomed.0) numbered) number ≡ true
+  pub all : (number : ℕ) (object : Object) → object_at state number ≡ Some object → object.live ≡ false
+      → is_among (map (λ doomed. doomed.0) numbered) number ≡ true
 
--- what a view shows of a valid state: what is listed, dirty or not, is its items in their order, each with the dirty word of its item, nothing is dropped, and no operation is in flight
+-- what a view shows of a valid state: what is listed, dirty or not, is its items in their order, each with the dirty word of its item, nothing is
+-- dropped, and no operation is in flight
 pub record ShowsState (view : View) (state : State) : Type 0 where
   pub valid : IsValidState state
   pub transaction : view.list.transaction ≡ 0
@@ -77,7 +79,8 @@ pub record AreNumbers (state : State) (layout : Layout) (numbers : List ℕ) : T
   pub all : (number : ℕ) (object : Object) → object_at state number ≡ Some object → object.live ≡ false → is_among numbers number ≡ true
   pub records : (number : ℕ) → is_among numbers number ≡ true → layout.state (layout.place_of_doomed number) ≡ records.entry_doomed
 
--- the blocks that are marked and the external files that are there are the owned ones, and each owner is a node of the layout, listed or of a doomed object of these numbers
+-- the blocks that are marked and the external files that are there are the owned ones, and each owner is a node of the layout, listed or of a doomed
+-- object of these numbers
 pub record AllIsOwned (image : Image) (state : State) (layout : Layout) (numbers : List ℕ) : Type 0 where
   pub blocks : (n b : ℕ) → is_some (linked_as image n) ≡ true → b < most_blocks → is_block_marked image n b ≡ is_some (layout.owner (BlockOf n b))
   pub files : (n : ℕ) → n < 2 ^ 32 → has_file image (External n) ≡ is_some (layout.owner (ExternalOf n))

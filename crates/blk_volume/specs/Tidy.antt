@@ -28,13 +28,15 @@ doomed_nodes layout numbers = map layout.place_of_doomed numbers
 pub record IsTidy (image : Image) (state : State) (layout : Layout) (numbers : List ℕ) : Type 0 where
   pub only_linked : OnlyLinked image
   pub long_enough : AreLongEnough image
-  pub counted : (n : ℕ) → is_some (linked_as image n) ≡ true → CountersAgree image (flat_map words_of (loaded_at layout (order state layout ++ doomed_nodes layout numbers))) n
+  pub counted : (n : ℕ) → is_some (linked_as image n) ≡ true
+      → CountersAgree image (flat_map words_of (loaded_at layout (order state layout ++ doomed_nodes layout numbers))) n
   pub sizes : sizes_of (byte image Index) 0 ≡ length state.uses
   pub num_entries : num_entries_of (byte image Index) ≡ length state.uses
   pub num_bytes : num_bytes_of (byte image Index) ≡ sum_by charge_of (loaded_at layout (order state layout)) % 2 ^ 32
   pub sealed : (node : ℕ) (loaded : Loaded) → layout.at node ≡ Some loaded → AreSealed image loaded
 
--- an image has a state by a layout, in which these are the numbers of the doomed objects: it is well formed and represents the state, its maps and external files are exact, and its files, counters and seals are in order
+-- an image has a state by a layout, in which these are the numbers of the doomed objects: it is well formed and represents the state, its maps and
+-- external files are exact, and its files, counters and seals are in order
 pub record HasState (state : State) (layout : Layout) (numbers : List ℕ) (image : Image) : Type 0 where
   pub valid : IsValidState state
   pub well_formed : IsWellFormed image

@@ -1,4 +1,4 @@
-use Rattle.blk_laws.proofs.ByteChanges.{last-there, agreeing-views, covered-agrees, growth-past, same-links, agreement-goes_on, agreement-more}
+use Rattle.blk_laws.proofs.claims.ByteChanges.{last-there, agreeing-views, covered-agrees, growth-past, same-links, agreement-goes_on, agreement-more}
 use Rattle.blk_laws.proofs.agreeing_images_show_the_same.Goals as goal
 
 pub returns : goal.returns

@@ -1,8 +1,8 @@
-use Rattle.blk_laws.proofs.Chains.{chain-is}
-use Rattle.blk_laws.proofs.ChainLinks.{linked-front, others-stay, first-leaves, later-leaves}
-use Rattle.blk_laws.proofs.ChainLengths.{records-few, image-chains-short}
-use Rattle.blk_laws.proofs.ChainSizes.{chains-short}
-use Rattle.blk_laws.proofs.Unlinking.{unlink-first, unlink-behind}
+use Rattle.blk_laws.proofs.chains.Chains.{chain-is}
+use Rattle.blk_laws.proofs.chains.ChainLinks.{linked-front, others-stay, first-leaves, later-leaves}
+use Rattle.blk_laws.proofs.chains.ChainLengths.{records-few, image-chains-short}
+use Rattle.blk_laws.proofs.chains.ChainSizes.{chains-short}
+use Rattle.blk_laws.proofs.commands.Unlinking.{unlink-first, unlink-behind}
 use Rattle.blk_laws.proofs.chains_are_linked.Goals as goal
 
 pub returns : goal.returns

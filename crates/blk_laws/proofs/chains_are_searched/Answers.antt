@@ -1,5 +1,5 @@
-use Rattle.blk_laws.proofs.Searches.{chains-are, searchable, found-live, none-missing}
-use Rattle.blk_laws.proofs.ShortChains.{represented-chains-short}
+use Rattle.blk_laws.proofs.chains.Searches.{chains-are, searchable, found-live, none-missing}
+use Rattle.blk_laws.proofs.chains.ShortChains.{represented-chains-short}
 use Rattle.blk_laws.proofs.chains_are_searched.Goals as goal
 
 pub returns : goal.returns

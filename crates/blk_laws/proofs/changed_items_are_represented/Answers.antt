@@ -1,5 +1,5 @@
-use Rattle.blk_laws.proofs.Changing.{lies-changed}
-use Rattle.blk_laws.proofs.Replacing.{replaced}
+use Rattle.blk_laws.proofs.states.Changing.{lies-changed}
+use Rattle.blk_laws.proofs.states.Replacing.{replaced}
 use Rattle.blk_laws.proofs.changed_items_are_represented.Goals as goal
 
 pub returns : goal.returns

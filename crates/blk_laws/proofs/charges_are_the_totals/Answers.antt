@@ -1,4 +1,4 @@
-use Rattle.blk_laws.proofs.Charges.{part-names, items-charged, listed-charges, listed-totals, opened-totals}
+use Rattle.blk_laws.proofs.states.Charges.{part-names, items-charged, listed-charges, listed-totals, opened-totals}
 use Rattle.blk_laws.proofs.charges_are_the_totals.Goals as goal
 
 pub returns : goal.returns

@@ -1,5 +1,5 @@
-use Rattle.blk_laws.proofs.ListCompletions.{completing}
-use Rattle.blk_laws.proofs.AtRest.{completions-end}
+use Rattle.blk_laws.proofs.lists.ListCompletions.{completing}
+use Rattle.blk_laws.proofs.lists.AtRest.{completions-end}
 use Rattle.blk_laws.proofs.completions_at_each_write.Goals as goal
 
 pub returns : goal.returns

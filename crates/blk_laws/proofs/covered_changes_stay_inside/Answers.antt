@@ -1,5 +1,5 @@
-use Rattle.blk_laws.proofs.ByteChanges.{views-same}
-use Rattle.blk_laws.proofs.Covers.{blocks-covered, externals-covered, headers-covered, hidden-covered, covers-less, covers-more, covers-either}
+use Rattle.blk_laws.proofs.claims.ByteChanges.{views-same}
+use Rattle.blk_laws.proofs.claims.Covers.{blocks-covered, externals-covered, headers-covered, hidden-covered, covers-less, covers-more, covers-either}
 use Rattle.blk_laws.proofs.covered_changes_stay_inside.Goals as goal
 
 pub returns : goal.returns

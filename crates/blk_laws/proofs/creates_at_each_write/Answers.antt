@@ -1,4 +1,4 @@
-use Rattle.blk_laws.proofs.Created.{written-stay, before-insert, at-each-write, at-end, after-link, at-the-step, creates-rest, create-stops}
+use Rattle.blk_laws.proofs.commands.Created.{written-stay, before-insert, at-each-write, at-end, after-link, at-the-step, creates-rest, create-stops}
 use Rattle.blk_laws.proofs.creates_at_each_write.Goals as goal
 
 pub returns : goal.returns

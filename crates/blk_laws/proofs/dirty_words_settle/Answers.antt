@@ -1,4 +1,4 @@
-use Rattle.blk_laws.proofs.DirtyWords.{dirty-settles, written-settles}
+use Rattle.blk_laws.proofs.states.DirtyWords.{dirty-settles, written-settles}
 use Rattle.blk_laws.proofs.dirty_words_settle.Goals as goal
 
 pub returns : goal.returns

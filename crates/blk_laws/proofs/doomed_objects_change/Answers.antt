@@ -1,4 +1,4 @@
-use Rattle.blk_laws.proofs.DoomedChanges.{changed-doomed-lies, changed-doomed, doomed-rest, gone-doomed, doomed-settles, written-doomed-settles}
+use Rattle.blk_laws.proofs.commands.DoomedChanges.{changed-doomed-lies, changed-doomed, doomed-rest, gone-doomed, doomed-settles, written-doomed-settles}
 use Rattle.blk_laws.proofs.doomed_objects_change.Goals as goal
 
 pub returns : goal.returns

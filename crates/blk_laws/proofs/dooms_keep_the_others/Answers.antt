@@ -1,6 +1,6 @@
-use Rattle.blk_laws.proofs.DoomedObjects.{listed-rest}
-use Rattle.blk_laws.proofs.Dooming.{dooms-keep, doomed-is-laid, doomed-is-represented}
-use Rattle.blk_laws.proofs.DoomWrites.{dooms-moments, doomed-parts}
+use Rattle.blk_laws.proofs.commands.DoomedObjects.{listed-rest}
+use Rattle.blk_laws.proofs.commands.Dooming.{dooms-keep, doomed-is-laid, doomed-is-represented}
+use Rattle.blk_laws.proofs.commands.DoomWrites.{dooms-moments, doomed-parts}
 use Rattle.blk_laws.proofs.dooms_keep_the_others.Goals as goal
 
 pub returns : goal.returns

@@ -1,4 +1,4 @@
-use Rattle.blk_laws.proofs.Bare.{bare-found, bare-sound, represents-empty, bare-stands}
+use Rattle.blk_laws.proofs.states.Bare.{bare-found, bare-sound, represents-empty, bare-stands}
 use Rattle.blk_laws.proofs.folders_without_entries_are_sound.Goals as goal
 
 pub returns : goal.returns

@@ -1,4 +1,4 @@
-use Rattle.blk_laws.proofs.Outside.{represents-outside}
+use Rattle.blk_laws.proofs.claims.Outside.{represents-outside}
 use Rattle.blk_laws.proofs.free_footprints_keep_states.Goals as goal
 
 pub returns : goal.returns

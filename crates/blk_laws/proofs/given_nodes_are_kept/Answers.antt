@@ -1,5 +1,5 @@
-use Rattle.blk_laws.proofs.Kept.{kept-shown, kept-alone}
-use Rattle.blk_laws.proofs.Shown.{kept-given, dropped-none}
+use Rattle.blk_laws.proofs.walks.Kept.{kept-shown, kept-alone}
+use Rattle.blk_laws.proofs.walks.Shown.{kept-given, dropped-none}
 use Rattle.blk_laws.proofs.given_nodes_are_kept.Goals as goal
 
 pub returns : goal.returns

@@ -1,5 +1,5 @@
-use Rattle.blk_laws.proofs.Growing.{longer-grown}
-use Rattle.blk_laws.proofs.Files.{growth-absent, growth-keeps, headers-change, unlinked-go}
+use Rattle.blk_laws.proofs.claims.Growing.{longer-grown}
+use Rattle.blk_laws.proofs.claims.Files.{growth-absent, growth-keeps, headers-change, unlinked-go}
 use Rattle.blk_laws.proofs.growth_keeps_states.Goals as goal
 
 pub returns : goal.returns

@@ -1,4 +1,4 @@
-use Rattle.blk_laws.proofs.AtRest.{inserts-turn, inserts-end}
+use Rattle.blk_laws.proofs.lists.AtRest.{inserts-turn, inserts-end}
 use Rattle.blk_laws.proofs.inserts_at_each_write.Goals as goal
 
 pub returns : goal.returns

@@ -1,4 +1,4 @@
-use Rattle.blk_laws.proofs.Touches.{same-represents, touched-items, touched-items-end}
+use Rattle.blk_laws.proofs.commands.Touches.{same-represents, touched-items, touched-items-end}
 use Rattle.blk_laws.proofs.items_are_used.Goals as goal
 
 pub returns : goal.returns

@@ -1,4 +1,4 @@
-use Rattle.blk_laws.proofs.Allocations.{sound-allocated, stood-allocated}
+use Rattle.blk_laws.proofs.claims.Allocations.{sound-allocated, stood-allocated}
 use Rattle.blk_laws.proofs.linked_files_are_allocated.Goals as goal
 
 pub returns : goal.returns

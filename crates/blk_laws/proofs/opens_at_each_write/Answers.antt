@@ -1,4 +1,4 @@
-use Rattle.blk_laws.proofs.Touches.{opens-each, opens-end}
+use Rattle.blk_laws.proofs.commands.Touches.{opens-each, opens-end}
 use Rattle.blk_laws.proofs.opens_at_each_write.Goals as goal
 
 pub returns : goal.returns

@@ -1,4 +1,4 @@
-use Rattle.blk_laws.proofs.OthersHold.{represented-but, more-left_out, others-outside, others-unlinked, chained-only, records-outside, records-unlinked, another-state}
+use Rattle.blk_laws.proofs.states.OthersHold.{represented-but, more-left_out, others-outside, others-unlinked, chained-only, records-outside, records-unlinked, another-state}
 use Rattle.blk_laws.proofs.others_hold_meanwhile.Goals as goal
 
 pub returns : goal.returns

@@ -1,4 +1,4 @@
-use Rattle.blk_laws.proofs.Laid.{laid-shown, found-picked}
+use Rattle.blk_laws.proofs.states.Laid.{laid-shown, found-picked}
 use Rattle.blk_laws.proofs.placed_items_are_kept.Goals as goal
 
 pub returns : goal.returns

@@ -1,4 +1,4 @@
-use Rattle.blk_laws.proofs.AtRest.{removals-turn, removals-end}
+use Rattle.blk_laws.proofs.lists.AtRest.{removals-turn, removals-end}
 use Rattle.blk_laws.proofs.removals_at_each_write.Goals as goal
 
 pub returns : goal.returns

@@ -1,5 +1,5 @@
-use Rattle.blk_laws.proofs.Removing.{removed-rows}
-use Rattle.blk_laws.proofs.Unlinking.{lies-less, less-represented}
+use Rattle.blk_laws.proofs.commands.Removing.{removed-rows}
+use Rattle.blk_laws.proofs.commands.Unlinking.{lies-less, less-represented}
 use Rattle.blk_laws.proofs.removals_keep_the_others.Goals as goal
 
 pub returns : goal.returns

@@ -1,5 +1,5 @@
-use Rattle.blk_laws.proofs.Central.{walk-order, rows-kept, none-dropped, chain-end, found-rest}
-use Rattle.blk_laws.proofs.Standing.{found-at_rest}
+use Rattle.blk_laws.proofs.states.Central.{walk-order, rows-kept, none-dropped, chain-end, found-rest}
+use Rattle.blk_laws.proofs.states.Standing.{found-at_rest}
 use Rattle.blk_laws.proofs.represented_states_are_found.Goals as goal
 
 pub returns : goal.returns

@@ -1,6 +1,6 @@
-use Rattle.blk_laws.proofs.Standing.{shows-state, stands-for}
-use Rattle.blk_laws.proofs.TidyOrder.{tidy-ordered, tidy-stands}
-use Rattle.blk_laws.proofs.StoodFor.{stood-found}
+use Rattle.blk_laws.proofs.states.Standing.{shows-state, stands-for}
+use Rattle.blk_laws.proofs.states.TidyOrder.{tidy-ordered, tidy-stands}
+use Rattle.blk_laws.proofs.states.StoodFor.{stood-found}
 use Rattle.blk_laws.proofs.represented_states_are_stood_for.Goals as goal
 
 pub returns : goal.returns

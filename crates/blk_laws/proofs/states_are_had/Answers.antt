@@ -1,5 +1,5 @@
-use Rattle.blk_laws.proofs.Counting.{files-stand}
-use Rattle.blk_laws.proofs.TouchedStates.{states-stand, touched-state}
+use Rattle.blk_laws.proofs.updates.Counting.{files-stand}
+use Rattle.blk_laws.proofs.commands.TouchedStates.{states-stand, touched-state}
 use Rattle.blk_laws.proofs.states_are_had.Goals as goal
 
 pub returns : goal.returns

@@ -1,4 +1,4 @@
-use Rattle.blk_laws.proofs.DirtyWords.{before-turning, after-turning}
+use Rattle.blk_laws.proofs.states.DirtyWords.{before-turning, after-turning}
 use Rattle.blk_laws.proofs.turning_objects_are_picked.Goals as goal
 
 pub returns : goal.returns

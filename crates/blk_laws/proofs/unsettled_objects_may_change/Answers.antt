@@ -1,5 +1,5 @@
-use Rattle.blk_laws.proofs.Midst.{midst-rest}
-use Rattle.blk_laws.proofs.Writing.{moment-rest}
+use Rattle.blk_laws.proofs.states.Midst.{midst-rest}
+use Rattle.blk_laws.proofs.states.Writing.{moment-rest}
 use Rattle.blk_laws.proofs.unsettled_objects_may_change.Goals as goal
 
 pub returns : goal.returns

@@ -1,5 +1,5 @@
-use Rattle.blk_laws.proofs.Walked.{walks-distinct}
-use Rattle.blk_laws.proofs.Walks.{walk_list}
+use Rattle.blk_laws.proofs.lists.Walked.{walks-distinct}
+use Rattle.blk_laws.proofs.lists.Walks.{walk_list}
 use Rattle.blk_laws.proofs.whole_lists_are_walked.Goals as goal
 
 pub returns : goal.returns

@@ -2,8 +2,8 @@ use Rattle.std.proofs.Common.{◌≡◌, ℕ, None, sym, ◌∙◌, subst}
 use Rattle.std.specs.Option.{ForSome}
 use Rattle.std.proofs.lemmas.Result.{on_ok_weaker}
 use Rattle.blk_image.specs.Image.{Image, Index, length_of}
-use Rattle.blk_format.specs.Headers.{index_length}
-use Rattle.blk_io.proofs.Carried.{if_damaged_weaker, told_at_end}
+use Rattle.blk_format.specs.Headers.{index_length, HasWholeIndex}
+use Rattle.blk_io.proofs.Carried.{carried, if_damaged_weaker, told_at_end}
 use Rattle.blk_io.specs.Faults.{IfDamaged}
 use Rattle.blk_image.specs.Told.{Told, Applies, AppliesPrefix, Passes}
 use Rattle.blk_format.specs.Sealed.{IsMidUpdate, IsUpdated, RecordChecks, sealed_steps}
@@ -13,16 +13,17 @@ use Rattle.blk_chain.proofs.Unlinks.{next_changes, moved, with_next, turns_yet, 
 use Rattle.blk_chain.proofs.unlinking.unlink_behind.Given as given
 use Rattle.blk_chain.proofs.unlinking.unlink_behind.Goals as goal
 use Rattle.blk_chain.proofs.unlinking.unlink_behind.Goals.{After-update_sealed}
+use Rattle.blk_disk.specs.Open.{IsOpen}
 
-pub returns-in_err-next-clause-agrees : goal.returns-in_err-next-clause-agrees
-returns-in_err-next-clause-agrees g c = subst (λ (t : Told). ForSome t.files (Agrees c.args.files.now)) (sym c.in_err-next.ensures.stays) c.requires.agrees
+pub returns-in_err-next-clause-is_open : goal.returns-in_err-next-clause-is_open
+returns-in_err-next-clause-is_open g c = subst (λ (t : Told). ForSome t.files (IsOpen c.args.files.now)) (sym c.in_err-next.ensures.stays) c.requires.is_open
 
 pub returns-in_err-next-clause-commits : goal.returns-in_err-next-clause-commits
 returns-in_err-next-clause-commits g c =
     turns_yet (g.F.Folder.told c.args.f.now) (g.F.Folder.told c.field.new.f) (g.met.F.Folder.are_bytes c.args.f.now) c.args.entry c.args.before c.in_err-next.ensures.stays
 
 pub update_sealed-requires-clause-agrees : goal.update_sealed-requires-clause-agrees
-update_sealed-requires-clause-agrees g c = subst (λ (t : Told). ForSome t.files (Agrees c.args.files.now)) (sym c.in_ok-next.ensures.stays) c.requires.agrees
+update_sealed-requires-clause-agrees g c = subst (λ (t : Told). ForSome t.files (Agrees c.args.files.now)) (sym c.in_ok-next.ensures.stays) (λ image there. (c.requires.is_open image there).agrees)
 
 pub update_sealed-requires-clause-changes : goal.update_sealed-requires-clause-changes
 update_sealed-requires-clause-changes g c = next_changes c.args.before c.in_ok-next.next c.requires.kind_before
@@ -41,7 +42,7 @@ returns-clause-prefix g c = said g c (λ (t : Told) (from : Image) (n : ℕ). Ap
 
 pub returns-clause-commits : goal.returns-clause-commits
 returns-clause-commits g c =
-    turns_then (g.F.Folder.told c.args.f.now) (g.F.Folder.told c.update_sealed.new.f) (g.met.F.Folder.are_bytes c.args.f.now) c.args.entry c.args.before c.args.files.now c.requires.agrees c.requires.stands_before (returns-clause-prefix g c)
+    turns_then (g.F.Folder.told c.args.f.now) (g.F.Folder.told c.update_sealed.new.f) (g.met.F.Folder.are_bytes c.args.f.now) c.args.entry c.args.before c.args.files.now (λ image there. (c.requires.is_open image there).agrees) c.requires.stands_before (returns-clause-prefix g c)
 
 pub returns-clause-sealed : goal.returns-clause-sealed
 returns-clause-sealed g c =
@@ -59,10 +60,13 @@ returns-clause-unlinked g c =
 pub returns-clause-silent : goal.returns-clause-silent
 returns-clause-silent g c none = c.update_sealed.ensures.silent (subst (λ (t : Told). t.files ≡ None) (sym c.in_ok-next.ensures.stays) none)
 
-pub returns-clause-complete : goal.returns-clause-complete
-returns-clause-complete g c =
+whole_index_at_end : (g : given.Over) (c : goal.After-update_sealed g) → ForSome (g.F.Folder.told c.update_sealed.new.f).files HasWholeIndex
+whole_index_at_end g c =
     told_at_end (g.F.Folder.told c.args.f.now).files (g.F.Folder.told c.update_sealed.new.f).files (λ image. length_of image Index ≡ index_length) (returns-clause-silent g c)
-    (still_complete (g.F.Folder.told c.args.f.now) (g.F.Folder.told c.update_sealed.new.f) (g.met.F.Folder.are_bytes c.args.f.now) c.args.entry c.args.before c.requires.complete (returns-clause-prefix g c))
+    (still_complete (g.F.Folder.told c.args.f.now) (g.F.Folder.told c.update_sealed.new.f) (g.met.F.Folder.are_bytes c.args.f.now) c.args.entry c.args.before (λ image there. (c.requires.is_open image there).whole_index) (returns-clause-prefix g c))
+
+pub returns-clause-is_open : goal.returns-clause-is_open
+returns-clause-is_open g c image here = record { agrees = c.update_sealed.ensures.agrees image here; whole_index = whole_index_at_end g c image here }
 
 pub returns-clause-checked : goal.returns-clause-checked
 returns-clause-checked g c = on_ok_weaker c.update_sealed.result (λ good. subst (λ (t : Told). ForSome t.files (RecordChecks c.args.before)) c.in_ok-next.ensures.stays good) c.update_sealed.ensures.checked
@@ -74,3 +78,8 @@ pub returns-clause-untold : goal.returns-clause-untold
 returns-clause-untold g c good =
     subst (λ (t : Told). IfDamaged c.update_sealed.result (λ _. t.files ≡ None)) c.in_ok-next.ensures.stays
     (c.update_sealed.ensures.untold (subst (λ (t : Told). ForSome t.files (RecordChecks c.args.before)) (sym c.in_ok-next.ensures.stays) good))
+
+pub returns-in_err-next-clause-untold : goal.returns-in_err-next-clause-untold
+returns-in_err-next-clause-untold g c good =
+    carried c.field.result c.from_residual.result c.in_err-next.field-0.0 (λ _. (g.F.Folder.told c.args.f.now).files ≡ None) c.in_err-next.was c.from_residual.ensures.1
+    (c.field.ensures.untold (λ image there. (c.requires.is_open image there).agrees))

@@ -1,4 +1,4 @@
-use Rattle.blk_laws.proofs.WordStops.{completions-can, completions-keep, completions-done, completions-stop}
+use Rattle.blk_laws.proofs.lists.WordStops.{completions-can, completions-keep, completions-done, completions-stop}
 use Rattle.blk_laws.proofs.list_words.completions_at_each_word.Goals as goal
 
 pub returns : goal.returns

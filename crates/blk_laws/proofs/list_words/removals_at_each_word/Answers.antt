@@ -1,4 +1,4 @@
-use Rattle.blk_laws.proofs.WordTurns.{removals-can, removals-turn_words, removals-rest}
+use Rattle.blk_laws.proofs.lists.WordTurns.{removals-can, removals-turn_words, removals-rest}
 use Rattle.blk_laws.proofs.list_words.removals_at_each_word.Goals as goal
 
 pub returns : goal.returns

@@ -1,5 +1,5 @@
-use Rattle.blk_laws.proofs.Sealing.{touches-seal, touches-keep}
-use Rattle.blk_laws.proofs.WordTurns.{touches-can, touches-in_turn, touches-go_on, touches-turn_words, touches-rest, touches-times}
+use Rattle.blk_laws.proofs.updates.Sealing.{touches-seal, touches-keep}
+use Rattle.blk_laws.proofs.lists.WordTurns.{touches-can, touches-in_turn, touches-go_on, touches-turn_words, touches-rest, touches-times}
 use Rattle.blk_laws.proofs.list_words.touches_at_each_word.Goals as goal
 
 pub returns : goal.returns

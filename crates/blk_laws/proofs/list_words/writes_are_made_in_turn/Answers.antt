@@ -1,5 +1,5 @@
-use Rattle.blk_laws.proofs.Sealing.{writes-seal, writes-keep, node-updates}
-use Rattle.blk_laws.proofs.WriteSteps.{writes-in_turn, writes-made, writes-go_on}
+use Rattle.blk_laws.proofs.updates.Sealing.{writes-seal, writes-keep, node-updates}
+use Rattle.blk_laws.proofs.lists.WriteSteps.{writes-in_turn, writes-made, writes-go_on}
 use Rattle.blk_laws.proofs.list_words.writes_are_made_in_turn.Goals as goal
 
 pub returns : goal.returns

@@ -1,4 +1,4 @@
-use Rattle.blk_laws.proofs.IndexWords.{heads-written, tails-written, transactions-written, operations-written, others-hidden, buckets-written, others-unchecked, buckets-unchecked, index-stands}
+use Rattle.blk_laws.proofs.updates.IndexWords.{heads-written, tails-written, transactions-written, operations-written, others-hidden, buckets-written, others-unchecked, buckets-unchecked, index-stands}
 use Rattle.blk_laws.proofs.mid_updates.index_words_are_written.Goals as goal
 
 pub returns : goal.returns

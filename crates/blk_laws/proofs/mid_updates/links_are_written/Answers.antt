@@ -1,5 +1,5 @@
-use Rattle.blk_laws.proofs.Adding.{changes-begin, changes-add}
-use Rattle.blk_laws.proofs.Nodes.{nexts-written, prevs-written, times-hidden}
+use Rattle.blk_laws.proofs.lists.Adding.{changes-begin, changes-add}
+use Rattle.blk_laws.proofs.updates.Nodes.{nexts-written, prevs-written, times-hidden}
 use Rattle.blk_laws.proofs.mid_updates.links_are_written.Goals as goal
 
 pub returns : goal.returns

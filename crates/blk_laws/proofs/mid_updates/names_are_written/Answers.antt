@@ -1,4 +1,4 @@
-use Rattle.blk_laws.proofs.Nodes.{contents-written, dirty-written}
+use Rattle.blk_laws.proofs.updates.Nodes.{contents-written, dirty-written}
 use Rattle.blk_laws.proofs.mid_updates.names_are_written.Goals as goal
 
 pub returns : goal.returns

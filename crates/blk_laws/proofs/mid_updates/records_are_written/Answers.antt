@@ -1,4 +1,4 @@
-use Rattle.blk_laws.proofs.Records.{follows-written, fields-written}
+use Rattle.blk_laws.proofs.updates.Records.{follows-written, fields-written}
 use Rattle.blk_laws.proofs.mid_updates.records_are_written.Goals as goal
 
 pub returns : goal.returns

@@ -7,11 +7,11 @@ use Rattle.blk_volume.specs.ListPlans.{writes_of}
 use Rattle.blk_volume.specs.View.{list_of}
 use Rattle.blk_volume.specs.ListImages.{CanBeMade, HasListAtRest, walked}
 use Rattle.blk_volume.specs.ListSteps.{Seals, steps_of_writes}
-use Rattle.blk_laws.proofs.Sealing.{writes_seal}
-use Rattle.blk_laws.proofs.WriteSteps.{quiet-writes, writes-in_turn}
-use Rattle.blk_laws.proofs.WriteWords.{Each, Good, each_nodes, each_words}
+use Rattle.blk_laws.proofs.updates.Sealing.{writes_seal}
+use Rattle.blk_laws.proofs.lists.WriteSteps.{quiet-writes, writes-in_turn}
+use Rattle.blk_laws.proofs.lists.WriteWords.{Each, Good, each_nodes, each_words}
 use Rattle.blk_io.proofs.Carried.{carried}
-use Rattle.blk_disk.specs.Tables.{Agrees, is_node_among}
+use Rattle.blk_disk.specs.Tables.{is_node_among}
 use Rattle.blk_lru.specs.declared.plans.Operation.TheVariants as operations
 use Rattle.blk_lru.specs.Moments.{IsMidOperation}
 use Rattle.blk_lru.specs.Plans.{whole_plan}
@@ -22,24 +22,25 @@ use Rattle.blk_lru.proofs.Performing.{IsReady, ready_writable, told_ready}
 use Rattle.blk_lru.proofs.PlanNodes.{whole_good}
 use Rattle.blk_lru.proofs.PlanWords.{whole_is}
 use Rattle.blk_lru.proofs.Results.{on_ok_both}
-use Rattle.blk_laws.proofs.AtRest.{inserts-turn}
-use Rattle.blk_laws.proofs.WordTurns.{inserts-can, inserts-rest}
+use Rattle.blk_laws.proofs.lists.AtRest.{inserts-turn}
+use Rattle.blk_laws.proofs.lists.WordTurns.{inserts-can, inserts-rest}
 use Rattle.blk_lru.proofs.Conditions.{told_stays}
 use Rattle.blk_lru.proofs.changing.insert_front.Given as given
 use Rattle.blk_lru.proofs.changing.insert_front.Goals as goal
+use Rattle.blk_disk.specs.Open.{IsOpen}
 
 pub returns-in_err-head-clause-stops : goal.returns-in_err-head-clause-stops
 returns-in_err-head-clause-stops g c from there can =
     let ws : List ListWrite = writes_of 1 c.args.node (list_of from) in
     passes_stay (g.F.Folder.told c.args.f.now) (g.F.Folder.told c.first.new.f) from (IsMidOperation c.args.files.now ws (walked from) (c.args.node ∷ walked from) from) there c.in_err-head.ensures.stays
-    (before_operation c.args.files.now from (record { index = c.requires.complete from there; agrees = c.requires.agrees from there }) ws (walked from) (c.args.node ∷ walked from) (inserts-turn c.args.node (list_of from) (walked from) can))
+    (before_operation c.args.files.now from (c.requires.is_open from there) ws (walked from) (c.args.node ∷ walked from) (inserts-turn c.args.node (list_of from) (walked from) can))
 
 pub returns-in_err-head-clause-untold : goal.returns-in_err-head-clause-untold
 returns-in_err-head-clause-untold g c can =
-    carried c.first.result c.from_residual.result c.in_err-head.field-0.0 (λ _. (g.F.Folder.told c.args.f.now).files ≡ None) c.in_err-head.was c.from_residual.ensures.1 (c.first.ensures.untold c.requires.complete c.requires.agrees (λ image there. (can image there).rest))
+    carried c.first.result c.from_residual.result c.in_err-head.field-0.0 (λ _. (g.F.Folder.told c.args.f.now).files ≡ None) c.in_err-head.was c.from_residual.ensures.1 (c.first.ensures.untold (λ image there. (c.requires.is_open image there).whole_index) (λ image there. (c.requires.is_open image there).agrees) (λ image there. (can image there).rest))
 
-pub returns-in_err-head-clause-agrees : goal.returns-in_err-head-clause-agrees
-returns-in_err-head-clause-agrees g c = told_stays (Agrees c.args.files.now) c.in_err-head.ensures.stays c.requires.agrees
+pub returns-in_err-head-clause-is_open : goal.returns-in_err-head-clause-is_open
+returns-in_err-head-clause-is_open g c = told_stays (IsOpen c.args.files.now) c.in_err-head.ensures.stays c.requires.is_open
 
 -- the plan
 words_are : (g : given.Over) (c : goal.After-deref g) → map meant c.deref.result.now ≡ whole_plan c.args.node (operations.Insert c.in_ok-head.head)
@@ -57,8 +58,8 @@ perform-requires-clause-stand g c = each_nodes (λ n. is_node_among c.args.files
 pub perform-requires-clause-words : goal.perform-requires-clause-words
 perform-requires-clause-words g c = each_words (λ n. is_node_among c.args.files.now n ≡ true) (map meant c.deref.result.now) (good_here g c)
 
-pub perform-requires-clause-agrees : goal.perform-requires-clause-agrees
-perform-requires-clause-agrees g c = told_stays (Agrees c.args.files.now) c.in_ok-head.ensures.stays c.requires.agrees
+pub perform-requires-clause-is_open : goal.perform-requires-clause-is_open
+perform-requires-clause-is_open g c = told_stays (IsOpen c.args.files.now) c.in_ok-head.ensures.stays c.requires.is_open
 
 pub returns-clause-steps : goal.returns-clause-steps
 returns-clause-steps g c = whole_as (g.F.Folder.told c.args.f.now) (g.F.Folder.told c.first.new.f) (g.F.Folder.told c.perform.new.f) c.in_ok-head.ensures.stays (map meant c.deref.result.now) (λ from. writes_of 1 c.args.node (list_of from)) (plan_is g c.before) c.perform.result c.perform.ensures.steps
@@ -73,7 +74,7 @@ pub returns-clause-untold : goal.returns-clause-untold
 returns-clause-untold g c holds = untold_as (g.F.Folder.told c.args.f.now) (g.F.Folder.told c.first.new.f) (g.F.Folder.told c.perform.new.f) c.in_ok-head.ensures.stays (map meant c.deref.result.now) (λ from. writes_of 1 c.args.node (list_of from)) (plan_is g c.before) c.perform.result c.perform.ensures.untold (λ from there. inserts-can from c.args.node (walked from) (holds from there))
 
 ready_here : (g : given.Over) (c : goal.After-perform g) → ForSome (g.F.Folder.told c.args.f.now).files (IsReady c.args.files.now)
-ready_here g c = told_ready c.args.files.now (g.F.Folder.told c.args.f.now) c.requires.agrees c.requires.complete (g.met.F.Folder.are_bytes c.args.f.now)
+ready_here g c = told_ready c.args.files.now (g.F.Folder.told c.args.f.now) c.requires.is_open (g.met.F.Folder.are_bytes c.args.f.now)
 
 pub returns-clause-checked : goal.returns-clause-checked
 returns-clause-checked g c = checked_here g c

@@ -5,22 +5,23 @@ use Rattle.std.proofs.lemmas.Result.{on_ok_weaker}
 use Rattle.blk_volume.specs.ListPlans.{writes_of}
 use Rattle.blk_volume.specs.View.{list_of}
 use Rattle.blk_volume.specs.ListImages.{CanBeMade}
-use Rattle.blk_laws.proofs.WriteWords.{Each, Good, each_nodes, each_words}
-use Rattle.blk_disk.specs.Tables.{Agrees, is_node_among}
+use Rattle.blk_laws.proofs.lists.WriteWords.{Each, Good, each_nodes, each_words}
+use Rattle.blk_disk.specs.Tables.{is_node_among}
 use Rattle.blk_lru.specs.declared.plans.Operation.TheVariants as operations
 use Rattle.blk_lru.specs.Plans.{whole_plan}
 use Rattle.blk_lru.specs.Writes.{meant}
 use Rattle.blk_lru.proofs.Operating.{checked_as, part_as, untold_as, whole_as}
 use Rattle.blk_lru.proofs.PlanNodes.{whole_good}
 use Rattle.blk_lru.proofs.PlanWords.{whole_is}
-use Rattle.blk_laws.proofs.WordTurns.{moves-can}
+use Rattle.blk_laws.proofs.lists.WordTurns.{moves-can}
 use Rattle.blk_lru.proofs.Beside.{move_linked}
 use Rattle.blk_lru.proofs.Conditions.{around, told_stays}
 use Rattle.blk_lru.proofs.changing.move_behind.Given as given
 use Rattle.blk_lru.proofs.changing.move_behind.Goals as goal
+use Rattle.blk_disk.specs.Open.{IsOpen}
 
-pub returns-in_err-neighbours-clause-agrees : goal.returns-in_err-neighbours-clause-agrees
-returns-in_err-neighbours-clause-agrees g c = told_stays (Agrees c.args.files.now) c.in_err-neighbours.ensures.stays c.requires.agrees
+pub returns-in_err-neighbours-clause-is_open : goal.returns-in_err-neighbours-clause-is_open
+returns-in_err-neighbours-clause-is_open g c = told_stays (IsOpen c.args.files.now) c.in_err-neighbours.ensures.stays c.requires.is_open
 
 -- the plan
 words_are : (g : given.Over) (c : goal.After-deref g) → map meant c.deref.result.now ≡ whole_plan c.args.node (operations.Move (Some c.in_ok-neighbours.neighbours) c.args.head)
@@ -38,8 +39,8 @@ perform-requires-clause-stand g c = each_nodes (λ n. is_node_among c.args.files
 pub perform-requires-clause-words : goal.perform-requires-clause-words
 perform-requires-clause-words g c = each_words (λ n. is_node_among c.args.files.now n ≡ true) (map meant c.deref.result.now) (good_here g c)
 
-pub perform-requires-clause-agrees : goal.perform-requires-clause-agrees
-perform-requires-clause-agrees g c = told_stays (Agrees c.args.files.now) c.in_ok-neighbours.ensures.stays c.requires.agrees
+pub perform-requires-clause-is_open : goal.perform-requires-clause-is_open
+perform-requires-clause-is_open g c = told_stays (IsOpen c.args.files.now) c.in_ok-neighbours.ensures.stays c.requires.is_open
 
 pub returns-clause-steps : goal.returns-clause-steps
 returns-clause-steps g c = whole_as (g.F.Folder.told c.args.f.now) (g.F.Folder.told c.neighbours.new.f) (g.F.Folder.told c.perform.new.f) c.in_ok-neighbours.ensures.stays (map meant c.deref.result.now) (λ from. writes_of 3 c.args.node (list_of from)) (plan_is g c.before) c.perform.result c.perform.ensures.steps
@@ -63,3 +64,6 @@ returns-clause-linked g c =
     let words = c.in_ok-neighbours.ensures.words from there in
     move_linked (list_of from) c.args.node words.0 (can from there).nodes)
     (checked_here g c)
+
+pub neighbours-requires-clause-agrees : goal.neighbours-requires-clause-agrees
+neighbours-requires-clause-agrees g c image there = (c.requires.is_open image there).agrees

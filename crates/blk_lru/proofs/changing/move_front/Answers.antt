@@ -14,13 +14,14 @@ use Rattle.blk_volume.specs.ListSteps.{steps_of_writes}
 use Rattle.blk_io.proofs.Carried.{carried}
 use Rattle.blk_io.specs.Faults.{IfDamaged}
 use Rattle.blk_disk.specs.declared.tables.BlockFiles.{BlockFiles}
-use Rattle.blk_disk.specs.Tables.{Agrees, is_node_among}
+use Rattle.blk_disk.specs.Tables.{is_node_among}
 use Rattle.blk_lru.specs.Lists.{IsListed}
 use Rattle.blk_lru.specs.Plans.{word_or_zero}
 use Rattle.blk_lru.proofs.Conditions.{told_stays}
 use Rattle.blk_lru.proofs.PlanNodes.{node_apart}
 use Rattle.blk_lru.proofs.changing.move_front.Given as given
 use Rattle.blk_lru.proofs.changing.move_front.Goals as goal
+use Rattle.blk_disk.specs.Open.{IsOpen}
 
 some_touch : (list : ListView) (node : ℕ) → (list.head == node) ≡ false → writes_of 3 node list ≡ touch_writes node list
 some_touch list node e = rw e refl
@@ -40,18 +41,18 @@ apart : (files : BlockFiles) (node : ℕ) → is_node_among files node ≡ true 
 apart files node stands None e = ne_eqb 0 node (λ zero. node_apart files node stands (sym zero))
 apart files node stands (Some head) e = e
 
-pub returns-in_err-head-clause-agrees : goal.returns-in_err-head-clause-agrees
-returns-in_err-head-clause-agrees g c = told_stays (Agrees c.args.files.now) c.in_err-head.ensures.stays c.requires.agrees
+pub returns-in_err-head-clause-is_open : goal.returns-in_err-head-clause-is_open
+returns-in_err-head-clause-is_open g c = told_stays (IsOpen c.args.files.now) c.in_err-head.ensures.stays c.requires.is_open
 
-pub returns-then-eq-clause-agrees : goal.returns-then-eq-clause-agrees
-returns-then-eq-clause-agrees g c = told_stays (Agrees c.args.files.now) c.in_ok-head.ensures.stays c.requires.agrees
+pub returns-then-eq-clause-is_open : goal.returns-then-eq-clause-is_open
+returns-then-eq-clause-is_open g c = told_stays (IsOpen c.args.files.now) c.in_ok-head.ensures.stays c.requires.is_open
 
-pub move_behind-requires-clause-agrees : goal.move_behind-requires-clause-agrees
-move_behind-requires-clause-agrees g c = told_stays (Agrees c.args.files.now) c.in_ok-head.ensures.stays c.requires.agrees
+pub move_behind-requires-clause-is_open : goal.move_behind-requires-clause-is_open
+move_behind-requires-clause-is_open g c = told_stays (IsOpen c.args.files.now) c.in_ok-head.ensures.stays c.requires.is_open
 
 pub returns-in_err-head-clause-untold : goal.returns-in_err-head-clause-untold
 returns-in_err-head-clause-untold g c listed =
-    carried c.first.result c.from_residual.result c.in_err-head.field-0.0 (λ _. (g.F.Folder.told c.args.f.now).files ≡ None) c.in_err-head.was c.from_residual.ensures.1 (c.first.ensures.untold c.requires.complete c.requires.agrees (λ image there. (listed image there).rest))
+    carried c.first.result c.from_residual.result c.in_err-head.field-0.0 (λ _. (g.F.Folder.told c.args.f.now).files ≡ None) c.in_err-head.was c.from_residual.ensures.1 (c.first.ensures.untold (λ image there. (c.requires.is_open image there).whole_index) (λ image there. (c.requires.is_open image there).agrees) (λ image there. (listed image there).rest))
 
 -- the head is another node
 other : (g : given.Over) (c : goal.After-move_behind g) → ForSome (g.F.Folder.told c.args.f.now).files (λ from. ((list_of from).head == c.args.node) ≡ false)

@@ -7,10 +7,10 @@ use Rattle.blk_volume.specs.ListPlans.{writes_of}
 use Rattle.blk_volume.specs.View.{list_of}
 use Rattle.blk_volume.specs.ListImages.{CanBeMade, HasListAtRest}
 use Rattle.blk_volume.specs.ListSteps.{Seals, steps_of_writes}
-use Rattle.blk_laws.proofs.Sealing.{writes_seal}
-use Rattle.blk_laws.proofs.WriteSteps.{quiet-writes, writes-in_turn}
-use Rattle.blk_laws.proofs.WriteWords.{Each, Good, each_nodes, each_words}
-use Rattle.blk_disk.specs.Tables.{Agrees, is_node_among}
+use Rattle.blk_laws.proofs.updates.Sealing.{writes_seal}
+use Rattle.blk_laws.proofs.lists.WriteSteps.{quiet-writes, writes-in_turn}
+use Rattle.blk_laws.proofs.lists.WriteWords.{Each, Good, each_nodes, each_words}
+use Rattle.blk_disk.specs.Tables.{is_node_among}
 use Rattle.blk_lru.specs.declared.plans.Operation.TheVariants as operations
 use Rattle.blk_lru.specs.Moments.{IsMidOperation}
 use Rattle.blk_lru.specs.Plans.{whole_plan}
@@ -21,21 +21,22 @@ use Rattle.blk_lru.proofs.Performing.{IsReady, ready_writable, told_ready}
 use Rattle.blk_lru.proofs.PlanNodes.{whole_good}
 use Rattle.blk_lru.proofs.PlanWords.{whole_is}
 use Rattle.blk_lru.proofs.Results.{on_ok_both}
-use Rattle.blk_laws.proofs.AtRest.{removals-turn}
-use Rattle.blk_laws.proofs.WordTurns.{removals-can, removals-rest}
+use Rattle.blk_laws.proofs.lists.AtRest.{removals-turn}
+use Rattle.blk_laws.proofs.lists.WordTurns.{removals-can, removals-rest}
 use Rattle.blk_lru.proofs.Beside.{removal_linked}
 use Rattle.blk_lru.proofs.Conditions.{around, told_stays}
 use Rattle.blk_lru.proofs.changing.remove.Given as given
 use Rattle.blk_lru.proofs.changing.remove.Goals as goal
+use Rattle.blk_disk.specs.Open.{IsOpen}
 
 pub returns-in_err-neighbours-clause-stops : goal.returns-in_err-neighbours-clause-stops
 returns-in_err-neighbours-clause-stops g c from there prefix suffix rest =
     let ws : List ListWrite = writes_of 2 c.args.node (list_of from) in
     passes_stay (g.F.Folder.told c.args.f.now) (g.F.Folder.told c.neighbours.new.f) from (IsMidOperation c.args.files.now ws (prefix ++ c.args.node ∷ suffix) (prefix ++ suffix) from) there c.in_err-neighbours.ensures.stays
-    (before_operation c.args.files.now from (record { index = c.requires.complete from there; agrees = c.requires.agrees from there }) ws (prefix ++ c.args.node ∷ suffix) (prefix ++ suffix) (removals-turn c.args.node (list_of from) prefix suffix rest))
+    (before_operation c.args.files.now from (c.requires.is_open from there) ws (prefix ++ c.args.node ∷ suffix) (prefix ++ suffix) (removals-turn c.args.node (list_of from) prefix suffix rest))
 
-pub returns-in_err-neighbours-clause-agrees : goal.returns-in_err-neighbours-clause-agrees
-returns-in_err-neighbours-clause-agrees g c = told_stays (Agrees c.args.files.now) c.in_err-neighbours.ensures.stays c.requires.agrees
+pub returns-in_err-neighbours-clause-is_open : goal.returns-in_err-neighbours-clause-is_open
+returns-in_err-neighbours-clause-is_open g c = told_stays (IsOpen c.args.files.now) c.in_err-neighbours.ensures.stays c.requires.is_open
 
 -- the plan
 words_are : (g : given.Over) (c : goal.After-deref g) → map meant c.deref.result.now ≡ whole_plan c.args.node (operations.Remove (Some c.in_ok-neighbours.neighbours))
@@ -53,8 +54,8 @@ perform-requires-clause-stand g c = each_nodes (λ n. is_node_among c.args.files
 pub perform-requires-clause-words : goal.perform-requires-clause-words
 perform-requires-clause-words g c = each_words (λ n. is_node_among c.args.files.now n ≡ true) (map meant c.deref.result.now) (good_here g c)
 
-pub perform-requires-clause-agrees : goal.perform-requires-clause-agrees
-perform-requires-clause-agrees g c = told_stays (Agrees c.args.files.now) c.in_ok-neighbours.ensures.stays c.requires.agrees
+pub perform-requires-clause-is_open : goal.perform-requires-clause-is_open
+perform-requires-clause-is_open g c = told_stays (IsOpen c.args.files.now) c.in_ok-neighbours.ensures.stays c.requires.is_open
 
 pub returns-clause-steps : goal.returns-clause-steps
 returns-clause-steps g c = whole_as (g.F.Folder.told c.args.f.now) (g.F.Folder.told c.neighbours.new.f) (g.F.Folder.told c.perform.new.f) c.in_ok-neighbours.ensures.stays (map meant c.deref.result.now) (λ from. writes_of 2 c.args.node (list_of from)) (plan_is g c.before) c.perform.result c.perform.ensures.steps
@@ -69,7 +70,7 @@ pub returns-clause-untold : goal.returns-clause-untold
 returns-clause-untold g c holds = untold_as (g.F.Folder.told c.args.f.now) (g.F.Folder.told c.neighbours.new.f) (g.F.Folder.told c.perform.new.f) c.in_ok-neighbours.ensures.stays (map meant c.deref.result.now) (λ from. writes_of 2 c.args.node (list_of from)) (plan_is g c.before) c.perform.result c.perform.ensures.untold (λ from there. (let a = around c.args.node from (holds from there) in removals-can from c.args.node a.0 a.1 a.2))
 
 ready_here : (g : given.Over) (c : goal.After-perform g) → ForSome (g.F.Folder.told c.args.f.now).files (IsReady c.args.files.now)
-ready_here g c = told_ready c.args.files.now (g.F.Folder.told c.args.f.now) c.requires.agrees c.requires.complete (g.met.F.Folder.are_bytes c.args.f.now)
+ready_here g c = told_ready c.args.files.now (g.F.Folder.told c.args.f.now) c.requires.is_open (g.met.F.Folder.are_bytes c.args.f.now)
 
 pub returns-clause-checked : goal.returns-clause-checked
 returns-clause-checked g c =
@@ -101,3 +102,6 @@ returns-clause-stops g c from there prefix suffix rest =
     let ready = ready_here g c from there in
     part_passes (g.F.Folder.told c.args.f.now) (g.F.Folder.told c.perform.new.f) from there (steps_of_writes ws from) (quiet-writes ws from) (returns-clause-prefix g c from there) (IsMidOperation c.args.files.now ws (prefix ++ c.args.node ∷ suffix) (prefix ++ suffix) from)
     (along_operation c.args.files.now from ready.kept ws (prefix ++ c.args.node ∷ suffix) (prefix ++ suffix) (removals-turn c.args.node (list_of from) prefix suffix rest) (steps_of_writes ws from) (writes-in_turn from ws (ready_writable ready) (removals-can from c.args.node prefix suffix rest)))
+
+pub neighbours-requires-clause-agrees : goal.neighbours-requires-clause-agrees
+neighbours-requires-clause-agrees g c image there = (c.requires.is_open image there).agrees

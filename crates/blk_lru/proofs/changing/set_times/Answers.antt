@@ -1,7 +1,7 @@
 use Rattle.std.proofs.Common.{inl}
 use Rattle.std.proofs.lemmas.Result.{on_ok_weaker}
-use Rattle.blk_laws.proofs.NodeRecords.{record_checks}
-use Rattle.blk_laws.proofs.WordTurns.{times_are}
+use Rattle.blk_laws.proofs.updates.NodeRecords.{record_checks}
+use Rattle.blk_laws.proofs.lists.WordTurns.{times_are}
 use Rattle.blk_format.specs.Sealed.{sealed_steps}
 use Rattle.blk_volume.specs.ListSteps.{times_of}
 use Rattle.blk_lru.proofs.FailedChecks.{short_or_unsealed}
@@ -26,13 +26,16 @@ returns-clause-untold g c good =
 
 pub returns-clause-checked : goal.returns-clause-checked
 returns-clause-checked g c =
-    on_ok_weaker c.update_sealed.result (λ good image there. checks_back c.args.files.now image c.args.node (c.requires.agrees image there) (g.met.F.Folder.are_bytes c.args.f.now image there) c.requires.stands (good image there)) c.update_sealed.ensures.checked
+    on_ok_weaker c.update_sealed.result (λ good image there. checks_back c.args.files.now image c.args.node (c.requires.is_open image there).agrees (g.met.F.Folder.are_bytes c.args.f.now image there) c.requires.stands (good image there)) c.update_sealed.ensures.checked
 
 pub returns-clause-damaged : goal.returns-clause-damaged
 returns-clause-damaged g c = short_or_unsealed c.update_sealed.result c.args.files.now (g.F.Folder.told c.args.f.now) (g.F.Folder.told c.update_sealed.new.f) c.args.node c.requires.stands c.update_sealed.ensures.damaged c.update_sealed.ensures.unwritten
 
-pub returns-clause-complete : goal.returns-clause-complete
-returns-clause-complete g c image here =
+pub returns-clause-is_open : goal.returns-clause-is_open
+returns-clause-is_open g c image here =
     let old = g.F.Folder.told c.args.f.now in
     (part_kept c.args.files.now old (g.F.Folder.told c.update_sealed.new.f) (λ from. sealed_steps from c.args.node (times_of c.args.moment))
-    (λ from there. kept_sealed c.args.files.now c.args.node (times_of c.args.moment) from (record { index = c.requires.complete from there; agrees = c.requires.agrees from there })) c.update_sealed.ensures.silent c.update_sealed.ensures.prefix image here).index
+    (λ from there. kept_sealed c.args.files.now c.args.node (times_of c.args.moment) from (c.requires.is_open from there)) c.update_sealed.ensures.silent c.update_sealed.ensures.prefix image here)
+
+pub update_sealed-requires-clause-agrees : goal.update_sealed-requires-clause-agrees
+update_sealed-requires-clause-agrees g c image there = (c.requires.is_open image there).agrees

@@ -11,10 +11,10 @@ use Rattle.blk_volume.specs.ListView.{ListWrite}
 use Rattle.blk_volume.specs.View.{list_of}
 use Rattle.blk_volume.specs.ListSteps.{AreTimes, IsSealed, Seals, steps_of_writes}
 use Rattle.blk_volume.specs.ListImages.{IsWritable, HasListAtRest, steps_of_touch}
-use Rattle.blk_laws.proofs.AtRest.{touches-turn}
-use Rattle.blk_laws.proofs.Sealing.{touch_seals}
-use Rattle.blk_laws.proofs.WriteSteps.{still_check, writes_show}
-use Rattle.blk_laws.proofs.WordTurns.{still_checks, touch_quiet, touch_times, touches-can, touches-in_turn, touches-rest}
+use Rattle.blk_laws.proofs.lists.AtRest.{touches-turn}
+use Rattle.blk_laws.proofs.updates.Sealing.{touch_seals}
+use Rattle.blk_laws.proofs.lists.WriteSteps.{still_check, writes_show}
+use Rattle.blk_laws.proofs.lists.WordTurns.{still_checks, touch_quiet, touch_times, touches-can, touches-in_turn, touches-rest}
 use Rattle.blk_disk.specs.declared.tables.BlockFiles.{BlockFiles}
 use Rattle.blk_lru.specs.Moments.{IsMidTouch}
 use Rattle.blk_lru.specs.Lists.{CanBeTouched}
@@ -41,7 +41,7 @@ returns-in_err-move_front-clause-prefix g c from there = part_only _ (c.in_err-m
 
 pub returns-in_err-move_front-clause-stops : goal.returns-in_err-move_front-clause-stops
 returns-in_err-move_front-clause-stops g c from there prefix suffix rest =
-    passes (g.F.Folder.told c.args.f.now) (g.F.Folder.told c.move_front.new.f) from c.args.files.now there (told_ready c.args.files.now (g.F.Folder.told c.args.f.now) c.requires.agrees c.requires.complete (g.met.F.Folder.are_bytes c.args.f.now) from there) c.args.node c.args.moment
+    passes (g.F.Folder.told c.args.f.now) (g.F.Folder.told c.move_front.new.f) from c.args.files.now there (told_ready c.args.files.now (g.F.Folder.told c.args.f.now) c.requires.is_open (g.met.F.Folder.are_bytes c.args.f.now) from there) c.args.node c.args.moment
     (part_only _ (c.in_err-move_front.ensures.prefix from there)) prefix suffix rest
 
 -- the list's part was made
@@ -49,7 +49,7 @@ between_is : (g : given.Over) (c : goal.After-set_times g) (from : Image) → (g
 between_is g c from there = (c.in_ok-move_front.ensures.steps from there).files ∙ ap (option_map (after (steps_of_writes (touch_writes c.args.node (list_of from)) from))) there
 
 ready_here : (g : given.Over) (c : goal.After-set_times g) → ForSome (g.F.Folder.told c.args.f.now).files (IsReady c.args.files.now)
-ready_here g c = told_ready c.args.files.now (g.F.Folder.told c.args.f.now) c.requires.agrees c.requires.complete (g.met.F.Folder.are_bytes c.args.f.now)
+ready_here g c = told_ready c.args.files.now (g.F.Folder.told c.args.f.now) c.requires.is_open (g.met.F.Folder.are_bytes c.args.f.now)
 
 -- the node checked before, where it does now
 good_here : (g : given.Over) (c : goal.After-set_times g) → OnOk c.set_times.result (ForSome (g.F.Folder.told c.args.f.now).files (λ from. (list_of from).checks c.args.node ≡ true))

@@ -9,10 +9,10 @@ use Rattle.blk_volume.specs.View.{list_of}
 use Rattle.blk_volume.specs.ListPlans.{completion_writes}
 use Rattle.blk_volume.specs.ListSteps.{AreOf, AllWriteWords, Seals}
 use Rattle.blk_volume.specs.ListImages.{IsCompleted, completion_steps}
-use Rattle.blk_laws.proofs.Sealing.{writes_seal}
-use Rattle.blk_laws.proofs.WordStops.{completions-can, completions-done}
-use Rattle.blk_laws.proofs.WriteSteps.{quiet-writes, writes-in_turn}
-use Rattle.blk_disk.specs.Tables.{Agrees, is_node_among}
+use Rattle.blk_laws.proofs.updates.Sealing.{writes_seal}
+use Rattle.blk_laws.proofs.lists.WordStops.{completions-can, completions-done}
+use Rattle.blk_laws.proofs.lists.WriteSteps.{quiet-writes, writes-in_turn}
+use Rattle.blk_disk.specs.Tables.{is_node_among}
 use Rattle.blk_lru.specs.Moments.{IsMidCompletion}
 use Rattle.blk_lru.specs.Writes.{meant}
 use Rattle.blk_lru.proofs.Conditions.{told_stays}
@@ -21,14 +21,15 @@ use Rattle.blk_lru.proofs.Operating.{all_made, part_as, part_passes, passes_stay
 use Rattle.blk_lru.proofs.Performing.{IsReady, ready_writable, told_ready}
 use Rattle.blk_lru.proofs.completing.complete.Given as given
 use Rattle.blk_lru.proofs.completing.complete.Goals as goal
+use Rattle.blk_disk.specs.Open.{IsOpen}
 
 pub returns-in_err-plan-clause-stops : goal.returns-in_err-plan-clause-stops
 returns-in_err-plan-clause-stops g c from there =
     passes_stay (g.F.Folder.told c.args.f.now) (g.F.Folder.told c.pending.new.f) from (IsMidCompletion c.args.files.now from) there c.in_err-plan.ensures.stays
-    (before_completion c.args.files.now from (record { index = c.requires.complete from there; agrees = c.requires.agrees from there }))
+    (before_completion c.args.files.now from (c.requires.is_open from there))
 
-pub returns-in_err-plan-clause-agrees : goal.returns-in_err-plan-clause-agrees
-returns-in_err-plan-clause-agrees g c = told_stays (Agrees c.args.files.now) c.in_err-plan.ensures.stays c.requires.agrees
+pub returns-in_err-plan-clause-is_open : goal.returns-in_err-plan-clause-is_open
+returns-in_err-plan-clause-is_open g c = told_stays (IsOpen c.args.files.now) c.in_err-plan.ensures.stays c.requires.is_open
 
 -- the plan
 words_are : (g : given.Over) (c : goal.After-deref g) (P : List ListWrite → Type 0) → P (map meant c.in_ok-plan.plan.items) → P (map meant c.deref.result.now)
@@ -43,8 +44,8 @@ perform-requires-clause-stand g c = words_are g c (AreOf (λ n. is_node_among c.
 pub perform-requires-clause-words : goal.perform-requires-clause-words
 perform-requires-clause-words g c = words_are g c AllWriteWords c.in_ok-plan.ensures.words
 
-pub perform-requires-clause-agrees : goal.perform-requires-clause-agrees
-perform-requires-clause-agrees g c = told_stays (Agrees c.args.files.now) c.in_ok-plan.ensures.stays c.requires.agrees
+pub perform-requires-clause-is_open : goal.perform-requires-clause-is_open
+perform-requires-clause-is_open g c = told_stays (IsOpen c.args.files.now) c.in_ok-plan.ensures.stays c.requires.is_open
 
 pub returns-clause-steps : goal.returns-clause-steps
 returns-clause-steps g c = whole_as (g.F.Folder.told c.args.f.now) (g.F.Folder.told c.pending.new.f) (g.F.Folder.told c.perform.new.f) c.in_ok-plan.ensures.stays (map meant c.deref.result.now) (λ from. completion_writes (list_of from)) (plan_is g c.before) c.perform.result c.perform.ensures.steps
@@ -56,7 +57,7 @@ pub returns-clause-untold : goal.returns-clause-untold
 returns-clause-untold g c = untold_as (g.F.Folder.told c.args.f.now) (g.F.Folder.told c.pending.new.f) (g.F.Folder.told c.perform.new.f) c.in_ok-plan.ensures.stays (map meant c.deref.result.now) (λ from. completion_writes (list_of from)) (plan_is g c.before) c.perform.result c.perform.ensures.untold (λ from there. completions-can from)
 
 ready_here : (g : given.Over) (c : goal.After-perform g) → ForSome (g.F.Folder.told c.args.f.now).files (IsReady c.args.files.now)
-ready_here g c = told_ready c.args.files.now (g.F.Folder.told c.args.f.now) c.requires.agrees c.requires.complete (g.met.F.Folder.are_bytes c.args.f.now)
+ready_here g c = told_ready c.args.files.now (g.F.Folder.told c.args.f.now) c.requires.is_open (g.met.F.Folder.are_bytes c.args.f.now)
 
 -- what holds after all of it
 made : (g : given.Over) (c : goal.After-perform g) (P : Image → Image → Type 0) → ((from : Image) → IsReady c.args.files.now from → P from (after (completion_steps from) from)) → OnOk c.perform.result (ForSome (g.F.Folder.told c.args.f.now).files (λ from. ForSome (g.F.Folder.told c.perform.new.f).files (P from)))

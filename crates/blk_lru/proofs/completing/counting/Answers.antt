@@ -30,7 +30,7 @@ returns-in_default-4-clause-found g c image there =
     not_head (list_of image) (ap (λ (o : ℕ). o == 2) (c.requires.operation image there ∙ c.in-3.is)) (subst (FindsHead (list_of image)) c.in_default-4.is (c.in_ok-head-in-3.ensures.found image there))
 
 pub usable_links-requires-in-3-clause-agrees : goal.usable_links-requires-in-3-clause-agrees
-usable_links-requires-in-3-clause-agrees g c = told_stays (Agrees c.args.files.now) c.in_ok-head-in-3.ensures.stays c.requires.agrees
+usable_links-requires-in-3-clause-agrees g c = told_stays (Agrees c.args.files.now) c.in_ok-head-in-3.ensures.stays (λ image there. (c.requires.is_open image there).agrees)
 
 pub returns-in_default-5-clause-found : goal.returns-in_default-5-clause-found
 returns-in_default-5-clause-found g c image there =
@@ -47,3 +47,6 @@ pub returns-in_default-clause-found : goal.returns-in_default-clause-found
 returns-in_default-clause-found g c image there =
     let is : c.args.code ≡ (list_of image).operation = sym (c.requires.operation image there) in
     not_known (list_of image) (λ e. let one : c.args.code ≡ 1 = is ∙ e in search rules) (λ e. let two : c.args.code ≡ 2 = is ∙ e in search rules) (λ e. let three : c.args.code ≡ 3 = is ∙ e in search rules)
+
+pub usable_links-requires-clause-agrees : goal.usable_links-requires-clause-agrees
+usable_links-requires-clause-agrees g c image there = (c.requires.is_open image there).agrees

@@ -3,9 +3,9 @@ use Rattle.std.proofs.lemmas.Bool.{eq-eqb, ne_eqb}
 use Rattle.blk_image.specs.Image.{Image}
 use Rattle.blk_volume.specs.View.{list_of}
 use Rattle.blk_volume.specs.ListSteps.{AreOf, AllWriteWords}
-use Rattle.blk_laws.proofs.ListCompletions.{completion_false, completion_none}
-use Rattle.blk_laws.proofs.WriteWords.{Each, Good, each_nodes, each_words}
-use Rattle.blk_disk.specs.Tables.{Agrees, is_node_among}
+use Rattle.blk_laws.proofs.lists.ListCompletions.{completion_false, completion_none}
+use Rattle.blk_laws.proofs.lists.WriteWords.{Each, Good, each_nodes, each_words}
+use Rattle.blk_disk.specs.Tables.{is_node_among}
 use Rattle.blk_lru.specs.Completing.{AreNodes, FindsInFlight}
 use Rattle.blk_lru.specs.Plans.{pending}
 use Rattle.blk_lru.specs.Writes.{meant}
@@ -14,6 +14,7 @@ use Rattle.blk_lru.proofs.Counting.{found_writes}
 use Rattle.blk_lru.proofs.PlanNodes.{pending_good}
 use Rattle.blk_lru.proofs.completing.pending.Given as given
 use Rattle.blk_lru.proofs.completing.pending.Goals as goal
+use Rattle.blk_disk.specs.Open.{IsOpen}
 
 pub returns-then-transaction-eq0-clause-plan : goal.returns-then-transaction-eq0-clause-plan
 unfolding list_of
@@ -30,8 +31,8 @@ pub in_flight-requires-clause-transaction : goal.in_flight-requires-clause-trans
 unfolding list_of
 in_flight-requires-clause-transaction g c image there = sym (c.in_ok-transaction.ensures.word image (told_before image c.in_ok-transaction.ensures.stays there))
 
-pub in_flight-requires-clause-agrees : goal.in_flight-requires-clause-agrees
-in_flight-requires-clause-agrees g c = told_stays (Agrees c.args.files.now) c.in_ok-transaction.ensures.stays c.requires.agrees
+pub in_flight-requires-clause-is_open : goal.in_flight-requires-clause-is_open
+in_flight-requires-clause-is_open g c = told_stays (IsOpen c.args.files.now) c.in_ok-transaction.ensures.stays c.requires.is_open
 
 pub returns-in_default-clause-plan : goal.returns-in_default-clause-plan
 unfolding list_of

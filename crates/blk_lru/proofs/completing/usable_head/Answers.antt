@@ -12,7 +12,7 @@ unfolding list_of
 returns-then-head-eq0-clause-found g c image there = head_none (list_of image) (sym (c.in_ok-head.ensures.word image there) ∙ c.if-head-eq0.true)
 
 pub checked-requires : goal.checked-requires
-checked-requires g c = record { agrees = told_stays (Agrees c.args.files.now) c.in_ok-head.ensures.stays c.requires.agrees }
+checked-requires g c = record { agrees = told_stays (Agrees c.args.files.now) c.in_ok-head.ensures.stays (λ image there. (c.requires.is_open image there).agrees) }
 
 pub returns-in_default-clause-found : goal.returns-in_default-clause-found
 unfolding list_of

@@ -13,31 +13,21 @@ loop-write-init g c = record { reached = nothing (g.F.Folder.told c.args.f.now) 
 pub write_one-requires-clause-stand : goal.write_one-requires-clause-stand
 write_one-requires-clause-stand g c = item_is (λ n. is_node_among c.args.files.now n ≡ true) c.args.writes.now c.loop-write.write-index c.write-item.result c.write-item.result c.loop-write-test.true (sym c.write-item.is) c.requires.stand
 
-pub write_one-requires-clause-complete : goal.write_one-requires-clause-complete
-write_one-requires-clause-complete g c image there =
+pub write_one-requires-clause-is_open : goal.write_one-requires-clause-is_open
+write_one-requires-clause-is_open g c image there =
     let old = g.F.Folder.told c.args.f.now in
     let ws : List ListWrite = map meant c.args.writes.now in
-    let ready = told_ready c.args.files.now old c.requires.agrees c.requires.complete (g.met.F.Folder.are_bytes c.args.f.now) in
+    let ready = told_ready c.args.files.now old c.requires.is_open (g.met.F.Folder.are_bytes c.args.f.now) in
     let now = g.F.Folder.told c.loop-write.f in
     let left : List ListWrite = map meant (drop (c.loop-write.write-index + 1) c.args.writes.now) in
     let reached : Reached old now ws (meant c.write-item.result ∷ left) = subst (Reached old now ws) (at_item c.args.writes.now c.loop-write.write-index c.write-item.result c.write-item.result c.loop-write-test.true (sym c.write-item.is)) c.loop-write.invariant.reached in
-    (midst c.args.files.now old ws ready c.requires.words now (meant c.write-item.result ∷ left) reached image there).index
-
-pub write_one-requires-clause-agrees : goal.write_one-requires-clause-agrees
-write_one-requires-clause-agrees g c image there =
-    let old = g.F.Folder.told c.args.f.now in
-    let ws : List ListWrite = map meant c.args.writes.now in
-    let ready = told_ready c.args.files.now old c.requires.agrees c.requires.complete (g.met.F.Folder.are_bytes c.args.f.now) in
-    let now = g.F.Folder.told c.loop-write.f in
-    let left : List ListWrite = map meant (drop (c.loop-write.write-index + 1) c.args.writes.now) in
-    let reached : Reached old now ws (meant c.write-item.result ∷ left) = subst (Reached old now ws) (at_item c.args.writes.now c.loop-write.write-index c.write-item.result c.write-item.result c.loop-write-test.true (sym c.write-item.is)) c.loop-write.invariant.reached in
-    (midst c.args.files.now old ws ready c.requires.words now (meant c.write-item.result ∷ left) reached image there).agrees
+    midst c.args.files.now old ws ready c.requires.words now (meant c.write-item.result ∷ left) reached image there
 
 pub returns-in_err-write_one-clause-prefix : goal.returns-in_err-write_one-clause-prefix
 returns-in_err-write_one-clause-prefix g c =
     let old = g.F.Folder.told c.args.f.now in
     let ws : List ListWrite = map meant c.args.writes.now in
-    let ready = told_ready c.args.files.now old c.requires.agrees c.requires.complete (g.met.F.Folder.are_bytes c.args.f.now) in
+    let ready = told_ready c.args.files.now old c.requires.is_open (g.met.F.Folder.are_bytes c.args.f.now) in
     let now = g.F.Folder.told c.loop-write.f in
     let left : List ListWrite = map meant (drop (c.loop-write.write-index + 1) c.args.writes.now) in
     let reached : Reached old now ws (meant c.write-item.result ∷ left) = subst (Reached old now ws) (at_item c.args.writes.now c.loop-write.write-index c.write-item.result c.write-item.result c.loop-write-test.true (sym c.write-item.is)) c.loop-write.invariant.reached in
@@ -46,37 +36,24 @@ returns-in_err-write_one-clause-prefix g c =
     let silent : old.files ≡ None → next.files ≡ None = λ none. c.in_err-write_one.ensures.silent (reached.wrote.silent none) in
     part
 
-pub returns-in_err-write_one-clause-complete : goal.returns-in_err-write_one-clause-complete
-returns-in_err-write_one-clause-complete g c image there =
+pub returns-in_err-write_one-clause-is_open : goal.returns-in_err-write_one-clause-is_open
+returns-in_err-write_one-clause-is_open g c image there =
     let old = g.F.Folder.told c.args.f.now in
     let ws : List ListWrite = map meant c.args.writes.now in
-    let ready = told_ready c.args.files.now old c.requires.agrees c.requires.complete (g.met.F.Folder.are_bytes c.args.f.now) in
+    let ready = told_ready c.args.files.now old c.requires.is_open (g.met.F.Folder.are_bytes c.args.f.now) in
     let now = g.F.Folder.told c.loop-write.f in
     let left : List ListWrite = map meant (drop (c.loop-write.write-index + 1) c.args.writes.now) in
     let reached : Reached old now ws (meant c.write-item.result ∷ left) = subst (Reached old now ws) (at_item c.args.writes.now c.loop-write.write-index c.write-item.result c.write-item.result c.loop-write-test.true (sym c.write-item.is)) c.loop-write.invariant.reached in
     let next = g.F.Folder.told c.write_one.new.f in
     let part = in_part c.args.files.now old ws ready c.requires.words now next (meant c.write-item.result) left reached c.in_err-write_one.ensures.prefix in
     let silent : old.files ≡ None → next.files ≡ None = λ none. c.in_err-write_one.ensures.silent (reached.wrote.silent none) in
-    (part_ready c.args.files.now old ws ready c.requires.words next silent part image there).index
-
-pub returns-in_err-write_one-clause-agrees : goal.returns-in_err-write_one-clause-agrees
-returns-in_err-write_one-clause-agrees g c image there =
-    let old = g.F.Folder.told c.args.f.now in
-    let ws : List ListWrite = map meant c.args.writes.now in
-    let ready = told_ready c.args.files.now old c.requires.agrees c.requires.complete (g.met.F.Folder.are_bytes c.args.f.now) in
-    let now = g.F.Folder.told c.loop-write.f in
-    let left : List ListWrite = map meant (drop (c.loop-write.write-index + 1) c.args.writes.now) in
-    let reached : Reached old now ws (meant c.write-item.result ∷ left) = subst (Reached old now ws) (at_item c.args.writes.now c.loop-write.write-index c.write-item.result c.write-item.result c.loop-write-test.true (sym c.write-item.is)) c.loop-write.invariant.reached in
-    let next = g.F.Folder.told c.write_one.new.f in
-    let part = in_part c.args.files.now old ws ready c.requires.words now next (meant c.write-item.result) left reached c.in_err-write_one.ensures.prefix in
-    let silent : old.files ≡ None → next.files ≡ None = λ none. c.in_err-write_one.ensures.silent (reached.wrote.silent none) in
-    (part_ready c.args.files.now old ws ready c.requires.words next silent part image there).agrees
+    part_ready c.args.files.now old ws ready c.requires.words next silent part image there
 
 pub returns-in_err-write_one-clause-untold : goal.returns-in_err-write_one-clause-untold
 returns-in_err-write_one-clause-untold g c can =
     let old = g.F.Folder.told c.args.f.now in
     let ws : List ListWrite = map meant c.args.writes.now in
-    let ready = told_ready c.args.files.now old c.requires.agrees c.requires.complete (g.met.F.Folder.are_bytes c.args.f.now) in
+    let ready = told_ready c.args.files.now old c.requires.is_open (g.met.F.Folder.are_bytes c.args.f.now) in
     let now = g.F.Folder.told c.loop-write.f in
     let left : List ListWrite = map meant (drop (c.loop-write.write-index + 1) c.args.writes.now) in
     let reached : Reached old now ws (meant c.write-item.result ∷ left) = subst (Reached old now ws) (at_item c.args.writes.now c.loop-write.write-index c.write-item.result c.write-item.result c.loop-write-test.true (sym c.write-item.is)) c.loop-write.invariant.reached in
@@ -87,7 +64,7 @@ pub loop-write-preserved : goal.loop-write-preserved
 loop-write-preserved g c =
     let old = g.F.Folder.told c.args.f.now in
     let ws : List ListWrite = map meant c.args.writes.now in
-    let ready = told_ready c.args.files.now old c.requires.agrees c.requires.complete (g.met.F.Folder.are_bytes c.args.f.now) in
+    let ready = told_ready c.args.files.now old c.requires.is_open (g.met.F.Folder.are_bytes c.args.f.now) in
     let now = g.F.Folder.told c.loop-write.f in
     let left : List ListWrite = map meant (drop (c.loop-write.write-index + 1) c.args.writes.now) in
     let reached : Reached old now ws (meant c.write-item.result ∷ left) = subst (Reached old now ws) (at_item c.args.writes.now c.loop-write.write-index c.write-item.result c.write-item.result c.loop-write-test.true (sym c.write-item.is)) c.loop-write.invariant.reached in
@@ -101,7 +78,7 @@ pub returns-clause-checked : goal.returns-clause-checked
 returns-clause-checked g c =
     let old = g.F.Folder.told c.args.f.now in
     let ws : List ListWrite = map meant c.args.writes.now in
-    let ready = told_ready c.args.files.now old c.requires.agrees c.requires.complete (g.met.F.Folder.are_bytes c.args.f.now) in
+    let ready = told_ready c.args.files.now old c.requires.is_open (g.met.F.Folder.are_bytes c.args.f.now) in
     let now = g.F.Folder.told c.loop-write.f in
     let reached : Reached old now ws [] = subst (Reached old now ws) (all_done c.args.writes.now c.loop-write.write-index c.loop-write-test.false) c.loop-write.invariant.reached in
     all_checked c.args.files.now old ws ready c.requires.words now reached
@@ -110,7 +87,7 @@ pub returns-clause-steps : goal.returns-clause-steps
 returns-clause-steps g c =
     let old = g.F.Folder.told c.args.f.now in
     let ws : List ListWrite = map meant c.args.writes.now in
-    let ready = told_ready c.args.files.now old c.requires.agrees c.requires.complete (g.met.F.Folder.are_bytes c.args.f.now) in
+    let ready = told_ready c.args.files.now old c.requires.is_open (g.met.F.Folder.are_bytes c.args.f.now) in
     let now = g.F.Folder.told c.loop-write.f in
     let reached : Reached old now ws [] = subst (Reached old now ws) (all_done c.args.writes.now c.loop-write.write-index c.loop-write-test.false) c.loop-write.invariant.reached in
     (done_all c.args.files.now old ws ready c.requires.words now reached).applies
@@ -119,36 +96,26 @@ pub returns-clause-prefix : goal.returns-clause-prefix
 returns-clause-prefix g c =
     let old = g.F.Folder.told c.args.f.now in
     let ws : List ListWrite = map meant c.args.writes.now in
-    let ready = told_ready c.args.files.now old c.requires.agrees c.requires.complete (g.met.F.Folder.are_bytes c.args.f.now) in
+    let ready = told_ready c.args.files.now old c.requires.is_open (g.met.F.Folder.are_bytes c.args.f.now) in
     let now = g.F.Folder.told c.loop-write.f in
     let reached : Reached old now ws [] = subst (Reached old now ws) (all_done c.args.writes.now c.loop-write.write-index c.loop-write-test.false) c.loop-write.invariant.reached in
     wrote_part (done_all c.args.files.now old ws ready c.requires.words now reached)
 
-pub returns-clause-complete : goal.returns-clause-complete
-returns-clause-complete g c image there =
+pub returns-clause-is_open : goal.returns-clause-is_open
+returns-clause-is_open g c image there =
     let old = g.F.Folder.told c.args.f.now in
     let ws : List ListWrite = map meant c.args.writes.now in
-    let ready = told_ready c.args.files.now old c.requires.agrees c.requires.complete (g.met.F.Folder.are_bytes c.args.f.now) in
+    let ready = told_ready c.args.files.now old c.requires.is_open (g.met.F.Folder.are_bytes c.args.f.now) in
     let now = g.F.Folder.told c.loop-write.f in
     let reached : Reached old now ws [] = subst (Reached old now ws) (all_done c.args.writes.now c.loop-write.write-index c.loop-write-test.false) c.loop-write.invariant.reached in
     let wrote : Wrote old now ws = done_all c.args.files.now old ws ready c.requires.words now reached in
-    (part_ready c.args.files.now old ws ready c.requires.words now wrote.silent (wrote_part wrote) image there).index
-
-pub returns-clause-agrees : goal.returns-clause-agrees
-returns-clause-agrees g c image there =
-    let old = g.F.Folder.told c.args.f.now in
-    let ws : List ListWrite = map meant c.args.writes.now in
-    let ready = told_ready c.args.files.now old c.requires.agrees c.requires.complete (g.met.F.Folder.are_bytes c.args.f.now) in
-    let now = g.F.Folder.told c.loop-write.f in
-    let reached : Reached old now ws [] = subst (Reached old now ws) (all_done c.args.writes.now c.loop-write.write-index c.loop-write-test.false) c.loop-write.invariant.reached in
-    let wrote : Wrote old now ws = done_all c.args.files.now old ws ready c.requires.words now reached in
-    (part_ready c.args.files.now old ws ready c.requires.words now wrote.silent (wrote_part wrote) image there).agrees
+    part_ready c.args.files.now old ws ready c.requires.words now wrote.silent (wrote_part wrote) image there
 
 pub returns-clause-silent : goal.returns-clause-silent
 returns-clause-silent g c =
     let old = g.F.Folder.told c.args.f.now in
     let ws : List ListWrite = map meant c.args.writes.now in
-    let ready = told_ready c.args.files.now old c.requires.agrees c.requires.complete (g.met.F.Folder.are_bytes c.args.f.now) in
+    let ready = told_ready c.args.files.now old c.requires.is_open (g.met.F.Folder.are_bytes c.args.f.now) in
     let now = g.F.Folder.told c.loop-write.f in
     let reached : Reached old now ws [] = subst (Reached old now ws) (all_done c.args.writes.now c.loop-write.write-index c.loop-write-test.false) c.loop-write.invariant.reached in
     (done_all c.args.files.now old ws ready c.requires.words now reached).silent

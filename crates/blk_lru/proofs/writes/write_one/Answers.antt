@@ -30,3 +30,9 @@ returns-in-Next-clause-steps g c = subst (λ (v : Write). OnOk c.set_link.result
 pub returns-in-Prev-clause-steps : goal.returns-in-Prev-clause-steps
 unfolding write_steps
 returns-in-Prev-clause-steps g c = subst (λ (v : Write). OnOk c.set_link-in-Prev.result (ForSome (g.F.Folder.told c.args.f.now).files (λ from. Applies (g.F.Folder.told c.args.f.now) (g.F.Folder.told c.set_link-in-Prev.new.f) (write_steps (meant v) from)))) (sym c.in-Prev.is) c.set_link-in-Prev.ensures.steps
+
+pub set_link-requires-clause-agrees : goal.set_link-requires-clause-agrees
+set_link-requires-clause-agrees g c image there = (c.requires.is_open image there).agrees
+
+pub set_link-requires-in-Prev-clause-agrees : goal.set_link-requires-in-Prev-clause-agrees
+set_link-requires-in-Prev-clause-agrees g c image there = (c.requires.is_open image there).agrees

@@ -1,0 +1,10 @@
+-- A folder that a call may change.
+use Rattle.blk_image.specs.Image.{Image}
+use Rattle.blk_format.specs.Headers.{HasWholeIndex}
+use Rattle.blk_disk.specs.declared.tables.BlockFiles.{BlockFiles}
+use Rattle.blk_disk.specs.Tables.{Agrees}
+
+-- what is kept of the block files agrees with the folder, and the index has its length
+pub record IsOpen (files : BlockFiles) (image : Image) : Type 0 where
+  pub agrees : Agrees files image
+  pub whole_index : HasWholeIndex image

@@ -1,0 +1,13 @@
+-- The changes of commands: creating, opening, touching, removing, dooming.
+pub mod Created
+pub mod Creating
+pub mod DoomWrites
+pub mod DoomedChanges
+pub mod DoomedObjects
+pub mod Dooming
+pub mod NewItems
+pub mod Opening
+pub mod Removing
+pub mod TouchedStates
+pub mod Touches
+pub mod Unlinking

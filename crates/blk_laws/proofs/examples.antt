@@ -1,0 +1,26 @@
+-- Worked folders, views and states, at which the laws are tried.
+pub mod DamagedParts
+pub mod DamagedViews
+pub mod DoomedFolder
+pub mod ExampleChains
+pub mod ExampleChanges
+pub mod ExampleCovers
+pub mod ExampleDoom
+pub mod ExampleDoomed
+pub mod ExampleFamily
+pub mod ExampleFolders
+pub mod ExampleGrowth
+pub mod ExampleItems
+pub mod ExampleKept
+pub mod ExampleLists
+pub mod ExampleParts
+pub mod ExampleRemoval
+pub mod ExampleUnsettled
+pub mod ExampleUses
+pub mod ExampleWords
+pub mod ExampleWrites
+pub mod OneEntry
+pub mod Premises
+pub mod SmallFolder
+pub mod WholeFolder
+pub mod WholeMarks

@@ -1,0 +1,21 @@
+-- What represents a state, and what stands for one: layouts, dirty words, counters and seals.
+pub mod Bare
+pub mod Central
+pub mod Changing
+pub mod Charges
+pub mod Closing
+pub mod DirtyWords
+pub mod Empty
+pub mod Laid
+pub mod Marking
+pub mod Midst
+pub mod Moving
+pub mod NewFolders
+pub mod OthersHold
+pub mod Replacing
+pub mod Settling
+pub mod Standing
+pub mod StoodFor
+pub mod TidyOrder
+pub mod Tidying
+pub mod Writing

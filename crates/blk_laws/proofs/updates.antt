@@ -1,0 +1,11 @@
+-- Single writes: sealed updates of nodes and records, and words of the index.
+pub mod Counting
+pub mod Fronts
+pub mod IndexWords
+pub mod NodeRecords
+pub mod Nodes
+pub mod Records
+pub mod Sealing
+pub mod StillShown
+pub mod Updates
+pub mod WellFormed
