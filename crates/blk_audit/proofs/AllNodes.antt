@@ -14,7 +14,7 @@ use Rattle.blk_format.proofs.SealedRecords.{node_bytes}
 use Rattle.blk_volume.specs.View.{stands_as}
 use Rattle.blk_format.specs.BlockFiles.{stands_in}
 use Rattle.std.proofs.lemmas.Bool.Decides.{nat_tests}
-use Rattle.blk_laws.proofs.NodeRecords.{checks_bytes}
+use Rattle.blk_laws.proofs.updates.NodeRecords.{checks_bytes}
 use Rattle.blk_disk.proofs.SealedReads.{record_read}
 use Rattle.blk_disk.specs.declared.tables.BlockFiles.{BlockFiles}
 use Rattle.blk_disk.specs.Tables.{Agrees, stands_among, names_among}

@@ -12,8 +12,8 @@ use Rattle.blk_volume.specs.Completion.{counts, completed_list}
 use Rattle.blk_volume.specs.ListPlans.{completion_writes}
 use Rattle.blk_volume.specs.View.{stands_as, checks_at, next_at, prev_at, list_of}
 use Rattle.blk_volume.specs.ListImages.{completed_walk}
-use Rattle.blk_laws.proofs.AtRest.{completions-end}
-use Rattle.blk_laws.proofs.ListCompletions.{walk_outcome}
+use Rattle.blk_laws.proofs.lists.AtRest.{completions-end}
+use Rattle.blk_laws.proofs.lists.ListCompletions.{walk_outcome}
 use Rattle.blk_audit.specs.Changes.{next_written, prev_written, head_written}
 use Rattle.blk_audit.specs.Nodes.{list_in, said_at, AreNodesOf}
 use Rattle.blk_audit.specs.declared.nodes.Node.{Node}

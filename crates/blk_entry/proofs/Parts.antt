@@ -18,10 +18,10 @@ use Rattle.blk_format.specs.Records.{Entry, entry_in, entry_normal, plain, child
 use Rattle.blk_format.specs.Sealed.{AreChanges, IsUpdated, record_at, record_range, seal_place}
 use Rattle.blk_format.proofs.SealedRecords.{length-record, whole_update}
 use Rattle.blk_laws.specs.RecordUpdates.{IsRecord, sealed_fields}
-use Rattle.blk_laws.proofs.Records.{fields-written}
-use Rattle.blk_laws.proofs.StillShown.{core-standing}
-use Rattle.blk_laws.proofs.Updates.{entry-here, entry-seal}
-use Rattle.blk_laws.proofs.WordTurns.{each}
+use Rattle.blk_laws.proofs.updates.Records.{fields-written}
+use Rattle.blk_laws.proofs.updates.StillShown.{core-standing}
+use Rattle.blk_laws.proofs.updates.Updates.{entry-here, entry-seal}
+use Rattle.blk_laws.proofs.lists.WordTurns.{each}
 use Rattle.blk_volume.specs.View.{RecordFields, entry_at, fields_at, fields_of, store_of, stored_at, stands_as}
 use Rattle.blk_volume.specs.ShownChanges.{OnlyRecordFieldsChange}
 use Rattle.blk_volume.specs.Footprint.{IsClear}

@@ -15,10 +15,10 @@ use Rattle.blk_volume.specs.Layout.{Layout, rule_of}
 use Rattle.blk_volume.specs.Loads.{claims_of_loaded}
 use Rattle.blk_volume.specs.Sound.{words_of}
 use Rattle.blk_volume.specs.View.{store_of}
-use Rattle.blk_laws.proofs.Allocations.{IsLoadedBy, all-from, all-stand, each-some, fewer-repeats, join, same-marks, still}
-use Rattle.blk_laws.proofs.Shown.{filter-all}
-use Rattle.blk_laws.proofs.ClaimLists.{claim-append, no-claim, repeats-append}
-use Rattle.blk_laws.proofs.Standing.{claimed-exactly, no-repeats}
+use Rattle.blk_laws.proofs.claims.Allocations.{IsLoadedBy, all-from, all-stand, each-some, fewer-repeats, join, same-marks, still}
+use Rattle.blk_laws.proofs.walks.Shown.{filter-all}
+use Rattle.blk_laws.proofs.claims.ClaimLists.{claim-append, no-claim, repeats-append}
+use Rattle.blk_laws.proofs.states.Standing.{claimed-exactly, no-repeats}
 use Rattle.blk_kept.specs.Arranging.{IsArranged, StatesAreRearranged}
 use Rattle.blk_kept.specs.Keeping.{AreFiles, IsMapped, all_loaded, all_nodes, words_in_use}
 use Rattle.blk_kept.proofs.Headers.{files-same}

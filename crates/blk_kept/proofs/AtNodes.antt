@@ -14,11 +14,11 @@ use Rattle.blk_volume.specs.Footprint.{IsClear, IsFreeBut}
 use Rattle.blk_volume.specs.Layout.{Layout, rule_of}
 use Rattle.blk_volume.specs.Loads.{Loaded, all_claims, record_claims}
 use Rattle.blk_volume.specs.View.{store_of}
-use Rattle.blk_laws.proofs.ClaimLists.{claim-append, contents-claims}
-use Rattle.blk_laws.proofs.Inside.{record-blocky, record-inside}
-use Rattle.blk_laws.proofs.Loads.{load-then}
-use Rattle.blk_laws.proofs.Marking.{repeats-apart}
-use Rattle.blk_laws.proofs.Outside.{AreClear, all-clear}
+use Rattle.blk_laws.proofs.claims.ClaimLists.{claim-append, contents-claims}
+use Rattle.blk_laws.proofs.claims.Inside.{record-blocky, record-inside}
+use Rattle.blk_laws.proofs.walks.Loads.{load-then}
+use Rattle.blk_laws.proofs.states.Marking.{repeats-apart}
+use Rattle.blk_laws.proofs.claims.Outside.{AreClear, all-clear}
 use Rattle.blk_kept.specs.Keeping.{KeepsUncounted}
 use Rattle.blk_kept.specs.RecordLaws.{RecordUpdatesChangeOnly, RecordUpdatesLeaveCounters}
 use Rattle.blk_kept.proofs.Writes.{block-writes}

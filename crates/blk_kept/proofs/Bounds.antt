@@ -26,12 +26,12 @@ use Rattle.blk_volume.specs.Loads.{Loaded}
 use Rattle.blk_volume.specs.Sound.{words_of}
 use Rattle.blk_volume.specs.Tidy.{doomed_nodes}
 use Rattle.blk_volume.specs.View.{RecordFields, address_of, data_size_of, entry_at, fields_of, store_of}
-use Rattle.blk_laws.proofs.ByteChanges.{stands-linked}
-use Rattle.blk_laws.proofs.ChainWords.{shown-fields}
-use Rattle.blk_laws.proofs.Charges.{listed-totals}
-use Rattle.blk_laws.proofs.Loads.{load-then}
-use Rattle.blk_laws.proofs.Standing.{kept-at}
-use Rattle.blk_laws.proofs.StillShown.{standing-parts}
+use Rattle.blk_laws.proofs.claims.ByteChanges.{stands-linked}
+use Rattle.blk_laws.proofs.chains.ChainWords.{shown-fields}
+use Rattle.blk_laws.proofs.states.Charges.{listed-totals}
+use Rattle.blk_laws.proofs.walks.Loads.{load-then}
+use Rattle.blk_laws.proofs.states.Standing.{kept-at}
+use Rattle.blk_laws.proofs.updates.StillShown.{standing-parts}
 use Rattle.blk_kept.specs.BoundLaws.{HaveFewAllocations, KeptAllocationsAreFew}
 use Rattle.blk_kept.specs.Keeping.{KeepsUncounted, all_loaded, all_nodes, words_in_use}
 use Rattle.blk_kept.proofs.Allocating.{used-stand}

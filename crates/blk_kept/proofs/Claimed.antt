@@ -6,8 +6,8 @@ use Rattle.std.proofs.lemmas.Bool.{cases_Bool, or_parts}
 use Rattle.std.proofs.lemmas.List.Sorted.{sum_by-IsPermutation}
 use Rattle.std.proofs.lemmas.List.Sums.{sum_by-cons, sum_by-append}
 use Rattle.blk_format.specs.Claims.{Claim, claims_of, claims_of_all, has_claim, repeats, same_claim}
-use Rattle.blk_laws.proofs.ClaimLists.{claim-head, neither, no-claim}
-use Rattle.blk_laws.proofs.Laid.{same_claim-eq, same_claim-self}
+use Rattle.blk_laws.proofs.claims.ClaimLists.{claim-head, neither, no-claim}
+use Rattle.blk_laws.proofs.states.Laid.{same_claim-eq, same_claim-self}
 
 -- how often a claim stands in a list
 abbrev times_in : Claim → List Claim → ℕ

@@ -27,17 +27,17 @@ use Rattle.blk_volume.specs.ShownChanges.{ShowsTheSame}
 use Rattle.blk_volume.specs.Sound.{AreSealed, words_of}
 use Rattle.blk_volume.specs.Tidy.{doomed_nodes}
 use Rattle.blk_volume.specs.View.{NodeFields, list_of, node_at, node_fields_at, stands_as, store_of, view_of}
-use Rattle.blk_laws.proofs.ByteChanges.{entry-same}
-use Rattle.blk_laws.proofs.Changing.{at-elsewhere, at-itself, same-place}
-use Rattle.blk_laws.proofs.Laid.{is_among-node}
-use Rattle.blk_laws.proofs.Settling.{main-listed, main-owned}
+use Rattle.blk_laws.proofs.claims.ByteChanges.{entry-same}
+use Rattle.blk_laws.proofs.states.Changing.{at-elsewhere, at-itself, same-place}
+use Rattle.blk_laws.proofs.states.Laid.{is_among-node}
+use Rattle.blk_laws.proofs.states.Settling.{main-listed, main-owned}
 use Rattle.blk_model.proofs.Each.{some_within}
 use Rattle.blk_model.specs.Effects.{with_slot}
 use Rattle.std.proofs.Common.{get_or-set_same, get_or-set_other, ◌+◌}
 use Rattle.std.proofs.lemmas.List.Sums.{sum_by-cons}
-use Rattle.blk_laws.proofs.DirtyWords.{written-settles}
-use Rattle.blk_laws.proofs.Standing.{found-at_rest}
-use Rattle.blk_laws.proofs.Touches.{same-represents}
+use Rattle.blk_laws.proofs.states.DirtyWords.{written-settles}
+use Rattle.blk_laws.proofs.states.Standing.{found-at_rest}
+use Rattle.blk_laws.proofs.commands.Touches.{same-represents}
 use Rattle.blk_kept.specs.Arranging.{LeavesFiles}
 use Rattle.blk_kept.specs.Changes.{ChangesOnly, Finds}
 use Rattle.blk_kept.specs.Keeping.{AllAreSealed, AreMarkedBy, KeepsUncounted}

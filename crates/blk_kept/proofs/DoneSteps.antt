@@ -7,9 +7,9 @@ use Rattle.blk_volume.specs.ListImages.{operation_steps, steps_of_touch, walked}
 use Rattle.blk_volume.specs.ListPlans.{touch_writes, writes_of}
 use Rattle.blk_volume.specs.ListSteps.{IsPartly, IsTouched}
 use Rattle.blk_volume.specs.View.{list_of}
-use Rattle.blk_laws.proofs.Sealing.{touches-keep, writes-keep}
-use Rattle.blk_laws.proofs.WordTurns.{inserts-can, inserts-rest, removals-can, removals-rest, touches-in_turn, touches-rest}
-use Rattle.blk_laws.proofs.WriteSteps.{writes-in_turn}
+use Rattle.blk_laws.proofs.updates.Sealing.{touches-keep, writes-keep}
+use Rattle.blk_laws.proofs.lists.WordTurns.{inserts-can, inserts-rest, removals-can, removals-rest, touches-in_turn, touches-rest}
+use Rattle.blk_laws.proofs.lists.WriteSteps.{writes-in_turn}
 use Rattle.blk_kept.specs.DoneLaws.{InsertStepsAreDone, RemovalStepsAreDone, TouchStepsAreDone}
 
 pub touch-done : TouchStepsAreDone

@@ -17,15 +17,15 @@ use Rattle.blk_format.proofs.LinkedHeads.{count_whole, linked_head, HasHead}
 use Rattle.blk_volume.specs.Footprint.{AgreeBut, IsFree}
 use Rattle.blk_volume.specs.Layout.{Represents}
 use Rattle.blk_volume.specs.View.{view_of}
-use Rattle.blk_laws.proofs.ByteChanges.{agreeing-views, covered-agrees, not_equal, same-links, stands-same, stands-some}
-use Rattle.blk_laws.proofs.ClaimLists.{claim-append, claim-head}
-use Rattle.blk_laws.proofs.Covers.{covers-either, covers-more, externals-covered, hidden-covered}
-use Rattle.blk_laws.proofs.IndexWords.{others-unchecked}
-use Rattle.blk_laws.proofs.Laid.{same_claim-self}
+use Rattle.blk_laws.proofs.claims.ByteChanges.{agreeing-views, covered-agrees, not_equal, same-links, stands-same, stands-some}
+use Rattle.blk_laws.proofs.claims.ClaimLists.{claim-append, claim-head}
+use Rattle.blk_laws.proofs.claims.Covers.{covers-either, covers-more, externals-covered, hidden-covered}
+use Rattle.blk_laws.proofs.updates.IndexWords.{others-unchecked}
+use Rattle.blk_laws.proofs.states.Laid.{same_claim-self}
 use Rattle.std.proofs.lemmas.Bool.{or_from}
-use Rattle.blk_laws.proofs.Outside.{represents-outside}
-use Rattle.blk_laws.proofs.Standing.{found-at_rest}
-use Rattle.blk_laws.proofs.WellFormed.{well_formed_still}
+use Rattle.blk_laws.proofs.claims.Outside.{represents-outside}
+use Rattle.blk_laws.proofs.states.Standing.{found-at_rest}
+use Rattle.blk_laws.proofs.updates.WellFormed.{well_formed_still}
 use Rattle.blk_kept.specs.Changes.{SameHeaders, StaysLinked}
 use Rattle.blk_kept.specs.ExternalLaws.{IsMakingExternal, MakingFilesFindsTheSame, MadeFilesAreAdded, DeletingFilesFindsTheSame, DeletedFilesAreRemoved}
 use Rattle.blk_kept.specs.Keeping.{IsMapped, all_loaded, words_in_use}

@@ -25,14 +25,14 @@ use Rattle.blk_volume.specs.StandsFor.{AreNumbers, IsOwner}
 use Rattle.blk_volume.specs.Tidy.{doomed_nodes}
 use Rattle.blk_volume.specs.View.{view_of}
 use Rattle.blk_laws.specs.CommandLaws.{IsPlacedAsDoomed}
-use Rattle.blk_laws.proofs.Allocations.{join, words-claims, words-stand}
-use Rattle.blk_laws.proofs.ByteChanges.{not_equal}
-use Rattle.blk_laws.proofs.Changing.{apart-sym, at-elsewhere, at-itself}
-use Rattle.blk_laws.proofs.ClaimLists.{claim-append, repeats-append}
-use Rattle.blk_laws.proofs.DoomedChanges.{gone-doomed, handles-not_shown}
-use Rattle.blk_laws.proofs.Laid.{is_among-node}
-use Rattle.blk_laws.proofs.Lists.{Distinct-without, has_not}
-use Rattle.blk_laws.proofs.Settling.{main-listed}
+use Rattle.blk_laws.proofs.claims.Allocations.{join, words-claims, words-stand}
+use Rattle.blk_laws.proofs.claims.ByteChanges.{not_equal}
+use Rattle.blk_laws.proofs.states.Changing.{apart-sym, at-elsewhere, at-itself}
+use Rattle.blk_laws.proofs.claims.ClaimLists.{claim-append, repeats-append}
+use Rattle.blk_laws.proofs.commands.DoomedChanges.{gone-doomed, handles-not_shown}
+use Rattle.blk_laws.proofs.states.Laid.{is_among-node}
+use Rattle.blk_laws.proofs.lists.Lists.{Distinct-without, has_not}
+use Rattle.blk_laws.proofs.states.Settling.{main-listed}
 use Rattle.blk_kept.specs.CommandStates.{with_names}
 use Rattle.blk_kept.specs.Arranging.{IsArranged, LeavesFiles}
 use Rattle.blk_kept.specs.GoneLaws.{GoneObjectsAreNotCounted, GoneObjectsAreUnlinked, layout_without, owner_without}

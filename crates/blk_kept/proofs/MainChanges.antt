@@ -11,8 +11,8 @@ use Rattle.blk_model.specs.Items.{Item, main, main_row, part, Shape, Streams, sa
 use Rattle.blk_model.specs.State.{State, Object, IsValidState, object_at, has_item, slot_has_item}
 use Rattle.blk_model.proofs.Slots.{first_with_found}
 use Rattle.blk_volume.specs.Layout.{settled_with}
-use Rattle.blk_laws.proofs.Changing.{first_with-set}
-use Rattle.blk_laws.proofs.Owner.{IsOwned, owned}
+use Rattle.blk_laws.proofs.states.Changing.{first_with-set}
+use Rattle.blk_laws.proofs.claims.Owner.{IsOwned, owned}
 use Rattle.blk_kept.specs.PartStates.{MainsChangeAlone}
 use Rattle.blk_kept.proofs.NotAtRest.{within-slots}
 use Rattle.blk_model.specs.Holding as model

@@ -42,23 +42,23 @@ use Rattle.blk_volume.specs.Sound.{AreSealed, words_of}
 use Rattle.blk_volume.specs.StandsFor.{IsOwner}
 use Rattle.blk_volume.specs.Tidy.{doomed_nodes}
 use Rattle.blk_volume.specs.View.{RecordFields, StoreView, View, list_of, stands_as, store_of, view_of}
-use Rattle.blk_laws.proofs.Allocations.{words-claims}
-use Rattle.blk_laws.proofs.Central.{walk-order}
-use Rattle.blk_laws.proofs.ChainWords.{shown-fields}
-use Rattle.blk_laws.proofs.Changing.{at-elsewhere, at-itself}
-use Rattle.blk_laws.proofs.ClaimLists.{claim-append}
-use Rattle.blk_laws.proofs.Created.{at-each-write, at-end, creates-rest}
-use Rattle.blk_laws.proofs.Creating.{new-lacks, order-after, push-back, uses-after}
-use Rattle.blk_laws.proofs.IndexWords.{same-shown}
-use Rattle.blk_laws.proofs.Laid.{IsNodeOf, is_among-node, node-of, repeats-tail}
-use Rattle.blk_laws.proofs.Loads.{load-then}
-use Rattle.blk_laws.proofs.Marking.{repeats-apart}
-use Rattle.blk_laws.proofs.Settling.{main-listed, main-owned}
-use Rattle.blk_laws.proofs.Standing.{found-at_rest}
-use Rattle.blk_laws.proofs.StillShown.{core-standing}
-use Rattle.blk_laws.proofs.Tidying.{counter-same, record-bytes, sealed-still, touch_range, touch_sizes, touch_spares}
-use Rattle.blk_laws.proofs.WordTurns.{inserts-can}
-use Rattle.blk_laws.proofs.WriteSteps.{checked-kind}
+use Rattle.blk_laws.proofs.claims.Allocations.{words-claims}
+use Rattle.blk_laws.proofs.states.Central.{walk-order}
+use Rattle.blk_laws.proofs.chains.ChainWords.{shown-fields}
+use Rattle.blk_laws.proofs.states.Changing.{at-elsewhere, at-itself}
+use Rattle.blk_laws.proofs.claims.ClaimLists.{claim-append}
+use Rattle.blk_laws.proofs.commands.Created.{at-each-write, at-end, creates-rest}
+use Rattle.blk_laws.proofs.commands.Creating.{new-lacks, order-after, push-back, uses-after}
+use Rattle.blk_laws.proofs.updates.IndexWords.{same-shown}
+use Rattle.blk_laws.proofs.states.Laid.{IsNodeOf, is_among-node, node-of, repeats-tail}
+use Rattle.blk_laws.proofs.walks.Loads.{load-then}
+use Rattle.blk_laws.proofs.states.Marking.{repeats-apart}
+use Rattle.blk_laws.proofs.states.Settling.{main-listed, main-owned}
+use Rattle.blk_laws.proofs.states.Standing.{found-at_rest}
+use Rattle.blk_laws.proofs.updates.StillShown.{core-standing}
+use Rattle.blk_laws.proofs.states.Tidying.{counter-same, record-bytes, sealed-still, touch_range, touch_sizes, touch_spares}
+use Rattle.blk_laws.proofs.lists.WordTurns.{inserts-can}
+use Rattle.blk_laws.proofs.lists.WriteSteps.{checked-kind}
 use Rattle.blk_kept.specs.Arranging.{IsArranged, LeavesFiles}
 use Rattle.blk_kept.specs.Changes.{Finds}
 use Rattle.blk_kept.specs.Keeping.{AllAreSealed, AreMarkedBy, KeepsUncounted, all_loaded, all_nodes, words_in_use}

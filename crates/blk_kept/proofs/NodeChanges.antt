@@ -19,10 +19,10 @@ use Rattle.blk_volume.specs.Sound.{words_of}
 use Rattle.blk_volume.specs.StandsFor.{AreNumbers, IsOwner}
 use Rattle.blk_volume.specs.Tidy.{doomed_nodes}
 use Rattle.blk_volume.specs.View.{view_of}
-use Rattle.blk_laws.proofs.Allocations.{all-from, join, repeats-head, words-claims, words-stand}
-use Rattle.blk_laws.proofs.Changing.{apart-sym, at-elsewhere, at-itself}
-use Rattle.blk_laws.proofs.ClaimLists.{repeats-append}
-use Rattle.blk_laws.proofs.Lists.{has_not}
+use Rattle.blk_laws.proofs.claims.Allocations.{all-from, join, repeats-head, words-claims, words-stand}
+use Rattle.blk_laws.proofs.states.Changing.{apart-sym, at-elsewhere, at-itself}
+use Rattle.blk_laws.proofs.claims.ClaimLists.{repeats-append}
+use Rattle.blk_laws.proofs.lists.Lists.{has_not}
 use Rattle.std.proofs.lemmas.Grind.{flat_map-append}
 use Rattle.blk_kept.specs.Arranging.{IsArranged, LeavesFiles}
 use Rattle.blk_kept.specs.Keeping.{AllAreSealed, AreMarkedBy, KeepsUncounted, all_loaded, all_nodes, words_in_use}

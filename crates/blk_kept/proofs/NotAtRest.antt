@@ -17,8 +17,8 @@ use Rattle.blk_model.proofs.Doomed.{dead_has}
 use Rattle.blk_model.proofs.Same.{one_item}
 use Rattle.blk_model.proofs.Slots.{first_with_found}
 use Rattle.blk_volume.specs.Removal.{is_of_another}
-use Rattle.blk_laws.proofs.Changing.{first_with-set}
-use Rattle.blk_laws.proofs.Owner.{IsOwned, filter_map-same, its-key, live, owned}
+use Rattle.blk_laws.proofs.states.Changing.{first_with-set}
+use Rattle.blk_laws.proofs.claims.Owner.{IsOwned, filter_map-same, its-key, live, owned}
 use Rattle.blk_kept.specs.CommandStates.{IsUnsettled, KeepsOthers, amidst, with_names}
 use Rattle.blk_kept.specs.StopLaws.{DoomedObjectsAreNotAtRest, HandlesAreNotAtRest, OwnUsesKeepOthers, UnsettledObjectsAreNotAtRest}
 

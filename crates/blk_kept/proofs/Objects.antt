@@ -20,16 +20,16 @@ use Rattle.blk_volume.specs.Loads.{Loaded, all_claims}
 use Rattle.blk_volume.specs.Sound.{AreSealed, words_of}
 use Rattle.blk_volume.specs.Tidy.{doomed_nodes}
 use Rattle.blk_volume.specs.View.{view_of}
-use Rattle.blk_laws.proofs.Allocations.{words-claims}
-use Rattle.blk_laws.proofs.ByteChanges.{agreeing-views}
-use Rattle.blk_laws.proofs.Changing.{apart-sym, at-elsewhere, at-itself}
-use Rattle.blk_laws.proofs.ClaimLists.{claim-append, repeats-append}
-use Rattle.blk_laws.proofs.DoomedChanges.{changed-doomed, doomed-rest, handles-not_shown}
-use Rattle.blk_laws.proofs.Laid.{is_among-node, repeats-tail}
-use Rattle.blk_laws.proofs.Marking.{repeats-apart}
-use Rattle.blk_laws.proofs.Replacing.{replaced}
-use Rattle.blk_laws.proofs.Settling.{main-listed}
-use Rattle.blk_laws.proofs.Writing.{moment-rest}
+use Rattle.blk_laws.proofs.claims.Allocations.{words-claims}
+use Rattle.blk_laws.proofs.claims.ByteChanges.{agreeing-views}
+use Rattle.blk_laws.proofs.states.Changing.{apart-sym, at-elsewhere, at-itself}
+use Rattle.blk_laws.proofs.claims.ClaimLists.{claim-append, repeats-append}
+use Rattle.blk_laws.proofs.commands.DoomedChanges.{changed-doomed, doomed-rest, handles-not_shown}
+use Rattle.blk_laws.proofs.states.Laid.{is_among-node, repeats-tail}
+use Rattle.blk_laws.proofs.states.Marking.{repeats-apart}
+use Rattle.blk_laws.proofs.states.Replacing.{replaced}
+use Rattle.blk_laws.proofs.states.Settling.{main-listed}
+use Rattle.blk_laws.proofs.states.Writing.{moment-rest}
 use Rattle.blk_kept.specs.Arranging.{LeavesFiles}
 use Rattle.blk_kept.specs.Changes.{ChangesOnly}
 use Rattle.blk_kept.specs.Keeping.{AllAreSealed, AreMarkedBy, KeepsUncounted}

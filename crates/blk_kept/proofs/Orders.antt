@@ -17,7 +17,7 @@ use Rattle.blk_model.proofs.Chosen.{settled_chooses}
 use Rattle.blk_model.proofs.EvictedFirst.{StaysOrNobody, after-first, each-stays, each_same, evictions-stop, left_nobody, long, settled_left}
 use Rattle.blk_model.proofs.Leads.{is_close, step_leads}
 use Rattle.blk_model.proofs.StopRests.{picked_before}
-use Rattle.blk_laws.proofs.Owner.{filter_map-same}
+use Rattle.blk_laws.proofs.claims.Owner.{filter_map-same}
 use Rattle.blk_kept.specs.CommandStates.{MayLeave, in_order, with_room}
 use Rattle.blk_kept.specs.StopLaws.{OrdersMayBeLeft, RoomMayBeLeft, UsesGoOn, UsesMayBeLeft, WhatIsLeftMayStop}
 

@@ -24,8 +24,8 @@ use Rattle.blk_model.specs.State.{State, Object, IsValidState, IsObject, object_
 use Rattle.blk_model.proofs.Slots.{first_with_found, owners-set}
 use Rattle.blk_model.proofs.Owners.{only_owner}
 use Rattle.blk_volume.specs.Layout.{settled_with}
-use Rattle.blk_laws.proofs.Changing.{first_with-set}
-use Rattle.blk_laws.proofs.Owner.{IsOwned, owned}
+use Rattle.blk_laws.proofs.states.Changing.{first_with-set}
+use Rattle.blk_laws.proofs.claims.Owner.{IsOwned, owned}
 use Rattle.blk_kept.specs.PartStates.{NewPartsKeepValid, PartsAreLeftOut, PartsChangeAlone, with_value}
 use Rattle.blk_kept.proofs.NotAtRest.{within-slots}
 use Rattle.blk_model.specs.Holding as model

@@ -17,15 +17,15 @@ use Rattle.blk_volume.specs.ListView.{Distinct, IsAtRest}
 use Rattle.blk_volume.specs.Loads.{held_rule}
 use Rattle.blk_volume.specs.Completion.{remove}
 use Rattle.blk_volume.specs.View.{StoreView, View, list_of, store_of, view_of}
-use Rattle.blk_laws.proofs.Central.{settled-is_test, walk-idle}
-use Rattle.blk_laws.proofs.DoomWrites.{removal-walks, removed-once}
-use Rattle.blk_laws.proofs.DoomedObjects.{listed-rest}
-use Rattle.blk_laws.proofs.Opening.{IsAround, around}
-use Rattle.blk_laws.proofs.OthersHold.{represented-but}
-use Rattle.blk_laws.proofs.Owner.{filter_map-same, settled-picked}
-use Rattle.blk_laws.proofs.Removing.{removed-rows}
-use Rattle.blk_laws.proofs.Touches.{same-represents}
-use Rattle.blk_laws.proofs.Walks.{walk_list}
+use Rattle.blk_laws.proofs.states.Central.{settled-is_test, walk-idle}
+use Rattle.blk_laws.proofs.commands.DoomWrites.{removal-walks, removed-once}
+use Rattle.blk_laws.proofs.commands.DoomedObjects.{listed-rest}
+use Rattle.blk_laws.proofs.commands.Opening.{IsAround, around}
+use Rattle.blk_laws.proofs.states.OthersHold.{represented-but}
+use Rattle.blk_laws.proofs.claims.Owner.{filter_map-same, settled-picked}
+use Rattle.blk_laws.proofs.commands.Removing.{removed-rows}
+use Rattle.blk_laws.proofs.commands.Touches.{same-represents}
+use Rattle.blk_laws.proofs.lists.Walks.{walk_list}
 use Rattle.blk_kept.specs.WordStops.{PartOutIsGone, PartsFindEither}
 use Rattle.blk_kept.proofs.NotAtRest.{filter_map-on}
 use Rattle.blk_kept.proofs.Touching.{found-kept}

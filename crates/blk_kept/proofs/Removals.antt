@@ -32,27 +32,27 @@ use Rattle.blk_volume.specs.Sound.{AreSealed, words_of}
 use Rattle.blk_volume.specs.Tidy.{doomed_nodes}
 use Rattle.blk_volume.specs.View.{StoreView, list_of, store_of, view_of}
 use Rattle.blk_volume.specs.Walk.{walk}
-use Rattle.blk_laws.proofs.AtRest.{removals-turn}
-use Rattle.blk_laws.proofs.ByteChanges.{stands-some}
-use Rattle.blk_laws.proofs.Central.{rest-found, walk-idle}
-use Rattle.blk_laws.proofs.Changing.{apart-sym, at-elsewhere, at-itself, same-place}
-use Rattle.blk_laws.proofs.ClaimLists.{contents-claims, some-claim}
-use Rattle.blk_laws.proofs.DoomedObjects.{listed-rest}
-use Rattle.blk_laws.proofs.Laid.{IsNodeOf, is_among-node, node-of}
-use Rattle.blk_laws.proofs.ListCompletions.{listed}
-use Rattle.blk_laws.proofs.Lists.{Distinct-without}
-use Rattle.blk_laws.proofs.Opening.{IsAround, around, nodes-append}
-use Rattle.blk_laws.proofs.OthersHold.{chained-only, others-unlinked}
-use Rattle.blk_laws.proofs.Removing.{in-filter}
-use Rattle.blk_laws.proofs.Settling.{main-listed}
-use Rattle.blk_laws.proofs.Walks.{walk_list}
+use Rattle.blk_laws.proofs.lists.AtRest.{removals-turn}
+use Rattle.blk_laws.proofs.claims.ByteChanges.{stands-some}
+use Rattle.blk_laws.proofs.states.Central.{rest-found, walk-idle}
+use Rattle.blk_laws.proofs.states.Changing.{apart-sym, at-elsewhere, at-itself, same-place}
+use Rattle.blk_laws.proofs.claims.ClaimLists.{contents-claims, some-claim}
+use Rattle.blk_laws.proofs.commands.DoomedObjects.{listed-rest}
+use Rattle.blk_laws.proofs.states.Laid.{IsNodeOf, is_among-node, node-of}
+use Rattle.blk_laws.proofs.lists.ListCompletions.{listed}
+use Rattle.blk_laws.proofs.lists.Lists.{Distinct-without}
+use Rattle.blk_laws.proofs.commands.Opening.{IsAround, around, nodes-append}
+use Rattle.blk_laws.proofs.states.OthersHold.{chained-only, others-unlinked}
+use Rattle.blk_laws.proofs.commands.Removing.{in-filter}
+use Rattle.blk_laws.proofs.states.Settling.{main-listed}
+use Rattle.blk_laws.proofs.lists.Walks.{walk_list}
 use Rattle.blk_model.specs.Totals.{is_doomed_slot}
 use Rattle.blk_volume.specs.Footprint.{IsOnlyRecord}
-use Rattle.blk_laws.proofs.StillShown.{standing-parts}
-use Rattle.blk_laws.proofs.Tidying.{counter-same, sealed-still, touch_range, touch_sizes, touch_spares}
-use Rattle.blk_laws.proofs.Touches.{shows-same}
-use Rattle.blk_laws.proofs.Unlinking.{lies-less}
-use Rattle.blk_laws.proofs.WordTurns.{removals-can}
+use Rattle.blk_laws.proofs.updates.StillShown.{standing-parts}
+use Rattle.blk_laws.proofs.states.Tidying.{counter-same, sealed-still, touch_range, touch_sizes, touch_spares}
+use Rattle.blk_laws.proofs.commands.Touches.{shows-same}
+use Rattle.blk_laws.proofs.commands.Unlinking.{lies-less}
+use Rattle.blk_laws.proofs.lists.WordTurns.{removals-can}
 use Rattle.blk_kept.specs.Arranging.{LeavesFiles}
 use Rattle.blk_kept.specs.Changes.{Finds}
 use Rattle.blk_kept.specs.GoneLaws.{owner_without}

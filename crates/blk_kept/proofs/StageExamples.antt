@@ -17,12 +17,12 @@ use Rattle.blk_model.proofs.StopRests.{rest_before}
 use Rattle.blk_volume.specs.Removal.{is_of_another}
 use Rattle.blk_volume.specs.StandsFor.{StandsFor}
 use Rattle.blk_volume.specs.View.{store_of, view_of}
-use Rattle.blk_laws.proofs.ExampleDoomed.{doomed_layout, doomed_object, doomed_state}
-use Rattle.blk_laws.proofs.DoomedFolder.{doomed_folder}
-use Rattle.blk_laws.proofs.IndexWords.{same-shown}
-use Rattle.blk_laws.proofs.OneEntry as one
-use Rattle.blk_laws.proofs.OthersHold.{represented-but}
-use Rattle.blk_laws.proofs.WholeFolder.{whole_folder}
+use Rattle.blk_laws.proofs.examples.ExampleDoomed.{doomed_layout, doomed_object, doomed_state}
+use Rattle.blk_laws.proofs.examples.DoomedFolder.{doomed_folder}
+use Rattle.blk_laws.proofs.updates.IndexWords.{same-shown}
+use Rattle.blk_laws.proofs.examples.OneEntry as one
+use Rattle.blk_laws.proofs.states.OthersHold.{represented-but}
+use Rattle.blk_laws.proofs.examples.WholeFolder.{whole_folder}
 use Rattle.blk_kept.specs.Changes.{Finds, StillFinds}
 use Rattle.blk_kept.specs.Commands.{IsStepped, MayStop}
 use Rattle.blk_kept.specs.Keeping.{Keeps}

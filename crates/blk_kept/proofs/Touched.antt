@@ -20,12 +20,12 @@ use Rattle.blk_volume.specs.Sound.{words_of}
 use Rattle.blk_volume.specs.StandsFor.{IsOwner}
 use Rattle.blk_volume.specs.Tidy.{doomed_nodes, loaded_at}
 use Rattle.blk_volume.specs.View.{list_of, store_of, view_of}
-use Rattle.blk_laws.proofs.ListCompletions.{listed}
-use Rattle.blk_laws.proofs.Moving.{moved-among, moved-distinct, moved-same, sums-add}
-use Rattle.blk_laws.proofs.Opening.{IsAround, around, nodes-append}
-use Rattle.blk_laws.proofs.Tidying.{counter-same, sealed-still, touch_range, touch_sizes, touch_spares}
-use Rattle.blk_laws.proofs.Touches.{touched-items-end}
-use Rattle.blk_laws.proofs.WordTurns.{touches-can}
+use Rattle.blk_laws.proofs.lists.ListCompletions.{listed}
+use Rattle.blk_laws.proofs.states.Moving.{moved-among, moved-distinct, moved-same, sums-add}
+use Rattle.blk_laws.proofs.commands.Opening.{IsAround, around, nodes-append}
+use Rattle.blk_laws.proofs.states.Tidying.{counter-same, sealed-still, touch_range, touch_sizes, touch_spares}
+use Rattle.blk_laws.proofs.commands.Touches.{touched-items-end}
+use Rattle.blk_laws.proofs.lists.WordTurns.{touches-can}
 use Rattle.blk_kept.specs.Arranging.{IsArranged, LeavesFiles}
 use Rattle.blk_kept.specs.Keeping.{AreMarkedBy, KeepsUncounted, all_loaded, all_nodes, words_in_use}
 use Rattle.blk_kept.specs.ListLaws.{IsTouchDone, TouchesKeepTheState, TouchesKeepTheCounters, with_used}

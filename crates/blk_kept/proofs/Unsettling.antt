@@ -18,7 +18,7 @@ use Rattle.blk_model.proofs.Evicted.{evicted_are_loose, state_without}
 use Rattle.blk_model.proofs.EvictedFirst.{evictions-first}
 use Rattle.blk_model.proofs.Steps.{room_for_is_loose}
 use Rattle.blk_laws.specs.CommandLaws.{turned}
-use Rattle.blk_laws.proofs.DirtyWords.{after-turning}
+use Rattle.blk_laws.proofs.states.DirtyWords.{after-turning}
 use Rattle.blk_kept.specs.CommandStates.{IsUnsettled, KeepsOthers, MayLeave, Unsettles, amidst, with_room}
 use Rattle.blk_kept.specs.StopLaws.{OthersMayBeLeftOnceUnsettled, OthersMayBeLeftWhileDoomed}
 use Rattle.blk_kept.proofs.NotAtRest.{doomed-rest, unsettled-rest, within-slots}

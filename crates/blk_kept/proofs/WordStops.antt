@@ -24,12 +24,12 @@ use Rattle.blk_volume.specs.ListView.{ListWrite, after_writes}
 use Rattle.blk_volume.specs.Loads.{held_rule}
 use Rattle.blk_volume.specs.View.{View, list_of, store_of, view_of}
 use Rattle.blk_laws.specs.CommandLaws.{marked}
-use Rattle.blk_laws.proofs.Central.{walk-idle}
-use Rattle.blk_laws.proofs.DoomWrites.{dooms-moments, doomed-parts}
-use Rattle.blk_laws.proofs.Dooming.{dooms-keep}
-use Rattle.blk_laws.proofs.OthersHold.{others-outside}
-use Rattle.blk_laws.proofs.Touches.{same-represents}
-use Rattle.blk_laws.proofs.Walks.{walk_list}
+use Rattle.blk_laws.proofs.states.Central.{walk-idle}
+use Rattle.blk_laws.proofs.commands.DoomWrites.{dooms-moments, doomed-parts}
+use Rattle.blk_laws.proofs.commands.Dooming.{dooms-keep}
+use Rattle.blk_laws.proofs.states.OthersHold.{others-outside}
+use Rattle.blk_laws.proofs.commands.Touches.{same-represents}
+use Rattle.blk_laws.proofs.lists.Walks.{walk_list}
 use Rattle.blk_kept.specs.Changes.{Finds}
 use Rattle.blk_kept.specs.Commands.{MayStop}
 use Rattle.blk_kept.specs.CommandStates.{MayLeave, amidst, in_order, with_room}

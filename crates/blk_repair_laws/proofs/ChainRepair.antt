@@ -27,14 +27,14 @@ use Rattle.blk_volume.specs.Found.{kept, found, row_of_loaded}
 use Rattle.blk_volume.specs.Footprint.{IsClear}
 use Rattle.blk_volume.specs.ListImages.{IsWritable, walked}
 use Rattle.blk_volume.specs.ShownChanges.{OnlyChainNextChanges}
-use Rattle.blk_laws.proofs.Central.{walk-idle}
-use Rattle.blk_laws.proofs.Walked.{walk-once}
+use Rattle.blk_laws.proofs.states.Central.{walk-idle}
+use Rattle.blk_laws.proofs.lists.Walked.{walk-once}
 use Rattle.blk_repair_laws.proofs.ListRepair.{append-one}
-use Rattle.blk_laws.proofs.ChainLinks.{others-stay}
+use Rattle.blk_laws.proofs.chains.ChainLinks.{others-stay}
 use Rattle.blk_format.proofs.Finished.{well_formed-finished}
-use Rattle.blk_laws.proofs.ListWrites.{put-here, put-else}
-use Rattle.blk_laws.proofs.Outside.{AreClear}
-use Rattle.blk_laws.proofs.Shown.{kept-given, is_among-filter}
+use Rattle.blk_laws.proofs.lists.ListWrites.{put-here, put-else}
+use Rattle.blk_laws.proofs.claims.Outside.{AreClear}
+use Rattle.blk_laws.proofs.walks.Shown.{kept-given, is_among-filter}
 use Rattle.blk_volume.specs.Audit.{kept_as, is_kept, kept_nodes}
 use Rattle.blk_repair_laws.specs.ListRepair.{HoldsTheSame}
 use Rattle.blk_repair_laws.proofs.Paths.{Path, IsPath, skip}
@@ -45,10 +45,10 @@ use Rattle.blk_repair_laws.proofs.RecordSeals.{keeps-none, keeps-more, word-keep
 use Rattle.blk_repair_laws.proofs.Same.{chain-same, of_bucket-same}
 use Rattle.blk_volume.specs.ShownChanges.{ShowsTheSame}
 use Rattle.blk_repair_laws.proofs.Frames.{OnlyLinks, apart-clear, own-clear, load-chained, IsRecordOf, record-of, load-linked}
-use Rattle.blk_laws.proofs.Kept.{kept-shown}
+use Rattle.blk_laws.proofs.walks.Kept.{kept-shown}
 use Rattle.blk_repair_laws.proofs.Paths.{on-path, chain-path, chain-stays, skip-path, skip-few, skip-has, skip-once, suffix-once, suffix-few, suffix-has, path-linked, suffix-apart, skip-apart, path-suffix, path-whole, end-suffix}
 use Rattle.blk_repair_laws.proofs.RecordWords.{record-sealed_next, BucketWritten, bucket-written, shown-small, IsMidNext, next-along, next-done, links-only, others-chain_next, buckets-same, elsewhere-chain_next}
-use Rattle.blk_laws.proofs.ChainWords.{IsShownOf, shown-of}
+use Rattle.blk_laws.proofs.chains.ChainWords.{IsShownOf, shown-of}
 
 clash : true ≡ false → ⊥
 clash e = cc

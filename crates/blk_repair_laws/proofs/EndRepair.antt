@@ -8,10 +8,10 @@ use Rattle.blk_volume.specs.Completion.{completed_list}
 use Rattle.blk_volume.specs.ListPlans.{AtEachWrite}
 use Rattle.blk_volume.specs.Walk.{walk, walk_from}
 use Rattle.blk_volume.specs.ListView.{IsAtRest}
-use Rattle.blk_laws.proofs.Central.{walk-idle}
-use Rattle.blk_laws.proofs.ListCompletions.{at_moment}
-use Rattle.blk_laws.proofs.Lists.{reend, eqb-sym}
-use Rattle.blk_laws.proofs.Walks.{Fresh, walk_list}
+use Rattle.blk_laws.proofs.states.Central.{walk-idle}
+use Rattle.blk_laws.proofs.lists.ListCompletions.{at_moment}
+use Rattle.blk_laws.proofs.lists.Lists.{reend, eqb-sym}
+use Rattle.blk_laws.proofs.lists.Walks.{Fresh, walk_list}
 use Rattle.blk_repair_laws.specs.EndRepair.{unless, end_writes_of, end_writes, EndsAreMended}
 
 -- what was not met, with one more node met

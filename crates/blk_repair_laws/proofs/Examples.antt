@@ -19,17 +19,17 @@ use Rattle.blk_volume.specs.Found.{kept, found}
 use Rattle.blk_volume.specs.Layout.{Represents}
 use Rattle.blk_volume.specs.StandsFor.{StandsFor}
 use Rattle.blk_volume.specs.ListImages.{IsWritable, completed_walk, operation_steps}
-use Rattle.blk_laws.proofs.ExampleFolders.{whole-is_kept, whole-is_sound}
-use Rattle.blk_laws.proofs.ExampleUses.{whole-writable}
-use Rattle.blk_laws.proofs.ExampleWrites.{small-zeros}
+use Rattle.blk_laws.proofs.examples.ExampleFolders.{whole-is_kept, whole-is_sound}
+use Rattle.blk_laws.proofs.examples.ExampleUses.{whole-writable}
+use Rattle.blk_laws.proofs.examples.ExampleWrites.{small-zeros}
 use Rattle.blk_format.proofs.Finished.{whole_index}
-use Rattle.blk_laws.proofs.Fronts.{AreSmall, small-take, small-words}
-use Rattle.blk_laws.proofs.SmallFolder.{cut_to, cut_is_well_formed, cut_is_walked, cut_is_kept}
-use Rattle.blk_laws.proofs.WholeFolder.{whole_folder, whole-is_well_formed, whole-linked}
+use Rattle.blk_laws.proofs.updates.Fronts.{AreSmall, small-take, small-words}
+use Rattle.blk_laws.proofs.examples.SmallFolder.{cut_to, cut_is_well_formed, cut_is_walked, cut_is_kept}
+use Rattle.blk_laws.proofs.examples.WholeFolder.{whole_folder, whole-is_well_formed, whole-linked}
 use Rattle.blk_repair_laws.specs.ListRepair.{HoldsTheSame, HasRemoved, IsListMended, dropped_nodes, ended_image, without}
 use Rattle.blk_repair_laws.specs.ChainRepair.{HasChainsUpTo}
 use Rattle.blk_repair_laws.specs.RecordSeals.{KeepsRecordsSealed}
-use Rattle.blk_laws.proofs.OneEntry as one
+use Rattle.blk_laws.proofs.examples.OneEntry as one
 use Rattle.blk_repair_laws.specs.LinkRepair.{link_repair_steps}
 use Rattle.blk_repair_laws.specs.MendedLinks.{HasMendedLinks, kept_layout}
 use Rattle.blk_repair_laws.specs.MendedChanges.{KeepsMendedLinks}
@@ -46,7 +46,7 @@ use Rattle.blk_repair_laws.proofs.RecordSeals.{words-behind}
 use Rattle.blk_repair_laws.proofs.KeptRecords.{kept-nodes-check, kept-records-check}
 use Rattle.blk_repair_laws.proofs.ChainRepair.{buckets-mended}
 use Rattle.blk_repair_laws.specs.ChainRepair.{IsStandingRecord, chain_steps, is_kept_record, kept_records}
-use Rattle.blk_laws.proofs.Allocations.{sound-allocated}
+use Rattle.blk_laws.proofs.claims.Allocations.{sound-allocated}
 use Rattle.blk_image.specs.Footprint.{one_word}
 use Rattle.blk_format.specs.Address.{rankings, blocks_256}
 use Rattle.blk_format.specs.Claims.{Claim, ExternalOf, has_claim}

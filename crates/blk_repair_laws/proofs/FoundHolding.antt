@@ -26,12 +26,12 @@ use Rattle.blk_volume.specs.Loads.{held_rule, Loaded, load, is_part, is_part_rol
 use Rattle.blk_volume.specs.Audit.{shares_key, is_parent_of, is_parent_role, kept_among}
 use Rattle.blk_volume.specs.Shown.{Apart, HasParentIn, IsShown}
 use Rattle.blk_volume.specs.Found.{kept, found, row_of_loaded}
-use Rattle.blk_laws.proofs.Loads.{load-then}
-use Rattle.blk_laws.proofs.Shown.{is_among-filter, role-name}
+use Rattle.blk_laws.proofs.walks.Loads.{load-then}
+use Rattle.blk_laws.proofs.walks.Shown.{is_among-filter, role-name}
 use Rattle.blk_repair_laws.specs.FoundHolding.{FoundIsAHolding}
 use Rattle.blk_volume.specs.Audit.{kept_as, is_kept, kept_nodes}
-use Rattle.blk_laws.proofs.Walked.{walk-once}
-use Rattle.blk_laws.proofs.Kept.{kept-shown}
+use Rattle.blk_laws.proofs.lists.Walked.{walk-once}
+use Rattle.blk_laws.proofs.walks.Kept.{kept-shown}
 use Rattle.blk_repair_laws.proofs.Rows.{row-is}
 
 module _ (image : Image) (are : AreBytes image) where

@@ -14,11 +14,11 @@ use Rattle.blk_volume.specs.Entries.{is_key_length, stored_key, stored_stream, s
 use Rattle.blk_volume.specs.Loads.{Rule, held_rule, Loaded, load, record_claims, all_claims}
 use Rattle.blk_volume.specs.Shown.{Apart}
 use Rattle.blk_volume.specs.Footprint.{IsClear}
-use Rattle.blk_laws.proofs.ClaimLists.{contents-claims}
-use Rattle.blk_laws.proofs.Laid.{same_claim-eq}
-use Rattle.blk_laws.proofs.Loads.{load-then}
-use Rattle.blk_laws.proofs.Loading.{load-from}
-use Rattle.blk_laws.proofs.Outside.{AreClear, all-clear, index-claims}
+use Rattle.blk_laws.proofs.claims.ClaimLists.{contents-claims}
+use Rattle.blk_laws.proofs.states.Laid.{same_claim-eq}
+use Rattle.blk_laws.proofs.walks.Loads.{load-then}
+use Rattle.blk_laws.proofs.walks.Loading.{load-from}
+use Rattle.blk_laws.proofs.claims.Outside.{AreClear, all-clear, index-claims}
 
 -- ---- claims
 

@@ -14,13 +14,13 @@ use Rattle.blk_volume.specs.Loads.{held_rule, Loaded, load}
 use Rattle.blk_volume.specs.Audit.{kept_among, kept_as, is_kept, kept_nodes}
 use Rattle.blk_volume.specs.Found.{kept}
 use Rattle.blk_volume.specs.ListImages.{IsWritable}
-use Rattle.blk_laws.proofs.ChainWords as words
-use Rattle.blk_laws.proofs.Kept.{kept-shown, kept-nodes}
-use Rattle.blk_laws.proofs.ListWrites.{checks_stay, checks_out}
-use Rattle.blk_laws.proofs.NodeRecords as nodes
-use Rattle.blk_laws.proofs.Shown.{is_among-filter}
-use Rattle.blk_laws.proofs.StillShown.{standing-parts, core-standing}
-use Rattle.blk_laws.proofs.Walked.{walk-once, walks-distinct}
+use Rattle.blk_laws.proofs.chains.ChainWords as words
+use Rattle.blk_laws.proofs.walks.Kept.{kept-shown, kept-nodes}
+use Rattle.blk_laws.proofs.lists.ListWrites.{checks_stay, checks_out}
+use Rattle.blk_laws.proofs.updates.NodeRecords as nodes
+use Rattle.blk_laws.proofs.walks.Shown.{is_among-filter}
+use Rattle.blk_laws.proofs.updates.StillShown.{standing-parts, core-standing}
+use Rattle.blk_laws.proofs.lists.Walked.{walk-once, walks-distinct}
 use Rattle.blk_repair_laws.specs.ChainRepair.{is_kept_record, IsStandingRecord, KeptNodesCheck, KeptRecordsCheck}
 use Rattle.blk_repair_laws.proofs.Frames.{IsRecordOf, record-of}
 

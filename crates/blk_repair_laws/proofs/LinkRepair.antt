@@ -22,10 +22,10 @@ use Rattle.blk_volume.specs.Audit.{kept_among}
 use Rattle.blk_volume.specs.Found.{kept}
 use Rattle.blk_volume.specs.ListView.{IsAtRest}
 use Rattle.blk_volume.specs.ListImages.{IsWritable, walked, HasListAtRest}
-use Rattle.blk_laws.proofs.Central.{walk-idle}
-use Rattle.blk_laws.proofs.Bare.{no-record}
-use Rattle.blk_laws.proofs.Chains.{chain-is}
-use Rattle.blk_laws.proofs.Walks.{walk_list}
+use Rattle.blk_laws.proofs.states.Central.{walk-idle}
+use Rattle.blk_laws.proofs.states.Bare.{no-record}
+use Rattle.blk_laws.proofs.chains.Chains.{chain-is}
+use Rattle.blk_laws.proofs.lists.Walks.{walk_list}
 use Rattle.blk_volume.specs.Audit.{kept_nodes}
 use Rattle.blk_repair_laws.specs.ListRepair.{list_repair_steps, HoldsTheSame, IsListMended}
 use Rattle.blk_repair_laws.specs.ChainRepair.{is_kept_record, kept_records, chain_repair_steps, AreChainsMended}
@@ -34,7 +34,7 @@ use Rattle.blk_repair_laws.proofs.RecordSeals.{keeps-more}
 use Rattle.blk_repair_laws.specs.MendedLinks.{HasMendedLinks}
 use Rattle.blk_repair_laws.specs.LinkRepair.{link_repair_steps, stopped_repair, LinkRepairsMayBeStopped, LinksAreRepaired, MendedChainsAreMendedLinks}
 use Rattle.blk_repair_laws.proofs.ChainRepair.{chains-repaired}
-use Rattle.blk_laws.proofs.Kept.{kept-nodes}
+use Rattle.blk_laws.proofs.walks.Kept.{kept-nodes}
 use Rattle.blk_repair_laws.proofs.ListRepair.{holds-trans, lists-repaired}
 
 filter-again : (test : ℕ → Bool) (xs : List ℕ) → filter test (filter test xs) ≡ filter test xs

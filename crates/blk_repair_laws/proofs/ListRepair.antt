@@ -25,24 +25,24 @@ use Rattle.blk_volume.specs.ListView.{IsAtRest}
 use Rattle.blk_volume.specs.ListSteps.{IsPartly, steps_of_writes}
 use Rattle.blk_volume.specs.ListImages.{IsWritable, CanBeMade, IsCompleted, walked, completed_walk, HasListAtRest, operation_steps, completion_steps}
 use Rattle.blk_volume.specs.ShownChanges.{ShowsTheSame}
-use Rattle.blk_laws.proofs.ChainSizes.{unchanged}
-use Rattle.blk_laws.proofs.Central.{walk-idle}
-use Rattle.blk_laws.proofs.Adding.{shows-both}
-use Rattle.blk_laws.proofs.AtRest.{removals-turn}
-use Rattle.blk_laws.proofs.IndexWords.{same-shown}
-use Rattle.blk_laws.proofs.Lists.{is_among-append, eqb-sym}
-use Rattle.blk_laws.proofs.Walks.{walk_list}
-use Rattle.blk_laws.proofs.Shown.{is_among-filter}
-use Rattle.blk_laws.proofs.WordStops.{completions-done, completions-can}
-use Rattle.blk_laws.proofs.WordTurns.{removals-can, removals-rest}
-use Rattle.blk_laws.proofs.ListWrites.{completion_keeps}
-use Rattle.blk_laws.proofs.ListCompletions.{at_moment, walk_outcome, last_good}
-use Rattle.blk_laws.proofs.WriteSteps.{checked-small, writes_show, writes-go_on, WritesShow}
+use Rattle.blk_laws.proofs.chains.ChainSizes.{unchanged}
+use Rattle.blk_laws.proofs.states.Central.{walk-idle}
+use Rattle.blk_laws.proofs.lists.Adding.{shows-both}
+use Rattle.blk_laws.proofs.lists.AtRest.{removals-turn}
+use Rattle.blk_laws.proofs.updates.IndexWords.{same-shown}
+use Rattle.blk_laws.proofs.lists.Lists.{is_among-append, eqb-sym}
+use Rattle.blk_laws.proofs.lists.Walks.{walk_list}
+use Rattle.blk_laws.proofs.walks.Shown.{is_among-filter}
+use Rattle.blk_laws.proofs.lists.WordStops.{completions-done, completions-can}
+use Rattle.blk_laws.proofs.lists.WordTurns.{removals-can, removals-rest}
+use Rattle.blk_laws.proofs.lists.ListWrites.{completion_keeps}
+use Rattle.blk_laws.proofs.lists.ListCompletions.{at_moment, walk_outcome, last_good}
+use Rattle.blk_laws.proofs.lists.WriteSteps.{checked-small, writes_show, writes-go_on, WritesShow}
 use Rattle.blk_repair_laws.specs.EndRepair.{unless, end_writes_of, end_writes}
 use Rattle.blk_volume.specs.Audit.{is_kept, kept_nodes}
 use Rattle.blk_repair_laws.specs.ListRepair.{end_steps, removal_steps, dropped_nodes, completed_image, ended_image, list_repair_steps, HoldsTheSame, IsListMended, ListsAreRepaired, CompletedListsAreEnded, ListsAtRestNeedNoEnd, without, is_first, DroppedNodesAreTheOthers, HasLeft, HasRemoved, RemovalsBegin, KeptNodesArePassed, OtherNodesAreRemoved, RemovalsEnd}
 use Rattle.blk_repair_laws.proofs.EndRepair.{IsWalked, walked-is, ends-mended}
-use Rattle.blk_laws.proofs.Kept.{kept-without, kept-alone, kept-nodes}
+use Rattle.blk_laws.proofs.walks.Kept.{kept-without, kept-alone, kept-nodes}
 use Rattle.blk_repair_laws.specs.RecordSeals.{KeepsRecordsSealed}
 use Rattle.blk_repair_laws.proofs.RecordSeals.{keeps-none, keeps-more, writes-keep}
 use Rattle.blk_repair_laws.proofs.Same.{holds-from, shown-same}

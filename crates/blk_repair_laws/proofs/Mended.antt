@@ -17,18 +17,18 @@ use Rattle.blk_volume.specs.View.{list_of, store_of, view_of}
 use Rattle.blk_volume.specs.Chains.{Chain, chain}
 use Rattle.blk_volume.specs.Completion.{completed_list}
 use Rattle.blk_volume.specs.Reasons.{Reason}
-use Rattle.blk_laws.proofs.Central.{walk-idle}
-use Rattle.blk_laws.proofs.Central.{filter-none}
-use Rattle.blk_laws.proofs.Chains.{chain-is}
-use Rattle.blk_laws.proofs.Central.{flat_map-none}
-use Rattle.blk_laws.proofs.Loads.{load-then}
+use Rattle.blk_laws.proofs.states.Central.{walk-idle}
+use Rattle.blk_laws.proofs.states.Central.{filter-none}
+use Rattle.blk_laws.proofs.chains.Chains.{chain-is}
+use Rattle.blk_laws.proofs.states.Central.{flat_map-none}
+use Rattle.blk_laws.proofs.walks.Loads.{load-then}
 use Rattle.blk_volume.specs.Loads.{held_rule, listed_rule, Loaded, all_claims, claims_of_loaded}
 use Rattle.blk_volume.specs.Audit.{kept_by, dropped_among, unlisted, is_unlisted, unlisted_in}
 use Rattle.blk_volume.specs.Sound.{IsInOrder, IsSound, CountersAgree, AreSealed, words_of}
 use Rattle.blk_volume.specs.StandsFor.{IsOwner, AllIsOwned, StandsFor}
 use Rattle.blk_model.proofs.Opened.{open_valid}
-use Rattle.blk_laws.proofs.ClaimLists.{claim-append, no-claim}
-use Rattle.blk_laws.proofs.Standing.{stands-for}
+use Rattle.blk_laws.proofs.claims.ClaimLists.{claim-append, no-claim}
+use Rattle.blk_laws.proofs.states.Standing.{stands-for}
 use Rattle.blk_repair_laws.specs.Mended.{IsMended, MendedFoldersStandFor, MendedFoldersAreSound}
 use Rattle.blk_repair_laws.proofs.OneOwner.{kept-claim_once}
 use Rattle.blk_repair_laws.proofs.FoundHolding.{found-holding}
@@ -36,9 +36,9 @@ use Rattle.blk_volume.specs.Shown.{IsShown}
 use Rattle.blk_volume.specs.Found.{kept, found, dropped, completed}
 use Rattle.blk_volume.specs.Layout.{Layout, order}
 use Rattle.blk_volume.specs.ListImages.{walked}
-use Rattle.blk_laws.proofs.Bare.{no-record}
-use Rattle.blk_laws.proofs.Loading.{load-rule}
-use Rattle.blk_laws.proofs.Shown.{kept-given, dropped-none}
+use Rattle.blk_laws.proofs.states.Bare.{no-record}
+use Rattle.blk_laws.proofs.walks.Loading.{load-rule}
+use Rattle.blk_laws.proofs.walks.Shown.{kept-given, dropped-none}
 use Rattle.blk_volume.specs.Audit.{kept_as}
 use Rattle.blk_repair_laws.specs.ChainRepair.{is_kept_record, kept_records, KeepsAll}
 use Rattle.blk_repair_laws.specs.MendedLinks.{HasMendedLinks, first_with, node_with, kept_layout}

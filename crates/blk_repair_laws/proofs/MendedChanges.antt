@@ -15,13 +15,13 @@ use Rattle.blk_format.specs.Headers.{head_checks, list_checks}
 use Rattle.blk_format.specs.Claims.{ExternalOf, same_claim}
 use Rattle.blk_format.specs.Sealed.{IsMidUpdate, record_at, seal_place}
 use Rattle.blk_volume.specs.ListImages.{IsWritable}
-use Rattle.blk_laws.proofs.Covers.{externals-covered}
-use Rattle.blk_laws.proofs.Files.{unlinked-go}
-use Rattle.blk_laws.proofs.IndexWords.{others-hidden, others-unchecked, same-shown}
-use Rattle.blk_laws.proofs.Laid.{same_claim-eq}
-use Rattle.blk_laws.proofs.Nodes.{times-hidden}
-use Rattle.blk_laws.proofs.Walked.{walks-distinct}
-use Rattle.blk_laws.proofs.WellFormed.{well_formed_still}
+use Rattle.blk_laws.proofs.claims.Covers.{externals-covered}
+use Rattle.blk_laws.proofs.claims.Files.{unlinked-go}
+use Rattle.blk_laws.proofs.updates.IndexWords.{others-hidden, others-unchecked, same-shown}
+use Rattle.blk_laws.proofs.states.Laid.{same_claim-eq}
+use Rattle.blk_laws.proofs.updates.Nodes.{times-hidden}
+use Rattle.blk_laws.proofs.lists.Walked.{walks-distinct}
+use Rattle.blk_laws.proofs.updates.WellFormed.{well_formed_still}
 use Rattle.std.proofs.lemmas.Bool.{eq-eqb, or_left, or_right, or_cases, cases_eq, cases_Bool}
 use Rattle.std.proofs.lemmas.Bool.Decides.{eqb_tells}
 use Rattle.std.proofs.Math.Dec.{eqb}
@@ -44,31 +44,31 @@ use Rattle.blk_volume.specs.Footprint.{IsClear, SameBut}
 use Rattle.blk_volume.specs.Sound.{words_of}
 use Rattle.blk_volume.specs.ListImages.{walked, HasListAtRest}
 use Rattle.blk_volume.specs.ShownChanges.{OnlyListChanges, OnlyChainNextChanges}
-use Rattle.blk_laws.proofs.Inside.{updates-inside}
-use Rattle.blk_laws.proofs.Nodes.{good-stands}
-use Rattle.blk_laws.proofs.Records.{follows-written}
-use Rattle.blk_laws.proofs.StillShown.{standing-parts, core-standing}
+use Rattle.blk_laws.proofs.claims.Inside.{updates-inside}
+use Rattle.blk_laws.proofs.updates.Nodes.{good-stands}
+use Rattle.blk_laws.proofs.updates.Records.{follows-written}
+use Rattle.blk_laws.proofs.updates.StillShown.{standing-parts, core-standing}
 use Rattle.blk_repair_laws.proofs.Frames.{IsRecordOf, record-of, apart-clear, own-clear, load-linked}
 use Rattle.blk_repair_laws.proofs.RecordWords.{links-only, buckets-same}
-use Rattle.blk_laws.proofs.ChainWords.{IsShownOf, shown-of, same-chain_next}
-use Rattle.blk_laws.proofs.Allocations.{words-stand, words-claims}
-use Rattle.blk_laws.proofs.Bare.{no-record}
-use Rattle.blk_laws.proofs.Chains.{chain-is}
-use Rattle.blk_laws.proofs.ClaimLists.{claim-append, no-claim}
-use Rattle.blk_laws.proofs.ByteChanges.{agreeing-views, views-same}
+use Rattle.blk_laws.proofs.chains.ChainWords.{IsShownOf, shown-of, same-chain_next}
+use Rattle.blk_laws.proofs.claims.Allocations.{words-stand, words-claims}
+use Rattle.blk_laws.proofs.states.Bare.{no-record}
+use Rattle.blk_laws.proofs.chains.Chains.{chain-is}
+use Rattle.blk_laws.proofs.claims.ClaimLists.{claim-append, no-claim}
+use Rattle.blk_laws.proofs.claims.ByteChanges.{agreeing-views, views-same}
 use Rattle.blk_format.proofs.Finished.{well_formed-finished}
-use Rattle.blk_laws.proofs.Loading.{load-rule, load-clean}
-use Rattle.blk_laws.proofs.Outside.{AreClear, all-clear, load-outside, linked-same, list-outside}
-use Rattle.blk_laws.proofs.Shown.{kept-given}
-use Rattle.blk_laws.proofs.Walks.{walk_list}
+use Rattle.blk_laws.proofs.walks.Loading.{load-rule, load-clean}
+use Rattle.blk_laws.proofs.claims.Outside.{AreClear, all-clear, load-outside, linked-same, list-outside}
+use Rattle.blk_laws.proofs.walks.Shown.{kept-given}
+use Rattle.blk_laws.proofs.lists.Walks.{walk_list}
 use Rattle.blk_volume.specs.Audit.{kept_as}
 use Rattle.blk_repair_laws.specs.ChainRepair.{kept_records, KeepsAll}
 use Rattle.blk_volume.specs.Footprint.{is_absent}
 use Rattle.blk_repair_laws.specs.MendedLinks.{HasMendedLinks}
 use Rattle.blk_repair_laws.specs.MendedChanges.{KeepsMendedLinks, RepairedLinksAreKept, MendedLinksGoOn, LinksAreMidRepair, MendedLinksAreMidRepair, IsUnkept, MendedLinksStayOutside, MendedLinksMayGrow, UnlinkedFilesMayBeDeleted, UnclaimedFilesMayChange, HiddenWordsMayChange, KeptNodesMayBeSealed, KeptRecordsMayBeSealed}
 use Rattle.blk_repair_laws.proofs.ChainRepair.{shown, given-some, kept-from, IsKeptRecord, of-test}
-use Rattle.blk_laws.proofs.Files.{growth-absent, words-there}
-use Rattle.blk_laws.proofs.Kept.{kept-nodes}
+use Rattle.blk_laws.proofs.claims.Files.{growth-absent, words-there}
+use Rattle.blk_laws.proofs.walks.Kept.{kept-nodes}
 use Rattle.blk_repair_laws.proofs.LinkRepair.{rest-kept, records-still, kept-walked}
 use Rattle.blk_repair_laws.proofs.MendedLinks.{chain-has-test, has-chain-of, node-at}
 

@@ -29,11 +29,11 @@ use Rattle.blk_volume.specs.Shown.{HasParentIn}
 use Rattle.blk_volume.specs.Found.{kept, found, row_of_loaded}
 use Rattle.blk_volume.specs.Layout.{Layout, is_in, is_listed, order, HasDirtyMark, HasParentAt, IsPlacedAt, IsLayoutOf, Shows, Represents}
 use Rattle.blk_volume.specs.ListImages.{walked}
-use Rattle.blk_laws.proofs.Bare.{no-record}
+use Rattle.blk_laws.proofs.states.Bare.{no-record}
 use Rattle.blk_format.proofs.Finished.{well_formed-finished}
-use Rattle.blk_laws.proofs.Laid.{parent-main}
-use Rattle.blk_laws.proofs.Loading.{load-rule, load-clean}
-use Rattle.blk_laws.proofs.Shown.{is_among-filter, node-is}
+use Rattle.blk_laws.proofs.states.Laid.{parent-main}
+use Rattle.blk_laws.proofs.walks.Loading.{load-rule, load-clean}
+use Rattle.blk_laws.proofs.walks.Shown.{is_among-filter, node-is}
 use Rattle.blk_volume.specs.Audit.{kept_as}
 use Rattle.blk_repair_laws.specs.ChainRepair.{is_kept_record, kept_records, KeepsAll}
 use Rattle.blk_repair_laws.specs.MendedLinks.{HasMendedLinks, first_with, kept_layout, MendedLinksRepresent}

@@ -22,7 +22,7 @@ use Rattle.blk_volume.specs.Found.{kept}
 use Rattle.blk_volume.specs.Sound as sound
 use Rattle.blk_volume.specs.Sound.{OnlyLinked, words_of, CountersAgree}
 use Rattle.blk_volume.specs.Tidy.{FilesStand}
-use Rattle.blk_laws.proofs.ByteChanges.{same-links}
+use Rattle.blk_laws.proofs.claims.ByteChanges.{same-links}
 use Rattle.std.specs.List.{sum_by}
 use Rattle.std.specs.Prelude.{◌∷◌}
 use Rattle.blk_image.specs.Bytes.{word_at}
@@ -31,10 +31,10 @@ use Rattle.blk_volume.specs.Loads.{held_rule}
 use Rattle.blk_volume.specs.View.{store_of}
 use Rattle.blk_volume.specs.Found.{charge_of}
 use Rattle.blk_format.specs.Claims.{is_in_file}
-use Rattle.blk_laws.proofs.Allocations.{all-claims, all-stand, kept-loads, same-marks}
-use Rattle.blk_laws.proofs.Counting.{files-stand}
-use Rattle.blk_laws.proofs.Files.{unlinked-go}
-use Rattle.blk_laws.proofs.IndexWords.{beside, not-among}
+use Rattle.blk_laws.proofs.claims.Allocations.{all-claims, all-stand, kept-loads, same-marks}
+use Rattle.blk_laws.proofs.updates.Counting.{files-stand}
+use Rattle.blk_laws.proofs.claims.Files.{unlinked-go}
+use Rattle.blk_laws.proofs.updates.IndexWords.{beside, not-among}
 use Rattle.std.proofs.lemmas.Bool.Decides.{nat_tests}
 use Rattle.blk_format.specs.BlockFiles.{is_among}
 use Rattle.blk_repair_laws.specs.Mended.{HasMendedFiles}

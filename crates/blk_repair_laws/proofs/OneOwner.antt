@@ -14,11 +14,11 @@ use Rattle.blk_volume.specs.Loads.{held_rule, Loaded, all_claims, claims_of_load
 use Rattle.blk_volume.specs.Audit.{kept_among, kept_as, is_kept, kept_nodes}
 use Rattle.blk_volume.specs.Shown.{IsShown}
 use Rattle.blk_volume.specs.Found.{kept}
-use Rattle.blk_laws.proofs.ClaimLists.{claim-append, no-claim, repeats-append}
-use Rattle.blk_laws.proofs.Kept.{kept-shown}
-use Rattle.blk_laws.proofs.Shown.{is_among-filter}
-use Rattle.blk_laws.proofs.Walked.{walk-once}
-use Rattle.blk_laws.proofs.Changing.{apart-sym}
+use Rattle.blk_laws.proofs.claims.ClaimLists.{claim-append, no-claim, repeats-append}
+use Rattle.blk_laws.proofs.walks.Kept.{kept-shown}
+use Rattle.blk_laws.proofs.walks.Shown.{is_among-filter}
+use Rattle.blk_laws.proofs.lists.Walked.{walk-once}
+use Rattle.blk_laws.proofs.states.Changing.{apart-sym}
 use Rattle.blk_repair_laws.specs.FoundHolding.{KeptClaimOnce}
 use Rattle.blk_repair_laws.proofs.Frames.{apart-claim}
 use Rattle.blk_repair_laws.proofs.OwnClaims.{all-once}

@@ -15,10 +15,10 @@ use Rattle.blk_format.specs.Records.{entry_in}
 use Rattle.blk_volume.specs.View.{RecordFields, NodeFields, fields_of, entry_at, store_of, node_fields_at, fields_at, stored_at, stands_as, data_size_of, address_of}
 use Rattle.blk_volume.specs.Entries.{stored_key, stored_stream, stored_streams}
 use Rattle.blk_volume.specs.Loads.{Rule, Loaded, load, record_claims, all_claims}
-use Rattle.blk_laws.proofs.Allocations.{storage-of_none}
-use Rattle.blk_laws.proofs.ByteChanges.{stands-linked}
-use Rattle.blk_laws.proofs.ClaimLists.{claim-append, no-claim, repeats-append}
-use Rattle.blk_laws.proofs.Loads.{load-then}
+use Rattle.blk_laws.proofs.claims.Allocations.{storage-of_none}
+use Rattle.blk_laws.proofs.claims.ByteChanges.{stands-linked}
+use Rattle.blk_laws.proofs.claims.ClaimLists.{claim-append, no-claim, repeats-append}
+use Rattle.blk_laws.proofs.walks.Loads.{load-then}
 
 -- a word that isn't 0 stands, and not as a node
 abbrev IsNoNode : Image → ℕ → Type 0

@@ -9,8 +9,8 @@ use Rattle.blk_format.specs.BlockFiles.{is_among}
 use Rattle.blk_volume.specs.ListView.{Distinct, first_or}
 use Rattle.blk_volume.specs.View.{StoreView}
 use Rattle.blk_volume.specs.Chains.{chain, chain_from, is_of_bucket, is_reached, file_and_block, Linked}
-use Rattle.blk_laws.proofs.Changing.{apart-sym}
-use Rattle.blk_laws.proofs.Walks.{Fresh, Fresh-none, Fresh-more}
+use Rattle.blk_laws.proofs.states.Changing.{apart-sym}
+use Rattle.blk_laws.proofs.lists.Walks.{Fresh, Fresh-none, Fresh-more}
 use Rattle.std.specs.Prelude.{◌≡◌, ℕ, ◌≤◌, List, [], ◌∷◌, length, map, Bool, true, if◌then◌else◌}
 use Rattle.blk_volume.specs.ListView.{Distinct}
 use Rattle.blk_volume.specs.View.{StoreView}

@@ -14,13 +14,13 @@ use Rattle.blk_format.specs.BlockFiles.{linked_as, stands_in}
 use Rattle.blk_format.specs.Sealed.{BeginsWithRecord, IsUpdated, is_sealed, record_at, record_range, record_size, seal_by_kind, seal_place, size_by_kind}
 use Rattle.blk_format.proofs.SealedFields.{updated_seal}
 use Rattle.blk_format.proofs.SealedRecords.{node_seal, node_bytes, entry_bytes}
-use Rattle.blk_laws.proofs.ByteChanges.{stands-linked}
-use Rattle.blk_laws.proofs.ChainWords.{record-at}
+use Rattle.blk_laws.proofs.claims.ByteChanges.{stands-linked}
+use Rattle.blk_laws.proofs.chains.ChainWords.{record-at}
 use Rattle.blk_image.specs.Image.{External}
 use Rattle.blk_image.specs.Footprint.{range, whole}
 use Rattle.blk_image.specs.Steps.{Delete}
 use Rattle.blk_format.proofs.SpareHeaders.{SparesHeaders, blocks_spare}
-use Rattle.blk_laws.proofs.Sealing.{node_at_place, range_apart}
+use Rattle.blk_laws.proofs.updates.Sealing.{node_at_place, range_apart}
 use Rattle.blk_image.specs.Image.{Index}
 use Rattle.blk_image.specs.Steps.{TrailStep, Word, word_step, applied, after}
 use Rattle.blk_image.specs.Bytes.{word_bytes}
@@ -41,13 +41,13 @@ use Rattle.std.proofs.lemmas.Bool.{and_parts, leb-true}
 use Rattle.std.proofs.lemmas.List.Elements.{All-cons}
 use Rattle.std.specs.Option.{unwrap_or}
 use Rattle.blk_image.specs.Image.{length_of}
-use Rattle.blk_laws.proofs.ByteChanges.{stands-blocks}
-use Rattle.blk_laws.proofs.IndexWords.{stands-still}
-use Rattle.blk_laws.proofs.Inside.{updates-inside}
-use Rattle.blk_laws.proofs.NodeRecords as nodes
-use Rattle.blk_laws.proofs.Nodes.{good-stands}
-use Rattle.blk_laws.proofs.StillShown.{standing-parts}
-use Rattle.blk_laws.proofs.WriteSteps.{first_can, one_write, rest_can, writable-after}
+use Rattle.blk_laws.proofs.claims.ByteChanges.{stands-blocks}
+use Rattle.blk_laws.proofs.updates.IndexWords.{stands-still}
+use Rattle.blk_laws.proofs.claims.Inside.{updates-inside}
+use Rattle.blk_laws.proofs.updates.NodeRecords as nodes
+use Rattle.blk_laws.proofs.updates.Nodes.{good-stands}
+use Rattle.blk_laws.proofs.updates.StillShown.{standing-parts}
+use Rattle.blk_laws.proofs.lists.WriteSteps.{first_can, one_write, rest_can, writable-after}
 use Rattle.blk_repair_laws.specs.RecordSeals.{GrowthLeavesSeals, UnlinkedFilesLeaveSeals, ExternalFilesLeaveSeals, RecordsAreBehindHeaders, IndexWordsAreBehindHeaders, IsSealedAt, KeepsRecordsSealed, SealsAreMade, SealsStand}
 
 -- ---- one seal

@@ -23,15 +23,15 @@ use Rattle.blk_volume.specs.Chains.{bucket_of_hash, file_and_block, is_of_bucket
 use Rattle.blk_laws.specs.IndexWrites.{IsIndexWord}
 use Rattle.blk_volume.specs.ListImages.{IsWritable}
 use Rattle.blk_volume.specs.ShownChanges.{OnlyChainNextChanges}
-use Rattle.blk_laws.proofs.ChainWords.{shown-of, shown-fields, shown-kind, same-fields, record_checks}
+use Rattle.blk_laws.proofs.chains.ChainWords.{shown-of, shown-fields, shown-kind, same-fields, record_checks}
 use Rattle.blk_format.proofs.Finished.{whole_index}
-use Rattle.blk_laws.proofs.IndexWords.{buckets-written, buckets-unchecked}
-use Rattle.blk_laws.proofs.Inside.{updates-inside}
-use Rattle.blk_laws.proofs.NodeRecords.{are_bytes-word}
-use Rattle.blk_laws.proofs.Records.{follows-written}
-use Rattle.blk_laws.proofs.StillShown.{standing-parts, core-standing}
-use Rattle.blk_laws.proofs.Updates.{entry-seal}
-use Rattle.blk_laws.proofs.WriteSteps.{stands-small, writable-sealed}
+use Rattle.blk_laws.proofs.updates.IndexWords.{buckets-written, buckets-unchecked}
+use Rattle.blk_laws.proofs.claims.Inside.{updates-inside}
+use Rattle.blk_laws.proofs.updates.NodeRecords.{are_bytes-word}
+use Rattle.blk_laws.proofs.updates.Records.{follows-written}
+use Rattle.blk_laws.proofs.updates.StillShown.{standing-parts, core-standing}
+use Rattle.blk_laws.proofs.updates.Updates.{entry-seal}
+use Rattle.blk_laws.proofs.lists.WriteSteps.{stands-small, writable-sealed}
 use Rattle.blk_repair_laws.specs.RecordSeals.{KeepsRecordsSealed}
 use Rattle.blk_repair_laws.proofs.RecordSeals.{record-fits, update-keeps}
 use Rattle.blk_repair_laws.proofs.Frames.{OnlyLinks}

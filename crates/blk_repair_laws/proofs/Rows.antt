@@ -24,9 +24,9 @@ use Rattle.blk_volume.specs.View.{RecordFields, store_of, stored_at, key_place_a
 use Rattle.blk_volume.specs.Entries.{Role, IsPlain, IsParent, IsPart, is_key_length, longest_key_with, stored_key, stored_stream, stored_streams, stream, parent_role, part_role, role_of, is_covered}
 use Rattle.blk_volume.specs.Loads.{Rule, Loaded, load, is_part_role}
 use Rattle.blk_volume.specs.Found.{row_of_loaded}
-use Rattle.blk_laws.proofs.Fronts.{AreSmall, small-take, small-range}
-use Rattle.blk_laws.proofs.Loads.{load-then}
-use Rattle.blk_laws.proofs.Shown.{role-part}
+use Rattle.blk_laws.proofs.updates.Fronts.{AreSmall, small-take, small-range}
+use Rattle.blk_laws.proofs.walks.Loads.{load-then}
+use Rattle.blk_laws.proofs.walks.Shown.{role-part}
 
 bytes-of : (xs : List ℕ) → AreSmall xs → IsBytes xs
 bytes-of xs small = All-from_get_or (λ b. b < 256) xs 0 (λ i within. small i)

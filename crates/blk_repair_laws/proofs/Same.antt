@@ -16,8 +16,8 @@ use Rattle.std.specs.Prelude.{map}
 use Rattle.blk_volume.specs.ShownChanges.{ShowsTheSame}
 use Rattle.blk_volume.specs.ListImages.{IsWritable, completed_walk}
 use Rattle.blk_format.proofs.Finished.{well_formed-finished}
-use Rattle.blk_laws.proofs.FoundFrames.{kept_among-same}
-use Rattle.blk_laws.proofs.Outside.{key-same, streams-same}
+use Rattle.blk_laws.proofs.walks.FoundFrames.{kept_among-same}
+use Rattle.blk_laws.proofs.claims.Outside.{key-same, streams-same}
 use Rattle.blk_repair_laws.specs.ListRepair.{HoldsTheSame}
 
 module _ (v u : StoreView) (entry : (w : ℕ) → v.entry w ≡ u.entry w) (chain_next : (w : ℕ) → v.chain_next w ≡ u.chain_next w) where

@@ -17,9 +17,9 @@ use Rattle.blk_volume.specs.View.{entry_at}
 use Rattle.blk_volume.specs.Loads.{Loaded}
 use Rattle.blk_volume.specs.Sound as sound
 use Rattle.blk_volume.specs.Found.{kept}
-use Rattle.blk_laws.proofs.Fronts.{AreSmall, small-take, small-range, same-entry, front-words, front-range}
-use Rattle.blk_laws.proofs.Sealing.{sealed_bytes}
-use Rattle.blk_laws.proofs.Updates.{entry-here}
+use Rattle.blk_laws.proofs.updates.Fronts.{AreSmall, small-take, small-range, same-entry, front-words, front-range}
+use Rattle.blk_laws.proofs.updates.Sealing.{sealed_bytes}
+use Rattle.blk_laws.proofs.updates.Updates.{entry-here}
 use Rattle.blk_repair_laws.specs.ChainRepair.{is_kept_record, IsStandingRecord}
 use Rattle.blk_repair_laws.specs.MendedParts.{KeptAreSealed}
 use Rattle.blk_repair_laws.proofs.KeptRecords.{kept-nodes-check, kept-records-check}

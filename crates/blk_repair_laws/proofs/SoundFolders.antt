@@ -21,11 +21,11 @@ use Rattle.blk_volume.specs.Found.{kept, dropped, completed}
 use Rattle.blk_volume.specs.Sound.{EndsWhole, IsSound, CountersAgree, AreSealed, words_of}
 use Rattle.blk_volume.specs.ListImages.{walked, completion_steps, HasListAtRest}
 use Rattle.blk_image.specs.Steps.{TrailStep, after}
-use Rattle.blk_laws.proofs.Central.{walk-idle}
-use Rattle.blk_laws.proofs.ChainWords.{IsShownOf, shown-of}
-use Rattle.blk_laws.proofs.Kept.{tried-among, kept-nodes}
-use Rattle.blk_laws.proofs.Loads.{load-then}
-use Rattle.blk_laws.proofs.Walked.{walk-once}
+use Rattle.blk_laws.proofs.states.Central.{walk-idle}
+use Rattle.blk_laws.proofs.chains.ChainWords.{IsShownOf, shown-of}
+use Rattle.blk_laws.proofs.walks.Kept.{tried-among, kept-nodes}
+use Rattle.blk_laws.proofs.walks.Loads.{load-then}
+use Rattle.blk_laws.proofs.lists.Walked.{walk-once}
 use Rattle.blk_repair_laws.specs.ChainRepair.{is_kept_record, kept_records, chain_steps, chains_steps, chain_repair_steps, KeepsAll}
 use Rattle.blk_repair_laws.specs.ListRepair.{without, dropped_nodes, end_steps, removal_steps, list_repair_steps}
 use Rattle.blk_repair_laws.specs.LinkRepair.{MendedLinksNeedNoSteps}

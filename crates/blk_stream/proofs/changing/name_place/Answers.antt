@@ -10,7 +10,7 @@ use Rattle.blk_format.specs.Sealed.{IsUpdated, record_at, sealed, sealed_steps, 
 use Rattle.blk_io.proofs.Carried.{silent_part, told_at_end}
 use Rattle.blk_disk.proofs.SealedWrites.{front_read}
 use Rattle.blk_format.proofs.SealedRecords.{entry_bytes}
-use Rattle.blk_laws.proofs.WriteSteps.{quiet-sealed}
+use Rattle.blk_laws.proofs.lists.WriteSteps.{quiet-sealed}
 use Rattle.blk_stream.specs.Changing.{NamesInProgress, place_changes}
 use Rattle.blk_stream.proofs.Naming.{changed_long, naming_moments, place_are}
 use Rattle.blk_stream.proofs.changing.name_place.Given as given
