@@ -41,3 +41,4 @@ pub mod StageExamples
 pub mod PartsOut
 pub mod NextStates
 pub mod OneCalls
+pub mod RemovedStates

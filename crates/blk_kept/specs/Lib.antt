@@ -24,3 +24,4 @@ pub mod PartStates
 pub mod WordStops
 pub mod NextStates
 pub mod OneCallLaws
+pub mod RemovedStates
