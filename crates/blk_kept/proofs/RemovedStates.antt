@@ -1,5 +1,5 @@
 -- States without one item, as a removal asks for them.
-use Rattle.std.proofs.Common.{◌≡◌, ◌≢◌, ℕ, List, [], ◌∷◌, refl, ap, sym, ◌∙◌, subst, Bool, true, false, arith, get_or, set, Option, None, Some, ⊎_elim, not}
+use Rattle.std.proofs.Common.{◌++◌, ◌≡◌, ◌≢◌, ℕ, List, [], ◌∷◌, refl, ap, sym, ◌∙◌, subst, Bool, true, false, arith, get_or, set, Option, None, Some, ⊎_elim, not}
 use Rattle.std.specs.Prelude.{◌&&◌, is_some, slice_set}
 use Rattle.std.specs.List.{filter}
 use Rattle.std.specs.Option.{option_map}
@@ -9,7 +9,7 @@ use Rattle.std.proofs.lemmas.Bool.Decides.{eqb_tells}
 use Rattle.std.proofs.Math.Dec.{eqb}
 use Rattle.std.proofs.lemmas.List.{get_or-set_other, get_or-set_same}
 use Rattle.blk_model.specs.Effects.{doomed, doomed_slot}
-use Rattle.blk_model.specs.Holding.{row_of}
+use Rattle.blk_model.specs.Holding.{rest, row_of}
 use Rattle.blk_model.specs.Items.{Item, main, part, same_item}
 use Rattle.blk_model.specs.Room.{single, without}
 use Rattle.blk_model.specs.State.{IsValidState, Object, State, has_item, is_named, object_at, part_at}
@@ -28,11 +28,16 @@ use Rattle.blk_laws.proofs.Opening.{first-some}
 use Rattle.blk_laws.proofs.Owner.{its-key}
 use Rattle.blk_laws.proofs.Settling.{main-listed}
 use Rattle.blk_laws.proofs.Touches.{in-times}
+use Rattle.blk_volume.specs.Sound.{words_of}
+use Rattle.blk_kept.specs.Changes.{Finds}
+use Rattle.blk_kept.specs.Keeping.{KeepsUncounted}
 use Rattle.blk_kept.specs.CommandEnds.{without_part}
-use Rattle.blk_kept.specs.RemovedStates.{DoomedIsWithout, PartGoneIsWithout}
+use Rattle.blk_kept.specs.RemovalLaws.{layout_removed}
+use Rattle.blk_kept.specs.RemovedStates.{DoomedIsWithout, DoomedObjectsAreRemoved, LonePartsAreRemoved, PartGoneIsWithout, RemovingFindsDoomed, RemovingFindsPartGone}
 use Rattle.blk_kept.proofs.GroupsGone.{parts-go-alone}
 use Rattle.blk_kept.proofs.NotAtRest.{within-slots}
 use Rattle.blk_kept.proofs.PartChanges.{parts-left-out}
+use Rattle.blk_kept.proofs.Removals.{removed-unlinked, unlinking-finds}
 
 same-sym : (i j : Item) → same_item i j ≡ same_item j i
 same-sym i j = ⊎_elim
@@ -155,3 +160,42 @@ part-gone-without state number n object valid here live some = (
   },
   part-gone-is state number n object valid here live,
 )
+
+-- ---- removals
+
+abbrev doomed_slots : State → ℕ → List (Option Object)
+doomed_slots state number = slice_set state.objects number None
+
+abbrev part_slots : State → ℕ → Object → ℕ → List (Option Object)
+part_slots state number object n = slice_set state.objects number (Some (without_part object n))
+
+abbrev keeps_but : Object → ℕ → Item → Bool
+keeps_but object n item = not (same_item item (part object.key n))
+
+pub removing-doomed : RemovingFindsDoomed
+removing-doomed state layout unlinked from image number object was k here live none unnamed =
+    let w = doomed-without state number object k.valid here live none unnamed in
+    let keep = is_of_another object.key in (
+      λ r. subst (λ (m : State). Finds (rest m) image) w.1 ((unlinking-finds state layout unlinked (doomed_slots state number) keep (main object.key) was from r.between image k w.0 r.here r.unlisted).0 r.unlinking),
+      λ r. subst (λ (m : State). Finds (rest m) image) w.1 ((unlinking-finds state layout unlinked (doomed_slots state number) keep (main object.key) was from r.between image k w.0 r.here r.unlisted).1 r.unlinking),
+    )
+
+pub doomed-removed : DoomedObjectsAreRemoved
+doomed-removed state layout unlinked from image number object was k here live none unnamed r =
+    let w = doomed-without state number object k.valid here live none unnamed in
+    subst (λ (m : State). KeepsUncounted m (layout_removed layout (layout.place (main object.key)) was.contents) (words_of was ++ unlinked) image) w.1
+    (removed-unlinked state layout unlinked (doomed_slots state number) (is_of_another object.key) (main object.key) was from r.removing.between image k w.0 r.removing.here r.removing.unlisted r.removing.unlinking r.leaves r.sealed)
+
+pub removing-part : RemovingFindsPartGone
+removing-part state layout unlinked from image number n object was k here live some =
+    let w = part-gone-without state number n object k.valid here live some in
+    let keep = keeps_but object n in (
+      λ r. subst (λ (m : State). Finds (rest m) image) w.1 ((unlinking-finds state layout unlinked (part_slots state number object n) keep (part object.key n) was from r.between image k w.0 r.here r.unlisted).0 r.unlinking),
+      λ r. subst (λ (m : State). Finds (rest m) image) w.1 ((unlinking-finds state layout unlinked (part_slots state number object n) keep (part object.key n) was from r.between image k w.0 r.here r.unlisted).1 r.unlinking),
+    )
+
+pub part-removed : LonePartsAreRemoved
+part-removed state layout unlinked from image number n object was k here live some r =
+    let w = part-gone-without state number n object k.valid here live some in
+    subst (λ (m : State). KeepsUncounted m (layout_removed layout (layout.place (part object.key n)) was.contents) (words_of was ++ unlinked) image) w.1
+    (removed-unlinked state layout unlinked (part_slots state number object n) (keeps_but object n) (part object.key n) was from r.removing.between image k w.0 r.removing.here r.removing.unlisted r.removing.unlinking r.leaves r.sealed)

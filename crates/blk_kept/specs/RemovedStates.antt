@@ -1,12 +1,20 @@
 -- States without one item, as a removal asks for them: without an object that has no parts and no handle, as a group or a doom takes it, and without one part.
-use Rattle.std.specs.Prelude.{◌≡◌, ℕ, [], ◌∷◌, None, Some, false, is_some, not, slice_set, true}
+use Rattle.std.specs.Prelude.{◌≡◌, ℕ, List, [], ◌∷◌, ◌++◌, None, Some, false, is_some, not, slice_set, true}
 use Rattle.blk_model.specs.Effects.{doomed}
-use Rattle.blk_model.specs.Items.{main, part, same_item}
+use Rattle.blk_model.specs.Items.{Item, main, part, same_item}
 use Rattle.blk_model.specs.Room.{single, without}
 use Rattle.blk_model.specs.State.{IsValidState, Object, State, is_named, object_at, part_at}
 use Rattle.blk_volume.specs.Removal.{is_of_another, without_items}
+use Rattle.blk_image.specs.Image.{Image}
+use Rattle.blk_model.specs.Holding.{rest}
+use Rattle.blk_volume.specs.Layout.{Layout}
+use Rattle.blk_volume.specs.Loads.{Loaded}
+use Rattle.blk_volume.specs.Sound.{AreSealed, words_of}
+use Rattle.blk_kept.specs.Arranging.{LeavesFiles}
+use Rattle.blk_kept.specs.Changes.{Finds}
+use Rattle.blk_kept.specs.Keeping.{KeepsUncounted}
 use Rattle.blk_kept.specs.CommandEnds.{without_part}
-use Rattle.blk_kept.specs.RemovalLaws.{IsWithout}
+use Rattle.blk_kept.specs.RemovalLaws.{IsRemovalDone, IsUnlinking, IsWithout, chains_without, layout_removed}
 
 -- a live object without parts and handles that is doomed leaves a state without its main item
 abbrev pub DoomedIsWithout : Type 0
@@ -18,3 +26,37 @@ abbrev pub PartGoneIsWithout : Type 0
 PartGoneIsWithout = (state : State) (number n : ℕ) (object : Object) → IsValidState state → object_at state number ≡ Some object → object.live ≡ true → is_some (part_at object n) ≡ true
     → IsWithout state (slice_set state.objects number (Some (without_part object n))) (λ item. not (same_item item (part object.key n))) (part object.key n)
     × (without_items state (slice_set state.objects number (Some (without_part object n))) (λ item. not (same_item item (part object.key n))) ≡ without (single object.key n ∷ []) state)
+
+-- An object or a part that is removed: its item out of the list, and its record out of its chain.
+
+-- the node of an item is out of the list, and its record is going out of its chain, which is the old one or the new one
+pub record IsRemoving (layout : Layout) (item : Item) (was : Loaded) (chains : ℕ → List ℕ) (from image : Image) : Type 0 where
+  pub here : layout.at (layout.place item) ≡ Some was
+  pub between : Image
+  pub unlisted : IsRemovalDone from (layout.place item) between
+  pub unlinking : IsUnlinking layout chains between image
+
+-- its record is out of it, and nothing else has changed
+pub record IsRemoved (layout : Layout) (item : Item) (was : Loaded) (from image : Image) : Type 0 where
+  pub removing : IsRemoving layout item was (chains_without layout was.contents) from image
+  pub leaves : LeavesFiles removing.between image
+  pub sealed : (node : ℕ) (loaded : Loaded) → layout.at node ≡ Some loaded → AreSealed removing.between loaded → AreSealed image loaded
+
+-- while the record of such an object goes out of its chain what is at rest with it doomed is found, before the word that takes it out and from then on
+abbrev pub RemovingFindsDoomed : Type 0
+RemovingFindsDoomed = (state : State) (layout : Layout) (unlinked : List ℕ) (from image : Image) (number : ℕ) (object : Object) (was : Loaded) → KeepsUncounted state layout unlinked from → object_at state number ≡ Some object → object.live ≡ true → object.parts ≡ [] → is_named state number ≡ false
+    → (IsRemoving layout (main object.key) was layout.chains from image → Finds (rest (doomed number state (Some object))) image) × (IsRemoving layout (main object.key) was (chains_without layout was.contents) from image → Finds (rest (doomed number state (Some object))) image)
+
+-- in the end the state with it doomed is kept, and its words are unlinked
+abbrev pub DoomedObjectsAreRemoved : Type 0
+DoomedObjectsAreRemoved = (state : State) (layout : Layout) (unlinked : List ℕ) (from image : Image) (number : ℕ) (object : Object) (was : Loaded) → KeepsUncounted state layout unlinked from → object_at state number ≡ Some object → object.live ≡ true → object.parts ≡ [] → is_named state number ≡ false
+    → IsRemoved layout (main object.key) was from image → KeepsUncounted (doomed number state (Some object)) (layout_removed layout (layout.place (main object.key)) was.contents) (words_of was ++ unlinked) image
+
+-- and so of a part that goes alone
+abbrev pub RemovingFindsPartGone : Type 0
+RemovingFindsPartGone = (state : State) (layout : Layout) (unlinked : List ℕ) (from image : Image) (number n : ℕ) (object : Object) (was : Loaded) → KeepsUncounted state layout unlinked from → object_at state number ≡ Some object → object.live ≡ true → is_some (part_at object n) ≡ true
+    → (IsRemoving layout (part object.key n) was layout.chains from image → Finds (rest (without (single object.key n ∷ []) state)) image) × (IsRemoving layout (part object.key n) was (chains_without layout was.contents) from image → Finds (rest (without (single object.key n ∷ []) state)) image)
+
+abbrev pub LonePartsAreRemoved : Type 0
+LonePartsAreRemoved = (state : State) (layout : Layout) (unlinked : List ℕ) (from image : Image) (number n : ℕ) (object : Object) (was : Loaded) → KeepsUncounted state layout unlinked from → object_at state number ≡ Some object → object.live ≡ true → is_some (part_at object n) ≡ true
+    → IsRemoved layout (part object.key n) was from image → KeepsUncounted (without (single object.key n ∷ []) state) (layout_removed layout (layout.place (part object.key n)) was.contents) (words_of was ++ unlinked) image

@@ -6,7 +6,7 @@ ghost use Rattle.blk_kept.specs.StageLaws.{StagesGoOn, StagesMayStop, WhatIsFoun
 ghost use Rattle.blk_kept.specs.WordStops.{UsesMayStop, UnsettledUsesMayStop, UnsettlingMayStop, SettlingMayStop, DoomsFindEither, OutIsDoomed, DoomedPartsFindTheSame, DoomsMayStop, PartsFindEither, PartOutIsGone, GroupsMayStop, WholeGroupsMayStop};
 ghost use Rattle.blk_kept.specs.NextStates.{UsesKeepNext, OpensKeepNext, CreatesKeepNext, WritesKeepNext, DoomedWritesKeepNext, SparseWritesKeepNext, EmptySparseWritesKeepNext, ClosesOfManyKeepNext, ClosesKeepNext, DoomsKeepNext, TrimsKeepNext};
 ghost use Rattle.blk_kept.specs.OneCallLaws.{OpensEndByTouch, ReadsMayStop, ReadsEndByTouch, DoomedReadsEnd, ClosesMayStop, ClosesEndByMark, ClosesOfDoomedUnlink, UnsettlingMarksMayStop};
-ghost use Rattle.blk_kept.specs.RemovedStates.{DoomedIsWithout, PartGoneIsWithout};
+ghost use Rattle.blk_kept.specs.RemovedStates.{DoomedIsWithout, PartGoneIsWithout, RemovingFindsDoomed, DoomedObjectsAreRemoved, RemovingFindsPartGone, LonePartsAreRemoved};
 ghost use Rattle.blk_kept.specs.StopLaws.{WhatIsLeftMayStop, OrdersMayBeLeft, UsesMayBeLeft, UsesGoOn, RoomMayBeLeft, HandlesAreNotAtRest, DoomedObjectsAreNotAtRest, UnsettledObjectsAreNotAtRest, OwnUsesKeepOthers, OthersMayBeLeftOnceUnsettled, OthersMayBeLeftWhileDoomed};
 
 /// Once some groups are out and some of the later list steps are made, a stop may leave what is at rest in that order; where that is found the request may be stopped.
@@ -152,8 +152,12 @@ pub fn commands_of_one_call()
     ensures unsettling_stops { UnsettlingMarksMayStop }
 {}
 
-/// A live object without parts and handles that is doomed or evicted, and a part that goes alone, leave a state without that one item, as a removal asks.
+/// A live object without parts and handles that is doomed or evicted, and a part that goes alone, leave a state without that one item, as a removal asks; while it is removed what is at rest then is found, and in the end that state is kept and its words are unlinked.
 pub fn removed_states_lack_one_item()
     ensures doomed { DoomedIsWithout }
     ensures part { PartGoneIsWithout }
+    ensures removing { RemovingFindsDoomed }
+    ensures removed { DoomedObjectsAreRemoved }
+    ensures removing_part { RemovingFindsPartGone }
+    ensures removed_part { LonePartsAreRemoved }
 {}
