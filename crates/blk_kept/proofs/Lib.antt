@@ -42,3 +42,4 @@ pub mod PartsOut
 pub mod NextStates
 pub mod OneCalls
 pub mod RemovedStates
+pub mod CreateStops

@@ -25,3 +25,4 @@ pub mod WordStops
 pub mod NextStates
 pub mod OneCallLaws
 pub mod RemovedStates
+pub mod CreateStops
