@@ -26,3 +26,4 @@ pub mod Objects
 pub mod Gone
 pub mod Removals
 pub mod DoneSteps
+pub mod Doomed

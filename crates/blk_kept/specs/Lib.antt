@@ -16,3 +16,4 @@ pub mod ObjectLaws
 pub mod GoneLaws
 pub mod RemovalLaws
 pub mod DoneLaws
+pub mod DoomLaws

@@ -4,6 +4,7 @@ ghost use Rattle.blk_kept.specs.Arranging.{StatesAreRearranged};
 ghost use Rattle.blk_kept.specs.BoundLaws.{KeptAllocationsAreFew};
 ghost use Rattle.blk_kept.specs.CounterLaws.{CountersMayBeWritten, WrittenCountersCount};
 ghost use Rattle.blk_kept.specs.DoneLaws.{TouchStepsAreDone, InsertStepsAreDone, RemovalStepsAreDone};
+ghost use Rattle.blk_kept.specs.DoomLaws.{DoomedObjectsAreKept};
 ghost use Rattle.blk_kept.specs.ExternalLaws.{MakingFilesFindsTheSame, MadeFilesAreAdded, DeletingFilesFindsTheSame, DeletedFilesAreRemoved};
 ghost use Rattle.blk_kept.specs.GoneLaws.{GoneObjectsAreUnlinked, GoneObjectsAreNotCounted};
 ghost use Rattle.blk_kept.specs.ListLaws.{TouchesKeepTheState, TouchesKeepTheCounters};
@@ -91,4 +92,9 @@ pub fn list_steps_are_done()
     ensures touch { TouchStepsAreDone }
     ensures insert { InsertStepsAreDone }
     ensures removal { RemovalStepsAreDone }
+{}
+
+/// An object without parts that is out of the list and out of its chain is kept as a doomed one.
+pub fn doomed_objects_are_kept()
+    ensures { DoomedObjectsAreKept }
 {}
