@@ -27,3 +27,4 @@ pub mod Gone
 pub mod Removals
 pub mod DoneSteps
 pub mod Doomed
+pub mod Links

@@ -125,7 +125,7 @@ module _ (state : State) (layout : Layout) (unlinked : List ℕ) (objects : List
   abbrev suffix : List ℕ
   suffix = nodes_of layout a.suffix
 
-  kept-items : filter keep state.uses ≡ a.before ++ a.suffix
+  pub kept-items : filter keep state.uses ≡ a.before ++ a.suffix
   kept-items = filter-alike keep (λ other. not (same_item item other)) state.uses w.but ∙ a.rest
 
   pub old-order : order state layout ≡ prefix ++ node ∷ suffix

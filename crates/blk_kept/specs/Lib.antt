@@ -17,3 +17,4 @@ pub mod GoneLaws
 pub mod RemovalLaws
 pub mod DoneLaws
 pub mod DoomLaws
+pub mod LinkLaws

@@ -10,10 +10,11 @@ ghost use Rattle.blk_kept.specs.ChangeLaws.{WhatIsKeptIsFound, SameCountersCount
 mod calls;
 
 pub use calls::{
-    changed_objects_are_kept, counters_are_written, doomed_objects_are_kept,
+    changed_objects_are_kept, changes_are_inside, counters_are_written, doomed_objects_are_kept,
     external_files_come_and_go, gone_objects_are_unlinked, handles_are_not_kept,
-    kept_allocations_are_few, list_steps_are_done, new_entries_are_kept, objects_are_marked,
-    other_states_are_kept, removed_items_are_unlinked, touches_keep_states,
+    kept_allocations_are_few, links_leave_the_rest, list_steps_are_done, new_entries_are_kept,
+    objects_are_marked, other_states_are_kept, removed_items_are_one_less,
+    removed_items_are_unlinked, touches_keep_states,
 };
 
 /// What is found in a folder that keeps a state is what is at rest in it. With nothing unlinked the folder stands for the state, and it is sound where each object is live and settled.
