@@ -111,7 +111,7 @@ pub fn links_leave_the_rest()
 
 /// Changes of an object's data and of its record are inside what is its node's.
 pub fn changes_are_inside()
-    ensures data { DataChangesAreInside }
+    ensures stored { DataChangesAreInside }
     ensures fields { RecordUpdatesAreInside }
 {}
 
