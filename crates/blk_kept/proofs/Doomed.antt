@@ -60,6 +60,14 @@ distinct-in (x ∷ xs) n ys none once =
     let parts = or_parts (x == n) (is_among (xs ++ ys) n) none in
     (sym (moved-among xs n ys x) ∙ (let e : (n == x) ≡ false = apart-sym x n parts.0 in rw e once.0), distinct-in xs n ys parts.1 once.1)
 
+-- where no part of a key is listed, all listed items but its main item are of other keys
+pub other-items : (state : State) (key : List ℕ) → ((n : ℕ) → is_listed state (part key n) ≡ false) → (i : Item) → is_in state.uses i ≡ true → is_of_another key i ≡ not (same_item (main key) i)
+other-items state key alone (main other) there = refl
+other-items state key alone (part other n) there = ⊎_elim
+    (λ (e : bytes_eq key other ≡ true). absurd (let z : true ≡ false = sym there ∙ ap (λ (q : List ℕ). is_listed state (part q n)) (sym (same_bytes key other e)) ∙ alone n in cc))
+    (λ (e : bytes_eq key other ≡ false). ap not e)
+    (cases_Bool (bytes_eq key other))
+
 module _ (state : State) (layout : Layout) (unlinked : List ℕ) (number : ℕ) (object : Object) (l : Loaded) (from between image : Image) (k : KeepsUncounted state layout unlinked from) (can : CanBeDoomed state layout number object l) (done : IsRemovalDone from (layout.place (main object.key)) between) (u : IsUnchained state layout (layout.place (main object.key)) l between image) where
   abbrev node : ℕ
   node = layout.place (main object.key)
@@ -86,13 +94,7 @@ module _ (state : State) (layout : Layout) (unlinked : List ℕ) (number : ℕ) 
   rest-nodes = doomed_nodes layout k.numbers
 
   kept-items : filter (is_of_another object.key) state.uses ≡ a.before ++ a.suffix
-  kept-items = filter-alike (is_of_another object.key) (λ other. not (same_item (main object.key) other)) state.uses same ∙ a.rest where
-    same : (i : Item) → is_in state.uses i ≡ true → is_of_another object.key i ≡ not (same_item (main object.key) i)
-    same (main key) there = refl
-    same (part key n) there = ⊎_elim
-        (λ (e : bytes_eq object.key key ≡ true). absurd (let z : true ≡ false = sym there ∙ ap (λ (q : List ℕ). is_listed state (part q n)) (sym (same_bytes object.key key e)) ∙ can.alone n in cc))
-        (λ (e : bytes_eq object.key key ≡ false). ap not e)
-        (cases_Bool (bytes_eq object.key key))
+  kept-items = filter-alike (is_of_another object.key) (λ other. not (same_item (main object.key) other)) state.uses (other-items state object.key can.alone) ∙ a.rest
 
   old-order : order state layout ≡ prefix ++ node ∷ suffix
   old-order = ap (nodes_of layout) a.is ∙ nodes-append layout a.before (main object.key ∷ a.suffix)

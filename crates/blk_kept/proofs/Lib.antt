@@ -28,3 +28,4 @@ pub mod Removals
 pub mod DoneSteps
 pub mod Doomed
 pub mod Links
+pub mod ChangedStates

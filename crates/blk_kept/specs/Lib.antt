@@ -18,3 +18,4 @@ pub mod RemovalLaws
 pub mod DoneLaws
 pub mod DoomLaws
 pub mod LinkLaws
+pub mod ChangedStates
