@@ -1,25 +1,25 @@
 -- A state that lies in a folder whose files are those of the same words is kept.
-use Rattle.std.proofs.Common.{◌≡◌, ℕ, List, [], ◌∷◌, map, length, refl, ap, sym, ◌∙◌, subst, Bool, true, false, cond, Option, Some, None}
+use Rattle.std.proofs.Common.{◌≡◌, ℕ, List, [], ◌∷◌, map, length, refl, ap, sym, ◌∙◌, Bool, true, false, cond, Option}
 use Rattle.std.specs.Prelude.{◌||◌, filter, is_some}
 use Rattle.std.specs.List.{AllByRecursion, flat_map, list_any, sum_by}
 use Rattle.std.specs.List.Sorted.{IsPermutation}
 use Rattle.std.proofs.lemmas.Bool.{cases_Bool}
 use Rattle.std.proofs.lemmas.List.Sorted.{list_any-IsPermutation, sum_by-IsPermutation}
 use Rattle.std.proofs.lemmas.List.Sums.{sum_by-cons}
-use Rattle.std.proofs.Common.{⊎_elim, suc, ◌+◌, arith}
+use Rattle.std.proofs.Common.{⊎_elim, suc, arith}
 use Rattle.blk_model.specs.State.{State}
-use Rattle.blk_image.specs.Image.{Image, Block, External}
+use Rattle.blk_image.specs.Image.{Image}
 use Rattle.blk_format.specs.BlockFiles.{linked_as, stands_in}
 use Rattle.blk_format.specs.Claims.{Claim, BlockOf, ExternalOf, claims_of, claims_of_all, has_claim, is_in_file, repeats}
 use Rattle.blk_volume.specs.Layout.{Layout, rule_of}
-use Rattle.blk_volume.specs.Loads.{Loaded, claims_of_loaded}
+use Rattle.blk_volume.specs.Loads.{claims_of_loaded}
 use Rattle.blk_volume.specs.Sound.{words_of}
 use Rattle.blk_volume.specs.View.{store_of}
 use Rattle.blk_laws.proofs.Allocations.{IsLoadedBy, all-from, all-stand, each-some, fewer-repeats, join, passing, same-marks, still}
 use Rattle.blk_laws.proofs.ClaimLists.{claim-append, no-claim, repeats-append}
 use Rattle.blk_laws.proofs.Standing.{claimed-exactly, no-repeats}
-use Rattle.blk_kept.specs.Arranging.{IsArranged, LeavesFiles, StatesAreRearranged}
-use Rattle.blk_kept.specs.Keeping.{AreFiles, IsMapped, KeepsUncounted, all_loaded, all_nodes, words_in_use}
+use Rattle.blk_kept.specs.Arranging.{IsArranged, StatesAreRearranged}
+use Rattle.blk_kept.specs.Keeping.{AreFiles, IsMapped, all_loaded, all_nodes, words_in_use}
 use Rattle.blk_kept.proofs.Headers.{files-same}
 use Rattle.blk_kept.proofs.Keeping.{used-claims}
 

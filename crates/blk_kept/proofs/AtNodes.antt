@@ -1,15 +1,14 @@
 -- Changes of the record at a node: what they leave.
-use Rattle.std.proofs.Common.{◌≡◌, ℕ, ◌+◌, ◌≤◌, List, [], ◌∷◌, refl, ap, sym, ◌∙◌, subst, arith, Bool, true, false, Option, Some, None, ⊎_elim}
+use Rattle.std.proofs.Common.{◌≡◌, ℕ, List, refl, ap, sym, ◌∙◌, arith, Bool, true, false, Option, Some, ⊎_elim}
 use Rattle.std.specs.Prelude.{◌==◌}
 use Rattle.std.specs.List.{flat_map}
 use Rattle.std.proofs.lemmas.Bool.{cases_Bool, eq-eqb, or_left}
 use Rattle.blk_image.specs.Footprint.{SameOutside}
-use Rattle.blk_image.specs.Image.{Image, Index, Block, word}
+use Rattle.blk_image.specs.Image.{Image, Index, word}
 use Rattle.blk_image.proofs.Footprints.{same_word_outside}
-use Rattle.blk_format.specs.Address.{file_selector, place, byte_size}
-use Rattle.blk_format.specs.BlockFiles.{stands_in}
+use Rattle.blk_format.specs.Address.{place}
 use Rattle.blk_format.specs.Claims.{Claim, claims_of, has_claim}
-use Rattle.blk_format.specs.Sealed.{BeginsWithRecord, record_range, record_size}
+use Rattle.blk_format.specs.Sealed.{record_range, record_size}
 use Rattle.blk_model.specs.State.{State}
 use Rattle.blk_volume.specs.Footprint.{IsClear, IsFreeBut}
 use Rattle.blk_volume.specs.Layout.{Layout, rule_of}
@@ -20,7 +19,6 @@ use Rattle.blk_laws.proofs.Inside.{record-blocky, record-inside}
 use Rattle.blk_laws.proofs.Loads.{load-then}
 use Rattle.blk_laws.proofs.Marking.{repeats-apart}
 use Rattle.blk_laws.proofs.Outside.{AreClear, all-clear}
-use Rattle.blk_kept.specs.Changes.{ChangesOnly, SameCounters}
 use Rattle.blk_kept.specs.Keeping.{KeepsUncounted}
 use Rattle.blk_kept.specs.RecordLaws.{RecordUpdatesChangeOnly, RecordUpdatesLeaveCounters}
 use Rattle.blk_kept.proofs.Writes.{block-writes}

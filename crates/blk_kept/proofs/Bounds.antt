@@ -1,8 +1,7 @@
 -- The allocations of a kind are at most five for each item and doomed object, and one for each unlinked word.
-use Rattle.std.proofs.Common.{◌≡◌, ◌≢◌, ◌⊎◌, inl, inr, ℕ, zero, suc, ◌+◌, ◌*◌, ◌<◌, ◌≤◌, List, [], ◌∷◌, ◌++◌, length, map, refl, ap, sym, ◌∙◌, subst, arith, ⊎_elim, Bool, true, false, cond, Option, None, Some, length-append, get_or, set, get_or-set_other}
-use Rattle.std.specs.Prelude.{◌&&◌, ◌||◌, ◌==◌, nat_le, not, filter, is_some, if◌then◌else◌, IsSomeAnd}
-use Rattle.std.specs.Option.{option_and_then, option_map, option_map_or}
-use Rattle.std.specs.List.{AllByRecursion, cons_option, count_by, filter_map, flat_map, sum_by}
+use Rattle.std.proofs.Common.{◌≡◌, ◌≢◌, ◌⊎◌, inl, inr, ℕ, zero, suc, ◌+◌, ◌*◌, ◌<◌, ◌≤◌, List, [], ◌∷◌, length, refl, ap, sym, ◌∙◌, subst, arith, ⊎_elim, Bool, true, false, cond, Option, None, Some, length-append, get_or, set, get_or-set_other}
+use Rattle.std.specs.Prelude.{◌&&◌, ◌==◌, not, filter, is_some, IsSomeAnd}
+use Rattle.std.specs.List.{AllByRecursion, cons_option, filter_map, flat_map, sum_by}
 use Rattle.std.proofs.lemmas.Bool.{and_parts, cases_Bool, eq-eqb, eqb-true, or_left, or_parts, or_right}
 use Rattle.std.proofs.lemmas.List.Elements.{filter_map-append}
 use Rattle.std.proofs.lemmas.Bool.Decides.{nat_tests}
@@ -14,24 +13,22 @@ use Rattle.blk_model.specs.Room.{items}
 use Rattle.blk_model.specs.State.{State, Object, object_at}
 use Rattle.blk_model.specs.Totals.{is_doomed_slot}
 use Rattle.blk_model.proofs.Each.{some_within}
-use Rattle.blk_format.specs.Address.{blocks_256, external, file_selector, is_block_kind, kind_of, rankings}
+use Rattle.blk_format.specs.Address.{blocks_256, external, file_selector, kind_of, rankings}
 use Rattle.blk_format.specs.BlockFiles.{first_block_damage, is_among, linked, linked_as, stands_in}
 use Rattle.blk_format.specs.Claims.{is_in_file}
 use Rattle.blk_format.specs.Headers.{allocations_of}
 use Rattle.blk_format.specs.Records.{entry_in}
-use Rattle.blk_format.proofs.Among.{is_among-append}
 use Rattle.blk_image.proofs.Runs.{some_inj}
 use Rattle.blk_volume.specs.Entries.{streams_of}
 use Rattle.blk_volume.specs.Layout.{Layout, order, rule_of}
 use Rattle.blk_volume.specs.ListView.{Distinct}
 use Rattle.blk_volume.specs.Loads.{Loaded}
 use Rattle.blk_volume.specs.Sound.{words_of}
-use Rattle.blk_volume.specs.Tidy.{doomed_nodes, loaded_at}
-use Rattle.blk_volume.specs.View.{RecordFields, address_of, data_size_of, entry_at, fields_of, stands_as, store_of, view_of}
+use Rattle.blk_volume.specs.Tidy.{doomed_nodes}
+use Rattle.blk_volume.specs.View.{RecordFields, address_of, data_size_of, entry_at, fields_of, store_of}
 use Rattle.blk_laws.proofs.ByteChanges.{stands-linked}
 use Rattle.blk_laws.proofs.ChainWords.{shown-fields}
 use Rattle.blk_laws.proofs.Charges.{listed-totals}
-use Rattle.blk_laws.proofs.Laid.{IsNodeOf, node-of}
 use Rattle.blk_laws.proofs.Loads.{load-then}
 use Rattle.blk_laws.proofs.Standing.{kept-at}
 use Rattle.blk_laws.proofs.StillShown.{standing-parts}
@@ -42,7 +39,6 @@ use Rattle.blk_kept.proofs.Arranging.{as-sum}
 use Rattle.blk_kept.proofs.Free.{AreStanding, standing-at}
 use Rattle.blk_kept.proofs.Headers.{undamaged}
 use Rattle.blk_kept.proofs.LinkedOnce.{IsOnce, once-1, once-2, once-3, once-4}
-use Rattle.blk_kept.proofs.Touched.{words_at}
 
 abbrev one_if : Bool → ℕ
 one_if t = cond t 1 0

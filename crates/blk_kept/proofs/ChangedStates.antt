@@ -1,11 +1,10 @@
 -- States without one object, and with one object changed.
-use Rattle.std.proofs.Common.{◌≡◌, ◌≢◌, ◌⊎◌, inl, inr, ℕ, List, refl, ap, sym, ◌∙◌, subst, Bool, true, false, cond, Option, Some, None, ⊎_elim}
+use Rattle.std.proofs.Common.{◌≡◌, ◌≢◌, ℕ, List, refl, ap, sym, ◌∙◌, subst, true, false, Option, Some, None, ⊎_elim}
 use Rattle.std.specs.Prelude.{not, slice_set}
 use Rattle.std.specs.Option.{option_and_then, option_map}
 use Rattle.std.specs.Str.{bytes_eq}
-use Rattle.std.proofs.lemmas.Bool.{and_parts, cases_Bool, cases_eq}
+use Rattle.std.proofs.lemmas.Bool.{and_parts, cases_eq}
 use Rattle.blk_image.proofs.Runs.{some_inj}
-use Rattle.blk_model.proofs.Same.{same_bytes}
 use Rattle.blk_model.specs.Effects.{doomed, doomed_slot, with_slot}
 use Rattle.blk_model.specs.Holding as model
 use Rattle.blk_model.specs.Items.{Item, main, part, same_item}

@@ -1,10 +1,9 @@
 -- Counters that are written keep the state, and in the end count it.
-use Rattle.std.proofs.Common.{◌≡◌, ℕ, List, [], ◌∷◌, ◌++◌, refl, sym, ◌∙◌, subst, Bool, true, false, lit≤, ⊎_elim}
+use Rattle.std.proofs.Common.{◌≡◌, ℕ, [], refl, ◌∙◌, subst, true, false, lit≤, ⊎_elim}
 use Rattle.std.specs.Prelude.{◌==◌, ◌%◌, ◌<◌}
 use Rattle.std.proofs.lemmas.Bool.{cases_Bool, eqb-true}
-use Rattle.blk_image.specs.Image.{Image}
 use Rattle.blk_format.specs.BlockFiles.{is_among}
-use Rattle.blk_laws.specs.IndexWrites.{IsIndexWord, checked_words, shown_words}
+use Rattle.blk_laws.specs.IndexWrites.{checked_words, shown_words}
 use Rattle.blk_kept.specs.ChangeLaws.{kept_words}
 use Rattle.blk_kept.specs.CounterLaws.{CountersMayBeWritten, WrittenCountersCount, counter_places}
 use Rattle.blk_kept.proofs.Free.{unlinked-change}

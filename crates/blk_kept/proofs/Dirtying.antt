@@ -1,9 +1,8 @@
 -- The dirty word of an object, at each word and in the end.
-use Rattle.std.proofs.Common.{◌≡◌, ◌≢◌, ◌⊎◌, inl, inr, ℕ, ◌<◌, ◌%◌, ◌^◌, List, [], ◌∷◌, ◌++◌, length, refl, ap, sym, ◌∙◌, subst, arith, Bool, true, false, Option, Some, None, ⊎_elim}
-use Rattle.std.specs.Prelude.{◌==◌, ◌&&◌, not, IfSome, if◌then◌else◌}
+use Rattle.std.proofs.Common.{◌≡◌, ◌≢◌, ◌⊎◌, inl, inr, ℕ, ◌<◌, ◌%◌, ◌^◌, List, [], ◌∷◌, ◌++◌, length, refl, ap, sym, ◌∙◌, subst, Bool, true, false, Option, Some, None, ⊎_elim}
+use Rattle.std.specs.Prelude.{◌==◌, ◌&&◌, not, IfSome}
 use Rattle.std.specs.List.{filter_map, sum_by, cons_option}
-use Rattle.std.specs.List.Sorted.{IsPermutation}
-use Rattle.std.proofs.lemmas.Bool.{cases_Bool, cases_eq, eq-eqb, eqb-true, or_left, or_right}
+use Rattle.std.proofs.lemmas.Bool.{cases_Bool, cases_eq, eqb-true, or_left}
 use Rattle.std.proofs.lemmas.List.Sorted.{IsPermutation-refl}
 use Rattle.blk_image.proofs.Runs.{some_inj}
 use Rattle.blk_image.specs.Image.{Image, Index, byte}
@@ -12,12 +11,12 @@ use Rattle.blk_model.specs.State.{State, Object, IsValidState, object_at}
 use Rattle.blk_model.specs.Holding.{owner, rest}
 use Rattle.blk_format.specs.Address.{kind_of, rankings}
 use Rattle.blk_format.specs.BlockFiles.{is_among, stands_in, IsWellFormed}
-use Rattle.blk_format.specs.Claims.{Claim, claims_of, claims_of_all, has_claim}
+use Rattle.blk_format.specs.Claims.{Claim, claims_of, has_claim}
 use Rattle.blk_format.specs.Headers.{this_id_of}
 use Rattle.blk_format.specs.Records.{Entry, entry_is_sealed}
 use Rattle.blk_format.proofs.Among.{is_among-append}
 use Rattle.blk_format.proofs.Finished.{well_formed-finished}
-use Rattle.blk_laws.specs.CommandLaws.{IsPlacedAsDoomed, IsPlacedAsLive, dirtied, marked}
+use Rattle.blk_laws.specs.CommandLaws.{IsPlacedAsLive, dirtied, marked}
 use Rattle.blk_volume.specs.Footprint.{SameNodeLinks}
 use Rattle.blk_volume.specs.Found.{charge_of}
 use Rattle.blk_volume.specs.Layout.{Layout, Represents, order}
@@ -26,8 +25,8 @@ use Rattle.blk_volume.specs.ListView.{ListView, put}
 use Rattle.blk_volume.specs.Loads.{Loaded, all_claims, record_claims}
 use Rattle.blk_volume.specs.ShownChanges.{ShowsTheSame}
 use Rattle.blk_volume.specs.Sound.{AreSealed, words_of}
-use Rattle.blk_volume.specs.Tidy.{doomed_nodes, loaded_at}
-use Rattle.blk_volume.specs.View.{NodeFields, View, list_of, node_at, node_fields_at, stands_as, store_of, view_of}
+use Rattle.blk_volume.specs.Tidy.{doomed_nodes}
+use Rattle.blk_volume.specs.View.{NodeFields, list_of, node_at, node_fields_at, stands_as, store_of, view_of}
 use Rattle.blk_laws.proofs.ByteChanges.{entry-same}
 use Rattle.blk_laws.proofs.Changing.{at-elsewhere, at-itself, same-place}
 use Rattle.blk_laws.proofs.Laid.{is_among-node}
@@ -41,8 +40,8 @@ use Rattle.blk_laws.proofs.Standing.{found-at_rest}
 use Rattle.blk_laws.proofs.Touches.{same-represents}
 use Rattle.blk_kept.specs.Arranging.{LeavesFiles}
 use Rattle.blk_kept.specs.Changes.{ChangesOnly, Finds}
-use Rattle.blk_kept.specs.Keeping.{AllAreSealed, AreMarkedBy, Keeps, KeepsUncounted, all_nodes}
-use Rattle.blk_kept.specs.RecordLaws.{IsMarked, IsMarking, MarkingFindsEither, MarkingKeepsTheState, MarkingKeepsTheCounters}
+use Rattle.blk_kept.specs.Keeping.{AllAreSealed, AreMarkedBy, KeepsUncounted}
+use Rattle.blk_kept.specs.RecordLaws.{IsMarking, MarkingFindsEither, MarkingKeepsTheState, MarkingKeepsTheCounters}
 use Rattle.blk_kept.proofs.AtNodes.{contents-apart, free-but, its-own, node-of-it, others-outside, updates-change, updates-leave}
 use Rattle.blk_kept.proofs.Free.{AreStanding, sealed-same, standing-at}
 use Rattle.blk_kept.proofs.NodeChanges.{is_dead, node-changed}

@@ -1,6 +1,6 @@
 -- A live object without parts is doomed.
-use Rattle.std.proofs.Common.{◌≡◌, ◌≢◌, ◌⊎◌, inl, inr, ℕ, ◌+◌, ◌<◌, List, [], ◌∷◌, ◌++◌, map, refl, ap, sym, ◌∙◌, subst, arith, Bool, true, false, Option, Some, None, ⊎_elim, append_assoc}
-use Rattle.std.specs.Prelude.{◌||◌, ◌==◌, not, filter, IfSome, IsSomeAnd}
+use Rattle.std.proofs.Common.{◌≡◌, ◌≢◌, ℕ, List, [], ◌∷◌, ◌++◌, map, refl, ap, sym, ◌∙◌, subst, arith, true, false, Option, Some, ⊎_elim, append_assoc}
+use Rattle.std.specs.Prelude.{◌==◌, not, filter, IsSomeAnd}
 use Rattle.std.specs.List.{AllByRecursion}
 use Rattle.std.specs.List.Sorted.{IsPermutation}
 use Rattle.std.specs.Str.{bytes_eq}
@@ -10,11 +10,11 @@ use Rattle.blk_image.proofs.Footprints.{outside_wider, within_left}
 use Rattle.blk_image.proofs.Runs.{some_inj}
 use Rattle.blk_image.specs.Footprint.{SameOutside}
 use Rattle.blk_image.specs.Image.{Image, Index, byte}
-use Rattle.blk_model.proofs.Same.{same_bytes, same_item_self}
-use Rattle.blk_model.specs.Effects.{doomed, doomed_slot, with_slot}
-use Rattle.blk_model.specs.Items.{Item, key_of, main, part, same_item}
-use Rattle.blk_model.specs.State.{State, Object, IsValidState, is_named, object_at}
-use Rattle.blk_format.specs.BlockFiles.{is_among, IsWellFormed}
+use Rattle.blk_model.proofs.Same.{same_bytes}
+use Rattle.blk_model.specs.Effects.{doomed, doomed_slot}
+use Rattle.blk_model.specs.Items.{Item, main, part, same_item}
+use Rattle.blk_model.specs.State.{State, Object, is_named, object_at}
+use Rattle.blk_format.specs.BlockFiles.{is_among}
 use Rattle.blk_format.specs.Hash.{hash}
 use Rattle.blk_format.specs.Headers.{this_id_of}
 use Rattle.blk_format.specs.Records as records
@@ -25,7 +25,7 @@ use Rattle.blk_volume.specs.Completion.{remove}
 use Rattle.blk_volume.specs.Layout.{IsListedRecord, Layout, Represents, is_in, is_listed, nodes_of, order}
 use Rattle.blk_volume.specs.ListPlans.{writes_of}
 use Rattle.blk_volume.specs.ListSteps.{touched_by_writes}
-use Rattle.blk_volume.specs.ListView.{Distinct, IsAtRest, IsList, ListView, ListWrite, put}
+use Rattle.blk_volume.specs.ListView.{Distinct, IsAtRest, IsList, ListView, ListWrite}
 use Rattle.blk_volume.specs.Loads.{Loaded}
 use Rattle.blk_volume.specs.Removal.{HasLess, is_of_another}
 use Rattle.blk_volume.specs.StandsFor.{AreNumbers, IsOwner}

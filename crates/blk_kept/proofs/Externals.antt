@@ -1,13 +1,12 @@
 -- External files that are made and deleted, at each word and in the end.
-use Rattle.std.proofs.Common.{◌≡◌, ◌≢◌, ℕ, ◌+◌, ◌*◌, ◌<◌, ◌≤◌, ◌%◌, ◌^◌, List, [], ◌∷◌, refl, ap, sym, ◌∙◌, subst, arith, ⊎_elim, Bool, true, false, Option, Some, None}
-use Rattle.std.specs.Prelude.{◌==◌, ◌||◌, ◌&&◌, is_some, not, nat_le, nat_lt}
+use Rattle.std.proofs.Common.{◌≡◌, ◌≢◌, ℕ, ◌+◌, ◌*◌, ◌<◌, ◌≤◌, ◌%◌, List, [], refl, ap, sym, ◌∙◌, arith, ⊎_elim, Bool, true, false, Option, Some, None}
+use Rattle.std.specs.Prelude.{◌==◌, ◌&&◌, not, nat_le, nat_lt}
 use Rattle.std.proofs.lemmas.Bool.{and_parts, cases_Bool, eq-eqb, eqb-true, or_left}
 use Rattle.std.proofs.lemmas.Bool.Decides.{nat_tests}
 use Rattle.blk_image.specs.Checks.{first_of}
-use Rattle.blk_image.specs.Footprint.{Footprint, SameOutside, either, one_word, whole}
-use Rattle.blk_image.specs.Image.{File, Image, Index, Block, External, byte, has_file, length_of, same_file, word}
+use Rattle.blk_image.specs.Footprint.{SameOutside, either, one_word, whole}
+use Rattle.blk_image.specs.Image.{File, Image, Index, Block, External, byte, has_file, length_of, word}
 use Rattle.blk_image.proofs.Footprints.{same_file_outside, same_word_outside}
-use Rattle.blk_model.specs.State.{State}
 use Rattle.blk_format.specs.Address.{external, external_number, file_selector, kind_of}
 use Rattle.blk_format.specs.BlockFiles.{max_entries_in, next_file_in, stands_in, IsWellFormed}
 use Rattle.blk_format.specs.Claims.{Claim, BlockOf, ExternalOf, claims_of, claims_of_all, has_claim, is_in_file, same_claim}
@@ -15,12 +14,11 @@ use Rattle.blk_format.specs.Maps.{EmptyAgrees}
 use Rattle.blk_format.specs.Headers.{head_checks, list_checks, is_shown_place}
 use Rattle.blk_format.proofs.Finished.{well_formed-finished}
 use Rattle.blk_format.proofs.LinkedHeads.{count_whole, linked_head, HasHead}
-use Rattle.blk_format.proofs.SpareHeaders.{SparesHeaders}
 use Rattle.blk_volume.specs.Footprint.{AgreeBut, IsFree}
-use Rattle.blk_volume.specs.Layout.{Layout, Represents}
+use Rattle.blk_volume.specs.Layout.{Represents}
 use Rattle.blk_volume.specs.View.{view_of}
 use Rattle.blk_laws.proofs.ByteChanges.{agreeing-views, covered-agrees, not_equal, same-links, stands-same, stands-some}
-use Rattle.blk_laws.proofs.ClaimLists.{claim-append, claim-head, no-claim}
+use Rattle.blk_laws.proofs.ClaimLists.{claim-append, claim-head}
 use Rattle.blk_laws.proofs.Covers.{covers-either, covers-more, externals-covered, hidden-covered}
 use Rattle.blk_laws.proofs.IndexWords.{others-unchecked}
 use Rattle.blk_laws.proofs.Laid.{same_claim-self}
@@ -28,9 +26,9 @@ use Rattle.blk_laws.proofs.ListFootprints.{or_none}
 use Rattle.blk_laws.proofs.Outside.{represents-outside}
 use Rattle.blk_laws.proofs.Standing.{found-at_rest}
 use Rattle.blk_laws.proofs.WellFormed.{well_formed_still}
-use Rattle.blk_kept.specs.Changes.{Finds, SameHeaders, StaysLinked, AddsExternal, RemovesExternal}
+use Rattle.blk_kept.specs.Changes.{SameHeaders, StaysLinked}
 use Rattle.blk_kept.specs.ExternalLaws.{IsMakingExternal, MakingFilesFindsTheSame, MadeFilesAreAdded, DeletingFilesFindsTheSame, DeletedFilesAreRemoved}
-use Rattle.blk_kept.specs.Keeping.{IsMapped, KeepsUncounted, all_loaded, words_in_use}
+use Rattle.blk_kept.specs.Keeping.{IsMapped, all_loaded, words_in_use}
 use Rattle.blk_kept.proofs.Allocating.{blocks-only, owned-used}
 use Rattle.blk_kept.proofs.Headers.{mapped-same, undamaged}
 use Rattle.blk_kept.proofs.MakingFiles.{its-claims}

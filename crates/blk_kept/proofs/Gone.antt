@@ -1,23 +1,23 @@
 -- Nothing lies at a node any longer: its words are unlinked.
-use Rattle.std.proofs.Common.{◌≡◌, ◌≢◌, ◌⊎◌, inl, inr, ℕ, ◌%◌, ◌^◌, List, [], ◌∷◌, ◌++◌, length, map, refl, ap, sym, ◌∙◌, subst, Bool, true, false, Option, Some, None, Ok, ⊎_elim, append_assoc, get_or-set_same, ◌<◌}
+use Rattle.std.proofs.Common.{◌≡◌, ◌≢◌, ◌⊎◌, inl, inr, ℕ, ◌%◌, ◌^◌, List, [], ◌∷◌, ◌++◌, length, map, refl, ap, sym, ◌∙◌, subst, Bool, true, false, Option, Some, None, ⊎_elim, append_assoc, get_or-set_same, ◌<◌}
 use Rattle.blk_model.proofs.Each.{some_within}
-use Rattle.std.specs.Prelude.{◌||◌, ◌==◌, not, IfSome, IsSomeAnd, if◌then◌else◌}
-use Rattle.std.specs.List.{AllByRecursion, cons_option, filter_map, flat_map, sum_by}
+use Rattle.std.specs.Prelude.{◌||◌, ◌==◌, IfSome, IsSomeAnd, if◌then◌else◌}
+use Rattle.std.specs.List.{AllByRecursion, cons_option, flat_map, sum_by}
 use Rattle.std.specs.List.Sorted.{IsPermutation}
-use Rattle.std.proofs.lemmas.Bool.{cases_Bool, cases_eq, eq-eqb, eqb-true, or_left, or_parts, or_right}
+use Rattle.std.proofs.lemmas.Bool.{cases_Bool, cases_eq, eq-eqb, eqb-true, or_left, or_right}
 use Rattle.std.proofs.lemmas.Grind.{flat_map-append}
-use Rattle.std.proofs.lemmas.List.Sorted.{IsPermutation-append_comm, IsPermutation-append_left, IsPermutation-append_right, IsPermutation-refl, IsPermutation-trans}
+use Rattle.std.proofs.lemmas.List.Sorted.{IsPermutation-append_comm, IsPermutation-append_left, IsPermutation-append_right, IsPermutation-trans}
 use Rattle.blk_image.proofs.Runs.{some_inj}
 use Rattle.blk_image.specs.Image.{Image, Index, byte}
 use Rattle.blk_model.specs.Effects.{with_slot}
-use Rattle.blk_model.specs.Items.{Item, main}
+use Rattle.blk_model.specs.Items.{main}
 use Rattle.blk_model.specs.State.{State, Object, IsValidState, object_at}
-use Rattle.blk_format.specs.BlockFiles.{is_among, stands_in, IsWellFormed}
+use Rattle.blk_format.specs.BlockFiles.{is_among, stands_in}
 use Rattle.blk_format.specs.Claims.{Claim, claims_of, claims_of_all, has_claim, repeats}
 use Rattle.blk_format.specs.Headers.{this_id_of}
 use Rattle.blk_format.proofs.Among.{is_among-append}
 use Rattle.blk_volume.specs.Found.{charge_of}
-use Rattle.blk_volume.specs.Layout.{Layout, Represents, emptied_at, order, rule_of}
+use Rattle.blk_volume.specs.Layout.{Layout, Represents, order, rule_of}
 use Rattle.blk_volume.specs.ListView.{Distinct, put}
 use Rattle.blk_volume.specs.Loads.{Loaded, all_claims}
 use Rattle.blk_volume.specs.Sound.{words_of}
@@ -35,7 +35,7 @@ use Rattle.blk_laws.proofs.Lists.{Distinct-without, has_not}
 use Rattle.blk_laws.proofs.Settling.{main-listed}
 use Rattle.blk_kept.specs.Arranging.{IsArranged, LeavesFiles}
 use Rattle.blk_kept.specs.GoneLaws.{GoneObjectsAreNotCounted, GoneObjectsAreUnlinked, layout_without, owner_without}
-use Rattle.blk_kept.specs.Keeping.{AllAreSealed, AreMarkedBy, Keeps, KeepsUncounted, all_loaded, all_nodes, words_in_use}
+use Rattle.blk_kept.specs.Keeping.{AllAreSealed, AreMarkedBy, KeepsUncounted, all_loaded, all_nodes, words_in_use}
 use Rattle.blk_kept.specs.ObjectLaws.{is_owned_by}
 use Rattle.blk_kept.proofs.Arranging.{rearranged}
 use Rattle.blk_kept.proofs.Dirtying.{set-else}

@@ -1,5 +1,5 @@
 -- Changes that leave the files as they stand, told by what they touch.
-use Rattle.std.proofs.Common.{◌≡◌, ◌∙◌, ℕ, false}
+use Rattle.std.proofs.Common.{◌≡◌, ◌∙◌, false}
 use Rattle.blk_image.specs.Image.{File, Image, Block}
 use Rattle.blk_image.specs.Footprint.{Footprint, SameOutside}
 use Rattle.blk_format.specs.BlockFiles.{IsWellFormed}

@@ -1,13 +1,11 @@
 -- The files that are linked as a kind are different, and are linked as no kind before it.
-use Rattle.std.proofs.Common.{◌≡◌, ◌≢◌, ◌⊎◌, inl, inr, ℕ, zero, suc, ◌+◌, ◌-◌, ◌<◌, ◌≤◌, List, [], ◌∷◌, ◌++◌, refl, ap, sym, ◌∙◌, subst, arith, ⊎_elim, Bool, true, false, Option, None, Some}
-use Rattle.std.specs.Prelude.{◌&&◌, ◌||◌, ◌==◌, not, nat_le, nat_lt, if◌then◌else◌}
+use Rattle.std.proofs.Common.{◌≡◌, ◌≢◌, ◌⊎◌, inl, inr, ℕ, zero, suc, ◌-◌, ◌<◌, ◌≤◌, List, [], ◌∷◌, ◌++◌, refl, ap, sym, ◌∙◌, subst, arith, ⊎_elim, Bool, true, false, None, Some}
+use Rattle.std.specs.Prelude.{◌&&◌, ◌==◌, not, nat_le, nat_lt, if◌then◌else◌}
 use Rattle.std.proofs.lemmas.Bool.{and_parts, cases_Bool, eq-eqb, eqb-true, or_left, or_right}
 use Rattle.std.proofs.lemmas.Bool.Decides.{nat_tests}
 use Rattle.blk_image.specs.Checks.{first_of}
 use Rattle.blk_image.specs.Image.{Image, Block, byte, length_of}
-use Rattle.blk_format.specs.Address.{is_block_kind}
 use Rattle.blk_format.specs.BlockFiles.{checks_along, checks_of_kind, file_checks, files_along, first_block_damage, is_among, is_link, kind_among, linked, linked_as, linked_up_to, next_file_in}
-use Rattle.blk_format.specs.Headers.{next_file_of}
 use Rattle.blk_format.proofs.Among.{is_among_more, is_among-append}
 use Rattle.blk_format.proofs.Keeping.{each_kind, none_parts}
 use Rattle.blk_format.proofs.LinkedHeads.{link_passed}

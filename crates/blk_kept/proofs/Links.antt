@@ -1,9 +1,9 @@
 -- Words of the table and links of records, and changes inside what is a node's.
-use Rattle.std.proofs.Common.{◌≡◌, ℕ, ◌+◌, List, [], ◌∷◌, ◌++◌, length, refl, ap, sym, ◌∙◌, subst, arith, Bool, true, false, Option, None, Some, inr, ⊎_elim, length-append}
+use Rattle.std.proofs.Common.{◌≡◌, ℕ, List, ◌∷◌, ◌++◌, length, refl, ap, sym, ◌∙◌, subst, arith, Bool, true, false, Option, None, Some, inr, ⊎_elim, length-append}
 use Rattle.std.specs.Prelude.{◌&&◌, ◌==◌}
 use Rattle.std.specs.List.{cons_option, filter_map, sum_by}
 use Rattle.std.specs.Option.{option_map_or}
-use Rattle.std.proofs.lemmas.Bool.{cases_Bool, cases_eq, eqb-true}
+use Rattle.std.proofs.lemmas.Bool.{cases_Bool, eqb-true}
 use Rattle.std.proofs.lemmas.List.Sums.{sum_by-cons}
 use Rattle.blk_image.specs.Image.{Image}
 use Rattle.blk_image.proofs.Runs.{some_inj}
@@ -11,7 +11,7 @@ use Rattle.blk_format.specs.Address.{blocks_256, kind_of, rankings}
 use Rattle.blk_format.specs.BlockFiles.{is_among}
 use Rattle.blk_format.specs.Claims.{Claim, claims_of, has_claim}
 use Rattle.blk_format.specs.Records.{Node, node_is_sealed}
-use Rattle.blk_volume.specs.Chains.{bucket_of_hash, is_of_bucket}
+use Rattle.blk_volume.specs.Chains.{bucket_of_hash}
 use Rattle.blk_volume.specs.Found.{charge_of}
 use Rattle.blk_volume.specs.Footprint.{AgreeBut, IsClear, OnlyLinksChange, SameBut, SameNodeLinks}
 use Rattle.blk_volume.specs.Layout.{nodes_of}
@@ -21,7 +21,6 @@ use Rattle.blk_volume.specs.Sound.{AreSealed}
 use Rattle.blk_volume.specs.View.{RecordFields, StoreView, list_of, stands_as, store_of, view_of}
 use Rattle.blk_laws.proofs.ByteChanges.{agreeing-views, node-same}
 use Rattle.blk_laws.proofs.Lists.{has_not}
-use Rattle.blk_laws.proofs.Marking.{repeats-apart}
 use Rattle.blk_laws.proofs.Moving.{moved-same, sums-add}
 use Rattle.blk_laws.proofs.Opening.{IsAround, around}
 use Rattle.blk_laws.proofs.StillShown.{standing-parts}

@@ -1,24 +1,22 @@
 -- A new entry in the use list and in front of its chain.
-use Rattle.std.proofs.Common.{◌≡◌, ◌≢◌, ◌⊎◌, inl, inr, ℕ, zero, suc, ◌+◌, ◌<◌, ◌≤◌, List, [], ◌∷◌, ◌++◌, length, map, refl, ap, sym, ◌∙◌, subst, arith, Bool, true, false, Option, Some, None, get_or, lit≤, ⊎_elim, append_assoc}
+use Rattle.std.proofs.Common.{◌≡◌, ℕ, zero, suc, ◌+◌, ◌<◌, ◌≤◌, List, [], ◌∷◌, ◌++◌, length, map, refl, ap, sym, ◌∙◌, subst, arith, Bool, true, false, Option, Some, None, get_or, lit≤, ⊎_elim, append_assoc}
 use Rattle.std.proofs.lemmas.Bool.Decides.{nat_tests}
-use Rattle.std.specs.Prelude.{◌&&◌, ◌||◌, ◌==◌, nat_le, nat_lt, not, IfSome, IsSomeAnd, if◌then◌else◌}
-use Rattle.std.specs.Option.{option_map_or}
+use Rattle.std.specs.Prelude.{◌&&◌, ◌==◌, nat_le, nat_lt, IfSome, IsSomeAnd, if◌then◌else◌}
 use Rattle.std.specs.List.{AllByRecursion, cons_option, filter_map, flat_map, sum_by}
 use Rattle.std.specs.List.Sorted.{IsPermutation}
 use Rattle.std.proofs.lemmas.Bool.{cases_Bool, eq-eqb, eqb-true, or_left, or_right}
 use Rattle.std.proofs.lemmas.Grind.{flat_map-append}
-use Rattle.std.proofs.lemmas.List.Sorted.{IsPermutation-refl}
 use Rattle.std.proofs.lemmas.List.Sums.{sum_by-cons}
-use Rattle.blk_image.specs.Footprint.{SameOutside, either, one_word}
+use Rattle.blk_image.specs.Footprint.{SameOutside, one_word}
 use Rattle.blk_image.specs.Image.{Image, Index, Block, byte, word}
 use Rattle.blk_image.proofs.Footprints.{outside_wider, within_left, same_word_outside}
 use Rattle.blk_image.proofs.Runs.{some_inj}
 use Rattle.blk_model.specs.Effects.{created, new_object}
 use Rattle.blk_model.specs.Holding.{owner, rest}
-use Rattle.blk_model.specs.Items.{Item, main, same_item}
+use Rattle.blk_model.specs.Items.{main, same_item}
 use Rattle.blk_model.specs.State.{State, Object, IsValidState, object_at}
 use Rattle.blk_model.proofs.Same.{one_item, same_item_self}
-use Rattle.blk_format.specs.Address.{blocks_256, file_selector, place, rankings}
+use Rattle.blk_format.specs.Address.{blocks_256, file_selector, place}
 use Rattle.blk_format.specs.BlockFiles.{is_among, stands_in, IsWellFormed}
 use Rattle.blk_format.specs.Claims.{Claim, claims_of, claims_of_all, has_claim, repeats}
 use Rattle.blk_format.specs.Hash.{hash}
@@ -30,25 +28,24 @@ use Rattle.blk_format.proofs.Finished.{well_formed-finished}
 use Rattle.blk_laws.specs.CommandLaws.{IsWritten}
 use Rattle.blk_volume.specs.Chains.{bucket_of_hash}
 use Rattle.blk_volume.specs.Completion.{insert}
-use Rattle.blk_volume.specs.Creation.{IsFrontOfChain, IsNewEntry, linked_front, with_new}
-use Rattle.blk_volume.specs.Footprint.{IsClear, SameLinks}
+use Rattle.blk_volume.specs.Creation.{linked_front, with_new}
 use Rattle.blk_volume.specs.Found.{charge_of, completed, row_of}
-use Rattle.blk_volume.specs.Layout.{Layout, Represents, order, rule_of}
-use Rattle.blk_volume.specs.ListImages.{CanBeMade, HasListAtRest, IsWritable, walked}
+use Rattle.blk_volume.specs.Layout.{Layout, Represents, order}
+use Rattle.blk_volume.specs.ListImages.{CanBeMade, HasListAtRest, walked}
 use Rattle.blk_volume.specs.ListPlans.{writes_of}
-use Rattle.blk_volume.specs.ListSteps.{IsPartly, KeepsSealed, touched_by_writes}
-use Rattle.blk_volume.specs.ListView.{CanBeInserted, Distinct, IsAtRest, IsList, ListView, ListWrite, after_writes, put}
-use Rattle.blk_volume.specs.Loads.{Loaded, all_claims, held_rule, load}
+use Rattle.blk_volume.specs.ListSteps.{IsPartly, touched_by_writes}
+use Rattle.blk_volume.specs.ListView.{CanBeInserted, Distinct, IsList, ListView, ListWrite, put}
+use Rattle.blk_volume.specs.Loads.{Loaded, all_claims, held_rule}
 use Rattle.blk_volume.specs.Audit.{kept_by}
 use Rattle.blk_volume.specs.ShownChanges.{ShowsTheSame}
 use Rattle.blk_volume.specs.Sound.{AreSealed, words_of}
-use Rattle.blk_volume.specs.StandsFor.{AreNumbers, IsOwner}
-use Rattle.blk_volume.specs.Tidy.{doomed_nodes, loaded_at}
-use Rattle.blk_volume.specs.View.{RecordFields, StoreView, View, entry_at, fields_at, fields_of, list_of, node_at, stands_as, store_of, view_of}
-use Rattle.blk_laws.proofs.Allocations.{repeats-head, words-claims}
+use Rattle.blk_volume.specs.StandsFor.{IsOwner}
+use Rattle.blk_volume.specs.Tidy.{doomed_nodes}
+use Rattle.blk_volume.specs.View.{RecordFields, StoreView, View, list_of, stands_as, store_of, view_of}
+use Rattle.blk_laws.proofs.Allocations.{words-claims}
 use Rattle.blk_laws.proofs.Central.{walk-order}
 use Rattle.blk_laws.proofs.ChainWords.{shown-fields}
-use Rattle.blk_laws.proofs.Changing.{at-elsewhere, at-itself, apart-sym}
+use Rattle.blk_laws.proofs.Changing.{at-elsewhere, at-itself}
 use Rattle.blk_laws.proofs.ClaimLists.{claim-append}
 use Rattle.blk_laws.proofs.Created.{at-each-write, at-end, creates-rest}
 use Rattle.blk_laws.proofs.Creating.{new-lacks, order-after, push-back, uses-after}
@@ -65,12 +62,12 @@ use Rattle.blk_laws.proofs.WriteSteps.{checked-kind}
 use Rattle.blk_kept.specs.Arranging.{IsArranged, LeavesFiles}
 use Rattle.blk_kept.specs.Changes.{Finds}
 use Rattle.blk_kept.specs.Keeping.{AllAreSealed, AreMarkedBy, KeepsUncounted, all_loaded, all_nodes, words_in_use}
-use Rattle.blk_kept.specs.NewEntryLaws.{InsertsFindTheSame, IsInsertDone, IsLinkedInFront, IsNewEntryOf, IsOneMore, LinksFindTheSame, NewEntriesAreKept, NewEntriesAreOneMore, bucket_at}
+use Rattle.blk_kept.specs.NewEntryLaws.{InsertsFindTheSame, IsInsertDone, IsLinkedInFront, IsNewEntryOf, LinksFindTheSame, NewEntriesAreKept, NewEntriesAreOneMore, bucket_at}
 use Rattle.blk_kept.proofs.Arranging.{rearranged}
 use Rattle.blk_kept.proofs.Headers.{stand-same}
 use Rattle.blk_kept.proofs.Leaving.{leaves-files, leaves-then}
 use Rattle.blk_kept.proofs.NodeChanges.{is_dead, numbers-same, others-at}
-use Rattle.blk_kept.proofs.Touched.{to-front, words-append, words_at}
+use Rattle.blk_kept.proofs.Touched.{to-front, words_at}
 use Rattle.blk_kept.proofs.Touching.{found-kept}
 
 -- ---- what the laws of the list and of a Create ask

@@ -1,12 +1,12 @@
 -- Something else lies at a node of a state: what was there is unlinked, or is there still.
-use Rattle.std.proofs.Common.{◌≡◌, ℕ, zero, suc, ◌+◌, ◌<◌, List, [], ◌∷◌, ◌++◌, length, map, refl, ap, sym, ◌∙◌, subst, Bool, true, false, Option, Some, None, ⊎_elim, ◌⊎◌, append_assoc}
-use Rattle.std.specs.Prelude.{◌||◌, ◌==◌, not, IsSomeAnd}
+use Rattle.std.proofs.Common.{◌≡◌, ℕ, List, [], ◌∷◌, ◌++◌, refl, ap, sym, ◌∙◌, subst, Bool, true, false, Option, Some, None, ⊎_elim, ◌⊎◌, append_assoc}
+use Rattle.std.specs.Prelude.{◌==◌, not, IsSomeAnd}
 use Rattle.std.specs.Option.{option_map_or}
 use Rattle.std.specs.List.{All, AllByRecursion, cons_option, filter_map, flat_map}
 use Rattle.std.specs.List.Sorted.{IsPermutation}
-use Rattle.std.proofs.lemmas.Bool.{cases_Bool, eq-eqb, eqb-true, or_left, or_parts, or_right}
+use Rattle.std.proofs.lemmas.Bool.{cases_Bool, eqb-true, or_parts}
 use Rattle.std.proofs.lemmas.List.Elements.{All-head, All-tail}
-use Rattle.std.proofs.lemmas.List.Sorted.{All-permutation, IsPermutation-append_left, IsPermutation-append_right, IsPermutation-refl, IsPermutation-sym, IsPermutation-trans}
+use Rattle.std.proofs.lemmas.List.Sorted.{All-permutation, IsPermutation-append_left, IsPermutation-append_right, IsPermutation-sym, IsPermutation-trans}
 use Rattle.blk_model.specs.State.{State, Object, IsValidState, object_at}
 use Rattle.blk_image.specs.Image.{Image, Index, byte}
 use Rattle.blk_format.specs.BlockFiles.{is_among, stands_in}
@@ -18,11 +18,11 @@ use Rattle.blk_volume.specs.Loads.{Loaded, all_claims}
 use Rattle.blk_volume.specs.Sound.{words_of}
 use Rattle.blk_volume.specs.StandsFor.{AreNumbers, IsOwner}
 use Rattle.blk_volume.specs.Tidy.{doomed_nodes}
-use Rattle.blk_volume.specs.View.{store_of, view_of}
+use Rattle.blk_volume.specs.View.{view_of}
 use Rattle.blk_laws.proofs.Allocations.{all-from, join, repeats-head, words-claims, words-stand}
 use Rattle.blk_laws.proofs.Changing.{apart-sym, at-elsewhere, at-itself}
-use Rattle.blk_laws.proofs.ClaimLists.{claim-append, repeats-append}
-use Rattle.blk_laws.proofs.Lists.{Distinct-without, has_not}
+use Rattle.blk_laws.proofs.ClaimLists.{repeats-append}
+use Rattle.blk_laws.proofs.Lists.{has_not}
 use Rattle.std.proofs.lemmas.Grind.{flat_map-append}
 use Rattle.blk_kept.specs.Arranging.{IsArranged, LeavesFiles}
 use Rattle.blk_kept.specs.Keeping.{AllAreSealed, AreMarkedBy, KeepsUncounted, all_loaded, all_nodes, words_in_use}

@@ -1,30 +1,25 @@
 -- What lies at the node of an item or of a doomed object changes.
-use Rattle.std.proofs.Common.{◌≡◌, ◌≢◌, ◌⊎◌, inl, inr, ℕ, List, [], ◌∷◌, ◌++◌, map, refl, ap, sym, ◌∙◌, subst, Bool, true, false, Option, Some, None, Ok, ⊎_elim}
-use Rattle.std.specs.Prelude.{◌||◌, ◌==◌, not, IfSome, if◌then◌else◌}
-use Rattle.std.specs.Option.{option_map_or}
-use Rattle.std.specs.List.{flat_map}
+use Rattle.std.proofs.Common.{◌≡◌, ◌≢◌, ◌⊎◌, inl, inr, ℕ, List, [], ◌∷◌, ◌++◌, map, refl, ap, sym, ◌∙◌, subst, Bool, true, false, Option, Some, None, ⊎_elim}
+use Rattle.std.specs.Prelude.{◌||◌, ◌==◌, IfSome, if◌then◌else◌}
 use Rattle.std.specs.List.Sorted.{IsPermutation}
 use Rattle.std.proofs.lemmas.Bool.{cases_Bool, cases_eq, eq-eqb, eqb-true, or_left, or_right}
 use Rattle.std.proofs.lemmas.Grind.{flat_map-append}
 use Rattle.blk_image.proofs.Runs.{some_inj}
 use Rattle.blk_image.specs.Image.{Image, Index, byte}
 use Rattle.blk_model.specs.Effects.{with_slot}
-use Rattle.blk_model.specs.Holding as model
-use Rattle.blk_model.specs.Items.{Item, main}
-use Rattle.blk_model.specs.State.{State, Object, IsValidState, object_at}
+use Rattle.blk_model.specs.Items.{main}
+use Rattle.blk_model.specs.State.{State, Object, object_at}
 use Rattle.blk_format.specs.BlockFiles.{is_among, IsWellFormed}
 use Rattle.blk_format.specs.Claims.{Claim, claims_of, claims_of_all, has_claim, repeats}
 use Rattle.blk_format.specs.Headers.{this_id_of}
 use Rattle.blk_format.proofs.Among.{is_among-append}
-use Rattle.blk_format.proofs.Finished.{well_formed-finished}
-use Rattle.blk_volume.specs.Footprint.{IsFreeBut, IsReplaced}
-use Rattle.blk_volume.specs.Layout.{IsChange, IsDoomedChange, Layout, Represents, changed_at, is_listed, order}
+use Rattle.blk_volume.specs.Footprint.{IsFreeBut}
+use Rattle.blk_volume.specs.Layout.{IsChange, IsDoomedChange, Layout, changed_at, order}
 use Rattle.blk_volume.specs.ListView.{put}
 use Rattle.blk_volume.specs.Loads.{Loaded, all_claims}
 use Rattle.blk_volume.specs.Sound.{AreSealed, words_of}
 use Rattle.blk_volume.specs.Tidy.{doomed_nodes}
 use Rattle.blk_volume.specs.View.{view_of}
-use Rattle.blk_laws.specs.CommandLaws.{IsPlacedAsDoomed}
 use Rattle.blk_laws.proofs.Allocations.{words-claims}
 use Rattle.blk_laws.proofs.ByteChanges.{agreeing-views}
 use Rattle.blk_laws.proofs.Changing.{apart-sym, at-elsewhere, at-itself}
@@ -36,15 +31,15 @@ use Rattle.blk_laws.proofs.Replacing.{replaced}
 use Rattle.blk_laws.proofs.Settling.{main-listed}
 use Rattle.blk_laws.proofs.Writing.{moment-rest}
 use Rattle.blk_kept.specs.Arranging.{LeavesFiles}
-use Rattle.blk_kept.specs.Changes.{ChangesOnly, Finds}
-use Rattle.blk_kept.specs.Keeping.{AllAreSealed, AreMarkedBy, Keeps, KeepsUncounted, all_nodes}
-use Rattle.blk_kept.specs.ObjectLaws.{ChangedDoomedObjectsAreKept, ChangedItemsAreKept, DoomedObjectsFindTheSame, HandlesAreNotCounted, HandlesMayChange, IsItemNow, IsObjectNow, UnsettledItemsFindTheSame, is_owned_by, layout_after, owner_after}
+use Rattle.blk_kept.specs.Changes.{ChangesOnly}
+use Rattle.blk_kept.specs.Keeping.{AllAreSealed, AreMarkedBy, KeepsUncounted}
+use Rattle.blk_kept.specs.ObjectLaws.{ChangedDoomedObjectsAreKept, ChangedItemsAreKept, DoomedObjectsFindTheSame, HandlesAreNotCounted, HandlesMayChange, UnsettledItemsFindTheSame, is_owned_by, layout_after, owner_after}
 use Rattle.blk_kept.proofs.AtNodes.{others-outside}
 use Rattle.blk_kept.proofs.Arranging.{claimed-alike}
 use Rattle.blk_kept.proofs.Claimed.{once-alike}
 use Rattle.blk_kept.proofs.Dirtying.{dead-same, set-at, set-else}
 use Rattle.blk_kept.proofs.Free.{sealed-same, standing-at}
-use Rattle.blk_kept.proofs.NodeChanges.{is_dead, node-changed}
+use Rattle.blk_kept.proofs.NodeChanges.{node-changed}
 use Rattle.blk_kept.proofs.Touching.{found-kept}
 
 -- ---- handles

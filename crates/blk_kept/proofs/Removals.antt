@@ -1,33 +1,31 @@
 -- One item goes out of the use list and out of its chain.
-use Rattle.std.proofs.Common.{◌≡◌, ◌≢◌, ◌⊎◌, inl, inr, ℕ, ◌+◌, ◌<◌, List, [], ◌∷◌, ◌++◌, map, take, refl, ap, sym, ◌∙◌, subst, arith, Bool, true, false, Option, Some, None, Ok, ⊎_elim, append_assoc}
+use Rattle.std.proofs.Common.{◌≡◌, ℕ, ◌<◌, List, [], ◌∷◌, ◌++◌, map, refl, ap, sym, ◌∙◌, subst, arith, Bool, true, false, Option, Some, None, ⊎_elim, append_assoc}
 use Rattle.std.specs.Prelude.{◌||◌, ◌&&◌, ◌==◌, not, nat_lt, filter, IfSome, if◌then◌else◌}
 use Rattle.std.proofs.lemmas.Bool.{and_parts, cases_Bool, eq-eqb, eqb-true, or_left, or_right}
 use Rattle.blk_image.proofs.Footprints.{outside_wider, within_left}
 use Rattle.blk_image.proofs.Runs.{some_inj}
 use Rattle.blk_image.specs.Footprint.{SameOutside}
 use Rattle.blk_image.specs.Image.{Image, Index, byte}
-use Rattle.blk_model.proofs.Same.{one_item, same_item_self}
+use Rattle.blk_model.proofs.Same.{same_item_self}
 use Rattle.blk_model.specs.Holding.{rest}
 use Rattle.blk_model.specs.Items.{Item, main, part, same_item}
-use Rattle.blk_model.specs.State.{State, Object, IsValidState, object_at}
+use Rattle.blk_model.specs.State.{State, Object, object_at}
 use Rattle.blk_format.specs.Address.{blocks_256}
 use Rattle.blk_format.specs.BlockFiles.{is_among, IsWellFormed}
-use Rattle.blk_format.specs.Claims.{Claim, claims_of, has_claim}
+use Rattle.blk_format.specs.Claims.{claims_of, has_claim}
 use Rattle.blk_format.specs.Hash.{hash}
 use Rattle.blk_format.specs.Headers.{this_id_of}
 use Rattle.blk_format.specs.Sealed.{record_range}
 use Rattle.blk_volume.specs.Audit.{kept_among}
-use Rattle.blk_volume.specs.Chains.{bucket_of_hash, IsChain}
+use Rattle.blk_volume.specs.Chains.{bucket_of_hash}
 use Rattle.blk_volume.specs.Completion.{completed_list, remove}
 use Rattle.blk_volume.specs.Found.{row_of}
 use Rattle.blk_volume.specs.Layout.{HoldsExcept, IsLayoutOf, IsListedRecord, IsPlacedAt, Layout, Represents, Shows, is_in, is_listed, nodes_of, order}
 use Rattle.blk_volume.specs.ListPlans.{writes_of}
-use Rattle.blk_volume.specs.ListSteps.{IsPartly, touched_by_writes}
-use Rattle.blk_volume.specs.ListView.{Distinct, IsAtRest, IsList, ListView, ListWrite, after_writes, put}
+use Rattle.blk_volume.specs.ListSteps.{touched_by_writes}
+use Rattle.blk_volume.specs.ListView.{Distinct, IsAtRest, IsList, ListView, ListWrite, put}
 use Rattle.blk_volume.specs.Loads.{Loaded, held_rule}
-use Rattle.blk_volume.specs.Removal.{HasChains, HasLess, placed_less, without_items}
-use Rattle.blk_volume.specs.ShownChanges.{ShowsTheSame}
-use Rattle.blk_volume.specs.StandsFor.{AreNumbers}
+use Rattle.blk_volume.specs.Removal.{HasLess, without_items}
 use Rattle.blk_volume.specs.Sound.{AreSealed, words_of}
 use Rattle.blk_volume.specs.Tidy.{doomed_nodes}
 use Rattle.blk_volume.specs.View.{StoreView, list_of, store_of, view_of}
@@ -35,10 +33,10 @@ use Rattle.blk_volume.specs.Walk.{walk}
 use Rattle.blk_laws.proofs.AtRest.{removals-turn}
 use Rattle.blk_laws.proofs.ByteChanges.{stands-some}
 use Rattle.blk_laws.proofs.Central.{rest-found, walk-idle}
-use Rattle.blk_laws.proofs.Changing.{apart-sym, at-elsewhere, at-itself, same-place}
+use Rattle.blk_laws.proofs.Changing.{at-elsewhere, at-itself, same-place}
 use Rattle.blk_laws.proofs.ClaimLists.{contents-claims, some-claim}
 use Rattle.blk_laws.proofs.DoomedObjects.{listed-rest}
-use Rattle.blk_laws.proofs.Laid.{IsNodeOf, is_among-node, node-of}
+use Rattle.blk_laws.proofs.Laid.{is_among-node}
 use Rattle.blk_laws.proofs.ListCompletions.{listed}
 use Rattle.blk_laws.proofs.Lists.{Distinct-without}
 use Rattle.blk_laws.proofs.Opening.{IsAround, around, nodes-append}
@@ -56,7 +54,7 @@ use Rattle.blk_laws.proofs.WordTurns.{removals-can}
 use Rattle.blk_kept.specs.Arranging.{LeavesFiles}
 use Rattle.blk_kept.specs.Changes.{Finds}
 use Rattle.blk_kept.specs.GoneLaws.{owner_without}
-use Rattle.blk_kept.specs.Keeping.{AllAreSealed, AreMarkedBy, KeepsUncounted, all_nodes}
+use Rattle.blk_kept.specs.Keeping.{AllAreSealed, AreMarkedBy, KeepsUncounted}
 use Rattle.blk_kept.specs.RemovalLaws.{IsRemovalDone, IsUnlinking, IsWithout, RemovalsFindEither, RemovedItemsAreUnlinked, UnlinkingFindsTheOthers, chains_without, layout_removed, layout_unlisted}
 use Rattle.blk_kept.proofs.Free.{standing-at}
 use Rattle.blk_kept.proofs.Gone.{among-without, node-gone, others-owned, others-still}

@@ -1,17 +1,17 @@
 -- Once an item is touched, the state with it in front is kept.
-use Rattle.std.proofs.Common.{◌≡◌, ℕ, ◌+◌, ◌%◌, ◌^◌, List, [], ◌∷◌, ◌++◌, length, refl, sym, ◌∙◌, ap, subst, true, false, ◌<◌, ◌≤◌, arith, append_assoc, length-append}
-use Rattle.std.specs.Prelude.{IsSomeAnd, slice_index_or, Option}
-use Rattle.std.specs.List.{AllByRecursion, flat_map, filter_map, sum_by}
+use Rattle.std.proofs.Common.{◌≡◌, ℕ, ◌+◌, ◌%◌, ◌^◌, List, [], ◌∷◌, ◌++◌, length, sym, ◌∙◌, ap, subst, true, ◌<◌, arith, append_assoc, length-append}
+use Rattle.std.specs.Prelude.{Option}
+use Rattle.std.specs.List.{flat_map, filter_map, sum_by}
 use Rattle.std.specs.List.Sorted.{IsPermutation}
 use Rattle.std.proofs.lemmas.Grind.{flat_map-append}
 use Rattle.std.proofs.lemmas.List.Elements.{filter_map-append}
 use Rattle.std.proofs.lemmas.List.Sorted.{IsPermutation-append_comm, IsPermutation-append_left, IsPermutation-append_right}
 use Rattle.blk_model.specs.Items.{Item}
-use Rattle.blk_model.specs.State.{State, Object, IsValidState, object_at}
+use Rattle.blk_model.specs.State.{State, IsValidState}
 use Rattle.blk_image.specs.Bytes.{word_at}
 use Rattle.blk_image.specs.Image.{Image, Index, byte}
 use Rattle.blk_format.specs.BlockFiles.{is_among}
-use Rattle.blk_volume.specs.ListView.{ListWrite, Distinct, IsAtRest, IsList, after_writes}
+use Rattle.blk_volume.specs.ListView.{Distinct, IsAtRest, IsList, after_writes}
 use Rattle.blk_volume.specs.ListPlans.{touch_writes}
 use Rattle.blk_volume.specs.Layout.{Layout, Represents, is_listed, nodes_of, order}
 use Rattle.blk_volume.specs.Loads.{Loaded}
@@ -27,7 +27,7 @@ use Rattle.blk_laws.proofs.Tidying.{counter-same, sealed-still, touch_range, tou
 use Rattle.blk_laws.proofs.Touches.{touched-items-end}
 use Rattle.blk_laws.proofs.WordTurns.{touches-can}
 use Rattle.blk_kept.specs.Arranging.{IsArranged, LeavesFiles}
-use Rattle.blk_kept.specs.Keeping.{AreMarkedBy, Keeps, KeepsUncounted, all_loaded, all_nodes, words_in_use}
+use Rattle.blk_kept.specs.Keeping.{AreMarkedBy, KeepsUncounted, all_loaded, all_nodes, words_in_use}
 use Rattle.blk_kept.specs.ListLaws.{IsTouchDone, TouchesKeepTheState, TouchesKeepTheCounters, with_used}
 use Rattle.blk_kept.proofs.Arranging.{rearranged}
 use Rattle.blk_kept.proofs.Headers.{stand-same}

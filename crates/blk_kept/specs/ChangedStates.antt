@@ -1,5 +1,5 @@
 -- States without one object, and with one object changed: what the laws on calls ask of them.
-use Rattle.std.specs.Prelude.{◌≡◌, ℕ, List, true, false, slice_set}
+use Rattle.std.specs.Prelude.{◌≡◌, ℕ, true, false, slice_set}
 use Rattle.std.specs.declared.option.Option.TheVariants.{Some}
 use Rattle.blk_model.specs.Effects.{doomed}
 use Rattle.blk_model.specs.Items.{main, part}

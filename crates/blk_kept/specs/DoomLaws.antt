@@ -1,5 +1,5 @@
 -- A live object without parts that a handle names is doomed: its node and its record stay, out of the list and out of the chains.
-use Rattle.std.specs.Prelude.{◌≡◌, ℕ, List, Bool, true, false, ◌==◌}
+use Rattle.std.specs.Prelude.{◌≡◌, ℕ, List, true, false, ◌==◌}
 use Rattle.std.specs.declared.option.Option.TheVariants.{Some}
 use Rattle.std.specs.declared.result.Result.TheVariants.{Ok}
 use Rattle.blk_model.specs.Effects.{doomed}

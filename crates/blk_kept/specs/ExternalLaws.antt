@@ -1,5 +1,5 @@
 -- External files that are made and deleted, at each word and in the end.
-use Rattle.std.specs.Prelude.{◌≡◌, ℕ, ◌<◌, ◌^◌, List, [], ◌∷◌, true, false}
+use Rattle.std.specs.Prelude.{◌≡◌, ℕ, ◌<◌, ◌^◌, [], ◌∷◌, true, false}
 use Rattle.blk_image.specs.Footprint.{SameOutside, either, one_word, whole}
 use Rattle.blk_image.specs.Image.{Index, External, Image, has_file}
 use Rattle.blk_format.specs.Address.{external, external_number, kind_of}

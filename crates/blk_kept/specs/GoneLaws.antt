@@ -1,5 +1,5 @@
 -- A doomed object is gone: its words are unlinked then, and nothing is written for that.
-use Rattle.std.specs.Prelude.{◌≡◌, ℕ, List, ◌++◌, if◌then◌else◌}
+use Rattle.std.specs.Prelude.{ℕ, List, ◌++◌, if◌then◌else◌}
 use Rattle.std.specs.declared.option.Option.{Option}
 use Rattle.std.specs.declared.option.Option.TheVariants.{None}
 use Rattle.blk_model.specs.Effects.{with_slot}

@@ -1,5 +1,5 @@
 -- What lies at the node of an item or of a doomed object changes: its record, its data, its storage; or it goes.
-use Rattle.std.specs.Prelude.{◌≡◌, ℕ, List, ◌++◌, Bool, true, false, not, ◌==◌, if◌then◌else◌, slice_set}
+use Rattle.std.specs.Prelude.{◌≡◌, ℕ, List, ◌++◌, Bool, true, false, ◌==◌, if◌then◌else◌, slice_set}
 use Rattle.std.specs.Option.{option_map_or}
 use Rattle.std.specs.List.Sorted.{IsPermutation}
 use Rattle.std.specs.declared.option.Option.{Option}
@@ -16,7 +16,7 @@ use Rattle.blk_laws.specs.CommandLaws.{IsPlacedAsDoomed}
 use Rattle.blk_volume.specs.Audit.{is_parent_of}
 use Rattle.blk_volume.specs.Footprint.{IsFreeBut, IsInside, IsReplaced, KeepsName}
 use Rattle.blk_volume.specs.Found.{row_of}
-use Rattle.blk_volume.specs.Layout.{HasDirtyMark, HasParentAt, Layout, OneChanged, changed_at, emptied_at, is_listed, rule_of}
+use Rattle.blk_volume.specs.Layout.{HasDirtyMark, HasParentAt, Layout, OneChanged, changed_at, is_listed, rule_of}
 use Rattle.blk_volume.specs.Loads.{Loaded, all_claims, load}
 use Rattle.blk_volume.specs.Sound.{AreSealed, words_of}
 use Rattle.blk_volume.specs.View.{store_of, view_of}

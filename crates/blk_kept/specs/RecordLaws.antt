@@ -5,12 +5,11 @@ use Rattle.blk_model.specs.Items.{main}
 use Rattle.blk_model.specs.State.{State, Object, IsValidState}
 use Rattle.blk_image.specs.Footprint.{SameOutside}
 use Rattle.blk_image.specs.Image.{Image, Index, byte}
-use Rattle.blk_format.specs.Address.{kind_of}
 use Rattle.blk_format.specs.BlockFiles.{stands_in}
 use Rattle.blk_format.specs.Claims.{claims_of, has_claim}
 use Rattle.blk_format.specs.Headers.{this_id_of}
 use Rattle.blk_format.specs.Sealed.{BeginsWithRecord, record_range}
-use Rattle.blk_laws.specs.CommandLaws.{IsPlacedAsDoomed, IsPlacedAsLive, dirtied, marked}
+use Rattle.blk_laws.specs.CommandLaws.{IsPlacedAsLive, dirtied, marked}
 use Rattle.blk_volume.specs.Layout.{Layout}
 use Rattle.blk_volume.specs.ListSteps.{IsSealed}
 use Rattle.blk_volume.specs.Loads.{Loaded}
