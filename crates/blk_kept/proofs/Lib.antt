@@ -26,6 +26,9 @@ pub mod Objects
 pub mod Gone
 pub mod Removals
 pub mod DoneSteps
+pub mod Doomed
+pub mod Links
+pub mod ChangedStates
 pub mod Orders
 pub mod NotAtRest
 pub mod Unsettling

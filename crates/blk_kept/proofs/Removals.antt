@@ -64,14 +64,14 @@ use Rattle.blk_kept.proofs.Touching.{found-kept}
 
 -- ---- lists
 
-filter-alike : (p q : Item → Bool) (items : List Item) → ((i : Item) → is_in items i ≡ true → p i ≡ q i) → filter p items ≡ filter q items
+pub filter-alike : (p q : Item → Bool) (items : List Item) → ((i : Item) → is_in items i ≡ true → p i ≡ q i) → filter p items ≡ filter q items
 filter-alike p q [] same = refl
 filter-alike p q (i ∷ items) same =
     let e = same i (or_left (same_item i i) (is_in items i) (same_item_self i)) in
     let rest = filter-alike p q items (λ j h. same j (or_right (same_item j i) (is_in items j) h)) in
     ⊎_elim (λ (t : q i ≡ true). let s : p i ≡ true = e ∙ t in rw (s, t) (ap (λ (xs : List Item). i ∷ xs) rest)) (λ (t : q i ≡ false). let s : p i ≡ false = e ∙ t in rw (s, t) rest) (cases_Bool (q i))
 
-in-filtered : (w : ℕ) (words : List ℕ) (x : ℕ) → (x == w) ≡ false → is_among words x ≡ true → is_among (filter (λ v. not (v == w)) words) x ≡ true
+pub in-filtered : (w : ℕ) (words : List ℕ) (x : ℕ) → (x == w) ≡ false → is_among words x ≡ true → is_among (filter (λ v. not (v == w)) words) x ≡ true
 in-filtered w [] x apart e = e
 in-filtered w (v ∷ words) x apart e = ⊎_elim
     (λ (h : (v == x) ≡ true). let s : (v == w) ≡ false = ap (λ (y : ℕ). y == w) (eqb-true v x h) ∙ apart in rw s (or_left (v == x) (is_among (filter (λ y. not (y == w)) words) x) h))
@@ -80,7 +80,7 @@ in-filtered w (v ∷ words) x apart e = ⊎_elim
     ⊎_elim (λ (t : (v == w) ≡ true). rw t more) (λ (t : (v == w) ≡ false). rw t (or_right (v == x) (is_among (filter (λ y. not (y == w)) words) x) more)) (cases_Bool (v == w)))
     (cases_Bool (v == x))
 
-from-filtered : (w : ℕ) (words : List ℕ) (x : ℕ) → is_among (filter (λ v. not (v == w)) words) x ≡ true → ((x == w) ≡ false) × (is_among words x ≡ true)
+pub from-filtered : (w : ℕ) (words : List ℕ) (x : ℕ) → is_among (filter (λ v. not (v == w)) words) x ≡ true → ((x == w) ≡ false) × (is_among words x ≡ true)
 from-filtered w [] x e = absurd (let z : false ≡ true = e in cc)
 from-filtered w (v ∷ words) x e = ⊎_elim
     (λ (t : (v == w) ≡ true). let more = from-filtered w words x (rw t at e) in (more.0, or_right (v == x) (is_among words x) more.1))
@@ -91,6 +91,19 @@ from-filtered w (v ∷ words) x e = ⊎_elim
     (λ (h : (v == x) ≡ false). let more = from-filtered w words x (rw h at there) in (more.0, or_right (v == x) (is_among words x) more.1))
     (cases_Bool (v == x)))
     (cases_Bool (v == w))
+
+-- what lies at different nodes has different records
+pub other-record-of : (state : State) (layout : Layout) (unlinked : List ℕ) (from : Image) (k : KeepsUncounted state layout unlinked from) (node n : ℕ) (was l : Loaded) → layout.at node ≡ Some was → layout.at n ≡ Some l → (node == n) ≡ false → (l.contents == was.contents) ≡ false
+other-record-of state layout unlinked from k node n was l here is apart = ⊎_elim
+    (λ (e : (l.contents == was.contents) ≡ true).
+    let same = eqb-true l.contents was.contents e in
+    let stands = standing-parts from blocks_256 was.contents (standing-at from state layout k.represents node was here).record_ in
+    let c = some-claim was.contents (stands-some from was.contents stands.0) in
+    let mine : layout.owner c.0 ≡ Some node = k.represents.holds.lies.own node was c.0 here (contents-claims was c.0 c.1) in
+    let its : layout.owner c.0 ≡ Some n = k.represents.holds.lies.own n l c.0 is (contents-claims l c.0 (ap (λ (x : ℕ). has_claim (claims_of x) c.0) same ∙ c.1)) in
+    absurd (let z : true ≡ false = sym (eq-eqb node n (some_inj (sym mine ∙ its))) ∙ apart in cc))
+    (λ (e : (l.contents == was.contents) ≡ false). e)
+    (cases_Bool (l.contents == was.contents))
 
 -- ---- without one item
 
@@ -110,7 +123,7 @@ module _ (state : State) (layout : Layout) (unlinked : List ℕ) (objects : List
   abbrev suffix : List ℕ
   suffix = nodes_of layout a.suffix
 
-  kept-items : filter keep state.uses ≡ a.before ++ a.suffix
+  pub kept-items : filter keep state.uses ≡ a.before ++ a.suffix
   kept-items = filter-alike keep (λ other. not (same_item item other)) state.uses w.but ∙ a.rest
 
   pub old-order : order state layout ≡ prefix ++ node ∷ suffix
@@ -137,16 +150,7 @@ module _ (state : State) (layout : Layout) (unlinked : List ℕ) (objects : List
 
   -- and has another record
   other-record : (n : ℕ) (l : Loaded) → layout.at n ≡ Some l → (node == n) ≡ false → (l.contents == was.contents) ≡ false
-  other-record n l is apart = ⊎_elim
-      (λ (e : (l.contents == was.contents) ≡ true).
-      let same = eqb-true l.contents was.contents e in
-      let stands = standing-parts from blocks_256 was.contents (standing-at from state layout k.represents node was here).record_ in
-      let c = some-claim was.contents (stands-some from was.contents stands.0) in
-      let mine : layout.owner c.0 ≡ Some node = k.represents.holds.lies.own node was c.0 here (contents-claims was c.0 c.1) in
-      let its : layout.owner c.0 ≡ Some n = k.represents.holds.lies.own n l c.0 is (contents-claims l c.0 (ap (λ (x : ℕ). has_claim (claims_of x) c.0) same ∙ c.1)) in
-      absurd (let z : true ≡ false = sym (eq-eqb node n (some_inj (sym mine ∙ its))) ∙ apart in cc))
-      (λ (e : (l.contents == was.contents) ≡ false). e)
-      (cases_Bool (l.contents == was.contents))
+  other-record n l is apart = other-record-of state layout unlinked from k node n was l here is apart
 
   not-gone : (n : ℕ) (l : Loaded) → put layout.at node None n ≡ Some l → ((node == n) ≡ false) × (layout.at n ≡ Some l)
   not-gone n l is = ⊎_elim

@@ -16,6 +16,9 @@ pub mod ObjectLaws
 pub mod GoneLaws
 pub mod RemovalLaws
 pub mod DoneLaws
+pub mod DoomLaws
+pub mod LinkLaws
+pub mod ChangedStates
 pub mod CommandStates
 pub mod StopLaws
 pub mod CommandEnds
