@@ -22,8 +22,7 @@ use Rattle.blk_kept.proofs.CommandEnding.{closes-doomed, closes-free, closes-lef
 use Rattle.blk_kept.proofs.GroupsGone.{parts-go-alone, whole-groups-go}
 use Rattle.blk_kept.proofs.PartChanges.{new-parts-keep-valid}
 use Rattle.blk_kept.specs.RemovalLaws.{IsWithout}
-use Rattle.blk_volume.specs.Removal.{is_of_another}
-use Rattle.blk_kept.proofs.RemovedStates.{doomed-without, part-gone-without}
+use Rattle.blk_kept.proofs.PlainRemovals.{part-gone-without}
 use Rattle.blk_kept.proofs.Unsettling.{doomed-left, unsettled-left}
 
 a_bytes : IsBytes a
@@ -143,9 +142,6 @@ another_part : IsValidState (with_first sparsely (slice_set sparsely.objects 0 (
 unfolding computing
 another_part = new-parts-keep-valid sparsely sparsely_is_valid 0 sparse_object refl (record { key_is = refl; live = refl; unsettled = refl }) refl 1 empty_part (omega arith) empty_part_is refl
 
--- without `a` the state lacks one item, and so it does without the part
-lacks_a : IsWithout pair (slice_set pair.objects 0 None) (is_of_another a) (main a)
-lacks_a = (doomed-without pair 0 opened_object pair_is_valid (unfold computing in refl) refl refl (unfold computing in refl)).0
-
+-- and so the state lacks one item
 lacks_part : IsWithout sparsely (slice_set sparsely.objects 0 (Some (without_part sparse_object 0))) (λ item. not (same_item item (part a 0))) (part a 0)
 lacks_part = (part-gone-without sparsely 0 0 sparse_object sparsely_is_valid (unfold computing in refl) refl (unfold computing in refl)).0

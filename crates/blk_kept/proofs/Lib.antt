@@ -44,5 +44,5 @@ pub mod StageExamples
 pub mod PartsOut
 pub mod NextStates
 pub mod OneCalls
-pub mod RemovedStates
+pub mod PlainRemovals
 pub mod CreateStops

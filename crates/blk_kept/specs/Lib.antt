@@ -27,5 +27,5 @@ pub mod PartStates
 pub mod WordStops
 pub mod NextStates
 pub mod OneCallLaws
-pub mod RemovedStates
+pub mod PlainRemovals
 pub mod CreateStops

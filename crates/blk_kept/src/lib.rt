@@ -20,9 +20,9 @@ pub use calls::{
 pub use commands::{
     calls_follow_each_other, closes_settle, commands_are_done, commands_keep_the_next_state,
     commands_of_one_call, creates_end_once_made, creates_may_be_stopped, dooms_end_once_doomed,
-    orders_may_be_left, others_may_be_left, parts_change_alone, reads_end_once_used,
-    removals_may_be_stopped, removed_states_lack_one_item, requests_take_effect,
-    rests_leave_them_out, uses_may_be_stopped, writes_end_once_written,
+    orders_may_be_left, others_may_be_left, parts_change_alone, plain_objects_are_removed,
+    reads_end_once_used, removals_may_be_stopped, requests_take_effect, rests_leave_them_out,
+    uses_may_be_stopped, writes_end_once_written,
 };
 
 /// What is found in a folder that keeps a state is what is at rest in it. With nothing unlinked the folder stands for the state, and it is sound where each object is live and settled.

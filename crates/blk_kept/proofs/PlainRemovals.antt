@@ -2,14 +2,13 @@
 use Rattle.std.proofs.Common.{◌++◌, ◌≡◌, ◌≢◌, ℕ, List, [], ◌∷◌, refl, ap, sym, ◌∙◌, subst, Bool, true, false, arith, get_or, set, Option, None, Some, ⊎_elim, not}
 use Rattle.std.specs.Prelude.{◌&&◌, is_some, slice_set}
 use Rattle.std.specs.List.{filter}
-use Rattle.std.specs.Option.{option_map}
 use Rattle.std.specs.Str.{bytes_eq}
 use Rattle.std.proofs.lemmas.Bool.{and_from, and_parts, cases_Bool}
 use Rattle.std.proofs.lemmas.Bool.Decides.{eqb_tells}
 use Rattle.std.proofs.Math.Dec.{eqb}
 use Rattle.std.proofs.lemmas.List.{get_or-set_other, get_or-set_same}
-use Rattle.blk_model.specs.Effects.{doomed, doomed_slot}
-use Rattle.blk_model.specs.Holding.{rest, row_of}
+use Rattle.blk_model.specs.Effects.{doomed}
+use Rattle.blk_model.specs.Holding.{rest}
 use Rattle.blk_model.specs.Items.{Item, main, part, same_item}
 use Rattle.blk_model.specs.Room.{single, without}
 use Rattle.blk_model.specs.State.{IsValidState, Object, State, has_item, is_named, object_at, part_at}
@@ -21,19 +20,20 @@ use Rattle.blk_model.proofs.Same.{bytes_eq_self, one_item, same_bytes, same_item
 use Rattle.blk_model.proofs.States.{has_main}
 use Rattle.blk_model.proofs.StopRests.{owner_live}
 use Rattle.blk_volume.specs.Layout.{is_listed}
-use Rattle.blk_volume.specs.Removal.{ListsLess, is_of_another, without_items}
-use Rattle.blk_laws.proofs.DoomedObjects.{object-aside, row-aside}
-use Rattle.blk_laws.proofs.Dooming.{not-its}
+use Rattle.blk_volume.specs.Removal.{is_of_another, without_items}
 use Rattle.blk_laws.proofs.Opening.{first-some}
 use Rattle.blk_laws.proofs.Owner.{its-key}
-use Rattle.blk_laws.proofs.Settling.{main-listed}
 use Rattle.blk_laws.proofs.Touches.{in-times}
 use Rattle.blk_volume.specs.Sound.{words_of}
 use Rattle.blk_kept.specs.Changes.{Finds}
 use Rattle.blk_kept.specs.Keeping.{KeepsUncounted}
 use Rattle.blk_kept.specs.CommandEnds.{without_part}
-use Rattle.blk_kept.specs.RemovalLaws.{layout_removed}
-use Rattle.blk_kept.specs.RemovedStates.{DoomedIsWithout, DoomedObjectsAreRemoved, LonePartsAreRemoved, PartGoneIsWithout, RemovingFindsDoomed, RemovingFindsPartGone}
+use Rattle.blk_kept.specs.RemovalLaws.{IsWithout, layout_removed}
+use Rattle.blk_kept.specs.PlainRemovals.{DoomedObjectsAreRemoved, HeldDoomsEnd, LonePartsAreRemoved, PartGoneIsWithout, RemovingFindsDoomed, RemovingFindsPartGone, UnheldDoomsEnd}
+use Rattle.blk_kept.specs.DoomLaws.{layout_doomed}
+use Rattle.blk_kept.proofs.ChangedStates.{unheld-go}
+use Rattle.blk_kept.proofs.CommandEnding.{dooms-end}
+use Rattle.blk_kept.proofs.Doomed.{objects-doomed}
 use Rattle.blk_kept.proofs.GroupsGone.{parts-go-alone}
 use Rattle.blk_kept.proofs.NotAtRest.{within-slots}
 use Rattle.blk_kept.proofs.PartChanges.{parts-left-out}
@@ -97,41 +97,12 @@ module _ (state : State) (number : ℕ) (object : Object) (valid : IsValidState 
       (λ (e : bytes_eq object.key k ≡ false). e)
       (cases_Bool (bytes_eq object.key k))
 
-  but-main : object.parts ≡ [] → (other : Item) → is_listed state other ≡ true → keep other ≡ not (same_item (main object.key) other)
-  but-main none (main k) listed = refl
-  but-main none (part k m) listed = ap not (own-main none k m listed)
-
-  less-main : ListsLess state (set state.objects number None) keep
-  unfolding row_of
-  less-main = record {
-    rows = λ item keeps listed. row-aside state number None item (not-its state number object here item keeps) refl;
-    settled = λ key keeps. ap (option_map (λ (o : Object). o.settled)) (object-aside state number None (main key) (not-its state number object here (main key) keeps) refl);
-    closed = λ key n keeps. keeps;
-    doomed_same = λ m o is dead. ⊎_elim
-        (λ (q : (eqb m number ≡ true) × (m ≡ number)). let c : ◌≡◌ {A = Option Object} None (Some o) = sym (there state number object None here live) ∙ ap (λ (k : ℕ). get_or (set state.objects number None) k None) (sym q.1) ∙ is in absurd (cc))
-        (λ (q : (eqb m number ≡ false) × (m ≢ number)). sym (elsewhere state number object None here live m q.1) ∙ is)
-        (eqb_tells m number);
-  }
-
-  gone-is : is_named state number ≡ false → without_items state (slice_set state.objects number None) keep ≡ doomed number state (Some object)
-  unfolding doomed
-  gone-is unnamed = ap (λ (b : Bool). record state { objects = slice_set state.objects number (doomed_slot b object); uses = filter keep state.uses }) (sym unnamed)
-
-pub doomed-without : DoomedIsWithout
-doomed-without state number object valid here live none unnamed = (
-  record {
-    listed = main-listed state valid number object true here live;
-    but = but-main state number object valid here live none;
-    less = less-main state number object valid here live;
-    valid = subst IsValidState (sym (gone-is state number object valid here live unnamed)) (state_doomed state valid number object here live);
-    dead = same-dead state number object None here live refl;
-    unsettled = λ m o is lives loose. ⊎_elim
-        (λ (q : (eqb m number ≡ true) × (m ≡ number)). let c : ◌≡◌ {A = Option Object} None (Some o) = sym (there state number object None here live) ∙ ap (λ (k : ℕ). get_or (set state.objects number None) k None) (sym q.1) ∙ is in absurd (cc))
-        (λ (q : (eqb m number ≡ false) × (m ≢ number)). (o, sym (elsewhere state number object None here live m q.1) ∙ is, refl, lives, loose))
-        (eqb_tells m number);
-  },
-  gone-is state number object valid here live unnamed,
-)
+-- so without parts and handles it goes whole
+doomed-without : (state : State) (number : ℕ) (object : Object) → IsValidState state → object_at state number ≡ Some object → object.live ≡ true → object.parts ≡ [] → is_named state number ≡ false
+    → IsWithout state (doomed number state (Some object)).objects (is_of_another object.key) (main object.key) × (doomed number state (Some object) ≡ without_items state (doomed number state (Some object)).objects (is_of_another object.key))
+doomed-without state number object valid here live none unnamed = unheld-go state number object valid here live unnamed
+    (λ n. ⊎_elim (λ (e : is_listed state (part object.key n) ≡ true). absurd (let z : true ≡ false = sym (bytes_eq_self object.key) ∙ own-main state number object valid here live none object.key n e in cc)) (λ (e : is_listed state (part object.key n) ≡ false). e) (cases_Bool (is_listed state (part object.key n))))
+    (state_doomed state valid number object here live)
 
 -- ---- a part
 
@@ -163,9 +134,6 @@ part-gone-without state number n object valid here live some = (
 
 -- ---- removals
 
-abbrev doomed_slots : State → ℕ → List (Option Object)
-doomed_slots state number = slice_set state.objects number None
-
 abbrev part_slots : State → ℕ → Object → ℕ → List (Option Object)
 part_slots state number object n = slice_set state.objects number (Some (without_part object n))
 
@@ -176,15 +144,15 @@ pub removing-doomed : RemovingFindsDoomed
 removing-doomed state layout unlinked from image number object was k here live none unnamed =
     let w = doomed-without state number object k.valid here live none unnamed in
     let keep = is_of_another object.key in (
-      λ r. subst (λ (m : State). Finds (rest m) image) w.1 ((unlinking-finds state layout unlinked (doomed_slots state number) keep (main object.key) was from r.between image k w.0 r.here r.unlisted).0 r.unlinking),
-      λ r. subst (λ (m : State). Finds (rest m) image) w.1 ((unlinking-finds state layout unlinked (doomed_slots state number) keep (main object.key) was from r.between image k w.0 r.here r.unlisted).1 r.unlinking),
+      λ r. subst (λ (m : State). Finds (rest m) image) (sym w.1) ((unlinking-finds state layout unlinked (doomed number state (Some object)).objects keep (main object.key) was from r.between image k w.0 r.here r.unlisted).0 r.unlinking),
+      λ r. subst (λ (m : State). Finds (rest m) image) (sym w.1) ((unlinking-finds state layout unlinked (doomed number state (Some object)).objects keep (main object.key) was from r.between image k w.0 r.here r.unlisted).1 r.unlinking),
     )
 
 pub doomed-removed : DoomedObjectsAreRemoved
 doomed-removed state layout unlinked from image number object was k here live none unnamed r =
     let w = doomed-without state number object k.valid here live none unnamed in
-    subst (λ (m : State). KeepsUncounted m (layout_removed layout (layout.place (main object.key)) was.contents) (words_of was ++ unlinked) image) w.1
-    (removed-unlinked state layout unlinked (doomed_slots state number) (is_of_another object.key) (main object.key) was from r.removing.between image k w.0 r.removing.here r.removing.unlisted r.removing.unlinking r.leaves r.sealed)
+    subst (λ (m : State). KeepsUncounted m (layout_removed layout (layout.place (main object.key)) was.contents) (words_of was ++ unlinked) image) (sym w.1)
+    (removed-unlinked state layout unlinked (doomed number state (Some object)).objects (is_of_another object.key) (main object.key) was from r.removing.between image k w.0 r.removing.here r.removing.unlisted r.removing.unlinking r.leaves r.sealed)
 
 pub removing-part : RemovingFindsPartGone
 removing-part state layout unlinked from image number n object was k here live some =
@@ -199,3 +167,15 @@ part-removed state layout unlinked from image number n object was k here live so
     let w = part-gone-without state number n object k.valid here live some in
     subst (λ (m : State). KeepsUncounted m (layout_removed layout (layout.place (part object.key n)) was.contents) (words_of was ++ unlinked) image) w.1
     (removed-unlinked state layout unlinked (part_slots state number object n) (keeps_but object n) (part object.key n) was from r.removing.between image k w.0 r.removing.here r.removing.unlisted r.removing.unlinking r.leaves r.sealed)
+
+-- ---- Doom and DoomKey
+
+pub unheld-dooms-end : UnheldDoomsEnd
+unheld-dooms-end state moment request layout unlinked from image number object was k passes is here live none unnamed removed =
+    subst (λ (m : State). KeepsUncounted m (layout_removed layout (layout.place (main object.key)) was.contents) (words_of was ++ unlinked) image) (sym (dooms-end state moment request number object passes is here))
+    (doomed-removed state layout unlinked from image number object was k here live none unnamed removed)
+
+pub held-dooms-end : HeldDoomsEnd
+held-dooms-end state moment request layout unlinked from between image number object was k passes is can done unchained =
+    subst (λ (m : State). KeepsUncounted m (layout_doomed layout number (layout.place (main object.key)) was) unlinked image) (sym (dooms-end state moment request number object passes is can.lies.here))
+    (objects-doomed state layout unlinked number object was from between image k can done unchained)

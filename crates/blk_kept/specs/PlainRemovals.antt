@@ -1,10 +1,10 @@
--- States without one item, as a removal asks for them: without an object that has no parts and no handle, as a group or a doom takes it, and without one part.
+-- A plain object that no handle names, and a part that goes alone: where each is removed, and what is kept then.
 use Rattle.std.specs.Prelude.{◌≡◌, ℕ, List, [], ◌∷◌, ◌++◌, None, Some, false, is_some, not, slice_set, true}
 use Rattle.blk_model.specs.Effects.{doomed}
 use Rattle.blk_model.specs.Items.{Item, main, part, same_item}
 use Rattle.blk_model.specs.Room.{single, without}
 use Rattle.blk_model.specs.State.{IsValidState, Object, State, is_named, object_at, part_at}
-use Rattle.blk_volume.specs.Removal.{is_of_another, without_items}
+use Rattle.blk_volume.specs.Removal.{without_items}
 use Rattle.blk_image.specs.Image.{Image}
 use Rattle.blk_model.specs.Holding.{rest}
 use Rattle.blk_volume.specs.Layout.{Layout}
@@ -13,13 +13,13 @@ use Rattle.blk_volume.specs.Sound.{AreSealed, words_of}
 use Rattle.blk_kept.specs.Arranging.{LeavesFiles}
 use Rattle.blk_kept.specs.Changes.{Finds}
 use Rattle.blk_kept.specs.Keeping.{KeepsUncounted}
+use Rattle.blk_model.specs.Refusals.{refused}
+use Rattle.blk_model.specs.Request.{Request}
+use Rattle.blk_model.specs.Step.{step}
+use Rattle.blk_kept.specs.CommandStates.{IsDoomOf}
+use Rattle.blk_kept.specs.DoomLaws.{CanBeDoomed, IsUnchained, layout_doomed}
 use Rattle.blk_kept.specs.CommandEnds.{without_part}
 use Rattle.blk_kept.specs.RemovalLaws.{IsRemovalDone, IsUnlinking, IsWithout, chains_without, layout_removed}
-
--- a live object without parts and handles that is doomed leaves a state without its main item
-abbrev pub DoomedIsWithout : Type 0
-DoomedIsWithout = (state : State) (number : ℕ) (object : Object) → IsValidState state → object_at state number ≡ Some object → object.live ≡ true → object.parts ≡ [] → is_named state number ≡ false
-    → IsWithout state (slice_set state.objects number None) (is_of_another object.key) (main object.key) × (without_items state (slice_set state.objects number None) (is_of_another object.key) ≡ doomed number state (Some object))
 
 -- a part that goes alone leaves a state without it
 abbrev pub PartGoneIsWithout : Type 0
@@ -60,3 +60,17 @@ RemovingFindsPartGone = (state : State) (layout : Layout) (unlinked : List ℕ) 
 abbrev pub LonePartsAreRemoved : Type 0
 LonePartsAreRemoved = (state : State) (layout : Layout) (unlinked : List ℕ) (from image : Image) (number n : ℕ) (object : Object) (was : Loaded) → KeepsUncounted state layout unlinked from → object_at state number ≡ Some object → object.live ≡ true → is_some (part_at object n) ≡ true
     → IsRemoved layout (part object.key n) was from image → KeepsUncounted (without (single object.key n ∷ []) state) (layout_removed layout (layout.place (part object.key n)) was.contents) (words_of was ++ unlinked) image
+
+-- Doom and DoomKey of a plain object.
+
+-- of one that no handle names, as a DoomKey may have: once it is removed the state after it is kept but for the counters, and its words are unlinked
+abbrev pub UnheldDoomsEnd : Type 0
+UnheldDoomsEnd = (state : State) (moment : ℕ) (request : Request) (layout : Layout) (unlinked : List ℕ) (from image : Image) (number : ℕ) (object : Object) (was : Loaded) → KeepsUncounted state layout unlinked from → refused moment request state ≡ None → IsDoomOf request state number
+    → object_at state number ≡ Some object → object.live ≡ true → object.parts ≡ [] → is_named state number ≡ false → IsRemoved layout (main object.key) was from image
+    → KeepsUncounted (step state moment request).state (layout_removed layout (layout.place (main object.key)) was.contents) (words_of was ++ unlinked) image
+
+-- of one that a handle names: once it is out of the list and out of its chain, with state 2, the same with no more words unlinked
+abbrev pub HeldDoomsEnd : Type 0
+HeldDoomsEnd = (state : State) (moment : ℕ) (request : Request) (layout : Layout) (unlinked : List ℕ) (from between image : Image) (number : ℕ) (object : Object) (was : Loaded) → KeepsUncounted state layout unlinked from → refused moment request state ≡ None → IsDoomOf request state number
+    → CanBeDoomed state layout number object was → IsRemovalDone from (layout.place (main object.key)) between → IsUnchained state layout (layout.place (main object.key)) was between image
+    → KeepsUncounted (step state moment request).state (layout_doomed layout number (layout.place (main object.key)) was) unlinked image
