@@ -10,7 +10,7 @@ use Rattle.std.proofs.lemmas.List.{get_or-set_other, get_or-set_same}
 use Rattle.blk_model.specs.Effects.{doomed}
 use Rattle.blk_model.specs.Holding.{rest}
 use Rattle.blk_model.specs.Items.{Item, main, part, same_item}
-use Rattle.blk_model.specs.Room.{single, without}
+use Rattle.blk_model.specs.Room.{single, whole, without}
 use Rattle.blk_model.specs.State.{IsValidState, Object, State, has_item, is_named, object_at, part_at}
 use Rattle.blk_model.specs.Totals.{is_doomed_slot}
 use Rattle.blk_model.proofs.Chosen.{Owner, has_owner, owned_at}
@@ -29,12 +29,12 @@ use Rattle.blk_kept.specs.Changes.{Finds}
 use Rattle.blk_kept.specs.Keeping.{KeepsUncounted}
 use Rattle.blk_kept.specs.CommandEnds.{without_part}
 use Rattle.blk_kept.specs.RemovalLaws.{IsWithout, layout_removed}
-use Rattle.blk_kept.specs.PlainRemovals.{DoomedObjectsAreRemoved, HeldDoomsEnd, LonePartsAreRemoved, PartGoneIsWithout, RemovingFindsDoomed, RemovingFindsPartGone, UnheldDoomsEnd}
+use Rattle.blk_kept.specs.PlainRemovals.{DoomedObjectsAreRemoved, HeldDoomsEnd, LonePartsAreRemoved, LonePartsGo, PlainGroupsGo, PartGoneIsWithout, RemovingFindsDoomed, RemovingFindsPartGone, UnheldDoomsEnd}
 use Rattle.blk_kept.specs.DoomLaws.{layout_doomed}
 use Rattle.blk_kept.proofs.ChangedStates.{unheld-go}
-use Rattle.blk_kept.proofs.CommandEnding.{dooms-end}
+use Rattle.blk_kept.proofs.CommandEnding.{dooms-end, groups-turn}
 use Rattle.blk_kept.proofs.Doomed.{objects-doomed}
-use Rattle.blk_kept.proofs.GroupsGone.{parts-go-alone}
+use Rattle.blk_kept.proofs.GroupsGone.{parts-go-alone, whole-groups-go}
 use Rattle.blk_kept.proofs.NotAtRest.{within-slots}
 use Rattle.blk_kept.proofs.PartChanges.{parts-left-out}
 use Rattle.blk_kept.proofs.Removals.{removed-unlinked, unlinking-finds}
@@ -179,3 +179,16 @@ pub held-dooms-end : HeldDoomsEnd
 held-dooms-end state moment request layout unlinked from between image number object was k passes is can done unchained =
     subst (λ (m : State). KeepsUncounted m (layout_doomed layout number (layout.place (main object.key)) was) unlinked image) (sym (dooms-end state moment request number object passes is can.lies.here))
     (objects-doomed state layout unlinked number object was from between image k can done unchained)
+
+-- ---- groups
+
+pub plain-groups-go : PlainGroupsGo
+plain-groups-go state first layout unlinked from image number object parts was k here live none unnamed removed =
+    subst (λ (m : State). KeepsUncounted m (layout_removed layout (layout.place (main object.key)) was.contents) (words_of was ++ unlinked) image)
+    (sym (whole-groups-go (without first state) number object parts k.valid here live unnamed) ∙ groups-turn state first (whole object.key parts ∷ []))
+    (doomed-removed (without first state) layout unlinked from image number object was k here live none unnamed removed)
+
+pub lone-parts-go : LonePartsGo
+lone-parts-go state first layout unlinked from image number n object was k here live some removed =
+    subst (λ (m : State). KeepsUncounted m (layout_removed layout (layout.place (part object.key n)) was.contents) (words_of was ++ unlinked) image) (groups-turn state first (single object.key n ∷ []))
+    (part-removed (without first state) layout unlinked from image number n object was k here live some removed)

@@ -2,7 +2,7 @@
 use Rattle.std.specs.Prelude.{◌≡◌, ℕ, List, [], ◌∷◌, ◌++◌, None, Some, false, is_some, not, slice_set, true}
 use Rattle.blk_model.specs.Effects.{doomed}
 use Rattle.blk_model.specs.Items.{Item, main, part, same_item}
-use Rattle.blk_model.specs.Room.{single, without}
+use Rattle.blk_model.specs.Room.{Group, single, whole, without}
 use Rattle.blk_model.specs.State.{IsValidState, Object, State, is_named, object_at, part_at}
 use Rattle.blk_volume.specs.Removal.{without_items}
 use Rattle.blk_image.specs.Image.{Image}
@@ -74,3 +74,17 @@ abbrev pub HeldDoomsEnd : Type 0
 HeldDoomsEnd = (state : State) (moment : ℕ) (request : Request) (layout : Layout) (unlinked : List ℕ) (from between image : Image) (number : ℕ) (object : Object) (was : Loaded) → KeepsUncounted state layout unlinked from → refused moment request state ≡ None → IsDoomOf request state number
     → CanBeDoomed state layout number object was → IsRemovalDone from (layout.place (main object.key)) between → IsUnchained state layout (layout.place (main object.key)) was between image
     → KeepsUncounted (step state moment request).state (layout_doomed layout number (layout.place (main object.key)) was) unlinked image
+
+-- Groups.
+
+-- once the plain object of the next group is removed, what is kept is the state without one group more
+abbrev pub PlainGroupsGo : Type 0
+PlainGroupsGo = (state : State) (first : List Group) (layout : Layout) (unlinked : List ℕ) (from image : Image) (number : ℕ) (object : Object) (parts : List ℕ) (was : Loaded) → KeepsUncounted (without first state) layout unlinked from → object_at (without first state) number ≡ Some object
+    → object.live ≡ true → object.parts ≡ [] → is_named (without first state) number ≡ false → IsRemoved layout (main object.key) was from image
+    → KeepsUncounted (without (first ++ whole object.key parts ∷ []) state) (layout_removed layout (layout.place (main object.key)) was.contents) (words_of was ++ unlinked) image
+
+-- and once a part that is the next group is
+abbrev pub LonePartsGo : Type 0
+LonePartsGo = (state : State) (first : List Group) (layout : Layout) (unlinked : List ℕ) (from image : Image) (number n : ℕ) (object : Object) (was : Loaded) → KeepsUncounted (without first state) layout unlinked from → object_at (without first state) number ≡ Some object
+    → object.live ≡ true → is_some (part_at object n) ≡ true → IsRemoved layout (part object.key n) was from image
+    → KeepsUncounted (without (first ++ single object.key n ∷ []) state) (layout_removed layout (layout.place (part object.key n)) was.contents) (words_of was ++ unlinked) image

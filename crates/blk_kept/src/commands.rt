@@ -6,7 +6,7 @@ ghost use Rattle.blk_kept.specs.StageLaws.{StagesGoOn, StagesMayStop, WhatIsFoun
 ghost use Rattle.blk_kept.specs.WordStops.{UsesMayStop, UnsettledUsesMayStop, UnsettlingMayStop, SettlingMayStop, DoomsFindEither, OutIsDoomed, DoomedPartsFindTheSame, DoomsMayStop, PartsFindEither, PartOutIsGone, GroupsMayStop, WholeGroupsMayStop};
 ghost use Rattle.blk_kept.specs.NextStates.{UsesKeepNext, OpensKeepNext, CreatesKeepNext, WritesKeepNext, DoomedWritesKeepNext, SparseWritesKeepNext, EmptySparseWritesKeepNext, ClosesOfManyKeepNext, ClosesKeepNext, DoomsKeepNext, TrimsKeepNext};
 ghost use Rattle.blk_kept.specs.OneCallLaws.{OpensEndByTouch, ReadsMayStop, ReadsEndByTouch, DoomedReadsEnd, ClosesMayStop, ClosesEndByMark, ClosesOfDoomedUnlink, UnsettlingMarksMayStop};
-ghost use Rattle.blk_kept.specs.PlainRemovals.{UnheldDoomsEnd, HeldDoomsEnd, PartGoneIsWithout, RemovingFindsDoomed, DoomedObjectsAreRemoved, RemovingFindsPartGone, LonePartsAreRemoved};
+ghost use Rattle.blk_kept.specs.PlainRemovals.{PlainGroupsGo, LonePartsGo, UnheldDoomsEnd, HeldDoomsEnd, PartGoneIsWithout, RemovingFindsDoomed, DoomedObjectsAreRemoved, RemovingFindsPartGone, LonePartsAreRemoved};
 ghost use Rattle.blk_kept.specs.CreateStops.{InsertsMayStop, LinksMayStop, CreatesEndOnceCounted};
 ghost use Rattle.blk_kept.specs.StopLaws.{WhatIsLeftMayStop, OrdersMayBeLeft, UsesMayBeLeft, UsesGoOn, RoomMayBeLeft, HandlesAreNotAtRest, DoomedObjectsAreNotAtRest, UnsettledObjectsAreNotAtRest, OwnUsesKeepOthers, OthersMayBeLeftOnceUnsettled, OthersMayBeLeftWhileDoomed};
 
@@ -152,7 +152,7 @@ pub fn commands_of_one_call()
     ensures unsettling_stops { UnsettlingMarksMayStop }
 {}
 
-/// While a plain object that no handle names, or a part that goes alone, is removed, what is at rest without it is found, and in the end the state without it is kept and its words are unlinked. So a Doom or a DoomKey of a plain object ends, with or without a handle.
+/// While a plain object that no handle names, or a part that goes alone, is removed, what is at rest without it is found, and in the end the state without it is kept and its words are unlinked. So a Doom or a DoomKey of a plain object ends, with or without a handle, and so the next group goes.
 pub fn plain_objects_are_removed()
     ensures part { PartGoneIsWithout }
     ensures removing { RemovingFindsDoomed }
@@ -161,6 +161,8 @@ pub fn plain_objects_are_removed()
     ensures removed_part { LonePartsAreRemoved }
     ensures unheld_dooms { UnheldDoomsEnd }
     ensures held_dooms { HeldDoomsEnd }
+    ensures groups { PlainGroupsGo }
+    ensures parts { LonePartsGo }
 {}
 
 /// A Create may be stopped at each word of the insert of its node, and where its record is linked; once the counters are written too the state after it is kept.
