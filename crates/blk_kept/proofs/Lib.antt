@@ -29,3 +29,4 @@ pub mod DoneSteps
 pub mod Doomed
 pub mod Links
 pub mod ChangedStates
+pub mod Freed

@@ -19,3 +19,4 @@ pub mod DoneLaws
 pub mod DoomLaws
 pub mod LinkLaws
 pub mod ChangedStates
+pub mod AllocationLaws

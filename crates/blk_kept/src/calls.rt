@@ -1,5 +1,6 @@
 // What each kind of call does to a folder that keeps a state.
 
+ghost use Rattle.blk_kept.specs.AllocationLaws.{FreedBlocksAreRemoved};
 ghost use Rattle.blk_kept.specs.Arranging.{StatesAreRearranged};
 ghost use Rattle.blk_kept.specs.BoundLaws.{KeptAllocationsAreFew};
 ghost use Rattle.blk_kept.specs.ChangedStates.{UnheldObjectsGoWhole, ObjectsChangeTheirMainItem};
@@ -125,4 +126,9 @@ pub fn removed_items_are_one_less()
 pub fn states_change_in_one_object()
     ensures without { UnheldObjectsGoWhole }
     ensures changed { ObjectsChangeTheirMainItem }
+{}
+
+/// Blocks that are freed, as it is told of map and counters, have their allocation removed.
+pub fn freed_blocks_are_removed()
+    ensures { FreedBlocksAreRemoved }
 {}
