@@ -6,7 +6,7 @@ ghost use Rattle.blk_kept.specs.BoundLaws.{KeptAllocationsAreFew};
 ghost use Rattle.blk_kept.specs.ChangedStates.{UnheldObjectsGoWhole, ObjectsChangeTheirMainItem};
 ghost use Rattle.blk_kept.specs.CounterLaws.{CountersMayBeWritten, WrittenCountersCount};
 ghost use Rattle.blk_kept.specs.DoneLaws.{TouchStepsAreDone, InsertStepsAreDone, RemovalStepsAreDone};
-ghost use Rattle.blk_kept.specs.DoomLaws.{DoomedObjectsAreKept};
+ghost use Rattle.blk_kept.specs.DoomLaws.{DoomedObjectsAreKept, DoomedObjectsAreOneLess};
 ghost use Rattle.blk_kept.specs.ExternalLaws.{MakingFilesFindsTheSame, MadeFilesAreAdded, DeletingFilesFindsTheSame, DeletedFilesAreRemoved};
 ghost use Rattle.blk_kept.specs.GoneLaws.{GoneObjectsAreUnlinked, GoneObjectsAreNotCounted};
 ghost use Rattle.blk_kept.specs.LinkLaws.{TableWordsChangeLinks, TableWordsLeaveFiles, TableWordsLeaveSeals, ChainNextsChangeLinks, ChainNextsLeaveSeals, DataChangesAreInside, RecordUpdatesAreInside, RemovedItemsAreOneLess};
@@ -97,9 +97,10 @@ pub fn list_steps_are_done()
     ensures removal { RemovalStepsAreDone }
 {}
 
-/// An object without parts that is out of the list and out of its chain is kept as a doomed one.
+/// An object without parts that is out of the list and out of its chain is kept as a doomed one, and is one less to be counted.
 pub fn doomed_objects_are_kept()
-    ensures { DoomedObjectsAreKept }
+    ensures kept { DoomedObjectsAreKept }
+    ensures one_less { DoomedObjectsAreOneLess }
 {}
 
 /// A word of the table and the link of a record change links alone, and leave files and seals.
