@@ -2,7 +2,11 @@
 use Rattle.std.proofs.Common.{◌≡◌, ◌≢◌, ℕ, List, [], ◌∷◌, ◌++◌, map, refl, ap, sym, ◌∙◌, subst, arith, true, false, Option, Some, ⊎_elim, append_assoc}
 use Rattle.std.specs.Prelude.{◌==◌, not, filter, IsSomeAnd}
 use Rattle.std.specs.List.{AllByRecursion}
+use Rattle.std.specs.List.{cons_option, filter_map, sum_by}
 use Rattle.std.specs.List.Sorted.{IsPermutation}
+use Rattle.std.proofs.Common.{length, length-append}
+use Rattle.std.proofs.lemmas.List.Sums.{sum_by-cons}
+use Rattle.blk_volume.specs.Found.{charge_of}
 use Rattle.std.specs.Str.{bytes_eq}
 use Rattle.std.proofs.lemmas.Bool.{cases_Bool, cases_eq, eq-eqb, eqb-true, or_left, or_parts, or_right}
 use Rattle.std.proofs.lemmas.List.Sorted.{IsPermutation-append_right, IsPermutation-sym, IsPermutation-trans}
@@ -36,13 +40,13 @@ use Rattle.blk_laws.proofs.Dooming.{doomed-is-represented}
 use Rattle.blk_laws.proofs.Laid.{is_among-node}
 use Rattle.blk_laws.proofs.ListCompletions.{listed}
 use Rattle.blk_laws.proofs.Lists.{has_not}
-use Rattle.blk_laws.proofs.Moving.{moved-among, moved-distinct}
+use Rattle.blk_laws.proofs.Moving.{moved-among, moved-distinct, moved-same, sums-add}
 use Rattle.blk_laws.proofs.Opening.{IsAround, around, nodes-append}
 use Rattle.blk_laws.proofs.Settling.{main-listed}
 use Rattle.blk_laws.proofs.Tidying.{counter-same, sealed-still, touch_range, touch_sizes, touch_spares}
 use Rattle.blk_laws.proofs.WordTurns.{removals-can}
 use Rattle.blk_kept.specs.Arranging.{IsArranged, LeavesFiles}
-use Rattle.blk_kept.specs.DoomLaws.{CanBeDoomed, DoomedObjectsAreKept, IsUnchained, layout_doomed}
+use Rattle.blk_kept.specs.DoomLaws.{CanBeDoomed, DoomedObjectsAreKept, DoomedObjectsAreOneLess, IsUnchained, layout_doomed}
 use Rattle.blk_kept.specs.Keeping.{AllAreSealed, AreMarkedBy, KeepsUncounted, all_loaded, all_nodes, words_in_use}
 use Rattle.blk_kept.specs.RemovalLaws.{IsRemovalDone, chains_without}
 use Rattle.blk_kept.proofs.Arranging.{rearranged}
@@ -291,3 +295,29 @@ module _ (state : State) (layout : Layout) (unlinked : List ℕ) (number : ℕ) 
 
 pub objects-doomed : DoomedObjectsAreKept
 objects-doomed state layout unlinked number object loaded from between image k can done u = doomed-kept state layout unlinked number object loaded from between image k can done u
+
+-- ---- counting
+
+pub doomed-less : DoomedObjectsAreOneLess
+unfolding doomed
+doomed-less state layout unlinked number object loaded from k can = record {
+  items =
+      let kept = ap length items-are in
+      let one = length-append a.before a.suffix in
+      let two = length-append a.before (main object.key ∷ a.suffix) in
+      let all = ap length a.is in
+      omega (arith, kept, one, two, all);
+  bytes =
+      let now = ap (λ (items : List Item). sum_by charge_of (filter_map layout.at (nodes_of layout items))) items-are ∙ ap (λ (ns : List ℕ). sum_by charge_of (filter_map layout.at ns)) (nodes-append layout a.before a.suffix) in
+      let old = ap (λ (items : List Item). sum_by charge_of (filter_map layout.at (nodes_of layout items))) a.is
+      ∙ ap (λ (ns : List ℕ). sum_by charge_of (filter_map layout.at ns)) (nodes-append layout a.before (main object.key ∷ a.suffix))
+      ∙ sym (moved-same (λ (ns : List ℕ). sum_by charge_of (filter_map layout.at ns)) (sums-add charge_of layout.at) (nodes_of layout a.before) (layout.place (main object.key)) (nodes_of layout a.suffix))
+      ∙ ap (λ (o : Option Loaded). sum_by charge_of (cons_option o (filter_map layout.at (nodes_of layout a.before ++ nodes_of layout a.suffix)))) can.lies.at
+      ∙ sum_by-cons charge_of loaded (filter_map layout.at (nodes_of layout a.before ++ nodes_of layout a.suffix)) in
+      omega (arith, now, old);
+} where
+  a : IsAround (main object.key) state.uses
+  a = around (main object.key) state.uses (main-listed state k.valid number object true can.lies.here can.lies.live) (k.valid.once (main object.key))
+
+  items-are : filter (is_of_another object.key) state.uses ≡ a.before ++ a.suffix
+  items-are = filter-alike (is_of_another object.key) (λ other. not (same_item (main object.key) other)) state.uses (other-items state object.key can.alone) ∙ a.rest

@@ -1,5 +1,6 @@
 -- A live object without parts that a handle names is doomed: its node and its record stay, out of the list and out of the chains.
-use Rattle.std.specs.Prelude.{◌≡◌, ℕ, List, true, false, ◌==◌}
+use Rattle.std.specs.Prelude.{◌≡◌, ℕ, ◌+◌, List, true, false, ◌==◌, length}
+use Rattle.std.specs.List.{sum_by}
 use Rattle.std.specs.declared.option.Option.TheVariants.{Some}
 use Rattle.std.specs.declared.result.Result.TheVariants.{Ok}
 use Rattle.blk_model.specs.Effects.{doomed}
@@ -8,7 +9,9 @@ use Rattle.blk_model.specs.State.{State, Object, IsValidState, is_named}
 use Rattle.blk_image.specs.Image.{Image}
 use Rattle.blk_format.specs.Records as records
 use Rattle.blk_laws.specs.CommandLaws.{IsPlacedAsLive}
-use Rattle.blk_volume.specs.Layout.{HoldsExcept, Layout, is_listed}
+use Rattle.blk_volume.specs.Found.{charge_of}
+use Rattle.blk_volume.specs.Layout.{HoldsExcept, Layout, is_listed, nodes_of, order}
+use Rattle.blk_volume.specs.Tidy.{loaded_at}
 use Rattle.blk_volume.specs.Loads.{Loaded, load, unchained_rule}
 use Rattle.blk_volume.specs.Removal.{placed_doomed}
 use Rattle.blk_volume.specs.Sound.{AreSealed}
@@ -41,3 +44,11 @@ abbrev pub DoomedObjectsAreKept : Type 0
 DoomedObjectsAreKept = (state : State) (layout : Layout) (unlinked : List ℕ) (number : ℕ) (object : Object) (loaded : Loaded) (from between image : Image) → KeepsUncounted state layout unlinked from → CanBeDoomed state layout number object loaded
     → IsRemovalDone from (layout.place (main object.key)) between → IsUnchained state layout (layout.place (main object.key)) loaded between image
     → KeepsUncounted (doomed number state (Some object)) (layout_doomed layout number (layout.place (main object.key)) loaded) unlinked image
+
+-- one item less is to be counted then, with its charge
+pub record IsDoomedLess (state : State) (layout : Layout) (number : ℕ) (object : Object) (loaded : Loaded) : Type 0 where
+  pub items : length (doomed number state (Some object)).uses + 1 ≡ length state.uses
+  pub bytes : sum_by charge_of (loaded_at layout (nodes_of layout (doomed number state (Some object)).uses)) + charge_of loaded ≡ sum_by charge_of (loaded_at layout (order state layout))
+
+abbrev pub DoomedObjectsAreOneLess : Type 0
+DoomedObjectsAreOneLess = (state : State) (layout : Layout) (unlinked : List ℕ) (number : ℕ) (object : Object) (loaded : Loaded) (from : Image) → KeepsUncounted state layout unlinked from → CanBeDoomed state layout number object loaded → IsDoomedLess state layout number object loaded

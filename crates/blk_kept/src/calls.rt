@@ -1,11 +1,12 @@
 // What each kind of call does to a folder that keeps a state.
 
+ghost use Rattle.blk_kept.specs.AllocationLaws.{FreedBlocksAreRemoved};
 ghost use Rattle.blk_kept.specs.Arranging.{StatesAreRearranged};
 ghost use Rattle.blk_kept.specs.BoundLaws.{KeptAllocationsAreFew};
 ghost use Rattle.blk_kept.specs.ChangedStates.{UnheldObjectsGoWhole, ObjectsChangeTheirMainItem};
 ghost use Rattle.blk_kept.specs.CounterLaws.{CountersMayBeWritten, WrittenCountersCount};
 ghost use Rattle.blk_kept.specs.DoneLaws.{TouchStepsAreDone, InsertStepsAreDone, RemovalStepsAreDone};
-ghost use Rattle.blk_kept.specs.DoomLaws.{DoomedObjectsAreKept};
+ghost use Rattle.blk_kept.specs.DoomLaws.{DoomedObjectsAreKept, DoomedObjectsAreOneLess};
 ghost use Rattle.blk_kept.specs.ExternalLaws.{MakingFilesFindsTheSame, MadeFilesAreAdded, DeletingFilesFindsTheSame, DeletedFilesAreRemoved};
 ghost use Rattle.blk_kept.specs.GoneLaws.{GoneObjectsAreUnlinked, GoneObjectsAreNotCounted};
 ghost use Rattle.blk_kept.specs.LinkLaws.{TableWordsChangeLinks, TableWordsLeaveFiles, TableWordsLeaveSeals, ChainNextsChangeLinks, ChainNextsLeaveSeals, DataChangesAreInside, RecordUpdatesAreInside, RemovedItemsAreOneLess};
@@ -96,9 +97,10 @@ pub fn list_steps_are_done()
     ensures removal { RemovalStepsAreDone }
 {}
 
-/// An object without parts that is out of the list and out of its chain is kept as a doomed one.
+/// An object without parts that is out of the list and out of its chain is kept as a doomed one, and is one less to be counted.
 pub fn doomed_objects_are_kept()
-    ensures { DoomedObjectsAreKept }
+    ensures kept { DoomedObjectsAreKept }
+    ensures one_less { DoomedObjectsAreOneLess }
 {}
 
 /// A word of the table and the link of a record change links alone, and leave files and seals.
@@ -125,4 +127,9 @@ pub fn removed_items_are_one_less()
 pub fn states_change_in_one_object()
     ensures without { UnheldObjectsGoWhole }
     ensures changed { ObjectsChangeTheirMainItem }
+{}
+
+/// Blocks that are freed, as it is told of map and counters, have their allocation removed.
+pub fn freed_blocks_are_removed()
+    ensures { FreedBlocksAreRemoved }
 {}
