@@ -21,6 +21,8 @@ use Rattle.blk_kept.specs.PartStates.{with_value}
 use Rattle.blk_kept.proofs.CommandEnding.{closes-doomed, closes-free, closes-left, creates-left, dooms-left, only-uses-left, opens-left, sparse-writes-unsettle, trims-left, writes-unsettle}
 use Rattle.blk_kept.proofs.GroupsGone.{parts-go-alone, whole-groups-go}
 use Rattle.blk_kept.proofs.PartChanges.{new-parts-keep-valid}
+use Rattle.blk_kept.specs.RemovalLaws.{IsWithout}
+use Rattle.blk_kept.proofs.PlainRemovals.{part-gone-without}
 use Rattle.blk_kept.proofs.Unsettling.{doomed-left, unsettled-left}
 
 a_bytes : IsBytes a
@@ -139,3 +141,7 @@ its_part_goes = parts-go-alone sparsely 0 sparse_object 0 sparsely_is_valid refl
 another_part : IsValidState (with_first sparsely (slice_set sparsely.objects 0 (Some (with_value sparse_object 1 empty_part))) (part a 1))
 unfolding computing
 another_part = new-parts-keep-valid sparsely sparsely_is_valid 0 sparse_object refl (record { key_is = refl; live = refl; unsettled = refl }) refl 1 empty_part (omega arith) empty_part_is refl
+
+-- and so the state lacks one item
+lacks_part : IsWithout sparsely (slice_set sparsely.objects 0 (Some (without_part sparse_object 0))) (λ item. not (same_item item (part a 0))) (part a 0)
+lacks_part = (part-gone-without sparsely 0 0 sparse_object sparsely_is_valid (unfold computing in refl) refl (unfold computing in refl)).0

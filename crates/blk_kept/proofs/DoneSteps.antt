@@ -1,6 +1,4 @@
 -- What the steps of the use list's operations leave is done.
-use Rattle.blk_image.specs.Image.{Image}
-use Rattle.blk_image.specs.Steps.{after}
 use Rattle.blk_image.proofs.Runs.{until_last}
 use Rattle.blk_volume.specs.Completion.{insert, remove}
 use Rattle.blk_volume.specs.ListImages.{operation_steps, steps_of_touch, walked}

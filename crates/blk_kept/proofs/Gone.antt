@@ -139,7 +139,7 @@ module _ (state other : State) (layout now : Layout) (unlinked numbers : List �
 
 -- ---- a doomed object
 
-set-none : (state : State) (number : ℕ) (o : Object) → object_at state number ≡ Some o → object_at (with_slot number None state) number ≡ None
+pub set-none : (state : State) (number : ℕ) (o : Object) → object_at state number ≡ Some o → object_at (with_slot number None state) number ≡ None
 set-none state number o here = let within : number < length state.objects = some_within state.objects number o here in rw get_or-set_same
 
 module _ (state : State) (layout : Layout) (unlinked : List ℕ) (image : Image) (number : ℕ) (object : Object) (was : Loaded) (names : List (Option ℕ)) (k : KeepsUncounted state layout unlinked image) (at : IsPlacedAsDoomed state layout number object was) (valid : IsValidState (with_names names (with_slot number None state))) where

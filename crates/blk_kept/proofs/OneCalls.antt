@@ -1,21 +1,19 @@
 -- Commands of one call, from the moments of that call.
-use Rattle.std.proofs.Common.{◌≡◌, ℕ, Option, List, [], ◌∷◌, refl, ap, sym, ◌∙◌, subst, Bool, true, false, cond, None, Some}
-use Rattle.std.specs.Prelude.{◌⊎◌, ◌==◌, unwrap_or, slice_set, is_none, length, ◌++◌}
-use Rattle.blk_image.specs.Image.{Image}
-use Rattle.blk_model.specs.Effects.{effect, new_object, number_of, object_of, used, used_all, used_main}
+use Rattle.std.proofs.Common.{◌≡◌, ℕ, Option, List, [], ◌∷◌, refl, ap, sym, ◌∙◌, subst, Bool, true, false, cond, None}
+use Rattle.std.specs.Prelude.{◌⊎◌, ◌==◌, unwrap_or, slice_set, length, ◌++◌}
+use Rattle.blk_model.specs.Effects.{new_object, object_of, used_all}
 use Rattle.blk_model.specs.Holding.{rest}
 use Rattle.blk_model.specs.Items.{Item, main}
 use Rattle.blk_model.specs.ListSteps.{dooms, uses_of}
 use Rattle.blk_model.specs.Refusals.{evicted, refusals, refused}
-use Rattle.blk_model.specs.Request.{Request, to_close, to_open, to_read}
+use Rattle.blk_model.specs.Request.{to_close, to_open, to_read}
 use Rattle.blk_model.specs.Room.{without}
-use Rattle.blk_model.specs.State.{IsValidState, Object, State, live_with, named_by, object_at}
-use Rattle.blk_model.specs.Step.{step}
+use Rattle.blk_model.specs.State.{IsValidState, Object, State, object_at}
 use Rattle.blk_model.proofs.Steps.{none_comes, step_valid}
 use Rattle.blk_laws.specs.CommandLaws.{marked}
-use Rattle.blk_laws.proofs.commands.Opening.{first-listed}
-use Rattle.blk_laws.proofs.states.Settling.{main-listed}
-use Rattle.blk_volume.specs.Layout.{Layout, is_listed}
+use Rattle.blk_laws.proofs.Opening.{first-listed}
+use Rattle.blk_laws.proofs.Settling.{main-listed}
+use Rattle.blk_volume.specs.Layout.{is_listed}
 use Rattle.blk_volume.specs.Sound.{words_of}
 use Rattle.blk_kept.specs.Changes.{Finds}
 use Rattle.blk_kept.specs.CommandStates.{in_order, with_room}

@@ -1,62 +1,60 @@
 -- One item goes out of the use list and out of its chain.
-use Rattle.std.proofs.Common.{◌≡◌, ◌≢◌, ◌⊎◌, inl, inr, ℕ, ◌+◌, ◌<◌, List, [], ◌∷◌, ◌++◌, map, take, refl, ap, sym, ◌∙◌, subst, arith, Bool, true, false, Option, Some, None, Ok, ⊎_elim, append_assoc}
+use Rattle.std.proofs.Common.{◌≡◌, ℕ, ◌<◌, List, [], ◌∷◌, ◌++◌, map, refl, ap, sym, ◌∙◌, subst, arith, Bool, true, false, Option, Some, None, ⊎_elim, append_assoc}
 use Rattle.std.specs.Prelude.{◌||◌, ◌&&◌, ◌==◌, not, nat_lt, filter, IfSome, if◌then◌else◌}
 use Rattle.std.proofs.lemmas.Bool.{and_parts, cases_Bool, eq-eqb, eqb-true, or_left, or_right}
 use Rattle.blk_image.proofs.Footprints.{outside_wider, within_left}
 use Rattle.blk_image.proofs.Runs.{some_inj}
 use Rattle.blk_image.specs.Footprint.{SameOutside}
 use Rattle.blk_image.specs.Image.{Image, Index, byte}
-use Rattle.blk_model.proofs.Same.{one_item, same_item_self}
+use Rattle.blk_model.proofs.Same.{same_item_self}
 use Rattle.blk_model.specs.Holding.{rest}
 use Rattle.blk_model.specs.Items.{Item, main, part, same_item}
-use Rattle.blk_model.specs.State.{State, Object, IsValidState, object_at}
+use Rattle.blk_model.specs.State.{State, Object, object_at}
 use Rattle.blk_format.specs.Address.{blocks_256}
 use Rattle.blk_format.specs.BlockFiles.{is_among, IsWellFormed}
-use Rattle.blk_format.specs.Claims.{Claim, claims_of, has_claim}
+use Rattle.blk_format.specs.Claims.{claims_of, has_claim}
 use Rattle.blk_format.specs.Hash.{hash}
 use Rattle.blk_format.specs.Headers.{this_id_of}
 use Rattle.blk_format.specs.Sealed.{record_range}
 use Rattle.blk_volume.specs.Audit.{kept_among}
-use Rattle.blk_volume.specs.Chains.{bucket_of_hash, IsChain}
+use Rattle.blk_volume.specs.Chains.{bucket_of_hash}
 use Rattle.blk_volume.specs.Completion.{completed_list, remove}
-use Rattle.blk_volume.specs.Found.{row_of_loaded}
+use Rattle.blk_volume.specs.Found.{row_of}
 use Rattle.blk_volume.specs.Layout.{HoldsExcept, IsLayoutOf, IsListedRecord, IsPlacedAt, Layout, Represents, Shows, is_in, is_listed, nodes_of, order}
 use Rattle.blk_volume.specs.ListPlans.{writes_of}
-use Rattle.blk_volume.specs.ListSteps.{IsPartly, touched_by_writes}
-use Rattle.blk_volume.specs.ListView.{Distinct, IsAtRest, IsList, ListView, ListWrite, after_writes, put}
+use Rattle.blk_volume.specs.ListSteps.{touched_by_writes}
+use Rattle.blk_volume.specs.ListView.{Distinct, IsAtRest, IsList, ListView, ListWrite, put}
 use Rattle.blk_volume.specs.Loads.{Loaded, held_rule}
-use Rattle.blk_volume.specs.Removal.{HasChains, HasLess, placed_less, without_items}
-use Rattle.blk_volume.specs.ShownChanges.{ShowsTheSame}
-use Rattle.blk_volume.specs.StandsFor.{AreNumbers}
+use Rattle.blk_volume.specs.Removal.{HasLess, without_items}
 use Rattle.blk_volume.specs.Sound.{AreSealed, words_of}
 use Rattle.blk_volume.specs.Tidy.{doomed_nodes}
 use Rattle.blk_volume.specs.View.{StoreView, list_of, store_of, view_of}
 use Rattle.blk_volume.specs.Walk.{walk}
-use Rattle.blk_laws.proofs.lists.AtRest.{removals-turn}
-use Rattle.blk_laws.proofs.claims.ByteChanges.{stands-some}
-use Rattle.blk_laws.proofs.states.Central.{rest-found, walk-idle}
-use Rattle.blk_laws.proofs.states.Changing.{apart-sym, at-elsewhere, at-itself, same-place}
-use Rattle.blk_laws.proofs.claims.ClaimLists.{contents-claims, some-claim}
-use Rattle.blk_laws.proofs.commands.DoomedObjects.{listed-rest}
-use Rattle.blk_laws.proofs.states.Laid.{IsNodeOf, is_among-node, node-of}
-use Rattle.blk_laws.proofs.lists.ListCompletions.{listed}
-use Rattle.blk_laws.proofs.lists.Lists.{Distinct-without}
-use Rattle.blk_laws.proofs.commands.Opening.{IsAround, around, nodes-append}
-use Rattle.blk_laws.proofs.states.OthersHold.{chained-only, others-unlinked}
-use Rattle.blk_laws.proofs.commands.Removing.{in-filter}
-use Rattle.blk_laws.proofs.states.Settling.{main-listed}
-use Rattle.blk_laws.proofs.lists.Walks.{walk_list}
+use Rattle.blk_laws.proofs.AtRest.{removals-turn}
+use Rattle.blk_laws.proofs.ByteChanges.{stands-some}
+use Rattle.blk_laws.proofs.Central.{rest-found, walk-idle}
+use Rattle.blk_laws.proofs.Changing.{at-elsewhere, at-itself, same-place}
+use Rattle.blk_laws.proofs.ClaimLists.{contents-claims, some-claim}
+use Rattle.blk_laws.proofs.DoomedObjects.{listed-rest}
+use Rattle.blk_laws.proofs.Laid.{is_among-node}
+use Rattle.blk_laws.proofs.ListCompletions.{listed}
+use Rattle.blk_laws.proofs.Lists.{Distinct-without}
+use Rattle.blk_laws.proofs.Opening.{IsAround, around, nodes-append}
+use Rattle.blk_laws.proofs.OthersHold.{chained-only, others-unlinked}
+use Rattle.blk_laws.proofs.Removing.{in-filter}
+use Rattle.blk_laws.proofs.Settling.{main-listed}
+use Rattle.blk_laws.proofs.Walks.{walk_list}
 use Rattle.blk_model.specs.Totals.{is_doomed_slot}
 use Rattle.blk_volume.specs.Footprint.{IsOnlyRecord}
-use Rattle.blk_laws.proofs.updates.StillShown.{standing-parts}
-use Rattle.blk_laws.proofs.states.Tidying.{counter-same, sealed-still, touch_range, touch_sizes, touch_spares}
-use Rattle.blk_laws.proofs.commands.Touches.{shows-same}
-use Rattle.blk_laws.proofs.commands.Unlinking.{lies-less}
-use Rattle.blk_laws.proofs.lists.WordTurns.{removals-can}
+use Rattle.blk_laws.proofs.StillShown.{standing-parts}
+use Rattle.blk_laws.proofs.Tidying.{counter-same, sealed-still, touch_range, touch_sizes, touch_spares}
+use Rattle.blk_laws.proofs.Touches.{shows-same}
+use Rattle.blk_laws.proofs.Unlinking.{lies-less}
+use Rattle.blk_laws.proofs.WordTurns.{removals-can}
 use Rattle.blk_kept.specs.Arranging.{LeavesFiles}
 use Rattle.blk_kept.specs.Changes.{Finds}
 use Rattle.blk_kept.specs.GoneLaws.{owner_without}
-use Rattle.blk_kept.specs.Keeping.{AllAreSealed, AreMarkedBy, KeepsUncounted, all_nodes}
+use Rattle.blk_kept.specs.Keeping.{AllAreSealed, AreMarkedBy, KeepsUncounted}
 use Rattle.blk_kept.specs.RemovalLaws.{IsRemovalDone, IsUnlinking, IsWithout, RemovalsFindEither, RemovedItemsAreUnlinked, UnlinkingFindsTheOthers, chains_without, layout_removed, layout_unlisted}
 use Rattle.blk_kept.proofs.Free.{standing-at}
 use Rattle.blk_kept.proofs.Gone.{among-without, node-gone, others-owned, others-still}
@@ -66,14 +64,14 @@ use Rattle.blk_kept.proofs.Touching.{found-kept}
 
 -- ---- lists
 
-filter-alike : (p q : Item → Bool) (items : List Item) → ((i : Item) → is_in items i ≡ true → p i ≡ q i) → filter p items ≡ filter q items
+pub filter-alike : (p q : Item → Bool) (items : List Item) → ((i : Item) → is_in items i ≡ true → p i ≡ q i) → filter p items ≡ filter q items
 filter-alike p q [] same = refl
 filter-alike p q (i ∷ items) same =
     let e = same i (or_left (same_item i i) (is_in items i) (same_item_self i)) in
     let rest = filter-alike p q items (λ j h. same j (or_right (same_item j i) (is_in items j) h)) in
     ⊎_elim (λ (t : q i ≡ true). let s : p i ≡ true = e ∙ t in rw (s, t) (ap (λ (xs : List Item). i ∷ xs) rest)) (λ (t : q i ≡ false). let s : p i ≡ false = e ∙ t in rw (s, t) rest) (cases_Bool (q i))
 
-in-filtered : (w : ℕ) (words : List ℕ) (x : ℕ) → (x == w) ≡ false → is_among words x ≡ true → is_among (filter (λ v. not (v == w)) words) x ≡ true
+pub in-filtered : (w : ℕ) (words : List ℕ) (x : ℕ) → (x == w) ≡ false → is_among words x ≡ true → is_among (filter (λ v. not (v == w)) words) x ≡ true
 in-filtered w [] x apart e = e
 in-filtered w (v ∷ words) x apart e = ⊎_elim
     (λ (h : (v == x) ≡ true). let s : (v == w) ≡ false = ap (λ (y : ℕ). y == w) (eqb-true v x h) ∙ apart in rw s (or_left (v == x) (is_among (filter (λ y. not (y == w)) words) x) h))
@@ -82,7 +80,7 @@ in-filtered w (v ∷ words) x apart e = ⊎_elim
     ⊎_elim (λ (t : (v == w) ≡ true). rw t more) (λ (t : (v == w) ≡ false). rw t (or_right (v == x) (is_among (filter (λ y. not (y == w)) words) x) more)) (cases_Bool (v == w)))
     (cases_Bool (v == x))
 
-from-filtered : (w : ℕ) (words : List ℕ) (x : ℕ) → is_among (filter (λ v. not (v == w)) words) x ≡ true → ((x == w) ≡ false) × (is_among words x ≡ true)
+pub from-filtered : (w : ℕ) (words : List ℕ) (x : ℕ) → is_among (filter (λ v. not (v == w)) words) x ≡ true → ((x == w) ≡ false) × (is_among words x ≡ true)
 from-filtered w [] x e = absurd (let z : false ≡ true = e in cc)
 from-filtered w (v ∷ words) x e = ⊎_elim
     (λ (t : (v == w) ≡ true). let more = from-filtered w words x (rw t at e) in (more.0, or_right (v == x) (is_among words x) more.1))
@@ -93,6 +91,19 @@ from-filtered w (v ∷ words) x e = ⊎_elim
     (λ (h : (v == x) ≡ false). let more = from-filtered w words x (rw h at there) in (more.0, or_right (v == x) (is_among words x) more.1))
     (cases_Bool (v == x)))
     (cases_Bool (v == w))
+
+-- what lies at different nodes has different records
+pub other-record-of : (state : State) (layout : Layout) (unlinked : List ℕ) (from : Image) (k : KeepsUncounted state layout unlinked from) (node n : ℕ) (was l : Loaded) → layout.at node ≡ Some was → layout.at n ≡ Some l → (node == n) ≡ false → (l.contents == was.contents) ≡ false
+other-record-of state layout unlinked from k node n was l here is apart = ⊎_elim
+    (λ (e : (l.contents == was.contents) ≡ true).
+    let same = eqb-true l.contents was.contents e in
+    let stands = standing-parts from blocks_256 was.contents (standing-at from state layout k.represents node was here).record_ in
+    let c = some-claim was.contents (stands-some from was.contents stands.0) in
+    let mine : layout.owner c.0 ≡ Some node = k.represents.holds.lies.own node was c.0 here (contents-claims was c.0 c.1) in
+    let its : layout.owner c.0 ≡ Some n = k.represents.holds.lies.own n l c.0 is (contents-claims l c.0 (ap (λ (x : ℕ). has_claim (claims_of x) c.0) same ∙ c.1)) in
+    absurd (let z : true ≡ false = sym (eq-eqb node n (some_inj (sym mine ∙ its))) ∙ apart in cc))
+    (λ (e : (l.contents == was.contents) ≡ false). e)
+    (cases_Bool (l.contents == was.contents))
 
 -- ---- without one item
 
@@ -112,7 +123,7 @@ module _ (state : State) (layout : Layout) (unlinked : List ℕ) (objects : List
   abbrev suffix : List ℕ
   suffix = nodes_of layout a.suffix
 
-  kept-items : filter keep state.uses ≡ a.before ++ a.suffix
+  pub kept-items : filter keep state.uses ≡ a.before ++ a.suffix
   kept-items = filter-alike keep (λ other. not (same_item item other)) state.uses w.but ∙ a.rest
 
   pub old-order : order state layout ≡ prefix ++ node ∷ suffix
@@ -139,16 +150,7 @@ module _ (state : State) (layout : Layout) (unlinked : List ℕ) (objects : List
 
   -- and has another record
   other-record : (n : ℕ) (l : Loaded) → layout.at n ≡ Some l → (node == n) ≡ false → (l.contents == was.contents) ≡ false
-  other-record n l is apart = ⊎_elim
-      (λ (e : (l.contents == was.contents) ≡ true).
-      let same = eqb-true l.contents was.contents e in
-      let stands = standing-parts from blocks_256 was.contents (standing-at from state layout k.represents node was here).record_ in
-      let c = some-claim was.contents (stands-some from was.contents stands.0) in
-      let mine : layout.owner c.0 ≡ Some node = k.represents.holds.lies.own node was c.0 here (contents-claims was c.0 c.1) in
-      let its : layout.owner c.0 ≡ Some n = k.represents.holds.lies.own n l c.0 is (contents-claims l c.0 (ap (λ (x : ℕ). has_claim (claims_of x) c.0) same ∙ c.1)) in
-      absurd (let z : true ≡ false = sym (eq-eqb node n (some_inj (sym mine ∙ its))) ∙ apart in cc))
-      (λ (e : (l.contents == was.contents) ≡ false). e)
-      (cases_Bool (l.contents == was.contents))
+  other-record n l is apart = other-record-of state layout unlinked from k node n was l here is apart
 
   not-gone : (n : ℕ) (l : Loaded) → put layout.at node None n ≡ Some l → ((node == n) ≡ false) × (layout.at n ≡ Some l)
   not-gone n l is = ⊎_elim
@@ -213,14 +215,14 @@ module _ (state : State) (layout : Layout) (unlinked : List ℕ) (objects : List
   once-then = subst Distinct (sym new-order) (Distinct-without prefix node suffix (subst Distinct old-order k.represents.list.distinct))
 
   -- so what is kept of the list without it is what is at rest without it
-  pub rest-then : (store : StoreView) → Shows store layout → map row_of_loaded (kept_among store held_rule (nodes_of layout (filter keep state.uses))) ≡ rest after
+  pub rest-then : (store : StoreView) → Shows store layout → map row_of (kept_among store held_rule (nodes_of layout (filter keep state.uses))) ≡ rest after
   rest-then store shows = listed-rest (λ n. false) store after (layout_unlisted layout node) (others-hold store shows) w.valid once-then (λ i there. refl)
 
 pub removals-find : RemovalsFindEither
 removals-find state layout unlinked objects keep item was from image k w here partly = (
   well,
-  found-kept image well ∙ ap (λ (ls : ListView). map row_of_loaded (kept_among (store_of image) held_rule (walk (completed_list ls)))) partly.shown.list
-      ∙ ap (λ (ns : List ℕ). map row_of_loaded (kept_among (store_of image) held_rule ns)) (removals-turn (layout.place item) (list_of from) (nodes_of layout around-it.before) (nodes_of layout around-it.suffix) (rest-list state layout unlinked objects keep item was from k w here) partly.made) ∙ go (nat_lt partly.made 2),
+  found-kept image well ∙ ap (λ (ls : ListView). map row_of (kept_among (store_of image) held_rule (walk (completed_list ls)))) partly.shown.list
+      ∙ ap (λ (ns : List ℕ). map row_of (kept_among (store_of image) held_rule ns)) (removals-turn (layout.place item) (list_of from) (nodes_of layout around-it.before) (nodes_of layout around-it.suffix) (rest-list state layout unlinked objects keep item was from k w here) partly.made) ∙ go (nat_lt partly.made 2),
 ) where
   well : IsWellFormed image
   well = partly.well_formed k.well_formed
@@ -231,9 +233,9 @@ removals-find state layout unlinked objects keep item was from image k w here pa
   around-it : IsAround item state.uses
   around-it = around item state.uses w.listed (k.valid.once item)
 
-  go : (b : Bool) → map row_of_loaded (kept_among (store_of image) held_rule (if b then nodes_of layout around-it.before ++ layout.place item ∷ nodes_of layout around-it.suffix else nodes_of layout around-it.before ++ nodes_of layout around-it.suffix)) ≡ (if b then rest state else rest (without_items state objects keep))
-  go true = ap (λ (ns : List ℕ). map row_of_loaded (kept_among (store_of image) held_rule ns)) (sym (old-order state layout unlinked objects keep item was from k w here)) ∙ rest-found (store_of image) state layout (record { shows = shows; lies = k.represents.holds.lies }) k.valid k.represents.list.distinct
-  go false = ap (λ (ns : List ℕ). map row_of_loaded (kept_among (store_of image) held_rule ns)) (sym (new-order state layout unlinked objects keep item was from k w here)) ∙ rest-then state layout unlinked objects keep item was from k w here (store_of image) shows
+  go : (b : Bool) → map row_of (kept_among (store_of image) held_rule (if b then nodes_of layout around-it.before ++ layout.place item ∷ nodes_of layout around-it.suffix else nodes_of layout around-it.before ++ nodes_of layout around-it.suffix)) ≡ (if b then rest state else rest (without_items state objects keep))
+  go true = ap (λ (ns : List ℕ). map row_of (kept_among (store_of image) held_rule ns)) (sym (old-order state layout unlinked objects keep item was from k w here)) ∙ rest-found (store_of image) state layout (record { shows = shows; lies = k.represents.holds.lies }) k.valid k.represents.list.distinct
+  go false = ap (λ (ns : List ℕ). map row_of (kept_among (store_of image) held_rule ns)) (sym (new-order state layout unlinked objects keep item was from k w here)) ∙ rest-then state layout unlinked objects keep item was from k w here (store_of image) shows
 
 -- ---- out of its chain
 
@@ -274,7 +276,7 @@ module _ (state : State) (layout : Layout) (unlinked : List ℕ) (objects : List
     pub found-now : Finds (rest later) image
     found-now = (
       well-now,
-      found-kept image well-now ∙ ap (λ (ns : List ℕ). map row_of_loaded (kept_among (store_of image) held_rule ns)) (walk-idle (list_of image) list-now.idle ∙ walk_list (list_of image) (nodes_of layout (filter keep state.uses)) list-now.whole)
+      found-kept image well-now ∙ ap (λ (ns : List ℕ). map row_of (kept_among (store_of image) held_rule ns)) (walk-idle (list_of image) list-now.idle ∙ walk_list (list_of image) (nodes_of layout (filter keep state.uses)) list-now.whole)
           ∙ listed-rest (λ n. false) (store_of image) later (record (layout_unlisted layout its-node) { chains = chains }) holds-now w.valid (once-then state layout unlinked objects keep item was from k w here) (λ i there. refl),
     )
 

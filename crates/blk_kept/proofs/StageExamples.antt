@@ -1,5 +1,5 @@
 -- The laws on folders in the midst of a command speak of something: in the whole folder of one entry, whose handle is 0, a Read, a Doom and a List are begun; and in the folder of one doomed object its key is out.
-use Rattle.std.proofs.Common.{◌≡◌, [], ◌∷◌, refl, sym, subst, true, false, arith, None, Some, codes}
+use Rattle.std.proofs.Common.{◌++◌, ◌≡◌, [], ◌∷◌, refl, sym, subst, true, false, arith, None, Some, codes}
 use Rattle.std.specs.Option.{ForSome}
 use Rattle.blk_image.specs.Footprint.{Footprint, SameOutside}
 use Rattle.blk_image.specs.Image.{Image}
@@ -9,7 +9,7 @@ use Rattle.blk_image.proofs.Runs.{passes_none, some_inj}
 use Rattle.blk_model.specs.Effects.{doomed}
 use Rattle.blk_model.specs.Holding.{rest}
 use Rattle.blk_model.specs.Items.{main}
-use Rattle.blk_model.specs.Request.{to_doom, to_list, to_read}
+use Rattle.blk_model.specs.Request.{to_close, to_doom, to_list, to_read}
 use Rattle.blk_model.specs.State.{State}
 use Rattle.blk_model.specs.Step.{step}
 use Rattle.blk_model.proofs.Computing.{computing}
@@ -30,6 +30,9 @@ use Rattle.blk_kept.specs.StageLaws.{GoesOn, IsAtStage}
 use Rattle.blk_kept.specs.WordStops.{IsMidRemoval, IsMidUse, IsOut}
 use Rattle.blk_kept.proofs.Examples.{doomed-keeps, opened, whole-keeps}
 use Rattle.blk_kept.proofs.Keeping.{kept-found, kept-stands}
+use Rattle.blk_volume.specs.Sound.{words_of}
+use Rattle.blk_kept.specs.GoneLaws.{layout_without}
+use Rattle.blk_kept.proofs.OneCalls.{closes-of-doomed-unlink}
 use Rattle.blk_kept.proofs.Stages.{ends-kept, notes-end, stages-stop}
 use Rattle.blk_kept.proofs.Stopping.{quiet-keep, stop-before}
 use Rattle.blk_kept.proofs.WordStops.{dooms-find, dooms-stop, out-doomed, uses-stop}
@@ -105,3 +108,7 @@ noted = record { files = refl; trail = refl }
 list_is_stepped : IsStepped told told 100 to_list 1 state
 list_is_stepped = notes-end told told told 100 to_list 1 state (passes_none (MayStop state 100 to_list) refl (only-folder (MayStop state 100 to_list) (stop-before state 100 to_list folder whole-keeps.entries.valid (still state (one.layout 0) [] whole-keeps.entries))))
     (only-folder (λ image. StandsFor image (step state 100 to_list).state) (kept-stands (step state 100 to_list).state (one.layout 0) folder list_ends)) noted
+
+-- the doomed object is closed by its last handle, and its words are unlinked
+doomed_is_closed : Keeps (step (doomed_state true) 100 (to_close 0)).state (layout_without (doomed_layout 0) ((doomed_layout 0).place_of_doomed 0)) (words_of (one.loaded 0) ++ []) (opened doomed_folder 7)
+doomed_is_closed = closes-of-doomed-unlink (doomed_state true) (doomed_layout 0) [] (opened doomed_folder 7) 100 0 0 (doomed_object true) (one.loaded 0) doomed-keeps (omega arith) refl (unfold computing in refl) (record { here = refl; dead = refl; at = refl })

@@ -15,7 +15,7 @@ use Rattle.blk_volume.specs.StandsFor.{StandsFor}
 use Rattle.blk_kept.specs.Changes.{StillFinds}
 use Rattle.blk_kept.specs.Commands.{ForKept, MayStop}
 use Rattle.blk_kept.specs.Keeping.{Keeps}
-use Rattle.blk_kept.specs.StageLaws.{CallsEnd, CallsFollow, EffectsAreDone, EndsAreKept, FindsLeft, GoesOn, IsAtStage, NotesEndSteps, StagesGoOn, StagesMayStop, WhatIsFoundMayStop}
+use Rattle.blk_kept.specs.StageLaws.{CallsFollow, EffectsAreDone, EndsAreKept, FindsLeft, GoesOn, IsAtStage, NotesEndSteps, StagesGoOn, StagesMayStop, WhatIsFoundMayStop}
 use Rattle.blk_kept.proofs.CommandEnding.{passed}
 use Rattle.blk_kept.proofs.Objects.{handles-uncounted}
 use Rattle.blk_kept.proofs.Orders.{left-stops}
@@ -44,9 +44,6 @@ stages-stop keeps told now later moment request words stage passes image there s
 
 pub calls-follow : (keeps : State → Image → Type 0) → CallsFollow keeps
 calls-follow keeps told now later last moment request first second image there state k = passes_then (first image there state k) (second image there state k)
-
-pub calls-end : (keeps : State → Image → Type 0) → CallsEnd keeps
-calls-end keeps told now moment request goes = goes
 
 -- once a request goes on to where a folder tells its files, it goes on by a call whose clause is one of these files, if each of its moments may be stopped
 pub call-then : (keeps : State → Image → Type 0) (told now later : Told) (moment : ℕ) (request : Request) (P : Image → Image → Type 0) → GoesOn keeps told told now moment request → ForSome now.files (λ from. Passes now later (P from))

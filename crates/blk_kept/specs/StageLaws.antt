@@ -16,7 +16,7 @@ use Rattle.blk_model.specs.declared.Answer.{Answer}
 use Rattle.blk_volume.specs.Layout.{Layout}
 use Rattle.blk_volume.specs.StandsFor.{StandsFor}
 use Rattle.blk_kept.specs.Changes.{Finds, KeepsWith, StillFinds}
-use Rattle.blk_kept.specs.Commands.{Does, ForKept, IsStepped, MayStop, MayStopAtEach}
+use Rattle.blk_kept.specs.Commands.{Does, ForKept, IsStepped, MayStop}
 use Rattle.blk_kept.specs.CommandStates.{MayLeave, with_names, with_room}
 use Rattle.blk_kept.specs.Keeping.{Keeps, KeepsUncounted}
 
@@ -36,7 +36,7 @@ pub record FindsLeft (state : State) (moment : ℕ) (request : Request) (image :
   pub left : MayLeave state moment request held
   pub finds : Finds held image
 
--- from now to later the request may be stopped at each word, whatever state was kept before it began
+-- from now to later the request may be stopped at each word, whatever state was kept before it began; where that was now, this is `MayStopAtEach`
 abbrev pub GoesOn : (State → Image → Type 0) → (told now later : Told) → ℕ → Request → Type 0
 GoesOn keeps told now later moment request = ForKept keeps told (λ state. Passes now later (MayStop state moment request))
 
@@ -56,10 +56,6 @@ WhatIsFoundMayStop keeps = (told now later : Told) (moment : ℕ) (request : Req
 -- two calls after each other, the second of which may have failed
 abbrev pub CallsFollow : (keeps : State → Image → Type 0) → Type 0
 CallsFollow keeps = (told now later last : Told) (moment : ℕ) (request : Request) → GoesOn keeps told now later moment request → GoesOn keeps told later last moment request → GoesOn keeps told now last moment request
-
--- from the begin of the request to where its calls end, or one failed, it may be stopped at each word
-abbrev pub CallsEnd : (keeps : State → Image → Type 0) → Type 0
-CallsEnd keeps = (told now : Told) (moment : ℕ) (request : Request) → GoesOn keeps told told now moment request → MayStopAtEach keeps told now moment request
 
 -- Ends.
 

@@ -1,11 +1,15 @@
 // What each kind of call does to a folder that keeps a state.
 
+ghost use Rattle.blk_kept.specs.AllocationLaws.{FreedBlocksAreRemoved};
 ghost use Rattle.blk_kept.specs.Arranging.{StatesAreRearranged};
 ghost use Rattle.blk_kept.specs.BoundLaws.{KeptAllocationsAreFew};
+ghost use Rattle.blk_kept.specs.ChangedStates.{UnheldObjectsGoWhole, ObjectsChangeTheirMainItem};
 ghost use Rattle.blk_kept.specs.CounterLaws.{CountersMayBeWritten, WrittenCountersCount};
 ghost use Rattle.blk_kept.specs.DoneLaws.{TouchStepsAreDone, InsertStepsAreDone, RemovalStepsAreDone};
+ghost use Rattle.blk_kept.specs.DoomLaws.{DoomedObjectsAreKept, DoomedObjectsAreOneLess};
 ghost use Rattle.blk_kept.specs.ExternalLaws.{MakingFilesFindsTheSame, MadeFilesAreAdded, DeletingFilesFindsTheSame, DeletedFilesAreRemoved};
 ghost use Rattle.blk_kept.specs.GoneLaws.{GoneObjectsAreUnlinked, GoneObjectsAreNotCounted};
+ghost use Rattle.blk_kept.specs.LinkLaws.{TableWordsChangeLinks, TableWordsLeaveFiles, TableWordsLeaveSeals, ChainNextsChangeLinks, ChainNextsLeaveSeals, DataChangesAreInside, RecordUpdatesAreInside, RemovedItemsAreOneLess};
 ghost use Rattle.blk_kept.specs.ListLaws.{TouchesKeepTheState, TouchesKeepTheCounters};
 ghost use Rattle.blk_kept.specs.NewEntryLaws.{InsertsFindTheSame, LinksFindTheSame, NewEntriesAreKept, NewEntriesAreOneMore};
 ghost use Rattle.blk_kept.specs.ObjectLaws.{HandlesMayChange, HandlesAreNotCounted, UnsettledItemsFindTheSame, DoomedObjectsFindTheSame, ChangedItemsAreKept, ChangedDoomedObjectsAreKept};
@@ -91,4 +95,41 @@ pub fn list_steps_are_done()
     ensures touch { TouchStepsAreDone }
     ensures insert { InsertStepsAreDone }
     ensures removal { RemovalStepsAreDone }
+{}
+
+/// An object without parts that is out of the list and out of its chain is kept as a doomed one, and is one less to be counted.
+pub fn doomed_objects_are_kept()
+    ensures kept { DoomedObjectsAreKept }
+    ensures one_less { DoomedObjectsAreOneLess }
+{}
+
+/// A word of the table and the link of a record change links alone, and leave files and seals.
+pub fn links_leave_the_rest()
+    ensures table_links { TableWordsChangeLinks }
+    ensures table_files { TableWordsLeaveFiles }
+    ensures table_seals { TableWordsLeaveSeals }
+    ensures next_links { ChainNextsChangeLinks }
+    ensures next_seals { ChainNextsLeaveSeals }
+{}
+
+/// Changes of an object's data and of its record are inside what is its node's.
+pub fn changes_are_inside()
+    ensures stored { DataChangesAreInside }
+    ensures fields { RecordUpdatesAreInside }
+{}
+
+/// A removed item is one less to be counted.
+pub fn removed_items_are_one_less()
+    ensures { RemovedItemsAreOneLess }
+{}
+
+/// An object without handles and parts goes whole, and another value of an object's main item changes nothing else.
+pub fn states_change_in_one_object()
+    ensures without { UnheldObjectsGoWhole }
+    ensures changed { ObjectsChangeTheirMainItem }
+{}
+
+/// Blocks that are freed, as it is told of map and counters, have their allocation removed.
+pub fn freed_blocks_are_removed()
+    ensures { FreedBlocksAreRemoved }
 {}

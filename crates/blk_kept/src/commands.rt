@@ -2,10 +2,12 @@
 ghost use Rattle.blk_kept.specs.CommandEnds.{PassedRequestsTakeEffect, GroupsGoInTurn, WholeGroupsGoAsDoomed, PartsGoAlone, MarkedStatesAreValid, UsesEnd, OnlyUsesMayBeLeft, OpensEndOnceUsed, OpensMayLeave, CreatesEndOnceMade, CreatesMayLeave, WritesUnsettle, WritesEndOnceWritten, DoomedWritesEnd, SparseWritesUnsettle, SparseWritesEnd, EmptySparseWritesEnd, ClosesFreeTheName, ClosesSettle, ClosesMayLeave, ClosesOfDoomedEnd, DoomsEndOnceDoomed, DoomsMayLeave, TrimsEndOnceOut, TrimsMayLeave};
 ghost use Rattle.blk_kept.specs.Keeping.{KeepsSome};
 ghost use Rattle.blk_kept.specs.PartStates.{PartsChangeAlone, NewPartsKeepValid, PartsAreLeftOut, MainsChangeAlone};
-ghost use Rattle.blk_kept.specs.StageLaws.{StagesGoOn, StagesMayStop, WhatIsFoundMayStop, CallsFollow, CallsEnd, EndsAreKept, EffectsAreDone, NotesEndSteps};
+ghost use Rattle.blk_kept.specs.StageLaws.{StagesGoOn, StagesMayStop, WhatIsFoundMayStop, CallsFollow, EndsAreKept, EffectsAreDone, NotesEndSteps};
 ghost use Rattle.blk_kept.specs.WordStops.{UsesMayStop, UnsettledUsesMayStop, UnsettlingMayStop, SettlingMayStop, DoomsFindEither, OutIsDoomed, DoomedPartsFindTheSame, DoomsMayStop, PartsFindEither, PartOutIsGone, GroupsMayStop, WholeGroupsMayStop};
 ghost use Rattle.blk_kept.specs.NextStates.{UsesKeepNext, OpensKeepNext, CreatesKeepNext, WritesKeepNext, DoomedWritesKeepNext, SparseWritesKeepNext, EmptySparseWritesKeepNext, ClosesOfManyKeepNext, ClosesKeepNext, DoomsKeepNext, TrimsKeepNext};
 ghost use Rattle.blk_kept.specs.OneCallLaws.{OpensEndByTouch, ReadsMayStop, ReadsEndByTouch, DoomedReadsEnd, ClosesMayStop, ClosesEndByMark, ClosesOfDoomedUnlink, UnsettlingMarksMayStop};
+ghost use Rattle.blk_kept.specs.PlainRemovals.{PlainGroupsGo, LonePartsGo, UnheldDoomsEnd, HeldDoomsEnd, PartGoneIsWithout, RemovingFindsDoomed, DoomedObjectsAreRemoved, RemovingFindsPartGone, LonePartsAreRemoved};
+ghost use Rattle.blk_kept.specs.CreateStops.{InsertsMayStop, LinksMayStop, CreatesEndOnceCounted};
 ghost use Rattle.blk_kept.specs.StopLaws.{WhatIsLeftMayStop, OrdersMayBeLeft, UsesMayBeLeft, UsesGoOn, RoomMayBeLeft, HandlesAreNotAtRest, DoomedObjectsAreNotAtRest, UnsettledObjectsAreNotAtRest, OwnUsesKeepOthers, OthersMayBeLeftOnceUnsettled, OthersMayBeLeftWhileDoomed};
 
 /// Once some groups are out and some of the later list steps are made, a stop may leave what is at rest in that order; where that is found the request may be stopped.
@@ -94,7 +96,6 @@ pub fn calls_follow_each_other()
     ensures stop { StagesMayStop KeepsSome }
     ensures find { WhatIsFoundMayStop KeepsSome }
     ensures follow { CallsFollow KeepsSome }
-    ensures end { CallsEnd KeepsSome }
 {}
 
 /// A command is done where its effect is kept and its answer is the map's, whatever handles there are; with its note behind all else it is stepped.
@@ -149,4 +150,24 @@ pub fn commands_of_one_call()
     ensures closes_end { ClosesEndByMark }
     ensures doomed_closes { ClosesOfDoomedUnlink }
     ensures unsettling_stops { UnsettlingMarksMayStop }
+{}
+
+/// While a plain object that no handle names, or a part that goes alone, is removed, what is at rest without it is found, and in the end the state without it is kept and its words are unlinked. So a Doom or a DoomKey of a plain object ends, with or without a handle, and so the next group goes.
+pub fn plain_objects_are_removed()
+    ensures part { PartGoneIsWithout }
+    ensures removing { RemovingFindsDoomed }
+    ensures removed { DoomedObjectsAreRemoved }
+    ensures removing_part { RemovingFindsPartGone }
+    ensures removed_part { LonePartsAreRemoved }
+    ensures unheld_dooms { UnheldDoomsEnd }
+    ensures held_dooms { HeldDoomsEnd }
+    ensures groups { PlainGroupsGo }
+    ensures parts { LonePartsGo }
+{}
+
+/// A Create may be stopped at each word of the insert of its node, and where its record is linked; once the counters are written too the state after it is kept.
+pub fn creates_may_be_stopped()
+    ensures inserts { InsertsMayStop }
+    ensures links { LinksMayStop }
+    ensures ends { CreatesEndOnceCounted }
 {}

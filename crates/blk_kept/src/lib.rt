@@ -11,16 +11,18 @@ mod calls;
 mod commands;
 
 pub use calls::{
-    changed_objects_are_kept, counters_are_written, external_files_come_and_go,
-    gone_objects_are_unlinked, handles_are_not_kept, kept_allocations_are_few, list_steps_are_done,
-    new_entries_are_kept, objects_are_marked, other_states_are_kept, removed_items_are_unlinked,
-    touches_keep_states,
+    changed_objects_are_kept, changes_are_inside, counters_are_written, doomed_objects_are_kept,
+    external_files_come_and_go, freed_blocks_are_removed, gone_objects_are_unlinked,
+    handles_are_not_kept, kept_allocations_are_few, links_leave_the_rest, list_steps_are_done,
+    new_entries_are_kept, objects_are_marked, other_states_are_kept, removed_items_are_one_less,
+    removed_items_are_unlinked, states_change_in_one_object, touches_keep_states,
 };
 pub use commands::{
     calls_follow_each_other, closes_settle, commands_are_done, commands_keep_the_next_state,
-    commands_of_one_call, creates_end_once_made, dooms_end_once_doomed, orders_may_be_left,
-    others_may_be_left, parts_change_alone, reads_end_once_used, removals_may_be_stopped,
-    requests_take_effect, rests_leave_them_out, uses_may_be_stopped, writes_end_once_written,
+    commands_of_one_call, creates_end_once_made, creates_may_be_stopped, dooms_end_once_doomed,
+    orders_may_be_left, others_may_be_left, parts_change_alone, plain_objects_are_removed,
+    reads_end_once_used, removals_may_be_stopped, requests_take_effect, rests_leave_them_out,
+    uses_may_be_stopped, writes_end_once_written,
 };
 
 /// What is found in a folder that keeps a state is what is at rest in it. With nothing unlinked the folder stands for the state, and it is sound where each object is live and settled.

@@ -26,7 +26,7 @@ use Rattle.blk_laws.specs.ItemLaws.{SameStoresRepresent, TouchedItemsAtEachWrite
 use Rattle.blk_laws.specs.CommandLaws.{OpensAtEachWrite, OpensEnd}
 use Rattle.blk_model.specs.Holding as model
 
-in-times : (i : Item) (items : List Item) → is_in items i ≡ true → 1 ≤ times i items
+pub in-times : (i : Item) (items : List Item) → is_in items i ≡ true → 1 ≤ times i items
 in-times i [] e = absurd (let c : false ≡ true = e in cc)
 in-times i (j ∷ items) e =
     let t = times-cons i j items in

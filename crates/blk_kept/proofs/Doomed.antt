@@ -1,0 +1,323 @@
+-- A live object without parts is doomed.
+use Rattle.std.proofs.Common.{◌≡◌, ◌≢◌, ℕ, List, [], ◌∷◌, ◌++◌, map, refl, ap, sym, ◌∙◌, subst, arith, true, false, Option, Some, ⊎_elim, append_assoc}
+use Rattle.std.specs.Prelude.{◌==◌, not, filter, IsSomeAnd}
+use Rattle.std.specs.List.{AllByRecursion}
+use Rattle.std.specs.List.{cons_option, filter_map, sum_by}
+use Rattle.std.specs.List.Sorted.{IsPermutation}
+use Rattle.std.proofs.Common.{length, length-append}
+use Rattle.std.proofs.lemmas.List.Sums.{sum_by-cons}
+use Rattle.blk_volume.specs.Found.{charge_of}
+use Rattle.std.specs.Str.{bytes_eq}
+use Rattle.std.proofs.lemmas.Bool.{cases_Bool, cases_eq, eq-eqb, eqb-true, or_left, or_parts, or_right}
+use Rattle.std.proofs.lemmas.List.Sorted.{IsPermutation-append_right, IsPermutation-sym, IsPermutation-trans}
+use Rattle.blk_image.proofs.Footprints.{outside_wider, within_left}
+use Rattle.blk_image.proofs.Runs.{some_inj}
+use Rattle.blk_image.specs.Footprint.{SameOutside}
+use Rattle.blk_image.specs.Image.{Image, Index, byte}
+use Rattle.blk_model.proofs.Same.{same_bytes}
+use Rattle.blk_model.specs.Effects.{doomed, doomed_slot}
+use Rattle.blk_model.specs.Items.{Item, main, part, same_item}
+use Rattle.blk_model.specs.State.{State, Object, is_named, object_at}
+use Rattle.blk_format.specs.BlockFiles.{is_among}
+use Rattle.blk_format.specs.Hash.{hash}
+use Rattle.blk_format.specs.Headers.{this_id_of}
+use Rattle.blk_format.specs.Records as records
+use Rattle.blk_format.specs.Sealed.{record_range}
+use Rattle.blk_laws.specs.CommandLaws.{IsDoomedNow}
+use Rattle.blk_volume.specs.Chains.{bucket_of_hash}
+use Rattle.blk_volume.specs.Completion.{remove}
+use Rattle.blk_volume.specs.Layout.{IsListedRecord, Layout, Represents, is_in, is_listed, nodes_of, order}
+use Rattle.blk_volume.specs.ListPlans.{writes_of}
+use Rattle.blk_volume.specs.ListSteps.{touched_by_writes}
+use Rattle.blk_volume.specs.ListView.{Distinct, IsAtRest, IsList, ListView, ListWrite}
+use Rattle.blk_volume.specs.Loads.{Loaded}
+use Rattle.blk_volume.specs.Removal.{HasLess, is_of_another}
+use Rattle.blk_volume.specs.StandsFor.{AreNumbers, IsOwner}
+use Rattle.blk_volume.specs.Tidy.{doomed_nodes}
+use Rattle.blk_volume.specs.View.{list_of, view_of}
+use Rattle.blk_laws.proofs.Changing.{apart-sym, at-elsewhere, at-itself}
+use Rattle.blk_laws.proofs.Dooming.{doomed-is-represented}
+use Rattle.blk_laws.proofs.Laid.{is_among-node}
+use Rattle.blk_laws.proofs.ListCompletions.{listed}
+use Rattle.blk_laws.proofs.Lists.{has_not}
+use Rattle.blk_laws.proofs.Moving.{moved-among, moved-distinct, moved-same, sums-add}
+use Rattle.blk_laws.proofs.Opening.{IsAround, around, nodes-append}
+use Rattle.blk_laws.proofs.Settling.{main-listed}
+use Rattle.blk_laws.proofs.Tidying.{counter-same, sealed-still, touch_range, touch_sizes, touch_spares}
+use Rattle.blk_laws.proofs.WordTurns.{removals-can}
+use Rattle.blk_kept.specs.Arranging.{IsArranged, LeavesFiles}
+use Rattle.blk_kept.specs.DoomLaws.{CanBeDoomed, DoomedObjectsAreKept, DoomedObjectsAreOneLess, IsUnchained, layout_doomed}
+use Rattle.blk_kept.specs.Keeping.{AllAreSealed, AreMarkedBy, KeepsUncounted, all_loaded, all_nodes, words_in_use}
+use Rattle.blk_kept.specs.RemovalLaws.{IsRemovalDone, chains_without}
+use Rattle.blk_kept.proofs.Arranging.{rearranged}
+use Rattle.blk_kept.proofs.Dirtying.{set-at, set-else}
+use Rattle.blk_kept.proofs.Gone.{among-without}
+use Rattle.blk_kept.proofs.Headers.{stand-same}
+use Rattle.blk_kept.proofs.Leaving.{leaves-files, leaves-then}
+use Rattle.blk_kept.proofs.Removals.{filter-alike, from-filtered, in-filtered, other-record-of}
+use Rattle.blk_kept.proofs.Touched.{node-to-front, words_at}
+
+-- a word may be put between others
+distinct-in : (xs : List ℕ) (n : ℕ) (ys : List ℕ) → is_among (xs ++ ys) n ≡ false → Distinct (xs ++ ys) → Distinct (xs ++ n ∷ ys)
+distinct-in [] n ys none once = (none, once)
+distinct-in (x ∷ xs) n ys none once =
+    let parts = or_parts (x == n) (is_among (xs ++ ys) n) none in
+    (sym (moved-among xs n ys x) ∙ (let e : (n == x) ≡ false = apart-sym x n parts.0 in rw e once.0), distinct-in xs n ys parts.1 once.1)
+
+-- where no part of a key is listed, all listed items but its main item are of other keys
+pub other-items : (state : State) (key : List ℕ) → ((n : ℕ) → is_listed state (part key n) ≡ false) → (i : Item) → is_in state.uses i ≡ true → is_of_another key i ≡ not (same_item (main key) i)
+other-items state key alone (main other) there = refl
+other-items state key alone (part other n) there = ⊎_elim
+    (λ (e : bytes_eq key other ≡ true). absurd (let z : true ≡ false = sym there ∙ ap (λ (q : List ℕ). is_listed state (part q n)) (sym (same_bytes key other e)) ∙ alone n in cc))
+    (λ (e : bytes_eq key other ≡ false). ap not e)
+    (cases_Bool (bytes_eq key other))
+
+module _ (state : State) (layout : Layout) (unlinked : List ℕ) (number : ℕ) (object : Object) (l : Loaded) (from between image : Image) (k : KeepsUncounted state layout unlinked from) (can : CanBeDoomed state layout number object l) (done : IsRemovalDone from (layout.place (main object.key)) between) (u : IsUnchained state layout (layout.place (main object.key)) l between image) where
+  abbrev node : ℕ
+  node = layout.place (main object.key)
+
+  abbrev after : State
+  after = doomed number state (Some object)
+
+  abbrev now : Layout
+  now = layout_doomed layout number node l
+
+  its-main : is_listed state (main object.key) ≡ true
+  its-main = main-listed state k.valid number object true can.lies.here can.lies.live
+
+  abbrev a : IsAround (main object.key) state.uses
+  a = around (main object.key) state.uses its-main (k.valid.once (main object.key))
+
+  abbrev prefix : List ℕ
+  prefix = nodes_of layout a.before
+
+  abbrev suffix : List ℕ
+  suffix = nodes_of layout a.suffix
+
+  abbrev rest-nodes : List ℕ
+  rest-nodes = doomed_nodes layout k.numbers
+
+  kept-items : filter (is_of_another object.key) state.uses ≡ a.before ++ a.suffix
+  kept-items = filter-alike (is_of_another object.key) (λ other. not (same_item (main object.key) other)) state.uses (other-items state object.key can.alone) ∙ a.rest
+
+  old-order : order state layout ≡ prefix ++ node ∷ suffix
+  old-order = ap (nodes_of layout) a.is ∙ nodes-append layout a.before (main object.key ∷ a.suffix)
+
+  new-order : nodes_of layout (filter (is_of_another object.key) state.uses) ≡ prefix ++ suffix
+  new-order = ap (nodes_of layout) kept-items ∙ nodes-append layout a.before a.suffix
+
+  after-order : order after now ≡ prefix ++ suffix
+  unfolding doomed
+  after-order = new-order
+
+  rest-list : IsAtRest (list_of from) (prefix ++ node ∷ suffix)
+  rest-list = record { whole = subst (λ (ns : List ℕ). IsList (list_of from) ns) old-order k.represents.list; idle = k.represents.idle }
+
+  at-rest : IsAtRest (list_of image) (nodes_of layout (filter (is_of_another object.key) state.uses))
+  at-rest = subst (λ (ls : ListView). IsAtRest ls (nodes_of layout (filter (is_of_another object.key) state.uses))) (sym u.list) (subst (λ (ns : List ℕ). IsAtRest (list_of between) ns) (sym new-order) (done.removed prefix suffix rest-list))
+
+  node-listed : is_among (order state layout) node ≡ true
+  node-listed = is_among-node layout state.uses (main object.key) its-main
+
+  -- the number is no doomed object's
+  not-doomed : is_among k.numbers number ≡ false
+  not-doomed = ⊎_elim
+      (λ (e : is_among k.numbers number ≡ true). absurd (go k.numbers k.owners.doomed.each e))
+      (λ (e : is_among k.numbers number ≡ false). e)
+      (cases_Bool (is_among k.numbers number))
+    where
+      go : (ns : List ℕ) → AllByRecursion (λ n. IsSomeAnd (object_at state n) (λ o. o.live ≡ false)) ns → is_among ns number ≡ true → ⊥
+      go [] all e = let z : false ≡ true = e in cc
+      go (m ∷ ns) all e = ⊎_elim
+          (λ (h : (m == number) ≡ true).
+          let dead : IsSomeAnd (object_at state number) (λ o. o.live ≡ false) = subst (λ (x : ℕ). IsSomeAnd (object_at state x) (λ o. o.live ≡ false)) (eqb-true m number h) all.0 in
+          let its : object.live ≡ false = subst (λ (o : Option Object). IsSomeAnd o (λ o. o.live ≡ false)) can.lies.here dead in
+          let z : true ≡ false = sym can.lies.live ∙ its in cc)
+          (λ (h : (m == number) ≡ false). go ns all.1 (rw h at e))
+          (cases_Bool (m == number))
+
+  -- the nodes of the doomed objects are the old ones, and this
+  doomed-are : (ns : List ℕ) → is_among ns number ≡ false → map now.place_of_doomed ns ≡ map layout.place_of_doomed ns
+  doomed-are [] none = refl
+  doomed-are (m ∷ ns) none =
+      let parts = or_parts (m == number) (is_among ns number) none in
+      (λ i. at-elsewhere layout.place_of_doomed number node m (apart-sym m number parts.0) i ∷ map now.place_of_doomed ns) ∙ ap (λ (xs : List ℕ). layout.place_of_doomed m ∷ xs) (doomed-are ns parts.1)
+
+  nodes-now : all_nodes after now (number ∷ k.numbers) ≡ (prefix ++ suffix) ++ node ∷ rest-nodes
+  nodes-now = ap (λ (ns : List ℕ). ns ++ map now.place_of_doomed (number ∷ k.numbers)) after-order
+      ∙ ap (λ (ns : List ℕ). (prefix ++ suffix) ++ ns) ((λ i. at-itself layout.place_of_doomed number node i ∷ map now.place_of_doomed k.numbers) ∙ ap (λ (ns : List ℕ). node ∷ ns) (doomed-are k.numbers not-doomed))
+
+  nodes-then : all_nodes state layout k.numbers ≡ prefix ++ node ∷ (suffix ++ rest-nodes)
+  nodes-then = ap (λ (ns : List ℕ). ns ++ rest-nodes) old-order ∙ append_assoc prefix (node ∷ suffix) rest-nodes
+
+  -- with the node in front they are one
+  front : node ∷ prefix ++ (suffix ++ rest-nodes) ≡ node ∷ (prefix ++ suffix) ++ rest-nodes
+  front = ap (λ (ns : List ℕ). node ∷ ns) (sym (append_assoc prefix suffix rest-nodes))
+
+  among-same : (n : ℕ) → is_among (all_nodes after now (number ∷ k.numbers)) n ≡ is_among (all_nodes state layout k.numbers) n
+  among-same n = ap (λ (ns : List ℕ). is_among ns n) nodes-now ∙ sym (moved-among (prefix ++ suffix) node rest-nodes n) ∙ ap (λ (ns : List ℕ). is_among ns n) (sym front) ∙ moved-among prefix node (suffix ++ rest-nodes) n ∙ ap (λ (ns : List ℕ). is_among ns n) (sym nodes-then)
+
+  once-front : Distinct (node ∷ (prefix ++ suffix) ++ rest-nodes)
+  once-front = subst Distinct front (moved-distinct prefix node (suffix ++ rest-nodes) (subst Distinct nodes-then k.owners.once))
+
+  same-words : IsPermutation (words_in_use unlinked (all_loaded state layout k.numbers)) (words_in_use unlinked (all_loaded after now (number ∷ k.numbers)))
+  same-words = IsPermutation-append_right unlinked (words_at layout.at (all_nodes state layout k.numbers)) (words_at layout.at (all_nodes after now (number ∷ k.numbers)))
+      (subst (λ (ns : List ℕ). IsPermutation (words_at layout.at ns) (words_at layout.at (all_nodes after now (number ∷ k.numbers)))) (sym nodes-then)
+      (subst (λ (ns : List ℕ). IsPermutation (words_at layout.at (prefix ++ node ∷ (suffix ++ rest-nodes))) (words_at layout.at ns)) (sym nodes-now)
+      (IsPermutation-trans (words_at layout.at (prefix ++ node ∷ (suffix ++ rest-nodes))) (words_at layout.at (node ∷ (prefix ++ suffix) ++ rest-nodes)) (words_at layout.at ((prefix ++ suffix) ++ node ∷ rest-nodes))
+      (subst (λ (ns : List ℕ). IsPermutation (words_at layout.at (prefix ++ node ∷ (suffix ++ rest-nodes))) (words_at layout.at ns)) front (node-to-front layout.at prefix node (suffix ++ rest-nodes)))
+      (IsPermutation-sym (words_at layout.at ((prefix ++ suffix) ++ node ∷ rest-nodes)) (words_at layout.at (node ∷ (prefix ++ suffix) ++ rest-nodes)) (node-to-front layout.at (prefix ++ suffix) node rest-nodes)))))
+
+  -- what lies where
+  apart-node : (n : ℕ) → is_among (nodes_of layout (filter (is_of_another object.key) state.uses)) n ≡ true → (node == n) ≡ false
+  apart-node n there = ⊎_elim
+      (λ (e : (node == n) ≡ true). absurd (let z : true ≡ false = sym there ∙ ap (λ (ns : List ℕ). is_among ns n) new-order ∙ ap (is_among (prefix ++ suffix)) (sym (eqb-true node n e)) ∙ has_not prefix node suffix (subst Distinct old-order k.represents.list.distinct) in cc))
+      (λ (e : (node == n) ≡ false). e)
+      (cases_Bool (node == n))
+
+  has-less : HasLess state after.objects (is_of_another object.key) layout layout.at (chains_without layout l.contents) layout.owner
+  has-less = record {
+    stays = λ other x stays there is. is;
+    others = λ n x out is. is;
+    was = λ n x is. is;
+    chain_stays = λ n x there is among. in-filtered l.contents (layout.chains (bucket_of_hash (hash x.key))) x.contents (other-record-of state layout unlinked from k node n l x can.lies.at is (apart-node n there)) among;
+    chain_was = λ bucket contents small among.
+        let p = from-filtered l.contents (layout.chains bucket) contents among in
+        let q : IsListedRecord state layout contents = k.represents.holds.lies.unchained bucket contents small p.1 in
+        let apart : (node == q.node) ≡ false = ⊎_elim
+        (λ (e : (node == q.node) ≡ true).
+        let same : l ≡ q.loaded = some_inj (sym can.lies.at ∙ ap layout.at (eqb-true node q.node e) ∙ q.here) in
+        absurd (let z : true ≡ false = sym (eq-eqb contents l.contents (sym q.record_is ∙ ap (λ (x : Loaded). x.contents) (sym same))) ∙ p.0 in cc))
+        (λ (e : (node == q.node) ≡ false). e)
+        (cases_Bool (node == q.node)) in
+        record {
+          node = q.node;
+          loaded = q.loaded;
+          listed = ap (λ (ns : List ℕ). is_among ns q.node) new-order ∙ among-without prefix suffix node q.node apart (ap (λ (ns : List ℕ). is_among ns q.node) (sym old-order) ∙ q.listed);
+          here = q.here;
+          record_is = q.record_is;
+        };
+    own = λ n x c is has mine. mine;
+  }
+
+  doomed-now : IsDoomedNow state layout number object l layout.at (chains_without layout l.contents) layout.owner
+  doomed-now = record { lies = can.lies; node_fields = can.named; less = has-less; stays = can.lies.at }
+
+  represents-now : Represents (view_of image) after now
+  represents-now = doomed-is-represented (λ n. n == node) (view_of image) state layout k.represents.holds.lies k.valid number object l layout.at (chains_without layout l.contents) layout.owner doomed-now u.holds (λ n other is e. sym (eqb-true n node e)) u.loads at-rest
+
+  -- the object
+  slot-is : object_at after number ≡ Some (record object { live = false; parts = [] })
+  unfolding doomed
+  slot-is = let named : is_named state number ≡ true = can.named in rw named (set-at state number object (record object { live = false; parts = [] }) can.lies.here)
+
+  slot-else : (n : ℕ) → n ≢ number → object_at after n ≡ object_at state n
+  unfolding doomed
+  slot-else n apart = set-else state number n (doomed_slot (is_named state number) object) apart
+
+  numbers-are : AreNumbers after now (number ∷ k.numbers)
+  numbers-are = record {
+    each = (subst (λ (o : Option Object). IsSomeAnd o (λ o. o.live ≡ false)) (sym slot-is) refl, each k.numbers not-doomed k.owners.doomed.each);
+    once = (not-doomed, k.owners.doomed.once);
+    all = λ n o is dead. ⊎_elim
+        (λ (e : n ≡ number). or_left (number == n) (is_among k.numbers n) (eq-eqb number n (sym e)))
+        (λ (e : n ≢ number). or_right (number == n) (is_among k.numbers n) (k.owners.doomed.all n o (sym (slot-else n e) ∙ is) dead))
+        (cases_eq n number);
+    records = λ n there. ⊎_elim
+        (λ (e : (number == n) ≡ true). subst (λ (x : ℕ). now.state (now.place_of_doomed x) ≡ records.doomed) (eqb-true number n e) (ap now.state (at-itself layout.place_of_doomed number node) ∙ at-itself layout.state node records.doomed))
+        (λ (e : (number == n) ≡ false). ap now.state (at-elsewhere layout.place_of_doomed number node n e) ∙ at-elsewhere layout.state node records.doomed (layout.place_of_doomed n) (other-place n (rw e at there)) ∙ k.owners.doomed.records n (rw e at there))
+        (cases_Bool (number == n));
+  } where
+    each : (ns : List ℕ) → is_among ns number ≡ false → AllByRecursion (λ n. IsSomeAnd (object_at state n) (λ o. o.live ≡ false)) ns → AllByRecursion (λ n. IsSomeAnd (object_at after n) (λ o. o.live ≡ false)) ns
+    each [] none all = tt
+    each (m ∷ ns) none all =
+        let parts = or_parts (m == number) (is_among ns number) none in
+        (subst (λ (o : Option Object). IsSomeAnd o (λ o. o.live ≡ false)) (sym (slot-else m (λ e. let z : true ≡ false = sym (eq-eqb m number e) ∙ parts.0 in cc))) all.0, each ns parts.1 all.1)
+
+    among-place : (ns : List ℕ) (n : ℕ) → is_among ns n ≡ true → is_among (map layout.place_of_doomed ns) (layout.place_of_doomed n) ≡ true
+    among-place [] n h = absurd (let z : false ≡ true = h in cc)
+    among-place (m ∷ ns) n h = ⊎_elim
+        (λ (e : (m == n) ≡ true). or_left (layout.place_of_doomed m == layout.place_of_doomed n) _ (eq-eqb _ _ (ap layout.place_of_doomed (eqb-true m n e))))
+        (λ (e : (m == n) ≡ false). or_right (layout.place_of_doomed m == layout.place_of_doomed n) _ (among-place ns n (rw e at h)))
+        (cases_Bool (m == n))
+
+    other-place : (n : ℕ) → is_among k.numbers n ≡ true → (node == layout.place_of_doomed n) ≡ false
+    other-place n there = ⊎_elim
+        (λ (e : (node == layout.place_of_doomed n) ≡ true).
+        absurd (let z : true ≡ false = sym (among-place k.numbers n there) ∙ ap (is_among rest-nodes) (sym (eqb-true node (layout.place_of_doomed n) e)) ∙ none-behind in cc))
+        (λ (e : (node == layout.place_of_doomed n) ≡ false). e)
+        (cases_Bool (node == layout.place_of_doomed n))
+      where
+        none-behind : is_among rest-nodes node ≡ false
+        none-behind = behind (prefix ++ suffix) once-front.0 where
+          behind : (xs : List ℕ) → is_among (xs ++ rest-nodes) node ≡ false → is_among rest-nodes node ≡ false
+          behind [] e = e
+          behind (x ∷ xs) e = behind xs (or_parts (x == node) (is_among (xs ++ rest-nodes) node) e).1
+
+  -- seals and files
+  abbrev writes : List ListWrite
+  writes = writes_of remove node (list_of from)
+
+  outside : SameOutside (touch_range writes node) from between
+  outside = outside_wider (touched_by_writes writes) (touch_range writes node) from between (within_left (touched_by_writes writes) (record_range node)) done.partly.outside
+
+  leaves : LeavesFiles from image
+  leaves = leaves-then from between image (leaves-files (touch_range writes node) from between (touch_spares writes node) (touch_sizes writes node) outside
+      (record { crash = counter-same writes node from between outside 32 (omega arith); id = counter-same writes node from between outside 20 (omega arith) }) done.partly.well_formed) u.leaves
+
+  sealed : AllAreSealed image now
+  sealed n x is = u.sealed n x is (sealed-still from between writes node outside (removals-can from node prefix suffix rest-list).nodes (listed node (list_of from) prefix suffix rest-list.whole).good state layout k.represents done.sealed n x is (k.sealed n x is))
+
+  marked : AreMarkedBy (this_id_of (byte from Index)) after now
+  marked n z is live unsettled = ⊎_elim
+      (λ (e : n ≡ number).
+      let same_one : (let y : Object = record object { live = false; parts = [] } in y) ≡ z = some_inj (sym slot-is ∙ ap (object_at after) (sym e) ∙ is) in
+      absurd (let c : false ≡ true = ap (λ (x : Object). x.live) same_one ∙ live in cc))
+      (λ (e : n ≢ number). k.session.marked n z (sym (slot-else n e) ∙ is) live unsettled)
+      (cases_eq n number)
+
+  arranged : IsArranged after now (number ∷ k.numbers) unlinked image
+  arranged = record {
+    valid = can.valid;
+    represents = represents-now;
+    owners = record {
+      exact = λ c n is. let o : IsOwner state layout (doomed_nodes layout k.numbers) c n = k.owners.exact c n is in record { among = among-same n ∙ o.among; loaded = o.loaded; here = o.here; claims = o.claims };
+      once = subst Distinct (sym nodes-now) (distinct-in (prefix ++ suffix) node rest-nodes once-front.0 once-front.1);
+      doomed = numbers-are;
+    };
+    unlinked_words = record { stand = stand-same from image leaves.headers unlinked k.unlinked_words.stand; free = k.unlinked_words.free; single = k.unlinked_words.single };
+    sealed = sealed;
+    marked = subst (λ (id : ℕ). AreMarkedBy id after now) (sym leaves.session.id) marked;
+  }
+
+  pub doomed-kept : KeepsUncounted after now unlinked image
+  doomed-kept = rearranged state after layout now unlinked unlinked (number ∷ k.numbers) from image k leaves arranged same-words
+
+pub objects-doomed : DoomedObjectsAreKept
+objects-doomed state layout unlinked number object loaded from between image k can done u = doomed-kept state layout unlinked number object loaded from between image k can done u
+
+-- ---- counting
+
+pub doomed-less : DoomedObjectsAreOneLess
+unfolding doomed
+doomed-less state layout unlinked number object loaded from k can = record {
+  items =
+      let kept = ap length items-are in
+      let one = length-append a.before a.suffix in
+      let two = length-append a.before (main object.key ∷ a.suffix) in
+      let all = ap length a.is in
+      omega (arith, kept, one, two, all);
+  bytes =
+      let now = ap (λ (items : List Item). sum_by charge_of (filter_map layout.at (nodes_of layout items))) items-are ∙ ap (λ (ns : List ℕ). sum_by charge_of (filter_map layout.at ns)) (nodes-append layout a.before a.suffix) in
+      let old = ap (λ (items : List Item). sum_by charge_of (filter_map layout.at (nodes_of layout items))) a.is
+      ∙ ap (λ (ns : List ℕ). sum_by charge_of (filter_map layout.at ns)) (nodes-append layout a.before (main object.key ∷ a.suffix))
+      ∙ sym (moved-same (λ (ns : List ℕ). sum_by charge_of (filter_map layout.at ns)) (sums-add charge_of layout.at) (nodes_of layout a.before) (layout.place (main object.key)) (nodes_of layout a.suffix))
+      ∙ ap (λ (o : Option Loaded). sum_by charge_of (cons_option o (filter_map layout.at (nodes_of layout a.before ++ nodes_of layout a.suffix)))) can.lies.at
+      ∙ sum_by-cons charge_of loaded (filter_map layout.at (nodes_of layout a.before ++ nodes_of layout a.suffix)) in
+      omega (arith, now, old);
+} where
+  a : IsAround (main object.key) state.uses
+  a = around (main object.key) state.uses (main-listed state k.valid number object true can.lies.here can.lies.live) (k.valid.once (main object.key))
+
+  items-are : filter (is_of_another object.key) state.uses ≡ a.before ++ a.suffix
+  items-are = filter-alike (is_of_another object.key) (λ other. not (same_item (main object.key) other)) state.uses (other-items state object.key can.alone) ∙ a.rest

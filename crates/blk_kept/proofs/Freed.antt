@@ -1,0 +1,56 @@
+-- Blocks that are freed have their allocation removed.
+use Rattle.std.proofs.Common.{◌≡◌, ◌≢◌, ℕ, ◌+◌, ◌*◌, ◌<◌, List, refl, ap, sym, ◌∙◌, arith, false, true}
+use Rattle.blk_image.specs.Bytes.{word_at}
+use Rattle.blk_image.specs.Image.{Image, Index, Block, byte, has_file, length_of, word}
+use Rattle.blk_image.proofs.Footprints.{same_word_outside}
+use Rattle.blk_image.proofs.Words.{same-word_at}
+use Rattle.blk_format.specs.Address.{file_selector}
+use Rattle.blk_format.specs.BlockFiles.{max_entries_in, next_file_in}
+use Rattle.blk_format.specs.Headers.{is_extent_place}
+use Rattle.blk_laws.proofs.ByteChanges.{same-links}
+use Rattle.blk_kept.specs.AllocationLaws.{AreFreed, FreedBlocksAreRemoved}
+use Rattle.blk_kept.specs.Changes.{SameExtent}
+
+module _ (from image : Image) (w : ℕ) (a : AreFreed from w image) where
+  extent-byte : (n i : ℕ) → is_extent_place i ≡ true → byte image (Block n) i ≡ byte from (Block n) i
+  extent-byte n i e = a.same.bytes (Block n) i (a.of_map.extents n i e)
+
+  next-same : (n : ℕ) → next_file_in image n ≡ next_file_in from n
+  unfolding next_file_in
+  next-same n = λ j. extent-byte n 10 refl j + 256 * extent-byte n 11 refl j
+
+  blocks-same : (n : ℕ) → max_entries_in image n ≡ max_entries_in from n
+  unfolding max_entries_in
+  blocks-same n = λ j. extent-byte n 20 refl j + 256 * extent-byte n 21 refl j + 65536 * extent-byte n 22 refl j + 16777216 * extent-byte n 23 refl j
+
+  extent : (n : ℕ) → SameExtent from image n
+  extent n = record {
+    linked = same-links from image next-same n;
+    there = a.same.files (Block n) (a.of_map.sizes (Block n));
+    length = a.same.lengths (Block n) (a.of_map.sizes (Block n));
+    blocks = blocks-same n;
+  }
+
+  index-word : (p : ℕ) → word image Index p ≡ word from Index p
+  index-word p = same_word_outside a.footprint from image Index p a.same (λ k low high. a.of_map.index k)
+
+  updating-same : (n : ℕ) → n ≢ file_selector w → word_at (byte image (Block n)) 56 ≡ word_at (byte from (Block n)) 56
+  updating-same n apart = same-word_at (byte image (Block n)) (byte from (Block n)) 56 (at 56) (at 57) (at 58) (at 59) where
+    at : (i : ℕ) → byte image (Block n) i ≡ byte from (Block n) i
+    at i = a.same.bytes (Block n) i (a.of_map.elsewhere n i apart)
+
+pub freed-removed : FreedBlocksAreRemoved
+freed-removed from image w a = record {
+  block_kind = a.block_kind;
+  grown = a.stays.grown;
+  well_formed = a.stays.formed;
+  session = record { crash = index-word from image w a 32; id = index-word from image w a 20 };
+  extent = extent from image w a (file_selector w);
+  allocations = a.allocations;
+  empty = a.empty;
+  updating = a.updating;
+  elsewhere = λ n apart. record {
+    extent = extent from image w a n;
+    mapped = λ words linked m. let keeps = a.elsewhere n apart in record { allocations = keeps.allocations _ m.allocations; empty = keeps.empty m.empty; updating = updating-same from image w a n apart ∙ m.updating };
+  };
+}
