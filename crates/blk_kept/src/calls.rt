@@ -1,6 +1,6 @@
 // What each kind of call does to a folder that keeps a state.
 
-ghost use Rattle.blk_kept.specs.AllocationLaws.{FreedBlocksAreRemoved};
+ghost use Rattle.blk_kept.specs.AllocationLaws.{AllocatedBlocksAreAdded, FreedBlocksAreRemoved};
 ghost use Rattle.blk_kept.specs.Arranging.{StatesAreRearranged};
 ghost use Rattle.blk_kept.specs.BoundLaws.{KeptAllocationsAreFew};
 ghost use Rattle.blk_kept.specs.ChangedStates.{UnheldObjectsGoWhole, ObjectsChangeTheirMainItem};
@@ -129,7 +129,8 @@ pub fn states_change_in_one_object()
     ensures changed { ObjectsChangeTheirMainItem }
 {}
 
-/// Blocks that are freed, as it is told of map and counters, have their allocation removed.
-pub fn freed_blocks_are_removed()
-    ensures { FreedBlocksAreRemoved }
+/// Blocks that are allocated or freed, as it is told of maps and counters, have their allocation added or removed.
+pub fn allocations_come_and_go()
+    ensures added { AllocatedBlocksAreAdded }
+    ensures removed { FreedBlocksAreRemoved }
 {}
