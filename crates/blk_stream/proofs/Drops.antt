@@ -1,8 +1,8 @@
 -- A stream is made empty, and its place is freed.
 use Rattle.std.proofs.Common.{◌≡◌, ◌≢◌, ◌⊎◌, inl, inr, ⊎_elim, ℕ, ◌+◌, ◌*◌, ◌^◌, ◌<◌, ◌≤◌, Bool, true, false, if◌then◌else◌, List, [], ◌∷◌, Option, None, Some, Result, Ok, Err, refl, sym, ◌∙◌, ap, subst, arith}
-use Rattle.std.specs.Prelude.{◌==◌}
+use Rattle.std.specs.Prelude.{◌==◌, nat_eq}
 use Rattle.std.specs.Option.{option_map, ForSome}
-use Rattle.std.proofs.lemmas.Bool.{cases_Bool, eqb-true}
+use Rattle.std.proofs.lemmas.Bool.{cases_Bool, cases_eq, eqb-true}
 use Rattle.std.proofs.lemmas.Bool.Decides.{nat_tests}
 use Rattle.blk_image.specs.Bytes.{content, word_at}
 use Rattle.blk_image.specs.Image.{Block, External, Image, byte, has_file, length_of, word}
@@ -88,6 +88,25 @@ module _ (w : ℕ) (mid image : Image) (same : SameOutside (freeing_of w) mid im
       blocky_of : (kind_of w == external) ≡ false → kind_of w ≢ external
       blocky_of t e = let z : (kind_of w == external) ≡ true = grind (arith, nat_tests) in let y : true ≡ false = sym z ∙ t in cc
 
+-- no file comes to be
+absent_freed : (w : ℕ) (mid image : Image) → IsPlaceFreed w mid image → (number : ℕ) → has_file mid (External number) ≡ false → has_file image (External number) ≡ false
+absent_freed w mid image freed number none =
+    ⊎_elim
+    (λ (t : (kind_of w == external) ≡ true).
+    let kind : kind_of w ≡ external = eqb-true (kind_of w) external t in
+    let whole_only : SameOutside (whole (External (external_number w))) mid image = subst (λ (F : Footprint). SameOutside F mid image) (freeing_external w kind) freed.same in
+    ⊎_elim
+    (λ (same : external_number w ≡ number). subst (λ (n : ℕ). has_file image (External n) ≡ false) same (freed.gone kind))
+    (λ (differs : external_number w ≢ number). whole_only.files (External number) (let e : nat_eq (external_number w) number ≡ false = grind (arith, nat_tests) in e) ∙ none)
+    (cases_eq (external_number w) number))
+    (λ (t : (kind_of w == external) ≡ false).
+    let maps : SameOutside (map_of (file_selector w)) mid image = subst (λ (F : Footprint). SameOutside F mid image) (freeing_blocks w (blocky_of t)) freed.same in
+    maps.files (External number) refl ∙ none)
+    (cases_Bool (kind_of w == external))
+  where
+    blocky_of : (kind_of w == external) ≡ false → kind_of w ≢ external
+    blocky_of t e = let z : (kind_of w == external) ≡ true = grind (arith, nat_tests) in let y : true ≡ false = sym z ∙ t in cc
+
 -- A stream that is dropped.
 
 no_block : (n b : ℕ) → is_block_of 0 n b ≡ false
@@ -116,6 +135,7 @@ module _ (entry i : ℕ) (from : Image) where
     blocks = λ n. refl;
     empty = λ n few was. was;
     gone = λ kind some. absurd (some none);
+    absent = λ number none. none;
   }
 
   pub stays_dropping : RecordChecks entry from → DropsStreamInProgress entry i from from
@@ -154,6 +174,7 @@ module _ (entry i : ℕ) (from : Image) where
           blocks = λ n. blocks_freed W mid image freed.same n ∙ blocks_same F from mid headers named.same n;
           empty = λ n few was. freed.empty n (empty_kept F from mid spares named.same n few was);
           gone = λ kind some. freed.gone kind;
+          absent = λ number none. absent_freed W mid image freed number (named.same.files (External number) refl ∙ none);
         }
 
   -- and its place may be freed as before

@@ -88,6 +88,7 @@ pub record DropsStream (entry i : ℕ) (from image : Image) : Type 0 where
   pub blocks : (n : ℕ) → max_entries_in image n ≡ max_entries_in from n
   pub empty : (n : ℕ) → max_entries_in from n ≤ most_blocks → EmptyAgrees from n → EmptyAgrees image n
   pub gone : kind_of (address_word from entry i) ≡ external → address_word from entry i ≢ 0 → has_file image (External (external_number (address_word from entry i))) ≡ false
+  pub absent : (number : ℕ) → has_file from (External number) ≡ false → has_file image (External number) ≡ false
 
 -- and while it is
 pub record DropsStreamInProgress (entry i : ℕ) (from image : Image) : Type 0 where

@@ -7,4 +7,5 @@ mod freeing;
 mod places;
 mod reading;
 
+pub use dropping::drop_streams;
 pub use reading::read;
