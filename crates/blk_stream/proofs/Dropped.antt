@@ -1,32 +1,32 @@
 -- The streams of a record are dropped one after the other.
-use Rattle.std.proofs.Common.{◌≡◌, ◌≢◌, ◌⊎◌, inl, inr, ⊎_elim, ℕ, zero, suc, ◌+◌, ◌-◌, ◌*◌, ◌<◌, ◌≤◌, Bool, true, false, ◌&&◌, ◌||◌, if◌then◌else◌, List, [], ◌∷◌, length, Option, None, Some, refl, sym, ◌∙◌, ap, subst, arith}
-use Rattle.std.specs.Prelude.{◌==◌, not}
+use Rattle.std.proofs.Common.{◌≡◌, ◌≢◌, ◌⊎◌, inl, inr, ⊎_elim, ℕ, zero, suc, ◌+◌, ◌<◌, ◌≤◌, Bool, true, false, ◌||◌, if◌then◌else◌, List, [], ◌∷◌, length, Option, None, Some, refl, sym, ◌∙◌, ap, subst, arith}
+use Rattle.std.specs.Prelude.{◌==◌}
 use Rattle.std.specs.Option.{ForSome}
 use Rattle.std.proofs.lemmas.Bool.{cases_Bool, cases_eq, cases_lt, eqb-true}
 use Rattle.std.proofs.lemmas.Bool.Decides.{nat_tests}
 use Rattle.blk_image.specs.Image.{Block, External, Image, has_file, word}
-use Rattle.blk_image.specs.Footprint.{Footprint, SameOutside, IsWithin, either, nothing}
+use Rattle.blk_image.specs.Footprint.{SameOutside, IsWithin, either, nothing}
 use Rattle.blk_image.specs.Told.{Told, Passes}
-use Rattle.blk_image.proofs.Footprints.{outside-refl, outside-trans, outside_wider, same_word_outside, within_both, within_left, within_right, within-refl}
+use Rattle.blk_image.proofs.Footprints.{outside-refl, outside-trans, outside_wider, same_word_outside, within_left, within_right, within-refl}
 use Rattle.blk_image.proofs.Runs.{passes_none, passes_then, passes_weaker, some_inj}
-use Rattle.blk_format.specs.Address.{kind_of, external, external_number, file_selector, place, blocks_256}
-use Rattle.blk_format.specs.BlockFiles.{is_among, max_entries_in, most_blocks}
+use Rattle.blk_format.specs.Address.{kind_of, external, external_number, file_selector, place}
+use Rattle.blk_format.specs.BlockFiles.{is_among}
 use Rattle.blk_format.specs.Claims.{is_in_file}
-use Rattle.blk_format.specs.Maps.{AreAllocations, EmptyAgrees, is_block_marked}
+use Rattle.blk_format.specs.Maps.{AreAllocations, is_block_marked}
 use Rattle.blk_format.specs.Sealed.{RecordChecks, record_at}
 use Rattle.blk_format.proofs.LinkedHeads.{count_whole}
 use Rattle.blk_format.proofs.SpareHeaders.{past_header}
 use Rattle.blk_volume.specs.Entries.{stream}
 use Rattle.blk_disk.specs.declared.tables.BlockFiles.{BlockFiles}
-use Rattle.blk_disk.specs.Tables.{Agrees, stands_among}
+use Rattle.blk_disk.specs.Tables.{Agrees}
 use Rattle.blk_disk.proofs.Ranges.{stands_linked}
 use Rattle.blk_io.proofs.Carried.{told_at_end}
-use Rattle.blk_alloc.specs.Owning.{CanBeFreed, others}
+use Rattle.blk_alloc.specs.Owning.{others}
 use Rattle.blk_alloc.proofs.Members.{all_head}
 use Rattle.blk_stream.specs.Streams.{address_place, address_word, may_keep, size_place, size_word}
 use Rattle.blk_stream.specs.Changing.{stream_words}
 use Rattle.blk_stream.specs.Freeing.{MayBeFreed, freeing_of, is_block_of, left_by}
-use Rattle.blk_stream.specs.Dropping.{AreDropped, DropsInProgress, DropsStream, DropsStreamInProgress, HaveOwnPlaces, IsEmptyStream, KeepsStream, OwnsStreams, StreamCanBeDropped, StreamsCanBeDropped, dropping_of, is_block_of_first, left_by_first}
+use Rattle.blk_stream.specs.Dropping.{AreDropped, DropsInProgress, DropsStream, DropsStreamInProgress, HaveOwnPlaces, IsEmptyStream, KeepsStream, StreamCanBeDropped, StreamsCanBeDropped, dropping_of, is_block_of_first, left_by_first}
 use Rattle.blk_stream.proofs.Drops.{freeing_off, told_back}
 use Rattle.blk_stream.proofs.Naming.{words_off_other}
 use Rattle.blk_stream.proofs.PlacesFreed.{left_elsewhere, left_here}

@@ -1,20 +1,20 @@
 -- A stream is made empty, and its place is freed.
-use Rattle.std.proofs.Common.{◌≡◌, ◌≢◌, ◌⊎◌, inl, inr, ⊎_elim, ℕ, ◌+◌, ◌*◌, ◌^◌, ◌<◌, ◌≤◌, Bool, true, false, if◌then◌else◌, List, [], ◌∷◌, Option, None, Some, Result, Ok, Err, refl, sym, ◌∙◌, ap, subst, arith}
+use Rattle.std.proofs.Common.{◌≡◌, ◌≢◌, inl, inr, ⊎_elim, ℕ, ◌+◌, ◌<◌, ◌≤◌, Bool, true, false, if◌then◌else◌, List, Option, None, Some, Result, Ok, Err, refl, sym, ◌∙◌, ap, subst, arith}
 use Rattle.std.specs.Prelude.{◌==◌, nat_eq}
 use Rattle.std.specs.Option.{option_map, ForSome}
 use Rattle.std.proofs.lemmas.Bool.{cases_Bool, cases_eq, eqb-true}
 use Rattle.std.proofs.lemmas.Bool.Decides.{nat_tests}
 use Rattle.blk_image.specs.Bytes.{content, word_at}
-use Rattle.blk_image.specs.Image.{Block, External, Image, byte, has_file, length_of, word}
+use Rattle.blk_image.specs.Image.{Block, External, Image, byte, has_file, word}
 use Rattle.blk_image.specs.Steps.{after}
 use Rattle.blk_image.specs.Footprint.{Footprint, SameOutside, either, whole}
 use Rattle.blk_image.specs.Told.{Told, Passes}
 use Rattle.blk_image.proofs.Footprints.{outside-refl, outside-trans, outside_wider, same_word_outside, within_left, within_right}
 use Rattle.blk_image.proofs.Words.{same-range}
 use Rattle.blk_format.specs.Address.{kind_of, external, external_number, file_selector, place, blocks_256}
-use Rattle.blk_format.specs.BlockFiles.{is_among, max_entries_in, most_blocks}
+use Rattle.blk_format.specs.BlockFiles.{max_entries_in}
 use Rattle.blk_format.specs.Claims.{is_in_file}
-use Rattle.blk_format.specs.Maps.{AreAllocations, EmptyAgrees, is_block_marked}
+use Rattle.blk_format.specs.Maps.{AreAllocations, is_block_marked}
 use Rattle.blk_format.specs.Sealed.{IsUpdated, RecordChecks, record_at, record_size}
 use Rattle.blk_format.proofs.SealedFields.{record_word as word_of_record}
 use Rattle.blk_format.proofs.SealedRecords.{entry_bytes}

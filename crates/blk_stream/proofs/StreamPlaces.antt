@@ -1,11 +1,11 @@
 -- Where the streams of a record lie.
-use Rattle.std.proofs.Common.{◌≡◌, ◌≢◌, ◌⊎◌, inl, inr, ⊎_elim, ℕ, zero, suc, ◌+◌, ◌-◌, ◌*◌, ◌<◌, ◌≤◌, Bool, true, false, ◌&&◌, ◌||◌, if◌then◌else◌, List, [], ◌∷◌, ◌++◌, length, take, drop, Option, None, Some, Result, Ok, Err, refl, sym, ◌∙◌, ap, ap₂, subst, arith, add-zero}
-use Rattle.std.specs.Prelude.{◌==◌, nat_le, not, min, slice_index, unwrap_or, IsOk}
+use Rattle.std.proofs.Common.{◌≡◌, ◌≢◌, ◌⊎◌, inl, inr, ⊎_elim, ℕ, zero, suc, ◌+◌, ◌-◌, ◌*◌, ◌<◌, ◌≤◌, Bool, true, false, ◌&&◌, ◌||◌, if◌then◌else◌, List, [], ◌∷◌, ◌++◌, length, drop, Option, None, Some, Result, Ok, Err, refl, sym, ◌∙◌, ap, subst, arith, add-zero}
+use Rattle.std.specs.Prelude.{◌==◌, nat_le, not, min, slice_index, IsOk}
 use Rattle.std.proofs.lemmas.Bool.{and_parts, eqb-true, cases_Bool, leb-true}
 use Rattle.std.proofs.lemmas.Bool.Decides.{nat_tests}
 use Rattle.std.specs.Option.{option_and_then, option_map}
-use Rattle.blk_image.specs.Bytes.{content, word_at, words_at, range_at}
-use Rattle.blk_image.specs.Image.{Block, External, Image, HasRange, byte, has_file, length_of, word}
+use Rattle.blk_image.specs.Bytes.{word_at, words_at, range_at}
+use Rattle.blk_image.specs.Image.{Block, External, Image, byte, has_file, length_of, word}
 use Rattle.blk_image.proofs.Words.{length-range}
 use Rattle.blk_format.specs.Address.{kind_of, block_count, is_address, external, external_number, file_selector, place, byte_size, blocks_256}
 use Rattle.blk_format.specs.Records.{entry_in}
@@ -22,9 +22,8 @@ use Rattle.blk_io.specs.declared.fault.Fault.TheVariants.{Device, Damaged}
 use Rattle.blk_io.specs.Faults.{IfDamaged}
 use Rattle.blk_io.proofs.Carried.{untold_where}
 use Rattle.blk_entry.specs.Keys.{data_at, data_file, data_start, stores, IsInFile, IsInside, IsPiece}
-use Rattle.blk_entry.proofs.KeyPlaces.{data_of_blocks, data_of_external, head_word, piece_is, storage_room, storage_parts}
-use Rattle.blk_stream.specs.declared.places.Stored.{Stored}
-use Rattle.blk_stream.specs.Streams.{HasStreams, IsStoredAt, address_place, address_word, may_keep, size_place, size_word, stored_by, stream_bytes, streams_at}
+use Rattle.blk_entry.proofs.KeyPlaces.{data_of_blocks, data_of_external, piece_is, storage_room}
+use Rattle.blk_stream.specs.Streams.{address_place, address_word, may_keep, size_place, size_word, stored_by, stream_bytes, streams_at}
 
 -- the words of a list of four
 pub word_of_four : (f : ℕ → ℕ) (a i : ℕ) → i < 3 → slice_index (words_at f a 4) i ≡ word_at f (a + 4 * i)

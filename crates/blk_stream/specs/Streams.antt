@@ -1,5 +1,5 @@
 -- The streams of an entry record: where each lies, what its bytes are, and why one can't be read.
-use Rattle.std.specs.Prelude.{ℕ, ◌≡◌, ◌⊎◌, ◌+◌, ◌-◌, ◌*◌, ◌<◌, ◌≤◌, min, List, Bool, false, true, ◌&&◌, ◌==◌, nat_le, slice_index, if◌then◌else◌, Option, None, Some, unwrap_or}
+use Rattle.std.specs.Prelude.{ℕ, ◌≡◌, ◌⊎◌, ◌+◌, ◌-◌, ◌*◌, ◌<◌, ◌≤◌, min, List, Bool, false, true, ◌&&◌, nat_le, slice_index, if◌then◌else◌, Option, None, Some, unwrap_or}
 use Rattle.std.specs.Option.{option_and_then}
 use Rattle.blk_image.specs.Image.{Image}
 use Rattle.blk_image.specs.Told.{Told}

@@ -9,3 +9,6 @@ mod reading;
 
 pub use dropping::drop_streams;
 pub use reading::read;
+
+#[cfg(test)]
+mod tests;

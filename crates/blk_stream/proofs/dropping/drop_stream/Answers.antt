@@ -1,12 +1,12 @@
-use Rattle.std.proofs.Common.{◌≡◌, ◌≢◌, ℕ, inl, inr, true, false, Option, None, Some, sym, ◌∙◌, ap, subst, arith, refl}
+use Rattle.std.proofs.Common.{◌≡◌, ◌≢◌, ℕ, inr, true, false, Option, None, Some, sym, ◌∙◌, ap, subst, refl}
 use Rattle.std.specs.Prelude.{unwrap_or}
-use Rattle.std.specs.Option.{ForSome, option_map}
+use Rattle.std.specs.Option.{option_map}
 use Rattle.std.proofs.lemmas.Result.{on_ok_weaker}
 use Rattle.blk_image.specs.Bytes.{content, word_at}
 use Rattle.blk_image.specs.Image.{Image}
 use Rattle.blk_image.specs.Steps.{after}
 use Rattle.blk_image.specs.Footprint.{SameOutside}
-use Rattle.blk_image.specs.Told.{Told, Passes}
+use Rattle.blk_image.specs.Told.{Told}
 use Rattle.blk_image.proofs.Runs.{passes_end, passes_none, passes_then, passes_weaker, some_inj}
 use Rattle.blk_format.specs.Address.{kind_of, block_count, external, file_selector, first_block}
 use Rattle.blk_format.specs.Sealed.{record_at}

@@ -1,7 +1,6 @@
-use Rattle.std.proofs.Common.{◌≡◌, ◌⊎◌, ◌+◌, ◌≤◌, inl, inr, ℕ, List, None, Some, refl, sym, ◌∙◌, ap, subst, arith}
+use Rattle.std.proofs.Common.{◌≡◌, ◌⊎◌, inl, ℕ, None, sym, ◌∙◌, ap, subst, arith}
 use Rattle.std.specs.Option.{ForSome}
-use Rattle.blk_image.specs.Image.{Image}
-use Rattle.blk_image.specs.Told.{Told, Passes}
+use Rattle.blk_image.specs.Told.{Told}
 use Rattle.blk_image.proofs.Runs.{passes_none, passes_stayed, some_inj}
 use Rattle.blk_format.specs.Address.{file_selector, place}
 use Rattle.blk_format.specs.Sealed.{RecordChecks, record_at}
@@ -12,7 +11,7 @@ use Rattle.blk_io.proofs.Carried.{carried, if_damaged_weaker}
 use Rattle.blk_disk.specs.Tables.{Agrees}
 use Rattle.blk_disk.specs.Unsealed.{IsUnsealed}
 use Rattle.blk_stream.specs.Dropping.{AreDropped, DropsInProgress, IsDropDamage, StreamsCanBeDropped}
-use Rattle.blk_stream.proofs.Dropped.{HasDropped, begun, can_next, next_has, next_passes, not_begun}
+use Rattle.blk_stream.proofs.Dropped.{begun, can_next, next_has, next_passes, not_begun}
 use Rattle.blk_stream.proofs.dropping.drop_streams.Goals as goal
 
 pub read_record-requires-clause-size : goal.read_record-requires-clause-size

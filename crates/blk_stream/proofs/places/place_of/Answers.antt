@@ -1,4 +1,4 @@
-use Rattle.std.proofs.Common.{◌≡◌, ℕ, true, false, sym, ◌∙◌, arith}
+use Rattle.std.proofs.Common.{sym, ◌∙◌, arith}
 use Rattle.blk_stream.proofs.StreamPlaces.{may_both, may_parts, not_stored_by, stored_by_is}
 use Rattle.blk_stream.proofs.places.place_of.Goals as goal
 
