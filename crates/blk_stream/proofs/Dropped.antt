@@ -25,9 +25,9 @@ use Rattle.blk_alloc.specs.Owning.{others}
 use Rattle.blk_alloc.proofs.Members.{all_head}
 use Rattle.blk_stream.specs.Streams.{address_place, address_word, may_keep, size_place, size_word}
 use Rattle.blk_stream.specs.Changing.{stream_words}
-use Rattle.blk_stream.specs.Freeing.{MayBeFreed, freeing_of, is_block_of, left_by}
+use Rattle.blk_stream.specs.Freeing.{MayBeFreed, leaving_of, is_block_of, left_by}
 use Rattle.blk_stream.specs.Dropping.{AreDropped, DropsInProgress, DropsStream, DropsStreamInProgress, HaveOwnPlaces, IsEmptyStream, KeepsStream, StreamCanBeDropped, StreamsCanBeDropped, dropping_of, is_block_of_first, left_by_first}
-use Rattle.blk_stream.proofs.Drops.{freeing_off, told_back}
+use Rattle.blk_stream.proofs.Drops.{leaving_off, told_back}
 use Rattle.blk_stream.proofs.Naming.{words_off_other}
 use Rattle.blk_stream.proofs.PlacesFreed.{left_elsewhere, left_here}
 use Rattle.blk_stream.proofs.StreamPlaces.{IsStream, address_at, keeps_stands, size_at, stream_facts}
@@ -81,7 +81,7 @@ marks_join false b m = refl
 
 -- Words that stay.
 
-module _ (entry k w : ℕ) (from image : Image) (small : k < 3) (same : SameOutside (either (stream_words entry k) (freeing_of w)) from image) where
+module _ (entry k w : ℕ) (from image : Image) (small : k < 3) (same : SameOutside (either (stream_words entry k) (leaving_of w)) from image) where
   pub stream_kept : (i : ℕ) → i < 3 → k ≢ i → KeepsStream entry i from image
   stream_kept i low differs = record {
     size = size_at image entry i low ∙ word_same (size_place i) (inl refl) ∙ sym (size_at from entry i low);
@@ -89,16 +89,16 @@ module _ (entry k w : ℕ) (from image : Image) (small : k < 3) (same : SameOuts
   }
     where
       word_same : (at : ℕ) → (at ≡ size_place i) ⊎ (at ≡ address_place i) → word image (Block (file_selector entry)) (place entry + at) ≡ word from (Block (file_selector entry)) (place entry + at)
-      word_same at is = same_word_outside (either (stream_words entry k) (freeing_of w)) from image (Block (file_selector entry)) (place entry + at) same
-          (λ q first last. let a = words_off_other entry k i at small low differs is q first last in let b = freeing_off w (file_selector entry) q (let p = past_header entry in omega (arith, first, p)) in rw (a, b) refl)
+      word_same at is = same_word_outside (either (stream_words entry k) (leaving_of w)) from image (Block (file_selector entry)) (place entry + at) same
+          (λ q first last. let a = words_off_other entry k i at small low differs is q first last in let b = leaving_off w (file_selector entry) q (let p = past_header entry in omega (arith, first, p)) in rw (a, b) refl)
 
 -- One more.
 
-both_same : (entry : ℕ) (from : Image) (k : ℕ) (mid image : Image) → SameOutside (dropping_of k entry from) from mid → SameOutside (either (stream_words entry k) (freeing_of (address_word from entry k))) mid image → SameOutside (dropping_of (suc k) entry from) from image
+both_same : (entry : ℕ) (from : Image) (k : ℕ) (mid image : Image) → SameOutside (dropping_of k entry from) from mid → SameOutside (either (stream_words entry k) (leaving_of (address_word from entry k))) mid image → SameOutside (dropping_of (suc k) entry from) from image
 unfolding dropping_of
 both_same entry from k mid image first second =
     let D = dropping_of k entry from in
-    let E = either (stream_words entry k) (freeing_of (address_word from entry k)) in
+    let E = either (stream_words entry k) (leaving_of (address_word from entry k)) in
     outside-trans (either D E) from mid image (outside_wider D (either D E) from mid (within_left D E) first) (outside_wider E (either D E) mid image (within_right D E) second)
 
 module _ (entry : ℕ) (from : Image) where
@@ -148,8 +148,8 @@ module _ (entry : ℕ) (from : Image) where
       gone = gone_now;
     }
       where
-        same_here : SameOutside (either (stream_words entry k) (freeing_of (address_word from entry k))) mid image
-        same_here = subst (λ (w : ℕ). SameOutside (either (stream_words entry k) (freeing_of w)) mid image) word_here drops.same
+        same_here : SameOutside (either (stream_words entry k) (leaving_of (address_word from entry k))) mid image
+        same_here = subst (λ (w : ℕ). SameOutside (either (stream_words entry k) (leaving_of w)) mid image) word_here drops.same
 
         none_now : (i : ℕ) → i < suc k → IsEmptyStream entry i image
         none_now i less = ⊎_elim
@@ -170,7 +170,7 @@ module _ (entry : ℕ) (from : Image) where
     -- at each word of it
     within_next : (m : ℕ) → IsWithin (dropping_of m entry from) (dropping_of (suc m) entry from)
     unfolding dropping_of
-    within_next m = within_left (dropping_of m entry from) (either (stream_words entry m) (freeing_of (address_word from entry m)))
+    within_next m = within_left (dropping_of m entry from) (either (stream_words entry m) (leaving_of (address_word from entry m)))
 
     within_up : (m n : ℕ) → m ≤ n → IsWithin (dropping_of m entry from) (dropping_of n entry from)
     within_up m zero more = subst (λ (j : ℕ). IsWithin (dropping_of j entry from) (dropping_of zero entry from)) (let e : zero ≡ m = omega (arith, more) in e) (within-refl (dropping_of zero entry from))
@@ -189,8 +189,8 @@ module _ (entry : ℕ) (from : Image) where
       order = order_now;
     }
       where
-        same_here : SameOutside (either (stream_words entry k) (freeing_of (address_word from entry k))) mid image
-        same_here = subst (λ (w : ℕ). SameOutside (either (stream_words entry k) (freeing_of w)) mid image) word_here drops.same
+        same_here : SameOutside (either (stream_words entry k) (leaving_of (address_word from entry k))) mid image
+        same_here = subst (λ (w : ℕ). SameOutside (either (stream_words entry k) (leaving_of w)) mid image) word_here drops.same
 
         same_now : SameOutside (dropping_of (suc k) entry from) from image
         same_now = both_same entry from k mid image was.same same_here

@@ -30,10 +30,10 @@ use Rattle.blk_alloc.proofs.Spared.{allocations_kept, empty_kept, freed_still, m
 use Rattle.blk_alloc.proofs.Sparing.{blocks_spared, map_spares}
 use Rattle.blk_stream.specs.Streams.{address_place, address_word, size_place, size_word}
 use Rattle.blk_stream.specs.Changing.{NamesInProgress, place_changes, stream_words}
-use Rattle.blk_stream.specs.Freeing.{IsPlaceFreed, MayBeFreed, freeing_of, is_block_of, left_by}
+use Rattle.blk_stream.specs.Freeing.{IsPlaceFreed, MayBeFreed, freeing_of, is_block_of, leaving_of, left_by}
 use Rattle.blk_stream.specs.Dropping.{DropsStream, DropsStreamInProgress, IsEmptyStream}
 use Rattle.blk_stream.proofs.Naming.{named_words, words_spare}
-use Rattle.blk_stream.proofs.PlacesFreed.{freeing_blocks, freeing_external}
+use Rattle.blk_stream.proofs.PlacesFreed.{freeing_blocks, freeing_external, leaving_none, leaving_some}
 use Rattle.blk_stream.proofs.StreamPlaces.{address_at, size_at}
 
 -- The words of a record that was read.
@@ -59,6 +59,13 @@ freeing_off w m i low =
   where
     blocky_of : (w : ℕ) → (kind_of w == external) ≡ false → kind_of w ≢ external
     blocky_of w t e = let z : (kind_of w == external) ≡ true = grind (arith, nat_tests) in let y : true ≡ false = sym z ∙ t in cc
+
+pub leaving_off : (w m i : ℕ) → 8192 ≤ i → (leaving_of w).bytes (Block m) i ≡ false
+leaving_off w m i low =
+    ⊎_elim
+    (λ (none : w ≡ 0). subst (λ (F : Footprint). F.bytes (Block m) i ≡ false) (sym (ap leaving_of none ∙ leaving_none)) refl)
+    (λ (some : w ≢ 0). subst (λ (F : Footprint). F.bytes (Block m) i ≡ false) (sym (leaving_some w some)) (freeing_off w m i low))
+    (cases_eq w 0)
 
 module _ (w : ℕ) (mid image : Image) (same : SameOutside (freeing_of w) mid image) where
   pub record_freed : (entry : ℕ) → record_at image entry ≡ record_at mid entry
@@ -122,7 +129,7 @@ module _ (entry i : ℕ) (from : Image) where
   W = address_word from entry i
 
   abbrev E : Footprint
-  E = either (stream_words entry i) (freeing_of W)
+  E = either (stream_words entry i) (leaving_of W)
 
   -- there was nothing to be dropped
   pub none_dropped : RecordChecks entry from → size_word from entry i ≡ 0 → W ≡ 0 → DropsStream entry i from from
@@ -142,14 +149,14 @@ module _ (entry i : ℕ) (from : Image) where
   stays_dropping good = record { same = outside-refl E from; checks = good; order = inl (outside-refl (stream_words entry i) from) }
 
   pub naming_drops : (image : Image) → NamesInProgress entry i from image → DropsStreamInProgress entry i from image
-  naming_drops image named = record { same = outside_wider (stream_words entry i) E from image (within_left (stream_words entry i) (freeing_of W)) named.same; checks = named.checks; order = inl named.same }
+  naming_drops image named = record { same = outside_wider (stream_words entry i) E from image (within_left (stream_words entry i) (leaving_of W)) named.same; checks = named.checks; order = inl named.same }
 
-  module _ (mid : Image) (kind : kind_of entry ≡ blocks_256) (small : i < 3) (named : NamesInProgress entry i from mid) (is : IsUpdated from entry (place_changes i 0 0) mid) where
+  module _ (mid : Image) (kind : kind_of entry ≡ blocks_256) (small : i < 3) (some : W ≢ 0) (named : NamesInProgress entry i from mid) (is : IsUpdated from entry (place_changes i 0 0) mid) where
     empty_mid : (size_word mid entry i ≡ 0) × (address_word mid entry i ≡ 0)
     empty_mid = named_words entry i 0 0 from mid kind small (omega arith) (omega arith) is
 
     both : (image : Image) → SameOutside (freeing_of W) mid image → SameOutside E from image
-    both image freed = outside-trans E from mid image (naming_drops mid named).same (outside_wider (freeing_of W) E mid image (within_right (stream_words entry i) (freeing_of W)) freed)
+    both image freed = outside-trans E from mid image (naming_drops mid named).same (outside_wider (leaving_of W) E mid image (within_right (stream_words entry i) (leaving_of W)) (subst (λ (F : Footprint). SameOutside F mid image) (sym (leaving_some W some)) freed))
 
     still_empty : (image : Image) → SameOutside (freeing_of W) mid image → IsEmptyStream entry i image
     still_empty image freed = let words = words_freed W mid image freed entry i small in record { no_bytes = words.0 ∙ empty_mid.0; no_place = words.1 ∙ empty_mid.1 }
@@ -173,7 +180,7 @@ module _ (entry i : ℕ) (from : Image) where
           allocations = λ n words are among. freed.allocations n words (allocations_kept F from mid spares named.same n words are) among;
           blocks = λ n. blocks_freed W mid image freed.same n ∙ blocks_same F from mid headers named.same n;
           empty = λ n few was. freed.empty n (empty_kept F from mid spares named.same n few was);
-          gone = λ kind some. freed.gone kind;
+          gone = λ kind other. freed.gone kind;
           absent = λ number none. absent_freed W mid image freed number (named.same.files (External number) refl ∙ none);
         }
 

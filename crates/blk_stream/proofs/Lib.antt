@@ -3,3 +3,4 @@ pub mod PlacesFreed
 pub mod Naming
 pub mod Drops
 pub mod Dropped
+pub mod ShownDrops
