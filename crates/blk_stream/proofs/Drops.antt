@@ -1,20 +1,20 @@
 -- A stream is made empty, and its place is freed.
-use Rattle.std.proofs.Common.{◌≡◌, ◌≢◌, ◌⊎◌, inl, inr, ⊎_elim, ℕ, ◌+◌, ◌*◌, ◌^◌, ◌<◌, ◌≤◌, Bool, true, false, if◌then◌else◌, List, [], ◌∷◌, Option, None, Some, Result, Ok, Err, refl, sym, ◌∙◌, ap, subst, arith}
-use Rattle.std.specs.Prelude.{◌==◌}
+use Rattle.std.proofs.Common.{◌≡◌, ◌≢◌, inl, inr, ⊎_elim, ℕ, ◌+◌, ◌<◌, ◌≤◌, Bool, true, false, if◌then◌else◌, List, Option, None, Some, Result, Ok, Err, refl, sym, ◌∙◌, ap, subst, arith}
+use Rattle.std.specs.Prelude.{◌==◌, nat_eq}
 use Rattle.std.specs.Option.{option_map, ForSome}
-use Rattle.std.proofs.lemmas.Bool.{cases_Bool, eqb-true}
+use Rattle.std.proofs.lemmas.Bool.{cases_Bool, cases_eq, eqb-true}
 use Rattle.std.proofs.lemmas.Bool.Decides.{nat_tests}
 use Rattle.blk_image.specs.Bytes.{content, word_at}
-use Rattle.blk_image.specs.Image.{Block, External, Image, byte, has_file, length_of, word}
+use Rattle.blk_image.specs.Image.{Block, External, Image, byte, has_file, word}
 use Rattle.blk_image.specs.Steps.{after}
 use Rattle.blk_image.specs.Footprint.{Footprint, SameOutside, either, whole}
 use Rattle.blk_image.specs.Told.{Told, Passes}
 use Rattle.blk_image.proofs.Footprints.{outside-refl, outside-trans, outside_wider, same_word_outside, within_left, within_right}
 use Rattle.blk_image.proofs.Words.{same-range}
 use Rattle.blk_format.specs.Address.{kind_of, external, external_number, file_selector, place, blocks_256}
-use Rattle.blk_format.specs.BlockFiles.{is_among, max_entries_in, most_blocks}
+use Rattle.blk_format.specs.BlockFiles.{max_entries_in}
 use Rattle.blk_format.specs.Claims.{is_in_file}
-use Rattle.blk_format.specs.Maps.{AreAllocations, EmptyAgrees, is_block_marked}
+use Rattle.blk_format.specs.Maps.{AreAllocations, is_block_marked}
 use Rattle.blk_format.specs.Sealed.{IsUpdated, RecordChecks, record_at, record_size}
 use Rattle.blk_format.proofs.SealedFields.{record_word as word_of_record}
 use Rattle.blk_format.proofs.SealedRecords.{entry_bytes}
@@ -30,10 +30,10 @@ use Rattle.blk_alloc.proofs.Spared.{allocations_kept, empty_kept, freed_still, m
 use Rattle.blk_alloc.proofs.Sparing.{blocks_spared, map_spares}
 use Rattle.blk_stream.specs.Streams.{address_place, address_word, size_place, size_word}
 use Rattle.blk_stream.specs.Changing.{NamesInProgress, place_changes, stream_words}
-use Rattle.blk_stream.specs.Freeing.{IsPlaceFreed, MayBeFreed, freeing_of, is_block_of, left_by}
+use Rattle.blk_stream.specs.Freeing.{IsPlaceFreed, MayBeFreed, freeing_of, is_block_of, leaving_of, left_by}
 use Rattle.blk_stream.specs.Dropping.{DropsStream, DropsStreamInProgress, IsEmptyStream}
 use Rattle.blk_stream.proofs.Naming.{named_words, words_spare}
-use Rattle.blk_stream.proofs.PlacesFreed.{freeing_blocks, freeing_external}
+use Rattle.blk_stream.proofs.PlacesFreed.{freeing_blocks, freeing_external, leaving_none, leaving_some}
 use Rattle.blk_stream.proofs.StreamPlaces.{address_at, size_at}
 
 -- The words of a record that was read.
@@ -59,6 +59,13 @@ freeing_off w m i low =
   where
     blocky_of : (w : ℕ) → (kind_of w == external) ≡ false → kind_of w ≢ external
     blocky_of w t e = let z : (kind_of w == external) ≡ true = grind (arith, nat_tests) in let y : true ≡ false = sym z ∙ t in cc
+
+pub leaving_off : (w m i : ℕ) → 8192 ≤ i → (leaving_of w).bytes (Block m) i ≡ false
+leaving_off w m i low =
+    ⊎_elim
+    (λ (none : w ≡ 0). subst (λ (F : Footprint). F.bytes (Block m) i ≡ false) (sym (ap leaving_of none ∙ leaving_none)) refl)
+    (λ (some : w ≢ 0). subst (λ (F : Footprint). F.bytes (Block m) i ≡ false) (sym (leaving_some w some)) (freeing_off w m i low))
+    (cases_eq w 0)
 
 module _ (w : ℕ) (mid image : Image) (same : SameOutside (freeing_of w) mid image) where
   pub record_freed : (entry : ℕ) → record_at image entry ≡ record_at mid entry
@@ -88,6 +95,25 @@ module _ (w : ℕ) (mid image : Image) (same : SameOutside (freeing_of w) mid im
       blocky_of : (kind_of w == external) ≡ false → kind_of w ≢ external
       blocky_of t e = let z : (kind_of w == external) ≡ true = grind (arith, nat_tests) in let y : true ≡ false = sym z ∙ t in cc
 
+-- no file comes to be
+absent_freed : (w : ℕ) (mid image : Image) → IsPlaceFreed w mid image → (number : ℕ) → has_file mid (External number) ≡ false → has_file image (External number) ≡ false
+absent_freed w mid image freed number none =
+    ⊎_elim
+    (λ (t : (kind_of w == external) ≡ true).
+    let kind : kind_of w ≡ external = eqb-true (kind_of w) external t in
+    let whole_only : SameOutside (whole (External (external_number w))) mid image = subst (λ (F : Footprint). SameOutside F mid image) (freeing_external w kind) freed.same in
+    ⊎_elim
+    (λ (same : external_number w ≡ number). subst (λ (n : ℕ). has_file image (External n) ≡ false) same (freed.gone kind))
+    (λ (differs : external_number w ≢ number). whole_only.files (External number) (let e : nat_eq (external_number w) number ≡ false = grind (arith, nat_tests) in e) ∙ none)
+    (cases_eq (external_number w) number))
+    (λ (t : (kind_of w == external) ≡ false).
+    let maps : SameOutside (map_of (file_selector w)) mid image = subst (λ (F : Footprint). SameOutside F mid image) (freeing_blocks w (blocky_of t)) freed.same in
+    maps.files (External number) refl ∙ none)
+    (cases_Bool (kind_of w == external))
+  where
+    blocky_of : (kind_of w == external) ≡ false → kind_of w ≢ external
+    blocky_of t e = let z : (kind_of w == external) ≡ true = grind (arith, nat_tests) in let y : true ≡ false = sym z ∙ t in cc
+
 -- A stream that is dropped.
 
 no_block : (n b : ℕ) → is_block_of 0 n b ≡ false
@@ -103,7 +129,7 @@ module _ (entry i : ℕ) (from : Image) where
   W = address_word from entry i
 
   abbrev E : Footprint
-  E = either (stream_words entry i) (freeing_of W)
+  E = either (stream_words entry i) (leaving_of W)
 
   -- there was nothing to be dropped
   pub none_dropped : RecordChecks entry from → size_word from entry i ≡ 0 → W ≡ 0 → DropsStream entry i from from
@@ -116,20 +142,21 @@ module _ (entry i : ℕ) (from : Image) where
     blocks = λ n. refl;
     empty = λ n few was. was;
     gone = λ kind some. absurd (some none);
+    absent = λ number none. none;
   }
 
   pub stays_dropping : RecordChecks entry from → DropsStreamInProgress entry i from from
   stays_dropping good = record { same = outside-refl E from; checks = good; order = inl (outside-refl (stream_words entry i) from) }
 
   pub naming_drops : (image : Image) → NamesInProgress entry i from image → DropsStreamInProgress entry i from image
-  naming_drops image named = record { same = outside_wider (stream_words entry i) E from image (within_left (stream_words entry i) (freeing_of W)) named.same; checks = named.checks; order = inl named.same }
+  naming_drops image named = record { same = outside_wider (stream_words entry i) E from image (within_left (stream_words entry i) (leaving_of W)) named.same; checks = named.checks; order = inl named.same }
 
-  module _ (mid : Image) (kind : kind_of entry ≡ blocks_256) (small : i < 3) (named : NamesInProgress entry i from mid) (is : IsUpdated from entry (place_changes i 0 0) mid) where
+  module _ (mid : Image) (kind : kind_of entry ≡ blocks_256) (small : i < 3) (some : W ≢ 0) (named : NamesInProgress entry i from mid) (is : IsUpdated from entry (place_changes i 0 0) mid) where
     empty_mid : (size_word mid entry i ≡ 0) × (address_word mid entry i ≡ 0)
     empty_mid = named_words entry i 0 0 from mid kind small (omega arith) (omega arith) is
 
     both : (image : Image) → SameOutside (freeing_of W) mid image → SameOutside E from image
-    both image freed = outside-trans E from mid image (naming_drops mid named).same (outside_wider (freeing_of W) E mid image (within_right (stream_words entry i) (freeing_of W)) freed)
+    both image freed = outside-trans E from mid image (naming_drops mid named).same (outside_wider (leaving_of W) E mid image (within_right (stream_words entry i) (leaving_of W)) (subst (λ (F : Footprint). SameOutside F mid image) (sym (leaving_some W some)) freed))
 
     still_empty : (image : Image) → SameOutside (freeing_of W) mid image → IsEmptyStream entry i image
     still_empty image freed = let words = words_freed W mid image freed entry i small in record { no_bytes = words.0 ∙ empty_mid.0; no_place = words.1 ∙ empty_mid.1 }
@@ -153,7 +180,8 @@ module _ (entry i : ℕ) (from : Image) where
           allocations = λ n words are among. freed.allocations n words (allocations_kept F from mid spares named.same n words are) among;
           blocks = λ n. blocks_freed W mid image freed.same n ∙ blocks_same F from mid headers named.same n;
           empty = λ n few was. freed.empty n (empty_kept F from mid spares named.same n few was);
-          gone = λ kind some. freed.gone kind;
+          gone = λ kind other. freed.gone kind;
+          absent = λ number none. absent_freed W mid image freed number (named.same.files (External number) refl ∙ none);
         }
 
   -- and its place may be freed as before

@@ -2,3 +2,5 @@ pub mod StreamPlaces
 pub mod PlacesFreed
 pub mod Naming
 pub mod Drops
+pub mod Dropped
+pub mod ShownDrops

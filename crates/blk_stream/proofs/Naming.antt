@@ -1,11 +1,10 @@
 -- The record names another place for a stream.
 use Rattle.std.proofs.Common.{◌≡◌, ◌≢◌, ◌⊎◌, inl, inr, ⊎_elim, ℕ, ◌+◌, ◌*◌, ◌%◌, ◌^◌, ◌<◌, ◌≤◌, Bool, true, false, ◌&&◌, List, [], ◌∷◌, length, refl, sym, ◌∙◌, ap, subst, arith}
-use Rattle.std.specs.Prelude.{◌==◌, nat_le, nat_lt}
+use Rattle.std.specs.Prelude.{nat_le, nat_lt}
 use Rattle.std.specs.List.{All}
 use Rattle.std.proofs.lemmas.Bool.{cases_lt}
 use Rattle.std.proofs.lemmas.Bool.Decides.{nat_tests}
 use Rattle.std.proofs.lemmas.List.Elements.{All-nil, All-cons}
-use Rattle.blk_image.specs.Bytes.{content, word_at}
 use Rattle.blk_image.specs.Image.{File, Block, Image, same_file, word}
 use Rattle.blk_image.specs.Steps.{TrailStep, with_words, word_step}
 use Rattle.blk_image.specs.Footprint.{Footprint, SameOutside, IsWithin, either, nothing, one_word, touched_by_all}
@@ -14,7 +13,7 @@ use Rattle.blk_image.proofs.Footprints.{outside-refl, outside_steps, same_word_o
 use Rattle.blk_image.proofs.Runs.{until_both, until_weaker2}
 use Rattle.blk_image.proofs.Words.{length-with_word, length-with_words}
 use Rattle.blk_format.specs.Address.{kind_of, file_selector, place, blocks_256}
-use Rattle.blk_format.specs.Sealed.{AreChanges, IsMidUpdate, IsUpdated, RecordChecks, record_at, record_size, sealed, sealed_steps, seal_place, update_steps}
+use Rattle.blk_format.specs.Sealed.{AreChanges, IsMidUpdate, IsUpdated, RecordChecks, record_size, sealed, sealed_steps, seal_place, update_steps}
 use Rattle.blk_format.proofs.SealedFields.{record_word as word_of_record, updated_is_new}
 use Rattle.blk_format.proofs.SealedRecords.{entry_bytes, entry_seal, moments, record_inside}
 use Rattle.blk_format.proofs.SpareHeaders.{past_header}

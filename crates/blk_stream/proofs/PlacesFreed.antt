@@ -1,18 +1,18 @@
 -- The place of data is freed.
-use Rattle.std.proofs.Common.{◌≡◌, ◌≢◌, ⊎_elim, ℕ, ◌+◌, ◌/◌, ◌<◌, Bool, true, false, if◌then◌else◌, List, [], ◌∷◌, Option, None, Some, refl, sym, ◌∙◌, ap, subst, arith}
+use Rattle.std.proofs.Common.{◌≡◌, ◌≢◌, ⊎_elim, ℕ, ◌+◌, ◌/◌, Bool, true, false, List, [], ◌∷◌, Option, None, refl, sym, ◌∙◌, ap, subst, arith}
 use Rattle.std.specs.Prelude.{◌==◌, ◌&&◌, not, is_some, unwrap_or}
 use Rattle.std.specs.Option.{ForSome}
 use Rattle.std.proofs.lemmas.Bool.{cases_eq}
 use Rattle.std.proofs.lemmas.Bool.Decides.{nat_tests}
 use Rattle.blk_image.specs.Bytes.{content}
-use Rattle.blk_image.specs.Image.{Block, External, Image, byte, has_file, length_of}
+use Rattle.blk_image.specs.Image.{Block, External, Image}
 use Rattle.blk_image.specs.Steps.{Delete, applied}
-use Rattle.blk_image.specs.Footprint.{Footprint, SameOutside, whole}
+use Rattle.blk_image.specs.Footprint.{Footprint, SameOutside, nothing, whole}
 use Rattle.blk_image.specs.Told.{Told, AppliesPrefix}
 use Rattle.blk_image.proofs.Footprints.{outside_step, same_file_outside}
 use Rattle.blk_image.proofs.Runs.{told_part}
 use Rattle.blk_format.specs.Address.{kind_of, is_address, external, external_number, file_selector}
-use Rattle.blk_format.specs.BlockFiles.{is_among, kind_among, max_entries_in, stands_in, stands_in_blocks}
+use Rattle.blk_format.specs.BlockFiles.{is_among, kind_among, max_entries_in, stands_in}
 use Rattle.blk_format.specs.Claims.{is_in_file}
 use Rattle.blk_format.specs.Headers.{allocations_of}
 use Rattle.blk_format.specs.Maps.{AreAllocations, EmptyAgrees, is_block_marked}
@@ -24,7 +24,7 @@ use Rattle.blk_disk.proofs.Agreeing.{agrees_still}
 use Rattle.blk_alloc.specs.Changes.{IsMapInProgress, map_of}
 use Rattle.blk_alloc.specs.Owning.{FreesInProgress, IsFreed, KeepsFile, others}
 use Rattle.blk_alloc.proofs.Widening.{mark_kept}
-use Rattle.blk_stream.specs.Freeing.{IsPlaceFreed, freeing_of, is_block_of, left_by}
+use Rattle.blk_stream.specs.Freeing.{IsPlaceFreed, freeing_of, is_block_of, leaving_of, left_by}
 
 pub freeing_external : (w : ℕ) → kind_of w ≡ external → freeing_of w ≡ whole (External (external_number w))
 unfolding freeing_of
@@ -33,6 +33,14 @@ freeing_external w kind = let t : (kind_of w == external) ≡ true = grind (arit
 pub freeing_blocks : (w : ℕ) → kind_of w ≢ external → freeing_of w ≡ map_of (file_selector w)
 unfolding freeing_of
 freeing_blocks w blocky = let t : (kind_of w == external) ≡ false = grind (arith, nat_tests) in rw t refl
+
+pub leaving_some : (w : ℕ) → w ≢ 0 → leaving_of w ≡ freeing_of w
+unfolding leaving_of
+leaving_some w some = let t : (w == 0) ≡ false = grind (arith, nat_tests) in rw t refl
+
+pub leaving_none : leaving_of 0 ≡ nothing
+unfolding leaving_of
+leaving_none = refl
 
 -- Blocks that are freed.
 

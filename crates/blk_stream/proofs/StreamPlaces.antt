@@ -1,13 +1,13 @@
 -- Where the streams of a record lie.
-use Rattle.std.proofs.Common.{◌≡◌, ◌≢◌, ◌⊎◌, inl, inr, ⊎_elim, ℕ, zero, suc, ◌+◌, ◌-◌, ◌*◌, ◌<◌, ◌≤◌, Bool, true, false, ◌&&◌, ◌||◌, if◌then◌else◌, List, [], ◌∷◌, ◌++◌, length, take, drop, Option, None, Some, Result, Ok, Err, refl, sym, ◌∙◌, ap, ap₂, subst, arith, add-zero}
-use Rattle.std.specs.Prelude.{◌==◌, nat_le, not, min, slice_index, unwrap_or, IsOk}
+use Rattle.std.proofs.Common.{◌≡◌, ◌≢◌, ◌⊎◌, inl, inr, ⊎_elim, ℕ, zero, suc, ◌+◌, ◌-◌, ◌*◌, ◌/◌, ◌<◌, ◌≤◌, Bool, true, false, ◌&&◌, ◌||◌, if◌then◌else◌, List, [], ◌∷◌, ◌++◌, length, drop, Option, None, Some, Result, Ok, Err, refl, sym, ◌∙◌, ap, subst, arith, add-zero}
+use Rattle.std.specs.Prelude.{◌==◌, nat_le, not, min, slice_index, IsOk}
 use Rattle.std.proofs.lemmas.Bool.{and_parts, eqb-true, cases_Bool, leb-true}
 use Rattle.std.proofs.lemmas.Bool.Decides.{nat_tests}
 use Rattle.std.specs.Option.{option_and_then, option_map}
-use Rattle.blk_image.specs.Bytes.{content, word_at, words_at, range_at}
-use Rattle.blk_image.specs.Image.{Block, External, Image, HasRange, byte, has_file, length_of, word}
+use Rattle.blk_image.specs.Bytes.{word_at, words_at, range_at}
+use Rattle.blk_image.specs.Image.{Block, External, Image, byte, has_file, length_of, word}
 use Rattle.blk_image.proofs.Words.{length-range}
-use Rattle.blk_format.specs.Address.{kind_of, block_count, is_address, external, external_number, file_selector, place, byte_size, blocks_256}
+use Rattle.blk_format.specs.Address.{kind_of, block_count, is_address, is_initialized, external, external_number, file_selector, place, byte_size, blocks_256}
 use Rattle.blk_format.specs.Records.{entry_in}
 use Rattle.blk_format.specs.Storage.{is_storage, kind_for, blocks_for}
 use Rattle.blk_format.specs.Standing.{stands}
@@ -22,9 +22,8 @@ use Rattle.blk_io.specs.declared.fault.Fault.TheVariants.{Device, Damaged}
 use Rattle.blk_io.specs.Faults.{IfDamaged}
 use Rattle.blk_io.proofs.Carried.{untold_where}
 use Rattle.blk_entry.specs.Keys.{data_at, data_file, data_start, stores, IsInFile, IsInside, IsPiece}
-use Rattle.blk_entry.proofs.KeyPlaces.{data_of_blocks, data_of_external, head_word, piece_is, storage_room, storage_parts}
-use Rattle.blk_stream.specs.declared.places.Stored.{Stored}
-use Rattle.blk_stream.specs.Streams.{HasStreams, IsStoredAt, address_place, address_word, may_keep, size_place, size_word, stored_by, stream_bytes, streams_at}
+use Rattle.blk_entry.proofs.KeyPlaces.{data_of_blocks, data_of_external, piece_is, storage_room}
+use Rattle.blk_stream.specs.Streams.{address_place, address_word, may_keep, size_place, size_word, stored_by, stream_bytes, streams_at}
 
 -- the words of a list of four
 pub word_of_four : (f : ℕ → ℕ) (a i : ℕ) → i < 3 → slice_index (words_at f a 4) i ≡ word_at f (a + 4 * i)
@@ -332,6 +331,20 @@ keeps_inside files size w at n keeps within =
 -- so its blocks stand
 pub keeps_stands : (files : BlockFiles) (size w addr : ℕ) → may_keep files size w ≡ true → addr ≡ w → kind_of addr ≢ external → stands_among files addr ≡ true
 keeps_stands files size w addr keeps is = (keeps_inside files size addr 0 0 (subst (λ (v : ℕ). may_keep files size v ≡ true) (sym is) keeps) (omega arith)).stands
+
+-- an address isn't 0
+pub stored_some : (files : BlockFiles) (size w : ℕ) → 0 < size → stores files size w ≡ true → w ≢ 0
+unfolding stores is_storage is_address is_initialized
+stored_some files size w some e none =
+    let z : (size == 0) ≡ false = grind (arith, nat_tests) in
+    by_storage z (and_parts (is_storage size w) ((kind_of w == external) || stands_among files w) e).0
+  where
+    by_storage : (size == 0) ≡ false → (if size == 0 then w == 0 else (is_address w && (kind_of w == kind_for size) && ((kind_of w == external) || (block_count w == blocks_for size)))) ≡ true → ⊥
+    by_storage z h =
+        let k : (is_address w && (kind_of w == kind_for size) && ((kind_of w == external) || (block_count w == blocks_for size))) ≡ true = rw z at h in
+        let address : is_address w ≡ true = (and_parts (is_address w) (kind_of w == kind_for size) (and_parts (is_address w && (kind_of w == kind_for size)) ((kind_of w == external) || (block_count w == blocks_for size)) k).0).0 in
+        let q : w / 2147483648 ≡ 1 = eqb-true _ _ (and_parts _ _ address).0 in
+        omega (arith, q, none)
 
 -- nothing of a stream from its end on, or where there is no room
 pub no_piece : (key : List ℕ) (at : ℕ) (old : List ℕ) → ◌≡◌ {A = ℕ} 0 (min (length old) (length key - at)) → IsPiece key at old old 0

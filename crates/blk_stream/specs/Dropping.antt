@@ -15,7 +15,7 @@ use Rattle.blk_entry.specs.Keys.{IsHeadDamage}
 use Rattle.blk_alloc.specs.Owning.{IsCause}
 use Rattle.blk_stream.specs.Streams.{HasStreamPlace, HasStreams, IsMisplaced, address_word, size_word}
 use Rattle.blk_stream.specs.Changing.{stream_words}
-use Rattle.blk_stream.specs.Freeing.{MayBeFreed, freeing_of, is_block_of, left_by}
+use Rattle.blk_stream.specs.Freeing.{MayBeFreed, is_block_of, leaving_of, left_by}
 
 -- no two streams of a record have one address
 abbrev pub HaveOwnPlaces : ℕ → Image → Type 0
@@ -38,7 +38,7 @@ pub record StreamsCanBeDropped (entry : ℕ) (image : Image) : Type 0 where
 -- what dropping the first streams of a record touches: their words and the seal, and their files, or the maps and counters of the files of their blocks
 unfoldable pub dropping_of : ℕ → ℕ → Image → Footprint
 dropping_of zero entry from = nothing
-dropping_of (suc i) entry from = either (dropping_of i entry from) (either (stream_words entry i) (freeing_of (address_word from entry i)))
+dropping_of (suc i) entry from = either (dropping_of i entry from) (either (stream_words entry i) (leaving_of (address_word from entry i)))
 
 -- a block of a file is one of the first streams of a record
 unfoldable pub is_block_of_first : ℕ → ℕ → Image → ℕ → ℕ → Bool
@@ -80,7 +80,7 @@ pub record DropsInProgress (entry : ℕ) (from image : Image) : Type 0 where
 
 -- the same of one stream: it is dropped
 pub record DropsStream (entry i : ℕ) (from image : Image) : Type 0 where
-  pub same : SameOutside (either (stream_words entry i) (freeing_of (address_word from entry i))) from image
+  pub same : SameOutside (either (stream_words entry i) (leaving_of (address_word from entry i))) from image
   pub checks : RecordChecks entry image
   pub none : IsEmptyStream entry i image
   pub marks : (n b : ℕ) → b < most_blocks → is_block_marked image n b ≡ (if is_block_of (address_word from entry i) n b then false else is_block_marked from n b)
@@ -88,10 +88,11 @@ pub record DropsStream (entry i : ℕ) (from image : Image) : Type 0 where
   pub blocks : (n : ℕ) → max_entries_in image n ≡ max_entries_in from n
   pub empty : (n : ℕ) → max_entries_in from n ≤ most_blocks → EmptyAgrees from n → EmptyAgrees image n
   pub gone : kind_of (address_word from entry i) ≡ external → address_word from entry i ≢ 0 → has_file image (External (external_number (address_word from entry i))) ≡ false
+  pub absent : (number : ℕ) → has_file from (External number) ≡ false → has_file image (External number) ≡ false
 
 -- and while it is
 pub record DropsStreamInProgress (entry i : ℕ) (from image : Image) : Type 0 where
-  pub same : SameOutside (either (stream_words entry i) (freeing_of (address_word from entry i))) from image
+  pub same : SameOutside (either (stream_words entry i) (leaving_of (address_word from entry i))) from image
   pub checks : RecordChecks entry image
   pub order : SameOutside (stream_words entry i) from image ⊎ IsEmptyStream entry i image
 

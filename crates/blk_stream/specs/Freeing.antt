@@ -1,7 +1,7 @@
 -- The place of data is freed.
 use Rattle.std.specs.Prelude.{ℕ, ◌≡◌, ◌≢◌, ◌<◌, ◌==◌, List, Bool, true, false, if◌then◌else◌}
 use Rattle.blk_image.specs.Image.{External, Image, has_file}
-use Rattle.blk_image.specs.Footprint.{Footprint, SameOutside, whole}
+use Rattle.blk_image.specs.Footprint.{Footprint, SameOutside, nothing, whole}
 use Rattle.blk_format.specs.Address.{kind_of, external, external_number, file_selector}
 use Rattle.blk_format.specs.BlockFiles.{is_among, most_blocks}
 use Rattle.blk_format.specs.Claims.{is_in_file}
@@ -16,6 +16,10 @@ MayBeFreed w image = kind_of w ≢ external → CanBeFreed image w
 -- what is touched: the file, or the map of the file of the blocks and its counters
 unfoldable pub freeing_of : ℕ → Footprint
 freeing_of w = if kind_of w == external then whole (External (external_number w)) else map_of (file_selector w)
+
+-- the same of the place of a stream, where the word 0 is of none
+unfoldable pub leaving_of : ℕ → Footprint
+leaving_of w = if w == 0 then nothing else freeing_of w
 
 -- whether a block of a file is one of an address of blocks
 unfoldable pub is_block_of : ℕ → ℕ → ℕ → Bool

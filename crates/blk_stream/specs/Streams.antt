@@ -1,5 +1,5 @@
 -- The streams of an entry record: where each lies, what its bytes are, and why one can't be read.
-use Rattle.std.specs.Prelude.{ℕ, ◌≡◌, ◌⊎◌, ◌+◌, ◌-◌, ◌*◌, ◌<◌, ◌≤◌, min, List, Bool, false, true, ◌&&◌, ◌==◌, nat_le, slice_index, if◌then◌else◌, Option, None, Some, unwrap_or}
+use Rattle.std.specs.Prelude.{ℕ, ◌≡◌, ◌≢◌, ◌⊎◌, ◌+◌, ◌-◌, ◌*◌, ◌<◌, ◌≤◌, min, List, Bool, false, true, ◌&&◌, nat_le, slice_index, if◌then◌else◌, Option, None, Some, unwrap_or}
 use Rattle.std.specs.Option.{option_and_then}
 use Rattle.blk_image.specs.Image.{Image}
 use Rattle.blk_image.specs.Told.{Told}
@@ -55,11 +55,12 @@ pub record StreamsCanBeRead (files : BlockFiles) (entry : ℕ) (image : Image) :
   pub checks : RecordChecks entry image
   pub has : HasStreams entry image
 
--- where a stream lies by its words: there is no place where the address word is 0
+-- where a stream lies by its words: no bytes have no place, and others an address, which isn't 0
 pub record IsStoredAt (size w : ℕ) (stored : Stored) : Type 0 where
   pub size_is : stored.size ≡ size
   pub word_is : unwrap_or stored.addr 0 ≡ w
   pub none : stored.addr ≡ None → size ≡ 0
+  pub some : (addr : ℕ) → stored.addr ≡ Some addr → addr ≢ 0
 
 -- Why a stream can't be read.
 

@@ -7,7 +7,7 @@ ghost use Rattle.blk_format.specs.Records.{entry_size};
 ghost use Rattle.blk_format.specs.Sealed.{RecordChecks, record_at};
 ghost use Rattle.blk_io.specs.Faults.{IfDamaged, IfDevice};
 ghost use Rattle.blk_disk.specs.Tables.{Agrees, stands_among};
-ghost use Rattle.blk_stream.specs.Dropping.{DropsStream, DropsStreamInProgress, IsStreamDropDamage, StreamCanBeDropped};
+ghost use Rattle.blk_stream.specs.Dropping.{AreDropped, DropsInProgress, DropsStream, DropsStreamInProgress, IsDropDamage, IsStreamDropDamage, StreamCanBeDropped, StreamsCanBeDropped};
 
 use crate::changing::name_place;
 use crate::freeing::free_place;
@@ -15,9 +15,44 @@ use crate::places::{Stored, stored_in};
 use blk_addr::Addr;
 use blk_disk::BlockFiles;
 use blk_io::{Fault, Folder};
+use blk_record::{EntryView, Record};
+
+/// Makes the three streams of an entry empty, one after the other. Of each that has bytes, the record gets the size
+/// and the address 0 by one sealed update, and then its blocks are freed, or its file is deleted.
+///
+/// One folder call reads the record; for each stream in blocks eleven follow, and for each in a file five. A damage
+/// is a read of the record that gave too few bytes, or a record that doesn't check, and nothing is written then; or
+/// the words of a stream that don't give it its storage, or a header that blocks can't be freed of.
+pub fn drop_streams<F: Folder>(f: &mut F, files: &BlockFiles, entry: Addr) -> Result<(), Fault>
+    requires kind { kind_of entry ≡ blocks_256 }
+    requires stands { IsTrue (stands_among files.now entry) }
+    requires agrees { ForSome (F.told f.old).files (Agrees files.now) }
+    ensures checked { OnOk result (ForSome (F.told f.old).files (RecordChecks entry)) }
+
+    // No stream has bytes or a place; the blocks of those that did aren't marked, and their files are gone; all else is as before.
+    ensures dropped { OnOk result (ForSome (F.told f.old).files (λ from. ForSome (F.told f.new).files (AreDropped 3 entry from))) }
+    ensures agrees { ForSome (F.told f.new).files (Agrees files.now) }
+
+    // At each word the record checks, and nothing but the words of the streams and their places has changed; until the record names a stream no longer, its place is as it was.
+    ensures stops { ForSome (F.told f.old).files (λ from. RecordChecks entry from → Passes (F.told f.old) (F.told f.new) (DropsInProgress entry from)) }
+
+    // A folder that tells its files gives a damage only where the record doesn't check, or a stream isn't stored and allocated alone.
+    ensures damaged { IfDamaged result (IsDropDamage files.now (F.told f.old) (F.told f.new) entry) }
+    ensures untold { ForSome (F.told f.old).files (StreamsCanBeDropped entry) → IfDamaged result (λ _. (F.told f.old).files ≡ None) }
+    ensures silent { (F.told f.old).files ≡ None → (F.told f.new).files ≡ None }
+    ensures later { F.faults f.old ≤ F.faults f.new }
+    ensures device { IfDevice result (Rises (F.faults f.old) (F.faults f.new)) }
+{
+    let mut bytes = [0u8; EntryView::SIZE];
+    files.read_record(f, entry, &mut bytes)?;
+    for stream in 0..3u8 {
+        drop_stream(f, files, entry, stream, &mut bytes)?;
+    }
+    Ok(())
+}
 
 // Makes a stream empty, by the bytes of its record, which were read: the record names its place no longer, and then the place is freed.
-pub(crate) fn drop_stream<F: Folder>(
+fn drop_stream<F: Folder>(
     f: &mut F,
     files: &BlockFiles,
     entry: Addr,

@@ -4,7 +4,13 @@
 mod changing;
 mod dropping;
 mod freeing;
+mod laws;
 mod places;
 mod reading;
 
+pub use dropping::drop_streams;
+pub use laws::drops_are_shown_inside;
 pub use reading::read;
+
+#[cfg(test)]
+mod tests;

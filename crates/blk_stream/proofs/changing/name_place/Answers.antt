@@ -1,19 +1,16 @@
-use Rattle.std.proofs.Common.{◌≡◌, ◌+◌, ◌*◌, ℕ, sym, ◌∙◌, ap, subst, List, [], ◌∷◌, length, refl}
-use Rattle.std.specs.Prelude.{unwrap_or}
-use Rattle.std.specs.Option.{ForSome}
+use Rattle.std.proofs.Common.{◌≡◌, ◌+◌, ◌*◌, ℕ, sym, ◌∙◌, ap, subst, List, [], ◌∷◌, refl}
 use Rattle.std.proofs.lemmas.Result.{on_ok_weaker}
 use Rattle.blk_image.specs.Image.{Image}
 use Rattle.blk_image.specs.Steps.{with_words}
 use Rattle.blk_image.specs.Told.{Along, AppliesPrefix}
 use Rattle.blk_image.proofs.Runs.{passes_part, some_inj}
-use Rattle.blk_format.specs.Sealed.{IsUpdated, record_at, sealed, sealed_steps, seal_place, steps_over}
+use Rattle.blk_format.specs.Sealed.{record_at, sealed, sealed_steps, seal_place}
 use Rattle.blk_io.proofs.Carried.{silent_part, told_at_end}
 use Rattle.blk_disk.proofs.SealedWrites.{front_read}
 use Rattle.blk_format.proofs.SealedRecords.{entry_bytes}
 use Rattle.blk_laws.proofs.lists.WriteSteps.{quiet-sealed}
 use Rattle.blk_stream.specs.Changing.{NamesInProgress, place_changes}
 use Rattle.blk_stream.proofs.Naming.{changed_long, naming_moments, place_are}
-use Rattle.blk_stream.proofs.changing.name_place.Given as given
 use Rattle.blk_stream.proofs.changing.name_place.Goals as goal
 
 pub update_record-requires-clause-changes : goal.update_record-requires-clause-changes

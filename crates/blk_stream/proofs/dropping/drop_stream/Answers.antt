@@ -1,12 +1,12 @@
-use Rattle.std.proofs.Common.{◌≡◌, ◌≢◌, ℕ, inl, inr, true, false, Option, None, Some, sym, ◌∙◌, ap, subst, arith, refl}
+use Rattle.std.proofs.Common.{◌≡◌, ◌≢◌, ℕ, inr, true, false, Option, None, Some, sym, ◌∙◌, ap, subst, refl}
 use Rattle.std.specs.Prelude.{unwrap_or}
-use Rattle.std.specs.Option.{ForSome, option_map}
+use Rattle.std.specs.Option.{option_map}
 use Rattle.std.proofs.lemmas.Result.{on_ok_weaker}
 use Rattle.blk_image.specs.Bytes.{content, word_at}
 use Rattle.blk_image.specs.Image.{Image}
 use Rattle.blk_image.specs.Steps.{after}
 use Rattle.blk_image.specs.Footprint.{SameOutside}
-use Rattle.blk_image.specs.Told.{Told, Passes}
+use Rattle.blk_image.specs.Told.{Told}
 use Rattle.blk_image.proofs.Runs.{passes_end, passes_none, passes_then, passes_weaker, some_inj}
 use Rattle.blk_format.specs.Address.{kind_of, block_count, external, file_selector, first_block}
 use Rattle.blk_format.specs.Sealed.{record_at}
@@ -61,6 +61,9 @@ word_is : (g : given.Over) (c : goal.After-free_place g) (from : Image) → (g.F
 word_is g c from there =
     sym (ap (λ (o : Option ℕ). unwrap_or o 0) c.in-Some.is) ∙ c.in_ok-old.ensures.stored.word_is ∙ read_word from c.args.entry c.args.stream c.args.bytes.now c.requires.kind c.requires.stream (c.requires.read from there)
 
+some_word : (g : given.Over) (c : goal.After-free_place g) (from : Image) → (g.F.Folder.told c.args.f.now).files ≡ Some from → address_word from c.args.entry c.args.stream ≢ 0
+some_word g c from there none = c.in_ok-old.ensures.stored.some c.in-Some.addr c.in-Some.is (word_is g c from there ∙ none)
+
 -- the image between the two
 mid_told : (g : given.Over) (c : goal.After-free_place g) (from : Image) → (g.F.Folder.told c.args.f.now).files ≡ Some from → (mid : Image) × ((g.F.Folder.told c.name_place.new.f).files ≡ Some mid)
 mid_told g c from there = let passes = c.in_ok-name_place.ensures.stops from there in (after passes.steps from, passes.applies.files ∙ ap (option_map (after passes.steps)) there)
@@ -71,7 +74,7 @@ returns-clause-dropped g c =
     (λ freed from there image now.
     let mid = mid_told g c from there in
     let word = word_is g c from there in
-    freed_drops c.args.entry c.args.stream from mid.0 c.requires.kind c.requires.stream (passes_end (c.in_ok-name_place.ensures.stops from there) mid.0 mid.1) (c.in_ok-name_place.ensures.named from there mid.0 mid.1) image
+    freed_drops c.args.entry c.args.stream from mid.0 c.requires.kind c.requires.stream (some_word g c from there) (passes_end (c.in_ok-name_place.ensures.stops from there) mid.0 mid.1) (c.in_ok-name_place.ensures.named from there mid.0 mid.1) image
     (subst (λ (w : ℕ). IsPlaceFreed w mid.0 image) word (freed mid.0 mid.1 image now)))
     c.free_place.ensures.freed
 
@@ -88,7 +91,7 @@ returns-clause-stops g c from there =
     let word = word_is g c from there in
     let named : NamesInProgress c.args.entry c.args.stream from mid.0 = passes_end (c.in_ok-name_place.ensures.stops from there) mid.0 mid.1 in
     let drops : (image : Image) → SameOutside (freeing_of c.in-Some.addr) mid.0 image → DropsStreamInProgress c.args.entry c.args.stream from image = (λ image h.
-    freeing_drops c.args.entry c.args.stream from mid.0 c.requires.kind c.requires.stream named (c.in_ok-name_place.ensures.named from there mid.0 mid.1) image (subst (λ (w : ℕ). SameOutside (freeing_of w) mid.0 image) word h)) in
+    freeing_drops c.args.entry c.args.stream from mid.0 c.requires.kind c.requires.stream (some_word g c from there) named (c.in_ok-name_place.ensures.named from there mid.0 mid.1) image (subst (λ (w : ℕ). SameOutside (freeing_of w) mid.0 image) word h)) in
     passes_then
     (passes_weaker (c.in_ok-name_place.ensures.stops from there) (λ image h. naming_drops c.args.entry c.args.stream from image h) (λ image h. naming_drops c.args.entry c.args.stream from image h))
     (passes_weaker (c.free_place.ensures.stops mid.0 mid.1) drops drops)

@@ -1,16 +1,12 @@
-use Rattle.std.proofs.Common.{◌≡◌, ◌≢◌, ◌⊎◌, inl, inr, sym, ◌∙◌, subst}
+use Rattle.std.proofs.Common.{◌≢◌, sym, ◌∙◌, subst}
 use Rattle.std.proofs.lemmas.Result.{on_ok_weaker}
 use Rattle.blk_image.specs.Footprint.{Footprint, SameOutside}
-use Rattle.blk_image.specs.Image.{Image}
 use Rattle.blk_image.specs.Told.{Passes}
 use Rattle.blk_image.proofs.Runs.{passes_weaker}
-use Rattle.blk_format.specs.Address.{kind_of, external, file_selector}
-use Rattle.blk_alloc.specs.Changes.{map_of}
-use Rattle.blk_alloc.specs.Owning.{FreesInProgress}
+use Rattle.blk_format.specs.Address.{kind_of, external}
 use Rattle.blk_io.proofs.Carried.{if_damaged_weaker}
 use Rattle.blk_entry.proofs.KeyPlaces.{of_other}
 use Rattle.blk_stream.proofs.PlacesFreed.{freed_blocks, freeing_blocks, map_only}
-use Rattle.blk_stream.proofs.freeing.free_place.Given as given
 use Rattle.blk_stream.proofs.freeing.free_place.Goals as goal
 
 pub returns-else-is_of-clause-freed : goal.returns-else-is_of-clause-freed

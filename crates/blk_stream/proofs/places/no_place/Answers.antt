@@ -1,4 +1,4 @@
-use Rattle.std.proofs.Common.{◌≡◌, ◌+◌, ◌∙◌, ap, inr, ℕ, arith}
+use Rattle.std.proofs.Common.{◌+◌, ◌∙◌, ap, inr, ℕ, arith}
 use Rattle.blk_format.specs.Address.{place}
 use Rattle.blk_entry.proofs.KeyPlaces.{err_damaged}
 use Rattle.blk_stream.specs.declared.places.Stored.{Stored}

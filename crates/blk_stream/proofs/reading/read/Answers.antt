@@ -1,15 +1,13 @@
-use Rattle.std.proofs.Common.{◌≡◌, ◌+◌, ◌-◌, ◌≤◌, ℕ, length, take, drop, length-take, Option, None, Some, sym, ◌∙◌, ap, ap₂, subst, arith, List, true}
+use Rattle.std.proofs.Common.{◌≡◌, ℕ, length, take, drop, length-take, Option, None, Some, sym, ◌∙◌, ap, subst, arith, List, true}
 use Rattle.std.specs.Option.{ForSome}
-use Rattle.std.specs.Prelude.{◌++◌, min, slice_index, unwrap_or}
-use Rattle.blk_image.specs.Bytes.{range_at}
-use Rattle.blk_image.specs.Image.{Image, byte}
+use Rattle.std.specs.Prelude.{◌++◌, slice_index, unwrap_or}
 use Rattle.blk_image.specs.Told.{Told}
 use Rattle.blk_disk.specs.Tables.{Agrees}
 use Rattle.blk_io.specs.Faults.{IfDamaged}
 use Rattle.blk_io.proofs.Carried.{carried, untold_where}
 use Rattle.blk_entry.specs.Keys.{IsInFile, IsPiece}
 use Rattle.blk_entry.proofs.KeyPlaces.{damaged_any}
-use Rattle.blk_stream.specs.Streams.{address_word, may_keep, size_word, stream_bytes, streams_at}
+use Rattle.blk_stream.specs.Streams.{address_word, may_keep, size_word, stream_bytes}
 use Rattle.blk_stream.proofs.StreamPlaces.{clash, keeps_inside, none_read, some_read, stream_facts, stream_is_bytes}
 use Rattle.blk_stream.proofs.reading.read.Given as given
 use Rattle.blk_stream.proofs.reading.read.Goals as goal

@@ -1,0 +1,193 @@
+// Streams in a folder in memory that tells nothing.
+ghost use Rattle.std.specs.Prelude.{◌≡◌, ◌<◌, IfSome, IsTrue};
+ghost use Rattle.blk_format.specs.Address.{blocks_256, kind_of};
+ghost use Rattle.blk_disk.specs.Tables.{stands_among};
+
+use crate::{drop_streams, read};
+use blk_addr::{Addr, Kind};
+use blk_disk::BlockFiles;
+use blk_io::{Damage, Failed, Fault, FileId, Folder, MemFolder, SilentFolder};
+use blk_record::{EntryMut, RecordMut};
+use std::alloc::Global;
+use std::test::Fail;
+
+type Mem = SilentFolder<MemFolder>;
+
+// The bytes of a block of each of the four files.
+const BLOCKS: [u32; 4] = [36, 256, 1024, 4096];
+
+// The address of the record: the first block of 256 bytes.
+const ENTRY: u32 = 0xA001_0000;
+
+// A folder with a record, a stream of 1000 bytes in blocks 4 to 7 behind it, one of 20000 in a file, and one without bytes.
+fn folder(alloc: Global) -> Result<Mem, Failed> {
+    let mut f = SilentFolder::new(MemFolder::new(alloc));
+    for (n, size) in BLOCKS.iter().enumerate() {
+        let file = FileId::Block(n as u8);
+        f.set_len(file, 8192)?;
+        let words = [0xC104_CAC3, 0x20000, n as u32, *size];
+        for (i, word) in words.iter().enumerate() {
+            f.write_at(file, 4 * i as u64, &word.to_le_bytes())?;
+        }
+    }
+
+    // Two allocations, 1024 blocks, one group with three free ones and 254 with four, and the map.
+    let file = FileId::Block(1);
+    f.set_len(file, 10240)?;
+    for (at, word) in [(16, 2u32), (20, 1024), (32, 1), (36, 254), (80, 0xF1)] {
+        f.write_at(file, at, &word.to_le_bytes())?;
+    }
+    f.write_at(file, 9216 + 996, b"last")?;
+    f.set_len(FileId::External(1), 20000)?;
+    f.write_at(FileId::External(1), 19997, b"end")?;
+    put_record(&mut f, [1000, 20000, 0], [0xA301_0004, 0x8000_0001, 0])?;
+    Ok(f)
+}
+
+// Writes the record, with these sizes and addresses of its streams.
+fn put_record(f: &mut Mem, sizes: [u32; 3], addrs: [u32; 3]) -> Result<(), Failed> {
+    let mut bytes = [0; 96];
+    let mut record = EntryMut::new(&mut bytes);
+    record.set_word(4, 0xA001_0007);
+    record.set_word(32, 1);
+    record.set_word(40, sizes[0]);
+    record.set_word(44, sizes[1]);
+    record.set_word(48, sizes[2]);
+    record.set_word(56, addrs[0]);
+    record.set_word(60, addrs[1]);
+    record.set_word(64, addrs[2]);
+    record.seal();
+    f.write_at(FileId::Block(1), 8192, &bytes)
+}
+
+// The record, where it stands.
+fn entry_of(files: &BlockFiles) -> Option<Addr>
+    ensures kind { IfSome result (λ addr. kind_of addr ≡ blocks_256) }
+    ensures stands { IfSome result (λ addr. IsTrue (stands_among files.now addr)) }
+{
+    match Addr::from_word(ENTRY) {
+        Some(addr) => {
+            if addr.kind() == Kind::B256 && files.stands(addr) {
+                Some(addr)
+            } else {
+                None
+            }
+        }
+        None => None,
+    }
+}
+
+// Reads a stream, and gives the number of its bytes and of the folder calls.
+fn get(f: &mut Mem, stream: u8, offset: u64, out: &mut [u8]) -> Result<(usize, u64), Fault>
+    requires { stream < 3 }
+{
+    let files = BlockFiles::load(f)?;
+    let before = f.calls();
+    let Some(entry) = entry_of(&files) else {
+        return Err(Fault::Device);
+    };
+    let n = read(f, &files, entry, stream, offset, out)?;
+    Ok((n, f.calls().wrapping_sub(before)))
+}
+
+// Drops the streams, and gives the number of the folder calls.
+fn empty(f: &mut Mem) -> Result<u64, Fault> {
+    let files = BlockFiles::load(f)?;
+    let before = f.calls();
+    let Some(entry) = entry_of(&files) else {
+        return Err(Fault::Device);
+    };
+    drop_streams(f, &files, entry)?;
+    Ok(f.calls().wrapping_sub(before))
+}
+
+// A word of the first block file of records.
+fn word(f: &mut Mem, at: u64) -> Result<u32, Failed> {
+    let mut word = [0; 4];
+    f.read_at(FileId::Block(1), at, &mut word)?;
+    Ok(u32::from_le_bytes(word))
+}
+
+#[test]
+fn a_piece_is_read_by_two_calls(rt: HostRuntime) -> Result<(), Fail> {
+    let mut f = folder(rt.alloc())?;
+    let mut out = [7; 6];
+    assert_eq!(rt; get(&mut f, 0, 996, &mut out), Ok((4, 2)));
+    assert_eq!(rt; out, *b"last\x07\x07");
+    assert_eq!(rt; get(&mut f, 1, 19997, &mut out), Ok((3, 2)));
+    assert_eq!(rt; out, *b"endt\x07\x07");
+
+    // At the end, far past it, and of a stream without bytes.
+    assert_eq!(rt; get(&mut f, 0, 1000, &mut out), Ok((0, 1)));
+    assert_eq!(rt; get(&mut f, 1, 0x1_0000_0000_0000, &mut out), Ok((0, 1)));
+    assert_eq!(rt; get(&mut f, 2, 0, &mut out), Ok((0, 1)));
+    Ok(())
+}
+
+#[test]
+fn dropped_streams_leave_their_places(rt: HostRuntime) -> Result<(), Fail> {
+    let mut f = folder(rt.alloc())?;
+    assert_eq!(rt; empty(&mut f), Ok(1 + 11 + 5));
+    assert_eq!(rt; f.length(FileId::External(1)), Ok(None));
+
+    // One allocation, a group with three free blocks and 255 with four, updating, and the map.
+    let header = [
+        (16, 1),
+        (24, 0),
+        (28, 0),
+        (32, 1),
+        (36, 255),
+        (56, 0),
+        (80, 1),
+    ];
+    for (at, value) in header {
+        assert_eq!(rt; word(&mut f, at)?, value);
+    }
+
+    // The record has its link, and no stream.
+    let record = [
+        (4, 0xA001_0007),
+        (40, 0),
+        (44, 0),
+        (48, 0),
+        (56, 0),
+        (60, 0),
+        (64, 0),
+    ];
+    for (at, value) in record {
+        assert_eq!(rt; word(&mut f, 8192 + at)?, value);
+    }
+    assert_eq!(rt; empty(&mut f), Ok(1));
+    Ok(())
+}
+
+#[test]
+fn wrong_words_are_damages(rt: HostRuntime) -> Result<(), Fail> {
+    let mut f = folder(rt.alloc())?;
+    let mut out = [0; 3];
+    f.set_len(FileId::External(1), 19998)?;
+    let file = FileId::External(1);
+    let cut = Fault::Damaged(Damage {
+        file,
+        at: 19997,
+        found: 1,
+    });
+    assert_eq!(rt; get(&mut f, 1, 19997, &mut out), Err(cut));
+
+    // A size that no stream has, a storage of another size, blocks that don't stand, and an address of no bytes.
+    let cases = [
+        (2147483648, 0x8000_0001, 40, 2147483648),
+        (1024, 0xA301_0004, 56, 0xA301_0004),
+        (1000, 0xA301_0008, 56, 0xA301_0008),
+        (0, 0xA301_0004, 56, 0xA301_0004),
+    ];
+    for (size, addr, at, found) in cases {
+        put_record(&mut f, [size, 0, 0], [addr, 0, 0])?;
+        let file = FileId::Block(1);
+        let at = 8192 + at;
+        let wrong = Fault::Damaged(Damage { file, at, found });
+        assert_eq!(rt; get(&mut f, 0, 0, &mut out), Err(wrong));
+        assert_eq!(rt; empty(&mut f), Err(wrong));
+    }
+    Ok(())
+}
