@@ -1,6 +1,8 @@
 -- The answers of calls that read, check and take memory.
-use Rattle.std.specs.Prelude.{ℕ, ◌⊎◌, ◌+◌, ◌*◌, Result, Ok, Err}
+use Rattle.std.specs.Prelude.{ℕ, ◌≡◌, ◌⊎◌, ◌+◌, ◌*◌, true, Result, Ok, Err}
 use Rattle.blk_image.specs.Told.{Told}
+use Rattle.blk_format.specs.Address.{blocks_256, file_selector, kind_of, place}
+use Rattle.blk_format.specs.Headers.{place_of_bucket}
 use Rattle.blk_record.specs.declared.index_head.TheConstants.IndexHead as IndexHead
 use Rattle.blk_io.specs.declared.folder.FileId.TheVariants as names
 use Rattle.blk_io.specs.declared.fault.Damage.{Damage}
@@ -8,6 +10,7 @@ use Rattle.blk_io.specs.declared.fault.Fault.{Fault}
 use Rattle.blk_io.specs.declared.fault.Fault.TheVariants as fault
 use Rattle.blk_io.specs.Faults.{IsShort}
 use Rattle.blk_disk.specs.declared.tables.BlockFiles.{BlockFiles}
+use Rattle.blk_disk.specs.Tables.{stands_among}
 use Rattle.blk_lru.specs.Damages.{IsCompletingDamage}
 use Rattle.blk_audit.specs.declared.fault.ScanFault.{ScanFault}
 use Rattle.blk_audit.specs.declared.fault.ScanFault.TheVariants.{Device, Damaged, Memory}
@@ -45,3 +48,19 @@ pub record IsNodesDamage (told : Told) (damage : Damage) : Type 0 where
 -- a walk was damaged at the head, at a word or a node of the operation in flight, or at nodes that stand
 abbrev pub IsWalkDamage : BlockFiles → Told → Damage → Type 0
 IsWalkDamage files told damage = IsShort told names.Index IndexHead.HEADS 4 damage ⊎ (IsCompletingDamage files told damage ⊎ IsNodesDamage told damage)
+
+-- a record that stands was read, and its bytes are too few
+pub record IsRecordDamage (files : BlockFiles) (told : Told) (damage : Damage) : Type 0 where
+  pub entry : ℕ
+  pub kind : kind_of entry ≡ blocks_256
+  pub stands : stands_among files entry ≡ true
+  pub short : IsShort told (names.Block (file_selector entry)) (place entry) 96 damage
+
+-- the words of neighbouring buckets were read, from one on, and their bytes are too few
+pub record IsTableDamage (told : Told) (damage : Damage) : Type 0 where
+  pub first : ℕ
+  pub short : IsShort told names.Index (place_of_bucket first) 4096 damage
+
+-- the chains were damaged at words of the table, or at a record
+abbrev pub IsChainsDamage : BlockFiles → Told → Damage → Type 0
+IsChainsDamage files told damage = IsTableDamage told damage ⊎ IsRecordDamage files told damage

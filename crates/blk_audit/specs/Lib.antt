@@ -1,6 +1,9 @@
+pub mod ChainLaws
+pub mod Chaining
 pub mod Changes
 pub mod Faults
 pub mod Filled
 pub mod Filling
 pub mod Nodes
+pub mod Records
 pub mod Walking

@@ -5,13 +5,18 @@ mod changes;
 mod counting;
 mod fault;
 mod filling;
+mod laws;
 mod list_walk;
 mod nodes;
+mod reaching;
 mod reading;
+mod records;
 mod walking;
 
 pub use fault::ScanFault;
+pub use laws::chains_are_reached_apart;
 pub use list_walk::Walked;
+pub use reaching::{Reached, chains};
 pub use walking::walk;
 
 #[cfg(test)]

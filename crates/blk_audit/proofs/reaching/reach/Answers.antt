@@ -1,0 +1,74 @@
+use Rattle.std.proofs.Common.{◌≡◌, ℕ, ◌%◌, ◌++◌, ◌∷◌, [], Bool, true, false, ◌&&◌, map, sym, ap, subst, ◌∙◌}
+use Rattle.std.specs.Prelude.{◌==◌}
+use Rattle.std.proofs.lemmas.Bool.{ne_eqb, eq-eqb}
+use Rattle.blk_format.specs.Address.{blocks_256}
+use Rattle.blk_volume.specs.Chains.{file_and_block, is_of_bucket}
+use Rattle.blk_volume.specs.View.{stands_as, store_of}
+use Rattle.blk_disk.specs.Tables.{Agrees, is_record_among}
+use Rattle.blk_lru.proofs.Conditions.{told_stays}
+use Rattle.blk_audit.specs.Chaining.{is_met}
+use Rattle.blk_audit.specs.Records.{IsEntryOf}
+use Rattle.blk_audit.proofs.Carrying.{converted}
+use Rattle.blk_audit.proofs.Chained.{reach_stops, reach_on, not_reached, not_new, reached_new}
+use Rattle.blk_audit.proofs.Shown.{names_stand, next_is, of_bucket_by, of_none, of_is}
+use Rattle.blk_audit.proofs.Truths.{none_by, test_by, value_by, true_not, false_not}
+use Rattle.blk_audit.proofs.reaching.reach.Goals as goal
+
+pub returns-in_default-clause-step : goal.returns-in_default-clause-step
+returns-in_default-clause-step g c image there =
+    let absent : stands_as image blocks_256 c.args.word ≡ false =
+    sym (names_stand c.args.files.now image c.args.word (c.requires.agrees image there)) ∙ none_by (is_record_among c.args.files.now c.args.word) c.args.word (sym c.in_default.is ∙ c.entry.ensures.entry) in
+    reach_stops (store_of image) c.args.bucket c.args.reached.now.words.items c.args.word
+    (not_reached (store_of image) c.args.bucket (map file_and_block c.args.reached.now.words.items) c.args.word (of_none image c.args.bucket c.args.word absent))
+
+pub returns-then-has-clause-step : goal.returns-then-has-clause-step
+returns-then-has-clause-step g c image there =
+    let named : c.in-Some.addr ≡ c.args.word = value_by (is_record_among c.args.files.now c.args.word) c.args.word c.in-Some.addr (sym c.in-Some.is ∙ c.entry.ensures.entry) in
+    let met : is_met c.args.reached.now.words.items c.args.word ≡ true = sym (ap (is_met c.args.reached.now.words.items) named) ∙ sym c.has.ensures ∙ c.if-has.true in
+    reach_stops (store_of image) c.args.bucket c.args.reached.now.words.items c.args.word
+    (not_new (store_of image) c.args.bucket (map file_and_block c.args.reached.now.words.items) c.args.word met)
+
+pub returns-in_err-said-clause-untold : goal.returns-in_err-said-clause-untold
+returns-in_err-said-clause-untold g c =
+    converted c.read_record.result c.from_residual.result c.in_err-said.field-0.0 _ c.in_err-said.was c.from_residual.ensures.1
+    (c.read_record.ensures.untold (told_stays (Agrees c.args.files.now) c.read_record.ensures.stays c.requires.agrees))
+
+pub returns-then-not-said-clause-step : goal.returns-then-not-said-clause-step
+returns-then-not-said-clause-step g c image there =
+    let named : c.in-Some.addr ≡ c.args.word = value_by (is_record_among c.args.files.now c.args.word) c.args.word c.in-Some.addr (sym c.in-Some.is ∙ c.entry.ensures.entry) in
+    let stand : stands_as image blocks_256 c.args.word ≡ true =
+    sym (names_stand c.args.files.now image c.args.word (c.requires.agrees image there)) ∙ test_by (is_record_among c.args.files.now c.args.word) c.args.word c.in-Some.addr (sym c.in-Some.is ∙ c.entry.ensures.entry) in
+    let is : IsEntryOf image c.args.word c.in_ok-said.said = subst (λ (w : ℕ). IsEntryOf image w c.in_ok-said.said) named (c.in_ok-said.ensures.said image there) in
+    let bad : c.in_ok-said.said.checks ≡ false = true_not c.in_ok-said.said.checks (sym c.if-not-said.true) in
+    reach_stops (store_of image) c.args.bucket c.args.reached.now.words.items c.args.word
+    (not_reached (store_of image) c.args.bucket (map file_and_block c.args.reached.now.words.items) c.args.word
+    (of_is image c.args.bucket c.args.word c.in_ok-said.said stand is ∙ ap (λ (t : Bool). t && (c.in_ok-said.said.hash % 65536 == c.args.bucket)) bad))
+
+pub returns-then-said-bucket-clause-step : goal.returns-then-said-bucket-clause-step
+returns-then-said-bucket-clause-step g c image there =
+    let named : c.in-Some.addr ≡ c.args.word = value_by (is_record_among c.args.files.now c.args.word) c.args.word c.in-Some.addr (sym c.in-Some.is ∙ c.entry.ensures.entry) in
+    let stand : stands_as image blocks_256 c.args.word ≡ true =
+    sym (names_stand c.args.files.now image c.args.word (c.requires.agrees image there)) ∙ test_by (is_record_among c.args.files.now c.args.word) c.args.word c.in-Some.addr (sym c.in-Some.is ∙ c.entry.ensures.entry) in
+    let is : IsEntryOf image c.args.word c.in_ok-said.said = subst (λ (w : ℕ). IsEntryOf image w c.in_ok-said.said) named (c.in_ok-said.ensures.said image there) in
+    let other : (c.in_ok-said.said.hash % 65536 == c.args.bucket) ≡ false = ne_eqb (c.in_ok-said.said.hash % 65536) c.args.bucket c.if-said-bucket.true in
+    reach_stops (store_of image) c.args.bucket c.args.reached.now.words.items c.args.word
+    (not_reached (store_of image) c.args.bucket (map file_and_block c.args.reached.now.words.items) c.args.word
+    (of_is image c.args.bucket c.args.word c.in_ok-said.said stand is ∙ of_bucket_by c.in_ok-said.said.checks (c.in_ok-said.said.hash % 65536 == c.args.bucket) other))
+
+pub returns-clause-step : goal.returns-clause-step
+returns-clause-step g c image there =
+    let named : c.in-Some.addr ≡ c.args.word = value_by (is_record_among c.args.files.now c.args.word) c.args.word c.in-Some.addr (sym c.in-Some.is ∙ c.entry.ensures.entry) in
+    let stand : stands_as image blocks_256 c.args.word ≡ true =
+    sym (names_stand c.args.files.now image c.args.word (c.requires.agrees image there)) ∙ test_by (is_record_among c.args.files.now c.args.word) c.args.word c.in-Some.addr (sym c.in-Some.is ∙ c.entry.ensures.entry) in
+    let is : IsEntryOf image c.args.word c.in_ok-said.said = subst (λ (w : ℕ). IsEntryOf image w c.in_ok-said.said) named (c.in_ok-said.ensures.said image there) in
+    let fresh : is_met c.args.reached.now.words.items c.args.word ≡ false = sym (ap (is_met c.args.reached.now.words.items) named) ∙ sym c.has.ensures ∙ c.if-has.false in
+    let good : c.in_ok-said.said.checks ≡ true = false_not c.in_ok-said.said.checks (sym c.if-not-said.false) in
+    let of : is_of_bucket (store_of image) c.args.bucket c.args.word ≡ true =
+    of_is image c.args.bucket c.args.word c.in_ok-said.said stand is
+    ∙ ap (λ (t : Bool). t && (c.in_ok-said.said.hash % 65536 == c.args.bucket)) good
+    ∙ eq-eqb (c.in_ok-said.said.hash % 65536) c.args.bucket c.if-said-bucket.false in
+    let items : c.add.new.self.words.items ≡ c.args.reached.now.words.items ++ c.args.word ∷ [] = c.in_ok-add.ensures.added ∙ ap (λ (w : ℕ). c.args.reached.now.words.items ++ w ∷ []) named in
+    reach_on (store_of image) c.args.bucket c.args.reached.now.words.items c.add.new.self.words.items c.args.word c.in_ok-said.said.next
+    (reached_new (store_of image) c.args.bucket (map file_and_block c.args.reached.now.words.items) c.args.word fresh of)
+    (next_is image c.args.word c.in_ok-said.said stand is)
+    items

@@ -1,0 +1,17 @@
+-- What is read of a record.
+use Rattle.std.specs.Prelude.{ℕ, ◌≡◌, List}
+use Rattle.blk_image.specs.Bytes.{content, word_at}
+use Rattle.blk_image.specs.Image.{Image}
+use Rattle.blk_format.specs.Records.{checks, entry_checks}
+use Rattle.blk_volume.specs.View.{entry_at}
+use Rattle.blk_audit.specs.declared.records.Entry.{Entry}
+
+-- what a record with these bytes says
+abbrev pub entry_said : List ℕ → Entry
+entry_said bytes = record { checks = checks 92 bytes; hash = word_at (content bytes) 0; next = word_at (content bytes) 4 }
+
+-- that is what the record says that lies at the place that a word of an image names
+pub record IsEntryOf (image : Image) (w : ℕ) (said : Entry) : Type 0 where
+  pub checks : said.checks ≡ entry_checks (entry_at image w)
+  pub hash : said.hash ≡ (entry_at image w).hash
+  pub next : said.next ≡ (entry_at image w).next

@@ -1,0 +1,234 @@
+// The chains of the table.
+ghost use Rattle.std.specs.Prelude.{◌≡◌, ◌<◌, ◌≤◌, ◌+◌, ◌++◌, [], ◌∷◌, IfOk, OnOk, None, false, length, slice_get};
+ghost use Rattle.std.specs.Option.{ForSome};
+ghost use Rattle.blk_image.specs.Told.{Rises, Stays};
+ghost use Rattle.blk_format.specs.Address.{blocks_256, kind_of};
+ghost use Rattle.blk_format.specs.Headers.{HasWholeIndex, table_length};
+ghost use Rattle.blk_volume.specs.View.{store_of};
+ghost use Rattle.blk_volume.specs.Chains.{chain_from, most_records};
+ghost use Rattle.blk_disk.specs.Tables.{Agrees};
+ghost use Rattle.blk_index.specs.Table.{AreBuckets};
+ghost use Rattle.blk_audit.specs.Faults.{IfScanDamaged, IfScanDevice, IsChainsDamage, IsRecordDamage};
+ghost use Rattle.blk_audit.specs.Chaining.{AreOfFirst, AreReached, IsReach, is_met, reached_by, words_of};
+
+use crate::fault::ScanFault;
+use crate::records::{first_of_record, read_record};
+use blk_addr::{Addr, Claims, NoMemory};
+use blk_disk::BlockFiles;
+use blk_index::buckets;
+use blk_io::Folder;
+use std::alloc::Global;
+
+// The most records of a chain, and the number of buckets.
+const MOST_RECORDS: u32 = 16_777_216;
+
+const BUCKETS: u32 = 65_536;
+
+// The words of the table that one call reads, and the number of such calls.
+const PIECE: usize = 1024;
+
+const PIECES: u16 = 64;
+
+/// The records that the chains of a table reach, bucket after bucket and each chain in its order. No two of them begin
+/// with the same block.
+#[derive(Drop)]
+pub struct Reached {
+    words: Vec<Addr>,
+    met: Claims,
+}
+
+impl Reached {
+    /// The number of reached records.
+    pub fn count(&self) -> usize
+        ensures { result ≡ length (words_of self.now) }
+    {
+        self.words.len()
+    }
+
+    /// The address of one of the reached records, counted from 0.
+    pub fn at(&self, i: usize) -> Option<Addr>
+        ensures { result ≡ slice_get (words_of self.now) i }
+    {
+        self.words.get(i).copied()
+    }
+
+    // No record is reached.
+    fn none(alloc: Global) -> Reached
+        ensures reached { AreReached result }
+        ensures none { words_of result ≡ [] }
+    {
+        Reached {
+            words: Vec::new(alloc),
+            met: Claims::new(alloc),
+        }
+    }
+
+    // Whether the first block of a record was met.
+    fn has(&self, addr: Addr) -> bool
+        requires kind { kind_of addr ≡ blocks_256 }
+        requires reached { AreReached self.now }
+        ensures { result ≡ is_met (words_of self.now) addr }
+    {
+        self.met.has(first_of_record(addr))
+    }
+
+    // Adds a record whose first block was not met.
+    fn add(&mut self, addr: Addr) -> Result<(), NoMemory>
+        requires kind { kind_of addr ≡ blocks_256 }
+        requires reached { AreReached self.old }
+        requires fresh { is_met (words_of self.old) addr ≡ false }
+        ensures reached { OnOk result (AreReached self.new) }
+        ensures added { OnOk result (words_of self.new ≡ words_of self.old ++ addr ∷ []) }
+    {
+        self.met.add(first_of_record(addr))?;
+        self.words.push(addr)?;
+        Ok(())
+    }
+}
+
+/// Follows the chain of each bucket, bucket after bucket. Nothing is written, and every chain ends.
+///
+/// One call reads 1024 words of the table, and one each record whose first block was not met before. A damage is a
+/// read that gave too few bytes; a folder whose files are those of `files` gives none. `Device` comes only where the
+/// folder failed in this call.
+pub fn chains<F: Folder>(alloc: Global, f: &mut F, files: &BlockFiles) -> Result<Reached, ScanFault>
+    requires complete { ForSome (F.told f.old).files HasWholeIndex }
+    requires agrees { ForSome (F.told f.old).files (Agrees files.now) }
+    ensures reached { IfOk result (λ reached. ForSome (F.told f.old).files (λ image. words_of reached ≡ reached_by (store_of image) table_length)) }
+    ensures met { IfOk result AreReached }
+    ensures stays { Stays (F.told f.old) (F.told f.new) }
+
+    // A folder that tells its files never gives a damage.
+    ensures damaged { IfScanDamaged result (IsChainsDamage files.now (F.told f.new)) }
+    ensures untold { IfScanDamaged result (λ _. (F.told f.old).files ≡ None) }
+
+    ensures later { F.faults f.old ≤ F.faults f.new }
+    ensures device { IfScanDevice result (Rises (F.faults f.old) (F.faults f.new)) }
+{
+    let mut reached = Reached::none(alloc);
+    for piece in 0..PIECES {
+        follow_piece(f, files, piece * PIECE as u16, &mut reached)?;
+    }
+    Ok(reached)
+}
+
+// Follows the chains of 1024 buckets from one on, where those before it were followed.
+fn follow_piece<F: Folder>(
+    f: &mut F,
+    files: &BlockFiles,
+    first: u16,
+    reached: &mut Reached,
+) -> Result<(), ScanFault>
+    requires inside { first + 1024 ≤ table_length }
+    requires complete { ForSome (F.told f.old).files HasWholeIndex }
+    requires agrees { ForSome (F.told f.old).files (Agrees files.now) }
+    requires met { AreReached reached.old }
+    requires before { ForSome (F.told f.old).files (λ image. words_of reached.old ≡ reached_by (store_of image) first) }
+    ensures met { OnOk result (AreReached reached.new) }
+    ensures reached { OnOk result (ForSome (F.told f.old).files (λ image. words_of reached.new ≡ reached_by (store_of image) (first + 1024))) }
+    ensures stays { Stays (F.told f.old) (F.told f.new) }
+    ensures damaged { IfScanDamaged result (IsChainsDamage files.now (F.told f.new)) }
+    ensures untold { IfScanDamaged result (λ _. (F.told f.new).files ≡ None) }
+    ensures later { F.faults f.old ≤ F.faults f.new }
+    ensures device { IfScanDevice result (Rises (F.faults f.old) (F.faults f.new)) }
+{
+    let mut table = [0u32; PIECE];
+    buckets(f, first, &mut table)?;
+    follow_all(f, files, first, &table, reached)?;
+    Ok(())
+}
+
+// Follows the chains of neighbouring buckets from one on, by their words of the table.
+fn follow_all<F: Folder>(
+    f: &mut F,
+    files: &BlockFiles,
+    first: u16,
+    table: &[u32],
+    reached: &mut Reached,
+) -> Result<(), ScanFault>
+    requires inside { first + length table.now ≤ table_length }
+    requires agrees { ForSome (F.told f.old).files (Agrees files.now) }
+    requires words { ForSome (F.told f.old).files (λ image. AreBuckets image first table.now) }
+    requires met { AreReached reached.old }
+    requires before { ForSome (F.told f.old).files (λ image. words_of reached.old ≡ reached_by (store_of image) first) }
+    ensures met { OnOk result (AreReached reached.new) }
+    ensures reached { OnOk result (ForSome (F.told f.old).files (λ image. words_of reached.new ≡ reached_by (store_of image) (first + length table.now))) }
+    ensures stays { Stays (F.told f.old) (F.told f.new) }
+    ensures damaged { IfScanDamaged result (IsRecordDamage files.now (F.told f.new)) }
+    ensures untold { IfScanDamaged result (λ _. (F.told f.new).files ≡ None) }
+    ensures later { F.faults f.old ≤ F.faults f.new }
+    ensures device { IfScanDevice result (Rises (F.faults f.old) (F.faults f.new)) }
+{
+    for i in 0..table.len() {
+        follow(f, files, u32::from(first) + i as u32, table[i], reached)?;
+    }
+    Ok(())
+}
+
+// Follows the chain of a bucket from a word on, and adds the records that it reaches. Those reached before are of
+// earlier buckets.
+fn follow<F: Folder>(
+    f: &mut F,
+    files: &BlockFiles,
+    bucket: u32,
+    start: u32,
+    reached: &mut Reached,
+) -> Result<(), ScanFault>
+    requires bucket { bucket < table_length }
+    requires agrees { ForSome (F.told f.old).files (Agrees files.now) }
+    requires met { AreReached reached.old }
+    requires others { ForSome (F.told f.old).files (λ image. AreOfFirst (store_of image) bucket (words_of reached.old)) }
+    ensures met { OnOk result (AreReached reached.new) }
+    ensures reached { OnOk result (ForSome (F.told f.old).files (λ image. words_of reached.new ≡ words_of reached.old ++ (chain_from (store_of image) bucket most_records [] start).reached)) }
+    ensures stays { Stays (F.told f.old) (F.told f.new) }
+    ensures damaged { IfScanDamaged result (IsRecordDamage files.now (F.told f.new)) }
+    ensures untold { IfScanDamaged result (λ _. (F.told f.new).files ≡ None) }
+    ensures later { F.faults f.old ≤ F.faults f.new }
+    ensures device { IfScanDevice result (Rises (F.faults f.old) (F.faults f.new)) }
+{
+    let mut word = start;
+    for i in 0..MOST_RECORDS {
+        match reach(f, files, bucket, reached, word)? {
+            Some(next) => word = next,
+            None => return Ok(()),
+        }
+    }
+    Ok(())
+}
+
+// Reaches the record of a word, where one stands whose first block was not met, that checks, and is of the bucket.
+// Gives its next.
+fn reach<F: Folder>(
+    f: &mut F,
+    files: &BlockFiles,
+    bucket: u32,
+    reached: &mut Reached,
+    word: u32,
+) -> Result<Option<u32>, ScanFault>
+    requires bucket { bucket < table_length }
+    requires agrees { ForSome (F.told f.old).files (Agrees files.now) }
+    requires met { AreReached reached.old }
+    ensures met { OnOk result (AreReached reached.new) }
+    ensures step { IfOk result (λ next. ForSome (F.told f.old).files (λ image. IsReach (store_of image) bucket (words_of reached.old) word (words_of reached.new) next)) }
+    ensures stays { Stays (F.told f.old) (F.told f.new) }
+    ensures damaged { IfScanDamaged result (IsRecordDamage files.now (F.told f.new)) }
+    ensures untold { IfScanDamaged result (λ _. (F.told f.new).files ≡ None) }
+    ensures later { F.faults f.old ≤ F.faults f.new }
+    ensures device { IfScanDevice result (Rises (F.faults f.old) (F.faults f.new)) }
+{
+    let Some(addr) = files.entry(word) else {
+        return Ok(None);
+    };
+    if reached.has(addr) {
+        return Ok(None);
+    }
+    let said = read_record(f, files, addr)?;
+    if !said.checks {
+        return Ok(None);
+    }
+    if said.hash % BUCKETS != bucket {
+        return Ok(None);
+    }
+    reached.add(addr)?;
+    Ok(Some(said.next))
+}
