@@ -1,5 +1,5 @@
 -- Blocks that are freed.
-use Rattle.std.proofs.Common.{◌≡◌, ◌≢◌, ℕ, ◌+◌, ◌<◌, ◌≤◌, ◌⊎◌, nat_le, refl, List, [], ◌∷◌, length, Bool, true, false, ◌&&◌, not, if◌then◌else◌, Option, None, sym, ◌∙◌, ap, ap₂, subst, arith, ⊎_elim}
+use Rattle.std.proofs.Common.{◌≡◌, ◌≢◌, ℕ, ◌+◌, ◌<◌, ◌≤◌, nat_le, refl, List, [], ◌∷◌, length, Bool, true, false, ◌&&◌, not, if◌then◌else◌, Option, None, sym, ◌∙◌, ap, ap₂, subst, arith, ⊎_elim}
 use Rattle.std.specs.Prelude.{◌==◌}
 use Rattle.std.specs.List.{All}
 use Rattle.std.proofs.lemmas.List.Elements.{All-filter}
