@@ -19,9 +19,9 @@ use Rattle.blk_disk.proofs.Ranges.{stands_agree}
 use Rattle.blk_disk.proofs.SealedReads.{record_read}
 use Rattle.blk_disk.specs.declared.tables.BlockFiles.{BlockFiles}
 use Rattle.blk_disk.specs.Tables.{Agrees, is_record_among, stands_among, names_among}
-use Rattle.blk_laws.proofs.ChainWords.{same-fields, shown-of}
-use Rattle.blk_laws.proofs.Fronts.{AreSmall, small-take, small-range, entry_checks-front, entry_checks-by}
-use Rattle.blk_laws.proofs.Updates.{entry-here, entry-seal}
+use Rattle.blk_laws.proofs.chains.ChainWords.{same-fields, shown-of}
+use Rattle.blk_laws.proofs.updates.Fronts.{AreSmall, small-take, small-range, entry_checks-front, entry_checks-by}
+use Rattle.blk_laws.proofs.updates.Updates.{entry-here, entry-seal}
 use Rattle.blk_io.specs.declared.folder.FileId.TheVariants as names
 use Rattle.blk_io.specs.declared.fault.Damage.{Damage}
 use Rattle.blk_io.specs.Faults.{IsShort}

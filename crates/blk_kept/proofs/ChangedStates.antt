@@ -12,11 +12,11 @@ use Rattle.blk_model.specs.State.{State, Object, IsValidState, has_item, is_name
 use Rattle.blk_model.specs.Totals.{is_doomed_slot}
 use Rattle.blk_volume.specs.Layout.{OneChanged, is_listed, settled_with}
 use Rattle.blk_volume.specs.Removal.{is_of_another, without_items}
-use Rattle.blk_laws.proofs.Changing.{first_with-set}
-use Rattle.blk_laws.proofs.DoomedObjects.{object-aside, row-aside}
-use Rattle.blk_laws.proofs.Dooming.{no-item, not-its}
-use Rattle.blk_laws.proofs.Owner.{IsOwned, owned}
-use Rattle.blk_laws.proofs.Settling.{main-listed}
+use Rattle.blk_laws.proofs.states.Changing.{first_with-set}
+use Rattle.blk_laws.proofs.commands.DoomedObjects.{object-aside, row-aside}
+use Rattle.blk_laws.proofs.commands.Dooming.{no-item, not-its}
+use Rattle.blk_laws.proofs.claims.Owner.{IsOwned, owned}
+use Rattle.blk_laws.proofs.states.Settling.{main-listed}
 use Rattle.blk_kept.specs.ChangedStates.{ObjectsChangeTheirMainItem, UnheldObjectsGoWhole}
 use Rattle.blk_kept.specs.RemovalLaws.{IsWithout}
 use Rattle.blk_kept.proofs.Dirtying.{set-at, set-else}

@@ -35,16 +35,16 @@ use Rattle.blk_volume.specs.Removal.{HasLess, is_of_another}
 use Rattle.blk_volume.specs.StandsFor.{AreNumbers, IsOwner}
 use Rattle.blk_volume.specs.Tidy.{doomed_nodes}
 use Rattle.blk_volume.specs.View.{list_of, view_of}
-use Rattle.blk_laws.proofs.Changing.{apart-sym, at-elsewhere, at-itself}
-use Rattle.blk_laws.proofs.Dooming.{doomed-is-represented}
-use Rattle.blk_laws.proofs.Laid.{is_among-node}
-use Rattle.blk_laws.proofs.ListCompletions.{listed}
-use Rattle.blk_laws.proofs.Lists.{has_not}
-use Rattle.blk_laws.proofs.Moving.{moved-among, moved-distinct, moved-same, sums-add}
-use Rattle.blk_laws.proofs.Opening.{IsAround, around, nodes-append}
-use Rattle.blk_laws.proofs.Settling.{main-listed}
-use Rattle.blk_laws.proofs.Tidying.{counter-same, sealed-still, touch_range, touch_sizes, touch_spares}
-use Rattle.blk_laws.proofs.WordTurns.{removals-can}
+use Rattle.blk_laws.proofs.states.Changing.{apart-sym, at-elsewhere, at-itself}
+use Rattle.blk_laws.proofs.commands.Dooming.{doomed-is-represented}
+use Rattle.blk_laws.proofs.states.Laid.{is_among-node}
+use Rattle.blk_laws.proofs.lists.ListCompletions.{listed}
+use Rattle.blk_laws.proofs.lists.Lists.{has_not}
+use Rattle.blk_laws.proofs.states.Moving.{moved-among, moved-distinct, moved-same, sums-add}
+use Rattle.blk_laws.proofs.commands.Opening.{IsAround, around, nodes-append}
+use Rattle.blk_laws.proofs.states.Settling.{main-listed}
+use Rattle.blk_laws.proofs.states.Tidying.{counter-same, sealed-still, touch_range, touch_sizes, touch_spares}
+use Rattle.blk_laws.proofs.lists.WordTurns.{removals-can}
 use Rattle.blk_kept.specs.Arranging.{IsArranged, LeavesFiles}
 use Rattle.blk_kept.specs.DoomLaws.{CanBeDoomed, DoomedObjectsAreKept, DoomedObjectsAreOneLess, IsUnchained, layout_doomed}
 use Rattle.blk_kept.specs.Keeping.{AllAreSealed, AreMarkedBy, KeepsUncounted, all_loaded, all_nodes, words_in_use}

@@ -8,7 +8,7 @@ use Rattle.blk_format.specs.Address.{file_selector}
 use Rattle.blk_format.specs.BlockFiles.{linked_as, max_entries_in, next_file_in, IsWellFormed}
 use Rattle.blk_format.specs.Headers.{is_extent_place}
 use Rattle.blk_format.proofs.LinkedHeads.{linked_head, HasHead}
-use Rattle.blk_laws.proofs.ByteChanges.{same-links, stands-linked}
+use Rattle.blk_laws.proofs.claims.ByteChanges.{same-links, stands-linked}
 use Rattle.blk_kept.proofs.Headers.{undamaged}
 use Rattle.std.proofs.Common.{length, [], Option, Some, None, ◌≤◌}
 use Rattle.std.specs.Prelude.{is_some, unwrap_or}

@@ -19,11 +19,11 @@ use Rattle.blk_volume.specs.ListView.{Distinct, ListView, put}
 use Rattle.blk_volume.specs.Loads.{Loaded}
 use Rattle.blk_volume.specs.Sound.{AreSealed}
 use Rattle.blk_volume.specs.View.{RecordFields, StoreView, list_of, stands_as, store_of, view_of}
-use Rattle.blk_laws.proofs.ByteChanges.{agreeing-views, node-same}
-use Rattle.blk_laws.proofs.Lists.{has_not}
-use Rattle.blk_laws.proofs.Moving.{moved-same, sums-add}
-use Rattle.blk_laws.proofs.Opening.{IsAround, around}
-use Rattle.blk_laws.proofs.StillShown.{standing-parts}
+use Rattle.blk_laws.proofs.claims.ByteChanges.{agreeing-views, node-same}
+use Rattle.blk_laws.proofs.lists.Lists.{has_not}
+use Rattle.blk_laws.proofs.states.Moving.{moved-same, sums-add}
+use Rattle.blk_laws.proofs.commands.Opening.{IsAround, around}
+use Rattle.blk_laws.proofs.updates.StillShown.{standing-parts}
 use Rattle.blk_kept.specs.LinkLaws.{ChainNextsChangeLinks, ChainNextsLeaveSeals, DataChangesAreInside, RecordUpdatesAreInside, RemovedItemsAreOneLess, TableWordsChangeLinks, TableWordsLeaveFiles, TableWordsLeaveSeals}
 use Rattle.blk_kept.proofs.AtNodes.{contents-apart, free-but, node-of-it, others-outside, record-own, updates-change}
 use Rattle.blk_kept.proofs.Free.{AreStanding, sealed-same, standing-at}

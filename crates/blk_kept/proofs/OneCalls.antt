@@ -11,8 +11,8 @@ use Rattle.blk_model.specs.Room.{without}
 use Rattle.blk_model.specs.State.{IsValidState, Object, State, object_at}
 use Rattle.blk_model.proofs.Steps.{none_comes, step_valid}
 use Rattle.blk_laws.specs.CommandLaws.{marked}
-use Rattle.blk_laws.proofs.Opening.{first-listed}
-use Rattle.blk_laws.proofs.Settling.{main-listed}
+use Rattle.blk_laws.proofs.commands.Opening.{first-listed}
+use Rattle.blk_laws.proofs.states.Settling.{main-listed}
 use Rattle.blk_volume.specs.Layout.{is_listed}
 use Rattle.blk_volume.specs.Sound.{words_of}
 use Rattle.blk_kept.specs.Changes.{Finds}

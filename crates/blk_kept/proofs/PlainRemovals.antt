@@ -21,9 +21,9 @@ use Rattle.blk_model.proofs.States.{has_main}
 use Rattle.blk_model.proofs.StopRests.{owner_live}
 use Rattle.blk_volume.specs.Layout.{is_listed}
 use Rattle.blk_volume.specs.Removal.{is_of_another, without_items}
-use Rattle.blk_laws.proofs.Opening.{first-some}
-use Rattle.blk_laws.proofs.Owner.{its-key}
-use Rattle.blk_laws.proofs.Touches.{in-times}
+use Rattle.blk_laws.proofs.commands.Opening.{first-some}
+use Rattle.blk_laws.proofs.claims.Owner.{its-key}
+use Rattle.blk_laws.proofs.commands.Touches.{in-times}
 use Rattle.blk_volume.specs.Sound.{words_of}
 use Rattle.blk_kept.specs.Changes.{Finds}
 use Rattle.blk_kept.specs.Keeping.{KeepsUncounted}

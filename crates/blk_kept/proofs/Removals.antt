@@ -19,7 +19,7 @@ use Rattle.blk_format.specs.Sealed.{record_range}
 use Rattle.blk_volume.specs.Audit.{kept_among}
 use Rattle.blk_volume.specs.Chains.{bucket_of_hash}
 use Rattle.blk_volume.specs.Completion.{completed_list, remove}
-use Rattle.blk_volume.specs.Found.{row_of}
+use Rattle.blk_volume.specs.Found.{row_of_loaded}
 use Rattle.blk_volume.specs.Layout.{HoldsExcept, IsLayoutOf, IsListedRecord, IsPlacedAt, Layout, Represents, Shows, is_in, is_listed, nodes_of, order}
 use Rattle.blk_volume.specs.ListPlans.{writes_of}
 use Rattle.blk_volume.specs.ListSteps.{touched_by_writes}
@@ -30,27 +30,27 @@ use Rattle.blk_volume.specs.Sound.{AreSealed, words_of}
 use Rattle.blk_volume.specs.Tidy.{doomed_nodes}
 use Rattle.blk_volume.specs.View.{StoreView, list_of, store_of, view_of}
 use Rattle.blk_volume.specs.Walk.{walk}
-use Rattle.blk_laws.proofs.AtRest.{removals-turn}
-use Rattle.blk_laws.proofs.ByteChanges.{stands-some}
-use Rattle.blk_laws.proofs.Central.{rest-found, walk-idle}
-use Rattle.blk_laws.proofs.Changing.{at-elsewhere, at-itself, same-place}
-use Rattle.blk_laws.proofs.ClaimLists.{contents-claims, some-claim}
-use Rattle.blk_laws.proofs.DoomedObjects.{listed-rest}
-use Rattle.blk_laws.proofs.Laid.{is_among-node}
-use Rattle.blk_laws.proofs.ListCompletions.{listed}
-use Rattle.blk_laws.proofs.Lists.{Distinct-without}
-use Rattle.blk_laws.proofs.Opening.{IsAround, around, nodes-append}
-use Rattle.blk_laws.proofs.OthersHold.{chained-only, others-unlinked}
-use Rattle.blk_laws.proofs.Removing.{in-filter}
-use Rattle.blk_laws.proofs.Settling.{main-listed}
-use Rattle.blk_laws.proofs.Walks.{walk_list}
+use Rattle.blk_laws.proofs.lists.AtRest.{removals-turn}
+use Rattle.blk_laws.proofs.claims.ByteChanges.{stands-some}
+use Rattle.blk_laws.proofs.states.Central.{rest-found, walk-idle}
+use Rattle.blk_laws.proofs.states.Changing.{at-elsewhere, at-itself, same-place}
+use Rattle.blk_laws.proofs.claims.ClaimLists.{contents-claims, some-claim}
+use Rattle.blk_laws.proofs.commands.DoomedObjects.{listed-rest}
+use Rattle.blk_laws.proofs.states.Laid.{is_among-node}
+use Rattle.blk_laws.proofs.lists.ListCompletions.{listed}
+use Rattle.blk_laws.proofs.lists.Lists.{Distinct-without}
+use Rattle.blk_laws.proofs.commands.Opening.{IsAround, around, nodes-append}
+use Rattle.blk_laws.proofs.states.OthersHold.{chained-only, others-unlinked}
+use Rattle.blk_laws.proofs.commands.Removing.{in-filter}
+use Rattle.blk_laws.proofs.states.Settling.{main-listed}
+use Rattle.blk_laws.proofs.lists.Walks.{walk_list}
 use Rattle.blk_model.specs.Totals.{is_doomed_slot}
 use Rattle.blk_volume.specs.Footprint.{IsOnlyRecord}
-use Rattle.blk_laws.proofs.StillShown.{standing-parts}
-use Rattle.blk_laws.proofs.Tidying.{counter-same, sealed-still, touch_range, touch_sizes, touch_spares}
-use Rattle.blk_laws.proofs.Touches.{shows-same}
-use Rattle.blk_laws.proofs.Unlinking.{lies-less}
-use Rattle.blk_laws.proofs.WordTurns.{removals-can}
+use Rattle.blk_laws.proofs.updates.StillShown.{standing-parts}
+use Rattle.blk_laws.proofs.states.Tidying.{counter-same, sealed-still, touch_range, touch_sizes, touch_spares}
+use Rattle.blk_laws.proofs.commands.Touches.{shows-same}
+use Rattle.blk_laws.proofs.commands.Unlinking.{lies-less}
+use Rattle.blk_laws.proofs.lists.WordTurns.{removals-can}
 use Rattle.blk_kept.specs.Arranging.{LeavesFiles}
 use Rattle.blk_kept.specs.Changes.{Finds}
 use Rattle.blk_kept.specs.GoneLaws.{owner_without}
@@ -215,14 +215,14 @@ module _ (state : State) (layout : Layout) (unlinked : List ℕ) (objects : List
   once-then = subst Distinct (sym new-order) (Distinct-without prefix node suffix (subst Distinct old-order k.represents.list.distinct))
 
   -- so what is kept of the list without it is what is at rest without it
-  pub rest-then : (store : StoreView) → Shows store layout → map row_of (kept_among store held_rule (nodes_of layout (filter keep state.uses))) ≡ rest after
+  pub rest-then : (store : StoreView) → Shows store layout → map row_of_loaded (kept_among store held_rule (nodes_of layout (filter keep state.uses))) ≡ rest after
   rest-then store shows = listed-rest (λ n. false) store after (layout_unlisted layout node) (others-hold store shows) w.valid once-then (λ i there. refl)
 
 pub removals-find : RemovalsFindEither
 removals-find state layout unlinked objects keep item was from image k w here partly = (
   well,
-  found-kept image well ∙ ap (λ (ls : ListView). map row_of (kept_among (store_of image) held_rule (walk (completed_list ls)))) partly.shown.list
-      ∙ ap (λ (ns : List ℕ). map row_of (kept_among (store_of image) held_rule ns)) (removals-turn (layout.place item) (list_of from) (nodes_of layout around-it.before) (nodes_of layout around-it.suffix) (rest-list state layout unlinked objects keep item was from k w here) partly.made) ∙ go (nat_lt partly.made 2),
+  found-kept image well ∙ ap (λ (ls : ListView). map row_of_loaded (kept_among (store_of image) held_rule (walk (completed_list ls)))) partly.shown.list
+      ∙ ap (λ (ns : List ℕ). map row_of_loaded (kept_among (store_of image) held_rule ns)) (removals-turn (layout.place item) (list_of from) (nodes_of layout around-it.before) (nodes_of layout around-it.suffix) (rest-list state layout unlinked objects keep item was from k w here) partly.made) ∙ go (nat_lt partly.made 2),
 ) where
   well : IsWellFormed image
   well = partly.well_formed k.well_formed
@@ -233,9 +233,9 @@ removals-find state layout unlinked objects keep item was from image k w here pa
   around-it : IsAround item state.uses
   around-it = around item state.uses w.listed (k.valid.once item)
 
-  go : (b : Bool) → map row_of (kept_among (store_of image) held_rule (if b then nodes_of layout around-it.before ++ layout.place item ∷ nodes_of layout around-it.suffix else nodes_of layout around-it.before ++ nodes_of layout around-it.suffix)) ≡ (if b then rest state else rest (without_items state objects keep))
-  go true = ap (λ (ns : List ℕ). map row_of (kept_among (store_of image) held_rule ns)) (sym (old-order state layout unlinked objects keep item was from k w here)) ∙ rest-found (store_of image) state layout (record { shows = shows; lies = k.represents.holds.lies }) k.valid k.represents.list.distinct
-  go false = ap (λ (ns : List ℕ). map row_of (kept_among (store_of image) held_rule ns)) (sym (new-order state layout unlinked objects keep item was from k w here)) ∙ rest-then state layout unlinked objects keep item was from k w here (store_of image) shows
+  go : (b : Bool) → map row_of_loaded (kept_among (store_of image) held_rule (if b then nodes_of layout around-it.before ++ layout.place item ∷ nodes_of layout around-it.suffix else nodes_of layout around-it.before ++ nodes_of layout around-it.suffix)) ≡ (if b then rest state else rest (without_items state objects keep))
+  go true = ap (λ (ns : List ℕ). map row_of_loaded (kept_among (store_of image) held_rule ns)) (sym (old-order state layout unlinked objects keep item was from k w here)) ∙ rest-found (store_of image) state layout (record { shows = shows; lies = k.represents.holds.lies }) k.valid k.represents.list.distinct
+  go false = ap (λ (ns : List ℕ). map row_of_loaded (kept_among (store_of image) held_rule ns)) (sym (new-order state layout unlinked objects keep item was from k w here)) ∙ rest-then state layout unlinked objects keep item was from k w here (store_of image) shows
 
 -- ---- out of its chain
 
@@ -276,7 +276,7 @@ module _ (state : State) (layout : Layout) (unlinked : List ℕ) (objects : List
     pub found-now : Finds (rest later) image
     found-now = (
       well-now,
-      found-kept image well-now ∙ ap (λ (ns : List ℕ). map row_of (kept_among (store_of image) held_rule ns)) (walk-idle (list_of image) list-now.idle ∙ walk_list (list_of image) (nodes_of layout (filter keep state.uses)) list-now.whole)
+      found-kept image well-now ∙ ap (λ (ns : List ℕ). map row_of_loaded (kept_among (store_of image) held_rule ns)) (walk-idle (list_of image) list-now.idle ∙ walk_list (list_of image) (nodes_of layout (filter keep state.uses)) list-now.whole)
           ∙ listed-rest (λ n. false) (store_of image) later (record (layout_unlisted layout its-node) { chains = chains }) holds-now w.valid (once-then state layout unlinked objects keep item was from k w here) (λ i there. refl),
     )
 

@@ -12,7 +12,7 @@ use Rattle.blk_format.specs.Claims.{Claim, claims_of, has_claim}
 use Rattle.blk_format.specs.Headers.{place_of_bucket}
 use Rattle.blk_format.specs.Records.{entry_is_sealed}
 use Rattle.blk_format.specs.Sealed.{record_range}
-use Rattle.blk_volume.specs.Footprint.{IsClear, IsFreeBut, IsInside, OnlyLinksChange}
+use Rattle.blk_volume.specs.Footprint.{IsClear, IsFreeBut, IsInsideNode, OnlyLinksChange}
 use Rattle.blk_volume.specs.Found.{charge_of}
 use Rattle.blk_volume.specs.Layout.{Layout, order}
 use Rattle.blk_volume.specs.ListView.{put}
@@ -56,12 +56,12 @@ ChainNextsLeaveSeals = (state : State) (layout : Layout) (unlinked : List ℕ) (
 
 -- a change that touches nobody else, and neither the node nor its record, is inside: of data
 abbrev pub DataChangesAreInside : Type 0
-DataChangesAreInside = (touched : Claim → Bool) (layout : Layout) (from image : Image) (node : ℕ) (loaded : Loaded) → ChangesOnly touched from image → IsFreeBut node touched layout → IsClear touched node → IsClear touched loaded.contents → IsInside touched (view_of from) (view_of image) layout node loaded
+DataChangesAreInside = (touched : Claim → Bool) (layout : Layout) (from image : Image) (node : ℕ) (loaded : Loaded) → ChangesOnly touched from image → IsFreeBut node touched layout → IsClear touched node → IsClear touched loaded.contents → IsInsideNode touched (view_of from) (view_of image) layout node loaded
 
 -- and so is an update of its record that leaves its hash
 abbrev pub RecordUpdatesAreInside : Type 0
 RecordUpdatesAreInside = (state : State) (layout : Layout) (unlinked : List ℕ) (from image : Image) (node : ℕ) (loaded : Loaded) (was now : RecordFields) → KeepsUncounted state layout unlinked from → layout.at node ≡ Some loaded → OnlyRecordFieldsChange loaded.contents from image
-    → (store_of from).entry loaded.contents ≡ Some was → (store_of image).entry loaded.contents ≡ Some now → now.checks ≡ was.checks → now.hash ≡ was.hash → IsInside (has_claim (claims_of loaded.contents)) (view_of from) (view_of image) layout node loaded
+    → (store_of from).entry loaded.contents ≡ Some was → (store_of image).entry loaded.contents ≡ Some now → now.checks ≡ was.checks → now.hash ≡ was.hash → IsInsideNode (has_claim (claims_of loaded.contents)) (view_of from) (view_of image) layout node loaded
 
 -- Counting.
 

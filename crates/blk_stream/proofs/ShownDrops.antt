@@ -9,9 +9,9 @@ use Rattle.blk_image.proofs.Footprints.{range_within}
 use Rattle.blk_format.specs.Address.{is_address, kind_of, external, external_number, file_selector, place, byte_size, blocks_256}
 use Rattle.blk_format.specs.Claims.{Claim, ExternalOf, claims_of, claims_of_all, has_claim, same_claim}
 use Rattle.blk_volume.specs.Footprint.{Covers}
-use Rattle.blk_laws.proofs.ClaimLists.{claim-append}
-use Rattle.blk_laws.proofs.ByteChanges.{views-same}
-use Rattle.blk_laws.proofs.Covers.{blocks-covered, covers-either, covers-less, covers-more, externals-covered, headers-covered}
+use Rattle.blk_laws.proofs.claims.ClaimLists.{claim-append}
+use Rattle.blk_laws.proofs.claims.ByteChanges.{views-same}
+use Rattle.blk_laws.proofs.claims.Covers.{blocks-covered, covers-either, covers-less, covers-more, externals-covered, headers-covered}
 use Rattle.blk_disk.specs.declared.tables.BlockFiles.{BlockFiles}
 use Rattle.blk_disk.specs.Tables.{Agrees, stands_among}
 use Rattle.blk_alloc.specs.Changes.{map_of}
