@@ -30,3 +30,4 @@ pub mod Doomed
 pub mod Links
 pub mod ChangedStates
 pub mod Freed
+pub mod Groups

@@ -20,3 +20,4 @@ pub mod DoomLaws
 pub mod LinkLaws
 pub mod ChangedStates
 pub mod AllocationLaws
+pub mod GroupLaws

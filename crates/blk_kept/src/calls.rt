@@ -10,6 +10,7 @@ ghost use Rattle.blk_kept.specs.DoomLaws.{DoomedObjectsAreKept, DoomedObjectsAre
 ghost use Rattle.blk_kept.specs.ExternalLaws.{MakingFilesFindsTheSame, MadeFilesAreAdded, DeletingFilesFindsTheSame, DeletedFilesAreRemoved};
 ghost use Rattle.blk_kept.specs.GoneLaws.{GoneObjectsAreUnlinked, GoneObjectsAreNotCounted};
 ghost use Rattle.blk_kept.specs.LinkLaws.{TableWordsChangeLinks, TableWordsLeaveFiles, TableWordsLeaveSeals, ChainNextsChangeLinks, ChainNextsLeaveSeals, DataChangesAreInside, RecordUpdatesAreInside, RemovedItemsAreOneLess};
+ghost use Rattle.blk_kept.specs.GroupLaws.{GoneItemsAreUnlinked};
 ghost use Rattle.blk_kept.specs.ListLaws.{TouchesKeepTheState, TouchesKeepTheCounters};
 ghost use Rattle.blk_kept.specs.NewEntryLaws.{InsertsFindTheSame, LinksFindTheSame, NewEntriesAreKept, NewEntriesAreOneMore};
 ghost use Rattle.blk_kept.specs.ObjectLaws.{HandlesMayChange, HandlesAreNotCounted, UnsettledItemsFindTheSame, DoomedObjectsFindTheSame, ChangedItemsAreKept, ChangedDoomedObjectsAreKept};
@@ -133,4 +134,9 @@ pub fn states_change_in_one_object()
 pub fn allocations_come_and_go()
     ensures added { AllocatedBlocksAreAdded }
     ensures removed { FreedBlocksAreRemoved }
+{}
+
+/// Several items that are out of the list and of the chains have their words unlinked.
+pub fn gone_items_are_unlinked()
+    ensures { GoneItemsAreUnlinked }
 {}

@@ -11,10 +11,11 @@ mod calls;
 
 pub use calls::{
     allocations_come_and_go, changed_objects_are_kept, changes_are_inside, counters_are_written,
-    doomed_objects_are_kept, external_files_come_and_go, gone_objects_are_unlinked,
-    handles_are_not_kept, kept_allocations_are_few, links_leave_the_rest, list_steps_are_done,
-    new_entries_are_kept, objects_are_marked, other_states_are_kept, removed_items_are_one_less,
-    removed_items_are_unlinked, states_change_in_one_object, touches_keep_states,
+    doomed_objects_are_kept, external_files_come_and_go, gone_items_are_unlinked,
+    gone_objects_are_unlinked, handles_are_not_kept, kept_allocations_are_few,
+    links_leave_the_rest, list_steps_are_done, new_entries_are_kept, objects_are_marked,
+    other_states_are_kept, removed_items_are_one_less, removed_items_are_unlinked,
+    states_change_in_one_object, touches_keep_states,
 };
 
 /// What is found in a folder that keeps a state is what is at rest in it. With nothing unlinked the folder stands for the state, and it is sound where each object is live and settled.
