@@ -1,17 +1,17 @@
 -- Several items go out of the use list and of the chains.
-use Rattle.std.proofs.Common.{◌≡◌, ◌⊎◌, inl, inr, ℕ, List, [], ◌∷◌, ◌++◌, map, refl, ap, sym, ◌∙◌, subst, Bool, true, false, Option, Some, None, ⊎_elim, append_assoc}
+use Rattle.std.proofs.Common.{◌≡◌, ℕ, List, [], ◌∷◌, ◌++◌, refl, ap, sym, ◌∙◌, subst, Bool, true, false, Option, Some, None, ⊎_elim, append_assoc}
 use Rattle.std.specs.Prelude.{◌||◌, ◌&&◌, ◌==◌, not, filter, IfSome, if◌then◌else◌}
 use Rattle.std.specs.Option.{option_map_or}
-use Rattle.std.specs.List.{AllByRecursion, cons_option, filter_map, flat_map}
+use Rattle.std.specs.List.{cons_option, filter_map, flat_map}
 use Rattle.std.specs.List.Sorted.{IsPermutation}
-use Rattle.std.proofs.lemmas.Bool.{and_parts, cases_Bool, eq-eqb, eqb-true, or_left, or_parts, or_right}
+use Rattle.std.proofs.lemmas.Bool.{and_parts, cases_Bool, eq-eqb, or_left, or_right}
 use Rattle.std.proofs.lemmas.Grind.{flat_map-append}
-use Rattle.std.proofs.lemmas.List.Sorted.{All-permutation, IsPermutation-append_comm, IsPermutation-append_left, IsPermutation-append_right, IsPermutation-refl, IsPermutation-trans}
+use Rattle.std.proofs.lemmas.List.Sorted.{All-permutation, IsPermutation-append_left, IsPermutation-append_right, IsPermutation-refl, IsPermutation-trans}
 use Rattle.blk_image.proofs.Runs.{some_inj}
 use Rattle.blk_image.specs.Image.{Image, Index, byte}
 use Rattle.blk_model.proofs.Same.{same_item_self}
 use Rattle.blk_model.specs.Items.{Item, main, same_item}
-use Rattle.blk_model.specs.State.{State, Object, IsValidState, object_at}
+use Rattle.blk_model.specs.State.{State, Object, object_at}
 use Rattle.blk_model.specs.Totals.{is_doomed_slot}
 use Rattle.blk_format.specs.BlockFiles.{is_among, stands_in}
 use Rattle.blk_format.specs.Claims.{Claim, claims_of, claims_of_all, has_claim, repeats}
@@ -29,7 +29,7 @@ use Rattle.blk_laws.proofs.Allocations.{all-from, repeats-head, words-claims}
 use Rattle.blk_laws.proofs.Changing.{same-place}
 use Rattle.blk_laws.proofs.ClaimLists.{claim-append, no-claim}
 use Rattle.blk_laws.proofs.Laid.{IsNodeOf, is_among-node, node-of}
-use Rattle.blk_laws.proofs.Lists.{Distinct-left, Distinct-right, apart_left}
+use Rattle.blk_laws.proofs.Lists.{apart_left}
 use Rattle.blk_laws.proofs.Removing.{in-filter}
 use Rattle.blk_laws.proofs.Settling.{main-listed}
 use Rattle.blk_laws.proofs.Shown.{Distinct-filter}
@@ -37,7 +37,7 @@ use Rattle.std.proofs.lemmas.List.Elements.{filter-append}
 use Rattle.blk_laws.proofs.Unlinking.{less-represented}
 use Rattle.blk_kept.specs.Arranging.{IsArranged}
 use Rattle.blk_kept.specs.GroupLaws.{AreOut, GoneItemsAreUnlinked, IsLess, at_without, gone_nodes, layout_less, owners_without}
-use Rattle.blk_kept.specs.Keeping.{AllAreSealed, AreMarkedBy, KeepsUncounted, all_loaded, all_nodes, words_in_use}
+use Rattle.blk_kept.specs.Keeping.{AreMarkedBy, KeepsUncounted, all_loaded, words_in_use}
 use Rattle.blk_kept.proofs.Arranging.{arranged-once, arranged-stand, rearranged}
 use Rattle.blk_kept.proofs.Claimed.{once-alike}
 use Rattle.blk_kept.proofs.Headers.{stand-same}
