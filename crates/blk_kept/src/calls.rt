@@ -3,7 +3,7 @@
 ghost use Rattle.blk_kept.specs.AllocationLaws.{AllocatedBlocksAreAdded, FreedBlocksAreRemoved};
 ghost use Rattle.blk_kept.specs.Arranging.{StatesAreRearranged};
 ghost use Rattle.blk_kept.specs.BoundLaws.{KeptAllocationsAreFew};
-ghost use Rattle.blk_kept.specs.ChangedStates.{UnheldObjectsGoWhole, ObjectsChangeTheirMainItem};
+ghost use Rattle.blk_kept.specs.ChangedStates.{UnheldObjectsGoWhole, UnheldObjectsGoWithTheirParts, ObjectsChangeTheirMainItem};
 ghost use Rattle.blk_kept.specs.CounterLaws.{CountersMayBeWritten, WrittenCountersCount};
 ghost use Rattle.blk_kept.specs.DoneLaws.{TouchStepsAreDone, InsertStepsAreDone, RemovalStepsAreDone};
 ghost use Rattle.blk_kept.specs.DoomLaws.{DoomedObjectsAreKept, DoomedObjectsAreOneLess};
@@ -124,9 +124,10 @@ pub fn removed_items_are_one_less()
     ensures { RemovedItemsAreOneLess }
 {}
 
-/// An object without handles and parts goes whole, and another value of an object's main item changes nothing else.
+/// An object without handles goes whole, alone or with its parts, and another value of an object's main item changes nothing else.
 pub fn states_change_in_one_object()
     ensures without { UnheldObjectsGoWhole }
+    ensures group { UnheldObjectsGoWithTheirParts }
     ensures changed { ObjectsChangeTheirMainItem }
 {}
 
