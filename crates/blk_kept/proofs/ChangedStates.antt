@@ -17,7 +17,8 @@ use Rattle.blk_laws.proofs.commands.DoomedObjects.{object-aside, row-aside}
 use Rattle.blk_laws.proofs.commands.Dooming.{no-item, not-its}
 use Rattle.blk_laws.proofs.claims.Owner.{IsOwned, owned}
 use Rattle.blk_laws.proofs.states.Settling.{main-listed}
-use Rattle.blk_kept.specs.ChangedStates.{ObjectsChangeTheirMainItem, UnheldObjectsGoWhole}
+use Rattle.blk_kept.specs.ChangedStates.{ObjectsChangeTheirMainItem, UnheldObjectsGoWhole, UnheldObjectsGoWithTheirParts}
+use Rattle.blk_kept.specs.GroupLaws.{IsLess}
 use Rattle.blk_kept.specs.RemovalLaws.{IsWithout}
 use Rattle.blk_kept.proofs.Dirtying.{set-at, set-else}
 use Rattle.blk_kept.proofs.Doomed.{other-items}
@@ -25,7 +26,7 @@ use Rattle.blk_kept.proofs.Gone.{set-none}
 
 -- ---- an object goes whole
 
-module _ (state : State) (number : ℕ) (object : Object) (valid : IsValidState state) (here : object_at state number ≡ Some object) (live : object.live ≡ true) (unheld : is_named state number ≡ false) (alone : (n : ℕ) → is_listed state (part object.key n) ≡ false) (after : IsValidState (doomed number state (Some object))) where
+module _ (state : State) (number : ℕ) (object : Object) (valid : IsValidState state) (here : object_at state number ≡ Some object) (live : object.live ≡ true) (unheld : is_named state number ≡ false) (after : IsValidState (doomed number state (Some object))) where
   rows : (item : Item) → is_of_another object.key item ≡ true → model.row_of (without_items state (doomed number state (Some object)).objects (is_of_another object.key)) item ≡ model.row_of state item
   unfolding model.row_of doomed
   rows item other = row-aside state number (doomed_slot (is_named state number) object) item (not-its state number object here item other) (no-item state number object here item)
@@ -55,11 +56,9 @@ module _ (state : State) (number : ℕ) (object : Object) (valid : IsValidState 
   never : (n : ℕ) (o : Object) → object_at (doomed number state (Some object)) n ≡ Some o → n ≢ number
   never n o is e = let z : ◌≡◌ {A = Option Object} None (Some o) = sym slot-none ∙ ap (object_at (doomed number state (Some object))) (sym e) ∙ is in cc
 
-  pub goes-whole : IsWithout state (doomed number state (Some object)).objects (is_of_another object.key) (main object.key)
-  goes-whole = record {
-    listed = main-listed state valid number object true here live;
-    but = λ other there. other-items state object.key alone other there;
-    less = record {
+  pub goes-less : IsLess state (doomed number state (Some object)).objects (is_of_another object.key)
+  goes-less = record {
+    lists = record {
       rows = λ item other there. rows item other;
       settled = settled;
       closed = λ key n other. other;
@@ -70,8 +69,21 @@ module _ (state : State) (number : ℕ) (object : Object) (valid : IsValidState 
     unsettled = λ n o is alive open_. (o, sym (slot-else n (never n o is)) ∙ is, refl, alive, open_);
   }
 
+  pub goes-whole : ((n : ℕ) → is_listed state (part object.key n) ≡ false) → IsWithout state (doomed number state (Some object)).objects (is_of_another object.key) (main object.key)
+  goes-whole alone = record {
+    listed = main-listed state valid number object true here live;
+    but = λ other there. other-items state object.key alone other there;
+    less = goes-less.lists;
+    valid = goes-less.valid;
+    dead = dead;
+    unsettled = goes-less.unsettled;
+  }
+
 pub unheld-go : UnheldObjectsGoWhole
-unheld-go state number object valid here live unheld alone after = (goes-whole state number object valid here live unheld alone after, same-state state number object valid here live unheld alone after)
+unheld-go state number object valid here live unheld alone after = (goes-whole state number object valid here live unheld after alone, same-state state number object valid here live unheld after)
+
+pub unheld-less : UnheldObjectsGoWithTheirParts
+unheld-less state number object valid here live unheld after = goes-less state number object valid here live unheld after
 
 -- ---- an object changes
 

@@ -224,8 +224,8 @@ module _ (state : State) (layout : Layout) (unlinked : List ℕ) (number : ℕ) 
         (λ (e : n ≢ number). or_right (number == n) (is_among k.numbers n) (k.owners.doomed.all n o (sym (slot-else n e) ∙ is) dead))
         (cases_eq n number);
     records = λ n there. ⊎_elim
-        (λ (e : (number == n) ≡ true). subst (λ (x : ℕ). now.state (now.place_of_doomed x) ≡ records.doomed) (eqb-true number n e) (ap now.state (at-itself layout.place_of_doomed number node) ∙ at-itself layout.state node records.doomed))
-        (λ (e : (number == n) ≡ false). ap now.state (at-elsewhere layout.place_of_doomed number node n e) ∙ at-elsewhere layout.state node records.doomed (layout.place_of_doomed n) (other-place n (rw e at there)) ∙ k.owners.doomed.records n (rw e at there))
+        (λ (e : (number == n) ≡ true). subst (λ (x : ℕ). now.state (now.place_of_doomed x) ≡ records.entry_doomed) (eqb-true number n e) (ap now.state (at-itself layout.place_of_doomed number node) ∙ at-itself layout.state node records.entry_doomed))
+        (λ (e : (number == n) ≡ false). ap now.state (at-elsewhere layout.place_of_doomed number node n e) ∙ at-elsewhere layout.state node records.entry_doomed (layout.place_of_doomed n) (other-place n (rw e at there)) ∙ k.owners.doomed.records n (rw e at there))
         (cases_Bool (number == n));
   } where
     each : (ns : List ℕ) → is_among ns number ≡ false → AllByRecursion (λ n. IsSomeAnd (object_at state n) (λ o. o.live ≡ false)) ns → AllByRecursion (λ n. IsSomeAnd (object_at after n) (λ o. o.live ≡ false)) ns

@@ -1,7 +1,7 @@
 -- Blocks that are freed have their allocation removed.
-use Rattle.std.proofs.Common.{◌≡◌, ◌≢◌, ℕ, ◌+◌, ◌*◌, ◌<◌, List, refl, ap, sym, ◌∙◌, arith, false, true}
+use Rattle.std.proofs.Common.{◌≡◌, ◌≢◌, ℕ, ◌+◌, ◌*◌, List, refl, ap, ◌∙◌, arith, true}
 use Rattle.blk_image.specs.Bytes.{word_at}
-use Rattle.blk_image.specs.Image.{Image, Index, Block, byte, has_file, length_of, word}
+use Rattle.blk_image.specs.Image.{Image, Index, Block, byte, has_file, word}
 use Rattle.blk_image.proofs.Footprints.{same_word_outside}
 use Rattle.blk_image.proofs.Words.{same-word_at}
 use Rattle.blk_format.specs.Address.{file_selector}

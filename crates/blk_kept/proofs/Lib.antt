@@ -47,3 +47,4 @@ pub mod Doomed
 pub mod Links
 pub mod ChangedStates
 pub mod Freed
+pub mod Groups

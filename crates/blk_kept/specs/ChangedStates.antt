@@ -6,6 +6,7 @@ use Rattle.blk_model.specs.Items.{main, part}
 use Rattle.blk_model.specs.State.{State, Object, IsValidState, is_named, object_at}
 use Rattle.blk_volume.specs.Layout.{OneChanged, is_listed}
 use Rattle.blk_volume.specs.Removal.{is_of_another, without_items}
+use Rattle.blk_kept.specs.GroupLaws.{IsLess}
 use Rattle.blk_kept.specs.RemovalLaws.{IsWithout}
 
 -- a live object that no handle names, and of which no part is listed, goes whole with its main item
@@ -16,3 +17,8 @@ UnheldObjectsGoWhole = (state : State) (number : ℕ) (object : Object) → IsVa
 -- another object of the same key, live and with the same parts, in the place of one, is another value of the main item alone
 abbrev pub ObjectsChangeTheirMainItem : Type 0
 ObjectsChangeTheirMainItem = (state : State) (number : ℕ) (object other : Object) → object_at state number ≡ Some object → object.live ≡ true → other.live ≡ true → other.key ≡ object.key → other.parts ≡ object.parts → OneChanged state (slice_set state.objects number (Some other)) (main object.key)
+
+-- a live object that no handle names goes with its parts
+abbrev pub UnheldObjectsGoWithTheirParts : Type 0
+UnheldObjectsGoWithTheirParts = (state : State) (number : ℕ) (object : Object) → IsValidState state → object_at state number ≡ Some object → object.live ≡ true → is_named state number ≡ false → IsValidState (doomed number state (Some object))
+    → IsLess state (doomed number state (Some object)).objects (is_of_another object.key)

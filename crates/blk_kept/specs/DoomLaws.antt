@@ -32,7 +32,7 @@ pub record IsUnchained (state : State) (layout : Layout) (node : ℕ) (loaded : 
   pub leaves : LeavesFiles from image
   pub list : list_of image ≡ list_of from
   pub holds : HoldsExcept (λ n. n == node) (store_of image) state (record layout { chains = chains_without layout loaded.contents })
-  pub loads : load (store_of image) (unchained_rule records.doomed) node ≡ Ok loaded
+  pub loads : load (store_of image) (unchained_rule records.entry_doomed) node ≡ Ok loaded
   pub sealed : (other : ℕ) (lies : Loaded) → layout.at other ≡ Some lies → AreSealed from lies → AreSealed image lies
 
 -- the layout with its node as a doomed object's

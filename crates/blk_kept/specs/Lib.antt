@@ -30,3 +30,4 @@ pub mod DoomLaws
 pub mod LinkLaws
 pub mod ChangedStates
 pub mod AllocationLaws
+pub mod GroupLaws

@@ -3,13 +3,14 @@
 ghost use Rattle.blk_kept.specs.AllocationLaws.{AllocatedBlocksAreAdded, FreedBlocksAreRemoved};
 ghost use Rattle.blk_kept.specs.Arranging.{StatesAreRearranged};
 ghost use Rattle.blk_kept.specs.BoundLaws.{KeptAllocationsAreFew};
-ghost use Rattle.blk_kept.specs.ChangedStates.{UnheldObjectsGoWhole, ObjectsChangeTheirMainItem};
+ghost use Rattle.blk_kept.specs.ChangedStates.{UnheldObjectsGoWhole, UnheldObjectsGoWithTheirParts, ObjectsChangeTheirMainItem};
 ghost use Rattle.blk_kept.specs.CounterLaws.{CountersMayBeWritten, WrittenCountersCount};
 ghost use Rattle.blk_kept.specs.DoneLaws.{TouchStepsAreDone, InsertStepsAreDone, RemovalStepsAreDone};
 ghost use Rattle.blk_kept.specs.DoomLaws.{DoomedObjectsAreKept, DoomedObjectsAreOneLess};
 ghost use Rattle.blk_kept.specs.ExternalLaws.{MakingFilesFindsTheSame, MadeFilesAreAdded, DeletingFilesFindsTheSame, DeletedFilesAreRemoved};
 ghost use Rattle.blk_kept.specs.GoneLaws.{GoneObjectsAreUnlinked, GoneObjectsAreNotCounted};
 ghost use Rattle.blk_kept.specs.LinkLaws.{TableWordsChangeLinks, TableWordsLeaveFiles, TableWordsLeaveSeals, ChainNextsChangeLinks, ChainNextsLeaveSeals, DataChangesAreInside, RecordUpdatesAreInside, RemovedItemsAreOneLess};
+ghost use Rattle.blk_kept.specs.GroupLaws.{GoneItemsAreUnlinked};
 ghost use Rattle.blk_kept.specs.ListLaws.{TouchesKeepTheState, TouchesKeepTheCounters};
 ghost use Rattle.blk_kept.specs.NewEntryLaws.{InsertsFindTheSame, LinksFindTheSame, NewEntriesAreKept, NewEntriesAreOneMore};
 ghost use Rattle.blk_kept.specs.ObjectLaws.{HandlesMayChange, HandlesAreNotCounted, UnsettledItemsFindTheSame, DoomedObjectsFindTheSame, ChangedItemsAreKept, ChangedDoomedObjectsAreKept};
@@ -123,9 +124,10 @@ pub fn removed_items_are_one_less()
     ensures { RemovedItemsAreOneLess }
 {}
 
-/// An object without handles and parts goes whole, and another value of an object's main item changes nothing else.
+/// An object without handles goes whole, alone or with its parts, and another value of an object's main item changes nothing else.
 pub fn states_change_in_one_object()
     ensures without { UnheldObjectsGoWhole }
+    ensures group { UnheldObjectsGoWithTheirParts }
     ensures changed { ObjectsChangeTheirMainItem }
 {}
 
@@ -133,4 +135,9 @@ pub fn states_change_in_one_object()
 pub fn allocations_come_and_go()
     ensures added { AllocatedBlocksAreAdded }
     ensures removed { FreedBlocksAreRemoved }
+{}
+
+/// Several items that are out of the list and of the chains have their words unlinked.
+pub fn gone_items_are_unlinked()
+    ensures { GoneItemsAreUnlinked }
 {}

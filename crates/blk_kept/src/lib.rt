@@ -12,10 +12,11 @@ mod commands;
 
 pub use calls::{
     allocations_come_and_go, changed_objects_are_kept, changes_are_inside, counters_are_written,
-    doomed_objects_are_kept, external_files_come_and_go, gone_objects_are_unlinked,
-    handles_are_not_kept, kept_allocations_are_few, links_leave_the_rest, list_steps_are_done,
-    new_entries_are_kept, objects_are_marked, other_states_are_kept, removed_items_are_one_less,
-    removed_items_are_unlinked, states_change_in_one_object, touches_keep_states,
+    doomed_objects_are_kept, external_files_come_and_go, gone_items_are_unlinked,
+    gone_objects_are_unlinked, handles_are_not_kept, kept_allocations_are_few,
+    links_leave_the_rest, list_steps_are_done, new_entries_are_kept, objects_are_marked,
+    other_states_are_kept, removed_items_are_one_less, removed_items_are_unlinked,
+    states_change_in_one_object, touches_keep_states,
 };
 pub use commands::{
     calls_follow_each_other, closes_settle, commands_are_done, commands_keep_the_next_state,
