@@ -1,12 +1,10 @@
 -- The first check that fails.
 use Rattle.std.specs.Prelude.{nat_le}
-use Rattle.std.proofs.Common.{inr, ◌%◌, ◌^◌, ◌==◌, ◌-◌, ◌≡◌, ℕ, ◌+◌, ◌<◌, Bool, true, false, if◌then◌else◌, List, None, Some, refl, arith, ◌≤◌}
+use Rattle.std.proofs.Common.{inr, ◌%◌, ◌^◌, ◌==◌, ◌-◌, ◌≡◌, ℕ, ◌+◌, Bool, true, false, if◌then◌else◌, List, None, Some, refl, arith, ◌≤◌}
 use Rattle.std.proofs.lemmas.Bool.Decides.{nat_tests}
 use Rattle.blk_image.specs.Image.{Block}
 use Rattle.blk_image.specs.Checks.{first_of}
-use Rattle.blk_image.specs.Bytes.{word_at}
 use Rattle.blk_image.proofs.FirstChecks.{all_none, passed}
-use Rattle.blk_format.specs.Headers.{next_file_of}
 use Rattle.blk_format.specs.BlockFiles.{file_checks, is_link}
 use Rattle.blk_disk.specs.Loading.{HasRoom, MayBeNext, next_of}
 
