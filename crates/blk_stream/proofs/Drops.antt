@@ -5,29 +5,31 @@ use Rattle.std.specs.Option.{option_map, ForSome}
 use Rattle.std.proofs.lemmas.Bool.{cases_Bool, cases_eq, eqb-true}
 use Rattle.std.proofs.lemmas.Bool.Decides.{nat_tests}
 use Rattle.blk_image.specs.Bytes.{content, word_at}
-use Rattle.blk_image.specs.Image.{Block, External, Image, byte, has_file, word}
+use Rattle.blk_image.specs.Image.{Index, Block, External, Image, byte, has_file, word}
 use Rattle.blk_image.specs.Steps.{after}
 use Rattle.blk_image.specs.Footprint.{Footprint, SameOutside, either, whole}
 use Rattle.blk_image.specs.Told.{Told, Passes}
 use Rattle.blk_image.proofs.Footprints.{outside-refl, outside-trans, outside_wider, same_word_outside, within_left, within_right}
 use Rattle.blk_image.proofs.Words.{same-range}
 use Rattle.blk_format.specs.Address.{kind_of, external, external_number, file_selector, place, blocks_256}
-use Rattle.blk_format.specs.BlockFiles.{max_entries_in}
+use Rattle.blk_format.specs.BlockFiles.{IsWellFormed, max_entries_in}
 use Rattle.blk_format.specs.Claims.{is_in_file}
 use Rattle.blk_format.specs.Maps.{AreAllocations, is_block_marked}
 use Rattle.blk_format.specs.Sealed.{IsUpdated, RecordChecks, record_at, record_size}
+use Rattle.blk_format.proofs.Keeping.{undamaged_still}
 use Rattle.blk_format.proofs.SealedFields.{record_word as word_of_record}
 use Rattle.blk_format.proofs.SealedRecords.{entry_bytes}
-use Rattle.blk_format.proofs.SpareHeaders.{SparesHeaders, blocks_same, past_header}
+use Rattle.blk_format.proofs.SpareHeaders.{SparesHeaders, blocks_same, heads_still, next_same, past_header}
 use Rattle.blk_io.specs.declared.fault.Damage.{Damage}
 use Rattle.blk_io.specs.declared.fault.Fault.{Fault}
 use Rattle.blk_io.specs.declared.fault.Fault.TheVariants.{Device, Damaged}
 use Rattle.blk_io.specs.Faults.{IfDamaged}
 use Rattle.blk_disk.specs.declared.tables.BlockFiles.{BlockFiles}
 use Rattle.blk_disk.specs.Tables.{Agrees, stands_among}
+use Rattle.blk_disk.proofs.Enlarging.{well_formed_still}
 use Rattle.blk_alloc.specs.Changes.{map_of}
 use Rattle.blk_alloc.proofs.Spared.{allocations_kept, empty_kept, freed_still, marks_kept}
-use Rattle.blk_alloc.proofs.Sparing.{blocks_spared, map_spares}
+use Rattle.blk_alloc.proofs.Sparing.{blocks_spared, formed_spared, map_spares}
 use Rattle.blk_stream.specs.Streams.{address_place, address_word, size_place, size_word}
 use Rattle.blk_stream.specs.Changing.{NamesInProgress, place_changes, stream_words}
 use Rattle.blk_stream.specs.Freeing.{IsPlaceFreed, MayBeFreed, freeing_of, is_block_of, leaving_of, left_by}
@@ -95,6 +97,29 @@ module _ (w : ℕ) (mid image : Image) (same : SameOutside (freeing_of w) mid im
       blocky_of : (kind_of w == external) ≡ false → kind_of w ≢ external
       blocky_of t e = let z : (kind_of w == external) ≡ true = grind (arith, nat_tests) in let y : true ≡ false = sym z ∙ t in cc
 
+-- a well-formed folder stays so
+
+formed_behind : (F : Footprint) (from image : Image) → SparesHeaders F → ((i : ℕ) → F.bytes Index i ≡ false) → F.sizes Index ≡ false → ((n : ℕ) → F.sizes (Block n) ≡ false) → SameOutside F from image → IsWellFormed from → IsWellFormed image
+formed_behind F from image spares index size sizes same formed =
+    well_formed_still from image (λ i. same.bytes Index i (index i)) (same.lengths Index size)
+    (undamaged_still from image (next_same F from image spares same) (heads_still F from image spares same (λ m. let e = same.lengths (Block m) (sizes m) in omega (arith, e)))) formed
+
+formed_named : (entry i : ℕ) (from mid : Image) → SameOutside (stream_words entry i) from mid → IsWellFormed from → IsWellFormed mid
+formed_named entry i from mid same formed = formed_behind (stream_words entry i) from mid (record { bytes = (words_spare entry i).headers }) (λ k. refl) refl (λ n. refl) same formed
+
+formed_freed : (w : ℕ) (mid image : Image) → SameOutside (freeing_of w) mid image → IsWellFormed mid → IsWellFormed image
+formed_freed w mid image same formed =
+    ⊎_elim
+    (λ (t : (kind_of w == external) ≡ true).
+    formed_behind (whole (External (external_number w))) mid image (record { bytes = λ m i small. refl }) (λ k. refl) refl (λ n. refl) (subst (λ (F : Footprint). SameOutside F mid image) (freeing_external w (eqb-true (kind_of w) external t)) same) formed)
+    (λ (t : (kind_of w == external) ≡ false).
+    let maps : SameOutside (map_of (file_selector w)) mid image = subst (λ (F : Footprint). SameOutside F mid image) (freeing_blocks w (blocky_of t)) same in
+    formed_spared (map_of (file_selector w)) mid image (map_spares (file_selector w)) maps (λ m. let e = maps.lengths (Block m) refl in omega (arith, e)) formed)
+    (cases_Bool (kind_of w == external))
+  where
+    blocky_of : (kind_of w == external) ≡ false → kind_of w ≢ external
+    blocky_of t e = let z : (kind_of w == external) ≡ true = grind (arith, nat_tests) in let y : true ≡ false = sym z ∙ t in cc
+
 -- no file comes to be
 absent_freed : (w : ℕ) (mid image : Image) → IsPlaceFreed w mid image → (number : ℕ) → has_file mid (External number) ≡ false → has_file image (External number) ≡ false
 absent_freed w mid image freed number none =
@@ -136,6 +161,7 @@ module _ (entry i : ℕ) (from : Image) where
   none_dropped good size none = record {
     same = outside-refl E from;
     checks = good;
+    formed = λ formed. formed;
     none = record { no_bytes = size; no_place = none };
     marks = λ n b small. sym (ap (λ (t : Bool). if t then false else is_block_marked from n b) (ap (λ (w : ℕ). is_block_of w n b) none ∙ no_block n b));
     allocations = λ n words are among. subst (AreAllocations from n) (sym (ap (λ (w : ℕ). left_by w n words) none ∙ none_left n words)) are;
@@ -146,10 +172,10 @@ module _ (entry i : ℕ) (from : Image) where
   }
 
   pub stays_dropping : RecordChecks entry from → DropsStreamInProgress entry i from from
-  stays_dropping good = record { same = outside-refl E from; checks = good; order = inl (outside-refl (stream_words entry i) from) }
+  stays_dropping good = record { same = outside-refl E from; checks = good; formed = λ formed. formed; order = inl (outside-refl (stream_words entry i) from) }
 
   pub naming_drops : (image : Image) → NamesInProgress entry i from image → DropsStreamInProgress entry i from image
-  naming_drops image named = record { same = outside_wider (stream_words entry i) E from image (within_left (stream_words entry i) (leaving_of W)) named.same; checks = named.checks; order = inl named.same }
+  naming_drops image named = record { same = outside_wider (stream_words entry i) E from image (within_left (stream_words entry i) (leaving_of W)) named.same; checks = named.checks; formed = formed_named entry i from image named.same; order = inl named.same }
 
   module _ (mid : Image) (kind : kind_of entry ≡ blocks_256) (small : i < 3) (some : W ≢ 0) (named : NamesInProgress entry i from mid) (is : IsUpdated from entry (place_changes i 0 0) mid) where
     empty_mid : (size_word mid entry i ≡ 0) × (address_word mid entry i ≡ 0)
@@ -165,7 +191,7 @@ module _ (entry i : ℕ) (from : Image) where
     still_checks image freed = let e = record_freed W mid image freed entry in rw e named.checks
 
     pub freeing_drops : (image : Image) → SameOutside (freeing_of W) mid image → DropsStreamInProgress entry i from image
-    freeing_drops image freed = record { same = both image freed; checks = still_checks image freed; order = inr (still_empty image freed) }
+    freeing_drops image freed = record { same = both image freed; checks = still_checks image freed; formed = λ formed. formed_freed W mid image freed (formed_named entry i from mid named.same formed); order = inr (still_empty image freed) }
 
     pub freed_drops : (image : Image) → IsPlaceFreed W mid image → DropsStream entry i from image
     freed_drops image freed =
@@ -175,6 +201,7 @@ module _ (entry i : ℕ) (from : Image) where
         record {
           same = both image freed.same;
           checks = still_checks image freed.same;
+          formed = λ formed. formed_freed W mid image freed.same (formed_named entry i from mid named.same formed);
           none = still_empty image freed.same;
           marks = λ n b low. freed.marks n b low ∙ ap (λ (t : Bool). if is_block_of W n b then false else t) (marks_kept F from mid spares named.same n b low);
           allocations = λ n words are among. freed.allocations n words (allocations_kept F from mid spares named.same n words are) among;

@@ -4,3 +4,4 @@ pub mod Naming
 pub mod Drops
 pub mod Dropped
 pub mod ShownDrops
+pub mod EmptyStreams

@@ -83,7 +83,7 @@ naming_moments files entry i size word from kind st small agrees good =
 
 -- What they leave.
 
-apart_place : (f g : File) (p n k : ℕ) → (k < p) ⊎ (p + n ≤ k) → (same_file f g && (nat_le p k && nat_lt k (p + n))) ≡ false
+pub apart_place : (f g : File) (p n k : ℕ) → (k < p) ⊎ (p + n ≤ k) → (same_file f g && (nat_le p k && nat_lt k (p + n))) ≡ false
 apart_place f g p n k away = by_test (same_file f g)
   where
     by_test : (t : Bool) → (t && (nat_le p k && nat_lt k (p + n))) ≡ false

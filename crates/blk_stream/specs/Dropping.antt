@@ -4,7 +4,7 @@ use Rattle.blk_image.specs.Image.{External, Image, has_file}
 use Rattle.blk_image.specs.Footprint.{Footprint, SameOutside, either, nothing}
 use Rattle.blk_image.specs.Told.{Stays, Told}
 use Rattle.blk_format.specs.Address.{block_count, external, external_number, file_selector, first_block, kind_of}
-use Rattle.blk_format.specs.BlockFiles.{is_among, max_entries_in, most_blocks}
+use Rattle.blk_format.specs.BlockFiles.{IsWellFormed, is_among, max_entries_in, most_blocks}
 use Rattle.blk_format.specs.Claims.{is_in_file}
 use Rattle.blk_format.specs.Maps.{AreAllocations, EmptyAgrees, is_block_marked}
 use Rattle.blk_format.specs.Sealed.{RecordChecks}
@@ -60,10 +60,11 @@ pub record KeepsStream (entry i : ℕ) (from image : Image) : Type 0 where
   pub size : size_word image entry i ≡ size_word from entry i
   pub word : address_word image entry i ≡ address_word from entry i
 
--- the first streams of a record are dropped: they have no bytes and no place, the marks of their blocks are cleared, and no others, the allocations of each file are those before without them, and their files are gone; all else is as before, and the record checks
+-- the first streams of a record are dropped: they have no bytes and no place, the marks of their blocks are cleared, and no others, the allocations of each file are those before without them, and their files are gone; all else is as before, the record checks, and a well-formed folder is well formed
 pub record AreDropped (count entry : ℕ) (from image : Image) : Type 0 where
   pub same : SameOutside (dropping_of count entry from) from image
   pub checks : RecordChecks entry image
+  pub formed : IsWellFormed from → IsWellFormed image
   pub none : (i : ℕ) → i < count → IsEmptyStream entry i image
   pub later : (i : ℕ) → count ≤ i → i < 3 → KeepsStream entry i from image
   pub marks : (n b : ℕ) → b < most_blocks → is_block_marked image n b ≡ (if is_block_of_first count entry from n b then false else is_block_marked from n b)
@@ -72,16 +73,18 @@ pub record AreDropped (count entry : ℕ) (from image : Image) : Type 0 where
   pub empty : (n : ℕ) → max_entries_in from n ≤ most_blocks → EmptyAgrees from n → EmptyAgrees image n
   pub gone : (i : ℕ) → i < count → kind_of (address_word from entry i) ≡ external → address_word from entry i ≢ 0 → has_file image (External (external_number (address_word from entry i))) ≡ false
 
--- at each word of that the record checks; nothing but the words of the streams, their files, and maps and counters has changed; and until the record names a stream no longer, nothing but the words of it and the streams before has
+-- at each word of that the record checks, and a well-formed folder is well formed; nothing but the words of the streams, their files, and maps and counters has changed; and until the record names a stream no longer, nothing but the words of it and the streams before has
 pub record DropsInProgress (entry : ℕ) (from image : Image) : Type 0 where
   pub same : SameOutside (dropping_of 3 entry from) from image
   pub checks : RecordChecks entry image
+  pub formed : IsWellFormed from → IsWellFormed image
   pub order : (i : ℕ) → i < 3 → SameOutside (either (dropping_of i entry from) (stream_words entry i)) from image ⊎ IsEmptyStream entry i image
 
 -- the same of one stream: it is dropped
 pub record DropsStream (entry i : ℕ) (from image : Image) : Type 0 where
   pub same : SameOutside (either (stream_words entry i) (leaving_of (address_word from entry i))) from image
   pub checks : RecordChecks entry image
+  pub formed : IsWellFormed from → IsWellFormed image
   pub none : IsEmptyStream entry i image
   pub marks : (n b : ℕ) → b < most_blocks → is_block_marked image n b ≡ (if is_block_of (address_word from entry i) n b then false else is_block_marked from n b)
   pub allocations : (n : ℕ) (words : List ℕ) → AreAllocations from n words → (is_in_file n (address_word from entry i) ≡ true → is_among words (address_word from entry i) ≡ true) → AreAllocations image n (left_by (address_word from entry i) n words)
@@ -94,6 +97,7 @@ pub record DropsStream (entry i : ℕ) (from image : Image) : Type 0 where
 pub record DropsStreamInProgress (entry i : ℕ) (from image : Image) : Type 0 where
   pub same : SameOutside (either (stream_words entry i) (leaving_of (address_word from entry i))) from image
   pub checks : RecordChecks entry image
+  pub formed : IsWellFormed from → IsWellFormed image
   pub order : SameOutside (stream_words entry i) from image ⊎ IsEmptyStream entry i image
 
 -- one stream can be dropped: its words are right, and its place may be freed

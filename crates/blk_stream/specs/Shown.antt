@@ -1,5 +1,5 @@
 -- What dropping the streams of a record changes of what is shown.
-use Rattle.std.specs.Prelude.{ℕ, ◌≡◌, Bool, true, [], ◌∷◌}
+use Rattle.std.specs.Prelude.{ℕ, ◌≡◌, Bool, true, [], ◌∷◌, Some}
 use Rattle.blk_image.specs.Image.{Image}
 use Rattle.blk_image.specs.Footprint.{SameOutside}
 use Rattle.blk_format.specs.Address.{is_address, kind_of, blocks_256}
@@ -8,8 +8,8 @@ use Rattle.blk_volume.specs.View.{view_of}
 use Rattle.blk_volume.specs.Footprint.{SameBut}
 use Rattle.blk_disk.specs.declared.tables.BlockFiles.{BlockFiles}
 use Rattle.blk_disk.specs.Tables.{Agrees, stands_among}
-use Rattle.blk_stream.specs.Streams.{address_word}
-use Rattle.blk_stream.specs.Dropping.{dropping_of}
+use Rattle.blk_stream.specs.Streams.{HasStreams, address_word, streams_at}
+use Rattle.blk_stream.specs.Dropping.{AreDropped, dropping_of}
 
 -- the blocks of a record, and the blocks or the files of its streams
 abbrev pub is_of_entry : Image → ℕ → Claim → Bool
@@ -18,3 +18,7 @@ is_of_entry image entry = has_claim (claims_of_all (entry ∷ address_word image
 -- at each word of dropping the streams of a record that stands, and in the end, what is shown has changed only there
 abbrev pub DropsAreShownInside : Type 0
 DropsAreShownInside = (files : BlockFiles) (from image : Image) (entry : ℕ) → kind_of entry ≡ blocks_256 → is_address entry ≡ true → stands_among files entry ≡ true → Agrees files from → SameOutside (dropping_of 3 entry from) from image → SameBut (is_of_entry from entry) (view_of from) (view_of image)
+
+-- once the streams of a record that had three are dropped, it has three empty ones
+abbrev pub DroppedStreamsAreEmpty : Type 0
+DroppedStreamsAreEmpty = (files : BlockFiles) (from image : Image) (entry : ℕ) → kind_of entry ≡ blocks_256 → is_address entry ≡ true → stands_among files entry ≡ true → Agrees files image → HasStreams entry from → AreDropped 3 entry from image → streams_at image entry ≡ Some ([] ∷ [] ∷ [] ∷ [])

@@ -1,7 +1,9 @@
 // The laws of streams, each the contract of a function with an empty body.
-ghost use Rattle.blk_stream.specs.Shown.{DropsAreShownInside};
+ghost use Rattle.blk_stream.specs.Shown.{DroppedStreamsAreEmpty, DropsAreShownInside};
 
-/// Dropping the streams of an entry is shown only in the blocks of its record, and in those, or the files, of its streams.
+/// Dropping the streams of an entry is shown only in the blocks of its record, and in those, or the files, of its streams;
+/// and the entry has three empty streams then.
 pub fn drops_are_shown_inside()
-    ensures { DropsAreShownInside }
+    ensures inside { DropsAreShownInside }
+    ensures empty { DroppedStreamsAreEmpty }
 {}

@@ -1,0 +1,93 @@
+-- A record whose streams are dropped has three empty ones.
+use Rattle.std.proofs.Common.{◌≡◌, ◌⊎◌, inl, inr, ⊎_elim, ℕ, zero, suc, ◌+◌, ◌<◌, ◌≤◌, Bool, true, false, ◌&&◌, if◌then◌else◌, List, [], ◌∷◌, None, Some, refl, sym, ◌∙◌, ap, arith}
+use Rattle.std.specs.Prelude.{◌==◌, not}
+use Rattle.std.specs.Option.{option_and_then, option_map}
+use Rattle.std.proofs.lemmas.Bool.{eqb-true}
+use Rattle.blk_image.specs.Bytes.{words_at}
+use Rattle.blk_image.specs.Image.{Block, Image, word}
+use Rattle.blk_image.proofs.Footprints.{same_word_outside}
+use Rattle.blk_format.specs.Address.{file_selector, place, blocks_256}
+use Rattle.blk_format.specs.Records.{entry_in}
+use Rattle.blk_format.specs.Storage.{is_storage}
+use Rattle.blk_format.proofs.SpareHeaders.{past_header}
+use Rattle.blk_volume.specs.View.{RecordFields, fields_at, fields_of, entry_at, data_size_of, address_of, stands_as, stored_at, store_of}
+use Rattle.blk_volume.specs.Entries.{stream_of, streams_of}
+use Rattle.blk_entry.proofs.NewShown.{stands_as_kind, stands_here}
+use Rattle.blk_entry.proofs.Windows.{not_external}
+use Rattle.blk_stream.specs.Streams.{address_place, address_word, size_place, size_word, streams_at}
+use Rattle.blk_stream.specs.Changing.{record_word}
+use Rattle.blk_stream.specs.Dropping.{dropping_of}
+use Rattle.blk_stream.specs.Shown.{DroppedStreamsAreEmpty}
+use Rattle.blk_stream.proofs.Drops.{leaving_off}
+use Rattle.blk_stream.proofs.Naming.{apart_place}
+
+none_some : {A : Type 0} {x : A} → None ≡ Some x → ⊥
+none_some e = cc
+
+-- the fourth stream of a record with three is nothing
+fourth_none : (image : Image) (fields : RecordFields) (streams : List (List ℕ)) → streams_of (store_of image) fields ≡ Some streams → (data_size_of fields 3 ≡ 0) × (address_of fields 3 ≡ 0)
+unfolding streams_of
+fourth_none image fields streams e = by_tests (data_size_of fields 3 == 0) (address_of fields 3 == 0) refl refl e
+  where
+    by_tests : (s t : Bool) → (data_size_of fields 3 == 0) ≡ s → (address_of fields 3 == 0) ≡ t
+        → (if not (s && t) then None else option_and_then (λ first. option_and_then (λ second. option_map (λ third. first ∷ second ∷ third ∷ []) (stream_of (store_of image) fields 2)) (stream_of (store_of image) fields 1)) (stream_of (store_of image) fields 0)) ≡ Some streams
+        → (data_size_of fields 3 ≡ 0) × (address_of fields 3 ≡ 0)
+    by_tests true true s t h = (eqb-true (data_size_of fields 3) 0 s, eqb-true (address_of fields 3) 0 t)
+    by_tests true false s t h = absurd (none_some h)
+    by_tests false t s e h = absurd (none_some h)
+
+fourth_of : (image : Image) (entry : ℕ) (streams : List (List ℕ)) → streams_at image entry ≡ Some streams → (size_word image entry 3 ≡ 0) × (address_word image entry 3 ≡ 0)
+unfolding streams_at fields_at
+fourth_of image entry streams e = by_stands (stands_as image blocks_256 entry) e
+  where
+    by_stands : (t : Bool) → option_and_then (streams_of (store_of image)) (if t then Some (fields_of (entry_at image entry)) else None) ≡ Some streams → (size_word image entry 3 ≡ 0) × (address_word image entry 3 ≡ 0)
+    by_stands true h = fourth_none image (fields_of (entry_at image entry)) streams h
+    by_stands false h = absurd (none_some h)
+
+-- its words lie apart from those of the others
+fourth_off : (entry at count : ℕ) (from : Image) → count ≤ 3 → (at ≡ 52) ⊎ (at ≡ 68) → (k : ℕ) → place entry + at ≤ k → k < place entry + at + 4 → (dropping_of count entry from).bytes (Block (file_selector entry)) k ≡ false
+unfolding dropping_of
+fourth_off entry at zero from few is k first last = refl
+fourth_off entry at (suc i) from few is k first last =
+    let a = word_off (size_place i) (⊎_elim (λ (e : at ≡ 52). inr (omega (arith, e, few, first))) (λ (e : at ≡ 68). inr (omega (arith, e, few, first))) is) in
+    let b = word_off (address_place i) (⊎_elim (λ (e : at ≡ 52). inl (omega (arith, e, last))) (λ (e : at ≡ 68). inr (omega (arith, e, few, first))) is) in
+    let c = word_off 92 (⊎_elim (λ (e : at ≡ 52). inl (omega (arith, e, last))) (λ (e : at ≡ 68). inl (omega (arith, e, last))) is) in
+    let d = leaving_off (address_word from entry i) (file_selector entry) k (let p = past_header entry in omega (arith, first, p)) in
+    let rest = fourth_off entry at i from (omega (arith, few)) is k first last in
+    rw (rest, a, b, c, d) refl
+  where
+    word_off : (q : ℕ) → (k < place entry + q) ⊎ (place entry + q + 4 ≤ k) → (record_word entry q).bytes (Block (file_selector entry)) k ≡ false
+    word_off q off = apart_place (Block (file_selector entry)) (Block (file_selector entry)) (place entry + q) 4 k off
+
+-- the words of the fourth stream
+fourth_size : (image : Image) (entry : ℕ) → size_word image entry 3 ≡ word image (Block (file_selector entry)) (place entry + 52)
+unfolding entry_in words_at
+fourth_size image entry = ap (word image (Block (file_selector entry))) (let h : place entry + 40 + 4 + 4 + 4 ≡ place entry + 52 = omega arith in h)
+
+fourth_word : (image : Image) (entry : ℕ) → address_word image entry 3 ≡ word image (Block (file_selector entry)) (place entry + 68)
+unfolding entry_in words_at
+fourth_word image entry = ap (word image (Block (file_selector entry))) (let h : place entry + 56 + 4 + 4 + 4 ≡ place entry + 68 = omega arith in h)
+
+-- a stream without bytes and place
+empty_stream : (image : Image) (fields : RecordFields) (i : ℕ) → data_size_of fields i ≡ 0 → address_of fields i ≡ 0 → stream_of (store_of image) fields i ≡ Some []
+unfolding stream_of store_of stored_at is_storage
+empty_stream image fields i size none = rw (size, none) refl
+
+streams_known : (image : Image) (fields : RecordFields) → data_size_of fields 3 ≡ 0 → address_of fields 3 ≡ 0 → stream_of (store_of image) fields 0 ≡ Some [] → stream_of (store_of image) fields 1 ≡ Some [] → stream_of (store_of image) fields 2 ≡ Some []
+    → streams_of (store_of image) fields ≡ Some ([] ∷ [] ∷ [] ∷ [])
+unfolding streams_of
+streams_known image fields size none a b c = rw (size, none, a, b, c) refl
+
+pub dropped-empty : DroppedStreamsAreEmpty
+unfolding streams_at fields_at
+dropped-empty files from image entry kind address stands agrees has dropped =
+    let here = stands_as_kind image entry blocks_256 (stands_here files image entry agrees address (not_external entry kind) stands) kind in
+    let fourth = fourth_of from entry has.streams has.is in
+    let fields : RecordFields = fields_of (entry_at image entry) in
+    let size : size_word image entry 3 ≡ 0 = fourth_size image entry ∙ same_word_outside (dropping_of 3 entry from) from image (Block (file_selector entry)) (place entry + 52) dropped.same (fourth_off entry 52 3 from (omega arith) (inl refl)) ∙ sym (fourth_size from entry) ∙ fourth.0 in
+    let none : address_word image entry 3 ≡ 0 = fourth_word image entry ∙ same_word_outside (dropping_of 3 entry from) from image (Block (file_selector entry)) (place entry + 68) dropped.same (fourth_off entry 68 3 from (omega arith) (inr refl)) ∙ sym (fourth_word from entry) ∙ fourth.1 in
+    let a = dropped.none 0 (omega arith) in
+    let b = dropped.none 1 (omega arith) in
+    let c = dropped.none 2 (omega arith) in
+    ap (λ (t : Bool). option_and_then (streams_of (store_of image)) (if t then Some fields else None)) here
+    ∙ streams_known image fields size none (empty_stream image fields 0 a.no_bytes a.no_place) (empty_stream image fields 1 b.no_bytes b.no_place) (empty_stream image fields 2 c.no_bytes c.no_place)
