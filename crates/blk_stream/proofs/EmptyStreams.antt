@@ -11,7 +11,7 @@ use Rattle.blk_format.specs.Records.{entry_in}
 use Rattle.blk_format.specs.Storage.{is_storage}
 use Rattle.blk_format.proofs.SpareHeaders.{past_header}
 use Rattle.blk_volume.specs.View.{RecordFields, fields_at, fields_of, entry_at, data_size_of, address_of, stands_as, stored_at, store_of}
-use Rattle.blk_volume.specs.Entries.{stream_of, streams_of}
+use Rattle.blk_volume.specs.Entries.{stored_stream, stored_streams}
 use Rattle.blk_entry.proofs.NewShown.{stands_as_kind, stands_here}
 use Rattle.blk_entry.proofs.Windows.{not_external}
 use Rattle.blk_stream.specs.Streams.{address_place, address_word, size_place, size_word, streams_at}
@@ -25,12 +25,12 @@ none_some : {A : Type 0} {x : A} → None ≡ Some x → ⊥
 none_some e = cc
 
 -- the fourth stream of a record with three is nothing
-fourth_none : (image : Image) (fields : RecordFields) (streams : List (List ℕ)) → streams_of (store_of image) fields ≡ Some streams → (data_size_of fields 3 ≡ 0) × (address_of fields 3 ≡ 0)
-unfolding streams_of
+fourth_none : (image : Image) (fields : RecordFields) (streams : List (List ℕ)) → stored_streams (store_of image) fields ≡ Some streams → (data_size_of fields 3 ≡ 0) × (address_of fields 3 ≡ 0)
+unfolding stored_streams
 fourth_none image fields streams e = by_tests (data_size_of fields 3 == 0) (address_of fields 3 == 0) refl refl e
   where
     by_tests : (s t : Bool) → (data_size_of fields 3 == 0) ≡ s → (address_of fields 3 == 0) ≡ t
-        → (if not (s && t) then None else option_and_then (λ first. option_and_then (λ second. option_map (λ third. first ∷ second ∷ third ∷ []) (stream_of (store_of image) fields 2)) (stream_of (store_of image) fields 1)) (stream_of (store_of image) fields 0)) ≡ Some streams
+        → (if not (s && t) then None else option_and_then (λ first. option_and_then (λ second. option_map (λ third. first ∷ second ∷ third ∷ []) (stored_stream (store_of image) fields 2)) (stored_stream (store_of image) fields 1)) (stored_stream (store_of image) fields 0)) ≡ Some streams
         → (data_size_of fields 3 ≡ 0) × (address_of fields 3 ≡ 0)
     by_tests true true s t h = (eqb-true (data_size_of fields 3) 0 s, eqb-true (address_of fields 3) 0 t)
     by_tests true false s t h = absurd (none_some h)
@@ -40,7 +40,7 @@ fourth_of : (image : Image) (entry : ℕ) (streams : List (List ℕ)) → stream
 unfolding streams_at fields_at
 fourth_of image entry streams e = by_stands (stands_as image blocks_256 entry) e
   where
-    by_stands : (t : Bool) → option_and_then (streams_of (store_of image)) (if t then Some (fields_of (entry_at image entry)) else None) ≡ Some streams → (size_word image entry 3 ≡ 0) × (address_word image entry 3 ≡ 0)
+    by_stands : (t : Bool) → option_and_then (stored_streams (store_of image)) (if t then Some (fields_of (entry_at image entry)) else None) ≡ Some streams → (size_word image entry 3 ≡ 0) × (address_word image entry 3 ≡ 0)
     by_stands true h = fourth_none image (fields_of (entry_at image entry)) streams h
     by_stands false h = absurd (none_some h)
 
@@ -69,13 +69,13 @@ unfolding entry_in words_at
 fourth_word image entry = ap (word image (Block (file_selector entry))) (let h : place entry + 56 + 4 + 4 + 4 ≡ place entry + 68 = omega arith in h)
 
 -- a stream without bytes and place
-empty_stream : (image : Image) (fields : RecordFields) (i : ℕ) → data_size_of fields i ≡ 0 → address_of fields i ≡ 0 → stream_of (store_of image) fields i ≡ Some []
-unfolding stream_of store_of stored_at is_storage
+empty_stream : (image : Image) (fields : RecordFields) (i : ℕ) → data_size_of fields i ≡ 0 → address_of fields i ≡ 0 → stored_stream (store_of image) fields i ≡ Some []
+unfolding stored_stream store_of stored_at is_storage
 empty_stream image fields i size none = rw (size, none) refl
 
-streams_known : (image : Image) (fields : RecordFields) → data_size_of fields 3 ≡ 0 → address_of fields 3 ≡ 0 → stream_of (store_of image) fields 0 ≡ Some [] → stream_of (store_of image) fields 1 ≡ Some [] → stream_of (store_of image) fields 2 ≡ Some []
-    → streams_of (store_of image) fields ≡ Some ([] ∷ [] ∷ [] ∷ [])
-unfolding streams_of
+streams_known : (image : Image) (fields : RecordFields) → data_size_of fields 3 ≡ 0 → address_of fields 3 ≡ 0 → stored_stream (store_of image) fields 0 ≡ Some [] → stored_stream (store_of image) fields 1 ≡ Some [] → stored_stream (store_of image) fields 2 ≡ Some []
+    → stored_streams (store_of image) fields ≡ Some ([] ∷ [] ∷ [] ∷ [])
+unfolding stored_streams
 streams_known image fields size none a b c = rw (size, none, a, b, c) refl
 
 pub dropped-empty : DroppedStreamsAreEmpty
@@ -89,5 +89,5 @@ dropped-empty files from image entry kind address stands agrees has dropped =
     let a = dropped.none 0 (omega arith) in
     let b = dropped.none 1 (omega arith) in
     let c = dropped.none 2 (omega arith) in
-    ap (λ (t : Bool). option_and_then (streams_of (store_of image)) (if t then Some fields else None)) here
+    ap (λ (t : Bool). option_and_then (stored_streams (store_of image)) (if t then Some fields else None)) here
     ∙ streams_known image fields size none (empty_stream image fields 0 a.no_bytes a.no_place) (empty_stream image fields 1 b.no_bytes b.no_place) (empty_stream image fields 2 c.no_bytes c.no_place)
