@@ -2,11 +2,11 @@
 use Rattle.std.proofs.Common.{◌≡◌, ℕ, ◌+◌, ◌≤◌, List, [], ◌∷◌, refl, ap, sym, ◌∙◌, subst, Bool, true, false, cond, arith, ⊎_elim}
 use Rattle.std.specs.List.{sum_by}
 use Rattle.std.specs.List.Sorted.{IsPermutation}
-use Rattle.std.proofs.lemmas.Bool.{cases_Bool, or_parts}
+use Rattle.std.proofs.lemmas.Bool.{cases_Bool, or_parts, or_from}
 use Rattle.std.proofs.lemmas.List.Sorted.{sum_by-IsPermutation}
 use Rattle.std.proofs.lemmas.List.Sums.{sum_by-cons, sum_by-append}
 use Rattle.blk_format.specs.Claims.{Claim, claims_of, claims_of_all, has_claim, repeats, same_claim}
-use Rattle.blk_laws.proofs.claims.ClaimLists.{claim-head, neither, no-claim}
+use Rattle.blk_laws.proofs.claims.ClaimLists.{claim-head, no-claim}
 use Rattle.blk_laws.proofs.states.Laid.{same_claim-eq, same_claim-self}
 
 -- how often a claim stands in a list
@@ -26,7 +26,7 @@ times-none : (cs : List Claim) (c : Claim) → times_in c cs ≡ 0 → has_claim
 times-none [] c none = no-claim c
 times-none (d ∷ cs) c none = ⊎_elim
     (λ (e : same_claim c d ≡ true). let a = first-time c d true e cs in absurd (omega (arith, a, none)))
-    (λ (e : same_claim c d ≡ false). let a = first-time c d false e cs in claim-head d cs c ∙ neither (same_claim c d) (has_claim cs c) e (times-none cs c (omega (arith, a, none))))
+    (λ (e : same_claim c d ≡ false). let a = first-time c d false e cs in claim-head d cs c ∙ or_from (same_claim c d) (has_claim cs c) e (times-none cs c (omega (arith, a, none))))
     (cases_Bool (same_claim c d))
 
 once-few : (cs : List Claim) → repeats cs ≡ false → (c : Claim) → times_in c cs ≤ 1
@@ -42,7 +42,7 @@ once-few (d ∷ cs) once c =
 few-once : (cs : List Claim) → ((c : Claim) → times_in c cs ≤ 1) → repeats cs ≡ false
 unfolding repeats
 few-once [] few = refl
-few-once (d ∷ cs) few = neither (has_claim cs d) (repeats cs)
+few-once (d ∷ cs) few = or_from (has_claim cs d) (repeats cs)
     (times-none cs d (let a = first-time d d true (same_claim-self d) cs in let b = few d in omega (arith, a, b)))
     (few-once cs (λ c. fewer c (same_claim c d) refl))
   where
