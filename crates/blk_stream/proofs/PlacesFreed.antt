@@ -22,7 +22,7 @@ use Rattle.blk_disk.specs.declared.tables.BlockFiles.{BlockFiles}
 use Rattle.blk_disk.specs.Tables.{Agrees}
 use Rattle.blk_disk.proofs.Agreeing.{agrees_still}
 use Rattle.blk_alloc.specs.Changes.{IsMapInProgress, map_of}
-use Rattle.blk_alloc.specs.Owning.{FreesInProgress, IsFreed, KeepsFile, others}
+use Rattle.blk_alloc.specs.Owning.{FreesAtLast, FreesInProgress, FreesOrStops, IsFreed, KeepsFile, others}
 use Rattle.blk_alloc.proofs.Widening.{mark_kept}
 use Rattle.blk_stream.specs.Freeing.{IsPlaceFreed, freeing_of, is_block_of, leaving_of, left_by}
 
@@ -46,7 +46,11 @@ leaving_none = refl
 
 -- while they are, only map, counters and updating of their file differ
 pub map_only : (w : ℕ) (from image : Image) → FreesInProgress w from image → SameOutside (map_of (file_selector w)) from image
-map_only w from image h = ⊎_elim (λ (midst : IsMapInProgress (file_selector w) from image). midst.same) (λ (freed : IsFreed from w image). freed.same) h.marks
+map_only w from image h = h.marks.same
+
+-- and so where they stopped, or are done
+pub freed_only : (w : ℕ) (from image : Image) → FreesOrStops w from image → SameOutside (map_of (file_selector w)) from image
+freed_only w from image h = ⊎_elim (λ (midst : FreesInProgress w from image). map_only w from image midst) (λ (last : FreesAtLast w from image). last.freed.same) h
 
 in_file_blocks : (n w : ℕ) → kind_of w ≢ external → is_in_file n w ≡ (file_selector w == n)
 unfolding is_in_file

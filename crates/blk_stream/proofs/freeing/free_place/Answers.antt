@@ -6,7 +6,7 @@ use Rattle.blk_image.proofs.Runs.{passes_weaker}
 use Rattle.blk_format.specs.Address.{kind_of, external}
 use Rattle.blk_io.proofs.Carried.{if_damaged_weaker}
 use Rattle.blk_entry.proofs.KeyPlaces.{of_other}
-use Rattle.blk_stream.proofs.PlacesFreed.{freed_blocks, freeing_blocks, map_only}
+use Rattle.blk_stream.proofs.PlacesFreed.{freed_blocks, freed_only, freeing_blocks, map_only}
 use Rattle.blk_stream.proofs.freeing.free_place.Goals as goal
 
 pub returns-else-is_of-clause-freed : goal.returns-else-is_of-clause-freed
@@ -18,7 +18,7 @@ pub returns-else-is_of-clause-stops : goal.returns-else-is_of-clause-stops
 returns-else-is_of-clause-stops g c from there =
     let blocky : kind_of c.args.addr ≢ external = of_other (kind_of c.args.addr) external (sym c.is_of.ensures ∙ c.if-is_of.false) in
     subst (λ (F : Footprint). Passes (g.F.Folder.told c.args.f.now) (g.F.Folder.told c.free.new.f) (SameOutside F from)) (sym (freeing_blocks c.args.addr blocky))
-    (passes_weaker (c.free.ensures.stops from there) (λ image h. map_only c.args.addr from image h) (λ image h. map_only c.args.addr from image h))
+    (passes_weaker (c.free.ensures.stops from there) (λ image h. map_only c.args.addr from image h) (λ image h. freed_only c.args.addr from image h))
 
 pub returns-else-is_of-clause-untold : goal.returns-else-is_of-clause-untold
 returns-else-is_of-clause-untold g c may =
