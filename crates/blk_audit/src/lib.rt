@@ -10,6 +10,7 @@ mod list_walk;
 mod nodes;
 mod reaching;
 mod reading;
+mod record_files;
 mod records;
 mod walking;
 

@@ -1,5 +1,6 @@
 // The walk and the chains of a small folder in memory that tells nothing.
 use crate::{Walked, chains, walk};
+use blk_addr::{Addr, Claims, Kind};
 use blk_disk::BlockFiles;
 use blk_io::{Failed, FileId, Folder, MemFolder, SilentFolder, StopFolder, write_word};
 use std::alloc::Global;
@@ -86,22 +87,30 @@ fn a_chain_ends_before_another_bucket_and_before_a_met_record(rt: HostRuntime) -
     chain(&mut f, 1, 0x1_0005, c)?;
     chain(&mut f, 2, 6, 0)?;
     let files = BlockFiles::load(&mut f)?;
+    let mut named = Claims::new(rt.alloc());
     let start = f.calls();
-    match chains(rt.alloc(), &mut f, &files) {
+    match chains(rt.alloc(), &mut f, &files, &named) {
         Ok(reached) => assert_eq!(rt;
             (reached.count(), reached.at(1).map(|w| w.word())),
             (2, Some(b))
         ),
         Err(_) => panic!(rt; "they are followed"),
     }
-    assert_eq!(rt; f.calls().wrapping_sub(start), 67);
+    assert_eq!(rt; f.calls().wrapping_sub(start), 68);
     chain(&mut f, 2, 5, a)?;
-    match chains(rt.alloc(), &mut f, &files) {
+    for n in 0..3 {
+        if named.add(Addr::of_blocks(Kind::B256, 1, n, 1)).is_err() {
+            panic!(rt; "there is memory");
+        }
+    }
+    let start = f.calls();
+    match chains(rt.alloc(), &mut f, &files, &named) {
         Ok(reached) => assert_eq!(rt;
             (reached.count(), reached.at(2).map(|w| w.word())),
             (3, Some(c))
         ),
         Err(_) => panic!(rt; "they are followed"),
     }
+    assert_eq!(rt; f.calls().wrapping_sub(start), 65);
     Ok(())
 }
