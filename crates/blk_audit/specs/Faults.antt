@@ -70,3 +70,7 @@ pub record IsTableDamage (told : Told) (damage : Damage) : Type 0 where
 -- the chains were damaged at blocks of records, at words of the table, or at a record
 abbrev pub IsChainsDamage : BlockFiles → Told → Damage → Type 0
 IsChainsDamage files told damage = IsRecordsDamage told damage ⊎ (IsTableDamage told damage ⊎ IsRecordDamage files told damage)
+
+-- one of both was
+abbrev pub IsListsDamage : BlockFiles → Told → Damage → Type 0
+IsListsDamage files told damage = IsWalkDamage files told damage ⊎ IsChainsDamage files told damage
