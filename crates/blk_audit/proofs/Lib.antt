@@ -13,3 +13,4 @@ pub mod Shown
 pub mod Chained
 pub mod FirstBlocks
 pub mod AllChains
+pub mod PiecesOfRecords

@@ -56,11 +56,21 @@ pub record IsRecordDamage (files : BlockFiles) (told : Told) (damage : Damage) :
   pub stands : stands_among files entry ≡ true
   pub short : IsShort told (names.Block (file_selector entry)) (place entry) 96 damage
 
+-- neighbouring blocks of a file were read, from one on, and their bytes are too few
+pub record IsRecordsDamage (told : Told) (damage : Damage) : Type 0 where
+  pub file : ℕ
+  pub first : ℕ
+  pub short : IsShort told (names.Block file) (8192 + first * 256) 32768 damage
+
 -- the words of neighbouring buckets were read, from one on, and their bytes are too few
 pub record IsTableDamage (told : Told) (damage : Damage) : Type 0 where
   pub first : ℕ
   pub short : IsShort told names.Index (place_of_bucket first) 4096 damage
 
--- the chains were damaged at words of the table, or at a record
+-- the chains were damaged at blocks of records, at words of the table, or at a record
 abbrev pub IsChainsDamage : BlockFiles → Told → Damage → Type 0
-IsChainsDamage files told damage = IsTableDamage told damage ⊎ IsRecordDamage files told damage
+IsChainsDamage files told damage = IsRecordsDamage told damage ⊎ (IsTableDamage told damage ⊎ IsRecordDamage files told damage)
+
+-- one of both was
+abbrev pub IsListsDamage : BlockFiles → Told → Damage → Type 0
+IsListsDamage files told damage = IsWalkDamage files told damage ⊎ IsChainsDamage files told damage

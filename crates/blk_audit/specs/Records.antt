@@ -1,10 +1,11 @@
 -- What is read of a record.
-use Rattle.std.specs.Prelude.{ℕ, ◌≡◌, List}
+use Rattle.std.specs.Prelude.{ℕ, ◌≡◌, List, All}
 use Rattle.blk_image.specs.Bytes.{content, word_at}
 use Rattle.blk_image.specs.Image.{Image}
 use Rattle.blk_format.specs.Records.{checks, entry_checks}
 use Rattle.blk_volume.specs.View.{entry_at}
 use Rattle.blk_audit.specs.declared.records.Entry.{Entry}
+use Rattle.blk_audit.specs.declared.record_files.Records.{Records}
 
 -- what a record with these bytes says
 abbrev pub entry_said : List ℕ → Entry
@@ -15,3 +16,7 @@ pub record IsEntryOf (image : Image) (w : ℕ) (said : Entry) : Type 0 where
   pub checks : said.checks ≡ entry_checks (entry_at image w)
   pub hash : said.hash ≡ (entry_at image w).hash
   pub next : said.next ≡ (entry_at image w).next
+
+-- the records that were read in pieces are those of an image
+abbrev pub AreRecordsOf : Image → Records → Type 0
+AreRecordsOf image records = All (λ placed. IsEntryOf image placed.first placed.entry) records.placed.items

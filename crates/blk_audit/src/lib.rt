@@ -10,13 +10,16 @@ mod list_walk;
 mod nodes;
 mod reaching;
 mod reading;
+mod record_files;
 mod records;
+mod scanning;
 mod walking;
 
 pub use fault::ScanFault;
 pub use laws::chains_are_reached_apart;
 pub use list_walk::Walked;
 pub use reaching::{Reached, chains};
+pub use scanning::{Lists, read_lists};
 pub use walking::walk;
 
 #[cfg(test)]

@@ -9,10 +9,12 @@ ghost use Rattle.blk_volume.specs.Chains.{chain_from, most_records};
 ghost use Rattle.blk_disk.specs.Tables.{Agrees};
 ghost use Rattle.blk_index.specs.Table.{AreBuckets};
 ghost use Rattle.blk_audit.specs.Faults.{IfScanDamaged, IfScanDevice, IsChainsDamage, IsRecordDamage};
+ghost use Rattle.blk_audit.specs.Records.{AreRecordsOf};
 ghost use Rattle.blk_audit.specs.Chaining.{AreOfFirst, AreReached, IsReach, is_met, reached_by, words_of};
 
 use crate::fault::ScanFault;
-use crate::records::{first_of_record, read_record};
+use crate::record_files::{Records, read_records, record_of};
+use crate::records::first_of_record;
 use blk_addr::{Addr, Claims, NoMemory};
 use blk_disk::BlockFiles;
 use blk_index::buckets;
@@ -88,10 +90,16 @@ impl Reached {
 
 /// Follows the chain of each bucket, bucket after bucket. Nothing is written, and every chain ends.
 ///
-/// One call reads 1024 words of the table, and one each record whose first block was not met before. A damage is a
-/// read that gave too few bytes; a folder whose files are those of `files` gives none. `Device` comes only where the
+/// One call reads 1024 words of the table. Of the records, those whose first block has a claim in `named` are read 128
+/// blocks by one call, and each other one by a call of its own, so `named` changes the cost and not the result. A
+/// damage is a read that gave too few bytes; a folder whose files are those of `files` gives none. `Device` comes only where the
 /// folder failed in this call.
-pub fn chains<F: Folder>(alloc: Global, f: &mut F, files: &BlockFiles) -> Result<Reached, ScanFault>
+pub fn chains<F: Folder>(
+    alloc: Global,
+    f: &mut F,
+    files: &BlockFiles,
+    named: &Claims,
+) -> Result<Reached, ScanFault>
     requires complete { ForSome (F.told f.old).files HasWholeIndex }
     requires agrees { ForSome (F.told f.old).files (Agrees files.now) }
     ensures reached { IfOk result (λ reached. ForSome (F.told f.old).files (λ image. words_of reached ≡ reached_by (store_of image) table_length)) }
@@ -105,9 +113,11 @@ pub fn chains<F: Folder>(alloc: Global, f: &mut F, files: &BlockFiles) -> Result
     ensures later { F.faults f.old ≤ F.faults f.new }
     ensures device { IfScanDevice result (Rises (F.faults f.old) (F.faults f.new)) }
 {
+    let records = read_records(alloc, f, files, named)?;
     let mut reached = Reached::none(alloc);
     for piece in 0..PIECES {
-        follow_piece(f, files, piece * PIECE as u16, &mut reached)?;
+        let first = piece * PIECE as u16;
+        follow_piece(f, files, &records, first, &mut reached)?;
     }
     Ok(reached)
 }
@@ -116,12 +126,14 @@ pub fn chains<F: Folder>(alloc: Global, f: &mut F, files: &BlockFiles) -> Result
 fn follow_piece<F: Folder>(
     f: &mut F,
     files: &BlockFiles,
+    records: &Records,
     first: u16,
     reached: &mut Reached,
 ) -> Result<(), ScanFault>
     requires inside { first + 1024 ≤ table_length }
     requires complete { ForSome (F.told f.old).files HasWholeIndex }
     requires agrees { ForSome (F.told f.old).files (Agrees files.now) }
+    requires records { ForSome (F.told f.old).files (λ image. AreRecordsOf image records.now) }
     requires met { AreReached reached.old }
     requires before { ForSome (F.told f.old).files (λ image. words_of reached.old ≡ reached_by (store_of image) first) }
     ensures met { OnOk result (AreReached reached.new) }
@@ -134,7 +146,7 @@ fn follow_piece<F: Folder>(
 {
     let mut table = [0u32; PIECE];
     buckets(f, first, &mut table)?;
-    follow_all(f, files, first, &table, reached)?;
+    follow_all(f, files, records, first, &table, reached)?;
     Ok(())
 }
 
@@ -142,12 +154,14 @@ fn follow_piece<F: Folder>(
 fn follow_all<F: Folder>(
     f: &mut F,
     files: &BlockFiles,
+    records: &Records,
     first: u16,
     table: &[u32],
     reached: &mut Reached,
 ) -> Result<(), ScanFault>
     requires inside { first + length table.now ≤ table_length }
     requires agrees { ForSome (F.told f.old).files (Agrees files.now) }
+    requires records { ForSome (F.told f.old).files (λ image. AreRecordsOf image records.now) }
     requires words { ForSome (F.told f.old).files (λ image. AreBuckets image first table.now) }
     requires met { AreReached reached.old }
     requires before { ForSome (F.told f.old).files (λ image. words_of reached.old ≡ reached_by (store_of image) first) }
@@ -160,7 +174,8 @@ fn follow_all<F: Folder>(
     ensures device { IfScanDevice result (Rises (F.faults f.old) (F.faults f.new)) }
 {
     for i in 0..table.len() {
-        follow(f, files, u32::from(first) + i as u32, table[i], reached)?;
+        let bucket = u32::from(first) + i as u32;
+        follow(f, files, records, bucket, table[i], reached)?;
     }
     Ok(())
 }
@@ -170,12 +185,14 @@ fn follow_all<F: Folder>(
 fn follow<F: Folder>(
     f: &mut F,
     files: &BlockFiles,
+    records: &Records,
     bucket: u32,
     start: u32,
     reached: &mut Reached,
 ) -> Result<(), ScanFault>
     requires bucket { bucket < table_length }
     requires agrees { ForSome (F.told f.old).files (Agrees files.now) }
+    requires records { ForSome (F.told f.old).files (λ image. AreRecordsOf image records.now) }
     requires met { AreReached reached.old }
     requires others { ForSome (F.told f.old).files (λ image. AreOfFirst (store_of image) bucket (words_of reached.old)) }
     ensures met { OnOk result (AreReached reached.new) }
@@ -188,7 +205,7 @@ fn follow<F: Folder>(
 {
     let mut word = start;
     for i in 0..MOST_RECORDS {
-        match reach(f, files, bucket, reached, word)? {
+        match reach(f, files, records, bucket, reached, word)? {
             Some(next) => word = next,
             None => return Ok(()),
         }
@@ -201,12 +218,14 @@ fn follow<F: Folder>(
 fn reach<F: Folder>(
     f: &mut F,
     files: &BlockFiles,
+    records: &Records,
     bucket: u32,
     reached: &mut Reached,
     word: u32,
 ) -> Result<Option<u32>, ScanFault>
     requires bucket { bucket < table_length }
     requires agrees { ForSome (F.told f.old).files (Agrees files.now) }
+    requires records { ForSome (F.told f.old).files (λ image. AreRecordsOf image records.now) }
     requires met { AreReached reached.old }
     ensures met { OnOk result (AreReached reached.new) }
     ensures step { IfOk result (λ next. ForSome (F.told f.old).files (λ image. IsReach (store_of image) bucket (words_of reached.old) word (words_of reached.new) next)) }
@@ -222,7 +241,7 @@ fn reach<F: Folder>(
     if reached.has(addr) {
         return Ok(None);
     }
-    let said = read_record(f, files, addr)?;
+    let said = record_of(f, files, records, addr)?;
     if !said.checks {
         return Ok(None);
     }

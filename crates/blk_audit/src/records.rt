@@ -23,7 +23,7 @@ pub(crate) struct Entry {
 }
 
 // What a record with these bytes says.
-fn said(window: &[u8]) -> Entry
+pub(crate) fn said(window: &[u8]) -> Entry
     requires { length window.now ≡ 96 }
     ensures { result ≡ entry_said window.now }
 {

@@ -1,5 +1,6 @@
 // The walk and the chains of a small folder in memory that tells nothing.
-use crate::{Walked, chains, walk};
+use crate::{Walked, chains, read_lists, walk};
+use blk_addr::Claims;
 use blk_disk::BlockFiles;
 use blk_io::{Failed, FileId, Folder, MemFolder, SilentFolder, StopFolder, write_word};
 use std::alloc::Global;
@@ -86,22 +87,37 @@ fn a_chain_ends_before_another_bucket_and_before_a_met_record(rt: HostRuntime) -
     chain(&mut f, 1, 0x1_0005, c)?;
     chain(&mut f, 2, 6, 0)?;
     let files = BlockFiles::load(&mut f)?;
+    let named = Claims::new(rt.alloc());
     let start = f.calls();
-    match chains(rt.alloc(), &mut f, &files) {
+    match chains(rt.alloc(), &mut f, &files, &named) {
         Ok(reached) => assert_eq!(rt;
             (reached.count(), reached.at(1).map(|w| w.word())),
             (2, Some(b))
         ),
         Err(_) => panic!(rt; "they are followed"),
     }
-    assert_eq!(rt; f.calls().wrapping_sub(start), 67);
+    assert_eq!(rt; f.calls().wrapping_sub(start), 68);
     chain(&mut f, 2, 5, a)?;
-    match chains(rt.alloc(), &mut f, &files) {
-        Ok(reached) => assert_eq!(rt;
-            (reached.count(), reached.at(2).map(|w| w.word())),
-            (3, Some(c))
+    let first = 0x9000_0000;
+    write_word(&mut f, FileId::Index, 288, first)?;
+    link(&mut f, 0, first + 1, first)?;
+    link(&mut f, 1, first + 2, first)?;
+    link(&mut f, 2, first + 2, first + 1)?;
+    write_word(&mut f, FileId::Block(0), 8192 + 24, a)?;
+    write_word(&mut f, FileId::Block(0), 8192 + 36 + 24, b)?;
+    write_word(&mut f, FileId::Block(0), 8192 + 72 + 24, c)?;
+    let start = f.calls();
+    match read_lists(rt.alloc(), &mut f, &files) {
+        Ok(lists) => assert_eq!(rt;
+            (
+                lists.walked.count(),
+                lists.reached.count(),
+                lists.reached.at(2).map(|w| w.word())
+            ),
+            (3, 3, Some(c))
         ),
-        Err(_) => panic!(rt; "they are followed"),
+        Err(_) => panic!(rt; "they are read"),
     }
+    assert_eq!(rt; f.calls().wrapping_sub(start), 68);
     Ok(())
 }

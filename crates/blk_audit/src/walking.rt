@@ -6,10 +6,12 @@ ghost use Rattle.blk_audit.specs.Faults.{IfScanDamaged, IfScanDevice, IsWalkDama
 ghost use Rattle.blk_format.specs.Headers.{HasWholeIndex};
 ghost use Rattle.blk_volume.specs.ListImages.{completed_walk};
 ghost use Rattle.blk_disk.specs.Tables.{Agrees};
+ghost use Rattle.blk_audit.specs.Nodes.{AreNodesOf};
 ghost use Rattle.blk_audit.specs.Walking.{AreMet, nodes_of};
 
 use crate::fault::ScanFault;
 use crate::list_walk::{Walked, walk_nodes};
+use crate::nodes::Nodes;
 use crate::reading::read_nodes;
 use blk_disk::BlockFiles;
 use blk_index::word;
@@ -22,8 +24,8 @@ const HEAD: u32 = 288;
 
 /// Walks the use list of a folder as it is once its operation in flight is completed. Nothing is written.
 ///
-/// Two calls read the head and the operation, at most six its nodes, and one each 1024 nodes of a file; what a node says
-/// takes 20 bytes. A damage is a read that gave too few bytes, or a node of the operation that does not check; a
+/// One call reads 1024 nodes of a file, of which each takes 20 bytes, one the head, and at most seven the operation
+/// in flight and its nodes. A damage is a read that gave too few bytes, or a node of the operation that does not check; a
 /// folder whose files are those of `files` gives none. `Device` comes only where the folder failed in this call.
 pub fn walk<F: Folder>(alloc: Global, f: &mut F, files: &BlockFiles) -> Result<Walked, ScanFault>
     requires complete { ForSome (F.told f.old).files HasWholeIndex }
@@ -39,9 +41,30 @@ pub fn walk<F: Folder>(alloc: Global, f: &mut F, files: &BlockFiles) -> Result<W
     ensures later { F.faults f.old ≤ F.faults f.new }
     ensures device { IfScanDevice result (Rises (F.faults f.old) (F.faults f.new)) }
 {
+    let nodes = read_nodes(alloc, f, files)?;
+    walk_over(alloc, f, files, &nodes)
+}
+
+// Walks `nodes`, the nodes of the folder, as completing the operation in flight would link them.
+pub(crate) fn walk_over<F: Folder>(
+    alloc: Global,
+    f: &mut F,
+    files: &BlockFiles,
+    nodes: &Nodes,
+) -> Result<Walked, ScanFault>
+    requires complete { ForSome (F.told f.old).files HasWholeIndex }
+    requires agrees { ForSome (F.told f.old).files (Agrees files.now) }
+    requires nodes { ForSome (F.told f.old).files (λ image. AreNodesOf image nodes.now) }
+    ensures walked { IfOk result (λ walked. ForSome (F.told f.old).files (λ image. nodes_of walked ≡ completed_walk image)) }
+    ensures met { IfOk result AreMet }
+    ensures stays { Stays (F.told f.old) (F.told f.new) }
+    ensures damaged { IfScanDamaged result (IsWalkDamage files.now (F.told f.new)) }
+    ensures untold { IfScanDamaged result (λ _. (F.told f.old).files ≡ None) }
+    ensures later { F.faults f.old ≤ F.faults f.new }
+    ensures device { IfScanDevice result (Rises (F.faults f.old) (F.faults f.new)) }
+{
     let head = word(f, HEAD)?;
     let plan = pending(f, files)?;
-    let nodes = read_nodes(alloc, f, files)?;
-    let walked = walk_nodes(alloc, &nodes, head, plan.as_slice())?;
+    let walked = walk_nodes(alloc, nodes, head, plan.as_slice())?;
     Ok(walked)
 }

@@ -1,6 +1,8 @@
 use Rattle.std.proofs.Common.{◌≡◌, ℕ, suc, ◌+◌, ◌-◌, Option, refl, subst, ◌∙◌, arith}
 use Rattle.blk_volume.specs.View.{store_of}
 use Rattle.blk_disk.specs.Tables.{Agrees}
+use Rattle.blk_audit.specs.Records.{AreRecordsOf}
+use Rattle.blk_image.specs.Image.{Image}
 use Rattle.blk_lru.proofs.Conditions.{told_now, told_stays}
 use Rattle.blk_audit.specs.Chaining.{IsReach}
 use Rattle.blk_audit.proofs.Chained.{begins, goes_on, ends, is_full}
@@ -40,3 +42,6 @@ pub returns-clause-reached : goal.returns-clause-reached
 returns-clause-reached g c image there =
     let e : 16777216 - c.loop-i.i ≡ 0 = omega (arith, c.loop-i-test.false) in
     is_full (store_of image) c.args.bucket c.args.reached.now.words.items c.loop-i.reached.words.items c.args.start (16777216 - c.loop-i.i) c.loop-i.word e (c.loop-i.invariant.followed image there)
+
+pub reach-requires-clause-records : goal.reach-requires-clause-records
+reach-requires-clause-records g c = told_stays (λ (image : Image). AreRecordsOf image c.args.records.now) c.loop-i.invariant.stays c.requires.records

@@ -3,6 +3,8 @@ use Rattle.std.specs.Prelude.{slice_index}
 use Rattle.blk_volume.specs.Chains.{chain, chain_from, most_records}
 use Rattle.blk_volume.specs.View.{StoreView, store_of}
 use Rattle.blk_disk.specs.Tables.{Agrees}
+use Rattle.blk_audit.specs.Records.{AreRecordsOf}
+use Rattle.blk_image.specs.Image.{Image}
 use Rattle.blk_lru.proofs.Conditions.{told_before, told_now, told_stays}
 use Rattle.blk_audit.specs.Chaining.{AreOfFirst, reached_by, words_of}
 use Rattle.blk_audit.proofs.Chained.{first_of_all}
@@ -38,3 +40,6 @@ loop-i-preserved g c = record {
   stays = c.in_ok-follow.ensures.stays ∙ c.loop-i.invariant.stays;
   later = omega (arith, c.in_ok-follow.ensures.later, c.loop-i.invariant.later);
 }
+
+pub follow-requires-clause-records : goal.follow-requires-clause-records
+follow-requires-clause-records g c = told_stays (λ (image : Image). AreRecordsOf image c.args.records.now) c.loop-i.invariant.stays c.requires.records

@@ -30,8 +30,8 @@ returns-then-has-clause-step g c image there =
 
 pub returns-in_err-said-clause-untold : goal.returns-in_err-said-clause-untold
 returns-in_err-said-clause-untold g c =
-    converted c.read_record.result c.from_residual.result c.in_err-said.field-0.0 _ c.in_err-said.was c.from_residual.ensures.1
-    (c.read_record.ensures.untold (told_stays (Agrees c.args.files.now) c.read_record.ensures.stays c.requires.agrees))
+    converted c.record_of.result c.from_residual.result c.in_err-said.field-0.0 _ c.in_err-said.was c.from_residual.ensures.1
+    (c.record_of.ensures.untold (told_stays (Agrees c.args.files.now) c.record_of.ensures.stays c.requires.agrees))
 
 pub returns-then-not-said-clause-step : goal.returns-then-not-said-clause-step
 returns-then-not-said-clause-step g c image there =

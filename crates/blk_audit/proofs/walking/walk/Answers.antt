@@ -1,20 +1,6 @@
-use Rattle.std.proofs.Common.{map, ap, ◌∙◌}
 use Rattle.blk_disk.specs.Tables.{Agrees}
-use Rattle.blk_volume.specs.View.{list_of}
-use Rattle.blk_lru.specs.Writes.{meant}
-use Rattle.blk_lru.proofs.Conditions.{told_now, told_stays}
+use Rattle.blk_lru.proofs.Conditions.{told_stays}
 use Rattle.blk_audit.proofs.walking.walk.Goals as goal
 
-pub pending-requires-clause-agrees : goal.pending-requires-clause-agrees
-pending-requires-clause-agrees g c = told_stays (Agrees c.args.files.now) c.in_ok-head.ensures.stays c.requires.agrees
-
-pub read_nodes-requires : goal.read_nodes-requires
-read_nodes-requires g c = record { agrees = told_stays (Agrees c.args.files.now) (c.in_ok-plan.ensures.stays ∙ c.in_ok-head.ensures.stays) c.requires.agrees }
-
-pub returns-clause-walked : goal.returns-clause-walked
-unfolding list_of
-returns-clause-walked g c image there =
-    c.in_ok-walked.ensures.completed image
-    (c.in_ok-nodes.ensures.nodes image (told_now image (c.in_ok-plan.ensures.stays ∙ c.in_ok-head.ensures.stays) there))
-    (c.in_ok-head.ensures.word image there)
-    (ap (map meant) c.as_slice.ensures.value ∙ c.in_ok-plan.ensures.plan image (told_now image c.in_ok-head.ensures.stays there))
+pub walk_over-requires-clause-agrees : goal.walk_over-requires-clause-agrees
+walk_over-requires-clause-agrees g c = told_stays (Agrees c.args.files.now) c.in_ok-nodes.ensures.stays c.requires.agrees

@@ -1,0 +1,12 @@
+use Rattle.std.proofs.Common.{◌≤◌}
+use Rattle.std.specs.Option.{ForSome}
+use Rattle.blk_image.specs.Told.{Stays}
+use Rattle.blk_audit.specs.Records.{AreRecordsOf}
+use Rattle.blk_audit.proofs.record_files.read_records.Given as goal
+
+abbrev pub invariant-loop-n : goal.invariant-loop-n
+invariant-loop-n g l = record {
+  records : ForSome (g.F.Folder.told l.fn.f).files (λ image. AreRecordsOf image l.records);
+  stays : Stays (g.F.Folder.told l.fn.f) (g.F.Folder.told l.f);
+  later : g.F.Folder.faults l.fn.f ≤ g.F.Folder.faults l.f;
+}

@@ -1,0 +1,213 @@
+// Records that are read many by one folder call.
+ghost use Rattle.std.specs.Prelude.{◌≡◌, ◌+◌, ◌*◌, ◌≤◌, ◌<◌, IfOk, IfSome, IsTrue, OnOk, None, length, slice_get, All};
+ghost use Rattle.std.specs.Option.{ForSome};
+ghost use Rattle.blk_image.specs.Bytes.{range_at};
+ghost use Rattle.blk_image.specs.Image.{AreBytes, Block as block, HasRange, Image, byte};
+ghost use Rattle.blk_image.specs.Told.{Rises, Stays};
+ghost use Rattle.blk_format.specs.Address.{blocks_256, kind_of};
+ghost use Rattle.blk_io.specs.Faults.{IfDamaged, IfDevice};
+ghost use Rattle.blk_disk.specs.Tables.{Agrees, stands_among};
+ghost use Rattle.blk_audit.specs.Faults.{IfScanDamaged, IfScanDevice, IsRecordDamage, IsRecordsDamage};
+ghost use Rattle.blk_audit.specs.Records.{AreRecordsOf, IsEntryOf};
+
+use crate::fault::ScanFault;
+use crate::records::{Entry, first_of_record, read_record, said};
+use blk_addr::{Addr, Claims, Kind, NoMemory};
+use blk_disk::BlockFiles;
+use blk_io::{Fault, FileId, Folder, read_exact};
+use blk_record::{BlockHead, EntryView, Record};
+use std::alloc::Global;
+
+// The blocks of 256 bytes that one call reads: whole groups of four, so that a record never lies in two pieces.
+const BLOCKS_OF_PIECE: u32 = 128;
+
+// The pieces of a file with the most blocks.
+const PIECES: u32 = 512;
+
+const BLOCK: usize = 256;
+
+const PIECE: usize = 32_768;
+
+// A record that was read, with the address of its first block.
+#[derive(Clone, Copy, Debug)]
+pub(crate) struct Placed {
+    pub(crate) first: Addr,
+    pub(crate) entry: Entry,
+}
+
+// The records that were read in pieces, by rising first block.
+#[derive(Drop)]
+pub(crate) struct Records {
+    placed: Vec<Placed>,
+}
+
+impl Records {
+    // The record of an address, if it was read in a piece.
+    fn get(&self, addr: Addr) -> Option<Entry>
+        requires kind { kind_of addr ≡ blocks_256 }
+        ensures { (image : Image) → AreRecordsOf image self.now → IfSome result (IsEntryOf image addr) }
+    {
+        let first = first_of_record(addr);
+        let Some(placed) = self.at(self.place_of(first.word())) else {
+            return None;
+        };
+        if placed.first.word() == first.word() {
+            Some(placed.entry)
+        } else {
+            None
+        }
+    }
+
+    // One of the records that were read.
+    fn at(&self, i: usize) -> Option<Placed>
+        ensures { result ≡ slice_get self.now.placed.items i }
+    {
+        self.placed.get(i).copied()
+    }
+
+    // The place of a first block among those of the records, or where it would stand.
+    fn place_of(&self, first: u32) -> usize {
+        let mut low = 0;
+        let mut high = self.placed.len();
+        while low < high {
+            let middle = low + (high - low) / 2;
+            if self.placed[middle].first.word() < first {
+                low = middle + 1;
+            } else {
+                high = middle;
+            }
+        }
+        low
+    }
+
+    // Adds the records of a piece of a file whose first blocks have a claim.
+    fn add_piece(
+        &mut self,
+        named: &Claims,
+        file: u8,
+        first: u32,
+        bytes: &[u8],
+    ) -> Result<(), NoMemory>
+        requires inside { first + 128 ≤ 65536 }
+        requires size { length bytes.now ≡ 32768 }
+        ensures { OnOk result ((image : Image) → AreBytes image → bytes.now ≡ range_at (byte image (block file)) (8192 + first * 256) 32768 → AreRecordsOf image self.old → AreRecordsOf image self.new) }
+    {
+        for i in 0..BLOCKS_OF_PIECE {
+            let at = BLOCK * i as usize;
+            self.add(named, file, first + i, &bytes[at..at + EntryView::SIZE])?;
+        }
+        Ok(())
+    }
+
+    // Adds the record that begins with a block of a file and these bytes, where the block has a claim.
+    fn add(&mut self, named: &Claims, file: u8, start: u32, window: &[u8]) -> Result<(), NoMemory>
+        requires small { start < 65536 }
+        requires size { length window.now ≡ 96 }
+        ensures { OnOk result ((image : Image) → AreBytes image → window.now ≡ range_at (byte image (block file)) (8192 + start * 256) 96 → AreRecordsOf image self.old → AreRecordsOf image self.new) }
+    {
+        if !named.has_block(file, start) {
+            return Ok(());
+        }
+        let first = Addr::of_blocks(Kind::B256, file, start, 1);
+        let entry = said(window);
+        self.placed.push(Placed { first, entry })?;
+        Ok(())
+    }
+
+    // Reads a piece of a file that lies in it, by one folder call, and adds its records.
+    fn read_piece<F: Folder>(
+        &mut self,
+        f: &mut F,
+        named: &Claims,
+        file: u8,
+        first: u32,
+    ) -> Result<(), ScanFault>
+        requires inside { first + 128 ≤ 65536 }
+        ensures records { OnOk result (ForSome (F.told f.old).files (λ image. AreRecordsOf image self.old → AreRecordsOf image self.new)) }
+        ensures stays { Stays (F.told f.old) (F.told f.new) }
+        ensures damaged { IfScanDamaged result (IsRecordsDamage (F.told f.new)) }
+        ensures untold { ForSome (F.told f.new).files (λ image. HasRange image (block file) (8192 + first * 256) 32768) → IfScanDamaged result (λ _. (F.told f.new).files ≡ None) }
+        ensures later { F.faults f.old ≤ F.faults f.new }
+        ensures device { IfScanDevice result (Rises (F.faults f.old) (F.faults f.new)) }
+    {
+        let mut bytes = [0u8; PIECE];
+        let at = BlockHead::HEADER_LEN + u64::from(first) * BLOCK as u64;
+        read_exact(f, FileId::Block(file), at, &mut bytes)?;
+        self.add_piece(named, file, first, &bytes)?;
+        Ok(())
+    }
+
+    // Reads the pieces of a file, up to the first that does not lie in it.
+    fn read_file<F: Folder>(
+        &mut self,
+        f: &mut F,
+        files: &BlockFiles,
+        named: &Claims,
+        file: u8,
+    ) -> Result<(), ScanFault>
+        requires agrees { ForSome (F.told f.old).files (Agrees files.now) }
+        ensures records { OnOk result (ForSome (F.told f.old).files (λ image. AreRecordsOf image self.old → AreRecordsOf image self.new)) }
+        ensures stays { Stays (F.told f.old) (F.told f.new) }
+        ensures damaged { IfScanDamaged result (IsRecordsDamage (F.told f.new)) }
+        ensures untold { IfScanDamaged result (λ _. (F.told f.new).files ≡ None) }
+        ensures later { F.faults f.old ≤ F.faults f.new }
+        ensures device { IfScanDevice result (Rises (F.faults f.old) (F.faults f.new)) }
+    {
+        for piece in 0..PIECES {
+            let first = piece * BLOCKS_OF_PIECE;
+            let last = Addr::of_blocks(Kind::B256, file, first + BLOCKS_OF_PIECE - 1, 1);
+            if !files.stands(last) {
+                return Ok(());
+            }
+            self.read_piece(f, named, file, first)?;
+        }
+        Ok(())
+    }
+}
+
+// Reads the records whose first blocks have a claim, file after file and each file in pieces.
+pub(crate) fn read_records<F: Folder>(
+    alloc: Global,
+    f: &mut F,
+    files: &BlockFiles,
+    named: &Claims,
+) -> Result<Records, ScanFault>
+    requires agrees { ForSome (F.told f.old).files (Agrees files.now) }
+    ensures records { IfOk result (λ records. ForSome (F.told f.old).files (λ image. AreRecordsOf image records)) }
+    ensures stays { Stays (F.told f.old) (F.told f.new) }
+    ensures damaged { IfScanDamaged result (IsRecordsDamage (F.told f.new)) }
+    ensures untold { IfScanDamaged result (λ _. (F.told f.new).files ≡ None) }
+    ensures later { F.faults f.old ≤ F.faults f.new }
+    ensures device { IfScanDevice result (Rises (F.faults f.old) (F.faults f.new)) }
+{
+    let mut records = Records {
+        placed: Vec::new(alloc),
+    };
+    for n in 0..256u32 {
+        records.read_file(f, files, named, n as u8)?;
+    }
+    Ok(records)
+}
+
+// The record of an address that stands: it was read in a piece, or is read by one folder call.
+pub(crate) fn record_of<F: Folder>(
+    f: &mut F,
+    files: &BlockFiles,
+    records: &Records,
+    addr: Addr,
+) -> Result<Entry, Fault>
+    requires kind { kind_of addr ≡ blocks_256 }
+    requires stands { IsTrue (stands_among files.now addr) }
+    requires records { ForSome (F.told f.old).files (λ image. AreRecordsOf image records.now) }
+    ensures said { IfOk result (λ said. ForSome (F.told f.old).files (λ image. IsEntryOf image addr said)) }
+    ensures stays { Stays (F.told f.old) (F.told f.new) }
+    ensures damaged { IfDamaged result (IsRecordDamage files.now (F.told f.new)) }
+    ensures untold { ForSome (F.told f.new).files (Agrees files.now) → IfDamaged result (λ _. (F.told f.new).files ≡ None) }
+    ensures later { F.faults f.old ≤ F.faults f.new }
+    ensures device { IfDevice result (Rises (F.faults f.old) (F.faults f.new)) }
+{
+    match records.get(addr) {
+        Some(entry) => Ok(entry),
+        None => read_record(f, files, addr),
+    }
+}

@@ -1,0 +1,90 @@
+// The use list and the chains of a folder, read together.
+ghost use Rattle.std.specs.Prelude.{◌≡◌, ◌≤◌, ◌⊎◌, None, IfOk, IfSome};
+ghost use Rattle.std.specs.Option.{ForSome};
+ghost use Rattle.blk_image.specs.Told.{Rises, Stays};
+ghost use Rattle.blk_format.specs.Address.{blocks_256, kind_of};
+ghost use Rattle.blk_format.specs.Headers.{HasWholeIndex, table_length};
+ghost use Rattle.blk_volume.specs.ListImages.{completed_walk};
+ghost use Rattle.blk_volume.specs.View.{store_of};
+ghost use Rattle.blk_disk.specs.Tables.{Agrees};
+ghost use Rattle.blk_audit.specs.Chaining.{reached_by, words_of};
+ghost use Rattle.blk_audit.specs.Faults.{IfScanDamaged, IfScanDevice, IsListsDamage};
+ghost use Rattle.blk_audit.specs.Walking.{nodes_of};
+
+use crate::fault::ScanFault;
+use crate::list_walk::Walked;
+use crate::nodes::Nodes;
+use crate::reaching::{Reached, chains};
+use crate::reading::read_nodes;
+use crate::records::first_of_record;
+use crate::walking::walk_over;
+use blk_addr::{Addr, Claims, Kind, NoMemory};
+use blk_disk::BlockFiles;
+use blk_io::Folder;
+use std::alloc::Global;
+
+/// The walked nodes and the reached records of a folder.
+#[derive(Drop)]
+pub struct Lists {
+    /// The nodes of the use list.
+    pub walked: Walked,
+    /// The records of the chains.
+    pub reached: Reached,
+}
+
+/// Walks the use list of a folder, as it is once its operation in flight is completed, and follows its chains. Nothing
+/// is written.
+///
+/// On a folder where each reached record is that of a walked node, no call is made for a node or a record alone, but
+/// for those of the operation in flight and for records in a file that is too short for its blocks. A damage is a read
+/// that gave too few bytes, or a node of the operation that does not check; a folder whose files are those of `files`
+/// gives none. `Device` comes only where the folder failed in this call.
+pub fn read_lists<F: Folder>(
+    alloc: Global,
+    f: &mut F,
+    files: &BlockFiles,
+) -> Result<Lists, ScanFault>
+    requires complete { ForSome (F.told f.old).files HasWholeIndex }
+    requires agrees { ForSome (F.told f.old).files (Agrees files.now) }
+    ensures walked { IfOk result (λ lists. ForSome (F.told f.old).files (λ image. nodes_of lists.walked ≡ completed_walk image)) }
+    ensures reached { IfOk result (λ lists. ForSome (F.told f.old).files (λ image. words_of lists.reached ≡ reached_by (store_of image) table_length)) }
+    ensures stays { Stays (F.told f.old) (F.told f.new) }
+
+    // A folder that tells its files never gives a damage.
+    ensures damaged { IfScanDamaged result (IsListsDamage files.now (F.told f.new)) }
+    ensures untold { IfScanDamaged result (λ _. (F.told f.old).files ≡ None) }
+
+    ensures later { F.faults f.old ≤ F.faults f.new }
+    ensures device { IfScanDevice result (Rises (F.faults f.old) (F.faults f.new)) }
+{
+    let nodes = read_nodes(alloc, f, files)?;
+    let walked = walk_over(alloc, f, files, &nodes)?;
+    let named = named_by(alloc, &nodes, &walked)?;
+    let reached = chains(alloc, f, files, &named)?;
+    Ok(Lists { walked, reached })
+}
+
+// The first blocks of the records that the walked nodes name.
+fn named_by(alloc: Global, nodes: &Nodes, walked: &Walked) -> Result<Claims, NoMemory> {
+    let mut named = Claims::new(alloc);
+    for i in 0..walked.count() {
+        if let Some(entry) = contents_of(nodes, walked, i) {
+            named.add(first_of_record(entry))?;
+        }
+    }
+    Ok(named)
+}
+
+// The address of a record that one of the walked nodes names.
+fn contents_of(nodes: &Nodes, walked: &Walked, i: usize) -> Option<Addr>
+    ensures kind { IfSome result (λ addr. kind_of addr ≡ blocks_256) }
+{
+    let node = walked.at(i)?;
+    let said = nodes.get(node)?;
+    let entry = Addr::from_word(said.contents)?;
+    if entry.kind() == Kind::B256 {
+        Some(entry)
+    } else {
+        None
+    }
+}
