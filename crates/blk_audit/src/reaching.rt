@@ -6,6 +6,7 @@ ghost use Rattle.blk_format.specs.Address.{blocks_256, kind_of};
 ghost use Rattle.blk_format.specs.Headers.{HasWholeIndex, table_length};
 ghost use Rattle.blk_volume.specs.View.{store_of};
 ghost use Rattle.blk_volume.specs.Chains.{chain_from, most_records};
+ghost use Rattle.blk_disk.specs.Open.{IsOpen};
 ghost use Rattle.blk_disk.specs.Tables.{Agrees};
 ghost use Rattle.blk_index.specs.Table.{AreBuckets};
 ghost use Rattle.blk_audit.specs.Faults.{IfScanDamaged, IfScanDevice, IsChainsDamage, IsRecordDamage};
@@ -100,8 +101,7 @@ pub fn chains<F: Folder>(
     files: &BlockFiles,
     named: &Claims,
 ) -> Result<Reached, ScanFault>
-    requires complete { ForSome (F.told f.old).files HasWholeIndex }
-    requires agrees { ForSome (F.told f.old).files (Agrees files.now) }
+    requires is_open { ForSome (F.told f.old).files (IsOpen files.now) }
     ensures reached { IfOk result (λ reached. ForSome (F.told f.old).files (λ image. words_of reached ≡ reached_by (store_of image) table_length)) }
     ensures met { IfOk result AreReached }
     ensures stays { Stays (F.told f.old) (F.told f.new) }

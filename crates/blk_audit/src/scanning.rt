@@ -6,7 +6,7 @@ ghost use Rattle.blk_format.specs.Address.{blocks_256, kind_of};
 ghost use Rattle.blk_format.specs.Headers.{HasWholeIndex, table_length};
 ghost use Rattle.blk_volume.specs.ListImages.{completed_walk};
 ghost use Rattle.blk_volume.specs.View.{store_of};
-ghost use Rattle.blk_disk.specs.Tables.{Agrees};
+ghost use Rattle.blk_disk.specs.Open.{IsOpen};
 ghost use Rattle.blk_audit.specs.Chaining.{reached_by, words_of};
 ghost use Rattle.blk_audit.specs.Faults.{IfScanDamaged, IfScanDevice, IsListsDamage};
 ghost use Rattle.blk_audit.specs.Walking.{nodes_of};
@@ -44,8 +44,7 @@ pub fn read_lists<F: Folder>(
     f: &mut F,
     files: &BlockFiles,
 ) -> Result<Lists, ScanFault>
-    requires complete { ForSome (F.told f.old).files HasWholeIndex }
-    requires agrees { ForSome (F.told f.old).files (Agrees files.now) }
+    requires is_open { ForSome (F.told f.old).files (IsOpen files.now) }
     ensures walked { IfOk result (λ lists. ForSome (F.told f.old).files (λ image. nodes_of lists.walked ≡ completed_walk image)) }
     ensures reached { IfOk result (λ lists. ForSome (F.told f.old).files (λ image. words_of lists.reached ≡ reached_by (store_of image) table_length)) }
     ensures stays { Stays (F.told f.old) (F.told f.new) }

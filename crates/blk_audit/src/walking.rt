@@ -3,9 +3,8 @@ ghost use Rattle.std.specs.Prelude.{◌≡◌, ◌≤◌, None, IfOk};
 ghost use Rattle.std.specs.Option.{ForSome};
 ghost use Rattle.blk_image.specs.Told.{Rises, Stays};
 ghost use Rattle.blk_audit.specs.Faults.{IfScanDamaged, IfScanDevice, IsWalkDamage};
-ghost use Rattle.blk_format.specs.Headers.{HasWholeIndex};
 ghost use Rattle.blk_volume.specs.ListImages.{completed_walk};
-ghost use Rattle.blk_disk.specs.Tables.{Agrees};
+ghost use Rattle.blk_disk.specs.Open.{IsOpen};
 ghost use Rattle.blk_audit.specs.Nodes.{AreNodesOf};
 ghost use Rattle.blk_audit.specs.Walking.{AreMet, nodes_of};
 
@@ -17,10 +16,8 @@ use blk_disk::BlockFiles;
 use blk_index::word;
 use blk_io::Folder;
 use blk_lru::pending;
+use blk_record::IndexHead;
 use std::alloc::Global;
-
-// The place of the head in the index.
-const HEAD: u32 = 288;
 
 /// Walks the use list of a folder as it is once its operation in flight is completed. Nothing is written.
 ///
@@ -28,8 +25,7 @@ const HEAD: u32 = 288;
 /// in flight and its nodes. A damage is a read that gave too few bytes, or a node of the operation that does not check; a
 /// folder whose files are those of `files` gives none. `Device` comes only where the folder failed in this call.
 pub fn walk<F: Folder>(alloc: Global, f: &mut F, files: &BlockFiles) -> Result<Walked, ScanFault>
-    requires complete { ForSome (F.told f.old).files HasWholeIndex }
-    requires agrees { ForSome (F.told f.old).files (Agrees files.now) }
+    requires is_open { ForSome (F.told f.old).files (IsOpen files.now) }
     ensures walked { IfOk result (λ walked. ForSome (F.told f.old).files (λ image. nodes_of walked ≡ completed_walk image)) }
     ensures met { IfOk result AreMet }
     ensures stays { Stays (F.told f.old) (F.told f.new) }
@@ -52,8 +48,7 @@ pub(crate) fn walk_over<F: Folder>(
     files: &BlockFiles,
     nodes: &Nodes,
 ) -> Result<Walked, ScanFault>
-    requires complete { ForSome (F.told f.old).files HasWholeIndex }
-    requires agrees { ForSome (F.told f.old).files (Agrees files.now) }
+    requires is_open { ForSome (F.told f.old).files (IsOpen files.now) }
     requires nodes { ForSome (F.told f.old).files (λ image. AreNodesOf image nodes.now) }
     ensures walked { IfOk result (λ walked. ForSome (F.told f.old).files (λ image. nodes_of walked ≡ completed_walk image)) }
     ensures met { IfOk result AreMet }
@@ -63,7 +58,7 @@ pub(crate) fn walk_over<F: Folder>(
     ensures later { F.faults f.old ≤ F.faults f.new }
     ensures device { IfScanDevice result (Rises (F.faults f.old) (F.faults f.new)) }
 {
-    let head = word(f, HEAD)?;
+    let head = word(f, IndexHead::HEADS)?;
     let plan = pending(f, files)?;
     let walked = walk_nodes(alloc, nodes, head, plan.as_slice())?;
     Ok(walked)

@@ -1,10 +1,13 @@
 use Rattle.std.proofs.Common.{◌∙◌}
-use Rattle.blk_disk.specs.Tables.{Agrees}
+use Rattle.blk_disk.specs.Open.{IsOpen}
 use Rattle.blk_lru.proofs.Conditions.{told_stays}
 use Rattle.blk_audit.proofs.scanning.read_lists.Goals as goal
 
-pub walk_over-requires-clause-agrees : goal.walk_over-requires-clause-agrees
-walk_over-requires-clause-agrees g c = told_stays (Agrees c.args.files.now) c.in_ok-nodes.ensures.stays c.requires.agrees
+pub read_nodes-requires : goal.read_nodes-requires
+read_nodes-requires g c = record { agrees = λ image there. (c.requires.is_open image there).agrees }
 
-pub chains-requires-clause-agrees : goal.chains-requires-clause-agrees
-chains-requires-clause-agrees g c = told_stays (Agrees c.args.files.now) (c.in_ok-walked.ensures.stays ∙ c.in_ok-nodes.ensures.stays) c.requires.agrees
+pub walk_over-requires-clause-is_open : goal.walk_over-requires-clause-is_open
+walk_over-requires-clause-is_open g c = told_stays (IsOpen c.args.files.now) c.in_ok-nodes.ensures.stays c.requires.is_open
+
+pub chains-requires : goal.chains-requires
+chains-requires g c = record { is_open = told_stays (IsOpen c.args.files.now) (c.in_ok-walked.ensures.stays ∙ c.in_ok-nodes.ensures.stays) c.requires.is_open }
