@@ -1,5 +1,5 @@
 -- Texts of numbers: printed by their bytes, and parsed.
-use Rattle.std.proofs.Common.{◌≡◌, ℕ, zero, suc, ◌+◌, ◌-◌, ◌*◌, ◌/◌, ◌%◌, ◌^◌, ◌<◌, ◌≤◌, List, [], ◌∷◌, ◌++◌, drop, map, true, false, Result, Ok, refl, sym, ap, ap₂, subst, ◌∙◌, arith, min, inl, inr}
+use Rattle.std.proofs.Common.{◌≡◌, ℕ, zero, suc, ◌+◌, ◌-◌, ◌*◌, ◌/◌, ◌%◌, ◌^◌, ◌<◌, ◌≤◌, List, [], ◌∷◌, ◌++◌, length, drop, replicate, map, true, false, Result, Ok, refl, sym, ap, ap₂, subst, ◌∙◌, arith, min, inl, inr}
 use Rattle.std.specs.Prelude.{◌==◌, slice_index}
 use Rattle.std.specs.Char.{digit_value}
 use Rattle.std.specs.Fmt.{digits, digit_glyph}
@@ -14,7 +14,7 @@ use Rattle.std.proofs.lemmas.Bool.Decides.{nat_tests}
 use Rattle.std.proofs.lemmas.Fmt.{digits_is_IsNumeral}
 use Rattle.std.proofs.lemmas.List.{map-append}
 use Rattle.std.proofs.lemmas.Nat.{pow-add, mul-pow, leading_top}
-use Rattle.std.proofs.Math.Nat.{pow-suc, pow-zero, div-div-eq-div-mul}
+use Rattle.std.proofs.Math.Nat.{pow-suc, pow-zero, div-div-eq-div-mul, div-eq_of_lt}
 use Rattle.std.proofs.Math.Pow.{pow_mono}
 use Rattle.std.proofs.lemmas.Str.Ascii.{IsAscii-nil, IsAscii-cons}
 use Rattle.std.proofs.lemmas.Str.Parse.{without_leading_plus_none}
@@ -95,6 +95,58 @@ behind-digits zero m n = ap (λ (j : ℕ). digits_high j n) (zero-plus m)
 behind-digits (suc z) m n =
     let next : suc z + m ≡ suc (z + m) = omega arith in
     ap (λ (j : ℕ). drop (suc z) (digits_high j n)) next ∙ behind-digits z m n
+
+length-digits_high : (k n : ℕ) → length (digits_high k n) ≡ k
+length-digits_high zero n = refl
+length-digits_high (suc k) n = ap suc (length-digits_high k n)
+
+-- the digits of a number that has so many
+digits_high-own : (k n : ℕ) → 16 ^ k ≤ n → n < 16 ^ suc k → n < 2 ^ 64 → digits_high (suc k) n ≡ hexadecimal n
+digits_high-own k n enough few fits = own-digits (suc k) n (omega (arith, powers k, enough)) few (omega (arith, enough, pow-suc 16 k)) ∙ sym (text-of n fits (omega (arith, powers k, enough)))
+
+pub digits-many : (k n : ℕ) → 16 ^ k ≤ n → n < 16 ^ suc k → n < 2 ^ 64 → length (hexadecimal n) ≡ suc k
+digits-many k n enough few fits = ap length (sym (digits_high-own k n enough few fits)) ∙ length-digits_high (suc k) n
+
+-- the digits that a number has, and zeros before them
+digits_high-of : (k n : ℕ) → 0 < n → n < 16 ^ k → n < 2 ^ 64 → (digits_high k n ≡ replicate (k - length (hexadecimal n)) 48 ++ hexadecimal n) × (length (hexadecimal n) ≤ k)
+digits_high-of zero n some few fits = absurd (omega (arith, pow-zero 16))
+digits_high-of (suc k) n some few fits = elim (cases_lt n (16 ^ k)) [
+  | inl fewer ↦
+      let before = digits_high-of k n some fewer fits in
+      let none : n / 16 ^ k ≡ 0 = div-eq_of_lt fewer in
+      let one_more : suc k - length (hexadecimal n) ≡ suc (k - length (hexadecimal n)) = omega (arith, before.1) in
+      (ap₂ (λ (d : ℕ) (l : List ℕ). digit_glyph false (d % 16) ∷ l) none before.0 ∙ ap (λ (z : ℕ). replicate z 48 ++ hexadecimal n) (sym one_more), omega (arith, before.1))
+  | inr enough ↦
+      let all : length (hexadecimal n) ≡ suc k = digits-many k n enough few fits in
+      let none : suc k - length (hexadecimal n) ≡ 0 = omega (arith, all) in
+      (digits_high-own k n enough few fits ∙ ap (λ (z : ℕ). replicate z 48 ++ hexadecimal n) (sym none), omega (arith, all))
+]
+
+-- the eight digits of a word: those that it has, and zeros before them
+pub word-digits : (n : ℕ) → n < 2 ^ 32 → encode_with lower_digits (bytes_high_first 4 n) ≡ replicate (8 - length (hexadecimal n)) 48 ++ hexadecimal n
+word-digits n fits = elim (cases_lt 0 n) [
+  | inl some ↦ encoded 4 n ∙ (digits_high-of 8 n some (omega (arith, fits)) (omega (arith, fits))).0
+  | inr none ↦ let zero_is : n ≡ 0 = omega arith in of-zero n zero_is
+]
+  where
+    eight_zeros : encode_with lower_digits (bytes_high_first 4 0) ≡ replicate (8 - length (hexadecimal 0)) 48 ++ hexadecimal 0
+    eight_zeros = unfold digits encode_with in refl
+
+    of-zero : (n : ℕ) → n ≡ 0 → encode_with lower_digits (bytes_high_first 4 n) ≡ replicate (8 - length (hexadecimal n)) 48 ++ hexadecimal n
+    of-zero n e = subst (λ (x : ℕ). encode_with lower_digits (bytes_high_first 4 x) ≡ replicate (8 - length (hexadecimal x)) 48 ++ hexadecimal x) (sym e) eight_zeros
+
+-- how many digits a number has at most
+pub digits-few : (k n : ℕ) → n < 16 ^ suc k → n < 2 ^ 64 → length (hexadecimal n) ≤ suc k
+digits-few k n few fits = elim (cases_lt 0 n) [
+  | inl some ↦ (digits_high-of (suc k) n some few fits).1
+  | inr none ↦ let zero_is : n ≡ 0 = omega arith in omega (arith, one n zero_is)
+]
+  where
+    one_digit : length (hexadecimal 0) ≡ 1
+    one_digit = unfold digits in refl
+
+    one : (n : ℕ) → n ≡ 0 → length (hexadecimal n) ≡ 1
+    one n e = ap (λ (x : ℕ). length (hexadecimal x)) e ∙ one_digit
 
 sixteen : (q : ℕ) → 16 ^ q ≡ 2 ^ (q + q + (q + q))
 sixteen q = mul-pow 4 4 q ∙ ap (λ (p : ℕ). p * p) (mul-pow 2 2 q ∙ sym (pow-add 2 q q)) ∙ sym (pow-add 2 (q + q) (q + q))

@@ -1,12 +1,12 @@
 // The lines that are printed. Each goes to the sink in pieces, and takes no memory.
-ghost use Rattle.std.specs.Prelude.{◌≡◌, ◌++◌, ◌≤◌, ◌^◌, ◌<◌, List, ℕ, OnOk, OnErr, decimal, drop, length, codes};
+ghost use Rattle.std.specs.Prelude.{◌≡◌, ◌++◌, ◌≤◌, OnOk, OnErr, drop, length};
 ghost use Rattle.std.specs.List.{flat_map};
 ghost use Rattle.std.specs.Option.{option_map};
 ghost use Rattle.blk_image.specs.Told.{Rises};
 ghost use Rattle.blk_io.specs.Streams.{Appends};
 ghost use Rattle.blk_io.specs.Faults.{damage_of};
-ghost use Rattle.blk_io.specs.FileNames.{file_of};
-ghost use Rattle.blk_run.specs.Texts.{hex8, left_out, damage_text, name_of, not_built_text, Prints};
+ghost use Rattle.blk_io.specs.Texts.{hex_text};
+ghost use Rattle.blk_run.specs.Texts.{damage_line, not_built_text};
 
 use blk_io::{Damage, Failed, FileId, Sink};
 use itoa::Buffer;
@@ -14,7 +14,7 @@ use itoa::Buffer;
 // Prints these pieces, one after another.
 fn print_all<K: Sink>(out: &mut K, pieces: &[&[u8]]) -> Result<(), Failed>
     ensures steps { OnOk result (K.written out.new ≡ option_map (λ w. w ++ flat_map (λ piece. piece.now) pieces.now) (K.written out.old)) }
-    ensures front { Appends (K.written out.old) (K.written out.new) (flat_map (λ piece. piece.now) pieces.now) }
+    ensures prefix { Appends (K.written out.old) (K.written out.new) (flat_map (λ piece. piece.now) pieces.now) }
     ensures later { K.faults out.old ≤ K.faults out.new }
     ensures failed { OnErr result (Rises (K.faults out.old) (K.faults out.new)) }
 {
@@ -26,7 +26,8 @@ fn print_all<K: Sink>(out: &mut K, pieces: &[&[u8]]) -> Result<(), Failed>
 
 // The eight hexadecimal digits of a word.
 fn digits_of(word: u32) -> [u8; 8]
-    ensures { result ≡ hex8 word }
+    ensures digits { result ≡ hex_text 8 word }
+    ensures eight { length result ≡ 8 }
 {
     let mut digits = [0u8; 8];
     match hex::encode_to_slice(word.to_be_bytes(), &mut digits) {
@@ -35,16 +36,20 @@ fn digits_of(word: u32) -> [u8; 8]
     }
 }
 
-/// Prints the damage that a check found.
-pub fn print_damage<K: Sink>(out: &mut K, damage: Damage)
-    ensures printed { Prints (K.written out.old) (K.written out.new) (K.faults out.old) (K.faults out.new) (damage_text (damage_of damage)) }
+/// Prints the damage that a check found, on a line.
+///
+/// Where the sink fails, a front of the line may have been printed.
+pub fn print_damage<K: Sink>(out: &mut K, damage: Damage) -> Result<(), Failed>
+    ensures steps { OnOk result (K.written out.new ≡ option_map (λ w. w ++ damage_line (damage_of damage)) (K.written out.old)) }
+    ensures prefix { Appends (K.written out.old) (K.written out.new) (damage_line (damage_of damage)) }
     ensures later { K.faults out.old ≤ K.faults out.new }
+    ensures failed { OnErr result (Rises (K.faults out.old) (K.faults out.new)) }
 {
     let mut number = Buffer::new();
     let mut place = Buffer::new();
     let at = place.format(damage.at).as_bytes();
     let found = digits_of(damage.found);
-    let _ = match damage.file {
+    match damage.file {
         FileId::Index => print_all(out, &[b"damaged index ", at, b" ", &found, b"\n"]),
         FileId::Block(n) => {
             let n = number.format(n).as_bytes();
@@ -52,31 +57,37 @@ pub fn print_damage<K: Sink>(out: &mut K, damage: Damage)
         }
         FileId::External(n) => {
             let digits = digits_of(n);
-            let name = &digits[leading_zeros(n)..];
+            let name = &digits[left_out(n)..];
             print_all(out, &[b"damaged f_", name, b" ", at, b" ", &found, b"\n"])
         }
-    };
+    }
 }
 
-// How many of the eight digits the name of an external file leaves out.
-fn leading_zeros(n: u32) -> usize
-    ensures left_out { result ≡ left_out n }
+// How many of the eight digits the name of an external file leaves out: it has at least six.
+fn left_out(n: u32) -> usize
+    ensures six { drop result (hex_text 8 n) ≡ hex_text 6 n }
     ensures few { result ≤ 2 }
 {
-    match n {
-        0..0x100_0000 => 2,
-        0x100_0000..0x1000_0000 => 1,
-        _ => 0,
+    if n < 0x100_0000 {
+        2
+    } else if n < 0x1000_0000 {
+        1
+    } else {
+        0
     }
 }
 
 /// Prints that a folder with entries can't be opened yet, with the place and the word of the index that shows them.
-pub fn print_not_built<K: Sink>(out: &mut K, at: u32, found: u32)
-    ensures printed { Prints (K.written out.old) (K.written out.new) (K.faults out.old) (K.faults out.new) (not_built_text at found) }
+///
+/// Where the sink fails, a front of the line may have been printed.
+pub fn print_not_built<K: Sink>(out: &mut K, at: u32, found: u32) -> Result<(), Failed>
+    ensures steps { OnOk result (K.written out.new ≡ option_map (λ w. w ++ not_built_text at found) (K.written out.old)) }
+    ensures prefix { Appends (K.written out.old) (K.written out.new) (not_built_text at found) }
     ensures later { K.faults out.old ≤ K.faults out.new }
+    ensures failed { OnErr result (Rises (K.faults out.old) (K.faults out.new)) }
 {
     let mut place = Buffer::new();
     let at = place.format(at).as_bytes();
     let found = digits_of(found);
-    let _ = print_all(out, &[b"not built ", at, b" ", &found, b"\n"]);
+    print_all(out, &[b"not built ", at, b" ", &found, b"\n"])
 }
