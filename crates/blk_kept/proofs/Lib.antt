@@ -21,6 +21,7 @@ pub mod PartsOut
 pub mod NextStates
 pub mod OneCalls
 pub mod PlainRemovals
+pub mod WholeRemovals
 pub mod CreateStops
 pub mod Stopping
 pub mod Touching

@@ -14,6 +14,7 @@ pub mod WordStops
 pub mod NextStates
 pub mod OneCallLaws
 pub mod PlainRemovals
+pub mod WholeRemovals
 pub mod CreateStops
 pub mod Arranging
 pub mod ListLaws

@@ -2,7 +2,7 @@
 
 ghost use Rattle.blk_kept.specs.AllocationLaws.{AllocatedBlocksAreAdded, FreedBlocksAreRemoved};
 ghost use Rattle.blk_kept.specs.Arranging.{StatesAreRearranged};
-ghost use Rattle.blk_kept.specs.BoundLaws.{KeptAllocationsAreFew};
+ghost use Rattle.blk_kept.specs.BoundLaws.{KeptAllocationsAreFew, KeptAllocationsLeaveRoom};
 ghost use Rattle.blk_kept.specs.ChangedStates.{UnheldObjectsGoWhole, UnheldObjectsGoWithTheirParts, ObjectsChangeTheirMainItem};
 ghost use Rattle.blk_kept.specs.CounterLaws.{CountersMayBeWritten, WrittenCountersCount};
 ghost use Rattle.blk_kept.specs.DoneLaws.{TouchStepsAreDone, InsertStepsAreDone, RemovalStepsAreDone};
@@ -59,9 +59,10 @@ pub fn new_entries_are_kept()
     ensures one_more { NewEntriesAreOneMore }
 {}
 
-/// The allocations of the files of a kind are at most five for each item and doomed object, and one for each unlinked word.
+/// The allocations of the files of a kind are at most five for each item and doomed object, and one for each unlinked word; so they leave room where a state and what a command adds have no more items than a cache may have.
 pub fn kept_allocations_are_few()
-    ensures { KeptAllocationsAreFew }
+    ensures few { KeptAllocationsAreFew }
+    ensures room { KeptAllocationsLeaveRoom }
 {}
 
 /// Which handles there are is not in the folder.

@@ -7,6 +7,7 @@ ghost use Rattle.blk_kept.specs.WordStops.{UsesMayStop, UnsettledUsesMayStop, Un
 ghost use Rattle.blk_kept.specs.NextStates.{UsesKeepNext, OpensKeepNext, CreatesKeepNext, WritesKeepNext, DoomedWritesKeepNext, SparseWritesKeepNext, EmptySparseWritesKeepNext, ClosesOfManyKeepNext, ClosesKeepNext, DoomsKeepNext, TrimsKeepNext};
 ghost use Rattle.blk_kept.specs.OneCallLaws.{OpensEndByTouch, ReadsMayStop, ReadsEndByTouch, DoomedReadsEnd, ClosesMayStop, ClosesEndByMark, ClosesOfDoomedUnlink, UnsettlingMarksMayStop};
 ghost use Rattle.blk_kept.specs.PlainRemovals.{PlainGroupsGo, LonePartsGo, UnheldDoomsEnd, HeldDoomsEnd, PartGoneIsWithout, RemovingFindsDoomed, DoomedObjectsAreRemoved, RemovingFindsPartGone, LonePartsAreRemoved};
+ghost use Rattle.blk_kept.specs.WholeRemovals.{WholeObjectsAreRemoved, UnheldWholeDoomsEnd, WholeGroupsGo};
 ghost use Rattle.blk_kept.specs.CreateStops.{InsertsMayStop, LinksMayStop, CreatesEndOnceCounted};
 ghost use Rattle.blk_kept.specs.StopLaws.{WhatIsLeftMayStop, OrdersMayBeLeft, UsesMayBeLeft, UsesGoOn, RoomMayBeLeft, HandlesAreNotAtRest, DoomedObjectsAreNotAtRest, UnsettledObjectsAreNotAtRest, OwnUsesKeepOthers, OthersMayBeLeftOnceUnsettled, OthersMayBeLeftWhileDoomed};
 
@@ -163,6 +164,13 @@ pub fn plain_objects_are_removed()
     ensures held_dooms { HeldDoomsEnd }
     ensures groups { PlainGroupsGo }
     ensures parts { LonePartsGo }
+{}
+
+/// Once an object that no handle names is out with its parts, the state with it doomed is kept and its words are unlinked. So a DoomKey of it ends, and so the next group goes.
+pub fn whole_objects_are_removed()
+    ensures removed { WholeObjectsAreRemoved }
+    ensures unheld_dooms { UnheldWholeDoomsEnd }
+    ensures groups { WholeGroupsGo }
 {}
 
 /// A Create may be stopped at each word of the insert of its node, and where its record is linked; once the counters are written too the state after it is kept.
