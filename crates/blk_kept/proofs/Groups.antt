@@ -2,7 +2,7 @@
 use Rattle.std.proofs.Common.{◌≡◌, ℕ, List, [], ◌∷◌, ◌++◌, refl, ap, sym, ◌∙◌, subst, Bool, true, false, Option, Some, None, ⊎_elim, append_assoc}
 use Rattle.std.specs.Prelude.{◌||◌, ◌&&◌, ◌==◌, not, filter, IfSome, if◌then◌else◌}
 use Rattle.std.specs.Option.{option_map_or}
-use Rattle.std.specs.List.{cons_option, filter_map, flat_map}
+use Rattle.std.specs.List.{AllByRecursion, cons_option, filter_map, flat_map}
 use Rattle.std.specs.List.Sorted.{IsPermutation}
 use Rattle.std.proofs.lemmas.Bool.{and_parts, cases_Bool, eq-eqb, or_left, or_right}
 use Rattle.std.proofs.lemmas.Grind.{flat_map-append}
@@ -103,21 +103,15 @@ record IsItemAt (state : State) (layout : Layout) (p : Item → Bool) (n : ℕ) 
   pub listed : is_listed state item ≡ true
   pub is : layout.place item ≡ n
 
-module _ (state : State) (layout : Layout) (unlinked : List ℕ) (objects : List (Option Object)) (keep : Item → Bool) (chains : ℕ → List ℕ) (from image : Image) (k : KeepsUncounted state layout unlinked from) (w : IsLess state objects keep) (o : AreOut state layout keep chains from image) where
-  abbrev gone : List ℕ
+module _ (state : State) (layout : Layout) (unlinked : List ℕ) (keep : Item → Bool) (from : Image) (k : KeepsUncounted state layout unlinked from) where
+  abbrev pub gone : List ℕ
   gone = gone_nodes state layout keep
 
-  abbrev stay : List ℕ
+  abbrev pub stay : List ℕ
   stay = nodes_of layout (filter keep state.uses)
 
-  abbrev doomed_ones : List ℕ
+  abbrev pub doomed_ones : List ℕ
   doomed_ones = doomed_nodes layout k.numbers
-
-  abbrev after : State
-  after = without_items state objects keep
-
-  abbrev now : Layout
-  now = layout_less layout gone chains
 
   both : {a b : Bool} → a ≡ true → b ≡ true → (a && b) ≡ true
   both p q = rw (p, q) refl
@@ -129,17 +123,17 @@ module _ (state : State) (layout : Layout) (unlinked : List ℕ) (objects : List
       let parts = and_parts (p a.item) (is_in state.uses a.item) all in
       record { item = a.item; passes = parts.0; listed = parts.1; is = a.is }
 
-  in-order : (p : Item → Bool) (n : ℕ) → is_among (nodes_of layout (filter p state.uses)) n ≡ true → is_among (order state layout) n ≡ true
+  pub in-order : (p : Item → Bool) (n : ℕ) → is_among (nodes_of layout (filter p state.uses)) n ≡ true → is_among (order state layout) n ≡ true
   in-order p n there = let i = item-at p n there in subst (λ (x : ℕ). is_among (order state layout) x ≡ true) i.is (is_among-node layout state.uses i.item i.listed)
 
-  goes : (i : Item) → is_listed state i ≡ true → keep i ≡ false → is_among gone (layout.place i) ≡ true
+  pub goes : (i : Item) → is_listed state i ≡ true → keep i ≡ false → is_among gone (layout.place i) ≡ true
   goes i there e = is_among-node layout (filter (λ item. not (keep item)) state.uses) i (in-filter (λ item. not (keep item)) state.uses i ∙ both (ap not e) there)
 
-  stays-in : (i : Item) → is_listed state i ≡ true → keep i ≡ true → is_among stay (layout.place i) ≡ true
+  pub stays-in : (i : Item) → is_listed state i ≡ true → keep i ≡ true → is_among stay (layout.place i) ≡ true
   stays-in i there e = is_among-node layout (filter keep state.uses) i (in-filter keep state.uses i ∙ both e there)
 
   -- those that stay are none of those that go
-  stay-apart : (n : ℕ) → is_among stay n ≡ true → is_among gone n ≡ false
+  pub stay-apart : (n : ℕ) → is_among stay n ≡ true → is_among gone n ≡ false
   stay-apart n there = ⊎_elim
       (λ (e : is_among gone n ≡ true).
       let i = item-at keep n there in
@@ -149,31 +143,31 @@ module _ (state : State) (layout : Layout) (unlinked : List ℕ) (objects : List
       (λ (e : is_among gone n ≡ false). e)
       (cases_Bool (is_among gone n))
 
-  doomed-apart : (n : ℕ) → is_among doomed_ones n ≡ true → is_among gone n ≡ false
+  pub doomed-apart : (n : ℕ) → is_among doomed_ones n ≡ true → is_among gone n ≡ false
   doomed-apart n there = ⊎_elim
       (λ (e : is_among gone n ≡ true). absurd (let z : true ≡ false = sym (in-order (λ item. not (keep item)) n e) ∙ apart_left (order state layout) doomed_ones n k.owners.once there in cc))
       (λ (e : is_among gone n ≡ false). e)
       (cases_Bool (is_among gone n))
 
-  left-apart : (n : ℕ) → is_among (stay ++ doomed_ones) n ≡ true → is_among gone n ≡ false
+  pub left-apart : (n : ℕ) → is_among (stay ++ doomed_ones) n ≡ true → is_among gone n ≡ false
   left-apart n there = ⊎_elim
       (λ (e : is_among stay n ≡ true). stay-apart n e)
       (λ (e : is_among stay n ≡ false). doomed-apart n (let h : (is_among stay n || is_among doomed_ones n) ≡ true = sym (is_among-append stay doomed_ones n) ∙ there in rw e at h))
       (cases_Bool (is_among stay n))
 
-  not-gone : (n : ℕ) (l : Loaded) → at_without layout gone n ≡ Some l → (is_among gone n ≡ false) × (layout.at n ≡ Some l)
+  pub not-gone : (n : ℕ) (l : Loaded) → at_without layout gone n ≡ Some l → (is_among gone n ≡ false) × (layout.at n ≡ Some l)
   not-gone n l is = ⊎_elim
       (λ (e : is_among gone n ≡ true). let z : ◌≡◌ {A = Option Loaded} None (Some l) = rw e at is in absurd (cc))
       (λ (e : is_among gone n ≡ false). (e, (let s : layout.at n ≡ Some l = rw e at is in s)))
       (cases_Bool (is_among gone n))
 
-  still-there : (n : ℕ) (l : Loaded) → is_among gone n ≡ false → layout.at n ≡ Some l → at_without layout gone n ≡ Some l
+  pub still-there : (n : ℕ) (l : Loaded) → is_among gone n ≡ false → layout.at n ≡ Some l → at_without layout gone n ≡ Some l
   still-there n l e is = rw e is
 
-  still-owned : (c : Claim) (n : ℕ) → layout.owner c ≡ Some n → is_among gone n ≡ false → owners_without layout gone c ≡ Some n
+  pub still-owned : (c : Claim) (n : ℕ) → layout.owner c ≡ Some n → is_among gone n ≡ false → owners_without layout gone c ≡ Some n
   still-owned c n is e = rw (is, e) refl
 
-  was-owned : (c : Claim) (n : ℕ) → owners_without layout gone c ≡ Some n → (is_among gone n ≡ false) × (layout.owner c ≡ Some n)
+  pub was-owned : (c : Claim) (n : ℕ) → owners_without layout gone c ≡ Some n → (is_among gone n ≡ false) × (layout.owner c ≡ Some n)
   was-owned c n is = go (layout.owner c) refl is where
     go : (q : Option ℕ) → layout.owner c ≡ q → (if option_map_or (is_among gone) q false then None else q) ≡ Some n → (is_among gone n ≡ false) × (layout.owner c ≡ Some n)
     go None q e = let z : ◌≡◌ {A = Option ℕ} None (Some n) = e in absurd (cc)
@@ -182,7 +176,7 @@ module _ (state : State) (layout : Layout) (unlinked : List ℕ) (objects : List
         (λ (h : is_among gone m ≡ false). let z : ◌≡◌ {A = Option ℕ} (Some m) (Some n) = rw h at e in (ap (is_among gone) (sym (some_inj z)) ∙ h, q ∙ z))
         (cases_Bool (is_among gone m))
 
-  in-stay : (n : ℕ) → is_among (order state layout) n ≡ true → is_among gone n ≡ false → is_among stay n ≡ true
+  pub in-stay : (n : ℕ) → is_among (order state layout) n ≡ true → is_among gone n ≡ false → is_among stay n ≡ true
   in-stay n there kept =
       let a : IsNodeOf layout state.uses n = node-of layout state.uses n there in
       ⊎_elim
@@ -190,30 +184,11 @@ module _ (state : State) (layout : Layout) (unlinked : List ℕ) (objects : List
       (λ (e : keep a.item ≡ false). absurd (let z : true ≡ false = sym (subst (λ (x : ℕ). is_among gone x ≡ true) a.is (goes a.item a.among e)) ∙ kept in cc))
       (cases_Bool (keep a.item))
 
-  has-less : HasLess state objects keep layout (at_without layout gone) chains (owners_without layout gone)
-  has-less = record {
-    stays = λ i l stays there is. still-there (layout.place i) l (stay-apart (layout.place i) (stays-in i there stays)) is;
-    others = λ n l out is. still-there n l (⊎_elim (λ (e : is_among gone n ≡ true). absurd (let z : true ≡ false = sym (in-order (λ item. not (keep item)) n e) ∙ out in cc)) (λ (e : is_among gone n ≡ false). e) (cases_Bool (is_among gone n))) is;
-    was = λ n l is. (not-gone n l is).1;
-    chain_stays = λ n l there is among. let p = not-gone n l is in o.holds.chained n l (in-order keep n there) p.1 p.0;
-    chain_was = λ bucket contents small among.
-        let q : IsListedRecord state layout contents = k.represents.holds.lies.unchained bucket contents small (o.chained bucket contents small among) in
-        let kept : is_among gone q.node ≡ false = ⊎_elim
-        (λ (e : is_among gone q.node ≡ true). absurd (let z : true ≡ false = sym (eq-eqb contents q.loaded.contents (sym q.record_is)) ∙ o.out bucket contents small among q.node q.loaded e q.here in cc))
-        (λ (e : is_among gone q.node ≡ false). e)
-        (cases_Bool (is_among gone q.node)) in
-        record { node = q.node; loaded = q.loaded; listed = in-stay q.node q.listed kept; here = still-there q.node q.loaded kept q.here; record_is = q.record_is };
-    own = λ n l c is has mine. still-owned c n mine (not-gone n l is).0;
-  }
-
-  represents-now : Represents (view_of image) after now
-  represents-now = less-represented (is_among gone) (view_of image) state objects keep layout (at_without layout gone) chains (owners_without layout gone) k.represents.holds.lies w.lists has-less o.holds (λ n l is. (not-gone n l is).0) o.list
-
   -- the words
-  words-left : words_at now.at (stay ++ doomed_ones) ≡ words_at layout.at stay ++ words_at layout.at doomed_ones
+  pub words-left : words_at (at_without layout gone) (stay ++ doomed_ones) ≡ words_at layout.at stay ++ words_at layout.at doomed_ones
   words-left = ap (flat_map words_of) (same-at layout gone (stay ++ doomed_ones) left-apart) ∙ words-append layout.at stay doomed_ones
 
-  all-words : IsPermutation (words_in_use unlinked (all_loaded state layout k.numbers)) ((words_at layout.at gone ++ unlinked) ++ (words_at layout.at stay ++ words_at layout.at doomed_ones))
+  pub all-words : IsPermutation (words_in_use unlinked (all_loaded state layout k.numbers)) ((words_at layout.at gone ++ unlinked) ++ (words_at layout.at stay ++ words_at layout.at doomed_ones))
   all-words =
       subst (λ (ws : List ℕ). IsPermutation (unlinked ++ ws) ((words_at layout.at gone ++ unlinked) ++ (words_at layout.at stay ++ words_at layout.at doomed_ones))) (sym (words-append layout.at (order state layout) doomed_ones))
       (IsPermutation-trans (unlinked ++ (words_at layout.at (order state layout) ++ words_at layout.at doomed_ones)) (unlinked ++ ((words_at layout.at gone ++ words_at layout.at stay) ++ words_at layout.at doomed_ones)) ((words_at layout.at gone ++ unlinked) ++ (words_at layout.at stay ++ words_at layout.at doomed_ones))
@@ -222,13 +197,10 @@ module _ (state : State) (layout : Layout) (unlinked : List ℕ) (objects : List
       (subst (λ (ws : List ℕ). IsPermutation (unlinked ++ ws) ((words_at layout.at gone ++ unlinked) ++ (words_at layout.at stay ++ words_at layout.at doomed_ones))) (sym (append_assoc (words_at layout.at gone) (words_at layout.at stay) (words_at layout.at doomed_ones)))
       (subst (IsPermutation (unlinked ++ (words_at layout.at gone ++ (words_at layout.at stay ++ words_at layout.at doomed_ones)))) (sym (append_assoc (words_at layout.at gone) unlinked (words_at layout.at stay ++ words_at layout.at doomed_ones))) (to-front unlinked (words_at layout.at gone) (words_at layout.at stay ++ words_at layout.at doomed_ones)))))
 
-  same-words : IsPermutation (words_in_use unlinked (all_loaded state layout k.numbers)) (words_in_use (words_at layout.at gone ++ unlinked) (all_loaded after now k.numbers))
-  same-words = subst (λ (ws : List ℕ). IsPermutation (words_in_use unlinked (all_loaded state layout k.numbers)) ((words_at layout.at gone ++ unlinked) ++ ws)) (sym words-left) all-words
-
-  before : IsArranged state layout k.numbers unlinked from
+  pub before : IsArranged state layout k.numbers unlinked from
   before = record { valid = k.valid; represents = k.represents; owners = k.owners; unlinked_words = k.unlinked_words; sealed = k.sealed; marked = k.session.marked }
 
-  free : (c : Claim) → has_claim (claims_of_all (words_at layout.at gone ++ unlinked)) c ≡ true → owners_without layout gone c ≡ None
+  pub free : (c : Claim) → has_claim (claims_of_all (words_at layout.at gone ++ unlinked)) c ≡ true → owners_without layout gone c ≡ None
   free c e = ⊎_elim
       (λ (h : has_claim (claims_of_all (words_at layout.at gone)) c ≡ true). let q = claimed-by layout k.represents.holds.lies.own gone c h in let there = q.1.0 in let mine = q.1.1 in rw (mine, there) refl)
       (λ (h : has_claim (claims_of_all (words_at layout.at gone)) c ≡ false).
@@ -238,7 +210,7 @@ module _ (state : State) (layout : Layout) (unlinked : List ℕ) (objects : List
       (cases_Bool (has_claim (claims_of_all (words_at layout.at gone)) c))
 
   -- the nodes that are left are those of the old ones that don't go
-  filtered : (items : List Item) → ((i : Item) → is_in items i ≡ true → is_listed state i ≡ true) → filter (λ n. not (is_among gone n)) (nodes_of layout items) ≡ nodes_of layout (filter keep items)
+  pub filtered : (items : List Item) → ((i : Item) → is_in items i ≡ true → is_listed state i ≡ true) → filter (λ n. not (is_among gone n)) (nodes_of layout items) ≡ nodes_of layout (filter keep items)
   filtered [] sub = refl
   filtered (i ∷ items) sub =
       let there = sub i (or_left (same_item i i) (is_in items i) (same_item_self i)) in
@@ -248,61 +220,97 @@ module _ (state : State) (layout : Layout) (unlinked : List ℕ) (objects : List
       (λ (e : keep i ≡ false). let a : is_among gone (layout.place i) ≡ true = goes i there e in rw (e, a) rest)
       (cases_Bool (keep i))
 
-  all-stay : (ns : List ℕ) → ((n : ℕ) → is_among ns n ≡ true → is_among gone n ≡ false) → filter (λ n. not (is_among gone n)) ns ≡ ns
+  pub all-stay : (ns : List ℕ) → ((n : ℕ) → is_among ns n ≡ true → is_among gone n ≡ false) → filter (λ n. not (is_among gone n)) ns ≡ ns
   all-stay [] apart = refl
   all-stay (n ∷ ns) apart = let e = apart n (or_left (n == n) (is_among ns n) (eq-eqb n n refl)) in rw e (ap (λ (ms : List ℕ). n ∷ ms) (all-stay ns (λ m h. apart m (or_right (n == m) (is_among ns m) h))))
 
-  stay-once : Distinct (stay ++ doomed_ones)
+  pub stay-once : Distinct (stay ++ doomed_ones)
   stay-once = subst Distinct (filter-append (λ n. not (is_among gone n)) (order state layout) doomed_ones ∙ (λ i. filtered state.uses (λ j h. h) i ++ all-stay doomed_ones doomed-apart i)) (Distinct-filter (λ n. not (is_among gone n)) (order state layout ++ doomed_ones) k.owners.once)
 
-  marked : AreMarkedBy (this_id_of (byte from Index)) after now
-  marked n z is live unsettled =
-      let old = w.unsettled n z is live unsettled in
-      let stays : is_listed after (main z.key) ≡ true = main-listed after w.valid n z true is live in
-      let all : (keep (main z.key) && is_in state.uses (main z.key)) ≡ true = sym (in-filter keep state.uses (main z.key)) ∙ stays in
-      let parts = and_parts (keep (main z.key)) (is_in state.uses (main z.key)) all in
-      let apart : is_among gone (layout.place (main z.key)) ≡ false = stay-apart (layout.place (main z.key)) (stays-in (main z.key) parts.1 parts.0) in
-      let here : at_without layout gone (layout.place (main z.key)) ≡ layout.at (layout.place (main z.key)) = rw apart refl in
-      subst (λ (x : Option Loaded). IfSome x (λ loaded. loaded.dirty ≡ this_id_of (byte from Index))) (sym here)
-      (subst (λ (key : List ℕ). IfSome (layout.at (layout.place (main key))) (λ loaded. loaded.dirty ≡ this_id_of (byte from Index))) old.2 (k.session.marked n old.0 old.1 old.3 old.4))
+  -- what goes stands, and no two of its blocks and external numbers are one
+  pub gone-stand : AllByRecursion (λ v. stands_in from v ≡ true) (words_at layout.at gone ++ unlinked)
+  gone-stand = first-of (λ v. stands_in from v ≡ true) (words_at layout.at gone ++ unlinked) (words_at layout.at stay ++ words_at layout.at doomed_ones)
+      (all-to (λ v. stands_in from v ≡ true) _ (All-permutation (λ v. stands_in from v ≡ true) _ _ all-words (all-from (λ v. stands_in from v ≡ true) _ (arranged-stand state layout k.numbers unlinked from before))))
 
-  arranged : IsArranged after now k.numbers (words_at layout.at gone ++ unlinked) image
-  arranged = record {
-    valid = w.valid;
-    represents = represents-now;
-    owners = record {
-      exact = λ c n is. let p = was-owned c n is in let q : IsOwner state layout doomed_ones c n = k.owners.exact c n p.1 in
-          record { among = among-left n p.0 q.among; loaded = q.loaded; here = still-there n q.loaded p.0 q.here; claims = q.claims };
-      once = stay-once;
-      doomed = numbers-same state after layout now k.numbers (λ n. same-slots (object_at after n) (object_at state n) (w.dead n)) (λ n there. refl) k.owners.doomed;
-    };
-    unlinked_words = record {
-      stand = stand-same from image o.leaves.headers (words_at layout.at gone ++ unlinked) (first-of (λ v. stands_in from v ≡ true) (words_at layout.at gone ++ unlinked) (words_at layout.at stay ++ words_at layout.at doomed_ones)
-          (all-to (λ v. stands_in from v ≡ true) _ (All-permutation (λ v. stands_in from v ≡ true) _ _ all-words (all-from (λ v. stands_in from v ≡ true) _ (arranged-stand state layout k.numbers unlinked from before)))));
-      free = free;
-      single = repeats-head (claims_of_all (words_at layout.at gone ++ unlinked)) (claims_of_all (words_at layout.at stay ++ words_at layout.at doomed_ones))
-          (ap repeats (sym (flat_map-append claims_of (words_at layout.at gone ++ unlinked) (words_at layout.at stay ++ words_at layout.at doomed_ones))) ∙ once-alike _ _ all-words (arranged-once state layout k.numbers unlinked from before));
-    };
-    sealed = λ n l is. let p = not-gone n l is in o.sealed n l p.1 p.0 (k.sealed n l p.1);
-    marked = subst (λ (id : ℕ). AreMarkedBy id after now) (sym o.leaves.session.id) marked;
-  } where
-    among-left : (n : ℕ) → is_among gone n ≡ false → is_among (order state layout ++ doomed_ones) n ≡ true → is_among (stay ++ doomed_ones) n ≡ true
-    among-left n kept there = ⊎_elim
-        (λ (e : is_among (order state layout) n ≡ true). is_among-append stay doomed_ones n ∙ or_left (is_among stay n) (is_among doomed_ones n) (in-stay n e kept))
-        (λ (e : is_among (order state layout) n ≡ false).
-        let h : (is_among (order state layout) n || is_among doomed_ones n) ≡ true = sym (is_among-append (order state layout) doomed_ones n) ∙ there in
-        is_among-append stay doomed_ones n ∙ or_right (is_among stay n) (is_among doomed_ones n) (rw e at h))
-        (cases_Bool (is_among (order state layout) n))
+  pub gone-single : repeats (claims_of_all (words_at layout.at gone ++ unlinked)) ≡ false
+  gone-single = repeats-head (claims_of_all (words_at layout.at gone ++ unlinked)) (claims_of_all (words_at layout.at stay ++ words_at layout.at doomed_ones))
+      (ap repeats (sym (flat_map-append claims_of (words_at layout.at gone ++ unlinked) (words_at layout.at stay ++ words_at layout.at doomed_ones))) ∙ once-alike _ _ all-words (arranged-once state layout k.numbers unlinked from before))
 
-    is-dead : (q : Option Object) → is_dead q ≡ is_doomed_slot q
-    is-dead None = refl
-    is-dead (Some q) = refl
+  pub among-left : (n : ℕ) → is_among gone n ≡ false → is_among (order state layout ++ doomed_ones) n ≡ true → is_among (stay ++ doomed_ones) n ≡ true
+  among-left n kept there = ⊎_elim
+      (λ (e : is_among (order state layout) n ≡ true). is_among-append stay doomed_ones n ∙ or_left (is_among stay n) (is_among doomed_ones n) (in-stay n e kept))
+      (λ (e : is_among (order state layout) n ≡ false).
+      let h : (is_among (order state layout) n || is_among doomed_ones n) ≡ true = sym (is_among-append (order state layout) doomed_ones n) ∙ there in
+      is_among-append stay doomed_ones n ∙ or_right (is_among stay n) (is_among doomed_ones n) (rw e at h))
+      (cases_Bool (is_among (order state layout) n))
 
-    same-slots : (q p : Option Object) → is_doomed_slot q ≡ is_doomed_slot p → is_dead q ≡ is_dead p
-    same-slots q p e = is-dead q ∙ e ∙ sym (is-dead p)
+  module _ (objects : List (Option Object)) (chains : ℕ → List ℕ) (image : Image) (w : IsLess state objects keep) (o : AreOut state layout keep chains from image) where
+    abbrev after : State
+    after = without_items state objects keep
 
-  pub items-gone : KeepsUncounted after now (words_at layout.at gone ++ unlinked) image
-  items-gone = rearranged state after layout now unlinked (words_at layout.at gone ++ unlinked) k.numbers from image k o.leaves arranged same-words
+    abbrev now : Layout
+    now = layout_less layout gone chains
+
+    has-less : HasLess state objects keep layout (at_without layout gone) chains (owners_without layout gone)
+    has-less = record {
+      stays = λ i l stays there is. still-there (layout.place i) l (stay-apart (layout.place i) (stays-in i there stays)) is;
+      others = λ n l out is. still-there n l (⊎_elim (λ (e : is_among gone n ≡ true). absurd (let z : true ≡ false = sym (in-order (λ item. not (keep item)) n e) ∙ out in cc)) (λ (e : is_among gone n ≡ false). e) (cases_Bool (is_among gone n))) is;
+      was = λ n l is. (not-gone n l is).1;
+      chain_stays = λ n l there is among. let p = not-gone n l is in o.holds.chained n l (in-order keep n there) p.1 p.0;
+      chain_was = λ bucket contents small among.
+          let q : IsListedRecord state layout contents = k.represents.holds.lies.unchained bucket contents small (o.chained bucket contents small among) in
+          let kept : is_among gone q.node ≡ false = ⊎_elim
+          (λ (e : is_among gone q.node ≡ true). absurd (let z : true ≡ false = sym (eq-eqb contents q.loaded.contents (sym q.record_is)) ∙ o.out bucket contents small among q.node q.loaded e q.here in cc))
+          (λ (e : is_among gone q.node ≡ false). e)
+          (cases_Bool (is_among gone q.node)) in
+          record { node = q.node; loaded = q.loaded; listed = in-stay q.node q.listed kept; here = still-there q.node q.loaded kept q.here; record_is = q.record_is };
+      own = λ n l c is has mine. still-owned c n mine (not-gone n l is).0;
+    }
+
+    represents-now : Represents (view_of image) after now
+    represents-now = less-represented (is_among gone) (view_of image) state objects keep layout (at_without layout gone) chains (owners_without layout gone) k.represents.holds.lies w.lists has-less o.holds (λ n l is. (not-gone n l is).0) o.list
+
+    same-words : IsPermutation (words_in_use unlinked (all_loaded state layout k.numbers)) (words_in_use (words_at layout.at gone ++ unlinked) (all_loaded after now k.numbers))
+    same-words = subst (λ (ws : List ℕ). IsPermutation (words_in_use unlinked (all_loaded state layout k.numbers)) ((words_at layout.at gone ++ unlinked) ++ ws)) (sym words-left) all-words
+
+    marked : AreMarkedBy (this_id_of (byte from Index)) after now
+    marked n z is live unsettled =
+        let old = w.unsettled n z is live unsettled in
+        let stays : is_listed after (main z.key) ≡ true = main-listed after w.valid n z true is live in
+        let all : (keep (main z.key) && is_in state.uses (main z.key)) ≡ true = sym (in-filter keep state.uses (main z.key)) ∙ stays in
+        let parts = and_parts (keep (main z.key)) (is_in state.uses (main z.key)) all in
+        let apart : is_among gone (layout.place (main z.key)) ≡ false = stay-apart (layout.place (main z.key)) (stays-in (main z.key) parts.1 parts.0) in
+        let here : at_without layout gone (layout.place (main z.key)) ≡ layout.at (layout.place (main z.key)) = rw apart refl in
+        subst (λ (x : Option Loaded). IfSome x (λ loaded. loaded.dirty ≡ this_id_of (byte from Index))) (sym here)
+        (subst (λ (key : List ℕ). IfSome (layout.at (layout.place (main key))) (λ loaded. loaded.dirty ≡ this_id_of (byte from Index))) old.2 (k.session.marked n old.0 old.1 old.3 old.4))
+
+    arranged : IsArranged after now k.numbers (words_at layout.at gone ++ unlinked) image
+    arranged = record {
+      valid = w.valid;
+      represents = represents-now;
+      owners = record {
+        exact = λ c n is. let p = was-owned c n is in let q : IsOwner state layout doomed_ones c n = k.owners.exact c n p.1 in
+            record { among = among-left n p.0 q.among; loaded = q.loaded; here = still-there n q.loaded p.0 q.here; claims = q.claims };
+        once = stay-once;
+        doomed = numbers-same state after layout now k.numbers (λ n. same-slots (object_at after n) (object_at state n) (w.dead n)) (λ n there. refl) k.owners.doomed;
+      };
+      unlinked_words = record {
+        stand = stand-same from image o.leaves.headers (words_at layout.at gone ++ unlinked) gone-stand;
+        free = free;
+        single = gone-single;
+      };
+      sealed = λ n l is. let p = not-gone n l is in o.sealed n l p.1 p.0 (k.sealed n l p.1);
+      marked = subst (λ (id : ℕ). AreMarkedBy id after now) (sym o.leaves.session.id) marked;
+    } where
+      is-dead : (q : Option Object) → is_dead q ≡ is_doomed_slot q
+      is-dead None = refl
+      is-dead (Some q) = refl
+
+      same-slots : (q p : Option Object) → is_doomed_slot q ≡ is_doomed_slot p → is_dead q ≡ is_dead p
+      same-slots q p e = is-dead q ∙ e ∙ sym (is-dead p)
+
+    pub items-gone : KeepsUncounted after now (words_at layout.at gone ++ unlinked) image
+    items-gone = rearranged state after layout now unlinked (words_at layout.at gone ++ unlinked) k.numbers from image k o.leaves arranged same-words
 
 pub gone-items : GoneItemsAreUnlinked
-gone-items state layout unlinked objects keep chains from image k w o = items-gone state layout unlinked objects keep chains from image k w o
+gone-items state layout unlinked objects keep chains from image k w o = items-gone state layout unlinked keep from k objects chains image w o

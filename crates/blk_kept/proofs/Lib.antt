@@ -21,6 +21,7 @@ pub mod PartsOut
 pub mod NextStates
 pub mod OneCalls
 pub mod PlainRemovals
+pub mod DoomedWhole
 pub mod WholeRemovals
 pub mod CreateStops
 pub mod Stopping
@@ -44,6 +45,7 @@ pub mod Objects
 pub mod Gone
 pub mod Removals
 pub mod DoneSteps
+pub mod DoomedNumbers
 pub mod Doomed
 pub mod Links
 pub mod ChangedStates
