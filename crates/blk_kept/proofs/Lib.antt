@@ -39,6 +39,7 @@ pub mod Dirtying
 pub mod Counters
 pub mod Externals
 pub mod NewEntries
+pub mod NewParts
 pub mod LinkedOnce
 pub mod Bounds
 pub mod Objects

@@ -22,6 +22,7 @@ pub mod RecordLaws
 pub mod CounterLaws
 pub mod ExternalLaws
 pub mod NewEntryLaws
+pub mod NewPartLaws
 pub mod BoundLaws
 pub mod ObjectLaws
 pub mod GoneLaws

@@ -13,6 +13,7 @@ ghost use Rattle.blk_kept.specs.LinkLaws.{TableWordsChangeLinks, TableWordsLeave
 ghost use Rattle.blk_kept.specs.GroupLaws.{GoneItemsAreUnlinked};
 ghost use Rattle.blk_kept.specs.ListLaws.{TouchesKeepTheState, TouchesKeepTheCounters};
 ghost use Rattle.blk_kept.specs.NewEntryLaws.{InsertsFindTheSame, LinksFindTheSame, NewEntriesAreKept, NewEntriesAreOneMore};
+ghost use Rattle.blk_kept.specs.NewPartLaws.{NewPartsHoldTheOthers, NewPartsAreAtRest, NewPartsAtEachWrite, NewPartsAreLinked, ParentsDataMayChange, NotedParentsAreChanges, NewPartsEnd};
 ghost use Rattle.blk_kept.specs.ObjectLaws.{HandlesMayChange, HandlesAreNotCounted, UnsettledItemsFindTheSame, DoomedObjectsFindTheSame, ChangedItemsAreKept, ChangedDoomedObjectsAreKept};
 ghost use Rattle.blk_kept.specs.RecordLaws.{RecordUpdatesChangeOnly, RecordUpdatesLeaveCounters, MarkingFindsEither, MarkingKeepsTheState, MarkingKeepsTheCounters};
 ghost use Rattle.blk_kept.specs.RemovalLaws.{RemovalsFindEither, UnlinkingFindsTheOthers, RemovedItemsAreUnlinked};
@@ -57,6 +58,17 @@ pub fn new_entries_are_kept()
     ensures linking { LinksFindTheSame }
     ensures kept { NewEntriesAreKept }
     ensures one_more { NewEntriesAreOneMore }
+{}
+
+/// While a part is made, and until its parent has its bit, all but these two stay as they were, and what is shown is what is at rest; in the end the state with the part is represented.
+pub fn new_parts_are_shown()
+    ensures others { NewPartsHoldTheOthers }
+    ensures at_rest { NewPartsAreAtRest }
+    ensures at_each_word { NewPartsAtEachWrite }
+    ensures linked { NewPartsAreLinked }
+    ensures parent { ParentsDataMayChange }
+    ensures noted { NotedParentsAreChanges }
+    ensures ends { NewPartsEnd }
 {}
 
 /// The allocations of the files of a kind are at most five for each item and doomed object, and one for each unlinked word; so they leave room where a state and what a command adds have no more items than a cache may have.
