@@ -38,8 +38,10 @@ pub mod AtNodes
 pub mod Dirtying
 pub mod Counters
 pub mod Externals
+pub mod NewNodes
 pub mod NewEntries
 pub mod NewParts
+pub mod NewPartsKept
 pub mod LinkedOnce
 pub mod Bounds
 pub mod Objects

@@ -95,10 +95,10 @@ module _ (v : View) (m : State) (objects : List (Option Object)) (y : Layout) (k
   lies-part = item-lies m objects (with_bit y key seen) (part key n) l lies-bit made.changed made.new
 
   -- nodes apart
-  bit-at : put y.at (y.place (main key)) (Some seen) (y.place (main key)) ≡ Some seen
+  pub bit-at : put y.at (y.place (main key)) (Some seen) (y.place (main key)) ≡ Some seen
   bit-at = at-itself y.at (y.place (main key)) (Some seen)
 
-  apart : (l.node == y.place (main key)) ≡ false
+  pub apart : (l.node == y.place (main key)) ≡ false
   apart = ⊎_elim
       (λ (e : (eqb l.node (y.place (main key)) ≡ true) × (l.node ≡ y.place (main key))).
       absurd (let c : ◌≡◌ {A = Option Loaded} (Some seen) None = sym bit-at ∙ ap (put y.at (y.place (main key)) (Some seen)) (sym e.1) ∙ made.new.nobody in cc))
@@ -114,13 +114,13 @@ module _ (v : View) (m : State) (objects : List (Option Object)) (y : Layout) (k
   rule-other : (w : ℕ) → (l.node == w) ≡ false → rule_of (with_part y key n seen l) w ≡ rule_of y w
   rule-other w e = ap (λ (z : ℕ). let q : Rule = record { state = z; clean = false; chained = false } in q) (at-elsewhere y.state l.node 0 w e)
 
-  order-is : order (with_first m objects (part key n)) (with_part y key n seen l) ≡ l.node ∷ order m y
+  pub order-is : order (with_first m objects (part key n)) (with_part y key n seen l) ≡ l.node ∷ order m y
   order-is = order-after m objects (with_bit y key seen) (part key n) l lies-bit made.changed made.new
 
   node-was : (w : ℕ) → is_among (order (with_first m objects (part key n)) (with_part y key n seen l)) w ≡ true → (w ≡ l.node) ⊎ (is_among (order m y) w ≡ true)
   node-was w h = node-after m objects (with_bit y key seen) (part key n) l lies-bit made.changed made.new w h
 
-  lacks : is_among (order m y) l.node ≡ false
+  pub lacks : is_among (order m y) l.node ≡ false
   lacks = ⊎_elim
       (λ (e : is_among (order m y) l.node ≡ true).
       let k : IsNodeOf y m.uses l.node = node-of y m.uses l.node e in let q : IsPlacedAt m (with_bit y key seen) k.item = lies-bit.laid k.item k.among in
@@ -295,7 +295,7 @@ module _ (v : View) (m : State) (objects : List (Option Object)) (y : Layout) (k
             ∙ at-rest s y.chains (parent-changes v.store s y.chains written (λ c. false) same.store same.table (record { others = λ c w h e. refl; part_clear = λ c h. refl; node_clear = λ c h. refl; chains_clear = λ b w below h c g. refl }))
 
   module _ (s : StoreView) (under : IsMidPart s y key l (with_part y key n seen l).chains) (sees : load s (rule_of y (y.place (main key))) (y.place (main key)) ≡ Ok seen) where
-    each-loads : (w : ℕ) (x : Loaded) → (with_part y key n seen l).at w ≡ Some x → load s (rule_of (with_part y key n seen l) w) w ≡ Ok x
+    pub each-loads : (w : ℕ) (x : Loaded) → (with_part y key n seen l).at w ≡ Some x → load s (rule_of (with_part y key n seen l) w) w ≡ Ok x
     each-loads w x is = ⊎_elim
         (λ (e : (eqb l.node w ≡ true) × (l.node ≡ w)).
         let same : l ≡ x = (let c : ◌≡◌ {A = Option Loaded} (Some l) (Some x) = sym (at-itself (put y.at (y.place (main key)) (Some seen)) l.node (Some l)) ∙ ap (with_part y key n seen l).at e.1 ∙ is in cc) in

@@ -23,6 +23,7 @@ pub mod CounterLaws
 pub mod ExternalLaws
 pub mod NewEntryLaws
 pub mod NewPartLaws
+pub mod NewPartsKept
 pub mod BoundLaws
 pub mod ObjectLaws
 pub mod GoneLaws

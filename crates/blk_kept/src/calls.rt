@@ -14,6 +14,7 @@ ghost use Rattle.blk_kept.specs.GroupLaws.{GoneItemsAreUnlinked};
 ghost use Rattle.blk_kept.specs.ListLaws.{TouchesKeepTheState, TouchesKeepTheCounters};
 ghost use Rattle.blk_kept.specs.NewEntryLaws.{InsertsFindTheSame, LinksFindTheSame, NewEntriesAreKept, NewEntriesAreOneMore};
 ghost use Rattle.blk_kept.specs.NewPartLaws.{NewPartsHoldTheOthers, NewPartsAreAtRest, NewPartsAtEachWrite, NewPartsAreLinked, ParentsDataMayChange, NotedParentsAreChanges, NewPartsEnd};
+ghost use Rattle.blk_kept.specs.NewPartsKept.{PartInsertsFindEither, MakingPartsFindsTheNext, PartValuesKeepUnsettled, NewPartsAreKept};
 ghost use Rattle.blk_kept.specs.ObjectLaws.{HandlesMayChange, HandlesAreNotCounted, UnsettledItemsFindTheSame, DoomedObjectsFindTheSame, ChangedItemsAreKept, ChangedDoomedObjectsAreKept};
 ghost use Rattle.blk_kept.specs.RecordLaws.{RecordUpdatesChangeOnly, RecordUpdatesLeaveCounters, MarkingFindsEither, MarkingKeepsTheState, MarkingKeepsTheCounters};
 ghost use Rattle.blk_kept.specs.RemovalLaws.{RemovalsFindEither, UnlinkingFindsTheOthers, RemovedItemsAreUnlinked};
@@ -69,6 +70,14 @@ pub fn new_parts_are_shown()
     ensures parent { ParentsDataMayChange }
     ensures noted { NotedParentsAreChanges }
     ensures ends { NewPartsEnd }
+{}
+
+/// So it is in a folder: while a part is made what is at rest is found, and in the end the state with the part is kept, whose words are unlinked no longer.
+pub fn new_parts_are_kept()
+    ensures inserting { PartInsertsFindEither }
+    ensures making { MakingPartsFindsTheNext }
+    ensures unsettled { PartValuesKeepUnsettled }
+    ensures kept { NewPartsAreKept }
 {}
 
 /// The allocations of the files of a kind are at most five for each item and doomed object, and one for each unlinked word; so they leave room where a state and what a command adds have no more items than a cache may have.
