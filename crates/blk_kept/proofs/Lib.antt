@@ -45,6 +45,7 @@ pub mod NewPartsKept
 pub mod LinkedOnce
 pub mod Bounds
 pub mod Objects
+pub mod DoomedMarks
 pub mod Gone
 pub mod Removals
 pub mod DoneSteps

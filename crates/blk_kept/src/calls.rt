@@ -16,7 +16,7 @@ ghost use Rattle.blk_kept.specs.NewEntryLaws.{InsertsFindTheSame, LinksFindTheSa
 ghost use Rattle.blk_kept.specs.NewPartLaws.{NewPartsHoldTheOthers, NewPartsAreAtRest, NewPartsAtEachWrite, NewPartsAreLinked, ParentsDataMayChange, NotedParentsAreChanges, NewPartsEnd};
 ghost use Rattle.blk_kept.specs.NewPartsKept.{PartInsertsFindEither, MakingPartsFindsTheNext, PartValuesKeepUnsettled, NewPartsAreKept};
 ghost use Rattle.blk_kept.specs.ObjectLaws.{HandlesMayChange, HandlesAreNotCounted, UnsettledItemsFindTheSame, DoomedObjectsFindTheSame, ChangedItemsAreKept, ChangedDoomedObjectsAreKept};
-ghost use Rattle.blk_kept.specs.RecordLaws.{RecordUpdatesChangeOnly, RecordUpdatesLeaveCounters, MarkingFindsEither, MarkingKeepsTheState, MarkingKeepsTheCounters};
+ghost use Rattle.blk_kept.specs.RecordLaws.{DoomedMarkingFindsTheSame, DoomedMarkingKeepsTheState, DoomedMarkingKeepsTheCounters, RecordUpdatesChangeOnly, RecordUpdatesLeaveCounters, MarkingFindsEither, MarkingKeepsTheState, MarkingKeepsTheCounters};
 ghost use Rattle.blk_kept.specs.RemovalLaws.{RemovalsFindEither, UnlinkingFindsTheOthers, RemovedItemsAreUnlinked};
 
 /// Where a call leaves the files, another state that lies there with the same words in use is kept.
@@ -37,6 +37,13 @@ pub fn objects_are_marked()
     ensures find { MarkingFindsEither }
     ensures uncounted { MarkingKeepsTheState }
     ensures counted { MarkingKeepsTheCounters }
+{}
+
+/// The dirty word of a doomed object may be set and cleared: what was at rest is found at each word, and in the end the object is unsettled or settled, which is not counted.
+pub fn doomed_objects_are_marked()
+    ensures find { DoomedMarkingFindsTheSame }
+    ensures uncounted { DoomedMarkingKeepsTheState }
+    ensures counted { DoomedMarkingKeepsTheCounters }
 {}
 
 /// Each counter of the index may be written, and once the three are, the state is counted.
