@@ -144,10 +144,10 @@ module _ (state : State) (layout : Layout) (unlinked : List ℕ) (number : ℕ) 
 
   -- nodes
   node-stays : is_among parts node ≡ false
-  node-stays = groups.stay-apart state layout unlinked keep from k node (groups.stays-in state layout unlinked keep from k (main key) listed (main-stays key key))
+  node-stays = groups.stay-apart state layout keep k.numbers k.represents.holds.lies k.owners node (groups.stays-in state layout keep k.numbers k.represents.holds.lies k.owners (main key) listed (main-stays key key))
 
   others-stay : (n : ℕ) → is_among (nodes_of layout (filter (is_of_another key) state.uses)) n ≡ true → is_among parts n ≡ false
-  others-stay n there = groups.stay-apart state layout unlinked keep from k n
+  others-stay n there = groups.stay-apart state layout keep k.numbers k.represents.holds.lies k.owners n
       (ap (λ (ns : List ℕ). is_among ns n) stay-is ∙ sym (moved-among prefix node suffix n) ∙ or_right (node == n) (is_among (prefix ++ suffix) n) (ap (λ (ns : List ℕ). is_among ns n) (sym new-order) ∙ there))
 
   nodes-now : all_nodes after now (number ∷ k.numbers) ≡ (prefix ++ suffix) ++ node ∷ rest-nodes
@@ -167,7 +167,7 @@ module _ (state : State) (layout : Layout) (unlinked : List ℕ) (number : ℕ) 
   among-same n = ap (λ (ns : List ℕ). is_among ns n) nodes-now ∙ sym (moved-among (prefix ++ suffix) node rest-nodes n) ∙ ap (λ (ns : List ℕ). is_among ns n) (sym front) ∙ moved-among prefix node (suffix ++ rest-nodes) n ∙ ap (λ (ns : List ℕ). is_among ns n) (sym nodes-left)
 
   once-front : Distinct (node ∷ (prefix ++ suffix) ++ rest-nodes)
-  once-front = subst Distinct front (moved-distinct prefix node (suffix ++ rest-nodes) (subst Distinct nodes-left (groups.stay-once state layout unlinked keep from k)))
+  once-front = subst Distinct front (moved-distinct prefix node (suffix ++ rest-nodes) (subst Distinct nodes-left (groups.stay-once state layout keep k.numbers k.represents.holds.lies k.owners)))
 
   -- words
   abbrev free_words : List ℕ
@@ -182,30 +182,30 @@ module _ (state : State) (layout : Layout) (unlinked : List ℕ) (number : ℕ) 
 
   same-words : IsPermutation (words_in_use unlinked (all_loaded state layout k.numbers)) (words_in_use free_words (all_loaded after now (number ∷ k.numbers)))
   same-words = IsPermutation-trans (words_in_use unlinked (all_loaded state layout k.numbers)) (free_words ++ words_at at (nodes_of layout (filter keep state.uses) ++ rest-nodes)) (words_in_use free_words (all_loaded after now (number ∷ k.numbers)))
-      (subst (λ (ws : List ℕ). IsPermutation (words_in_use unlinked (all_loaded state layout k.numbers)) (free_words ++ ws)) (sym (groups.words-left state layout unlinked keep from k)) (groups.all-words state layout unlinked keep from k))
+      (subst (λ (ws : List ℕ). IsPermutation (words_in_use unlinked (all_loaded state layout k.numbers)) (free_words ++ ws)) (sym (groups.words-left state layout keep k.numbers k.represents.holds.lies k.owners)) (groups.all-words state layout unlinked keep from k))
       (IsPermutation-append_right free_words (words_at at (nodes_of layout (filter keep state.uses) ++ rest-nodes)) (words_at at (all_nodes after now (number ∷ k.numbers))) moved-words)
 
   -- what lies where
   has-less : HasLess state after.objects (is_of_another key) layout at chains (owners_without layout parts)
   has-less = record {
-    stays = λ i x other there is. groups.still-there state layout unlinked keep from k (layout.place i) x (groups.stay-apart state layout unlinked keep from k (layout.place i) (groups.stays-in state layout unlinked keep from k i there (stays-there key i other))) is;
-    others = λ n x out is. groups.still-there state layout unlinked keep from k n x
-        (⊎_elim (λ (e : is_among parts n ≡ true). absurd (let z : true ≡ false = sym (groups.in-order state layout unlinked keep from k (λ i. not (keep i)) n e) ∙ out in cc)) (λ (e : is_among parts n ≡ false). e) (cases_Bool (is_among parts n))) is;
-    was = λ n x is. (groups.not-gone state layout unlinked keep from k n x is).1;
-    chain_stays = λ n x there is among. u.holds.chained n x (groups.in-order state layout unlinked keep from k (is_of_another key) n there) (groups.not-gone state layout unlinked keep from k n x is).1 (groups.stay-apart state layout unlinked (is_of_another key) from k n there);
+    stays = λ i x other there is. groups.still-there state layout keep k.numbers k.represents.holds.lies k.owners (layout.place i) x (groups.stay-apart state layout keep k.numbers k.represents.holds.lies k.owners (layout.place i) (groups.stays-in state layout keep k.numbers k.represents.holds.lies k.owners i there (stays-there key i other))) is;
+    others = λ n x out is. groups.still-there state layout keep k.numbers k.represents.holds.lies k.owners n x
+        (⊎_elim (λ (e : is_among parts n ≡ true). absurd (let z : true ≡ false = sym (groups.in-order state layout keep k.numbers k.represents.holds.lies k.owners (λ i. not (keep i)) n e) ∙ out in cc)) (λ (e : is_among parts n ≡ false). e) (cases_Bool (is_among parts n))) is;
+    was = λ n x is. (groups.not-gone state layout keep k.numbers k.represents.holds.lies k.owners n x is).1;
+    chain_stays = λ n x there is among. u.holds.chained n x (groups.in-order state layout keep k.numbers k.represents.holds.lies k.owners (is_of_another key) n there) (groups.not-gone state layout keep k.numbers k.represents.holds.lies k.owners n x is).1 (groups.stay-apart state layout (is_of_another key) k.numbers k.represents.holds.lies k.owners n there);
     chain_was = λ bucket contents small among.
         let q : IsListedRecord state layout contents = k.represents.holds.lies.unchained bucket contents small (u.chained bucket contents small among) in
         let kept : is_among (gone_nodes state layout (is_of_another key)) q.node ≡ false = ⊎_elim
         (λ (e : is_among (gone_nodes state layout (is_of_another key)) q.node ≡ true). absurd (let z : true ≡ false = sym (eq-eqb contents q.loaded.contents (sym q.record_is)) ∙ u.out bucket contents small among q.node q.loaded e q.here in cc))
         (λ (e : is_among (gone_nodes state layout (is_of_another key)) q.node ≡ false). e)
         (cases_Bool (is_among (gone_nodes state layout (is_of_another key)) q.node)) in
-        let there = groups.in-stay state layout unlinked (is_of_another key) from k q.node q.listed kept in
-        record { node = q.node; loaded = q.loaded; listed = there; here = groups.still-there state layout unlinked keep from k q.node q.loaded (others-stay q.node there) q.here; record_is = q.record_is };
-    own = λ n x c is has mine. groups.still-owned state layout unlinked keep from k c n mine (groups.not-gone state layout unlinked keep from k n x is).0;
+        let there = groups.in-stay state layout (is_of_another key) k.numbers k.represents.holds.lies k.owners q.node q.listed kept in
+        record { node = q.node; loaded = q.loaded; listed = there; here = groups.still-there state layout keep k.numbers k.represents.holds.lies k.owners q.node q.loaded (others-stay q.node there) q.here; record_is = q.record_is };
+    own = λ n x c is has mine. groups.still-owned state layout keep k.numbers k.represents.holds.lies k.owners c n mine (groups.not-gone state layout keep k.numbers k.represents.holds.lies k.owners n x is).0;
   }
 
   doomed-now : IsDoomedNow state layout number object l at chains (owners_without layout parts)
-  doomed-now = record { lies = lies; node_fields = held; less = has-less; stays = groups.still-there state layout unlinked keep from k node l node-stays lies.at }
+  doomed-now = record { lies = lies; node_fields = held; less = has-less; stays = groups.still-there state layout keep k.numbers k.represents.holds.lies k.owners node l node-stays lies.at }
 
   -- of what went out of the chains its node alone has something
   only-main : (n : ℕ) (other : Loaded) → at n ≡ Some other → is_among (gone_nodes state layout (is_of_another key)) n ≡ true → node ≡ n
@@ -216,8 +216,8 @@ module _ (state : State) (layout : Layout) (unlinked : List ℕ) (number : ℕ) 
       (λ (e : same_item (main key) i.item ≡ true). ap layout.place (one_item (main key) i.item e) ∙ i.is)
       (λ (e : same_item (main key) i.item ≡ false).
       let goes : keep i.item ≡ false = neither (is_of_another key i.item) (same_item (main key) i.item) both.0 e in
-      let out : is_among parts n ≡ true = subst (λ (x : ℕ). is_among parts x ≡ true) i.is (groups.goes state layout unlinked keep from k i.item both.1 goes) in
-      absurd (let z : true ≡ false = sym out ∙ (groups.not-gone state layout unlinked keep from k n other is).0 in cc))
+      let out : is_among parts n ≡ true = subst (λ (x : ℕ). is_among parts x ≡ true) i.is (groups.goes state layout keep k.numbers k.represents.holds.lies k.owners i.item both.1 goes) in
+      absurd (let z : true ≡ false = sym out ∙ (groups.not-gone state layout keep k.numbers k.represents.holds.lies k.owners n other is).0 in cc))
       (cases_Bool (same_item (main key) i.item))
     where
       neither : (b c : Bool) → not b ≡ true → c ≡ false → (b || c) ≡ false
@@ -228,7 +228,7 @@ module _ (state : State) (layout : Layout) (unlinked : List ℕ) (number : ℕ) 
   represents-now = doomed-is-represented (is_among (gone_nodes state layout (is_of_another key))) (view_of image) state layout k.represents.holds.lies k.valid number object l at chains (owners_without layout parts) doomed-now u.holds only-main u.loads u.list
 
   sealed : AllAreSealed image now
-  sealed n x is = let p = groups.not-gone state layout unlinked keep from k n x is in u.sealed n x p.1 p.0 (k.sealed n x p.1)
+  sealed n x is = let p = groups.not-gone state layout keep k.numbers k.represents.holds.lies k.owners n x is in u.sealed n x p.1 p.0 (k.sealed n x p.1)
 
   marked : AreMarkedBy (this_id_of (byte from Index)) after now
   marked n z is live unsettled = ⊎_elim
@@ -237,7 +237,7 @@ module _ (state : State) (layout : Layout) (unlinked : List ℕ) (number : ℕ) 
       absurd (let c : false ≡ true = ap (λ (x : Object). x.live) same_one ∙ live in cc))
       (λ (e : n ≢ number).
       let was : object_at state n ≡ Some z = sym (slot-else state layout unlinked number object l from k lies held n e) ∙ is in
-      let apart : is_among parts (layout.place (main z.key)) ≡ false = groups.stay-apart state layout unlinked keep from k (layout.place (main z.key)) (groups.stays-in state layout unlinked keep from k (main z.key) (main-listed state k.valid n z true was live) (main-stays key z.key)) in
+      let apart : is_among parts (layout.place (main z.key)) ≡ false = groups.stay-apart state layout keep k.numbers k.represents.holds.lies k.owners (layout.place (main z.key)) (groups.stays-in state layout keep k.numbers k.represents.holds.lies k.owners (main z.key) (main-listed state k.valid n z true was live) (main-stays key z.key)) in
       let here : at (layout.place (main z.key)) ≡ layout.at (layout.place (main z.key)) = rw apart refl in
       subst (λ (x : Option Loaded). IfSome x (λ loaded. loaded.dirty ≡ this_id_of (byte from Index))) (sym here) (k.session.marked n z was live unsettled))
       (cases_eq n number)
@@ -248,9 +248,9 @@ module _ (state : State) (layout : Layout) (unlinked : List ℕ) (number : ℕ) 
     represents = represents-now;
     owners = record {
       exact = λ c n is.
-          let p = groups.was-owned state layout unlinked keep from k c n is in
+          let p = groups.was-owned state layout keep k.numbers k.represents.holds.lies k.owners c n is in
           let o : IsOwner state layout (doomed_nodes layout k.numbers) c n = k.owners.exact c n p.1 in
-          record { among = among-same n ∙ groups.among-left state layout unlinked keep from k n p.0 o.among; loaded = o.loaded; here = groups.still-there state layout unlinked keep from k n o.loaded p.0 o.here; claims = o.claims };
+          record { among = among-same n ∙ groups.among-left state layout keep k.numbers k.represents.holds.lies k.owners n p.0 o.among; loaded = o.loaded; here = groups.still-there state layout keep k.numbers k.represents.holds.lies k.owners n o.loaded p.0 o.here; claims = o.claims };
       once = subst Distinct (sym nodes-now) (distinct-in (prefix ++ suffix) node rest-nodes once-front.0 once-front.1);
       doomed = numbers-are state layout unlinked number object l from k lies held at chains (owners_without layout parts);
     };

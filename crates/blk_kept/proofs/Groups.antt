@@ -17,7 +17,7 @@ use Rattle.blk_format.specs.BlockFiles.{is_among, stands_in}
 use Rattle.blk_format.specs.Claims.{Claim, claims_of, claims_of_all, has_claim, repeats}
 use Rattle.blk_format.specs.Headers.{this_id_of}
 use Rattle.blk_format.proofs.Among.{is_among-append}
-use Rattle.blk_volume.specs.Layout.{IsListedRecord, Layout, Represents, is_in, is_listed, nodes_of, order}
+use Rattle.blk_volume.specs.Layout.{IsLayoutOf, IsListedRecord, Layout, Represents, is_in, is_listed, nodes_of, order}
 use Rattle.blk_volume.specs.ListView.{Distinct}
 use Rattle.blk_volume.specs.Loads.{Loaded, all_claims}
 use Rattle.blk_volume.specs.Removal.{HasLess, without_items}
@@ -37,7 +37,7 @@ use Rattle.std.proofs.lemmas.List.Elements.{filter-append}
 use Rattle.blk_laws.proofs.commands.Unlinking.{less-represented}
 use Rattle.blk_kept.specs.Arranging.{IsArranged}
 use Rattle.blk_kept.specs.GroupLaws.{AreOut, GoneItemsAreUnlinked, IsLess, at_without, gone_nodes, layout_less, owners_without}
-use Rattle.blk_kept.specs.Keeping.{AreMarkedBy, KeepsUncounted, all_loaded, words_in_use}
+use Rattle.blk_kept.specs.Keeping.{AreMarkedBy, AreOwners, KeepsUncounted, all_loaded, words_in_use}
 use Rattle.blk_kept.proofs.Arranging.{arranged-once, arranged-stand, rearranged}
 use Rattle.blk_kept.proofs.Claimed.{once-alike}
 use Rattle.blk_kept.proofs.Headers.{stand-same}
@@ -103,7 +103,7 @@ record IsItemAt (state : State) (layout : Layout) (p : Item → Bool) (n : ℕ) 
   pub listed : is_listed state item ≡ true
   pub is : layout.place item ≡ n
 
-module _ (state : State) (layout : Layout) (unlinked : List ℕ) (keep : Item → Bool) (from : Image) (k : KeepsUncounted state layout unlinked from) where
+module _ (state : State) (layout : Layout) (keep : Item → Bool) (numbers : List ℕ) (lies : IsLayoutOf state layout) (owners : AreOwners state layout numbers) where
   abbrev pub gone : List ℕ
   gone = gone_nodes state layout keep
 
@@ -111,7 +111,7 @@ module _ (state : State) (layout : Layout) (unlinked : List ℕ) (keep : Item �
   stay = nodes_of layout (filter keep state.uses)
 
   abbrev pub doomed_ones : List ℕ
-  doomed_ones = doomed_nodes layout k.numbers
+  doomed_ones = doomed_nodes layout numbers
 
   both : {a b : Bool} → a ≡ true → b ≡ true → (a && b) ≡ true
   both p q = rw (p, q) refl
@@ -138,14 +138,14 @@ module _ (state : State) (layout : Layout) (unlinked : List ℕ) (keep : Item �
       (λ (e : is_among gone n ≡ true).
       let i = item-at keep n there in
       let j = item-at (λ item. not (keep item)) n e in
-      let same : i.item ≡ j.item = same-place state layout k.represents.holds.lies i.item j.item i.listed j.listed (i.is ∙ sym j.is) in
+      let same : i.item ≡ j.item = same-place state layout lies i.item j.item i.listed j.listed (i.is ∙ sym j.is) in
       absurd (let z : false ≡ true = ap not (sym i.passes ∙ ap keep same) ∙ j.passes in cc))
       (λ (e : is_among gone n ≡ false). e)
       (cases_Bool (is_among gone n))
 
   pub doomed-apart : (n : ℕ) → is_among doomed_ones n ≡ true → is_among gone n ≡ false
   doomed-apart n there = ⊎_elim
-      (λ (e : is_among gone n ≡ true). absurd (let z : true ≡ false = sym (in-order (λ item. not (keep item)) n e) ∙ apart_left (order state layout) doomed_ones n k.owners.once there in cc))
+      (λ (e : is_among gone n ≡ true). absurd (let z : true ≡ false = sym (in-order (λ item. not (keep item)) n e) ∙ apart_left (order state layout) doomed_ones n owners.once there in cc))
       (λ (e : is_among gone n ≡ false). e)
       (cases_Bool (is_among gone n))
 
@@ -188,27 +188,6 @@ module _ (state : State) (layout : Layout) (unlinked : List ℕ) (keep : Item �
   pub words-left : words_at (at_without layout gone) (stay ++ doomed_ones) ≡ words_at layout.at stay ++ words_at layout.at doomed_ones
   words-left = ap (flat_map words_of) (same-at layout gone (stay ++ doomed_ones) left-apart) ∙ words-append layout.at stay doomed_ones
 
-  pub all-words : IsPermutation (words_in_use unlinked (all_loaded state layout k.numbers)) ((words_at layout.at gone ++ unlinked) ++ (words_at layout.at stay ++ words_at layout.at doomed_ones))
-  all-words =
-      subst (λ (ws : List ℕ). IsPermutation (unlinked ++ ws) ((words_at layout.at gone ++ unlinked) ++ (words_at layout.at stay ++ words_at layout.at doomed_ones))) (sym (words-append layout.at (order state layout) doomed_ones))
-      (IsPermutation-trans (unlinked ++ (words_at layout.at (order state layout) ++ words_at layout.at doomed_ones)) (unlinked ++ ((words_at layout.at gone ++ words_at layout.at stay) ++ words_at layout.at doomed_ones)) ((words_at layout.at gone ++ unlinked) ++ (words_at layout.at stay ++ words_at layout.at doomed_ones))
-      (IsPermutation-append_right unlinked (words_at layout.at (order state layout) ++ words_at layout.at doomed_ones) ((words_at layout.at gone ++ words_at layout.at stay) ++ words_at layout.at doomed_ones)
-      (IsPermutation-append_left (words_at layout.at doomed_ones) (words_at layout.at (order state layout)) (words_at layout.at gone ++ words_at layout.at stay) (parted layout keep state.uses)))
-      (subst (λ (ws : List ℕ). IsPermutation (unlinked ++ ws) ((words_at layout.at gone ++ unlinked) ++ (words_at layout.at stay ++ words_at layout.at doomed_ones))) (sym (append_assoc (words_at layout.at gone) (words_at layout.at stay) (words_at layout.at doomed_ones)))
-      (subst (IsPermutation (unlinked ++ (words_at layout.at gone ++ (words_at layout.at stay ++ words_at layout.at doomed_ones)))) (sym (append_assoc (words_at layout.at gone) unlinked (words_at layout.at stay ++ words_at layout.at doomed_ones))) (to-front unlinked (words_at layout.at gone) (words_at layout.at stay ++ words_at layout.at doomed_ones)))))
-
-  pub before : IsArranged state layout k.numbers unlinked from
-  before = record { valid = k.valid; represents = k.represents; owners = k.owners; unlinked_words = k.unlinked_words; sealed = k.sealed; marked = k.session.marked }
-
-  pub free : (c : Claim) → has_claim (claims_of_all (words_at layout.at gone ++ unlinked)) c ≡ true → owners_without layout gone c ≡ None
-  free c e = ⊎_elim
-      (λ (h : has_claim (claims_of_all (words_at layout.at gone)) c ≡ true). let q = claimed-by layout k.represents.holds.lies.own gone c h in let there = q.1.0 in let mine = q.1.1 in rw (mine, there) refl)
-      (λ (h : has_claim (claims_of_all (words_at layout.at gone)) c ≡ false).
-      let all : (has_claim (claims_of_all (words_at layout.at gone)) c || has_claim (claims_of_all unlinked) c) ≡ true = sym (ap (λ (cs : List Claim). has_claim cs c) (flat_map-append claims_of (words_at layout.at gone) unlinked) ∙ claim-append (claims_of_all (words_at layout.at gone)) (claims_of_all unlinked) c) ∙ e in
-      let none : layout.owner c ≡ None = k.unlinked_words.free c (rw h at all) in
-      rw none refl)
-      (cases_Bool (has_claim (claims_of_all (words_at layout.at gone)) c))
-
   -- the nodes that are left are those of the old ones that don't go
   pub filtered : (items : List Item) → ((i : Item) → is_in items i ≡ true → is_listed state i ≡ true) → filter (λ n. not (is_among gone n)) (nodes_of layout items) ≡ nodes_of layout (filter keep items)
   filtered [] sub = refl
@@ -225,16 +204,7 @@ module _ (state : State) (layout : Layout) (unlinked : List ℕ) (keep : Item �
   all-stay (n ∷ ns) apart = let e = apart n (or_left (n == n) (is_among ns n) (eq-eqb n n refl)) in rw e (ap (λ (ms : List ℕ). n ∷ ms) (all-stay ns (λ m h. apart m (or_right (n == m) (is_among ns m) h))))
 
   pub stay-once : Distinct (stay ++ doomed_ones)
-  stay-once = subst Distinct (filter-append (λ n. not (is_among gone n)) (order state layout) doomed_ones ∙ (λ i. filtered state.uses (λ j h. h) i ++ all-stay doomed_ones doomed-apart i)) (Distinct-filter (λ n. not (is_among gone n)) (order state layout ++ doomed_ones) k.owners.once)
-
-  -- what goes stands, and no two of its blocks and external numbers are one
-  pub gone-stand : AllByRecursion (λ v. stands_in from v ≡ true) (words_at layout.at gone ++ unlinked)
-  gone-stand = first-of (λ v. stands_in from v ≡ true) (words_at layout.at gone ++ unlinked) (words_at layout.at stay ++ words_at layout.at doomed_ones)
-      (all-to (λ v. stands_in from v ≡ true) _ (All-permutation (λ v. stands_in from v ≡ true) _ _ all-words (all-from (λ v. stands_in from v ≡ true) _ (arranged-stand state layout k.numbers unlinked from before))))
-
-  pub gone-single : repeats (claims_of_all (words_at layout.at gone ++ unlinked)) ≡ false
-  gone-single = repeats-head (claims_of_all (words_at layout.at gone ++ unlinked)) (claims_of_all (words_at layout.at stay ++ words_at layout.at doomed_ones))
-      (ap repeats (sym (flat_map-append claims_of (words_at layout.at gone ++ unlinked) (words_at layout.at stay ++ words_at layout.at doomed_ones))) ∙ once-alike _ _ all-words (arranged-once state layout k.numbers unlinked from before))
+  stay-once = subst Distinct (filter-append (λ n. not (is_among gone n)) (order state layout) doomed_ones ∙ (λ i. filtered state.uses (λ j h. h) i ++ all-stay doomed_ones doomed-apart i)) (Distinct-filter (λ n. not (is_among gone n)) (order state layout ++ doomed_ones) owners.once)
 
   pub among-left : (n : ℕ) → is_among gone n ≡ false → is_among (order state layout ++ doomed_ones) n ≡ true → is_among (stay ++ doomed_ones) n ≡ true
   among-left n kept there = ⊎_elim
@@ -244,34 +214,74 @@ module _ (state : State) (layout : Layout) (unlinked : List ℕ) (keep : Item �
       is_among-append stay doomed_ones n ∙ or_right (is_among stay n) (is_among doomed_ones n) (rw e at h))
       (cases_Bool (is_among (order state layout) n))
 
+module _ (state : State) (layout : Layout) (unlinked : List ℕ) (keep : Item → Bool) (from : Image) (k : KeepsUncounted state layout unlinked from) where
+  abbrev gone_ones : List ℕ
+  gone_ones = gone_nodes state layout keep
+
+  abbrev stay_ones : List ℕ
+  stay_ones = nodes_of layout (filter keep state.uses)
+
+  abbrev dead_ones : List ℕ
+  dead_ones = doomed_nodes layout k.numbers
+
+  pub all-words : IsPermutation (words_in_use unlinked (all_loaded state layout k.numbers)) ((words_at layout.at gone_ones ++ unlinked) ++ (words_at layout.at stay_ones ++ words_at layout.at dead_ones))
+  all-words =
+      subst (λ (ws : List ℕ). IsPermutation (unlinked ++ ws) ((words_at layout.at gone_ones ++ unlinked) ++ (words_at layout.at stay_ones ++ words_at layout.at dead_ones))) (sym (words-append layout.at (order state layout) dead_ones))
+      (IsPermutation-trans (unlinked ++ (words_at layout.at (order state layout) ++ words_at layout.at dead_ones)) (unlinked ++ ((words_at layout.at gone_ones ++ words_at layout.at stay_ones) ++ words_at layout.at dead_ones)) ((words_at layout.at gone_ones ++ unlinked) ++ (words_at layout.at stay_ones ++ words_at layout.at dead_ones))
+      (IsPermutation-append_right unlinked (words_at layout.at (order state layout) ++ words_at layout.at dead_ones) ((words_at layout.at gone_ones ++ words_at layout.at stay_ones) ++ words_at layout.at dead_ones)
+      (IsPermutation-append_left (words_at layout.at dead_ones) (words_at layout.at (order state layout)) (words_at layout.at gone_ones ++ words_at layout.at stay_ones) (parted layout keep state.uses)))
+      (subst (λ (ws : List ℕ). IsPermutation (unlinked ++ ws) ((words_at layout.at gone_ones ++ unlinked) ++ (words_at layout.at stay_ones ++ words_at layout.at dead_ones))) (sym (append_assoc (words_at layout.at gone_ones) (words_at layout.at stay_ones) (words_at layout.at dead_ones)))
+      (subst (IsPermutation (unlinked ++ (words_at layout.at gone_ones ++ (words_at layout.at stay_ones ++ words_at layout.at dead_ones)))) (sym (append_assoc (words_at layout.at gone_ones) unlinked (words_at layout.at stay_ones ++ words_at layout.at dead_ones))) (to-front unlinked (words_at layout.at gone_ones) (words_at layout.at stay_ones ++ words_at layout.at dead_ones)))))
+
+  pub before : IsArranged state layout k.numbers unlinked from
+  before = record { valid = k.valid; represents = k.represents; owners = k.owners; unlinked_words = k.unlinked_words; sealed = k.sealed; marked = k.session.marked }
+
+  pub free : (c : Claim) → has_claim (claims_of_all (words_at layout.at gone_ones ++ unlinked)) c ≡ true → owners_without layout gone_ones c ≡ None
+  free c e = ⊎_elim
+      (λ (h : has_claim (claims_of_all (words_at layout.at gone_ones)) c ≡ true). let q = claimed-by layout k.represents.holds.lies.own gone_ones c h in let there = q.1.0 in let mine = q.1.1 in rw (mine, there) refl)
+      (λ (h : has_claim (claims_of_all (words_at layout.at gone_ones)) c ≡ false).
+      let all : (has_claim (claims_of_all (words_at layout.at gone_ones)) c || has_claim (claims_of_all unlinked) c) ≡ true = sym (ap (λ (cs : List Claim). has_claim cs c) (flat_map-append claims_of (words_at layout.at gone_ones) unlinked) ∙ claim-append (claims_of_all (words_at layout.at gone_ones)) (claims_of_all unlinked) c) ∙ e in
+      let none : layout.owner c ≡ None = k.unlinked_words.free c (rw h at all) in
+      rw none refl)
+      (cases_Bool (has_claim (claims_of_all (words_at layout.at gone_ones)) c))
+
+  -- what (goes state layout keep k.numbers k.represents.holds.lies k.owners) stands, and no two of its blocks and external numbers are one
+  pub gone-stand : AllByRecursion (λ v. stands_in from v ≡ true) (words_at layout.at gone_ones ++ unlinked)
+  gone-stand = first-of (λ v. stands_in from v ≡ true) (words_at layout.at gone_ones ++ unlinked) (words_at layout.at stay_ones ++ words_at layout.at dead_ones)
+      (all-to (λ v. stands_in from v ≡ true) _ (All-permutation (λ v. stands_in from v ≡ true) _ _ all-words (all-from (λ v. stands_in from v ≡ true) _ (arranged-stand state layout k.numbers unlinked from before))))
+
+  pub gone-single : repeats (claims_of_all (words_at layout.at gone_ones ++ unlinked)) ≡ false
+  gone-single = repeats-head (claims_of_all (words_at layout.at gone_ones ++ unlinked)) (claims_of_all (words_at layout.at stay_ones ++ words_at layout.at dead_ones))
+      (ap repeats (sym (flat_map-append claims_of (words_at layout.at gone_ones ++ unlinked) (words_at layout.at stay_ones ++ words_at layout.at dead_ones))) ∙ once-alike _ _ all-words (arranged-once state layout k.numbers unlinked from before))
+
   module _ (objects : List (Option Object)) (chains : ℕ → List ℕ) (image : Image) (w : IsLess state objects keep) (o : AreOut state layout keep chains from image) where
     abbrev after : State
     after = without_items state objects keep
 
     abbrev now : Layout
-    now = layout_less layout gone chains
+    now = layout_less layout gone_ones chains
 
-    has-less : HasLess state objects keep layout (at_without layout gone) chains (owners_without layout gone)
+    has-less : HasLess state objects keep layout (at_without layout gone_ones) chains (owners_without layout gone_ones)
     has-less = record {
-      stays = λ i l stays there is. still-there (layout.place i) l (stay-apart (layout.place i) (stays-in i there stays)) is;
-      others = λ n l out is. still-there n l (⊎_elim (λ (e : is_among gone n ≡ true). absurd (let z : true ≡ false = sym (in-order (λ item. not (keep item)) n e) ∙ out in cc)) (λ (e : is_among gone n ≡ false). e) (cases_Bool (is_among gone n))) is;
-      was = λ n l is. (not-gone n l is).1;
-      chain_stays = λ n l there is among. let p = not-gone n l is in o.holds.chained n l (in-order keep n there) p.1 p.0;
+      stays = λ i l stays there is. (still-there state layout keep k.numbers k.represents.holds.lies k.owners) (layout.place i) l ((stay-apart state layout keep k.numbers k.represents.holds.lies k.owners) (layout.place i) ((stays-in state layout keep k.numbers k.represents.holds.lies k.owners) i there stays)) is;
+      others = λ n l out is. (still-there state layout keep k.numbers k.represents.holds.lies k.owners) n l (⊎_elim (λ (e : is_among gone_ones n ≡ true). absurd (let z : true ≡ false = sym ((in-order state layout keep k.numbers k.represents.holds.lies k.owners) (λ item. not (keep item)) n e) ∙ out in cc)) (λ (e : is_among gone_ones n ≡ false). e) (cases_Bool (is_among gone_ones n))) is;
+      was = λ n l is. ((not-gone state layout keep k.numbers k.represents.holds.lies k.owners) n l is).1;
+      chain_stays = λ n l there is among. let p = (not-gone state layout keep k.numbers k.represents.holds.lies k.owners) n l is in o.holds.chained n l ((in-order state layout keep k.numbers k.represents.holds.lies k.owners) keep n there) p.1 p.0;
       chain_was = λ bucket contents small among.
           let q : IsListedRecord state layout contents = k.represents.holds.lies.unchained bucket contents small (o.chained bucket contents small among) in
-          let kept : is_among gone q.node ≡ false = ⊎_elim
-          (λ (e : is_among gone q.node ≡ true). absurd (let z : true ≡ false = sym (eq-eqb contents q.loaded.contents (sym q.record_is)) ∙ o.out bucket contents small among q.node q.loaded e q.here in cc))
-          (λ (e : is_among gone q.node ≡ false). e)
-          (cases_Bool (is_among gone q.node)) in
-          record { node = q.node; loaded = q.loaded; listed = in-stay q.node q.listed kept; here = still-there q.node q.loaded kept q.here; record_is = q.record_is };
-      own = λ n l c is has mine. still-owned c n mine (not-gone n l is).0;
+          let kept : is_among gone_ones q.node ≡ false = ⊎_elim
+          (λ (e : is_among gone_ones q.node ≡ true). absurd (let z : true ≡ false = sym (eq-eqb contents q.loaded.contents (sym q.record_is)) ∙ o.out bucket contents small among q.node q.loaded e q.here in cc))
+          (λ (e : is_among gone_ones q.node ≡ false). e)
+          (cases_Bool (is_among gone_ones q.node)) in
+          record { node = q.node; loaded = q.loaded; listed = (in-stay state layout keep k.numbers k.represents.holds.lies k.owners) q.node q.listed kept; here = (still-there state layout keep k.numbers k.represents.holds.lies k.owners) q.node q.loaded kept q.here; record_is = q.record_is };
+      own = λ n l c is has mine. (still-owned state layout keep k.numbers k.represents.holds.lies k.owners) c n mine ((not-gone state layout keep k.numbers k.represents.holds.lies k.owners) n l is).0;
     }
 
     represents-now : Represents (view_of image) after now
-    represents-now = less-represented (is_among gone) (view_of image) state objects keep layout (at_without layout gone) chains (owners_without layout gone) k.represents.holds.lies w.lists has-less o.holds (λ n l is. (not-gone n l is).0) o.list
+    represents-now = less-represented (is_among gone_ones) (view_of image) state objects keep layout (at_without layout gone_ones) chains (owners_without layout gone_ones) k.represents.holds.lies w.lists has-less o.holds (λ n l is. ((not-gone state layout keep k.numbers k.represents.holds.lies k.owners) n l is).0) o.list
 
-    same-words : IsPermutation (words_in_use unlinked (all_loaded state layout k.numbers)) (words_in_use (words_at layout.at gone ++ unlinked) (all_loaded after now k.numbers))
-    same-words = subst (λ (ws : List ℕ). IsPermutation (words_in_use unlinked (all_loaded state layout k.numbers)) ((words_at layout.at gone ++ unlinked) ++ ws)) (sym words-left) all-words
+    same-words : IsPermutation (words_in_use unlinked (all_loaded state layout k.numbers)) (words_in_use (words_at layout.at gone_ones ++ unlinked) (all_loaded after now k.numbers))
+    same-words = subst (λ (ws : List ℕ). IsPermutation (words_in_use unlinked (all_loaded state layout k.numbers)) ((words_at layout.at gone_ones ++ unlinked) ++ ws)) (sym (words-left state layout keep k.numbers k.represents.holds.lies k.owners)) all-words
 
     marked : AreMarkedBy (this_id_of (byte from Index)) after now
     marked n z is live unsettled =
@@ -279,27 +289,27 @@ module _ (state : State) (layout : Layout) (unlinked : List ℕ) (keep : Item �
         let stays : is_listed after (main z.key) ≡ true = main-listed after w.valid n z true is live in
         let all : (keep (main z.key) && is_in state.uses (main z.key)) ≡ true = sym (in-filter keep state.uses (main z.key)) ∙ stays in
         let parts = and_parts (keep (main z.key)) (is_in state.uses (main z.key)) all in
-        let apart : is_among gone (layout.place (main z.key)) ≡ false = stay-apart (layout.place (main z.key)) (stays-in (main z.key) parts.1 parts.0) in
-        let here : at_without layout gone (layout.place (main z.key)) ≡ layout.at (layout.place (main z.key)) = rw apart refl in
+        let apart : is_among gone_ones (layout.place (main z.key)) ≡ false = (stay-apart state layout keep k.numbers k.represents.holds.lies k.owners) (layout.place (main z.key)) ((stays-in state layout keep k.numbers k.represents.holds.lies k.owners) (main z.key) parts.1 parts.0) in
+        let here : at_without layout gone_ones (layout.place (main z.key)) ≡ layout.at (layout.place (main z.key)) = rw apart refl in
         subst (λ (x : Option Loaded). IfSome x (λ loaded. loaded.dirty ≡ this_id_of (byte from Index))) (sym here)
         (subst (λ (key : List ℕ). IfSome (layout.at (layout.place (main key))) (λ loaded. loaded.dirty ≡ this_id_of (byte from Index))) old.2 (k.session.marked n old.0 old.1 old.3 old.4))
 
-    arranged : IsArranged after now k.numbers (words_at layout.at gone ++ unlinked) image
+    arranged : IsArranged after now k.numbers (words_at layout.at gone_ones ++ unlinked) image
     arranged = record {
       valid = w.valid;
       represents = represents-now;
       owners = record {
-        exact = λ c n is. let p = was-owned c n is in let q : IsOwner state layout doomed_ones c n = k.owners.exact c n p.1 in
-            record { among = among-left n p.0 q.among; loaded = q.loaded; here = still-there n q.loaded p.0 q.here; claims = q.claims };
-        once = stay-once;
+        exact = λ c n is. let p = (was-owned state layout keep k.numbers k.represents.holds.lies k.owners) c n is in let q : IsOwner state layout dead_ones c n = k.owners.exact c n p.1 in
+            record { among = (among-left state layout keep k.numbers k.represents.holds.lies k.owners) n p.0 q.among; loaded = q.loaded; here = (still-there state layout keep k.numbers k.represents.holds.lies k.owners) n q.loaded p.0 q.here; claims = q.claims };
+        once = (stay-once state layout keep k.numbers k.represents.holds.lies k.owners);
         doomed = numbers-same state after layout now k.numbers (λ n. same-slots (object_at after n) (object_at state n) (w.dead n)) (λ n there. refl) k.owners.doomed;
       };
       unlinked_words = record {
-        stand = stand-same from image o.leaves.headers (words_at layout.at gone ++ unlinked) gone-stand;
+        stand = stand-same from image o.leaves.headers (words_at layout.at gone_ones ++ unlinked) gone-stand;
         free = free;
         single = gone-single;
       };
-      sealed = λ n l is. let p = not-gone n l is in o.sealed n l p.1 p.0 (k.sealed n l p.1);
+      sealed = λ n l is. let p = (not-gone state layout keep k.numbers k.represents.holds.lies k.owners) n l is in o.sealed n l p.1 p.0 (k.sealed n l p.1);
       marked = subst (λ (id : ℕ). AreMarkedBy id after now) (sym o.leaves.session.id) marked;
     } where
       is-dead : (q : Option Object) → is_dead q ≡ is_doomed_slot q
@@ -309,8 +319,8 @@ module _ (state : State) (layout : Layout) (unlinked : List ℕ) (keep : Item �
       same-slots : (q p : Option Object) → is_doomed_slot q ≡ is_doomed_slot p → is_dead q ≡ is_dead p
       same-slots q p e = is-dead q ∙ e ∙ sym (is-dead p)
 
-    pub items-gone : KeepsUncounted after now (words_at layout.at gone ++ unlinked) image
-    items-gone = rearranged state after layout now unlinked (words_at layout.at gone ++ unlinked) k.numbers from image k o.leaves arranged same-words
+    pub items-gone : KeepsUncounted after now (words_at layout.at gone_ones ++ unlinked) image
+    items-gone = rearranged state after layout now unlinked (words_at layout.at gone_ones ++ unlinked) k.numbers from image k o.leaves arranged same-words
 
 pub gone-items : GoneItemsAreUnlinked
 gone-items state layout unlinked objects keep chains from image k w o = items-gone state layout unlinked keep from k objects chains image w o
