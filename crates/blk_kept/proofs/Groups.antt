@@ -1,5 +1,5 @@
 -- Several items go out of the use list and of the chains.
-use Rattle.std.proofs.Common.{◌≡◌, ℕ, List, [], ◌∷◌, ◌++◌, refl, ap, sym, ◌∙◌, subst, Bool, true, false, Option, Some, None, ⊎_elim, append_assoc}
+use Rattle.std.proofs.Common.{◌≡◌, ℕ, ◌<◌, List, [], ◌∷◌, ◌++◌, refl, ap, sym, ◌∙◌, subst, Bool, true, false, Option, Some, None, ⊎_elim, append_assoc}
 use Rattle.std.specs.Prelude.{◌||◌, ◌&&◌, ◌==◌, not, filter, IfSome, if◌then◌else◌}
 use Rattle.std.specs.Option.{option_map_or}
 use Rattle.std.specs.List.{AllByRecursion, cons_option, filter_map, flat_map}
@@ -15,16 +15,16 @@ use Rattle.blk_model.specs.State.{State, Object, object_at}
 use Rattle.blk_model.specs.Totals.{is_doomed_slot}
 use Rattle.blk_format.specs.BlockFiles.{is_among, stands_in}
 use Rattle.blk_format.specs.Claims.{Claim, claims_of, claims_of_all, has_claim, repeats}
-use Rattle.blk_format.specs.Headers.{this_id_of}
+use Rattle.blk_format.specs.Headers.{table_length, this_id_of}
 use Rattle.blk_format.proofs.Among.{is_among-append}
-use Rattle.blk_volume.specs.Layout.{IsLayoutOf, IsListedRecord, Layout, Represents, is_in, is_listed, nodes_of, order}
+use Rattle.blk_volume.specs.Layout.{HoldsExcept, IsLayoutOf, IsListedRecord, Layout, Represents, is_in, is_listed, nodes_of, order}
 use Rattle.blk_volume.specs.ListView.{Distinct}
 use Rattle.blk_volume.specs.Loads.{Loaded, all_claims}
 use Rattle.blk_volume.specs.Removal.{HasLess, without_items}
 use Rattle.blk_volume.specs.Sound.{words_of}
 use Rattle.blk_volume.specs.StandsFor.{IsOwner}
 use Rattle.blk_volume.specs.Tidy.{doomed_nodes}
-use Rattle.blk_volume.specs.View.{view_of}
+use Rattle.blk_volume.specs.View.{StoreView, store_of, view_of}
 use Rattle.blk_laws.proofs.claims.Allocations.{all-from, repeats-head, words-claims}
 use Rattle.blk_laws.proofs.states.Changing.{same-place}
 use Rattle.blk_laws.proofs.claims.ClaimLists.{claim-append, no-claim}
@@ -90,7 +90,7 @@ claimed-by layout own (n ∷ ns) c e = go (layout.at n) refl (λ h. claimed-by l
       (cases_Bool (has_claim (all_claims l) c))
 
 -- what lies at nodes that stay
-same-at : (layout : Layout) (gone ns : List ℕ) → ((n : ℕ) → is_among ns n ≡ true → is_among gone n ≡ false) → filter_map (at_without layout gone) ns ≡ filter_map layout.at ns
+pub same-at : (layout : Layout) (gone ns : List ℕ) → ((n : ℕ) → is_among ns n ≡ true → is_among gone n ≡ false) → filter_map (at_without layout gone) ns ≡ filter_map layout.at ns
 same-at layout gone [] apart = refl
 same-at layout gone (n ∷ ns) apart =
     let here : at_without layout gone n ≡ layout.at n = (let e = apart n (or_left (n == n) (is_among ns n) (eq-eqb n n refl)) in rw e refl) in
@@ -214,6 +214,37 @@ module _ (state : State) (layout : Layout) (keep : Item → Bool) (numbers : Lis
       is_among-append stay doomed_ones n ∙ or_right (is_among stay n) (is_among doomed_ones n) (rw e at h))
       (cases_Bool (is_among (order state layout) n))
 
+  module _ (objects : List (Option Object)) (chains : ℕ → List ℕ) (store : StoreView) (holds : HoldsExcept (is_among gone) store state (record layout { chains = chains }))
+      (chained : (bucket contents : ℕ) → bucket < table_length → is_among (chains bucket) contents ≡ true → is_among (layout.chains bucket) contents ≡ true)
+      (out : (bucket contents : ℕ) → bucket < table_length → is_among (chains bucket) contents ≡ true → (node : ℕ) (loaded : Loaded) → is_among gone node ≡ true → layout.at node ≡ Some loaded → (contents == loaded.contents) ≡ false) where
+    pub less-has : HasLess state objects keep layout (at_without layout gone) chains (owners_without layout gone)
+    less-has = record {
+      stays = λ i l stays there is. still-there (layout.place i) l (stay-apart (layout.place i) (stays-in i there stays)) is;
+      others = λ n l out is. still-there n l (⊎_elim (λ (e : is_among gone n ≡ true). absurd (let z : true ≡ false = sym (in-order (λ item. not (keep item)) n e) ∙ out in cc)) (λ (e : is_among gone n ≡ false). e) (cases_Bool (is_among gone n))) is;
+      was = λ n l is. (not-gone n l is).1;
+      chain_stays = λ n l there is among. let p = not-gone n l is in holds.chained n l (in-order keep n there) p.1 p.0;
+      chain_was = λ bucket contents small among.
+          let q : IsListedRecord state layout contents = lies.unchained bucket contents small (chained bucket contents small among) in
+          let kept : is_among gone q.node ≡ false = ⊎_elim
+          (λ (e : is_among gone q.node ≡ true). absurd (let z : true ≡ false = sym (eq-eqb contents q.loaded.contents (sym q.record_is)) ∙ out bucket contents small among q.node q.loaded e q.here in cc))
+          (λ (e : is_among gone q.node ≡ false). e)
+          (cases_Bool (is_among gone q.node)) in
+          record { node = q.node; loaded = q.loaded; listed = in-stay q.node q.listed kept; here = still-there q.node q.loaded kept q.here; record_is = q.record_is };
+      own = λ n l c is has mine. still-owned c n mine (not-gone n l is).0;
+    }
+
+  module _ (objects : List (Option Object)) (chains : ℕ → List ℕ) (w : IsLess state objects keep) (id : ℕ) (old_marks : AreMarkedBy id state layout) where
+    pub marked-less : AreMarkedBy id (without_items state objects keep) (layout_less layout gone chains)
+    marked-less n z is live unsettled =
+        let old = w.unsettled n z is live unsettled in
+        let stays : is_listed (without_items state objects keep) (main z.key) ≡ true = main-listed (without_items state objects keep) w.valid n z true is live in
+        let all : (keep (main z.key) && is_in state.uses (main z.key)) ≡ true = sym (in-filter keep state.uses (main z.key)) ∙ stays in
+        let parts = and_parts (keep (main z.key)) (is_in state.uses (main z.key)) all in
+        let apart : is_among gone (layout.place (main z.key)) ≡ false = stay-apart (layout.place (main z.key)) (stays-in (main z.key) parts.1 parts.0) in
+        let here : at_without layout gone (layout.place (main z.key)) ≡ layout.at (layout.place (main z.key)) = rw apart refl in
+        subst (λ (x : Option Loaded). IfSome x (λ loaded. loaded.dirty ≡ id)) (sym here)
+        (subst (λ (key : List ℕ). IfSome (layout.at (layout.place (main key))) (λ loaded. loaded.dirty ≡ id)) old.2 (old_marks n old.0 old.1 old.3 old.4))
+
 module _ (state : State) (layout : Layout) (unlinked : List ℕ) (keep : Item → Bool) (from : Image) (k : KeepsUncounted state layout unlinked from) where
   abbrev gone_ones : List ℕ
   gone_ones = gone_nodes state layout keep
@@ -262,20 +293,7 @@ module _ (state : State) (layout : Layout) (unlinked : List ℕ) (keep : Item �
     now = layout_less layout gone_ones chains
 
     has-less : HasLess state objects keep layout (at_without layout gone_ones) chains (owners_without layout gone_ones)
-    has-less = record {
-      stays = λ i l stays there is. (still-there state layout keep k.numbers k.represents.holds.lies k.owners) (layout.place i) l ((stay-apart state layout keep k.numbers k.represents.holds.lies k.owners) (layout.place i) ((stays-in state layout keep k.numbers k.represents.holds.lies k.owners) i there stays)) is;
-      others = λ n l out is. (still-there state layout keep k.numbers k.represents.holds.lies k.owners) n l (⊎_elim (λ (e : is_among gone_ones n ≡ true). absurd (let z : true ≡ false = sym ((in-order state layout keep k.numbers k.represents.holds.lies k.owners) (λ item. not (keep item)) n e) ∙ out in cc)) (λ (e : is_among gone_ones n ≡ false). e) (cases_Bool (is_among gone_ones n))) is;
-      was = λ n l is. ((not-gone state layout keep k.numbers k.represents.holds.lies k.owners) n l is).1;
-      chain_stays = λ n l there is among. let p = (not-gone state layout keep k.numbers k.represents.holds.lies k.owners) n l is in o.holds.chained n l ((in-order state layout keep k.numbers k.represents.holds.lies k.owners) keep n there) p.1 p.0;
-      chain_was = λ bucket contents small among.
-          let q : IsListedRecord state layout contents = k.represents.holds.lies.unchained bucket contents small (o.chained bucket contents small among) in
-          let kept : is_among gone_ones q.node ≡ false = ⊎_elim
-          (λ (e : is_among gone_ones q.node ≡ true). absurd (let z : true ≡ false = sym (eq-eqb contents q.loaded.contents (sym q.record_is)) ∙ o.out bucket contents small among q.node q.loaded e q.here in cc))
-          (λ (e : is_among gone_ones q.node ≡ false). e)
-          (cases_Bool (is_among gone_ones q.node)) in
-          record { node = q.node; loaded = q.loaded; listed = (in-stay state layout keep k.numbers k.represents.holds.lies k.owners) q.node q.listed kept; here = (still-there state layout keep k.numbers k.represents.holds.lies k.owners) q.node q.loaded kept q.here; record_is = q.record_is };
-      own = λ n l c is has mine. (still-owned state layout keep k.numbers k.represents.holds.lies k.owners) c n mine ((not-gone state layout keep k.numbers k.represents.holds.lies k.owners) n l is).0;
-    }
+    has-less = less-has state layout keep k.numbers k.represents.holds.lies k.owners objects chains (store_of image) o.holds o.chained o.out
 
     represents-now : Represents (view_of image) after now
     represents-now = less-represented (is_among gone_ones) (view_of image) state objects keep layout (at_without layout gone_ones) chains (owners_without layout gone_ones) k.represents.holds.lies w.lists has-less o.holds (λ n l is. ((not-gone state layout keep k.numbers k.represents.holds.lies k.owners) n l is).0) o.list
@@ -284,15 +302,7 @@ module _ (state : State) (layout : Layout) (unlinked : List ℕ) (keep : Item �
     same-words = subst (λ (ws : List ℕ). IsPermutation (words_in_use unlinked (all_loaded state layout k.numbers)) ((words_at layout.at gone_ones ++ unlinked) ++ ws)) (sym (words-left state layout keep k.numbers k.represents.holds.lies k.owners)) all-words
 
     marked : AreMarkedBy (this_id_of (byte from Index)) after now
-    marked n z is live unsettled =
-        let old = w.unsettled n z is live unsettled in
-        let stays : is_listed after (main z.key) ≡ true = main-listed after w.valid n z true is live in
-        let all : (keep (main z.key) && is_in state.uses (main z.key)) ≡ true = sym (in-filter keep state.uses (main z.key)) ∙ stays in
-        let parts = and_parts (keep (main z.key)) (is_in state.uses (main z.key)) all in
-        let apart : is_among gone_ones (layout.place (main z.key)) ≡ false = (stay-apart state layout keep k.numbers k.represents.holds.lies k.owners) (layout.place (main z.key)) ((stays-in state layout keep k.numbers k.represents.holds.lies k.owners) (main z.key) parts.1 parts.0) in
-        let here : at_without layout gone_ones (layout.place (main z.key)) ≡ layout.at (layout.place (main z.key)) = rw apart refl in
-        subst (λ (x : Option Loaded). IfSome x (λ loaded. loaded.dirty ≡ this_id_of (byte from Index))) (sym here)
-        (subst (λ (key : List ℕ). IfSome (layout.at (layout.place (main key))) (λ loaded. loaded.dirty ≡ this_id_of (byte from Index))) old.2 (k.session.marked n old.0 old.1 old.3 old.4))
+    marked = marked-less state layout keep k.numbers k.represents.holds.lies k.owners objects chains w (this_id_of (byte from Index)) k.session.marked
 
     arranged : IsArranged after now k.numbers (words_at layout.at gone_ones ++ unlinked) image
     arranged = record {

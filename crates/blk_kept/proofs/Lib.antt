@@ -55,3 +55,4 @@ pub mod Links
 pub mod ChangedStates
 pub mod Freed
 pub mod Groups
+pub mod PartlyOut

@@ -34,3 +34,4 @@ pub mod LinkLaws
 pub mod ChangedStates
 pub mod AllocationLaws
 pub mod GroupLaws
+pub mod PartlyOut

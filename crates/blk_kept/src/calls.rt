@@ -11,6 +11,7 @@ ghost use Rattle.blk_kept.specs.ExternalLaws.{MakingFilesFindsTheSame, MadeFiles
 ghost use Rattle.blk_kept.specs.GoneLaws.{GoneObjectsAreUnlinked, GoneObjectsAreNotCounted};
 ghost use Rattle.blk_kept.specs.LinkLaws.{TableWordsChangeLinks, TableWordsLeaveFiles, TableWordsLeaveSeals, ChainNextsChangeLinks, ChainNextsLeaveSeals, DataChangesAreInside, RecordUpdatesAreInside, RemovedItemsAreOneLess};
 ghost use Rattle.blk_kept.specs.GroupLaws.{GoneItemsAreUnlinked};
+ghost use Rattle.blk_kept.specs.PartlyOut.{KeptStatesArePartlyOut, PartlyOutEndsKept};
 ghost use Rattle.blk_kept.specs.ListLaws.{TouchesKeepTheState, TouchesKeepTheCounters};
 ghost use Rattle.blk_kept.specs.NewEntryLaws.{InsertsFindTheSame, LinksFindTheSame, NewEntriesAreKept, NewEntriesAreOneMore};
 ghost use Rattle.blk_kept.specs.NewPartLaws.{NewPartsHoldTheOthers, NewPartsAreAtRest, NewPartsAtEachWrite, NewPartsAreLinked, ParentsDataMayChange, NotedParentsAreChanges, NewPartsEnd};
@@ -169,4 +170,10 @@ pub fn allocations_come_and_go()
 /// Several items that are out of the list and of the chains have their words unlinked.
 pub fn gone_items_are_unlinked()
     ensures { GoneItemsAreUnlinked }
+{}
+
+/// Of a kept state all items stay at first; once those that went out one after another leave a state, that is kept.
+pub fn states_may_be_partly_out()
+    ensures begins { KeptStatesArePartlyOut }
+    ensures ends { PartlyOutEndsKept }
 {}

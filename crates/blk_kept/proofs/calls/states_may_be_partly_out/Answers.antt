@@ -1,0 +1,5 @@
+use Rattle.blk_kept.proofs.PartlyOut.{kept-begin, partly-out-ends}
+use Rattle.blk_kept.proofs.calls.states_may_be_partly_out.Goals as goal
+
+pub returns : goal.returns
+returns c = record { begins = kept-begin; ends = partly-out-ends }

@@ -1,0 +1,52 @@
+-- Items go out one after another, each freed after it, while others of their object are still listed: what the folder keeps between, where no state is kept.
+use Rattle.std.specs.Prelude.{◌≡◌, ℕ, ◌<◌, List, ◌∷◌, ◌++◌, Bool, true, false, ◌==◌, filter}
+use Rattle.std.specs.List.{AllByRecursion}
+use Rattle.std.specs.declared.option.Option.{Option}
+use Rattle.std.specs.declared.option.Option.TheVariants.{None, Some}
+use Rattle.blk_model.specs.Items.{Item}
+use Rattle.blk_model.specs.State.{State, Object, IsValidState}
+use Rattle.blk_image.specs.Image.{Image}
+use Rattle.blk_format.specs.BlockFiles.{is_among, stands_in, IsWellFormed}
+use Rattle.blk_format.specs.Claims.{Claim, claims_of_all, has_claim, repeats}
+use Rattle.blk_format.specs.Headers.{table_length}
+use Rattle.blk_volume.specs.Layout.{HoldsExcept, IsLayoutOf, Layout, nodes_of}
+use Rattle.blk_volume.specs.ListImages.{HasListAtRest}
+use Rattle.blk_volume.specs.Loads.{Loaded}
+use Rattle.blk_volume.specs.Removal.{without_items}
+use Rattle.blk_volume.specs.Sound.{AreSealed}
+use Rattle.blk_volume.specs.Tidy.{doomed_nodes, loaded_at}
+use Rattle.blk_volume.specs.View.{store_of}
+use Rattle.blk_kept.specs.Changes.{RemovesAllocation}
+use Rattle.blk_kept.specs.GroupLaws.{IsLess, gone_nodes, layout_less, owners_without}
+use Rattle.blk_kept.specs.Keeping.{AreFiles, AreOwners, IsInSession, KeepsUncounted, words_in_use}
+
+-- the nodes of the items that are still listed, and of the doomed objects
+abbrev pub left_nodes : State → Layout → (Item → Bool) → List ℕ → List ℕ
+left_nodes state layout keep numbers = nodes_of layout (filter keep state.uses) ++ doomed_nodes layout numbers
+
+-- of a state that was kept the items that aren't kept are out of the list and of the chains, which are these; what lies at the other nodes is there, and maps, counters and external files are those of its words and of the unlinked ones, which are nobody's or of what is out
+pub record KeepsPartlyOut (state : State) (layout : Layout) (keep : Item → Bool) (chains : ℕ → List ℕ) (unlinked : List ℕ) (image : Image) : Type 0 where
+  pub valid : IsValidState state
+  pub well_formed : IsWellFormed image
+  pub lies : IsLayoutOf state layout
+  pub list : HasListAtRest (nodes_of layout (filter keep state.uses)) image
+  pub holds : HoldsExcept (is_among (gone_nodes state layout keep)) (store_of image) state (record layout { chains = chains })
+  pub chained : (bucket contents : ℕ) → bucket < table_length → is_among (chains bucket) contents ≡ true → is_among (layout.chains bucket) contents ≡ true
+  pub out : (bucket contents : ℕ) → bucket < table_length → is_among (chains bucket) contents ≡ true → (node : ℕ) (loaded : Loaded) → is_among (gone_nodes state layout keep) node ≡ true → layout.at node ≡ Some loaded → (contents == loaded.contents) ≡ false
+  pub numbers : List ℕ
+  pub owners : AreOwners state layout numbers
+  pub files : AreFiles image (words_in_use unlinked (loaded_at layout (left_nodes state layout keep numbers)))
+  pub stand : AllByRecursion (λ w. stands_in image w ≡ true) unlinked
+  pub free : (claim : Claim) → has_claim (claims_of_all unlinked) claim ≡ true → owners_without layout (gone_nodes state layout keep) claim ≡ None
+  pub single : repeats (claims_of_all unlinked) ≡ false
+  pub sealed : (node : ℕ) (loaded : Loaded) → layout.at node ≡ Some loaded → is_among (gone_nodes state layout keep) node ≡ false → AreSealed image loaded
+  pub session : IsInSession image state layout
+
+-- at first all items stay
+abbrev pub KeptStatesArePartlyOut : Type 0
+KeptStatesArePartlyOut = (state : State) (layout : Layout) (unlinked : List ℕ) (image : Image) → KeepsUncounted state layout unlinked image → KeepsPartlyOut state layout (λ item. true) layout.chains unlinked image
+
+-- and once those that are out leave a state, that is kept, with the words of theirs that aren't freed unlinked
+abbrev pub PartlyOutEndsKept : Type 0
+PartlyOutEndsKept = (state : State) (layout : Layout) (unlinked : List ℕ) (objects : List (Option Object)) (keep : Item → Bool) (chains : ℕ → List ℕ) (image : Image) → KeepsPartlyOut state layout keep chains unlinked image → IsLess state objects keep
+    → KeepsUncounted (without_items state objects keep) (layout_less layout (gone_nodes state layout keep) chains) unlinked image
