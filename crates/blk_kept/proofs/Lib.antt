@@ -56,3 +56,4 @@ pub mod ChangedStates
 pub mod Freed
 pub mod Groups
 pub mod PartlyOut
+pub mod PartlyFreed

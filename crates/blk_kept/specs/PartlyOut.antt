@@ -50,3 +50,9 @@ KeptStatesArePartlyOut = (state : State) (layout : Layout) (unlinked : List ℕ)
 abbrev pub PartlyOutEndsKept : Type 0
 PartlyOutEndsKept = (state : State) (layout : Layout) (unlinked : List ℕ) (objects : List (Option Object)) (keep : Item → Bool) (chains : ℕ → List ℕ) (image : Image) → KeepsPartlyOut state layout keep chains unlinked image → IsLess state objects keep
     → KeepsUncounted (without_items state objects keep) (layout_less layout (gone_nodes state layout keep) chains) unlinked image
+
+-- Between.
+
+-- unlinked blocks may be freed
+abbrev pub BlocksAreFreedPartlyOut : Type 0
+BlocksAreFreedPartlyOut = (state : State) (layout : Layout) (keep : Item → Bool) (chains : ℕ → List ℕ) (w : ℕ) (unlinked : List ℕ) (from image : Image) → KeepsPartlyOut state layout keep chains (w ∷ unlinked) from → RemovesAllocation from w image → KeepsPartlyOut state layout keep chains unlinked image

@@ -1,5 +1,6 @@
+use Rattle.blk_kept.proofs.PartlyFreed.{blocks-freed}
 use Rattle.blk_kept.proofs.PartlyOut.{kept-begin, partly-out-ends}
 use Rattle.blk_kept.proofs.calls.states_may_be_partly_out.Goals as goal
 
 pub returns : goal.returns
-returns c = record { begins = kept-begin; ends = partly-out-ends }
+returns c = record { begins = kept-begin; freed = blocks-freed; ends = partly-out-ends }

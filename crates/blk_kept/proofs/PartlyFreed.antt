@@ -1,0 +1,108 @@
+-- While items go out one after another, blocks of what is out are freed.
+use Rattle.std.proofs.Common.{◌≡◌, ℕ, ◌<◌, List, [], ◌∷◌, ◌++◌, refl, ap, sym, ◌∙◌, subst, Bool, true, false, Option, Some, None, Ok, ⊎_elim}
+use Rattle.std.specs.Prelude.{◌&&◌, ◌==◌, filter}
+use Rattle.std.specs.List.{AllByRecursion}
+use Rattle.std.proofs.lemmas.Bool.{and_parts, cases_Bool, eq-eqb, or_right}
+use Rattle.blk_image.specs.Image.{Image}
+use Rattle.blk_model.specs.Items.{Item}
+use Rattle.blk_model.specs.State.{State}
+use Rattle.blk_format.specs.BlockFiles.{is_among, stands_in, IsWellFormed}
+use Rattle.blk_format.specs.Claims.{Claim, claims_of, claims_of_all, has_claim}
+use Rattle.blk_volume.specs.Footprint.{AgreeBut, IsClear, SameBut, is_absent}
+use Rattle.blk_volume.specs.Layout.{HoldsExcept, IsListedRecord, IsPlacedAt, Layout, is_in, nodes_of, rule_of}
+use Rattle.blk_volume.specs.ListView.{IsList}
+use Rattle.blk_volume.specs.Loads.{Loaded, load}
+use Rattle.blk_volume.specs.Sound.{AreSealed, words_of}
+use Rattle.blk_volume.specs.Tidy.{loaded_at}
+use Rattle.blk_volume.specs.View.{list_of, store_of, view_of}
+use Rattle.blk_laws.proofs.claims.Allocations.{words-claims, words-stand}
+use Rattle.blk_laws.proofs.claims.ClaimLists.{claim-append}
+use Rattle.blk_laws.proofs.claims.ByteChanges.{agreeing-views}
+use Rattle.blk_laws.proofs.claims.Files.{words-there}
+use Rattle.blk_laws.proofs.claims.Outside.{AreClear, all-clear, list-outside}
+use Rattle.blk_laws.proofs.commands.Removing.{in-filter}
+use Rattle.blk_laws.proofs.states.Laid.{IsNodeOf, node-of, repeats-tail}
+use Rattle.blk_laws.proofs.states.OthersHold.{others-outside}
+use Rattle.blk_laws.proofs.walks.Shown.{node-is}
+use Rattle.blk_kept.specs.GroupLaws.{gone_nodes}
+use Rattle.blk_kept.specs.Keeping.{words_in_use}
+use Rattle.blk_kept.specs.PartlyOut.{BlocksAreFreedPartlyOut, KeepsPartlyOut, left_nodes}
+use Rattle.blk_kept.proofs.Free.{sealed-same, session-same, standing-loaded}
+use Rattle.blk_kept.proofs.Freeing as freeing
+use Rattle.blk_kept.proofs.Groups as groups
+
+-- what a change outside what is left leaves
+module _ (touched : Claim → Bool) (state : State) (layout : Layout) (keep : Item → Bool) (chains : ℕ → List ℕ) (unlinked : List ℕ) (from image : Image) (k : KeepsPartlyOut state layout keep chains unlinked from) (agree : AgreeBut touched from image)
+    (apart : (claim : Claim) (node : ℕ) → layout.owner claim ≡ Some node → is_among (gone_nodes state layout keep) node ≡ false → touched claim ≡ false) where
+  abbrev gone : List ℕ
+  gone = gone_nodes state layout keep
+
+  same : SameBut touched (view_of from) (view_of image)
+  same = agreeing-views touched from image agree
+
+  clear-left : (n : ℕ) (l : Loaded) → layout.at n ≡ Some l → is_among gone n ≡ false → AreClear touched l
+  clear-left n l is stays = all-clear touched l (λ c has. apart c n (k.lies.own n l c is has) stays)
+
+  clear-chain : (bucket contents : ℕ) → bucket < 65536 → is_among (chains bucket) contents ≡ true → IsClear touched contents
+  clear-chain bucket contents small among =
+      let q : IsListedRecord state layout contents = k.lies.unchained bucket contents small (k.chained bucket contents small among) in
+      let kept : is_among gone q.node ≡ false = ⊎_elim
+      (λ (e : is_among gone q.node ≡ true). absurd (let z : true ≡ false = sym (eq-eqb contents q.loaded.contents (sym q.record_is)) ∙ k.out bucket contents small among q.node q.loaded e q.here in cc))
+      (λ (e : is_among gone q.node ≡ false). e)
+      (cases_Bool (is_among gone q.node)) in
+      subst (IsClear touched) q.record_is (clear-left q.node q.loaded q.here kept).contents
+
+  pub holds-still : HoldsExcept (is_among gone) (store_of image) state (record layout { chains = chains })
+  holds-still = others-outside touched (is_among gone) (store_of from) (store_of image) state (record layout { chains = chains }) k.holds same.store same.table apart clear-chain
+
+  clear-node : (n : ℕ) → is_among (nodes_of layout (filter keep state.uses)) n ≡ true → IsClear touched n
+  clear-node n there =
+      let a : IsNodeOf layout (filter keep state.uses) n = node-of layout (filter keep state.uses) n there in
+      let both = and_parts (keep a.item) (is_in state.uses a.item) (sym (in-filter keep state.uses a.item) ∙ a.among) in
+      let l : IsPlacedAt state layout a.item = k.lies.laid a.item both.1 in
+      let stays : is_among gone (layout.place a.item) ≡ false = groups.stay-apart state layout keep k.numbers k.lies k.owners (layout.place a.item) (groups.stays-in state layout keep k.numbers k.lies k.owners a.item both.1 both.0) in
+      subst (IsClear touched) (node-is (store_of from) (rule_of layout (layout.place a.item)) (layout.place a.item) l.loaded (k.holds.each (layout.place a.item) l.loaded l.here stays) ∙ a.is) (clear-left (layout.place a.item) l.loaded l.here stays).node
+
+  pub list-still : IsList (list_of image) (nodes_of layout (filter keep state.uses))
+  list-still = list-outside touched (list_of from) (list_of image) (nodes_of layout (filter keep state.uses)) same.links clear-node k.list.whole
+
+  pub idle-still : (list_of image).transaction ≡ 0
+  idle-still = sym same.links.transaction ∙ k.list.idle
+
+  pub sealed-left : (n : ℕ) (l : Loaded) → layout.at n ≡ Some l → is_among gone n ≡ false → AreSealed image l
+  sealed-left n l is stays =
+      let clear = clear-left n l is stays in
+      sealed-same touched from image agree l (standing-loaded from layout n l (k.holds.each n l is stays)) clear.node clear.contents (k.sealed n l is stays)
+
+pub blocks-freed : BlocksAreFreedPartlyOut
+blocks-freed state layout keep chains w unlinked from image k a = record {
+  valid = k.valid;
+  well_formed = a.well_formed k.well_formed;
+  lies = k.lies;
+  list = record { whole = list-still touched state layout keep chains (w ∷ unlinked) from image k agree apart; idle = idle-still touched state layout keep chains (w ∷ unlinked) from image k agree apart };
+  holds = holds-still touched state layout keep chains (w ∷ unlinked) from image k agree apart;
+  chained = k.chained;
+  out = k.out;
+  numbers = k.numbers;
+  owners = k.owners;
+  files = freeing.files w from image a others k.files k.stand.0;
+  stand = freeing.still w from image a others k.files k.stand.0 unlinked k.stand.1;
+  free = λ claim has. k.free claim (claim-append (claims_of w) (claims_of_all unlinked) claim ∙ or_right (has_claim (claims_of w) claim) (has_claim (claims_of_all unlinked) claim) has);
+  single = repeats-tail (claims_of w) (claims_of_all unlinked) k.single;
+  sealed = sealed-left touched state layout keep chains (w ∷ unlinked) from image k agree apart;
+  session = session-same from image state layout a.session k.session;
+} where
+  touched : Claim → Bool
+  touched = is_absent from
+
+  others : List ℕ
+  others = words_in_use unlinked (loaded_at layout (left_nodes state layout keep k.numbers))
+
+  agree : AgreeBut touched from image
+  agree = freeing.agree w from image a others k.files k.stand.0
+
+  -- what is left stands
+  apart : (claim : Claim) (node : ℕ) → layout.owner claim ≡ Some node → is_among (gone_nodes state layout keep) node ≡ false → touched claim ≡ false
+  apart claim node is stays =
+      let o = k.owners.exact claim node is in
+      words-there from (words_of o.loaded) claim (words-stand from o.loaded (rule_of layout node, node, k.holds.each node o.loaded o.here stays)) (ap (λ (cs : List Claim). has_claim cs claim) (words-claims o.loaded) ∙ o.claims)
