@@ -66,7 +66,7 @@ but-main key (part other n) = go (bytes_eq key other) where
   go true = refl
   go false = refl
 
-filter-both : (p q r : Item → Bool) → ((i : Item) → r i ≡ (p i && q i)) → (items : List Item) → filter r items ≡ filter p (filter q items)
+pub filter-both : (p q r : Item → Bool) → ((i : Item) → r i ≡ (p i && q i)) → (items : List Item) → filter r items ≡ filter p (filter q items)
 filter-both p q r same [] = refl
 filter-both p q r same (i ∷ items) =
     let more = filter-both p q r same items in

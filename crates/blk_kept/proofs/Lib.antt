@@ -57,3 +57,5 @@ pub mod Freed
 pub mod Groups
 pub mod PartlyOut
 pub mod PartlyFreed
+pub mod FilteredWords
+pub mod OneMoreOut

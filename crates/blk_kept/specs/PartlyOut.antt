@@ -1,24 +1,26 @@
 -- Items go out one after another, each freed after it, while others of their object are still listed: what the folder keeps between, where no state is kept.
-use Rattle.std.specs.Prelude.{◌≡◌, ℕ, ◌<◌, List, ◌∷◌, ◌++◌, Bool, true, false, ◌==◌, filter}
+use Rattle.std.specs.Prelude.{◌≡◌, ℕ, ◌<◌, List, ◌∷◌, ◌++◌, Bool, true, false, ◌==◌, ◌&&◌, filter, not}
 use Rattle.std.specs.List.{AllByRecursion}
 use Rattle.std.specs.declared.option.Option.{Option}
 use Rattle.std.specs.declared.option.Option.TheVariants.{None, Some}
-use Rattle.blk_model.specs.Items.{Item}
+use Rattle.blk_model.specs.Items.{Item, same_item}
 use Rattle.blk_model.specs.State.{State, Object, IsValidState}
 use Rattle.blk_image.specs.Image.{Image}
 use Rattle.blk_format.specs.BlockFiles.{is_among, stands_in, IsWellFormed}
 use Rattle.blk_format.specs.Claims.{Claim, claims_of_all, has_claim, repeats}
 use Rattle.blk_format.specs.Headers.{table_length}
-use Rattle.blk_volume.specs.Layout.{HoldsExcept, IsLayoutOf, Layout, nodes_of}
+use Rattle.blk_volume.specs.Layout.{HoldsExcept, IsLayoutOf, Layout, is_listed, nodes_of}
 use Rattle.blk_volume.specs.ListImages.{HasListAtRest}
 use Rattle.blk_volume.specs.Loads.{Loaded}
 use Rattle.blk_volume.specs.Removal.{without_items}
-use Rattle.blk_volume.specs.Sound.{AreSealed}
+use Rattle.blk_volume.specs.Sound.{AreSealed, words_of}
 use Rattle.blk_volume.specs.Tidy.{doomed_nodes, loaded_at}
 use Rattle.blk_volume.specs.View.{store_of}
+use Rattle.blk_kept.specs.Arranging.{LeavesFiles}
 use Rattle.blk_kept.specs.Changes.{RemovesAllocation}
 use Rattle.blk_kept.specs.GroupLaws.{IsLess, gone_nodes, layout_less, owners_without}
 use Rattle.blk_kept.specs.Keeping.{AreFiles, AreOwners, IsInSession, KeepsUncounted, words_in_use}
+use Rattle.blk_kept.specs.RemovalLaws.{IsRemovalDone, IsUnlinking}
 
 -- the nodes of the items that are still listed, and of the doomed objects
 abbrev pub left_nodes : State → Layout → (Item → Bool) → List ℕ → List ℕ
@@ -52,6 +54,28 @@ PartlyOutEndsKept = (state : State) (layout : Layout) (unlinked : List ℕ) (obj
     → KeepsUncounted (without_items state objects keep) (layout_less layout (gone_nodes state layout keep) chains) unlinked image
 
 -- Between.
+
+-- whether an item stays while one more goes
+abbrev pub keeps_but : (Item → Bool) → Item → Item → Bool
+keeps_but keep item other = keep other && not (same_item item other)
+
+-- the chains without its record
+abbrev pub chains_but : (ℕ → List ℕ) → ℕ → ℕ → List ℕ
+chains_but chains contents bucket = filter (λ w. not (w == contents)) (chains bucket)
+
+-- a listed item is removed: its node is out of the list and its record out of its chain, and nothing else has changed
+pub record IsOneMoreOut (layout : Layout) (chains : ℕ → List ℕ) (item : Item) (was : Loaded) (from image : Image) : Type 0 where
+  pub here : layout.at (layout.place item) ≡ Some was
+  pub between : Image
+  pub unlisted : IsRemovalDone from (layout.place item) between
+  pub unlinking : IsUnlinking (record layout { chains = chains }) (chains_but chains was.contents) between image
+  pub leaves : LeavesFiles between image
+  pub sealed : (node : ℕ) (loaded : Loaded) → layout.at node ≡ Some loaded → AreSealed between loaded → AreSealed image loaded
+
+-- then one item more is out, and its words are unlinked
+abbrev pub OneMoreGoesOut : Type 0
+OneMoreGoesOut = (state : State) (layout : Layout) (keep : Item → Bool) (chains : ℕ → List ℕ) (unlinked : List ℕ) (item : Item) (was : Loaded) (from image : Image) → KeepsPartlyOut state layout keep chains unlinked from → is_listed state item ≡ true → keep item ≡ true
+    → IsOneMoreOut layout chains item was from image → KeepsPartlyOut state layout (keeps_but keep item) (chains_but chains was.contents) (words_of was ++ unlinked) image
 
 -- unlinked blocks may be freed
 abbrev pub BlocksAreFreedPartlyOut : Type 0
