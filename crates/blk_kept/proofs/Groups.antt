@@ -72,7 +72,7 @@ module _ (layout : Layout) (keep : Item → Bool) where
       (cases_Bool (keep i))
 
 -- whose a claim of what lies at nodes is
-claimed-by : (layout : Layout) → ((n : ℕ) (l : Loaded) (c : Claim) → layout.at n ≡ Some l → has_claim (all_claims l) c ≡ true → layout.owner c ≡ Some n) → (ns : List ℕ) (c : Claim) → has_claim (claims_of_all (words_at layout.at ns)) c ≡ true → (n : ℕ) × ((is_among ns n ≡ true) × (layout.owner c ≡ Some n))
+pub claimed-by : (layout : Layout) → ((n : ℕ) (l : Loaded) (c : Claim) → layout.at n ≡ Some l → has_claim (all_claims l) c ≡ true → layout.owner c ≡ Some n) → (ns : List ℕ) (c : Claim) → has_claim (claims_of_all (words_at layout.at ns)) c ≡ true → (n : ℕ) × ((is_among ns n ≡ true) × (layout.owner c ≡ Some n))
 claimed-by layout own [] c e = absurd (let z : false ≡ true = sym (no-claim c) ∙ e in cc)
 claimed-by layout own (n ∷ ns) c e = go (layout.at n) refl (λ h. claimed-by layout own ns c h) e where
   later : (m : ℕ) × ((is_among ns m ≡ true) × (layout.owner c ≡ Some m)) → (m : ℕ) × ((is_among (n ∷ ns) m ≡ true) × (layout.owner c ≡ Some m))

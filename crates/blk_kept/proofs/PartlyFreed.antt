@@ -2,7 +2,7 @@
 use Rattle.std.proofs.Common.{◌≡◌, ℕ, ◌<◌, List, [], ◌∷◌, ◌++◌, refl, ap, sym, ◌∙◌, subst, Bool, true, false, Option, Some, None, Ok, ⊎_elim}
 use Rattle.std.specs.Prelude.{◌&&◌, ◌==◌, filter}
 use Rattle.std.specs.List.{AllByRecursion}
-use Rattle.std.proofs.lemmas.Bool.{and_parts, cases_Bool, eq-eqb, or_right}
+use Rattle.std.proofs.lemmas.Bool.{and_parts, cases_Bool, eq-eqb, or_left, or_right}
 use Rattle.blk_image.specs.Image.{Image}
 use Rattle.blk_model.specs.Items.{Item}
 use Rattle.blk_model.specs.State.{State}
@@ -26,10 +26,16 @@ use Rattle.blk_laws.proofs.states.OthersHold.{others-outside}
 use Rattle.blk_laws.proofs.walks.Shown.{node-is}
 use Rattle.blk_kept.specs.GroupLaws.{gone_nodes}
 use Rattle.blk_kept.specs.Keeping.{words_in_use}
-use Rattle.blk_kept.specs.PartlyOut.{BlocksAreFreedPartlyOut, KeepsPartlyOut, left_nodes}
+use Rattle.blk_kept.specs.PartlyOut.{BlocksAreFreedPartlyOut, FilesAreDeletedPartlyOut, KeepsPartlyOut, left_nodes}
 use Rattle.blk_kept.proofs.Free.{sealed-same, session-same, standing-loaded}
 use Rattle.blk_kept.proofs.Freeing as freeing
 use Rattle.blk_kept.proofs.Groups as groups
+use Rattle.blk_kept.proofs.MakingFiles as making
+use Rattle.blk_kept.proofs.Touched.{words_at}
+use Rattle.blk_kept.specs.Changes.{RemovesExternal}
+use Rattle.std.proofs.lemmas.Bool.{or_from}
+use Rattle.std.proofs.lemmas.Grind.{flat_map-append}
+use Rattle.blk_laws.proofs.states.Marking.{repeats-apart}
 
 -- what a change outside what is left leaves
 module _ (touched : Claim → Bool) (state : State) (layout : Layout) (keep : Item → Bool) (chains : ℕ → List ℕ) (unlinked : List ℕ) (from image : Image) (k : KeepsPartlyOut state layout keep chains unlinked from) (agree : AgreeBut touched from image)
@@ -106,3 +112,61 @@ blocks-freed state layout keep chains w unlinked from image k a = record {
   apart claim node is stays =
       let o = k.owners.exact claim node is in
       words-there from (words_of o.loaded) claim (words-stand from o.loaded (rule_of layout node, node, k.holds.each node o.loaded o.here stays)) (ap (λ (cs : List Claim). has_claim cs claim) (words-claims o.loaded) ∙ o.claims)
+
+-- ---- an external file
+
+module _ (state : State) (layout : Layout) (keep : Item → Bool) (chains : ℕ → List ℕ) (w : ℕ) (unlinked : List ℕ) (from image : Image) (k : KeepsPartlyOut state layout keep chains (w ∷ unlinked) from) (a : RemovesExternal from w image) where
+  abbrev file : Claim → Bool
+  file = making.gone w from image a
+
+  abbrev in_use : List ℕ
+  in_use = words_in_use unlinked (loaded_at layout (left_nodes state layout keep k.numbers))
+
+  its : (claim : Claim) → file claim ≡ true → has_claim (claims_of_all (w ∷ unlinked)) claim ≡ true
+  its claim e = claim-append (claims_of w) (claims_of_all unlinked) claim ∙ or_left (has_claim (claims_of w) claim) (has_claim (claims_of_all unlinked) claim) (making.claims-it w from image a claim ∙ e)
+
+  -- it is nobody's that is left
+  file-apart : (claim : Claim) (node : ℕ) → layout.owner claim ≡ Some node → is_among (gone_nodes state layout keep) node ≡ false → file claim ≡ false
+  file-apart claim node is stays = ⊎_elim
+      (λ (e : file claim ≡ true). let z : ◌≡◌ {A = Option ℕ} None (Some node) = sym (k.free claim (its claim e)) ∙ groups.still-owned state layout keep k.numbers k.lies k.owners claim node is stays in absurd (cc))
+      (λ (e : file claim ≡ false). e)
+      (cases_Bool (file claim))
+
+  others-lack : (claim : Claim) → has_claim (claims_of_all unlinked) claim ≡ true → file claim ≡ false
+  others-lack claim e = ⊎_elim
+      (λ (t : file claim ≡ true). absurd (let z : true ≡ false = sym e ∙ repeats-apart (claims_of w) (claims_of_all unlinked) claim k.single (making.claims-it w from image a claim ∙ t) in cc))
+      (λ (t : file claim ≡ false). t)
+      (cases_Bool (file claim))
+
+  alone : (claim : Claim) → file claim ≡ true → has_claim (claims_of_all in_use) claim ≡ false
+  alone claim e = ap (λ (cs : List Claim). has_claim cs claim) (flat_map-append claims_of unlinked (words_at layout.at (left_nodes state layout keep k.numbers))) ∙ claim-append (claims_of_all unlinked) (claims_of_all (words_at layout.at (left_nodes state layout keep k.numbers))) claim
+      ∙ or_from (has_claim (claims_of_all unlinked) claim) (has_claim (claims_of_all (words_at layout.at (left_nodes state layout keep k.numbers))) claim)
+      (⊎_elim (λ (t : has_claim (claims_of_all unlinked) claim ≡ true). absurd (let z : true ≡ false = sym e ∙ others-lack claim t in cc)) (λ (t : has_claim (claims_of_all unlinked) claim ≡ false). t) (cases_Bool (has_claim (claims_of_all unlinked) claim)))
+      (⊎_elim
+      (λ (t : has_claim (claims_of_all (words_at layout.at (left_nodes state layout keep k.numbers))) claim ≡ true).
+      let q = groups.claimed-by layout k.lies.own (left_nodes state layout keep k.numbers) claim t in
+      absurd (let z : true ≡ false = sym e ∙ file-apart claim q.0 q.1.1 (groups.left-apart state layout keep k.numbers k.lies k.owners q.0 q.1.0) in cc))
+      (λ (t : has_claim (claims_of_all (words_at layout.at (left_nodes state layout keep k.numbers))) claim ≡ false). t)
+      (cases_Bool (has_claim (claims_of_all (words_at layout.at (left_nodes state layout keep k.numbers))) claim)))
+
+  pub file-deleted : KeepsPartlyOut state layout keep chains unlinked image
+  file-deleted = record {
+    valid = k.valid;
+    well_formed = a.well_formed k.well_formed;
+    lies = k.lies;
+    list = record { whole = list-still file state layout keep chains (w ∷ unlinked) from image k a.agree file-apart; idle = idle-still file state layout keep chains (w ∷ unlinked) from image k a.agree file-apart };
+    holds = holds-still file state layout keep chains (w ∷ unlinked) from image k a.agree file-apart;
+    chained = k.chained;
+    out = k.out;
+    numbers = k.numbers;
+    owners = k.owners;
+    files = making.left-files w from image a in_use k.files alone;
+    stand = making.left-stand w from image a unlinked others-lack k.stand.1;
+    free = λ claim has. k.free claim (claim-append (claims_of w) (claims_of_all unlinked) claim ∙ or_right (has_claim (claims_of w) claim) (has_claim (claims_of_all unlinked) claim) has);
+    single = repeats-tail (claims_of w) (claims_of_all unlinked) k.single;
+    sealed = sealed-left file state layout keep chains (w ∷ unlinked) from image k a.agree file-apart;
+    session = session-same from image state layout a.session k.session;
+  }
+
+pub files-deleted : FilesAreDeletedPartlyOut
+files-deleted state layout keep chains w unlinked from image k a = file-deleted state layout keep chains w unlinked from image k a

@@ -17,7 +17,7 @@ use Rattle.blk_volume.specs.Sound.{AreSealed, words_of}
 use Rattle.blk_volume.specs.Tidy.{doomed_nodes, loaded_at}
 use Rattle.blk_volume.specs.View.{store_of}
 use Rattle.blk_kept.specs.Arranging.{LeavesFiles}
-use Rattle.blk_kept.specs.Changes.{RemovesAllocation}
+use Rattle.blk_kept.specs.Changes.{RemovesAllocation, RemovesExternal}
 use Rattle.blk_kept.specs.GroupLaws.{IsLess, gone_nodes, layout_less, owners_without}
 use Rattle.blk_kept.specs.Keeping.{AreFiles, AreOwners, IsInSession, KeepsUncounted, words_in_use}
 use Rattle.blk_kept.specs.RemovalLaws.{IsRemovalDone, IsUnlinking}
@@ -80,3 +80,7 @@ OneMoreGoesOut = (state : State) (layout : Layout) (keep : Item → Bool) (chain
 -- unlinked blocks may be freed
 abbrev pub BlocksAreFreedPartlyOut : Type 0
 BlocksAreFreedPartlyOut = (state : State) (layout : Layout) (keep : Item → Bool) (chains : ℕ → List ℕ) (w : ℕ) (unlinked : List ℕ) (from image : Image) → KeepsPartlyOut state layout keep chains (w ∷ unlinked) from → RemovesAllocation from w image → KeepsPartlyOut state layout keep chains unlinked image
+
+-- and an unlinked external file may be deleted
+abbrev pub FilesAreDeletedPartlyOut : Type 0
+FilesAreDeletedPartlyOut = (state : State) (layout : Layout) (keep : Item → Bool) (chains : ℕ → List ℕ) (w : ℕ) (unlinked : List ℕ) (from image : Image) → KeepsPartlyOut state layout keep chains (w ∷ unlinked) from → RemovesExternal from w image → KeepsPartlyOut state layout keep chains unlinked image

@@ -11,7 +11,7 @@ ghost use Rattle.blk_kept.specs.ExternalLaws.{MakingFilesFindsTheSame, MadeFiles
 ghost use Rattle.blk_kept.specs.GoneLaws.{GoneObjectsAreUnlinked, GoneObjectsAreNotCounted};
 ghost use Rattle.blk_kept.specs.LinkLaws.{TableWordsChangeLinks, TableWordsLeaveFiles, TableWordsLeaveSeals, ChainNextsChangeLinks, ChainNextsLeaveSeals, DataChangesAreInside, RecordUpdatesAreInside, RemovedItemsAreOneLess};
 ghost use Rattle.blk_kept.specs.GroupLaws.{GoneItemsAreUnlinked};
-ghost use Rattle.blk_kept.specs.PartlyOut.{KeptStatesArePartlyOut, OneMoreGoesOut, BlocksAreFreedPartlyOut, PartlyOutEndsKept};
+ghost use Rattle.blk_kept.specs.PartlyOut.{KeptStatesArePartlyOut, OneMoreGoesOut, BlocksAreFreedPartlyOut, FilesAreDeletedPartlyOut, PartlyOutEndsKept};
 ghost use Rattle.blk_kept.specs.ListLaws.{TouchesKeepTheState, TouchesKeepTheCounters};
 ghost use Rattle.blk_kept.specs.NewEntryLaws.{InsertsFindTheSame, LinksFindTheSame, NewEntriesAreKept, NewEntriesAreOneMore};
 ghost use Rattle.blk_kept.specs.NewPartLaws.{NewPartsHoldTheOthers, NewPartsAreAtRest, NewPartsAtEachWrite, NewPartsAreLinked, ParentsDataMayChange, NotedParentsAreChanges, NewPartsEnd};
@@ -172,10 +172,11 @@ pub fn gone_items_are_unlinked()
     ensures { GoneItemsAreUnlinked }
 {}
 
-/// Of a kept state all items stay at first; then one item more goes out of the list and of its chain, and unlinked blocks may be freed before the next one does; once what is left is a state, that is kept.
+/// Of a kept state all items stay at first; then one item more goes out of the list and of its chain, and unlinked blocks may be freed and files deleted before the next one does; once what is left is a state, that is kept.
 pub fn states_may_be_partly_out()
     ensures begins { KeptStatesArePartlyOut }
     ensures one_more { OneMoreGoesOut }
     ensures freed { BlocksAreFreedPartlyOut }
+    ensures deleted { FilesAreDeletedPartlyOut }
     ensures ends { PartlyOutEndsKept }
 {}
