@@ -23,6 +23,7 @@ pub mod OneCalls
 pub mod PlainRemovals
 pub mod DoomedWhole
 pub mod WholeRemovals
+pub mod OutGroups
 pub mod CreateStops
 pub mod Stopping
 pub mod Touching

@@ -1,10 +1,10 @@
 -- One item more goes out of the list and of its chain, while others of its object may be out already.
-use Rattle.std.proofs.Common.{◌≡◌, ℕ, ◌<◌, List, [], ◌∷◌, ◌++◌, refl, ap, sym, ◌∙◌, subst, arith, Bool, true, false, Option, Some, None, Ok, ⊎_elim, append_assoc, length}
-use Rattle.std.specs.Prelude.{◌&&◌, ◌||◌, ◌==◌, filter, if◌then◌else◌, is_some, not}
+use Rattle.std.proofs.Common.{◌≡◌, ℕ, List, ◌∷◌, ◌++◌, refl, ap, sym, ◌∙◌, subst, arith, Bool, true, false, Option, Some, None, Ok, ⊎_elim, append_assoc}
+use Rattle.std.specs.Prelude.{◌&&◌, ◌||◌, ◌==◌, filter, if◌then◌else◌, not}
 use Rattle.std.specs.Option.{option_map_or}
 use Rattle.std.specs.List.{AllByRecursion, cons_option, filter_map, flat_map}
 use Rattle.std.specs.List.Sorted.{IsPermutation}
-use Rattle.std.proofs.lemmas.Bool.{and_parts, cases_Bool, eq-eqb, eqb-true, or_left, or_right}
+use Rattle.std.proofs.lemmas.Bool.{and_parts, cases_Bool, eq-eqb, eqb-true}
 use Rattle.std.proofs.lemmas.Grind.{flat_map-append}
 use Rattle.std.proofs.lemmas.List.Elements.{filter-append}
 use Rattle.std.proofs.lemmas.List.Sorted.{All-permutation, IsPermutation-append_right, IsPermutation-trans}
@@ -15,8 +15,8 @@ use Rattle.blk_image.specs.Image.{Image}
 use Rattle.blk_model.proofs.Same.{one_item, same_item_self}
 use Rattle.blk_model.specs.Items.{Item, same_item}
 use Rattle.blk_model.specs.State.{State}
-use Rattle.blk_format.specs.Address.{blocks_256, kind_of, rankings}
-use Rattle.blk_format.specs.BlockFiles.{is_among, stands_in, IsWellFormed}
+use Rattle.blk_format.specs.Address.{blocks_256, rankings}
+use Rattle.blk_format.specs.BlockFiles.{is_among, stands_in}
 use Rattle.blk_format.specs.Claims.{BlockOf, Claim, ExternalOf, claims_of, claims_of_all, has_claim, is_in_file, repeats}
 use Rattle.blk_format.specs.Hash.{hash}
 use Rattle.blk_format.specs.Records.{entry_in, entry_is_sealed}
@@ -25,10 +25,10 @@ use Rattle.blk_format.specs.Address.{place}
 use Rattle.blk_volume.specs.Chains.{bucket_of_hash}
 use Rattle.blk_volume.specs.Completion.{remove}
 use Rattle.blk_volume.specs.Footprint.{IsOnlyRecord}
-use Rattle.blk_volume.specs.Layout.{HoldsExcept, Layout, is_in, is_listed, nodes_of, order, rule_of}
+use Rattle.blk_volume.specs.Layout.{HoldsExcept, Layout, is_in, is_listed, nodes_of, rule_of}
 use Rattle.blk_volume.specs.ListPlans.{writes_of}
 use Rattle.blk_volume.specs.ListSteps.{touched_by_writes}
-use Rattle.blk_volume.specs.ListView.{IsAtRest, IsList, ListView, ListWrite}
+use Rattle.blk_volume.specs.ListView.{IsAtRest, ListView, ListWrite}
 use Rattle.blk_volume.specs.Loads.{Loaded, all_claims, load}
 use Rattle.blk_volume.specs.Sound.{AreSealed, words_of}
 use Rattle.blk_volume.specs.Tidy.{doomed_nodes, loaded_at}
@@ -40,15 +40,14 @@ use Rattle.blk_laws.proofs.commands.Opening.{IsAround, around, nodes-append}
 use Rattle.blk_laws.proofs.commands.Removing.{in-filter}
 use Rattle.blk_laws.proofs.lists.ListCompletions.{listed}
 use Rattle.blk_laws.proofs.lists.WordTurns.{removals-can}
-use Rattle.blk_laws.proofs.lists.WriteSteps.{checked-kind}
-use Rattle.blk_laws.proofs.states.Laid.{IsNodeOf, is_among-node, node-of}
+use Rattle.blk_laws.proofs.states.Laid.{IsNodeOf, node-of}
 use Rattle.blk_laws.proofs.states.OthersHold.{chained-only, more-left_out, others-outside, others-unlinked}
 use Rattle.blk_laws.proofs.states.Tidying.{counter-same, record-bytes, touch_range, touch_sizes, touch_spares}
 use Rattle.blk_laws.proofs.updates.StillShown.{core-standing, standing-parts}
 use Rattle.blk_laws.proofs.walks.Loads.{load-then}
 use Rattle.blk_kept.specs.Arranging.{LeavesFiles}
 use Rattle.blk_kept.specs.GroupLaws.{gone_nodes, owners_without}
-use Rattle.blk_kept.specs.Keeping.{AreFiles, IsMapped, words_in_use}
+use Rattle.blk_kept.specs.Keeping.{AreFiles, words_in_use}
 use Rattle.blk_kept.specs.PartlyOut.{IsOneMoreOut, KeepsPartlyOut, OneMoreGoesOut, chains_but, keeps_but, left_nodes}
 use Rattle.blk_kept.proofs.Arranging.{claimed-alike, counted-alike}
 use Rattle.blk_kept.proofs.Claimed.{once-alike}
@@ -59,7 +58,7 @@ use Rattle.blk_kept.proofs.Groups as groups
 use Rattle.blk_kept.proofs.Headers.{files-same, stand-same}
 use Rattle.blk_kept.proofs.Leaving.{leaves-files, leaves-then}
 use Rattle.blk_kept.proofs.Removals.{from-filtered, in-filtered}
-use Rattle.blk_kept.proofs.Touched.{node-to-front, to-front, words-append, words_at}
+use Rattle.blk_kept.proofs.Touched.{node-to-front, to-front, words_at}
 
 -- ---- the same words in another order
 

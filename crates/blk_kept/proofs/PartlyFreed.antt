@@ -1,17 +1,16 @@
 -- While items go out one after another, blocks of what is out are freed.
-use Rattle.std.proofs.Common.{◌≡◌, ℕ, ◌<◌, List, [], ◌∷◌, ◌++◌, refl, ap, sym, ◌∙◌, subst, Bool, true, false, Option, Some, None, Ok, ⊎_elim}
-use Rattle.std.specs.Prelude.{◌&&◌, ◌==◌, filter}
-use Rattle.std.specs.List.{AllByRecursion}
+use Rattle.std.proofs.Common.{◌≡◌, ℕ, ◌<◌, List, ◌∷◌, ap, sym, ◌∙◌, subst, Bool, true, false, Option, Some, None, ⊎_elim}
+use Rattle.std.specs.Prelude.{filter}
 use Rattle.std.proofs.lemmas.Bool.{and_parts, cases_Bool, eq-eqb, or_left, or_right}
 use Rattle.blk_image.specs.Image.{Image}
 use Rattle.blk_model.specs.Items.{Item}
 use Rattle.blk_model.specs.State.{State}
-use Rattle.blk_format.specs.BlockFiles.{is_among, stands_in, IsWellFormed}
+use Rattle.blk_format.specs.BlockFiles.{is_among}
 use Rattle.blk_format.specs.Claims.{Claim, claims_of, claims_of_all, has_claim}
 use Rattle.blk_volume.specs.Footprint.{AgreeBut, IsClear, SameBut, is_absent}
 use Rattle.blk_volume.specs.Layout.{HoldsExcept, IsListedRecord, IsPlacedAt, Layout, is_in, nodes_of, rule_of}
 use Rattle.blk_volume.specs.ListView.{IsList}
-use Rattle.blk_volume.specs.Loads.{Loaded, load}
+use Rattle.blk_volume.specs.Loads.{Loaded}
 use Rattle.blk_volume.specs.Sound.{AreSealed, words_of}
 use Rattle.blk_volume.specs.Tidy.{loaded_at}
 use Rattle.blk_volume.specs.View.{list_of, store_of, view_of}
@@ -26,10 +25,11 @@ use Rattle.blk_laws.proofs.states.OthersHold.{others-outside}
 use Rattle.blk_laws.proofs.walks.Shown.{node-is}
 use Rattle.blk_kept.specs.GroupLaws.{gone_nodes}
 use Rattle.blk_kept.specs.Keeping.{words_in_use}
-use Rattle.blk_kept.specs.PartlyOut.{BlocksAreFreedPartlyOut, FilesAreDeletedPartlyOut, KeepsPartlyOut, left_nodes}
+use Rattle.blk_kept.specs.PartlyOut.{BlocksAreFreedPartlyOut, FilesAreDeletedPartlyOut, KeepsPartlyOut, WhatIsOutMayChange, left_nodes}
 use Rattle.blk_kept.proofs.Free.{sealed-same, session-same, standing-loaded}
 use Rattle.blk_kept.proofs.Freeing as freeing
 use Rattle.blk_kept.proofs.Groups as groups
+use Rattle.blk_kept.proofs.Headers.{files-same, stand-same}
 use Rattle.blk_kept.proofs.MakingFiles as making
 use Rattle.blk_kept.proofs.Touched.{words_at}
 use Rattle.blk_kept.specs.Changes.{RemovesExternal}
@@ -170,3 +170,24 @@ module _ (state : State) (layout : Layout) (keep : Item → Bool) (chains : ℕ 
 
 pub files-deleted : FilesAreDeletedPartlyOut
 files-deleted state layout keep chains w unlinked from image k a = file-deleted state layout keep chains w unlinked from image k a
+
+-- ---- what is out
+
+pub out-changes : WhatIsOutMayChange
+out-changes touched state layout keep chains unlinked from image k only apart = record {
+  valid = k.valid;
+  well_formed = only.well_formed k.well_formed;
+  lies = k.lies;
+  list = record { whole = list-still touched state layout keep chains unlinked from image k only.agree apart; idle = idle-still touched state layout keep chains unlinked from image k only.agree apart };
+  holds = holds-still touched state layout keep chains unlinked from image k only.agree apart;
+  chained = k.chained;
+  out = k.out;
+  numbers = k.numbers;
+  owners = k.owners;
+  files = files-same from image only.headers _ k.well_formed k.files;
+  stand = stand-same from image only.headers unlinked k.stand;
+  free = k.free;
+  single = k.single;
+  sealed = sealed-left touched state layout keep chains unlinked from image k only.agree apart;
+  session = session-same from image state layout only.session k.session;
+}

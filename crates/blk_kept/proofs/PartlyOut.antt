@@ -1,30 +1,27 @@
 -- Items go out one after another: the beginning and the end.
-use Rattle.std.proofs.Common.{◌≡◌, ℕ, List, [], ◌∷◌, ◌++◌, refl, ap, sym, ◌∙◌, subst, Bool, true, false, Option, Some, None, ⊎_elim}
-use Rattle.std.specs.Prelude.{◌&&◌, ◌==◌, IfSome, filter, if◌then◌else◌, not}
-use Rattle.std.specs.Option.{option_map_or}
-use Rattle.std.proofs.lemmas.Bool.{and_parts, cases_Bool, eq-eqb}
+use Rattle.std.proofs.Common.{◌≡◌, ℕ, List, [], ◌∷◌, ◌++◌, refl, ap, sym, ◌∙◌, subst, Bool, true, false, Option, Some, None}
+use Rattle.std.specs.Prelude.{filter, not}
 use Rattle.blk_image.specs.Image.{Image, Index, byte}
-use Rattle.blk_model.specs.Items.{Item, main}
+use Rattle.blk_model.specs.Items.{Item}
 use Rattle.blk_model.specs.State.{State, Object, object_at}
 use Rattle.blk_model.specs.Totals.{is_doomed_slot}
 use Rattle.blk_format.specs.BlockFiles.{is_among}
-use Rattle.blk_format.specs.Claims.{Claim, claims_of_all, has_claim}
+use Rattle.blk_format.specs.Claims.{Claim}
 use Rattle.blk_format.specs.Headers.{this_id_of}
-use Rattle.blk_volume.specs.Layout.{IsListedRecord, Layout, Represents, is_in, is_listed, nodes_of, order}
+use Rattle.blk_volume.specs.Layout.{HoldsExcept, Layout, Represents, nodes_of}
 use Rattle.blk_volume.specs.Loads.{Loaded}
 use Rattle.blk_volume.specs.Removal.{HasLess, without_items}
 use Rattle.blk_volume.specs.StandsFor.{IsOwner}
-use Rattle.blk_volume.specs.ListView.{IsList}
+use Rattle.blk_volume.specs.ListView.{IsAtRest, IsList}
 use Rattle.blk_volume.specs.Tidy.{doomed_nodes, loaded_at}
 use Rattle.blk_volume.specs.View.{list_of, store_of, view_of}
-use Rattle.blk_laws.proofs.commands.Removing.{in-filter}
 use Rattle.blk_laws.proofs.commands.Unlinking.{less-represented}
 use Rattle.blk_laws.proofs.states.OthersHold.{represented-but}
-use Rattle.blk_laws.proofs.states.Settling.{main-listed}
 use Rattle.blk_kept.specs.GroupLaws.{IsLess, at_without, gone_nodes, layout_less, owners_without}
 use Rattle.blk_kept.specs.Keeping.{AreFiles, AreMarkedBy, KeepsUncounted, words_in_use}
-use Rattle.blk_kept.specs.PartlyOut.{KeepsPartlyOut, KeptStatesArePartlyOut, PartlyOutEndsKept, left_nodes}
+use Rattle.blk_kept.specs.PartlyOut.{KeepsPartlyOut, OnlyListedAreOut, KeptStatesArePartlyOut, PartlyOutEndsKept, left_nodes}
 use Rattle.blk_kept.proofs.Groups as groups
+use Rattle.blk_kept.proofs.Removals.{filter-alike}
 use Rattle.blk_kept.proofs.NodeChanges.{is_dead, numbers-same}
 
 -- ---- the beginning
@@ -111,3 +108,29 @@ module _ (state : State) (layout : Layout) (unlinked : List ℕ) (objects : List
 
 pub partly-out-ends : PartlyOutEndsKept
 partly-out-ends state layout unlinked objects keep chains image k w = ends-kept state layout unlinked objects keep chains image k w
+
+-- ---- listed items alone
+
+pub only-listed : OnlyListedAreOut
+only-listed state layout keep other chains unlinked image k same = record {
+  valid = k.valid;
+  well_formed = k.well_formed;
+  lies = k.lies;
+  list = subst (λ (items : List Item). IsAtRest (list_of image) (nodes_of layout items)) stay_same k.list;
+  holds = subst (λ (items : List Item). HoldsExcept (is_among (nodes_of layout items)) (store_of image) state (record layout { chains = chains })) gone_same k.holds;
+  chained = k.chained;
+  out = λ bucket contents small among node loaded gone. k.out bucket contents small among node loaded (ap (λ (items : List Item). is_among (nodes_of layout items) node) gone_same ∙ gone);
+  numbers = k.numbers;
+  owners = k.owners;
+  files = subst (λ (items : List Item). AreFiles image (words_in_use unlinked (loaded_at layout (nodes_of layout items ++ doomed_nodes layout k.numbers)))) stay_same k.files;
+  stand = k.stand;
+  free = λ claim has. subst (λ (items : List Item). owners_without layout (nodes_of layout items) claim ≡ None) gone_same (k.free claim has);
+  single = k.single;
+  sealed = λ node loaded is stays. k.sealed node loaded is (ap (λ (items : List Item). is_among (nodes_of layout items) node) gone_same ∙ stays);
+  session = k.session;
+} where
+  stay_same : filter keep state.uses ≡ filter other state.uses
+  stay_same = filter-alike keep other state.uses same
+
+  gone_same : filter (λ item. not (keep item)) state.uses ≡ filter (λ item. not (other item)) state.uses
+  gone_same = filter-alike (λ item. not (keep item)) (λ item. not (other item)) state.uses (λ i there. ap not (same i there))

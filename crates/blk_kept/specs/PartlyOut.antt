@@ -1,10 +1,14 @@
 -- Items go out one after another, each freed after it, while others of their object are still listed: what the folder keeps between, where no state is kept.
-use Rattle.std.specs.Prelude.{◌≡◌, ℕ, ◌<◌, List, ◌∷◌, ◌++◌, Bool, true, false, ◌==◌, ◌&&◌, filter, not}
+use Rattle.std.specs.Prelude.{◌≡◌, ℕ, ◌<◌, List, [], ◌∷◌, ◌++◌, Bool, true, false, ◌==◌, ◌&&◌, filter, not}
 use Rattle.std.specs.List.{AllByRecursion}
 use Rattle.std.specs.declared.option.Option.{Option}
 use Rattle.std.specs.declared.option.Option.TheVariants.{None, Some}
 use Rattle.blk_model.specs.Items.{Item, same_item}
-use Rattle.blk_model.specs.State.{State, Object, IsValidState}
+use Rattle.blk_model.specs.Refusals.{refused}
+use Rattle.blk_model.specs.Request.{Request}
+use Rattle.blk_model.specs.Room.{Group, whole, without}
+use Rattle.blk_model.specs.State.{State, Object, IsValidState, is_named, object_at}
+use Rattle.blk_model.specs.Step.{step}
 use Rattle.blk_image.specs.Image.{Image}
 use Rattle.blk_format.specs.BlockFiles.{is_among, stands_in, IsWellFormed}
 use Rattle.blk_format.specs.Claims.{Claim, claims_of_all, has_claim, repeats}
@@ -12,12 +16,13 @@ use Rattle.blk_format.specs.Headers.{table_length}
 use Rattle.blk_volume.specs.Layout.{HoldsExcept, IsLayoutOf, Layout, is_listed, nodes_of}
 use Rattle.blk_volume.specs.ListImages.{HasListAtRest}
 use Rattle.blk_volume.specs.Loads.{Loaded}
-use Rattle.blk_volume.specs.Removal.{without_items}
+use Rattle.blk_volume.specs.Removal.{is_of_another, without_items}
 use Rattle.blk_volume.specs.Sound.{AreSealed, words_of}
 use Rattle.blk_volume.specs.Tidy.{doomed_nodes, loaded_at}
 use Rattle.blk_volume.specs.View.{store_of}
 use Rattle.blk_kept.specs.Arranging.{LeavesFiles}
-use Rattle.blk_kept.specs.Changes.{RemovesAllocation, RemovesExternal}
+use Rattle.blk_kept.specs.Changes.{ChangesOnly, RemovesAllocation, RemovesExternal}
+use Rattle.blk_kept.specs.CommandStates.{IsDoomOf}
 use Rattle.blk_kept.specs.GroupLaws.{IsLess, gone_nodes, layout_less, owners_without}
 use Rattle.blk_kept.specs.Keeping.{AreFiles, AreOwners, IsInSession, KeepsUncounted, words_in_use}
 use Rattle.blk_kept.specs.RemovalLaws.{IsRemovalDone, IsUnlinking}
@@ -84,3 +89,26 @@ BlocksAreFreedPartlyOut = (state : State) (layout : Layout) (keep : Item → Boo
 -- and an unlinked external file may be deleted
 abbrev pub FilesAreDeletedPartlyOut : Type 0
 FilesAreDeletedPartlyOut = (state : State) (layout : Layout) (keep : Item → Bool) (chains : ℕ → List ℕ) (w : ℕ) (unlinked : List ℕ) (from image : Image) → KeepsPartlyOut state layout keep chains (w ∷ unlinked) from → RemovesExternal from w image → KeepsPartlyOut state layout keep chains unlinked image
+
+-- and what is out may change, in its blocks and external files or in unlinked ones, as its record that has state 2 then
+abbrev pub WhatIsOutMayChange : Type 0
+WhatIsOutMayChange = (touched : Claim → Bool) (state : State) (layout : Layout) (keep : Item → Bool) (chains : ℕ → List ℕ) (unlinked : List ℕ) (from image : Image) → KeepsPartlyOut state layout keep chains unlinked from → ChangesOnly touched from image
+    → ((claim : Claim) (node : ℕ) → layout.owner claim ≡ Some node → is_among (gone_nodes state layout keep) node ≡ false → touched claim ≡ false) → KeepsPartlyOut state layout keep chains unlinked image
+
+-- which items that aren't listed are kept is nothing to it
+abbrev pub OnlyListedAreOut : Type 0
+OnlyListedAreOut = (state : State) (layout : Layout) (keep other : Item → Bool) (chains : ℕ → List ℕ) (unlinked : List ℕ) (image : Image) → KeepsPartlyOut state layout keep chains unlinked image → ((item : Item) → is_listed state item ≡ true → keep item ≡ other item) → KeepsPartlyOut state layout other chains unlinked image
+
+-- Where all items of an object that no handle names are out, and freed or not.
+
+-- a DoomKey of it ends
+abbrev pub UnheldOutDoomsEnd : Type 0
+UnheldOutDoomsEnd = (state : State) (moment : ℕ) (request : Request) (layout : Layout) (unlinked : List ℕ) (chains : ℕ → List ℕ) (image : Image) (number : ℕ) (object : Object) → refused moment request state ≡ None → IsDoomOf request state number
+    → object_at state number ≡ Some object → object.live ≡ true → is_named state number ≡ false → KeepsPartlyOut state layout (is_of_another object.key) chains unlinked image
+    → KeepsUncounted (step state moment request).state (layout_less layout (gone_nodes state layout (is_of_another object.key)) chains) unlinked image
+
+-- and the next group is gone
+abbrev pub OutGroupsAreGone : Type 0
+OutGroupsAreGone = (state : State) (first : List Group) (layout : Layout) (unlinked : List ℕ) (chains : ℕ → List ℕ) (image : Image) (number : ℕ) (object : Object) (parts : List ℕ) → object_at (without first state) number ≡ Some object → object.live ≡ true → is_named (without first state) number ≡ false
+    → KeepsPartlyOut (without first state) layout (is_of_another object.key) chains unlinked image
+    → KeepsUncounted (without (first ++ whole object.key parts ∷ []) state) (layout_less layout (gone_nodes (without first state) layout (is_of_another object.key)) chains) unlinked image

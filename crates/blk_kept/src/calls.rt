@@ -11,7 +11,7 @@ ghost use Rattle.blk_kept.specs.ExternalLaws.{MakingFilesFindsTheSame, MadeFiles
 ghost use Rattle.blk_kept.specs.GoneLaws.{GoneObjectsAreUnlinked, GoneObjectsAreNotCounted};
 ghost use Rattle.blk_kept.specs.LinkLaws.{TableWordsChangeLinks, TableWordsLeaveFiles, TableWordsLeaveSeals, ChainNextsChangeLinks, ChainNextsLeaveSeals, DataChangesAreInside, RecordUpdatesAreInside, RemovedItemsAreOneLess};
 ghost use Rattle.blk_kept.specs.GroupLaws.{GoneItemsAreUnlinked};
-ghost use Rattle.blk_kept.specs.PartlyOut.{KeptStatesArePartlyOut, OneMoreGoesOut, BlocksAreFreedPartlyOut, FilesAreDeletedPartlyOut, PartlyOutEndsKept};
+ghost use Rattle.blk_kept.specs.PartlyOut.{KeptStatesArePartlyOut, OneMoreGoesOut, BlocksAreFreedPartlyOut, FilesAreDeletedPartlyOut, WhatIsOutMayChange, OnlyListedAreOut, PartlyOutEndsKept};
 ghost use Rattle.blk_kept.specs.ListLaws.{TouchesKeepTheState, TouchesKeepTheCounters};
 ghost use Rattle.blk_kept.specs.NewEntryLaws.{InsertsFindTheSame, LinksFindTheSame, NewEntriesAreKept, NewEntriesAreOneMore};
 ghost use Rattle.blk_kept.specs.NewPartLaws.{NewPartsHoldTheOthers, NewPartsAreAtRest, NewPartsAtEachWrite, NewPartsAreLinked, ParentsDataMayChange, NotedParentsAreChanges, NewPartsEnd};
@@ -178,5 +178,7 @@ pub fn states_may_be_partly_out()
     ensures one_more { OneMoreGoesOut }
     ensures freed { BlocksAreFreedPartlyOut }
     ensures deleted { FilesAreDeletedPartlyOut }
+    ensures changed { WhatIsOutMayChange }
+    ensures listed { OnlyListedAreOut }
     ensures ends { PartlyOutEndsKept }
 {}
