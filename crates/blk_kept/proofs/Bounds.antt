@@ -32,7 +32,7 @@ use Rattle.blk_laws.proofs.states.Charges.{listed-totals}
 use Rattle.blk_laws.proofs.walks.Loads.{load-then}
 use Rattle.blk_laws.proofs.states.Standing.{kept-at}
 use Rattle.blk_laws.proofs.updates.StillShown.{standing-parts}
-use Rattle.blk_kept.specs.BoundLaws.{HaveFewAllocations, KeptAllocationsAreFew}
+use Rattle.blk_kept.specs.BoundLaws.{HaveFewAllocations, KeptAllocationsAreFew, KeptAllocationsLeaveRoom}
 use Rattle.blk_kept.specs.Keeping.{KeepsUncounted, all_loaded, all_nodes, words_in_use}
 use Rattle.blk_kept.proofs.Allocating.{used-stand}
 use Rattle.blk_kept.proofs.Arranging.{as-sum}
@@ -317,3 +317,8 @@ allocations-few state layout unlinked image kind k block_kind = by-kind kind (gr
   by-kind (suc (suc (suc zero))) low high = few-allocations state layout unlinked image k 3 (once-3 image none)
   by-kind (suc (suc (suc (suc zero)))) low high = few-allocations state layout unlinked image k 4 (once-4 image none)
   by-kind (suc (suc (suc (suc (suc q))))) low high = absurd (omega arith)
+
+pub leave-room : KeptAllocationsLeaveRoom
+leave-room state layout unlinked image kind more k block_kind within few = let h = allocations-few state layout unlinked image kind k block_kind in record { each = h.each; few = bound _ (items state) (length unlinked) h.few within few } where
+  bound : (a i n : ℕ) → a ≤ 5 * i + n → i + more ≤ 131072 → n ≤ 5 * more + 2 → a ≤ 655362
+  bound a i n all within few = omega (arith, all, within, few)

@@ -43,7 +43,7 @@ module _ (state : State) (number : ℕ) (object : Object) (valid : IsValidState 
   unfolding doomed
   slot-else n apart = set-else state number n (doomed_slot (is_named state number) object) apart
 
-  same-state : doomed number state (Some object) ≡ without_items state (doomed number state (Some object)).objects (is_of_another object.key)
+  pub same-state : doomed number state (Some object) ≡ without_items state (doomed number state (Some object)).objects (is_of_another object.key)
   unfolding doomed
   same-state = refl
 

@@ -1,27 +1,25 @@
 -- A live object without parts is doomed.
 use Rattle.std.proofs.Common.{◌≡◌, ◌≢◌, ℕ, List, [], ◌∷◌, ◌++◌, map, refl, ap, sym, ◌∙◌, subst, arith, true, false, Option, Some, ⊎_elim, append_assoc}
-use Rattle.std.specs.Prelude.{◌==◌, not, filter, IsSomeAnd}
-use Rattle.std.specs.List.{AllByRecursion}
+use Rattle.std.specs.Prelude.{◌==◌, not, filter}
 use Rattle.std.specs.List.{cons_option, filter_map, sum_by}
 use Rattle.std.specs.List.Sorted.{IsPermutation}
 use Rattle.std.proofs.Common.{length, length-append}
 use Rattle.std.proofs.lemmas.List.Sums.{sum_by-cons}
 use Rattle.blk_volume.specs.Found.{charge_of}
 use Rattle.std.specs.Str.{bytes_eq}
-use Rattle.std.proofs.lemmas.Bool.{cases_Bool, cases_eq, eq-eqb, eqb-true, or_left, or_parts, or_right}
+use Rattle.std.proofs.lemmas.Bool.{cases_Bool, cases_eq, eq-eqb, eqb-true, or_parts}
 use Rattle.std.proofs.lemmas.List.Sorted.{IsPermutation-append_right, IsPermutation-sym, IsPermutation-trans}
 use Rattle.blk_image.proofs.Footprints.{outside_wider, within_left}
 use Rattle.blk_image.proofs.Runs.{some_inj}
 use Rattle.blk_image.specs.Footprint.{SameOutside}
 use Rattle.blk_image.specs.Image.{Image, Index, byte}
 use Rattle.blk_model.proofs.Same.{same_bytes}
-use Rattle.blk_model.specs.Effects.{doomed, doomed_slot}
+use Rattle.blk_model.specs.Effects.{doomed}
 use Rattle.blk_model.specs.Items.{Item, main, part, same_item}
-use Rattle.blk_model.specs.State.{State, Object, is_named, object_at}
+use Rattle.blk_model.specs.State.{State, Object, object_at}
 use Rattle.blk_format.specs.BlockFiles.{is_among}
 use Rattle.blk_format.specs.Hash.{hash}
 use Rattle.blk_format.specs.Headers.{this_id_of}
-use Rattle.blk_format.specs.Records as records
 use Rattle.blk_format.specs.Sealed.{record_range}
 use Rattle.blk_laws.specs.CommandLaws.{IsDoomedNow}
 use Rattle.blk_volume.specs.Chains.{bucket_of_hash}
@@ -32,12 +30,11 @@ use Rattle.blk_volume.specs.ListSteps.{touched_by_writes}
 use Rattle.blk_volume.specs.ListView.{Distinct, IsAtRest, IsList, ListView, ListWrite}
 use Rattle.blk_volume.specs.Loads.{Loaded}
 use Rattle.blk_volume.specs.Removal.{HasLess, is_of_another}
-use Rattle.blk_volume.specs.StandsFor.{AreNumbers, IsOwner}
+use Rattle.blk_volume.specs.StandsFor.{IsOwner}
 use Rattle.blk_volume.specs.Tidy.{doomed_nodes}
 use Rattle.blk_volume.specs.View.{list_of, view_of}
-use Rattle.blk_laws.proofs.states.Changing.{apart-sym, at-elsewhere, at-itself}
+use Rattle.blk_laws.proofs.states.Changing.{apart-sym, at-itself}
 use Rattle.blk_laws.proofs.commands.Dooming.{doomed-is-represented}
-use Rattle.blk_laws.proofs.states.Laid.{is_among-node}
 use Rattle.blk_laws.proofs.lists.ListCompletions.{listed}
 use Rattle.blk_laws.proofs.lists.Lists.{has_not}
 use Rattle.blk_laws.proofs.states.Moving.{moved-among, moved-distinct, moved-same, sums-add}
@@ -50,7 +47,7 @@ use Rattle.blk_kept.specs.DoomLaws.{CanBeDoomed, DoomedObjectsAreKept, DoomedObj
 use Rattle.blk_kept.specs.Keeping.{AllAreSealed, AreMarkedBy, KeepsUncounted, all_loaded, all_nodes, words_in_use}
 use Rattle.blk_kept.specs.RemovalLaws.{IsRemovalDone, chains_without}
 use Rattle.blk_kept.proofs.Arranging.{rearranged}
-use Rattle.blk_kept.proofs.Dirtying.{set-at, set-else}
+use Rattle.blk_kept.proofs.DoomedNumbers.{doomed-are, its-main, not-doomed, numbers-are, slot-else, slot-is}
 use Rattle.blk_kept.proofs.Gone.{among-without}
 use Rattle.blk_kept.proofs.Headers.{stand-same}
 use Rattle.blk_kept.proofs.Leaving.{leaves-files, leaves-then}
@@ -58,7 +55,7 @@ use Rattle.blk_kept.proofs.Removals.{filter-alike, from-filtered, in-filtered, o
 use Rattle.blk_kept.proofs.Touched.{node-to-front, words_at}
 
 -- a word may be put between others
-distinct-in : (xs : List ℕ) (n : ℕ) (ys : List ℕ) → is_among (xs ++ ys) n ≡ false → Distinct (xs ++ ys) → Distinct (xs ++ n ∷ ys)
+pub distinct-in : (xs : List ℕ) (n : ℕ) (ys : List ℕ) → is_among (xs ++ ys) n ≡ false → Distinct (xs ++ ys) → Distinct (xs ++ n ∷ ys)
 distinct-in [] n ys none once = (none, once)
 distinct-in (x ∷ xs) n ys none once =
     let parts = or_parts (x == n) (is_among (xs ++ ys) n) none in
@@ -82,11 +79,8 @@ module _ (state : State) (layout : Layout) (unlinked : List ℕ) (number : ℕ) 
   abbrev now : Layout
   now = layout_doomed layout number node l
 
-  its-main : is_listed state (main object.key) ≡ true
-  its-main = main-listed state k.valid number object true can.lies.here can.lies.live
-
   abbrev a : IsAround (main object.key) state.uses
-  a = around (main object.key) state.uses its-main (k.valid.once (main object.key))
+  a = around (main object.key) state.uses (its-main state layout unlinked number object l from k can.lies can.named) (k.valid.once (main object.key))
 
   abbrev prefix : List ℕ
   prefix = nodes_of layout a.before
@@ -116,36 +110,9 @@ module _ (state : State) (layout : Layout) (unlinked : List ℕ) (number : ℕ) 
   at-rest : IsAtRest (list_of image) (nodes_of layout (filter (is_of_another object.key) state.uses))
   at-rest = subst (λ (ls : ListView). IsAtRest ls (nodes_of layout (filter (is_of_another object.key) state.uses))) (sym u.list) (subst (λ (ns : List ℕ). IsAtRest (list_of between) ns) (sym new-order) (done.removed prefix suffix rest-list))
 
-  node-listed : is_among (order state layout) node ≡ true
-  node-listed = is_among-node layout state.uses (main object.key) its-main
-
-  -- the number is no doomed object's
-  not-doomed : is_among k.numbers number ≡ false
-  not-doomed = ⊎_elim
-      (λ (e : is_among k.numbers number ≡ true). absurd (go k.numbers k.owners.doomed.each e))
-      (λ (e : is_among k.numbers number ≡ false). e)
-      (cases_Bool (is_among k.numbers number))
-    where
-      go : (ns : List ℕ) → AllByRecursion (λ n. IsSomeAnd (object_at state n) (λ o. o.live ≡ false)) ns → is_among ns number ≡ true → ⊥
-      go [] all e = let z : false ≡ true = e in cc
-      go (m ∷ ns) all e = ⊎_elim
-          (λ (h : (m == number) ≡ true).
-          let dead : IsSomeAnd (object_at state number) (λ o. o.live ≡ false) = subst (λ (x : ℕ). IsSomeAnd (object_at state x) (λ o. o.live ≡ false)) (eqb-true m number h) all.0 in
-          let its : object.live ≡ false = subst (λ (o : Option Object). IsSomeAnd o (λ o. o.live ≡ false)) can.lies.here dead in
-          let z : true ≡ false = sym can.lies.live ∙ its in cc)
-          (λ (h : (m == number) ≡ false). go ns all.1 (rw h at e))
-          (cases_Bool (m == number))
-
-  -- the nodes of the doomed objects are the old ones, and this
-  doomed-are : (ns : List ℕ) → is_among ns number ≡ false → map now.place_of_doomed ns ≡ map layout.place_of_doomed ns
-  doomed-are [] none = refl
-  doomed-are (m ∷ ns) none =
-      let parts = or_parts (m == number) (is_among ns number) none in
-      (λ i. at-elsewhere layout.place_of_doomed number node m (apart-sym m number parts.0) i ∷ map now.place_of_doomed ns) ∙ ap (λ (xs : List ℕ). layout.place_of_doomed m ∷ xs) (doomed-are ns parts.1)
-
   nodes-now : all_nodes after now (number ∷ k.numbers) ≡ (prefix ++ suffix) ++ node ∷ rest-nodes
   nodes-now = ap (λ (ns : List ℕ). ns ++ map now.place_of_doomed (number ∷ k.numbers)) after-order
-      ∙ ap (λ (ns : List ℕ). (prefix ++ suffix) ++ ns) ((λ i. at-itself layout.place_of_doomed number node i ∷ map now.place_of_doomed k.numbers) ∙ ap (λ (ns : List ℕ). node ∷ ns) (doomed-are k.numbers not-doomed))
+      ∙ ap (λ (ns : List ℕ). (prefix ++ suffix) ++ ns) ((λ i. at-itself layout.place_of_doomed number node i ∷ map now.place_of_doomed k.numbers) ∙ ap (λ (ns : List ℕ). node ∷ ns) (doomed-are state layout unlinked number object l from k can.lies can.named layout.at (chains_without layout l.contents) layout.owner k.numbers (not-doomed state layout unlinked number object l from k can.lies can.named)))
 
   nodes-then : all_nodes state layout k.numbers ≡ prefix ++ node ∷ (suffix ++ rest-nodes)
   nodes-then = ap (λ (ns : List ℕ). ns ++ rest-nodes) old-order ∙ append_assoc prefix (node ∷ suffix) rest-nodes
@@ -206,54 +173,6 @@ module _ (state : State) (layout : Layout) (unlinked : List ℕ) (number : ℕ) 
   represents-now : Represents (view_of image) after now
   represents-now = doomed-is-represented (λ n. n == node) (view_of image) state layout k.represents.holds.lies k.valid number object l layout.at (chains_without layout l.contents) layout.owner doomed-now u.holds (λ n other is e. sym (eqb-true n node e)) u.loads at-rest
 
-  -- the object
-  slot-is : object_at after number ≡ Some (record object { live = false; parts = [] })
-  unfolding doomed
-  slot-is = let named : is_named state number ≡ true = can.named in rw named (set-at state number object (record object { live = false; parts = [] }) can.lies.here)
-
-  slot-else : (n : ℕ) → n ≢ number → object_at after n ≡ object_at state n
-  unfolding doomed
-  slot-else n apart = set-else state number n (doomed_slot (is_named state number) object) apart
-
-  numbers-are : AreNumbers after now (number ∷ k.numbers)
-  numbers-are = record {
-    each = (subst (λ (o : Option Object). IsSomeAnd o (λ o. o.live ≡ false)) (sym slot-is) refl, each k.numbers not-doomed k.owners.doomed.each);
-    once = (not-doomed, k.owners.doomed.once);
-    all = λ n o is dead. ⊎_elim
-        (λ (e : n ≡ number). or_left (number == n) (is_among k.numbers n) (eq-eqb number n (sym e)))
-        (λ (e : n ≢ number). or_right (number == n) (is_among k.numbers n) (k.owners.doomed.all n o (sym (slot-else n e) ∙ is) dead))
-        (cases_eq n number);
-    records = λ n there. ⊎_elim
-        (λ (e : (number == n) ≡ true). subst (λ (x : ℕ). now.state (now.place_of_doomed x) ≡ records.entry_doomed) (eqb-true number n e) (ap now.state (at-itself layout.place_of_doomed number node) ∙ at-itself layout.state node records.entry_doomed))
-        (λ (e : (number == n) ≡ false). ap now.state (at-elsewhere layout.place_of_doomed number node n e) ∙ at-elsewhere layout.state node records.entry_doomed (layout.place_of_doomed n) (other-place n (rw e at there)) ∙ k.owners.doomed.records n (rw e at there))
-        (cases_Bool (number == n));
-  } where
-    each : (ns : List ℕ) → is_among ns number ≡ false → AllByRecursion (λ n. IsSomeAnd (object_at state n) (λ o. o.live ≡ false)) ns → AllByRecursion (λ n. IsSomeAnd (object_at after n) (λ o. o.live ≡ false)) ns
-    each [] none all = tt
-    each (m ∷ ns) none all =
-        let parts = or_parts (m == number) (is_among ns number) none in
-        (subst (λ (o : Option Object). IsSomeAnd o (λ o. o.live ≡ false)) (sym (slot-else m (λ e. let z : true ≡ false = sym (eq-eqb m number e) ∙ parts.0 in cc))) all.0, each ns parts.1 all.1)
-
-    among-place : (ns : List ℕ) (n : ℕ) → is_among ns n ≡ true → is_among (map layout.place_of_doomed ns) (layout.place_of_doomed n) ≡ true
-    among-place [] n h = absurd (let z : false ≡ true = h in cc)
-    among-place (m ∷ ns) n h = ⊎_elim
-        (λ (e : (m == n) ≡ true). or_left (layout.place_of_doomed m == layout.place_of_doomed n) _ (eq-eqb _ _ (ap layout.place_of_doomed (eqb-true m n e))))
-        (λ (e : (m == n) ≡ false). or_right (layout.place_of_doomed m == layout.place_of_doomed n) _ (among-place ns n (rw e at h)))
-        (cases_Bool (m == n))
-
-    other-place : (n : ℕ) → is_among k.numbers n ≡ true → (node == layout.place_of_doomed n) ≡ false
-    other-place n there = ⊎_elim
-        (λ (e : (node == layout.place_of_doomed n) ≡ true).
-        absurd (let z : true ≡ false = sym (among-place k.numbers n there) ∙ ap (is_among rest-nodes) (sym (eqb-true node (layout.place_of_doomed n) e)) ∙ none-behind in cc))
-        (λ (e : (node == layout.place_of_doomed n) ≡ false). e)
-        (cases_Bool (node == layout.place_of_doomed n))
-      where
-        none-behind : is_among rest-nodes node ≡ false
-        none-behind = behind (prefix ++ suffix) once-front.0 where
-          behind : (xs : List ℕ) → is_among (xs ++ rest-nodes) node ≡ false → is_among rest-nodes node ≡ false
-          behind [] e = e
-          behind (x ∷ xs) e = behind xs (or_parts (x == node) (is_among (xs ++ rest-nodes) node) e).1
-
   -- seals and files
   abbrev writes : List ListWrite
   writes = writes_of remove node (list_of from)
@@ -271,9 +190,9 @@ module _ (state : State) (layout : Layout) (unlinked : List ℕ) (number : ℕ) 
   marked : AreMarkedBy (this_id_of (byte from Index)) after now
   marked n z is live unsettled = ⊎_elim
       (λ (e : n ≡ number).
-      let same_one : (let y : Object = record object { live = false; parts = [] } in y) ≡ z = some_inj (sym slot-is ∙ ap (object_at after) (sym e) ∙ is) in
+      let same_one : (let y : Object = record object { live = false; parts = [] } in y) ≡ z = some_inj (sym (slot-is state layout unlinked number object l from k can.lies can.named) ∙ ap (object_at after) (sym e) ∙ is) in
       absurd (let c : false ≡ true = ap (λ (x : Object). x.live) same_one ∙ live in cc))
-      (λ (e : n ≢ number). k.session.marked n z (sym (slot-else n e) ∙ is) live unsettled)
+      (λ (e : n ≢ number). k.session.marked n z (sym (slot-else state layout unlinked number object l from k can.lies can.named n e) ∙ is) live unsettled)
       (cases_eq n number)
 
   arranged : IsArranged after now (number ∷ k.numbers) unlinked image
@@ -283,7 +202,7 @@ module _ (state : State) (layout : Layout) (unlinked : List ℕ) (number : ℕ) 
     owners = record {
       exact = λ c n is. let o : IsOwner state layout (doomed_nodes layout k.numbers) c n = k.owners.exact c n is in record { among = among-same n ∙ o.among; loaded = o.loaded; here = o.here; claims = o.claims };
       once = subst Distinct (sym nodes-now) (distinct-in (prefix ++ suffix) node rest-nodes once-front.0 once-front.1);
-      doomed = numbers-are;
+      doomed = numbers-are state layout unlinked number object l from k can.lies can.named layout.at (chains_without layout l.contents) layout.owner;
     };
     unlinked_words = record { stand = stand-same from image leaves.headers unlinked k.unlinked_words.stand; free = k.unlinked_words.free; single = k.unlinked_words.single };
     sealed = sealed;

@@ -1,5 +1,5 @@
 -- A change of what unlinked words name keeps the state.
-use Rattle.std.proofs.Common.{◌≡◌, ℕ, List, ◌++◌, ap, sym, ◌∙◌, subst, ⊎_elim, Bool, true, false, Option, None, Some}
+use Rattle.std.proofs.Common.{◌≡◌, ℕ, List, ◌++◌, ap, sym, ◌∙◌, subst, ⊎_elim, Bool, true, false, Ok, Option, None, Some}
 use Rattle.std.proofs.lemmas.Bool.{cases_Bool, or_left}
 use Rattle.blk_model.specs.State.{State}
 use Rattle.blk_image.specs.Image.{Image}
@@ -7,7 +7,7 @@ use Rattle.blk_format.specs.Address.{rankings, blocks_256}
 use Rattle.blk_format.specs.Claims.{Claim, claims_of, claims_of_all, has_claim}
 use Rattle.blk_format.specs.Records.{Node, Entry, node_is_sealed, entry_is_sealed}
 use Rattle.blk_volume.specs.View.{NodeFields, RecordFields, fields_at, node_fields_at, stands_as, store_of, view_of}
-use Rattle.blk_volume.specs.Loads.{Loaded}
+use Rattle.blk_volume.specs.Loads.{Loaded, load}
 use Rattle.blk_volume.specs.Footprint.{AgreeBut, IsClear, IsFree}
 use Rattle.blk_volume.specs.Layout.{Layout, rule_of, Represents}
 use Rattle.blk_volume.specs.Sound.{AreSealed}
@@ -35,12 +35,15 @@ record-there : (image : Image) (w : ℕ) (e : RecordFields) → fields_at image 
 unfolding fields_at
 record-there image w f e = ⊎_elim (λ (s : stands_as image blocks_256 w ≡ true). s) (λ (s : stands_as image blocks_256 w ≡ false). absurd (let none : ◌≡◌ {A = Option RecordFields} None (Some f) = rw s at e in cc)) (cases_Bool (stands_as image blocks_256 w))
 
-pub standing-at : (image : Image) (state : State) (layout : Layout) → Represents (view_of image) state layout → (node : ℕ) (l : Loaded) → layout.at node ≡ Some l → AreStanding image l
+pub standing-loaded : (image : Image) (layout : Layout) (node : ℕ) (l : Loaded) → load (store_of image) (rule_of layout node) node ≡ Ok l → AreStanding image l
 unfolding store_of
-standing-at image state layout r node l here = load-then (store_of image) (rule_of layout node) node l (r.holds.shows.each node l here) (λ n e f. record {
+standing-loaded image layout node l loads = load-then (store_of image) (rule_of layout node) node l loads (λ n e f. record {
   node = subst (λ (x : ℕ). stands_as image rankings x ≡ true) (sym f.facts.node_is) (node-there image node n f.node);
   record_ = subst (λ (x : ℕ). stands_as image blocks_256 x ≡ true) (sym f.facts.contents_is) (record-there image n.contents e f.entry);
 })
+
+pub standing-at : (image : Image) (state : State) (layout : Layout) → Represents (view_of image) state layout → (node : ℕ) (l : Loaded) → layout.at node ≡ Some l → AreStanding image l
+standing-at image state layout r node l here = standing-loaded image layout node l (r.holds.shows.each node l here)
 
 -- seals outside a change
 pub sealed-same : (touched : Claim → Bool) (from image : Image) → AgreeBut touched from image → (l : Loaded) → AreStanding from l → IsClear touched l.node → IsClear touched l.contents → AreSealed from l → AreSealed image l

@@ -136,81 +136,89 @@ made-unlinked w from image a state layout unlinked k = kept w from image a state
 
 -- ---- and deleted
 
-module _ (w : ℕ) (from image : Image) (a : RemovesExternal from w image) (state : State) (layout : Layout) (unlinked : List ℕ) (k : KeepsUncounted state layout (w ∷ unlinked) from) where
-  abbrev gone : Claim → Bool
+module _ (w : ℕ) (from image : Image) (a : RemovesExternal from w image) where
+  abbrev pub gone : Claim → Bool
   gone claim = same_claim claim (ExternalOf (external_number w))
 
-  claims-it : (c : Claim) → has_claim (claims_of w) c ≡ gone c
+  pub claims-it : (c : Claim) → has_claim (claims_of w) c ≡ gone c
   claims-it c = ap (λ (cs : List Claim). has_claim cs c) (its-claims w a.some a.external_kind) ∙ claim-head (ExternalOf (external_number w)) [] c ∙ ap (λ (t : Bool). gone c || t) (no-claim c) ∙ or-false (gone c)
 
-  -- the file is nobody's
-  gone-free : IsFree gone layout
-  gone-free claim node is = ⊎_elim
-      (λ (e : gone claim ≡ true).
-      let none = k.unlinked_words.free claim (claim-append (claims_of w) (claims_of_all unlinked) claim ∙ or_left (has_claim (claims_of w) claim) (has_claim (claims_of_all unlinked) claim) (claims-it claim ∙ e)) in
-      absurd (let c : ◌≡◌ {A = Option ℕ} None (Some node) = sym none ∙ is in cc))
-      (λ (e : gone claim ≡ false). e)
-      (cases_Bool (gone claim))
+  module _ (others : List ℕ) (f : AreFiles from (w ∷ others)) (alone : (c : Claim) → same_claim c (ExternalOf (external_number w)) ≡ true → has_claim (claims_of_all others) c ≡ false) where
+    left-mapped : (n : ℕ) → is_some (linked_as image n) ≡ true → IsMapped image others n
+    left-mapped n linked =
+        let was : is_some (linked_as from n) ≡ true = ap (λ (o : Option ℕ). is_some o) (sym (a.blocks n).extent.linked) ∙ linked in
+        let m = (a.blocks n).mapped (w ∷ others) was (f.mapped n was) in
+        record { allocations = (let h = m.allocations in rw (no-file n w a.external_kind) at h); empty = m.empty; updating = m.updating }
 
-  gone-alone : (c : Claim) → has_claim (claims_of_all unlinked) c ≡ true → gone c ≡ false
-  gone-alone c e = ⊎_elim
-      (λ (t : gone c ≡ true). absurd (let z : true ≡ false = sym e ∙ repeats-apart (claims_of w) (claims_of_all unlinked) c k.unlinked_words.single (claims-it c ∙ t) in cc))
-      (λ (t : gone c ≡ false). t)
-      (cases_Bool (gone c))
+    left-externals : (m : ℕ) → m < 2 ^ 32 → has_file image (External m) ≡ has_claim (claims_of_all others) (ExternalOf m)
+    left-externals m small = ⊎_elim
+        (λ (e : m ≡ external_number w). subst (λ (x : ℕ). has_file image (External x) ≡ false) (sym e) a.gone ∙ sym (alone (ExternalOf m) (eq-eqb m (external_number w) e)))
+        (λ (differs : m ≢ external_number w). a.others m differs ∙ f.externals m small
+        ∙ claim-append (claims_of w) (claims_of_all others) (ExternalOf m) ∙ ap (λ (t : Bool). t || has_claim (claims_of_all others) (ExternalOf m)) (claims-it (ExternalOf m) ∙ another m differs))
+        (cases_eq m (external_number w))
+      where
+        another : (m : ℕ) → m ≢ external_number w → (m == external_number w) ≡ false
+        another m differs = ⊎_elim (λ (e : (m == external_number w) ≡ true). absurd (differs (eqb-true m (external_number w) e))) (λ (e : (m == external_number w) ≡ false). e) (cases_Bool (m == external_number w))
 
-  -- and no other word in use claims it
-  left-free : (c : Claim) → gone c ≡ true → has_claim (claims_of_all (words_in_use unlinked (all_loaded state layout k.numbers))) c ≡ false
-  left-free c e = ap (λ (cs : List Claim). has_claim cs c) (used-claims unlinked (all_loaded state layout k.numbers)) ∙ claim-append (claims_of_all unlinked) (claims_of_loaded (all_loaded state layout k.numbers)) c
-      ∙ or_from (has_claim (claims_of_all unlinked) c) (has_claim (claims_of_loaded (all_loaded state layout k.numbers)) c)
-      (⊎_elim (λ (t : has_claim (claims_of_all unlinked) c ≡ true). absurd (let z : true ≡ false = sym e ∙ gone-alone c t in cc)) (λ (t : has_claim (claims_of_all unlinked) c ≡ false). t) (cases_Bool (has_claim (claims_of_all unlinked) c)))
-      (claimed-exactly layout k.represents.holds.lies.own k.represents.holds.lies.single state (map layout.place_of_doomed k.numbers) k.owners.exact c
-      ∙ ap (λ (o : Option ℕ). is_some o) (k.unlinked_words.free c (claim-append (claims_of w) (claims_of_all unlinked) c ∙ or_left (has_claim (claims_of w) c) (has_claim (claims_of_all unlinked) c) (claims-it c ∙ e))))
+    pub left-files : AreFiles image others
+    left-files = record {
+      mapped = left-mapped;
+      externals = left-externals;
+      only_linked = λ n small. (a.blocks n).extent.there ∙ f.only_linked n small ∙ ap (λ (o : Option ℕ). is_some o) (sym (a.blocks n).extent.linked);
+      long_enough = λ n kind linked.
+          subst (λ (l : ℕ). block_place kind (max_entries_in image n) ≤ l) (sym (a.blocks n).extent.length)
+          (subst (λ (q : ℕ). block_place kind q ≤ length_of from (Block n)) (sym (a.blocks n).extent.blocks) (f.long_enough n kind (sym (a.blocks n).extent.linked ∙ linked)));
+    }
 
-  left-mapped : (n : ℕ) → is_some (linked_as image n) ≡ true → IsMapped image (words_in_use unlinked (all_loaded state layout k.numbers)) n
-  left-mapped n linked =
-      let was : is_some (linked_as from n) ≡ true = ap (λ (o : Option ℕ). is_some o) (sym (a.blocks n).extent.linked) ∙ linked in
-      let m = (a.blocks n).mapped (w ∷ words_in_use unlinked (all_loaded state layout k.numbers)) was (k.files.mapped n was) in
-      record { allocations = (let h = m.allocations in rw (no-file n w a.external_kind) at h); empty = m.empty; updating = m.updating }
-
-  left-externals : (m : ℕ) → m < 2 ^ 32 → has_file image (External m) ≡ has_claim (claims_of_all (words_in_use unlinked (all_loaded state layout k.numbers))) (ExternalOf m)
-  left-externals m small = ⊎_elim
-      (λ (e : m ≡ external_number w). subst (λ (x : ℕ). has_file image (External x) ≡ false) (sym e) a.gone ∙ sym (left-free (ExternalOf m) (eq-eqb m (external_number w) e)))
-      (λ (differs : m ≢ external_number w). a.others m differs ∙ k.files.externals m small
-      ∙ claim-append (claims_of w) (claims_of_all (words_in_use unlinked (all_loaded state layout k.numbers))) (ExternalOf m) ∙ ap (λ (t : Bool). t || has_claim (claims_of_all (words_in_use unlinked (all_loaded state layout k.numbers))) (ExternalOf m)) (claims-it (ExternalOf m) ∙ another m differs))
-      (cases_eq m (external_number w))
-    where
-      another : (m : ℕ) → m ≢ external_number w → (m == external_number w) ≡ false
-      another m differs = ⊎_elim (λ (e : (m == external_number w) ≡ true). absurd (differs (eqb-true m (external_number w) e))) (λ (e : (m == external_number w) ≡ false). e) (cases_Bool (m == external_number w))
-
-  left-stand : (ws : List ℕ) → ((c : Claim) → has_claim (claims_of_all ws) c ≡ true → gone c ≡ false) → AllByRecursion (λ v. stands_in from v ≡ true) ws → AllByRecursion (λ v. stands_in image v ≡ true) ws
+  pub left-stand : (ws : List ℕ) → ((c : Claim) → has_claim (claims_of_all ws) c ≡ true → gone c ≡ false) → AllByRecursion (λ v. stands_in from v ≡ true) ws → AllByRecursion (λ v. stands_in image v ≡ true) ws
   left-stand [] clear all = tt
   left-stand (v ∷ ws) clear all = (
     stands-same gone from image a.agree v (λ c e. clear c (claim-append (claims_of v) (claims_of_all ws) c ∙ or_left (has_claim (claims_of v) c) (has_claim (claims_of_all ws) c) e)) ∙ all.0,
     left-stand ws (λ c e. clear c (claim-append (claims_of v) (claims_of_all ws) c ∙ or_right (has_claim (claims_of v) c) (has_claim (claims_of_all ws) c) e)) all.1,
   )
 
+module _ (w : ℕ) (from image : Image) (a : RemovesExternal from w image) (state : State) (layout : Layout) (unlinked : List ℕ) (k : KeepsUncounted state layout (w ∷ unlinked) from) where
+  abbrev its_file : Claim → Bool
+  its_file claim = same_claim claim (ExternalOf (external_number w))
+
+  -- the file is nobody's
+  gone-free : IsFree its_file layout
+  gone-free claim node is = ⊎_elim
+      (λ (e : its_file claim ≡ true).
+      let none = k.unlinked_words.free claim (claim-append (claims_of w) (claims_of_all unlinked) claim ∙ or_left (has_claim (claims_of w) claim) (has_claim (claims_of_all unlinked) claim) (claims-it w from image a claim ∙ e)) in
+      absurd (let c : ◌≡◌ {A = Option ℕ} None (Some node) = sym none ∙ is in cc))
+      (λ (e : its_file claim ≡ false). e)
+      (cases_Bool (its_file claim))
+
+  gone-alone : (c : Claim) → has_claim (claims_of_all unlinked) c ≡ true → its_file c ≡ false
+  gone-alone c e = ⊎_elim
+      (λ (t : its_file c ≡ true). absurd (let z : true ≡ false = sym e ∙ repeats-apart (claims_of w) (claims_of_all unlinked) c k.unlinked_words.single (claims-it w from image a c ∙ t) in cc))
+      (λ (t : its_file c ≡ false). t)
+      (cases_Bool (its_file c))
+
+  -- and no other word in use claims it
+  left-free : (c : Claim) → its_file c ≡ true → has_claim (claims_of_all (words_in_use unlinked (all_loaded state layout k.numbers))) c ≡ false
+  left-free c e = ap (λ (cs : List Claim). has_claim cs c) (used-claims unlinked (all_loaded state layout k.numbers)) ∙ claim-append (claims_of_all unlinked) (claims_of_loaded (all_loaded state layout k.numbers)) c
+      ∙ or_from (has_claim (claims_of_all unlinked) c) (has_claim (claims_of_loaded (all_loaded state layout k.numbers)) c)
+      (⊎_elim (λ (t : has_claim (claims_of_all unlinked) c ≡ true). absurd (let z : true ≡ false = sym e ∙ gone-alone c t in cc)) (λ (t : has_claim (claims_of_all unlinked) c ≡ false). t) (cases_Bool (has_claim (claims_of_all unlinked) c)))
+      (claimed-exactly layout k.represents.holds.lies.own k.represents.holds.lies.single state (map layout.place_of_doomed k.numbers) k.owners.exact c
+      ∙ ap (λ (o : Option ℕ). is_some o) (k.unlinked_words.free c (claim-append (claims_of w) (claims_of_all unlinked) c ∙ or_left (has_claim (claims_of w) c) (has_claim (claims_of_all unlinked) c) (claims-it w from image a c ∙ e))))
+
   left-sealed : AllAreSealed image layout
   left-sealed node l at =
-      let clear : AreClear gone l = clear-at gone state layout gone-free k.represents.holds.lies node l at in
-      sealed-same gone from image a.agree l (standing-at from state layout k.represents node l at) clear.node clear.contents (k.sealed node l at)
+      let clear : AreClear its_file l = clear-at its_file state layout gone-free k.represents.holds.lies node l at in
+      sealed-same its_file from image a.agree l (standing-at from state layout k.represents node l at) clear.node clear.contents (k.sealed node l at)
 
   left-kept : KeepsUncounted state layout unlinked image
   left-kept = record {
     valid = k.valid;
     well_formed = a.well_formed k.well_formed;
-    represents = represents-outside gone (view_of from) (view_of image) state layout (agreeing-views gone from image a.agree) gone-free k.represents;
+    represents = represents-outside its_file (view_of from) (view_of image) state layout (agreeing-views its_file from image a.agree) gone-free k.represents;
     numbers = k.numbers;
     owners = k.owners;
-    files = record {
-      mapped = left-mapped;
-      externals = left-externals;
-      only_linked = λ n small. (a.blocks n).extent.there ∙ k.files.only_linked n small ∙ ap (λ (o : Option ℕ). is_some o) (sym (a.blocks n).extent.linked);
-      long_enough = λ n kind linked.
-          subst (λ (l : ℕ). block_place kind (max_entries_in image n) ≤ l) (sym (a.blocks n).extent.length)
-          (subst (λ (q : ℕ). block_place kind q ≤ length_of from (Block n)) (sym (a.blocks n).extent.blocks) (k.files.long_enough n kind (sym (a.blocks n).extent.linked ∙ linked)));
-    };
+    files = left-files w from image a (words_in_use unlinked (all_loaded state layout k.numbers)) k.files left-free;
     unlinked_words = record {
-      stand = left-stand unlinked gone-alone k.unlinked_words.stand.1;
+      stand = left-stand w from image a unlinked gone-alone k.unlinked_words.stand.1;
       free = λ claim e. k.unlinked_words.free claim (claim-append (claims_of w) (claims_of_all unlinked) claim ∙ or_right (has_claim (claims_of w) claim) (has_claim (claims_of_all unlinked) claim) e);
       single = repeats-tail (claims_of w) (claims_of_all unlinked) k.unlinked_words.single;
     };

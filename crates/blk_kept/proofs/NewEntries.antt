@@ -1,11 +1,10 @@
 -- A new entry in the use list and in front of its chain.
 use Rattle.std.proofs.Common.{◌≡◌, ℕ, zero, suc, ◌+◌, ◌<◌, ◌≤◌, List, [], ◌∷◌, ◌++◌, length, map, refl, ap, sym, ◌∙◌, subst, arith, Bool, true, false, Option, Some, None, get_or, lit≤, ⊎_elim, append_assoc}
 use Rattle.std.proofs.lemmas.Bool.Decides.{nat_tests}
-use Rattle.std.specs.Prelude.{◌&&◌, ◌==◌, nat_le, nat_lt, IfSome, IsSomeAnd, if◌then◌else◌}
-use Rattle.std.specs.List.{AllByRecursion, cons_option, filter_map, flat_map, sum_by}
+use Rattle.std.specs.Prelude.{◌&&◌, ◌==◌, nat_le, nat_lt, IfSome, if◌then◌else◌}
+use Rattle.std.specs.List.{cons_option, filter_map, flat_map, sum_by}
 use Rattle.std.specs.List.Sorted.{IsPermutation}
 use Rattle.std.proofs.lemmas.Bool.{cases_Bool, eq-eqb, eqb-true, or_left, or_right}
-use Rattle.std.proofs.lemmas.Grind.{flat_map-append}
 use Rattle.std.proofs.lemmas.List.Sums.{sum_by-cons}
 use Rattle.blk_image.specs.Footprint.{SameOutside, one_word}
 use Rattle.blk_image.specs.Image.{Image, Index, Block, byte, word}
@@ -17,8 +16,8 @@ use Rattle.blk_model.specs.Items.{main, same_item}
 use Rattle.blk_model.specs.State.{State, Object, IsValidState, object_at}
 use Rattle.blk_model.proofs.Same.{one_item, same_item_self}
 use Rattle.blk_format.specs.Address.{blocks_256, file_selector, place}
-use Rattle.blk_format.specs.BlockFiles.{is_among, stands_in, IsWellFormed}
-use Rattle.blk_format.specs.Claims.{Claim, claims_of, claims_of_all, has_claim, repeats}
+use Rattle.blk_format.specs.BlockFiles.{is_among, IsWellFormed}
+use Rattle.blk_format.specs.Claims.{Claim, has_claim}
 use Rattle.blk_format.specs.Hash.{hash}
 use Rattle.blk_format.specs.Headers.{header_length, place_of_bucket, this_id_of}
 use Rattle.blk_format.specs.Records.{entry_in, entry_is_sealed, node_in, node_is_sealed, entry_normal}
@@ -42,17 +41,14 @@ use Rattle.blk_volume.specs.Sound.{AreSealed, words_of}
 use Rattle.blk_volume.specs.StandsFor.{IsOwner}
 use Rattle.blk_volume.specs.Tidy.{doomed_nodes}
 use Rattle.blk_volume.specs.View.{RecordFields, StoreView, View, list_of, stands_as, store_of, view_of}
-use Rattle.blk_laws.proofs.claims.Allocations.{words-claims}
 use Rattle.blk_laws.proofs.states.Central.{walk-order}
 use Rattle.blk_laws.proofs.chains.ChainWords.{shown-fields}
 use Rattle.blk_laws.proofs.states.Changing.{at-elsewhere, at-itself}
-use Rattle.blk_laws.proofs.claims.ClaimLists.{claim-append}
 use Rattle.blk_laws.proofs.commands.Created.{at-each-write, at-end, creates-rest}
 use Rattle.blk_laws.proofs.commands.Creating.{new-lacks, order-after, push-back, uses-after}
 use Rattle.blk_laws.proofs.updates.IndexWords.{same-shown}
-use Rattle.blk_laws.proofs.states.Laid.{IsNodeOf, is_among-node, node-of, repeats-tail}
+use Rattle.blk_laws.proofs.states.Laid.{is_among-node}
 use Rattle.blk_laws.proofs.walks.Loads.{load-then}
-use Rattle.blk_laws.proofs.states.Marking.{repeats-apart}
 use Rattle.blk_laws.proofs.states.Settling.{main-listed, main-owned}
 use Rattle.blk_laws.proofs.states.Standing.{found-at_rest}
 use Rattle.blk_laws.proofs.updates.StillShown.{core-standing}
@@ -66,6 +62,7 @@ use Rattle.blk_kept.specs.NewEntryLaws.{InsertsFindTheSame, IsInsertDone, IsLink
 use Rattle.blk_kept.proofs.Arranging.{rearranged}
 use Rattle.blk_kept.proofs.Headers.{stand-same}
 use Rattle.blk_kept.proofs.Leaving.{leaves-files, leaves-then}
+use Rattle.blk_kept.proofs.NewNodes.{among-doomed, some-at, still-free, unlinked-once, unlinked-still}
 use Rattle.blk_kept.proofs.NodeChanges.{is_dead, numbers-same, others-at}
 use Rattle.blk_kept.proofs.Touched.{to-front, words_at}
 use Rattle.blk_kept.proofs.Touching.{found-kept}
@@ -197,28 +194,10 @@ module _ (state : State) (layout : Layout) (unlinked key : List ℕ) (l : Loaded
   abbrev now : Layout
   now = with_new layout key l
 
-  -- the nodes of the state have something at them
-  some-at : (node : ℕ) → is_among (all_nodes state layout k.numbers) node ≡ true → (x : Loaded) × (layout.at node ≡ Some x)
-  some-at node e = ⊎_elim
-      (λ (here : is_among (order state layout) node ≡ true). let a : IsNodeOf layout state.uses node = node-of layout state.uses node here in let laid = k.represents.holds.lies.laid a.item a.among in (laid.loaded, ap layout.at (sym a.is) ∙ laid.here))
-      (λ (none : is_among (order state layout) node ≡ false). of-doomed k.numbers k.owners.doomed.each (rw none at (sym (is_among-append (order state layout) (doomed_nodes layout k.numbers) node) ∙ e)))
-      (cases_Bool (is_among (order state layout) node))
-    where
-      of-object : (number : ℕ) (o : Option Object) → object_at state number ≡ o → IsSomeAnd o (λ object. object.live ≡ false) → (x : Loaded) × (layout.at (layout.place_of_doomed number) ≡ Some x)
-      of-object number None is dead = absurd dead
-      of-object number (Some object) is dead = let d = k.represents.holds.lies.doomed_objects number object is dead in (d.loaded, d.here)
-
-      of-doomed : (ns : List ℕ) → AllByRecursion (λ number. IsSomeAnd (object_at state number) (λ object. object.live ≡ false)) ns → is_among (map layout.place_of_doomed ns) node ≡ true → (x : Loaded) × (layout.at node ≡ Some x)
-      of-doomed [] each h = absurd (let z : false ≡ true = h in cc)
-      of-doomed (m ∷ ns) each h = ⊎_elim
-          (λ (t : (layout.place_of_doomed m == node) ≡ true). let at = of-object m (object_at state m) refl each.0 in (at.0, ap layout.at (sym (eqb-true (layout.place_of_doomed m) node t)) ∙ at.1))
-          (λ (t : (layout.place_of_doomed m == node) ≡ false). of-doomed ns each.1 (rw t at h))
-          (cases_Bool (layout.place_of_doomed m == node))
-
   -- the node is none of them
   new-node : is_among (all_nodes state layout k.numbers) l.node ≡ false
   new-node = ⊎_elim
-      (λ (e : is_among (all_nodes state layout k.numbers) l.node ≡ true). let x = some-at l.node e in absurd (let z : ◌≡◌ {A = Option Loaded} (Some x.0) None = sym x.1 ∙ n.entry.nobody in cc))
+      (λ (e : is_among (all_nodes state layout k.numbers) l.node ≡ true). let x = some-at state layout unlinked l from k l.node e in absurd (let z : ◌≡◌ {A = Option Loaded} (Some x.0) None = sym x.1 ∙ n.entry.nobody in cc))
       (λ (e : is_among (all_nodes state layout k.numbers) l.node ≡ false). e)
       (cases_Bool (is_among (all_nodes state layout k.numbers) l.node))
 
@@ -261,17 +240,6 @@ module _ (state : State) (layout : Layout) (unlinked key : List ℕ) (l : Loaded
           here = at-elsewhere layout.at l.node (Some l) node (other-node node o.among) ∙ o.here;
           claims = o.claims;
         }
-
-  -- what is unlinked still is nobody's
-  free : (claim : Claim) → has_claim (claims_of_all unlinked) claim ≡ true → now.owner claim ≡ None
-  free claim e = go (has_claim (all_claims l) claim) refl where
-    go : (t : Bool) → has_claim (all_claims l) claim ≡ t → (if t then Some l.node else layout.owner claim) ≡ None
-    go true has = absurd (let z : true ≡ false = sym e ∙ repeats-apart (claims_of_all (words_of l)) (claims_of_all unlinked) claim (ap repeats (sym (flat_map-append claims_of (words_of l) unlinked)) ∙ k.unlinked_words.single) (ap (λ (cs : List Claim). has_claim cs claim) (words-claims l) ∙ has) in cc)
-    go false has = k.unlinked_words.free claim (ap (λ (cs : List Claim). has_claim cs claim) (flat_map-append claims_of (words_of l) unlinked) ∙ claim-append (claims_of_all (words_of l)) (claims_of_all unlinked) claim ∙ or_right (has_claim (claims_of_all (words_of l)) claim) (has_claim (claims_of_all unlinked) claim) e)
-
-  unlinked-stand : (xs ys : List ℕ) → AllByRecursion (λ w. stands_in from w ≡ true) (xs ++ ys) → AllByRecursion (λ w. stands_in from w ≡ true) ys
-  unlinked-stand [] ys all = all
-  unlinked-stand (x ∷ xs) ys all = unlinked-stand xs ys all.1
 
   -- the writes into the list
   outside : SameOutside (touch_range writes l.node) from between
@@ -345,23 +313,16 @@ module _ (state : State) (layout : Layout) (unlinked key : List ℕ) (l : Loaded
       doomed = numbers-same state (created handle key state) layout now k.numbers (created-dead state handle key) kinds k.owners.doomed;
     };
     unlinked_words = record {
-      stand = stand-same from image leaves.headers unlinked (unlinked-stand (words_of l) unlinked k.unlinked_words.stand);
-      free = free;
-      single = repeats-tail (claims_of_all (words_of l)) (claims_of_all unlinked) (ap repeats (sym (flat_map-append claims_of (words_of l) unlinked)) ∙ k.unlinked_words.single);
+      stand = stand-same from image leaves.headers unlinked (unlinked-still state layout unlinked l from k);
+      free = still-free state layout unlinked l from k;
+      single = unlinked-once state layout unlinked l from k;
     };
     sealed = sealed;
     marked = subst (λ (id : ℕ). AreMarkedBy id (created handle key state) now) (sym leaves.session.id) marked;
   } where
-    among-doomed : (ns : List ℕ) (number : ℕ) → is_among ns number ≡ true → is_among (map layout.place_of_doomed ns) (layout.place_of_doomed number) ≡ true
-    among-doomed [] number h = absurd (let z : false ≡ true = h in cc)
-    among-doomed (m ∷ ns) number h = ⊎_elim
-        (λ (e : (m == number) ≡ true). or_left (layout.place_of_doomed m == layout.place_of_doomed number) _ (eq-eqb _ _ (ap layout.place_of_doomed (eqb-true m number e))))
-        (λ (e : (m == number) ≡ false). or_right (layout.place_of_doomed m == layout.place_of_doomed number) _ (among-doomed ns number (rw e at h)))
-        (cases_Bool (m == number))
-
     kinds : (number : ℕ) → is_among k.numbers number ≡ true → now.state (now.place_of_doomed number) ≡ layout.state (layout.place_of_doomed number)
     kinds number among = at-elsewhere layout.state l.node entry_normal (layout.place_of_doomed number) (other-node (layout.place_of_doomed number)
-        (is_among-append (order state layout) (doomed_nodes layout k.numbers) (layout.place_of_doomed number) ∙ or_right (is_among (order state layout) (layout.place_of_doomed number)) _ (among-doomed k.numbers number among)))
+        (is_among-append (order state layout) (doomed_nodes layout k.numbers) (layout.place_of_doomed number) ∙ or_right (is_among (order state layout) (layout.place_of_doomed number)) _ (among-doomed state layout unlinked l from k k.numbers number among)))
 
   pub new-kept : KeepsUncounted (created handle key state) now unlinked image
   new-kept = rearranged state (created handle key state) layout now (words_of l ++ unlinked) unlinked k.numbers from image k leaves arranged same-words

@@ -33,6 +33,10 @@ use Rattle.blk_kept.proofs.Keeping.{kept-found, kept-stands}
 use Rattle.blk_volume.specs.Sound.{words_of}
 use Rattle.blk_kept.specs.GoneLaws.{layout_without}
 use Rattle.blk_kept.proofs.OneCalls.{closes-of-doomed-unlink}
+use Rattle.blk_kept.specs.DoomLaws.{CanBeDoomed}
+use Rattle.blk_kept.specs.PartlyOut.{KeepsPartlyOut}
+use Rattle.blk_model.proofs.Doomed.{state_doomed}
+use Rattle.blk_kept.proofs.PartlyOut.{kept-begin}
 use Rattle.blk_kept.proofs.Stages.{ends-kept, notes-end, stages-stop}
 use Rattle.blk_kept.proofs.Stopping.{quiet-keep, stop-before}
 use Rattle.blk_kept.proofs.WordStops.{dooms-find, dooms-stop, out-doomed, uses-stop}
@@ -112,3 +116,11 @@ list_is_stepped = notes-end told told told 100 to_list 1 state (passes_none (May
 -- the doomed object is closed by its last handle, and its words are unlinked
 doomed_is_closed : Keeps (step (doomed_state true) 100 (to_close 0)).state (layout_without (doomed_layout 0) ((doomed_layout 0).place_of_doomed 0)) (words_of (one.loaded 0) ++ []) (opened doomed_folder 7)
 doomed_is_closed = closes-of-doomed-unlink (doomed_state true) (doomed_layout 0) [] (opened doomed_folder 7) 100 0 0 (doomed_object true) (one.loaded 0) doomed-keeps (omega arith) refl (unfold computing in refl) (record { here = refl; dead = refl; at = refl })
+
+-- the object of the whole folder can be doomed, whose handle is 0
+can_be_doomed : CanBeDoomed state (one.layout 0) 0 (one.object true) (one.loaded 0)
+can_be_doomed = record { lies = one.lies 0; named = refl; alone = λ n. refl; valid = state_doomed state whole-keeps.entries.valid 0 (one.object true) refl refl }
+
+-- none of its items is out yet
+none_is_out : KeepsPartlyOut state (one.layout 0) (λ item. true) (one.layout 0).chains [] folder
+none_is_out = kept-begin state (one.layout 0) [] folder whole-keeps.entries

@@ -2,6 +2,7 @@
 use Rattle.std.specs.Prelude.{◌≡◌, ◌≤◌, ◌+◌, ◌*◌, ℕ, List, length, true}
 use Rattle.std.specs.List.{sum_by}
 use Rattle.blk_model.specs.Room.{items}
+use Rattle.blk_model.specs.Sizes.{most_items}
 use Rattle.blk_model.specs.State.{State}
 use Rattle.blk_image.specs.Image.{Block, Image, byte}
 use Rattle.blk_format.specs.Address.{is_block_kind}
@@ -29,3 +30,7 @@ pub record HaveFewAllocations (image : Image) (kind most : ℕ) : Type 0 where
 -- the allocations of a kind are at most five for each item and doomed object, and one for each unlinked word
 abbrev pub KeptAllocationsAreFew : Type 0
 KeptAllocationsAreFew = (state : State) (layout : Layout) (unlinked : List ℕ) (image : Image) (kind : ℕ) → KeepsUncounted state layout unlinked image → is_block_kind kind ≡ true → HaveFewAllocations image kind (most_words * items state + length unlinked)
+
+-- so while a command has so many items to add, and each of them has no more than its words unlinked, and two more words are, they are no more than the 655362 that always leave room
+abbrev pub KeptAllocationsLeaveRoom : Type 0
+KeptAllocationsLeaveRoom = (state : State) (layout : Layout) (unlinked : List ℕ) (image : Image) (kind more : ℕ) → KeepsUncounted state layout unlinked image → is_block_kind kind ≡ true → items state + more ≤ most_items → length unlinked ≤ most_words * more + 2 → HaveFewAllocations image kind (most_words * most_items + 2)

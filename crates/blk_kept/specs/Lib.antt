@@ -14,6 +14,7 @@ pub mod WordStops
 pub mod NextStates
 pub mod OneCallLaws
 pub mod PlainRemovals
+pub mod WholeRemovals
 pub mod CreateStops
 pub mod Arranging
 pub mod ListLaws
@@ -21,6 +22,8 @@ pub mod RecordLaws
 pub mod CounterLaws
 pub mod ExternalLaws
 pub mod NewEntryLaws
+pub mod NewPartLaws
+pub mod NewPartsKept
 pub mod BoundLaws
 pub mod ObjectLaws
 pub mod GoneLaws
@@ -31,3 +34,4 @@ pub mod LinkLaws
 pub mod ChangedStates
 pub mod AllocationLaws
 pub mod GroupLaws
+pub mod PartlyOut

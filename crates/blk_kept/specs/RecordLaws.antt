@@ -9,7 +9,7 @@ use Rattle.blk_format.specs.BlockFiles.{stands_in}
 use Rattle.blk_format.specs.Claims.{claims_of, has_claim}
 use Rattle.blk_format.specs.Headers.{this_id_of}
 use Rattle.blk_format.specs.Sealed.{BeginsWithRecord, record_range}
-use Rattle.blk_laws.specs.CommandLaws.{IsPlacedAsLive, dirtied, marked}
+use Rattle.blk_laws.specs.CommandLaws.{IsPlacedAsDoomed, IsPlacedAsLive, dirtied, marked}
 use Rattle.blk_volume.specs.Layout.{Layout}
 use Rattle.blk_volume.specs.ListSteps.{IsSealed}
 use Rattle.blk_volume.specs.Loads.{Loaded}
@@ -17,6 +17,7 @@ use Rattle.blk_volume.specs.ShownChanges.{ChangesInside, OnlyNodeFieldsChange}
 use Rattle.blk_volume.specs.View.{node_at}
 use Rattle.blk_kept.specs.Changes.{ChangesOnly, Finds, SameCounters}
 use Rattle.blk_kept.specs.Keeping.{Keeps, KeepsUncounted}
+use Rattle.blk_kept.specs.ObjectLaws.{layout_after}
 
 -- a sealed update of the record of a standing address is a change of its blocks
 abbrev pub RecordUpdatesChangeOnly : Type 0
@@ -58,3 +59,22 @@ abbrev pub MarkingKeepsTheCounters : Type 0
 MarkingKeepsTheCounters = (state : State) (layout : Layout) (unlinked : List ℕ) (from image : Image) (number : ℕ) (object : Object) (loaded : Loaded) (mark : ℕ) → Keeps state layout unlinked from → IsPlacedAsLive state layout number object loaded
     → IsValidState (marked state number object (mark == 0)) → ((mark == 0) ≡ false → mark ≡ this_id_of (byte from Index)) → IsMarked from (layout.place (main object.key)) mark image
     → Keeps (marked state number object (mark == 0)) (dirtied layout (layout.place (main object.key)) loaded mark) unlinked image
+
+-- The dirty word of a doomed object, which a Write to a settled one sets.
+
+-- at each word of it what was at rest is found
+abbrev pub DoomedMarkingFindsTheSame : Type 0
+DoomedMarkingFindsTheSame = (state : State) (layout : Layout) (unlinked : List ℕ) (from image : Image) (number : ℕ) (object : Object) (loaded : Loaded) (mark : ℕ) → KeepsUncounted state layout unlinked from → IsPlacedAsDoomed state layout number object loaded
+    → IsMarking from (layout.place_of_doomed number) mark image → Finds (rest state) image
+
+-- and in the end it is settled where the word is 0, and else unsettled
+abbrev pub DoomedMarkingKeepsTheState : Type 0
+DoomedMarkingKeepsTheState = (state : State) (layout : Layout) (unlinked : List ℕ) (from image : Image) (number : ℕ) (object : Object) (loaded : Loaded) (mark : ℕ) → KeepsUncounted state layout unlinked from → IsPlacedAsDoomed state layout number object loaded
+    → IsValidState (marked state number object (mark == 0)) → IsMarked from (layout.place_of_doomed number) mark image
+    → KeepsUncounted (marked state number object (mark == 0)) (layout_after layout (layout.place_of_doomed number) (record loaded { dirty = mark })) unlinked image
+
+-- and it was not counted
+abbrev pub DoomedMarkingKeepsTheCounters : Type 0
+DoomedMarkingKeepsTheCounters = (state : State) (layout : Layout) (unlinked : List ℕ) (from image : Image) (number : ℕ) (object : Object) (loaded : Loaded) (mark : ℕ) → Keeps state layout unlinked from → IsPlacedAsDoomed state layout number object loaded
+    → IsValidState (marked state number object (mark == 0)) → IsMarked from (layout.place_of_doomed number) mark image
+    → Keeps (marked state number object (mark == 0)) (layout_after layout (layout.place_of_doomed number) (record loaded { dirty = mark })) unlinked image

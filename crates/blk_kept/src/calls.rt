@@ -2,7 +2,7 @@
 
 ghost use Rattle.blk_kept.specs.AllocationLaws.{AllocatedBlocksAreAdded, FreedBlocksAreRemoved};
 ghost use Rattle.blk_kept.specs.Arranging.{StatesAreRearranged};
-ghost use Rattle.blk_kept.specs.BoundLaws.{KeptAllocationsAreFew};
+ghost use Rattle.blk_kept.specs.BoundLaws.{KeptAllocationsAreFew, KeptAllocationsLeaveRoom};
 ghost use Rattle.blk_kept.specs.ChangedStates.{UnheldObjectsGoWhole, UnheldObjectsGoWithTheirParts, ObjectsChangeTheirMainItem};
 ghost use Rattle.blk_kept.specs.CounterLaws.{CountersMayBeWritten, WrittenCountersCount};
 ghost use Rattle.blk_kept.specs.DoneLaws.{TouchStepsAreDone, InsertStepsAreDone, RemovalStepsAreDone};
@@ -11,10 +11,13 @@ ghost use Rattle.blk_kept.specs.ExternalLaws.{MakingFilesFindsTheSame, MadeFiles
 ghost use Rattle.blk_kept.specs.GoneLaws.{GoneObjectsAreUnlinked, GoneObjectsAreNotCounted};
 ghost use Rattle.blk_kept.specs.LinkLaws.{TableWordsChangeLinks, TableWordsLeaveFiles, TableWordsLeaveSeals, ChainNextsChangeLinks, ChainNextsLeaveSeals, DataChangesAreInside, RecordUpdatesAreInside, RemovedItemsAreOneLess};
 ghost use Rattle.blk_kept.specs.GroupLaws.{GoneItemsAreUnlinked};
+ghost use Rattle.blk_kept.specs.PartlyOut.{KeptStatesArePartlyOut, OneMoreGoesOut, BlocksAreFreedPartlyOut, FilesAreDeletedPartlyOut, WhatIsOutMayChange, OnlyListedAreOut, PartlyOutEndsKept};
 ghost use Rattle.blk_kept.specs.ListLaws.{TouchesKeepTheState, TouchesKeepTheCounters};
 ghost use Rattle.blk_kept.specs.NewEntryLaws.{InsertsFindTheSame, LinksFindTheSame, NewEntriesAreKept, NewEntriesAreOneMore};
+ghost use Rattle.blk_kept.specs.NewPartLaws.{NewPartsHoldTheOthers, NewPartsAreAtRest, NewPartsAtEachWrite, NewPartsAreLinked, ParentsDataMayChange, NotedParentsAreChanges, NewPartsEnd};
+ghost use Rattle.blk_kept.specs.NewPartsKept.{PartInsertsFindEither, MakingPartsFindsTheNext, PartValuesKeepUnsettled, NewPartsAreKept};
 ghost use Rattle.blk_kept.specs.ObjectLaws.{HandlesMayChange, HandlesAreNotCounted, UnsettledItemsFindTheSame, DoomedObjectsFindTheSame, ChangedItemsAreKept, ChangedDoomedObjectsAreKept};
-ghost use Rattle.blk_kept.specs.RecordLaws.{RecordUpdatesChangeOnly, RecordUpdatesLeaveCounters, MarkingFindsEither, MarkingKeepsTheState, MarkingKeepsTheCounters};
+ghost use Rattle.blk_kept.specs.RecordLaws.{DoomedMarkingFindsTheSame, DoomedMarkingKeepsTheState, DoomedMarkingKeepsTheCounters, RecordUpdatesChangeOnly, RecordUpdatesLeaveCounters, MarkingFindsEither, MarkingKeepsTheState, MarkingKeepsTheCounters};
 ghost use Rattle.blk_kept.specs.RemovalLaws.{RemovalsFindEither, UnlinkingFindsTheOthers, RemovedItemsAreUnlinked};
 
 /// Where a call leaves the files, another state that lies there with the same words in use is kept.
@@ -35,6 +38,13 @@ pub fn objects_are_marked()
     ensures find { MarkingFindsEither }
     ensures uncounted { MarkingKeepsTheState }
     ensures counted { MarkingKeepsTheCounters }
+{}
+
+/// The dirty word of a doomed object may be set and cleared: what was at rest is found at each word, and in the end the object is unsettled or settled, which is not counted.
+pub fn doomed_objects_are_marked()
+    ensures find { DoomedMarkingFindsTheSame }
+    ensures uncounted { DoomedMarkingKeepsTheState }
+    ensures counted { DoomedMarkingKeepsTheCounters }
 {}
 
 /// Each counter of the index may be written, and once the three are, the state is counted.
@@ -59,9 +69,29 @@ pub fn new_entries_are_kept()
     ensures one_more { NewEntriesAreOneMore }
 {}
 
-/// The allocations of the files of a kind are at most five for each item and doomed object, and one for each unlinked word.
+/// While a part is made, and until its parent has its bit, all but these two stay as they were, and what is shown is what is at rest; in the end the state with the part is represented.
+pub fn new_parts_are_shown()
+    ensures others { NewPartsHoldTheOthers }
+    ensures at_rest { NewPartsAreAtRest }
+    ensures at_each_word { NewPartsAtEachWrite }
+    ensures linked { NewPartsAreLinked }
+    ensures parent { ParentsDataMayChange }
+    ensures noted { NotedParentsAreChanges }
+    ensures ends { NewPartsEnd }
+{}
+
+/// So it is in a folder: while a part is made what is at rest is found, and in the end the state with the part is kept, whose words are unlinked no longer.
+pub fn new_parts_are_kept()
+    ensures inserting { PartInsertsFindEither }
+    ensures making { MakingPartsFindsTheNext }
+    ensures unsettled { PartValuesKeepUnsettled }
+    ensures kept { NewPartsAreKept }
+{}
+
+/// The allocations of the files of a kind are at most five for each item and doomed object, and one for each unlinked word; so they leave room where a state and what a command adds have no more items than a cache may have.
 pub fn kept_allocations_are_few()
-    ensures { KeptAllocationsAreFew }
+    ensures few { KeptAllocationsAreFew }
+    ensures room { KeptAllocationsLeaveRoom }
 {}
 
 /// Which handles there are is not in the folder.
@@ -140,4 +170,15 @@ pub fn allocations_come_and_go()
 /// Several items that are out of the list and of the chains have their words unlinked.
 pub fn gone_items_are_unlinked()
     ensures { GoneItemsAreUnlinked }
+{}
+
+/// Of a kept state all items stay at first; then one item more goes out of the list and of its chain, and unlinked blocks may be freed and files deleted before the next one does; once what is left is a state, that is kept.
+pub fn states_may_be_partly_out()
+    ensures begins { KeptStatesArePartlyOut }
+    ensures one_more { OneMoreGoesOut }
+    ensures freed { BlocksAreFreedPartlyOut }
+    ensures deleted { FilesAreDeletedPartlyOut }
+    ensures changed { WhatIsOutMayChange }
+    ensures listed { OnlyListedAreOut }
+    ensures ends { PartlyOutEndsKept }
 {}

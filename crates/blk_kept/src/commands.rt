@@ -7,6 +7,8 @@ ghost use Rattle.blk_kept.specs.WordStops.{UsesMayStop, UnsettledUsesMayStop, Un
 ghost use Rattle.blk_kept.specs.NextStates.{UsesKeepNext, OpensKeepNext, CreatesKeepNext, WritesKeepNext, DoomedWritesKeepNext, SparseWritesKeepNext, EmptySparseWritesKeepNext, ClosesOfManyKeepNext, ClosesKeepNext, DoomsKeepNext, TrimsKeepNext};
 ghost use Rattle.blk_kept.specs.OneCallLaws.{OpensEndByTouch, ReadsMayStop, ReadsEndByTouch, DoomedReadsEnd, ClosesMayStop, ClosesEndByMark, ClosesOfDoomedUnlink, UnsettlingMarksMayStop};
 ghost use Rattle.blk_kept.specs.PlainRemovals.{PlainGroupsGo, LonePartsGo, UnheldDoomsEnd, HeldDoomsEnd, PartGoneIsWithout, RemovingFindsDoomed, DoomedObjectsAreRemoved, RemovingFindsPartGone, LonePartsAreRemoved};
+ghost use Rattle.blk_kept.specs.WholeRemovals.{WholeObjectsAreRemoved, UnheldWholeDoomsEnd, WholeObjectsAreDoomed, HeldWholeDoomsEnd, WholeGroupsGo};
+ghost use Rattle.blk_kept.specs.PartlyOut.{UnheldOutDoomsEnd, OutGroupsAreGone};
 ghost use Rattle.blk_kept.specs.CreateStops.{InsertsMayStop, LinksMayStop, CreatesEndOnceCounted};
 ghost use Rattle.blk_kept.specs.StopLaws.{WhatIsLeftMayStop, OrdersMayBeLeft, UsesMayBeLeft, UsesGoOn, RoomMayBeLeft, HandlesAreNotAtRest, DoomedObjectsAreNotAtRest, UnsettledObjectsAreNotAtRest, OwnUsesKeepOthers, OthersMayBeLeftOnceUnsettled, OthersMayBeLeftWhileDoomed};
 
@@ -163,6 +165,21 @@ pub fn plain_objects_are_removed()
     ensures held_dooms { HeldDoomsEnd }
     ensures groups { PlainGroupsGo }
     ensures parts { LonePartsGo }
+{}
+
+/// Once an object is out with its parts, the state with it doomed is kept: of one that no handle names its words are unlinked, of one that is held those of its parts. So a Doom or a DoomKey ends, and so the next group goes.
+pub fn whole_objects_are_removed()
+    ensures removed { WholeObjectsAreRemoved }
+    ensures unheld_dooms { UnheldWholeDoomsEnd }
+    ensures doomed { WholeObjectsAreDoomed }
+    ensures held_dooms { HeldWholeDoomsEnd }
+    ensures groups { WholeGroupsGo }
+{}
+
+/// Where all items of an object that no handle names went out one after another, each part freed before the next one went, a DoomKey of it ends, and the next group is gone.
+pub fn objects_go_part_after_part()
+    ensures unheld_dooms { UnheldOutDoomsEnd }
+    ensures groups { OutGroupsAreGone }
 {}
 
 /// A Create may be stopped at each word of the insert of its node, and where its record is linked; once the counters are written too the state after it is kept.
