@@ -2,8 +2,10 @@
 #![tactic(auto)]
 
 mod changing;
+mod copying;
 mod dropping;
 mod freeing;
+mod inside;
 mod laws;
 mod places;
 mod reading;
