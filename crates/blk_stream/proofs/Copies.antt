@@ -1,14 +1,14 @@
 -- Data that is copied piece by piece.
 use Rattle.std.proofs.Common.{◌≡◌, ◌≢◌, inl, inr, ⊎_elim, ℕ, ◌+◌, ◌-◌, ◌*◌, ◌<◌, ◌≤◌, Bool, true, false, if◌then◌else◌, List, length, Option, None, Some, refl, sym, ◌∙◌, ap, subst, arith}
-use Rattle.std.specs.Prelude.{◌==◌, nat_eq}
+use Rattle.std.specs.Prelude.{◌==◌, min, nat_eq}
 use Rattle.std.specs.Option.{option_map, ForSome}
 use Rattle.std.proofs.lemmas.Bool.{cases_eq, cases_lt, eqb-true}
 use Rattle.std.proofs.lemmas.Bool.Decides.{nat_tests}
 use Rattle.blk_image.specs.Image.{Block, External, Image, length_of}
 use Rattle.blk_image.specs.Steps.{after}
-use Rattle.blk_image.specs.Footprint.{SameOutside, range}
+use Rattle.blk_image.specs.Footprint.{Footprint, SameOutside, range}
 use Rattle.blk_image.specs.Told.{Told, Along, Applies, AppliesPrefix, IsQuiet, Passes}
-use Rattle.blk_image.proofs.Footprints.{outside-refl, outside_steps, words_within}
+use Rattle.blk_image.proofs.Footprints.{outside-refl, outside-trans, outside_steps, outside_wider, within_left, within_right, words_within}
 use Rattle.blk_image.proofs.Runs.{part_whole, passes_end, passes_none, passes_part, passes_then, some_inj}
 use Rattle.blk_image.proofs.WordSteps.{quiet-words}
 use Rattle.blk_image.proofs.Words.{content-range, length-range}
@@ -20,7 +20,7 @@ use Rattle.blk_disk.proofs.Ranges.{stands_range}
 use Rattle.blk_entry.specs.Keys.{data_at, data_file, data_start, IsInFile, IsInside}
 use Rattle.blk_entry.specs.Steps.{data_steps}
 use Rattle.blk_entry.proofs.NewImages.{same_kind}
-use Rattle.blk_stream.specs.Copying.{IsCopied, ShareNoData, data_byte, span_of}
+use Rattle.blk_stream.specs.Copying.{AreOldBytes, IsCopied, ShareNoData, data_byte, old_spans, span_of}
 use Rattle.blk_stream.proofs.Naming.{apart_place}
 use Rattle.blk_stream.proofs.InsideSteps.{apart_file}
 use Rattle.blk_stream.proofs.InsideData.{data_beside, data_there}
@@ -37,6 +37,7 @@ pub record HasCopied (a b : Told) (files : BlockFiles) (one other start end at :
   pub copied : ForSome a.files (λ from. ShareNoData one other → ForSome b.files (IsCopied one other start at from))
   pub agrees : ForSome b.files (Agrees files)
   pub back : ForSome b.files (λ image. HasFiles a)
+  pub silent : a.files ≡ None → b.files ≡ None
 
 pub none_copied : (a : Told) (files : BlockFiles) (one other start end : ℕ) → ForSome a.files (Agrees files) → HasCopied a a files one other start end start
 none_copied a files one other start end agrees = record {
@@ -45,12 +46,13 @@ none_copied a files one other start end agrees = record {
   copied = λ from there apart image now k low high. absurd (omega (arith, low, high));
   agrees = agrees;
   back = λ image there. record { image = image; is = there };
+  silent = λ none. none;
 }
 
 -- Data that lies apart.
 
 -- the blocks of one address end before those of another of its type begin
-blocks_before : (u w : ℕ) → kind_of u ≡ kind_of w → first_block u + block_count u ≤ first_block w → place u + byte_size u ≤ place w
+pub blocks_before : (u w : ℕ) → kind_of u ≡ kind_of w → first_block u + block_count u ≤ first_block w → place u + byte_size u ≤ place w
 unfolding place block_place byte_size block_size
 blocks_before u w same first = rw same (by_size (kind_of w == 1) (kind_of w == 2) (kind_of w == 3))
   where
@@ -61,11 +63,11 @@ blocks_before u w same first = rw same (by_size (kind_of w == 1) (kind_of w == 2
     by_size false false true = omega (arith, first)
     by_size false false false = omega (arith, first)
 
-blocky_of : (w : ℕ) → (kind_of w == external) ≡ false → kind_of w ≢ external
+pub blocky_of : (w : ℕ) → (kind_of w == external) ≡ false → kind_of w ≢ external
 blocky_of w t e = let z : (kind_of w == external) ≡ true = grind (arith, nat_tests) in let y : true ≡ false = sym z ∙ t in cc
 
-module _ (files : BlockFiles) (one other start end : ℕ) (one_inside : IsInside files one 0 end) (other_inside : IsInside files other 0 end) (apart : ShareNoData one other) (order : start ≤ end) where
-  off_span : (k : ℕ) → k < end → (span_of other start end).bytes (data_file one) (data_start one + k) ≡ false
+module _ (files : BlockFiles) (one other start end n : ℕ) (one_inside : IsInside files one 0 n) (other_inside : IsInside files other 0 end) (apart : ShareNoData one other) (order : start ≤ end) where
+  off_span : (k : ℕ) → k < n → (span_of other start end).bytes (data_file one) (data_start one + k) ≡ false
   unfolding data_file data_start
   off_span k high = by_tests (kind_of one == external) (kind_of other == external) refl refl
     where
@@ -94,7 +96,7 @@ module _ (files : BlockFiles) (one other start end : ℕ) (one_inside : IsInside
 
 module _ (files : BlockFiles) (one other start end : ℕ) (one_inside : IsInside files one 0 end) (other_inside : IsInside files other 0 end) (order : start ≤ end) where
   -- all bytes of the data are there
-  has_data : (w : ℕ) → IsInside files w 0 end → (image : Image) → Agrees files image → IsInFile w 0 end image → data_start w + end ≤ length_of image (data_file w)
+  pub has_data : (w : ℕ) → IsInside files w 0 end → (image : Image) → Agrees files image → IsInFile w 0 end image → data_start w + end ≤ length_of image (data_file w)
   unfolding data_file data_start
   has_data w inside image agrees there = by_test (kind_of w == external) refl
     where
@@ -155,10 +157,11 @@ module _ (files : BlockFiles) (one other start end : ℕ) (one_inside : IsInside
           (λ (here : at ≤ k).
           data_there other at bytes mid k here (omega (arith, high, long)) (omega (arith, room, high, fits))
           ∙ content-range n (data_start one + at) _ (k - at) (data_start one + k) (omega (arith, here, high)) (omega (arith, here))
-          ∙ same.bytes (data_file one) (data_start one + k) (off_span files one other start end one_inside other_inside apart order k (omega (arith, high, fits))))
+          ∙ same.bytes (data_file one) (data_start one + k) (off_span files one other start end end one_inside other_inside apart order k (omega (arith, high, fits))))
           (cases_lt k at);
       agrees = agrees;
       back = λ image now. from_back b silent image now;
+      silent = λ none. silent (has.silent none);
     }
 
     -- an external file has its length still
@@ -168,3 +171,51 @@ module _ (files : BlockFiles) (one other start end : ℕ) (one_inside : IsInside
         let h = was from.image from.is x in
         let l = (passes_end (has.passes from.image from.is) mid now).lengths (External (external_number w)) refl in
         omega (arith, h, l, low)
+
+-- What stays of the old bytes.
+
+-- fewer bytes lie in the place too
+pub inside_less : (files : BlockFiles) (w n m : ℕ) → n ≤ m → IsInside files w 0 m → IsInside files w 0 n
+inside_less files w n m few inside = record {
+  small = let h = inside.small in omega (arith, few, h);
+  stands = inside.stands;
+  room = λ blocky. let h = inside.room blocky in omega (arith, few, h);
+}
+
+pub there_less : (w n m : ℕ) (image : Image) → n ≤ m → IsInFile w 0 m image → IsInFile w 0 n image
+there_less w n m image few there kind = let h = there kind in omega (arith, few, h)
+
+-- an external file keeps its length where only bytes change
+pub there_kept : (F : Footprint) (from image : Image) (w n : ℕ) → ((g : ℕ) → F.sizes (External g) ≡ false) → SameOutside F from image → IsInFile w 0 n from → IsInFile w 0 n image
+there_kept F from image w n sizes same there kind = let h = there kind in let l = same.lengths (External (external_number w)) (sizes (external_number w)) in omega (arith, h, l)
+
+-- no old bytes, none copied
+pub none_old : (one other old size offset count : ℕ) (from : Image) → old ≡ 0 → AreOldBytes one other old size offset count from from
+none_old one other old size offset count from none = record {
+  before = λ k low high. absurd (omega (arith, none, low, high));
+  behind = λ k low high. absurd (omega (arith, none, low, high));
+}
+
+-- the two copies, one after the other
+module _ (files : BlockFiles) (one other old size offset count : ℕ) (one_inside : IsInside files one 0 old) (other_inside : IsInside files other 0 size) (few : offset + count ≤ size) (apart : ShareNoData one other) where
+  pub both_copied : (from mid image : Image) → SameOutside (span_of other 0 (min offset old)) from mid → IsCopied one other 0 (min offset old) from mid → SameOutside (span_of other (offset + count) (min size old)) mid image → IsCopied one other (offset + count) (min size old) mid image
+      → AreOldBytes one other old size offset count from image
+  both_copied from mid image same first later second = record {
+    before = λ k low high. later.bytes (data_file other) (data_start other + k) (span_off k (omega (arith, high))) ∙ first k low high;
+    behind = λ k low high. second k low high ∙ same.bytes (data_file one) (data_start one + k) (off_span files one other 0 (min offset old) old one_inside (inside_less files other (min offset old) size (omega (arith, few)) other_inside) apart (omega arith) k (omega (arith, high)));
+  }
+    where
+      span_off : (k : ℕ) → k < offset → (span_of other (offset + count) (min size old)).bytes (data_file other) (data_start other + k) ≡ false
+      span_off k low = apart_place (data_file other) (data_file other) (data_start other + (offset + count)) (min size old - (offset + count)) (data_start other + k) (inl (omega (arith, low)))
+
+-- each of them touches no more than both
+pub first_span : (other old size offset count p : ℕ) (from image : Image) → p ≡ min offset old → SameOutside (span_of other 0 p) from image → SameOutside (old_spans other old size offset count) from image
+first_span other old size offset count p from image is same =
+    outside_wider (span_of other 0 (min offset old)) (old_spans other old size offset count) from image (within_left (span_of other 0 (min offset old)) (span_of other (offset + count) (min size old))) (subst (λ (q : ℕ). SameOutside (span_of other 0 q) from image) is same)
+
+pub second_span : (other old size offset count q : ℕ) (from image : Image) → q ≡ min size old → SameOutside (span_of other (offset + count) q) from image → SameOutside (old_spans other old size offset count) from image
+second_span other old size offset count q from image is same =
+    outside_wider (span_of other (offset + count) (min size old)) (old_spans other old size offset count) from image (within_right (span_of other 0 (min offset old)) (span_of other (offset + count) (min size old))) (subst (λ (p : ℕ). SameOutside (span_of other (offset + count) p) from image) is same)
+
+pub both_spans : (other old size offset count : ℕ) (from mid image : Image) → SameOutside (old_spans other old size offset count) from mid → SameOutside (old_spans other old size offset count) mid image → SameOutside (old_spans other old size offset count) from image
+both_spans other old size offset count from mid image one two = outside-trans (old_spans other old size offset count) from mid image one two

@@ -225,3 +225,52 @@ here_data from w old size offset cut bytes made is =
         (λ (past : offset + length bytes ≤ k). behind cut is k small past)
         (cases_lt k (offset + length bytes)))
         (cases_lt k offset)
+
+-- the same of data whose old bytes are those of another address
+pub moved_data : (from last : Image) (u w old size offset : ℕ) (cut : Bool) (bytes : List ℕ) → size ≡ size_after cut old offset (length bytes)
+    → ((k : ℕ) → k < offset → k < old → at last w k ≡ at from u k)
+    → ((k : ℕ) → k < offset → old ≤ k → at last w k ≡ 0)
+    → ((k : ℕ) → offset ≤ k → k < offset + length bytes → at last w k ≡ content bytes (k - offset))
+    → ((k : ℕ) → offset + length bytes ≤ k → k < size → k < old → at last w k ≡ at from u k)
+    → offset + length bytes ≤ size
+    → data_at last w 0 size ≡ stream_after cut (data_at from u 0 old) offset bytes
+unfolding size_after
+moved_data from last u w old size offset cut bytes is front gap there behind few =
+    ext_get_or 0 (data_at last w 0 size) (stream_after cut was offset bytes) (long ∙ sym all) (λ k low. let h : k < size = omega (arith, low, long) in content-range size (data_start w + 0) (byte last (data_file w)) k (data_start w + k) h (omega arith) ∙ each k h)
+  where
+    was : List ℕ
+    was = data_at from u 0 old
+
+    long : length (data_at last w 0 size) ≡ size
+    long = length-range size (data_start w + 0) (byte last (data_file w))
+
+    was_long : length was ≡ old
+    was_long = length-range old (data_start u + 0) (byte from (data_file u))
+
+    all : length (stream_after cut was offset bytes) ≡ size
+    all = length_of_after cut was bytes offset ∙ ap (λ (n : ℕ). size_after cut n offset (length bytes)) was_long ∙ sym is
+
+    was_at : (k : ℕ) → k < old → content was k ≡ at from u k
+    was_at k low = content-range old (data_start u + 0) (byte from (data_file u)) k (data_start u + k) low (omega arith)
+
+    past : (c : Bool) → size ≡ size_after c old offset (length bytes) → (k : ℕ) → k < size → offset + length bytes ≤ k → at last w k ≡ content (stream_after c was offset bytes) k
+    past true e k small up = absurd (omega (arith, e, small, up))
+    past false e k small up =
+        let low : k < old = omega (arith, e, small, up) in
+        behind k up small low ∙ sym (was_at k low) ∙ sym (byte_behind was bytes offset k up)
+
+    each : (k : ℕ) → k < size → at last w k ≡ content (stream_after cut was offset bytes) k
+    each k small =
+        ⊎_elim
+        (λ (low : k < offset).
+        ⊎_elim
+        (λ (in_old : k < old). front k low in_old ∙ sym (was_at k in_old))
+        (λ (up : old ≤ k). gap k low up ∙ sym (get_or_past was k 0 (omega (arith, was_long, up))))
+        (cases_lt k old)
+        ∙ sym (byte_before cut was bytes offset k low))
+        (λ (up : offset ≤ k).
+        ⊎_elim
+        (λ (high : k < offset + length bytes). there k up high ∙ sym (byte_there cut was bytes offset k up high))
+        (λ (high : offset + length bytes ≤ k). past cut is k small high)
+        (cases_lt k (offset + length bytes)))
+        (cases_lt k offset)

@@ -299,7 +299,7 @@ module _ (files : BlockFiles) (entry i w old size offset : ℕ) (bytes : List �
       (until-append P P here (size_steps (record_at from entry) entry i old size) from here_moments size_moments)
 
 -- none of the steps is a note
-quiet_room : (w old size offset : ℕ) → IsQuiet (room_steps w old size offset)
+pub quiet_room : (w old size offset : ℕ) → IsQuiet (room_steps w old size offset)
 unfolding room_steps data_steps
 quiet_room w old size offset = by_tests (kind_of w == external) (size == old)
   where
@@ -307,6 +307,10 @@ quiet_room w old size offset = by_tests (kind_of w == external) (size == old)
     by_tests true true = tt
     by_tests true false = tt
     by_tests false s = quiet-words (data_file w) (data_start w + old) (zeros (offset - old))
+
+pub quiet_data : (w at : ℕ) (bytes : List ℕ) → IsQuiet (data_steps w at bytes)
+unfolding data_steps
+quiet_data w at bytes = quiet-words (data_file w) (data_start w + at) bytes
 
 pub quiet_here : (w old size offset : ℕ) (bytes : List ℕ) → IsQuiet (here_steps w old size offset bytes)
 unfolding data_steps

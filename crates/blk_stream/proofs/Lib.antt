@@ -9,3 +9,5 @@ pub mod InsideSteps
 pub mod InsideData
 pub mod InsideWritten
 pub mod Copies
+pub mod Joined
+pub mod Fillings

@@ -5,4 +5,5 @@ pub mod Dropping
 pub mod Writing
 pub mod Inside
 pub mod Copying
+pub mod Filling
 pub mod Shown

@@ -1,5 +1,5 @@
 // Data is copied from one address to another.
-ghost use Rattle.std.specs.Prelude.{◌≡◌, ◌≤◌, ◌<◌, IsTrue, None, OnErr, OnOk, length};
+ghost use Rattle.std.specs.Prelude.{◌≡◌, ◌+◌, ◌≤◌, ◌<◌, None, OnOk, length, unwrap_or};
 ghost use Rattle.std.specs.Option.{ForSome};
 ghost use Rattle.blk_image.specs.Footprint.{SameOutside};
 ghost use Rattle.blk_image.specs.Told.{Applies, AppliesPrefix, Passes, Rises};
@@ -7,8 +7,9 @@ ghost use Rattle.blk_io.specs.Faults.{IfDamaged, IfDevice};
 ghost use Rattle.blk_disk.specs.Tables.{Agrees};
 ghost use Rattle.blk_entry.specs.Keys.{IsInFile, IsInside, data_at};
 ghost use Rattle.blk_entry.specs.Steps.{data_steps};
-ghost use Rattle.blk_stream.specs.Copying.{IsCopied, ShareNoData, span_of};
+ghost use Rattle.blk_stream.specs.Copying.{AreOldBytes, HasOldPlace, IsCopied, IsOldThere, ShareNoData, old_spans, span_of};
 
+use crate::places::Stored;
 use blk_addr::Addr;
 use blk_disk::BlockFiles;
 use blk_entry::{read_data, write_data};
@@ -33,6 +34,7 @@ pub(crate) fn copy<F: Folder>(
     requires to_there { ForSome (F.told f.old).files (IsInFile to 0 end) }
     ensures copied { OnOk result (ForSome (F.told f.old).files (λ old. ShareNoData from to → ForSome (F.told f.new).files (IsCopied from to start end old))) }
     ensures stops { ForSome (F.told f.old).files (λ old. Passes (F.told f.old) (F.told f.new) (SameOutside (span_of to start end) old)) }
+    ensures silent { (F.told f.old).files ≡ None → (F.told f.new).files ≡ None }
     ensures agrees { ForSome (F.told f.new).files (Agrees files.now) }
     ensures untold { IfDamaged result (λ _. (F.told f.old).files ≡ None) }
     ensures later { F.faults f.old ≤ F.faults f.new }
@@ -74,4 +76,35 @@ fn copy_piece<F: Folder>(
     read_data(f, files, from, at, piece)?;
     write_data(f, files, to, at, piece)?;
     Ok(())
+}
+
+// Copies of the old bytes of a stream what stays to a new place of data of a size: those before the bytes that are written, and those behind them.
+pub(crate) fn copy_old<F: Folder>(
+    f: &mut F,
+    files: &BlockFiles,
+    old: Stored,
+    to: Addr,
+    size: u32,
+    offset: u32,
+    count: u32,
+) -> Result<(), Fault>
+    requires old { HasOldPlace files.now old }
+    requires inside { IsInside files.now to 0 size }
+    requires few { offset + count ≤ size }
+    requires agrees { ForSome (F.told f.old).files (Agrees files.now) }
+    requires old_there { ForSome (F.told f.old).files (IsOldThere old) }
+    requires there { ForSome (F.told f.old).files (IsInFile to 0 size) }
+    ensures copied { OnOk result (ForSome (F.told f.old).files (λ from. ShareNoData (unwrap_or old.addr 0) to → ForSome (F.told f.new).files (AreOldBytes (unwrap_or old.addr 0) to old.size size offset count from))) }
+    ensures stops { ForSome (F.told f.old).files (λ from. Passes (F.told f.old) (F.told f.new) (SameOutside (old_spans to old.size size offset count) from)) }
+    ensures silent { (F.told f.old).files ≡ None → (F.told f.new).files ≡ None }
+    ensures agrees { ForSome (F.told f.new).files (Agrees files.now) }
+    ensures untold { IfDamaged result (λ _. (F.told f.old).files ≡ None) }
+    ensures later { F.faults f.old ≤ F.faults f.new }
+    ensures device { IfDevice result (Rises (F.faults f.old) (F.faults f.new)) }
+{
+    let Some(from) = old.addr else {
+        return Ok(());
+    };
+    copy(f, files, from, to, 0, offset.min(old.size))?;
+    copy(f, files, from, to, offset + count, size.min(old.size))
 }

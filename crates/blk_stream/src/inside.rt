@@ -81,7 +81,7 @@ fn write_here<F: Folder>(
 }
 
 // Gives data the room for bytes at an offset: an external file its new length, and blocks zeros between their old end and the offset.
-fn make_room<F: Folder>(
+pub(crate) fn make_room<F: Folder>(
     f: &mut F,
     files: &BlockFiles,
     addr: Addr,
