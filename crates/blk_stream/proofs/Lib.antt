@@ -5,3 +5,9 @@ pub mod Drops
 pub mod Dropped
 pub mod ShownDrops
 pub mod EmptyStreams
+pub mod InsideSteps
+pub mod InsideData
+pub mod InsideWritten
+pub mod Copies
+pub mod Joined
+pub mod Fillings

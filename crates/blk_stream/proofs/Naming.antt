@@ -37,10 +37,10 @@ place_are entry i p q size word kind small is_p is_q =
       different = (All-cons (λ other. other.0 ≢ p) (q, word) [] (λ e. let h : q ≡ p = e in omega (arith, h, is_p, is_q, small)) (All-nil (λ other. other.0 ≢ p)), (All-nil (λ other. other.0 ≢ q), tt));
     }
 
-nothing_in : (F : Footprint) → IsWithin nothing F
+pub nothing_in : (F : Footprint) → IsWithin nothing F
 nothing_in F = record { bytes = λ g i e. absurd (let z : false ≡ true = e in cc); sizes = λ g e. absurd (let z : false ≡ true = e in cc) }
 
-within_trans : (F G H : Footprint) → IsWithin F G → IsWithin G H → IsWithin F H
+pub within_trans : (F G H : Footprint) → IsWithin F G → IsWithin G H → IsWithin F H
 within_trans F G H one other = record { bytes = λ g i e. other.bytes g i (one.bytes g i e); sizes = λ g e. other.sizes g (one.sizes g e) }
 
 seal_within : (entry i : ℕ) → kind_of entry ≡ blocks_256 → IsWithin (one_word (Block (file_selector entry)) (place entry + seal_place entry)) (stream_words entry i)

@@ -21,7 +21,7 @@ use Rattle.blk_format.proofs.SpareHeaders.{SparesHeaders, blocks_same, linked_sa
 use Rattle.blk_disk.specs.declared.tables.BlockFiles.{BlockFiles}
 use Rattle.blk_disk.specs.Tables.{Agrees}
 use Rattle.blk_disk.proofs.Agreeing.{agrees_still}
-use Rattle.blk_alloc.specs.Changes.{IsMapInProgress, map_of}
+use Rattle.blk_alloc.specs.Changes.{map_of}
 use Rattle.blk_alloc.specs.Owning.{FreesAtLast, FreesInProgress, FreesOrStops, IsFreed, KeepsFile, others}
 use Rattle.blk_alloc.proofs.Widening.{mark_kept}
 use Rattle.blk_stream.specs.Freeing.{IsPlaceFreed, freeing_of, is_block_of, leaving_of, left_by}

@@ -1,9 +1,15 @@
 //! The streams of entries: each is a list of bytes, in the storage of its length.
+//!
+//! The call that writes a stream is not there yet, but parts of it are: `inside` writes in a place that stays,
+//! `copying` and `filling` give a new place its bytes. Nothing calls them so far.
 #![tactic(auto)]
 
 mod changing;
+mod copying;
 mod dropping;
+mod filling;
 mod freeing;
+mod inside;
 mod laws;
 mod places;
 mod reading;

@@ -1,0 +1,38 @@
+use Rattle.std.proofs.Common.{ℕ, refl, Option, ap, subst, arith}
+use Rattle.std.specs.Prelude.{length, unwrap_or}
+use Rattle.blk_image.proofs.Runs.{passes_end}
+use Rattle.blk_io.proofs.Carried.{silent_part, told_at_end}
+use Rattle.blk_entry.specs.Keys.{IsInFile}
+use Rattle.blk_stream.specs.Copying.{IsOldThere, ShareNoFile, old_spans}
+use Rattle.blk_stream.proofs.Copies.{there_kept}
+use Rattle.blk_stream.proofs.Fillings.{fill_done, new_passes, old_inside, old_passes, room_keeps, room_passes}
+use Rattle.blk_stream.proofs.filling.fill.Goals as goal
+
+pub returns-in_err-make_room-clause-stops : goal.returns-in_err-make_room-clause-stops
+returns-in_err-make_room-clause-stops g c from there = room_passes c.args.files.now (unwrap_or c.args.old.addr 0) c.args.addr c.args.old.size c.args.size c.args.offset c.args.bytes.now (old_inside c.args.files.now c.args.old c.requires.old) c.requires.inside c.requires.few c.room_start-start.result c.room_start-start.ensures from (g.F.Folder.told c.args.f.now) (g.F.Folder.told c.make_room.new.f) there c.in_err-make_room.ensures.prefix
+
+pub copy_old-requires-clause-old_there : goal.copy_old-requires-clause-old_there
+copy_old-requires-clause-old_there g c =
+    told_at_end (g.F.Folder.told c.args.f.now).files (g.F.Folder.told c.make_room.new.f).files (IsOldThere c.args.old) (λ none. silent_part c.in_ok-make_room.ensures.prefix none)
+    (λ from there mid now v is.
+    room_keeps c.args.files.now (unwrap_or c.args.old.addr 0) c.args.addr c.args.old.size c.args.size c.args.offset c.args.bytes.now (old_inside c.args.files.now c.args.old c.requires.old) c.requires.inside c.requires.few c.room_start-start.result c.room_start-start.ensures from (g.F.Folder.told c.args.f.now) (g.F.Folder.told c.make_room.new.f) there v c.args.old.size (subst (λ (u : ℕ). ShareNoFile u c.args.addr) (ap (λ (o : Option ℕ). unwrap_or o 0) is) (c.requires.apart from there)) c.in_ok-make_room.ensures.steps (c.requires.old_there from there v is) mid now)
+
+pub returns-in_err-copy_old-clause-stops : goal.returns-in_err-copy_old-clause-stops
+returns-in_err-copy_old-clause-stops g c from there = old_passes c.args.files.now (unwrap_or c.args.old.addr 0) c.args.addr c.args.old.size c.args.size c.args.offset c.args.bytes.now (old_inside c.args.files.now c.args.old c.requires.old) c.requires.inside c.requires.few c.room_start-start.result c.room_start-start.ensures from (g.F.Folder.told c.args.f.now) (g.F.Folder.told c.make_room.new.f) there (g.F.Folder.told c.copy_old.new.f) c.in_ok-make_room.ensures.steps c.in_err-copy_old.ensures.stops
+
+pub write_some-requires-clause-external : goal.write_some-requires-clause-external
+write_some-requires-clause-external g c =
+    told_at_end (g.F.Folder.told c.make_room.new.f).files (g.F.Folder.told c.copy_old.new.f).files (IsInFile c.args.addr c.args.offset (length c.args.bytes.now)) c.in_ok-copy_old.ensures.silent
+    (λ mid there two now kind.
+    let h = there_kept (old_spans c.args.addr c.args.old.size c.args.size c.args.offset (length c.args.bytes.now)) mid two c.args.addr c.args.size (λ g. refl) (passes_end (c.in_ok-copy_old.ensures.stops mid there) two now) (c.in_ok-make_room.ensures.external mid there) kind in
+    omega (arith, h, c.requires.few))
+
+pub returns-in_err-write_some-clause-stops : goal.returns-in_err-write_some-clause-stops
+returns-in_err-write_some-clause-stops g c from there = new_passes c.args.files.now (unwrap_or c.args.old.addr 0) c.args.addr c.args.old.size c.args.size c.args.offset c.args.bytes.now (old_inside c.args.files.now c.args.old c.requires.old) c.requires.inside c.requires.few c.room_start-start.result c.room_start-start.ensures from (g.F.Folder.told c.args.f.now) (g.F.Folder.told c.make_room.new.f) there (g.F.Folder.told c.copy_old.new.f) c.in_ok-make_room.ensures.steps c.in_ok-copy_old.ensures.stops (g.F.Folder.told c.write_some.new.f) c.in_err-write_some.ensures.prefix
+
+pub returns-clause-stops : goal.returns-clause-stops
+returns-clause-stops g c from there = new_passes c.args.files.now (unwrap_or c.args.old.addr 0) c.args.addr c.args.old.size c.args.size c.args.offset c.args.bytes.now (old_inside c.args.files.now c.args.old c.requires.old) c.requires.inside c.requires.few c.room_start-start.result c.room_start-start.ensures from (g.F.Folder.told c.args.f.now) (g.F.Folder.told c.make_room.new.f) there (g.F.Folder.told c.copy_old.new.f) c.in_ok-make_room.ensures.steps c.in_ok-copy_old.ensures.stops (g.F.Folder.told c.write_some.new.f) c.in_ok-write_some.ensures.prefix
+
+pub returns-clause-filled : goal.returns-clause-filled
+returns-clause-filled g c from there apart empty =
+    fill_done c.args.files.now (unwrap_or c.args.old.addr 0) c.args.addr c.args.old.size c.args.size c.args.offset c.args.bytes.now (old_inside c.args.files.now c.args.old c.requires.old) c.requires.inside c.requires.few c.room_start-start.result c.room_start-start.ensures from (g.F.Folder.told c.args.f.now) (g.F.Folder.told c.make_room.new.f) there (g.F.Folder.told c.copy_old.new.f) c.in_ok-make_room.ensures.steps c.in_ok-copy_old.ensures.stops (g.F.Folder.told c.write_some.new.f) (c.requires.agrees from there) empty apart (λ mid now. c.in_ok-copy_old.ensures.copied mid now apart) c.in_ok-write_some.ensures.steps

@@ -1,0 +1,51 @@
+use Rattle.std.proofs.Common.{sym, ◌∙◌, subst, arith}
+use Rattle.std.proofs.lemmas.Result.{on_ok_weaker}
+use Rattle.blk_image.specs.Image.{Image}
+use Rattle.blk_image.specs.Steps.{after}
+use Rattle.blk_image.specs.Told.{Along, AppliesPrefix}
+use Rattle.blk_image.proofs.Runs.{grows_then, part_then, passes_part, some_inj, told_whole}
+use Rattle.blk_io.proofs.Carried.{silent_part}
+use Rattle.blk_stream.specs.Inside.{WritesInProgress, WritesInside, here_steps, inside_steps}
+use Rattle.blk_stream.proofs.InsideWritten.{written_inside}
+use Rattle.blk_stream.proofs.InsideSteps.{here_moments, inside_moments, quiet_here, quiet_inside}
+use Rattle.blk_stream.proofs.inside.write_inside.Given as given
+use Rattle.blk_stream.proofs.inside.write_inside.Goals as goal
+
+pub returns-in_err-write_here-clause-stops : goal.returns-in_err-write_here-clause-stops
+returns-in_err-write_here-clause-stops g c from there apart =
+    passes_part (WritesInProgress c.args.entry c.args.stream c.args.addr from) (WritesInProgress c.args.entry c.args.stream c.args.addr from) c.in_err-write_here.ensures.prefix (quiet_here c.args.addr c.args.old c.args.size c.args.offset c.args.bytes.now) (λ image h. h)
+    (λ image now. subst (λ (i : Image). Along (WritesInProgress c.args.entry c.args.stream c.args.addr from) i (here_steps c.args.addr c.args.old c.args.size c.args.offset c.args.bytes.now)) (some_inj (sym there ∙ now))
+    (here_moments c.args.files.now c.args.entry c.args.stream c.args.addr c.args.old c.args.size c.args.offset c.args.bytes.now c.requires.kind c.requires.stands c.requires.stream c.requires.inside c.requires.few apart from (c.requires.agrees from there) (c.requires.checks from there)))
+
+part : (g : given.Over) (c : goal.After-slice_known-2-1 g) → AppliesPrefix (g.F.Folder.told c.args.f.now) (g.F.Folder.told c.write_size.new.f) (inside_steps c.args.record_bytes.now c.args.entry c.args.stream c.args.addr c.args.old c.args.size c.args.offset c.args.bytes.now)
+part g c = part_then c.in_ok-write_here.ensures.steps c.write_size.ensures.prefix
+
+pub returns-clause-steps : goal.returns-clause-steps
+returns-clause-steps g c = on_ok_weaker c.write_size.result (λ grown. grows_then c.in_ok-write_here.ensures.steps grown) c.write_size.ensures.steps
+
+pub returns-clause-prefix : goal.returns-clause-prefix
+returns-clause-prefix g c = part g c
+
+pub returns-clause-silent : goal.returns-clause-silent
+returns-clause-silent g c none = silent_part (part g c) none
+
+pub returns-in_err-write_here-clause-silent : goal.returns-in_err-write_here-clause-silent
+returns-in_err-write_here-clause-silent g c none = silent_part c.in_err-write_here.ensures.prefix none
+
+pub returns-clause-stops : goal.returns-clause-stops
+returns-clause-stops g c from there apart =
+    passes_part (WritesInProgress c.args.entry c.args.stream c.args.addr from) (WritesInProgress c.args.entry c.args.stream c.args.addr from) (part g c) (quiet_inside c.args.record_bytes.now c.args.entry c.args.stream c.args.addr c.args.old c.args.size c.args.offset c.args.bytes.now) (λ image h. h)
+    (λ image now. subst (λ (i : Image). Along (WritesInProgress c.args.entry c.args.stream c.args.addr from) i (inside_steps c.args.record_bytes.now c.args.entry c.args.stream c.args.addr c.args.old c.args.size c.args.offset c.args.bytes.now)) (some_inj (sym there ∙ now))
+    (inside_moments c.args.files.now c.args.entry c.args.stream c.args.addr c.args.old c.args.size c.args.offset c.args.bytes.now c.requires.kind c.requires.stands c.requires.stream c.requires.inside c.requires.few apart from (c.requires.agrees from there) (c.requires.checks from there) c.args.record_bytes.now (c.requires.read from there)))
+
+pub returns-clause-written : goal.returns-clause-written
+returns-clause-written g c =
+    on_ok_weaker c.write_size.result
+    (λ grown from there apart.
+    told_whole (WritesInside c.args.entry c.args.stream c.args.addr c.args.old c.args.size c.args.offset c.args.bytes.now from) (grows_then c.in_ok-write_here.ensures.steps grown)
+    (λ image now. subst (λ (i : Image). WritesInside c.args.entry c.args.stream c.args.addr c.args.old c.args.size c.args.offset c.args.bytes.now from (after (inside_steps c.args.record_bytes.now c.args.entry c.args.stream c.args.addr c.args.old c.args.size c.args.offset c.args.bytes.now) i)) (some_inj (sym there ∙ now))
+    (written_inside c.args.files.now c.args.entry c.args.stream c.args.addr c.args.old c.args.size c.args.offset c.args.bytes.now c.requires.kind c.requires.stands c.requires.stream c.requires.inside c.requires.few apart from (c.requires.agrees from there) (c.requires.checks from there) (c.requires.long from there) c.args.record_bytes.now (c.requires.read from there) (omega (arith, c.ranges.size.fits)))))
+    c.write_size.ensures.steps
+
+pub write_here-requires-clause-external : goal.write_here-requires-clause-external
+write_here-requires-clause-external g c image there kind = let h = c.requires.long image there kind in omega (arith, h)

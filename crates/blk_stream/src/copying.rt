@@ -1,0 +1,110 @@
+// Data is copied from one address to another.
+ghost use Rattle.std.specs.Prelude.{◌≡◌, ◌+◌, ◌≤◌, ◌<◌, None, OnOk, length, unwrap_or};
+ghost use Rattle.std.specs.Option.{ForSome};
+ghost use Rattle.blk_image.specs.Footprint.{SameOutside};
+ghost use Rattle.blk_image.specs.Told.{Applies, AppliesPrefix, Passes, Rises};
+ghost use Rattle.blk_io.specs.Faults.{IfDamaged, IfDevice};
+ghost use Rattle.blk_disk.specs.Tables.{Agrees};
+ghost use Rattle.blk_entry.specs.Keys.{IsInFile, IsInside, data_at};
+ghost use Rattle.blk_entry.specs.Steps.{data_steps};
+ghost use Rattle.blk_stream.specs.Copying.{AreOldBytes, HasOldPlace, IsCopied, IsOldThere, ShareNoData, old_spans, span_of};
+
+use crate::places::Stored;
+use blk_addr::Addr;
+use blk_disk::BlockFiles;
+use blk_entry::{read_data, write_data};
+use blk_io::{Fault, Folder};
+
+// The bytes that are copied at a time.
+const PIECE: u32 = 4096;
+
+// Copies data from one place on and before another to the same places of another address, in pieces of at most 4096 bytes.
+pub(crate) fn copy<F: Folder>(
+    f: &mut F,
+    files: &BlockFiles,
+    from: Addr,
+    to: Addr,
+    start: u32,
+    end: u32,
+) -> Result<(), Fault>
+    requires from_inside { IsInside files.now from 0 end }
+    requires to_inside { IsInside files.now to 0 end }
+    requires agrees { ForSome (F.told f.old).files (Agrees files.now) }
+    requires from_there { ForSome (F.told f.old).files (IsInFile from 0 end) }
+    requires to_there { ForSome (F.told f.old).files (IsInFile to 0 end) }
+    ensures copied { OnOk result (ForSome (F.told f.old).files (λ old. ShareNoData from to → ForSome (F.told f.new).files (IsCopied from to start end old))) }
+    ensures stops { ForSome (F.told f.old).files (λ old. Passes (F.told f.old) (F.told f.new) (SameOutside (span_of to start end) old)) }
+    ensures silent { (F.told f.old).files ≡ None → (F.told f.new).files ≡ None }
+    ensures agrees { ForSome (F.told f.new).files (Agrees files.now) }
+    ensures untold { IfDamaged result (λ _. (F.told f.old).files ≡ None) }
+    ensures later { F.faults f.old ≤ F.faults f.new }
+    ensures device { IfDevice result (Rises (F.faults f.old) (F.faults f.new)) }
+{
+    let mut buffer = [0u8; PIECE as usize];
+    let mut at = start;
+    while at < end {
+        let n = (end - at).min(PIECE);
+        copy_piece(f, files, from, to, at, &mut buffer[..n as usize])?;
+        at += n;
+    }
+    Ok(())
+}
+
+// Copies a piece of data, by one read and one write.
+fn copy_piece<F: Folder>(
+    f: &mut F,
+    files: &BlockFiles,
+    from: Addr,
+    to: Addr,
+    at: u32,
+    piece: &mut [u8],
+) -> Result<(), Fault>
+    requires from_inside { IsInside files.now from at (length piece.old) }
+    requires to_inside { IsInside files.now to at (length piece.old) }
+    requires agrees { ForSome (F.told f.old).files (Agrees files.now) }
+    requires from_there { ForSome (F.told f.old).files (IsInFile from at (length piece.old)) }
+    requires to_there { ForSome (F.told f.old).files (IsInFile to at (length piece.old)) }
+    ensures steps { OnOk result (ForSome (F.told f.old).files (λ old. Applies (F.told f.old) (F.told f.new) (data_steps to at (data_at old from at (length piece.old))))) }
+    ensures prefix { ForSome (F.told f.old).files (λ old. AppliesPrefix (F.told f.old) (F.told f.new) (data_steps to at (data_at old from at (length piece.old)))) }
+    ensures agrees { ForSome (F.told f.new).files (Agrees files.now) }
+    ensures silent { (F.told f.old).files ≡ None → (F.told f.new).files ≡ None }
+    ensures untold { IfDamaged result (λ _. (F.told f.old).files ≡ None) }
+    ensures later { F.faults f.old ≤ F.faults f.new }
+    ensures device { IfDevice result (Rises (F.faults f.old) (F.faults f.new)) }
+    ensures long { length piece.new ≡ length piece.old }
+{
+    read_data(f, files, from, at, piece)?;
+    write_data(f, files, to, at, piece)?;
+    Ok(())
+}
+
+// Copies of the old bytes of a stream what stays to a new place of data of a size: those before the bytes that are written, and those behind them.
+pub(crate) fn copy_old<F: Folder>(
+    f: &mut F,
+    files: &BlockFiles,
+    old: Stored,
+    to: Addr,
+    size: u32,
+    offset: u32,
+    count: u32,
+) -> Result<(), Fault>
+    requires old { HasOldPlace files.now old }
+    requires inside { IsInside files.now to 0 size }
+    requires few { offset + count ≤ size }
+    requires agrees { ForSome (F.told f.old).files (Agrees files.now) }
+    requires old_there { ForSome (F.told f.old).files (IsOldThere old) }
+    requires there { ForSome (F.told f.old).files (IsInFile to 0 size) }
+    ensures copied { OnOk result (ForSome (F.told f.old).files (λ from. ShareNoData (unwrap_or old.addr 0) to → ForSome (F.told f.new).files (AreOldBytes (unwrap_or old.addr 0) to old.size size offset count from))) }
+    ensures stops { ForSome (F.told f.old).files (λ from. Passes (F.told f.old) (F.told f.new) (SameOutside (old_spans to old.size size offset count) from)) }
+    ensures silent { (F.told f.old).files ≡ None → (F.told f.new).files ≡ None }
+    ensures agrees { ForSome (F.told f.new).files (Agrees files.now) }
+    ensures untold { IfDamaged result (λ _. (F.told f.old).files ≡ None) }
+    ensures later { F.faults f.old ≤ F.faults f.new }
+    ensures device { IfDevice result (Rises (F.faults f.old) (F.faults f.new)) }
+{
+    let Some(from) = old.addr else {
+        return Ok(());
+    };
+    copy(f, files, from, to, 0, offset.min(old.size))?;
+    copy(f, files, from, to, offset + count, size.min(old.size))
+}

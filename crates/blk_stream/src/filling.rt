@@ -1,0 +1,58 @@
+// A new place gets the bytes of a stream.
+ghost use Rattle.std.specs.Prelude.{◌≡◌, ◌==◌, ◌+◌, ◌≤◌, ◌<◌, None, OnOk, if◌then◌else◌, length, unwrap_or};
+ghost use Rattle.std.specs.Option.{ForSome};
+ghost use Rattle.blk_image.specs.Footprint.{SameOutside};
+ghost use Rattle.blk_image.specs.Told.{Passes, Rises};
+ghost use Rattle.blk_format.specs.Address.{external, kind_of};
+ghost use Rattle.blk_io.specs.Faults.{IfDamaged, IfDevice};
+ghost use Rattle.blk_disk.specs.Tables.{Agrees};
+ghost use Rattle.blk_entry.specs.Keys.{IsInside};
+ghost use Rattle.blk_stream.specs.Copying.{HasOldPlace, IsOldThere, ShareNoData, ShareNoFile};
+ghost use Rattle.blk_stream.specs.Inside.{HasItsLength, data_of};
+ghost use Rattle.blk_stream.specs.Filling.{FillsPlace};
+
+use crate::copying::copy_old;
+use crate::inside::{make_room, write_some};
+use crate::places::{Stored, is_of};
+use blk_addr::{Addr, Kind};
+use blk_disk::BlockFiles;
+use blk_io::{Fault, Folder};
+
+// Fills a new place of data of a size: an external file, which has no bytes, gets its length; then come the old bytes before the written ones and behind
+// them, with zeros where they begin behind the old end, and then the written ones.
+pub(crate) fn fill<F: Folder>(
+    f: &mut F,
+    files: &BlockFiles,
+    old: Stored,
+    addr: Addr,
+    size: u32,
+    offset: u32,
+    bytes: &[u8],
+) -> Result<(), Fault>
+    requires old { HasOldPlace files.now old }
+    requires inside { IsInside files.now addr 0 size }
+    requires few { offset + length bytes.now ≤ size }
+    requires agrees { ForSome (F.told f.old).files (Agrees files.now) }
+    requires old_there { ForSome (F.told f.old).files (IsOldThere old) }
+    requires apart { ForSome (F.told f.old).files (λ _. ShareNoFile (unwrap_or old.addr 0) addr) }
+    ensures filled { OnOk result (ForSome (F.told f.old).files (λ from. ShareNoData (unwrap_or old.addr 0) addr → HasItsLength addr 0 from → ForSome (F.told f.new).files (FillsPlace (unwrap_or old.addr 0) addr old.size size offset bytes.now from))) }
+    ensures stops { ForSome (F.told f.old).files (λ from. Passes (F.told f.old) (F.told f.new) (SameOutside (data_of addr) from)) }
+    ensures agrees { ForSome (F.told f.new).files (Agrees files.now) }
+    ensures untold { IfDamaged result (λ _. (F.told f.old).files ≡ None) }
+    ensures silent { (F.told f.old).files ≡ None → (F.told f.new).files ≡ None }
+    ensures later { F.faults f.old ≤ F.faults f.new }
+    ensures device { IfDevice result (Rises (F.faults f.old) (F.faults f.new)) }
+{
+    let start = room_start(addr, old.size);
+    make_room(f, files, addr, start, size, offset)?;
+    copy_old(f, files, old, addr, size, offset, bytes.len() as u32)?;
+    write_some(f, files, addr, offset, bytes)?;
+    Ok(())
+}
+
+// Where the room of a new place begins that is to be made: at the old end in blocks, and at the front of an external file, which has no bytes.
+fn room_start(addr: Addr, old: u32) -> u32
+    ensures { result ≡ (if kind_of addr == external then 0 else old) }
+{
+    if is_of(addr, Kind::External) { 0 } else { old }
+}

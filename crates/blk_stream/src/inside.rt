@@ -1,0 +1,209 @@
+// A stream is written inside its place.
+ghost use Rattle.std.specs.Prelude.{◌≡◌, ◌≢◌, ◌+◌, ◌≤◌, ◌<◌, ◌^◌, IsTrue, None, OnErr, OnOk, length};
+ghost use Rattle.std.specs.Option.{ForSome};
+ghost use Rattle.blk_image.specs.Told.{Applies, AppliesPrefix, Passes, Rises};
+ghost use Rattle.blk_format.specs.Address.{blocks_256, byte_size, external, kind_of};
+ghost use Rattle.blk_format.specs.Records.{entry_size};
+ghost use Rattle.blk_format.specs.Sealed.{RecordChecks, record_at};
+ghost use Rattle.blk_disk.specs.Tables.{Agrees, stands_among};
+ghost use Rattle.blk_entry.specs.Keys.{IsInFile, IsInside};
+ghost use Rattle.blk_entry.specs.Steps.{data_steps};
+ghost use Rattle.blk_entry.specs.Writing.{ShareNoBlock};
+ghost use Rattle.blk_stream.specs.Inside.{HasItsLength, WritesInProgress, WritesInside, gap_steps, here_steps, inside_steps, length_steps, room_steps, size_steps};
+
+use crate::places::{is_of, size_at};
+use blk_addr::{Addr, Kind};
+use blk_disk::BlockFiles;
+use blk_entry::write_data;
+use blk_io::{Failed, Folder};
+
+// The most bytes of data in blocks.
+const MOST_IN_BLOCKS: usize = 16384;
+
+// Writes bytes of a stream from an offset on, which gets a new size in the same place: the bytes, and then the size in the record, whose bytes were read.
+pub(crate) fn write_inside<F: Folder>(
+    f: &mut F,
+    files: &BlockFiles,
+    entry: Addr,
+    stream: u8,
+    record_bytes: &mut [u8],
+    addr: Addr,
+    old: u32,
+    size: u32,
+    offset: u32,
+    bytes: &[u8],
+) -> Result<(), Failed>
+    requires stream { stream < 3 }
+    requires kind { kind_of entry ≡ blocks_256 }
+    requires stands { IsTrue (stands_among files.now entry) }
+    requires record_size { length record_bytes.old ≡ entry_size }
+    requires inside { IsInside files.now addr 0 size }
+    requires few { offset + length bytes.now ≤ size }
+    requires agrees { ForSome (F.told f.old).files (Agrees files.now) }
+    requires read { ForSome (F.told f.old).files (λ image. record_bytes.old ≡ record_at image entry) }
+    requires checks { ForSome (F.told f.old).files (RecordChecks entry) }
+    requires long { ForSome (F.told f.old).files (HasItsLength addr old) }
+    ensures steps { OnOk result (Applies (F.told f.old) (F.told f.new) (inside_steps record_bytes.old entry stream addr old size offset bytes.now)) }
+    ensures prefix { AppliesPrefix (F.told f.old) (F.told f.new) (inside_steps record_bytes.old entry stream addr old size offset bytes.now) }
+    ensures written { OnOk result (ForSome (F.told f.old).files (λ from. (kind_of addr ≢ external → ShareNoBlock entry addr) → ForSome (F.told f.new).files (WritesInside entry stream addr old size offset bytes.now from))) }
+    ensures stops { ForSome (F.told f.old).files (λ from. (kind_of addr ≢ external → ShareNoBlock entry addr) → Passes (F.told f.old) (F.told f.new) (WritesInProgress entry stream addr from)) }
+    ensures agrees { ForSome (F.told f.new).files (Agrees files.now) }
+    ensures silent { (F.told f.old).files ≡ None → (F.told f.new).files ≡ None }
+    ensures later { F.faults f.old ≤ F.faults f.new }
+    ensures failed { OnErr result (Rises (F.faults f.old) (F.faults f.new)) }
+{
+    write_here(f, files, addr, old, size, offset, bytes)?;
+    write_size(f, files, entry, stream, record_bytes, old, size)
+}
+
+// Writes bytes of data from an offset on, which gets a new size in the same place: zeros before them, where they begin behind the old end.
+fn write_here<F: Folder>(
+    f: &mut F,
+    files: &BlockFiles,
+    addr: Addr,
+    old: u32,
+    size: u32,
+    offset: u32,
+    bytes: &[u8],
+) -> Result<(), Failed>
+    requires inside { IsInside files.now addr 0 size }
+    requires few { offset + length bytes.now ≤ size }
+    requires agrees { ForSome (F.told f.old).files (Agrees files.now) }
+    requires external { ForSome (F.told f.old).files (IsInFile addr 0 old) }
+    ensures steps { OnOk result (Applies (F.told f.old) (F.told f.new) (here_steps addr old size offset bytes.now)) }
+    ensures prefix { AppliesPrefix (F.told f.old) (F.told f.new) (here_steps addr old size offset bytes.now) }
+    ensures agrees { ForSome (F.told f.new).files (Agrees files.now) }
+    ensures later { F.faults f.old ≤ F.faults f.new }
+    ensures failed { OnErr result (Rises (F.faults f.old) (F.faults f.new)) }
+{
+    make_room(f, files, addr, old, size, offset)?;
+    write_some(f, files, addr, offset, bytes)
+}
+
+// Gives data the room for bytes at an offset: an external file its new length, and blocks zeros between their old end and the offset.
+pub(crate) fn make_room<F: Folder>(
+    f: &mut F,
+    files: &BlockFiles,
+    addr: Addr,
+    old: u32,
+    size: u32,
+    offset: u32,
+) -> Result<(), Failed>
+    requires inside { IsInside files.now addr 0 size }
+    requires few { offset ≤ size }
+    requires agrees { ForSome (F.told f.old).files (Agrees files.now) }
+    requires external { ForSome (F.told f.old).files (IsInFile addr 0 old) }
+    ensures steps { OnOk result (Applies (F.told f.old) (F.told f.new) (room_steps addr old size offset)) }
+    ensures prefix { AppliesPrefix (F.told f.old) (F.told f.new) (room_steps addr old size offset) }
+    ensures external { OnOk result (ForSome (F.told f.new).files (IsInFile addr 0 size)) }
+    ensures agrees { ForSome (F.told f.new).files (Agrees files.now) }
+    ensures later { F.faults f.old ≤ F.faults f.new }
+    ensures failed { OnErr result (Rises (F.faults f.old) (F.faults f.new)) }
+{
+    if is_of(addr, Kind::External) {
+        set_size(f, files, addr, old, size)
+    } else {
+        write_gap(f, files, addr, old, offset)
+    }
+}
+
+// Gives an external file another length.
+fn set_size<F: Folder>(
+    f: &mut F,
+    files: &BlockFiles,
+    addr: Addr,
+    old: u32,
+    size: u32,
+) -> Result<(), Failed>
+    requires kind { kind_of addr ≡ external }
+    requires agrees { ForSome (F.told f.old).files (Agrees files.now) }
+    requires external { ForSome (F.told f.old).files (IsInFile addr 0 old) }
+    ensures steps { OnOk result (Applies (F.told f.old) (F.told f.new) (length_steps addr old size)) }
+    ensures prefix { AppliesPrefix (F.told f.old) (F.told f.new) (length_steps addr old size) }
+    ensures external { OnOk result (ForSome (F.told f.new).files (IsInFile addr 0 size)) }
+    ensures agrees { ForSome (F.told f.new).files (Agrees files.now) }
+    ensures later { F.faults f.old ≤ F.faults f.new }
+    ensures failed { OnErr result (Rises (F.faults f.old) (F.faults f.new)) }
+{
+    let _files = files;
+    if size == old {
+        return Ok(());
+    }
+    blk_external::resize(f, addr, u64::from(size))
+}
+
+// Writes zeros into blocks from one place on and before another.
+pub(crate) fn write_gap<F: Folder>(
+    f: &mut F,
+    files: &BlockFiles,
+    addr: Addr,
+    start: u32,
+    end: u32,
+) -> Result<(), Failed>
+    requires kind { kind_of addr ≢ external }
+    requires stands { IsTrue (stands_among files.now addr) }
+    requires inside { end ≤ byte_size addr }
+    requires agrees { ForSome (F.told f.old).files (Agrees files.now) }
+    ensures steps { OnOk result (Applies (F.told f.old) (F.told f.new) (gap_steps addr start end)) }
+    ensures prefix { AppliesPrefix (F.told f.old) (F.told f.new) (gap_steps addr start end) }
+    ensures agrees { ForSome (F.told f.new).files (Agrees files.now) }
+    ensures later { F.faults f.old ≤ F.faults f.new }
+    ensures failed { OnErr result (Rises (F.faults f.old) (F.faults f.new)) }
+{
+    if end <= start {
+        return Ok(());
+    }
+    let zeros = [0u8; MOST_IN_BLOCKS];
+    let gap = &zeros[..(end - start) as usize];
+    files.write_block(f, addr, start, gap)
+}
+
+// Writes bytes of data, if there are any.
+pub(crate) fn write_some<F: Folder>(
+    f: &mut F,
+    files: &BlockFiles,
+    addr: Addr,
+    at: u32,
+    bytes: &[u8],
+) -> Result<(), Failed>
+    requires inside { IsInside files.now addr at (length bytes.now) }
+    requires agrees { ForSome (F.told f.old).files (Agrees files.now) }
+    requires external { ForSome (F.told f.old).files (IsInFile addr at (length bytes.now)) }
+    ensures steps { OnOk result (Applies (F.told f.old) (F.told f.new) (data_steps addr at bytes.now)) }
+    ensures prefix { AppliesPrefix (F.told f.old) (F.told f.new) (data_steps addr at bytes.now) }
+    ensures agrees { ForSome (F.told f.new).files (Agrees files.now) }
+    ensures later { F.faults f.old ≤ F.faults f.new }
+    ensures failed { OnErr result (Rises (F.faults f.old) (F.faults f.new)) }
+{
+    if bytes.is_empty() {
+        return Ok(());
+    }
+    write_data(f, files, addr, at, bytes)
+}
+
+// The record, whose bytes were read, gets another size of a stream, if it is another.
+fn write_size<F: Folder>(
+    f: &mut F,
+    files: &BlockFiles,
+    entry: Addr,
+    stream: u8,
+    record_bytes: &mut [u8],
+    old: u32,
+    size: u32,
+) -> Result<(), Failed>
+    requires stream { stream < 3 }
+    requires kind { kind_of entry ≡ blocks_256 }
+    requires stands { IsTrue (stands_among files.now entry) }
+    requires record_size { length record_bytes.old ≡ entry_size }
+    requires agrees { ForSome (F.told f.old).files (Agrees files.now) }
+    ensures steps { OnOk result (Applies (F.told f.old) (F.told f.new) (size_steps record_bytes.old entry stream old size)) }
+    ensures prefix { AppliesPrefix (F.told f.old) (F.told f.new) (size_steps record_bytes.old entry stream old size) }
+    ensures agrees { ForSome (F.told f.new).files (Agrees files.now) }
+    ensures later { F.faults f.old ≤ F.faults f.new }
+    ensures failed { OnErr result (Rises (F.faults f.old) (F.faults f.new)) }
+{
+    if size == old {
+        return Ok(());
+    }
+    files.update_record(f, entry, record_bytes, &[(size_at(stream), size)])
+}
