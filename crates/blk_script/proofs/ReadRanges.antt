@@ -15,7 +15,7 @@ use Rattle.blk_model.specs.Request.{Request, IsRequest, to_create, to_open, to_r
 use Rattle.blk_script.specs.declared.fault.LineFault.{LineFault}
 use Rattle.blk_script.specs.declared.fault.LineFault.TheVariants as fault
 use Rattle.blk_script.specs.Fields.{◌>>=◌, is_space, fields_of, digits_say, is_number_text, number_field, data_field, decoded, longest_data, is_key_byte, are_escapes, key_field}
-use Rattle.blk_script.specs.Line.{no_fields, one_field, two_fields, three_fields, four_fields, handle_and_key, handle_alone, key_alone, number_alone, handle_and_stream, handle_and_range, handle_and_data, stream_and_range, stream_and_data, words, by_word, by_fields, longest_line, read_text}
+use Rattle.blk_script.specs.Line.{no_fields, one_field, two_fields, three_fields, four_fields, handle_and_key, handle_alone, key_alone, number_alone, handle_and_stream, handle_and_range, handle_and_data, stream_and_range, stream_and_data, reading, words, by_word, by_fields, longest_line, read_text}
 use Rattle.blk_model.specs.Items.{IsBytes}
 use Rattle.blk_script.proofs.Ranged.{AreSmall, small_from_bytes, bytes_from_small}
 use Rattle.blk_script.proofs.Printed.{bytes_by_index}
@@ -148,7 +148,7 @@ stream_data_read make is =
 
 -- each line of the table
 words_read : AllByRecursion (λ (line : List ℕ × (List (List ℕ) → Result Request LineFault)). ReadsRanged line.1) words
-unfolding words
+unfolding words reading
 words_read = (
   handle_key_read to_create (λ h k sh sk. (omega arith, bytes_from_small k sk)),
   (

@@ -15,7 +15,7 @@ use Rattle.std.specs.List.{slice_index}
 use Rattle.std.specs.Str.{bytes_eq}
 use Rattle.blk_script.proofs.Ranged.{AreSmall, IsRanged, ranged}
 use Rattle.blk_script.specs.Spelling.{line_of, data_in, fields_for, number_text, key_text, data_text, is_plain_byte, key_byte_text, spaced}
-use Rattle.blk_script.specs.Line.{by_fields, words, read_text}
+use Rattle.blk_script.specs.Line.{by_fields, reading, words, read_text}
 use Rattle.blk_model.specs.Request.{Request, IsRequest, to_create, to_open, to_read, to_write, to_size, to_sparse_write, to_sparse_read, to_sparse_range, to_doom, to_doom_key, to_close, to_list, to_trim, to_total}
 use Rattle.std.proofs.lemmas.List.Splits.{slice_split_none, slice_split_at}
 use Rattle.blk_script.proofs.Numbers.{no_space, no_space-number, number_read}
@@ -190,7 +190,7 @@ data_read (byte ∷ bytes) small few =
 
 -- what each field of a command is read as
 pub fields_read : (request : Request) → IsRanged request → length (data_text (data_in request)) ≤ 2097152 → by_fields (fields_for request) ≡ Ok request
-unfolding words
+unfolding words reading
 fields_read (to_create handle key) is few = rw (number_read 65535 handle is.0 (omega arith), key_read key is.1) refl
 fields_read (to_open handle key) is few = rw (number_read 65535 handle is.0 (omega arith), key_read key is.1) refl
 fields_read (to_read handle stream offset count) is few = rw (number_read 65535 handle is.0 (omega arith), number_read 255 stream is.1 (omega arith), number_read 18446744073709551615 offset is.2 (omega arith), number_read 18446744073709551615 count is.3 (omega arith)) refl

@@ -4,8 +4,8 @@ use Rattle.std.specs.Borrow.{Bor}
 use Rattle.std.specs.Str.{bytes_eq}
 use Rattle.std.proofs.lemmas.Bool.{cond-true, cond-false}
 use Rattle.blk_script.specs.declared.words.Word.{Word}
-use Rattle.blk_script.specs.Line.{by_word}
-use Rattle.blk_script.specs.Words.{reading, word_line}
+use Rattle.blk_script.specs.Line.{by_word, reading}
+use Rattle.blk_script.specs.Words.{word_line}
 
 -- the lines from one on: this one is not that of the word
 pub by_word-other : (table : List (Bor (List ℕ) × Word)) (i : ℕ) (d : Bor (List ℕ) × Word) (word : List ℕ) (fields : List (List ℕ)) → i < length table → bytes_eq word (get_or table i d).0.now ≡ false

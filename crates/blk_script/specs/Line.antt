@@ -4,6 +4,8 @@ use Rattle.std.specs.Str.{bytes_eq}
 use Rattle.blk_model.specs.Request.{Request, to_create, to_open, to_read, to_write, to_size, to_sparse_write, to_sparse_read, to_sparse_range, to_doom, to_doom_key, to_close, to_list, to_trim, to_total}
 use Rattle.blk_script.specs.declared.fault.LineFault.{LineFault}
 use Rattle.blk_script.specs.declared.fault.LineFault.TheVariants as fault
+use Rattle.blk_script.specs.declared.words.Word.{Word}
+use Rattle.blk_script.specs.declared.words.Word.TheVariants as word
 use Rattle.blk_script.specs.Fields.{◌>>=◌, fields_of, number_field, data_field, key_field}
 
 -- the number of a handle
@@ -109,24 +111,42 @@ stream_and_data make h s o d = do
   bytes ← data_field d
   Ok (make handle stream offset bytes)
 
--- the words, each with how the fields behind it are read
+-- what the fields behind a word say
+unfoldable pub reading : Word → List (List ℕ) → Result Request LineFault
+reading word.Create = two_fields (handle_and_key to_create)
+reading word.Open = two_fields (handle_and_key to_open)
+reading word.Read = four_fields (stream_and_range to_read)
+reading word.Write = four_fields (stream_and_data (λ h s o d. to_write h s o false d))
+reading word.Cut = four_fields (stream_and_data (λ h s o d. to_write h s o true d))
+reading word.Size = two_fields (handle_and_stream to_size)
+reading word.SparseWrite = three_fields (handle_and_data to_sparse_write)
+reading word.SparseRead = three_fields (handle_and_range to_sparse_read)
+reading word.SparseRange = three_fields (handle_and_range to_sparse_range)
+reading word.Doom = one_field (handle_alone to_doom)
+reading word.Close = one_field (handle_alone to_close)
+reading word.DoomKey = one_field (key_alone to_doom_key)
+reading word.Trim = one_field (number_alone to_trim)
+reading word.List = no_fields to_list
+reading word.Total = no_fields to_total
+
+-- the words as they are written, each with what the fields behind it say
 unfoldable pub words : List (List ℕ × (List (List ℕ) → Result Request LineFault))
 words =
-    (codes "create", two_fields (handle_and_key to_create))
-    ∷ (codes "open", two_fields (handle_and_key to_open))
-    ∷ (codes "read", four_fields (stream_and_range to_read))
-    ∷ (codes "write", four_fields (stream_and_data (λ h s o d. to_write h s o false d)))
-    ∷ (codes "cut", four_fields (stream_and_data (λ h s o d. to_write h s o true d)))
-    ∷ (codes "size", two_fields (handle_and_stream to_size))
-    ∷ (codes "swrite", three_fields (handle_and_data to_sparse_write))
-    ∷ (codes "sread", three_fields (handle_and_range to_sparse_read))
-    ∷ (codes "srange", three_fields (handle_and_range to_sparse_range))
-    ∷ (codes "doom", one_field (handle_alone to_doom))
-    ∷ (codes "close", one_field (handle_alone to_close))
-    ∷ (codes "doomkey", one_field (key_alone to_doom_key))
-    ∷ (codes "trim", one_field (number_alone to_trim))
-    ∷ (codes "list", no_fields to_list)
-    ∷ (codes "total", no_fields to_total)
+    (codes "create", reading word.Create)
+    ∷ (codes "open", reading word.Open)
+    ∷ (codes "read", reading word.Read)
+    ∷ (codes "write", reading word.Write)
+    ∷ (codes "cut", reading word.Cut)
+    ∷ (codes "size", reading word.Size)
+    ∷ (codes "swrite", reading word.SparseWrite)
+    ∷ (codes "sread", reading word.SparseRead)
+    ∷ (codes "srange", reading word.SparseRange)
+    ∷ (codes "doom", reading word.Doom)
+    ∷ (codes "close", reading word.Close)
+    ∷ (codes "doomkey", reading word.DoomKey)
+    ∷ (codes "trim", reading word.Trim)
+    ∷ (codes "list", reading word.List)
+    ∷ (codes "total", reading word.Total)
     ∷ []
 
 -- what the fields behind a word say, by the first line of a table with that word

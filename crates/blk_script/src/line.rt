@@ -2,8 +2,7 @@
 ghost use Rattle.std.specs.Prelude.{◌≡◌, ◌≤◌, length};
 ghost use Rattle.blk_model.specs.Request.{request_of};
 ghost use Rattle.blk_script.specs.Fields.{fields_left, length_left, given};
-ghost use Rattle.blk_script.specs.Line.{read_text};
-ghost use Rattle.blk_script.specs.Words.{reading};
+ghost use Rattle.blk_script.specs.Line.{read_text, reading};
 
 use crate::fields::{Fields, first_field};
 use crate::words::{Word, word_of};
@@ -33,7 +32,7 @@ pub fn read_line<'a>(line: &[u8], room: &'a mut [u8]) -> Result<Command<'a>, Lin
 }
 
 // What the fields behind a word say.
-#[tactic(auto, unfolding(crate::specs::Words::reading))]
+#[tactic(auto, unfolding(crate::specs::Line::reading))]
 fn read_fields<'a>(word: Word, fields: Fields, room: &'a mut [u8]) -> Result<Command<'a>, LineFault>
     requires { length_left fields ≤ length room.old }
     ensures { given request_of result ≡ reading word (fields_left fields.entry) }
