@@ -21,9 +21,12 @@ pub mod PartsOut
 pub mod NextStates
 pub mod OneCalls
 pub mod PlainRemovals
+pub mod DoomedPlaces
 pub mod DoomedWhole
 pub mod WholeRemovals
 pub mod OutGroups
+pub mod HeldPartlyOut
+pub mod PartlyOutStops
 pub mod CreateStops
 pub mod Stopping
 pub mod Touching

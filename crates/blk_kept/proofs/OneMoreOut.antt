@@ -51,7 +51,7 @@ use Rattle.blk_kept.specs.Keeping.{AreFiles, words_in_use}
 use Rattle.blk_kept.specs.PartlyOut.{IsOneMoreOut, KeepsPartlyOut, OneMoreGoesOut, chains_but, keeps_but, left_nodes}
 use Rattle.blk_kept.proofs.Arranging.{claimed-alike, counted-alike}
 use Rattle.blk_kept.proofs.Claimed.{once-alike}
-use Rattle.blk_kept.proofs.DoomedWhole.{filter-both}
+use Rattle.blk_kept.proofs.DoomedPlaces.{filter-both}
 use Rattle.blk_kept.proofs.FilteredWords.{filtered-alike}
 use Rattle.blk_kept.proofs.Free.{session-same, standing-loaded}
 use Rattle.blk_kept.proofs.Groups as groups

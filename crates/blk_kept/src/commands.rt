@@ -9,6 +9,8 @@ ghost use Rattle.blk_kept.specs.OneCallLaws.{OpensEndByTouch, ReadsMayStop, Read
 ghost use Rattle.blk_kept.specs.PlainRemovals.{PlainGroupsGo, LonePartsGo, UnheldDoomsEnd, HeldDoomsEnd, PartGoneIsWithout, RemovingFindsDoomed, DoomedObjectsAreRemoved, RemovingFindsPartGone, LonePartsAreRemoved};
 ghost use Rattle.blk_kept.specs.WholeRemovals.{WholeObjectsAreRemoved, UnheldWholeDoomsEnd, WholeObjectsAreDoomed, HeldWholeDoomsEnd, WholeGroupsGo};
 ghost use Rattle.blk_kept.specs.PartlyOut.{UnheldOutDoomsEnd, OutGroupsAreGone};
+ghost use Rattle.blk_kept.specs.HeldPartlyOut.{HeldOutObjectsAreDoomed, HeldOutDoomsEnd};
+ghost use Rattle.blk_kept.specs.PartlyOutStops.{PartlyOutIsOut, PartlyOutFindsDoomed, NextPartsFindDoomed, PartlyOutDoomsMayStop, PartlyOutGroupsMayStop};
 ghost use Rattle.blk_kept.specs.CreateStops.{InsertsMayStop, LinksMayStop, CreatesEndOnceCounted};
 ghost use Rattle.blk_kept.specs.StopLaws.{WhatIsLeftMayStop, OrdersMayBeLeft, UsesMayBeLeft, UsesGoOn, RoomMayBeLeft, HandlesAreNotAtRest, DoomedObjectsAreNotAtRest, UnsettledObjectsAreNotAtRest, OwnUsesKeepOthers, OthersMayBeLeftOnceUnsettled, OthersMayBeLeftWhileDoomed};
 
@@ -180,6 +182,21 @@ pub fn whole_objects_are_removed()
 pub fn objects_go_part_after_part()
     ensures unheld_dooms { UnheldOutDoomsEnd }
     ensures groups { OutGroupsAreGone }
+{}
+
+/// Where all items of an object that a handle names went out so, and its record is that of a doomed object, the state with it doomed is kept, and a Doom or a DoomKey of it ends.
+pub fn held_objects_go_part_after_part()
+    ensures doomed { HeldOutObjectsAreDoomed }
+    ensures dooms { HeldOutDoomsEnd }
+{}
+
+/// While the parts of an object go out, its main item first, what is at rest with it doomed is found, also at each word of the removal of a part. So a Doom or a DoomKey may be stopped there, and a request whose next group goes.
+pub fn parts_may_be_stopped_between()
+    ensures out { PartlyOutIsOut }
+    ensures found { PartlyOutFindsDoomed }
+    ensures parts { NextPartsFindDoomed }
+    ensures dooms { PartlyOutDoomsMayStop }
+    ensures groups { PartlyOutGroupsMayStop }
 {}
 
 /// A Create may be stopped at each word of the insert of its node, and where its record is linked; once the counters are written too the state after it is kept.
