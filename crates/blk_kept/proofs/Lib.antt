@@ -27,6 +27,7 @@ pub mod WholeRemovals
 pub mod OutGroups
 pub mod HeldPartlyOut
 pub mod PartlyOutStops
+pub mod CountsOfParts
 pub mod CreateStops
 pub mod Stopping
 pub mod Touching

@@ -37,3 +37,4 @@ pub mod GroupLaws
 pub mod PartlyOut
 pub mod HeldPartlyOut
 pub mod PartlyOutStops
+pub mod CountsOfParts

@@ -11,6 +11,7 @@ ghost use Rattle.blk_kept.specs.WholeRemovals.{WholeObjectsAreRemoved, UnheldWho
 ghost use Rattle.blk_kept.specs.PartlyOut.{UnheldOutDoomsEnd, OutGroupsAreGone};
 ghost use Rattle.blk_kept.specs.HeldPartlyOut.{HeldOutObjectsAreDoomed, HeldOutDoomsEnd};
 ghost use Rattle.blk_kept.specs.PartlyOutStops.{PartlyOutIsOut, PartlyOutFindsDoomed, NextPartsFindDoomed, PartlyOutDoomsMayStop, PartlyOutGroupsMayStop};
+ghost use Rattle.blk_kept.specs.CountsOfParts.{GoneItemsAreLess, DoomedItemsAreLess, NextItemsAreOneLess, NewPartsAreOneMore};
 ghost use Rattle.blk_kept.specs.CreateStops.{InsertsMayStop, LinksMayStop, CreatesEndOnceCounted};
 ghost use Rattle.blk_kept.specs.StopLaws.{WhatIsLeftMayStop, OrdersMayBeLeft, UsesMayBeLeft, UsesGoOn, RoomMayBeLeft, HandlesAreNotAtRest, DoomedObjectsAreNotAtRest, UnsettledObjectsAreNotAtRest, OwnUsesKeepOthers, OthersMayBeLeftOnceUnsettled, OthersMayBeLeftWhileDoomed};
 
@@ -197,6 +198,14 @@ pub fn parts_may_be_stopped_between()
     ensures parts { NextPartsFindDoomed }
     ensures dooms { PartlyOutDoomsMayStop }
     ensures groups { PartlyOutGroupsMayStop }
+{}
+
+/// Items that are gone, as a group and as a doomed object with its parts, are less to be counted, with their charges; so is each that goes out in turn. A part that is made is one more.
+pub fn parts_are_counted()
+    ensures gone { GoneItemsAreLess }
+    ensures doomed { DoomedItemsAreLess }
+    ensures next { NextItemsAreOneLess }
+    ensures made { NewPartsAreOneMore }
 {}
 
 /// A Create may be stopped at each word of the insert of its node, and where its record is linked; once the counters are written too the state after it is kept.

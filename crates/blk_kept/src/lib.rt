@@ -23,7 +23,7 @@ pub use commands::{
     calls_follow_each_other, closes_settle, commands_are_done, commands_keep_the_next_state,
     commands_of_one_call, creates_end_once_made, creates_may_be_stopped, dooms_end_once_doomed,
     held_objects_go_part_after_part, objects_go_part_after_part, orders_may_be_left,
-    others_may_be_left, parts_change_alone, parts_may_be_stopped_between,
+    others_may_be_left, parts_are_counted, parts_change_alone, parts_may_be_stopped_between,
     plain_objects_are_removed, reads_end_once_used, removals_may_be_stopped, requests_take_effect,
     rests_leave_them_out, uses_may_be_stopped, whole_objects_are_removed, writes_end_once_written,
 };
