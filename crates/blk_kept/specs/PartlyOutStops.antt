@@ -7,9 +7,14 @@ use Rattle.blk_model.specs.Holding.{rest}
 use Rattle.blk_model.specs.Items.{Item, main, part}
 use Rattle.blk_model.specs.Refusals.{refused}
 use Rattle.blk_model.specs.Request.{IsRequest, Request}
-use Rattle.blk_model.specs.Room.{Group, whole, without}
+use Rattle.blk_model.specs.Room as room
+use Rattle.blk_model.specs.Room.{Group, without}
 use Rattle.blk_model.specs.State.{IsValidState, Object, State, is_named, object_at}
-use Rattle.blk_image.specs.Image.{Image}
+use Rattle.blk_image.specs.Footprint.{SameOutside, whole}
+use Rattle.blk_image.specs.Image.{External, Image}
+use Rattle.blk_format.specs.Address.{external, external_number, kind_of}
+use Rattle.blk_format.specs.BlockFiles.{IsWellFormed}
+use Rattle.blk_format.specs.Growth.{HaveGrown}
 use Rattle.blk_volume.specs.Layout.{Layout, is_listed}
 use Rattle.blk_volume.specs.Removal.{is_of_another}
 use Rattle.blk_kept.specs.Changes.{Finds}
@@ -38,7 +43,17 @@ abbrev pub NextPartsFindDoomed : Type 0
 NextPartsFindDoomed = (state : State) (layout : Layout) (number : ℕ) (object : Object) (keep : Item → Bool) (chains : ℕ → List ℕ) (unlinked : List ℕ) (n : ℕ) (from image : Image) → object_at state number ≡ Some object → LeavesOtherKeys object.key keep
     → KeepsPartlyOut state layout keep chains unlinked from → is_listed state (part object.key n) ≡ true → keep (part object.key n) ≡ true → IsMidRemoval layout (part object.key n) from image → Finds (rest (doomed number state (Some object))) image
 
--- so a Doom and a DoomKey may be stopped there
+-- and while blocks are freed, as their maps and counters change
+abbrev pub FreeingFindsDoomed : Type 0
+FreeingFindsDoomed = (state : State) (layout : Layout) (number : ℕ) (object : Object) (keep : Item → Bool) (chains : ℕ → List ℕ) (unlinked : List ℕ) (from image : Image) → object_at state number ≡ Some object → LeavesOtherKeys object.key keep
+    → KeepsPartlyOut state layout keep chains unlinked from → HaveGrown from image → (IsWellFormed from → IsWellFormed image) → Finds (rest (doomed number state (Some object))) image
+
+-- and while the external file of an unlinked word is changed or deleted
+abbrev pub DeletingFindsDoomed : Type 0
+DeletingFindsDoomed = (state : State) (layout : Layout) (number : ℕ) (object : Object) (keep : Item → Bool) (chains : ℕ → List ℕ) (w : ℕ) (unlinked : List ℕ) (from image : Image) → object_at state number ≡ Some object → LeavesOtherKeys object.key keep
+    → KeepsPartlyOut state layout keep chains (w ∷ unlinked) from → kind_of w ≡ external → SameOutside (whole (External (external_number w))) from image → Finds (rest (doomed number state (Some object))) image
+
+-- so a Doom and a DoomKey may be stopped between them
 abbrev pub PartlyOutDoomsMayStop : Type 0
 PartlyOutDoomsMayStop = (state : State) (moment : ℕ) (request : Request) (layout : Layout) (number : ℕ) (object : Object) (keep : Item → Bool) (chains : ℕ → List ℕ) (unlinked : List ℕ) (image : Image) → IsRequest request → refused moment request state ≡ None → IsDoomOf request state number
     → object_at state number ≡ Some object → LeavesOtherKeys object.key keep → KeepsPartlyOut state layout keep chains unlinked image → MayStop state moment request image
@@ -46,5 +61,5 @@ PartlyOutDoomsMayStop = (state : State) (moment : ℕ) (request : Request) (layo
 -- and a request while its next group goes
 abbrev pub PartlyOutGroupsMayStop : Type 0
 PartlyOutGroupsMayStop = (state : State) (moment : ℕ) (request : Request) (first others : List Group) (layout : Layout) (number : ℕ) (object : Object) (parts : List ℕ) (keep : Item → Bool) (chains : ℕ → List ℕ) (unlinked : List ℕ) (image : Image) → IsValidState state
-    → EvictsFirst state moment request first (whole object.key parts ∷ others) → object_at (without first state) number ≡ Some object → object.live ≡ true → is_named (without first state) number ≡ false → LeavesOtherKeys object.key keep
+    → EvictsFirst state moment request first (room.whole object.key parts ∷ others) → object_at (without first state) number ≡ Some object → object.live ≡ true → is_named (without first state) number ≡ false → LeavesOtherKeys object.key keep
     → KeepsPartlyOut (without first state) layout keep chains unlinked image → MayStop state moment request image
