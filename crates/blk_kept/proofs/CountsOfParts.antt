@@ -3,10 +3,9 @@ use Rattle.std.proofs.Common.{◌≡◌, ℕ, ◌+◌, List, [], ◌∷◌, ◌+
 use Rattle.std.specs.Prelude.{filter, not}
 use Rattle.std.specs.List.{cons_option, filter_map, sum_by}
 use Rattle.std.proofs.lemmas.Bool.{cases_Bool}
-use Rattle.std.proofs.lemmas.List.Elements.{filter-append}
 use Rattle.std.proofs.lemmas.List.Sums.{sum_by-cons}
 use Rattle.blk_model.specs.Effects.{doomed}
-use Rattle.blk_model.specs.Items.{Item, main, part, same_item}
+use Rattle.blk_model.specs.Items.{Item, main, part}
 use Rattle.blk_format.specs.BlockFiles.{is_among}
 use Rattle.blk_volume.specs.Found.{charge_of}
 use Rattle.blk_volume.specs.Layout.{Layout, nodes_of, order}
@@ -19,12 +18,11 @@ use Rattle.blk_laws.proofs.states.Changing.{at-itself}
 use Rattle.blk_laws.proofs.states.Moving.{moved-same, sums-add}
 use Rattle.blk_kept.specs.CountsOfParts.{DoomedItemsAreLess, GoneItemsAreLess, NewPartsAreOneMore, NextItemsAreOneLess, charges_at}
 use Rattle.blk_kept.specs.GroupLaws.{gone_nodes}
-use Rattle.blk_kept.specs.PartlyOut.{keeps_but}
 use Rattle.blk_kept.specs.WholeRemovals.{part_nodes}
 use Rattle.blk_kept.proofs.DoomedPlaces as places
-use Rattle.blk_kept.proofs.DoomedPlaces.{filter-both}
 use Rattle.blk_kept.proofs.Groups as groups
 use Rattle.blk_kept.proofs.NewParts as made
+use Rattle.blk_kept.proofs.NextOut as next
 use Rattle.blk_kept.proofs.NodeChanges.{others-at}
 
 -- ---- items that stay and items that go
@@ -89,34 +87,24 @@ doomed-less state layout numbers number object loaded chains valid lies owners p
 pub next-less : NextItemsAreOneLess
 next-less state layout keep item was valid there stays here = record {
   items =
-      let one = ap length old-items in
-      let two = ap length new-items in
+      let a = next.a state layout keep item valid there stays in
+      let one = ap length (next.old-items state layout keep item valid there stays) in
+      let two = ap length (next.new-items state layout keep item valid there stays) in
       let three = length-append (filter keep a.before) (item ∷ filter keep a.suffix) in
       let four = length-append (filter keep a.before) (filter keep a.suffix) in
       omega (arith, one, two, three, four);
   bytes =
-      let now = ap (λ (items : List Item). charges_at layout (nodes_of layout items)) new-items ∙ ap (charges_at layout) (nodes-append layout (filter keep a.before) (filter keep a.suffix)) in
-      let old = ap (λ (items : List Item). charges_at layout (nodes_of layout items)) old-items
+      let a = next.a state layout keep item valid there stays in
+      let prefix = next.prefix state layout keep item valid there stays in
+      let suffix = next.suffix state layout keep item valid there stays in
+      let now = ap (λ (items : List Item). charges_at layout (nodes_of layout items)) (next.new-items state layout keep item valid there stays) ∙ ap (charges_at layout) (nodes-append layout (filter keep a.before) (filter keep a.suffix)) in
+      let old = ap (λ (items : List Item). charges_at layout (nodes_of layout items)) (next.old-items state layout keep item valid there stays)
       ∙ ap (charges_at layout) (nodes-append layout (filter keep a.before) (item ∷ filter keep a.suffix))
       ∙ sym (moved-same (charges_at layout) (sums-add charge_of layout.at) prefix (layout.place item) suffix)
       ∙ ap (λ (o : Option Loaded). sum_by charge_of (cons_option o (filter_map layout.at (prefix ++ suffix)))) here
       ∙ sum_by-cons charge_of was (filter_map layout.at (prefix ++ suffix)) in
       omega (arith, now, old);
-} where
-  a : IsAround item state.uses
-  a = around item state.uses there (valid.once item)
-
-  prefix : List ℕ
-  prefix = nodes_of layout (filter keep a.before)
-
-  suffix : List ℕ
-  suffix = nodes_of layout (filter keep a.suffix)
-
-  old-items : filter keep state.uses ≡ filter keep a.before ++ item ∷ filter keep a.suffix
-  old-items = ap (filter keep) a.is ∙ filter-append keep a.before (item ∷ a.suffix) ∙ ap (λ (xs : List Item). filter keep a.before ++ xs) (rw stays refl)
-
-  new-items : filter (keeps_but keep item) state.uses ≡ filter keep a.before ++ filter keep a.suffix
-  new-items = filter-both keep (λ i. not (same_item item i)) (keeps_but keep item) (λ i. refl) state.uses ∙ ap (filter keep) a.rest ∙ filter-append keep a.before a.suffix
+}
 
 -- ---- a part that is made
 

@@ -22,6 +22,7 @@ pub mod NextStates
 pub mod OneCalls
 pub mod PlainRemovals
 pub mod DoomedPlaces
+pub mod NextOut
 pub mod DoomedWhole
 pub mod WholeRemovals
 pub mod OutGroups

@@ -1,25 +1,36 @@
 -- What is found while an object goes out part after part.
-use Rattle.std.proofs.Common.{◌≡◌, ℕ, List, [], ◌∷◌, ap, sym, ◌∙◌, Bool, true, false, Option, Some, None, ⊎_elim}
-use Rattle.std.proofs.lemmas.Bool.{cases_Bool, eq-eqb, or_left}
+use Rattle.std.proofs.Common.{◌≡◌, ℕ, List, [], ◌∷◌, refl, ap, sym, ◌∙◌, subst, Bool, true, false, Option, Some, None, ⊎_elim}
+use Rattle.std.proofs.lemmas.Bool.{and_parts, cases_Bool, eq-eqb, or_left}
 use Rattle.blk_image.specs.Image.{Image}
 use Rattle.blk_model.specs.Effects.{doomed}
 use Rattle.blk_model.specs.Holding.{rest}
-use Rattle.blk_model.specs.Items.{Item}
+use Rattle.blk_model.specs.Items.{Item, main, part, same_item}
 use Rattle.blk_model.specs.Room.{without}
 use Rattle.blk_model.specs.State.{Object, State, object_at}
 use Rattle.blk_format.specs.Address.{external, external_number, kind_of}
 use Rattle.blk_format.specs.BlockFiles.{IsWellFormed, is_among}
 use Rattle.blk_format.specs.Claims.{Claim, ExternalOf, claims_of, claims_of_all, has_claim, same_claim}
 use Rattle.blk_volume.specs.Footprint.{AgreeBut, is_absent}
-use Rattle.blk_volume.specs.Layout.{Layout, is_listed}
+use Rattle.blk_volume.specs.Layout.{HoldsExcept, Layout, is_listed, nodes_of}
 use Rattle.blk_laws.proofs.claims.ClaimLists.{claim-append, claim-head}
 use Rattle.blk_laws.proofs.claims.Files.{growth-absent}
 use Rattle.blk_laws.proofs.states.Laid.{same_claim-eq, same_claim-self}
 use Rattle.blk_laws.proofs.claims.ByteChanges.{not_equal, stands-some}
+use Rattle.blk_laws.proofs.states.OthersHold.{others-outside}
+use Rattle.blk_laws.proofs.states.OthersHold.{others-unlinked}
+use Rattle.blk_laws.proofs.states.OthersHold.{chained-only}
+use Rattle.blk_volume.specs.ListView.{ListView}
+use Rattle.blk_volume.specs.ListView.{IsAtRest}
+use Rattle.blk_volume.specs.View.{list_of}
+use Rattle.blk_volume.specs.View.{store_of}
+use Rattle.std.specs.Prelude.{◌&&◌, ◌==◌, filter, not}
+use Rattle.std.specs.Str.{bytes_eq}
+use Rattle.blk_volume.specs.Removal.{is_of_another}
+use Rattle.blk_kept.proofs.NextOut as next
 use Rattle.blk_kept.specs.Changes.{Finds}
 use Rattle.blk_kept.specs.GroupLaws.{gone_nodes, owners_without}
-use Rattle.blk_kept.specs.PartlyOut.{KeepsPartlyOut}
-use Rattle.blk_kept.specs.PartlyOutStops.{DeletingFindsDoomed, FreeingFindsDoomed, LeavesOtherKeys, NextPartsFindDoomed, PartlyOutDoomsMayStop, PartlyOutFindsDoomed, PartlyOutGroupsMayStop, PartlyOutIsOut}
+use Rattle.blk_kept.specs.PartlyOut.{KeepsPartlyOut, keeps_but}
+use Rattle.blk_kept.specs.PartlyOutStops.{DeletingFindsDoomed, FreeingFindsDoomed, LeavesOtherKeys, NextPartsFindDoomed, PartlyOutDoomsMayStop, PartlyOutFindsDoomed, PartlyOutGroupsMayStop, PartlyOutIsOut, UnlinkingPartsFindsDoomed}
 use Rattle.blk_kept.proofs.Externals.{file-agrees, file-formed}
 use Rattle.blk_kept.proofs.Groups as groups
 use Rattle.blk_kept.proofs.MakingFiles.{its-claims}
@@ -49,6 +60,40 @@ partly-out-finds state layout number object keep chains unlinked image here leav
 pub next-parts-find : NextPartsFindDoomed
 next-parts-find state layout number object keep chains unlinked n from image here leaves k listed stays removed =
     doomed-parts-find state (record layout { chains = chains }) number object keep n from image k.valid here (partly-out-is-out state layout object.key keep chains unlinked from leaves k) listed stays removed
+
+-- an item of another key is no part of this one
+other-part : (key : List ℕ) (n : ℕ) (i : Item) → is_of_another key i ≡ true → same_item (part key n) i ≡ false
+other-part key n (main other) e = refl
+other-part key n (part other m) e = go (bytes_eq key other) e where
+  go : (b : Bool) → not b ≡ true → (b && (n == m)) ≡ false
+  go true h = absurd (let z : false ≡ true = h in cc)
+  go false h = refl
+
+pub unlinking-parts-find : UnlinkingPartsFindsDoomed
+unlinking-parts-find state layout number object keep chains unlinked n from between image here leaves k listed stays done u =
+    out-doomed state now number object (keeps_but keep item) image k.valid here (record {
+      well_formed = u.well_formed (done.partly.well_formed k.well_formed);
+      except = gone;
+      holds = others-unlinked gone (store_of between) (store_of image) state now between-holds u.word u.only (chained-only state layout k.lies u.bucket u.word u.small (k.chained u.bucket u.word u.small u.chained)) chains (record { whole = u.whole; chained = λ m l ordered is kept. k.holds.chained m l ordered is kept });
+      out = ap (λ (b : Bool). b && not (same_item item (main object.key))) leaves.out;
+      others = λ i other. let a = leaves.others i other in let b = other-part object.key n i other in rw (a, b) refl;
+      there = λ i among kept. listed-there state layout keep chains unlinked from k i among (and_parts (keep i) (not (same_item item i)) kept).0;
+      list = subst (λ (ls : ListView). IsAtRest ls (nodes_of layout (filter (keeps_but keep item) state.uses))) (sym u.list)
+          (subst (IsAtRest (list_of between)) (sym (next.new-nodes state layout keep item k.valid listed stays))
+          (done.removed (next.prefix state layout keep item k.valid listed stays) (next.suffix state layout keep item k.valid listed stays) (subst (IsAtRest (list_of from)) (next.old-nodes state layout keep item k.valid listed stays) k.list)));
+    })
+  where
+    item : Item
+    item = part object.key n
+
+    gone : ℕ → Bool
+    gone = is_among (gone_nodes state layout keep)
+
+    now : Layout
+    now = record layout { chains = chains }
+
+    between-holds : HoldsExcept gone (store_of between) state now
+    between-holds = others-outside (λ claim. false) gone (store_of from) (store_of between) state now k.holds done.partly.shown.store.store done.partly.shown.store.table (λ claim node own excepted. refl) (λ bucket contents below among claim has. refl)
 
 -- a change outside what is left leaves what is found
 outside-finds : (touched : Claim → Bool) (state : State) (layout : Layout) (number : ℕ) (object : Object) (keep : Item → Bool) (chains : ℕ → List ℕ) (unlinked : List ℕ) (from image : Image) → object_at state number ≡ Some object → LeavesOtherKeys object.key keep

@@ -21,6 +21,7 @@ use Rattle.blk_kept.specs.Changes.{Finds}
 use Rattle.blk_kept.specs.CommandStates.{IsDoomOf}
 use Rattle.blk_kept.specs.Commands.{MayStop}
 use Rattle.blk_kept.specs.PartlyOut.{KeepsPartlyOut}
+use Rattle.blk_kept.specs.RemovalLaws.{IsRemovalDone, IsUnlinking}
 use Rattle.blk_kept.specs.WordStops.{IsMidRemoval, IsOut}
 
 -- the main item of a key is out, and no item of another key
@@ -42,6 +43,12 @@ PartlyOutFindsDoomed = (state : State) (layout : Layout) (number : ℕ) (object 
 abbrev pub NextPartsFindDoomed : Type 0
 NextPartsFindDoomed = (state : State) (layout : Layout) (number : ℕ) (object : Object) (keep : Item → Bool) (chains : ℕ → List ℕ) (unlinked : List ℕ) (n : ℕ) (from image : Image) → object_at state number ≡ Some object → LeavesOtherKeys object.key keep
     → KeepsPartlyOut state layout keep chains unlinked from → is_listed state (part object.key n) ≡ true → keep (part object.key n) ≡ true → IsMidRemoval layout (part object.key n) from image → Finds (rest (doomed number state (Some object))) image
+
+-- and while its record goes out of its chain then, before it has
+abbrev pub UnlinkingPartsFindsDoomed : Type 0
+UnlinkingPartsFindsDoomed = (state : State) (layout : Layout) (number : ℕ) (object : Object) (keep : Item → Bool) (chains : ℕ → List ℕ) (unlinked : List ℕ) (n : ℕ) (from between image : Image) → object_at state number ≡ Some object → LeavesOtherKeys object.key keep
+    → KeepsPartlyOut state layout keep chains unlinked from → is_listed state (part object.key n) ≡ true → keep (part object.key n) ≡ true → IsRemovalDone from (layout.place (part object.key n)) between → IsUnlinking (record layout { chains = chains }) chains between image
+    → Finds (rest (doomed number state (Some object))) image
 
 -- and while blocks are freed, as their maps and counters change
 abbrev pub FreeingFindsDoomed : Type 0
