@@ -2,9 +2,10 @@
 use Rattle.std.proofs.Common.{◌≡◌, ℕ, List, [], ◌∷◌, refl, ap, sym, ◌∙◌, subst, Bool, true, false, Option, Some, None, ⊎_elim}
 use Rattle.std.proofs.lemmas.Bool.{and_parts, cases_Bool, eq-eqb, or_left}
 use Rattle.blk_image.specs.Image.{Image}
+use Rattle.blk_model.proofs.Same.{same_item_self}
 use Rattle.blk_model.specs.Effects.{doomed}
 use Rattle.blk_model.specs.Holding.{rest}
-use Rattle.blk_model.specs.Items.{Item, main, part, same_item}
+use Rattle.blk_model.specs.Items.{Item, key_of, main, part, same_item}
 use Rattle.blk_model.specs.Room.{without}
 use Rattle.blk_model.specs.State.{Object, State, object_at}
 use Rattle.blk_format.specs.Address.{external, external_number, kind_of}
@@ -30,7 +31,7 @@ use Rattle.blk_kept.proofs.NextOut as next
 use Rattle.blk_kept.specs.Changes.{Finds}
 use Rattle.blk_kept.specs.GroupLaws.{gone_nodes, owners_without}
 use Rattle.blk_kept.specs.PartlyOut.{KeepsPartlyOut, keeps_but}
-use Rattle.blk_kept.specs.PartlyOutStops.{DeletingFindsDoomed, FreeingFindsDoomed, LeavesOtherKeys, NextPartsFindDoomed, PartlyOutDoomsMayStop, PartlyOutFindsDoomed, PartlyOutGroupsMayStop, PartlyOutIsOut, UnlinkingPartsFindsDoomed}
+use Rattle.blk_kept.specs.PartlyOutStops.{DeletingFindsDoomed, FreeingFindsDoomed, ItemsOfAKeyLeaveOthers, LeavesOtherKeys, NextPartsFindDoomed, PartlyOutDoomsMayStop, PartlyOutFindsDoomed, PartlyOutGroupsMayStop, PartlyOutIsOut, UnlinkingItemsFindsDoomed}
 use Rattle.blk_kept.proofs.Externals.{file-agrees, file-formed}
 use Rattle.blk_kept.proofs.Groups as groups
 use Rattle.blk_kept.proofs.MakingFiles.{its-claims}
@@ -61,31 +62,40 @@ pub next-parts-find : NextPartsFindDoomed
 next-parts-find state layout number object keep chains unlinked n from image here leaves k listed stays removed =
     doomed-parts-find state (record layout { chains = chains }) number object keep n from image k.valid here (partly-out-is-out state layout object.key keep chains unlinked from leaves k) listed stays removed
 
--- an item of another key is no part of this one
-other-part : (key : List ℕ) (n : ℕ) (i : Item) → is_of_another key i ≡ true → same_item (part key n) i ≡ false
-other-part key n (main other) e = refl
-other-part key n (part other m) e = go (bytes_eq key other) e where
-  go : (b : Bool) → not b ≡ true → (b && (n == m)) ≡ false
-  go true h = absurd (let z : false ≡ true = h in cc)
-  go false h = refl
+not-true : (b : Bool) → not b ≡ true → b ≡ false
+not-true true e = absurd (let z : false ≡ true = e in cc)
+not-true false e = refl
 
-pub unlinking-parts-find : UnlinkingPartsFindsDoomed
-unlinking-parts-find state layout number object keep chains unlinked n from between image here leaves k listed stays done u =
+-- an item of another key is none of this one
+other-item : (key : List ℕ) (own other : Item) → key_of own ≡ key → is_of_another key other ≡ true → same_item own other ≡ false
+other-item key (main k) (main b) is e = ap (λ (x : List ℕ). bytes_eq x b) is ∙ not-true (bytes_eq key b) e
+other-item key (main k) (part b m) is e = refl
+other-item key (part k n) (main b) is e = refl
+other-item key (part k n) (part b m) is e = ap (λ (x : List ℕ). bytes_eq x b && n == m) is ∙ ap (λ (t : Bool). t && n == m) (not-true (bytes_eq key b) e)
+
+pub own-items-leave : ItemsOfAKeyLeaveOthers
+own-items-leave key = (
+  record { out = ap not (same_item_self (main key)); others = λ i other. ap not (other-item key (main key) i refl other) },
+  λ keep n leaves. record {
+    out = ap (λ (b : Bool). b && not (same_item (part key n) (main key))) leaves.out;
+    others = λ i other. let a = leaves.others i other in let b = other-item key (part key n) i refl other in rw (a, b) refl;
+  },
+)
+
+pub unlinking-items-find : UnlinkingItemsFindsDoomed
+unlinking-items-find state layout number object keep chains unlinked item from between image here leaves k listed stays done u =
     out-doomed state now number object (keeps_but keep item) image k.valid here (record {
       well_formed = u.well_formed (done.partly.well_formed k.well_formed);
       except = gone;
       holds = others-unlinked gone (store_of between) (store_of image) state now between-holds u.word u.only (chained-only state layout k.lies u.bucket u.word u.small (k.chained u.bucket u.word u.small u.chained)) chains (record { whole = u.whole; chained = λ m l ordered is kept. k.holds.chained m l ordered is kept });
-      out = ap (λ (b : Bool). b && not (same_item item (main object.key))) leaves.out;
-      others = λ i other. let a = leaves.others i other in let b = other-part object.key n i other in rw (a, b) refl;
+      out = leaves.out;
+      others = leaves.others;
       there = λ i among kept. listed-there state layout keep chains unlinked from k i among (and_parts (keep i) (not (same_item item i)) kept).0;
       list = subst (λ (ls : ListView). IsAtRest ls (nodes_of layout (filter (keeps_but keep item) state.uses))) (sym u.list)
           (subst (IsAtRest (list_of between)) (sym (next.new-nodes state layout keep item k.valid listed stays))
           (done.removed (next.prefix state layout keep item k.valid listed stays) (next.suffix state layout keep item k.valid listed stays) (subst (IsAtRest (list_of from)) (next.old-nodes state layout keep item k.valid listed stays) k.list)));
     })
   where
-    item : Item
-    item = part object.key n
-
     gone : ℕ → Bool
     gone = is_among (gone_nodes state layout keep)
 

@@ -20,7 +20,7 @@ use Rattle.blk_volume.specs.Removal.{is_of_another}
 use Rattle.blk_kept.specs.Changes.{Finds}
 use Rattle.blk_kept.specs.CommandStates.{IsDoomOf}
 use Rattle.blk_kept.specs.Commands.{MayStop}
-use Rattle.blk_kept.specs.PartlyOut.{KeepsPartlyOut}
+use Rattle.blk_kept.specs.PartlyOut.{KeepsPartlyOut, keeps_but}
 use Rattle.blk_kept.specs.RemovalLaws.{IsRemovalDone, IsUnlinking}
 use Rattle.blk_kept.specs.WordStops.{IsMidRemoval, IsOut}
 
@@ -28,6 +28,10 @@ use Rattle.blk_kept.specs.WordStops.{IsMidRemoval, IsOut}
 pub record LeavesOtherKeys (key : List ℕ) (keep : Item → Bool) : Type 0 where
   pub out : keep (main key) ≡ false
   pub others : (item : Item) → is_of_another key item ≡ true → keep item ≡ true
+
+-- so it is once the main item is out, and once a part is too
+abbrev pub ItemsOfAKeyLeaveOthers : Type 0
+ItemsOfAKeyLeaveOthers = (key : List ℕ) → LeavesOtherKeys key (keeps_but (λ item. true) (main key)) × ((keep : Item → Bool) (n : ℕ) → LeavesOtherKeys key keep → LeavesOtherKeys key (keeps_but keep (part key n)))
 
 -- then what lies at the listed nodes is there, by the layout with the chains as they are
 abbrev pub PartlyOutIsOut : Type 0
@@ -44,10 +48,10 @@ abbrev pub NextPartsFindDoomed : Type 0
 NextPartsFindDoomed = (state : State) (layout : Layout) (number : ℕ) (object : Object) (keep : Item → Bool) (chains : ℕ → List ℕ) (unlinked : List ℕ) (n : ℕ) (from image : Image) → object_at state number ≡ Some object → LeavesOtherKeys object.key keep
     → KeepsPartlyOut state layout keep chains unlinked from → is_listed state (part object.key n) ≡ true → keep (part object.key n) ≡ true → IsMidRemoval layout (part object.key n) from image → Finds (rest (doomed number state (Some object))) image
 
--- and while its record goes out of its chain then, before it has
-abbrev pub UnlinkingPartsFindsDoomed : Type 0
-UnlinkingPartsFindsDoomed = (state : State) (layout : Layout) (number : ℕ) (object : Object) (keep : Item → Bool) (chains : ℕ → List ℕ) (unlinked : List ℕ) (n : ℕ) (from between image : Image) → object_at state number ≡ Some object → LeavesOtherKeys object.key keep
-    → KeepsPartlyOut state layout keep chains unlinked from → is_listed state (part object.key n) ≡ true → keep (part object.key n) ≡ true → IsRemovalDone from (layout.place (part object.key n)) between → IsUnlinking (record layout { chains = chains }) chains between image
+-- and while the record of an item of the key, the main one or a part, goes out of its chain then, before it has
+abbrev pub UnlinkingItemsFindsDoomed : Type 0
+UnlinkingItemsFindsDoomed = (state : State) (layout : Layout) (number : ℕ) (object : Object) (keep : Item → Bool) (chains : ℕ → List ℕ) (unlinked : List ℕ) (item : Item) (from between image : Image) → object_at state number ≡ Some object → LeavesOtherKeys object.key (keeps_but keep item)
+    → KeepsPartlyOut state layout keep chains unlinked from → is_listed state item ≡ true → keep item ≡ true → IsRemovalDone from (layout.place item) between → IsUnlinking (record layout { chains = chains }) chains between image
     → Finds (rest (doomed number state (Some object))) image
 
 -- and while blocks are freed, as their maps and counters change

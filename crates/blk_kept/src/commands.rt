@@ -10,7 +10,7 @@ ghost use Rattle.blk_kept.specs.PlainRemovals.{PlainGroupsGo, LonePartsGo, Unhel
 ghost use Rattle.blk_kept.specs.WholeRemovals.{WholeObjectsAreRemoved, UnheldWholeDoomsEnd, WholeObjectsAreDoomed, HeldWholeDoomsEnd, WholeGroupsGo};
 ghost use Rattle.blk_kept.specs.PartlyOut.{UnheldOutDoomsEnd, OutGroupsAreGone};
 ghost use Rattle.blk_kept.specs.HeldPartlyOut.{HeldOutObjectsAreDoomed, HeldOutDoomsEnd};
-ghost use Rattle.blk_kept.specs.PartlyOutStops.{PartlyOutIsOut, PartlyOutFindsDoomed, NextPartsFindDoomed, UnlinkingPartsFindsDoomed, FreeingFindsDoomed, DeletingFindsDoomed, PartlyOutDoomsMayStop, PartlyOutGroupsMayStop};
+ghost use Rattle.blk_kept.specs.PartlyOutStops.{ItemsOfAKeyLeaveOthers, PartlyOutIsOut, PartlyOutFindsDoomed, NextPartsFindDoomed, UnlinkingItemsFindsDoomed, FreeingFindsDoomed, DeletingFindsDoomed, PartlyOutDoomsMayStop, PartlyOutGroupsMayStop};
 ghost use Rattle.blk_kept.specs.CountsOfParts.{GoneItemsAreLess, DoomedItemsAreLess, NextItemsAreOneLess, NewPartsAreOneMore};
 ghost use Rattle.blk_kept.specs.CreateStops.{InsertsMayStop, LinksMayStop, CreatesEndOnceCounted};
 ghost use Rattle.blk_kept.specs.StopLaws.{WhatIsLeftMayStop, OrdersMayBeLeft, UsesMayBeLeft, UsesGoOn, RoomMayBeLeft, HandlesAreNotAtRest, DoomedObjectsAreNotAtRest, UnsettledObjectsAreNotAtRest, OwnUsesKeepOthers, OthersMayBeLeftOnceUnsettled, OthersMayBeLeftWhileDoomed};
@@ -191,12 +191,13 @@ pub fn held_objects_go_part_after_part()
     ensures dooms { HeldOutDoomsEnd }
 {}
 
-/// While the parts of an object go out, its main item first, what is at rest with it doomed is found, also at each word of the removal and the unlinking of a part, of a freeing and of a deletion. So a Doom or a DoomKey may be stopped there, and a request whose next group goes.
+/// While the parts of an object go out, its main item first, what is at rest with it doomed is found, also at each word of the removal of a part, of the unlinking of an item, of a freeing and of a deletion. So a Doom or a DoomKey may be stopped there, and a request whose next group goes.
 pub fn parts_may_be_stopped_between()
+    ensures leave { ItemsOfAKeyLeaveOthers }
     ensures out { PartlyOutIsOut }
     ensures found { PartlyOutFindsDoomed }
     ensures parts { NextPartsFindDoomed }
-    ensures unlinking { UnlinkingPartsFindsDoomed }
+    ensures unlinking { UnlinkingItemsFindsDoomed }
     ensures freeing { FreeingFindsDoomed }
     ensures deleting { DeletingFindsDoomed }
     ensures dooms { PartlyOutDoomsMayStop }
