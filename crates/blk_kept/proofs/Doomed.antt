@@ -80,7 +80,7 @@ module _ (state : State) (layout : Layout) (unlinked : List ℕ) (number : ℕ) 
   now = layout_doomed layout number node l
 
   abbrev a : IsAround (main object.key) state.uses
-  a = around (main object.key) state.uses (its-main state layout unlinked number object l from k can.lies can.named) (k.valid.once (main object.key))
+  a = around (main object.key) state.uses (its-main state layout number object l k.numbers k.valid k.owners can.lies can.named) (k.valid.once (main object.key))
 
   abbrev prefix : List ℕ
   prefix = nodes_of layout a.before
@@ -112,7 +112,7 @@ module _ (state : State) (layout : Layout) (unlinked : List ℕ) (number : ℕ) 
 
   nodes-now : all_nodes after now (number ∷ k.numbers) ≡ (prefix ++ suffix) ++ node ∷ rest-nodes
   nodes-now = ap (λ (ns : List ℕ). ns ++ map now.place_of_doomed (number ∷ k.numbers)) after-order
-      ∙ ap (λ (ns : List ℕ). (prefix ++ suffix) ++ ns) ((λ i. at-itself layout.place_of_doomed number node i ∷ map now.place_of_doomed k.numbers) ∙ ap (λ (ns : List ℕ). node ∷ ns) (doomed-are state layout unlinked number object l from k can.lies can.named layout.at (chains_without layout l.contents) layout.owner k.numbers (not-doomed state layout unlinked number object l from k can.lies can.named)))
+      ∙ ap (λ (ns : List ℕ). (prefix ++ suffix) ++ ns) ((λ i. at-itself layout.place_of_doomed number node i ∷ map now.place_of_doomed k.numbers) ∙ ap (λ (ns : List ℕ). node ∷ ns) (doomed-are state layout number object l k.numbers k.valid k.owners can.lies can.named layout.at (chains_without layout l.contents) layout.owner k.numbers (not-doomed state layout number object l k.numbers k.valid k.owners can.lies can.named)))
 
   nodes-then : all_nodes state layout k.numbers ≡ prefix ++ node ∷ (suffix ++ rest-nodes)
   nodes-then = ap (λ (ns : List ℕ). ns ++ rest-nodes) old-order ∙ append_assoc prefix (node ∷ suffix) rest-nodes
@@ -190,9 +190,9 @@ module _ (state : State) (layout : Layout) (unlinked : List ℕ) (number : ℕ) 
   marked : AreMarkedBy (this_id_of (byte from Index)) after now
   marked n z is live unsettled = ⊎_elim
       (λ (e : n ≡ number).
-      let same_one : (let y : Object = record object { live = false; parts = [] } in y) ≡ z = some_inj (sym (slot-is state layout unlinked number object l from k can.lies can.named) ∙ ap (object_at after) (sym e) ∙ is) in
+      let same_one : (let y : Object = record object { live = false; parts = [] } in y) ≡ z = some_inj (sym (slot-is state layout number object l k.numbers k.valid k.owners can.lies can.named) ∙ ap (object_at after) (sym e) ∙ is) in
       absurd (let c : false ≡ true = ap (λ (x : Object). x.live) same_one ∙ live in cc))
-      (λ (e : n ≢ number). k.session.marked n z (sym (slot-else state layout unlinked number object l from k can.lies can.named n e) ∙ is) live unsettled)
+      (λ (e : n ≢ number). k.session.marked n z (sym (slot-else state layout number object l k.numbers k.valid k.owners can.lies can.named n e) ∙ is) live unsettled)
       (cases_eq n number)
 
   arranged : IsArranged after now (number ∷ k.numbers) unlinked image
@@ -202,7 +202,7 @@ module _ (state : State) (layout : Layout) (unlinked : List ℕ) (number : ℕ) 
     owners = record {
       exact = λ c n is. let o : IsOwner state layout (doomed_nodes layout k.numbers) c n = k.owners.exact c n is in record { among = among-same n ∙ o.among; loaded = o.loaded; here = o.here; claims = o.claims };
       once = subst Distinct (sym nodes-now) (distinct-in (prefix ++ suffix) node rest-nodes once-front.0 once-front.1);
-      doomed = numbers-are state layout unlinked number object l from k can.lies can.named layout.at (chains_without layout l.contents) layout.owner;
+      doomed = numbers-are state layout number object l k.numbers k.valid k.owners can.lies can.named layout.at (chains_without layout l.contents) layout.owner;
     };
     unlinked_words = record { stand = stand-same from image leaves.headers unlinked k.unlinked_words.stand; free = k.unlinked_words.free; single = k.unlinked_words.single };
     sealed = sealed;

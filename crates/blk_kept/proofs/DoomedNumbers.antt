@@ -3,10 +3,9 @@ use Rattle.std.proofs.Common.{◌≡◌, ◌≢◌, ℕ, List, [], ◌∷◌, ma
 use Rattle.std.specs.Prelude.{◌==◌, IsSomeAnd}
 use Rattle.std.specs.List.{AllByRecursion}
 use Rattle.std.proofs.lemmas.Bool.{cases_Bool, cases_eq, eq-eqb, eqb-true, or_left, or_parts, or_right}
-use Rattle.blk_image.specs.Image.{Image}
 use Rattle.blk_model.specs.Effects.{doomed, doomed_slot}
 use Rattle.blk_model.specs.Items.{main}
-use Rattle.blk_model.specs.State.{State, Object, is_named, object_at}
+use Rattle.blk_model.specs.State.{State, Object, IsValidState, is_named, object_at}
 use Rattle.blk_format.specs.BlockFiles.{is_among}
 use Rattle.blk_format.specs.Claims.{Claim}
 use Rattle.blk_format.specs.Records as records
@@ -20,10 +19,10 @@ use Rattle.blk_laws.proofs.states.Changing.{apart-sym, at-elsewhere, at-itself}
 use Rattle.blk_laws.proofs.states.Laid.{is_among-node}
 use Rattle.blk_laws.proofs.lists.Lists.{apart_left}
 use Rattle.blk_laws.proofs.states.Settling.{main-listed}
-use Rattle.blk_kept.specs.Keeping.{KeepsUncounted}
+use Rattle.blk_kept.specs.Keeping.{AreOwners}
 use Rattle.blk_kept.proofs.Dirtying.{set-at, set-else}
 
-module _ (state : State) (layout : Layout) (unlinked : List ℕ) (number : ℕ) (object : Object) (l : Loaded) (from : Image) (k : KeepsUncounted state layout unlinked from) (lies : IsPlacedAsLive state layout number object l) (held : is_named state number ≡ true) where
+module _ (state : State) (layout : Layout) (number : ℕ) (object : Object) (l : Loaded) (numbers : List ℕ) (valid : IsValidState state) (owners : AreOwners state layout numbers) (lies : IsPlacedAsLive state layout number object l) (held : is_named state number ≡ true) where
   abbrev node : ℕ
   node = layout.place (main object.key)
 
@@ -31,10 +30,10 @@ module _ (state : State) (layout : Layout) (unlinked : List ℕ) (number : ℕ) 
   after = doomed number state (Some object)
 
   abbrev rest-nodes : List ℕ
-  rest-nodes = doomed_nodes layout k.numbers
+  rest-nodes = doomed_nodes layout numbers
 
   pub its-main : is_listed state (main object.key) ≡ true
-  its-main = main-listed state k.valid number object true lies.here lies.live
+  its-main = main-listed state valid number object true lies.here lies.live
 
   pub node-listed : is_among (order state layout) node ≡ true
   node-listed = is_among-node layout state.uses (main object.key) its-main
@@ -42,16 +41,16 @@ module _ (state : State) (layout : Layout) (unlinked : List ℕ) (number : ℕ) 
   -- its node is none of those of the doomed objects
   pub none-behind : is_among rest-nodes node ≡ false
   none-behind = ⊎_elim
-      (λ (e : is_among rest-nodes node ≡ true). absurd (let z : true ≡ false = sym node-listed ∙ apart_left (order state layout) rest-nodes node k.owners.once e in cc))
+      (λ (e : is_among rest-nodes node ≡ true). absurd (let z : true ≡ false = sym node-listed ∙ apart_left (order state layout) rest-nodes node owners.once e in cc))
       (λ (e : is_among rest-nodes node ≡ false). e)
       (cases_Bool (is_among rest-nodes node))
 
   -- the number is no doomed object's
-  pub not-doomed : is_among k.numbers number ≡ false
+  pub not-doomed : is_among numbers number ≡ false
   not-doomed = ⊎_elim
-      (λ (e : is_among k.numbers number ≡ true). absurd (go k.numbers k.owners.doomed.each e))
-      (λ (e : is_among k.numbers number ≡ false). e)
-      (cases_Bool (is_among k.numbers number))
+      (λ (e : is_among numbers number ≡ true). absurd (go numbers owners.doomed.each e))
+      (λ (e : is_among numbers number ≡ false). e)
+      (cases_Bool (is_among numbers number))
     where
       go : (ns : List ℕ) → AllByRecursion (λ n. IsSomeAnd (object_at state n) (λ o. o.live ≡ false)) ns → is_among ns number ≡ true → ⊥
       go [] all e = let z : false ≡ true = e in cc
@@ -83,17 +82,17 @@ module _ (state : State) (layout : Layout) (unlinked : List ℕ) (number : ℕ) 
         let parts = or_parts (m == number) (is_among ns number) none in
         (λ i. at-elsewhere layout.place_of_doomed number node m (apart-sym m number parts.0) i ∷ map now.place_of_doomed ns) ∙ ap (λ (xs : List ℕ). layout.place_of_doomed m ∷ xs) (doomed-are ns parts.1)
 
-    pub numbers-are : AreNumbers after now (number ∷ k.numbers)
+    pub numbers-are : AreNumbers after now (number ∷ numbers)
     numbers-are = record {
-      each = (subst (λ (o : Option Object). IsSomeAnd o (λ o. o.live ≡ false)) (sym slot-is) refl, each k.numbers not-doomed k.owners.doomed.each);
-      once = (not-doomed, k.owners.doomed.once);
+      each = (subst (λ (o : Option Object). IsSomeAnd o (λ o. o.live ≡ false)) (sym slot-is) refl, each numbers not-doomed owners.doomed.each);
+      once = (not-doomed, owners.doomed.once);
       all = λ n o is dead. ⊎_elim
-          (λ (e : n ≡ number). or_left (number == n) (is_among k.numbers n) (eq-eqb number n (sym e)))
-          (λ (e : n ≢ number). or_right (number == n) (is_among k.numbers n) (k.owners.doomed.all n o (sym (slot-else n e) ∙ is) dead))
+          (λ (e : n ≡ number). or_left (number == n) (is_among numbers n) (eq-eqb number n (sym e)))
+          (λ (e : n ≢ number). or_right (number == n) (is_among numbers n) (owners.doomed.all n o (sym (slot-else n e) ∙ is) dead))
           (cases_eq n number);
       records = λ n there. ⊎_elim
           (λ (e : (number == n) ≡ true). subst (λ (x : ℕ). now.state (now.place_of_doomed x) ≡ records.entry_doomed) (eqb-true number n e) (ap now.state (at-itself layout.place_of_doomed number node) ∙ at-itself layout.state node records.entry_doomed))
-          (λ (e : (number == n) ≡ false). ap now.state (at-elsewhere layout.place_of_doomed number node n e) ∙ at-elsewhere layout.state node records.entry_doomed (layout.place_of_doomed n) (other-place n (rw e at there)) ∙ k.owners.doomed.records n (rw e at there))
+          (λ (e : (number == n) ≡ false). ap now.state (at-elsewhere layout.place_of_doomed number node n e) ∙ at-elsewhere layout.state node records.entry_doomed (layout.place_of_doomed n) (other-place n (rw e at there)) ∙ owners.doomed.records n (rw e at there))
           (cases_Bool (number == n));
     } where
       each : (ns : List ℕ) → is_among ns number ≡ false → AllByRecursion (λ n. IsSomeAnd (object_at state n) (λ o. o.live ≡ false)) ns → AllByRecursion (λ n. IsSomeAnd (object_at after n) (λ o. o.live ≡ false)) ns
@@ -109,9 +108,9 @@ module _ (state : State) (layout : Layout) (unlinked : List ℕ) (number : ℕ) 
           (λ (e : (m == n) ≡ false). or_right (layout.place_of_doomed m == layout.place_of_doomed n) _ (among-place ns n (rw e at h)))
           (cases_Bool (m == n))
 
-      other-place : (n : ℕ) → is_among k.numbers n ≡ true → (node == layout.place_of_doomed n) ≡ false
+      other-place : (n : ℕ) → is_among numbers n ≡ true → (node == layout.place_of_doomed n) ≡ false
       other-place n there = ⊎_elim
           (λ (e : (node == layout.place_of_doomed n) ≡ true).
-          absurd (let z : true ≡ false = sym (among-place k.numbers n there) ∙ ap (is_among rest-nodes) (sym (eqb-true node (layout.place_of_doomed n) e)) ∙ none-behind in cc))
+          absurd (let z : true ≡ false = sym (among-place numbers n there) ∙ ap (is_among rest-nodes) (sym (eqb-true node (layout.place_of_doomed n) e)) ∙ none-behind in cc))
           (λ (e : (node == layout.place_of_doomed n) ≡ false). e)
           (cases_Bool (node == layout.place_of_doomed n))

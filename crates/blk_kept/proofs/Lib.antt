@@ -21,9 +21,14 @@ pub mod PartsOut
 pub mod NextStates
 pub mod OneCalls
 pub mod PlainRemovals
+pub mod DoomedPlaces
+pub mod NextOut
 pub mod DoomedWhole
 pub mod WholeRemovals
 pub mod OutGroups
+pub mod HeldPartlyOut
+pub mod PartlyOutStops
+pub mod CountsOfParts
 pub mod CreateStops
 pub mod Stopping
 pub mod Touching

@@ -6,7 +6,6 @@ use Rattle.std.specs.List.{AllByRecursion, cons_option, filter_map, flat_map}
 use Rattle.std.specs.List.Sorted.{IsPermutation}
 use Rattle.std.proofs.lemmas.Bool.{and_parts, cases_Bool, eq-eqb, eqb-true}
 use Rattle.std.proofs.lemmas.Grind.{flat_map-append}
-use Rattle.std.proofs.lemmas.List.Elements.{filter-append}
 use Rattle.std.proofs.lemmas.List.Sorted.{All-permutation, IsPermutation-append_right, IsPermutation-trans}
 use Rattle.blk_image.proofs.Footprints.{outside_wider, within_left}
 use Rattle.blk_image.proofs.Runs.{some_inj}
@@ -36,7 +35,7 @@ use Rattle.blk_volume.specs.View.{list_of, stands_as, store_of}
 use Rattle.blk_laws.proofs.claims.Allocations.{words-claims, words-stand, join}
 use Rattle.blk_laws.proofs.claims.ByteChanges.{stands-some}
 use Rattle.blk_laws.proofs.claims.ClaimLists.{claim-append, contents-claims, repeats-append, some-claim}
-use Rattle.blk_laws.proofs.commands.Opening.{IsAround, around, nodes-append}
+use Rattle.blk_laws.proofs.commands.Opening.{IsAround, around}
 use Rattle.blk_laws.proofs.commands.Removing.{in-filter}
 use Rattle.blk_laws.proofs.lists.ListCompletions.{listed}
 use Rattle.blk_laws.proofs.lists.WordTurns.{removals-can}
@@ -51,7 +50,7 @@ use Rattle.blk_kept.specs.Keeping.{AreFiles, words_in_use}
 use Rattle.blk_kept.specs.PartlyOut.{IsOneMoreOut, KeepsPartlyOut, OneMoreGoesOut, chains_but, keeps_but, left_nodes}
 use Rattle.blk_kept.proofs.Arranging.{claimed-alike, counted-alike}
 use Rattle.blk_kept.proofs.Claimed.{once-alike}
-use Rattle.blk_kept.proofs.DoomedWhole.{filter-both}
+use Rattle.blk_kept.proofs.NextOut as next
 use Rattle.blk_kept.proofs.FilteredWords.{filtered-alike}
 use Rattle.blk_kept.proofs.Free.{session-same, standing-loaded}
 use Rattle.blk_kept.proofs.Groups as groups
@@ -106,10 +105,10 @@ module _ (state : State) (layout : Layout) (keep : Item → Bool) (chains : ℕ 
   dead = doomed_nodes layout k.numbers
 
   old-nodes : nodes_of layout (filter keep state.uses) ≡ prefix ++ node ∷ suffix
-  old-nodes = ap (nodes_of layout) (ap (filter keep) a.is ∙ filter-append keep a.before (item ∷ a.suffix) ∙ ap (λ (xs : List Item). filter keep a.before ++ xs) (rw stays refl)) ∙ nodes-append layout (filter keep a.before) (item ∷ filter keep a.suffix)
+  old-nodes = next.old-nodes state layout keep item k.valid there stays
 
   new-nodes : nodes_of layout (filter less state.uses) ≡ prefix ++ suffix
-  new-nodes = ap (nodes_of layout) (filter-both keep (λ i. not (same_item item i)) less (λ i. refl) state.uses ∙ ap (filter keep) a.rest ∙ filter-append keep a.before a.suffix) ∙ nodes-append layout (filter keep a.before) (filter keep a.suffix)
+  new-nodes = next.new-nodes state layout keep item k.valid there stays
 
   old-rest : IsAtRest (list_of from) (prefix ++ node ∷ suffix)
   old-rest = subst (IsAtRest (list_of from)) old-nodes k.list

@@ -80,13 +80,20 @@ module _ (touched : Claim → Bool) (state : State) (layout : Layout) (keep : It
       let clear = clear-left n l is stays in
       sealed-same touched from image agree l (standing-loaded from layout n l (k.holds.each n l is stays)) clear.node clear.contents (k.sealed n l is stays)
 
+-- what is left stands
+pub left-there : (state : State) (layout : Layout) (keep : Item → Bool) (chains : ℕ → List ℕ) (unlinked : List ℕ) (from : Image) → KeepsPartlyOut state layout keep chains unlinked from
+    → (claim : Claim) (node : ℕ) → layout.owner claim ≡ Some node → is_among (gone_nodes state layout keep) node ≡ false → is_absent from claim ≡ false
+left-there state layout keep chains unlinked from k claim node is stays =
+    let o = k.owners.exact claim node is in
+    words-there from (words_of o.loaded) claim (words-stand from o.loaded (rule_of layout node, node, k.holds.each node o.loaded o.here stays)) (ap (λ (cs : List Claim). has_claim cs claim) (words-claims o.loaded) ∙ o.claims)
+
 pub blocks-freed : BlocksAreFreedPartlyOut
 blocks-freed state layout keep chains w unlinked from image k a = record {
   valid = k.valid;
   well_formed = a.well_formed k.well_formed;
   lies = k.lies;
-  list = record { whole = list-still touched state layout keep chains (w ∷ unlinked) from image k agree apart; idle = idle-still touched state layout keep chains (w ∷ unlinked) from image k agree apart };
-  holds = holds-still touched state layout keep chains (w ∷ unlinked) from image k agree apart;
+  list = record { whole = list-still touched state layout keep chains (w ∷ unlinked) from image k agree (left-there state layout keep chains (w ∷ unlinked) from k); idle = idle-still touched state layout keep chains (w ∷ unlinked) from image k agree (left-there state layout keep chains (w ∷ unlinked) from k) };
+  holds = holds-still touched state layout keep chains (w ∷ unlinked) from image k agree (left-there state layout keep chains (w ∷ unlinked) from k);
   chained = k.chained;
   out = k.out;
   numbers = k.numbers;
@@ -95,7 +102,7 @@ blocks-freed state layout keep chains w unlinked from image k a = record {
   stand = freeing.still w from image a others k.files k.stand.0 unlinked k.stand.1;
   free = λ claim has. k.free claim (claim-append (claims_of w) (claims_of_all unlinked) claim ∙ or_right (has_claim (claims_of w) claim) (has_claim (claims_of_all unlinked) claim) has);
   single = repeats-tail (claims_of w) (claims_of_all unlinked) k.single;
-  sealed = sealed-left touched state layout keep chains (w ∷ unlinked) from image k agree apart;
+  sealed = sealed-left touched state layout keep chains (w ∷ unlinked) from image k agree (left-there state layout keep chains (w ∷ unlinked) from k);
   session = session-same from image state layout a.session k.session;
 } where
   touched : Claim → Bool
@@ -106,12 +113,6 @@ blocks-freed state layout keep chains w unlinked from image k a = record {
 
   agree : AgreeBut touched from image
   agree = freeing.agree w from image a others k.files k.stand.0
-
-  -- what is left stands
-  apart : (claim : Claim) (node : ℕ) → layout.owner claim ≡ Some node → is_among (gone_nodes state layout keep) node ≡ false → touched claim ≡ false
-  apart claim node is stays =
-      let o = k.owners.exact claim node is in
-      words-there from (words_of o.loaded) claim (words-stand from o.loaded (rule_of layout node, node, k.holds.each node o.loaded o.here stays)) (ap (λ (cs : List Claim). has_claim cs claim) (words-claims o.loaded) ∙ o.claims)
 
 -- ---- an external file
 

@@ -35,3 +35,6 @@ pub mod ChangedStates
 pub mod AllocationLaws
 pub mod GroupLaws
 pub mod PartlyOut
+pub mod HeldPartlyOut
+pub mod PartlyOutStops
+pub mod CountsOfParts

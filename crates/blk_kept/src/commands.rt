@@ -9,6 +9,9 @@ ghost use Rattle.blk_kept.specs.OneCallLaws.{OpensEndByTouch, ReadsMayStop, Read
 ghost use Rattle.blk_kept.specs.PlainRemovals.{PlainGroupsGo, LonePartsGo, UnheldDoomsEnd, HeldDoomsEnd, PartGoneIsWithout, RemovingFindsDoomed, DoomedObjectsAreRemoved, RemovingFindsPartGone, LonePartsAreRemoved};
 ghost use Rattle.blk_kept.specs.WholeRemovals.{WholeObjectsAreRemoved, UnheldWholeDoomsEnd, WholeObjectsAreDoomed, HeldWholeDoomsEnd, WholeGroupsGo};
 ghost use Rattle.blk_kept.specs.PartlyOut.{UnheldOutDoomsEnd, OutGroupsAreGone};
+ghost use Rattle.blk_kept.specs.HeldPartlyOut.{HeldOutObjectsAreDoomed, HeldOutDoomsEnd};
+ghost use Rattle.blk_kept.specs.PartlyOutStops.{ItemsOfAKeyLeaveOthers, PartlyOutIsOut, PartlyOutFindsDoomed, NextPartsFindDoomed, UnlinkingItemsFindsDoomed, FreeingFindsDoomed, DeletingFindsDoomed, PartlyOutDoomsMayStop, PartlyOutGroupsMayStop};
+ghost use Rattle.blk_kept.specs.CountsOfParts.{GoneItemsAreLess, DoomedItemsAreLess, NextItemsAreOneLess, NewPartsAreOneMore};
 ghost use Rattle.blk_kept.specs.CreateStops.{InsertsMayStop, LinksMayStop, CreatesEndOnceCounted};
 ghost use Rattle.blk_kept.specs.StopLaws.{WhatIsLeftMayStop, OrdersMayBeLeft, UsesMayBeLeft, UsesGoOn, RoomMayBeLeft, HandlesAreNotAtRest, DoomedObjectsAreNotAtRest, UnsettledObjectsAreNotAtRest, OwnUsesKeepOthers, OthersMayBeLeftOnceUnsettled, OthersMayBeLeftWhileDoomed};
 
@@ -180,6 +183,33 @@ pub fn whole_objects_are_removed()
 pub fn objects_go_part_after_part()
     ensures unheld_dooms { UnheldOutDoomsEnd }
     ensures groups { OutGroupsAreGone }
+{}
+
+/// Where all items of an object that a handle names went out so, and its record is that of a doomed object, the state with it doomed is kept, and a Doom or a DoomKey of it ends.
+pub fn held_objects_go_part_after_part()
+    ensures doomed { HeldOutObjectsAreDoomed }
+    ensures dooms { HeldOutDoomsEnd }
+{}
+
+/// While the parts of an object go out, its main item first, what is at rest with it doomed is found, also at each word of the removal of a part, of the unlinking of an item, of a freeing and of a deletion. So a Doom or a DoomKey may be stopped there, and a request whose next group goes.
+pub fn parts_may_be_stopped_between()
+    ensures leave { ItemsOfAKeyLeaveOthers }
+    ensures out { PartlyOutIsOut }
+    ensures found { PartlyOutFindsDoomed }
+    ensures parts { NextPartsFindDoomed }
+    ensures unlinking { UnlinkingItemsFindsDoomed }
+    ensures freeing { FreeingFindsDoomed }
+    ensures deleting { DeletingFindsDoomed }
+    ensures dooms { PartlyOutDoomsMayStop }
+    ensures groups { PartlyOutGroupsMayStop }
+{}
+
+/// Items that are gone, as a group and as a doomed object with its parts, are less to be counted, with their charges; so is each that goes out in turn. A part that is made is one more.
+pub fn parts_are_counted()
+    ensures gone { GoneItemsAreLess }
+    ensures doomed { DoomedItemsAreLess }
+    ensures next { NextItemsAreOneLess }
+    ensures made { NewPartsAreOneMore }
 {}
 
 /// A Create may be stopped at each word of the insert of its node, and where its record is linked; once the counters are written too the state after it is kept.

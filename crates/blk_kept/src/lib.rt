@@ -12,18 +12,20 @@ mod commands;
 
 pub use calls::{
     allocations_come_and_go, changed_objects_are_kept, changes_are_inside, counters_are_written,
-    doomed_objects_are_kept, external_files_come_and_go, gone_items_are_unlinked,
-    gone_objects_are_unlinked, handles_are_not_kept, kept_allocations_are_few,
-    links_leave_the_rest, list_steps_are_done, new_entries_are_kept, objects_are_marked,
-    other_states_are_kept, removed_items_are_one_less, removed_items_are_unlinked,
-    states_change_in_one_object, touches_keep_states,
+    doomed_objects_are_kept, doomed_objects_are_marked, external_files_come_and_go,
+    gone_items_are_unlinked, gone_objects_are_unlinked, handles_are_not_kept,
+    kept_allocations_are_few, links_leave_the_rest, list_steps_are_done, new_entries_are_kept,
+    new_parts_are_kept, new_parts_are_shown, objects_are_marked, other_states_are_kept,
+    removed_items_are_one_less, removed_items_are_unlinked, states_change_in_one_object,
+    states_may_be_partly_out, touches_keep_states,
 };
 pub use commands::{
     calls_follow_each_other, closes_settle, commands_are_done, commands_keep_the_next_state,
     commands_of_one_call, creates_end_once_made, creates_may_be_stopped, dooms_end_once_doomed,
-    orders_may_be_left, others_may_be_left, parts_change_alone, plain_objects_are_removed,
-    reads_end_once_used, removals_may_be_stopped, requests_take_effect, rests_leave_them_out,
-    uses_may_be_stopped, writes_end_once_written,
+    held_objects_go_part_after_part, objects_go_part_after_part, orders_may_be_left,
+    others_may_be_left, parts_are_counted, parts_change_alone, parts_may_be_stopped_between,
+    plain_objects_are_removed, reads_end_once_used, removals_may_be_stopped, requests_take_effect,
+    rests_leave_them_out, uses_may_be_stopped, whole_objects_are_removed, writes_end_once_written,
 };
 
 /// What is found in a folder that keeps a state is what is at rest in it. With nothing unlinked the folder stands for the state, and it is sound where each object is live and settled.
