@@ -3,12 +3,13 @@ ghost use Rattle.std.specs.Prelude.{◌≡◌, IfOk, IfSome, IsTrue};
 ghost use Rattle.std.specs.Option.{ForSome};
 ghost use Rattle.blk_format.specs.Address.{blocks_256, kind_of};
 ghost use Rattle.blk_format.specs.Headers.{HasWholeIndex};
+ghost use Rattle.blk_disk.specs.Open.{IsOpen};
 ghost use Rattle.blk_disk.specs.Tables.{Agrees, stands_among};
 
 use crate::{find, link_front, unlink};
 use blk_addr::{Addr, Kind};
 use blk_disk::BlockFiles;
-use blk_io::{Failed, Fault, FileId, Folder, MemFolder};
+use blk_io::{Fault, FileId, Folder, MemFolder};
 use blk_record::{EntryMut, RecordMut, super_fast_hash};
 use std::alloc::Global;
 use std::test::Fail;
@@ -16,35 +17,50 @@ use std::test::Fail;
 const INDEX_LEN: u64 = 262_512;
 
 // Every block file has 36864 bytes of blocks.
-const SIZE: u64 = 45056;
-
-// The bytes of a block of each of the four files.
-const BLOCKS: [u32; 4] = [36, 256, 1024, 4096];
+const SIZE: usize = 45056;
 
 // The word of a record, and its key.
 const WORD: u32 = 0xA001_0000;
 
 const KEY: &[u8] = b"iev";
 
-// A folder with an index that names nothing, four block files without allocations, and a record that isn't linked.
-fn folder(alloc: Global) -> Result<MemFolder, Failed> {
-    let mut f = MemFolder::new(alloc);
-    f.set_len(FileId::Index, INDEX_LEN)?;
-    for (n, size) in BLOCKS.iter().enumerate() {
-        let file = FileId::Block(n as u8);
-        f.set_len(file, SIZE)?;
-        let words = [0xC104_CAC3, 0x20000, n as u32, *size, 0, 1024];
-        for (i, word) in words.iter().enumerate() {
-            f.write_at(file, 4 * i as u64, &word.to_le_bytes())?;
-        }
+// Puts these bytes in the place of those from one on.
+fn put(bytes: &mut [u8], at: usize, part: &[u8]) {
+    for (byte, new) in bytes.iter_mut().skip(at).zip(part) {
+        *byte = *new;
     }
-    let mut bytes = [0; 96];
-    let mut record = EntryMut::new(&mut bytes);
-    record.set_word(0, super_fast_hash(KEY));
-    record.set_word(32, 3);
-    record.seal();
-    f.write_at(FileId::Block(1), 8192, &bytes)?;
-    f.write_at(FileId::Block(1), 8192 + 96, KEY)?;
+}
+
+// The bytes of a block file that has blocks and no allocation.
+fn block_file(alloc: Global, number: u32, size: u32) -> Result<Vec<u8>, Fail> {
+    let mut bytes = Vec::new(alloc);
+    bytes.resize(SIZE, 0)?;
+    put(&mut bytes, 0, &0xC104_CAC3u32.to_le_bytes());
+    put(&mut bytes, 4, &0x20000u32.to_le_bytes());
+    put(&mut bytes, 8, &number.to_le_bytes());
+    put(&mut bytes, 12, &size.to_le_bytes());
+    put(&mut bytes, 20, &1024u32.to_le_bytes());
+    Ok(bytes)
+}
+
+// A folder with an index that names nothing, four block files without allocations, and a record that isn't linked.
+fn folder(alloc: Global) -> Result<MemFolder, Fail> {
+    let mut f = MemFolder::new(alloc);
+    let mut index = Vec::new(alloc);
+    index.resize(INDEX_LEN as usize, 0)?;
+    f.add_file(FileId::Index, &index)?;
+    f.add_file(FileId::Block(0), &block_file(alloc, 0, 36)?)?;
+    let mut record = [0; 96];
+    let mut head = EntryMut::new(&mut record);
+    head.set_word(0, super_fast_hash(KEY));
+    head.set_word(32, 3);
+    head.seal();
+    let mut second = block_file(alloc, 1, 256)?;
+    put(&mut second, 8192, &record);
+    put(&mut second, 8192 + 96, KEY);
+    f.add_file(FileId::Block(1), &second)?;
+    f.add_file(FileId::Block(2), &block_file(alloc, 2, 1024)?)?;
+    f.add_file(FileId::Block(3), &block_file(alloc, 3, 4096)?)?;
     Ok(f)
 }
 
@@ -58,6 +74,16 @@ fn opened<F: Folder>(f: &mut F) -> Result<Option<BlockFiles>, Fault>
     }
     let files = BlockFiles::load(f)?;
     Ok(Some(files))
+}
+
+// A folder whose block files agree, and whose index has its length, is open.
+fn is_opened<F: Folder>(f: &F, files: &BlockFiles)
+    requires complete { ForSome (F.told f.now).files HasWholeIndex }
+    requires agrees { ForSome (F.told f.now).files (Agrees files.now) }
+    ensures { ForSome (F.told f.now).files (IsOpen files.now) }
+{
+    let _f = f;
+    let _files = files;
 }
 
 // The record of a word, where it is one that stands.
@@ -81,6 +107,7 @@ fn link_and_unlink<F: Folder>(f: &mut F) -> Result<(bool, bool), Fault> {
     let Some(entry) = record_of(&files, WORD) else {
         return Ok((false, false));
     };
+    is_opened(f, &files);
     link_front(f, &files, entry)?;
     match find(f, &files, KEY, false) {
         Ok(Some(found)) => {
