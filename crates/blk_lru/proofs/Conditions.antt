@@ -1,8 +1,12 @@
 -- What the conditions of the operations say of the words that are read.
-use Rattle.std.proofs.Common.{◌≡◌, ℕ, true, List, ◌∷◌, ◌++◌, Option, None, Some, refl, sym, ap, ◌∙◌, subst}
+use Rattle.std.proofs.Common.{◌≡◌, ℕ, true, List, ◌∷◌, ◌++◌, Option, None, Some, Result, Err, refl, sym, ap, ◌∙◌, subst}
+use Rattle.std.specs.Prelude.{IsErrAnd}
 use Rattle.std.specs.Option.{ForSome}
 use Rattle.blk_image.specs.Image.{Image}
 use Rattle.blk_image.specs.Told.{Told}
+use Rattle.blk_io.specs.declared.fault.Fault.{Fault}
+use Rattle.blk_io.specs.Faults.{IfDamaged}
+use Rattle.blk_io.proofs.Carried.{carried, if_damaged_weaker}
 use Rattle.blk_volume.specs.ListView.{IsList}
 use Rattle.blk_volume.specs.View.{list_of}
 use Rattle.blk_volume.specs.ListImages.{HasListAtRest, walked}
@@ -22,6 +26,16 @@ told_before image stays there = ap (λ (t : Told). t.files) (sym stays) ∙ ther
 
 pub told_now : {a m : Told} (image : Image) → m ≡ a → a.files ≡ Some image → m.files ≡ Some image
 told_now image stays there = ap (λ (t : Told). t.files) stays ∙ there
+
+-- what a call gives only on a folder that tells nothing, behind calls that changed nothing: under its own premise, and under one that implies it
+pub untold_last : {A : Type 0} (r : Result A Fault) {a m : Told} (P Q : Image → Type 0) → ((image : Image) → P image → Q image) → m ≡ a → (ForSome m.files Q → IfDamaged r (λ _. m.files ≡ None)) → ForSome a.files P → IfDamaged r (λ _. a.files ≡ None)
+untold_last r {a} {m} P Q weaker stays untold holds =
+    if_damaged_weaker r (λ _. m.files ≡ None) (λ _. a.files ≡ None) (λ damage none. ap (λ (t : Told). t.files) (sym stays) ∙ none)
+    (untold (told_stays Q stays (λ image there. weaker image (holds image there))))
+
+-- the same where `?` hands its fault on
+pub untold_on : {A B : Type 0} (r : Result A Fault) (q : Result B Fault) (e : Fault) {a m : Told} (P Q : Image → Type 0) → ((image : Image) → P image → Q image) → m ≡ a → (ForSome m.files Q → IfDamaged r (λ _. m.files ≡ None)) → r ≡ Err e → IsErrAnd q (λ (x : Fault). x ≡ e) → ForSome a.files P → IfDamaged q (λ _. a.files ≡ None)
+untold_on r q e {a} {m} P Q weaker stays untold is same holds = carried r q e (λ _. a.files ≡ None) is same (untold_last r P Q weaker stays untold holds)
 
 -- the links of a listed node name nodes
 pub next_names : (files : BlockFiles) (image : Image) (node : ℕ) → Agrees files image → is_node_among files node ≡ true → IsListed node image → is_node_among files (link_at image node 16) ≡ true

@@ -3,6 +3,7 @@ pub mod Conditions
 pub mod Counting
 pub mod Examples
 pub mod FailedChecks
+pub mod Flights
 pub mod Kept
 pub mod LinkReads
 pub mod Listed

@@ -1,6 +1,5 @@
 -- What holds at each word of an operation, from a front of its writes.
-use Rattle.std.proofs.Common.{◌≡◌, ℕ, false, ◌+◌, ◌<◌, List, [], ◌∷◌, refl, ap, ◌∙◌}
-use Rattle.std.specs.Prelude.{◌||◌}
+use Rattle.std.proofs.Common.{◌≡◌, ℕ, false, ◌<◌, List, refl, ap, ◌∙◌}
 use Rattle.std.proofs.lemmas.Bool.{or_from}
 use Rattle.blk_image.specs.Image.{File, Index, Block, Image}
 use Rattle.blk_image.specs.Footprint.{Footprint, SameOutside, either}

@@ -5,3 +5,4 @@ pub mod Plans
 pub mod Lists
 pub mod Moments
 pub mod Completing
+pub mod Flights

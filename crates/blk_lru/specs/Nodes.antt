@@ -1,9 +1,10 @@
 -- Words that name nodes, and the checks of what is read.
-use Rattle.std.specs.Prelude.{ℕ, ◌≡◌, ◌⊎◌, ◌+◌, true, false, Option, None, Some}
+use Rattle.std.specs.Prelude.{ℕ, ◌≡◌, ◌⊎◌, ◌+◌, true, false, ◌&&◌, if◌then◌else◌, Option, None, Some}
 use Rattle.std.specs.Option.{ForSome}
-use Rattle.blk_image.specs.Image.{Block, Image, word}
+use Rattle.blk_image.specs.Image.{Block, HasRange, Image, word}
 use Rattle.blk_image.specs.Told.{Told}
 use Rattle.blk_format.specs.Address.{file_selector, place}
+use Rattle.blk_format.specs.Records.{node_checks, node_size}
 use Rattle.blk_io.specs.declared.folder.FileId.{FileId}
 use Rattle.blk_io.specs.declared.fault.Damage.{Damage}
 use Rattle.blk_io.specs.FileNames.{file_of}
@@ -11,6 +12,7 @@ use Rattle.blk_record.specs.declared.node.TheConstants.NodeView as NodeView
 use Rattle.blk_disk.specs.declared.tables.BlockFiles.{BlockFiles}
 use Rattle.blk_disk.specs.Tables.{is_node_among}
 use Rattle.blk_volume.specs.ListView.{ListView}
+use Rattle.blk_volume.specs.View.{list_of, node_at}
 use Rattle.blk_lru.specs.declared.nodes.Links.{Links}
 
 -- the word at a place of a file was to name a node, and doesn't: the damage has the place, and finds the word
@@ -31,6 +33,18 @@ link_at image node at = word image (Block (file_selector node)) (place node + at
 -- a word is 0 or names a node
 abbrev pub IsNodeOrNone : BlockFiles → ℕ → Type 0
 IsNodeOrNone files w = (w ≡ 0) ⊎ (is_node_among files w ≡ true)
+
+-- the node that a word names, if it names one, is in its file
+abbrev pub HasNode : BlockFiles → Image → ℕ → Type 0
+HasNode files image w = is_node_among files w ≡ true → HasRange image (Block (file_selector w)) (place w) node_size
+
+-- the use list of an image, where the nodes that stand are those of the block files that are kept
+unfoldable pub list_among : BlockFiles → Image → ListView
+list_among files image = record (list_of image) {
+  checks = λ w. is_node_among files w && node_checks (node_at image w);
+  next = λ w. if is_node_among files w then (node_at image w).next else 0;
+  prev = λ w. if is_node_among files w then (node_at image w).prev else 0;
+}
 
 -- a word names a node that checks, and these are the node and its links
 pub record AreLinksOf (list : ListView) (w : ℕ) (links : Links) : Type 0 where

@@ -10,7 +10,8 @@ ghost use Rattle.blk_io.specs.Faults.{IfDamaged, IfDevice};
 ghost use Rattle.blk_disk.specs.Tables.{Agrees, is_node_among};
 ghost use Rattle.blk_lru.specs.Damages.{IsCompletingDamage, IsWrongNode};
 ghost use Rattle.blk_lru.specs.Moments.{IsMidCompletion};
-ghost use Rattle.blk_lru.specs.Nodes.{AreLinksOf};
+ghost use Rattle.blk_lru.specs.Nodes.{AreLinksOf, list_among};
+ghost use Rattle.blk_lru.specs.Flights.{HasFlight, HasHead, HasNeighbours, HasNodeInFlight, HasOperands};
 ghost use Rattle.blk_lru.specs.Writes.{meant};
 ghost use Rattle.blk_lru.specs.Completing.{AreNodes, FindsInFlight, FindsNeighbours, FindsHead, FoundNeighboursStand, FoundHeadStands};
 ghost use Rattle.blk_disk.specs.Open.{IsOpen};
@@ -74,15 +75,15 @@ pub fn complete<F: Folder>(f: &mut F, files: &BlockFiles) -> Result<(), Fault>
 ///
 /// It is nothing where no operation is in flight. Nothing is written, and at most 6 folder calls are made.
 pub fn pending<F: Folder>(f: &mut F, files: &BlockFiles) -> Result<Plan, Fault>
-    requires is_open { ForSome (F.told f.old).files (IsOpen files.now) }
     ensures words { IfOk result (λ plan. AllWriteWords (map meant plan.items)) }
-    ensures plan { IfOk result (λ plan. ForSome (F.told f.old).files (λ image. map meant plan.items ≡ completion_writes (list_of image))) }
+    ensures plan { IfOk result (λ plan. ForSome (F.told f.old).files (λ image. Agrees files.now image → map meant plan.items ≡ completion_writes (list_of image))) }
     ensures stand { IfOk result (λ plan. AreOf (λ n. is_node_among files.now n ≡ true) (map meant plan.items)) }
+    ensures checked { OnOk result (ForSome (F.told f.old).files (HasFlight files.now)) }
     ensures stays { Stays (F.told f.old) (F.told f.new) }
 
-    // A folder that tells its files never gives a damage.
+    // Too few bytes, which a folder that tells its files gives only where its index is too short or the block files don't agree with it.
     ensures damaged { IfDamaged result (IsCompletingDamage files.now (F.told f.new)) }
-    ensures untold { IfDamaged result (λ _. (F.told f.old).files ≡ None) }
+    ensures untold { ForSome (F.told f.old).files (IsOpen files.now) → IfDamaged result (λ _. (F.told f.old).files ≡ None) }
 
     ensures later { F.faults f.old ≤ F.faults f.new }
     ensures device { IfDevice result (Rises (F.faults f.old) (F.faults f.new)) }
@@ -103,13 +104,13 @@ fn in_flight<F: Folder>(
     files: &BlockFiles,
     transaction: u32,
 ) -> Result<Option<InFlight>, Fault>
-    requires is_open { ForSome (F.told f.old).files (IsOpen files.now) }
-    requires transaction { ForSome (F.told f.old).files (λ image. (list_of image).transaction ≡ transaction) }
-    ensures found { IfOk result (λ found. ForSome (F.told f.old).files (λ image. FindsInFlight (list_of image) found)) }
+    requires transaction { ForSome (F.told f.old).files (λ image. (list_among files.now image).transaction ≡ transaction) }
+    ensures found { IfOk result (λ found. ForSome (F.told f.old).files (λ image. FindsInFlight (list_among files.now image) found)) }
     ensures stand { IfOk result (λ found. IfSome found (AreNodes files.now)) }
+    ensures checked { OnOk result (ForSome (F.told f.old).files (HasNodeInFlight files.now)) }
     ensures stays { Stays (F.told f.old) (F.told f.new) }
     ensures damaged { IfDamaged result (IsCompletingDamage files.now (F.told f.new)) }
-    ensures untold { IfDamaged result (λ _. (F.told f.old).files ≡ None) }
+    ensures untold { ForSome (F.told f.old).files (IsOpen files.now) → IfDamaged result (λ _. (F.told f.old).files ≡ None) }
     ensures later { F.faults f.old ≤ F.faults f.new }
     ensures device { IfDevice result (Rises (F.faults f.old) (F.faults f.new)) }
 {
@@ -127,15 +128,15 @@ fn counting<F: Folder>(
     code: u32,
     links: &Links,
 ) -> Result<Option<InFlight>, Fault>
-    requires is_open { ForSome (F.told f.old).files (IsOpen files.now) }
     requires stands { is_node_among files.now links.now.node ≡ true }
-    requires links { ForSome (F.told f.old).files (λ image. AreLinksOf (list_of image) (list_of image).transaction links.now) }
-    requires operation { ForSome (F.told f.old).files (λ image. (list_of image).operation ≡ code) }
-    ensures found { IfOk result (λ found. ForSome (F.told f.old).files (λ image. FindsInFlight (list_of image) found)) }
+    requires links { ForSome (F.told f.old).files (λ image. AreLinksOf (list_among files.now image) (list_among files.now image).transaction links.now) }
+    requires operation { ForSome (F.told f.old).files (λ image. (list_among files.now image).operation ≡ code) }
+    ensures found { IfOk result (λ found. ForSome (F.told f.old).files (λ image. FindsInFlight (list_among files.now image) found)) }
     ensures stand { IfOk result (λ found. IfSome found (AreNodes files.now)) }
+    ensures checked { OnOk result (ForSome (F.told f.old).files (HasOperands files.now)) }
     ensures stays { Stays (F.told f.old) (F.told f.new) }
     ensures damaged { IfDamaged result (IsCompletingDamage files.now (F.told f.new)) }
-    ensures untold { IfDamaged result (λ _. (F.told f.old).files ≡ None) }
+    ensures untold { ForSome (F.told f.old).files (IsOpen files.now) → IfDamaged result (λ _. (F.told f.old).files ≡ None) }
     ensures later { F.faults f.old ≤ F.faults f.new }
     ensures device { IfDevice result (Rises (F.faults f.old) (F.faults f.new)) }
 {
@@ -171,12 +172,12 @@ fn counting<F: Folder>(
 
 // The first node or none, where the head is 0 or names a node that checks.
 fn usable_head<F: Folder>(f: &mut F, files: &BlockFiles) -> Result<Usable<Option<Addr>>, Fault>
-    requires is_open { ForSome (F.told f.old).files (IsOpen files.now) }
-    ensures found { IfOk result (λ found. ForSome (F.told f.old).files (λ image. FindsHead (list_of image) found)) }
+    ensures found { IfOk result (λ found. ForSome (F.told f.old).files (λ image. FindsHead (list_among files.now image) found)) }
     ensures stand { IfOk result (FoundHeadStands files.now) }
+    ensures checked { OnOk result (ForSome (F.told f.old).files (HasHead files.now)) }
     ensures stays { Stays (F.told f.old) (F.told f.new) }
     ensures damaged { IfDamaged result (IsCompletingDamage files.now (F.told f.new)) }
-    ensures untold { IfDamaged result (λ _. (F.told f.old).files ≡ None) }
+    ensures untold { ForSome (F.told f.old).files (IsOpen files.now) → IfDamaged result (λ _. (F.told f.old).files ≡ None) }
     ensures later { F.faults f.old ≤ F.faults f.new }
     ensures device { IfDevice result (Rises (F.faults f.old) (F.faults f.new)) }
 {
@@ -196,14 +197,14 @@ fn usable_links<F: Folder>(
     files: &BlockFiles,
     links: &Links,
 ) -> Result<Usable<Option<Neighbours>>, Fault>
-    requires agrees { ForSome (F.told f.old).files (Agrees files.now) }
     requires stands { is_node_among files.now links.now.node ≡ true }
-    requires links { ForSome (F.told f.old).files (λ image. AreLinksOf (list_of image) (list_of image).transaction links.now) }
-    ensures found { IfOk result (λ found. ForSome (F.told f.old).files (λ image. FindsNeighbours (list_of image) (list_of image).transaction found)) }
+    requires links { ForSome (F.told f.old).files (λ image. AreLinksOf (list_among files.now image) (list_among files.now image).transaction links.now) }
+    ensures found { IfOk result (λ found. ForSome (F.told f.old).files (λ image. FindsNeighbours (list_among files.now image) (list_among files.now image).transaction found)) }
     ensures stand { IfOk result (FoundNeighboursStand files.now) }
+    ensures checked { OnOk result (ForSome (F.told f.old).files (λ image. HasNeighbours files.now image (list_among files.now image).transaction)) }
     ensures stays { Stays (F.told f.old) (F.told f.new) }
     ensures damaged { IfDamaged result (IsWrongNode files.now (F.told f.new)) }
-    ensures untold { IfDamaged result (λ _. (F.told f.old).files ≡ None) }
+    ensures untold { ForSome (F.told f.old).files (Agrees files.now) → IfDamaged result (λ _. (F.told f.old).files ≡ None) }
     ensures later { F.faults f.old ≤ F.faults f.new }
     ensures device { IfDevice result (Rises (F.faults f.old) (F.faults f.new)) }
 {

@@ -36,7 +36,7 @@ words_are : (g : given.Over) (c : goal.After-deref g) (P : List ListWrite → Ty
 words_are g c P holds = subst P (ap (map meant) (sym c.deref.ensures.0)) holds
 
 plan_is : (g : given.Over) (c : goal.After-deref g) → ForSome (g.F.Folder.told c.args.f.now).files (λ from. map meant c.deref.result.now ≡ completion_writes (list_of from))
-plan_is g c from there = ap (map meant) c.deref.ensures.0 ∙ c.in_ok-plan.ensures.plan from there
+plan_is g c from there = ap (map meant) c.deref.ensures.0 ∙ c.in_ok-plan.ensures.plan from there (c.requires.is_open from there).agrees
 
 pub perform-requires-clause-stand : goal.perform-requires-clause-stand
 perform-requires-clause-stand g c = words_are g c (AreOf (λ n. is_node_among c.args.files.now n ≡ true)) c.in_ok-plan.ensures.stand
