@@ -1,9 +1,9 @@
 -- What was read are the nodes of the image.
-use Rattle.std.proofs.Common.{◌≡◌, ℕ, ◌+◌, ◌*◌, ◌<◌, ◌≤◌, Bool, true, false, ◌&&◌, List, None, Some, refl, sym, ap, ◌∙◌, arith, if◌then◌else◌}
+use Rattle.std.proofs.Common.{◌≡◌, ℕ, ◌+◌, ◌*◌, ◌<◌, ◌≤◌, Bool, true, false, ◌&&◌, List, None, Some, refl, sym, ap, subst, ◌∙◌, arith, if◌then◌else◌}
 use Rattle.std.specs.Prelude.{◌==◌, nat_lt, slice_get, slice_index}
-use Rattle.std.proofs.lemmas.Bool.{eqb-true, eq-eqb}
+use Rattle.std.proofs.lemmas.Bool.{and_parts, eqb-true, eq-eqb}
 use Rattle.blk_image.specs.Bytes.{content, word_at, range_at}
-use Rattle.blk_image.specs.Image.{Block, Image, AreBytes, byte, word}
+use Rattle.blk_image.specs.Image.{Block, HasRange, Image, AreBytes, byte, word}
 use Rattle.blk_format.specs.Address.{is_address, kind_of, file_selector, first_block, rankings, external, place}
 use Rattle.blk_format.specs.Records.{checks, node_in}
 use Rattle.blk_format.specs.Sealed.{record_at}
@@ -17,11 +17,11 @@ use Rattle.std.proofs.lemmas.Bool.Decides.{nat_tests}
 use Rattle.blk_laws.proofs.updates.NodeRecords.{checks_bytes}
 use Rattle.blk_disk.proofs.SealedReads.{record_read}
 use Rattle.blk_disk.specs.declared.tables.BlockFiles.{BlockFiles}
-use Rattle.blk_disk.specs.Tables.{Agrees, stands_among, names_among}
-use Rattle.blk_lru.proofs.NodeWords.{stands_as_node, names_node, node_stands, node_place}
+use Rattle.blk_disk.specs.Tables.{Agrees, is_node_among, stands_among, names_among}
+use Rattle.blk_lru.proofs.NodeWords.{stands_as_node, names_node, node_kind, node_stands, node_place}
 use Rattle.blk_audit.specs.Filling.{said_by}
 use Rattle.blk_audit.specs.Filled.{IsFilled}
-use Rattle.blk_audit.specs.Nodes.{node_of, node_at, said_at, AreNodesOf}
+use Rattle.blk_audit.specs.Nodes.{node_of, node_at, said_at, AreNodesOf, HasNodes}
 use Rattle.blk_audit.specs.Walking.{IsNodeWord}
 use Rattle.blk_audit.specs.declared.nodes.Node.{Node}
 use Rattle.blk_audit.specs.declared.nodes.Nodes.{Nodes}
@@ -59,6 +59,27 @@ module _ (image : Image) (w : ℕ) (small : AreBytes image) (kind : kind_of w �
       same_fields (said_by bytes) (said_at image w)
       (sym (checks_bytes image w small kind ∙ ap (checks 32) (sym bytes_are)))
       (word_is 16 (omega arith)) (word_is 20 (omega arith)) (word_is 24 (omega arith)) (word_is 28 (omega arith))
+
+-- a node's word is an address
+address_of : (files : BlockFiles) (w : ℕ) → is_node_among files w ≡ true → is_address w ≡ true
+unfolding names_among
+address_of files w is = (and_parts (is_address w) ((kind_of w == rankings) && stands_among files w) is).0
+
+-- each node that stands was read from its place
+pub each_there : (files : BlockFiles) (image : Image) (nodes : Nodes) → ((n : ℕ) → n < 256 → IsFilled files image nodes n) → HasNodes files image
+each_there files image nodes filled w is =
+    let kind = node_kind files w is in
+    let of_file = filled (file_selector w) (AreFields-of w).file in
+    let blocky : (kind_of w == external) ≡ false = rw kind refl in
+    let counted : nat_lt (first_block w) (slice_index nodes.counts (file_selector w)) ≡ true = sym (of_file.count (first_block w) (AreFields-of w).start) ∙ ap (stands_among files) (node_word w (word_of w is)) ∙ node_stands files w is in
+    subst (λ (p : ℕ). HasRange image (Block (file_selector w)) p 36) (node_place w (first_block w) kind (sym (ap (λ (t : Bool). if t then 0 else first_block w) blocky)))
+    (of_file.there (first_block w) (lt_by (first_block w) (slice_index nodes.counts (file_selector w)) counted))
+  where
+    word_of : (w : ℕ) → is_node_among files w ≡ true → IsNodeWord w
+    word_of w is = record { address = address_of files w is; kind = node_kind files w is }
+
+    lt_by : (a b : ℕ) → nat_lt a b ≡ true → a < b
+    lt_by a b e = grind (arith, nat_tests)
 
 module _ (files : BlockFiles) (image : Image) (nodes : Nodes) (agrees : Agrees files image) (small : AreBytes image) (filled : (n : ℕ) → n < 256 → IsFilled files image nodes n) where
   no_address : (w : ℕ) → is_address w ≡ false → stands_as image rankings w ≡ false

@@ -1,8 +1,8 @@
 -- Faults that `?` hands on, and reads that can't give too few bytes.
-use Rattle.std.proofs.Common.{◌≡◌, ℕ, ◌+◌, ◌≤◌, None, Result, Ok, Err, sym, subst}
+use Rattle.std.proofs.Common.{◌≡◌, ℕ, ◌+◌, ◌≤◌, None, Result, Ok, Err, ap, sym, subst, ◌∙◌}
 use Rattle.std.specs.Prelude.{IsErrAnd}
 use Rattle.std.specs.Option.{ForSome}
-use Rattle.blk_image.specs.Image.{length_of}
+use Rattle.blk_image.specs.Image.{Image, length_of}
 use Rattle.blk_image.specs.Told.{Told}
 use Rattle.blk_io.specs.declared.folder.FileId.{FileId}
 use Rattle.blk_io.specs.declared.fault.Damage.{Damage}
@@ -11,6 +11,7 @@ use Rattle.blk_io.specs.declared.fault.Fault.TheVariants as fault
 use Rattle.blk_io.specs.FileNames.{file_of}
 use Rattle.blk_io.specs.Faults.{IfDamaged, IsShort}
 use Rattle.blk_io.proofs.Shorts.{untold_if}
+use Rattle.blk_lru.proofs.Conditions as conditions
 use Rattle.blk_audit.specs.declared.fault.ScanFault.{ScanFault}
 use Rattle.blk_audit.specs.declared.fault.ScanFault.TheVariants.{Device, Damaged, Memory}
 use Rattle.blk_audit.specs.Faults.{IfScanDamaged, scan_fault}
@@ -48,3 +49,17 @@ weaker {A} (Err Memory) P Q by holds = tt
 -- where the file has what was asked, only a folder that tells nothing gives too few bytes
 pub untold_piece : {A : Type 0} (r : Result A Fault) (old new : Told) (file : FileId) (place count : ℕ) → new ≡ old → IfDamaged r (IsShort old file place count) → ForSome new.files (λ image. place + count ≤ length_of image (file_of file)) → IfDamaged r (λ _. new.files ≡ None)
 untold_piece r old new file place count stays short inside = untold_if r new file place count (subst (λ (t : Told). IfDamaged r (IsShort t file place count)) (sym stays) short) inside
+
+-- what a call gives only on a folder that tells nothing, behind calls that changed nothing: under its own premise, and under one that implies it
+pub untold_last : {A : Type 0} (r : Result A ScanFault) {a m : Told} (P Q : Image → Type 0) → ((image : Image) → P image → Q image) → m ≡ a → (ForSome m.files Q → IfScanDamaged r (λ _. m.files ≡ None)) → ForSome a.files P → IfScanDamaged r (λ _. a.files ≡ None)
+untold_last r {a} {m} P Q stronger stays untold holds =
+    weaker r (λ _. m.files ≡ None) (λ _. a.files ≡ None) (λ damage none. ap (λ (t : Told). t.files) (sym stays) ∙ none)
+    (untold (conditions.told_stays Q stays (λ image there. stronger image (holds image there))))
+
+-- the same where `?` hands its fault on
+pub untold_on : {A B : Type 0} (r : Result A ScanFault) (q : Result B ScanFault) (e : ScanFault) {a m : Told} (P Q : Image → Type 0) → ((image : Image) → P image → Q image) → m ≡ a → (ForSome m.files Q → IfScanDamaged r (λ _. m.files ≡ None)) → r ≡ Err e → IsErrAnd q (λ (x : ScanFault). x ≡ e) → ForSome a.files P → IfScanDamaged q (λ _. a.files ≡ None)
+untold_on r q e {a} {m} P Q stronger stays untold is same holds = carried r q e (λ _. a.files ≡ None) is same (untold_last r P Q stronger stays untold holds)
+
+-- and of a call on a folder
+pub untold_converted : {A B : Type 0} (r : Result A Fault) (q : Result B ScanFault) (e : Fault) {a m : Told} (P Q : Image → Type 0) → ((image : Image) → P image → Q image) → m ≡ a → (ForSome m.files Q → IfDamaged r (λ _. m.files ≡ None)) → r ≡ Err e → IsErrAnd q (λ (x : ScanFault). x ≡ scan_fault e) → ForSome a.files P → IfScanDamaged q (λ _. a.files ≡ None)
+untold_converted r q e {a} {m} P Q stronger stays untold is same holds = converted r q e (λ _. a.files ≡ None) is same (conditions.untold_last r P Q stronger stays untold holds)

@@ -34,11 +34,11 @@ whole : (w : ℕ) → file_and_block w ≡ file_selector w * 65536 + first_block
 unfolding file_selector first_block
 whole w = omega arith
 
-file_by : (w v : ℕ) → file_and_block w ≡ file_and_block v → file_selector v ≡ file_selector w
+pub file_by : (w v : ℕ) → file_and_block w ≡ file_and_block v → file_selector v ≡ file_selector w
 unfolding file_selector
 file_by w v e = omega (arith, e)
 
-block_by : (w v : ℕ) → file_and_block w ≡ file_and_block v → first_block v ≡ first_block w
+pub block_by : (w v : ℕ) → file_and_block w ≡ file_and_block v → first_block v ≡ first_block w
 unfolding first_block
 block_by w v e = omega (arith, e)
 

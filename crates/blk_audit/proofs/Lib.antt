@@ -9,6 +9,7 @@ pub mod MetNodes
 pub mod Truths
 pub mod Walks
 pub mod Completed
+pub mod ReadChains
 pub mod Shown
 pub mod Chained
 pub mod FirstBlocks

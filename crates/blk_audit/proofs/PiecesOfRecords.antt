@@ -36,7 +36,7 @@ block_room n b file block =
     let are = fields n b file block in
     rw (kind_of-block_word 2 n b 1 are, block_count-block_word 2 n b 1 are) refl
 
-record_place : (w : ℕ) → kind_of w ≡ blocks_256 → place w ≡ 8192 + first_block w * 256
+pub record_place : (w : ℕ) → kind_of w ≡ blocks_256 → place w ≡ 8192 + first_block w * 256
 unfolding place block_place block_size
 record_place w kind = rw kind refl
 
@@ -49,10 +49,18 @@ same_entry image w kind =
     let at : place (first_of w) ≡ place w = block_at (file_selector w) (first_block w) small.file small.start ∙ sym (record_place w kind) in
     ap₂ (λ (f p : ℕ). entry_in (byte image (Block f)) p) file at
 
+first_there : (image : Image) (w : ℕ) → kind_of w ≡ blocks_256 → HasRange image (Block (file_selector (first_of w))) (place (first_of w)) 96 → HasRange image (Block (file_selector w)) (place w) 96
+first_there image w kind there =
+    let small = AreFields-of w in
+    let are = fields (file_selector w) (first_block w) small.file small.start in
+    let file = file_selector-block_word 2 (file_selector w) (first_block w) 1 are in
+    let at : place (first_of w) ≡ place w = block_at (file_selector w) (first_block w) small.file small.start ∙ sym (record_place w kind) in
+    subst (λ (f : ℕ). HasRange image (Block f) (place w) 96) file (subst (λ (p : ℕ). HasRange image (Block (file_selector (first_of w))) p 96) at there)
+
 pub of_first : (image : Image) (w : ℕ) (said : Entry) → kind_of w ≡ blocks_256 → IsEntryOf image (first_of w) said → IsEntryOf image w said
 of_first image w said kind is =
     let same = same_entry image w kind in
-    record { checks = is.checks ∙ ap entry_checks same; hash = is.hash ∙ ap (λ (e : formats.Entry). e.hash) same; next = is.next ∙ ap (λ (e : formats.Entry). e.next) same }
+    record { checks = is.checks ∙ ap entry_checks same; hash = is.hash ∙ ap (λ (e : formats.Entry). e.hash) same; next = is.next ∙ ap (λ (e : formats.Entry). e.next) same; there = first_there image w kind is.there }
 
 -- one of the records that were read
 pub listed : (image : Image) (records : Records) (i : ℕ) (p : Placed) → AreRecordsOf image records → slice_get records.placed.items i ≡ Some p → IsEntryOf image p.first p.entry
@@ -67,13 +75,14 @@ window_is f p i bytes below is =
     ∙ ap (take 96) (drop-range (256 * i) (32768 - 256 * i) p f)
     ∙ take-range 96 (32768 - 256 * i) (p + 256 * i) f (omega (arith, below))
 
-pub said_block : (image : Image) (n b at : ℕ) (window : List ℕ) → n < 256 → b < 65536 → at ≡ 8192 + b * 256 → AreBytes image → window ≡ range_at (byte image (Block n)) at 96 → IsEntryOf image (block_word 2 n b 1) (entry_said window)
-said_block image n b at window file block there small is =
+pub said_block : (image : Image) (n b at : ℕ) (window : List ℕ) → n < 256 → b < 65536 → at ≡ 8192 + b * 256 → AreBytes image → HasRange image (Block n) at 96 → window ≡ range_at (byte image (Block n)) at 96 → IsEntryOf image (block_word 2 n b 1) (entry_said window)
+said_block image n b at window file block there small inside is =
     let are = fields n b file block in
     let here = block_at n b file block in
     let place_is : at ≡ place (block_word 2 n b 1) + 0 = omega (arith, there, here) in
     said_is image (block_word 2 n b 1) small (kind_of-block_word 2 n b 1 are) window
     (is ∙ ap₂ (λ (f p : ℕ). range_at (byte image (Block f)) p 96) (sym (file_selector-block_word 2 n b 1 are)) place_is)
+    (subst (λ (f : ℕ). HasRange image (Block f) (place (block_word 2 n b 1)) 96) (sym (file_selector-block_word 2 n b 1 are)) (subst (λ (p : ℕ). HasRange image (Block n) p 96) (there ∙ sym here) inside))
 
 -- a piece lies in its file where its last block stands
 pub piece_there : (files : BlockFiles) (image : Image) (n first : ℕ) → Agrees files image → n < 256 → first + 128 ≤ 65536 → stands_among files (block_word 2 n (first + 128 - 1) 1) ≡ true → HasRange image (Block n) (8192 + first * 256) 32768

@@ -3,7 +3,7 @@ use Rattle.std.proofs.Common.{◌≡◌, ℕ, ◌+◌, ◌%◌, ◌≤◌, Bool,
 use Rattle.std.specs.Prelude.{◌==◌}
 use Rattle.std.proofs.lemmas.Bool.{eqb-true, eq-eqb}
 use Rattle.blk_image.specs.Bytes.{content, word_at, range_at}
-use Rattle.blk_image.specs.Image.{Block, Image, Index, AreBytes, byte, word, has_file, External}
+use Rattle.blk_image.specs.Image.{Block, HasRange, Image, Index, AreBytes, byte, word, has_file, External}
 use Rattle.blk_image.specs.Told.{Told}
 use Rattle.blk_format.specs.Address.{byte_size, is_address, kind_of, file_selector, external, external_number, blocks_256, place}
 use Rattle.blk_format.specs.BlockFiles.{is_among, stands_in_blocks}
@@ -67,15 +67,16 @@ module _ (image : Image) (w : ℕ) (small : AreBytes image) (kind : kind_of w �
   word_is bytes q are inside = ap (λ (b : List ℕ). word_at (content b) q) are ∙ record_word image w q (let size = entry_bytes w kind in omega (arith, size, inside))
 
   -- the bytes that are read say what the record says
-  pub said_is : (bytes : List ℕ) → bytes ≡ range_at (byte image (Block (file_selector w))) (place w + 0) 96 → IsEntryOf image w (entry_said bytes)
+  pub said_is : (bytes : List ℕ) → bytes ≡ range_at (byte image (Block (file_selector w))) (place w + 0) 96 → HasRange image (Block (file_selector w)) (place w) 96 → IsEntryOf image w (entry_said bytes)
   unfolding entry_in
-  said_is bytes is =
+  said_is bytes is inside =
       let are : bytes ≡ record_at image w = record_read image w 96 bytes (sym (entry_bytes w kind)) is in
       let here : place w + 0 ≡ place w = omega arith in
       record {
         checks = ap (checks 92) are ∙ sym checks_is;
         hash = word_is bytes 0 are (omega arith) ∙ ap (word_at (byte image (Block (file_selector w)))) here;
         next = word_is bytes 4 are (omega arith);
+        there = inside;
       }
 
 -- What is shown of a word.

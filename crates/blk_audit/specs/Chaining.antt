@@ -1,12 +1,16 @@
 -- Chains as they are followed, bucket after bucket.
-use Rattle.std.specs.Prelude.{ℕ, zero, suc, ◌<◌, ◌≡◌, Bool, true, List, [], ◌∷◌, ◌++◌, map}
+use Rattle.std.specs.Prelude.{ℕ, zero, suc, ◌*◌, ◌<◌, ◌≡◌, Bool, true, List, [], ◌∷◌, ◌++◌, length, map}
 use Rattle.std.specs.declared.option.Option.{Option}
 use Rattle.std.specs.declared.option.Option.TheVariants.{None, Some}
 use Rattle.blk_addr.specs.Claims.{IsClaimsOf}
-use Rattle.blk_format.specs.Address.{file_selector, first_block, block_word, blocks_256}
+use Rattle.blk_image.specs.Image.{Block, HasRange, Image, Index, byte}
+use Rattle.blk_format.specs.Address.{file_selector, first_block, block_word, blocks_256, place}
+use Rattle.blk_format.specs.Headers.{bucket_of, place_of_bucket, table_length}
 use Rattle.blk_format.specs.BlockFiles.{is_among}
-use Rattle.blk_volume.specs.View.{StoreView}
-use Rattle.blk_volume.specs.Chains.{chain, chain_from, file_and_block, is_of_bucket}
+use Rattle.blk_volume.specs.View.{StoreView, entry_at}
+use Rattle.blk_volume.specs.Chains.{chain, chain_from, file_and_block, is_of_bucket, most_records}
+use Rattle.blk_disk.specs.declared.tables.BlockFiles.{BlockFiles}
+use Rattle.blk_disk.specs.Tables.{is_record_among}
 use Rattle.blk_audit.specs.declared.reaching.Reached.{Reached}
 
 -- the records that the chains of the first n buckets reach, chain after chain
@@ -46,3 +50,40 @@ IsReach store bucket old w new None = (most : ℕ) → new ≡ old ++ (chain_fro
 IsReach store bucket old w new (Some next) =
     (new ≡ old ++ w ∷ [])
     × ((most : ℕ) → (chain_from store bucket (suc most) (map file_and_block old) w).reached ≡ w ∷ (chain_from store bucket most (map file_and_block new) next).reached)
+
+-- the record that a word names, if it names one, is in its file
+abbrev pub HasEntry : BlockFiles → Image → ℕ → Type 0
+HasEntry files image w = is_record_among files w ≡ true → HasRange image (Block (file_selector w)) (place w) 96
+
+-- a word that chains come to was looked at, where they reach fewer records than there are blocks
+abbrev pub IsLookedAt : BlockFiles → Image → List ℕ → ℕ → Type 0
+IsLookedAt files image words w = length words < most_records → HasEntry files image w
+
+-- a reached record stands among the block files, and its bytes are there
+pub record IsReachedThere (files : BlockFiles) (image : Image) (w : ℕ) : Type 0 where
+  pub named : is_record_among files w ≡ true
+  pub there : HasRange image (Block (file_selector w)) (place w) 96
+
+-- all of these are so
+abbrev pub AreReachedThere : BlockFiles → Image → List ℕ → Type 0
+AreReachedThere files image words = (w : ℕ) → is_among words w ≡ true → IsReachedThere files image w
+
+-- the reached records are there, and their next words were looked at
+pub record HasRecords (files : BlockFiles) (image : Image) (words : List ℕ) : Type 0 where
+  pub each : AreReachedThere files image words
+  pub next : (w : ℕ) → is_among words w ≡ true → IsLookedAt files image words (entry_at image w).next
+
+-- what is read of the first n chains is there, where they reach these records
+pub record HasFirst (files : BlockFiles) (image : Image) (words : List ℕ) (n : ℕ) : Type 0 where
+  pub records : HasRecords files image words
+  pub first : (b : ℕ) → b < n → IsLookedAt files image words (bucket_of (byte image Index) b)
+
+-- what is read of all chains is there: the table, the records that it names, and those behind them
+pub record HasChains (files : BlockFiles) (image : Image) (words : List ℕ) : Type 0 where
+  pub table : HasRange image Index (place_of_bucket 0) (4 * table_length)
+  pub chains : HasFirst files image words table_length
+
+-- a step of a chain adds nothing, or the record of the word, and gives its next
+abbrev pub IsTaken : BlockFiles → Image → List ℕ → ℕ → List ℕ → Option ℕ → Type 0
+IsTaken files image old w new None = new ≡ old
+IsTaken files image old w new (Some next) = (new ≡ old ++ w ∷ []) × ((next ≡ (entry_at image w).next) × IsReachedThere files image w)

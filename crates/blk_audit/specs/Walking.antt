@@ -2,16 +2,20 @@
 use Rattle.std.specs.Prelude.{ℕ, suc, ◌≡◌, Bool, true, false, List, [], ◌∷◌, ◌++◌}
 use Rattle.std.specs.declared.option.Option.{Option}
 use Rattle.std.specs.declared.option.Option.TheVariants.{None, Some}
+use Rattle.blk_image.specs.Image.{HasRange, Image, Index}
 use Rattle.blk_addr.specs.Claims.{IsClaimsOf}
 use Rattle.blk_format.specs.Address.{is_address, kind_of, rankings}
 use Rattle.blk_format.specs.BlockFiles.{is_among}
 use Rattle.blk_volume.specs.ListView.{ListView}
 use Rattle.blk_volume.specs.Walk.{walk_from}
+use Rattle.blk_record.specs.declared.index_head.TheConstants.IndexHead as IndexHead
+use Rattle.blk_disk.specs.declared.tables.BlockFiles.{BlockFiles}
+use Rattle.blk_lru.specs.Flights.{HasFlight}
 use Rattle.blk_audit.specs.declared.list_walk.Walked.{Walked}
 use Rattle.blk_audit.specs.declared.list_walk.Link.{Link}
 use Rattle.blk_audit.specs.declared.list_walk.Standing.{Standing}
 use Rattle.blk_audit.specs.declared.nodes.Nodes.{Nodes}
-use Rattle.blk_audit.specs.Nodes.{node_at}
+use Rattle.blk_audit.specs.Nodes.{HasNodes, node_at}
 
 -- the walked nodes, in order
 abbrev pub nodes_of : Walked → List ℕ
@@ -44,3 +48,13 @@ pub record IsStanding (nodes : Nodes) (w : ℕ) (found : Standing) : Type 0 wher
 abbrev pub IsAdded : List ℕ → ℕ → List ℕ → Bool → Type 0
 IsAdded old node new true = (is_among old node ≡ false) × (new ≡ old ++ node ∷ [])
 IsAdded old node new false = (is_among old node ≡ true) × (new ≡ old)
+
+-- the ends of the use list that are read are there: the word of the head, and what completing reads
+pub record HasEnds (files : BlockFiles) (image : Image) : Type 0 where
+  pub head : HasRange image Index IndexHead.HEADS 4
+  pub flight : HasFlight files image
+
+-- what is read of the use list is there: the nodes that stand, and its ends
+pub record HasUseList (files : BlockFiles) (image : Image) : Type 0 where
+  pub nodes : HasNodes files image
+  pub ends : HasEnds files image

@@ -56,6 +56,7 @@ fn read_piece<F: Folder>(
     requires few { count ≤ 1024 }
     requires size { length bytes.old ≡ 36 * count }
     ensures nodes { OnOk result (ForSome (F.told f.old).files (λ image. nodes.new.items ≡ nodes.old.items ++ nodes_from (byte image (block file)) (8192 + first * 36) count)) }
+    ensures checked { OnOk result (ForSome (F.told f.old).files (λ image. 0 < count → HasRange image (block file) (8192 + first * 36) (36 * count))) }
     ensures stays { Stays (F.told f.old) (F.told f.new) }
     ensures damaged { IfScanDamaged result (IsShortOfNodes (F.told f.new) file) }
     ensures untold { ForSome (F.told f.new).files (λ image. HasRange image (block file) (8192 + first * 36) (36 * count)) → IfScanDamaged result (λ _. (F.told f.new).files ≡ None) }
@@ -77,6 +78,7 @@ pub(crate) fn read_file<F: Folder>(
 ) -> Result<(), ScanFault>
     requires few { count ≤ 65536 }
     ensures nodes { OnOk result (ForSome (F.told f.old).files (λ image. nodes.new.items ≡ nodes.old.items ++ nodes_from (byte image (block file)) 8192 count)) }
+    ensures checked { OnOk result (ForSome (F.told f.old).files (λ image. 0 < count → HasRange image (block file) 8192 (36 * count))) }
     ensures stays { Stays (F.told f.old) (F.told f.new) }
     ensures damaged { IfScanDamaged result (IsShortOfNodes (F.told f.new) file) }
     ensures untold { ForSome (F.told f.new).files (λ image. 0 < count → HasRange image (block file) 8192 (36 * count)) → IfScanDamaged result (λ _. (F.told f.new).files ≡ None) }

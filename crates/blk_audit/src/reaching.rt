@@ -1,9 +1,10 @@
 // The chains of the table.
 ghost use Rattle.std.specs.Prelude.{◌≡◌, ◌<◌, ◌≤◌, ◌+◌, ◌++◌, [], ◌∷◌, IfOk, OnOk, None, false, length, slice_get};
 ghost use Rattle.std.specs.Option.{ForSome};
+ghost use Rattle.blk_image.specs.Image.{HasRange, Index as index};
 ghost use Rattle.blk_image.specs.Told.{Rises, Stays};
 ghost use Rattle.blk_format.specs.Address.{blocks_256, kind_of};
-ghost use Rattle.blk_format.specs.Headers.{HasWholeIndex, table_length};
+ghost use Rattle.blk_format.specs.Headers.{place_of_bucket, table_length};
 ghost use Rattle.blk_volume.specs.View.{store_of};
 ghost use Rattle.blk_volume.specs.Chains.{chain_from, most_records};
 ghost use Rattle.blk_disk.specs.Open.{IsOpen};
@@ -11,7 +12,7 @@ ghost use Rattle.blk_disk.specs.Tables.{Agrees};
 ghost use Rattle.blk_index.specs.Table.{AreBuckets};
 ghost use Rattle.blk_audit.specs.Faults.{IfScanDamaged, IfScanDevice, IsChainsDamage, IsRecordDamage};
 ghost use Rattle.blk_audit.specs.Records.{AreRecordsOf};
-ghost use Rattle.blk_audit.specs.Chaining.{AreOfFirst, AreReached, IsReach, is_met, reached_by, words_of};
+ghost use Rattle.blk_audit.specs.Chaining.{AreOfFirst, AreReached, AreReachedThere, HasChains, HasEntry, HasFirst, HasRecords, IsLookedAt, IsReach, IsTaken, is_met, reached_by, words_of};
 
 use crate::fault::ScanFault;
 use crate::record_files::{Records, read_records, record_of};
@@ -101,14 +102,14 @@ pub fn chains<F: Folder>(
     files: &BlockFiles,
     named: &Claims,
 ) -> Result<Reached, ScanFault>
-    requires is_open { ForSome (F.told f.old).files (IsOpen files.now) }
-    ensures reached { IfOk result (λ reached. ForSome (F.told f.old).files (λ image. words_of reached ≡ reached_by (store_of image) table_length)) }
+    ensures reached { IfOk result (λ reached. ForSome (F.told f.old).files (λ image. Agrees files.now image → words_of reached ≡ reached_by (store_of image) table_length)) }
     ensures met { IfOk result AreReached }
+    ensures checked { IfOk result (λ reached. ForSome (F.told f.old).files (λ image. HasChains files.now image (words_of reached))) }
     ensures stays { Stays (F.told f.old) (F.told f.new) }
 
-    // A folder that tells its files never gives a damage.
+    // A folder that tells its files gives a damage only where its index is too short or the block files don't agree with it.
     ensures damaged { IfScanDamaged result (IsChainsDamage files.now (F.told f.new)) }
-    ensures untold { IfScanDamaged result (λ _. (F.told f.old).files ≡ None) }
+    ensures untold { ForSome (F.told f.old).files (IsOpen files.now) → IfScanDamaged result (λ _. (F.told f.old).files ≡ None) }
 
     ensures later { F.faults f.old ≤ F.faults f.new }
     ensures device { IfScanDevice result (Rises (F.faults f.old) (F.faults f.new)) }
@@ -131,16 +132,17 @@ fn follow_piece<F: Folder>(
     reached: &mut Reached,
 ) -> Result<(), ScanFault>
     requires inside { first + 1024 ≤ table_length }
-    requires complete { ForSome (F.told f.old).files HasWholeIndex }
-    requires agrees { ForSome (F.told f.old).files (Agrees files.now) }
     requires records { ForSome (F.told f.old).files (λ image. AreRecordsOf image records.now) }
     requires met { AreReached reached.old }
-    requires before { ForSome (F.told f.old).files (λ image. words_of reached.old ≡ reached_by (store_of image) first) }
+    requires there { ForSome (F.told f.old).files (λ image. HasFirst files.now image (words_of reached.old) first) }
+    requires before { ForSome (F.told f.old).files (λ image. Agrees files.now image → words_of reached.old ≡ reached_by (store_of image) first) }
     ensures met { OnOk result (AreReached reached.new) }
-    ensures reached { OnOk result (ForSome (F.told f.old).files (λ image. words_of reached.new ≡ reached_by (store_of image) (first + 1024))) }
+    ensures checked { OnOk result (ForSome (F.told f.old).files (λ image. HasFirst files.now image (words_of reached.new) (first + 1024))) }
+    ensures table { OnOk result (ForSome (F.told f.old).files (λ image. HasRange image index (place_of_bucket first) 4096)) }
+    ensures reached { OnOk result (ForSome (F.told f.old).files (λ image. Agrees files.now image → words_of reached.new ≡ reached_by (store_of image) (first + 1024))) }
     ensures stays { Stays (F.told f.old) (F.told f.new) }
     ensures damaged { IfScanDamaged result (IsChainsDamage files.now (F.told f.new)) }
-    ensures untold { IfScanDamaged result (λ _. (F.told f.new).files ≡ None) }
+    ensures untold { ForSome (F.told f.new).files (IsOpen files.now) → IfScanDamaged result (λ _. (F.told f.new).files ≡ None) }
     ensures later { F.faults f.old ≤ F.faults f.new }
     ensures device { IfScanDevice result (Rises (F.faults f.old) (F.faults f.new)) }
 {
@@ -160,16 +162,17 @@ fn follow_all<F: Folder>(
     reached: &mut Reached,
 ) -> Result<(), ScanFault>
     requires inside { first + length table.now ≤ table_length }
-    requires agrees { ForSome (F.told f.old).files (Agrees files.now) }
     requires records { ForSome (F.told f.old).files (λ image. AreRecordsOf image records.now) }
     requires words { ForSome (F.told f.old).files (λ image. AreBuckets image first table.now) }
     requires met { AreReached reached.old }
-    requires before { ForSome (F.told f.old).files (λ image. words_of reached.old ≡ reached_by (store_of image) first) }
+    requires there { ForSome (F.told f.old).files (λ image. HasFirst files.now image (words_of reached.old) first) }
+    requires before { ForSome (F.told f.old).files (λ image. Agrees files.now image → words_of reached.old ≡ reached_by (store_of image) first) }
     ensures met { OnOk result (AreReached reached.new) }
-    ensures reached { OnOk result (ForSome (F.told f.old).files (λ image. words_of reached.new ≡ reached_by (store_of image) (first + length table.now))) }
+    ensures checked { OnOk result (ForSome (F.told f.old).files (λ image. HasFirst files.now image (words_of reached.new) (first + length table.now))) }
+    ensures reached { OnOk result (ForSome (F.told f.old).files (λ image. Agrees files.now image → words_of reached.new ≡ reached_by (store_of image) (first + length table.now))) }
     ensures stays { Stays (F.told f.old) (F.told f.new) }
     ensures damaged { IfScanDamaged result (IsRecordDamage files.now (F.told f.new)) }
-    ensures untold { IfScanDamaged result (λ _. (F.told f.new).files ≡ None) }
+    ensures untold { ForSome (F.told f.new).files (Agrees files.now) → IfScanDamaged result (λ _. (F.told f.new).files ≡ None) }
     ensures later { F.faults f.old ≤ F.faults f.new }
     ensures device { IfScanDevice result (Rises (F.faults f.old) (F.faults f.new)) }
 {
@@ -191,15 +194,18 @@ fn follow<F: Folder>(
     reached: &mut Reached,
 ) -> Result<(), ScanFault>
     requires bucket { bucket < table_length }
-    requires agrees { ForSome (F.told f.old).files (Agrees files.now) }
     requires records { ForSome (F.told f.old).files (λ image. AreRecordsOf image records.now) }
     requires met { AreReached reached.old }
-    requires others { ForSome (F.told f.old).files (λ image. AreOfFirst (store_of image) bucket (words_of reached.old)) }
+    requires there { ForSome (F.told f.old).files (λ image. HasRecords files.now image (words_of reached.old)) }
+    requires others { ForSome (F.told f.old).files (λ image. Agrees files.now image → AreOfFirst (store_of image) bucket (words_of reached.old)) }
     ensures met { OnOk result (AreReached reached.new) }
-    ensures reached { OnOk result (ForSome (F.told f.old).files (λ image. words_of reached.new ≡ words_of reached.old ++ (chain_from (store_of image) bucket most_records [] start).reached)) }
+    ensures checked { OnOk result (ForSome (F.told f.old).files (λ image. HasRecords files.now image (words_of reached.new))) }
+    ensures looked { OnOk result (ForSome (F.told f.old).files (λ image. IsLookedAt files.now image (words_of reached.new) start)) }
+    ensures more { OnOk result (ForSome (F.told f.old).files (λ image. length (words_of reached.old) ≤ length (words_of reached.new))) }
+    ensures reached { OnOk result (ForSome (F.told f.old).files (λ image. Agrees files.now image → words_of reached.new ≡ words_of reached.old ++ (chain_from (store_of image) bucket most_records [] start).reached)) }
     ensures stays { Stays (F.told f.old) (F.told f.new) }
     ensures damaged { IfScanDamaged result (IsRecordDamage files.now (F.told f.new)) }
-    ensures untold { IfScanDamaged result (λ _. (F.told f.new).files ≡ None) }
+    ensures untold { ForSome (F.told f.new).files (Agrees files.now) → IfScanDamaged result (λ _. (F.told f.new).files ≡ None) }
     ensures later { F.faults f.old ≤ F.faults f.new }
     ensures device { IfScanDevice result (Rises (F.faults f.old) (F.faults f.new)) }
 {
@@ -224,14 +230,16 @@ fn reach<F: Folder>(
     word: u32,
 ) -> Result<Option<u32>, ScanFault>
     requires bucket { bucket < table_length }
-    requires agrees { ForSome (F.told f.old).files (Agrees files.now) }
     requires records { ForSome (F.told f.old).files (λ image. AreRecordsOf image records.now) }
     requires met { AreReached reached.old }
+    requires there { ForSome (F.told f.old).files (λ image. AreReachedThere files.now image (words_of reached.old)) }
     ensures met { OnOk result (AreReached reached.new) }
-    ensures step { IfOk result (λ next. ForSome (F.told f.old).files (λ image. IsReach (store_of image) bucket (words_of reached.old) word (words_of reached.new) next)) }
+    ensures checked { OnOk result (ForSome (F.told f.old).files (λ image. HasEntry files.now image word)) }
+    ensures taken { IfOk result (λ next. ForSome (F.told f.old).files (λ image. IsTaken files.now image (words_of reached.old) word (words_of reached.new) next)) }
+    ensures step { IfOk result (λ next. ForSome (F.told f.old).files (λ image. Agrees files.now image → IsReach (store_of image) bucket (words_of reached.old) word (words_of reached.new) next)) }
     ensures stays { Stays (F.told f.old) (F.told f.new) }
     ensures damaged { IfScanDamaged result (IsRecordDamage files.now (F.told f.new)) }
-    ensures untold { IfScanDamaged result (λ _. (F.told f.new).files ≡ None) }
+    ensures untold { ForSome (F.told f.new).files (Agrees files.now) → IfScanDamaged result (λ _. (F.told f.new).files ≡ None) }
     ensures later { F.faults f.old ≤ F.faults f.new }
     ensures device { IfScanDevice result (Rises (F.faults f.old) (F.faults f.new)) }
 {

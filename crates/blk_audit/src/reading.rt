@@ -1,10 +1,10 @@
 // All nodes of a folder.
-ghost use Rattle.std.specs.Prelude.{◌≡◌, ◌≤◌, None, IfOk};
+ghost use Rattle.std.specs.Prelude.{◌≡◌, ◌≤◌, None, IfOk, OnOk};
 ghost use Rattle.std.specs.Option.{ForSome};
 ghost use Rattle.blk_image.specs.Told.{Rises, Stays};
 ghost use Rattle.blk_audit.specs.Faults.{IfScanDamaged, IfScanDevice, IsNodesDamage};
 ghost use Rattle.blk_disk.specs.Tables.{Agrees};
-ghost use Rattle.blk_audit.specs.Nodes.{AreNodesOf};
+ghost use Rattle.blk_audit.specs.Nodes.{AreNodesOf, HasNodes};
 
 use crate::fault::ScanFault;
 use crate::nodes::Nodes;
@@ -18,11 +18,11 @@ pub(crate) fn read_nodes<F: Folder>(
     f: &mut F,
     files: &BlockFiles,
 ) -> Result<Nodes, ScanFault>
-    requires agrees { ForSome (F.told f.old).files (Agrees files.now) }
-    ensures nodes { IfOk result (λ nodes. ForSome (F.told f.old).files (λ image. AreNodesOf image nodes)) }
+    ensures nodes { IfOk result (λ nodes. ForSome (F.told f.old).files (λ image. Agrees files.now image → AreNodesOf image nodes)) }
+    ensures checked { OnOk result (ForSome (F.told f.old).files (HasNodes files.now)) }
     ensures stays { Stays (F.told f.old) (F.told f.new) }
     ensures damaged { IfScanDamaged result (IsNodesDamage (F.told f.new)) }
-    ensures untold { IfScanDamaged result (λ _. (F.told f.old).files ≡ None) }
+    ensures untold { ForSome (F.told f.old).files (Agrees files.now) → IfScanDamaged result (λ _. (F.told f.old).files ≡ None) }
     ensures later { F.faults f.old ≤ F.faults f.new }
     ensures device { IfScanDevice result (Rises (F.faults f.old) (F.faults f.new)) }
 {

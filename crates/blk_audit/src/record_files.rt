@@ -90,7 +90,7 @@ impl Records {
     ) -> Result<(), NoMemory>
         requires inside { first + 128 ≤ 65536 }
         requires size { length bytes.now ≡ 32768 }
-        ensures { OnOk result ((image : Image) → AreBytes image → bytes.now ≡ range_at (byte image (block file)) (8192 + first * 256) 32768 → AreRecordsOf image self.old → AreRecordsOf image self.new) }
+        ensures { OnOk result ((image : Image) → AreBytes image → HasRange image (block file) (8192 + first * 256) 32768 → bytes.now ≡ range_at (byte image (block file)) (8192 + first * 256) 32768 → AreRecordsOf image self.old → AreRecordsOf image self.new) }
     {
         for i in 0..BLOCKS_OF_PIECE {
             let at = BLOCK * i as usize;
@@ -103,7 +103,7 @@ impl Records {
     fn add(&mut self, named: &Claims, file: u8, start: u32, window: &[u8]) -> Result<(), NoMemory>
         requires small { start < 65536 }
         requires size { length window.now ≡ 96 }
-        ensures { OnOk result ((image : Image) → AreBytes image → window.now ≡ range_at (byte image (block file)) (8192 + start * 256) 96 → AreRecordsOf image self.old → AreRecordsOf image self.new) }
+        ensures { OnOk result ((image : Image) → AreBytes image → HasRange image (block file) (8192 + start * 256) 96 → window.now ≡ range_at (byte image (block file)) (8192 + start * 256) 96 → AreRecordsOf image self.old → AreRecordsOf image self.new) }
     {
         if !named.has_block(file, start) {
             return Ok(());
@@ -145,11 +145,10 @@ impl Records {
         named: &Claims,
         file: u8,
     ) -> Result<(), ScanFault>
-        requires agrees { ForSome (F.told f.old).files (Agrees files.now) }
         ensures records { OnOk result (ForSome (F.told f.old).files (λ image. AreRecordsOf image self.old → AreRecordsOf image self.new)) }
         ensures stays { Stays (F.told f.old) (F.told f.new) }
         ensures damaged { IfScanDamaged result (IsRecordsDamage (F.told f.new)) }
-        ensures untold { IfScanDamaged result (λ _. (F.told f.new).files ≡ None) }
+        ensures untold { ForSome (F.told f.new).files (Agrees files.now) → IfScanDamaged result (λ _. (F.told f.new).files ≡ None) }
         ensures later { F.faults f.old ≤ F.faults f.new }
         ensures device { IfScanDevice result (Rises (F.faults f.old) (F.faults f.new)) }
     {
@@ -172,11 +171,10 @@ pub(crate) fn read_records<F: Folder>(
     files: &BlockFiles,
     named: &Claims,
 ) -> Result<Records, ScanFault>
-    requires agrees { ForSome (F.told f.old).files (Agrees files.now) }
     ensures records { IfOk result (λ records. ForSome (F.told f.old).files (λ image. AreRecordsOf image records)) }
     ensures stays { Stays (F.told f.old) (F.told f.new) }
     ensures damaged { IfScanDamaged result (IsRecordsDamage (F.told f.new)) }
-    ensures untold { IfScanDamaged result (λ _. (F.told f.new).files ≡ None) }
+    ensures untold { ForSome (F.told f.new).files (Agrees files.now) → IfScanDamaged result (λ _. (F.told f.new).files ≡ None) }
     ensures later { F.faults f.old ≤ F.faults f.new }
     ensures device { IfScanDevice result (Rises (F.faults f.old) (F.faults f.new)) }
 {

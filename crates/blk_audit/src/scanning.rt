@@ -1,15 +1,16 @@
 // The use list and the chains of a folder, read together.
-ghost use Rattle.std.specs.Prelude.{◌≡◌, ◌≤◌, ◌⊎◌, None, IfOk, IfSome};
+ghost use Rattle.std.specs.Prelude.{◌≡◌, ◌≤◌, None, IfOk, IfSome};
 ghost use Rattle.std.specs.Option.{ForSome};
 ghost use Rattle.blk_image.specs.Told.{Rises, Stays};
 ghost use Rattle.blk_format.specs.Address.{blocks_256, kind_of};
-ghost use Rattle.blk_format.specs.Headers.{HasWholeIndex, table_length};
+ghost use Rattle.blk_format.specs.Headers.{table_length};
 ghost use Rattle.blk_volume.specs.ListImages.{completed_walk};
 ghost use Rattle.blk_volume.specs.View.{store_of};
 ghost use Rattle.blk_disk.specs.Open.{IsOpen};
-ghost use Rattle.blk_audit.specs.Chaining.{reached_by, words_of};
+ghost use Rattle.blk_disk.specs.Tables.{Agrees};
+ghost use Rattle.blk_audit.specs.Chaining.{HasChains, reached_by, words_of};
 ghost use Rattle.blk_audit.specs.Faults.{IfScanDamaged, IfScanDevice, IsListsDamage};
-ghost use Rattle.blk_audit.specs.Walking.{nodes_of};
+ghost use Rattle.blk_audit.specs.Walking.{HasUseList, nodes_of};
 
 use crate::fault::ScanFault;
 use crate::list_walk::Walked;
@@ -44,14 +45,14 @@ pub fn read_lists<F: Folder>(
     f: &mut F,
     files: &BlockFiles,
 ) -> Result<Lists, ScanFault>
-    requires is_open { ForSome (F.told f.old).files (IsOpen files.now) }
-    ensures walked { IfOk result (λ lists. ForSome (F.told f.old).files (λ image. nodes_of lists.walked ≡ completed_walk image)) }
-    ensures reached { IfOk result (λ lists. ForSome (F.told f.old).files (λ image. words_of lists.reached ≡ reached_by (store_of image) table_length)) }
+    ensures walked { IfOk result (λ lists. ForSome (F.told f.old).files (λ image. Agrees files.now image → nodes_of lists.walked ≡ completed_walk image)) }
+    ensures reached { IfOk result (λ lists. ForSome (F.told f.old).files (λ image. Agrees files.now image → words_of lists.reached ≡ reached_by (store_of image) table_length)) }
+    ensures checked { IfOk result (λ lists. ForSome (F.told f.old).files (λ image. HasUseList files.now image × HasChains files.now image (words_of lists.reached))) }
     ensures stays { Stays (F.told f.old) (F.told f.new) }
 
-    // A folder that tells its files never gives a damage.
+    // A folder that tells its files gives a damage only where its index is too short or the block files don't agree with it.
     ensures damaged { IfScanDamaged result (IsListsDamage files.now (F.told f.new)) }
-    ensures untold { IfScanDamaged result (λ _. (F.told f.old).files ≡ None) }
+    ensures untold { ForSome (F.told f.old).files (IsOpen files.now) → IfScanDamaged result (λ _. (F.told f.old).files ≡ None) }
 
     ensures later { F.faults f.old ≤ F.faults f.new }
     ensures device { IfScanDevice result (Rises (F.faults f.old) (F.faults f.new)) }

@@ -1,12 +1,13 @@
 // The walk of a folder.
-ghost use Rattle.std.specs.Prelude.{◌≡◌, ◌≤◌, None, IfOk};
+ghost use Rattle.std.specs.Prelude.{◌≡◌, ◌≤◌, None, IfOk, OnOk};
 ghost use Rattle.std.specs.Option.{ForSome};
 ghost use Rattle.blk_image.specs.Told.{Rises, Stays};
 ghost use Rattle.blk_audit.specs.Faults.{IfScanDamaged, IfScanDevice, IsWalkDamage};
 ghost use Rattle.blk_volume.specs.ListImages.{completed_walk};
 ghost use Rattle.blk_disk.specs.Open.{IsOpen};
+ghost use Rattle.blk_disk.specs.Tables.{Agrees};
 ghost use Rattle.blk_audit.specs.Nodes.{AreNodesOf};
-ghost use Rattle.blk_audit.specs.Walking.{AreMet, nodes_of};
+ghost use Rattle.blk_audit.specs.Walking.{AreMet, HasEnds, HasUseList, nodes_of};
 
 use crate::fault::ScanFault;
 use crate::list_walk::{Walked, walk_nodes};
@@ -25,14 +26,14 @@ use std::alloc::Global;
 /// in flight and its nodes. A damage is a read that gave too few bytes, or a node of the operation that does not check; a
 /// folder whose files are those of `files` gives none. `Device` comes only where the folder failed in this call.
 pub fn walk<F: Folder>(alloc: Global, f: &mut F, files: &BlockFiles) -> Result<Walked, ScanFault>
-    requires is_open { ForSome (F.told f.old).files (IsOpen files.now) }
-    ensures walked { IfOk result (λ walked. ForSome (F.told f.old).files (λ image. nodes_of walked ≡ completed_walk image)) }
+    ensures walked { IfOk result (λ walked. ForSome (F.told f.old).files (λ image. Agrees files.now image → nodes_of walked ≡ completed_walk image)) }
     ensures met { IfOk result AreMet }
+    ensures checked { OnOk result (ForSome (F.told f.old).files (HasUseList files.now)) }
     ensures stays { Stays (F.told f.old) (F.told f.new) }
 
-    // A folder that tells its files never gives a damage.
+    // A folder that tells its files gives a damage only where its index is too short or the block files don't agree with it.
     ensures damaged { IfScanDamaged result (IsWalkDamage files.now (F.told f.new)) }
-    ensures untold { IfScanDamaged result (λ _. (F.told f.old).files ≡ None) }
+    ensures untold { ForSome (F.told f.old).files (IsOpen files.now) → IfScanDamaged result (λ _. (F.told f.old).files ≡ None) }
 
     ensures later { F.faults f.old ≤ F.faults f.new }
     ensures device { IfScanDevice result (Rises (F.faults f.old) (F.faults f.new)) }
@@ -48,13 +49,13 @@ pub(crate) fn walk_over<F: Folder>(
     files: &BlockFiles,
     nodes: &Nodes,
 ) -> Result<Walked, ScanFault>
-    requires is_open { ForSome (F.told f.old).files (IsOpen files.now) }
-    requires nodes { ForSome (F.told f.old).files (λ image. AreNodesOf image nodes.now) }
-    ensures walked { IfOk result (λ walked. ForSome (F.told f.old).files (λ image. nodes_of walked ≡ completed_walk image)) }
+    requires nodes { ForSome (F.told f.old).files (λ image. Agrees files.now image → AreNodesOf image nodes.now) }
+    ensures walked { IfOk result (λ walked. ForSome (F.told f.old).files (λ image. Agrees files.now image → nodes_of walked ≡ completed_walk image)) }
     ensures met { IfOk result AreMet }
+    ensures checked { OnOk result (ForSome (F.told f.old).files (HasEnds files.now)) }
     ensures stays { Stays (F.told f.old) (F.told f.new) }
     ensures damaged { IfScanDamaged result (IsWalkDamage files.now (F.told f.new)) }
-    ensures untold { IfScanDamaged result (λ _. (F.told f.old).files ≡ None) }
+    ensures untold { ForSome (F.told f.old).files (IsOpen files.now) → IfScanDamaged result (λ _. (F.told f.old).files ≡ None) }
     ensures later { F.faults f.old ≤ F.faults f.new }
     ensures device { IfScanDevice result (Rises (F.faults f.old) (F.faults f.new)) }
 {

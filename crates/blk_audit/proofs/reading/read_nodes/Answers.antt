@@ -4,9 +4,8 @@ use Rattle.std.proofs.lemmas.Bool.{eqb-true, eq-eqb}
 use Rattle.blk_image.specs.Told.{Told}
 use Rattle.blk_audit.specs.Filled.{IsFilled}
 use Rattle.blk_disk.specs.Tables.{Agrees}
-use Rattle.blk_lru.proofs.Conditions.{told_stays}
-use Rattle.blk_audit.proofs.Carrying.{carried, weaker}
-use Rattle.blk_audit.proofs.AllNodes.{are_nodes}
+use Rattle.blk_audit.proofs.Carrying.{untold_on}
+use Rattle.blk_audit.proofs.AllNodes.{are_nodes, each_there}
 use Rattle.blk_audit.proofs.reading.read_nodes.Goals as goal
 
 -- what holds of one number more
@@ -36,13 +35,14 @@ loop-n-preserved g c = record {
 }
 
 pub returns-in_err-add_file-clause-untold : goal.returns-in_err-add_file-clause-untold
-returns-in_err-add_file-clause-untold g c =
+returns-in_err-add_file-clause-untold g c agrees =
     let stays : g.F.Folder.told c.add_file.new.f ≡ g.F.Folder.told c.args.f.now = c.add_file.ensures.stays ∙ c.loop-n.invariant.stays in
-    carried c.add_file.result c.from_residual.result c.in_err-add_file.field-0.0 _ c.in_err-add_file.was c.from_residual.ensures.1
-    (weaker c.add_file.result _ _ (λ damage none. ap (λ (t : Told). t.files) (sym stays) ∙ none)
-    (c.add_file.ensures.untold (told_stays (Agrees c.args.files.now) stays c.requires.agrees)))
+    untold_on c.add_file.result c.from_residual.result c.in_err-add_file.field-0.0 {a = g.F.Folder.told c.args.f.now} (Agrees c.args.files.now) (Agrees c.args.files.now) (λ image is. is) stays c.add_file.ensures.untold c.in_err-add_file.was c.from_residual.ensures.1 agrees
 
 pub returns-clause-nodes : goal.returns-clause-nodes
-returns-clause-nodes g c image there =
-    are_nodes c.args.files.now image c.loop-n.nodes (c.requires.agrees image there) (g.met.F.Folder.are_bytes c.args.f.now image there)
+returns-clause-nodes g c image there agrees =
+    are_nodes c.args.files.now image c.loop-n.nodes agrees (g.met.F.Folder.are_bytes c.args.f.now image there)
     (λ n lt. c.loop-n.invariant.filled image there n (omega (arith, lt, c.loop-n-test.false)))
+
+pub returns-clause-checked : goal.returns-clause-checked
+returns-clause-checked g c image there = each_there c.args.files.now image c.loop-n.nodes (λ n lt. c.loop-n.invariant.filled image there n (omega (arith, lt, c.loop-n-test.false)))

@@ -1,10 +1,6 @@
 use Rattle.std.proofs.Common.{◌∙◌, arith}
-use Rattle.blk_disk.specs.Tables.{Agrees}
-use Rattle.blk_lru.proofs.Conditions.{told_now, told_stays}
+use Rattle.blk_lru.proofs.Conditions.{told_now}
 use Rattle.blk_audit.proofs.record_files.read_records.Goals as goal
-
-pub read_file-requires : goal.read_file-requires
-read_file-requires g c = record { agrees = told_stays (Agrees c.args.files.now) c.loop-n.invariant.stays c.requires.agrees }
 
 pub loop-n-preserved : goal.loop-n-preserved
 loop-n-preserved g c = record {

@@ -1,13 +1,24 @@
-use Rattle.std.proofs.Common.{◌∙◌}
+use Rattle.std.proofs.Common.{refl, ◌∙◌}
 use Rattle.blk_disk.specs.Open.{IsOpen}
-use Rattle.blk_lru.proofs.Conditions.{told_stays}
+use Rattle.blk_disk.specs.Tables.{Agrees}
+use Rattle.blk_lru.proofs.Conditions.{told_now}
+use Rattle.blk_audit.proofs.Carrying.{untold_on}
 use Rattle.blk_audit.proofs.scanning.read_lists.Goals as goal
 
-pub read_nodes-requires : goal.read_nodes-requires
-read_nodes-requires g c = record { agrees = λ image there. (c.requires.is_open image there).agrees }
+pub returns-clause-checked : goal.returns-clause-checked
+returns-clause-checked g c image there =
+    let walked = told_now image c.in_ok-nodes.ensures.stays there in
+    let reached = told_now image c.in_ok-walked.ensures.stays walked in
+    (record { nodes = c.in_ok-nodes.ensures.checked image there; ends = c.in_ok-walked.ensures.checked image walked }, c.in_ok-reached.ensures.checked image reached)
 
-pub walk_over-requires-clause-is_open : goal.walk_over-requires-clause-is_open
-walk_over-requires-clause-is_open g c = told_stays (IsOpen c.args.files.now) c.in_ok-nodes.ensures.stays c.requires.is_open
+pub returns-in_err-nodes-clause-untold : goal.returns-in_err-nodes-clause-untold
+returns-in_err-nodes-clause-untold g c =
+    untold_on c.read_nodes.result c.from_residual.result c.in_err-nodes.field-0.0 {a = g.F.Folder.told c.args.f.now} (IsOpen c.args.files.now) (Agrees c.args.files.now) (λ image is. is.agrees) refl c.read_nodes.ensures.untold c.in_err-nodes.was c.from_residual.ensures.1
 
-pub chains-requires : goal.chains-requires
-chains-requires g c = record { is_open = told_stays (IsOpen c.args.files.now) (c.in_ok-walked.ensures.stays ∙ c.in_ok-nodes.ensures.stays) c.requires.is_open }
+pub returns-in_err-walked-clause-untold : goal.returns-in_err-walked-clause-untold
+returns-in_err-walked-clause-untold g c =
+    untold_on c.walk_over.result c.from_residual-in_err-walked.result c.in_err-walked.field-0.0 {a = g.F.Folder.told c.args.f.now} (IsOpen c.args.files.now) (IsOpen c.args.files.now) (λ image is. is) c.in_ok-nodes.ensures.stays c.walk_over.ensures.untold c.in_err-walked.was c.from_residual-in_err-walked.ensures.1
+
+pub returns-in_err-reached-clause-untold : goal.returns-in_err-reached-clause-untold
+returns-in_err-reached-clause-untold g c =
+    untold_on c.chains.result c.from_residual-in_err-reached.result c.in_err-reached.field-0.0 {a = g.F.Folder.told c.args.f.now} (IsOpen c.args.files.now) (IsOpen c.args.files.now) (λ image is. is) (c.in_ok-walked.ensures.stays ∙ c.in_ok-nodes.ensures.stays) c.chains.ensures.untold c.in_err-reached.was c.from_residual-in_err-reached.ensures.1

@@ -21,6 +21,7 @@ returns-clause-here g c image there =
     (set_here c.args.self.now.counts c.from-2.result c.args.file c.count_there-count.result c.from-2.ensures counts)
     (set_here c.args.self.now.begins c.from.result c.args.file c.in-Ok.begin c.from.ensures begins ∙ begin)
     (c.in_ok-read_file.ensures.nodes image there)
+    (c.in_ok-read_file.ensures.checked image there)
 
 pub returns-clause-others : goal.returns-clause-others
 returns-clause-others g c image there n apart was =

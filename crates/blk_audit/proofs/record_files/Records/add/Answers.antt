@@ -9,12 +9,12 @@ use Rattle.blk_audit.proofs.PiecesOfRecords.{said_block}
 use Rattle.blk_audit.proofs.record_files.Records.add.Goals as goal
 
 pub returns : goal.returns
-returns c image small is are =
+returns c image small inside is are =
     let P : Placed → Type 0 = λ p. IsEntryOf image p.first p.entry in
     let said : IsEntryOf image c.of_blocks-first.result c.said-entry.result =
     subst (λ (w : ℕ). IsEntryOf image w c.said-entry.result) (sym c.of_blocks-first.ensures)
     (subst (λ (s : Entry). IsEntryOf image (block_word 2 c.args.file c.args.start 1) s) (sym c.said-entry.ensures)
-    (said_block image c.args.file c.args.start _ c.args.window.now c.ranges.file.fits c.requires.small refl small is)) in
+    (said_block image c.args.file c.args.start _ c.args.window.now c.ranges.file.fits c.requires.small refl small inside is)) in
     subst (All P) (sym c.in_ok-push.ensures.items)
     (All-append P c.args.self.now.placed.items (record { first = c.of_blocks-first.result; entry = c.said-entry.result } ∷ []) are
     (All-cons P (record { first = c.of_blocks-first.result; entry = c.said-entry.result }) [] said (All-nil P)))

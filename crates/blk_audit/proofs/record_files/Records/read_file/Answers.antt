@@ -1,15 +1,14 @@
 use Rattle.std.proofs.Common.{◌≡◌, ◌+◌, ◌-◌, ◌*◌, true, ap, sym, ◌∙◌, arith}
 use Rattle.blk_format.specs.Address.{block_word}
 use Rattle.blk_disk.specs.Tables.{stands_among}
-use Rattle.blk_lru.proofs.Conditions.{told_before}
 use Rattle.blk_audit.proofs.Carrying.{carried}
 use Rattle.blk_audit.proofs.PiecesOfRecords.{piece_there}
 use Rattle.blk_audit.proofs.record_files.Records.read_file.Goals as goal
 
 pub returns-in_err-read_piece-clause-untold : goal.returns-in_err-read_piece-clause-untold
-returns-in_err-read_piece-clause-untold g c =
+returns-in_err-read_piece-clause-untold g c agrees =
     let stands : stands_among c.args.files.now (block_word 2 c.args.file (c.loop-piece.piece * 128 + 128 - 1) 1) ≡ true =
     sym (c.stands.ensures.among ∙ ap (stands_among c.args.files.now) c.of_blocks-last.ensures) ∙ c.if-not-stands.false in
     carried c.read_piece.result c.from_residual.result c.in_err-read_piece.field-0.0 _ c.in_err-read_piece.was c.from_residual.ensures.1
     (c.read_piece.ensures.untold (λ image there.
-    piece_there c.args.files.now image c.args.file (c.loop-piece.piece * 128) (c.requires.agrees image (told_before image (c.read_piece.ensures.stays ∙ c.loop-piece.invariant.stays) there)) c.ranges.file.fits (omega (arith, c.loop-piece-test.true)) stands))
+    piece_there c.args.files.now image c.args.file (c.loop-piece.piece * 128) (agrees image there) c.ranges.file.fits (omega (arith, c.loop-piece-test.true)) stands))

@@ -1,6 +1,6 @@
-use Rattle.std.proofs.Common.{◌≡◌, ℕ, ◌+◌, ◌*◌, ap, ◌∙◌, arith}
+use Rattle.std.proofs.Common.{◌≡◌, ℕ, ◌+◌, ◌*◌, ◌≤◌, ⊎_elim, ap, ◌∙◌, arith}
 use Rattle.blk_image.specs.Bytes.{range_at}
-use Rattle.blk_image.specs.Image.{Block, byte}
+use Rattle.blk_image.specs.Image.{Block, byte, length_of}
 use Rattle.blk_io.specs.declared.folder.FileId.TheVariants as names
 use Rattle.blk_audit.proofs.Carrying.{converted, untold_piece}
 use Rattle.blk_audit.proofs.record_files.Records.read_piece.Goals as goal
@@ -15,4 +15,5 @@ pub returns-clause-records : goal.returns-clause-records
 returns-clause-records g c image there are =
     let at : 8192 + c.from.result * 256 ≡ 8192 + c.args.first * 256 = ap (λ (n : ℕ). 8192 + n * 256) c.from.ensures in
     c.in_ok-add_piece.ensures image (g.met.F.Folder.are_bytes c.args.f.now image there)
+    (⊎_elim (λ (inside : 8192 + c.from.result * 256 + 32768 ≤ length_of image (Block c.args.file)). let h : 8192 + c.args.first * 256 + 32768 ≤ length_of image (Block c.args.file) = omega (arith, inside, c.from.ensures) in h) (λ (none : ◌≡◌ {A = ℕ} 32768 0). absurd (omega (arith, none))) (c.in_ok-read_exact.ensures.inside image there))
     (c.in_ok-read_exact.ensures.bytes image there ∙ ap (λ (p : ℕ). range_at (byte image (Block c.args.file)) p 32768) at) are
