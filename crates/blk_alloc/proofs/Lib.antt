@@ -11,7 +11,7 @@ pub mod Standing
 pub mod Freed
 pub mod Pieces
 pub mod Members
-pub mod NotStanding
+pub mod Placed
 pub mod Kept
 pub mod Widening
 pub mod Taken

@@ -1,5 +1,5 @@
 -- Blocks that are taken.
-use Rattle.std.proofs.Common.{◌≡◌, ◌≢◌, ℕ, zero, suc, ◌+◌, ◌-◌, ◌%◌, ◌<◌, ◌≤◌, inl, inr, List, [], ◌∷◌, Bool, true, false, ◌&&◌, not, if◌then◌else◌, nat_lt, None, Some, refl, sym, ◌∙◌, ap, subst, arith, ⊎_elim}
+use Rattle.std.proofs.Common.{◌≡◌, ◌≢◌, ℕ, zero, suc, ◌+◌, ◌-◌, ◌%◌, ◌<◌, ◌≤◌, inl, inr, [], ◌∷◌, Bool, true, false, ◌&&◌, not, if◌then◌else◌, nat_lt, Some, refl, sym, ◌∙◌, ap, subst, arith, ⊎_elim}
 use Rattle.std.specs.List.{list_all, range_with_len}
 use Rattle.std.proofs.lemmas.Bool.{cases_eq}
 use Rattle.std.proofs.lemmas.Bool.Decides.{nat_tests}
@@ -10,20 +10,14 @@ use Rattle.blk_image.specs.Told.{Told, Applies, PassesTo, Until, IsQuiet}
 use Rattle.blk_image.proofs.Footprints.{outside-refl, outside-trans, outside_wider, outside_longer, within_left, within_right}
 use Rattle.blk_image.proofs.Images.{length-after_set_len}
 use Rattle.blk_image.proofs.Runs.{passes_part, part_whole, some_inj}
-use Rattle.blk_format.specs.Address.{external}
 use Rattle.blk_format.specs.Headers.{empty_of, max_entries_of, allocations_of}
-use Rattle.blk_format.specs.BlockFiles.{is_among, kind_among, linked, max_entries_in, most_blocks}
+use Rattle.blk_format.specs.BlockFiles.{is_among, max_entries_in, most_blocks}
 use Rattle.blk_format.specs.Maps.{is_block_marked_at, are_free, groups_with, groups_of, EmptyAgrees}
-use Rattle.blk_addr.specs.declared.kinds.Kind.{Kind}
-use Rattle.blk_addr.specs.declared.kinds.Kind.TheVariants.{External, Rankings, B256, B1K, B4K}
-use Rattle.blk_addr.specs.Kind.{kind_number}
 use Rattle.blk_disk.specs.declared.tables.BlockFiles.{BlockFiles}
-use Rattle.blk_disk.specs.Tables.{Agrees, files_of, all_files, length_in}
+use Rattle.blk_disk.specs.Tables.{Agrees, all_files, length_in}
 use Rattle.blk_disk.specs.Growth.{fit_steps, whole_length}
-use Rattle.blk_disk.proofs.Chains.{linked_once}
 use Rattle.blk_alloc.specs.Changes.{map_of, IsReady, IsMapInProgress}
 use Rattle.blk_alloc.specs.Marking.{taking_of, MarksUsedInProgress}
-use Rattle.blk_alloc.proofs.Members.{kind_blocky}
 
 clash : true ≡ false → ⊥
 clash e = cc
@@ -31,37 +25,6 @@ clash e = cc
 not_true : (t : Bool) → (t ≡ true → ⊥) → t ≡ false
 not_true true never = absurd (never refl)
 not_true false never = refl
-
--- a file of a kind has that kind
-pub kind_is : (files : BlockFiles) (image : Image) (k : Kind) (n : ℕ) → kind_number k ≢ external → Agrees files image → is_among (files_of files (kind_number k)) n ≡ true → kind_among (files_of files) n ≡ Some (kind_number k)
-unfolding kind_among
-kind_is files image k n some agrees among = by_kind k some among
-  where
-    in_image : (j : Kind) → kind_number j ≢ external → is_among (files_of files (kind_number j)) n ≡ true → is_among (linked image (kind_number j)) n ≡ true
-    in_image j block_kind there = subst (λ (l : List ℕ). is_among l n ≡ true) (agrees.links (kind_number j) (kind_blocky j block_kind)) there
-
-    apart : (a b : ℕ) → a ≢ b → a < 4 → b < 4 → is_among (linked image (suc a)) n ≡ true → is_among (linked image (suc b)) n ≡ true → ⊥
-    apart a b differs small small2 one other = linked_once image agrees.undamaged a b n differs small small2 one other
-
-    no_one : (t : ℕ) → t ≡ 0 → t ≢ 0 → ⊥
-    no_one t e d = d e
-
-    by_kind : (j : Kind) → kind_number j ≢ external → is_among (files_of files (kind_number j)) n ≡ true
-        → (if is_among (files_of files 1) n then Some 1 else if is_among (files_of files 2) n then Some 2 else if is_among (files_of files 3) n then Some 3 else if is_among (files_of files 4) n then Some 4 else None) ≡ Some (kind_number j)
-    by_kind External block_kind there = absurd (block_kind refl)
-    by_kind Rankings block_kind there = rw there refl
-    by_kind B256 block_kind there =
-        let a : is_among (files_of files 1) n ≡ false = not_true (is_among (files_of files 1) n) (λ h. apart 0 1 (omega arith) (omega arith) (omega arith) (in_image Rankings (omega arith) h) (in_image B256 block_kind there)) in
-        rw (a, there) refl
-    by_kind B1K block_kind there =
-        let a : is_among (files_of files 1) n ≡ false = not_true (is_among (files_of files 1) n) (λ h. apart 0 2 (omega arith) (omega arith) (omega arith) (in_image Rankings (omega arith) h) (in_image B1K block_kind there)) in
-        let b : is_among (files_of files 2) n ≡ false = not_true (is_among (files_of files 2) n) (λ h. apart 1 2 (omega arith) (omega arith) (omega arith) (in_image B256 (omega arith) h) (in_image B1K block_kind there)) in
-        rw (a, b, there) refl
-    by_kind B4K block_kind there =
-        let a : is_among (files_of files 1) n ≡ false = not_true (is_among (files_of files 1) n) (λ h. apart 0 3 (omega arith) (omega arith) (omega arith) (in_image Rankings (omega arith) h) (in_image B4K block_kind there)) in
-        let b : is_among (files_of files 2) n ≡ false = not_true (is_among (files_of files 2) n) (λ h. apart 1 3 (omega arith) (omega arith) (omega arith) (in_image B256 (omega arith) h) (in_image B4K block_kind there)) in
-        let d : is_among (files_of files 3) n ≡ false = not_true (is_among (files_of files 3) n) (λ h. apart 2 3 (omega arith) (omega arith) (omega arith) (in_image B1K (omega arith) h) (in_image B4K block_kind there)) in
-        rw (a, b, d, there) refl
 
 -- The file is lengthened to its blocks.
 

@@ -11,21 +11,22 @@ use Rattle.blk_format.specs.BlockFiles.{is_among, max_entries_in, most_blocks}
 use Rattle.blk_format.specs.Maps.{is_block_marked, is_block_marked_at, are_free, longest_run, EmptyAgrees}
 use Rattle.blk_format.specs.Headers.{allocations_of, empty_of}
 use Rattle.blk_alloc.specs.Counting.{counted, IsCounted}
-use Rattle.blk_format.proofs.Words.{AreFields, is_address-block_word, kind_of-block_word, file_selector-block_word, first_block-block_word, block_count-block_word}
+use Rattle.blk_format.proofs.Words.{is_address-block_word}
 use Rattle.blk_addr.specs.declared.kinds.Kind.{Kind}
 use Rattle.blk_addr.specs.Kind.{kind_number}
 use Rattle.blk_addr.proofs.AddressFields.{address_above_0}
 use Rattle.blk_disk.specs.declared.tables.BlockFiles.{BlockFiles}
-use Rattle.blk_disk.specs.Tables.{Agrees, Resizes, all_files, files_of, length_in, stands_among}
+use Rattle.blk_disk.specs.Tables.{Agrees, Resizes, all_files, files_of, length_in}
 use Rattle.blk_disk.specs.Growth.{fit_steps, whole_length}
 use Rattle.blk_alloc.specs.declared.blocks.Blocks.{Blocks}
 use Rattle.blk_alloc.specs.Changes.{IsMapInProgress, IsReady, IsChanged}
 use Rattle.blk_alloc.specs.Fitting.{IsPlace}
 use Rattle.blk_alloc.specs.Marking.{CanBeMarked, CountsUsed, MarksUsedInProgress, MarksUsed}
 use Rattle.blk_alloc.proofs.Lists.{IsBlocks}
-use Rattle.blk_alloc.proofs.Members.{kind_blocky, kind_small}
+use Rattle.blk_alloc.proofs.Members.{kind_blocky}
 use Rattle.blk_alloc.proofs.Taken.{fit_passes, ready_kept, taking_fit, taking_midst}
-use Rattle.blk_alloc.proofs.TakenBlocks.{taken_is, taken_stands}
+use Rattle.blk_alloc.proofs.Placed.{place_count, place_fields, place_file, place_kind, place_stands, place_start}
+use Rattle.blk_alloc.proofs.TakenBlocks.{taken_is}
 
 module _ (a b : Told) (old new : BlockFiles) (place : Blocks) (agrees : ForSome a.files (Agrees old)) (all : is_among (all_files old) place.file ≡ true)
     (fitted : Applies a b (fit_steps old place.file)) (kept : Resizes old new place.file (max (length_in old place.file) (whole_length old place.file))) (agrees_new : ForSome b.files (Agrees new)) where
@@ -76,38 +77,27 @@ module _ (a b : Told) (old new : BlockFiles) (place : Blocks) (agrees : ForSome 
     abbrev w : ℕ
     w = block_word (kind_number k) n place.start place.count
 
-    fields : AreFields (kind_number k) n place.start place.count
-    fields = let small = is.small in let group = is.group in record { kind = kind_small k; file = is.number; start = omega (arith, small); some = some; most = omega (arith, group) }
-
     address : is_address w ≡ true
-    address = is_address-block_word (kind_number k) n place.start place.count fields (kind_blocky k block_kind) is.group node
+    address = is_address-block_word (kind_number k) n place.start place.count (place_fields old k place some is) (kind_blocky k block_kind) is.group node
 
     kind_is : kind_of w ≡ kind_number k
-    kind_is = kind_of-block_word (kind_number k) n place.start place.count fields
+    kind_is = place_kind old k place some is
 
     blocks : IsBlocks w
     blocks = record { some = address_above_0 w address; block_kind = λ e. block_kind (sym kind_is ∙ e) }
 
     file_is : file_selector w ≡ n
-    file_is = file_selector-block_word (kind_number k) n place.start place.count fields
+    file_is = place_file old k place some is
 
     start_is : first_block w ≡ place.start
-    start_is = first_block-block_word (kind_number k) n place.start place.count fields
+    start_is = place_start old k place some is
 
     count_is : block_count w ≡ place.count
-    count_is = block_count-block_word (kind_number k) n place.start place.count fields
+    count_is = place_count old k place some is
 
     -- a fact on the blocks of the word, from one on the place
     at_word : (P : ℕ → ℕ → ℕ → Type 0) → P n place.start place.count → P (file_selector w) (first_block w) (block_count w)
     at_word P holds = subst (λ (x : ℕ). P x (first_block w) (block_count w)) (sym file_is) (subst (λ (y : ℕ). P n y (block_count w)) (sym start_is) (subst (λ (z : ℕ). P n place.start z) (sym count_is) holds))
-
-    pub stands_after : ForSome a.files (λ _. stands_among new w ≡ true)
-    stands_after from there =
-        let found = mid_of from there in
-        let ready = (takeable from there).ready in
-        taken_stands old new from found.0 k w block_kind kind_is address blocks (agrees from there) (agrees_new found.0 found.1.now)
-        (at_word (λ f s m. is_among (files_of old (kind_number k)) f ≡ true) is.linked) (at_word (λ f s m. s + m ≤ max_entries_in from f) ready.below) (at_word (λ f s m. max_entries_in from f ≤ most_blocks) ready.most) (at_word (λ f s m. max_entries_in from f % 4 ≡ 0) ready.whole)
-        (at_word (λ f s m. Resizes old new f (max (length_in old f) (whole_length old f))) kept) (at_word (λ f s m. SameOutside (size_of (Block f)) from found.0) found.1.same)
 
     pub taken_after : (from : Image) → a.files ≡ Some from → (image : Image) → ((mid : Image) → b.files ≡ Some mid → IsChanged mid n place.start place.count true image) → MarksUsed old from w image
     taken_after from there image changed =
@@ -115,7 +105,7 @@ module _ (a b : Told) (old new : BlockFiles) (place : Blocks) (agrees : ForSome 
         let ready = (takeable from there).ready in
         taken_is old new from found.0 k w block_kind kind_is address blocks (agrees from there) (agrees_new found.0 found.1.now)
         (at_word (λ f s m. is_among (files_of old (kind_number k)) f ≡ true) is.linked) (at_word (λ f s m. s + m ≤ max_entries_in from f) ready.below) (at_word (λ f s m. max_entries_in from f ≤ most_blocks) ready.most) (at_word (λ f s m. max_entries_in from f % 4 ≡ 0) ready.whole)
-        (at_word (λ f s m. Resizes old new f (max (length_in old f) (whole_length old f))) kept) (at_word (λ f s m. SameOutside (size_of (Block f)) from found.0) found.1.same)
+        (at_word (λ f s m. Resizes old new f (max (length_in old f) (whole_length old f))) kept) (at_word (λ f s m. SameOutside (size_of (Block f)) from found.0) found.1.same) (place_stands old new k block_kind place some is kept)
         image (at_word (λ f s m. IsChanged found.0 f s m true image) (changed found.0 found.1.now)) (at_word (λ f s m. are_free (is_block_marked from f) s m ≡ true) (takeable from there).free) (at_word (λ f s m. EmptyAgrees from f) ready.empty)
 
     pub stops_after : (c : Told) → ForSome b.files (λ mid. PassesTo b c (IsMapInProgress n mid) (λ image. IsMapInProgress n mid image ⊎ IsChanged mid n place.start place.count true image))

@@ -1,28 +1,27 @@
 -- What blocks that are taken leave.
-use Rattle.std.proofs.Common.{◌≡◌, ◌≢◌, ℕ, ◌+◌, ◌*◌, ◌/◌, ◌%◌, ◌<◌, ◌≤◌, List, max, Bool, true, false, ◌&&◌, ◌||◌, if◌then◌else◌, nat_le, Option, Some, refl, sym, ◌∙◌, ap, ap₂, subst, arith, ⊎_elim}
+use Rattle.std.proofs.Common.{◌≡◌, ◌≢◌, ℕ, ◌+◌, ◌/◌, ◌%◌, ◌<◌, ◌≤◌, List, max, Bool, true, false, ◌&&◌, ◌||◌, if◌then◌else◌, Option, refl, sym, ◌∙◌, ap, ap₂, subst, arith, ⊎_elim}
 use Rattle.std.specs.Prelude.{◌==◌}
 use Rattle.std.specs.List.{All}
 use Rattle.std.specs.Int.{bit_at}
 use Rattle.std.proofs.lemmas.List.Elements.{All-cons}
 use Rattle.std.proofs.lemmas.Bool.{cases_eq}
 use Rattle.std.proofs.lemmas.Bool.Decides.{nat_tests}
-use Rattle.std.proofs.Math.Nat.{mul-le-mul}
 use Rattle.blk_image.specs.Image.{Image, Block, External, has_file, byte, length_of}
 use Rattle.blk_image.specs.Footprint.{SameOutside, size_of}
 use Rattle.blk_image.proofs.Footprints.{outside-trans, outside_wider, within_right}
-use Rattle.blk_format.specs.Address.{kind_of, external, external_number, file_selector, first_block, block_count, block_size, is_address, place, byte_size, block_place}
+use Rattle.blk_format.specs.Address.{kind_of, external, external_number, file_selector, first_block, block_count, is_address}
 use Rattle.blk_format.specs.Claims.{Claim, BlockOf, ExternalOf, claims_of, claims_of_all, has_claim, is_in_file}
 use Rattle.blk_format.specs.Headers.{empty_of, max_entries_of}
-use Rattle.blk_format.specs.Standing.{is_linked_as, stands, stands_as_blocks}
-use Rattle.blk_format.specs.BlockFiles.{is_among, kind_among, max_entries_in, stands_in, stands_in_blocks, most_blocks}
+use Rattle.blk_format.specs.Standing.{stands}
+use Rattle.blk_format.specs.BlockFiles.{is_among, max_entries_in, stands_in, stands_in_blocks, most_blocks}
 use Rattle.blk_format.specs.Maps.{is_block_marked, is_block_marked_at, groups_with, groups_of, are_free, AreAllocations, EmptyAgrees}
 use Rattle.blk_addr.specs.Bits.{is_between}
 use Rattle.blk_addr.specs.declared.kinds.Kind.{Kind}
 use Rattle.blk_addr.specs.Kind.{kind_number}
 use Rattle.blk_addr.proofs.ClaimLemmas.{has_claim-append, is_in_file-blocks}
 use Rattle.blk_disk.specs.declared.tables.BlockFiles.{BlockFiles}
-use Rattle.blk_disk.specs.Tables.{Agrees, Resizes, files_of, all_files, blocks_of, length_in, stands_among}
-use Rattle.blk_disk.specs.Growth.{whole_length, size_as}
+use Rattle.blk_disk.specs.Tables.{Agrees, Resizes, files_of, all_files, length_in, stands_among}
+use Rattle.blk_disk.specs.Growth.{whole_length}
 use Rattle.blk_disk.proofs.Ranges.{stands_agree}
 use Rattle.blk_alloc.specs.Changes.{map_of, with_marks, HasBlocks, IsChanged}
 use Rattle.blk_alloc.specs.Owning.{is_of}
@@ -31,13 +30,10 @@ use Rattle.blk_alloc.proofs.Formed.{stands_kept, other_kept, file_kept}
 use Rattle.blk_alloc.proofs.Lists.{IsBlocks, claims_blocks, claims_no_external, one_more_once}
 use Rattle.blk_alloc.proofs.Members.{member_all}
 use Rattle.blk_alloc.proofs.Widening.{Widens, fit_widens, allocations_more}
-use Rattle.blk_alloc.proofs.Taken.{kind_is, taking_fit, free_at}
+use Rattle.blk_alloc.proofs.Taken.{taking_fit, free_at}
 
 clash : true ≡ false → ⊥
 clash e = cc
-
-spread : (a b c : ℕ) → 8192 + a * c + b * c ≡ 8192 + (a + b) * c
-spread a b c = grind arith
 
 module _ (old new : BlockFiles) (from mid : Image) (k : Kind) (w : ℕ)
     (block_kind : kind_number k ≢ external) (kind : kind_of w ≡ kind_number k) (address : is_address w ≡ true) (blocks : IsBlocks w)
@@ -45,7 +41,7 @@ module _ (old new : BlockFiles) (from mid : Image) (k : Kind) (w : ℕ)
     (there : is_among (files_of old (kind_number k)) (file_selector w) ≡ true)
     (below : first_block w + block_count w ≤ max_entries_in from (file_selector w)) (most : max_entries_in from (file_selector w) ≤ most_blocks) (whole : max_entries_in from (file_selector w) % 4 ≡ 0)
     (resizes : Resizes old new (file_selector w) (max (length_in old (file_selector w)) (whole_length old (file_selector w))))
-    (same : SameOutside (size_of (Block (file_selector w))) from mid) where
+    (same : SameOutside (size_of (Block (file_selector w))) from mid) (stands_new : stands_among new w ≡ true) where
   abbrev n : ℕ
   n = file_selector w
 
@@ -54,27 +50,6 @@ module _ (old new : BlockFiles) (from mid : Image) (k : Kind) (w : ℕ)
 
   abbrev pub widens : Widens old new from mid
   widens = fit_widens old new from mid n (whole_length old n) resizes same
-
-  -- the blocks end inside the file
-  ends_inside : place w + byte_size w ≤ length_in new n
-  unfolding whole_length place byte_size block_place
-  ends_inside =
-      let type : kind_among (files_of old) n ≡ Some (kind_number k) = kind_is old from k n block_kind before there in
-      let whole : whole_length old n ≡ 8192 + blocks_of old n * block_size (kind_number k) = ap (λ (o : Option ℕ). 8192 + blocks_of old n * size_as o) type in
-      let size = resizes.size_there in
-      let count = before.blocks n all_there in
-      let most : (first_block w + block_count w) * block_size (kind_number k) ≤ blocks_of old n * block_size (kind_number k) = mul-le-mul (omega (arith, below, count)) (omega arith) in
-      let end : 8192 + first_block w * block_size (kind_of w) + block_count w * block_size (kind_of w) ≡ 8192 + (first_block w + block_count w) * block_size (kind_number k) = ap (λ (t : ℕ). 8192 + first_block w * block_size t + block_count w * block_size t) kind ∙ spread (first_block w) (block_count w) (block_size (kind_number k)) in
-      omega (arith, whole, size, most, end)
-
-  pub taken_stands : stands_among new w ≡ true
-  unfolding stands_as_blocks
-  taken_stands =
-      let type : is_linked_as (kind_among (files_of new) n) (kind_of w) ≡ true =
-      ap (λ (o : Option ℕ). is_linked_as o (kind_of w)) (widens.tables.types n all_there ∙ kind_is old from k n block_kind before there) ∙ (let e = kind in grind (arith, nat_tests)) in
-      let fits : nat_le (first_block w + block_count w) (blocks_of new n) ≡ true = (let count = before.blocks n all_there in let more = widens.tables.blocks n all_there in grind (arith, nat_tests)) in
-      let inside : nat_le (place w + byte_size w) (length_in new n) ≡ true = (let e = ends_inside in grind (arith, nat_tests)) in
-      rw (type, fits, inside) refl
 
   module _ (image : Image) (changed : IsChanged mid n (first_block w) (block_count w) true image) (free : are_free (is_block_marked from n) (first_block w) (block_count w) ≡ true) (empties : EmptyAgrees from n) where
     mid_marks : (m b : ℕ) → is_block_marked mid m b ≡ is_block_marked from m b
@@ -118,7 +93,7 @@ module _ (old new : BlockFiles) (from mid : Image) (k : Kind) (w : ℕ)
     stands_last : stands_in image w ≡ true
     unfolding stands
     stands_last =
-        let mid_stands : stands_in_blocks mid w ≡ true = sym (stands_agree new mid w later) ∙ taken_stands in
+        let mid_stands : stands_in_blocks mid w ≡ true = sym (stands_agree new mid w later) ∙ stands_new in
         let test : (kind_of w == external) ≡ false = (let d = blocks.block_kind in grind (arith, nat_tests)) in
         let all : (is_address w && (if kind_of w == external then has_file mid (External (external_number w)) else stands_in_blocks mid w)) ≡ true =
         ap (λ (t : Bool). is_address w && (if t then has_file mid (External (external_number w)) else stands_in_blocks mid w)) test ∙ ap₂ (λ (x y : Bool). x && y) address mid_stands in

@@ -20,7 +20,7 @@ use Rattle.blk_alloc.specs.Counting.{IsCounted}
 use Rattle.blk_alloc.specs.Changes.{updating_place}
 use Rattle.blk_alloc.specs.Owning.{is_of, IsCause, KeepsFile}
 use Rattle.blk_alloc.specs.Fitting.{HasNoRoom, IsFirstFit, IsPlace, IsShortOf}
-use Rattle.blk_alloc.specs.Marking.{taking_of, IsDangling, CanBeMarked, MarksUsed, MarksUsedInProgress}
+use Rattle.blk_alloc.specs.Marking.{taking_of, CanBeMarked, MarksUsed, MarksUsedInProgress}
 use Rattle.blk_alloc.specs.Extending.{HasMostBlocks, HasNoHints, IsFirstGrowing, KeepsFiles, KeepsMarks}
 
 -- What is asked of the files.
@@ -176,15 +176,8 @@ pub record IsCauseOf (files : BlockFiles) (kind count : ℕ) (told : Told) (dama
   pub is : IsPlace files kind count place
   pub cause : IsCause told place.file place.start place.count true damage
 
--- so many blocks of one of the files of a kind, which were to be taken, don't stand
-pub record IsDanglingOf (files : BlockFiles) (kind count : ℕ) (damage : Damage) : Type 0 where
-  pub place : Blocks
-  pub is : IsPlace files kind count place
-  pub dangling : IsDangling files kind place damage
-
--- why so many blocks are not allocated: a damaged header, which may be that of a file that was added; or, before anything is written, a map that was too short where room was sought, or files that were full; or blocks that don't stand
+-- why so many blocks are not allocated: a damaged header, which may be that of a file that was added; or, before anything is written, a map that was too short where room was sought, or files that were full
 abbrev pub IsRefusal : BlockFiles → BlockFiles → ℕ → ℕ → Told → Told → Damage → Type 0
 IsRefusal old new kind count before after damage =
     IsCauseOf new kind count after damage
     ⊎ (Stays before after × (IsShortOf old kind before damage ⊎ IsFull old kind before damage))
-    ⊎ IsDanglingOf new kind count damage

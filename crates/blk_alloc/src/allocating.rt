@@ -137,10 +137,8 @@ fn allocate_new<F: Folder>(
 /// 64896 blocks grows, and where there is none, a file is added and grows; the new blocks are given.
 ///
 /// A damage is a read of a file's header that gave too few bytes, a counter that would leave its
-/// range, or 60 full files of the kind; then it finds the last word of the last map. Where the blocks
-/// don't stand among the files, as their file is kept as one of another kind too or its number of blocks
-/// ends among them, it has the place of this number. Where the files of the kind have true counters and
-/// at most 655362 allocations, all of these need a folder that tells nothing.
+/// range, or 60 full files of the kind; then it finds the last word of the last map. Where the files of
+/// the kind have true counters and at most 655362 allocations, all of these need a folder that tells nothing.
 pub fn allocate<F: Folder>(
     f: &mut F,
     files: &mut BlockFiles,

@@ -4,36 +4,19 @@ ghost use Rattle.std.specs.Option.{ForSome};
 ghost use Rattle.blk_image.specs.Told.{PassesTo, Rises};
 ghost use Rattle.blk_format.specs.Address as address;
 ghost use Rattle.blk_format.specs.Address.{external, rankings};
-ghost use Rattle.blk_format.specs.BlockFiles.{is_among};
 ghost use Rattle.blk_addr.specs.Kind.{kind_number};
 ghost use Rattle.blk_io.specs.Faults.{IfDamaged, IfDevice};
-ghost use Rattle.blk_disk.specs.Tables.{Agrees, all_files, blocks_of, stands_among};
+ghost use Rattle.blk_disk.specs.Tables.{Agrees, stands_among};
 ghost use Rattle.blk_alloc.specs.Fitting.{IsPlace};
 ghost use Rattle.blk_alloc.specs.Extending.{HasItsBlocks, KeepsLists, KeepsStanding};
 ghost use Rattle.blk_alloc.specs.Owning.{IsCause};
-ghost use Rattle.blk_alloc.specs.Marking.{CountsUsed, blocks_place, IsDangling, CanBeMarked, MarksUsedInProgress, MarksUsed};
+ghost use Rattle.blk_alloc.specs.Marking.{CountsUsed, CanBeMarked, MarksUsedInProgress, MarksUsed};
 
 use crate::blocks::Blocks;
 use crate::change::change;
 use blk_addr::{Addr, Kind};
 use blk_disk::BlockFiles;
-use blk_io::{Damage, Fault, FileId, Folder};
-use blk_record::BlockHead;
-
-// The damage where blocks of a file don't stand.
-fn dangling(files: &BlockFiles, file: u8) -> Damage
-    requires { IsTrue (is_among (all_files files.now) file) }
-    ensures { result ≡ record { file = FileId.Block file; at = blocks_place; found = blocks_of files.now file } }
-{
-    let Some(found) = files.max_entries(file) else {
-        unreachable!();
-    };
-    Damage {
-        file: FileId::Block(file),
-        at: BlockHead::MAX_ENTRIES,
-        found,
-    }
-}
+use blk_io::{Fault, Folder};
 
 // Marks blocks of a file as used: lengthens the file to all its blocks, where it is shorter, and marks them.
 pub(crate) fn mark<F: Folder>(
@@ -60,16 +43,13 @@ pub(crate) fn mark<F: Folder>(
     ensures stops { ForSome (F.told f.old).files (λ from. CanBeMarked from place → PassesTo (F.told f.old) (F.told f.new) (MarksUsedInProgress place.file from) (λ image. MarksUsedInProgress place.file from image ⊎ MarksUsed files.old from (address.block_word (kind_number kind) place.file place.start place.count) image)) }
     ensures silent { (F.told f.old).files ≡ None → (F.told f.new).files ≡ None }
     ensures place { IsPlace files.new (kind_number kind) place.count place }
-    ensures cause { IfDamaged result (λ damage. IsCause (F.told f.new) place.file place.start place.count true damage ⊎ IsDangling files.new (kind_number kind) place damage) }
+    ensures cause { IfDamaged result (IsCause (F.told f.new) place.file place.start place.count true) }
     ensures untold { IfDamaged result (λ _. ForSome (F.told f.old).files (λ image. CanBeMarked image place) → (F.told f.old).files ≡ None) }
     ensures later { F.faults f.old ≤ F.faults f.new }
     ensures device { IfDevice result (Rises (F.faults f.old) (F.faults f.new)) }
 {
     files.fit(f, place.file)?;
     let addr = Addr::of_blocks(kind, place.file, place.start, place.count);
-    if !files.stands(addr) {
-        return Err(Fault::Damaged(dangling(files, place.file)));
-    }
     change(f, place.file, place.start, place.count, true)?;
     Ok(addr)
 }

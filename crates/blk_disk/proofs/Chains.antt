@@ -25,7 +25,7 @@ or_cases true t e = inl refl
 or_cases false t e = inr e
 
 -- a link that is followed is a number from 4 on that wasn't met
-link_far : (met : List ℕ) (left next : ℕ) → is_link met left next ≡ true → (next == 0) ≡ false → (4 ≤ next) × (is_among met next ≡ false)
+pub link_far : (met : List ℕ) (left next : ℕ) → is_link met left next ≡ true → (next == 0) ≡ false → (4 ≤ next) × (is_among met next ≡ false)
 unfolding is_link
 link_far met left next holds some = by_tests (nat_le 4 next) refl (nat_le next 255) (is_among met next) refl (nat_lt 0 left) (ap (λ (t : Bool). t || (nat_le 4 next && nat_le next 255 && not (is_among met next) && nat_lt 0 left)) (sym some) ∙ holds)
   where

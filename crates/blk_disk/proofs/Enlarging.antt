@@ -123,7 +123,7 @@ pub grows_whole : (n : ℕ) (from image : Image) → IsGrowing n from image → 
 grows_whole n from image growing = record { grown = grows_grown n from image growing; formed = grows_formed n from image growing }
 
 -- the number of blocks after a growth is one that a file may have
-count_grown : (b : ℕ) → b < 64896 → is_block_count b ≡ true → is_block_count (grown b) ≡ true
+pub count_grown : (b : ℕ) → b < 64896 → is_block_count b ≡ true → is_block_count (grown b) ≡ true
 unfolding is_block_count
 count_grown b below holds =
     ⊎_elim

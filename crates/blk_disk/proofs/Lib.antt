@@ -17,4 +17,6 @@ pub mod ThreeChanges
 pub mod SealedReads
 pub mod SealedWrites
 pub mod MissingSeals
-mod Once
+pub mod Once
+pub mod KeptOnce
+mod TakingUp

@@ -14,7 +14,7 @@ use Rattle.blk_disk.specs.Linked.{LinkedFilesAreDistinct, LinkedFilesHaveOneKind
 use Rattle.blk_disk.proofs.Chains.{IsMet, fails, kind_none, linked_once, met_along, met_in}
 
 -- a number that isn't in a list is unlike each of it
-apart : (k : ℕ) (ns : List ℕ) → is_among ns k ≡ false → AllByRecursion (λ n. (k == n) ≡ false) ns
+pub apart : (k : ℕ) (ns : List ℕ) → is_among ns k ≡ false → AllByRecursion (λ n. (k == n) ≡ false) ns
 apart k [] none = tt
 apart k (n ∷ ns) none = by_test (apart k ns) (n == k) refl none
   where

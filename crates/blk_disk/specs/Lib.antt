@@ -5,3 +5,4 @@ pub mod Growth
 pub mod Unsealed
 pub mod Linked
 pub mod Open
+pub mod Kept

@@ -1,5 +1,5 @@
 -- How block files are checked and taken up, one along the links after another.
-use Rattle.std.specs.Prelude.{◌≡◌, ◌≢◌, ◌⊎◌, ℕ, ◌-◌, ◌<◌, ◌≤◌, List, [], ◌∷◌, ◌++◌, length, drop, ◌==◌, if◌then◌else◌, true, Option, None, Some, Result, Ok, Err}
+use Rattle.std.specs.Prelude.{◌≡◌, ◌≢◌, ◌⊎◌, ℕ, ◌-◌, ◌<◌, ◌≤◌, List, [], ◌∷◌, ◌++◌, length, drop, ◌==◌, ◌||◌, if◌then◌else◌, false, true, Option, None, Some, Result, Ok, Err}
 use Rattle.std.specs.List.{flat_map}
 use Rattle.blk_image.specs.Bytes.{content}
 use Rattle.blk_image.specs.Image.{Block, Image, byte, length_of}
@@ -74,6 +74,19 @@ IsFileNumber kind n = (n ≡ kind - 1) ⊎ ((4 ≤ n) × (n ≤ 255))
 abbrev pub MayBeNext : ℕ → Option ℕ → Type 0
 MayBeNext kind None = Unit {0}
 MayBeNext kind (Some n) = IsFileNumber kind n
+
+-- where there is a next file, it is none of these
+abbrev pub IsFresh : List ℕ → Option ℕ → Type 0
+IsFresh files None = Unit {0}
+IsFresh files (Some n) = is_among files n ≡ false
+
+-- a file is taken up beside those before
+abbrev pub TakesUp : BlockFiles → BlockFiles → ℕ → Type 0
+TakesUp old new n = (m : ℕ) → is_among (all_files new) m ≡ (is_among (all_files old) m || (n == m))
+
+-- files of the kinds up to one: each is the first of its kind, or has a number that links have
+abbrev pub AreNumbered : List ℕ → ℕ → Type 0
+AreNumbered files kind = (n : ℕ) → is_among files n ≡ true → (n < kind) ⊎ (4 ≤ n)
 
 -- so it is for a file of some block kind, with some files that were taken up before
 pub record IsLoadDamage (told : Told) (damage : Damage) : Type 0 where

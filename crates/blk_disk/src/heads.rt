@@ -1,5 +1,5 @@
 // The headers of block files, read and checked.
-ghost use Rattle.std.specs.Prelude.{◌≡◌, ◌≢◌, ◌⊎◌, ◌+◌, ◌-◌, ◌<◌, ◌≤◌, ◌∷◌, ◌++◌, [], length, IfOk, Some};
+ghost use Rattle.std.specs.Prelude.{◌≡◌, ◌≢◌, ◌⊎◌, ◌+◌, ◌-◌, ◌<◌, ◌≤◌, ◌∷◌, ◌++◌, [], length, IfOk, IsTrue, Some};
 ghost use Rattle.std.specs.Option.{ForSome, option_map};
 ghost use Rattle.blk_image.specs.Bytes.{content, word_at};
 ghost use Rattle.blk_image.specs.Checks.{first_of};
@@ -11,7 +11,7 @@ ghost use Rattle.blk_format.specs.BlockFiles.{most_files};
 ghost use Rattle.blk_addr.specs.Kind.{kind_number};
 ghost use Rattle.blk_io.specs.Faults.{IfDamaged, IfDevice, damage_of};
 ghost use Rattle.blk_disk.specs.Tables.{all_files, files_of};
-ghost use Rattle.blk_disk.specs.Loading.{HasRoom, IsFew, IsHeaderDamage, Judges, MayBeNext, ReadsAs, files_left, header_checks, next_of};
+ghost use Rattle.blk_disk.specs.Loading.{HasRoom, IsFew, IsFresh, IsHeaderDamage, Judges, MayBeNext, ReadsAs, files_left, header_checks, next_of};
 
 use crate::tables::{BlockFiles, MOST_FILES};
 use blk_addr::Kind;
@@ -72,6 +72,8 @@ impl BlockFiles {
         requires { kind_number kind ≢ external }
         ensures room { IfOk result (λ head. HasRoom (length (files_of self.now (kind_number kind)) + 1) head.next) }
         ensures number { IfOk result (λ head. MayBeNext (kind_number kind) head.next) }
+        ensures fresh { IfOk result (λ head. IsFresh (all_files self.now ++ n ∷ []) head.next) }
+        ensures count { IfOk result (λ head. IsTrue (block_files.is_block_count head.blocks)) }
         ensures read { ForSome (F.told f.old).files (λ image. ReadsAs self.now image (kind_number kind) n result) }
         ensures cause { IfDamaged result (IsHeaderDamage (F.told f.old) self.now (kind_number kind) n) }
         ensures stays { Stays (F.told f.old) (F.told f.new) }
@@ -101,6 +103,8 @@ impl BlockFiles {
         requires { kind_number kind ≢ external }
         ensures room { IfOk result (λ head. HasRoom (length (files_of self.now (kind_number kind)) + 1) head.next) }
         ensures number { IfOk result (λ head. MayBeNext (kind_number kind) head.next) }
+        ensures fresh { IfOk result (λ head. IsFresh (all_files self.now ++ n ∷ []) head.next) }
+        ensures count { IfOk result (λ head. IsTrue (block_files.is_block_count head.blocks)) }
         ensures judged { Judges (first_of (header_checks self.now (kind_number kind) n (content head.now) size)) (content head.now) size given result }
         ensures cause { IfDamaged result (λ damage. IsFew n given damage ⊎ (first_of (header_checks self.now (kind_number kind) n (content head.now) size) ≡ Some (damage_of damage))) }
         ensures device { IfDevice result ⊥ }

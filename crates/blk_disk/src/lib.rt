@@ -13,7 +13,7 @@ mod sealed;
 mod standing;
 mod tables;
 
-pub use laws::files_are_linked_once;
+pub use laws::{files_are_kept_once, files_are_linked_once};
 pub use names::file_of;
 pub use tables::{BlockFiles, MOST_FILES};
 

@@ -1,13 +1,13 @@
 // The block files of a folder are taken up, one along the links after another.
-ghost use Rattle.std.specs.Prelude.{◌≡◌, ◌≢◌, ◌+◌, ◌-◌, ◌<◌, ◌≤◌, [], length, OnOk, IfOk, Some, None};
+ghost use Rattle.std.specs.Prelude.{◌≡◌, ◌≢◌, ◌+◌, ◌-◌, ◌<◌, ◌≤◌, [], length, OnOk, IfOk, Some, None, false};
 ghost use Rattle.std.specs.Option.{ForSome};
 ghost use Rattle.blk_image.specs.Told.{Stays, Rises};
 ghost use Rattle.blk_format.specs.Address.{external};
-ghost use Rattle.blk_format.specs.BlockFiles.{first_block_damage, most_files};
+ghost use Rattle.blk_format.specs.BlockFiles.{first_block_damage, is_among, most_files};
 ghost use Rattle.blk_addr.specs.Kind.{kind_number};
 ghost use Rattle.blk_io.specs.Faults.{IfDamaged, IfDevice, damage_of};
-ghost use Rattle.blk_disk.specs.Tables.{files_of};
-ghost use Rattle.blk_disk.specs.Loading.{LoadsAs, Follows, HasRoom, IsHeaderDamage, IsLoadDamage, KeepsOthers, MayBeNext};
+ghost use Rattle.blk_disk.specs.Tables.{all_files, files_of};
+ghost use Rattle.blk_disk.specs.Loading.{AreNumbered, LoadsAs, Follows, HasRoom, IsFresh, IsHeaderDamage, IsLoadDamage, KeepsOthers, MayBeNext, TakesUp};
 
 use crate::tables::BlockFiles;
 use blk_addr::Kind;
@@ -41,7 +41,9 @@ impl BlockFiles {
         requires block_kind { kind_number kind ≢ external }
         requires empty { files_of self.old (kind_number kind) ≡ [] }
         requires begun { ForSome (F.told f.old).files (λ image. Follows self.old image (kind_number kind - 1) None) }
+        requires numbers { AreNumbered (all_files self.old) (kind_number kind - 1) }
         ensures followed { OnOk result (ForSome (F.told f.new).files (λ image. Follows self.new image (kind_number kind) None)) }
+        ensures numbers { OnOk result (AreNumbered (all_files self.new) (kind_number kind)) }
         ensures others { OnOk result (KeepsOthers self.old self.new (kind_number kind)) }
         ensures damaged { IfDamaged result (λ damage. ForSome (F.told f.old).files (λ image. first_block_damage image ≡ Some (damage_of damage))) }
         ensures cause { IfDamaged result (IsLoadDamage (F.told f.old)) }
@@ -56,14 +58,17 @@ impl BlockFiles {
         Ok(())
     }
 
-    // Takes up the next file of a kind, and gives the one after it.
+    // Takes up the next file of a kind, which isn't linked yet, and gives the one after it.
     fn link<F: Folder>(&mut self, f: &mut F, kind: Kind, n: u8) -> Result<Option<u8>, Fault>
         requires block_kind { kind_number kind ≢ external }
         requires room { length (files_of self.old (kind_number kind)) < most_files }
+        requires fresh { is_among (all_files self.old) n ≡ false }
         requires next { ForSome (F.told f.old).files (λ image. Follows self.old image (kind_number kind) (Some n)) }
         ensures linked { IfOk result (λ next. ForSome (F.told f.new).files (λ image. Follows self.new image (kind_number kind) next)) }
         ensures room { IfOk result (HasRoom (length (files_of self.new (kind_number kind)))) }
         ensures number { IfOk result (MayBeNext (kind_number kind)) }
+        ensures fresh { IfOk result (IsFresh (all_files self.new)) }
+        ensures taken { OnOk result (TakesUp self.old self.new n) }
         ensures longer { OnOk result (length (files_of self.new (kind_number kind)) ≡ length (files_of self.old (kind_number kind)) + 1) }
         ensures others { OnOk result (KeepsOthers self.old self.new (kind_number kind)) }
         ensures damaged { IfDamaged result (λ damage. ForSome (F.told f.old).files (λ image. first_block_damage image ≡ Some (damage_of damage))) }

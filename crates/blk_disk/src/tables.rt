@@ -1,8 +1,10 @@
 // What is kept of the block files.
-ghost use Rattle.std.specs.Prelude.{◌≡◌, ◌≢◌, ◌<◌, ◌≤◌, ◌+◌, [], ◌∷◌, ◌++◌, ◌==◌, length, IsTrue, Some, None, slice_get, if◌then◌else◌};
+ghost use Rattle.std.specs.Prelude.{ℕ, ◌≡◌, ◌≢◌, ◌<◌, ◌≤◌, ◌+◌, [], ◌∷◌, ◌++◌, ◌==◌, length, IsTrue, Some, None, false, true, slice_get, slice_index, if◌then◌else◌};
+ghost use Rattle.std.specs.List.{IsDistinct};
 ghost use Rattle.std.specs.Option.{option_map};
+ghost use Rattle.std.proofs.Props.{props};
 ghost use Rattle.blk_format.specs.Address.{external};
-ghost use Rattle.blk_format.specs.BlockFiles.{is_among, kind_among, most_files};
+ghost use Rattle.blk_format.specs.BlockFiles.{is_among, is_block_count, kind_among, most_files};
 ghost use Rattle.blk_addr.specs.Kind.{kind_number};
 
 use arrayvec::ArrayVec;
@@ -30,6 +32,10 @@ pub struct BlockFiles {
     lengths: [u64; NUMBERS],
     ghost all_blocks: { length blocks ≡ 256 },
     ghost all_lengths: { length lengths ≡ 256 },
+    // No number stands twice, in one kind or in two.
+    ghost once: { IsDistinct (λ m n. m == n) (rankings.items ++ b256.items ++ b1k.items ++ b4k.items) } by { Prim.hlevel props },
+    // Each linked file has a number of blocks that files may have.
+    ghost counts: { (n : ℕ) → is_among (rankings.items ++ b256.items ++ b1k.items ++ b4k.items) n ≡ true → is_block_count (slice_index blocks n) ≡ true },
 }
 
 impl BlockFiles {
@@ -104,16 +110,19 @@ impl BlockFiles {
 
     // Keeps that a file has so many blocks and bytes.
     pub(crate) fn enlarge(&mut self, file: u8, blocks: u32, size: u64)
+        requires { IsTrue (is_block_count blocks) }
         ensures { Enlarges self.old self.new file blocks size }
     {
         self.blocks[usize::from(file)] = blocks;
         self.lengths[usize::from(file)] = size;
     }
 
-    // Takes up a file as the last one of its kind.
+    // Takes up a file, which isn't linked yet, as the last one of its kind.
     pub(crate) fn join(&mut self, kind: Kind, file: u8, blocks: u32, size: u64)
         requires block_kind { kind_number kind ≢ external }
         requires room { length (files_of self.old (kind_number kind)) < most_files }
+        requires fresh { is_among (all_files self.old) file ≡ false }
+        requires count { IsTrue (is_block_count blocks) }
         ensures { Joins self.old self.new (kind_number kind) file blocks size }
     {
         self.blocks[usize::from(file)] = blocks;

@@ -16,7 +16,7 @@ use Rattle.blk_alloc.specs.Counting.{IsCounted}
 use Rattle.blk_alloc.specs.Extending.{HasItsBlocks, KeepsLinks, KeepsLists}
 use Rattle.blk_format.specs.BlockFiles.{is_among}
 use Rattle.blk_alloc.specs.declared.blocks.Blocks.{Blocks}
-use Rattle.blk_alloc.specs.Marking.{CanBeMarked, CountsUsed, IsDangling, MarksUsed, MarksUsedInProgress, taking_of}
+use Rattle.blk_alloc.specs.Marking.{CanBeMarked, CountsUsed, MarksUsed, MarksUsedInProgress, taking_of}
 use Rattle.std.proofs.lemmas.Result.{IfOk-weaker}
 use Rattle.blk_alloc.specs.Owning.{IsCause}
 use Rattle.blk_io.specs.Faults.{IfDamaged}
@@ -65,7 +65,7 @@ returns-in_err-place-clause-cause g c =
     let kind = kind_number c.args.kind in
     carried c.first_fit.result c.from_residual.result c.in_err-place.field-0.0 _ c.in_err-place.was c.from_residual.ensures.1
     (if_damaged_weaker c.first_fit.result (IsShortOf c.args.files.now kind (g.F.Folder.told c.args.f.now)) (IsRefusal c.args.files.now c.args.files.now kind c.args.blocks (g.F.Folder.told c.args.f.now) (g.F.Folder.told c.first_fit.new.f))
-    (λ damage short. inr (inl (c.first_fit.ensures.stays, inl short))) c.first_fit.ensures.cause)
+    (λ damage short. inr (c.first_fit.ensures.stays, inl short)) c.first_fit.ensures.cause)
 
 pub returns-in-Some-clause-address : goal.returns-in-Some-clause-address
 returns-in-Some-clause-address g c =
@@ -150,9 +150,9 @@ returns-in-Some-clause-cause g c =
     let place = c.in-Some.place in
     let is = place_counted c.mark.new.files kind c.args.blocks place counted c.mark.ensures.place in
     let after = g.F.Folder.told c.mark.new.f in
-    if_damaged_weaker c.mark.result (λ damage. IsCause after place.file place.start place.count true damage ⊎ IsDangling c.mark.new.files kind place damage)
+    if_damaged_weaker c.mark.result (IsCause after place.file place.start place.count true)
     (IsRefusal c.args.files.now c.mark.new.files kind c.args.blocks (g.F.Folder.told c.args.f.now) after)
-    (λ damage. ⊎_elim (λ (why : IsCause after place.file place.start place.count true damage). inl (record { place = place; is = is; cause = why })) (λ dangling. inr (inr (record { place = place; is = is; dangling = dangling })))) c.mark.ensures.cause
+    (λ damage why. inl (record { place = place; is = is; cause = why })) c.mark.ensures.cause
 
 pub returns-in-Some-clause-untold : goal.returns-in-Some-clause-untold
 returns-in-Some-clause-untold g c all_counted =

@@ -1,4 +1,4 @@
-use Rattle.std.proofs.Common.{◌≡◌, ◌⊎◌, inl, inr, ℕ, ◌≤◌, length, Option, None, Some, refl, true, sym, ap, ◌∙◌, subst, arith, ⊎_elim}
+use Rattle.std.proofs.Common.{◌≡◌, inl, inr, ℕ, ◌≤◌, length, Option, None, Some, refl, true, sym, ap, ◌∙◌, subst, arith, ⊎_elim}
 use Rattle.std.specs.List.{All}
 use Rattle.std.specs.Option.{ForSome}
 use Rattle.std.proofs.lemmas.Result.{IfOk-weaker}
@@ -14,7 +14,7 @@ use Rattle.blk_disk.specs.Tables.{all_files, files_of}
 use Rattle.blk_alloc.specs.Counting.{IsCounted}
 use Rattle.blk_alloc.specs.Owning.{IsCause}
 use Rattle.blk_alloc.specs.Extending.{HasItsBlocks, HasMostBlocks, KeepsLinks, KeepsLists}
-use Rattle.blk_alloc.specs.Marking.{CanBeMarked, CountsUsed, IsDangling, MarksUsed, taking_of}
+use Rattle.blk_alloc.specs.Marking.{CanBeMarked, CountsUsed, MarksUsed, taking_of}
 use Rattle.blk_alloc.specs.Allocating.{Allocates, AreCounted, ExtendsAnd, ExtendsAndAllocates, IsChosen, IsCountedOnce, IsFull, IsRefusal, MakesRoomInProgress, updating_word}
 use Rattle.blk_alloc.proofs.Causes.{if_damaged_both}
 use Rattle.blk_io.proofs.Carried.{carried, if_damaged_weaker, untold_where}
@@ -61,7 +61,7 @@ returns-in_err-place-clause-cause g c =
     carried c.new_room.result c.from_residual.result c.in_err-place.field-0.0 _ c.in_err-place.was c.from_residual.ensures.1
     (if_damaged_both c.new_room.result (IsFull c.args.files.now kind (g.F.Folder.told c.args.f.now)) (λ _. Stays (g.F.Folder.told c.args.f.now) (g.F.Folder.told c.new_room.new.f))
     (IsRefusal c.args.files.now c.new_room.new.files kind c.args.count (g.F.Folder.told c.args.f.now) (g.F.Folder.told c.new_room.new.f))
-    (λ damage full stays. inr (inl (stays, inr full))) c.new_room.ensures.cause c.new_room.ensures.unwritten)
+    (λ damage full stays. inr (stays, inr full)) c.new_room.ensures.cause c.new_room.ensures.unwritten)
 
 pub returns-in_err-place-clause-untold : goal.returns-in_err-place-clause-untold
 returns-in_err-place-clause-untold g c counted =
@@ -137,9 +137,9 @@ returns-clause-cause g c =
     let place = c.in_ok-place.place in
     let is = place_counted c.mark.new.files kind c.args.count place c.in_ok-place.ensures.fits.counted c.mark.ensures.place in
     let after = g.F.Folder.told c.mark.new.f in
-    if_damaged_weaker c.mark.result (λ damage. IsCause after place.file place.start place.count true damage ⊎ IsDangling c.mark.new.files kind place damage)
+    if_damaged_weaker c.mark.result (IsCause after place.file place.start place.count true)
     (IsRefusal c.args.files.now c.mark.new.files kind c.args.count (g.F.Folder.told c.args.f.now) after)
-    (λ damage. ⊎_elim (λ (why : IsCause after place.file place.start place.count true damage). inl (record { place = place; is = is; cause = why })) (λ dangling. inr (inr (record { place = place; is = is; dangling = dangling })))) c.mark.ensures.cause
+    (λ damage why. inl (record { place = place; is = is; cause = why })) c.mark.ensures.cause
 
 pub returns-clause-untold : goal.returns-clause-untold
 returns-clause-untold g c counted =

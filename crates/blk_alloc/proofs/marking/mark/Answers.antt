@@ -1,4 +1,4 @@
-use Rattle.std.proofs.Common.{◌≡◌, ◌⊎◌, ⊎_elim, inl, inr, Bool, ℕ, ◌+◌, ◌%◌, ◌<◌, ◌≤◌, List, true, false, None, sym, ◌∙◌, ap, subst, arith}
+use Rattle.std.proofs.Common.{◌≡◌, ⊎_elim, inl, ℕ, ◌+◌, ◌%◌, ◌<◌, ◌≤◌, List, true, None, sym, ◌∙◌, ap, subst, arith}
 use Rattle.std.specs.Option.{ForSome}
 use Rattle.blk_image.specs.Told.{Stays, Told}
 use Rattle.blk_format.specs.BlockFiles.{is_among}
@@ -8,23 +8,21 @@ use Rattle.blk_image.specs.Footprint.{SameOutside, size_of}
 use Rattle.blk_image.proofs.Runs.{passes_to, passes_none, passes_end, passes_weaker, some_inj}
 use Rattle.blk_disk.specs.Growth.{fit_steps}
 use Rattle.blk_disk.specs.declared.tables.BlockFiles.{BlockFiles}
-use Rattle.blk_alloc.specs.Marking.{IsDangling, CanBeMarked, MarksUsedInProgress, MarksUsed}
+use Rattle.blk_alloc.specs.Marking.{CanBeMarked, MarksUsedInProgress, MarksUsed}
 use Rattle.blk_alloc.specs.Changes.{IsReady, map_of}
 use Rattle.blk_alloc.proofs.Formed.{agrees_kept}
 use Rattle.blk_alloc.proofs.Members.{member_all, member_head}
 use Rattle.blk_alloc.proofs.Kept.{fit_larger, standing_kept, standing_same}
-use Rattle.blk_alloc.proofs.Taken.{fit_passes, taking_fit}
+use Rattle.blk_alloc.proofs.Taken.{taking_fit}
 use Rattle.blk_alloc.specs.Fitting.{IsPlace}
-use Rattle.blk_io.specs.declared.fault.Damage.{Damage}
-use Rattle.blk_format.specs.Address.{block_word}
-use Rattle.blk_alloc.proofs.NotStanding.{place_resized, why_dangling}
+use Rattle.blk_alloc.proofs.Placed.{place_resized, place_stands}
 use Rattle.blk_image.proofs.Footprints.{outside-refl}
 use Rattle.blk_disk.specs.Tables.{Agrees, stands_among}
 use Rattle.blk_alloc.proofs.Links.{fitted_long}
-use Rattle.blk_alloc.proofs.TakenAfter.{counted_after, ready_after, stops_after, taken_after, stands_after}
+use Rattle.blk_alloc.proofs.TakenAfter.{counted_after, ready_after, stops_after, taken_after}
 use Rattle.blk_image.specs.Steps.{after}
 use Rattle.blk_alloc.specs.Owning.{IsCause}
-use Rattle.blk_io.proofs.Carried.{carried, if_damaged_weaker, told_at_end, untold_where}
+use Rattle.blk_io.proofs.Carried.{carried, if_damaged_weaker, told_at_end}
 use Rattle.blk_alloc.proofs.Causes.{if_damaged_both, none_before}
 use Rattle.blk_alloc.proofs.marking.mark.Goals as goal
 
@@ -76,33 +74,8 @@ returns-clause-used g c from there takeable image now =
     (taken_after (g.F.Folder.told c.args.f.now) (g.F.Folder.told c.fit.new.f) c.args.files.now c.fit.new.self c.args.place c.requires.agrees (member_all c.args.files.now c.args.kind c.args.place.file c.requires.block_kind c.requires.place.linked)
     c.in_ok-fit.ensures.fitted c.in_ok-fit.ensures.kept c.in_ok-fit.ensures.agrees c.args.kind c.requires.block_kind c.requires.some c.requires.node c.requires.place tk from there image (λ mid is. c.in_ok-change.ensures.changed mid is image now))
 
-pub dangling-requires : goal.dangling-requires
-dangling-requires g c = ap (λ (l : List ℕ). is_among l c.args.place.file) c.in_ok-fit.ensures.kept.all ∙ member_all c.args.files.now c.args.kind c.args.place.file c.requires.block_kind c.requires.place.linked
-
-both : (s t : Bool) → s ≡ false → s ≡ t → t ≡ true → ⊥
-both s t not same is = clash (sym not ∙ same ∙ is)
-  where
-    clash : false ≡ true → ⊥
-    clash e = cc
-
--- a told folder never has blocks that don't stand
-pub returns-then-not-stands-clause-untold : goal.returns-then-not-stands-clause-untold
-returns-then-not-stands-clause-untold g c takeable =
-    untold_where (g.F.Folder.told c.args.f.now).files
-    (λ from there. both c.stands.result _ c.if-not-stands.true (c.stands.ensures.among ∙ ap (stands_among c.fit.new.self) c.of_blocks-addr.ensures)
-    (stands_after (g.F.Folder.told c.args.f.now) (g.F.Folder.told c.fit.new.f) c.args.files.now c.fit.new.self c.args.place c.requires.agrees (member_all c.args.files.now c.args.kind c.args.place.file c.requires.block_kind c.requires.place.linked)
-    c.in_ok-fit.ensures.fitted c.in_ok-fit.ensures.kept c.in_ok-fit.ensures.agrees c.args.kind c.requires.block_kind c.requires.some c.requires.node c.requires.place takeable from there))
-
-pub returns-then-not-stands-clause-stops : goal.returns-then-not-stands-clause-stops
-returns-then-not-stands-clause-stops g c from there takeable =
-    passes_to (fit_passes c.args.files.now c.args.place.file from (c.requires.agrees from there) (member_all c.args.files.now c.args.kind c.args.place.file c.requires.block_kind c.requires.place.linked) (MarksUsedInProgress c.args.place.file from) there c.in_ok-fit.ensures.fitted (λ i same longer. taking_fit c.args.place.file from i same longer))
-    (λ image midst. inl midst)
-
 pub returns-in_err-fit-clause-keeps : goal.returns-in_err-fit-clause-keeps
 returns-in_err-fit-clause-keeps g c = standing_same c.args.files.now c.fit.new.self c.in_err-fit.ensures.same
-
-pub returns-then-not-stands-clause-keeps : goal.returns-then-not-stands-clause-keeps
-returns-then-not-stands-clause-keeps g c = standing_kept c.args.files.now c.fit.new.self (fit_larger c.args.files.now c.fit.new.self c.args.place.file _ c.in_ok-fit.ensures.kept)
 
 pub returns-in_err-change-clause-keeps : goal.returns-in_err-change-clause-keeps
 returns-in_err-change-clause-keeps g c = standing_kept c.args.files.now c.fit.new.self (fit_larger c.args.files.now c.fit.new.self c.args.place.file _ c.in_ok-fit.ensures.kept)
@@ -114,8 +87,8 @@ pub returns-in_err-change-clause-cause : goal.returns-in_err-change-clause-cause
 returns-in_err-change-clause-cause g c =
     carried c.change.result c.from_residual-in_err-change.result c.in_err-change.field-0.0 _ c.in_err-change.was c.from_residual-in_err-change.ensures.1
     (if_damaged_both c.change.result (IsCause (g.F.Folder.told c.fit.new.f) c.args.place.file c.args.place.start c.args.place.count true) (λ _. Stays (g.F.Folder.told c.fit.new.f) (g.F.Folder.told c.change.new.f))
-    (λ damage. IsCause (g.F.Folder.told c.change.new.f) c.args.place.file c.args.place.start c.args.place.count true damage ⊎ IsDangling c.fit.new.self (kind_number c.args.kind) c.args.place damage)
-    (λ damage cause stays. inl (subst (λ (t : Told). IsCause t c.args.place.file c.args.place.start c.args.place.count true damage) (sym stays) cause)) c.change.ensures.cause c.change.ensures.unwritten)
+    (IsCause (g.F.Folder.told c.change.new.f) c.args.place.file c.args.place.start c.args.place.count true)
+    (λ damage cause stays. subst (λ (t : Told). IsCause t c.args.place.file c.args.place.start c.args.place.count true damage) (sym stays) cause) c.change.ensures.cause c.change.ensures.unwritten)
 
 pub returns-in_err-change-clause-untold : goal.returns-in_err-change-clause-untold
 returns-in_err-change-clause-untold g c =
@@ -129,26 +102,11 @@ returns-in_err-change-clause-untold g c =
 pub returns-in_err-fit-clause-place : goal.returns-in_err-fit-clause-place
 returns-in_err-fit-clause-place g c = subst (λ (files : BlockFiles). IsPlace files (kind_number c.args.kind) c.args.place.count c.args.place) (sym c.in_err-fit.ensures.same) c.requires.place
 
-pub returns-then-not-stands-clause-place : goal.returns-then-not-stands-clause-place
-returns-then-not-stands-clause-place g c = place_resized c.args.files.now c.fit.new.self (kind_number c.args.kind) c.args.place.count c.args.place.file _ c.args.place c.in_ok-fit.ensures.kept c.requires.place
-
 pub returns-in_err-change-clause-place : goal.returns-in_err-change-clause-place
 returns-in_err-change-clause-place g c = place_resized c.args.files.now c.fit.new.self (kind_number c.args.kind) c.args.place.count c.args.place.file _ c.args.place c.in_ok-fit.ensures.kept c.requires.place
 
 pub returns-clause-place : goal.returns-clause-place
 returns-clause-place g c = place_resized c.args.files.now c.fit.new.self (kind_number c.args.kind) c.args.place.count c.args.place.file _ c.args.place c.in_ok-fit.ensures.kept c.requires.place
-
-pub returns-then-not-stands-clause-cause : goal.returns-then-not-stands-clause-cause
-returns-then-not-stands-clause-cause g c =
-    let dangling : stands_among c.fit.new.self (block_word (kind_number c.args.kind) c.args.place.file c.args.place.start c.args.place.count) ≡ false =
-    ap (stands_among c.fit.new.self) (sym c.of_blocks-addr.ensures) ∙ sym c.stands.ensures.among ∙ c.if-not-stands.true in
-    inr (record {
-      dangling = dangling;
-      why = why_dangling c.args.files.now c.fit.new.self c.args.kind c.args.place c.requires.some c.requires.place c.in_ok-fit.ensures.kept dangling;
-      of_file = ap (λ (damage : Damage). damage.file) c.dangling.ensures;
-      at = ap (λ (damage : Damage). damage.at) c.dangling.ensures;
-      found = ap (λ (damage : Damage). damage.found) c.dangling.ensures;
-    })
 
 pub returns-clause-counted : goal.returns-clause-counted
 returns-clause-counted g c =
@@ -160,3 +118,6 @@ returns-clause-links g c = c.in_ok-fit.ensures.kept.files
 
 pub returns-clause-long : goal.returns-clause-long
 returns-clause-long g c = fitted_long c.args.files.now c.fit.new.self c.args.place.file c.in_ok-fit.ensures.kept
+
+pub returns-clause-stands : goal.returns-clause-stands
+returns-clause-stands g c = ap (stands_among c.fit.new.self) c.of_blocks-addr.ensures ∙ place_stands c.args.files.now c.fit.new.self c.args.kind c.requires.block_kind c.args.place c.requires.some c.requires.place c.in_ok-fit.ensures.kept

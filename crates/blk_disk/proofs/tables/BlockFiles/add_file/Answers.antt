@@ -1,8 +1,9 @@
-use Rattle.std.proofs.Common.{◌+◌, ◌≤◌, ℕ, ◌++◌, sym, subst}
+use Rattle.std.proofs.Common.{◌+◌, ◌≤◌, ℕ, ◌++◌, refl, sym, subst}
 use Rattle.std.specs.Option.{ForSome}
 use Rattle.blk_image.specs.Image.{Block, length_of}
 use Rattle.blk_image.specs.Told.{Applies, AppliesPrefix}
 use Rattle.blk_image.proofs.Runs.{grows_then, part_only, part_then}
+use Rattle.blk_format.specs.BlockFiles.{is_block_count}
 use Rattle.blk_addr.specs.Kind.{kind_number}
 use Rattle.blk_disk.specs.Tables.{Joins}
 use Rattle.blk_disk.specs.Growth.{free_number, last_file, link_steps, make_steps}
@@ -31,6 +32,10 @@ returns-in_err-link_file-clause-prefix g c =
 
 pub returns-in_err-link_file-clause-stops : goal.returns-in_err-link_file-clause-stops
 returns-in_err-link_file-clause-stops g c = add_stops c.args.self.now c.args.kind c.requires.block_kind (g.F.Folder.told c.args.f.now) c.requires.agrees c.requires.room (least_is c.args.self.now c.free_number-n.result c.free_number-n.ensures.number c.free_number-n.ensures.least) (returns-in_err-link_file-clause-prefix g c)
+
+pub join-requires-clause-count : goal.join-requires-clause-count
+unfolding is_block_count
+join-requires-clause-count g c = refl
 
 pub returns-clause-steps : goal.returns-clause-steps
 returns-clause-steps g c =

@@ -4,9 +4,12 @@ use Rattle.blk_image.specs.Steps.{after}
 use Rattle.blk_image.proofs.Runs.{passes_none, some_inj}
 use Rattle.blk_image.proofs.Footprints.{outside-refl}
 use Rattle.blk_format.specs.Growth.{StaysWholeOutside}
-use Rattle.blk_disk.specs.Growth.{growth_of, lengthen_steps}
-use Rattle.blk_disk.proofs.Enlarging.{first_is, part_is, whole_is, enlarges_is, grow_stops, grow_room, grow_agrees}
+use Rattle.blk_disk.specs.Growth.{grown, growth_of, lengthen_steps}
+use Rattle.blk_disk.proofs.Enlarging.{count_grown, first_is, part_is, whole_is, enlarges_is, grow_stops, grow_room, grow_agrees}
 use Rattle.blk_format.proofs.Growths.{whole_not}
+use Rattle.blk_disk.proofs.KeptOnce.{counts}
+use Rattle.blk_disk.specs.Tables.{blocks_of}
+use Rattle.blk_format.specs.BlockFiles.{is_block_count}
 use Rattle.blk_disk.proofs.tables.BlockFiles.grow.Goals as goal
 
 pub returns-in_err-lengthen-clause-stops : goal.returns-in_err-lengthen-clause-stops
@@ -23,6 +26,11 @@ returns-in_err-raise-clause-prefix g c = part_is c.args.self.now c.args.file (g.
 
 pub returns-in_err-raise-clause-stops : goal.returns-in_err-raise-clause-stops
 returns-in_err-raise-clause-stops g c = grow_stops c.args.self.now c.args.file (g.F.Folder.told c.args.f.now) (g.F.Folder.told c.lengthen.new.f) (g.F.Folder.told c.raise.new.f) c.requires.agrees c.requires.linked c.requires.below (returns-in_err-raise-clause-prefix g c)
+
+pub enlarge-requires : goal.enlarge-requires
+enlarge-requires g c =
+    let files = c.args.self.now in
+    ap is_block_count (c.min-blocks.ensures ∙ ap grown c.blocks-old.ensures) ∙ count_grown (blocks_of files c.args.file) c.requires.below (counts files c.args.file c.requires.linked)
 
 pub returns-clause-steps : goal.returns-clause-steps
 returns-clause-steps g c = whole_is c.args.self.now c.args.file (g.F.Folder.told c.args.f.now) (g.F.Folder.told c.lengthen.new.f) (g.F.Folder.told c.raise.new.f) c.requires.agrees c.requires.linked c.requires.below c.blocks-old.result c.min-blocks.result c.length_with-size.result c.blocks-old.ensures c.min-blocks.ensures c.length_with-size.ensures c.in_ok-lengthen.ensures.steps c.in_ok-raise.ensures.steps

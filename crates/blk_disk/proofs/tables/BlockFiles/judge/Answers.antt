@@ -5,9 +5,12 @@ use Rattle.blk_format.specs.Headers.{next_file_of}
 use Rattle.blk_addr.specs.Kind.{kind_number}
 use Rattle.blk_io.specs.Faults.{damage_of}
 use Rattle.blk_disk.specs.Tables.{all_files, files_of}
-use Rattle.blk_disk.specs.Loading.{files_left, HasRoom, MayBeNext, next_of}
+use Rattle.blk_disk.specs.Loading.{files_left, HasRoom, IsFresh, MayBeNext, next_of}
 use Rattle.blk_format.proofs.LinkedHeads.{next_small, link_passed}
 use Rattle.blk_disk.proofs.Firsts.{link_number, link_room}
+use Rattle.blk_disk.proofs.TakingUp.{link_fresh}
+use Rattle.blk_format.specs.BlockFiles.{is_block_count}
+use Rattle.blk_format.proofs.Keeping.{checks_hold}
 use Rattle.blk_disk.proofs.tables.BlockFiles.judge.Goals as goal
 
 pub next_file-next-requires : goal.next_file-next-requires
@@ -31,3 +34,17 @@ returns-clause-number c =
     let left : ℕ = files_left c.args.self.now kind in
     let link = link_passed kind met left c.args.n (content c.args.head.now) c.args.size (sym c.header_damage.ensures ∙ ap (option_map damage_of) c.in_default.is) in
     subst (MayBeNext kind) (sym (c.next_file-next.ensures ∙ ap next_of c.next_file.ensures)) (link_number kind met left (next_file_of (content c.args.head.now)) link)
+
+pub returns-clause-fresh : goal.returns-clause-fresh
+returns-clause-fresh c =
+    let kind : ℕ = kind_number c.args.kind in
+    let met : List ℕ = all_files c.args.self.now ++ c.args.n ∷ [] in
+    let left : ℕ = files_left c.args.self.now kind in
+    let link = link_passed kind met left c.args.n (content c.args.head.now) c.args.size (sym c.header_damage.ensures ∙ ap (option_map damage_of) c.in_default.is) in
+    subst (IsFresh met) (sym (c.next_file-next.ensures ∙ ap next_of c.next_file.ensures)) (link_fresh met left (next_file_of (content c.args.head.now)) link)
+
+pub returns-clause-count : goal.returns-clause-count
+returns-clause-count c =
+    let kind : ℕ = kind_number c.args.kind in
+    let passed = checks_hold kind (all_files c.args.self.now ++ c.args.n ∷ []) (files_left c.args.self.now kind) c.args.n (content c.args.head.now) c.args.size (sym c.header_damage.ensures ∙ ap (option_map damage_of) c.in_default.is) in
+    ap is_block_count c.max_entries-blocks.ensures ∙ passed.count
