@@ -1,16 +1,16 @@
 -- A header whose map and counters are those of claims already.
-use Rattle.std.proofs.Common.{◌≡◌, ℕ, zero, suc, ◌+◌, ◌<◌, ◌≤◌, List, [], ◌∷◌, refl, sym, ◌∙◌, ap, arith}
+use Rattle.std.proofs.Common.{◌≡◌, ℕ, zero, suc, ◌+◌, ◌*◌, ◌<◌, ◌≤◌, List, [], ◌∷◌, refl, sym, ◌∙◌, ap, arith}
 use Rattle.std.specs.Prelude.{slice_index}
-use Rattle.blk_image.specs.Bytes.{range_at}
+use Rattle.blk_image.specs.Bytes.{content, range_at, word_at}
 use Rattle.blk_image.specs.Image.{Image, Block, byte}
 use Rattle.blk_addr.specs.Bits.{has_bit}
 use Rattle.blk_addr.specs.Claims.{allocations_in}
 use Rattle.blk_addr.specs.declared.claim_set.Claims.{Claims}
 use Rattle.blk_format.specs.BlockFiles.{max_entries_in}
 use Rattle.blk_format.specs.Maps.{EmptyAgrees, groups_of, groups_with, is_block_marked}
-use Rattle.blk_alloc.specs.Rebuilding.{AreBitsOf, HasTheseCounters, IsRebuilt}
+use Rattle.blk_alloc.specs.Rebuilding.{AreBitsOf, HasMarksOf, HasTheseCounters}
 use Rattle.blk_format.proofs.Groups.{groups_same}
-use Rattle.blk_alloc.proofs.Headers.{bit_read}
+use Rattle.blk_alloc.proofs.Headers.{bit_read, field_read}
 
 pub zeros_at : (i : ℕ) → i < 4 → slice_index (0 ∷ 0 ∷ 0 ∷ 0 ∷ []) i ≡ 0
 zeros_at zero small = refl
@@ -23,9 +23,21 @@ zeros_at (suc (suc (suc (suc i)))) small = absurd (omega arith)
 bit_is : (image : Image) (n : ℕ) (map : List ℕ) → map ≡ range_at (byte image (Block n)) 80 8112 → (b : ℕ) → b < 64896 → is_block_marked image n b ≡ has_bit map b
 bit_is image n map read b small = sym (ap (λ (l : List ℕ). has_bit l b) read ∙ bit_read (byte image (Block n)) 0 8112 b b (omega (arith, small)) (omega arith))
 
--- where it is rebuilt, they are those of the claims
-pub rebuilt_bits : (claims : Claims) (image : Image) (n : ℕ) (map : List ℕ) → map ≡ range_at (byte image (Block n)) 80 8112 → IsRebuilt claims image n → AreBitsOf claims n 64896 map
-rebuilt_bits claims image n map read rebuilt b small = sym (bit_is image n map read b small) ∙ rebuilt.marks b small
+-- where they are those of the claims, so are the bits
+pub right_bits : (claims : Claims) (image : Image) (n : ℕ) (map : List ℕ) → map ≡ range_at (byte image (Block n)) 80 8112 → HasMarksOf claims image n → AreBitsOf claims n 64896 map
+right_bits claims image n map read right b small = sym (bit_is image n map read b small) ∙ right.marks b small
+
+-- the fields of a header that were read
+module _ (image : Image) (n count : ℕ) (fields runs : List ℕ) (read : fields ≡ range_at (byte image (Block n)) 0 80) where
+  at : (i : ℕ) → i + 4 ≤ 80 → word_at (content fields) i ≡ word_at (byte image (Block n)) i
+  at i small = ap (λ (l : List ℕ). word_at (content l) i) read ∙ field_read (byte image (Block n)) i small
+
+  -- have the counters of the file
+  pub counters_read : HasTheseCounters (content fields) count runs → HasTheseCounters (byte image (Block n)) count runs
+  counters_read has = record { allocations = sym (at 16 (omega arith)) ∙ has.allocations; empty = λ i small. sym (at (24 + 4 * i) (omega (arith, small))) ∙ has.empty i small }
+
+  pub counters_stand : HasTheseCounters (byte image (Block n)) count runs → HasTheseCounters (content fields) count runs
+  counters_stand has = record { allocations = at 16 (omega arith) ∙ has.allocations; empty = λ i small. at (24 + 4 * i) (omega (arith, small)) ∙ has.empty i small }
 
 -- a map that was read, and the longest free runs of so many of its groups
 pub record IsMapRead (image : Image) (n groups : ℕ) (map empty : List ℕ) : Type 0 where
@@ -42,17 +54,16 @@ module _ (claims : Claims) (n groups : ℕ) (image : Image) (map empty : List �
       let few = is.few in
       is.counts i small ∙ groups_same (has_bit map) (is_block_marked image n) groups (i + 1) (λ b below. sym (bit b (omega (arith, below, few)))) ∙ ap (λ (k : ℕ). groups_with (is_block_marked image n) k (i + 1)) same
 
-  -- a map and counters that were compared are rebuilt
-  pub compared_rebuilt : groups ≡ groups_of (max_entries_in image n) → AreBitsOf claims n 64896 map → HasTheseCounters image n (allocations_in claims n) empty → IsRebuilt claims image n
+  -- a map and counters that were compared are those of the claims
+  pub compared_right : groups ≡ groups_of (max_entries_in image n) → AreBitsOf claims n 64896 map → HasTheseCounters (byte image (Block n)) (allocations_in claims n) empty → HasMarksOf claims image n
   unfolding EmptyAgrees
-  compared_rebuilt same marks counters = record {
+  compared_right same marks counters = record {
     marks = λ b small. bit b small ∙ marks b small;
     allocations = counters.allocations;
     empty = λ i small. counters.empty i small ∙ counts_are same i small;
-    updating = counters.updating;
   }
 
-  -- and those that are rebuilt have the counters
-  pub rebuilt_counters : groups ≡ groups_of (max_entries_in image n) → IsRebuilt claims image n → HasTheseCounters image n (allocations_in claims n) empty
+  -- and where they are, they have the counters
+  pub right_counters : groups ≡ groups_of (max_entries_in image n) → HasMarksOf claims image n → HasTheseCounters (byte image (Block n)) (allocations_in claims n) empty
   unfolding EmptyAgrees
-  rebuilt_counters same rebuilt = record { allocations = rebuilt.allocations; empty = λ i small. rebuilt.empty i small ∙ sym (counts_are same i small); updating = rebuilt.updating }
+  right_counters same right = record { allocations = right.allocations; empty = λ i small. right.empty i small ∙ sym (counts_are same i small) }

@@ -26,6 +26,9 @@ pub mod Adding
 pub mod Rooms
 pub mod Sparing
 pub mod Claiming
+pub mod Needed
+pub mod Recounted
+pub mod Mended
 pub mod Written
 pub mod Counted
 pub mod Remade

@@ -6,14 +6,15 @@ use Rattle.std.proofs.lemmas.Bool.Decides.{nat_tests}
 use Rattle.std.proofs.lemmas.Bool.{cases_eq}
 use Rattle.blk_image.specs.Image.{Image, Block, External}
 use Rattle.blk_image.specs.Steps.{SetLength, TrailStep, after}
-use Rattle.blk_image.specs.Told.{Applies, Passes, Stays, Told, Trail, longer}
-use Rattle.blk_image.proofs.Runs.{passes_end, passes_none, passes_weaker, some_inj}
+use Rattle.blk_image.specs.Told.{Applies, PassesTo, Stays, Told, Trail, longer}
+use Rattle.blk_image.proofs.Runs.{part_whole, passes_end, some_inj}
 use Rattle.blk_format.specs.BlockFiles.{is_among}
 use Rattle.blk_addr.specs.declared.claim_set.Claims.{Claims}
 use Rattle.blk_disk.specs.declared.tables.BlockFiles.{BlockFiles}
 use Rattle.blk_disk.specs.Tables.{Agrees, Resizes, all_files, length_in}
 use Rattle.blk_disk.specs.Growth.{fit_steps, whole_length}
 use Rattle.blk_alloc.specs.Extending.{HasItsBlocks}
+use Rattle.blk_alloc.specs.Mending.{PassesNeeded}
 use Rattle.blk_alloc.specs.Rebuilding.{is_block_file, AreItsAllocations, AreRight, IsRebuilding, IsRebuilt}
 use Rattle.blk_io.proofs.Carried.{told_at_end}
 use Rattle.blk_alloc.proofs.Fitted.{HasFitted, long_still, none_fitted, none_more, one_fitted}
@@ -21,7 +22,7 @@ use Rattle.blk_alloc.proofs.Members.{all_head}
 use Rattle.blk_alloc.proofs.Owned.{allocations_are, stands_still}
 use Rattle.blk_alloc.proofs.Remade.{one_more, others_kept, rebuilding_begin, rebuilt_same}
 use Rattle.blk_format.proofs.Growths.{grown_blocks}
-use Rattle.blk_alloc.proofs.Written.{passes_on}
+use Rattle.blk_alloc.proofs.Needed.{needed_end, needed_none, needed_part, needed_then, needed_weaker, passes_first}
 
 -- what is told, of its two parts
 abbrev told_of : Option Image → Option Trail → Told
@@ -39,6 +40,17 @@ told_same a b applies = ap₂ told_of (applies.files ∙ files_none a.files) (ap
     trail_none None = refl
     trail_none (Some trail) = ap (λ (s : List TrailStep). Some (record { start = trail.start; steps = s })) (append-nil trail.steps)
 
+-- a file is lengthened only where it is shorter
+pub fit_needed : {a b : Told} (files : BlockFiles) (n : ℕ) (from : Image) (P : Image → Type 0) → a.files ≡ Some from → Agrees files from → is_among (all_files files) n ≡ true → Applies a b (fit_steps files n) → PassesTo a b P P → PassesNeeded a b P
+fit_needed {a} {b} files n from P there agrees among applies passes = by_test (nat_lt (length_in files n) (whole_length files n)) refl applies
+  where
+    by_test : (t : Bool) → nat_lt (length_in files n) (whole_length files n) ≡ t → Applies a b (if t then SetLength (Block n) (whole_length files n) ∷ [] else []) → PassesNeeded a b P
+    by_test true e made =
+        let now : b.files ≡ Some (after (SetLength (Block n) (whole_length files n) ∷ []) from) = made.files ∙ ap (option_map (after (SetLength (Block n) (whole_length files n) ∷ []))) there in
+        needed_part P from there (part_whole made) tt (passes_first from there passes, passes_end passes _ now)
+        (let same = agrees.lengths n among in let test : length_in files n < whole_length files n = grind (arith, nat_tests) in omega (arith, same, test), tt)
+    by_test false e made = needed_none P (told_same a b made) (λ image is. subst P (some_inj (sym there ∙ is)) (passes_first from there passes))
+
 -- a file that has all its blocks isn't lengthened
 pub fitted_none : (files : BlockFiles) (n : ℕ) (a b : Told) → HasItsBlocks files n → Applies a b (fit_steps files n) → b ≡ a
 fitted_none files n a b long applies =
@@ -53,7 +65,7 @@ pub record HasRebuilt (a b : Told) (old now : BlockFiles) (claims : Claims) (cou
   pub untouched : ForSome a.files (λ from. ForSome b.files (λ image. (n : ℕ) → count ≤ n → image (Block n) ≡ from (Block n)))
   pub fitted : HasFitted old now count
   pub agrees : ForSome b.files (Agrees now)
-  pub stops : ForSome a.files (λ from. Passes a b (IsRebuilding claims (all_files old) from))
+  pub stops : ForSome a.files (λ from. PassesNeeded a b (IsRebuilding claims (all_files old) from))
   pub clean : ForSome a.files (λ from. AreRight claims old from → Stays a b)
   pub silent : a.files ≡ None → b.files ≡ None
 
@@ -63,7 +75,7 @@ none_rebuilt a files claims agrees = record {
   untouched = λ from there image now n high. ap (λ (i : Image). i (Block n)) (some_inj (sym now ∙ there));
   fitted = none_fitted files;
   agrees = agrees;
-  stops = λ from there. passes_none (IsRebuilding claims (all_files files) from) refl (λ image is. subst (IsRebuilding claims (all_files files) from) (some_inj (sym there ∙ is)) (rebuilding_begin claims (all_files files) from));
+  stops = λ from there. needed_none (IsRebuilding claims (all_files files) from) refl (λ image is. subst (IsRebuilding claims (all_files files) from) (some_inj (sym there ∙ is)) (rebuilding_begin claims (all_files files) from));
   clean = λ from there right. refl;
   silent = λ none. none;
 }
@@ -84,17 +96,17 @@ module _ (a b : Told) (old mid : BlockFiles) (claims : Claims) (n : ℕ) (before
       clash : true ≡ false → ⊥
       clash e = cc
 
-  module _ (c : Told) (linked : is_among (all_files mid) n ≡ true) (stops : ForSome b.files (λ from. Passes b c (IsRebuilding claims (n ∷ []) from))) where
+  module _ (c : Told) (linked : is_among (all_files mid) n ≡ true) (stops : ForSome b.files (λ from. PassesNeeded b c (IsRebuilding claims (n ∷ []) from))) where
     among : is_among (all_files old) n ≡ true
     among = ap (λ (l : List ℕ). is_among l n) (sym before.fitted.all) ∙ linked
 
     -- a linked file is under way
-    pub next_stops : ForSome a.files (λ from. Passes a c (IsRebuilding claims (all_files old) from))
+    pub next_stops : ForSome a.files (λ from. PassesNeeded a c (IsRebuilding claims (all_files old) from))
     next_stops from there =
-        passes_on from there (before.stops from there)
+        needed_then from there (before.stops from there)
         (λ image now so_far.
         let keeps : (i : Image) → IsRebuilding claims (n ∷ []) image i → IsRebuilding claims (all_files old) from i = λ i more. one_more claims (all_files old) n among from image so_far (before.untouched from there image now n (omega arith)) i more in
-        passes_weaker (stops image now) keeps keeps)
+        needed_weaker (stops image now) keeps)
 
     -- where all are right, nothing is written
     pub next_clean : ForSome b.files (λ from. HasItsBlocks mid n → IsRebuilt claims from n → Stays b c) → ForSome a.files (λ from. AreRight claims old from → Stays a c)
@@ -110,10 +122,10 @@ module _ (a b : Told) (old mid : BlockFiles) (claims : Claims) (n : ℕ) (before
           told_at_end b.files c.files (λ image. (m : ℕ) → m < n + 1 → is_among (all_files old) m ≡ true → IsRebuilt claims image m) silent
           (λ image now later is m below there.
           ⊎_elim (λ (e : m ≡ n). subst (IsRebuilt claims later) (sym e) (done later is))
-          (λ (differs : m ≢ n). rebuilt_same claims image later m (others_kept claims n m image later differs (passes_end (stops image now) later is)) (before.rebuilt image now m (omega (arith, below, differs)) there)) (cases_eq m n));
+          (λ (differs : m ≢ n). rebuilt_same claims image later m (others_kept claims n m image later differs (needed_end (stops image now) later is)) (before.rebuilt image now m (omega (arith, below, differs)) there)) (cases_eq m n));
       untouched = λ from there.
           told_at_end b.files c.files (λ image. (m : ℕ) → n + 1 ≤ m → image (Block m) ≡ from (Block m)) silent
-          (λ image now later is m high. others_kept claims n m image later (above m high) (passes_end (stops image now) later is) ∙ before.untouched from there image now m (omega (arith, high)));
+          (λ image now later is m high. others_kept claims n m image later (above m high) (needed_end (stops image now) later is) ∙ before.untouched from there image now m (omega (arith, high)));
       fitted = one_fitted old mid new n before.fitted resizes;
       agrees = agrees;
       stops = next_stops;
@@ -136,6 +148,6 @@ module _ (a b : Told) (old now : BlockFiles) (claims : Claims) (count : ℕ) (al
   -- the addresses of each that were added are its allocations
   pub all_allocations : ForSome a.files (λ from. ForSome b.files (AreItsAllocations claims (all_files old) from))
   all_allocations from there image is words of n among stand =
-      let rebuilding = passes_end (has.stops from there) image is in
+      let rebuilding = needed_end (has.stops from there) image is in
       let keeps = grown_blocks from image rebuilding.stays.grown in
       allocations_are claims words n from image of (all_rebuilt image is n among) (λ w. stands_still from image w keeps (λ m. rebuilding.same.files (External m) (unfold is_block_file in refl))) stand

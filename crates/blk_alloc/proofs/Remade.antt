@@ -1,24 +1,18 @@
 -- Maps and counters that are made anew: one file, and one file after another.
-use Rattle.std.proofs.Common.{◌≡◌, ◌≢◌, ℕ, ◌+◌, ◌<◌, ◌≤◌, ◌⊎◌, inl, inr, List, [], ◌∷◌, Bool, true, false, ◌&&◌, ◌||◌, nat_le, nat_lt, Option, Some, refl, sym, ◌∙◌, ap, ap₂, subst, arith, lit<, ⊎_elim, unwrap_or}
+use Rattle.std.proofs.Common.{◌≡◌, ◌≢◌, ℕ, ◌+◌, ◌<◌, ◌≤◌, ◌⊎◌, inl, inr, List, [], ◌∷◌, Bool, true, false, ◌&&◌, ◌||◌, nat_le, nat_lt, Option, refl, sym, ◌∙◌, ap, ap₂, subst, arith, ⊎_elim, unwrap_or}
 use Rattle.std.proofs.lemmas.Bool.{cases_eq}
 use Rattle.std.proofs.lemmas.Bool.Decides.{nat_tests}
-use Rattle.blk_image.specs.Bytes.{content, word_bytes}
+use Rattle.blk_image.specs.Bytes.{content}
 use Rattle.blk_image.specs.Image.{Image, File, Index, Block, External, byte, length_of, same_file}
-use Rattle.blk_image.specs.Steps.{after, word_step}
-use Rattle.blk_image.specs.Footprint.{SameOutside, IsWithin, range, size_of}
-use Rattle.blk_image.specs.Told.{Told, AppliesPrefix, PassesTo, Until}
-use Rattle.blk_image.proofs.Images.{word-after_same}
-use Rattle.blk_image.proofs.Footprints.{outside-refl, outside-trans, outside_wider, outside_write, same_file_outside}
-use Rattle.blk_image.proofs.Runs.{passes_part, passes_weaker, some_inj}
-use Rattle.blk_image.proofs.WordSteps.{quiet-word_step, until_word}
+use Rattle.blk_image.specs.Footprint.{SameOutside, IsWithin, size_of}
+use Rattle.blk_image.proofs.Footprints.{outside-refl, outside-trans, outside_wider, same_file_outside}
 use Rattle.blk_format.specs.Headers.{allocations_of, empty_of, max_entries_of, updating_of}
 use Rattle.blk_format.specs.BlockFiles.{is_among, max_entries_in}
 use Rattle.blk_format.specs.Maps.{is_block_marked_at, groups_of, groups_with, EmptyAgrees}
 use Rattle.blk_addr.specs.declared.claim_set.Claims.{Claims}
 use Rattle.blk_alloc.specs.Changes.{map_of}
-use Rattle.blk_alloc.specs.Rebuilding.{counts_of, is_block_file, is_counted_place, is_updating_place, rebuilding_of, IsInHand, IsRebuilding, IsRebuilt, KeepsBytes, RemakesInProgress}
-use Rattle.blk_alloc.proofs.Changing.{at_updating}
-use Rattle.blk_alloc.proofs.Counted.{counts_within, updating_kept}
+use Rattle.blk_alloc.specs.Rebuilding.{is_block_file, is_counted_place, is_updating_place, rebuilding_of, IsInHand, IsOldOrClaimed, IsRebuilding, IsRebuilt, KeepsBytes, RemakesInProgress}
+use Rattle.blk_alloc.proofs.Mended.{each_begin, each_same}
 use Rattle.blk_alloc.proofs.Sparing.{SparesFields, formed_spared, grown_spared}
 
 -- One file.
@@ -49,42 +43,6 @@ pub in_hand_before : (claims : Claims) (n : ℕ) (from a b : Image) → KeepsByt
 in_hand_before claims n from a b same (inl keeps) = inl (λ i beside. keeps i beside ∙ same i beside)
 in_hand_before claims n from a b same (inr (inl one)) = inr (inl one)
 in_hand_before claims n from a b same (inr (inr rebuilt)) = inr (inr rebuilt)
-
-module _ (claims : Claims) (n : ℕ) (from : Image) (long : 8192 ≤ length_of from (Block n)) where
-  -- a moment at which only map, counters and updating have changed
-  abbrev pub IsRemade : Image → Type 0
-  IsRemade image = SameOutside (map_of n) from image × IsInHand claims n from image
-
-  pub remade_begin : IsRemade from
-  remade_begin = (outside-refl (map_of n) from, inl (λ i beside. refl))
-
-  abbrev pub begun : Image
-  begun = after (word_step (Block n) 56 1) from
-
-  begun_same : SameOutside (map_of n) from begun
-  unfolding word_step
-  begun_same = outside_wider (range (Block n) 56 4) (map_of n) from begun (at_updating n) (outside_write (Block n) 56 (word_bytes 1) from)
-
-  begun_one : updating_of (byte begun (Block n)) ≡ 1
-  unfolding word_step
-  begun_one = word-after_same from (Block n) 56 1 (lit< tt) (omega (arith, long))
-
-  begun_remade : IsRemade begun
-  begun_remade = (begun_same, inr (inl begun_one))
-
-  pub begin_passes : {a b : Told} → a.files ≡ Some from → AppliesPrefix a b (word_step (Block n) 56 1) → PassesTo a b IsRemade IsRemade
-  begin_passes {a} {b} there part =
-      passes_part IsRemade IsRemade part (quiet-word_step (Block n) 56 1) (λ i holds. holds)
-      (λ i is. subst (λ (j : Image). Until IsRemade IsRemade j (word_step (Block n) 56 1)) (some_inj (sym there ∙ is)) (until_word IsRemade IsRemade (Block n) 56 1 from remade_begin begun_remade))
-
-  -- the map and the counters, after updating was set
-  pub then_passes : {b c : Told} → PassesTo b c (SameOutside (counts_of n) begun) (λ i. SameOutside (counts_of n) begun i ⊎ (SameOutside (map_of n) begun i × IsRebuilt claims i n)) → PassesTo b c IsRemade IsRemade
-  then_passes {b} {c} passes =
-      passes_weaker passes midst
-      (λ i. ⊎_elim (midst i) (λ (done : SameOutside (map_of n) begun i × IsRebuilt claims i n). (outside-trans (map_of n) from begun i begun_same done.0, inr (inr done.1))))
-    where
-      midst : (i : Image) → SameOutside (counts_of n) begun i → IsRemade i
-      midst i same = (outside-trans (map_of n) from begun i begun_same (outside_wider (counts_of n) (map_of n) begun i (counts_within n) same), inr (inl (updating_kept n begun i same ∙ begun_one)))
 
 -- Some files.
 
@@ -184,18 +142,19 @@ unfolding is_block_file
 other_file_kept numbers m a b apart same = same_file_outside (rebuilding_of numbers) a b (Block m) same (λ i. ap (λ (t : Bool). t && (is_counted_place i || is_updating_place i)) apart) apart
 
 -- what differs leaves the folder whole
-rebuilding_is : (claims : Claims) (numbers : List ℕ) (from image : Image) → SameOutside (rebuilding_of numbers) from image → ((n : ℕ) → length_of from (Block n) ≤ length_of image (Block n)) → ((n : ℕ) → is_among numbers n ≡ true → IsInHand claims n from image) → ((n : ℕ) → is_among numbers n ≡ true → IsRebuilt claims from n → (i : ℕ) → byte image (Block n) i ≡ byte from (Block n) i) → IsRebuilding claims numbers from image
-rebuilding_is claims numbers from image same longer each right = record {
+rebuilding_is : (claims : Claims) (numbers : List ℕ) (from image : Image) → SameOutside (rebuilding_of numbers) from image → ((n : ℕ) → length_of from (Block n) ≤ length_of image (Block n)) → ((n : ℕ) → is_among numbers n ≡ true → IsInHand claims n from image) → ((n : ℕ) → is_among numbers n ≡ true → IsOldOrClaimed claims n from image) → ((n : ℕ) → is_among numbers n ≡ true → IsRebuilt claims from n → (i : ℕ) → byte image (Block n) i ≡ byte from (Block n) i) → IsRebuilding claims numbers from image
+rebuilding_is claims numbers from image same longer each words right = record {
   same = same;
   longer = longer;
   each = each;
+  words = words;
   right = right;
   stays = record { grown = grown_spared (rebuilding_of numbers) from image (rebuilding_spares numbers) same longer; formed = formed_spared (rebuilding_of numbers) from image (rebuilding_spares numbers) same longer };
 }
 
 -- nothing is done yet
 pub rebuilding_begin : (claims : Claims) (numbers : List ℕ) (from : Image) → IsRebuilding claims numbers from from
-rebuilding_begin claims numbers from = rebuilding_is claims numbers from from (outside-refl (rebuilding_of numbers) from) (λ n. omega arith) (λ n there. inl (λ i beside. refl)) (λ n there rebuilt i. refl)
+rebuilding_begin claims numbers from = rebuilding_is claims numbers from from (outside-refl (rebuilding_of numbers) from) (λ n. omega arith) (λ n there. inl (λ i beside. refl)) (λ n there. each_begin claims n from) (λ n there rebuilt i. refl)
 
 module _ (claims : Claims) (n : ℕ) (from mid : Image) (lengthened : SameOutside (size_of (Block n)) from mid) (longer : length_of from (Block n) ≤ length_of mid (Block n)) where
   all_longer : (m : ℕ) → length_of from (Block m) ≤ length_of mid (Block m)
@@ -207,7 +166,7 @@ module _ (claims : Claims) (n : ℕ) (from mid : Image) (lengthened : SameOutsid
   pub lengthened_is : IsRebuilding claims (n ∷ []) from mid
   lengthened_is =
       rebuilding_is claims (n ∷ []) from mid (outside_wider (size_of (Block n)) (rebuilding_of (n ∷ [])) from mid (size_within (n ∷ []) n (is_only n)) lengthened) all_longer
-      (λ m there. inl (λ i beside. lengthened.bytes (Block m) i refl)) (λ m there rebuilt i. lengthened.bytes (Block m) i refl)
+      (λ m there. inl (λ i beside. lengthened.bytes (Block m) i refl)) (λ m there. each_same claims m from from from mid (λ i beside. refl) (λ i beside. lengthened.bytes (Block m) i refl) (each_begin claims m from)) (λ m there rebuilt i. lengthened.bytes (Block m) i refl)
 
   -- and its map and counters are under way
   pub remade_is : (image : Image) → RemakesInProgress claims n mid image → IsRebuilding claims (n ∷ []) from image
@@ -218,8 +177,9 @@ module _ (claims : Claims) (n : ℕ) (from mid : Image) (lengthened : SameOutsid
       (λ m there.
       subst (λ (k : ℕ). IsInHand claims k from image) (sym (only_one n m there))
       (in_hand_before claims n from mid image (λ i beside. lengthened.bytes (Block n) i refl) remade.hand))
+      (λ m there. subst (λ (k : ℕ). IsOldOrClaimed claims k from image) (sym (only_one n m there)) (each_same claims n mid from image image (λ i beside. sym (lengthened.bytes (Block n) i refl)) (λ i beside. refl) remade.each))
       (λ m there. subst (λ (k : ℕ). IsRebuilt claims from k → (i : ℕ) → byte image (Block k) i ≡ byte from (Block k) i) (sym (only_one n m there))
-      (λ rebuilt i. ap (λ (j : Image). byte j (Block n) i) (remade.right (rebuilt_bytes claims from mid n (λ k. lengthened.bytes (Block n) k refl) rebuilt)) ∙ lengthened.bytes (Block n) i refl))
+      (λ rebuilt i. remade.right (rebuilt_bytes claims from mid n (λ k. lengthened.bytes (Block n) k refl) rebuilt) i ∙ lengthened.bytes (Block n) i refl))
 
 -- one file more
 module _ (claims : Claims) (numbers : List ℕ) (n : ℕ) (there : is_among numbers n ≡ true) (from mid : Image) (before : IsRebuilding claims numbers from mid) (untouched : mid (Block n) ≡ from (Block n)) where
@@ -234,6 +194,10 @@ module _ (claims : Claims) (numbers : List ℕ) (n : ℕ) (there : is_among numb
       (λ (differs : m ≢ n). in_hand_same claims m from mid image (other_file_kept (n ∷ []) m mid image (not_only n m differs) more.same) (before.each m among)) (cases_eq m n))
       (λ m among.
       ⊎_elim
+      (λ (e : m ≡ n). subst (λ (k : ℕ). IsOldOrClaimed claims k from image) (sym e) (each_same claims n mid from image image (λ i beside. sym (ap (λ (o : Option (List ℕ)). content (unwrap_or o []) i) untouched)) (λ i beside. refl) (more.words n (is_only n))))
+      (λ (differs : m ≢ n). each_same claims m from from mid image (λ i beside. refl) (λ i beside. ap (λ (o : Option (List ℕ)). content (unwrap_or o []) i) (other_file_kept (n ∷ []) m mid image (not_only n m differs) more.same)) (before.words m among)) (cases_eq m n))
+      (λ m among.
+      ⊎_elim
       (λ (e : m ≡ n). subst (λ (k : ℕ). IsRebuilt claims from k → (i : ℕ) → byte image (Block k) i ≡ byte from (Block k) i) (sym e)
       (λ rebuilt i. more.right n (is_only n) (rebuilt_same claims from mid n untouched rebuilt) i ∙ ap (λ (o : Option (List ℕ)). content (unwrap_or o []) i) untouched))
       (λ (differs : m ≢ n) rebuilt i. ap (λ (o : Option (List ℕ)). content (unwrap_or o []) i) (other_file_kept (n ∷ []) m mid image (not_only n m differs) more.same) ∙ before.right m among rebuilt i) (cases_eq m n))
@@ -241,7 +205,3 @@ module _ (claims : Claims) (numbers : List ℕ) (n : ℕ) (there : is_among numb
 -- another file stays
 pub others_kept : (claims : Claims) (n m : ℕ) (mid image : Image) → m ≢ n → IsRebuilding claims (n ∷ []) mid image → image (Block m) ≡ mid (Block m)
 others_kept claims n m mid image differs more = other_file_kept (n ∷ []) m mid image (not_only n m differs) more.same
-
--- a file that is right is in hand where nothing is written
-pub remakes_none : (claims : Claims) (n : ℕ) (from : Image) → 8192 ≤ length_of from (Block n) → RemakesInProgress claims n from from
-remakes_none claims n from long = let begin = remade_begin claims n from long in record { same = begin.0; hand = begin.1; right = λ rebuilt. refl }

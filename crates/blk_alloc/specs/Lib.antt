@@ -5,6 +5,7 @@ pub mod Owning
 pub mod Fitting
 pub mod Marking
 pub mod Extending
+pub mod Mending
 pub mod Allocating
 pub mod Rebuilding
 pub mod Laws

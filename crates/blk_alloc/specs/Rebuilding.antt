@@ -1,14 +1,15 @@
 -- Maps and counters are made anew, and are then those of claims.
 use Rattle.std.specs.Prelude.{◌≡◌, ◌⊎◌, ℕ, ◌+◌, ◌<◌, ◌≤◌, List, filter, max, slice_index, Bool, false, true, ◌&&◌, ◌||◌}
 use Rattle.std.specs.List.{All}
+use Rattle.blk_image.specs.Bytes.{range_at}
 use Rattle.blk_image.specs.Image.{File, Block, Image, byte, length_of}
 use Rattle.blk_image.specs.Footprint.{Footprint, SameOutside, either, one_word, range}
 use Rattle.blk_format.specs.Growth.{StaysWhole}
 use Rattle.blk_format.specs.Address.{header_size}
 use Rattle.blk_format.specs.Claims.{BlockOf, is_in_file}
 use Rattle.blk_format.specs.Headers.{allocations_of, block_fields_length, empty_of, updating_of}
-use Rattle.blk_format.specs.BlockFiles.{is_among, most_blocks, stands_in}
-use Rattle.blk_format.specs.Maps.{is_block_marked, map_place, AreAllocations, EmptyAgrees}
+use Rattle.blk_format.specs.BlockFiles.{is_among, max_entries_in, most_blocks, stands_in}
+use Rattle.blk_format.specs.Maps.{is_block_marked, groups_of, groups_with, map_place, AreAllocations, EmptyAgrees}
 use Rattle.blk_addr.specs.Bits.{has_bit, is_between}
 use Rattle.blk_addr.specs.Claims.{contains_claim, allocations_in, IsClaimsOf}
 use Rattle.blk_addr.specs.declared.claim_set.Claims.{Claims}
@@ -38,11 +39,21 @@ pub record IsRebuilt (claims : Claims) (image : Image) (n : ℕ) : Type 0 where
   pub empty : EmptyAgrees image n
   pub updating : updating_of (byte image (Block n)) ≡ 0
 
--- the header of a file has these counters, and no change is under way
-pub record HasTheseCounters (image : Image) (n count : ℕ) (runs : List ℕ) : Type 0 where
-  pub allocations : allocations_of (byte image (Block n)) ≡ count
-  pub empty : (i : ℕ) → i < 4 → empty_of (byte image (Block n)) i ≡ slice_index runs i
-  pub updating : updating_of (byte image (Block n)) ≡ 0
+-- the map and the counters of a file are those of claims, whatever updating is
+pub record HasMarksOf (claims : Claims) (image : Image) (n : ℕ) : Type 0 where
+  pub marks : AreMarked claims image n
+  pub allocations : allocations_of (byte image (Block n)) ≡ allocations_in claims n
+  pub empty : EmptyAgrees image n
+
+-- a header with this content has these counters
+pub record HasTheseCounters (f : ℕ → ℕ) (count : ℕ) (runs : List ℕ) : Type 0 where
+  pub allocations : allocations_of f ≡ count
+  pub empty : (i : ℕ) → i < 4 → empty_of f i ≡ slice_index runs i
+
+-- the map and the fields of a header, as they were read
+pub record AreHeaderBytes (image : Image) (n : ℕ) (map fields : List ℕ) : Type 0 where
+  pub map_read : map ≡ range_at (byte image (Block n)) map_place map_length
+  pub fields_read : fields ≡ range_at (byte image (Block n)) 0 block_fields_length
 
 -- the first so many bits of a map are set just where these blocks of a file are claimed
 abbrev pub AreBitsOf : Claims → ℕ → ℕ → List ℕ → Type 0
@@ -79,6 +90,10 @@ pub record IsShortReadOf (told : Told) (numbers : List ℕ) (damage : Damage) : 
 
 -- What is touched.
 
+-- num_entries and empty of a file
+abbrev pub counters_of : ℕ → Footprint
+counters_of n = either (one_word (Block n) allocations_place) (range (Block n) (empty_place 0) 16)
+
 -- num_entries, empty and the map of a file
 abbrev pub counts_of : ℕ → Footprint
 counts_of n = either (one_word (Block n) allocations_place) (either (range (Block n) (empty_place 0) 16) (range (Block n) map_place map_length))
@@ -110,16 +125,42 @@ KeepsBytes n from image = (i : ℕ) → is_updating_place i ≡ false → byte i
 abbrev pub IsInHand : Claims → ℕ → Image → Image → Type 0
 IsInHand claims n from image = KeepsBytes n from image ⊎ ((updating_of (byte image (Block n)) ≡ 1) ⊎ IsRebuilt claims image n)
 
--- in the midst of one file: only map, counters and updating differ, it is in hand, and where they were right nothing differs
+-- num_entries and each word of empty are as they were, or the given ones, and nothing else differs
+pub record IsCounting (n count : ℕ) (runs : List ℕ) (from image : Image) : Type 0 where
+  pub same : SameOutside (counters_of n) from image
+  pub allocations : (allocations_of (byte image (Block n)) ≡ allocations_of (byte from (Block n))) ⊎ (allocations_of (byte image (Block n)) ≡ count)
+  pub empty : (i : ℕ) → i < 4 → (empty_of (byte image (Block n)) i ≡ empty_of (byte from (Block n)) i) ⊎ (empty_of (byte image (Block n)) i ≡ slice_index runs i)
+
+-- each mark and each counter of a file is as it was, or as claims have it
+pub record IsOldOrClaimed (claims : Claims) (n : ℕ) (from image : Image) : Type 0 where
+  pub marks : (b : ℕ) → b < most_blocks → (is_block_marked image n b ≡ is_block_marked from n b) ⊎ (is_block_marked image n b ≡ is_block_claimed claims n b)
+  pub allocations : (allocations_of (byte image (Block n)) ≡ allocations_of (byte from (Block n))) ⊎ (allocations_of (byte image (Block n)) ≡ allocations_in claims n)
+  pub empty : (i : ℕ) → i < 4 → (empty_of (byte image (Block n)) i ≡ empty_of (byte from (Block n)) i)
+      ⊎ (empty_of (byte image (Block n)) i ≡ groups_with (is_block_claimed claims n) (groups_of (max_entries_in from n)) (i + 1))
+
+-- the map and the counters of a file are under way to those of claims, and nothing else differs
+pub record IsMending (claims : Claims) (n : ℕ) (from image : Image) : Type 0 where
+  pub same : SameOutside (counts_of n) from image
+  pub each : IsOldOrClaimed claims n from image
+
+-- the same with updating, which is 1 until all is done
+pub record IsMendingToEnd (claims : Claims) (n : ℕ) (from image : Image) : Type 0 where
+  pub same : SameOutside (map_of n) from image
+  pub each : IsOldOrClaimed claims n from image
+  pub hand : (updating_of (byte image (Block n)) ≡ 1) ⊎ IsRebuilt claims image n
+
+-- in the midst of one file: only map, counters and updating differ, each mark and counter is as it was or as claims have it, the file is in hand, and where it was right each byte is as before
 pub record RemakesInProgress (claims : Claims) (n : ℕ) (from image : Image) : Type 0 where
   pub same : SameOutside (map_of n) from image
+  pub each : IsOldOrClaimed claims n from image
   pub hand : IsInHand claims n from image
-  pub right : IsRebuilt claims from n → image ≡ from
+  pub right : IsRebuilt claims from n → (i : ℕ) → byte image (Block n) i ≡ byte from (Block n) i
 
--- at each word: some block files are in hand, none is shorter than before, one whose map and counters were right has each byte as before, updating too, and nothing else differs; so files have grown at most, and a well-formed folder is well formed
+-- at each word: some block files are in hand, each mark and counter of theirs is as it was or as claims have it, none is shorter than before, one whose map and counters were right has each byte as before, updating too, and nothing else differs; so files have grown at most, and a well-formed folder is well formed
 pub record IsRebuilding (claims : Claims) (numbers : List ℕ) (from image : Image) : Type 0 where
   pub same : SameOutside (rebuilding_of numbers) from image
   pub longer : (n : ℕ) → length_of from (Block n) ≤ length_of image (Block n)
   pub each : (n : ℕ) → is_among numbers n ≡ true → IsInHand claims n from image
+  pub words : (n : ℕ) → is_among numbers n ≡ true → IsOldOrClaimed claims n from image
   pub right : (n : ℕ) → is_among numbers n ≡ true → IsRebuilt claims from n → (i : ℕ) → byte image (Block n) i ≡ byte from (Block n) i
   pub stays : StaysWhole from image

@@ -1,50 +1,33 @@
 // Whether the map and the counters of a file are those of claims already.
-ghost use Rattle.std.specs.Prelude.{◌≡◌, ℕ, ◌≤◌, ◌<◌, ◌⊎◌, ◌^◌, true, None, length, IfOk, IsTrue};
-ghost use Rattle.std.specs.Option.{ForSome};
-ghost use Rattle.blk_image.specs.Image.{Block as block, length_of};
-ghost use Rattle.blk_image.specs.Told.{Rises, Stays};
+ghost use Rattle.std.specs.Prelude.{◌≡◌, ℕ, ◌≤◌, ◌<◌, length, IsTrue};
+ghost use Rattle.blk_image.specs.Bytes.{content};
+ghost use Rattle.blk_image.specs.Image.{Image};
 ghost use Rattle.blk_format.specs.BlockFiles.{max_entries_in};
+ghost use Rattle.blk_format.specs.Headers.{block_fields_length};
 ghost use Rattle.blk_format.specs.Maps.{groups_of};
-ghost use Rattle.blk_io.specs.Faults.{IfDamaged, IfDevice, IsShort};
-ghost use Rattle.blk_alloc.specs.Rebuilding.{AreBitsOf, HasTheseCounters, IsRebuilt, IsShortRead};
+ghost use Rattle.blk_alloc.specs.Rebuilding.{AreBitsOf, AreHeaderBytes, HasMarksOf, HasTheseCounters};
 
 use crate::claimed::count_runs;
-use crate::layout::MAP_LEN;
 use crate::map::is_marked;
 use blk_addr::Claims;
-use blk_io::{Fault, FileId, Folder, read_exact};
 use blk_record::BlockHead;
 
-// Whether the header of a file has these counters, and no change under way.
-fn has_counters<F: Folder>(
-    f: &mut F,
-    file: u8,
-    allocations: u32,
-    empty: &[u32; 4],
-) -> Result<bool, Fault>
+// Whether the fields of a header have these counters.
+fn has_counters(fields: &[u8], allocations: u32, empty: &[u32; 4]) -> bool
     requires four { length empty.now ≡ 4 }
-    ensures same { IfOk result (λ same. ForSome (F.told f.old).files (λ image. same ≡ true → HasTheseCounters image file allocations empty.now)) }
-    ensures found { IfOk result (λ same. ForSome (F.told f.old).files (λ image. HasTheseCounters image file allocations empty.now → same ≡ true)) }
-    ensures short { IfDamaged result (IsShort (F.told f.old) (FileId.Block file) 0 80) }
-    ensures stays { Stays (F.told f.old) (F.told f.new) }
-    ensures later { F.faults f.old ≤ F.faults f.new }
-    ensures device { IfDevice result (Rises (F.faults f.old) (F.faults f.new)) }
+    requires fields { block_fields_length ≤ length fields.now }
+    ensures same { IsTrue result → HasTheseCounters (content fields.now) allocations empty.now }
+    ensures found { HasTheseCounters (content fields.now) allocations empty.now → IsTrue result }
 {
-    let mut bytes = [0u8; BlockHead::LEN];
-    read_exact(f, FileId::Block(file), 0, &mut bytes)?;
-    let Some(head) = BlockHead::over(&bytes) else {
-        unreachable!();
-    };
+    let head = BlockHead::new(fields);
     let found = [
         head.num_entries(),
         head.empty(0),
         head.empty(1),
         head.empty(2),
         head.empty(3),
-        head.updating(),
     ];
-    let wanted = [allocations, empty[0], empty[1], empty[2], empty[3], 0];
-    Ok(found == wanted)
+    found == [allocations, empty[0], empty[1], empty[2], empty[3]]
 }
 
 // Whether the first so many blocks of a map are marked just where they are claimed of a file.
@@ -60,28 +43,17 @@ fn has_claimed(map: &[u8], claims: &Claims, file: u8, blocks: u32) -> bool
     true
 }
 
-// Whether the map and the counters of a file are those of claims, by so many groups, and updating is 0.
-pub(crate) fn is_rebuilt<F: Folder>(
-    f: &mut F,
-    claims: &Claims,
-    file: u8,
-    groups: u32,
-) -> Result<bool, Fault>
+// Whether the map and the counters that were read of a file are those of claims, by so many groups.
+pub(crate) fn is_right(claims: &Claims, file: u8, groups: u32, map: &[u8], fields: &[u8]) -> bool
     requires few { groups ≤ 16224 }
-    ensures same { IfOk result (λ same. ForSome (F.told f.old).files (λ image. same ≡ true → groups ≡ groups_of (max_entries_in image file) → IsRebuilt claims.now image file)) }
-    ensures found { IfOk result (λ same. ForSome (F.told f.old).files (λ image. groups ≡ groups_of (max_entries_in image file) → IsRebuilt claims.now image file → same ≡ true)) }
-    ensures cause { IfDamaged result (IsShortRead (F.told f.old) file) }
-    ensures untold { IfDamaged result (λ _. ForSome (F.told f.old).files (λ image. 8192 ≤ length_of image (block file)) → (F.told f.old).files ≡ None) }
-    ensures stays { Stays (F.told f.old) (F.told f.new) }
-    ensures later { F.faults f.old ≤ F.faults f.new }
-    ensures device { IfDevice result (Rises (F.faults f.old) (F.faults f.new)) }
+    requires fields { block_fields_length ≤ length fields.now }
+    ensures same { IsTrue result → (image : Image) → AreHeaderBytes image file map.now fields.now → groups ≡ groups_of (max_entries_in image file) → HasMarksOf claims.now image file }
+    ensures found { (image : Image) → AreHeaderBytes image file map.now fields.now → groups ≡ groups_of (max_entries_in image file) → HasMarksOf claims.now image file → IsTrue result }
 {
-    let mut map = [0u8; MAP_LEN];
-    read_exact(f, FileId::Block(file), BlockHead::MAP, &mut map)?;
-    if !has_claimed(&map, claims, file, BlockHead::MOST_BLOCKS) {
-        return Ok(false);
+    if !has_claimed(map, claims, file, BlockHead::MOST_BLOCKS) {
+        return false;
     }
     let mut empty = [0u32; 4];
-    count_runs(&map, groups, &mut empty);
-    has_counters(f, file, claims.allocations(file), &empty)
+    count_runs(map, groups, &mut empty);
+    has_counters(fields, claims.allocations(file), &empty)
 }

@@ -1,8 +1,15 @@
-// The bytes of a map, and the blocks of a group.
+// The bytes of a map, places in a header that was read, and the blocks of a group.
 use blk_record::BlockHead;
 
 // The bytes of the map.
 pub(crate) const MAP_LEN: usize = (BlockHead::HEADER_LEN - BlockHead::MAP) as usize;
+
+// The places of fields.
+pub(crate) const ALLOCATIONS: usize = BlockHead::ALLOCATIONS as usize;
+
+pub(crate) const EMPTY: usize = BlockHead::EMPTY as usize;
+
+pub(crate) const UPDATING: usize = BlockHead::UPDATING as usize;
 
 // The blocks of a group.
 pub(crate) const GROUP: u32 = 4;

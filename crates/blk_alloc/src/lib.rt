@@ -15,6 +15,7 @@ mod laws;
 mod layout;
 mod map;
 mod marking;
+mod mending;
 mod plan;
 mod rebuilding;
 

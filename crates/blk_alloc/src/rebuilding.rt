@@ -1,93 +1,133 @@
 // Maps and counters are made anew, from claims.
-ghost use Rattle.std.specs.Prelude.{◌≡◌, ℕ, ◌⊎◌, ◌+◌, ◌/◌, ◌<◌, ◌≤◌, [], ◌∷◌, true, None, max, slice_index, IfOk, OnOk, OnErr, IsTrue};
+ghost use Rattle.std.specs.Prelude.{◌≡◌, ℕ, ◌+◌, ◌/◌, ◌<◌, ◌≤◌, [], ◌∷◌, true, None, max, length, IfOk, OnOk, OnErr, IsTrue};
 ghost use Rattle.std.specs.Option.{ForSome};
-ghost use Rattle.blk_image.specs.Image.{Block as block, length_of};
-ghost use Rattle.blk_image.specs.Footprint.{SameOutside, range};
-ghost use Rattle.blk_image.specs.Told.{Passes, PassesTo, Rises, Stays};
+ghost use Rattle.blk_image.specs.Bytes.{content, word_bytes};
+ghost use Rattle.blk_image.specs.Image.{Block as block, byte, length_of};
+ghost use Rattle.blk_image.specs.Told.{Rises, Stays};
 ghost use Rattle.blk_format.specs.BlockFiles.{is_among, max_entries_in};
-ghost use Rattle.blk_format.specs.Maps.{groups_of, groups_with, map_place};
+ghost use Rattle.blk_format.specs.Maps.{groups_of};
 ghost use Rattle.blk_io.specs.Faults.{IfDamaged, IfDevice};
 ghost use Rattle.blk_disk.specs.Growth.{whole_length};
 ghost use Rattle.blk_disk.specs.Tables.{Agrees, Resizes, all_files, files_of, length_in};
-ghost use Rattle.blk_alloc.specs.Changes.{map_length, map_of};
 ghost use Rattle.blk_alloc.specs.Extending.{HasItsBlocks, KeepsStanding};
-ghost use Rattle.blk_alloc.specs.Rebuilding.{AreFitted, AreItsAllocations, AreMarked, AreRight, IsInHand, IsRebuilding, IsRebuilt, IsShortRead, IsShortReadOf, RemakesInProgress, counts_of, is_block_claimed};
+ghost use Rattle.blk_alloc.specs.Mending.{PassesNeeded};
+ghost use Rattle.blk_alloc.specs.Rebuilding.{AreFitted, AreHeaderBytes, AreItsAllocations, AreRight, HasMarksOf, IsMending, IsMendingToEnd, IsRebuilding, IsRebuilt, IsShortRead, IsShortReadOf, RemakesInProgress};
 
 use crate::claimed::{count_runs, mark_claimed};
-use crate::comparing::is_rebuilt;
-use crate::finishing::finish;
+use crate::comparing::is_right;
 use crate::fitting::blocks_in;
-use crate::layout::{GROUP, MAP_LEN};
+use crate::layout::{GROUP, MAP_LEN, UPDATING};
+use crate::mending::{mend, mend_counters, mend_word};
 use blk_addr::Claims;
 use blk_disk::BlockFiles;
-use blk_io::{Failed, Fault, FileId, Folder, write_word};
+use blk_io::{Failed, Fault, FileId, Folder, read_exact};
 use blk_record::BlockHead;
 
 // The numbers of block files.
 const NUMBERS: u16 = 256;
 
-// Writes the map of a file, with the marks of the claimed blocks. Gives how many of its first groups have
-// a longest free run of 1 to 4 blocks.
-fn write_map<F: Folder>(
+// Makes the map and the counters of a file those of claims: of the map and the fields that were read, the
+// words that differ are written.
+fn mend_counts<F: Folder>(
     f: &mut F,
     claims: &Claims,
     file: u8,
     groups: u32,
-) -> Result<[u32; 4], Failed>
+    map: &[u8],
+    fields: &[u8],
+) -> Result<(), Failed>
     requires few { groups ≤ 16224 }
+    requires long_map { length map.now ≡ 8112 }
+    requires long_fields { length fields.now ≡ 80 }
     requires header { ForSome (F.told f.old).files (λ image. 8192 ≤ length_of image (block file)) }
-    ensures counts { IfOk result (λ empty. (i : ℕ) → i < 4 → slice_index empty i ≡ groups_with (is_block_claimed claims.now file) groups (i + 1)) }
-    ensures marks { OnOk result (ForSome (F.told f.new).files (λ image. AreMarked claims.now image file)) }
-    ensures outside { ForSome (F.told f.old).files (λ from. Passes (F.told f.old) (F.told f.new) (SameOutside (range (block file) map_place map_length) from)) }
+    requires groups { ForSome (F.told f.old).files (λ image. groups ≡ groups_of (max_entries_in image file)) }
+    requires map { ForSome (F.told f.old).files (λ image. (i : ℕ) → i < 8112 → content map.now i ≡ byte image (block file) (80 + i)) }
+    requires fields { ForSome (F.told f.old).files (λ image. (i : ℕ) → 16 ≤ i → i < 40 → content fields.now i ≡ byte image (block file) i) }
+    ensures done { OnOk result (ForSome (F.told f.new).files (λ image. HasMarksOf claims.now image file)) }
+    ensures stops { ForSome (F.told f.old).files (λ from. PassesNeeded (F.told f.old) (F.told f.new) (IsMending claims.now file from)) }
     ensures silent { (F.told f.old).files ≡ None → (F.told f.new).files ≡ None }
     ensures later { F.faults f.old ≤ F.faults f.new }
     ensures failed { OnErr result (Rises (F.faults f.old) (F.faults f.new)) }
 {
     let mut bytes = [0u8; MAP_LEN];
     mark_claimed(claims, file, &mut bytes);
-    f.write_at(FileId::Block(file), BlockHead::MAP, &bytes)?;
     let mut empty = [0u32; 4];
     count_runs(&bytes, groups, &mut empty);
-    Ok(empty)
+    mend(f, file, BlockHead::MAP, map, &bytes)?;
+    mend_counters(f, file, fields, claims.allocations(file), &empty)
 }
 
-// Writes the map and the counters of a file, and then that they are no longer under way.
-fn write_marks<F: Folder>(f: &mut F, claims: &Claims, file: u8, groups: u32) -> Result<(), Failed>
+// Makes the map and the counters of a file those of claims, and then says that they are no longer under way.
+fn mend_marks<F: Folder>(
+    f: &mut F,
+    claims: &Claims,
+    file: u8,
+    groups: u32,
+    map: &[u8],
+    fields: &[u8],
+) -> Result<(), Failed>
     requires few { groups ≤ 16224 }
+    requires long_map { length map.now ≡ 8112 }
+    requires long_fields { length fields.now ≡ 80 }
     requires header { ForSome (F.told f.old).files (λ image. 8192 ≤ length_of image (block file)) }
     requires groups { ForSome (F.told f.old).files (λ image. groups ≡ groups_of (max_entries_in image file)) }
+    requires map { ForSome (F.told f.old).files (λ image. (i : ℕ) → i < 8112 → content map.now i ≡ byte image (block file) (80 + i)) }
+    requires fields { ForSome (F.told f.old).files (λ image. (i : ℕ) → 16 ≤ i → i < 40 → content fields.now i ≡ byte image (block file) i) }
+    requires updating { ForSome (F.told f.old).files (λ image. (i : ℕ) → i < 4 → byte image (block file) (56 + i) ≡ content (word_bytes 1) i) }
     ensures done { OnOk result (ForSome (F.told f.new).files (λ image. IsRebuilt claims.now image file)) }
-    ensures stops { ForSome (F.told f.old).files (λ from. PassesTo (F.told f.old) (F.told f.new) (SameOutside (counts_of file) from) (λ image. SameOutside (counts_of file) from image ⊎ (SameOutside (map_of file) from image × IsRebuilt claims.now image file))) }
+    ensures stops { ForSome (F.told f.old).files (λ from. PassesNeeded (F.told f.old) (F.told f.new) (IsMendingToEnd claims.now file from)) }
     ensures silent { (F.told f.old).files ≡ None → (F.told f.new).files ≡ None }
     ensures later { F.faults f.old ≤ F.faults f.new }
     ensures failed { OnErr result (Rises (F.faults f.old) (F.faults f.new)) }
 {
-    let empty = write_map(f, claims, file, groups)?;
-    finish(f, file, claims.allocations(file), &empty)
+    mend_counts(f, claims, file, groups, map, fields)?;
+    mend_word(
+        f,
+        file,
+        BlockHead::UPDATING,
+        &1u32.to_le_bytes(),
+        &0u32.to_le_bytes(),
+    )
 }
 
-// Makes the map and the counters of a file anew, and says so until they are done.
-fn rewrite<F: Folder>(f: &mut F, claims: &Claims, file: u8, groups: u32) -> Result<(), Failed>
+// Makes the map and the counters of a file, as they were read, those of claims, and updating 0. Where they are
+// already, only updating is written, and otherwise it is 1 until they are.
+fn mend_file<F: Folder>(
+    f: &mut F,
+    claims: &Claims,
+    file: u8,
+    groups: u32,
+    map: &[u8],
+    fields: &[u8],
+) -> Result<(), Failed>
     requires few { groups ≤ 16224 }
+    requires long_map { length map.now ≡ 8112 }
+    requires long_fields { length fields.now ≡ 80 }
     requires header { ForSome (F.told f.old).files (λ image. 8192 ≤ length_of image (block file)) }
     requires groups { ForSome (F.told f.old).files (λ image. groups ≡ groups_of (max_entries_in image file)) }
+    requires read { ForSome (F.told f.old).files (λ image. AreHeaderBytes image file map.now fields.now) }
     ensures done { OnOk result (ForSome (F.told f.new).files (λ image. IsRebuilt claims.now image file)) }
-    ensures stops { ForSome (F.told f.old).files (λ from. Passes (F.told f.old) (F.told f.new) (λ image. SameOutside (map_of file) from image × IsInHand claims.now file from image)) }
+    ensures stops { ForSome (F.told f.old).files (λ from. PassesNeeded (F.told f.old) (F.told f.new) (RemakesInProgress claims.now file from)) }
+    ensures clean { ForSome (F.told f.old).files (λ from. IsRebuilt claims.now from file → Stays (F.told f.old) (F.told f.new)) }
     ensures silent { (F.told f.old).files ≡ None → (F.told f.new).files ≡ None }
     ensures later { F.faults f.old ≤ F.faults f.new }
     ensures failed { OnErr result (Rises (F.faults f.old) (F.faults f.new)) }
 {
-    write_word(f, FileId::Block(file), BlockHead::UPDATING, 1)?;
-    write_marks(f, claims, file, groups)
+    let updating = &fields[UPDATING..UPDATING + 4];
+    if is_right(claims, file, groups, map, fields) {
+        return mend_word(f, file, BlockHead::UPDATING, updating, &0u32.to_le_bytes());
+    }
+    mend_word(f, file, BlockHead::UPDATING, updating, &1u32.to_le_bytes())?;
+    mend_marks(f, claims, file, groups, map, fields)
 }
 
-// Makes the map and the counters of a file anew, where they aren't those of the claims already.
+// Reads the header of a file, and writes those of its words that aren't as claims have them.
 fn remake<F: Folder>(f: &mut F, claims: &Claims, file: u8, groups: u32) -> Result<(), Fault>
     requires few { groups ≤ 16224 }
     requires header { ForSome (F.told f.old).files (λ image. 8192 ≤ length_of image (block file)) }
     requires groups { ForSome (F.told f.old).files (λ image. groups ≡ groups_of (max_entries_in image file)) }
     ensures done { OnOk result (ForSome (F.told f.new).files (λ image. IsRebuilt claims.now image file)) }
-    ensures stops { ForSome (F.told f.old).files (λ from. Passes (F.told f.old) (F.told f.new) (RemakesInProgress claims.now file from)) }
+    ensures stops { ForSome (F.told f.old).files (λ from. PassesNeeded (F.told f.old) (F.told f.new) (RemakesInProgress claims.now file from)) }
     ensures clean { ForSome (F.told f.old).files (λ from. IsRebuilt claims.now from file → Stays (F.told f.old) (F.told f.new)) }
     ensures cause { IfDamaged result (IsShortRead (F.told f.new) file) }
     ensures untold { IfDamaged result (λ _. (F.told f.old).files ≡ None) }
@@ -95,11 +135,11 @@ fn remake<F: Folder>(f: &mut F, claims: &Claims, file: u8, groups: u32) -> Resul
     ensures later { F.faults f.old ≤ F.faults f.new }
     ensures device { IfDevice result (Rises (F.faults f.old) (F.faults f.new)) }
 {
-    let same = is_rebuilt(f, claims, file, groups)?;
-    if same {
-        return Ok(());
-    }
-    rewrite(f, claims, file, groups)?;
+    let mut map = [0u8; MAP_LEN];
+    read_exact(f, FileId::Block(file), BlockHead::MAP, &mut map)?;
+    let mut fields = [0u8; BlockHead::LEN];
+    read_exact(f, FileId::Block(file), 0, &mut fields)?;
+    mend_file(f, claims, file, groups, &map, &fields)?;
     Ok(())
 }
 
@@ -118,7 +158,7 @@ fn rebuild_file<F: Folder>(
     ensures agrees { ForSome (F.told f.new).files (Agrees files.new) }
     ensures all { (kind : ℕ) → files_of files.new kind ≡ files_of files.old kind }
     ensures keeps { KeepsStanding files.old files.new }
-    ensures stops { ForSome (F.told f.old).files (λ from. Passes (F.told f.old) (F.told f.new) (IsRebuilding claims.now (file ∷ []) from)) }
+    ensures stops { ForSome (F.told f.old).files (λ from. PassesNeeded (F.told f.old) (F.told f.new) (IsRebuilding claims.now (file ∷ []) from)) }
     ensures clean { ForSome (F.told f.old).files (λ from. HasItsBlocks files.old file → IsRebuilt claims.now from file → Stays (F.told f.old) (F.told f.new)) }
     ensures cause { IfDamaged result (IsShortRead (F.told f.new) file) }
     ensures untold { IfDamaged result (λ _. (F.told f.old).files ≡ None) }
@@ -133,9 +173,11 @@ fn rebuild_file<F: Folder>(
 
 /// Makes the maps and the counters of all linked block files those of claims, and `updating` 0. Hints stay.
 ///
-/// Before that, a file that is shorter than its header and blocks is lengthened to them. A file whose map
-/// and counters are right, and where no change is under way, is left alone. A damage is a read of a header
-/// that gave too few bytes, which needs a folder that tells nothing.
+/// Before that, a file that is shorter than its header and blocks is lengthened to them. Of a header, which is
+/// read by two calls, only words that differ from what they have to be are written, each by a call of its own:
+/// of map and counters at most 2033, and around them `updating`, which is 1 from before the first of them to
+/// after the last. A damage is a read of a header that gave too few bytes, which needs a folder that tells
+/// nothing.
 pub fn rebuild<F: Folder>(f: &mut F, files: &mut BlockFiles, claims: &Claims) -> Result<(), Fault>
     requires agrees { ForSome (F.told f.old).files (Agrees files.old) }
     // In any case the same files are linked, and what stood still does.
@@ -147,8 +189,8 @@ pub fn rebuild<F: Folder>(f: &mut F, files: &mut BlockFiles, claims: &Claims) ->
     ensures fitted { OnOk result (AreFitted files.old files.new) }
     ensures agrees { ForSome (F.told f.new).files (Agrees files.new) }
 
-    // At each word only lengths, maps, counters and updating differ, and in each file updating is 1 until map and counters are done; a file whose map and counters were right has each byte as before; files have grown at most, and a well-formed folder is well formed.
-    ensures stops { ForSome (F.told f.old).files (λ from. Passes (F.told f.old) (F.told f.new) (IsRebuilding claims.now (all_files files.old) from)) }
+    // Each step is needed: it writes bytes that aren't there already, or lengthens a file. At each word only lengths, maps, counters and updating differ, each mark and each counter is as it was or as claims have it, and in each file updating is 1 until map and counters are done; a file whose map and counters were right has each byte as before; files have grown at most, and a well-formed folder is well formed.
+    ensures stops { ForSome (F.told f.old).files (λ from. PassesNeeded (F.told f.old) (F.told f.new) (IsRebuilding claims.now (all_files files.old) from)) }
 
     // Where each file has all its blocks, and its map and its counters are right, no step is made.
     ensures clean { ForSome (F.told f.old).files (λ from. AreRight claims.now files.old from → Stays (F.told f.old) (F.told f.new)) }

@@ -229,8 +229,8 @@ fn a_wrong_map_is_made_that_of_the_claims(rt: HostRuntime) -> Result<(), Fail> {
     assert!(rt; add_words(&mut claims, &words));
     assert_eq!(rt; rebuild_all(&mut f, &claims), Ok(()));
 
-    // Two reads of each of the three files that are right, and of the other one read, its length, and five writes.
-    assert_eq!(rt; f.calls(), 8 + 13);
+    // Two reads of each file; of one its length, each word of its map, four counters, and updating twice.
+    assert_eq!(rt; f.calls(), 8 + 8 + 1 + 2028 + 4 + 2);
     assert_eq!(rt; f.length(FileId::Block(1)), Ok(Some(270_336)));
     let mut expected = file_with(rt.alloc(), HEADER_LEN, 0, &header(1024, 3, [0, 2, 0, 253]))?;
     put_word(&mut expected, 40, 5);
@@ -246,6 +246,12 @@ fn a_wrong_map_is_made_that_of_the_claims(rt: HostRuntime) -> Result<(), Fail> {
     let before = f.calls();
     assert_eq!(rt; rebuild_all(&mut f, &claims), Ok(()));
     assert_eq!(rt; f.calls().wrapping_sub(before), 8 + 8);
+
+    // With a block more a word of the map differs, and three counters; updating is written twice.
+    assert!(rt; add_words(&mut claims, &[0xA001_0200]));
+    let before = f.calls();
+    assert_eq!(rt; rebuild_all(&mut f, &claims), Ok(()));
+    assert_eq!(rt; f.calls().wrapping_sub(before), 8 + 8 + 4 + 2);
     Ok(())
 }
 

@@ -9,6 +9,7 @@ use Rattle.blk_alloc.proofs.Kept.{standing_kept}
 use Rattle.blk_alloc.proofs.Rebuilt.{HasRebuilt, none_rebuilt, next_clean, next_none, next_rebuilt, next_stops, all_allocations, all_rebuilt}
 use Rattle.blk_io.proofs.Carried.{carried, if_damaged_weaker}
 use Rattle.blk_alloc.specs.Rebuilding.{IsRebuilding, IsShortRead, IsShortReadOf}
+use Rattle.blk_alloc.proofs.Needed.{needed_passes}
 use Rattle.blk_alloc.proofs.Rooms.{untold_before}
 use Rattle.blk_alloc.proofs.rebuilding.rebuild.Goals as goal
 use Rattle.blk_alloc.proofs.rebuilding.rebuild.Goals.{then-is_some+in_ok-rebuild_file, else-is_some}
@@ -79,7 +80,7 @@ pub returns-in_err-rebuild_file-clause-untold : goal.returns-in_err-rebuild_file
 returns-in_err-rebuild_file-clause-untold g c =
     carried c.rebuild_file.result c.from_residual.result c.in_err-rebuild_file.field-0.0 _ c.in_err-rebuild_file.was c.from_residual.ensures.1
     (if_damaged_weaker c.rebuild_file.result (λ _. (g.F.Folder.told c.loop-number.f).files ≡ None) (λ _. (g.F.Folder.told c.args.f.now).files ≡ None)
-    (λ damage none. untold_before (IsRebuilding c.args.claims.now (all_files c.args.files.now)) c.loop-number.invariant.has.stops none) c.rebuild_file.ensures.untold)
+    (λ damage none. untold_before (IsRebuilding c.args.claims.now (all_files c.args.files.now)) (λ from there. needed_passes (c.loop-number.invariant.has.stops from there)) none) c.rebuild_file.ensures.untold)
 
 pub returns-in_err-rebuild_file-clause-clean : goal.returns-in_err-rebuild_file-clause-clean
 returns-in_err-rebuild_file-clause-clean g c =

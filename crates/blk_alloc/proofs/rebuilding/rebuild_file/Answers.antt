@@ -1,6 +1,7 @@
 use Rattle.std.proofs.Common.{◌≡◌, ℕ, ◌/◌, List, [], ◌∷◌, None, sym, ◌∙◌, ap, subst, arith}
 use Rattle.blk_image.specs.Image.{Image}
-use Rattle.blk_image.proofs.Runs.{passes_none, passes_then, passes_weaker, passes_end, some_inj}
+use Rattle.blk_image.proofs.Runs.{some_inj}
+use Rattle.blk_alloc.proofs.Needed.{needed_end, needed_none, needed_then, needed_weaker}
 use Rattle.blk_format.specs.BlockFiles.{is_among, max_entries_in}
 use Rattle.blk_disk.specs.declared.tables.BlockFiles.{BlockFiles}
 use Rattle.blk_disk.specs.Tables.{Agrees, files_of}
@@ -10,7 +11,7 @@ use Rattle.blk_io.proofs.Carried.{if_damaged_weaker, told_at_end}
 use Rattle.blk_image.specs.Steps.{after}
 use Rattle.blk_disk.specs.Growth.{fit_steps}
 use Rattle.blk_alloc.proofs.Causes.{none_before}
-use Rattle.blk_alloc.proofs.Rebuilt.{fitted_none}
+use Rattle.blk_alloc.proofs.Rebuilt.{fit_needed, fitted_none}
 use Rattle.blk_image.specs.Told.{Told}
 use Rattle.blk_alloc.proofs.Formed.{agrees_kept}
 use Rattle.blk_format.proofs.LinkedHeads.{count_whole}
@@ -23,7 +24,7 @@ use Rattle.blk_alloc.proofs.rebuilding.rebuild_file.Goals as goal
 
 pub returns-in_err-fit-clause-stops : goal.returns-in_err-fit-clause-stops
 returns-in_err-fit-clause-stops g c from there =
-    passes_none (IsRebuilding c.args.claims.now (c.args.file ∷ []) from) c.in_err-fit.ensures.undone (λ image is. subst (IsRebuilding c.args.claims.now (c.args.file ∷ []) from) (some_inj (sym there ∙ is)) (rebuilding_begin c.args.claims.now (c.args.file ∷ []) from))
+    needed_none (IsRebuilding c.args.claims.now (c.args.file ∷ []) from) c.in_err-fit.ensures.undone (λ image is. subst (IsRebuilding c.args.claims.now (c.args.file ∷ []) from) (some_inj (sym there ∙ is)) (rebuilding_begin c.args.claims.now (c.args.file ∷ []) from))
 
 pub remake-requires-clause-header : goal.remake-requires-clause-header
 remake-requires-clause-header g c mid now =
@@ -42,7 +43,7 @@ pub returns-clause-agrees : goal.returns-clause-agrees
 returns-clause-agrees g c =
     told_at_end (g.F.Folder.told c.fit.new.f).files (g.F.Folder.told c.remake.new.f).files (Agrees c.fit.new.self) c.remake.ensures.silent
     (λ mid now. let keeps : (i : Image) → RemakesInProgress c.args.claims.now c.args.file mid i → Agrees c.fit.new.self i = λ i remade. agrees_kept c.args.file mid i remade.same c.fit.new.self (c.in_ok-fit.ensures.agrees mid now) in
-    passes_end (passes_weaker (c.remake.ensures.stops mid now) keeps keeps))
+    needed_end (needed_weaker (c.remake.ensures.stops mid now) keeps))
 
 pub returns-clause-stops : goal.returns-clause-stops
 returns-clause-stops g c from there =
@@ -50,10 +51,11 @@ returns-clause-stops g c from there =
     let found = mid_of (g.F.Folder.told c.args.f.now) (g.F.Folder.told c.fit.new.f) c.args.files.now c.fit.new.self place c.requires.agrees c.requires.linked c.in_ok-fit.ensures.fitted c.in_ok-fit.ensures.kept c.in_ok-fit.ensures.agrees from there in
     let keeps : (i : Image) → RemakesInProgress c.args.claims.now c.args.file found.0 i → IsRebuilding c.args.claims.now (c.args.file ∷ []) from i =
     λ i remade. remade_is c.args.claims.now c.args.file from found.0 found.1.same found.1.longer i remade in
-    passes_then
+    needed_then from there
+    (fit_needed c.args.files.now c.args.file from (IsRebuilding c.args.claims.now (c.args.file ∷ []) from) there (c.requires.agrees from there) c.requires.linked c.in_ok-fit.ensures.fitted
     (fit_passes c.args.files.now c.args.file from (c.requires.agrees from there) c.requires.linked (IsRebuilding c.args.claims.now (c.args.file ∷ []) from) there c.in_ok-fit.ensures.fitted
-    (λ i same longer. lengthened_is c.args.claims.now c.args.file from i same longer))
-    (passes_weaker (c.remake.ensures.stops found.0 found.1.now) keeps keeps)
+    (λ i same longer. lengthened_is c.args.claims.now c.args.file from i same longer)))
+    (λ mid now lengthened. needed_weaker (c.remake.ensures.stops found.0 found.1.now) keeps)
 
 pub returns-in_err-fit-clause-all : goal.returns-in_err-fit-clause-all
 returns-in_err-fit-clause-all g c kind = ap (λ (files : BlockFiles). files_of files kind) c.in_err-fit.ensures.same

@@ -1,0 +1,39 @@
+-- Words that are written only where they differ.
+use Rattle.std.specs.Prelude.{◌≡◌, ◌≢◌, ℕ, ◌+◌, ◌*◌, ◌<◌, ◌≤◌, List, [], ◌∷◌, length}
+use Rattle.std.specs.Option.{ForSome}
+use Rattle.blk_image.specs.Bytes.{content, range_at}
+use Rattle.blk_image.specs.Image.{File, Image, byte, length_of}
+use Rattle.blk_image.specs.Steps.{TrailStep, Word, SetLength, Delete, Note, applied}
+use Rattle.blk_image.specs.Footprint.{SameOutside, range}
+use Rattle.blk_image.specs.Told.{Told, Along, Applies, IsQuiet}
+
+-- a step is needed: it writes bytes that aren't there already, or lengthens a file
+abbrev pub IsNeeded : Image → TrailStep → Type 0
+IsNeeded image (Word file place bytes) = range_at (byte image file) place (length bytes) ≢ bytes
+IsNeeded image (SetLength file n) = length_of image file < n
+IsNeeded image (Delete file) = ⊥
+IsNeeded image (Note number) = ⊥
+
+-- each of these steps is needed where it is made
+abbrev pub AreNeeded : Image → List TrailStep → Type 0
+AreNeeded image [] = Unit {0}
+AreNeeded image (step ∷ steps) = IsNeeded image step × AreNeeded (applied step image) steps
+
+-- steps were made, none of them a note, and each of them needed; P holds of the files before each of them, and after the last
+pub record PassesNeeded (old new : Told) (P : Image → Type 0) : Type 0 where
+  pub steps : List TrailStep
+  pub applies : Applies old new steps
+  pub quiet : IsQuiet steps
+  pub along : ForSome old.files (λ image. Along P image steps)
+  pub needed : ForSome old.files (λ image. AreNeeded image steps)
+
+-- the first so many of some bytes stand at a place, and nothing else differs
+pub record IsWritten (file : File) (place : ℕ) (bytes : List ℕ) (count : ℕ) (from image : Image) : Type 0 where
+  pub same : SameOutside (range file place count) from image
+  pub there : (i : ℕ) → i < count → byte image file (place + i) ≡ content bytes i
+
+-- the first words of some bytes stand at a place, and nothing else differs
+pub record IsPartWritten (file : File) (place : ℕ) (bytes : List ℕ) (from image : Image) : Type 0 where
+  pub words : ℕ
+  pub most : 4 * words ≤ length bytes
+  pub written : IsWritten file place bytes (4 * words) from image

@@ -1,0 +1,106 @@
+// Words of a header are written where they differ.
+ghost use Rattle.std.specs.Prelude.{◌≡◌, ◌⊎◌, ℕ, ◌+◌, ◌%◌, ◌<◌, ◌≤◌, ◌^◌, None, length, OnOk, OnErr};
+ghost use Rattle.std.specs.Option.{ForSome};
+ghost use Rattle.blk_image.specs.Bytes.{content};
+ghost use Rattle.blk_image.specs.Image.{Block as block, HasRange, byte, length_of};
+ghost use Rattle.blk_image.specs.Told.{Rises, Stays};
+ghost use Rattle.blk_alloc.specs.Mending.{IsPartWritten, IsWritten, PassesNeeded};
+ghost use Rattle.blk_alloc.specs.Rebuilding.{HasTheseCounters, IsCounting};
+
+use crate::layout::{ALLOCATIONS, EMPTY};
+use blk_io::{Failed, FileId, Folder};
+use blk_record::BlockHead;
+
+// Writes a word of a file, where it isn't the old one, which stands there.
+pub(crate) fn mend_word<F: Folder>(
+    f: &mut F,
+    file: u8,
+    at: u64,
+    old: &[u8],
+    new: &[u8],
+) -> Result<(), Failed>
+    requires aligned { at % 4 ≡ 0 }
+    requires old_word { length old.now ≡ 4 }
+    requires new_word { length new.now ≡ 4 }
+    requires inside { ForSome (F.told f.old).files (λ image. HasRange image (block file) at 4) }
+    requires stands { ForSome (F.told f.old).files (λ image. (i : ℕ) → i < 4 → content old.now i ≡ byte image (block file) (at + i)) }
+    ensures done { OnOk result (ForSome (F.told f.old).files (λ from. ForSome (F.told f.new).files (IsWritten (block file) at new.now 4 from))) }
+    ensures stops { ForSome (F.told f.old).files (λ from. PassesNeeded (F.told f.old) (F.told f.new) (λ image. (image ≡ from) ⊎ IsWritten (block file) at new.now 4 from image)) }
+    ensures same { old.now ≡ new.now → Stays (F.told f.old) (F.told f.new) }
+    ensures silent { (F.told f.old).files ≡ None → (F.told f.new).files ≡ None }
+    ensures later { F.faults f.old ≤ F.faults f.new }
+    ensures failed { OnErr result (Rises (F.faults f.old) (F.faults f.new)) }
+{
+    if *old == *new {
+        return Ok(());
+    }
+    f.write_at(FileId::Block(file), at, new)
+}
+
+// Writes the words of a file from a place on that differ from the old ones, which stand there.
+pub(crate) fn mend<F: Folder>(
+    f: &mut F,
+    file: u8,
+    at: u64,
+    old: &[u8],
+    new: &[u8],
+) -> Result<(), Failed>
+    requires aligned { at % 4 ≡ 0 }
+    requires words { length new.now % 4 ≡ 0 }
+    requires alike { length old.now ≡ length new.now }
+    requires small { at + length new.now < 2 ^ 32 }
+    requires inside { ForSome (F.told f.old).files (λ image. HasRange image (block file) at (length new.now)) }
+    requires stands { ForSome (F.told f.old).files (λ image. (i : ℕ) → i < length old.now → content old.now i ≡ byte image (block file) (at + i)) }
+    ensures done { OnOk result (ForSome (F.told f.old).files (λ from. ForSome (F.told f.new).files (IsWritten (block file) at new.now (length new.now) from))) }
+    ensures stops { ForSome (F.told f.old).files (λ from. PassesNeeded (F.told f.old) (F.told f.new) (IsPartWritten (block file) at new.now from)) }
+    ensures silent { (F.told f.old).files ≡ None → (F.told f.new).files ≡ None }
+    ensures later { F.faults f.old ≤ F.faults f.new }
+    ensures failed { OnErr result (Rises (F.faults f.old) (F.faults f.new)) }
+{
+    for k in 0..new.len() / 4 {
+        let i = 4 * k;
+        mend_word(f, file, at + i as u64, &old[i..i + 4], &new[i..i + 4])?;
+    }
+    Ok(())
+}
+
+// Makes the counters of a file, of those that were read, these ones, where they differ.
+pub(crate) fn mend_counters<F: Folder>(
+    f: &mut F,
+    file: u8,
+    fields: &[u8],
+    allocations: u32,
+    empty: &[u32; 4],
+) -> Result<(), Failed>
+    requires four { length empty.now ≡ 4 }
+    requires long_fields { length fields.now ≡ 80 }
+    requires header { ForSome (F.told f.old).files (λ image. 8192 ≤ length_of image (block file)) }
+    requires fields { ForSome (F.told f.old).files (λ image. (i : ℕ) → 16 ≤ i → i < 40 → content fields.now i ≡ byte image (block file) i) }
+    ensures done { OnOk result (ForSome (F.told f.new).files (λ image. HasTheseCounters (byte image (block file)) allocations empty.now)) }
+    ensures stops { ForSome (F.told f.old).files (λ from. PassesNeeded (F.told f.old) (F.told f.new) (IsCounting file allocations empty.now from)) }
+    ensures silent { (F.told f.old).files ≡ None → (F.told f.new).files ≡ None }
+    ensures later { F.faults f.old ≤ F.faults f.new }
+    ensures failed { OnErr result (Rises (F.faults f.old) (F.faults f.new)) }
+{
+    let number = &fields[ALLOCATIONS..ALLOCATIONS + 4];
+    mend_word(
+        f,
+        file,
+        BlockHead::ALLOCATIONS,
+        number,
+        &allocations.to_le_bytes(),
+    )?;
+    let runs = [
+        empty[0].to_le_bytes(),
+        empty[1].to_le_bytes(),
+        empty[2].to_le_bytes(),
+        empty[3].to_le_bytes(),
+    ];
+    mend(
+        f,
+        file,
+        BlockHead::EMPTY,
+        &fields[EMPTY..EMPTY + 16],
+        runs.as_flattened(),
+    )
+}
