@@ -120,6 +120,6 @@ allocations_are claims words n from image is rebuilt still stand = record {
   stand = λ k d small. still (get_or (words_in n words) k d) (stand k d small);
   here = filter_passes (is_in_file n) words;
   apart = once_fewer (is_in_file n) words is.once;
-  marks = λ b small. rebuilt.marks b small ∙ is.claims (BlockOf n b) ∙ claims_here n b words;
-  counted = rebuilt.allocations ∙ is.allocations n ∙ sym (length-filter (is_in_file n) words);
+  marks = λ b small. rebuilt.right.marks b small ∙ is.claims (BlockOf n b) ∙ claims_here n b words;
+  counted = rebuilt.right.allocations ∙ is.allocations n ∙ sym (length-filter (is_in_file n) words);
 }

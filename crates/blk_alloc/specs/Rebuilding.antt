@@ -32,18 +32,16 @@ is_block_claimed claims n b = contains_claim claims (BlockOf n b)
 abbrev pub AreMarked : Claims → Image → ℕ → Type 0
 AreMarked claims image n = (b : ℕ) → b < most_blocks → is_block_marked image n b ≡ is_block_claimed claims n b
 
--- the map and the counters of a file are those of claims: exactly the claimed blocks are marked, num_entries is the number of the addresses of the file that were added, `empty` agrees with the map, and updating is 0
-pub record IsRebuilt (claims : Claims) (image : Image) (n : ℕ) : Type 0 where
-  pub marks : AreMarked claims image n
-  pub allocations : allocations_of (byte image (Block n)) ≡ allocations_in claims n
-  pub empty : EmptyAgrees image n
-  pub updating : updating_of (byte image (Block n)) ≡ 0
-
--- the map and the counters of a file are those of claims, whatever updating is
+-- the map and the counters of a file are those of claims: exactly the claimed blocks are marked, num_entries is the number of the addresses of the file that were added, and `empty` agrees with the map
 pub record HasMarksOf (claims : Claims) (image : Image) (n : ℕ) : Type 0 where
   pub marks : AreMarked claims image n
   pub allocations : allocations_of (byte image (Block n)) ≡ allocations_in claims n
   pub empty : EmptyAgrees image n
+
+-- and updating is 0
+pub record IsRebuilt (claims : Claims) (image : Image) (n : ℕ) : Type 0 where
+  pub right : HasMarksOf claims image n
+  pub updating : updating_of (byte image (Block n)) ≡ 0
 
 -- a header with this content has these counters
 pub record HasTheseCounters (f : ℕ → ℕ) (count : ℕ) (runs : List ℕ) : Type 0 where
