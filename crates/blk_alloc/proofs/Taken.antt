@@ -21,7 +21,7 @@ use Rattle.blk_disk.specs.declared.tables.BlockFiles.{BlockFiles}
 use Rattle.blk_disk.specs.Tables.{Agrees, files_of, all_files, length_in}
 use Rattle.blk_disk.specs.Growth.{fit_steps, whole_length}
 use Rattle.blk_disk.proofs.Chains.{linked_once}
-use Rattle.blk_alloc.specs.Changes.{map_of, IsReady, IsMapInProgress}
+use Rattle.blk_alloc.specs.Changes.{map_of, CanChangeMarks, IsMapInProgress}
 use Rattle.blk_alloc.specs.Marking.{taking_of, MarksUsedInProgress}
 use Rattle.blk_alloc.proofs.Members.{kind_blocky}
 
@@ -89,7 +89,7 @@ module _ (files : BlockFiles) (n : ℕ) (from : Image) (agrees : Agrees files fr
       (λ i is. subst (λ (j : Image). Until P P j (fit_steps files n)) (some_inj (sym there ∙ is)) (fit_along P (all from (outside-refl (size_of (Block n)) from) (omega arith)) all))
 
 -- a header that is as it was is ready as it was
-pub ready_kept : (from mid : Image) (n start count : ℕ) (used : Bool) → SameOutside (size_of (Block n)) from mid → length_of from (Block n) ≤ length_of mid (Block n) → IsReady from n start count used → IsReady mid n start count used
+pub ready_kept : (from mid : Image) (n start count : ℕ) (used : Bool) → SameOutside (size_of (Block n)) from mid → length_of from (Block n) ≤ length_of mid (Block n) → CanChangeMarks from n start count used → CanChangeMarks mid n start count used
 unfolding EmptyAgrees max_entries_in
 ready_kept from mid n start count used same longer ready =
     let bytes : byte from (Block n) ≡ byte mid (Block n) = (λ j i. sym (same.bytes (Block n) i refl) j) in

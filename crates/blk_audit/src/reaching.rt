@@ -11,7 +11,7 @@ ghost use Rattle.blk_disk.specs.Tables.{Agrees};
 ghost use Rattle.blk_index.specs.Table.{AreBuckets};
 ghost use Rattle.blk_audit.specs.Faults.{IfScanDamaged, IfScanDevice, IsChainsDamage, IsRecordDamage};
 ghost use Rattle.blk_audit.specs.Records.{AreRecordsOf};
-ghost use Rattle.blk_audit.specs.Chaining.{AreOfFirst, AreReached, IsReach, is_met, reached_by, words_of};
+ghost use Rattle.blk_audit.specs.Chaining.{AreOfFirst, AreReached, IsReach, is_met, reached_by, words_reached};
 
 use crate::fault::ScanFault;
 use crate::record_files::{Records, read_records, record_of};
@@ -43,14 +43,14 @@ pub struct Reached {
 impl Reached {
     /// The number of reached records.
     pub fn count(&self) -> usize
-        ensures { result ≡ length (words_of self.now) }
+        ensures { result ≡ length (words_reached self.now) }
     {
         self.words.len()
     }
 
     /// The address of one of the reached records, counted from 0.
     pub fn at(&self, i: usize) -> Option<Addr>
-        ensures { result ≡ slice_get (words_of self.now) i }
+        ensures { result ≡ slice_get (words_reached self.now) i }
     {
         self.words.get(i).copied()
     }
@@ -58,7 +58,7 @@ impl Reached {
     // No record is reached.
     fn none(alloc: Global) -> Reached
         ensures reached { AreReached result }
-        ensures none { words_of result ≡ [] }
+        ensures none { words_reached result ≡ [] }
     {
         Reached {
             words: Vec::new(alloc),
@@ -70,7 +70,7 @@ impl Reached {
     fn has(&self, addr: Addr) -> bool
         requires kind { kind_of addr ≡ blocks_256 }
         requires reached { AreReached self.now }
-        ensures { result ≡ is_met (words_of self.now) addr }
+        ensures { result ≡ is_met (words_reached self.now) addr }
     {
         self.met.has(first_of_record(addr))
     }
@@ -79,9 +79,9 @@ impl Reached {
     fn add(&mut self, addr: Addr) -> Result<(), NoMemory>
         requires kind { kind_of addr ≡ blocks_256 }
         requires reached { AreReached self.old }
-        requires fresh { is_met (words_of self.old) addr ≡ false }
+        requires fresh { is_met (words_reached self.old) addr ≡ false }
         ensures reached { OnOk result (AreReached self.new) }
-        ensures added { OnOk result (words_of self.new ≡ words_of self.old ++ addr ∷ []) }
+        ensures added { OnOk result (words_reached self.new ≡ words_reached self.old ++ addr ∷ []) }
     {
         self.met.add(first_of_record(addr))?;
         self.words.push(addr)?;
@@ -102,7 +102,7 @@ pub fn chains<F: Folder>(
     named: &Claims,
 ) -> Result<Reached, ScanFault>
     requires is_open { ForSome (F.told f.old).files (IsOpen files.now) }
-    ensures reached { IfOk result (λ reached. ForSome (F.told f.old).files (λ image. words_of reached ≡ reached_by (store_of image) table_length)) }
+    ensures reached { IfOk result (λ reached. ForSome (F.told f.old).files (λ image. words_reached reached ≡ reached_by (store_of image) table_length)) }
     ensures met { IfOk result AreReached }
     ensures stays { Stays (F.told f.old) (F.told f.new) }
 
@@ -135,9 +135,9 @@ fn follow_piece<F: Folder>(
     requires agrees { ForSome (F.told f.old).files (Agrees files.now) }
     requires records { ForSome (F.told f.old).files (λ image. AreRecordsOf image records.now) }
     requires met { AreReached reached.old }
-    requires before { ForSome (F.told f.old).files (λ image. words_of reached.old ≡ reached_by (store_of image) first) }
+    requires before { ForSome (F.told f.old).files (λ image. words_reached reached.old ≡ reached_by (store_of image) first) }
     ensures met { OnOk result (AreReached reached.new) }
-    ensures reached { OnOk result (ForSome (F.told f.old).files (λ image. words_of reached.new ≡ reached_by (store_of image) (first + 1024))) }
+    ensures reached { OnOk result (ForSome (F.told f.old).files (λ image. words_reached reached.new ≡ reached_by (store_of image) (first + 1024))) }
     ensures stays { Stays (F.told f.old) (F.told f.new) }
     ensures damaged { IfScanDamaged result (IsChainsDamage files.now (F.told f.new)) }
     ensures untold { IfScanDamaged result (λ _. (F.told f.new).files ≡ None) }
@@ -164,9 +164,9 @@ fn follow_all<F: Folder>(
     requires records { ForSome (F.told f.old).files (λ image. AreRecordsOf image records.now) }
     requires words { ForSome (F.told f.old).files (λ image. AreBuckets image first table.now) }
     requires met { AreReached reached.old }
-    requires before { ForSome (F.told f.old).files (λ image. words_of reached.old ≡ reached_by (store_of image) first) }
+    requires before { ForSome (F.told f.old).files (λ image. words_reached reached.old ≡ reached_by (store_of image) first) }
     ensures met { OnOk result (AreReached reached.new) }
-    ensures reached { OnOk result (ForSome (F.told f.old).files (λ image. words_of reached.new ≡ reached_by (store_of image) (first + length table.now))) }
+    ensures reached { OnOk result (ForSome (F.told f.old).files (λ image. words_reached reached.new ≡ reached_by (store_of image) (first + length table.now))) }
     ensures stays { Stays (F.told f.old) (F.told f.new) }
     ensures damaged { IfScanDamaged result (IsRecordDamage files.now (F.told f.new)) }
     ensures untold { IfScanDamaged result (λ _. (F.told f.new).files ≡ None) }
@@ -194,9 +194,9 @@ fn follow<F: Folder>(
     requires agrees { ForSome (F.told f.old).files (Agrees files.now) }
     requires records { ForSome (F.told f.old).files (λ image. AreRecordsOf image records.now) }
     requires met { AreReached reached.old }
-    requires others { ForSome (F.told f.old).files (λ image. AreOfFirst (store_of image) bucket (words_of reached.old)) }
+    requires others { ForSome (F.told f.old).files (λ image. AreOfFirst (store_of image) bucket (words_reached reached.old)) }
     ensures met { OnOk result (AreReached reached.new) }
-    ensures reached { OnOk result (ForSome (F.told f.old).files (λ image. words_of reached.new ≡ words_of reached.old ++ (chain_from (store_of image) bucket most_records [] start).reached)) }
+    ensures reached { OnOk result (ForSome (F.told f.old).files (λ image. words_reached reached.new ≡ words_reached reached.old ++ (chain_from (store_of image) bucket most_records [] start).reached)) }
     ensures stays { Stays (F.told f.old) (F.told f.new) }
     ensures damaged { IfScanDamaged result (IsRecordDamage files.now (F.told f.new)) }
     ensures untold { IfScanDamaged result (λ _. (F.told f.new).files ≡ None) }
@@ -228,7 +228,7 @@ fn reach<F: Folder>(
     requires records { ForSome (F.told f.old).files (λ image. AreRecordsOf image records.now) }
     requires met { AreReached reached.old }
     ensures met { OnOk result (AreReached reached.new) }
-    ensures step { IfOk result (λ next. ForSome (F.told f.old).files (λ image. IsReach (store_of image) bucket (words_of reached.old) word (words_of reached.new) next)) }
+    ensures step { IfOk result (λ next. ForSome (F.told f.old).files (λ image. IsReach (store_of image) bucket (words_reached reached.old) word (words_reached reached.new) next)) }
     ensures stays { Stays (F.told f.old) (F.told f.new) }
     ensures damaged { IfScanDamaged result (IsRecordDamage files.now (F.told f.new)) }
     ensures untold { IfScanDamaged result (λ _. (F.told f.new).files ≡ None) }

@@ -7,9 +7,9 @@ ghost use Rattle.blk_format.specs.Headers.{HasWholeIndex, table_length};
 ghost use Rattle.blk_volume.specs.ListImages.{completed_walk};
 ghost use Rattle.blk_volume.specs.View.{store_of};
 ghost use Rattle.blk_disk.specs.Open.{IsOpen};
-ghost use Rattle.blk_audit.specs.Chaining.{reached_by, words_of};
+ghost use Rattle.blk_audit.specs.Chaining.{reached_by, words_reached};
 ghost use Rattle.blk_audit.specs.Faults.{IfScanDamaged, IfScanDevice, IsListsDamage};
-ghost use Rattle.blk_audit.specs.Walking.{nodes_of};
+ghost use Rattle.blk_audit.specs.Walking.{nodes_walked};
 
 use crate::fault::ScanFault;
 use crate::list_walk::Walked;
@@ -45,8 +45,8 @@ pub fn read_lists<F: Folder>(
     files: &BlockFiles,
 ) -> Result<Lists, ScanFault>
     requires is_open { ForSome (F.told f.old).files (IsOpen files.now) }
-    ensures walked { IfOk result (λ lists. ForSome (F.told f.old).files (λ image. nodes_of lists.walked ≡ completed_walk image)) }
-    ensures reached { IfOk result (λ lists. ForSome (F.told f.old).files (λ image. words_of lists.reached ≡ reached_by (store_of image) table_length)) }
+    ensures walked { IfOk result (λ lists. ForSome (F.told f.old).files (λ image. nodes_walked lists.walked ≡ completed_walk image)) }
+    ensures reached { IfOk result (λ lists. ForSome (F.told f.old).files (λ image. words_reached lists.reached ≡ reached_by (store_of image) table_length)) }
     ensures stays { Stays (F.told f.old) (F.told f.new) }
 
     // A folder that tells its files never gives a damage.

@@ -6,7 +6,7 @@ ghost use Rattle.blk_audit.specs.Faults.{IfScanDamaged, IfScanDevice, IsWalkDama
 ghost use Rattle.blk_volume.specs.ListImages.{completed_walk};
 ghost use Rattle.blk_disk.specs.Open.{IsOpen};
 ghost use Rattle.blk_audit.specs.Nodes.{AreNodesOf};
-ghost use Rattle.blk_audit.specs.Walking.{AreMet, nodes_of};
+ghost use Rattle.blk_audit.specs.Walking.{AreMet, nodes_walked};
 
 use crate::fault::ScanFault;
 use crate::list_walk::{Walked, walk_nodes};
@@ -26,7 +26,7 @@ use std::alloc::Global;
 /// folder whose files are those of `files` gives none. `Device` comes only where the folder failed in this call.
 pub fn walk<F: Folder>(alloc: Global, f: &mut F, files: &BlockFiles) -> Result<Walked, ScanFault>
     requires is_open { ForSome (F.told f.old).files (IsOpen files.now) }
-    ensures walked { IfOk result (λ walked. ForSome (F.told f.old).files (λ image. nodes_of walked ≡ completed_walk image)) }
+    ensures walked { IfOk result (λ walked. ForSome (F.told f.old).files (λ image. nodes_walked walked ≡ completed_walk image)) }
     ensures met { IfOk result AreMet }
     ensures stays { Stays (F.told f.old) (F.told f.new) }
 
@@ -50,7 +50,7 @@ pub(crate) fn walk_over<F: Folder>(
 ) -> Result<Walked, ScanFault>
     requires is_open { ForSome (F.told f.old).files (IsOpen files.now) }
     requires nodes { ForSome (F.told f.old).files (λ image. AreNodesOf image nodes.now) }
-    ensures walked { IfOk result (λ walked. ForSome (F.told f.old).files (λ image. nodes_of walked ≡ completed_walk image)) }
+    ensures walked { IfOk result (λ walked. ForSome (F.told f.old).files (λ image. nodes_walked walked ≡ completed_walk image)) }
     ensures met { IfOk result AreMet }
     ensures stays { Stays (F.told f.old) (F.told f.new) }
     ensures damaged { IfScanDamaged result (IsWalkDamage files.now (F.told f.new)) }

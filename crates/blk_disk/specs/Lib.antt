@@ -1,7 +1,8 @@
-pub mod Names
-pub mod Tables
-pub mod Loading
+pub mod Damages
 pub mod Growth
-pub mod Unsealed
 pub mod Linked
+pub mod Loading
+pub mod Names
 pub mod Open
+pub mod Tables
+pub mod Unsealed

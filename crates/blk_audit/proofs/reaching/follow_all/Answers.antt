@@ -6,7 +6,7 @@ use Rattle.blk_disk.specs.Tables.{Agrees}
 use Rattle.blk_audit.specs.Records.{AreRecordsOf}
 use Rattle.blk_image.specs.Image.{Image}
 use Rattle.blk_lru.proofs.Conditions.{told_before, told_now, told_stays}
-use Rattle.blk_audit.specs.Chaining.{AreOfFirst, reached_by, words_of}
+use Rattle.blk_audit.specs.Chaining.{AreOfFirst, reached_by, words_reached}
 use Rattle.blk_audit.proofs.Chained.{first_of_all}
 use Rattle.blk_audit.proofs.Shown.{table_is}
 use Rattle.blk_audit.proofs.reaching.follow_all.Goals as goal
@@ -22,7 +22,7 @@ follow-requires-clause-agrees g c = told_stays (Agrees c.args.files.now) c.loop-
 pub follow-requires-clause-others : goal.follow-requires-clause-others
 follow-requires-clause-others g c image there =
     let all = c.loop-i.invariant.reached image (told_before image c.loop-i.invariant.stays there) in
-    subst (λ (n : ℕ). AreOfFirst (store_of image) (n + c.loop-i.i) (words_of c.loop-i.reached)) (sym c.from.ensures)
+    subst (λ (n : ℕ). AreOfFirst (store_of image) (n + c.loop-i.i) (words_reached c.loop-i.reached)) (sym c.from.ensures)
     (subst (AreOfFirst (store_of image) (c.args.first + c.loop-i.i)) (sym all) (first_of_all (store_of image) (c.args.first + c.loop-i.i)))
 
 pub loop-i-preserved : goal.loop-i-preserved

@@ -7,7 +7,7 @@ use Rattle.blk_volume.specs.View.{stands_as, store_of}
 use Rattle.blk_disk.specs.Tables.{Agrees, is_record_among}
 use Rattle.blk_lru.proofs.Conditions.{told_stays}
 use Rattle.blk_audit.specs.Chaining.{is_met}
-use Rattle.blk_audit.specs.Records.{IsEntryOf}
+use Rattle.blk_audit.specs.Records.{IsSaidBy}
 use Rattle.blk_audit.proofs.Carrying.{converted}
 use Rattle.blk_audit.proofs.Chained.{reach_stops, reach_on, not_reached, not_new, reached_new}
 use Rattle.blk_audit.proofs.Shown.{names_stand, next_is, of_bucket_by, of_none, of_is}
@@ -38,7 +38,7 @@ returns-then-not-said-clause-step g c image there =
     let named : c.in-Some.addr ≡ c.args.word = value_by (is_record_among c.args.files.now c.args.word) c.args.word c.in-Some.addr (sym c.in-Some.is ∙ c.entry.ensures.entry) in
     let stand : stands_as image blocks_256 c.args.word ≡ true =
     sym (names_stand c.args.files.now image c.args.word (c.requires.agrees image there)) ∙ test_by (is_record_among c.args.files.now c.args.word) c.args.word c.in-Some.addr (sym c.in-Some.is ∙ c.entry.ensures.entry) in
-    let is : IsEntryOf image c.args.word c.in_ok-said.said = subst (λ (w : ℕ). IsEntryOf image w c.in_ok-said.said) named (c.in_ok-said.ensures.said image there) in
+    let is : IsSaidBy image c.args.word c.in_ok-said.said = subst (λ (w : ℕ). IsSaidBy image w c.in_ok-said.said) named (c.in_ok-said.ensures.said image there) in
     let bad : c.in_ok-said.said.checks ≡ false = true_not c.in_ok-said.said.checks (sym c.if-not-said.true) in
     reach_stops (store_of image) c.args.bucket c.args.reached.now.words.items c.args.word
     (not_reached (store_of image) c.args.bucket (map file_and_block c.args.reached.now.words.items) c.args.word
@@ -49,7 +49,7 @@ returns-then-said-bucket-clause-step g c image there =
     let named : c.in-Some.addr ≡ c.args.word = value_by (is_record_among c.args.files.now c.args.word) c.args.word c.in-Some.addr (sym c.in-Some.is ∙ c.entry.ensures.entry) in
     let stand : stands_as image blocks_256 c.args.word ≡ true =
     sym (names_stand c.args.files.now image c.args.word (c.requires.agrees image there)) ∙ test_by (is_record_among c.args.files.now c.args.word) c.args.word c.in-Some.addr (sym c.in-Some.is ∙ c.entry.ensures.entry) in
-    let is : IsEntryOf image c.args.word c.in_ok-said.said = subst (λ (w : ℕ). IsEntryOf image w c.in_ok-said.said) named (c.in_ok-said.ensures.said image there) in
+    let is : IsSaidBy image c.args.word c.in_ok-said.said = subst (λ (w : ℕ). IsSaidBy image w c.in_ok-said.said) named (c.in_ok-said.ensures.said image there) in
     let other : (c.in_ok-said.said.hash % 65536 == c.args.bucket) ≡ false = ne_eqb (c.in_ok-said.said.hash % 65536) c.args.bucket c.if-said-bucket.true in
     reach_stops (store_of image) c.args.bucket c.args.reached.now.words.items c.args.word
     (not_reached (store_of image) c.args.bucket (map file_and_block c.args.reached.now.words.items) c.args.word
@@ -60,7 +60,7 @@ returns-clause-step g c image there =
     let named : c.in-Some.addr ≡ c.args.word = value_by (is_record_among c.args.files.now c.args.word) c.args.word c.in-Some.addr (sym c.in-Some.is ∙ c.entry.ensures.entry) in
     let stand : stands_as image blocks_256 c.args.word ≡ true =
     sym (names_stand c.args.files.now image c.args.word (c.requires.agrees image there)) ∙ test_by (is_record_among c.args.files.now c.args.word) c.args.word c.in-Some.addr (sym c.in-Some.is ∙ c.entry.ensures.entry) in
-    let is : IsEntryOf image c.args.word c.in_ok-said.said = subst (λ (w : ℕ). IsEntryOf image w c.in_ok-said.said) named (c.in_ok-said.ensures.said image there) in
+    let is : IsSaidBy image c.args.word c.in_ok-said.said = subst (λ (w : ℕ). IsSaidBy image w c.in_ok-said.said) named (c.in_ok-said.ensures.said image there) in
     let fresh : is_met c.args.reached.now.words.items c.args.word ≡ false = sym (ap (is_met c.args.reached.now.words.items) named) ∙ sym c.has.ensures ∙ c.if-has.false in
     let good : c.in_ok-said.said.checks ≡ true = false_not c.in_ok-said.said.checks (sym c.if-not-said.false) in
     let of : is_of_bucket (store_of image) c.args.bucket c.args.word ≡ true =
