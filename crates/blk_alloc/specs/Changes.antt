@@ -50,7 +50,7 @@ pub record IsPlan (image : Image) (n start count : ℕ) (used : Bool) (plan : Pl
       ≡ empty_of (byte image (Block n)) i + counted (longest_run (with_marks (is_block_marked image n) start count used) (start / 4)) i
 
 -- a file whose marks may change: it has its header and whole groups, the blocks are below max_entries, and the counters are true
-pub record IsReady (image : Image) (n start count : ℕ) (used : Bool) : Type 0 where
+pub record CanChangeMarks (image : Image) (n start count : ℕ) (used : Bool) : Type 0 where
   pub header : 8192 ≤ length_of image (Block n)
   pub whole : max_entries_in image n % 4 ≡ 0
   pub most : max_entries_in image n ≤ most_blocks

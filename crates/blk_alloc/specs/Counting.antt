@@ -30,12 +30,12 @@ abbrev pub IsCounted : Bool → ℕ → ℕ → Type 0
 IsCounted used old new = new + (if used then 0 else 1) ≡ old + (if used then 1 else 0)
 
 -- a group that had one longest free run has another, and one allocation is more or less
-pub record Moves (old new : Counters) (before later : ℕ) (used : Bool) : Type 0 where
+pub record MovesRun (old new : Counters) (before later : ℕ) (used : Bool) : Type 0 where
   pub allocations : IsCounted used old.allocations new.allocations
   pub empty : (i : ℕ) → i < 4 → slice_index new.empty i + counted before i ≡ slice_index old.empty i + counted later i
 
 -- each counter may move so, and stays in its range
-pub record MayMove (counters : Counters) (before later : ℕ) (used : Bool) : Type 0 where
+pub record MayMoveRun (counters : Counters) (before later : ℕ) (used : Bool) : Type 0 where
   pub more : used ≡ true → counters.allocations < largest
   pub less : used ≡ false → 0 < counters.allocations
   pub enough : (i : ℕ) → i < 4 → counted before i ≤ slice_index counters.empty i

@@ -62,13 +62,13 @@ abbrev pub AreRight : Claims → BlockFiles → Image → Type 0
 AreRight claims files image = (n : ℕ) → is_among (all_files files) n ≡ true → HasItsBlocks files n × IsRebuilt claims image n
 
 -- the added addresses of blocks of a file
-abbrev pub words_in : ℕ → List ℕ → List ℕ
-words_in n words = filter (is_in_file n) words
+abbrev pub words_of_file : ℕ → List ℕ → List ℕ
+words_of_file n words = filter (is_in_file n) words
 
 -- the added addresses of each file, where they stood, are its allocations
 abbrev pub AreItsAllocations : Claims → List ℕ → Image → Image → Type 0
 AreItsAllocations claims numbers from image =
-    (words : List ℕ) → IsClaimsOf claims words → (n : ℕ) → is_among numbers n ≡ true → All (λ w. stands_in from w ≡ true) (words_in n words) → AreAllocations image n (words_in n words)
+    (words : List ℕ) → IsClaimsOf claims words → (n : ℕ) → is_among numbers n ≡ true → All (λ w. stands_in from w ≡ true) (words_of_file n words) → AreAllocations image n (words_of_file n words)
 
 -- each file that is kept has its length, or that of its header and all its blocks where this is greater; all else that is kept is as before
 pub record AreFitted (old new : BlockFiles) : Type 0 where

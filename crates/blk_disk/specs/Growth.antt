@@ -65,7 +65,7 @@ abbrev pub first_number : ℕ
 first_number = 4
 
 -- a number is the least from 4 on that no linked file has
-pub record IsLeastFree (files : BlockFiles) (n : ℕ) : Type 0 where
+pub record IsLeastFileNumber (files : BlockFiles) (n : ℕ) : Type 0 where
   pub least_number : first_number ≤ n
   pub most_number : n < 256
   pub free : is_among (all_files files) n ≡ false
@@ -78,7 +78,7 @@ least_from numbers (suc turns) n =
     let later = least_from numbers turns (n + 1) in
     if is_among numbers n then later else n
 
--- the number of the next new file, which is the least that IsLeastFree speaks of
+-- the number of the next new file, which is the least that IsLeastFileNumber speaks of
 unfoldable pub free_number : BlockFiles → ℕ
 free_number files = least_from (all_files files) 252 first_number
 
@@ -91,8 +91,8 @@ abbrev pub header_words : ℕ → ℕ → List (ℕ × ℕ)
 header_words kind n = (0, block_magic) ∷ (4, version) ∷ (8, n) ∷ (12, block_size kind) ∷ []
 
 -- a file gets the length 0, then that of a header, and then the words of the header
-abbrev pub make_steps : ℕ → ℕ → List TrailStep
-make_steps kind n = SetLength (Block n) 0 ∷ SetLength (Block n) header_size ∷ word_steps (Block n) (header_words kind n)
+abbrev pub file_steps : ℕ → ℕ → List TrailStep
+file_steps kind n = SetLength (Block n) 0 ∷ SetLength (Block n) header_size ∷ word_steps (Block n) (header_words kind n)
 
 -- a file names another as its next one: the two bytes of next_file
 abbrev pub link_steps : ℕ → ℕ → List TrailStep
@@ -100,7 +100,7 @@ link_steps last n = Word (Block last) 10 (n % 256 ∷ n / 256 % 256 ∷ []) ∷ 
 
 -- the new file is made, and then the last file of its kind names it
 abbrev pub add_steps : BlockFiles → ℕ → List TrailStep
-add_steps files kind = make_steps kind (free_number files) ++ link_steps (last_file files kind) (free_number files)
+add_steps files kind = file_steps kind (free_number files) ++ link_steps (last_file files kind) (free_number files)
 
 -- what a new file touches: all of it, and the next_file of the last file of its kind
 abbrev pub addition_of : BlockFiles → ℕ → Footprint

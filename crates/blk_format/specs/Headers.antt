@@ -46,13 +46,26 @@ version_of f = word_at f 4
 
 -- The header of the index.
 
+-- the places of the counters: of the items, of their bytes, and of the nodes of the use list
+abbrev pub num_entries_place : ℕ
+num_entries_place = 8
+
+abbrev pub num_bytes_place : ℕ
+num_bytes_place = 12
+
+abbrev pub sizes_place : ℕ
+sizes_place = 268
+
+abbrev pub counter_places : List ℕ
+counter_places = num_entries_place ∷ num_bytes_place ∷ sizes_place ∷ []
+
 -- the number of listed items
 abbrev pub num_entries_of : (ℕ → ℕ) → ℕ
-num_entries_of f = word_at f 8
+num_entries_of f = word_at f num_entries_place
 
 -- the sum of their charges, modulo 2 ^ 32
 abbrev pub num_bytes_of : (ℕ → ℕ) → ℕ
-num_bytes_of f = word_at f 12
+num_bytes_of f = word_at f num_bytes_place
 
 -- the last external number that was made
 abbrev pub last_file_of : (ℕ → ℕ) → ℕ
@@ -96,7 +109,7 @@ filled_of f = word_at f 264
 
 -- word i of 5: the number of nodes, and then zeros
 abbrev pub sizes_of : (ℕ → ℕ) → ℕ → ℕ
-sizes_of f i = word_at f (268 + 4 * i)
+sizes_of f i = word_at f (sizes_place + 4 * i)
 
 -- the places of the four words that say where the use list begins and ends, and what is in flight
 abbrev pub heads_place : ℕ
