@@ -1,5 +1,5 @@
 -- Words that name nodes, and the checks of what is read.
-use Rattle.std.specs.Prelude.{ℕ, ◌≡◌, ◌⊎◌, ◌+◌, true, false, ◌&&◌, Option, None, Some}
+use Rattle.std.specs.Prelude.{ℕ, ◌≡◌, ◌⊎◌, ◌+◌, true, false, ◌&&◌, if◌then◌else◌, Option, None, Some}
 use Rattle.blk_image.specs.Image.{Block, HasRange, Image, word}
 use Rattle.blk_format.specs.Address.{file_selector, place}
 use Rattle.blk_format.specs.Records.{node_checks, node_size}
