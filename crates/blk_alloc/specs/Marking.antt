@@ -3,7 +3,7 @@ use Rattle.std.specs.Prelude.{◌≡◌, ◌≢◌, ◌⊎◌, ℕ, ◌+◌, ◌
 use Rattle.blk_image.specs.Image.{Block, Image, byte, length_of}
 use Rattle.blk_image.specs.Footprint.{Footprint, SameOutside, either, one_word, size_of}
 use Rattle.blk_format.specs.Address.{block_word, file_selector}
-use Rattle.blk_format.specs.Headers.{allocations_of, empty_of, updating_of}
+use Rattle.blk_format.specs.Headers.{allocations_of, blocks_place, empty_of, updating_of, updating_place}
 use Rattle.blk_format.specs.BlockFiles.{is_among, most_blocks, kind_among}
 use Rattle.blk_format.specs.Maps.{is_block_marked, are_free, longest_run, AreAllocations, EmptyAgrees}
 use Rattle.blk_io.specs.declared.folder.FileId.TheVariants as names
@@ -11,7 +11,7 @@ use Rattle.blk_io.specs.declared.fault.Damage.{Damage}
 use Rattle.blk_disk.specs.declared.tables.BlockFiles.{BlockFiles}
 use Rattle.blk_disk.specs.Tables.{all_files, blocks_of, files_of, stands_among}
 use Rattle.blk_alloc.specs.declared.blocks.Blocks.{Blocks}
-use Rattle.blk_alloc.specs.Changes.{map_of, updating_place, IsReady}
+use Rattle.blk_alloc.specs.Changes.{map_of, IsReady}
 use Rattle.blk_alloc.specs.Counting.{counted, IsCounted}
 use Rattle.blk_alloc.specs.Owning.{is_of}
 
@@ -47,10 +47,6 @@ pub record CountsUsed (n start : ℕ) (from image : Image) : Type 0 where
   pub allocations : IsCounted true (allocations_of (byte from (Block n))) (allocations_of (byte image (Block n)))
   pub counts : (i : ℕ) → i < 4 → empty_of (byte image (Block n)) i + counted (longest_run (is_block_marked from n) (start / 4)) i
       ≡ empty_of (byte from (Block n)) i + counted (longest_run (is_block_marked image n) (start / 4)) i
-
--- the place of the number of blocks in a header
-abbrev pub blocks_place : ℕ
-blocks_place = 20
 
 -- blocks of a kind don't stand among the files: the kind of their file isn't theirs, or its number of blocks ends among them; the damage has the place of this number, and finds what is kept of it
 pub record IsDangling (files : BlockFiles) (kind : ℕ) (place : Blocks) (damage : Damage) : Type 0 where

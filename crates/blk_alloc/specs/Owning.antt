@@ -9,7 +9,7 @@ use Rattle.blk_format.specs.Address.{file_selector, first_block, block_count}
 use Rattle.blk_format.specs.Headers.{allocations_of, block_fields_length, empty_of, updating_of}
 use Rattle.blk_format.specs.BlockFiles.{is_among, most_blocks}
 use Rattle.blk_format.specs.Growth.{StaysWhole}
-use Rattle.blk_format.specs.Maps.{is_block_marked, longest_run, map_place, AreAllocations, EmptyAgrees}
+use Rattle.blk_format.specs.Maps.{is_block_marked, longest_run, map_place, AreAllocations, EmptyAgrees, KeepsFile}
 use Rattle.blk_addr.specs.Bits.{has_bit, is_between}
 use Rattle.blk_io.specs.declared.folder.FileId.TheVariants as names
 use Rattle.blk_io.specs.declared.fault.Damage.{Damage}
@@ -31,11 +31,6 @@ pub record IsAllocated (image : Image) (w : ℕ) : Type 0 where
 -- the address words of a list but for one
 abbrev pub others : ℕ → List ℕ → List ℕ
 others w words = filter (λ x. not (x == w)) words
-
--- the allocations of a file are as before, and so is what `empty` says of it
-pub record KeepsFile (from image : Image) (n : ℕ) : Type 0 where
-  pub allocations : (words : List ℕ) → AreAllocations from n words → AreAllocations image n words
-  pub empty : EmptyAgrees from n → EmptyAgrees image n
 
 -- an address may be freed: it is one of the allocations of its file, and `empty` agrees with the map
 pub record CanBeFreed (image : Image) (w : ℕ) : Type 0 where

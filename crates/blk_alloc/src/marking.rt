@@ -11,7 +11,8 @@ ghost use Rattle.blk_disk.specs.Tables.{Agrees, all_files, blocks_of, stands_amo
 ghost use Rattle.blk_alloc.specs.Fitting.{IsPlace};
 ghost use Rattle.blk_alloc.specs.Extending.{HasItsBlocks, KeepsLists, KeepsStanding};
 ghost use Rattle.blk_alloc.specs.Owning.{IsCause};
-ghost use Rattle.blk_alloc.specs.Marking.{CountsUsed, blocks_place, IsDangling, CanBeMarked, MarksUsedInProgress, MarksUsed};
+ghost use Rattle.blk_format.specs.Headers.{blocks_place};
+ghost use Rattle.blk_alloc.specs.Marking.{CountsUsed, IsDangling, CanBeMarked, MarksUsedInProgress, MarksUsed};
 
 use crate::blocks::Blocks;
 use crate::change::change;

@@ -15,14 +15,14 @@ use Rattle.blk_format.specs.Address.{kind_of, is_address, external, external_num
 use Rattle.blk_format.specs.BlockFiles.{is_among, kind_among, max_entries_in, stands_in}
 use Rattle.blk_format.specs.Claims.{is_in_file}
 use Rattle.blk_format.specs.Headers.{allocations_of}
-use Rattle.blk_format.specs.Maps.{AreAllocations, EmptyAgrees, is_block_marked}
+use Rattle.blk_format.specs.Maps.{AreAllocations, EmptyAgrees, is_block_marked, KeepsFile}
 use Rattle.blk_format.specs.Standing.{stands, stands_as_blocks}
 use Rattle.blk_format.proofs.SpareHeaders.{SparesHeaders, blocks_same, linked_same}
 use Rattle.blk_disk.specs.declared.tables.BlockFiles.{BlockFiles}
 use Rattle.blk_disk.specs.Tables.{Agrees}
 use Rattle.blk_disk.proofs.Agreeing.{agrees_still}
 use Rattle.blk_alloc.specs.Changes.{map_of}
-use Rattle.blk_alloc.specs.Owning.{FreesAtLast, FreesInProgress, FreesOrStops, IsFreed, KeepsFile, others}
+use Rattle.blk_alloc.specs.Owning.{FreesAtLast, FreesInProgress, FreesOrStops, IsFreed, others}
 use Rattle.blk_alloc.proofs.Widening.{mark_kept}
 use Rattle.blk_stream.specs.Freeing.{IsPlaceFreed, freeing_of, is_block_of, leaving_of, left_by}
 
