@@ -6,10 +6,10 @@ use Rattle.blk_image.specs.Image.{Block, Image, byte, length_of, word}
 use Rattle.blk_image.specs.Told.{Stays, Told}
 use Rattle.blk_image.specs.Footprint.{Footprint, SameOutside, either, one_word}
 use Rattle.blk_format.specs.Address.{file_selector, block_word, header_size}
-use Rattle.blk_format.specs.Headers.{allocations_of, updating_of}
+use Rattle.blk_format.specs.Headers.{allocations_of, updating_of, updating_place}
 use Rattle.blk_format.specs.BlockFiles.{is_among, most_blocks, most_files}
 use Rattle.blk_format.specs.Growth.{StaysWhole}
-use Rattle.blk_format.specs.Maps.{is_block_marked, AreAllocations, EmptyAgrees, KeepsFile, HasAllocations}
+use Rattle.blk_format.specs.Maps.{is_block_marked, AreAllocations, EmptyAgrees, HasAllocations, KeepsFile}
 use Rattle.blk_io.specs.declared.folder.FileId.TheVariants as names
 use Rattle.blk_io.specs.declared.fault.Damage.{Damage}
 use Rattle.blk_disk.specs.declared.tables.BlockFiles.{BlockFiles}
@@ -17,7 +17,6 @@ use Rattle.blk_disk.specs.Tables.{all_files, blocks_of, files_of}
 use Rattle.blk_disk.specs.Growth.{IsLeastFileNumber, addition_of, free_number, growth_of}
 use Rattle.blk_alloc.specs.declared.blocks.Blocks.{Blocks}
 use Rattle.blk_alloc.specs.Counting.{IsCounted}
-use Rattle.blk_alloc.specs.Changes.{updating_place}
 use Rattle.blk_alloc.specs.Owning.{is_of, IsCause}
 use Rattle.blk_alloc.specs.Fitting.{HasNoRoom, IsFirstFit, IsPlace, IsShortOf}
 use Rattle.blk_alloc.specs.Marking.{taking_of, CanBeMarked, MarksUsed, MarksUsedInProgress}

@@ -7,7 +7,7 @@ use Rattle.blk_image.specs.Footprint.{Footprint, SameOutside, either, one_word, 
 use Rattle.blk_format.specs.Growth.{StaysWhole}
 use Rattle.blk_format.specs.Address.{header_size}
 use Rattle.blk_format.specs.Claims.{BlockOf, is_in_file}
-use Rattle.blk_format.specs.Headers.{allocations_of, block_fields_length, empty_of, updating_of}
+use Rattle.blk_format.specs.Headers.{allocations_of, allocations_place, block_fields_length, empty_of, empty_place, updating_of, updating_place}
 use Rattle.blk_format.specs.BlockFiles.{is_among, max_entries_in, most_blocks, stands_in}
 use Rattle.blk_format.specs.Maps.{is_block_marked, groups_of, groups_with, map_place, AreAllocations, EmptyAgrees}
 use Rattle.blk_addr.specs.Bits.{has_bit, is_between}
@@ -20,8 +20,7 @@ use Rattle.blk_io.specs.Faults.{IsShort}
 use Rattle.blk_disk.specs.declared.tables.BlockFiles.{BlockFiles}
 use Rattle.blk_disk.specs.Tables.{files_of, all_files, blocks_of, length_in}
 use Rattle.blk_disk.specs.Growth.{whole_length}
-use Rattle.blk_alloc.specs.Counting.{allocations_place, empty_place}
-use Rattle.blk_alloc.specs.Changes.{map_length, map_of, updating_place}
+use Rattle.blk_alloc.specs.Changes.{map_length, map_of}
 use Rattle.blk_alloc.specs.Extending.{HasItsBlocks}
 
 -- whether a block of a file is claimed

@@ -142,11 +142,31 @@ impl BlockFiles {
                 low,
                 BlockHead::HEADER_LEN <= size,
             ),
-            check_is(file, 0, head.magic(), BlockHead::MAGIC),
-            check_is(file, 4, head.version(), BlockHead::VERSION),
-            check(file, 8, numbers, head.this_file() == u16::from(n)),
-            check(file, 8, numbers, self.is_link(kind, n, head.next_file())),
-            check_is(file, 12, head.entry_size(), block_size(kind)),
+            check_is(file, BlockHead::MAGIC_PLACE, head.magic(), BlockHead::MAGIC),
+            check_is(
+                file,
+                BlockHead::VERSION_PLACE,
+                head.version(),
+                BlockHead::VERSION,
+            ),
+            check(
+                file,
+                BlockHead::THIS_FILE,
+                numbers,
+                head.this_file() == u16::from(n),
+            ),
+            check(
+                file,
+                BlockHead::THIS_FILE,
+                numbers,
+                self.is_link(kind, n, head.next_file()),
+            ),
+            check_is(
+                file,
+                BlockHead::ENTRY_SIZE,
+                head.entry_size(),
+                block_size(kind),
+            ),
             check(file, BlockHead::MAX_ENTRIES, blocks, is_block_count(blocks)),
         ])
     }
