@@ -1,0 +1,7 @@
+pub mod Stored
+pub mod StreamFacts
+pub mod Joined
+pub mod RoleFacts
+pub mod RecordFacts
+pub mod KeyFacts
+pub mod VerdictFacts
