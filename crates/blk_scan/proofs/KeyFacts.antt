@@ -97,3 +97,9 @@ front_inside files size w n some few e less =
   where
     right : (a b : Bool) → a ≡ false → (a || b) ≡ true → b ≡ true
     right a b none h = rw none at h
+
+-- so are other bytes of it
+pub part_inside : (files : BlockFiles) (size w at n : ℕ) → 0 < size → size ≤ 16384 → stores files size w ≡ true → at + n ≤ size → IsInside files w at n
+part_inside files size w at n some few e less =
+    let all = front_inside files size w (at + n) some few e less in
+    record { small = omega (arith, less, few); stands = all.stands; room = λ block_kind. let h = all.room block_kind in omega (arith, h) }

@@ -4,4 +4,5 @@ pub mod Joined
 pub mod RoleFacts
 pub mod RecordFacts
 pub mod KeyFacts
+pub mod PartBits
 pub mod VerdictFacts

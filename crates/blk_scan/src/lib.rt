@@ -4,6 +4,7 @@
 mod covers;
 mod keys;
 mod loading;
+mod parts;
 mod reason;
 mod record_words;
 mod roles;
@@ -12,6 +13,7 @@ mod streams;
 mod words;
 
 pub use loading::{Loaded, Verdict, load, load_words};
+pub use parts::has_part;
 pub use reason::Reason;
 pub use record_words::{RecordWords, read_words};
 pub use roles::Role;
