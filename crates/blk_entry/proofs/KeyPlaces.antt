@@ -284,13 +284,13 @@ map_some f None y e = absurd (clash e)
 map_some f (Some x) y e = (x, (refl, cc))
 
 -- data that is stored as an address says
-record IsStored (image : Image) (size w : ℕ) (bytes : List ℕ) : Type 0 where
-  storage : is_storage size w ≡ true
-  stands_there : stands_in image w ≡ true
-  at : ((kind_of w ≡ external) × ((length_of image (External (external_number w)) ≡ size) × (bytes ≡ range_at (byte image (External (external_number w))) 0 size)))
+pub record IsStored (image : Image) (size w : ℕ) (bytes : List ℕ) : Type 0 where
+  pub storage : is_storage size w ≡ true
+  pub stands_there : stands_in image w ≡ true
+  pub at : ((kind_of w ≡ external) × ((length_of image (External (external_number w)) ≡ size) × (bytes ≡ range_at (byte image (External (external_number w))) 0 size)))
       ⊎ ((kind_of w ≢ external) × (bytes ≡ range_at (byte image (Block (file_selector w))) (place w) size))
 
-stored_is : (image : Image) (size w : ℕ) (bytes : List ℕ) → 0 < size → stored_at image size w ≡ Some bytes → IsStored image size w bytes
+pub stored_is : (image : Image) (size w : ℕ) (bytes : List ℕ) → 0 < size → stored_at image size w ≡ Some bytes → IsStored image size w bytes
 unfolding stored_at
 stored_is image size w bytes some e =
     by_tests (is_storage size w) (size == 0) (stands_in image w) (kind_of w == external) (length_of image (External (external_number w)) == size) refl refl refl refl (let z : (size == 0) ≡ false = grind (arith, nat_tests) in z) e
@@ -308,7 +308,7 @@ stored_is image size w bytes some e =
     by_tests true false true true true ea ec ed ex eb h = record { storage = ea; stands_there = ec; at = inl (eqb-true (kind_of w) external ed, (eqb-true (length_of image (External (external_number w))) size ex, cc)) }
     by_tests true false true false x ea ec ed ex eb h = record { storage = ea; stands_there = ec; at = inr ((λ same. let z : (kind_of w == external) ≡ true = grind (arith, nat_tests) in let y : true ≡ false = sym z ∙ ed in cc), cc) }
 
-blocks_stand : (files : BlockFiles) (image : Image) (w : ℕ) → Agrees files image → kind_of w ≢ external → stands_in image w ≡ true → stands_among files w ≡ true
+pub blocks_stand : (files : BlockFiles) (image : Image) (w : ℕ) → Agrees files image → kind_of w ≢ external → stands_in image w ≡ true → stands_among files w ≡ true
 unfolding stands
 blocks_stand files image w agrees block_kind st =
     let t : (kind_of w == external) ≡ false = grind (arith, nat_tests) in
@@ -404,7 +404,7 @@ module _ (files : BlockFiles) (image : Image) (entry : ℕ) (key : List ℕ) (k 
       by_test false z e h = let m = map_some (take k) (stored_at image (k + 1) l) key h in long_key e m.0 (stored_is image (k + 1) l m.0 (omega arith) m.1.0) m.1.1
 
 -- a length that is right for the record is one that it may have
-length_right : (entry : ℕ) (fields : RecordFields) → is_key_length entry fields ≡ true → may_have entry fields.key_len ≡ true
+pub length_right : (entry : ℕ) (fields : RecordFields) → is_key_length entry fields ≡ true → may_have entry fields.key_len ≡ true
 unfolding is_key_length may_have
 length_right entry fields e =
     let a = and_parts (nat_le 1 fields.key_len && nat_le fields.key_len (longest_key_with fields)) (block_count entry == entry_blocks fields.key_len) e in

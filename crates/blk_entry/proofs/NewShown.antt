@@ -51,7 +51,7 @@ pub stands_as_kind : (image : Image) (w kind : ℕ) → stands_in image w ≡ tr
 stands_as_kind image w kind st is = let e : (kind_of w == kind) ≡ true = eq-eqb (kind_of w) kind is in rw (st, e) refl
 
 -- an external file with bytes is there
-external_stands : (image : Image) (w : ℕ) → is_address w ≡ true → kind_of w ≡ external → 0 < length_of image (External (external_number w)) → stands_in image w ≡ true
+pub external_stands : (image : Image) (w : ℕ) → is_address w ≡ true → kind_of w ≡ external → 0 < length_of image (External (external_number w)) → stands_in image w ≡ true
 unfolding stands
 external_stands image w address is some =
     let there : has_file image (External (external_number w)) ≡ true = by_file (image (External (external_number w))) some in
@@ -89,7 +89,7 @@ pub checked_loads : (store : StoreView) (node contents dirty : ℕ) (fields : Re
 checked_loads store node contents dirty fields answer good is = ap (λ (b : Bool). demand b reason.Seal >>= (λ _. load_record store (unchained_rule entry_normal) node contents dirty fields)) good ∙ is
 
 -- data whose address is its storage, and stands
-stored_there : (image : Image) (size w : ℕ) → 0 < size → is_storage size w ≡ true → stands_in image w ≡ true → (kind_of w ≡ external → length_of image (External (external_number w)) ≡ size) → stored_at image size w ≡ Some (data_at image w 0 size)
+pub stored_there : (image : Image) (size w : ℕ) → 0 < size → is_storage size w ≡ true → stands_in image w ≡ true → (kind_of w ≡ external → length_of image (External (external_number w)) ≡ size) → stored_at image size w ≡ Some (data_at image w 0 size)
 unfolding stored_at
 stored_there image size w some storage st long =
     ⊎_elim

@@ -138,8 +138,8 @@ pub fn read_head<F: Folder>(f: &mut F, files: &BlockFiles, entry: Addr) -> Resul
     })
 }
 
-// Four words of a record that lie one behind the other.
-fn four_words(view: &EntryView<'_>, at: usize) -> [u32; 4]
+/// Four words of a record that lie one behind the other.
+pub fn four_words(view: &EntryView<'_>, at: usize) -> [u32; 4]
     requires inside { at + 16 ≤ entry_size }
     requires aligned { at % 4 ≡ 0 }
     ensures { result ≡ words_at (content (entry_window view.now)) at 4 }
@@ -219,8 +219,8 @@ pub(crate) fn long_key(files: &BlockFiles, key_len: u32, word: u32) -> Option<Ad
     }
 }
 
-// Whether an address is the storage of data of a size, and stands where it is one of blocks.
-fn stores(files: &BlockFiles, addr: Addr, size: u32) -> bool
+/// Whether an address is the storage of data of a size, and stands where it is one of blocks.
+pub fn stores(files: &BlockFiles, addr: Addr, size: u32) -> bool
     requires address { is_address addr ≡ true }
     requires some { 0 < size }
     ensures { result ≡ keys.stores files.now size addr }

@@ -1,0 +1,22 @@
+//! Which walked nodes of a cache folder are kept, and why the others are dropped.
+#![tactic(auto)]
+
+mod covers;
+mod keys;
+mod loading;
+mod parts;
+mod reason;
+mod record_words;
+mod roles;
+mod storage;
+mod streams;
+mod words;
+
+pub use loading::{Loaded, Verdict, load, load_words};
+pub use parts::has_part;
+pub use reason::Reason;
+pub use record_words::{RecordWords, read_words};
+pub use roles::Role;
+
+#[cfg(test)]
+mod tests;
