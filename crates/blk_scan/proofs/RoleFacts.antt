@@ -12,7 +12,7 @@ use Rattle.blk_format.specs.SparseIndex.{ParentIndex, PartIndex, read_parent_ind
 use Rattle.blk_volume.specs.Entries as entries
 use Rattle.blk_volume.specs.Entries.{parent_role, part_role, role_of, is_covered, stream}
 use Rattle.blk_volume.specs.View.{RecordFields}
-use Rattle.blk_ranges.specs.ChildNames.{name_of}
+use Rattle.blk_ranges.specs.ChildNames.{name_within}
 use Rattle.blk_ranges.specs.ParentMaps.{head_fields, read_parent_head}
 use Rattle.blk_ranges.specs.PartMaps.{index_of, map_signature}
 use Rattle.blk_ranges.specs.declared.names.ChildName.{ChildName}
@@ -149,7 +149,7 @@ part_short key streams e = by_tests (length (stream 0 streams) == 0) (nat_lt 104
     by_tests true false et eu = part_by key streams (read_name key) None et eu refl none ∙ nothing (read_name key) (λ name. goes name (length (stream 1 streams)))
 
 -- the key that a name says has the length that was read
-name_length : (key : List ℕ) (said : ChildName) → IsName key (name_of key said) → length (take said.key_len (drop 6 key)) ≡ said.key_len
+name_length : (key : List ℕ) (said : ChildName) → IsName key (name_within key said) → length (take said.key_len (drop 6 key)) ≡ said.key_len
 name_length key said is =
     let k : List ℕ = take said.key_len (drop 6 key) in
     let printed : ((name_head ++ k) ++ colon ∷ hexadecimal (cast_unsigned w64 said.signature)) ++ colon ∷ hexadecimal said.part ≡ key = joined k (cast_unsigned w64 said.signature) said.part ∙ sym is.printed in
@@ -162,7 +162,7 @@ name_length key said is =
     omega (arith, one, two, front, all, taken, dropped)
 
 pub part_read : (key : List ℕ) (streams : List (List ℕ)) (window : List ℕ) (said : ChildName) (m : Option PartMap) → length (stream 0 streams) ≡ 0 → length (stream 1 streams) ≤ 1048576 → length (stream 2 streams) ≡ 192
-    → read_name key ≡ Some (name_of key said) → IsName key (name_of key said) → window ≡ take 192 (stream 2 streams) → option_map index_of m ≡ read_part_index window
+    → read_name key ≡ Some (name_within key said) → IsName key (name_within key said) → window ≡ take 192 (stream 2 streams) → option_map index_of m ≡ read_part_index window
     → IsRoleIf key (part_role key streams) (option_and_then (λ (map : PartMap). if (map_signature map == cast_unsigned w64 said.signature) && (map.key_len == said.key_len) && is_covered (index_of map) (length (stream 1 streams)) then Some (role.Part said) else None) m)
 unfolding goes index_of
 part_read key streams window said m none few size named is_name is read = by_map m (read ∙ ap read_part_index (is ∙ take_all 192 (stream 2 streams) (omega (arith, size))))
@@ -175,15 +175,15 @@ part_read key streams window said m none few size named is_name is read = by_map
 
     by_map : (m : Option PartMap) → option_map index_of m ≡ read_part_index (stream 2 streams)
         → IsRoleIf key (part_role key streams) (option_and_then (λ (map : PartMap). if (map_signature map == cast_unsigned w64 said.signature) && (map.key_len == said.key_len) && is_covered (index_of map) (length (stream 1 streams)) then Some (role.Part said) else None) m)
-    by_map None e = subst (λ (r : Option entries.Role). IsRoleIf key r None) (sym (part_by key streams (Some (name_of key said)) None zero_test few_test named (sym e))) tt
+    by_map None e = subst (λ (r : Option entries.Role). IsRoleIf key r None) (sym (part_by key streams (Some (name_within key said)) None zero_test few_test named (sym e))) tt
     by_map (Some map) e =
         subst (λ (r : Option entries.Role). IsRoleIf key r (if (map_signature map == cast_unsigned w64 said.signature) && (map.key_len == said.key_len) && is_covered (index_of map) (length (stream 1 streams)) then Some (role.Part said) else None))
-        (sym (part_by key streams (Some (name_of key said)) (Some (index_of map)) zero_test few_test named (sym e) ∙ goes_by)) (by_test ((map_signature map == cast_unsigned w64 said.signature) && (map.key_len == said.key_len) && is_covered (index_of map) (length (stream 1 streams))))
+        (sym (part_by key streams (Some (name_within key said)) (Some (index_of map)) zero_test few_test named (sym e) ∙ goes_by)) (by_test ((map_signature map == cast_unsigned w64 said.signature) && (map.key_len == said.key_len) && is_covered (index_of map) (length (stream 1 streams))))
       where
-        goes_by : goes (name_of key said) (length (stream 1 streams)) (index_of map) ≡ (if (map_signature map == cast_unsigned w64 said.signature) && (map.key_len == said.key_len) && is_covered (index_of map) (length (stream 1 streams)) then Some (entries.IsPart (name_of key said) (index_of map)) else None)
-        goes_by = ap (λ (n : ℕ). if (map_signature map == cast_unsigned w64 said.signature) && (map.key_len == n) && is_covered (index_of map) (length (stream 1 streams)) then Some (entries.IsPart (name_of key said) (index_of map)) else None) (name_length key said is_name)
+        goes_by : goes (name_within key said) (length (stream 1 streams)) (index_of map) ≡ (if (map_signature map == cast_unsigned w64 said.signature) && (map.key_len == said.key_len) && is_covered (index_of map) (length (stream 1 streams)) then Some (entries.IsPart (name_within key said) (index_of map)) else None)
+        goes_by = ap (λ (n : ℕ). if (map_signature map == cast_unsigned w64 said.signature) && (map.key_len == n) && is_covered (index_of map) (length (stream 1 streams)) then Some (entries.IsPart (name_within key said) (index_of map)) else None) (name_length key said is_name)
 
-        by_test : (t : Bool) → IsRoleIf key (if t then Some (entries.IsPart (name_of key said) (index_of map)) else None) (if t then Some (role.Part said) else None)
+        by_test : (t : Bool) → IsRoleIf key (if t then Some (entries.IsPart (name_within key said) (index_of map)) else None) (if t then Some (role.Part said) else None)
         by_test true = refl
         by_test false = tt
 

@@ -13,7 +13,7 @@ use Rattle.blk_format.specs.BlockFiles.{stands_in}
 use Rattle.blk_volume.specs.View.{stored_at}
 use Rattle.blk_addr.specs.FileId.{file_of_word}
 use Rattle.blk_disk.specs.declared.tables.BlockFiles.{BlockFiles}
-use Rattle.blk_disk.specs.Names.{name_of}
+use Rattle.blk_disk.specs.Names.{folder_name}
 use Rattle.blk_disk.specs.Tables.{Agrees, stands_among}
 use Rattle.blk_disk.proofs.Ranges.{stands_agree}
 use Rattle.blk_io.specs.FileNames.{file_of}
@@ -131,7 +131,7 @@ not_chosen false w e = refl
 
 -- The length of an external file.
 
-external_file : (w : ℕ) → kind_of w ≡ external → file_of (name_of (file_of_word w)) ≡ External (external_number w)
+external_file : (w : ℕ) → kind_of w ≡ external → file_of (folder_name (file_of_word w)) ≡ External (external_number w)
 unfolding file_of_word
 external_file w kind = rw kind refl
 
@@ -149,10 +149,10 @@ none_by (Some bytes) e = absurd (clash e)
     clash : None ≡ Some (length bytes) → ⊥
     clash h = cc
 
-pub length_is : (image : Image) (w n : ℕ) → kind_of w ≡ external → Some n ≡ option_map length (image (file_of (name_of (file_of_word w)))) → length_of image (External (external_number w)) ≡ n
-length_is image w n kind e = ap (length_of image) (sym (external_file w kind)) ∙ length_by (image (file_of (name_of (file_of_word w)))) n e
+pub length_is : (image : Image) (w n : ℕ) → kind_of w ≡ external → Some n ≡ option_map length (image (file_of (folder_name (file_of_word w)))) → length_of image (External (external_number w)) ≡ n
+length_is image w n kind e = ap (length_of image) (sym (external_file w kind)) ∙ length_by (image (file_of (folder_name (file_of_word w)))) n e
 
-pub length_none : (image : Image) (w size : ℕ) → kind_of w ≡ external → 0 < size → None ≡ option_map length (image (file_of (name_of (file_of_word w)))) → (length_of image (External (external_number w)) == size) ≡ false
+pub length_none : (image : Image) (w size : ℕ) → kind_of w ≡ external → 0 < size → None ≡ option_map length (image (file_of (folder_name (file_of_word w)))) → (length_of image (External (external_number w)) == size) ≡ false
 length_none image w size kind some e =
-    let none : length_of image (External (external_number w)) ≡ 0 = ap (length_of image) (sym (external_file w kind)) ∙ none_by (image (file_of (name_of (file_of_word w)))) e in
+    let none : length_of image (External (external_number w)) ≡ 0 = ap (length_of image) (sym (external_file w kind)) ∙ none_by (image (file_of (folder_name (file_of_word w)))) e in
     grind (arith, nat_tests)

@@ -3,7 +3,7 @@ use Rattle.std.specs.Prelude.{◌≡◌, ℕ, List}
 use Rattle.std.specs.declared.option.Option.{Option}
 use Rattle.std.specs.declared.option.Option.TheVariants.{None, Some}
 use Rattle.blk_volume.specs.Entries as entries
-use Rattle.blk_ranges.specs.ChildNames.{name_of}
+use Rattle.blk_ranges.specs.ChildNames.{name_within}
 use Rattle.blk_ranges.specs.ParentMaps.{head_fields}
 use Rattle.blk_scan.specs.declared.roles.Role.{Role}
 use Rattle.blk_scan.specs.declared.roles.Role.TheVariants.{Plain, Parent, Part}
@@ -18,7 +18,7 @@ IsRole key (entries.IsParent index) (Parent head) = head_fields head ≡ (index.
 IsRole key (entries.IsParent index) (Part said) = ⊥
 IsRole key (entries.IsPart name index) Plain = ⊥
 IsRole key (entries.IsPart name index) (Parent head) = ⊥
-IsRole key (entries.IsPart name index) (Part said) = name_of key said ≡ name
+IsRole key (entries.IsPart name index) (Part said) = name_within key said ≡ name
 
 -- so it is where there is one, and there is one in both or in neither
 abbrev pub IsRoleIf : List ℕ → Option entries.Role → Option Role → Type 0
