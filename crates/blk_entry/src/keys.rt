@@ -197,17 +197,17 @@ pub(crate) fn key_place(files: &BlockFiles, entry: Addr, head: Head) -> Result<K
     }
 }
 
-// Whether a record may have a key of so many bytes.
+/// Whether a record may have a key of so many bytes: 1 to 32796, in as many blocks.
 #[tactic(auto, unfolding(crate::specs::Keys::may_have))]
-pub(crate) fn may_have(entry: Addr, key_len: u32) -> bool
+pub fn may_have(entry: Addr, key_len: u32) -> bool
     requires { kind_of entry ≡ blocks_256 }
     ensures { result ≡ keys.may_have entry key_len }
 {
     1 <= key_len && key_len <= MOST_KEY && entry.blocks() == entry_blocks(key_len)
 }
 
-// The address of a long key of so many bytes, where the word is one that may hold it.
-pub(crate) fn long_key(files: &BlockFiles, key_len: u32, word: u32) -> Option<Addr>
+/// The address of a long key of so many bytes, where the word is one that may hold it.
+pub fn long_key(files: &BlockFiles, key_len: u32, word: u32) -> Option<Addr>
     requires { key_len ≤ keys.most_key }
     ensures { result ≡ keys.held files.now key_len word }
 {
