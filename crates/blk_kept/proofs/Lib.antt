@@ -65,3 +65,6 @@ pub mod PartlyOut
 pub mod PartlyFreed
 pub mod FilteredWords
 pub mod OneMoreOut
+pub mod LaidOut
+pub mod WorkedState
+pub mod WorkedFolder
