@@ -68,3 +68,5 @@ pub mod OneMoreOut
 pub mod LaidOut
 pub mod WorkedState
 pub mod WorkedFolder
+pub mod WorkedMaps
+pub mod WorkedKept

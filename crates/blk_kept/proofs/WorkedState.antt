@@ -172,19 +172,21 @@ each-single = looked (λ node loaded. repeats (all_claims loaded) ≡ false) all
 
 -- ---- the layout is that of the state
 
-
 laid : (item : Item) → is_listed worked item ≡ true → IsPlacedAt worked worked_layout item
 unfolding row_of
-laid = each-item (IsPlacedAt worked worked_layout) worked.uses
-    (record {
-      loaded = the_part;
-      here = refl;
-      row = refl;
-      mark = refl;
-      parent = record { name = part_name; index = part_index; role = refl; of_key = refl; listed = refl; parent = the_parent; at_parent = refl; of = refl };
-    },
-    (record { loaded = the_parent; here = refl; row = refl; mark = refl; parent = tt },
-    (record { loaded = the_plain; here = refl; row = refl; mark = refl; parent = tt }, tt)))
+laid = each-item (IsPlacedAt worked worked_layout) worked.uses (
+  record {
+    loaded = the_part;
+    here = refl;
+    row = refl;
+    mark = refl;
+    parent = record { name = part_name; index = part_index; role = refl; of_key = refl; listed = refl; parent = the_parent; at_parent = refl; of = refl };
+  },
+  (
+    record { loaded = the_parent; here = refl; row = refl; mark = refl; parent = tt },
+    (record { loaded = the_plain; here = refl; row = refl; mark = refl; parent = tt }, tt),
+  ),
+)
 
 -- the record of a node is in its bucket, where the node is listed
 abbrev IsChained : ℕ → Loaded → Type 0
@@ -206,7 +208,7 @@ its-record bucket contents h = go (bucket == 0xA782) (bucket == 0xB6C) (bucket =
   go false false false e = absurd (let z : false ≡ true = e in cc)
 
 -- object 2 is the doomed one
-only-doomed : (number : ℕ) (object : Object) → object_at worked number ≡ Some object → object.live ≡ false → number ≡ 2
+pub only-doomed : (number : ℕ) (object : Object) → object_at worked number ≡ Some object → object.live ≡ false → number ≡ 2
 only-doomed zero object is dead = let s : plain_object ≡ object = cc in absurd (let c : true ≡ false = ap (λ (o : Object). o.live) s ∙ dead in cc)
 only-doomed (suc zero) object is dead = let s : sparse_object ≡ object = cc in absurd (let c : true ≡ false = ap (λ (o : Object). o.live) s ∙ dead in cc)
 only-doomed (suc (suc zero)) object is dead = refl
