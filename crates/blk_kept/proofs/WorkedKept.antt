@@ -1,18 +1,18 @@
 -- A folder that keeps a plain, a sparse and a doomed object: the block files of the short one, made as long as all their blocks.
-use Rattle.std.proofs.Common.{◌≡◌, ⊎_elim, ℕ, zero, suc, ◌+◌, ◌*◌, ◌<◌, ◌≤◌, List, [], ◌∷◌, ◌++◌, refl, ap, sym, ◌∙◌, subst, arith, lit≤, Bool, true, false, Some, None}
-use Rattle.std.specs.Prelude.{◌%◌, ◌^◌, if◌then◌else◌, ◌==◌, ◌&&◌, ◌||◌, nat_lt, is_some}
+use Rattle.std.proofs.Common.{◌≡◌, ⊎_elim, ℕ, zero, suc, ◌+◌, ◌<◌, ◌≤◌, List, [], ◌∷◌, ◌++◌, refl, ap, sym, ◌∙◌, subst, arith, lit≤, Bool, true, false, Some, None}
+use Rattle.std.specs.Prelude.{◌%◌, ◌^◌, if◌then◌else◌, ◌==◌, nat_lt, is_some}
 use Rattle.std.specs.List.{AllByRecursion, count_by, flat_map, sum_by}
 use Rattle.std.proofs.lemmas.Bool.{agree_below_at, cases_Bool, cases_lt}
 use Rattle.std.proofs.lemmas.Bool.Decides.{nat_tests}
 use Rattle.blk_image.specs.Bytes.{spliced, words_at, zeros}
-use Rattle.blk_image.specs.Footprint.{Footprint, SameOutside, size_of}
+use Rattle.blk_image.specs.Footprint.{SameOutside, size_of}
 use Rattle.blk_image.specs.Image.{Block, External, File, Image, Index, byte, has_file, length_of, same_file}
 use Rattle.blk_image.specs.Steps.{SetLength, applied, with_word}
 use Rattle.blk_image.proofs.Footprints.{outside-refl, outside_longer}
 use Rattle.blk_image.proofs.Images.{length-after_set_len, same_file-true}
 use Rattle.blk_model.specs.State.{Object, object_at}
 use Rattle.blk_format.specs.Address.{block_place, block_size, file_selector, first_block, kind_of, place}
-use Rattle.blk_format.specs.BlockFiles.{IsWellFormed, block_checks, files_along, is_among, linked, linked_as, max_entries_in, next_file_in}
+use Rattle.blk_format.specs.BlockFiles.{IsWellFormed, block_checks, is_among, linked_as, max_entries_in, next_file_in}
 use Rattle.blk_format.specs.Claims.{BlockOf, Claim, ExternalOf, has_claim, is_in_file}
 use Rattle.blk_format.specs.Hash.{hash, mixed, of_bytes, of_four}
 use Rattle.blk_format.specs.Headers.{allocations_of, crash_of, empty_of, head_checks, list_checks, max_entries_of, next_file_of, num_bytes_of, num_entries_of, sizes_of, this_id_of, updating_of}
@@ -22,22 +22,22 @@ use Rattle.blk_format.proofs.Keeping.{none_both, none_parts, undamaged_still}
 use Rattle.blk_format.proofs.SpareHeaders.{SparesHeaders, heads_still, next_same}
 use Rattle.blk_volume.specs.Found.{charge_of}
 use Rattle.blk_volume.specs.Layout.{Represents, order}
-use Rattle.blk_volume.specs.Loads.{Loaded, all_claims, claims_of_loaded}
+use Rattle.blk_volume.specs.Loads.{Loaded}
 use Rattle.blk_volume.specs.Sound.{AreLongEnough, AreSealed, CountersAgree, OnlyLinked, words_of}
 use Rattle.blk_volume.specs.StandsFor.{AllIsOwned, IsOwner}
 use Rattle.blk_volume.specs.Tidy.{IsTidy, doomed_nodes, loaded_at}
-use Rattle.blk_volume.specs.View.{entry_at, node_at, view_of}
+use Rattle.blk_volume.specs.View.{view_of}
 use Rattle.blk_laws.proofs.claims.ByteChanges.{same-links}
 use Rattle.blk_laws.proofs.claims.Files.{growth-keeps}
 use Rattle.blk_laws.proofs.claims.Growing.{longer-grown}
 use Rattle.blk_laws.proofs.examples.ExampleFolders as folders
 use Rattle.blk_laws.proofs.examples.WholeFolder.{whole-linked, whole_folder}
-use Rattle.blk_kept.specs.Keeping.{AreMarkedBy, IsInSession, Keeps}
+use Rattle.blk_kept.specs.Keeping.{IsInSession, Keeps}
 use Rattle.blk_kept.proofs.LaidOut.{IsClaimant, claimant, is-owned, looked}
 use Rattle.blk_kept.proofs.Opened.{opened-kept}
 use Rattle.blk_kept.proofs.WorkedFolder.{short-represents, short-well_formed, short_folder}
 use Rattle.blk_kept.proofs.WorkedMaps.{groups-are, marks-are, used_blocks}
-use Rattle.blk_kept.proofs.WorkedState.{all_four, doomed_object, only-doomed, plain_object, sparse_object, the_doomed, the_parent, the_part, the_plain, their-claims, worked, worked-valid, worked_layout}
+use Rattle.blk_kept.proofs.WorkedState.{all_four, doomed_object, only-doomed, plain_object, sparse_object, their-claims, worked, worked-valid, worked_layout}
 
 -- ---- a block file that gets longer
 

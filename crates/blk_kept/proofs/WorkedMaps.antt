@@ -1,21 +1,19 @@
 -- The maps of the worked folder: exactly the blocks of what lies there are marked.
-use Rattle.std.proofs.Common.{◌≡◌, ◌⊎◌, inl, inr, ⊎_elim, ℕ, zero, suc, ◌+◌, ◌*◌, ◌/◌, ◌%◌, ◌<◌, ◌≤◌, List, [], ◌∷◌, ◌++◌, refl, ap, sym, ◌∙◌, subst, arith, lit≤, Bool, true, false}
+use Rattle.std.proofs.Common.{◌≡◌, ◌⊎◌, inl, inr, ⊎_elim, ℕ, zero, suc, ◌+◌, ◌/◌, ◌%◌, ◌<◌, ◌≤◌, List, [], ◌∷◌, refl, ap, sym, ◌∙◌, arith, lit≤, Bool, true, false}
 use Rattle.std.specs.Prelude.{if◌then◌else◌, ◌==◌, ◌&&◌, ◌||◌, nat_le, nat_lt}
 use Rattle.std.specs.Int.{bit_at}
-use Rattle.std.proofs.lemmas.Bool.{agree_below_at, and_parts, cases_Bool, cases_lt}
+use Rattle.std.proofs.lemmas.Bool.{agree_below_at, and_parts, cases_lt}
 use Rattle.std.proofs.lemmas.Bool.Decides.{nat_tests}
 use Rattle.std.proofs.lemmas.Nat.Bits.{bit_at-zero}
 use Rattle.blk_image.specs.Bytes.{content, spliced, zeros}
 use Rattle.blk_image.specs.Image.{Block, byte}
 use Rattle.blk_image.specs.Steps.{with_word, with_words}
 use Rattle.blk_image.proofs.Splices.{content-zeros}
-use Rattle.blk_format.specs.Claims.{BlockOf, Claim, has_claim}
 use Rattle.blk_format.specs.Headers.{empty_of}
 use Rattle.blk_format.specs.Maps.{are_free, groups_with, has_run, is_block_marked_at, longest_run}
 use Rattle.blk_format.specs.NewFolder.{new_file_words}
 use Rattle.blk_format.proofs.Groups.{groups_same}
 use Rattle.blk_laws.proofs.examples.WholeMarks.{Outside, byte-outside}
-use Rattle.blk_laws.proofs.walks.Shown.{has_claim-append}
 use Rattle.blk_kept.proofs.WorkedFolder.{data_words, nodes_words, records_words, short_folder}
 
 -- the blocks of a file that are in use: its first ones

@@ -1,5 +1,5 @@
 -- A state with a plain, a sparse and a doomed object: `b` has the stream `zz`; `a` is sparse, and its part 0 has the bytes `xx`; `c`, doomed and not settled, has the stream `yyy` and the handle 5.
-use Rattle.std.proofs.Common.{◌≡◌, ℕ, zero, suc, ◌+◌, ◌<◌, List, [], ◌∷◌, ◌++◌, refl, ap, sym, ◌∙◌, subst, arith, Bool, true, false, Option, Some, None}
+use Rattle.std.proofs.Common.{◌≡◌, ℕ, zero, suc, ◌+◌, ◌<◌, List, [], ◌∷◌, ◌++◌, refl, ap, sym, ◌∙◌, subst, arith, Bool, true, false, Some, None}
 use Rattle.std.specs.Prelude.{if◌then◌else◌, ◌==◌, ◌&&◌, nat_lt, codes, replicate}
 use Rattle.std.specs.Str.{bytes_eq}
 use Rattle.blk_model.specs.Items.{Item, IsBytes, PartValue, main, part, plain, sparse}
