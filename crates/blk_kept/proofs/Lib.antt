@@ -70,3 +70,5 @@ pub mod WorkedState
 pub mod WorkedFolder
 pub mod WorkedMaps
 pub mod WorkedKept
+pub mod GoingOut
+pub mod WorkedRemovals
