@@ -72,3 +72,5 @@ pub mod WorkedMaps
 pub mod WorkedKept
 pub mod GoingOut
 pub mod WorkedRemovals
+pub mod MarkSteps
+pub mod WorkedMarks

@@ -309,10 +309,13 @@ all-settled (suc zero) object is live = let s : sparse_object ≡ object = cc in
 all-settled (suc (suc zero)) object is live = let s : doomed_object ≡ object = cc in absurd (let c : false ≡ true = ap (λ (o : Object). o.live) s ∙ live in cc)
 all-settled (suc (suc (suc n))) object is live = absurd (cc)
 
+pub worked-id : this_id_of (byte worked_folder Index) ≡ 7
+worked-id = ap this_id_of (same-bytes Index) ∙ session-words.1
+
 worked-session : IsInSession worked_folder worked worked_layout
 worked-session = record {
   crash = ap crash_of (same-bytes Index) ∙ session-words.0;
-  id = λ none. (let z : ◌≡◌ {A = ℕ} 7 0 = sym (ap this_id_of (same-bytes Index) ∙ session-words.1) ∙ none in cc);
+  id = λ none. (let z : ◌≡◌ {A = ℕ} 7 0 = sym worked-id ∙ none in cc);
   marked = λ number object is live unsettled. absurd (let c : true ≡ false = sym (all-settled number object is live) ∙ unsettled in cc);
 }
 

@@ -75,7 +75,7 @@ worked-writable = record { bytes = λ file i. subst (λ (f : ℕ → ℕ). f i <
 -- ---- a touch
 
 -- `b` is touched, and then in front
-touched_b : IsTouchDone worked_folder (nodes 2) (after (steps_of_touch (nodes 2) 70 worked_folder) worked_folder)
+pub touched_b : IsTouchDone worked_folder (nodes 2) (after (steps_of_touch (nodes 2) 70 worked_folder) worked_folder)
 touched_b = touch-done worked_folder (nodes 2) 70 (nodes 1 ∷ nodes 0 ∷ []) [] worked-writable (record { whole = worked-keeps.entries.represents.list; idle = worked-keeps.entries.represents.idle })
 
 pub b_is_in_front : Keeps (with_used worked (main (codes "b"))) worked_layout [] (after (steps_of_touch (nodes 2) 70 worked_folder) worked_folder)

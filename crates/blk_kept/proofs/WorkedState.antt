@@ -4,7 +4,7 @@ use Rattle.std.specs.Prelude.{if◌then◌else◌, ◌==◌, ◌&&◌, nat_lt, c
 use Rattle.std.specs.Str.{bytes_eq}
 use Rattle.blk_model.specs.Items.{Item, IsBytes, PartValue, main, part, plain, sparse}
 use Rattle.blk_model.specs.Holding.{row_of}
-use Rattle.blk_model.specs.Request.{Request, to_close, to_create, to_doom, to_sparse_write, to_write}
+use Rattle.blk_model.specs.Request.{Request, to_close, to_create, to_doom, to_open, to_sparse_write, to_write}
 use Rattle.blk_model.specs.State.{IsValidState, Object, State, object_at}
 use Rattle.blk_model.specs.Step.{step}
 use Rattle.blk_model.proofs.Computing.{computing}
@@ -23,6 +23,7 @@ use Rattle.blk_volume.specs.Chains.{bucket_of_hash}
 use Rattle.blk_volume.specs.Entries.{IsParent, IsPart, IsPlain}
 use Rattle.blk_volume.specs.Layout.{IsDoomedAt, IsLayoutOf, IsListedRecord, IsPlacedAt, Layout, is_listed, order}
 use Rattle.blk_volume.specs.Loads.{Loaded, all_claims, claims_of_loaded, record_claims}
+use Rattle.blk_laws.specs.CommandLaws.{marked}
 use Rattle.blk_kept.proofs.LaidOut.{at_in, each-item, each-word, looked, own-in, owner_in}
 
 -- ---- the state
@@ -90,6 +91,21 @@ with-c state valid = step_valid _ 100 (to_doom 5) (after-valid state (codes "c")
 
 pub worked-valid : IsValidState worked
 worked-valid = subst IsValidState reached (with-c _ (with-a _ with-b))
+
+-- and so it is where the doomed object was closed before it was opened and doomed, and so is settled
+abbrev settled_c : List Request
+settled_c = to_create 5 (codes "c") ∷ to_write 5 0 0 false (codes "yyy") ∷ to_close 5 ∷ to_open 5 (codes "c") ∷ to_doom 5 ∷ []
+
+reached-settled : after_all (after_all (after_all new made_b) made_a) settled_c ≡ marked worked 2 doomed_object true
+unfolding computing
+reached-settled = refl
+
+with-settled : (state : State) → IsValidState state → IsValidState (after_all state settled_c)
+with-settled state valid = step_valid _ 100 (to_doom 5)
+    (step_valid _ 100 (to_open 5 (codes "c")) (step_valid _ 100 (to_close 5) (after-valid state (codes "c") (codes "yyy") valid (one_byte 99 (omega arith)) (three_bytes 121 (omega arith))) (omega arith)) (omega arith, one_byte 99 (omega arith))) (omega arith)
+
+pub settled-valid : IsValidState (marked worked 2 doomed_object true)
+settled-valid = subst IsValidState reached-settled (with-settled _ (with-a _ with-b))
 
 -- ---- what lies where
 
