@@ -74,3 +74,4 @@ pub mod GoingOut
 pub mod WorkedRemovals
 pub mod MarkSteps
 pub mod WorkedMarks
+pub mod RecordSteps

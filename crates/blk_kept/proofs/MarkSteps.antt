@@ -64,7 +64,6 @@ module _ (from : Image) (node mark : ℕ) (ready : IsWritable from) (good : (lis
   each : Along (IsMidUpdate from node ((28, mark) ∷ [])) from (sealed_steps from node ((28, mark) ∷ []))
   each = moments node from ((28, mark) ∷ []) here.fits here.checks changes-fit
 
-
   whole : (moment : IsMidUpdate from node ((28, mark) ∷ []) (marked_at from node mark)) × (moment.made ≡ 1)
   whole = whole_update from (marked_at from node mark) node ((28, mark) ∷ []) (updated node from ((28, mark) ∷ []) here.fits) (until_last (IsMidUpdate from node ((28, mark) ∷ [])) (IsMidUpdate from node ((28, mark) ∷ [])) (sealed_steps from node ((28, mark) ∷ [])) from each).outside
 
