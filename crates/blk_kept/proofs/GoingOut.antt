@@ -26,6 +26,7 @@ use Rattle.blk_volume.specs.ListPlans.{writes_of}
 use Rattle.blk_volume.specs.ListView.{put}
 use Rattle.blk_volume.specs.Loads.{Loaded}
 use Rattle.blk_volume.specs.ShownChanges.{ShowsTheSame}
+use Rattle.blk_volume.specs.Sound.{AreSealed}
 use Rattle.blk_volume.specs.View.{RecordFields, StoreView, list_of, store_of, view_of}
 use Rattle.blk_laws.specs.IndexWrites.{IsIndexWord}
 use Rattle.blk_laws.proofs.lists.WriteSteps.{writes-go_on}
@@ -34,6 +35,7 @@ use Rattle.blk_laws.proofs.states.OthersHold.{others-outside, represented-but}
 use Rattle.blk_laws.proofs.states.Replacing.{linked-facts}
 use Rattle.blk_laws.proofs.updates.IndexWords.{buckets-unchecked, buckets-written}
 use Rattle.blk_laws.proofs.updates.NodeRecords.{are_bytes-word}
+use Rattle.blk_kept.specs.Arranging.{LeavesFiles}
 use Rattle.blk_kept.specs.Keeping.{KeepsUncounted}
 use Rattle.blk_kept.specs.PartlyOut.{IsOneMoreOut, KeepsPartlyOut, chains_but}
 use Rattle.blk_kept.specs.PlainRemovals.{IsRemoved}
@@ -130,19 +132,27 @@ module _ (state : State) (layout : Layout) (keep : Item → Bool) (chains : ℕ 
   whole-between : (other : ℕ) → other < 65536 → IsChain (store_of between) other (chains other)
   whole-between other small = chain-same (store_of from) (store_of between) other (chains other) out-of-list.partly.shown.store (k.holds.chains other small)
 
+  abbrev out : Image
+  out = unchained between bucket
+
+  pub out-of-chain : IsUnlinking (record layout { chains = chains }) (chains_but chains was.contents) between out
+  out-of-chain = unlinking between well-between ready-between chains bucket was.contents alone whole-between layout
+
+  pub out-links : OnlyLinksChange was.contents (store_of between) (store_of out)
+  out-links = table-links between out bucket 0 was.contents (store-now between well-between ready-between chains bucket was.contents alone whole-between)
+
+  pub out-leaves : LeavesFiles between out
+  out-leaves = table-files between out bucket (outside between well-between ready-between chains bucket was.contents alone whole-between) (well-now between well-between ready-between chains bucket was.contents alone whole-between)
+
+  pub out-sealed : (loaded : Loaded) → AreSealed between loaded → AreSealed out loaded
+  out-sealed loaded = table-sealed between out bucket loaded (outside between well-between ready-between chains bucket was.contents alone whole-between)
+
   -- it is out
-  pub goes-out : IsOneMoreOut layout chains item was from (unchained between bucket)
-  goes-out = record {
-    here = here;
-    between = between;
-    unlisted = out-of-list;
-    unlinking = unlinking between well-between ready-between chains bucket was.contents alone whole-between layout;
-    leaves = table-files between (unchained between bucket) bucket (outside between well-between ready-between chains bucket was.contents alone whole-between) (well-now between well-between ready-between chains bucket was.contents alone whole-between);
-    sealed = λ node loaded at sealed. table-sealed between (unchained between bucket) bucket loaded (outside between well-between ready-between chains bucket was.contents alone whole-between) sealed;
-  }
+  pub goes-out : IsOneMoreOut layout chains item was from out
+  goes-out = record { here = here; between = between; unlisted = out-of-list; unlinking = out-of-chain; leaves = out-leaves; sealed = λ node loaded at. out-sealed loaded }
 
   -- and the folder can be written
-  pub ready-out : IsWritable (unchained between bucket)
+  pub ready-out : IsWritable out
   ready-out = ready-now between well-between ready-between chains bucket was.contents alone whole-between
 
 -- what goes out of a layout whose chains are its own is removed

@@ -75,3 +75,5 @@ pub mod WorkedRemovals
 pub mod MarkSteps
 pub mod WorkedMarks
 pub mod RecordSteps
+pub mod DoomSteps
+pub mod WorkedDooms

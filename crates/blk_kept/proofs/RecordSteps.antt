@@ -154,6 +154,9 @@ module _ (from : Image) (w : ℕ) (fields : RecordFields) (ready : IsWritable fr
   later : All (λ (c : ℕ × ℕ). 8 ≤ c.0) ((20, 2) ∷ [])
   later = All-cons (λ (c : ℕ × ℕ). 8 ≤ c.0) (20, 2) [] (omega arith) (All-nil (λ (c : ℕ × ℕ). 8 ≤ c.0))
 
+  pub doomed-outside : SameOutside (record_range w) from doomed_record
+  doomed-outside = rewritten-outside from w fields ready here good ((20, 2) ∷ []) is_changes before later
+
   pub doomed-only : ChangesOnly (has_claim (claims_of w)) from doomed_record
   doomed-only = rewritten-only from w fields ready here good ((20, 2) ∷ []) is_changes before later
 

@@ -52,7 +52,7 @@ opened-valid = step_valid worked 100 (to_open 6 (codes "b")) worked-valid (omega
 pub opened-keeps : Keeps opened worked_layout [] opened_folder
 opened-keeps = opens-end-by-touch worked worked_layout [] worked_folder opened_folder 100 6 (codes "b") worked-keeps (omega arith, codes_are_bytes (codes "b") (omega arith, tt)) (unfold computing in refl) touched_b
 
-opened-writable : IsWritable opened_folder
+pub opened-writable : IsWritable opened_folder
 opened-writable = until_last IsWritable IsWritable (steps_of_touch (nodes 2) 70 worked_folder) worked_folder (touches-go_on worked_folder (nodes 2) 70 worked-writable)
 
 -- ---- a Write unsettles it

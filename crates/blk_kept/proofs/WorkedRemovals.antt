@@ -99,7 +99,7 @@ IsSameWithout before contents chain = filter (λ w. not (w == contents)) (filter
 not-both : {A : Type 0} {b : Bool} → b ≡ true → b ≡ false → A
 not-both is not = absurd (let c : true ≡ false = sym is ∙ not in cc)
 
-alone_b : IsAloneIn chain_of 0xA0E1 (records 2)
+pub alone_b : IsAloneIn chain_of 0xA0E1 (records 2)
 alone_b = record {
   small = lit< tt;
   alone = refl;
@@ -107,7 +107,7 @@ alone_b = record {
   others = λ other apart. each-chain (λ chain. filter (λ w. not (w == records 2)) chain ≡ chain) other (λ e. refl) (λ e. refl) (λ e. not-both e apart) refl;
 }
 
-alone_part : IsAloneIn chain_of 0xB6C (records 1)
+pub alone_part : IsAloneIn chain_of 0xB6C (records 1)
 alone_part = record {
   small = lit< tt;
   alone = refl;
@@ -115,7 +115,7 @@ alone_part = record {
   others = λ other apart. each-chain (λ chain. filter (λ w. not (w == records 1)) chain ≡ chain) other (λ e. refl) (λ e. not-both e apart) (λ e. refl) refl;
 }
 
-alone_main : IsAloneIn chain_of 0xA782 (records 0)
+pub alone_main : IsAloneIn chain_of 0xA782 (records 0)
 alone_main = record {
   small = lit< tt;
   alone = refl;
@@ -123,12 +123,20 @@ alone_main = record {
   others = λ other apart. each-chain (λ chain. filter (λ w. not (w == records 0)) chain ≡ chain) other (λ e. not-both e apart) (λ e. refl) (λ e. refl) refl;
 }
 
-alone_after : IsAloneIn (chains_but chain_of (records 0)) 0xB6C (records 1)
+pub alone_after : IsAloneIn (chains_but chain_of (records 0)) 0xB6C (records 1)
 alone_after = record {
   small = lit< tt;
   alone = refl;
   none = refl;
   others = λ other apart. each-chain (IsSameWithout (λ w. not (w == records 0)) (records 1)) other (λ e. refl) (λ e. not-both e apart) (λ e. refl) refl;
+}
+
+pub alone_last : IsAloneIn (chains_but chain_of (records 1)) 0xA782 (records 0)
+alone_last = record {
+  small = lit< tt;
+  alone = refl;
+  none = refl;
+  others = λ other apart. each-chain (IsSameWithout (λ w. not (w == records 1)) (records 0)) other (λ e. not-both e apart) (λ e. refl) (λ e. refl) refl;
 }
 
 -- ---- `b` goes
