@@ -13,7 +13,6 @@ pub mod Stages
 pub mod GroupsGone
 pub mod MarkedStates
 pub mod PartChanges
-pub mod MainChanges
 pub mod WordStops
 pub mod CommandExamples
 pub mod StageExamples
