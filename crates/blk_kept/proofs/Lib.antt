@@ -76,3 +76,4 @@ pub mod WorkedMarks
 pub mod RecordSteps
 pub mod DoomSteps
 pub mod WorkedDooms
+pub mod WorkedCreate

@@ -128,7 +128,7 @@ closed-keeps = closes-end-by-mark unsettled unsettled_layout [] (marked_at opene
 
 -- ---- the doomed object is settled
 
-doomed_checks : (list_of worked_folder).checks (nodes 3) ≡ true
+pub doomed_checks : (list_of worked_folder).checks (nodes 3) ≡ true
 unfolding list_of checks_at node_checks
 doomed_checks = rw ((standing-at worked_folder worked worked_layout worked-keeps.entries.represents (nodes 3) the_doomed refl).node, (worked-keeps.entries.sealed (nodes 3) the_doomed refl).node) (or-true _) where
   or-true : (b : Bool) → (b || true) ≡ true
@@ -138,7 +138,7 @@ doomed_checks = rw ((standing-at worked_folder worked worked_layout worked-keeps
 doomed_is_cleared : IsMarked worked_folder (nodes 3) 0 (marked_at worked_folder (nodes 3) 0)
 doomed_is_cleared = marks-done worked_folder (nodes 3) 0 worked-writable doomed_checks (lit< tt)
 
-doomed-placed : IsPlacedAsDoomed worked worked_layout 2 doomed_object the_doomed
+pub doomed-placed : IsPlacedAsDoomed worked worked_layout 2 doomed_object the_doomed
 doomed-placed = record { here = refl; dead = refl; at = refl }
 
 doomed-settled : Keeps (marked worked 2 doomed_object true) (layout_after worked_layout (nodes 3) (record the_doomed { dirty = 0 })) [] (marked_at worked_folder (nodes 3) 0)
