@@ -67,7 +67,7 @@ module _ (from : Image) (w : ℕ) (fields : RecordFields) (ready : IsWritable fr
   kind : kind_of w ≡ blocks_256
   kind = (standing-parts from blocks_256 w standing).1
 
-  fields-are : fields_of (entry_at from w) ≡ fields
+  pub fields-are : fields_of (entry_at from w) ≡ fields
   unfolding store_of fields_at
   fields-are = some_inj (sym (rw standing refl) ∙ here)
 

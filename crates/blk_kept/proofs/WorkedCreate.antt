@@ -1,13 +1,15 @@
 -- In the worked folder the doomed object is closed, and made anew by a Create, in the blocks of its record and its node that are unlinked then.
-use Rattle.std.proofs.Common.{◌≡◌, ◌≢◌, inl, inr, ℕ, ◌+◌, ◌*◌, ◌<◌, ◌≤◌, ◌^◌, List, [], ◌∷◌, ◌++◌, All, length, refl, ap, sym, ◌∙◌, subst, arith, lit<, Bool, true, false, Ok, None, Some, codes}
+use Rattle.std.proofs.Common.{◌≡◌, ◌≢◌, inl, inr, ℕ, ◌+◌, ◌*◌, ◌<◌, ◌≤◌, ◌^◌, List, [], ◌∷◌, ◌++◌, All, length, refl, ap, sym, ◌∙◌, subst, arith, lit<, lit≤, Bool, true, false, Ok, None, Some, codes}
 use Rattle.std.specs.Prelude.{◌%◌, ◌==◌, ◌||◌, if◌then◌else◌, map}
+use Rattle.std.proofs.lemmas.Nat.{mod_below}
 use Rattle.std.proofs.lemmas.List.Elements.{All-cons, All-nil}
 use Rattle.blk_image.specs.Bytes.{range_at, spliced, word_bytes, words_at, zeros}
-use Rattle.blk_image.specs.Footprint.{one_word}
+use Rattle.blk_image.specs.Footprint.{SameOutside, one_word}
 use Rattle.blk_image.specs.Image.{Block, Image, Index, byte, length_of, word}
 use Rattle.blk_image.specs.Steps.{Word, after, applied, with_word, with_words}
 use Rattle.blk_image.proofs.Footprints.{outside_write}
-use Rattle.blk_image.proofs.Images.{word-after_same}
+use Rattle.blk_image.proofs.Images.{length-after_write, word-after_same}
+use Rattle.blk_image.proofs.Runs.{until_last}
 use Rattle.blk_model.specs.Items.{main}
 use Rattle.blk_model.specs.Request.{to_close, to_create}
 use Rattle.blk_model.specs.State.{IsValidState, State}
@@ -19,30 +21,42 @@ use Rattle.blk_format.specs.Address.{block_count, block_place, block_size, block
 use Rattle.blk_format.specs.BlockFiles.{is_among}
 use Rattle.blk_format.specs.Claims.{BlockOf, Claim, claims_of, claims_of_all, has_claim, repeats, same_claim}
 use Rattle.blk_format.specs.Hash.{hash, mixed, of_bytes, of_four, of_one, of_three, of_two}
-use Rattle.blk_format.specs.Headers.{this_id_of}
+use Rattle.blk_format.specs.Headers.{place_of_bucket}
 use Rattle.blk_format.specs.Records.{Entry, entry_body, entry_checks, entry_in, entry_is_sealed, node_in, node_is_sealed}
 use Rattle.blk_format.specs.Sealed.{AreChanges, record_at, record_range, seal_place, size_by_kind}
 use Rattle.blk_format.specs.Storage.{entry_blocks, is_storage}
+use Rattle.blk_format.proofs.Finished.{whole_index}
 use Rattle.blk_volume.specs.Chains.{bucket_of_hash, file_and_block}
+use Rattle.blk_volume.specs.Completion.{insert}
+use Rattle.blk_volume.specs.Creation.{with_new}
 use Rattle.blk_volume.specs.Entries.{IsPlain, is_key_length, role_of, stored_key, stored_stream, stored_streams}
 use Rattle.blk_volume.specs.Layout.{Layout}
-use Rattle.blk_volume.specs.ListImages.{IsWritable}
-use Rattle.blk_volume.specs.ListView.{ListView, put}
+use Rattle.blk_volume.specs.ListImages.{HasListAtRest, IsWritable, operation_steps, walked}
+use Rattle.blk_volume.specs.ListPlans.{writes_of}
+use Rattle.blk_volume.specs.ListView.{CanBeInserted, ListView, put}
 use Rattle.blk_volume.specs.Loads.{Loaded, all_claims, load, record_claims, unchained_rule}
 use Rattle.blk_volume.specs.ShownChanges.{OnlyRecordFieldsChange}
 use Rattle.blk_volume.specs.Sound.{words_of}
-use Rattle.blk_volume.specs.View.{NodeFields, RecordFields, block_bytes, entry_at, fields_at, fields_of, follow_at, key_place_at, list_of, node_at, node_fields_at, stands_as, store_of, stored_at}
+use Rattle.blk_volume.specs.View.{NodeFields, RecordFields, block_bytes, entry_at, fields_at, fields_of, follow_at, key_place_at, list_of, node_at, node_fields_at, stands_as, store_of, stored_at, view_of}
+use Rattle.blk_laws.specs.IndexWrites.{IsIndexWord}
 use Rattle.blk_laws.specs.RecordUpdates.{sealed_fields}
+use Rattle.blk_laws.proofs.lists.WriteSteps.{writes-go_on}
+use Rattle.blk_laws.proofs.states.Central.{walk-order}
+use Rattle.blk_laws.proofs.updates.IndexWords.{buckets-unchecked, buckets-written}
 use Rattle.blk_laws.proofs.updates.Updates.{entry-seal}
 use Rattle.blk_laws.proofs.walks.Loading.{load-from}
+use Rattle.blk_kept.specs.Commands.{MayStop}
+use Rattle.blk_kept.specs.CounterLaws.{counted_bytes}
 use Rattle.blk_kept.specs.CreateStops.{IsCreating}
 use Rattle.blk_kept.specs.CommandStates.{with_room}
 use Rattle.blk_kept.specs.GoneLaws.{layout_without}
 use Rattle.blk_kept.specs.Keeping.{Keeps, KeepsUncounted}
-use Rattle.blk_kept.specs.NewEntryLaws.{IsNewEntryOf}
+use Rattle.blk_kept.specs.NewEntryLaws.{IsInsertDone, IsLinkedInFront, IsNewEntryOf, bucket_at}
+use Rattle.blk_kept.proofs.CreateStops.{creates-counted, inserts-stop, links-stop}
+use Rattle.blk_kept.proofs.DoneSteps.{insert-done}
 use Rattle.blk_kept.proofs.Free.{standing-at, unlinked-change}
 use Rattle.blk_kept.proofs.OneCalls.{closes-of-doomed-unlink}
-use Rattle.blk_kept.proofs.RecordSteps.{rewritten, rewritten-fields, rewritten-leaves, rewritten-only, rewritten-outside, rewritten-sealed, rewritten-writable}
+use Rattle.blk_kept.proofs.RecordSteps.{fields-are, rewritten, rewritten-fields, rewritten-leaves, rewritten-only, rewritten-outside, rewritten-sealed, rewritten-writable}
 use Rattle.blk_kept.proofs.WorkedFolder.{short_folder}
 use Rattle.blk_kept.proofs.WorkedKept.{same-bytes, worked-id, worked-keeps, worked-represents, worked_folder}
 use Rattle.blk_kept.proofs.WorkedMarks.{doomed-placed, doomed_checks}
@@ -279,3 +293,99 @@ creating = record {
   kept = subst (λ (m : State). KeepsUncounted m closed_layout (words_of fresh ++ 0xA0010005 ∷ []) entry_folder) (sym room-is) entry-kept;
   entry = subst (λ (m : State). IsNewEntryOf m closed_layout (codes "c") fresh entry_folder) (sym room-is) new-entry;
 }
+
+-- ---- its node comes into the list, its record into its chain, and it is counted
+
+entry-writable : IsWritable entry_folder
+entry-writable = rewritten-writable worked_folder (records 3) doomed_fields worked-writable doomed-entry refl fresh_words are-changes before-seal behind-next
+
+walks : walked entry_folder ≡ nodes 1 ∷ nodes 0 ∷ nodes 2 ∷ []
+unfolding computing
+walks = walk-order (view_of entry_folder) closed closed_layout entry-kept.represents
+
+three-at-rest : HasListAtRest (nodes 1 ∷ nodes 0 ∷ nodes 2 ∷ []) entry_folder
+unfolding computing
+three-at-rest = record { whole = entry-kept.represents.list; idle = entry-kept.represents.idle }
+
+can-be-inserted : CanBeInserted (list_of entry_folder) (walked entry_folder) (nodes 3)
+can-be-inserted = subst (λ (ns : List ℕ). CanBeInserted (list_of entry_folder) ns (nodes 3)) (sym walks) (record { rest = three-at-rest; lacks = refl; good = new-entry.good; few = omega arith })
+
+abbrev listed_folder : Image
+listed_folder = after (operation_steps insert (nodes 3) entry_folder) entry_folder
+
+inserted : IsInsertDone entry_folder (nodes 3) listed_folder
+inserted = insert-done entry_folder (nodes 3) entry-writable can-be-inserted
+
+-- it may be stopped then
+insert_stops : MayStop closed 100 (to_create 5 (codes "c")) listed_folder
+insert_stops = inserts-stop closed 100 5 (codes "c") closed_layout (0xA0010005 ∷ []) fresh entry_folder listed_folder creating inserted.partly
+
+-- a word of the index is written
+abbrev with_index_word : ℕ → ℕ → Image → Image
+with_index_word at x from = applied (Word Index at (word_bytes x)) from
+
+index-word-is : (from : Image) (at x : ℕ) → length_of from Index ≡ 262512 → at + 4 ≤ 262512 → x < 2 ^ 32 → IsIndexWord at x from (with_index_word at x from)
+index-word-is from at x long fits small = record { there = word-after_same from Index at x small (omega (arith, long, fits)); outside = outside_write Index at (word_bytes x) from }
+
+abbrev linked_folder : Image
+linked_folder = with_index_word (place_of_bucket 0x3EBF) (records 3) listed_folder
+
+listed-long : length_of listed_folder Index ≡ 262512
+listed-long = whole_index listed_folder (inserted.partly.well_formed entry-kept.well_formed)
+
+listed-writable : IsWritable listed_folder
+listed-writable = until_last IsWritable IsWritable (operation_steps insert (nodes 3) entry_folder) entry_folder (writes-go_on entry_folder (writes_of insert (nodes 3) (list_of entry_folder)) entry-writable)
+
+listed-entry : (store_of listed_folder).entry (records 3) ≡ Some fresh_fields
+listed-entry = sym (inserted.partly.shown.store.store.entry (records 3) (λ claim has. refl)) ∙ fresh-entry
+
+bucket-is : bucket_at listed_folder (records 3) ≡ 0x3EBF
+bucket-is = ap (λ (f : RecordFields). bucket_of_hash f.hash) (fields-are listed_folder (records 3) fresh_fields listed-writable listed-entry refl)
+
+link-word : IsIndexWord (place_of_bucket 0x3EBF) (records 3) listed_folder linked_folder
+link-word = index-word-is listed_folder (place_of_bucket 0x3EBF) (records 3) listed-long (lit≤ tt) (lit< tt)
+
+linked : IsLinkedInFront listed_folder (records 3) linked_folder
+linked = record {
+  list = (buckets-written listed_folder linked_folder 0x3EBF (records 3) link-word).0;
+  store = (buckets-written listed_folder linked_folder 0x3EBF (records 3) link-word).1 ∙ ap (λ (b : ℕ). record (store_of listed_folder) { table = put (store_of listed_folder).table b (records 3) }) (sym bucket-is);
+  well_formed = buckets-unchecked listed_folder linked_folder 0x3EBF link-word.outside;
+  outside = subst (λ (b : ℕ). SameOutside (one_word Index (place_of_bucket b)) listed_folder linked_folder) (sym bucket-is) link-word.outside;
+}
+
+link_stops : MayStop closed 100 (to_create 5 (codes "c")) linked_folder
+link_stops = links-stop closed 100 5 (codes "c") closed_layout (0xA0010005 ∷ []) fresh entry_folder listed_folder linked_folder creating inserted linked
+
+-- the three counters
+abbrev made : State
+made = (step closed 100 (to_create 5 (codes "c"))).state
+
+four-items : length made.uses < 2 ^ 32
+unfolding computing
+four-items = lit< tt
+
+abbrev bytes_of_items : ℕ
+bytes_of_items = counted_bytes made (with_new closed_layout (codes "c") fresh)
+
+abbrev counted_items : Image
+counted_items = with_index_word 8 (length made.uses) linked_folder
+
+abbrev counted_sum : Image
+counted_sum = with_index_word 12 bytes_of_items counted_items
+
+abbrev made_folder : Image
+made_folder = with_index_word 268 (length made.uses) counted_sum
+
+linked-long : length_of linked_folder Index ≡ 262512
+linked-long = length-after_write listed_folder Index Index (place_of_bucket 0x3EBF) (word_bytes (records 3)) ∙ listed-long
+
+items-long : length_of counted_items Index ≡ 262512
+items-long = length-after_write linked_folder Index Index 8 (word_bytes (length made.uses)) ∙ linked-long
+
+sum-long : length_of counted_sum Index ≡ 262512
+sum-long = length-after_write counted_items Index Index 12 (word_bytes bytes_of_items) ∙ items-long
+
+-- so the Create ends with the new object
+created : Keeps made (with_new closed_layout (codes "c") fresh) (0xA0010005 ∷ []) made_folder
+created = creates-counted closed 100 5 (codes "c") closed_layout (0xA0010005 ∷ []) fresh entry_folder listed_folder linked_folder counted_items counted_sum made_folder creating inserted linked
+    (index-word-is linked_folder 8 (length made.uses) linked-long (lit≤ tt) four-items) (index-word-is counted_items 12 bytes_of_items items-long (lit≤ tt) (mod_below _ (2 ^ 32) (lit< tt))) (index-word-is counted_sum 268 (length made.uses) sum-long (lit≤ tt) four-items)
