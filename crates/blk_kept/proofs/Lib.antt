@@ -77,3 +77,4 @@ pub mod RecordSteps
 pub mod DoomSteps
 pub mod WorkedDooms
 pub mod WorkedCreate
+pub mod WorkedExternals

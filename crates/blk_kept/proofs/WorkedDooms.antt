@@ -37,7 +37,8 @@ use Rattle.blk_kept.specs.HeldPartlyOut.{IsHeldOut}
 use Rattle.blk_kept.specs.Keeping.{Keeps, KeepsUncounted}
 use Rattle.blk_kept.specs.PartlyOut.{IsOneMoreOut, KeepsPartlyOut, chains_but, keeps_but}
 use Rattle.blk_kept.specs.RemovalLaws.{IsRemovalDone, IsUnlinking}
-use Rattle.blk_kept.specs.WholeRemovals.{layout_doomed_whole}
+use Rattle.blk_kept.specs.WholeRemovals.{IsWholeUnchained, layout_doomed_whole, words_of_parts}
+use Rattle.blk_kept.proofs.DoomedWhole.{held-whole-dooms-end}
 use Rattle.blk_kept.proofs.DoneSteps.{touch-done}
 use Rattle.blk_kept.proofs.DoomSteps.{IsDoomedRecord, doomed-record, loads-unlisted, with_doomed}
 use Rattle.blk_kept.proofs.GoingOut.{goes-out, out-leaves, out-links, out-of-chain, out-of-list, ready-out, unchained, unlisted}
@@ -46,7 +47,7 @@ use Rattle.blk_kept.proofs.LaidOut.{IsClaimant, claimant, each-item, each-word, 
 use Rattle.blk_kept.proofs.Leaving.{leaves-then}
 use Rattle.blk_kept.proofs.Links.{table-sealed}
 use Rattle.blk_kept.proofs.OneCalls.{opens-end-by-touch}
-use Rattle.blk_kept.proofs.OneMoreOut.{one-more-goes}
+use Rattle.blk_kept.proofs.OneMoreOut.{leaves, one-more-goes}
 use Rattle.blk_kept.proofs.PartlyFreed.{out-changes}
 use Rattle.blk_kept.proofs.PartlyOut.{kept-begin, only-listed}
 use Rattle.blk_kept.proofs.PlainRemovals.{held-dooms-end}
@@ -187,9 +188,11 @@ part-ready = ready-out both worked_layout (λ item. true) chain_of [] both_folde
 abbrev but_part : Item → Bool
 but_part = keeps_but (λ item. true) (part (codes "a") 0)
 
+part-goes : IsOneMoreOut worked_layout chain_of (part (codes "a") 0) the_part both_folder without_part
+part-goes = goes-out both worked_layout (λ item. true) chain_of [] both_folder all-there both-writable (part (codes "a") 0) the_part refl (nodes 0 ∷ nodes 2 ∷ []) [] refl 0xB6C alone_part
+
 part_is_out : KeepsPartlyOut both worked_layout but_part (chains_but chain_of (records 1)) (words_of the_part ++ []) without_part
-part_is_out = one-more-goes both worked_layout (λ item. true) chain_of [] (part (codes "a") 0) the_part both_folder without_part all-there refl refl
-    (goes-out both worked_layout (λ item. true) chain_of [] both_folder all-there both-writable (part (codes "a") 0) the_part refl (nodes 0 ∷ nodes 2 ∷ []) [] refl 0xB6C alone_part)
+part_is_out = one-more-goes both worked_layout (λ item. true) chain_of [] (part (codes "a") 0) the_part both_folder without_part all-there refl refl part-goes
 
 -- then its main item
 abbrev without_a : Image
@@ -207,9 +210,11 @@ main-ready = ready-out both worked_layout but_part (chains_but chain_of (records
 abbrev no_chains : ℕ → List ℕ
 no_chains = chains_but (chains_but chain_of (records 1)) (records 0)
 
+main-goes : IsOneMoreOut worked_layout (chains_but chain_of (records 1)) (main (codes "a")) the_parent without_part without_a
+main-goes = goes-out both worked_layout but_part (chains_but chain_of (records 1)) (words_of the_part ++ []) without_part part_is_out part-ready (main (codes "a")) the_parent refl [] (nodes 2 ∷ []) refl 0xA782 alone_last
+
 both_are_out : KeepsPartlyOut both worked_layout (keeps_but but_part (main (codes "a"))) no_chains (words_of the_parent ++ words_of the_part ++ []) without_a
-both_are_out = one-more-goes both worked_layout but_part (chains_but chain_of (records 1)) (words_of the_part ++ []) (main (codes "a")) the_parent without_part without_a part_is_out refl refl
-    (goes-out both worked_layout but_part (chains_but chain_of (records 1)) (words_of the_part ++ []) without_part part_is_out part-ready (main (codes "a")) the_parent refl [] (nodes 2 ∷ []) refl 0xA782 alone_last)
+both_are_out = one-more-goes both worked_layout but_part (chains_but chain_of (records 1)) (words_of the_part ++ []) (main (codes "a")) the_parent without_part without_a part_is_out refl refl main-goes
 
 a_is_out : KeepsPartlyOut both worked_layout (is_of_another (codes "a")) no_chains (words_of the_parent ++ words_of the_part ++ []) without_a
 a_is_out = only-listed both worked_layout (keeps_but but_part (main (codes "a"))) (is_of_another (codes "a")) no_chains (words_of the_parent ++ words_of the_part ++ []) without_a both_are_out same where
@@ -258,3 +263,21 @@ a_is_held_out = record {
 -- so a Doom of it ends, with the words of its part unlinked
 a_is_doomed : KeepsUncounted (step both 100 (to_doom 7)).state (layout_doomed_whole both worked_layout 1 (codes "a") no_chains) (words_of the_part ++ []) doomed_a
 a_is_doomed = held-out-dooms-end both 100 (to_doom 7) worked_layout 1 sparse_object the_parent no_chains (words_of the_part ++ []) doomed_a (unfold computing in refl) (unfold computing in refl) a_is_held_out
+
+-- and as it does where all are out before anything is freed
+a_is_whole_unchained : IsWholeUnchained both worked_layout (codes "a") the_parent no_chains both_folder doomed_a
+a_is_whole_unchained = record {
+  leaves = leaves-then both_folder without_part doomed_a
+      (leaves both worked_layout (λ item. true) chain_of [] (part (codes "a") 0) the_part both_folder without_part all-there refl refl part-goes)
+      (leaves-then without_part without_a doomed_a (leaves both worked_layout but_part (chains_but chain_of (records 1)) (words_of the_part ++ []) (main (codes "a")) the_parent without_part without_a part_is_out refl refl main-goes) a-doomed.leaves);
+  list = a_is_held_out.keeps.list;
+  holds = a_is_held_out.keeps.holds;
+  loads = a-doomed.loads;
+  chained = a_is_held_out.keeps.chained;
+  out = a_is_held_out.keeps.out;
+  sealed = looked (λ node l. is_among (nodes 1 ∷ []) node ≡ false → AreSealed both_folder l → AreSealed doomed_a l) all_four
+      ((λ stays was. a_is_held_out.sealed), ((λ out was. absurd (let z : true ≡ false = out in cc)), ((λ stays was. a_is_held_out.keeps.sealed (nodes 2) the_plain refl refl), ((λ stays was. a_is_held_out.keeps.sealed (nodes 3) the_doomed refl refl), tt))));
+}
+
+a_is_doomed_whole : KeepsUncounted (step both 100 (to_doom 7)).state (layout_doomed_whole both worked_layout 1 (codes "a") no_chains) (words_of_parts both worked_layout (codes "a") ++ []) doomed_a
+a_is_doomed_whole = held-whole-dooms-end both 100 (to_doom 7) worked_layout [] no_chains both_folder doomed_a 1 sparse_object the_parent both-keeps.entries (unfold computing in refl) (unfold computing in refl) (record { here = refl; live = refl; at = refl }) refl a_is_whole_unchained

@@ -14,6 +14,7 @@ use Rattle.blk_model.specs.Room.{single, whole, without}
 use Rattle.blk_model.specs.State.{State}
 use Rattle.blk_model.specs.Step.{step}
 use Rattle.blk_model.proofs.Computing.{computing}
+use Rattle.blk_model.proofs.Doomed.{state_doomed}
 use Rattle.blk_model.proofs.StopRows.{codes_are_bytes}
 use Rattle.blk_format.specs.BlockFiles.{is_among}
 use Rattle.blk_format.specs.Headers.{header_length, index_length}
@@ -21,32 +22,34 @@ use Rattle.blk_format.specs.NewFolder.{new_file_words}
 use Rattle.blk_volume.specs.Layout.{Layout, is_listed}
 use Rattle.blk_volume.specs.ListImages.{HasListAtRest, IsWritable, steps_of_touch}
 use Rattle.blk_volume.specs.Loads.{Loaded}
-use Rattle.blk_volume.specs.Removal.{is_of_another}
+use Rattle.blk_volume.specs.Removal.{is_of_another, without_items}
 use Rattle.blk_volume.specs.Sound.{words_of}
 use Rattle.blk_laws.proofs.examples.ExampleWrites.{small-zeros}
 use Rattle.blk_laws.proofs.updates.Fronts.{AreSmall, small-words}
 use Rattle.blk_kept.specs.Arranging.{LeavesFiles}
 use Rattle.blk_kept.specs.Changes.{Finds}
 use Rattle.blk_kept.specs.Commands.{MayStop}
-use Rattle.blk_kept.specs.GroupLaws.{gone_nodes, layout_less}
+use Rattle.blk_kept.specs.GroupLaws.{IsLess, gone_nodes, layout_less}
 use Rattle.blk_kept.specs.Keeping.{Keeps, KeepsUncounted}
 use Rattle.blk_kept.specs.ListLaws.{IsTouchDone, with_used}
 use Rattle.blk_kept.specs.PartlyOut.{IsOneMoreOut, KeepsPartlyOut, chains_but, keeps_but}
 use Rattle.blk_kept.specs.PartlyOutStops.{LeavesOtherKeys}
 use Rattle.blk_kept.specs.PlainRemovals.{IsRemoved}
-use Rattle.blk_kept.specs.RemovalLaws.{IsRemovalDone, chains_without, layout_removed}
+use Rattle.blk_kept.specs.RemovalLaws.{IsRemovalDone, IsWithout, chains_without, layout_removed}
 use Rattle.blk_kept.specs.WholeRemovals.{IsWholeOut, layout_without_key, words_of_key}
 use Rattle.blk_kept.specs.WordStops.{IsPartOut}
+use Rattle.blk_kept.proofs.ChangedStates.{unheld-go, unheld-less}
 use Rattle.blk_kept.proofs.DoneSteps.{touch-done}
 use Rattle.blk_kept.proofs.GoingOut.{IsAloneIn, goes-out, holds-between, out-of-list, out-removed, ready-out, unchained, unlisted}
 use Rattle.blk_kept.proofs.LaidOut.{each-item}
 use Rattle.blk_kept.proofs.Leaving.{leaves-then}
 use Rattle.blk_kept.proofs.OneMoreOut.{leaves, one-more-goes}
 use Rattle.blk_kept.proofs.OutGroups.{out-groups-gone, unheld-out-dooms-end}
-use Rattle.blk_kept.proofs.PartlyOut.{kept-begin, only-listed}
+use Rattle.blk_kept.proofs.PartlyOut.{kept-begin, only-listed, partly-out-ends}
 use Rattle.blk_kept.proofs.PartlyOutStops.{next-parts-find, own-items-leave, partly-out-dooms-stop, partly-out-finds}
 use Rattle.blk_kept.proofs.PartsOut.{part-out}
 use Rattle.blk_kept.proofs.PlainRemovals.{doomed-removed, lone-parts-go, part-removed, plain-groups-go, removing-doomed, removing-part, unheld-dooms-end}
+use Rattle.blk_kept.proofs.Removals.{removed-unlinked}
 use Rattle.blk_kept.proofs.Touched.{touch-counts}
 use Rattle.blk_kept.proofs.WholeRemovals.{unheld-whole-dooms-end, whole-removed}
 use Rattle.blk_kept.proofs.WorkedFolder.{data_words, index_words, nodes_words, records_words, short_folder}
@@ -170,6 +173,13 @@ none-gone = refl
 b_is_evicted : KeepsUncounted (without ([] ++ whole (codes "b") [] ∷ []) worked) (layout_removed worked_layout (nodes 2) (records 2)) (words_of the_plain ++ []) without_b
 b_is_evicted = plain-groups-go worked [] worked_layout [] worked_folder without_b 0 plain_object [] the_plain (subst (λ (m : State). KeepsUncounted m worked_layout [] worked_folder) none-gone worked-keeps.entries) (unfold computing in refl) refl refl (unfold computing in refl) removed_b
 
+-- the same is said of the state without its main item
+b_goes_whole : IsWithout worked (doomed 0 worked (Some plain_object)).objects (is_of_another (codes "b")) (main (codes "b"))
+b_goes_whole = (unheld-go worked 0 plain_object worked-keeps.entries.valid refl refl refl (λ n. refl) (state_doomed worked worked-keeps.entries.valid 0 plain_object refl refl)).0
+
+b_is_removed : KeepsUncounted (without_items worked (doomed 0 worked (Some plain_object)).objects (is_of_another (codes "b"))) (layout_removed worked_layout (nodes 2) (records 2)) (words_of the_plain ++ []) without_b
+b_is_removed = removed-unlinked worked worked_layout [] (doomed 0 worked (Some plain_object)).objects (is_of_another (codes "b")) (main (codes "b")) the_plain worked_folder removed_b.removing.between without_b worked-keeps.entries b_goes_whole refl removed_b.removing.unlisted removed_b.removing.unlinking removed_b.leaves removed_b.sealed
+
 -- ---- the part goes alone
 
 abbrev without_part : Image
@@ -276,3 +286,10 @@ a_is_whole_out = record {
 
 a_is_removed : KeepsUncounted (doomed 1 worked (Some sparse_object)) (layout_without_key worked worked_layout (codes "a") chains_left) (words_of_key worked worked_layout (codes "a") ++ []) without_a
 a_is_removed = whole-removed worked worked_layout [] chains_left worked_folder without_a 1 sparse_object worked-keeps.entries refl refl refl a_is_whole_out
+
+-- the same is said of the state without its items
+a_goes_whole : IsLess worked (doomed 1 worked (Some sparse_object)).objects (is_of_another (codes "a"))
+a_goes_whole = unheld-less worked 1 sparse_object worked-keeps.entries.valid refl refl refl (state_doomed worked worked-keeps.entries.valid 1 sparse_object refl refl)
+
+a_ends_kept : KeepsUncounted (without_items worked (doomed 1 worked (Some sparse_object)).objects (is_of_another (codes "a"))) (layout_less worked_layout (gone_nodes worked worked_layout (is_of_another (codes "a"))) chains_left) (words_of the_part ++ words_of the_parent ++ []) without_a
+a_ends_kept = partly-out-ends worked worked_layout (words_of the_part ++ words_of the_parent ++ []) (doomed 1 worked (Some sparse_object)).objects (is_of_another (codes "a")) chains_left without_a a_is_out a_goes_whole
