@@ -138,8 +138,11 @@ module _ (state : State) (layout : Layout) (keep : Item → Bool) (chains : ℕ 
   pub out-of-chain : IsUnlinking (record layout { chains = chains }) (chains_but chains was.contents) between out
   out-of-chain = unlinking between well-between ready-between chains bucket was.contents alone whole-between layout
 
+  pub out-store : store_of out ≡ record (store_of between) { table = put (store_of between).table bucket 0 }
+  out-store = store-now between well-between ready-between chains bucket was.contents alone whole-between
+
   pub out-links : OnlyLinksChange was.contents (store_of between) (store_of out)
-  out-links = table-links between out bucket 0 was.contents (store-now between well-between ready-between chains bucket was.contents alone whole-between)
+  out-links = table-links between out bucket 0 was.contents out-store
 
   pub out-leaves : LeavesFiles between out
   out-leaves = table-files between out bucket (outside between well-between ready-between chains bucket was.contents alone whole-between) (well-now between well-between ready-between chains bucket was.contents alone whole-between)

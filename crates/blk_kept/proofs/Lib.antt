@@ -78,3 +78,4 @@ pub mod DoomSteps
 pub mod WorkedDooms
 pub mod WorkedCreate
 pub mod WorkedExternals
+pub mod WorkedParts

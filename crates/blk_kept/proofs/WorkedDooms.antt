@@ -3,7 +3,7 @@ use Rattle.std.proofs.Common.{◌≡◌, ◌⊎◌, inl, inr, ⊎_elim, ℕ, ◌
 use Rattle.std.specs.Prelude.{◌==◌}
 use Rattle.std.specs.List.{AllByRecursion}
 use Rattle.blk_image.specs.Footprint.{SameOutside}
-use Rattle.blk_image.specs.Image.{Block, Image, byte}
+use Rattle.blk_image.specs.Image.{Block, Image, Index, byte}
 use Rattle.blk_image.specs.Steps.{after}
 use Rattle.blk_image.proofs.Runs.{until_last}
 use Rattle.blk_model.specs.Items.{Item, main, part}
@@ -16,11 +16,13 @@ use Rattle.blk_model.proofs.StopRows.{codes_are_bytes}
 use Rattle.blk_format.specs.Address.{block_count, external_number, file_selector, first_block, kind_of, place, rankings}
 use Rattle.blk_format.specs.BlockFiles.{is_among}
 use Rattle.blk_format.specs.Claims.{Claim, claims_of, has_claim, repeats}
+use Rattle.blk_format.specs.Headers.{this_id_of}
 use Rattle.blk_format.specs.Records.{node_in, node_is_sealed}
 use Rattle.blk_format.specs.Sealed.{record_range}
 use Rattle.blk_volume.specs.Footprint.{OnlyLinksChange}
 use Rattle.blk_volume.specs.Layout.{Layout, is_listed}
 use Rattle.blk_volume.specs.ListImages.{HasListAtRest, IsWritable, steps_of_touch}
+use Rattle.blk_volume.specs.ListPlans.{touch_writes}
 use Rattle.blk_volume.specs.ListSteps.{IsSealed}
 use Rattle.blk_volume.specs.Loads.{Loaded, all_claims, load, record_claims, unchained_rule}
 use Rattle.blk_volume.specs.Removal.{is_of_another}
@@ -30,11 +32,13 @@ use Rattle.blk_laws.specs.CommandLaws.{IsPlacedAsLive}
 use Rattle.blk_laws.proofs.lists.WordTurns.{touches-go_on}
 use Rattle.blk_laws.proofs.states.Marking.{repeats-apart}
 use Rattle.blk_laws.proofs.states.OthersHold.{more-left_out, records-unlinked}
+use Rattle.blk_laws.proofs.states.Tidying.{counter-same}
 use Rattle.blk_kept.specs.Arranging.{LeavesFiles}
 use Rattle.blk_kept.specs.DoomLaws.{CanBeDoomed, IsUnchained, layout_doomed}
 use Rattle.blk_kept.specs.GroupLaws.{gone_nodes}
 use Rattle.blk_kept.specs.HeldPartlyOut.{IsHeldOut}
 use Rattle.blk_kept.specs.Keeping.{Keeps, KeepsUncounted}
+use Rattle.blk_kept.specs.ListLaws.{IsTouchDone}
 use Rattle.blk_kept.specs.PartlyOut.{IsOneMoreOut, KeepsPartlyOut, chains_but, keeps_but}
 use Rattle.blk_kept.specs.RemovalLaws.{IsRemovalDone, IsUnlinking}
 use Rattle.blk_kept.specs.WholeRemovals.{IsWholeUnchained, layout_doomed_whole, words_of_parts}
@@ -51,31 +55,37 @@ use Rattle.blk_kept.proofs.OneMoreOut.{leaves, one-more-goes}
 use Rattle.blk_kept.proofs.PartlyFreed.{out-changes}
 use Rattle.blk_kept.proofs.PartlyOut.{kept-begin, only-listed}
 use Rattle.blk_kept.proofs.PlainRemovals.{held-dooms-end}
-use Rattle.blk_kept.proofs.WorkedMarks.{opened, opened-keeps, opened-writable, opened_folder}
+use Rattle.blk_kept.proofs.WorkedMarks.{opened, opened-keeps, opened-writable, opened_folder, session-is}
 use Rattle.blk_kept.proofs.WorkedRemovals.{alone_b, alone_last, alone_part}
 use Rattle.blk_kept.proofs.WorkedState.{all_four, chain_of, nodes, plain_object, records, sparse_object, the_doomed, the_parent, the_part, the_plain, worked, worked-lies, worked_layout}
 
 -- ---- both are opened
 
-abbrev both : State
+abbrev pub both : State
 both = record worked { uses = main (codes "a") ∷ main (codes "b") ∷ part (codes "a") 0 ∷ []; names = replicate 5 None ++ Some 2 ∷ Some 0 ∷ Some 1 ∷ replicate 4088 None }
 
 both-reached : (step opened 100 (to_open 7 (codes "a"))).state ≡ both
 unfolding computing
 both-reached = refl
 
-abbrev both_folder : Image
+abbrev pub both_folder : Image
 both_folder = after (steps_of_touch (nodes 0) 70 opened_folder) opened_folder
 
 opened-list : HasListAtRest (nodes 2 ∷ nodes 1 ∷ nodes 0 ∷ []) opened_folder
 unfolding computing
 opened-list = record { whole = opened-keeps.entries.represents.list; idle = opened-keeps.entries.represents.idle }
 
-both-keeps : Keeps both worked_layout [] both_folder
-both-keeps = subst (λ (m : State). Keeps m worked_layout [] both_folder) both-reached
-    (opens-end-by-touch opened worked_layout [] opened_folder both_folder 100 7 (codes "a") opened-keeps (omega arith, codes_are_bytes (codes "a") (omega arith, tt)) (unfold computing in refl) (touch-done opened_folder (nodes 0) 70 (nodes 2 ∷ nodes 1 ∷ []) [] opened-writable opened-list))
+a-touched : IsTouchDone opened_folder (nodes 0) both_folder
+a-touched = touch-done opened_folder (nodes 0) 70 (nodes 2 ∷ nodes 1 ∷ []) [] opened-writable opened-list
 
-both-writable : IsWritable both_folder
+pub both-keeps : Keeps both worked_layout [] both_folder
+both-keeps = subst (λ (m : State). Keeps m worked_layout [] both_folder) both-reached
+    (opens-end-by-touch opened worked_layout [] opened_folder both_folder 100 7 (codes "a") opened-keeps (omega arith, codes_are_bytes (codes "a") (omega arith, tt)) (unfold computing in refl) a-touched)
+
+pub both-id : this_id_of (byte both_folder Index) ≡ 7
+both-id = counter-same (touch_writes (nodes 0) (list_of opened_folder)) (nodes 0) opened_folder both_folder a-touched.touched.outside 20 (omega arith) ∙ session-is
+
+pub both-writable : IsWritable both_folder
 both-writable = until_last IsWritable IsWritable (steps_of_touch (nodes 0) 70 opened_folder) opened_folder (touches-go_on opened_folder (nodes 0) 70 opened-writable)
 
 all-there : KeepsPartlyOut both worked_layout (λ item. true) chain_of [] both_folder

@@ -94,7 +94,7 @@ unsettled_layout = dirtied worked_layout (nodes 2) the_plain 7
 unsettled-valid : IsValidState unsettled
 unsettled-valid = marked-valid opened 0 plain_object false opened-valid (unfold computing in refl) refl (λ e. unfold computing in refl)
 
-session-is : this_id_of (byte opened_folder Index) ≡ 7
+pub session-is : this_id_of (byte opened_folder Index) ≡ 7
 session-is = counter-same (touch_writes (nodes 2) (list_of worked_folder)) (nodes 2) worked_folder opened_folder touched_b.touched.outside 20 (omega arith) ∙ worked-id
 
 pub unsettled-keeps : Keeps unsettled unsettled_layout [] (marked_at opened_folder (nodes 2) 7)
