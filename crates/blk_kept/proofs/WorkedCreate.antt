@@ -321,10 +321,10 @@ insert_stops : MayStop closed 100 (to_create 5 (codes "c")) listed_folder
 insert_stops = inserts-stop closed 100 5 (codes "c") closed_layout (0xA0010005 ∷ []) fresh entry_folder listed_folder creating inserted.partly
 
 -- a word of the index is written
-abbrev with_index_word : ℕ → ℕ → Image → Image
+abbrev pub with_index_word : ℕ → ℕ → Image → Image
 with_index_word at x from = applied (Word Index at (word_bytes x)) from
 
-index-word-is : (from : Image) (at x : ℕ) → length_of from Index ≡ 262512 → at + 4 ≤ 262512 → x < 2 ^ 32 → IsIndexWord at x from (with_index_word at x from)
+pub index-word-is : (from : Image) (at x : ℕ) → length_of from Index ≡ 262512 → at + 4 ≤ 262512 → x < 2 ^ 32 → IsIndexWord at x from (with_index_word at x from)
 index-word-is from at x long fits small = record { there = word-after_same from Index at x small (omega (arith, long, fits)); outside = outside_write Index at (word_bytes x) from }
 
 abbrev linked_folder : Image
