@@ -58,7 +58,7 @@ pub record IsAloneIn (chains : ℕ → List ℕ) (bucket contents : ℕ) : Type 
   pub others : (other : ℕ) → (other == bucket) ≡ false → chains_but chains contents other ≡ chains other
 
 -- a chain is one where the same is shown
-chain-same : (old new : StoreView) (bucket : ℕ) (words : List ℕ) → ShowsTheSame old new → IsChain old bucket words → IsChain new bucket words
+pub chain-same : (old new : StoreView) (bucket : ℕ) (words : List ℕ) → ShowsTheSame old new → IsChain old bucket words → IsChain new bucket words
 chain-same old new bucket words same chain = record {
   linked = linked-facts old new bucket (new.table bucket) words (λ w among. (of-bucket w, sym (same.store.chain_next w (λ claim has. refl)))) (subst (λ (first : ℕ). Linked old bucket first words) (same.table bucket) chain.linked);
   once = chain.once;

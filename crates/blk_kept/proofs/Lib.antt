@@ -79,3 +79,4 @@ pub mod WorkedDooms
 pub mod WorkedCreate
 pub mod WorkedExternals
 pub mod WorkedParts
+pub mod WorkedStops

@@ -153,6 +153,9 @@ without_b = unchained (unlisted worked_folder (nodes 2)) 0xA0E1
 pub removed_b : IsRemoved worked_layout (main (codes "b")) the_plain worked_folder without_b
 removed_b = out-removed worked_layout (main (codes "b")) the_plain worked_folder without_b (goes-out worked worked_layout (λ item. true) chain_of [] worked_folder all_kept worked-writable (main (codes "b")) the_plain refl (nodes 1 ∷ nodes 0 ∷ []) [] refl 0xA0E1 alone_b)
 
+pub b-unlisted : IsRemovalDone worked_folder (nodes 2) (unlisted worked_folder (nodes 2))
+b-unlisted = out-of-list worked worked_layout (λ item. true) chain_of [] worked_folder all_kept worked-writable (main (codes "b")) the_plain refl (nodes 1 ∷ nodes 0 ∷ []) [] refl 0xA0E1 alone_b
+
 -- what is at rest without it is found
 b_is_not_found : Finds (rest (doomed 0 worked (Some plain_object))) without_b
 b_is_not_found = (removing-doomed worked worked_layout [] worked_folder without_b 0 plain_object the_plain worked-keeps.entries refl refl refl refl).1 removed_b.removing
@@ -198,7 +201,7 @@ part_is_not_found : Finds (rest (without (single (codes "a") 0 ∷ []) worked)) 
 part_is_not_found = (removing-part worked worked_layout [] worked_folder without_part 1 0 sparse_object the_part worked-keeps.entries refl refl refl).1 removed_part.removing
 
 -- nor was it once its node was out of the list
-part-unlisted : IsRemovalDone worked_folder (nodes 1) (unlisted worked_folder (nodes 1))
+pub part-unlisted : IsRemovalDone worked_folder (nodes 1) (unlisted worked_folder (nodes 1))
 part-unlisted = out-of-list worked worked_layout (λ item. true) chain_of [] worked_folder all_kept worked-writable (part (codes "a") 0) the_part refl [] (nodes 0 ∷ nodes 2 ∷ []) refl 0xB6C alone_part
 
 part_is_out : IsPartOut worked worked_layout (codes "a") 0 (unlisted worked_folder (nodes 1))
