@@ -1,15 +1,14 @@
 -- A record that goes out of the list and out of its chain loads as before, and once its state is 2 it loads as that of a doomed object.
-use Rattle.std.proofs.Common.{◌≡◌, ◌⊎◌, inl, ℕ, List, [], ◌∷◌, refl, ap, sym, ◌∙◌, subst, true, false, Ok, Some}
+use Rattle.std.proofs.Common.{◌≡◌, ℕ, [], ◌∷◌, refl, sym, subst, true, false, Ok, Some}
 use Rattle.blk_image.specs.Footprint.{SameOutside}
 use Rattle.blk_image.specs.Image.{Image}
-use Rattle.blk_format.specs.Claims.{Claim, claims_of, has_claim, repeats}
+use Rattle.blk_format.specs.Claims.{claims_of, has_claim, repeats}
 use Rattle.blk_format.specs.Records.{entry_is_sealed}
 use Rattle.blk_format.specs.Sealed.{record_range}
-use Rattle.blk_volume.specs.Footprint.{OnlyLinksChange, SameExceptAt}
 use Rattle.blk_volume.specs.ListImages.{IsWritable}
 use Rattle.blk_volume.specs.Loads.{Loaded, all_claims, load, unchained_rule}
-use Rattle.blk_volume.specs.View.{RecordFields, entry_at, list_of, store_of}
-use Rattle.blk_laws.proofs.states.OthersHold.{another-state, records-outside, records-unlinked}
+use Rattle.blk_volume.specs.View.{entry_at, list_of, store_of}
+use Rattle.blk_laws.proofs.states.OthersHold.{another-state, records-outside}
 use Rattle.blk_laws.proofs.walks.Loads.{load-then}
 use Rattle.blk_kept.specs.Arranging.{LeavesFiles}
 use Rattle.blk_kept.specs.Changes.{ChangesOnly}

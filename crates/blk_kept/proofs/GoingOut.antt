@@ -1,21 +1,20 @@
 -- Where a folder can be written, an item whose record is alone in its chain can go out: the steps of the removal of its node, and then the word of its bucket. So the laws on items that go out speak of something.
-use Rattle.std.proofs.Common.{◌≡◌, ⊎_elim, ℕ, ◌+◌, ◌<◌, ◌≤◌, List, [], ◌∷◌, ◌++◌, refl, ap, sym, ◌∙◌, subst, arith, lit<, Bool, Option, Some, true, false}
+use Rattle.std.proofs.Common.{◌≡◌, ⊎_elim, ℕ, ◌<◌, List, [], ◌∷◌, ◌++◌, refl, ap, sym, subst, arith, lit<, Bool, Option, Some, true, false}
 use Rattle.std.specs.Prelude.{◌&&◌, ◌==◌, filter}
 use Rattle.std.specs.Option.{option_map_or}
 use Rattle.std.proofs.lemmas.Bool.{cases_Bool, eqb-true}
 use Rattle.std.proofs.lemmas.Bool.Decides.{nat_tests}
 use Rattle.blk_image.specs.Bytes.{word_bytes}
 use Rattle.blk_image.specs.Footprint.{SameOutside, one_word}
-use Rattle.blk_image.specs.Image.{Image, Index, byte, length_of, word}
+use Rattle.blk_image.specs.Image.{Image, Index, length_of}
 use Rattle.blk_image.specs.Steps.{Word, after, applied}
 use Rattle.blk_image.proofs.Footprints.{outside_write}
 use Rattle.blk_image.proofs.Images.{length-after_write, word-after_same}
 use Rattle.blk_image.proofs.Runs.{until_last}
-use Rattle.blk_model.specs.Items.{Item, main}
+use Rattle.blk_model.specs.Items.{Item}
 use Rattle.blk_model.specs.State.{State}
 use Rattle.blk_format.specs.BlockFiles.{IsWellFormed, is_among}
-use Rattle.blk_format.specs.Claims.{Claim}
-use Rattle.blk_format.specs.Headers.{place_of_bucket, table_length}
+use Rattle.blk_format.specs.Headers.{place_of_bucket}
 use Rattle.blk_format.proofs.Finished.{whole_index}
 use Rattle.blk_volume.specs.Chains.{IsChain, Linked, bucket_of_hash, is_of_bucket}
 use Rattle.blk_volume.specs.Completion.{remove}

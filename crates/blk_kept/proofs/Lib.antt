@@ -76,7 +76,9 @@ pub mod WorkedMarks
 pub mod RecordSteps
 pub mod DoomSteps
 pub mod WorkedDooms
+pub mod WorkedRecord
 pub mod WorkedCreate
+pub mod WorkedCut
 pub mod WorkedExternals
 pub mod WorkedParts
 pub mod WorkedStops

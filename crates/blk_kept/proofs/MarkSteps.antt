@@ -1,5 +1,5 @@
 -- Where a folder can be written, the dirty word of a node that checks can: at each word of its sealed update, and in the end. So the laws on dirty words speak of something.
-use Rattle.std.proofs.Common.{◌≡◌, ◌⊎◌, inl, inr, ⊎_elim, ℕ, ◌+◌, ◌<◌, ◌≤◌, ◌^◌, List, [], ◌∷◌, All, refl, ap, sym, ◌∙◌, subst, arith, Bool, Some, true, false}
+use Rattle.std.proofs.Common.{◌≡◌, inl, inr, ⊎_elim, ℕ, ◌+◌, ◌<◌, ◌≤◌, ◌^◌, [], ◌∷◌, All, refl, ap, sym, ◌∙◌, arith, Bool, Some, true}
 use Rattle.std.specs.Prelude.{if◌then◌else◌, ◌==◌, ◌&&◌}
 use Rattle.std.proofs.lemmas.List.Elements.{All-cons, All-nil}
 use Rattle.blk_image.specs.Image.{Image}
@@ -7,10 +7,9 @@ use Rattle.blk_image.specs.Steps.{after}
 use Rattle.blk_image.specs.Told.{Along}
 use Rattle.blk_image.proofs.Runs.{some_inj, until_last}
 use Rattle.blk_format.specs.Address.{kind_of, rankings}
-use Rattle.blk_format.specs.Sealed.{AreChanges, IsMidUpdate, seal_place, sealed_steps}
+use Rattle.blk_format.specs.Sealed.{IsMidUpdate, seal_place, sealed_steps}
 use Rattle.blk_format.proofs.SealedRecords.{moments, node_seal, updated, whole_update}
 use Rattle.blk_volume.specs.ListImages.{IsWritable}
-use Rattle.blk_volume.specs.ListSteps.{IsSealed}
 use Rattle.blk_volume.specs.ShownChanges.{ChangesInside, OnlyNodeFieldsChange}
 use Rattle.blk_volume.specs.View.{NodeFields, list_of, node_at, node_fields_at, stands_as, store_of}
 use Rattle.blk_laws.proofs.claims.Inside.{updates-inside}

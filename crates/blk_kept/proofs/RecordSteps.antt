@@ -1,5 +1,5 @@
 -- Where a folder can be written, the fields of a record that checks can: it is sealed then, its fields are the written ones, and nothing else changes. So the laws on records that change speak of something.
-use Rattle.std.proofs.Common.{◌≡◌, ◌≢◌, ◌⊎◌, inl, inr, ℕ, ◌+◌, ◌<◌, ◌≤◌, ◌^◌, List, [], ◌∷◌, All, length, take, refl, ap, sym, ◌∙◌, subst, arith, lit<, Bool, Some, true}
+use Rattle.std.proofs.Common.{◌≡◌, ◌≢◌, inl, inr, ℕ, ◌+◌, ◌<◌, ◌≤◌, List, [], ◌∷◌, All, length, take, refl, ap, sym, ◌∙◌, subst, arith, lit<, Bool, Some, true}
 use Rattle.std.specs.Prelude.{◌%◌, ◌==◌, ◌&&◌, nat_le}
 use Rattle.std.proofs.lemmas.Bool.{and_parts, eq-eqb, leb-true}
 use Rattle.std.proofs.Math.Seq.{take-length}
@@ -16,7 +16,7 @@ use Rattle.blk_format.specs.Address.{block_count, blocks_256, byte_size, externa
 use Rattle.blk_format.specs.BlockFiles.{linked_as, max_entries_in, stands_in}
 use Rattle.blk_format.specs.Claims.{claims_of, has_claim}
 use Rattle.blk_format.specs.Hash.{hash}
-use Rattle.blk_format.specs.Records.{Entry, entry_body, entry_checks, entry_in, entry_is_sealed, seal_of}
+use Rattle.blk_format.specs.Records.{Entry, entry_body, entry_in, entry_is_sealed, seal_of}
 use Rattle.blk_format.specs.Sealed.{AreChanges, IsMidUpdate, IsUpdated, record_at, record_range, record_size, seal_place, sealed_steps}
 use Rattle.blk_format.specs.Standing.{is_linked_as, stands_as_blocks}
 use Rattle.blk_format.proofs.Bodies.{entry_body-in, range-add}
@@ -25,7 +25,7 @@ use Rattle.blk_format.proofs.SealedRecords.{entry_bytes, length-record, moments,
 use Rattle.blk_volume.specs.ListImages.{IsWritable}
 use Rattle.blk_volume.specs.ShownChanges.{OnlyRecordFieldsChange}
 use Rattle.blk_volume.specs.View.{RecordFields, entry_at, fields_at, fields_of, stands_as, store_of}
-use Rattle.blk_laws.specs.RecordUpdates.{IsRecord, sealed_fields}
+use Rattle.blk_laws.specs.RecordUpdates.{sealed_fields}
 use Rattle.blk_laws.proofs.chains.ChainWords.{record_checks}
 use Rattle.blk_laws.proofs.claims.ByteChanges.{stands-blocks}
 use Rattle.blk_laws.proofs.lists.WriteSteps.{writable-sealed}

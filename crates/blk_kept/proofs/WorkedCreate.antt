@@ -1,50 +1,41 @@
 -- In the worked folder the doomed object is closed, and made anew by a Create, in the blocks of its record and its node that are unlinked then.
-use Rattle.std.proofs.Common.{◌≡◌, ◌≢◌, inl, inr, ℕ, ◌+◌, ◌*◌, ◌<◌, ◌≤◌, ◌^◌, List, [], ◌∷◌, ◌++◌, All, length, refl, ap, sym, ◌∙◌, subst, arith, lit<, lit≤, Bool, true, false, Ok, None, Some, codes}
-use Rattle.std.specs.Prelude.{◌%◌, ◌==◌, ◌||◌, if◌then◌else◌, map}
+use Rattle.std.proofs.Common.{◌≡◌, ℕ, ◌+◌, ◌<◌, ◌≤◌, ◌^◌, List, [], ◌∷◌, ◌++◌, length, refl, ap, sym, ◌∙◌, subst, arith, lit<, lit≤, Bool, true, false, None, Some, codes}
+use Rattle.std.specs.Prelude.{◌||◌, map}
 use Rattle.std.proofs.lemmas.Nat.{mod_below}
-use Rattle.std.proofs.lemmas.List.Elements.{All-cons, All-nil}
-use Rattle.blk_image.specs.Bytes.{range_at, spliced, word_bytes, words_at, zeros}
+use Rattle.blk_image.specs.Bytes.{spliced, word_bytes, zeros}
 use Rattle.blk_image.specs.Footprint.{SameOutside, one_word}
-use Rattle.blk_image.specs.Image.{Block, Image, Index, byte, length_of, word}
-use Rattle.blk_image.specs.Steps.{Word, after, applied, with_word, with_words}
+use Rattle.blk_image.specs.Image.{Block, Image, Index, length_of}
+use Rattle.blk_image.specs.Steps.{Word, after, applied, with_word}
 use Rattle.blk_image.proofs.Footprints.{outside_write}
 use Rattle.blk_image.proofs.Images.{length-after_write, word-after_same}
 use Rattle.blk_image.proofs.Runs.{until_last}
-use Rattle.blk_model.specs.Items.{main}
 use Rattle.blk_model.specs.Request.{to_close, to_create}
 use Rattle.blk_model.specs.State.{IsValidState, State}
 use Rattle.blk_model.specs.Step.{step}
 use Rattle.blk_model.proofs.Computing.{computing}
 use Rattle.blk_model.proofs.Steps.{step_valid}
 use Rattle.blk_model.proofs.StopRows.{codes_are_bytes}
-use Rattle.blk_format.specs.Address.{block_count, block_place, block_size, blocks_256, external_number, file_selector, first_block, kind_of, place}
+use Rattle.blk_format.specs.Address.{block_count, block_place, block_size, external_number, file_selector, first_block, kind_of, place}
 use Rattle.blk_format.specs.BlockFiles.{is_among}
 use Rattle.blk_format.specs.Claims.{BlockOf, Claim, claims_of, claims_of_all, has_claim, repeats, same_claim}
-use Rattle.blk_format.specs.Hash.{hash, mixed, of_bytes, of_four, of_one, of_three, of_two}
+use Rattle.blk_format.specs.Hash.{hash}
 use Rattle.blk_format.specs.Headers.{place_of_bucket}
-use Rattle.blk_format.specs.Records.{Entry, entry_body, entry_checks, entry_in, entry_is_sealed, node_in, node_is_sealed}
-use Rattle.blk_format.specs.Sealed.{AreChanges, record_at, record_range, seal_place, size_by_kind}
-use Rattle.blk_format.specs.Storage.{entry_blocks, is_storage}
+use Rattle.blk_format.specs.Records.{entry_in}
 use Rattle.blk_format.proofs.Finished.{whole_index}
 use Rattle.blk_volume.specs.Chains.{bucket_of_hash, file_and_block}
 use Rattle.blk_volume.specs.Completion.{insert}
 use Rattle.blk_volume.specs.Creation.{with_new}
-use Rattle.blk_volume.specs.Entries.{IsPlain, is_key_length, role_of, stored_key, stored_stream, stored_streams}
 use Rattle.blk_volume.specs.Layout.{Layout}
 use Rattle.blk_volume.specs.ListImages.{HasListAtRest, IsWritable, operation_steps, walked}
 use Rattle.blk_volume.specs.ListPlans.{writes_of}
 use Rattle.blk_volume.specs.ListView.{CanBeInserted, ListView, put}
-use Rattle.blk_volume.specs.Loads.{Loaded, all_claims, load, record_claims, unchained_rule}
-use Rattle.blk_volume.specs.ShownChanges.{OnlyRecordFieldsChange}
+use Rattle.blk_volume.specs.Loads.{Loaded, all_claims, record_claims}
 use Rattle.blk_volume.specs.Sound.{words_of}
-use Rattle.blk_volume.specs.View.{NodeFields, RecordFields, block_bytes, entry_at, fields_at, fields_of, follow_at, key_place_at, list_of, node_at, node_fields_at, stands_as, store_of, stored_at, view_of}
+use Rattle.blk_volume.specs.View.{RecordFields, entry_at, follow_at, list_of, store_of, view_of}
 use Rattle.blk_laws.specs.IndexWrites.{IsIndexWord}
-use Rattle.blk_laws.specs.RecordUpdates.{sealed_fields}
 use Rattle.blk_laws.proofs.lists.WriteSteps.{writes-go_on}
 use Rattle.blk_laws.proofs.states.Central.{walk-order}
 use Rattle.blk_laws.proofs.updates.IndexWords.{buckets-unchecked, buckets-written}
-use Rattle.blk_laws.proofs.updates.Updates.{entry-seal}
-use Rattle.blk_laws.proofs.walks.Loading.{load-from}
 use Rattle.blk_kept.specs.Commands.{MayStop}
 use Rattle.blk_kept.specs.CounterLaws.{counted_bytes}
 use Rattle.blk_kept.specs.CreateStops.{IsCreating}
@@ -56,11 +47,11 @@ use Rattle.blk_kept.proofs.CreateStops.{creates-counted, inserts-stop, links-sto
 use Rattle.blk_kept.proofs.DoneSteps.{insert-done}
 use Rattle.blk_kept.proofs.Free.{standing-at, unlinked-change}
 use Rattle.blk_kept.proofs.OneCalls.{closes-of-doomed-unlink}
-use Rattle.blk_kept.proofs.RecordSteps.{fields-are, rewritten, rewritten-fields, rewritten-leaves, rewritten-only, rewritten-outside, rewritten-sealed, rewritten-writable}
+use Rattle.blk_kept.proofs.RecordSteps.{fields-are}
 use Rattle.blk_kept.proofs.WorkedFolder.{short_folder}
 use Rattle.blk_kept.proofs.WorkedKept.{same-bytes, worked-id, worked-keeps, worked-represents, worked_folder}
 use Rattle.blk_kept.proofs.WorkedMarks.{doomed-placed, doomed_checks}
-use Rattle.blk_kept.proofs.WorkedRemovals.{worked-writable}
+use Rattle.blk_kept.proofs.WorkedRecord.{emptied, emptied-are, emptied-entry, emptied-leaves, emptied-loads, emptied-only, emptied-sealed, emptied-writable, emptied-written, emptied_fields, emptied_folder, its-hash}
 use Rattle.blk_kept.proofs.WorkedState.{doomed_object, nodes, records, the_doomed, worked, worked-valid, worked_layout}
 
 -- ---- the doomed object is closed
@@ -76,130 +67,11 @@ closed-keeps = closes-of-doomed-unlink worked worked_layout [] worked_folder 100
 
 -- ---- its record becomes that of a new object: state 0, and no stream
 
-abbrev doomed_fields : RecordFields
-doomed_fields = record { checks = true; hash = 0xF4C73EBF; rankings_node = nodes 3; state = 2; key_len = 1; long_key = 0; data_size = 3 ∷ 0 ∷ 0 ∷ 0 ∷ []; data_addr = 0xA0010005 ∷ 0 ∷ 0 ∷ 0 ∷ []; flags = 0 }
-
-short-fields : fields_of (entry_at short_folder (records 3)) ≡ doomed_fields
-unfolding short_folder zeros with_word spliced file_selector kind_of first_block place block_place block_size entry_checks entry_is_sealed entry_in entry_body words_at hash mixed of_bytes of_four
-short-fields = refl
-
-doomed-entry : (store_of worked_folder).entry (records 3) ≡ Some doomed_fields
-unfolding store_of fields_at
-doomed-entry = rw ((standing-at worked_folder worked worked_layout worked-represents (nodes 3) the_doomed refl).record_)
-    (ap (λ (f : ℕ → ℕ). Some (fields_of (entry_in f (place (records 3))))) (same-bytes (Block (file_selector (records 3)))) ∙ ap (λ (e : RecordFields). Some e) short-fields)
-
-abbrev fresh_words : List (ℕ × ℕ)
-fresh_words = (20, 0) ∷ (40, 0) ∷ (56, 0) ∷ []
-
-its-kind : kind_of (records 3) ≡ blocks_256
-unfolding kind_of
-its-kind = refl
-
-three-words : (P : ℕ × ℕ → Type 0) → P (20, 0) → P (40, 0) → P (56, 0) → All P fresh_words
-three-words P a b c = All-cons P (20, 0) ((40, 0) ∷ (56, 0) ∷ []) a (All-cons P (40, 0) ((56, 0) ∷ []) b (All-cons P (56, 0) [] c (All-nil P)))
-
-are-changes : AreChanges (seal_place (records 3)) fresh_words
-are-changes = let s = entry-seal (records 3) its-kind in record {
-  few = omega arith;
-  aligned = three-words (λ c. c.0 % 4 ≡ 0) refl refl refl;
-  before = three-words (λ c. c.0 < seal_place (records 3)) (omega (arith, s)) (omega (arith, s)) (omega (arith, s));
-  different = (
-    All-cons (λ (c : ℕ × ℕ). c.0 ≢ 20) (40, 0) ((56, 0) ∷ []) (omega arith) (All-cons (λ (c : ℕ × ℕ). c.0 ≢ 20) (56, 0) [] (omega arith) (All-nil (λ (c : ℕ × ℕ). c.0 ≢ 20))),
-    (All-cons (λ (c : ℕ × ℕ). c.0 ≢ 40) (56, 0) [] (omega arith) (All-nil (λ (c : ℕ × ℕ). c.0 ≢ 40)), (All-nil (λ (c : ℕ × ℕ). c.0 ≢ 56), tt)),
-  );
-}
-
-before-seal : All (λ (c : ℕ × ℕ). c.0 + 4 ≤ seal_place (records 3)) fresh_words
-before-seal = let s = entry-seal (records 3) its-kind in three-words (λ c. c.0 + 4 ≤ seal_place (records 3)) (omega (arith, s)) (omega (arith, s)) (omega (arith, s))
-
-behind-next : All (λ (c : ℕ × ℕ). 8 ≤ c.0) fresh_words
-behind-next = three-words (λ c. 8 ≤ c.0) (omega arith) (omega arith) (omega arith)
-
 abbrev entry_folder : Image
-entry_folder = rewritten worked_folder (records 3) fresh_words
-
-written : OnlyRecordFieldsChange (records 3) worked_folder entry_folder × ((store_of entry_folder).entry (records 3) ≡ Some (sealed_fields (with_words fresh_words (record_at worked_folder (records 3)))))
-written = rewritten-fields worked_folder (records 3) doomed_fields worked-writable doomed-entry refl fresh_words are-changes before-seal behind-next
-
--- the entry of a new object `c`
-abbrev fresh_fields : RecordFields
-fresh_fields = record doomed_fields { state = 0; data_size = 0 ∷ 0 ∷ 0 ∷ 0 ∷ []; data_addr = 0 ∷ 0 ∷ 0 ∷ 0 ∷ [] }
+entry_folder = emptied_folder 0
 
 abbrev fresh : Loaded
-fresh = record the_doomed { streams = [] ∷ [] ∷ [] ∷ []; others = 0 ∷ 0 ∷ 0 ∷ 0 ∷ 0 ∷ [] }
-
-same-record : record_at worked_folder (records 3) ≡ record_at short_folder (records 3)
-unfolding record_at
-same-record = ap (λ (f : ℕ → ℕ). range_at f (place (records 3)) (size_by_kind (kind_of (records 3)))) (same-bytes (Block (file_selector (records 3))))
-
-fresh-are : sealed_fields (with_words fresh_words (record_at short_folder (records 3))) ≡ fresh_fields
-unfolding record_at range_at size_by_kind short_folder zeros with_word spliced file_selector kind_of first_block place block_place block_size entry_in words_at
-fresh-are = refl
-
-fresh-entry : (store_of entry_folder).entry (records 3) ≡ Some fresh_fields
-fresh-entry = written.1 ∙ ap (λ (bytes : List ℕ). Some (sealed_fields (with_words fresh_words bytes))) same-record ∙ ap (λ (f : RecordFields). Some f) fresh-are
-
-short-key : range_at (block_bytes short_folder (records 3)) (place (records 3) + 96) 1 ≡ codes "c"
-unfolding range_at short_folder zeros with_word spliced file_selector kind_of first_block place block_place block_size
-short-key = refl
-
-right-length : is_key_length (records 3) doomed_fields ≡ true
-unfolding is_key_length block_count entry_blocks
-right-length = refl
-
-key-is : (store_of entry_folder).key_place (records 3) 1 ≡ codes "c"
-unfolding store_of key_place_at
-key-is = sym (written.0.rest.key_place (records 3) doomed_fields (inr refl) doomed-entry right-length refl)
-    ∙ ap (λ (f : ℕ → ℕ). range_at f (place (records 3) + 96) 1) (same-bytes (Block (file_selector (records 3)))) ∙ short-key
-
-short-node : (let n : NodeFields = record { contents = (node_at short_folder (nodes 3)).contents; dirty = (node_at short_folder (nodes 3)).dirty } in n) ≡ record { contents = records 3; dirty = 7 }
-unfolding short_folder zeros with_word spliced file_selector kind_of first_block place block_place block_size node_in
-short-node = refl
-
-node-is : (store_of entry_folder).node_fields (nodes 3) ≡ Some (record { contents = records 3; dirty = 7 })
-unfolding store_of node_fields_at
-node-is = sym (written.0.rest.node_fields (nodes 3)) ∙ rw ((standing-at worked_folder worked worked_layout worked-represents (nodes 3) the_doomed refl).node)
-    (ap (λ (f : ℕ → ℕ). let n : NodeFields = record { contents = (node_in f (place (nodes 3))).contents; dirty = (node_in f (place (nodes 3))).dirty } in Some n) (same-bytes (Block (file_selector (nodes 3)))) ∙ ap (λ (n : NodeFields). Some n) short-node)
-
-no-stream : (store_of entry_folder).stored 0 0 ≡ Some []
-unfolding store_of stored_at is_storage
-no-stream = refl
-
-fresh-streams : stored_streams (store_of entry_folder) fresh_fields ≡ Some ([] ∷ [] ∷ [] ∷ [])
-unfolding stored_streams stored_stream
-fresh-streams = rw no-stream refl
-
-fresh-key : stored_key (store_of entry_folder) (records 3) fresh_fields ≡ Some (codes "c")
-unfolding stored_key
-fresh-key = ap (λ (k : List ℕ). Some k) key-is
-
-its-length : is_key_length (records 3) fresh_fields ≡ true
-unfolding is_key_length block_count entry_blocks
-its-length = refl
-
-its-hash : hash (codes "c") ≡ 0xF4C73EBF
-unfolding hash mixed of_bytes of_one
-its-hash = refl
-
-fresh-role : role_of fresh_fields (codes "c") ([] ∷ [] ∷ [] ∷ []) ≡ Some IsPlain
-unfolding role_of
-fresh-role = refl
-
-fresh-loads : load (store_of entry_folder) (unchained_rule 0) (nodes 3) ≡ Ok fresh
-fresh-loads = load-from (store_of entry_folder) (unchained_rule 0) (nodes 3) fresh (record { contents = records 3; dirty = 7 }) fresh_fields (record {
-  node = node-is;
-  entry = fresh-entry;
-  checks = refl;
-  facts = record {
-    keyed = record { state = refl; back = refl; flags = refl; clean = refl; key_length = its-length; key = fresh-key; hashed = rw its-hash refl; chained = refl };
-    streams = fresh-streams;
-    role = fresh-role;
-    node_is = refl;
-    contents_is = refl;
-    dirty_is = refl;
-    others_are = refl;
-  };
-})
+fresh = emptied
 
 -- ---- it is that of a Create
 
@@ -236,7 +108,7 @@ fresh-once = refl
 
 entry-kept : KeepsUncounted closed closed_layout (words_of fresh ++ 0xA0010005 ∷ []) entry_folder
 entry-kept = unlinked-change (has_claim (claims_of (records 3))) (words_of the_doomed) worked_folder entry_folder record-unlinked
-    (rewritten-only worked_folder (records 3) doomed_fields worked-writable doomed-entry refl fresh_words are-changes before-seal behind-next) closed closed_layout [] closed-keeps.entries
+    (emptied-only 0 emptied-are.0) closed closed_layout [] closed-keeps.entries
 
 nothing-there : closed_layout.at (nodes 3) ≡ None
 unfolding put
@@ -255,24 +127,16 @@ short-next = refl
 
 no-next : (store_of entry_folder).chain_next (records 3) ≡ 0
 unfolding store_of follow_at
-no-next = sym (written.0.chain_next (records 3)) ∙ rw ((standing-at worked_folder worked worked_layout worked-represents (nodes 3) the_doomed refl).record_) (ap (λ (f : ℕ → ℕ). (entry_in f (place (records 3))).next) (same-bytes (Block (file_selector (records 3)))) ∙ short-next)
-
--- a record of data_1 touches no node
-in-nodes : (i : ℕ) → (record_range (records 3)).bytes (Block (file_selector (nodes 3))) i ≡ false
-unfolding file_selector
-in-nodes i = refl
+no-next = sym ((emptied-written 0 emptied-are.0).0.chain_next (records 3)) ∙ rw ((standing-at worked_folder worked worked_layout worked-represents (nodes 3) the_doomed refl).record_) (ap (λ (f : ℕ → ℕ). (entry_in f (place (records 3))).next) (same-bytes (Block (file_selector (records 3)))) ∙ short-next)
 
 pub new-entry : IsNewEntryOf closed closed_layout (codes "c") fresh entry_folder
 unfolding computing
 new-entry = record {
-  entry = record { loads = fresh-loads; key_is = refl; role = refl; streams = refl; dirty = refl; nobody = nothing-there; free = λ claim has. closed-keeps.entries.unlinked_words.free claim (among-unlinked claim has); single = fresh-once };
+  entry = record { loads = emptied-loads 0 emptied-are.0; key_is = refl; role = refl; streams = refl; dirty = refl; nobody = nothing-there; free = λ claim has. closed-keeps.entries.unlinked_words.free claim (among-unlinked claim has); single = fresh-once };
   prefix = record { follows = no-next ∙ sym empty-bucket ∙ ap (store_of entry_folder).table (sym its-bucket); fresh = ap (λ (b : ℕ). is_among (map file_and_block (closed_layout.chains b)) (file_and_block (records 3))) its-bucket };
-  good = ap (λ (l : ListView). l.checks (nodes 3)) written.0.rest.list ∙ doomed_checks;
-  sealed = record {
-    node = ap (λ (f : ℕ → ℕ). node_is_sealed (node_in f (place (nodes 3)))) (λ j i. (rewritten-outside worked_folder (records 3) doomed_fields worked-writable doomed-entry refl fresh_words are-changes before-seal behind-next).bytes (Block (file_selector (nodes 3))) i (in-nodes i) j) ∙ (worked-keeps.entries.sealed (nodes 3) the_doomed refl).node;
-    entry = rewritten-sealed worked_folder (records 3) doomed_fields worked-writable doomed-entry refl fresh_words are-changes before-seal behind-next;
-  };
-  mark = sym ((rewritten-leaves worked_folder (records 3) doomed_fields worked-writable doomed-entry refl fresh_words are-changes before-seal behind-next).session.id ∙ worked-id);
+  good = ap (λ (l : ListView). l.checks (nodes 3)) (emptied-written 0 emptied-are.0).0.rest.list ∙ doomed_checks;
+  sealed = emptied-sealed 0 emptied-are.0;
+  mark = sym ((emptied-leaves 0 emptied-are.0).session.id ∙ worked-id);
   few = omega arith;
   missing = refl;
 }
@@ -297,7 +161,7 @@ creating = record {
 -- ---- its node comes into the list, its record into its chain, and it is counted
 
 entry-writable : IsWritable entry_folder
-entry-writable = rewritten-writable worked_folder (records 3) doomed_fields worked-writable doomed-entry refl fresh_words are-changes before-seal behind-next
+entry-writable = emptied-writable 0 emptied-are.0
 
 walks : walked entry_folder ≡ nodes 1 ∷ nodes 0 ∷ nodes 2 ∷ []
 unfolding computing
@@ -336,11 +200,11 @@ listed-long = whole_index listed_folder (inserted.partly.well_formed entry-kept.
 listed-writable : IsWritable listed_folder
 listed-writable = until_last IsWritable IsWritable (operation_steps insert (nodes 3) entry_folder) entry_folder (writes-go_on entry_folder (writes_of insert (nodes 3) (list_of entry_folder)) entry-writable)
 
-listed-entry : (store_of listed_folder).entry (records 3) ≡ Some fresh_fields
-listed-entry = sym (inserted.partly.shown.store.store.entry (records 3) (λ claim has. refl)) ∙ fresh-entry
+listed-entry : (store_of listed_folder).entry (records 3) ≡ Some (emptied_fields 0)
+listed-entry = sym (inserted.partly.shown.store.store.entry (records 3) (λ claim has. refl)) ∙ emptied-entry 0 emptied-are.0
 
 bucket-is : bucket_at listed_folder (records 3) ≡ 0x3EBF
-bucket-is = ap (λ (f : RecordFields). bucket_of_hash f.hash) (fields-are listed_folder (records 3) fresh_fields listed-writable listed-entry refl)
+bucket-is = ap (λ (f : RecordFields). bucket_of_hash f.hash) (fields-are listed_folder (records 3) (emptied_fields 0) listed-writable listed-entry refl)
 
 link-word : IsIndexWord (place_of_bucket 0x3EBF) (records 3) listed_folder linked_folder
 link-word = index-word-is listed_folder (place_of_bucket 0x3EBF) (records 3) listed-long (lit≤ tt) (lit< tt)

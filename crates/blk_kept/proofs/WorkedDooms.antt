@@ -1,14 +1,13 @@
 -- In the worked folder, once `a` and `b` are open, each is doomed: its items go out, and its record has state 2.
-use Rattle.std.proofs.Common.{◌≡◌, ◌⊎◌, inl, inr, ⊎_elim, ℕ, ◌+◌, ◌<◌, List, [], ◌∷◌, ◌++◌, refl, ap, sym, ◌∙◌, subst, arith, lit<, Bool, true, false, None, Ok, Some, codes, replicate}
+use Rattle.std.proofs.Common.{◌≡◌, ◌⊎◌, inl, inr, ⊎_elim, ℕ, List, [], ◌∷◌, ◌++◌, refl, ap, sym, ◌∙◌, subst, arith, Bool, true, false, None, Ok, Some, codes, replicate}
 use Rattle.std.specs.Prelude.{◌==◌}
 use Rattle.std.specs.List.{AllByRecursion}
-use Rattle.blk_image.specs.Footprint.{SameOutside}
 use Rattle.blk_image.specs.Image.{Block, Image, Index, byte}
 use Rattle.blk_image.specs.Steps.{after}
 use Rattle.blk_image.proofs.Runs.{until_last}
 use Rattle.blk_model.specs.Items.{Item, main, part}
 use Rattle.blk_model.specs.Request.{to_doom, to_open}
-use Rattle.blk_model.specs.State.{IsValidState, State}
+use Rattle.blk_model.specs.State.{State}
 use Rattle.blk_model.specs.Step.{step}
 use Rattle.blk_model.proofs.Computing.{computing}
 use Rattle.blk_model.proofs.Doomed.{state_doomed}
@@ -20,22 +19,19 @@ use Rattle.blk_format.specs.Headers.{this_id_of}
 use Rattle.blk_format.specs.Records.{node_in, node_is_sealed}
 use Rattle.blk_format.specs.Sealed.{record_range}
 use Rattle.blk_volume.specs.Footprint.{OnlyLinksChange}
-use Rattle.blk_volume.specs.Layout.{Layout, is_listed}
+use Rattle.blk_volume.specs.Layout.{is_listed}
 use Rattle.blk_volume.specs.ListImages.{HasListAtRest, IsWritable, steps_of_touch}
 use Rattle.blk_volume.specs.ListPlans.{touch_writes}
-use Rattle.blk_volume.specs.ListSteps.{IsSealed}
 use Rattle.blk_volume.specs.Loads.{Loaded, all_claims, load, record_claims, unchained_rule}
 use Rattle.blk_volume.specs.Removal.{is_of_another}
 use Rattle.blk_volume.specs.Sound.{AreSealed, words_of}
-use Rattle.blk_volume.specs.View.{list_of, node_at, store_of}
-use Rattle.blk_laws.specs.CommandLaws.{IsPlacedAsLive}
+use Rattle.blk_volume.specs.View.{list_of, store_of}
 use Rattle.blk_laws.proofs.lists.WordTurns.{touches-go_on}
 use Rattle.blk_laws.proofs.states.Marking.{repeats-apart}
 use Rattle.blk_laws.proofs.states.OthersHold.{more-left_out, records-unlinked}
 use Rattle.blk_laws.proofs.states.Tidying.{counter-same}
 use Rattle.blk_kept.specs.Arranging.{LeavesFiles}
 use Rattle.blk_kept.specs.DoomLaws.{CanBeDoomed, IsUnchained, layout_doomed}
-use Rattle.blk_kept.specs.GroupLaws.{gone_nodes}
 use Rattle.blk_kept.specs.HeldPartlyOut.{IsHeldOut}
 use Rattle.blk_kept.specs.Keeping.{Keeps, KeepsUncounted}
 use Rattle.blk_kept.specs.ListLaws.{IsTouchDone}
@@ -49,7 +45,6 @@ use Rattle.blk_kept.proofs.GoingOut.{goes-out, out-leaves, out-links, out-of-cha
 use Rattle.blk_kept.proofs.HeldPartlyOut.{held-out-dooms-end}
 use Rattle.blk_kept.proofs.LaidOut.{IsClaimant, claimant, each-item, each-word, looked}
 use Rattle.blk_kept.proofs.Leaving.{leaves-then}
-use Rattle.blk_kept.proofs.Links.{table-sealed}
 use Rattle.blk_kept.proofs.OneCalls.{opens-end-by-touch}
 use Rattle.blk_kept.proofs.OneMoreOut.{leaves, one-more-goes}
 use Rattle.blk_kept.proofs.PartlyFreed.{out-changes}

@@ -1,5 +1,5 @@
 -- In the worked folder an external file is made, and is unlinked then, and deleted again.
-use Rattle.std.proofs.Common.{◌≡◌, ℕ, List, [], ◌∷◌, ◌++◌, refl, lit<, false, true}
+use Rattle.std.proofs.Common.{◌≡◌, ℕ, [], ◌∷◌, refl, lit<, false, true}
 use Rattle.blk_image.specs.Bytes.{word_bytes}
 use Rattle.blk_image.specs.Footprint.{SameOutside, either, one_word, whole}
 use Rattle.blk_image.specs.Image.{External, Image, Index, has_file}
@@ -8,7 +8,7 @@ use Rattle.blk_image.proofs.Footprints.{outside-trans, outside_step, outside_wid
 use Rattle.blk_format.specs.Address.{external, external_number, is_address, is_initialized, kind_of, names_external}
 use Rattle.blk_format.specs.BlockFiles.{stands_in}
 use Rattle.blk_format.specs.Standing.{stands}
-use Rattle.blk_kept.specs.Changes.{AddsExternal, KeepsWith, StillFinds}
+use Rattle.blk_kept.specs.Changes.{AddsExternal, StillFinds}
 use Rattle.blk_kept.specs.ExternalLaws.{IsMakingExternal}
 use Rattle.blk_kept.specs.Keeping.{KeepsUncounted}
 use Rattle.blk_kept.proofs.Externals.{deleted-removed, deleting-finds, made-added, making-finds}

@@ -1,10 +1,9 @@
 -- In the worked folder `b` is opened, unsettled by a Write, and settled again by its Close; and the doomed object is settled.
-use Rattle.std.proofs.Common.{◌≡◌, ℕ, ◌+◌, ◌<◌, List, [], ◌∷◌, refl, ap, sym, ◌∙◌, subst, arith, lit<, Bool, Some, true, false, codes}
-use Rattle.std.specs.Prelude.{◌==◌, ◌&&◌, ◌||◌, nat_lt}
+use Rattle.std.proofs.Common.{◌≡◌, [], refl, sym, ◌∙◌, subst, arith, lit<, Bool, Some, true, false, codes}
+use Rattle.std.specs.Prelude.{◌||◌}
 use Rattle.blk_image.specs.Image.{Image, Index, byte}
 use Rattle.blk_image.specs.Steps.{after}
 use Rattle.blk_image.proofs.Runs.{until_last}
-use Rattle.blk_model.specs.Items.{main}
 use Rattle.blk_model.specs.Request.{to_close, to_open, to_write}
 use Rattle.blk_model.specs.State.{IsValidState, Object, State}
 use Rattle.blk_model.specs.Step.{step}

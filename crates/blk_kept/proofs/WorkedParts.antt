@@ -1,19 +1,19 @@
 -- In the worked folder `a` is unsettled, its part goes, and is made again in its blocks, which are unlinked then.
-use Rattle.std.proofs.Common.{◌≡◌, inl, inr, ℕ, zero, suc, ◌+◌, ◌<◌, ◌≤◌, List, [], ◌∷◌, ◌++◌, refl, ap, sym, ◌∙◌, subst, arith, lit<, lit≤, Bool, true, false, None, Ok, Option, Some, codes}
-use Rattle.std.specs.Prelude.{◌==◌, ◌&&◌, ◌||◌, if◌then◌else◌, map, nat_lt, slice_set}
+use Rattle.std.proofs.Common.{◌≡◌, inl, inr, ℕ, List, [], ◌∷◌, ◌++◌, refl, ap, sym, ◌∙◌, subst, arith, lit<, lit≤, Bool, true, false, None, Ok, Option, Some, codes}
+use Rattle.std.specs.Prelude.{◌||◌, if◌then◌else◌, map, nat_lt, slice_set}
 use Rattle.blk_image.specs.Footprint.{SameOutside}
-use Rattle.blk_image.specs.Image.{Image, Index, byte}
+use Rattle.blk_image.specs.Image.{Image}
 use Rattle.blk_image.specs.Steps.{after}
 use Rattle.blk_image.proofs.Footprints.{outside_wider, within_left}
-use Rattle.blk_model.specs.Items.{IsPartValue, Item, main, part}
+use Rattle.blk_model.specs.Items.{IsPartValue, main, part}
 use Rattle.blk_model.specs.Holding.{rest, row_of}
 use Rattle.blk_model.specs.Room.{single, without}
-use Rattle.blk_model.specs.State.{IsValidState, Object, State}
+use Rattle.blk_model.specs.State.{Object, State}
 use Rattle.blk_model.proofs.Computing.{computing}
 use Rattle.blk_format.specs.Address.{block_count, blocks_256, external_number, file_selector, first_block, kind_of, place, rankings}
 use Rattle.blk_format.specs.BlockFiles.{IsWellFormed, is_among}
-use Rattle.blk_format.specs.Claims.{Claim, claims_of, claims_of_all, has_claim, repeats}
-use Rattle.blk_format.specs.Hash.{hash, mixed, of_bytes, of_four, of_one, of_three, of_two}
+use Rattle.blk_format.specs.Claims.{Claim, claims_of, has_claim, repeats}
+use Rattle.blk_format.specs.Hash.{hash, mixed, of_bytes, of_four}
 use Rattle.blk_format.specs.Headers.{place_of_bucket}
 use Rattle.blk_format.specs.Records.{entry_in, entry_is_sealed, node_checks}
 use Rattle.blk_format.specs.Sealed.{record_range}
@@ -57,7 +57,7 @@ use Rattle.blk_kept.proofs.CountsOfParts.{part-more}
 use Rattle.blk_kept.proofs.Dirtying.{marking-counts}
 use Rattle.blk_kept.proofs.DoneSteps.{insert-done}
 use Rattle.blk_kept.proofs.DoomSteps.{loads-unlisted}
-use Rattle.blk_kept.proofs.GoingOut.{goes-out, out-links, out-of-chain, out-of-list, out-removed, out-sealed, out-store, ready-out, unchained, unlisted}
+use Rattle.blk_kept.proofs.GoingOut.{goes-out, out-links, out-of-list, out-removed, out-sealed, out-store, ready-out, unchained, unlisted}
 use Rattle.blk_kept.proofs.Leaving.{leaves-files, leaves-then}
 use Rattle.blk_kept.proofs.Links.{table-files, table-links, table-sealed}
 use Rattle.blk_kept.proofs.MarkedStates.{marked-valid}

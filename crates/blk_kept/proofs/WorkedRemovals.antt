@@ -1,32 +1,29 @@
 -- In the worked folder items go out: `b`, and so a DoomKey of it; the part alone; and `a`, whose main item and part go out one after the other.
-use Rattle.std.proofs.Common.{◌≡◌, ℕ, zero, suc, ◌<◌, ◌≤◌, List, [], ◌∷◌, ◌++◌, refl, ap, sym, ◌∙◌, subst, arith, lit<, lit≤, Bool, true, false, None, Some, codes}
+use Rattle.std.proofs.Common.{◌≡◌, ℕ, zero, suc, ◌<◌, ◌≤◌, List, [], ◌∷◌, ◌++◌, refl, sym, ◌∙◌, subst, arith, lit<, lit≤, Bool, true, false, Some, codes}
 use Rattle.std.specs.Prelude.{if◌then◌else◌, ◌==◌, filter, not}
-use Rattle.blk_image.specs.Bytes.{spliced, zeros}
-use Rattle.blk_image.specs.Image.{AreBytes, Block, External, File, Image, Index, byte, bytes_of, length_of}
-use Rattle.blk_image.specs.Steps.{after, with_word, with_words}
+use Rattle.blk_image.specs.Bytes.{zeros}
+use Rattle.blk_image.specs.Image.{Block, External, File, Image, Index, bytes_of, length_of}
+use Rattle.blk_image.specs.Steps.{after}
 use Rattle.blk_image.proofs.Splices.{length-zeros}
 use Rattle.blk_image.proofs.Words.{length-with_words}
 use Rattle.blk_model.specs.Effects.{doomed}
 use Rattle.blk_model.specs.Holding.{rest}
 use Rattle.blk_model.specs.Items.{Item, main, part}
-use Rattle.blk_model.specs.Request.{to_doom_key, to_trim}
+use Rattle.blk_model.specs.Request.{to_doom_key}
 use Rattle.blk_model.specs.Room.{single, whole, without}
 use Rattle.blk_model.specs.State.{State}
 use Rattle.blk_model.specs.Step.{step}
 use Rattle.blk_model.proofs.Computing.{computing}
 use Rattle.blk_model.proofs.Doomed.{state_doomed}
 use Rattle.blk_model.proofs.StopRows.{codes_are_bytes}
-use Rattle.blk_format.specs.BlockFiles.{is_among}
 use Rattle.blk_format.specs.Headers.{header_length, index_length}
 use Rattle.blk_format.specs.NewFolder.{new_file_words}
-use Rattle.blk_volume.specs.Layout.{Layout, is_listed}
-use Rattle.blk_volume.specs.ListImages.{HasListAtRest, IsWritable, steps_of_touch}
-use Rattle.blk_volume.specs.Loads.{Loaded}
+use Rattle.blk_volume.specs.Layout.{is_listed}
+use Rattle.blk_volume.specs.ListImages.{IsWritable, steps_of_touch}
 use Rattle.blk_volume.specs.Removal.{is_of_another, without_items}
 use Rattle.blk_volume.specs.Sound.{words_of}
 use Rattle.blk_laws.proofs.examples.ExampleWrites.{small-zeros}
 use Rattle.blk_laws.proofs.updates.Fronts.{AreSmall, small-words}
-use Rattle.blk_kept.specs.Arranging.{LeavesFiles}
 use Rattle.blk_kept.specs.Changes.{Finds}
 use Rattle.blk_kept.specs.Commands.{MayStop}
 use Rattle.blk_kept.specs.GroupLaws.{IsLess, gone_nodes, layout_less}
@@ -35,7 +32,7 @@ use Rattle.blk_kept.specs.ListLaws.{IsTouchDone, with_used}
 use Rattle.blk_kept.specs.PartlyOut.{IsOneMoreOut, KeepsPartlyOut, chains_but, keeps_but}
 use Rattle.blk_kept.specs.PartlyOutStops.{LeavesOtherKeys}
 use Rattle.blk_kept.specs.PlainRemovals.{IsRemoved}
-use Rattle.blk_kept.specs.RemovalLaws.{IsRemovalDone, IsWithout, chains_without, layout_removed}
+use Rattle.blk_kept.specs.RemovalLaws.{IsRemovalDone, IsWithout, layout_removed}
 use Rattle.blk_kept.specs.WholeRemovals.{IsWholeOut, layout_without_key, words_of_key}
 use Rattle.blk_kept.specs.WordStops.{IsPartOut}
 use Rattle.blk_kept.proofs.ChangedStates.{unheld-go, unheld-less}
@@ -44,14 +41,14 @@ use Rattle.blk_kept.proofs.GoingOut.{IsAloneIn, goes-out, holds-between, out-of-
 use Rattle.blk_kept.proofs.LaidOut.{each-item}
 use Rattle.blk_kept.proofs.Leaving.{leaves-then}
 use Rattle.blk_kept.proofs.OneMoreOut.{leaves, one-more-goes}
-use Rattle.blk_kept.proofs.OutGroups.{out-groups-gone, unheld-out-dooms-end}
+use Rattle.blk_kept.proofs.OutGroups.{unheld-out-dooms-end}
 use Rattle.blk_kept.proofs.PartlyOut.{kept-begin, only-listed, partly-out-ends}
-use Rattle.blk_kept.proofs.PartlyOutStops.{next-parts-find, own-items-leave, partly-out-dooms-stop, partly-out-finds}
+use Rattle.blk_kept.proofs.PartlyOutStops.{next-parts-find, own-items-leave, partly-out-dooms-stop}
 use Rattle.blk_kept.proofs.PartsOut.{part-out}
-use Rattle.blk_kept.proofs.PlainRemovals.{doomed-removed, lone-parts-go, part-removed, plain-groups-go, removing-doomed, removing-part, unheld-dooms-end}
+use Rattle.blk_kept.proofs.PlainRemovals.{doomed-removed, part-removed, plain-groups-go, removing-doomed, removing-part, unheld-dooms-end}
 use Rattle.blk_kept.proofs.Removals.{removed-unlinked}
 use Rattle.blk_kept.proofs.Touched.{touch-counts}
-use Rattle.blk_kept.proofs.WholeRemovals.{unheld-whole-dooms-end, whole-removed}
+use Rattle.blk_kept.proofs.WholeRemovals.{whole-removed}
 use Rattle.blk_kept.proofs.WorkedFolder.{data_words, index_words, nodes_words, records_words, short_folder}
 use Rattle.blk_kept.proofs.WorkedKept.{same-bytes, worked-keeps, worked_folder}
 use Rattle.blk_kept.proofs.WorkedState.{chain_of, nodes, plain_object, records, sparse_object, the_parent, the_part, the_plain, worked, worked_layout}

@@ -1,35 +1,32 @@
 -- In the worked folder requests may be stopped: an Open, a Read, and a Doom, and while an item goes out.
-use Rattle.std.proofs.Common.{◌≡◌, ◌⊎◌, inl, ℕ, List, [], ◌∷◌, ◌++◌, refl, sym, subst, arith, lit<, Bool, true, false, Some, codes}
+use Rattle.std.proofs.Common.{◌≡◌, [], ◌∷◌, refl, lit<, false, Some, codes}
 use Rattle.std.specs.Prelude.{if◌then◌else◌, nat_lt, slice_set}
 use Rattle.blk_image.specs.Image.{Image}
 use Rattle.blk_image.specs.Steps.{after}
 use Rattle.blk_model.specs.Effects.{doomed, with_slot}
 use Rattle.blk_model.specs.Holding.{rest, row_of}
-use Rattle.blk_model.specs.Items.{main, main_row, part, plain}
+use Rattle.blk_model.specs.Items.{main, main_row, plain}
 use Rattle.blk_model.specs.Request.{to_open, to_read}
 use Rattle.blk_model.specs.Room.{single, without}
-use Rattle.blk_model.specs.State.{Object, State}
+use Rattle.blk_model.specs.State.{Object}
 use Rattle.blk_model.specs.Step.{step}
 use Rattle.blk_model.proofs.Computing.{computing}
-use Rattle.blk_model.proofs.StopRows.{codes_are_bytes}
 use Rattle.blk_volume.specs.Layout.{OneChanged}
 use Rattle.blk_volume.specs.ListImages.{HasListAtRest, steps_of_touch}
 use Rattle.blk_volume.specs.View.{store_of}
-use Rattle.blk_laws.proofs.updates.IndexWords.{same-shown}
 use Rattle.blk_kept.specs.Changes.{Finds}
 use Rattle.blk_kept.specs.Commands.{MayStop}
-use Rattle.blk_kept.specs.Keeping.{Keeps, KeepsUncounted}
-use Rattle.blk_kept.specs.ListLaws.{IsTouchDone, with_used}
+use Rattle.blk_kept.specs.Keeping.{Keeps}
+use Rattle.blk_kept.specs.ListLaws.{IsTouchDone}
 use Rattle.blk_kept.specs.OneCallLaws.{Names}
 use Rattle.blk_kept.specs.PlainRemovals.{IsRemoving}
-use Rattle.blk_kept.specs.RemovalLaws.{IsRemovalDone, IsUnlinking}
 use Rattle.blk_kept.proofs.ChangedStates.{main-changed}
 use Rattle.blk_kept.proofs.DoneSteps.{touch-done}
 use Rattle.blk_kept.proofs.GoingOut.{chain-same, unlisted}
 use Rattle.blk_kept.proofs.OneCalls.{reads-end-by-touch, reads-stop}
 use Rattle.blk_kept.proofs.PartsOut.{parts-find}
 use Rattle.blk_kept.proofs.PlainRemovals.{removing-doomed}
-use Rattle.blk_kept.proofs.Touching.{opens-stop, touches-find}
+use Rattle.blk_kept.proofs.Touching.{opens-stop}
 use Rattle.blk_kept.proofs.WordStops.{dooms-find}
 use Rattle.blk_kept.proofs.WorkedKept.{worked-keeps, worked_folder}
 use Rattle.blk_kept.proofs.WorkedMarks.{opened, opened-keeps, opened-writable, opened_folder}

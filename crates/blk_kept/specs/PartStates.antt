@@ -2,7 +2,7 @@
 use Rattle.std.specs.Prelude.{◌≡◌, ℕ, ◌<◌, true, false, Some, is_some, not, slice_set}
 use Rattle.std.specs.Ordering.{nat_cmp}
 use Rattle.std.specs.FinMap.{put}
-use Rattle.blk_model.specs.Items.{IsPartValue, PartValue, Shape, Streams, is_sparse, main, main_row, part, part_row, same_item}
+use Rattle.blk_model.specs.Items.{IsPartValue, PartValue, is_sparse, part, part_row, same_item}
 use Rattle.blk_model.specs.Sizes.{part_count}
 use Rattle.blk_model.specs.State.{IsValidState, Object, State, object_at, part_at}
 use Rattle.blk_model.specs.Holding.{row_of}
