@@ -82,3 +82,4 @@ pub mod WorkedCut
 pub mod WorkedExternals
 pub mod WorkedParts
 pub mod WorkedStops
+pub mod WorkedFreed

@@ -102,7 +102,7 @@ unfolding worked_folder
 same-bytes file = λ j i. ((longer-same long_records 3 4202496 third-longer).bytes file i refl ∙ (longer-same long_nodes 1 270336 second-longer).bytes file i refl ∙ (longer-same short_folder 0 45056 first-longer).bytes file i refl) j
 
 -- each file is as long as its blocks
-worked-lengths : (length_of worked_folder (Block 0) ≡ 45056) × (length_of worked_folder (Block 1) ≡ 270336) × (length_of worked_folder (Block 2) ≡ 8192) × (length_of worked_folder (Block 3) ≡ 4202496)
+pub worked-lengths : (length_of worked_folder (Block 0) ≡ 45056) × (length_of worked_folder (Block 1) ≡ 270336) × (length_of worked_folder (Block 2) ≡ 8192) × (length_of worked_folder (Block 3) ≡ 4202496)
 unfolding worked_folder
 worked-lengths = (
   (longer-same long_records 3 4202496 third-longer).lengths (Block 0) refl ∙ (longer-same long_nodes 1 270336 second-longer).lengths (Block 0) refl ∙ length-after_set_len short_folder (Block 0) 45056,
@@ -147,7 +147,7 @@ unfolding next_file_in
 same-next n = ap next_file_of (same-bytes (Block n)) ∙ short-next n
 
 -- the first four are linked, each as its kind
-linked-are : (n : ℕ) → linked_as worked_folder n ≡ (if nat_lt n 4 then Some (n + 1) else None)
+pub linked-are : (n : ℕ) → linked_as worked_folder n ≡ (if nat_lt n 4 then Some (n + 1) else None)
 linked-are n = same-links whole_folder worked_folder same-next n ∙ whole-linked n
 
 below : (n : ℕ) → is_some (linked_as worked_folder n) ≡ true → n < 4
@@ -248,6 +248,9 @@ no-groups : EmptyAgrees worked_folder 2
 unfolding EmptyAgrees groups_with
 no-groups i few = ap (λ (f : ℕ → ℕ). empty_of f i) (same-bytes (Block 2)) ∙ no-counts i few ∙ rw (same-counts 2 ∙ short-counts.2) refl
 
+pub worked-counts : max_entries_in worked_folder 3 ≡ 1024
+worked-counts = same-counts 3 ∙ short-counts.3
+
 worked-empty : (n : ℕ) → n < 4 → EmptyAgrees worked_folder n
 worked-empty zero small = some-groups 0 small (same-counts 0 ∙ short-counts.0) refl
 worked-empty (suc zero) small = some-groups 1 small (same-counts 1 ∙ short-counts.1) refl
@@ -258,7 +261,7 @@ worked-empty (suc (suc (suc (suc n)))) small = absurd (omega arith)
 abbrev its_words : List ℕ
 its_words = flat_map words_of (loaded_at worked_layout (order worked worked_layout ++ doomed_nodes worked_layout (2 ∷ [])))
 
-short-counters : (n : ℕ) → n < 4 → (allocations_of (byte short_folder (Block n)) ≡ count_by (is_in_file n) its_words) × (updating_of (byte short_folder (Block n)) ≡ 0)
+pub short-counters : (n : ℕ) → n < 4 → (allocations_of (byte short_folder (Block n)) ≡ count_by (is_in_file n) its_words) × (updating_of (byte short_folder (Block n)) ≡ 0)
 unfolding short_folder zeros with_word spliced is_in_file kind_of file_selector
 short-counters zero small = (refl, refl)
 short-counters (suc zero) small = (refl, refl)

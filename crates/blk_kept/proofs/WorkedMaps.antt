@@ -54,7 +54,7 @@ first-words (suc (suc zero)) small = (refl, refl, refl, refl)
 first-words (suc (suc (suc zero))) small = (refl, refl, refl, refl)
 first-words (suc (suc (suc (suc n)))) small = absurd (omega arith)
 
-later-words : (n k : ℕ) → n < 4 → 84 ≤ k → k < 8192 → byte short_folder (Block n) k ≡ 0
+pub later-words : (n k : ℕ) → n < 4 → 84 ≤ k → k < 8192 → byte short_folder (Block n) k ≡ 0
 unfolding short_folder
 later-words zero k small low high = later-zero nodes_words 8336 k refl low high
 later-words (suc zero) k small low high = later-zero records_words 10240 k refl low high
