@@ -1,8 +1,7 @@
 -- In the worked folder the blocks of the sparse object's index are freed, the only allocation of their file; and seen the other way, allocated.
-use Rattle.std.proofs.Common.{◌≡◌, ◌≢◌, ◌⊎◌, inl, inr, ⊎_elim, ℕ, zero, suc, ◌+◌, ◌*◌, ◌/◌, ◌%◌, ◌<◌, ◌≤◌, List, [], ◌∷◌, ◌++◌, All, length, refl, ap, sym, ◌∙◌, subst, arith, lit<, lit≤, Bool, true, false, Some}
+use Rattle.std.proofs.Common.{◌≡◌, ◌≢◌, ⊎_elim, ℕ, zero, suc, ◌+◌, ◌*◌, ◌/◌, ◌%◌, ◌<◌, ◌≤◌, List, [], ◌∷◌, ◌++◌, All, length, refl, ap, sym, ◌∙◌, subst, arith, lit<, lit≤, Bool, true, false, Some}
 use Rattle.std.specs.Prelude.{◌==◌, ◌&&◌, ◌||◌, filter, is_some, nat_le, nat_lt, not}
-use Rattle.std.specs.Int.{bit_at}
-use Rattle.std.proofs.lemmas.Bool.{cases_Bool, cases_lt, eqb-true}
+use Rattle.std.proofs.lemmas.Bool.{cases_lt}
 use Rattle.std.proofs.lemmas.Bool.Decides.{nat_tests}
 use Rattle.std.proofs.lemmas.List.Elements.{All-nil}
 use Rattle.std.proofs.lemmas.Nat.Bits.{bit_at-zero}
@@ -14,9 +13,9 @@ use Rattle.blk_image.proofs.Footprints.{same_word_outside, steps_inside}
 use Rattle.blk_image.proofs.Images.{length-after_write, same_file-true, word-after_other, word-after_same}
 use Rattle.blk_image.proofs.Runs.{until_last}
 use Rattle.blk_image.proofs.Words.{same-word_at}
-use Rattle.blk_format.specs.Address.{external, file_selector, kind_of}
+use Rattle.blk_format.specs.Address.{file_selector, kind_of}
 use Rattle.blk_format.specs.BlockFiles.{IsWellFormed, block_checks, is_among, is_block_count, linked_as, max_entries_in, next_file_in, stands_in}
-use Rattle.blk_format.specs.Claims.{BlockOf, repeats}
+use Rattle.blk_format.specs.Claims.{BlockOf, is_in_file, repeats}
 use Rattle.blk_format.specs.Growth.{StaysWhole}
 use Rattle.blk_format.specs.Headers.{allocations_of, empty_of, head_checks, is_extent_place, list_checks, updating_of}
 use Rattle.blk_format.specs.Maps.{AreAllocations, EmptyAgrees, are_free, groups_of, groups_with, has_run, is_block_marked, is_block_marked_at, longest_run}
@@ -26,11 +25,13 @@ use Rattle.blk_format.proofs.Keeping.{none_both, none_parts, undamaged_still}
 use Rattle.blk_laws.proofs.claims.ByteChanges.{same-links}
 use Rattle.blk_laws.proofs.claims.ClaimLists.{no-claim}
 use Rattle.blk_laws.proofs.claims.Files.{headers-change}
-use Rattle.blk_kept.specs.AllocationLaws.{AreFreed, KeepsFile}
-use Rattle.blk_kept.specs.Changes.{RemovesAllocation}
-use Rattle.blk_kept.proofs.Freed.{freed-removed}
+use Rattle.blk_kept.specs.AllocationLaws.{AreAllocated, AreFreed, KeepsFile}
+use Rattle.blk_kept.specs.Changes.{AddsAllocation, RemovesAllocation}
+use Rattle.blk_kept.specs.Keeping.{IsMapped, all_loaded, words_in_use}
+use Rattle.blk_kept.proofs.Freed.{allocated-added, freed-removed}
 use Rattle.blk_kept.proofs.WorkedFolder.{short_folder}
-use Rattle.blk_kept.proofs.WorkedKept.{same-bytes, short-counters, worked-counts, worked-lengths, worked_folder}
+use Rattle.blk_kept.proofs.WorkedKept.{same-bytes, linked-are, short-counters, worked-counts, worked-files, worked-keeps, worked-lengths, worked_folder}
+use Rattle.blk_kept.proofs.WorkedState.{worked, worked_layout}
 use Rattle.blk_kept.proofs.WorkedMaps.{later-words}
 
 -- the word of the three blocks
@@ -117,8 +118,8 @@ zero-byte k low high = ⊎_elim
     (λ (near : k < 84). ⊎_elim (λ (a : k < 81). let e : k ≡ 80 = omega arith in rw e bytes.0) (λ (a : 81 ≤ k). ⊎_elim (λ (b : k < 82). let e : k ≡ 81 = omega arith in rw e bytes.1) (λ (b : 82 ≤ k). ⊎_elim (λ (c : k < 83). let e : k ≡ 82 = omega arith in rw e bytes.2) (λ (c : 83 ≤ k). let e : k ≡ 83 = omega arith in rw e bytes.3) (cases_lt k 83)) (cases_lt k 82)) (cases_lt k 81))
     (λ (far : 84 ≤ k). same.bytes (Block 3) k (clear 3 k (grind (arith, nat_tests))) ∙ ap (λ (f : ℕ → ℕ). f k) (same-bytes (Block 3)) ∙ later-words 3 k (lit< tt) far high)
     (cases_lt k 84) where
-  bytes : (byte freed_folder (Block 3) 80 ≡ 0) × (byte freed_folder (Block 3) 81 ≡ 0) × (byte freed_folder (Block 3) 82 ≡ 0) × (byte freed_folder (Block 3) 83 ≡ 0)
-  bytes = let z = none-marked in (omega (arith, z), omega (arith, z), omega (arith, z), omega (arith, z))
+      bytes : (byte freed_folder (Block 3) 80 ≡ 0) × (byte freed_folder (Block 3) 81 ≡ 0) × (byte freed_folder (Block 3) 82 ≡ 0) × (byte freed_folder (Block 3) 83 ≡ 0)
+      bytes = let z = none-marked in (omega (arith, z), omega (arith, z), omega (arith, z), omega (arith, z))
 
 unmarked : (b : ℕ) → b < 64896 → is_block_marked freed_folder 3 b ≡ false
 unmarked b small = rw (zero-byte (80 + b / 8) (omega arith) (omega arith), bit_at-zero (b % 8)) refl
@@ -250,3 +251,66 @@ index_is_freed = record {
 
 pub index_is_removed : RemovesAllocation worked_folder index_word freed_folder
 index_is_removed = freed-removed worked_folder freed_folder index_word index_is_freed
+
+-- ---- allocated, the other way round
+
+back : SameOutside touched freed_folder worked_folder
+back = record { bytes = λ file i out. sym (same.bytes file i out); lengths = λ file out. sym (same.lengths file out); files = λ file out. sym (same.files file out) }
+
+linked-3 : linked_as worked_folder 3 ≡ Some 4
+linked-3 = linked-are 3
+
+its-map : IsMapped worked_folder (words_in_use [] (all_loaded worked worked_layout (2 ∷ []))) 3
+its-map = worked-files.mapped 3 (ap is_some linked-3)
+
+one-word : filter (is_in_file 3) (words_in_use [] (all_loaded worked worked_layout (2 ∷ []))) ≡ index_word ∷ []
+unfolding is_in_file kind_of file_selector
+one-word = refl
+
+its-allocation : AreAllocations worked_folder 3 (index_word ∷ [])
+its-allocation = subst (AreAllocations worked_folder 3) one-word its-map.allocations
+
+none-before : (words : List ℕ) → AreAllocations freed_folder 3 words → words ≡ []
+none-before [] are = refl
+none-before (x ∷ xs) are = absurd (let c : ◌≡◌ {A = ℕ} 0 (suc (length xs)) = sym none-allocated ∙ are.counted in omega (arith, c))
+
+back-file : (n : ℕ) → n ≢ 3 → KeepsFile freed_folder worked_folder n
+unfolding EmptyAgrees
+back-file n apart = record {
+  allocations = λ words are. record {
+    stand = subst (λ (f : ℕ → Bool). All (λ w. f w ≡ true) words) stands-same are.stand;
+    here = are.here;
+    apart = are.apart;
+    marks = λ b small. ap (λ (f : ℕ → ℕ). is_block_marked_at f b) (sym (same-file n apart)) ∙ are.marks b small;
+    counted = ap allocations_of (sym (same-file n apart)) ∙ are.counted;
+  };
+  empty = λ agrees i small. ap (λ (f : ℕ → ℕ). empty_of f i) (sym (same-file n apart)) ∙ agrees i small
+      ∙ ap (λ (f : ℕ → ℕ). groups_with (is_block_marked_at f) (groups_of (max_entries_in freed_folder n)) (i + 1)) (same-file n apart)
+      ∙ ap (λ (m : ℕ). groups_with (is_block_marked worked_folder n) (groups_of m) (i + 1)) (blocks-same n);
+}
+
+index_is_allocated : AreAllocated freed_folder index_word worked_folder
+unfolding kind_of file_selector
+index_is_allocated = record {
+  block_kind = λ e. (let z : ◌≡◌ {A = ℕ} 4 0 = e in cc);
+  footprint = touched;
+  same = back;
+  index = λ i. refl;
+  apart = λ n i other late. elsewhere n i other;
+  sizes = λ n other. refl;
+  linked = λ n other. sym (linked-same n);
+  allocations = λ there words are. subst (λ (ws : List ℕ). AreAllocations worked_folder 3 (index_word ∷ ws)) (sym (none-before words are)) its-allocation;
+  fresh = λ none. its-allocation;
+  empty = its-map.empty;
+  updating = its-map.updating;
+  stands = its-allocation.stand 0 0 (omega arith);
+  long_enough = worked-keeps.entries.files.long_enough 3 4 linked-3;
+  elsewhere = λ n other linked. back-file n other;
+  stays = record {
+    grown = headers-change touched freed_folder worked_folder (record { index = λ i shown. refl; extents = extents; suffix = λ n i late. clear n i (grind (arith, nat_tests)); externals = λ n i. refl; external_sizes = λ n. refl }) back (λ n. let l = same.lengths (Block n) refl in omega (arith, l));
+    formed = λ well. worked-keeps.entries.well_formed;
+  };
+}
+
+index_is_added : AddsAllocation freed_folder index_word worked_folder
+index_is_added = allocated-added freed_folder worked_folder index_word (still-formed worked-keeps.entries.well_formed) index_is_allocated

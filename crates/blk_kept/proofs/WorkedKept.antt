@@ -32,9 +32,9 @@ use Rattle.blk_laws.proofs.claims.Files.{growth-keeps}
 use Rattle.blk_laws.proofs.claims.Growing.{longer-grown}
 use Rattle.blk_laws.proofs.examples.ExampleFolders as folders
 use Rattle.blk_laws.proofs.examples.WholeFolder.{whole-linked, whole_folder}
-use Rattle.blk_kept.specs.Keeping.{IsInSession, Keeps}
+use Rattle.blk_kept.specs.Keeping.{AreFiles, IsInSession, Keeps, all_loaded, words_in_use}
 use Rattle.blk_kept.proofs.LaidOut.{IsClaimant, claimant, is-owned, looked}
-use Rattle.blk_kept.proofs.Opened.{opened-kept}
+use Rattle.blk_kept.proofs.Opened.{files-are, opened-kept}
 use Rattle.blk_kept.proofs.WorkedFolder.{short-represents, short-well_formed, short_folder}
 use Rattle.blk_kept.proofs.WorkedMaps.{groups-are, marks-are, used_blocks}
 use Rattle.blk_kept.proofs.WorkedState.{all_four, doomed_object, only-doomed, plain_object, sparse_object, their-claims, worked, worked-valid, worked_layout}
@@ -298,6 +298,10 @@ worked-tidy = record {
   num_bytes = ap num_bytes_of (same-bytes Index) ∙ index-counts.2;
   sealed = λ node loaded here. seals-same loaded (looked (λ w l. AreSealed short_folder l) all_four all-sealed node loaded here);
 }
+
+-- the files are those of the words of what lies there
+pub worked-files : AreFiles worked_folder (words_in_use [] (all_loaded worked worked_layout (2 ∷ [])))
+worked-files = files-are worked_folder worked worked_layout (2 ∷ []) worked-represents worked-owned worked-tidy
 
 -- ---- the session
 
