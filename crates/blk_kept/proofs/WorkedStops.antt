@@ -1,16 +1,20 @@
 -- In the worked folder requests may be stopped: an Open, a Read, and a Doom, and while an item goes out.
-use Rattle.std.proofs.Common.{◌≡◌, [], ◌∷◌, refl, lit<, false, Some, codes}
+use Rattle.std.proofs.Common.{◌≡◌, [], ◌∷◌, refl, sym, subst, lit<, false, None, Some, codes}
 use Rattle.std.specs.Prelude.{if◌then◌else◌, nat_lt, slice_set}
 use Rattle.blk_image.specs.Image.{Image}
 use Rattle.blk_image.specs.Steps.{after}
-use Rattle.blk_model.specs.Effects.{doomed, with_slot}
+use Rattle.blk_model.specs.Effects.{doomed, effect, with_slot}
 use Rattle.blk_model.specs.Holding.{rest, row_of}
 use Rattle.blk_model.specs.Items.{main, main_row, plain}
+use Rattle.blk_model.specs.Reply.{answer_of}
 use Rattle.blk_model.specs.Request.{to_open, to_read}
 use Rattle.blk_model.specs.Room.{single, without}
-use Rattle.blk_model.specs.State.{Object}
-use Rattle.blk_model.specs.Step.{step}
+use Rattle.blk_model.specs.State.{Object, State}
+use Rattle.blk_model.specs.Step.{reply, step}
+use Rattle.blk_model.specs.Refusals.{evicted}
 use Rattle.blk_model.proofs.Computing.{computing}
+use Rattle.blk_model.proofs.StopRests.{rest_before}
+use Rattle.blk_image.proofs.Runs.{some_inj}
 use Rattle.blk_volume.specs.Layout.{OneChanged}
 use Rattle.blk_volume.specs.ListImages.{HasListAtRest, steps_of_touch}
 use Rattle.blk_volume.specs.View.{store_of}
@@ -18,11 +22,14 @@ use Rattle.blk_kept.specs.Changes.{Finds}
 use Rattle.blk_kept.specs.Commands.{MayStop}
 use Rattle.blk_kept.specs.Keeping.{Keeps}
 use Rattle.blk_kept.specs.ListLaws.{IsTouchDone}
+use Rattle.blk_kept.specs.CommandStates.{with_room}
+use Rattle.blk_kept.specs.StageLaws.{FindsLeft, HasEffect}
 use Rattle.blk_kept.specs.OneCallLaws.{Names}
 use Rattle.blk_kept.specs.PlainRemovals.{IsRemoving}
 use Rattle.blk_kept.proofs.ChangedStates.{main-changed}
 use Rattle.blk_kept.proofs.DoneSteps.{touch-done}
 use Rattle.blk_kept.proofs.GoingOut.{chain-same, unlisted}
+use Rattle.blk_kept.proofs.Keeping.{kept-found}
 use Rattle.blk_kept.proofs.OneCalls.{reads-end-by-touch, reads-stop}
 use Rattle.blk_kept.proofs.PartsOut.{parts-find}
 use Rattle.blk_kept.proofs.PlainRemovals.{removing-doomed}
@@ -58,6 +65,22 @@ read_stops = reads-stop opened worked_layout [] opened_folder read_folder 100 6 
 
 read_ends : Keeps (step opened 100 (to_read 6 0 0 2)).state worked_layout [] read_folder
 read_ends = reads-end-by-touch opened worked_layout [] opened_folder read_folder 100 6 0 0 2 0 plain_object opened-keeps (unfold computing in refl) read_names refl read_touches
+
+-- it has its effect, with the map's answer
+read-effect : effect 100 (to_read 6 0 0 2) (with_room opened 100 (to_read 6 0 0 2)) ≡ (step opened 100 (to_read 6 0 0 2)).state
+unfolding computing
+read-effect = refl
+
+read_has_effect : HasEffect (λ m image. Keeps m worked_layout [] image) (record { files = Some read_folder; trail = None }) 100 (to_read 6 0 0 2) (answer_of (reply (to_read 6 0 0 2) (evicted 100 (to_read 6 0 0 2) opened) opened)) opened
+read_has_effect = record {
+  passes = unfold computing in refl;
+  answered = refl;
+  kept = λ image is. subst (λ (i : Image). Keeps (effect 100 (to_read 6 0 0 2) (with_room opened 100 (to_read 6 0 0 2))) worked_layout [] i) (some_inj is) (subst (λ (m : State). Keeps m worked_layout [] read_folder) (sym read-effect) read_ends);
+}
+
+-- before its first word what a stop may leave is found
+read_finds_left : FindsLeft opened 100 (to_read 6 0 0 2) opened_folder
+read_finds_left = record { held = rest opened; left = rest_before opened 100 (to_read 6 0 0 2) opened-keeps.entries.valid; finds = (opened-keeps.entries.well_formed, kept-found opened worked_layout [] opened_folder opened-keeps.entries) }
 
 -- ---- removals
 
