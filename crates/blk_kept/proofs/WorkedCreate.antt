@@ -22,7 +22,7 @@ use Rattle.blk_format.specs.Hash.{hash}
 use Rattle.blk_format.specs.Headers.{place_of_bucket}
 use Rattle.blk_format.specs.Records.{entry_in}
 use Rattle.blk_format.proofs.Finished.{whole_index}
-use Rattle.blk_volume.specs.Chains.{bucket_of_hash, file_and_block}
+use Rattle.blk_volume.specs.Chains.{bucket_of_hash, file_and_block, bucket_at}
 use Rattle.blk_volume.specs.Completion.{insert}
 use Rattle.blk_volume.specs.Creation.{with_new}
 use Rattle.blk_volume.specs.Layout.{Layout}
@@ -42,7 +42,7 @@ use Rattle.blk_kept.specs.CreateStops.{IsCreating}
 use Rattle.blk_kept.specs.CommandStates.{with_room}
 use Rattle.blk_kept.specs.GoneLaws.{layout_without}
 use Rattle.blk_kept.specs.Keeping.{Keeps, KeepsUncounted}
-use Rattle.blk_kept.specs.NewEntryLaws.{IsInsertDone, IsLinkedInFront, IsNewEntryOf, bucket_at}
+use Rattle.blk_kept.specs.NewEntryLaws.{IsInsertDone, HasRecordInFront, IsNewEntryOf}
 use Rattle.blk_kept.proofs.CreateStops.{creates-counted, inserts-stop, links-stop}
 use Rattle.blk_kept.proofs.DoneSteps.{insert-done}
 use Rattle.blk_kept.proofs.Free.{standing-at, unlinked-change}
@@ -209,7 +209,7 @@ bucket-is = ap (λ (f : RecordFields). bucket_of_hash f.hash) (fields-are listed
 link-word : IsIndexWord (place_of_bucket 0x3EBF) (records 3) listed_folder linked_folder
 link-word = index-word-is listed_folder (place_of_bucket 0x3EBF) (records 3) listed-long (lit≤ tt) (lit< tt)
 
-linked : IsLinkedInFront listed_folder (records 3) linked_folder
+linked : HasRecordInFront listed_folder (records 3) linked_folder
 linked = record {
   list = (buckets-written listed_folder linked_folder 0x3EBF (records 3) link-word).0;
   store = (buckets-written listed_folder linked_folder 0x3EBF (records 3) link-word).1 ∙ ap (λ (b : ℕ). record (store_of listed_folder) { table = put (store_of listed_folder).table b (records 3) }) (sym bucket-is);

@@ -18,14 +18,14 @@ use Rattle.blk_format.specs.BlockFiles.{IsWellFormed, block_checks, is_among, is
 use Rattle.blk_format.specs.Claims.{BlockOf, is_in_file, repeats}
 use Rattle.blk_format.specs.Growth.{StaysWhole}
 use Rattle.blk_format.specs.Headers.{allocations_of, empty_of, head_checks, is_extent_place, list_checks, updating_of}
-use Rattle.blk_format.specs.Maps.{AreAllocations, EmptyAgrees, are_free, groups_of, groups_with, has_run, is_block_marked, is_block_marked_at, longest_run}
+use Rattle.blk_format.specs.Maps.{AreAllocations, EmptyAgrees, are_free, groups_of, groups_with, has_run, is_block_marked, is_block_marked_at, longest_run, KeepsFile}
 use Rattle.blk_format.specs.Standing.{stands}
 use Rattle.blk_format.proofs.Groups.{groups_same}
 use Rattle.blk_format.proofs.Keeping.{none_both, none_parts, undamaged_still}
 use Rattle.blk_laws.proofs.claims.ByteChanges.{same-links}
 use Rattle.blk_laws.proofs.claims.ClaimLists.{no-claim}
 use Rattle.blk_laws.proofs.claims.Files.{headers-change}
-use Rattle.blk_kept.specs.AllocationLaws.{AreAllocated, AreFreed, KeepsFile}
+use Rattle.blk_kept.specs.AllocationLaws.{AreAllocated, AreFreed}
 use Rattle.blk_kept.specs.Changes.{AddsAllocation, RemovesAllocation}
 use Rattle.blk_kept.specs.Keeping.{IsMapped, all_loaded, words_in_use}
 use Rattle.blk_kept.proofs.Freed.{allocated-added, freed-removed}

@@ -47,7 +47,7 @@ use Rattle.blk_kept.specs.Changes.{Finds}
 use Rattle.blk_kept.specs.CountsOfParts.{IsPartMore}
 use Rattle.blk_kept.specs.Keeping.{Keeps, KeepsUncounted}
 use Rattle.blk_kept.specs.NewEntryLaws.{IsInsertDone}
-use Rattle.blk_kept.specs.NewPartLaws.{IsMidPart, IsPartWritten, with_bit, with_part}
+use Rattle.blk_kept.specs.NewPartLaws.{IsMidPart, IsPartWritten, with_bit, with_new_part}
 use Rattle.blk_kept.specs.NewPartsKept.{IsMakingPart, IsPartMade}
 use Rattle.blk_kept.specs.PartlyOut.{IsOneMoreOut, KeepsPartlyOut}
 use Rattle.blk_kept.specs.PartStates.{with_value}
@@ -270,7 +270,7 @@ same-shown : ShowsTheSame (store_of bare_folder) (store_of listed_folder)
 same-shown = inserted.partly.shown.store
 
 abbrev all_chains : ℕ → List ℕ
-all_chains = (with_part bare_layout (codes "a") 0 dirty_parent the_part).chains
+all_chains = (with_new_part bare_layout (codes "a") 0 dirty_parent the_part).chains
 
 -- all others are as they were
 mid-part : IsMidPart (store_of linked_folder) bare_layout (codes "a") the_part all_chains
@@ -362,9 +362,9 @@ part_is_made = record {
 }
 
 -- so the state with the part is kept, and its words are unlinked no longer
-part_is_kept : KeepsUncounted (with_first bare objects (part (codes "a") 0)) (with_part bare_layout (codes "a") 0 dirty_parent the_part) [] linked_folder
+part_is_kept : KeepsUncounted (with_first bare objects (part (codes "a") 0)) (with_new_part bare_layout (codes "a") 0 dirty_parent the_part) [] linked_folder
 part_is_kept = parts-kept bare objects bare_layout [] (codes "a") 0 dirty_parent dirty_parent the_part bare_folder linked_folder bare-keeps written (values-keep bare 1 bare_object 0 part_value refl) part_is_made
 
 -- and is one item more
-part_is_more : IsPartMore bare (with_first bare objects (part (codes "a") 0)) bare_layout (with_part bare_layout (codes "a") 0 dirty_parent the_part) dirty_parent dirty_parent the_part
+part_is_more : IsPartMore bare (with_first bare objects (part (codes "a") 0)) bare_layout (with_new_part bare_layout (codes "a") 0 dirty_parent the_part) dirty_parent dirty_parent the_part
 part_is_more = part-more (view_of bare_folder) bare objects bare_layout (codes "a") 0 dirty_parent dirty_parent the_part written
