@@ -1,4 +1,5 @@
 pub mod Loading
+pub mod Readable
 pub mod Reads
 pub mod Reasons
 pub mod Records
