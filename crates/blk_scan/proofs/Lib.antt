@@ -6,3 +6,4 @@ pub mod RecordFacts
 pub mod KeyFacts
 pub mod PartBits
 pub mod VerdictFacts
+pub mod KeyOf

@@ -1,3 +1,4 @@
+pub mod Keyed
 pub mod Loading
 pub mod Readable
 pub mod Reads

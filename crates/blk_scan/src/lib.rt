@@ -8,6 +8,7 @@ mod parts;
 mod reason;
 mod record_words;
 mod roles;
+mod same_keys;
 mod storage;
 mod streams;
 mod words;
@@ -17,6 +18,7 @@ pub use parts::has_part;
 pub use reason::Reason;
 pub use record_words::{RecordWords, read_words};
 pub use roles::Role;
+pub use same_keys::has_this_key;
 
 #[cfg(test)]
 mod tests;

@@ -1,4 +1,4 @@
-use Rattle.std.proofs.Common.{Option, Some, None, sym, ◌∙◌, subst, arith, Bool, true, false, if◌then◌else◌, ℕ, List, ◌≡◌}
+use Rattle.std.proofs.Common.{Option, Some, None, sym, ◌∙◌, subst, arith, Bool, true, false, if◌then◌else◌, ℕ, ◌≡◌}
 use Rattle.std.specs.Prelude.{◌==◌, slice_index}
 use Rattle.std.proofs.lemmas.Bool.Decides.{nat_tests}
 use Rattle.blk_volume.specs.Entries as entries
