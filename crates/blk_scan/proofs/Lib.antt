@@ -7,3 +7,4 @@ pub mod KeyFacts
 pub mod PartBits
 pub mod VerdictFacts
 pub mod KeyOf
+pub mod KeptKeysFound

@@ -1,3 +1,4 @@
+pub mod KeptKeys
 pub mod Keyed
 pub mod Loading
 pub mod Readable

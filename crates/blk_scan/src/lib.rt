@@ -3,6 +3,7 @@
 
 mod covers;
 mod keys;
+mod laws;
 mod loading;
 mod parts;
 mod reason;
@@ -13,6 +14,7 @@ mod storage;
 mod streams;
 mod words;
 
+pub use laws::loaded_keys_are_found;
 pub use loading::{Loaded, Verdict, load, load_words};
 pub use parts::has_part;
 pub use reason::Reason;
