@@ -1,19 +1,22 @@
 -- What is kept of a loaded record leads to its key.
-use Rattle.std.proofs.Common.{◌≡◌, ◌+◌, ℕ, Bool, true, false, if◌then◌else◌, List, length, length-take, take, Option, None, Some, sym, ◌∙◌, ap, subst, arith}
-use Rattle.std.specs.Prelude.{◌==◌, nat_le}
+use Rattle.std.proofs.Common.{◌≡◌, ◌+◌, ℕ, Bool, true, false, if◌then◌else◌, List, length, length-take, take, Option, None, Some, sym, ◌∙◌, ap, subst, arith, drop, ap₂}
+use Rattle.std.specs.Prelude.{◌==◌, nat_le, slice_index}
 use Rattle.std.specs.Option.{option_map}
 use Rattle.blk_image.specs.Bytes.{range_at}
 use Rattle.blk_image.specs.Image.{Block, Image, byte}
 use Rattle.blk_image.proofs.Words.{length-range}
 use Rattle.blk_format.specs.Address.{file_selector, place}
-use Rattle.blk_volume.specs.Entries.{stored_key}
+use Rattle.blk_volume.specs.Entries as entries
+use Rattle.blk_volume.specs.Entries.{stored_key, stream}
 use Rattle.blk_volume.specs.ListView.{first_or}
 use Rattle.blk_volume.specs.Loads.{held_rule}
-use Rattle.blk_volume.specs.View.{RecordFields, key_place_at, stored_at, store_of}
+use Rattle.blk_volume.specs.View.{RecordFields, address_of, data_size_of, key_place_at, stored_at, store_of}
 use Rattle.blk_laws.proofs.walks.Loads.{load-then}
 use Rattle.blk_scan.specs.Keyed.{IsKeyOf}
-use Rattle.blk_scan.specs.KeptKeys.{LoadedKeysAreFound}
-use Rattle.blk_scan.proofs.StreamFacts.{stored_length}
+use Rattle.blk_scan.specs.KeptKeys.{LoadedIndexesAreFound, LoadedKeysAreFound}
+use Rattle.blk_format.specs.SparseIndex.{ParentIndex, read_parent_index}
+use Rattle.blk_scan.proofs.RoleFacts.{index_length, index_of_parent}
+use Rattle.blk_scan.proofs.StreamFacts.{are_stored, stored_length}
 
 -- a stored key has the length that its record says
 key_length : (image : Image) (w : ℕ) (fields : RecordFields) (key : List ℕ) → stored_key (store_of image) w fields ≡ Some key → length key ≡ fields.key_len
@@ -50,3 +53,13 @@ keys-found image node loaded said ok is =
       long_key = ap (first_or 0) (sym (is.others ∙ facts.facts.others_are));
       stored = subst (λ (w : ℕ). stored_key (store_of image) w e ≡ Some loaded.key) entry key;
     })
+
+pub indexes-found : LoadedIndexesAreFound
+indexes-found image node loaded said index ok is parent =
+    load-then {P = (stored_at image 8256 (slice_index said.addrs 2) ≡ Some (stream 2 loaded.streams)) × (read_parent_index (stream 2 loaded.streams) ≡ Some index)} (store_of image) held_rule node loaded ok
+    (λ n e facts.
+    let third = (are_stored image e loaded.streams facts.facts.streams).third in
+    let read = index_of_parent e loaded.key loaded.streams index (facts.facts.role ∙ ap Some parent) in
+    let size : data_size_of e 2 ≡ 8256 = sym (stored_length image _ _ (stream 2 loaded.streams) third) ∙ index_length (stream 2 loaded.streams) index read in
+    let addrs : slice_index e.data_addr 2 ≡ slice_index said.addrs 2 = ap (λ (l : List ℕ). slice_index (drop 1 l) 2) (sym (is.others ∙ facts.facts.others_are)) in
+    (ap₂ (λ (s w : ℕ). stored_at image s w) (sym size) (sym addrs) ∙ third, read))

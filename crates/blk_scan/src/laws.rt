@@ -1,7 +1,8 @@
-// The law of the keys of loaded records, the contract of a function with an empty body.
-ghost use Rattle.blk_scan.specs.KeptKeys.{LoadedKeysAreFound};
+// The laws of loaded records, the contract of a function with an empty body.
+ghost use Rattle.blk_scan.specs.KeptKeys.{LoadedIndexesAreFound, LoadedKeysAreFound};
 
-/// What is kept in memory of a loaded node leads to the key of its record.
+/// What is kept in memory of a loaded node leads to the key of its record, and to the index of a parent.
 pub fn loaded_keys_are_found()
-    ensures { LoadedKeysAreFound }
+    ensures keys { LoadedKeysAreFound }
+    ensures indexes { LoadedIndexesAreFound }
 {}
