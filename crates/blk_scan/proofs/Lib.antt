@@ -6,3 +6,5 @@ pub mod RecordFacts
 pub mod KeyFacts
 pub mod PartBits
 pub mod VerdictFacts
+pub mod KeyOf
+pub mod KeptKeysFound

@@ -3,7 +3,7 @@ use Rattle.std.proofs.Common.{◌≡◌, zero, suc, ◌≤◌, ℕ, Bool, true, 
 use Rattle.std.specs.Prelude.{◌==◌, nat_le, nat_lt, not, slice_index}
 use Rattle.std.specs.Int.{cast_unsigned, w64}
 use Rattle.std.specs.Option.{option_and_then, option_map}
-use Rattle.std.proofs.lemmas.Bool.{eq-eqb}
+use Rattle.std.proofs.lemmas.Bool.{eq-eqb, eqb-true}
 use Rattle.std.proofs.lemmas.Bool.Decides.{nat_tests}
 use Rattle.std.proofs.lemmas.List.{get_or-take, take_all}
 use Rattle.blk_image.specs.Bytes.{content, words_at}
@@ -18,7 +18,7 @@ use Rattle.blk_ranges.specs.PartMaps.{index_of, map_signature}
 use Rattle.blk_ranges.specs.declared.names.ChildName.{ChildName}
 use Rattle.blk_ranges.specs.declared.parent_map.ParentHead.{ParentHead}
 use Rattle.blk_ranges.specs.declared.part_map.PartMap.{PartMap}
-use Rattle.blk_ranges.proofs.ParentIndexes.{index-read, with_bits}
+use Rattle.blk_ranges.proofs.ParentIndexes.{index-read, no-index, with_bits}
 use Rattle.blk_ranges.proofs.Spelling.{joined}
 use Rattle.blk_scan.specs.declared.roles.Role.TheVariants as role
 use Rattle.blk_scan.specs.Roles.{IsRoleIf}
@@ -203,3 +203,75 @@ role_part fields key streams e = let t : (fields.flags == 1) ≡ false = grind (
 pub role_plain : (fields : RecordFields) (key : List ℕ) (streams : List (List ℕ)) → (fields.flags ≡ 1 → ⊥) → (fields.flags ≡ 2 → ⊥) → role_of fields key streams ≡ Some entries.IsPlain
 unfolding role_of
 role_plain fields key streams not_parent not_child = let t : (fields.flags == 1) ≡ false = grind (arith, nat_tests) in let u : (fields.flags == 2) ≡ false = grind (arith, nat_tests) in rw (t, u) refl
+
+-- The index of a parent.
+
+-- the index that a parent's role has is the one that its stream is
+parent_index : (fields : RecordFields) (streams : List (List ℕ)) (index : ParentIndex) → parent_role fields streams ≡ Some (entries.IsParent index) → read_parent_index (stream 2 streams) ≡ Some index
+unfolding with_length
+parent_index fields streams index e = by_zero (length (stream 1 streams) == 0) refl
+  where
+    none_some : None ≡ Some (entries.IsParent index) → ⊥
+    none_some h = cc
+
+    by_length : (t : Bool) (read : ParentIndex) → (if t then Some (entries.IsParent read) else None) ≡ Some (entries.IsParent index) → Some read ≡ Some index
+    by_length true read h = cc
+    by_length false read h = absurd (none_some h)
+
+    by_index : (o : Option ParentIndex) → option_and_then (with_length fields) o ≡ Some (entries.IsParent index) → o ≡ Some index
+    by_index None h = absurd (none_some h)
+    by_index (Some read) h = by_length (read.key_len == fields.key_len) read h
+
+    by_zero : (t : Bool) → (length (stream 1 streams) == 0) ≡ t → read_parent_index (stream 2 streams) ≡ Some index
+    by_zero false h = absurd (none_some (sym (parent_full fields streams h) ∙ e))
+    by_zero true h = by_index (read_parent_index (stream 2 streams)) (sym (parent_by fields streams (read_parent_index (stream 2 streams)) h refl) ∙ e)
+
+-- a part is no parent
+no_parent : (key : List ℕ) (streams : List (List ℕ)) (index : ParentIndex) → part_role key streams ≡ Some (entries.IsParent index) → ⊥
+unfolding goes
+no_parent key streams index e = by_tests (length (stream 0 streams) == 0) (nat_lt 1048576 (length (stream 1 streams))) refl refl
+  where
+    none_some : None ≡ Some (entries.IsParent index) → ⊥
+    none_some h = cc
+
+    part_some : (name : Name) (of : PartIndex) → Some (entries.IsPart name of) ≡ Some (entries.IsParent index) → ⊥
+    part_some name of h = cc
+
+    by_goes : (t : Bool) (name : Name) (of : PartIndex) → (if t then Some (entries.IsPart name of) else None) ≡ Some (entries.IsParent index) → ⊥
+    by_goes true name of h = part_some name of h
+    by_goes false name of h = none_some h
+
+    by_both : (n : Option Name) (o : Option PartIndex) → option_and_then (λ (name : Name). option_and_then (goes name (length (stream 1 streams))) o) n ≡ Some (entries.IsParent index) → ⊥
+    by_both None o h = none_some h
+    by_both (Some name) None h = none_some h
+    by_both (Some name) (Some of) h = by_goes _ name of h
+
+    by_tests : (t u : Bool) → (length (stream 0 streams) == 0) ≡ t → nat_lt 1048576 (length (stream 1 streams)) ≡ u → ⊥
+    by_tests false u et eu = none_some (sym (part_full key streams et) ∙ e)
+    by_tests true true et eu = none_some (sym (part_long key streams eu) ∙ e)
+    by_tests true false et eu = by_both (read_name key) (read_part_index (stream 2 streams)) (sym (part_by key streams (read_name key) (read_part_index (stream 2 streams)) et eu refl refl) ∙ e)
+
+pub index_of_parent : (fields : RecordFields) (key : List ℕ) (streams : List (List ℕ)) (index : ParentIndex) → role_of fields key streams ≡ Some (entries.IsParent index) → read_parent_index (stream 2 streams) ≡ Some index
+index_of_parent fields key streams index e = by_flags (fields.flags == 1) (fields.flags == 2) refl refl
+  where
+    plain_some : Some entries.IsPlain ≡ Some (entries.IsParent index) → ⊥
+    plain_some h = cc
+
+    by_flags : (t u : Bool) → (fields.flags == 1) ≡ t → (fields.flags == 2) ≡ u → read_parent_index (stream 2 streams) ≡ Some index
+    by_flags true u et eu = parent_index fields streams index (sym (role_parent fields key streams (eqb-true _ _ et)) ∙ e)
+    by_flags false true et eu = absurd (no_parent key streams index (sym (role_part fields key streams (eqb-true _ _ eu)) ∙ e))
+    by_flags false false et eu = absurd (plain_some (sym (role_plain fields key streams (λ h. clash (sym et ∙ eq-eqb _ _ h)) (λ h. clash (sym eu ∙ eq-eqb _ _ h))) ∙ e))
+      where
+        clash : false ≡ true → ⊥
+        clash h = cc
+
+-- bytes that are an index have its length
+pub index_length : (bytes : List ℕ) (index : ParentIndex) → read_parent_index bytes ≡ Some index → length bytes ≡ 8256
+index_length bytes index e = by_test (length bytes == 8256) refl
+  where
+    by_test : (t : Bool) → (length bytes == 8256) ≡ t → length bytes ≡ 8256
+    by_test true h = eqb-true _ _ h
+    by_test false h = absurd (clash (no-index bytes h ∙ e))
+      where
+        clash : None ≡ Some index → ⊥
+        clash h = cc

@@ -1,4 +1,7 @@
+pub mod KeptKeys
+pub mod Keyed
 pub mod Loading
+pub mod Readable
 pub mod Reads
 pub mod Reasons
 pub mod Records

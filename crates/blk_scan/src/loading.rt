@@ -16,6 +16,7 @@ ghost use Rattle.blk_io.specs.Faults.{IfDamaged, IfDevice};
 ghost use Rattle.blk_disk.specs.Tables.{Agrees, stands_among};
 ghost use Rattle.blk_audit.specs.Chaining.{reached_by};
 ghost use Rattle.blk_scan.specs.Loading as loading;
+ghost use Rattle.blk_scan.specs.Readable.{IsReadableIf};
 ghost use Rattle.blk_scan.specs.Reads.{IsCutRead};
 ghost use Rattle.blk_scan.specs.Records.{AreWordsOf, fields_said};
 ghost use Rattle.blk_scan.specs.Verdicts.{IsVerdict, loaded_with};
@@ -77,6 +78,7 @@ pub fn load<F: Folder>(
     reached: bool,
 ) -> Result<Verdict, Fault>
     ensures verdict { IfOk result (λ verdict. ForSome (F.told f.old).files (λ image. Agrees files.now image → (store_of image).node_fields node ≡ Some (record { contents = contents; dirty = dirty }) → reached ≡ is_among (reached_by (store_of image) table_length) contents → IsVerdict (shown.load (store_of image) held_rule node) verdict)) }
+    ensures readable { IfOk result (IsReadableIf files.now) }
     ensures stays { Stays (F.told f.old) (F.told f.new) }
     ensures short { IfDamaged result (IsCutRead files.now (F.told f.old)) }
     ensures untold { ForSome (F.told f.old).files (Agrees files.now) → IfDamaged result (λ _. (F.told f.old).files ≡ None) }
@@ -106,6 +108,7 @@ pub fn load_words<F: Folder>(
     requires kind { kind_of entry ≡ blocks_256 }
     requires stands { IsTrue (stands_among files.now entry) }
     ensures verdict { IfOk result (λ verdict. ForSome (F.told f.old).files (λ image. Agrees files.now image → AreWordsOf image entry words.now → (store_of image).node_fields node ≡ Some (record { contents = entry; dirty = dirty }) → reached ≡ is_among (reached_by (store_of image) table_length) entry → IsVerdict (shown.load (store_of image) held_rule node) verdict)) }
+    ensures readable { IfOk result (IsReadableIf files.now) }
     ensures stays { Stays (F.told f.old) (F.told f.new) }
     ensures short { IfDamaged result (IsCutRead files.now (F.told f.old)) }
     ensures untold { ForSome (F.told f.old).files (Agrees files.now) → IfDamaged result (λ _. (F.told f.old).files ≡ None) }
@@ -132,6 +135,7 @@ fn load_data<F: Folder>(
     requires stands { IsTrue (stands_among files.now entry) }
     requires has { may_have entry words.now.key_len ≡ true }
     ensures verdict { IfOk result (λ verdict. ForSome (F.told f.old).files (λ image. (dirty : ℕ) → Agrees files.now image → reached ≡ is_among (chain (store_of image) (bucket_of_hash words.now.hash)).reached entry → IsVerdict (loading.load_data (store_of image) node entry dirty (fields_said words.now)) verdict)) }
+    ensures readable { IfOk result (IsReadableIf files.now) }
     ensures stays { Stays (F.told f.old) (F.told f.new) }
     ensures short { IfDamaged result (IsCutRead files.now (F.told f.old)) }
     ensures untold { ForSome (F.told f.old).files (Agrees files.now) → IfDamaged result (λ _. (F.told f.old).files ≡ None) }
@@ -159,6 +163,7 @@ fn load_key<F: Folder>(
     requires placed { IsPlaced files.now entry words.now.key_len words.now.long_key }
     requires short { words.now.key_len ≤ 32796 }
     ensures verdict { IfOk result (λ verdict. ForSome (F.told f.old).files (λ image. (dirty : ℕ) → Agrees files.now image → is_some (stored_key (store_of image) entry (fields_said words.now)) ≡ true → reached ≡ is_among (chain (store_of image) (bucket_of_hash words.now.hash)).reached entry → IsVerdict (loading.load_data (store_of image) node entry dirty (fields_said words.now)) verdict)) }
+    ensures readable { IfOk result (IsReadableIf files.now) }
     ensures stays { Stays (F.told f.old) (F.told f.new) }
     ensures short { IfDamaged result (IsCutRead files.now (F.told f.old)) }
     ensures untold { ForSome (F.told f.old).files (Agrees files.now) → ForSome (F.told f.old).files (λ image. is_some (stored_key (store_of image) entry (fields_said words.now)) ≡ true) → IfDamaged result (λ _. (F.told f.old).files ≡ None) }
@@ -186,9 +191,13 @@ fn load_streams<F: Folder>(
     words: &RecordWords,
     key: &[u8],
 ) -> Result<Verdict, Fault>
+    requires kind { kind_of entry ≡ blocks_256 }
+    requires stands { IsTrue (stands_among files.now entry) }
+    requires placed { IsPlaced files.now entry words.now.key_len words.now.long_key }
     requires len { words.now.key_len ≡ length key.now }
     requires hash { words.now.hash ≡ hash_of key.now }
     ensures verdict { IfOk result (λ verdict. ForSome (F.told f.old).files (λ image. (dirty : ℕ) → Agrees files.now image → IsVerdict (loading.load_streams (store_of image) node entry dirty (fields_said words.now) key.now) verdict)) }
+    ensures readable { IfOk result (IsReadableIf files.now) }
     ensures stays { Stays (F.told f.old) (F.told f.new) }
     ensures short { IfDamaged result (IsCutRead files.now (F.told f.old)) }
     ensures untold { ForSome (F.told f.old).files (Agrees files.now) → IfDamaged result (λ _. (F.told f.old).files ≡ None) }

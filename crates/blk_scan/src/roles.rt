@@ -8,6 +8,7 @@ ghost use Rattle.blk_volume.specs.View.{store_of, stored_at};
 ghost use Rattle.blk_io.specs.Faults.{IfDamaged, IfDevice};
 ghost use Rattle.blk_disk.specs.Tables.{Agrees};
 ghost use Rattle.blk_entry.specs.Keys.{stores};
+ghost use Rattle.blk_scan.specs.Readable.{HasIndexIf};
 ghost use Rattle.blk_scan.specs.Reads.{IsCutRead};
 ghost use Rattle.blk_scan.specs.Records.{fields_said};
 ghost use Rattle.blk_scan.specs.Roles.{IsRoleIf};
@@ -58,6 +59,7 @@ pub(crate) fn read_role<F: Folder>(
 ) -> Result<Option<Role>, Fault>
     requires stored { stores files.now (slice_index words.now.sizes 2) (slice_index words.now.addrs 2) ≡ true }
     ensures role { IfOk result (λ role. ForSome (F.told f.old).files (λ image. (streams : List (List ℕ)) → stored_streams (store_of image) (fields_said words.now) ≡ Some streams → IsRoleIf key.now (entries.role_of (fields_said words.now) key.now streams) role)) }
+    ensures index { IfOk result (HasIndexIf files.now words.now.sizes words.now.addrs) }
     ensures stays { Stays (F.told f.old) (F.told f.new) }
     ensures short { IfDamaged result (IsCutRead files.now (F.told f.old)) }
     ensures untold { ForSome (F.told f.old).files (Agrees files.now) → IfDamaged result (λ _. (F.told f.old).files ≡ None) }
@@ -81,6 +83,7 @@ fn parent_role<F: Folder>(
 ) -> Result<Option<Role>, Fault>
     requires stored { stores files.now (slice_index words.now.sizes 2) (slice_index words.now.addrs 2) ≡ true }
     ensures role { IfOk result (λ role. ForSome (F.told f.old).files (λ image. (key : List ℕ) (streams : List (List ℕ)) → stored_streams (store_of image) (fields_said words.now) ≡ Some streams → IsRoleIf key (entries.parent_role (fields_said words.now) streams) role)) }
+    ensures index { IfOk result (HasIndexIf files.now words.now.sizes words.now.addrs) }
     ensures stays { Stays (F.told f.old) (F.told f.new) }
     ensures short { IfDamaged result (IsCutRead files.now (F.told f.old)) }
     ensures untold { ForSome (F.told f.old).files (Agrees files.now) → IfDamaged result (λ _. (F.told f.old).files ≡ None) }
@@ -118,6 +121,7 @@ fn part_role<F: Folder>(
 ) -> Result<Option<Role>, Fault>
     requires stored { stores files.now (slice_index words.now.sizes 2) (slice_index words.now.addrs 2) ≡ true }
     ensures role { IfOk result (λ role. ForSome (F.told f.old).files (λ image. (streams : List (List ℕ)) → stored_streams (store_of image) (fields_said words.now) ≡ Some streams → IsRoleIf key.now (entries.part_role key.now streams) role)) }
+    ensures index { IfOk result (HasIndexIf files.now words.now.sizes words.now.addrs) }
     ensures stays { Stays (F.told f.old) (F.told f.new) }
     ensures short { IfDamaged result (IsCutRead files.now (F.told f.old)) }
     ensures untold { ForSome (F.told f.old).files (Agrees files.now) → IfDamaged result (λ _. (F.told f.old).files ≡ None) }
