@@ -12,6 +12,7 @@ mod freeing;
 mod inside;
 mod laws;
 mod places;
+mod placing;
 mod reading;
 
 pub use dropping::drop_streams;
