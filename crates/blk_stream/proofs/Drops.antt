@@ -99,7 +99,7 @@ module _ (w : ℕ) (mid image : Image) (same : SameOutside (freeing_of w) mid im
 
 -- a well-formed folder stays so
 
-formed_behind : (F : Footprint) (from image : Image) → SparesHeaders F → ((i : ℕ) → F.bytes Index i ≡ false) → F.sizes Index ≡ false → ((n : ℕ) → F.sizes (Block n) ≡ false) → SameOutside F from image → IsWellFormed from → IsWellFormed image
+pub formed_behind : (F : Footprint) (from image : Image) → SparesHeaders F → ((i : ℕ) → F.bytes Index i ≡ false) → F.sizes Index ≡ false → ((n : ℕ) → F.sizes (Block n) ≡ false) → SameOutside F from image → IsWellFormed from → IsWellFormed image
 formed_behind F from image spares index size sizes same formed =
     well_formed_still from image (λ i. same.bytes Index i (index i)) (same.lengths Index size)
     (undamaged_still from image (next_same F from image spares same) (heads_still F from image spares same (λ m. let e = same.lengths (Block m) (sizes m) in omega (arith, e)))) formed

@@ -1,4 +1,5 @@
 pub mod StreamPlaces
+pub mod KeptFiles
 pub mod PlacesFreed
 pub mod Naming
 pub mod Drops
@@ -11,3 +12,6 @@ pub mod InsideWritten
 pub mod Copies
 pub mod Joined
 pub mod Fillings
+pub mod Gained
+pub mod Placed
+pub mod Created

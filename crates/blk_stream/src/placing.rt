@@ -39,10 +39,11 @@ pub(crate) fn new_place<F: Folder>(
 {
     let kind = kind_for(size);
     if is_external(kind) {
-        blk_external::create(f)
-    } else {
-        blk_alloc::allocate(f, files, kind, blocks_for(size))
+        let addr = blk_external::create(f)?;
+        let _word = addr.word();
+        return Ok(addr);
     }
+    blk_alloc::allocate(f, files, kind, blocks_for(size))
 }
 
 // Whether a kind is that of external files.
