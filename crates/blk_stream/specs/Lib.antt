@@ -7,4 +7,5 @@ pub mod Writing
 pub mod Inside
 pub mod Copying
 pub mod Filling
+pub mod Placing
 pub mod Shown

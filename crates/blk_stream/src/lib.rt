@@ -13,6 +13,7 @@ mod inside;
 mod laws;
 mod moving;
 mod places;
+mod placing;
 mod reading;
 
 pub use dropping::drop_streams;
