@@ -24,7 +24,7 @@ use Rattle.blk_external.proofs.Changes.{other_number}
 use Rattle.blk_laws.proofs.updates.IndexWords.{others-unchecked}
 use Rattle.blk_stream.specs.Placing.{CanBePlaced, IsPlaced, LosesNothing, MakesPlace, PlacesInProgress, NewFile, placing_of}
 use Rattle.blk_stream.specs.Freeing.{is_block_of}
-use Rattle.blk_stream.proofs.Drops.{formed_behind}
+use Rattle.blk_stream.proofs.PlacesLeft.{formed_behind}
 use Rattle.blk_stream.proofs.Gained.{gained_external}
 use Rattle.blk_stream.proofs.KeptFiles.{SparesBlockFiles, blocks_kept, external_spares, headers_spared}
 

@@ -18,7 +18,7 @@ use Rattle.blk_stream.specs.Streams.{address_place, address_word, size_place, si
 use Rattle.blk_stream.specs.Changing.{record_word}
 use Rattle.blk_stream.specs.Dropping.{dropping_of}
 use Rattle.blk_stream.specs.Shown.{DroppedStreamsAreEmpty}
-use Rattle.blk_stream.proofs.Drops.{leaving_off}
+use Rattle.blk_stream.proofs.PlacesLeft.{leaving_off}
 use Rattle.blk_stream.proofs.Naming.{apart_place}
 
 none_some : {A : Type 0} {x : A} → None ≡ Some x → ⊥
@@ -90,4 +90,4 @@ dropped-empty files from image entry kind address stands agrees has dropped =
     let b = dropped.none 1 (omega arith) in
     let c = dropped.none 2 (omega arith) in
     ap (λ (t : Bool). option_and_then (stored_streams (store_of image)) (if t then Some fields else None)) here
-    ∙ streams_known image fields size none (empty_stream image fields 0 a.no_bytes a.no_place) (empty_stream image fields 1 b.no_bytes b.no_place) (empty_stream image fields 2 c.no_bytes c.no_place)
+    ∙ streams_known image fields size none (empty_stream image fields 0 a.size_is a.word_is) (empty_stream image fields 1 b.size_is b.word_is) (empty_stream image fields 2 c.size_is c.word_is)

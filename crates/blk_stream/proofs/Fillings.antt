@@ -5,7 +5,7 @@ use Rattle.std.proofs.lemmas.Bool.{cases_eq, eqb-true}
 use Rattle.std.proofs.lemmas.Bool.Decides.{nat_tests}
 use Rattle.std.specs.Option.{option_map, ForSome}
 use Rattle.blk_image.specs.Image.{File, Block, External, Image, length_of}
-use Rattle.blk_image.specs.Steps.{after}
+use Rattle.blk_image.specs.Steps.{TrailStep, after}
 use Rattle.blk_image.specs.Footprint.{SameOutside, IsWithin, range, whole}
 use Rattle.blk_image.specs.Told.{Told, Along, Applies, AppliesPrefix, Passes}
 use Rattle.blk_image.proofs.Footprints.{outside-refl, outside-trans, outside_steps, outside_wider, range_within, within_both}
@@ -26,6 +26,14 @@ use Rattle.blk_stream.proofs.InsideData.{HasMade, data_beside, data_long, data_o
 use Rattle.blk_stream.proofs.InsideSteps.{apart_file, data_within, quiet_data, quiet_room, room_within}
 use Rattle.blk_stream.proofs.Joined.{then_passes, told_then}
 use Rattle.blk_stream.proofs.Naming.{apart_place}
+
+-- where no files are told after steps, none were told before
+pub none_before : {a b : Told} {s : List TrailStep} → Applies a b s → b.files ≡ None → a.files ≡ None
+none_before {a} {b} {s} steps none = by_files a.files refl
+  where
+    by_files : (o : Option Image) → a.files ≡ o → a.files ≡ None
+    by_files None e = e
+    by_files (Some from) e = absurd (let h : Some (after s from) ≡ None = sym (ap (option_map (after s)) e) ∙ sym steps.files ∙ none in cc)
 
 -- no bytes lie nowhere
 none_inside : (files : BlockFiles) (n : ℕ) → n ≡ 0 → IsInside files 0 0 n

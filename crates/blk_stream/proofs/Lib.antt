@@ -2,6 +2,7 @@ pub mod StreamPlaces
 pub mod KeptFiles
 pub mod PlacesFreed
 pub mod Naming
+pub mod PlacesLeft
 pub mod Drops
 pub mod Dropped
 pub mod ShownDrops

@@ -1,6 +1,7 @@
 pub mod Streams
 pub mod Freeing
 pub mod Changing
+pub mod Moving
 pub mod Dropping
 pub mod Writing
 pub mod Inside

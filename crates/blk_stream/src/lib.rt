@@ -11,6 +11,7 @@ mod filling;
 mod freeing;
 mod inside;
 mod laws;
+mod moving;
 mod places;
 mod placing;
 mod reading;
