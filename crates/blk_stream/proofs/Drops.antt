@@ -60,11 +60,11 @@ absent_changed entry i old size word from image changed number none =
 
 -- A stream that is dropped.
 
-no_block : (n b : ℕ) → is_block_of 0 n b ≡ false
+pub no_block : (n b : ℕ) → is_block_of 0 n b ≡ false
 unfolding is_block_of kind_of
 no_block n b = refl
 
-none_left : (n : ℕ) (words : List ℕ) → left_by 0 n words ≡ words
+pub none_left : (n : ℕ) (words : List ℕ) → left_by 0 n words ≡ words
 unfolding left_by is_in_file kind_of
 none_left n words = refl
 

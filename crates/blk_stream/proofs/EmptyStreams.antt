@@ -36,7 +36,7 @@ fourth_none image fields streams e = by_tests (data_size_of fields 3 == 0) (addr
     by_tests true false s t h = absurd (none_some h)
     by_tests false t s e h = absurd (none_some h)
 
-fourth_of : (image : Image) (entry : ℕ) (streams : List (List ℕ)) → streams_at image entry ≡ Some streams → (size_word image entry 3 ≡ 0) × (address_word image entry 3 ≡ 0)
+pub fourth_of : (image : Image) (entry : ℕ) (streams : List (List ℕ)) → streams_at image entry ≡ Some streams → (size_word image entry 3 ≡ 0) × (address_word image entry 3 ≡ 0)
 unfolding streams_at fields_at
 fourth_of image entry streams e = by_stands (stands_as image blocks_256 entry) e
   where
@@ -60,11 +60,11 @@ fourth_off entry at (suc i) from few is k first last =
     word_off q off = apart_place (Block (file_selector entry)) (Block (file_selector entry)) (place entry + q) 4 k off
 
 -- the words of the fourth stream
-fourth_size : (image : Image) (entry : ℕ) → size_word image entry 3 ≡ word image (Block (file_selector entry)) (place entry + 52)
+pub fourth_size : (image : Image) (entry : ℕ) → size_word image entry 3 ≡ word image (Block (file_selector entry)) (place entry + 52)
 unfolding entry_in words_at
 fourth_size image entry = ap (word image (Block (file_selector entry))) (let h : place entry + 40 + 4 + 4 + 4 ≡ place entry + 52 = omega arith in h)
 
-fourth_word : (image : Image) (entry : ℕ) → address_word image entry 3 ≡ word image (Block (file_selector entry)) (place entry + 68)
+pub fourth_word : (image : Image) (entry : ℕ) → address_word image entry 3 ≡ word image (Block (file_selector entry)) (place entry + 68)
 unfolding entry_in words_at
 fourth_word image entry = ap (word image (Block (file_selector entry))) (let h : place entry + 56 + 4 + 4 + 4 ≡ place entry + 68 = omega arith in h)
 

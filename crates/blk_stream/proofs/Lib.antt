@@ -16,3 +16,11 @@ pub mod Fillings
 pub mod Gained
 pub mod Placed
 pub mod Created
+pub mod Apart
+pub mod KeptMaps
+pub mod PlacesMoved
+pub mod WriteStages
+pub mod OtherStreams
+pub mod OwnedKept
+pub mod StreamsWritten
+pub mod StreamLists

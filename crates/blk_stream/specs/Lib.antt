@@ -7,5 +7,8 @@ pub mod Writing
 pub mod Inside
 pub mod Copying
 pub mod Filling
+pub mod Owned
+pub mod Written
+pub mod Loading
 pub mod Placing
 pub mod Shown

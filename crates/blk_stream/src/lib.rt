@@ -17,7 +17,7 @@ mod placing;
 mod reading;
 
 pub use dropping::drop_streams;
-pub use laws::drops_are_shown_inside;
+pub use laws::{drops_are_shown_inside, written_streams_load};
 pub use reading::read;
 
 #[cfg(test)]
