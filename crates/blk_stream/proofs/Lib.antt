@@ -24,3 +24,4 @@ pub mod OtherStreams
 pub mod OwnedKept
 pub mod StreamsWritten
 pub mod StreamLists
+pub mod InsideStreams

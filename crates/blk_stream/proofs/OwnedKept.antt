@@ -59,7 +59,7 @@ share_back : (u v : ℕ) → ShareNoBlock u v → ShareNoBlock v u
 share_back u v apart same = ⊎_elim (λ one. inr one) (λ one. inl one) (apart (sym same))
 
 -- an external file of another number is off data, and off what is freed
-data_off_file : (w number : ℕ) → (kind_of w ≡ external → external_number w ≢ number) → ((k : ℕ) → (data_of w).bytes (External number) k ≡ false) × ((data_of w).sizes (External number) ≡ false)
+pub data_off_file : (w number : ℕ) → (kind_of w ≡ external → external_number w ≢ number) → ((k : ℕ) → (data_of w).bytes (External number) k ≡ false) × ((data_of w).sizes (External number) ≡ false)
 unfolding data_of
 data_off_file w number other = by_test (kind_of w == external) refl
   where
