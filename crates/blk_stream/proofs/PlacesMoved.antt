@@ -31,7 +31,7 @@ not_external : (w : ℕ) → (kind_of w == external) ≡ false → kind_of w ≢
 not_external w t e = clash (sym (let z : (kind_of w == external) ≡ true = grind (arith, nat_tests) in z) ∙ t)
 
 -- a block of an address is between its first and its end, in its file
-block_parts : (w n b : ℕ) → is_block_of w n b ≡ true → (kind_of w ≢ external) × ((file_selector w ≡ n) × ((first_block w ≤ b) × (b < first_block w + block_count w)))
+pub block_parts : (w n b : ℕ) → is_block_of w n b ≡ true → (kind_of w ≢ external) × ((file_selector w ≡ n) × ((first_block w ≤ b) × (b < first_block w + block_count w)))
 unfolding is_block_of is_of
 block_parts w n b of = by_test (kind_of w == external) refl of
   where
@@ -62,7 +62,7 @@ marks_by u w n b was apart = by_tests (is_block_of u n b) (is_block_of w n b) ap
     by_tests false true apart = refl
     by_tests false false apart = refl
 
-gained_among : (w v n : ℕ) (words : List ℕ) → is_among words v ≡ true → is_among (gained_by w n words) v ≡ true
+pub gained_among : (w v n : ℕ) (words : List ℕ) → is_among words v ≡ true → is_among (gained_by w n words) v ≡ true
 unfolding gained_by
 gained_among w v n words among = by_test (is_in_file n w)
   where
