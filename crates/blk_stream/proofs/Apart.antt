@@ -1,26 +1,24 @@
 -- Places that share no data, since each claim has one owner, or since the blocks and the file of a new one were free.
-use Rattle.std.proofs.Common.{◌≡◌, ◌≢◌, ◌⊎◌, inl, inr, ⊎_elim, ℕ, ◌+◌, ◌<◌, ◌≤◌, Bool, true, false, ◌&&◌, ◌||◌, List, [], ◌∷◌, refl, sym, ◌∙◌, ap, subst, arith}
-use Rattle.std.specs.Prelude.{◌==◌, nat_le, nat_lt}
-use Rattle.std.proofs.lemmas.Bool.{cases_Bool, cases_eq, cases_lt, eqb-true}
+use Rattle.std.proofs.Common.{◌≡◌, ◌≢◌, inl, inr, ⊎_elim, ℕ, ◌+◌, ◌<◌, ◌≤◌, true, false, List, [], ◌∷◌, refl, sym, ◌∙◌, ap, subst, arith}
+use Rattle.std.specs.Prelude.{◌==◌}
+use Rattle.std.proofs.lemmas.Bool.{cases_lt, eqb-true}
 use Rattle.std.proofs.lemmas.Bool.Decides.{nat_tests}
 use Rattle.blk_image.specs.Image.{External, Image, has_file}
 use Rattle.blk_format.specs.Address.{block_count, external, external_number, file_selector, first_block, kind_of}
-use Rattle.blk_format.specs.BlockFiles.{is_among, most_blocks}
-use Rattle.blk_format.specs.Claims.{BlockOf, Claim, ExternalOf, claims_of, claims_of_all, has_claim, repeats, same_claim}
+use Rattle.blk_format.specs.BlockFiles.{is_among}
+use Rattle.blk_format.specs.Claims.{BlockOf, Claim, ExternalOf, claims_of, claims_of_all, has_claim, repeats}
 use Rattle.blk_format.specs.Maps.{is_block_marked}
-use Rattle.blk_addr.specs.Bits.{is_between}
 use Rattle.blk_addr.proofs.AddressFields.{block_count_above_0}
 use Rattle.blk_disk.specs.declared.tables.BlockFiles.{BlockFiles}
-use Rattle.blk_disk.specs.Tables.{Agrees, all_files, stands_among}
+use Rattle.blk_disk.specs.Tables.{Agrees, stands_among}
 use Rattle.blk_disk.proofs.Ranges.{stands_linked}
 use Rattle.blk_entry.specs.Writing.{ShareNoBlock}
 use Rattle.blk_alloc.specs.Owning.{CanBeFreed, is_of}
 use Rattle.blk_alloc.proofs.Freed.{allocated_blocks, standing_blocks}
-use Rattle.blk_alloc.proofs.Lists.{IsBlocks, claims_blocks, once_parts, or_true}
+use Rattle.blk_alloc.proofs.Lists.{claims_blocks, once_parts, or_true}
 use Rattle.blk_stream.specs.Copying.{ShareNoData}
 use Rattle.blk_stream.specs.Freeing.{MayBeFreed, is_block_of}
 use Rattle.blk_stream.specs.Placing.{InAddition, InFile, InGrowth, IsPlaced, IsSite, IsSiteOf, NewFile, Nowhere, Site}
-use Rattle.blk_stream.proofs.Copies.{blocky_of}
 use Rattle.blk_stream.proofs.ShownDrops.{claims-behind, claims-first, external-claim}
 
 -- what an address claims its list claims
@@ -74,7 +72,7 @@ owned_marked files from w b agrees stands blocky can is =
 
 -- A new place.
 
-of_blocks : (w n b : ℕ) → kind_of w ≢ external → is_block_of w n b ≡ is_of w n b
+pub of_blocks : (w n b : ℕ) → kind_of w ≢ external → is_block_of w n b ≡ is_of w n b
 unfolding is_block_of
 of_blocks w n b blocky = let t : (kind_of w == external) ≡ false = grind (arith, nat_tests) in rw t refl
 

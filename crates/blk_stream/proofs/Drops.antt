@@ -1,43 +1,22 @@
 -- A stream is made empty, and its place is freed.
-use Rattle.std.proofs.Common.{◌≡◌, ◌≢◌, inl, inr, ⊎_elim, ℕ, ◌+◌, ◌<◌, ◌≤◌, Bool, true, false, if◌then◌else◌, List, Option, None, Some, Result, Ok, Err, refl, sym, ◌∙◌, ap, subst, arith}
+use Rattle.std.proofs.Common.{◌≡◌, ◌≢◌, inl, ⊎_elim, ℕ, Bool, true, false, if◌then◌else◌, List, refl, sym, ◌∙◌, ap, subst, arith}
 use Rattle.std.specs.Prelude.{◌==◌, nat_eq}
-use Rattle.std.specs.Option.{option_map, ForSome}
 use Rattle.std.proofs.lemmas.Bool.{cases_Bool, cases_eq, eqb-true}
 use Rattle.std.proofs.lemmas.Bool.Decides.{nat_tests}
-use Rattle.blk_image.specs.Bytes.{content, word_at}
-use Rattle.blk_image.specs.Image.{Index, Block, External, Image, byte, has_file, word}
-use Rattle.blk_image.specs.Steps.{after}
+use Rattle.blk_image.specs.Image.{External, Image, has_file, word}
 use Rattle.blk_image.specs.Footprint.{Footprint, SameOutside, either, whole}
-use Rattle.blk_image.specs.Told.{Told, Passes}
-use Rattle.blk_image.proofs.Footprints.{outside-refl, outside-trans, outside_wider, same_word_outside, within_left, within_right}
-use Rattle.blk_image.proofs.Words.{same-range}
-use Rattle.blk_format.specs.Address.{kind_of, external, external_number, file_selector, place, blocks_256}
-use Rattle.blk_format.specs.BlockFiles.{IsWellFormed, max_entries_in}
+use Rattle.blk_image.proofs.Footprints.{outside-refl}
+use Rattle.blk_format.specs.Address.{kind_of, external, external_number, file_selector}
 use Rattle.blk_format.specs.Claims.{is_in_file}
 use Rattle.blk_format.specs.Maps.{AreAllocations, is_block_marked}
-use Rattle.blk_format.specs.Sealed.{IsUpdated, RecordChecks, record_at, record_size}
-use Rattle.blk_format.proofs.Keeping.{undamaged_still}
-use Rattle.blk_format.proofs.SealedFields.{record_word as word_of_record}
-use Rattle.blk_format.proofs.SealedRecords.{entry_bytes}
-use Rattle.blk_format.proofs.SpareHeaders.{SparesHeaders, blocks_same, heads_still, next_same, past_header}
-use Rattle.blk_io.specs.declared.fault.Damage.{Damage}
-use Rattle.blk_io.specs.declared.fault.Fault.{Fault}
-use Rattle.blk_io.specs.declared.fault.Fault.TheVariants.{Device, Damaged}
-use Rattle.blk_io.specs.Faults.{IfDamaged}
-use Rattle.blk_disk.specs.declared.tables.BlockFiles.{BlockFiles}
-use Rattle.blk_disk.specs.Tables.{Agrees, stands_among}
-use Rattle.blk_disk.proofs.Enlarging.{well_formed_still}
+use Rattle.blk_format.specs.Sealed.{RecordChecks}
 use Rattle.blk_alloc.specs.Changes.{map_of}
-use Rattle.blk_alloc.proofs.Spared.{allocations_kept, empty_kept, freed_still, marks_kept}
-use Rattle.blk_alloc.proofs.Sparing.{blocks_spared, formed_spared, map_spares}
-use Rattle.blk_stream.specs.Streams.{address_place, address_word, size_place, size_word}
-use Rattle.blk_stream.specs.Changing.{NamesInProgress, place_changes, stream_words}
-use Rattle.blk_stream.specs.Freeing.{IsPlaceFreed, MayBeFreed, freeing_of, is_block_of, leaving_of, left_by}
+use Rattle.blk_stream.specs.Streams.{address_word, size_word}
+use Rattle.blk_stream.specs.Changing.{stream_words}
+use Rattle.blk_stream.specs.Freeing.{freeing_of, is_block_of, leaving_of, left_by}
 use Rattle.blk_stream.specs.Moving.{LeavesPlace, LeavesPlaceInProgress}
 use Rattle.blk_stream.specs.Dropping.{DropsStream, DropsStreamInProgress}
-use Rattle.blk_stream.proofs.Naming.{named_words, words_spare}
-use Rattle.blk_stream.proofs.PlacesFreed.{freeing_blocks, freeing_external, leaving_none, leaving_some}
-use Rattle.blk_stream.proofs.StreamPlaces.{address_at, size_at}
+use Rattle.blk_stream.proofs.PlacesFreed.{freeing_blocks, freeing_external, leaving_some}
 
 -- no file comes to be
 absent_changed : (entry i old size word : ℕ) (from image : Image) → LeavesPlace entry i old size word from image → (number : ℕ) → has_file from (External number) ≡ false → has_file image (External number) ≡ false

@@ -49,7 +49,7 @@ old_inside files old has = by_addr old.addr refl
     by_addr (Some w) e = has.inside w e
 
 -- the length of another external file is off the data
-sizes_off : (v w : ℕ) → ShareNoFile v w → kind_of v ≡ external → (data_of w).sizes (External (external_number v)) ≡ false
+pub sizes_off : (v w : ℕ) → ShareNoFile v w → kind_of v ≡ external → (data_of w).sizes (External (external_number v)) ≡ false
 unfolding data_of
 sizes_off v w apart kind = by_test (kind_of w == external) refl
   where

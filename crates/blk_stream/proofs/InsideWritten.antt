@@ -27,16 +27,16 @@ use Rattle.blk_entry.proofs.NewImages.{same_kind}
 use Rattle.blk_entry.proofs.Windows.{entry_room, entry_room_least}
 use Rattle.blk_stream.specs.Streams.{size_place, size_word}
 use Rattle.blk_stream.specs.Changing.{record_word}
-use Rattle.blk_stream.specs.Inside.{HasItsLength, WritesInside, here_steps, inside_steps, room_steps, size_steps, size_words}
+use Rattle.blk_stream.specs.Inside.{HasItsLength, WritesInside, data_of, here_steps, inside_steps, room_steps, size_steps, size_words}
 use Rattle.blk_entry.specs.Steps.{data_steps}
 use Rattle.blk_stream.proofs.Naming.{apart_place}
-use Rattle.blk_stream.proofs.InsideSteps.{apart_file, fits, mid_record, mid_sealed, place_of_entry, sealed_within, size_changes, size_none, size_some}
+use Rattle.blk_stream.proofs.InsideSteps.{apart_file, here_outside, fits, mid_record, mid_sealed, place_of_entry, sealed_within, size_changes, size_none, size_some}
 use Rattle.blk_stream.proofs.InsideData.{data_long, data_outside, here_data, HasMade, made_blocks, made_external, made_long}
 use Rattle.blk_stream.proofs.StreamPlaces.{size_at}
 
 -- the words of a record share no byte with the data of a word, where they share no block
 module _ (files : BlockFiles) (entry i w size : ℕ) (kind : kind_of entry ≡ blocks_256) (stands : stands_among files entry ≡ true) (small : i < 3) (inside : IsInside files w 0 size) (apart : kind_of w ≢ external → ShareNoBlock entry w) where
-  off_word : (at k : ℕ) → at + 4 ≤ 96 → k < size → (record_word entry at).bytes (data_file w) (data_start w + k) ≡ false
+  pub off_word : (at k : ℕ) → at + 4 ≤ 96 → k < size → (record_word entry at).bytes (data_file w) (data_start w + k) ≡ false
   unfolding data_file data_start
   off_word at k low high = by_test (kind_of w == external) refl
     where
@@ -169,4 +169,7 @@ module _ (files : BlockFiles) (entry i w old size offset : ℕ) (bytes : List �
     written = λ cut is. data_stays files entry i w size kind stands small inside apart mid last last_same ∙ here_data from w old size offset cut bytes made is;
     size_is = last_size fit;
     long = last_long;
+    middle = mid;
+    data_first = until_last (SameOutside (data_of w) from) (SameOutside (data_of w) from) (here_steps w old size offset bytes) from (here_outside from w old size offset bytes (λ blocky. let h = inside.room blocky in omega (arith, h)) few);
+    words_then = last_same;
   })

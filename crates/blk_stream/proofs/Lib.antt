@@ -24,4 +24,7 @@ pub mod OtherStreams
 pub mod OwnedKept
 pub mod StreamsWritten
 pub mod StreamLists
-pub mod InsideStreams
+pub mod Placements
+pub mod Moved
+pub mod StreamMoved
+pub mod StreamInside

@@ -1,21 +1,19 @@
 -- A record names another place for a stream, and the old one is freed.
 use Rattle.std.proofs.Common.{◌≡◌, ◌≢◌, inl, inr, ⊎_elim, ℕ, ◌+◌, ◌<◌, ◌≤◌, Bool, true, false, if◌then◌else◌, List, Option, None, Some, Result, Ok, Err, refl, sym, ◌∙◌, ap, subst, arith}
-use Rattle.std.specs.Prelude.{◌==◌, nat_eq}
+use Rattle.std.specs.Prelude.{◌==◌}
 use Rattle.std.specs.Option.{option_map, ForSome}
 use Rattle.std.proofs.lemmas.Bool.{cases_Bool, cases_eq, eqb-true}
 use Rattle.std.proofs.lemmas.Bool.Decides.{nat_tests}
 use Rattle.blk_image.specs.Bytes.{content, word_at}
-use Rattle.blk_image.specs.Image.{Index, Block, External, Image, byte, has_file, word}
+use Rattle.blk_image.specs.Image.{Index, Block, External, Image, byte, word}
 use Rattle.blk_image.specs.Steps.{after}
 use Rattle.blk_image.specs.Footprint.{Footprint, SameOutside, either, whole}
 use Rattle.blk_image.specs.Told.{Told, Passes}
-use Rattle.blk_image.proofs.Footprints.{outside-refl, outside-trans, outside_wider, same_word_outside, within_left, within_right}
+use Rattle.blk_image.proofs.Footprints.{outside-trans, outside_wider, same_word_outside, within_left, within_right}
 use Rattle.blk_image.proofs.Words.{same-range}
 use Rattle.blk_format.specs.Address.{kind_of, external, external_number, file_selector, place, blocks_256}
 use Rattle.blk_format.specs.BlockFiles.{IsWellFormed, max_entries_in}
-use Rattle.blk_format.specs.Claims.{is_in_file}
-use Rattle.blk_format.specs.Maps.{AreAllocations, is_block_marked}
-use Rattle.blk_format.specs.Sealed.{IsUpdated, RecordChecks, record_at, record_size}
+use Rattle.blk_format.specs.Sealed.{RecordChecks, record_at, record_size}
 use Rattle.blk_format.proofs.Keeping.{undamaged_still}
 use Rattle.blk_format.proofs.SealedFields.{record_word as word_of_record}
 use Rattle.blk_format.proofs.SealedRecords.{entry_bytes}
@@ -32,9 +30,9 @@ use Rattle.blk_alloc.proofs.Spared.{allocations_kept, empty_kept, freed_still, m
 use Rattle.blk_alloc.proofs.Sparing.{blocks_spared, formed_spared, map_spares}
 use Rattle.blk_stream.specs.Streams.{address_place, address_word, size_place, size_word}
 use Rattle.blk_stream.specs.Changing.{HasWords, NamesInProgress, stream_words}
-use Rattle.blk_stream.specs.Freeing.{IsPlaceFreed, MayBeFreed, freeing_of, is_block_of, leaving_of, left_by}
+use Rattle.blk_stream.specs.Freeing.{IsPlaceFreed, MayBeFreed, freeing_of, is_block_of, leaving_of}
 use Rattle.blk_stream.specs.Moving.{LeavesPlace, LeavesPlaceInProgress}
-use Rattle.blk_stream.proofs.Naming.{named_words, words_spare}
+use Rattle.blk_stream.proofs.Naming.{words_spare}
 use Rattle.blk_stream.proofs.PlacesFreed.{freeing_blocks, freeing_external, leaving_none, leaving_some}
 use Rattle.blk_stream.proofs.StreamPlaces.{address_at, size_at}
 

@@ -62,7 +62,7 @@ marks_by u w n b was apart = by_tests (is_block_of u n b) (is_block_of w n b) ap
     by_tests false true apart = refl
     by_tests false false apart = refl
 
-gained_among : (w v n : ℕ) (words : List ℕ) → is_among words v ≡ true → is_among (gained_by w n words) v ≡ true
+pub gained_among : (w v n : ℕ) (words : List ℕ) → is_among words v ≡ true → is_among (gained_by w n words) v ≡ true
 unfolding gained_by
 gained_among w v n words among = by_test (is_in_file n w)
   where

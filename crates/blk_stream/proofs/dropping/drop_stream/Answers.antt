@@ -1,22 +1,14 @@
-use Rattle.std.proofs.Common.{◌≡◌, ◌≢◌, ℕ, inr, true, false, Option, None, Some, sym, ◌∙◌, ap, subst, refl}
+use Rattle.std.proofs.Common.{◌≡◌, ◌≢◌, ℕ, inr, Option, None, Some, sym, ◌∙◌, ap, subst, refl}
 use Rattle.std.specs.Prelude.{unwrap_or}
-use Rattle.std.specs.Option.{option_map}
 use Rattle.std.proofs.lemmas.Result.{on_ok_weaker}
 use Rattle.blk_image.specs.Bytes.{content, word_at}
 use Rattle.blk_image.specs.Image.{Image}
-use Rattle.blk_image.specs.Steps.{after}
-use Rattle.blk_image.specs.Footprint.{SameOutside}
-use Rattle.blk_image.specs.Told.{Told}
-use Rattle.blk_image.proofs.Runs.{passes_end, passes_none, passes_then, passes_weaker, some_inj}
-use Rattle.blk_format.specs.Address.{kind_of, block_count, external, file_selector, first_block}
+use Rattle.blk_image.proofs.Runs.{passes_none, passes_weaker, some_inj}
 use Rattle.blk_format.specs.Sealed.{record_at}
-use Rattle.blk_disk.specs.Tables.{stands_among}
-use Rattle.blk_alloc.specs.Owning.{IsCause}
 use Rattle.blk_io.proofs.Carried.{if_damaged_weaker, told_at_end, untold_where}
 use Rattle.blk_entry.proofs.KeyPlaces.{damaged_any}
 use Rattle.blk_stream.specs.Streams.{address_place, address_word, may_keep, size_place}
-use Rattle.blk_stream.specs.Changing.{NamesInProgress}
-use Rattle.blk_stream.specs.Freeing.{IsPlaceFreed, MayBeFreed, freeing_of}
+use Rattle.blk_stream.specs.Freeing.{MayBeFreed}
 use Rattle.blk_stream.specs.Dropping.{DropsStream, DropsStreamInProgress}
 use Rattle.blk_stream.proofs.PlacesLeft.{read_size, read_word}
 use Rattle.blk_stream.proofs.Drops.{changed_drops, changing_drops, none_dropped, stays_dropping}

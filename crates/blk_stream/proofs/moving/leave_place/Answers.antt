@@ -1,8 +1,6 @@
 use Rattle.std.proofs.Common.{◌≡◌, Some, ◌∙◌, false, sym, subst}
-use Rattle.std.specs.Option.{ForSome}
 use Rattle.std.proofs.lemmas.Result.{on_ok_weaker}
 use Rattle.blk_image.specs.Image.{Image}
-use Rattle.blk_image.specs.Footprint.{SameOutside}
 use Rattle.blk_image.specs.Told.{Told}
 use Rattle.blk_image.proofs.Runs.{passes_end, passes_then, passes_weaker}
 use Rattle.blk_format.specs.Address.{block_count, file_selector, first_block}
@@ -10,8 +8,7 @@ use Rattle.blk_format.specs.Sealed.{RecordChecks, record_at}
 use Rattle.blk_io.proofs.Carried.{if_damaged_weaker, told_at_end}
 use Rattle.blk_alloc.specs.Owning.{IsCause}
 use Rattle.blk_stream.specs.Changing.{NamesInProgress}
-use Rattle.blk_stream.specs.Freeing.{MayBeFreed, freeing_of}
-use Rattle.blk_stream.specs.Moving.{LeavesPlaceInProgress}
+use Rattle.blk_stream.specs.Freeing.{MayBeFreed}
 use Rattle.blk_stream.proofs.Joined.{IsTold, told_then}
 use Rattle.blk_stream.proofs.PlacesLeft.{both_damaged, freed_changes, freeing_changes, named_free, naming_changes, record_freed, told_back}
 use Rattle.blk_stream.proofs.moving.leave_place.Given as given
