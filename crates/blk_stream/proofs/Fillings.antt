@@ -5,7 +5,7 @@ use Rattle.std.proofs.lemmas.Bool.{cases_eq, eqb-true}
 use Rattle.std.proofs.lemmas.Bool.Decides.{nat_tests}
 use Rattle.std.specs.Option.{option_map, ForSome}
 use Rattle.blk_image.specs.Image.{File, Block, External, Image, length_of}
-use Rattle.blk_image.specs.Steps.{after}
+use Rattle.blk_image.specs.Steps.{TrailStep, after}
 use Rattle.blk_image.specs.Footprint.{SameOutside, IsWithin, range, whole}
 use Rattle.blk_image.specs.Told.{Told, Along, Applies, AppliesPrefix, Passes}
 use Rattle.blk_image.proofs.Footprints.{outside-refl, outside-trans, outside_steps, outside_wider, range_within, within_both}
@@ -27,6 +27,14 @@ use Rattle.blk_stream.proofs.InsideSteps.{apart_file, data_within, quiet_data, q
 use Rattle.blk_stream.proofs.Joined.{then_passes, told_then}
 use Rattle.blk_stream.proofs.Naming.{apart_place}
 
+-- where no files are told after steps, none were told before
+pub none_before : {a b : Told} {s : List TrailStep} → Applies a b s → b.files ≡ None → a.files ≡ None
+none_before {a} {b} {s} steps none = by_files a.files refl
+  where
+    by_files : (o : Option Image) → a.files ≡ o → a.files ≡ None
+    by_files None e = e
+    by_files (Some from) e = absurd (let h : Some (after s from) ≡ None = sym (ap (option_map (after s)) e) ∙ sym steps.files ∙ none in cc)
+
 -- no bytes lie nowhere
 none_inside : (files : BlockFiles) (n : ℕ) → n ≡ 0 → IsInside files 0 0 n
 unfolding kind_of
@@ -41,7 +49,7 @@ old_inside files old has = by_addr old.addr refl
     by_addr (Some w) e = has.inside w e
 
 -- the length of another external file is off the data
-sizes_off : (v w : ℕ) → ShareNoFile v w → kind_of v ≡ external → (data_of w).sizes (External (external_number v)) ≡ false
+pub sizes_off : (v w : ℕ) → ShareNoFile v w → kind_of v ≡ external → (data_of w).sizes (External (external_number v)) ≡ false
 unfolding data_of
 sizes_off v w apart kind = by_test (kind_of w == external) refl
   where

@@ -1,5 +1,5 @@
 // Where the streams of a record lie.
-ghost use Rattle.std.specs.Prelude.{◌≡◌, ◌==◌, ◌≤◌, ◌<◌, IfOk, IsOk, OnOk, Some, true, length};
+ghost use Rattle.std.specs.Prelude.{◌≡◌, ◌==◌, ◌≤◌, ◌<◌, IfOk, IsOk, OnOk, Some, true, length, unwrap_or};
 ghost use Rattle.blk_image.specs.Bytes.{content, word_at};
 ghost use Rattle.blk_format.specs.Address.{blocks_256, is_address, kind_of};
 ghost use Rattle.blk_format.specs.Records.{entry_size};
@@ -136,6 +136,16 @@ fn stores(files: &BlockFiles, addr: Addr, size: u32) -> bool
         return false;
     }
     is_of(addr, Kind::External) || (addr.blocks() == blocks_for(size) && files.stands(addr))
+}
+
+// The word of an address, and 0 of none.
+pub(crate) fn word_of(addr: Option<Addr>) -> u32
+    ensures { result ≡ unwrap_or addr 0 }
+{
+    match addr {
+        Some(addr) => addr.word(),
+        None => 0,
+    }
 }
 
 // Whether an address is of a kind.
