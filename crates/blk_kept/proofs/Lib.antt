@@ -79,6 +79,7 @@ pub mod WorkedDooms
 pub mod WorkedRecord
 pub mod WorkedCreate
 pub mod WorkedCut
+pub mod WorkedChanges
 pub mod WorkedExternals
 pub mod WorkedParts
 pub mod WorkedStops
