@@ -1,12 +1,13 @@
 -- In the worked folder `b` is opened and unsettled; then a Write cuts its stream, and its record is written anew: meanwhile what was at rest is found, and in the end the state without its stream is kept.
 use Rattle.std.proofs.Common.{◌≡◌, inl, inr, ℕ, ◌+◌, ◌≤◌, List, [], ◌∷◌, ◌++◌, length, refl, ap, sym, ◌∙◌, subst, arith, lit<, true, false, None, Ok, Some, codes, replicate}
 use Rattle.std.specs.Prelude.{◌⊎◌}
+use Rattle.std.proofs.lemmas.Bool.{or_right}
 use Rattle.std.specs.List.Sorted.{IsPermutation}
 use Rattle.std.proofs.lemmas.List.Sorted.{IsPermutation-middle}
-use Rattle.blk_image.specs.Bytes.{content, range_at, spliced, word_at, words_at, zeros}
-use Rattle.blk_image.specs.Footprint.{SameOutside}
+use Rattle.blk_image.specs.Bytes.{content, range_at, spliced, word_at, word_bytes, words_at, zeros}
+use Rattle.blk_image.specs.Footprint.{SameOutside, range}
 use Rattle.blk_image.specs.Image.{Block, Image}
-use Rattle.blk_image.specs.Steps.{with_word, with_words}
+use Rattle.blk_image.specs.Steps.{Word, applied, with_word, with_words}
 use Rattle.blk_image.proofs.Words.{length-with_word, word-beside, word-there}
 use Rattle.blk_model.specs.Effects.{with_slot}
 use Rattle.blk_model.specs.Holding.{rest, row_of}
@@ -17,33 +18,41 @@ use Rattle.blk_model.specs.Step.{step}
 use Rattle.blk_model.proofs.Computing.{computing}
 use Rattle.blk_model.proofs.Steps.{step_valid}
 use Rattle.blk_model.proofs.StopRows.{codes_are_bytes}
-use Rattle.blk_format.specs.Address.{block_count, block_place, block_size, blocks_256, file_selector, first_block, kind_of, place}
-use Rattle.blk_format.specs.Claims.{claims_of, has_claim}
+use Rattle.blk_format.specs.Address.{block_count, block_place, block_size, blocks_256, byte_size, external_number, file_selector, first_block, kind_of, place}
+use Rattle.blk_format.specs.BlockFiles.{stands_in}
+use Rattle.blk_format.specs.Claims.{BlockOf, Claim, claims_of, has_claim, repeats, same_claim}
 use Rattle.blk_format.specs.Hash.{hash, mixed, of_bytes, of_four, of_one}
 use Rattle.blk_format.specs.Records.{entry_body, entry_checks, entry_in, entry_is_sealed, node_in, node_is_sealed}
 use Rattle.blk_format.specs.Sealed.{record_at, record_range}
 use Rattle.blk_format.specs.Storage.{entry_blocks, is_storage}
 use Rattle.blk_volume.specs.Entries.{IsPlain, is_key_length, role_of, stored_key, stored_stream, stored_streams}
-use Rattle.blk_volume.specs.Footprint.{IsInsideNode, IsReplaced}
+use Rattle.blk_volume.specs.Footprint.{IsInsideNode, IsReplaced, OnlyLinksChange}
 use Rattle.blk_volume.specs.Layout.{rule_of}
 use Rattle.blk_volume.specs.ListImages.{IsWritable}
 use Rattle.blk_volume.specs.ListView.{put}
-use Rattle.blk_volume.specs.Loads.{Loaded, load, unchained_rule}
-use Rattle.blk_volume.specs.ShownChanges.{OnlyRecordFieldsChange}
+use Rattle.blk_volume.specs.Loads.{Loaded, all_claims, load, record_claims, unchained_rule}
+use Rattle.blk_volume.specs.ShownChanges.{OnlyChainNextChanges, OnlyRecordFieldsChange}
 use Rattle.blk_volume.specs.Sound.{AreSealed, words_of}
 use Rattle.blk_volume.specs.View.{RecordFields, block_bytes, entry_at, fields_at, fields_of, key_place_at, store_of, stored_at, view_of}
 use Rattle.blk_laws.specs.RecordUpdates.{sealed_fields}
 use Rattle.blk_laws.proofs.walks.Loading.{load-from}
 use Rattle.blk_laws.proofs.walks.Loads.{load-then}
+use Rattle.blk_kept.specs.Arranging.{LeavesFiles}
 use Rattle.blk_kept.specs.Changes.{ChangesOnly, Finds}
 use Rattle.blk_kept.specs.Keeping.{KeepsUncounted}
 use Rattle.blk_kept.specs.ObjectLaws.{IsItemNow, IsObjectNow, layout_after}
 use Rattle.blk_kept.proofs.ChangedStates.{main-changed}
 use Rattle.blk_kept.proofs.Free.{standing-at}
-use Rattle.blk_kept.proofs.Links.{updates-are-inside}
+use Rattle.blk_kept.proofs.AtNodes.{free-but}
+use Rattle.blk_kept.proofs.Allocating.{used-stand}
+use Rattle.blk_kept.proofs.Writes.{block-writes}
+use Rattle.blk_laws.proofs.states.Marking.{repeats-apart}
+use Rattle.blk_image.proofs.Footprints.{outside_write}
+use Rattle.blk_kept.proofs.Links.{data-inside, next-links, updates-are-inside}
+use Rattle.blk_kept.proofs.Links as links
 use Rattle.blk_kept.proofs.Objects.{changed-items-kept, unsettled-find}
 use Rattle.blk_kept.proofs.MarkSteps.{marked_at, marks-writable}
-use Rattle.blk_kept.proofs.RecordSteps.{long-record, rewritten, rewritten-fields, rewritten-only, rewritten-outside, rewritten-sealed, was-fields}
+use Rattle.blk_kept.proofs.RecordSteps.{long-record, next-outside, next-sealed, next-shown, rewritten, rewritten-fields, rewritten-only, rewritten-outside, rewritten-sealed, was-fields, with_next}
 use Rattle.blk_kept.proofs.WorkedFolder.{short_folder}
 use Rattle.blk_kept.proofs.WorkedKept.{same-bytes, worked-represents, worked_folder}
 use Rattle.blk_kept.proofs.WorkedMarks.{b_checks, b_is_marked, opened-writable, opened_folder, unsettled, unsettled-keeps, unsettled_layout}
@@ -158,10 +167,10 @@ cut-written =
     (w.0, w.1 ∙ ap (λ (f : RecordFields). Some f) (with-words (record_at open_folder (records 2)) (long-record open_folder (records 2) b_fields open-writable open-entry refl) (was-fields open_folder (records 2) b_fields open-writable open-entry refl)))
 
 cut-only : ChangesOnly (has_claim (claims_of (records 2))) open_folder cut_folder
-cut-only = rewritten-only open_folder (records 2) b_fields open-writable open-entry refl (emptied_words 0) (are-changes (records 2) b-kind 0) (before-seal (records 2) b-kind 0) (behind-next 0)
+cut-only = rewritten-only open_folder (records 2) b_fields open-writable open-entry refl (emptied_words 0) (are-changes (records 2) b-kind 0) (before-seal (records 2) b-kind 0)
 
 cut-outside : SameOutside (record_range (records 2)) open_folder cut_folder
-cut-outside = rewritten-outside open_folder (records 2) b_fields open-writable open-entry refl (emptied_words 0) (are-changes (records 2) b-kind 0) (before-seal (records 2) b-kind 0) (behind-next 0)
+cut-outside = rewritten-outside open_folder (records 2) b_fields open-writable open-entry refl (emptied_words 0) (are-changes (records 2) b-kind 0) (before-seal (records 2) b-kind 0)
 
 -- it is a change inside of what is the node's, so meanwhile what was at rest is found
 cut-inside : IsInsideNode (has_claim (claims_of (records 2))) (view_of open_folder) (view_of cut_folder) unsettled_layout (nodes 2) open_b
@@ -169,6 +178,37 @@ cut-inside = updates-are-inside open_state unsettled_layout [] open_folder cut_f
 
 cut_finds : Finds (rest open_state) cut_folder
 cut_finds = unsettled-find (has_claim (claims_of (records 2))) open_state unsettled_layout [] open_folder cut_folder 0 open_object (main (codes "b")) open_b open-keeps cut-only refl refl refl open-here cut-inside tt
+
+-- so it is while bytes of its stream are written
+abbrev data_folder : Image
+data_folder = applied (Word (Block 1) 9216 (word_bytes 0x7777)) open_folder
+
+data-at : (kind_of 0xA0010004 ≡ blocks_256) × (file_selector 0xA0010004 ≡ 1) × (place 0xA0010004 ≡ 9216) × (byte_size 0xA0010004 ≡ 256)
+unfolding byte_size kind_of block_count file_selector first_block place block_place block_size
+data-at = (refl, refl, refl, refl)
+
+data-stands : stands_in open_folder 0xA0010004 ≡ true
+unfolding put
+data-stands = let all = used-stand open_state unsettled_layout [] open_folder open-keeps in all.1.1.0
+
+data-only : ChangesOnly (has_claim (claims_of 0xA0010004)) open_folder data_folder
+data-only = block-writes open_folder data_folder 0xA0010004 9216 4 data-stands (λ e. (let z : ◌≡◌ {A = ℕ} 2 0 = sym data-at.0 ∙ e in cc)) (let p = data-at.2 in omega (arith, p)) (let p = data-at.2 in let size = data-at.3 in omega (arith, p, size))
+    (subst (λ (n : ℕ). SameOutside (range (Block n) 9216 4) open_folder data_folder) (sym data-at.1) (outside_write (Block 1) 9216 (word_bytes 0x7777) open_folder))
+
+data-own : (claim : Claim) → has_claim (claims_of 0xA0010004) claim ≡ true → unsettled_layout.owner claim ≡ Some (nodes 2)
+unfolding has_claim all_claims record_claims claims_of kind_of block_count file_selector first_block external_number
+data-own claim has = open-keeps.represents.holds.lies.own (nodes 2) open_b claim open-here (or_right (same_claim claim (BlockOf 0 2)) _ (or_right (same_claim claim (BlockOf 1 2)) _ has))
+
+data-apart : (repeats (claims_of (nodes 2) ++ claims_of 0xA0010004) ≡ false) × (repeats (claims_of (records 2) ++ claims_of 0xA0010004) ≡ false)
+unfolding repeats has_claim claims_of kind_of block_count file_selector first_block external_number
+data-apart = (refl, refl)
+
+data-is-inside : IsInsideNode (has_claim (claims_of 0xA0010004)) (view_of open_folder) (view_of data_folder) unsettled_layout (nodes 2) open_b
+data-is-inside = data-inside (has_claim (claims_of 0xA0010004)) unsettled_layout open_folder data_folder (nodes 2) open_b data-only (free-but open_state unsettled_layout [] open_folder open-keeps (nodes 2) open_b open-here (has_claim (claims_of 0xA0010004)) data-own)
+    (λ claim. repeats-apart (claims_of (nodes 2)) (claims_of 0xA0010004) claim data-apart.0) (λ claim. repeats-apart (claims_of (records 2)) (claims_of 0xA0010004) claim data-apart.1)
+
+data_finds : Finds (rest open_state) data_folder
+data_finds = unsettled-find (has_claim (claims_of 0xA0010004)) open_state unsettled_layout [] open_folder data_folder 0 open_object (main (codes "b")) open_b open-keeps data-only refl refl refl open-here data-is-inside tt
 
 -- ---- what lies there then
 
@@ -246,7 +286,7 @@ in-nodes i = refl
 cut-sealed : AreSealed cut_folder cut_b
 cut-sealed = record {
   node = ap (λ (f : ℕ → ℕ). node_is_sealed (node_in f (place (nodes 2)))) (λ j i. cut-outside.bytes (Block (file_selector (nodes 2))) i (in-nodes i) j) ∙ (open-keeps.sealed (nodes 2) open_b open-here).node;
-  entry = rewritten-sealed open_folder (records 2) b_fields open-writable open-entry refl (emptied_words 0) (are-changes (records 2) b-kind 0) (before-seal (records 2) b-kind 0) (behind-next 0);
+  entry = rewritten-sealed open_folder (records 2) b_fields open-writable open-entry refl (emptied_words 0) (are-changes (records 2) b-kind 0) (before-seal (records 2) b-kind 0);
 }
 
 -- ---- the state is kept
@@ -282,3 +322,23 @@ same-words = IsPermutation-middle (nodes 2 ∷ records 2 ∷ []) 0xA0010004 []
 cut_is_kept : KeepsUncounted cut (layout_after unsettled_layout (nodes 2) cut_b) (0xA0010004 ∷ []) cut_folder
 cut_is_kept = changed-items-kept (has_claim (claims_of (records 2))) open_state unsettled_layout [] (0xA0010004 ∷ []) open_folder cut_folder 0 open_object cut_object (main (codes "b")) open_b cut_b open-keeps cut-only
     cut-object refl open-here cut-item cut-replaced same-words cut-sealed
+
+-- ---- a link
+
+-- where the record of `b` gets that of the doomed object as its next, links change alone
+abbrev linked_folder : Image
+linked_folder = with_next open_folder (records 2) b_fields open-writable open-entry refl (records 3) (lit< tt)
+
+link-shown : OnlyChainNextChanges (records 2) open_folder linked_folder × ((store_of linked_folder).chain_next (records 2) ≡ records 3)
+link-shown = next-shown open_folder (records 2) b_fields open-writable open-entry refl (records 3) (lit< tt)
+
+link_changes : OnlyLinksChange (records 2) (store_of open_folder) (store_of linked_folder)
+link_changes = next-links open_folder linked_folder (records 2) link-shown.0
+
+left : LeavesFiles open_folder open_folder
+left = record { headers = record { headers = λ n i small. refl; lengths = λ n. refl; files = λ file. refl }; session = record { crash = refl; id = refl }; well_formed = λ well. well }
+
+-- and all is sealed
+link_leaves : (node : ℕ) (loaded : Loaded) → unsettled_layout.at node ≡ Some loaded → AreSealed linked_folder loaded
+link_leaves node loaded here = links.next-sealed open_state unsettled_layout [] open_folder open_folder linked_folder (nodes 2) open_b open-keeps left open-here
+    (next-outside open_folder (records 2) b_fields open-writable open-entry refl (records 3) (lit< tt)) (next-sealed open_folder (records 2) b_fields open-writable open-entry refl (records 3) (lit< tt)) node loaded here (open-keeps.sealed node loaded here)

@@ -160,16 +160,16 @@ module _ (state : ℕ) (become : sealed_fields (with_words (emptied_words state)
   })
 
   pub emptied-outside : SameOutside (record_range (records 3)) worked_folder (emptied_folder state)
-  emptied-outside = rewritten-outside worked_folder (records 3) doomed_fields worked-writable doomed-entry refl (emptied_words state) (are-changes (records 3) its-kind state) (before-seal (records 3) its-kind state) (behind-next state)
+  emptied-outside = rewritten-outside worked_folder (records 3) doomed_fields worked-writable doomed-entry refl (emptied_words state) (are-changes (records 3) its-kind state) (before-seal (records 3) its-kind state)
 
   pub emptied-only : ChangesOnly (has_claim (claims_of (records 3))) worked_folder (emptied_folder state)
-  emptied-only = rewritten-only worked_folder (records 3) doomed_fields worked-writable doomed-entry refl (emptied_words state) (are-changes (records 3) its-kind state) (before-seal (records 3) its-kind state) (behind-next state)
+  emptied-only = rewritten-only worked_folder (records 3) doomed_fields worked-writable doomed-entry refl (emptied_words state) (are-changes (records 3) its-kind state) (before-seal (records 3) its-kind state)
 
   pub emptied-leaves : LeavesFiles worked_folder (emptied_folder state)
-  emptied-leaves = rewritten-leaves worked_folder (records 3) doomed_fields worked-writable doomed-entry refl (emptied_words state) (are-changes (records 3) its-kind state) (before-seal (records 3) its-kind state) (behind-next state)
+  emptied-leaves = rewritten-leaves worked_folder (records 3) doomed_fields worked-writable doomed-entry refl (emptied_words state) (are-changes (records 3) its-kind state) (before-seal (records 3) its-kind state)
 
   pub emptied-writable : IsWritable (emptied_folder state)
-  emptied-writable = rewritten-writable worked_folder (records 3) doomed_fields worked-writable doomed-entry refl (emptied_words state) (are-changes (records 3) its-kind state) (before-seal (records 3) its-kind state) (behind-next state)
+  emptied-writable = rewritten-writable worked_folder (records 3) doomed_fields worked-writable doomed-entry refl (emptied_words state) (are-changes (records 3) its-kind state) (before-seal (records 3) its-kind state)
 
   -- node and record are sealed
   in-nodes : (i : ℕ) → (record_range (records 3)).bytes (Block (file_selector (nodes 3))) i ≡ false
@@ -179,5 +179,5 @@ module _ (state : ℕ) (become : sealed_fields (with_words (emptied_words state)
   pub emptied-sealed : AreSealed (emptied_folder state) emptied
   emptied-sealed = record {
     node = ap (λ (f : ℕ → ℕ). node_is_sealed (node_in f (place (nodes 3)))) (λ j i. emptied-outside.bytes (Block (file_selector (nodes 3))) i (in-nodes i) j) ∙ (worked-keeps.entries.sealed (nodes 3) the_doomed refl).node;
-    entry = rewritten-sealed worked_folder (records 3) doomed_fields worked-writable doomed-entry refl (emptied_words state) (are-changes (records 3) its-kind state) (before-seal (records 3) its-kind state) (behind-next state);
+    entry = rewritten-sealed worked_folder (records 3) doomed_fields worked-writable doomed-entry refl (emptied_words state) (are-changes (records 3) its-kind state) (before-seal (records 3) its-kind state);
   }
