@@ -84,3 +84,4 @@ pub mod WorkedExternals
 pub mod WorkedParts
 pub mod WorkedStops
 pub mod WorkedFreed
+pub mod WorkedNewFile
