@@ -84,4 +84,5 @@ pub mod WorkedExternals
 pub mod WorkedParts
 pub mod WorkedStops
 pub mod WorkedFreed
+pub mod WorkedFreeing
 pub mod WorkedNewFile

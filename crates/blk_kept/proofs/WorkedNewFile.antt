@@ -1,6 +1,6 @@
 -- In a whole folder a fifth block file is made, with its first node marked, and linked behind data_0: it is an allocation in a file that was not linked before.
-use Rattle.std.proofs.Common.{◌≡◌, ◌≢◌, ◌⊎◌, inl, inr, ℕ, zero, suc, ◌+◌, ◌*◌, ◌/◌, ◌%◌, ◌<◌, ◌≤◌, List, [], ◌∷◌, All, length, refl, ap, sym, ◌∙◌, subst, arith, lit<, lit≤, Bool, true, false, None, Option, Some}
-use Rattle.std.specs.Prelude.{◌==◌, ◌&&◌, ◌||◌, if◌then◌else◌, is_some, nat_le, nat_lt}
+use Rattle.std.proofs.Common.{◌≡◌, ◌≢◌, inr, ℕ, zero, suc, ◌+◌, ◌*◌, ◌/◌, ◌%◌, ◌≤◌, List, [], ◌∷◌, refl, ap, sym, ◌∙◌, subst, arith, lit<, lit≤, Bool, true, false, None, Some}
+use Rattle.std.specs.Prelude.{◌==◌, if◌then◌else◌, is_some, nat_lt}
 use Rattle.std.specs.Int.{bit_at}
 use Rattle.std.proofs.lemmas.Bool.{or_left}
 use Rattle.std.proofs.lemmas.Bool.Decides.{nat_tests}
@@ -15,7 +15,7 @@ use Rattle.blk_format.specs.BlockFiles.{IsWellFormed, checks_along, checks_of_ki
 use Rattle.blk_format.specs.Claims.{BlockOf, Claim, claims_of, claims_of_all, has_claim, is_in_file, repeats}
 use Rattle.blk_format.specs.Growth.{HaveGrown}
 use Rattle.blk_format.specs.Headers.{allocations_of, head_checks, list_checks, updating_of}
-use Rattle.blk_format.specs.Maps.{AreAllocations, EmptyAgrees, KeepsFile, groups_of, groups_with, is_block_marked, is_block_marked_at}
+use Rattle.blk_format.specs.Maps.{AreAllocations, EmptyAgrees, KeepsFile, groups_of, groups_with, is_block_marked}
 use Rattle.blk_format.specs.Standing.{stands, stands_as_blocks}
 use Rattle.blk_laws.proofs.claims.ByteChanges.{stands-same}
 use Rattle.blk_laws.proofs.claims.ClaimLists.{claim-append}
