@@ -79,7 +79,10 @@ pub mod WorkedDooms
 pub mod WorkedRecord
 pub mod WorkedCreate
 pub mod WorkedCut
+pub mod WorkedChanges
 pub mod WorkedExternals
 pub mod WorkedParts
 pub mod WorkedStops
 pub mod WorkedFreed
+pub mod WorkedFreeing
+pub mod WorkedNewFile

@@ -1,6 +1,6 @@
 -- Where a folder can be written, the fields of a record that checks can: it is sealed then, its fields are the written ones, and nothing else changes. So the laws on records that change speak of something.
 use Rattle.std.proofs.Common.{◌≡◌, ◌≢◌, inl, inr, ℕ, ◌+◌, ◌<◌, ◌≤◌, List, [], ◌∷◌, All, length, take, refl, ap, sym, ◌∙◌, subst, arith, lit<, Bool, Some, true}
-use Rattle.std.specs.Prelude.{◌%◌, ◌==◌, ◌&&◌, nat_le}
+use Rattle.std.specs.Prelude.{◌^◌, ◌%◌, ◌==◌, ◌&&◌, if◌then◌else◌, nat_le}
 use Rattle.std.proofs.lemmas.Bool.{and_parts, eq-eqb, leb-true}
 use Rattle.std.proofs.Math.Seq.{take-length}
 use Rattle.std.proofs.lemmas.List.{take_at}
@@ -23,13 +23,13 @@ use Rattle.blk_format.proofs.Bodies.{entry_body-in, range-add}
 use Rattle.blk_format.proofs.SealedFields.{record_word, updated_seal}
 use Rattle.blk_format.proofs.SealedRecords.{entry_bytes, length-record, moments, record_inside, updated, whole_update}
 use Rattle.blk_volume.specs.ListImages.{IsWritable}
-use Rattle.blk_volume.specs.ShownChanges.{OnlyRecordFieldsChange}
+use Rattle.blk_volume.specs.ShownChanges.{OnlyChainNextChanges, OnlyRecordFieldsChange}
 use Rattle.blk_volume.specs.View.{RecordFields, entry_at, fields_at, fields_of, stands_as, store_of}
 use Rattle.blk_laws.specs.RecordUpdates.{sealed_fields}
 use Rattle.blk_laws.proofs.chains.ChainWords.{record_checks}
 use Rattle.blk_laws.proofs.claims.ByteChanges.{stands-blocks}
 use Rattle.blk_laws.proofs.lists.WriteSteps.{writable-sealed}
-use Rattle.blk_laws.proofs.updates.Records.{fields-written}
+use Rattle.blk_laws.proofs.updates.Records.{fields-written, follows-written}
 use Rattle.blk_laws.proofs.updates.StillShown.{core-standing, standing-parts}
 use Rattle.blk_laws.proofs.updates.Updates.{entry-here, entry-seal}
 use Rattle.blk_kept.specs.Arranging.{LeavesFiles}
@@ -78,7 +78,7 @@ module _ (from : Image) (w : ℕ) (fields : RecordFields) (ready : IsWritable fr
   pub long-record : length (record_at from w) ≡ 96
   long-record = let seal : seal_place w ≡ 92 = entry-seal w kind in omega (arith, seal, length-record w from)
 
-  module _ (changes : List (ℕ × ℕ)) (are : AreChanges (seal_place w) changes) (before : All (λ (c : ℕ × ℕ). c.0 + 4 ≤ seal_place w) changes) (later : All (λ (c : ℕ × ℕ). 8 ≤ c.0) changes) where
+  module _ (changes : List (ℕ × ℕ)) (are : AreChanges (seal_place w) changes) (before : All (λ (c : ℕ × ℕ). c.0 + 4 ≤ seal_place w) changes) where
     abbrev now : Image
     now = rewritten from w changes
 
@@ -94,12 +94,15 @@ module _ (from : Image) (w : ℕ) (fields : RecordFields) (ready : IsWritable fr
     pub rewritten-outside : SameOutside (record_range w) from now
     rewritten-outside = (until_last (IsMidUpdate from w changes) (IsMidUpdate from w changes) (sealed_steps from w changes) from each).outside
 
+    pub rewritten-whole : (moment : IsMidUpdate from w changes now) × (moment.made ≡ length changes)
+    rewritten-whole = whole_update from now w changes done rewritten-outside
+
     pub rewritten-writable : IsWritable now
     rewritten-writable = until_last IsWritable IsWritable (sealed_steps from w changes) from (writable-sealed w changes from ready)
 
-    pub rewritten-fields : OnlyRecordFieldsChange w from now × ((store_of now).entry w ≡ Some (sealed_fields (with_words changes (record_at from w))))
-    rewritten-fields =
-        let update = whole_update from now w changes done rewritten-outside in
+    pub rewritten-fields : All (λ (c : ℕ × ℕ). 8 ≤ c.0) changes → OnlyRecordFieldsChange w from now × ((store_of now).entry w ≡ Some (sealed_fields (with_words changes (record_at from w))))
+    rewritten-fields later =
+        let update = rewritten-whole in
         let written = fields-written from now w changes fields (record { here = here; good = good; bytes = ready.bytes }) are later update.0 in
         (written.0, written.1 ∙ ap (λ (l : List (ℕ × ℕ)). Some (sealed_fields (with_words l (record_at from w)))) (ap (λ (n : ℕ). take n changes) update.1 ∙ take-length changes))
 
@@ -155,18 +158,48 @@ module _ (from : Image) (w : ℕ) (fields : RecordFields) (ready : IsWritable fr
   later = All-cons (λ (c : ℕ × ℕ). 8 ≤ c.0) (20, 2) [] (omega arith) (All-nil (λ (c : ℕ × ℕ). 8 ≤ c.0))
 
   pub doomed-outside : SameOutside (record_range w) from doomed_record
-  doomed-outside = rewritten-outside from w fields ready here good ((20, 2) ∷ []) is_changes before later
+  doomed-outside = rewritten-outside from w fields ready here good ((20, 2) ∷ []) is_changes before
 
   pub doomed-only : ChangesOnly (has_claim (claims_of w)) from doomed_record
-  doomed-only = rewritten-only from w fields ready here good ((20, 2) ∷ []) is_changes before later
+  doomed-only = rewritten-only from w fields ready here good ((20, 2) ∷ []) is_changes before
 
   pub doomed-leaves : LeavesFiles from doomed_record
-  doomed-leaves = rewritten-leaves from w fields ready here good ((20, 2) ∷ []) is_changes before later
+  doomed-leaves = rewritten-leaves from w fields ready here good ((20, 2) ∷ []) is_changes before
 
   pub doomed-sealed : entry_is_sealed (entry_at doomed_record w) ≡ true
-  doomed-sealed = rewritten-sealed from w fields ready here good ((20, 2) ∷ []) is_changes before later
+  doomed-sealed = rewritten-sealed from w fields ready here good ((20, 2) ∷ []) is_changes before
 
   pub doomed-shown : OnlyRecordFieldsChange w from doomed_record × ((store_of doomed_record).entry w ≡ Some (record fields { state = 2 }))
   doomed-shown =
       let written = rewritten-fields from w fields ready here good ((20, 2) ∷ []) is_changes before later in
       (written.0, written.1 ∙ ap (λ (f : RecordFields). Some f) (doomed-fields (record_at from w) (long-record from w fields ready here good) ∙ ap (λ (f : RecordFields). record f { state = 2 }) (was-fields from w fields ready here good)))
+
+-- ---- the link of a record
+
+module _ (from : Image) (w : ℕ) (fields : RecordFields) (ready : IsWritable from) (here : (store_of from).entry w ≡ Some fields) (good : fields.checks ≡ true) (next : ℕ) (small : next < 2 ^ 32) where
+  abbrev pub with_next : Image
+  with_next = rewritten from w ((4, next) ∷ [])
+
+  next-changes : AreChanges (seal_place w) ((4, next) ∷ [])
+  next-changes = let s = entry-seal w (kind from w fields ready here good) in record {
+    few = omega arith;
+    aligned = All-cons (λ (c : ℕ × ℕ). c.0 % 4 ≡ 0) (4, next) [] refl (All-nil (λ (c : ℕ × ℕ). c.0 % 4 ≡ 0));
+    before = All-cons (λ (c : ℕ × ℕ). c.0 < seal_place w) (4, next) [] (omega (arith, s)) (All-nil (λ (c : ℕ × ℕ). c.0 < seal_place w));
+    different = (All-nil (λ (c : ℕ × ℕ). c.0 ≢ 4), tt);
+  }
+
+  next-before : All (λ (c : ℕ × ℕ). c.0 + 4 ≤ seal_place w) ((4, next) ∷ [])
+  next-before = let s = entry-seal w (kind from w fields ready here good) in All-cons (λ (c : ℕ × ℕ). c.0 + 4 ≤ seal_place w) (4, next) [] (omega (arith, s)) (All-nil (λ (c : ℕ × ℕ). c.0 + 4 ≤ seal_place w))
+
+  pub next-outside : SameOutside (record_range w) from with_next
+  next-outside = rewritten-outside from w fields ready here good ((4, next) ∷ []) next-changes next-before
+
+  pub next-sealed : entry_is_sealed (entry_at with_next w) ≡ true
+  next-sealed = rewritten-sealed from w fields ready here good ((4, next) ∷ []) next-changes next-before
+
+  -- only the link changes, and is this then
+  pub next-shown : OnlyChainNextChanges w from with_next × ((store_of with_next).chain_next w ≡ next)
+  next-shown =
+      let update = rewritten-whole from w fields ready here good ((4, next) ∷ []) next-changes next-before in
+      let written = follows-written from with_next w next fields (record { here = here; good = good; bytes = ready.bytes }) small update.0 in
+      (written.0, written.1 ∙ ap (λ (m : ℕ). if m == 0 then (store_of from).chain_next w else next) update.1)

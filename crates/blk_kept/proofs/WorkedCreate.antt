@@ -45,13 +45,14 @@ use Rattle.blk_kept.specs.Keeping.{Keeps, KeepsUncounted}
 use Rattle.blk_kept.specs.NewEntryLaws.{IsInsertDone, HasRecordInFront, IsNewEntryOf}
 use Rattle.blk_kept.proofs.CreateStops.{creates-counted, inserts-stop, links-stop}
 use Rattle.blk_kept.proofs.DoneSteps.{insert-done}
-use Rattle.blk_kept.proofs.Free.{standing-at, unlinked-change}
+use Rattle.blk_kept.proofs.AtNodes.{updates-leave}
+use Rattle.blk_kept.proofs.Free.{same-counted, standing-at, unlinked-change}
 use Rattle.blk_kept.proofs.OneCalls.{closes-of-doomed-unlink}
 use Rattle.blk_kept.proofs.RecordSteps.{fields-are}
 use Rattle.blk_kept.proofs.WorkedFolder.{short_folder}
 use Rattle.blk_kept.proofs.WorkedKept.{same-bytes, worked-id, worked-keeps, worked-represents, worked_folder}
 use Rattle.blk_kept.proofs.WorkedMarks.{doomed-placed, doomed_checks}
-use Rattle.blk_kept.proofs.WorkedRecord.{emptied, emptied-are, emptied-entry, emptied-leaves, emptied-loads, emptied-only, emptied-sealed, emptied-writable, emptied-written, emptied_fields, emptied_folder, its-hash}
+use Rattle.blk_kept.proofs.WorkedRecord.{emptied, emptied-are, emptied-entry, emptied-leaves, emptied-loads, emptied-only, emptied-outside, emptied-sealed, emptied-writable, emptied-written, emptied_fields, emptied_folder, its-hash}
 use Rattle.blk_kept.proofs.WorkedState.{doomed_object, nodes, records, the_doomed, worked, worked-valid, worked_layout}
 
 -- ---- the doomed object is closed
@@ -109,6 +110,10 @@ fresh-once = refl
 entry-kept : KeepsUncounted closed closed_layout (words_of fresh ++ 0xA0010005 ∷ []) entry_folder
 entry-kept = unlinked-change (has_claim (claims_of (records 3))) (words_of the_doomed) worked_folder entry_folder record-unlinked
     (emptied-only 0 emptied-are.0) closed closed_layout [] closed-keeps.entries
+
+-- the counters of the index are as they were, and count the items still
+entry-counted : Keeps closed closed_layout (words_of fresh ++ 0xA0010005 ∷ []) entry_folder
+entry-counted = same-counted closed closed_layout (words_of the_doomed ++ []) (words_of fresh ++ 0xA0010005 ∷ []) worked_folder entry_folder closed-keeps entry-kept (updates-leave worked_folder entry_folder (records 3) (emptied-outside 0 emptied-are.0))
 
 nothing-there : closed_layout.at (nodes 3) ≡ None
 unfolding put

@@ -101,7 +101,7 @@ apart-b = (inr refl, (inr refl, (inl refl, (inr refl, tt))))
 
 -- ---- `b`
 
-abbrev without_b : Image
+abbrev pub without_b : Image
 without_b = unchained (unlisted both_folder (nodes 2)) 0xA0E1
 
 b-unlisted : IsRemovalDone both_folder (nodes 2) (unlisted both_folder (nodes 2))
@@ -135,10 +135,10 @@ b-doomed = doomed-record without_b (nodes 2) the_plain b-ready b-loads (once the
 abbrev doomed_b : Image
 doomed_b = with_doomed without_b the_plain
 
-abbrev but_b : Item → Bool
+abbrev pub but_b : Item → Bool
 but_b = keeps_but (λ item. true) (main (codes "b"))
 
-b_is_out : KeepsPartlyOut both worked_layout but_b (chains_but chain_of (records 2)) (words_of the_plain ++ []) without_b
+pub b_is_out : KeepsPartlyOut both worked_layout but_b (chains_but chain_of (records 2)) (words_of the_plain ++ []) without_b
 b_is_out = one-more-goes both worked_layout (λ item. true) chain_of [] (main (codes "b")) the_plain both_folder without_b all-there refl refl b-goes
 
 b_stays_out : KeepsPartlyOut both worked_layout but_b (chains_but chain_of (records 2)) (words_of the_plain ++ []) doomed_b

@@ -63,7 +63,7 @@ write_names = record { affected = record { passes = refl; here = refl; live = re
 write_unsettles : Unsettles opened 100 (to_write 6 0 0 false (codes "zz")) 0 plain_object
 write_unsettles = writes-unsettle opened 100 6 0 0 false (codes "zz") 0 plain_object write_names
 
-b_checks : (list_of opened_folder).checks (nodes 2) ≡ true
+pub b_checks : (list_of opened_folder).checks (nodes 2) ≡ true
 unfolding computing
 b_checks = opened-keeps.entries.represents.list.linked.0.good
 

@@ -54,21 +54,21 @@ its-kind = refl
 three-words : (state : ℕ) (P : ℕ × ℕ → Type 0) → P (20, state) → P (40, 0) → P (56, 0) → All P (emptied_words state)
 three-words state P a b c = All-cons P (20, state) ((40, 0) ∷ (56, 0) ∷ []) a (All-cons P (40, 0) ((56, 0) ∷ []) b (All-cons P (56, 0) [] c (All-nil P)))
 
-are-changes : (state : ℕ) → AreChanges (seal_place (records 3)) (emptied_words state)
-are-changes state = let s = entry-seal (records 3) its-kind in record {
+pub are-changes : (w : ℕ) → kind_of w ≡ blocks_256 → (state : ℕ) → AreChanges (seal_place w) (emptied_words state)
+are-changes w kind state = let s = entry-seal w kind in record {
   few = omega arith;
   aligned = three-words state (λ c. c.0 % 4 ≡ 0) refl refl refl;
-  before = three-words state (λ c. c.0 < seal_place (records 3)) (omega (arith, s)) (omega (arith, s)) (omega (arith, s));
+  before = three-words state (λ c. c.0 < seal_place w) (omega (arith, s)) (omega (arith, s)) (omega (arith, s));
   different = (
     All-cons (λ (c : ℕ × ℕ). c.0 ≢ 20) (40, 0) ((56, 0) ∷ []) (omega arith) (All-cons (λ (c : ℕ × ℕ). c.0 ≢ 20) (56, 0) [] (omega arith) (All-nil (λ (c : ℕ × ℕ). c.0 ≢ 20))),
     (All-cons (λ (c : ℕ × ℕ). c.0 ≢ 40) (56, 0) [] (omega arith) (All-nil (λ (c : ℕ × ℕ). c.0 ≢ 40)), (All-nil (λ (c : ℕ × ℕ). c.0 ≢ 56), tt)),
   );
 }
 
-before-seal : (state : ℕ) → All (λ (c : ℕ × ℕ). c.0 + 4 ≤ seal_place (records 3)) (emptied_words state)
-before-seal state = let s = entry-seal (records 3) its-kind in three-words state (λ c. c.0 + 4 ≤ seal_place (records 3)) (omega (arith, s)) (omega (arith, s)) (omega (arith, s))
+pub before-seal : (w : ℕ) → kind_of w ≡ blocks_256 → (state : ℕ) → All (λ (c : ℕ × ℕ). c.0 + 4 ≤ seal_place w) (emptied_words state)
+before-seal w kind state = let s = entry-seal w kind in three-words state (λ c. c.0 + 4 ≤ seal_place w) (omega (arith, s)) (omega (arith, s)) (omega (arith, s))
 
-behind-next : (state : ℕ) → All (λ (c : ℕ × ℕ). 8 ≤ c.0) (emptied_words state)
+pub behind-next : (state : ℕ) → All (λ (c : ℕ × ℕ). 8 ≤ c.0) (emptied_words state)
 behind-next state = three-words state (λ c. 8 ≤ c.0) (omega arith) (omega arith) (omega arith)
 
 -- the record then, and what its node names
@@ -108,7 +108,7 @@ emptied_folder state = rewritten worked_folder (records 3) (emptied_words state)
 
 module _ (state : ℕ) (become : sealed_fields (with_words (emptied_words state) (record_at short_folder (records 3))) ≡ emptied_fields state) where
   pub emptied-written : OnlyRecordFieldsChange (records 3) worked_folder (emptied_folder state) × ((store_of (emptied_folder state)).entry (records 3) ≡ Some (sealed_fields (with_words (emptied_words state) (record_at worked_folder (records 3)))))
-  emptied-written = rewritten-fields worked_folder (records 3) doomed_fields worked-writable doomed-entry refl (emptied_words state) (are-changes state) (before-seal state) (behind-next state)
+  emptied-written = rewritten-fields worked_folder (records 3) doomed_fields worked-writable doomed-entry refl (emptied_words state) (are-changes (records 3) its-kind state) (before-seal (records 3) its-kind state) (behind-next state)
 
   pub emptied-entry : (store_of (emptied_folder state)).entry (records 3) ≡ Some (emptied_fields state)
   emptied-entry = emptied-written.1 ∙ ap (λ (bytes : List ℕ). Some (sealed_fields (with_words (emptied_words state) bytes))) same-record ∙ ap (λ (f : RecordFields). Some f) become
@@ -160,16 +160,16 @@ module _ (state : ℕ) (become : sealed_fields (with_words (emptied_words state)
   })
 
   pub emptied-outside : SameOutside (record_range (records 3)) worked_folder (emptied_folder state)
-  emptied-outside = rewritten-outside worked_folder (records 3) doomed_fields worked-writable doomed-entry refl (emptied_words state) (are-changes state) (before-seal state) (behind-next state)
+  emptied-outside = rewritten-outside worked_folder (records 3) doomed_fields worked-writable doomed-entry refl (emptied_words state) (are-changes (records 3) its-kind state) (before-seal (records 3) its-kind state)
 
   pub emptied-only : ChangesOnly (has_claim (claims_of (records 3))) worked_folder (emptied_folder state)
-  emptied-only = rewritten-only worked_folder (records 3) doomed_fields worked-writable doomed-entry refl (emptied_words state) (are-changes state) (before-seal state) (behind-next state)
+  emptied-only = rewritten-only worked_folder (records 3) doomed_fields worked-writable doomed-entry refl (emptied_words state) (are-changes (records 3) its-kind state) (before-seal (records 3) its-kind state)
 
   pub emptied-leaves : LeavesFiles worked_folder (emptied_folder state)
-  emptied-leaves = rewritten-leaves worked_folder (records 3) doomed_fields worked-writable doomed-entry refl (emptied_words state) (are-changes state) (before-seal state) (behind-next state)
+  emptied-leaves = rewritten-leaves worked_folder (records 3) doomed_fields worked-writable doomed-entry refl (emptied_words state) (are-changes (records 3) its-kind state) (before-seal (records 3) its-kind state)
 
   pub emptied-writable : IsWritable (emptied_folder state)
-  emptied-writable = rewritten-writable worked_folder (records 3) doomed_fields worked-writable doomed-entry refl (emptied_words state) (are-changes state) (before-seal state) (behind-next state)
+  emptied-writable = rewritten-writable worked_folder (records 3) doomed_fields worked-writable doomed-entry refl (emptied_words state) (are-changes (records 3) its-kind state) (before-seal (records 3) its-kind state)
 
   -- node and record are sealed
   in-nodes : (i : ℕ) → (record_range (records 3)).bytes (Block (file_selector (nodes 3))) i ≡ false
@@ -179,5 +179,5 @@ module _ (state : ℕ) (become : sealed_fields (with_words (emptied_words state)
   pub emptied-sealed : AreSealed (emptied_folder state) emptied
   emptied-sealed = record {
     node = ap (λ (f : ℕ → ℕ). node_is_sealed (node_in f (place (nodes 3)))) (λ j i. emptied-outside.bytes (Block (file_selector (nodes 3))) i (in-nodes i) j) ∙ (worked-keeps.entries.sealed (nodes 3) the_doomed refl).node;
-    entry = rewritten-sealed worked_folder (records 3) doomed_fields worked-writable doomed-entry refl (emptied_words state) (are-changes state) (before-seal state) (behind-next state);
+    entry = rewritten-sealed worked_folder (records 3) doomed_fields worked-writable doomed-entry refl (emptied_words state) (are-changes (records 3) its-kind state) (before-seal (records 3) its-kind state);
   }
