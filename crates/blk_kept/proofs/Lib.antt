@@ -83,3 +83,7 @@ pub mod WorkedExternals
 pub mod WorkedParts
 pub mod WorkedStops
 pub mod WorkedFreed
+pub mod RestGroups
+pub mod RestRoom
+pub mod RestGrowth
+pub mod RestsOfCommands
