@@ -87,3 +87,4 @@ pub mod RestGroups
 pub mod RestRoom
 pub mod RestGrowth
 pub mod RestsOfCommands
+pub mod RestExamples

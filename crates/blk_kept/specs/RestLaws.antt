@@ -41,3 +41,16 @@ RestsEndAlike = (state : State) (moment : ℕ) (request : Request) (first others
 abbrev pub StopsInRestsAreInTheWhole : Type 0
 StopsInRestsAreInTheWhole = (state : State) (moment : ℕ) (request : Request) (first others : List Group) (held : List Row) → IsValidState state → EvictsFirst state moment request first others → GoesOn state moment request first others
     → StopOutcome (without first state) moment request (step (without first state) moment request).state held → StopOutcome state moment request (step state moment request).state held
+
+-- a stop in the rest of a command that is none in the whole of it
+pub record StopOnlyInTheRest : Type 0 where
+  pub state : State
+  pub moment : ℕ
+  pub request : Request
+  pub first : List Group
+  pub others : List Group
+  pub held : List Row
+  pub valid : IsValidState state
+  pub evicts : EvictsFirst state moment request first others
+  pub in_rest : StopOutcome (without first state) moment request (step (without first state) moment request).state held
+  pub not_in_whole : StopOutcome state moment request (step state moment request).state held → ⊥
