@@ -86,3 +86,8 @@ pub mod WorkedStops
 pub mod WorkedFreed
 pub mod WorkedFreeing
 pub mod WorkedNewFile
+pub mod RestGroups
+pub mod RestRoom
+pub mod RestGrowth
+pub mod RestsOfCommands
+pub mod RestExamples

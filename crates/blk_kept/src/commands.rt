@@ -13,6 +13,7 @@ ghost use Rattle.blk_kept.specs.HeldPartlyOut.{HeldOutObjectsAreDoomed, HeldOutD
 ghost use Rattle.blk_kept.specs.PartlyOutStops.{ItemsOfAKeyLeaveOthers, PartlyOutIsOut, PartlyOutFindsDoomed, NextPartsFindDoomed, UnlinkingItemsFindsDoomed, FreeingFindsDoomed, DeletingFindsDoomed, PartlyOutDoomsMayStop, PartlyOutGroupsMayStop};
 ghost use Rattle.blk_kept.specs.CountsOfParts.{GoneItemsAreLess, DoomedItemsAreLess, NextItemsAreOneLess, NewPartsAreOneMore};
 ghost use Rattle.blk_kept.specs.CreateStops.{InsertsMayStop, LinksMayStop, CreatesEndOnceCounted};
+ghost use Rattle.blk_kept.specs.RestLaws.{RestsAreNotRefused, RestsEvictTheOthersOrNone, TrimsGoOn, RestsHaveTheLaterSteps, RestsEndAlike, StopsInRestsAreInTheWhole, StopOnlyInTheRest};
 ghost use Rattle.blk_kept.specs.StopLaws.{WhatIsLeftMayStop, OrdersMayBeLeft, UsesMayBeLeft, UsesGoOn, RoomMayBeLeft, HandlesAreNotAtRest, DoomedObjectsAreNotAtRest, UnsettledObjectsAreNotAtRest, OwnUsesKeepOthers, OthersMayBeLeftOnceUnsettled, OthersMayBeLeftWhileDoomed};
 
 /// Once some groups are out and some of the later list steps are made, a stop may leave what is at rest in that order; where that is found the request may be stopped.
@@ -216,4 +217,15 @@ pub fn creates_may_be_stopped()
     ensures inserts { InsertsMayStop }
     ensures links { LinksMayStop }
     ensures ends { CreatesEndOnceCounted }
+{}
+
+/// On the state without the first groups that it evicts a command isn't refused, and evicts the others, or nothing where all fits before they are out, which a Trim never does. Where it evicts the others its steps are the later ones, it ends alike, and a stop in it is one in the whole command; where it evicts nothing one need not be.
+pub fn rests_of_commands_may_be_stopped()
+    ensures passes { RestsAreNotRefused }
+    ensures evicts { RestsEvictTheOthersOrNone }
+    ensures trims { TrimsGoOn }
+    ensures steps { RestsHaveTheLaterSteps }
+    ensures ends { RestsEndAlike }
+    ensures stops { StopsInRestsAreInTheWhole }
+    ensures only_where { StopOnlyInTheRest }
 {}

@@ -11,10 +11,9 @@ use Rattle.blk_format.specs.BlockFiles.{kind_among, max_entries_in, stands_in, s
 use Rattle.blk_format.specs.Claims.{is_in_file}
 use Rattle.blk_format.specs.Growth.{KeepsBlocks}
 use Rattle.blk_format.specs.Headers.{allocations_of}
-use Rattle.blk_format.specs.Maps.{EmptyAgrees, is_block_marked}
+use Rattle.blk_format.specs.Maps.{EmptyAgrees, is_block_marked, KeepsFile}
 use Rattle.blk_format.specs.Standing.{stands, stands_as_blocks}
 use Rattle.blk_format.proofs.SpareHeaders.{SparesHeaders, blocks_same, linked_same}
-use Rattle.blk_alloc.specs.Owning.{KeepsFile}
 
 -- no byte of a block file is touched, and the length and presence of none
 pub record SparesBlockFiles (F : Footprint) : Type 0 where

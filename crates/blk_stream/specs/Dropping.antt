@@ -13,7 +13,7 @@ use Rattle.blk_disk.specs.declared.tables.BlockFiles.{BlockFiles}
 use Rattle.blk_disk.specs.Tables.{stands_among}
 use Rattle.blk_entry.specs.Keys.{IsHeadDamage}
 use Rattle.blk_alloc.specs.Owning.{IsCause}
-use Rattle.blk_stream.specs.Streams.{HasStreamPlace, HasStreams, IsMisplaced, address_word, size_word}
+use Rattle.blk_stream.specs.Streams.{HasStreamPlace, HasStreams, IsMisplacedStream, address_word, size_word}
 use Rattle.blk_stream.specs.Changing.{HasWords, stream_words}
 use Rattle.blk_stream.specs.Freeing.{MayBeFreed, is_block_of, leaving_of, left_by}
 
@@ -107,7 +107,7 @@ pub record StreamCanBeDropped (files : BlockFiles) (entry i : ℕ) (image : Imag
 -- why one is not dropped: its words are wrong, or the header of the file of its blocks is damaged
 abbrev pub IsStreamDropDamage : BlockFiles → Told → ℕ → ℕ → Damage → Type 0
 IsStreamDropDamage files after entry i damage =
-    IsMisplaced files entry i damage
+    IsMisplacedStream files entry i damage
     ⊎ ((w : ℕ) × (stands_among files w ≡ true) × IsCause after (file_selector w) (first_block w) (block_count w) false damage)
 
 -- why the streams of a record are not dropped: the record is damaged, and nothing was written; or the words of one of them are wrong, or the header of the file of its blocks is damaged

@@ -17,7 +17,7 @@ use Rattle.blk_io.specs.Faults.{IsShort}
 use Rattle.blk_disk.specs.declared.tables.BlockFiles.{BlockFiles}
 use Rattle.blk_disk.specs.Tables.{all_files, files_of}
 use Rattle.blk_disk.specs.Growth.{addition_of, free_number, growth_of}
-use Rattle.blk_external.specs.Making.{Creates, IsFull, last_file_place, last_number, touched_by_making}
+use Rattle.blk_external.specs.Making.{Creates, AreNumbersUsedUp, last_file_place, last_number, touched_by_making}
 use Rattle.blk_external.specs.Numbers.{HasFreeNumber, IsFirstFree}
 use Rattle.blk_alloc.specs.Allocating.{AreCounted, IsRefusal}
 use Rattle.blk_alloc.specs.Extending.{HasMostBlocks, IsFirstGrowing}
@@ -114,5 +114,5 @@ pub record IsPlaced (files : BlockFiles) (w : ℕ) (from image : Image) : Type 0
 -- why there is no new place for data of a size: the last number can't be read or all numbers are taken, and nothing is written; or the blocks are not allocated
 abbrev pub IsPlaceRefusal : BlockFiles → BlockFiles → ℕ → Told → Told → Damage → Type 0
 IsPlaceRefusal old new size before after damage =
-    ((kind_for size ≡ external) × Stays before after × (IsShort before names.Index last_file_place 4 damage ⊎ IsFull before damage))
+    ((kind_for size ≡ external) × Stays before after × (IsShort before names.Index last_file_place 4 damage ⊎ AreNumbersUsedUp before damage))
     ⊎ ((kind_for size ≢ external) × IsRefusal old new (kind_for size) (blocks_for size) before after damage)

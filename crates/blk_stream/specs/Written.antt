@@ -15,7 +15,7 @@ use Rattle.blk_disk.specs.declared.tables.BlockFiles.{BlockFiles}
 use Rattle.blk_disk.specs.Tables.{all_files, stands_among}
 use Rattle.blk_entry.specs.Keys.{IsHeadDamage, data_at}
 use Rattle.blk_alloc.specs.Owning.{IsCause}
-use Rattle.blk_stream.specs.Streams.{HasStreamPlace, HasStreams, IsMisplaced, address_word, size_word, stream_bytes}
+use Rattle.blk_stream.specs.Streams.{HasStreamPlace, HasStreams, IsMisplacedStream, address_word, size_word, stream_bytes}
 use Rattle.blk_stream.specs.Changing.{HasWords, stream_words}
 use Rattle.blk_stream.specs.Copying.{IsCutRead}
 use Rattle.blk_stream.specs.Dropping.{KeepsStream}
@@ -99,7 +99,7 @@ pub record WritesStream (files : BlockFiles) (entry i size offset : ℕ) (cut : 
 -- the record is damaged or the words of the stream are wrong, and nothing was written; or there is no new place; or old bytes are not in their file; or the header of the file of the old blocks is damaged
 abbrev pub IsWriteDamage : BlockFiles → BlockFiles → Told → Told → ℕ → ℕ → Damage → Type 0
 IsWriteDamage files kept before after entry i damage =
-    (Stays before after × (IsHeadDamage before entry damage ⊎ IsMisplaced files entry i damage))
+    (Stays before after × (IsHeadDamage before entry damage ⊎ IsMisplacedStream files entry i damage))
     ⊎ ((size : ℕ) × IsPlaceRefusal files kept size before after damage)
     ⊎ ((w : ℕ) × (size : ℕ) × IsCutRead w size damage)
     ⊎ ((w : ℕ) × (stands_among kept w ≡ true) × IsCause after (file_selector w) (first_block w) (block_count w) false damage)
