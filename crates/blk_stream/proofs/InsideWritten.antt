@@ -27,7 +27,7 @@ use Rattle.blk_entry.proofs.NewImages.{same_kind}
 use Rattle.blk_entry.proofs.Windows.{entry_room, entry_room_least}
 use Rattle.blk_stream.specs.Streams.{size_place, size_word}
 use Rattle.blk_stream.specs.Changing.{record_word}
-use Rattle.blk_stream.specs.Inside.{HoldsStream, WritesInside, data_of, here_steps, inside_steps, room_steps, size_steps, size_words}
+use Rattle.blk_stream.specs.Inside.{HasStreamLength, WritesInside, data_of, here_steps, inside_steps, room_steps, size_steps, size_words}
 use Rattle.blk_entry.specs.Steps.{data_steps}
 use Rattle.blk_stream.proofs.Naming.{apart_place}
 use Rattle.blk_stream.proofs.InsideSteps.{apart_file, here_outside, fits, mid_record, mid_sealed, place_of_entry, sealed_within, size_changes, size_none, size_some}
@@ -84,7 +84,7 @@ data_inside w blocky = let t : (kind_of w == external) ≡ false = grind (arith,
 -- What both leave.
 module _ (files : BlockFiles) (entry i w old size offset : ℕ) (bytes : List ℕ) (kind : kind_of entry ≡ blocks_256) (stands : stands_among files entry ≡ true) (small : i < 3)
     (inside : IsInside files w 0 size) (few : offset + length bytes ≤ size) (apart : kind_of w ≢ external → ShareNoBlock entry w) (from : Image) (agrees : Agrees files from) (good : RecordChecks entry from)
-    (long : HoldsStream w old from) (record_bytes : List ℕ) (read : record_bytes ≡ record_at from entry) where
+    (long : HasStreamLength w old from) (record_bytes : List ℕ) (read : record_bytes ≡ record_at from entry) where
   abbrev mid : Image
   mid = after (here_steps w old size offset bytes) from
 
@@ -152,7 +152,7 @@ module _ (files : BlockFiles) (entry i w old size offset : ℕ) (bytes : List �
           ∙ sym (word_of_record (after steps mid) entry (size_place i) (let n : record_size entry ≡ 96 = entry_bytes entry kind in omega (arith, n, small)))
           ∙ updated_is_new mid (after steps mid) entry ((size_place i, size) ∷ []) (size_changes entry i (size_place i) size kind small refl) done 0 (size_place i, size) (omega arith) (All-cons (λ c. c.1 < 2 ^ 32) (size_place i, size) [] fit (All-nil (λ c. c.1 < 2 ^ 32)))
 
-  mid_long : HoldsStream w size mid
+  mid_long : HasStreamLength w size mid
   mid_long x =
       let f = data_outside w x in
       subst (λ (g : File). length_of mid g ≡ size) f.0
@@ -160,7 +160,7 @@ module _ (files : BlockFiles) (entry i w old size offset : ℕ) (bytes : List �
       ∙ data_long w offset bytes (after (room_steps w old size offset) from)
       ∙ made_long from w old size offset x (subst (λ (g : File). length_of from g ≡ old) (sym f.0) (long x)))
 
-  last_long : HoldsStream w size last
+  last_long : HasStreamLength w size last
   last_long x =
       last_same.lengths (External (external_number w)) refl ∙ mid_long x
 

@@ -28,7 +28,7 @@ use Rattle.blk_stream.specs.Streams.{may_keep}
 use Rattle.blk_stream.specs.Copying.{HasOldPlace, IsOldThere, ShareNoData, ShareNoFile}
 use Rattle.blk_stream.specs.Filling.{FillsPlace}
 use Rattle.blk_stream.specs.Freeing.{MayBeFreed}
-use Rattle.blk_stream.specs.Inside.{HoldsStream, data_of}
+use Rattle.blk_stream.specs.Inside.{HasStreamLength, data_of}
 use Rattle.blk_stream.specs.Moving.{CanBeFilled, FillsInProgress, IsFilled, data_at_place}
 use Rattle.blk_stream.specs.Placing.{CanBePlaced, InAddition, InFile, InGrowth, IsPlaced, IsSite, IsSiteOf, LosesNothing, NewFile, Nowhere, PlacesInProgress, Site, gained_by, placing_of}
 use Rattle.blk_stream.proofs.Apart.{new_apart}
@@ -104,7 +104,7 @@ none_filled files old size offset bytes from agrees none few = record {
 
 -- A new external file has no bytes.
 
-pub new_empty : (files : BlockFiles) (w : ℕ) (from made : Image) → w ≢ 0 → IsPlaced files w from made → HoldsStream w 0 made
+pub new_empty : (files : BlockFiles) (w : ℕ) (from made : Image) → w ≢ 0 → IsPlaced files w from made → HasStreamLength w 0 made
 new_empty files w from made some placed kind = by_site placed.site refl placed.at
   where
     by_site : (s : Site) → placed.site ≡ s → IsSiteOf s w → length_of made (External (external_number w)) ≡ 0
@@ -210,7 +210,7 @@ module _ (files kept : BlockFiles) (old : Stored) (w size offset : ℕ) (bytes :
       passes_then (passes_weaker (place_stops from there (can.room more)) (λ image h. inl h) (λ image h. inl h))
       (passes_weaker (fill_stops mid.image mid.is) (λ image same. filling_word files kept w size from mid.image image fits some mid.holds same) (λ image same. filling_word files kept w size from mid.image image fits some mid.holds same))
 
-  pub both_fill : ForSome m.files (λ mid. Passes m b (SameOutside (data_of w) mid)) → ForSome m.files (λ mid. ShareNoData (unwrap_or old.addr 0) w → HoldsStream w 0 mid → ForSome b.files (FillsPlace (unwrap_or old.addr 0) w old.size size offset bytes mid))
+  pub both_fill : ForSome m.files (λ mid. Passes m b (SameOutside (data_of w) mid)) → ForSome m.files (λ mid. ShareNoData (unwrap_or old.addr 0) w → HasStreamLength w 0 mid → ForSome b.files (FillsPlace (unwrap_or old.addr 0) w old.size size offset bytes mid))
       → ForSome a.files (λ from. CanBeFilled files old size from → ForSome b.files (IsFilled files old w size offset bytes from))
   both_fill fill_stops fills from there can image now =
       let mid = made from there can in

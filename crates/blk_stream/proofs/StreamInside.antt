@@ -33,7 +33,7 @@ use Rattle.blk_stream.specs.Copying.{ShareNoData}
 use Rattle.blk_stream.specs.Changing.{HasWords, record_word, stream_words}
 use Rattle.blk_stream.specs.Dropping.{KeepsStream}
 use Rattle.blk_stream.specs.Freeing.{is_block_of}
-use Rattle.blk_stream.specs.Inside.{HoldsStream, WritesInProgress, WritesInside, data_of, size_words}
+use Rattle.blk_stream.specs.Inside.{HasStreamLength, WritesInProgress, WritesInside, data_of, size_words}
 use Rattle.blk_stream.specs.Moving.{HasPlaceLength, data_at_place}
 use Rattle.blk_stream.specs.Placing.{Nowhere, placing_of}
 use Rattle.blk_stream.specs.Writing.{have_one_storage, size_after}
@@ -397,9 +397,9 @@ storage_stays files old size w some keep one most =
     ∙ (may_parts files old w keep).1)
 
 -- an external stream has its exact length
-pub long_here : (from : Image) (entry i w old : ℕ) (streams : List (List ℕ)) → i < 3 → streams_at from entry ≡ Some streams → address_word from entry i ≡ w → size_word from entry i ≡ old → 0 < old → HoldsStream w old from
+pub long_here : (from : Image) (entry i w old : ℕ) (streams : List (List ℕ)) → i < 3 → streams_at from entry ≡ Some streams → address_word from entry i ≡ w → size_word from entry i ≡ old → 0 < old → HasStreamLength w old from
 long_here from entry i w old streams small has is_word is_size some =
-    subst (λ (v : ℕ). HoldsStream v old from) is_word
+    subst (λ (v : ℕ). HasStreamLength v old from) is_word
     (λ kind. stream_long from entry i streams small has (omega (arith, is_size, some)) kind ∙ is_size)
 
 -- The call.
@@ -423,7 +423,7 @@ module _ (files : BlockFiles) (entry i size addr : ℕ) (old : Stored) (offset :
       let word = inside_writes files entry i size addr kind stands small from (agrees from there) now (word_is from there) some fits offset cut bytes in
       subst (λ (n : ℕ). Passes a b (WritesStream files entry i n offset cut bytes from)) is (passes_weaker (stops from there (apart_now from there now)) word word)
 
-  pub inside_end : ForSome a.files (λ from. HoldsStream addr old.size from → (kind_of addr ≢ external → ShareNoBlock entry addr) → ForSome b.files (WritesInside entry i addr old.size size offset bytes from))
+  pub inside_end : ForSome a.files (λ from. HasStreamLength addr old.size from → (kind_of addr ≢ external → ShareNoBlock entry addr) → ForSome b.files (WritesInside entry i addr old.size size offset bytes from))
       → ForSome a.files (λ from. CanBeWritten files entry i (size_after cut old.size offset (length bytes)) from → ForSome b.files (StreamIsWritten files files entry i offset cut bytes from))
   inside_end written from there can image now =
       let can_here = can_now from can in

@@ -13,7 +13,7 @@ use Rattle.blk_stream.specs.Streams.{may_keep}
 use Rattle.blk_stream.specs.Changing.{HasWords, stream_words}
 use Rattle.blk_stream.specs.Copying.{IsCutOld, IsOldThere}
 use Rattle.blk_stream.specs.Freeing.{MayBeFreed, freeing_of, is_block_of, left_by}
-use Rattle.blk_stream.specs.Inside.{HoldsStream, data_of}
+use Rattle.blk_stream.specs.Inside.{HasStreamLength, data_of}
 use Rattle.blk_entry.specs.Keys.{data_at}
 use Rattle.blk_model.specs.Effects.{stream_after}
 use Rattle.blk_stream.specs.Writing.{size_after}
@@ -50,7 +50,7 @@ data_at_place w = if w == 0 then nothing else data_of w
 
 -- where a place is an external file, this has the length of its data
 abbrev pub HasPlaceLength : ℕ → ℕ → Image → Type 0
-HasPlaceLength w size image = w ≢ 0 → HoldsStream w size image
+HasPlaceLength w size image = w ≢ 0 → HasStreamLength w size image
 
 -- there can be a new place for data of a size, which gets the bytes of an old one: there is room where there are bytes, and the old place is allocated or its file is there
 pub record CanBeFilled (files : BlockFiles) (old : Stored) (size : ℕ) (image : Image) : Type 0 where
