@@ -15,7 +15,8 @@ read_block-requires-clause-inside g c = record_fits c.args.entry c.requires.kind
 pub returns-clause-words : goal.returns-clause-words
 returns-clause-words g c image there =
     subst (AreWordsOf image c.args.entry) (sym c.words_of.ensures)
-    (are_words image c.args.entry c.read_block.new.out (g.met.F.Folder.are_bytes c.args.f.now image there) c.requires.kind (c.in_ok-read_block.ensures.bytes image there))
+    (are_words image c.args.entry c.read_block.new.out (g.met.F.Folder.are_bytes c.args.f.now image there) c.requires.kind (c.in_ok-read_block.ensures.bytes image there)
+    (⊎_elim (λ (h : place c.args.entry + 0 + 96 ≤ length_of image (Block (file_selector c.args.entry))). omega (arith, h)) (λ (none : ◌≡◌ {A = ℕ} 96 0). absurd (omega (arith, none))) (c.in_ok-read_block.ensures.checked image there)))
 
 pub returns-in_err-read_block-clause-short : goal.returns-in_err-read_block-clause-short
 returns-in_err-read_block-clause-short g c =
