@@ -10,8 +10,6 @@ mod kinds;
 pub mod laws;
 mod no_memory;
 mod storage;
-#[cfg(test)]
-mod tests;
 
 pub use address::Addr;
 pub use claim_set::Claims;

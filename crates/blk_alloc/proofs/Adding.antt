@@ -22,7 +22,7 @@ use Rattle.blk_image.proofs.Cuts.{after-append}
 use Rattle.blk_image.proofs.Images.{other-word, with_file-same}
 use Rattle.blk_addr.specs.declared.kinds.Kind.{Kind}
 use Rattle.blk_addr.specs.Kind.{kind_number}
-use Rattle.blk_disk.specs.Growth.{IsLeastFree, free_number, last_file, add_steps, make_steps, link_steps}
+use Rattle.blk_disk.specs.Growth.{IsLeastFileNumber, free_number, last_file, add_steps, file_steps, link_steps}
 use Rattle.blk_disk.proofs.Joined.{among_kinds, by_kind, last_apart}
 use Rattle.blk_disk.proofs.Additions.{new_header, made_is}
 use Rattle.blk_format.proofs.SpareHeaders.{other_file}
@@ -131,7 +131,7 @@ module _ (old new : BlockFiles) (from mid : Image) (kind n last : ℕ) (free : i
       last_true false b e = e
 
 -- the file after it was added
-pub added_file : (files : BlockFiles) (image : Image) (k : Kind) → kind_number k ≢ 0 → Agrees files image → length (files_of files (kind_number k)) < 60 → IsLeastFree files (free_number files)
+pub added_file : (files : BlockFiles) (image : Image) (k : Kind) → kind_number k ≢ 0 → Agrees files image → length (files_of files (kind_number k)) < 60 → IsLeastFileNumber files (free_number files)
     → after (add_steps files (kind_number k)) image (Block (free_number files)) ≡ Some (new_header (kind_number k) (free_number files))
 added_file files image k block_kind agrees few least =
     by_kind (λ (j : ℕ). length (files_of files j) < 60 → after (add_steps files j) image (Block (free_number files)) ≡ Some (new_header j (free_number files))) each k block_kind few
@@ -139,12 +139,12 @@ added_file files image k block_kind agrees few least =
     each : (p : ℕ) → p < 4 → length (files_of files (suc p)) < 60 → after (add_steps files (suc p)) image (Block (free_number files)) ≡ Some (new_header (suc p) (free_number files))
     each p small room =
         let n : ℕ = free_number files in
-        let made : Image = after (make_steps (suc p) n) image in
-        ap (λ (i : Image). i (Block n)) (after-append (make_steps (suc p) n) (link_steps (last_file files (suc p)) n) image)
+        let made : Image = after (file_steps (suc p) n) image in
+        ap (λ (i : Image). i (Block n)) (after-append (file_steps (suc p) n) (link_steps (last_file files (suc p)) n) image)
         ∙ other-word made (Block (last_file files (suc p))) (Block n) 10 (n % 256 ∷ n / 256 % 256 ∷ []) (other_file (last_file files (suc p)) n (λ e. last_apart files image p small agrees room least (sym e)))
         ∙ ap (λ (i : Image). i (Block n)) (made_is (suc p) n image) ∙ with_file-same image (Block n) (Some (new_header (suc p) n))
 
 -- a file that was added has true counters
-pub added_counters : (files : BlockFiles) (image : Image) (k : Kind) → kind_number k ≢ 0 → Agrees files image → length (files_of files (kind_number k)) < 60 → IsLeastFree files (free_number files)
+pub added_counters : (files : BlockFiles) (image : Image) (k : Kind) → kind_number k ≢ 0 → Agrees files image → length (files_of files (kind_number k)) < 60 → IsLeastFileNumber files (free_number files)
     → HasCounters (after (add_steps files (kind_number k)) image) (free_number files)
 added_counters files image k block_kind agrees few least = new_counters (after (add_steps files (kind_number k)) image) (kind_number k) (free_number files) (added_file files image k block_kind agrees few least)

@@ -9,14 +9,13 @@ use Rattle.blk_image.proofs.Footprints.{same_file_outside}
 use Rattle.blk_format.specs.Headers.{allocations_of}
 use Rattle.blk_format.specs.Standing.{stands}
 use Rattle.blk_format.specs.BlockFiles.{linked, kind_among, files_along, next_file_in, max_entries_in, is_block_count, stands_in, IsWellFormed}
-use Rattle.blk_format.specs.Maps.{is_block_marked, EmptyAgrees}
+use Rattle.blk_format.specs.Maps.{is_block_marked, EmptyAgrees, KeepsFile}
 use Rattle.blk_disk.specs.declared.tables.BlockFiles.{BlockFiles}
 use Rattle.blk_disk.specs.Tables.{Agrees}
 use Rattle.blk_format.proofs.SpareHeaders.{other_file}
 use Rattle.blk_format.proofs.Keeping.{KeepsHead, undamaged_still}
 use Rattle.blk_disk.proofs.Enlarging.{well_formed_still}
 use Rattle.blk_alloc.specs.Changes.{map_of}
-use Rattle.blk_alloc.specs.Owning.{KeepsFile}
 
 module _ (n : ℕ) (from image : Image) (same : SameOutside (map_of n) from image) where
   spared : (m i : ℕ) → (i < 16) ⊎ ((20 ≤ i) × (i < 24)) → (map_of n).bytes (Block m) i ≡ false

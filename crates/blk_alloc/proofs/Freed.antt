@@ -12,7 +12,7 @@ use Rattle.blk_format.specs.BlockFiles.{is_among, kind_among, stands_in, most_bl
 use Rattle.blk_format.specs.Growth.{StaysWhole}
 use Rattle.blk_format.specs.Maps.{is_block_marked, AreAllocations}
 use Rattle.blk_addr.specs.Bits.{is_between}
-use Rattle.blk_alloc.specs.Changes.{map_of, with_marks, HasBlocks, IsReady, IsChanged}
+use Rattle.blk_alloc.specs.Changes.{map_of, with_marks, HasBlocks, CanChangeMarks, IsChanged}
 use Rattle.blk_alloc.specs.Owning.{is_of, others, CanBeFreed, IsAllocated, IsFreed}
 use Rattle.blk_alloc.proofs.Lists.{IsBlocks, LeavesOut, leaves_out, claims_blocks}
 use Rattle.blk_format.proofs.LinkedHeads.{HasHead, linked_checked, count_whole}
@@ -34,7 +34,7 @@ some_there [] w among = absurd (clash among)
 some_there (x ∷ words) w among = omega arith
 
 -- an allocation may be freed
-pub free_ready : (image : Image) (w : ℕ) → kind_of w ≢ external → first_block_damage image ≡ None → CanBeFreed image w → IsReady image (file_selector w) (first_block w) (block_count w) false
+pub free_ready : (image : Image) (w : ℕ) → kind_of w ≢ external → first_block_damage image ≡ None → CanBeFreed image w → CanChangeMarks image (file_selector w) (first_block w) (block_count w) false
 free_ready image w block_kind undamaged may =
     let allocated = may.allocated in
     let here : StandsHere image w = stands_here image w block_kind (all_among (λ x. stands_in image x ≡ true) allocated.words w allocated.are.stand allocated.there) in

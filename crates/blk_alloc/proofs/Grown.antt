@@ -18,7 +18,7 @@ use Rattle.blk_disk.specs.Growth.{grown, new_groups, grown_length, growth_of, gr
 use Rattle.blk_format.proofs.SpareHeaders.{other_file}
 use Rattle.blk_disk.proofs.Enlarging.{long_room}
 use Rattle.blk_alloc.specs.Extending.{HasCounters, KeepsFiles}
-use Rattle.blk_alloc.specs.Changes.{IsReady}
+use Rattle.blk_alloc.specs.Changes.{CanChangeMarks}
 use Rattle.blk_alloc.proofs.Changing.{bytes_after}
 use Rattle.blk_format.proofs.LinkedHeads.{HasHead, count_whole}
 use Rattle.blk_alloc.proofs.Growing.{grow_widens, grown_empty, new_free}
@@ -71,7 +71,7 @@ module _ (old new : BlockFiles) (from mid : Image) (n : ℕ) (agrees : Agrees ol
       let now = agrees_new.lengths n (ap (λ (l : List ℕ). is_among l n) enlarges.all ∙ among) in
       omega (arith, size, now)
 
-  pub grown_ready : (count : ℕ) → count ≤ 4 → IsReady mid n (blocks_of old n) count true
+  pub grown_ready : (count : ℕ) → count ≤ 4 → CanChangeMarks mid n (blocks_of old n) count true
   grown_ready count few = record {
     header = long_header;
     whole = omega (arith, blocks_later, blocks_before, whole, below);

@@ -158,10 +158,7 @@ module _ (claims : Claims) (n groups a : ℕ) (e : List ℕ) (from mid : Image) 
 
 -- a file whose map and counters are right is rebuilt once updating is 0
 pub rebuilt_by : (claims : Claims) (n : ℕ) (image : Image) → HasMarksOf claims image n → updating_of (byte image (Block n)) ≡ 0 → IsRebuilt claims image n
-rebuilt_by claims n image has zero_is = record { marks = has.marks; allocations = has.allocations; empty = has.empty; updating = zero_is }
-
-pub marks_of_rebuilt : (claims : Claims) (n : ℕ) (image : Image) → IsRebuilt claims image n → HasMarksOf claims image n
-marks_of_rebuilt claims n image rebuilt = record { marks = rebuilt.marks; allocations = rebuilt.allocations; empty = rebuilt.empty }
+rebuilt_by claims n image has zero_is = record { right = has; updating = zero_is }
 
 -- and updating is 0 once this is written
 pub end_rebuilt : (claims : Claims) (n : ℕ) (mid : Image) → HasMarksOf claims mid n → (bytes : List ℕ) → bytes ≡ word_bytes 0 → (image : Image) → IsWritten (Block n) 56 bytes 4 mid image → IsRebuilt claims image n
@@ -264,7 +261,7 @@ module _ (claims : Claims) (n : ℕ) (from : Image) where
         same = in_map n bytes from image written;
         each = each_same claims n from from from image (λ i beside. refl) (only_updating n bytes from image written) (each_begin claims n from);
         hand = inl (only_updating n bytes from image written);
-        right = λ rebuilt. absurd (wrong (marks_of_rebuilt claims n from rebuilt));
+        right = λ rebuilt. absurd (wrong rebuilt.right);
       }
 
       -- and then all is written
@@ -273,5 +270,5 @@ module _ (claims : Claims) (n : ℕ) (from : Image) where
         same = outside-trans (map_of n) from mid image (in_map n bytes from mid written) mending.same;
         each = each_same claims n mid from image image (λ i beside. sym (only_updating n bytes from mid written i beside)) (λ i beside. refl) mending.each;
         hand = inr mending.hand;
-        right = λ rebuilt. absurd (wrong (marks_of_rebuilt claims n from rebuilt));
+        right = λ rebuilt. absurd (wrong rebuilt.right);
       }

@@ -71,18 +71,9 @@ needed_weaker {a} {b} {P} {Q} passes weaker = record {
   needed = passes.needed;
 }
 
-pub needed_stayed : {a m b : Told} {P : Image → Type 0} → m ≡ a → PassesNeeded m b P → PassesNeeded a b P
-needed_stayed {a} {m} {b} {P} same passes = subst (λ (t : Told). PassesNeeded t b P) same passes
-
 -- what holds after the last step
 pub needed_end : {a b : Told} {P : Image → Type 0} → PassesNeeded a b P → ForSome b.files P
 needed_end {a} {b} {P} passes = passes_end (needed_passes passes)
-
--- the files after them
-pub needed_mid : {a b : Told} {P : Image → Type 0} (from : Image) → a.files ≡ Some from → PassesNeeded a b P → (mid : Image) × (b.files ≡ Some mid) × P mid
-needed_mid {a} {b} {P} from there passes =
-    let now : b.files ≡ Some (after passes.steps from) = passes.applies.files ∙ ap (option_map (after passes.steps)) there in
-    (after passes.steps from, now, needed_end passes (after passes.steps from) now)
 
 -- One word.
 

@@ -18,7 +18,7 @@ use Rattle.blk_addr.specs.declared.claim_set.Claims.{Claims}
 use Rattle.blk_addr.proofs.ClaimLemmas.{claims_of-external, has_claim-append, repeats-append}
 use Rattle.blk_format.specs.Growth.{KeepsBlocks}
 use Rattle.blk_alloc.specs.Owning.{is_of}
-use Rattle.blk_alloc.specs.Rebuilding.{words_in, IsRebuilt}
+use Rattle.blk_alloc.specs.Rebuilding.{words_of_file, IsRebuilt}
 use Rattle.blk_alloc.proofs.Lists.{claims_blocks, filter_cons, once_parts, first_once, apart_all, or_true, or_left, or_right}
 
 -- what some of the addresses claim all of them claim
@@ -76,18 +76,18 @@ none_claimed n b w apart =
     no_block m = unfold has_claim in refl
 
 -- the blocks of a file that all addresses claim are those that the addresses of the file claim
-pub claims_here : (n b : ℕ) (words : List ℕ) → has_claim (claims_of_all words) (BlockOf n b) ≡ has_claim (claims_of_all (words_in n words)) (BlockOf n b)
+pub claims_here : (n b : ℕ) (words : List ℕ) → has_claim (claims_of_all words) (BlockOf n b) ≡ has_claim (claims_of_all (words_of_file n words)) (BlockOf n b)
 claims_here n b [] = refl
 claims_here n b (w ∷ words) = has_claim-append (claims_of w) (claims_of_all words) (BlockOf n b) ∙ by_test (is_in_file n w) refl (claims_here n b words)
   where
-    all : (t : Bool) → is_in_file n w ≡ t → words_in n (w ∷ words) ≡ (if t then w ∷ words_in n words else words_in n words)
-    all t e = filter_cons (is_in_file n) w words ∙ ap (λ (x : Bool). if x then w ∷ words_in n words else words_in n words) e
+    all : (t : Bool) → is_in_file n w ≡ t → words_of_file n (w ∷ words) ≡ (if t then w ∷ words_of_file n words else words_of_file n words)
+    all t e = filter_cons (is_in_file n) w words ∙ ap (λ (x : Bool). if x then w ∷ words_of_file n words else words_of_file n words) e
 
-    by_test : (t : Bool) → is_in_file n w ≡ t → has_claim (claims_of_all words) (BlockOf n b) ≡ has_claim (claims_of_all (words_in n words)) (BlockOf n b)
-        → (has_claim (claims_of w) (BlockOf n b) || has_claim (claims_of_all words) (BlockOf n b)) ≡ has_claim (claims_of_all (words_in n (w ∷ words))) (BlockOf n b)
+    by_test : (t : Bool) → is_in_file n w ≡ t → has_claim (claims_of_all words) (BlockOf n b) ≡ has_claim (claims_of_all (words_of_file n words)) (BlockOf n b)
+        → (has_claim (claims_of w) (BlockOf n b) || has_claim (claims_of_all words) (BlockOf n b)) ≡ has_claim (claims_of_all (words_of_file n (w ∷ words))) (BlockOf n b)
     by_test true e rest =
         ap (λ (t : Bool). has_claim (claims_of w) (BlockOf n b) || t) rest
-        ∙ sym (has_claim-append (claims_of w) (claims_of_all (words_in n words)) (BlockOf n b))
+        ∙ sym (has_claim-append (claims_of w) (claims_of_all (words_of_file n words)) (BlockOf n b))
         ∙ ap (λ (l : List ℕ). has_claim (claims_of_all l) (BlockOf n b)) (sym (all true e))
     by_test false e rest =
         ap (λ (t : Bool). t || has_claim (claims_of_all words) (BlockOf n b)) (none_claimed n b w e) ∙ rest
@@ -115,11 +115,11 @@ stands_still from image w keeps externals is = by_test (kind_of w == external) i
     by_test false h = ap₂ (λ (x y : Bool). x && y) (first (is_address w) (stands_in_blocks from w) h) (keeps.stand w (second (is_address w) (stands_in_blocks from w) h))
 
 pub allocations_are : (claims : Claims) (words : List ℕ) (n : ℕ) (from image : Image) → IsClaimsOf claims words → IsRebuilt claims image n → ((w : ℕ) → stands_in from w ≡ true → stands_in image w ≡ true)
-    → All (λ w. stands_in from w ≡ true) (words_in n words) → AreAllocations image n (words_in n words)
+    → All (λ w. stands_in from w ≡ true) (words_of_file n words) → AreAllocations image n (words_of_file n words)
 allocations_are claims words n from image is rebuilt still stand = record {
-  stand = λ k d small. still (get_or (words_in n words) k d) (stand k d small);
+  stand = λ k d small. still (get_or (words_of_file n words) k d) (stand k d small);
   here = filter_passes (is_in_file n) words;
   apart = once_fewer (is_in_file n) words is.once;
-  marks = λ b small. rebuilt.marks b small ∙ is.claims (BlockOf n b) ∙ claims_here n b words;
-  counted = rebuilt.allocations ∙ is.allocations n ∙ sym (length-filter (is_in_file n) words);
+  marks = λ b small. rebuilt.right.marks b small ∙ is.claims (BlockOf n b) ∙ claims_here n b words;
+  counted = rebuilt.right.allocations ∙ is.allocations n ∙ sym (length-filter (is_in_file n) words);
 }

@@ -8,18 +8,18 @@ use Rattle.blk_format.specs.BlockFiles.{max_entries_in}
 use Rattle.blk_format.specs.Maps.{is_block_marked, longest_run, groups_with, groups_of, EmptyAgrees}
 use Rattle.blk_addr.specs.Bits.{has_bit, is_between}
 use Rattle.blk_alloc.specs.declared.counters.Counters.{Counters}
-use Rattle.blk_alloc.specs.Counting.{AreCounters, counted, Moves, MayMove}
-use Rattle.blk_alloc.specs.Changes.{IsPlan, IsReady, with_marks}
+use Rattle.blk_alloc.specs.Counting.{AreCounters, counted, MovesRun, MayMoveRun}
+use Rattle.blk_alloc.specs.Changes.{IsPlan, CanChangeMarks, with_marks}
 use Rattle.blk_format.proofs.Groups.{longest_run-same, counted_there, counted_most, one}
 use Rattle.blk_alloc.proofs.Headers.{bit_read}
 
-module _ (image : Image) (n start count : ℕ) (used : Bool) (ready : IsReady image n start count used) (some : 0 < count) where
+module _ (image : Image) (n start count : ℕ) (used : Bool) (ready : CanChangeMarks image n start count used) (some : 0 < count) where
   -- the group is one of the file
   pub group_there : start / 4 < groups_of (max_entries_in image n)
   group_there = let whole = ready.whole in let below = ready.below in omega (arith, whole, below, some)
 
   -- true counters may move
-  pub may_move : (counters : Counters) (before later : ℕ) → AreCounters (byte image (Block n)) counters → before ≡ longest_run (is_block_marked image n) (start / 4) → MayMove counters before later used
+  pub may_move : (counters : Counters) (before later : ℕ) → AreCounters (byte image (Block n)) counters → before ≡ longest_run (is_block_marked image n) (start / 4) → MayMoveRun counters before later used
   unfolding groups_with EmptyAgrees
   may_move counters before later are is = record {
     more = λ e. let few = ready.more e in let same = are.allocations in omega (arith, few, same);
@@ -73,7 +73,7 @@ module _ (image : Image) (n start count : ℕ) (used : Bool) (old new : List ℕ
 
   -- what was read, and the counters that move, are the plan
   pub plan_is : (before later : ℕ) (counters moved : Counters) (at word : ℕ) → at ≡ 80 + 4 * (start / 32) → word_bytes word ≡ new
-      → AreCounters (byte image (Block n)) counters → Moves counters moved before later used → before ≡ longest_run (has_bit old) (start % 32 / 4) → later ≡ longest_run (has_bit new) (start % 32 / 4)
+      → AreCounters (byte image (Block n)) counters → MovesRun counters moved before later used → before ≡ longest_run (has_bit old) (start % 32 / 4) → later ≡ longest_run (has_bit new) (start % 32 / 4)
       → IsPlan image n start count used (record { at = at; word = word; counters = moved })
   plan_is before later counters moved at word place is are moves first second = record {
     at = place;

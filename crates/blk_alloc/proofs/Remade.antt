@@ -22,9 +22,11 @@ pub rebuilt_bytes : (claims : Claims) (a b : Image) (n : ℕ) → ((i : ℕ) →
 unfolding EmptyAgrees max_entries_in
 rebuilt_bytes claims a b n same rebuilt =
     let bytes : byte b (Block n) ≡ byte a (Block n) = λ j i. same i j in record {
-      marks = λ k small. ap (λ (f : ℕ → ℕ). is_block_marked_at f k) bytes ∙ rebuilt.marks k small;
-      allocations = ap allocations_of bytes ∙ rebuilt.allocations;
-      empty = λ i small. ap (λ (f : ℕ → ℕ). empty_of f i) bytes ∙ rebuilt.empty i small ∙ sym (ap (λ (f : ℕ → ℕ). groups_with (is_block_marked_at f) (groups_of (max_entries_of f)) (i + 1)) bytes);
+      right = record {
+        marks = λ k small. ap (λ (f : ℕ → ℕ). is_block_marked_at f k) bytes ∙ rebuilt.right.marks k small;
+        allocations = ap allocations_of bytes ∙ rebuilt.right.allocations;
+        empty = λ i small. ap (λ (f : ℕ → ℕ). empty_of f i) bytes ∙ rebuilt.right.empty i small ∙ sym (ap (λ (f : ℕ → ℕ). groups_with (is_block_marked_at f) (groups_of (max_entries_of f)) (i + 1)) bytes);
+      };
       updating = ap updating_of bytes ∙ rebuilt.updating;
     }
 

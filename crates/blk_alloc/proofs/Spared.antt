@@ -10,12 +10,11 @@ use Rattle.blk_image.proofs.Words.{same-word_at}
 use Rattle.blk_format.specs.Address.{file_selector}
 use Rattle.blk_format.specs.BlockFiles.{is_among, kind_among, max_entries_in, most_blocks, stands_in}
 use Rattle.blk_format.specs.Headers.{allocations_of}
-use Rattle.blk_format.specs.Maps.{AreAllocations, EmptyAgrees, groups_with, is_block_marked}
+use Rattle.blk_format.specs.Maps.{AreAllocations, EmptyAgrees, groups_with, is_block_marked, HasAllocations}
 use Rattle.blk_format.specs.Standing.{stands}
 use Rattle.blk_format.proofs.SpareHeaders.{SparesHeaders, blocks_same, linked_same}
 use Rattle.blk_disk.specs.Tables.{all_files, files_of}
 use Rattle.blk_disk.proofs.Ranges.{stands_linked}
-use Rattle.blk_alloc.specs.Allocating.{HasAllocations}
 use Rattle.blk_alloc.specs.Laws.{AllocatedMayBeFreed, CountedFilesStay, MayBeFreedStill, NewFilesAreCounted, SparesHeadersAndSizes}
 use Rattle.blk_alloc.proofs.Adding.{new_allocations, new_empty}
 use Rattle.blk_format.proofs.Groups.{groups_same}

@@ -16,7 +16,7 @@ use Rattle.blk_format.specs.Maps.{is_block_marked_at, are_free, groups_with, gro
 use Rattle.blk_disk.specs.declared.tables.BlockFiles.{BlockFiles}
 use Rattle.blk_disk.specs.Tables.{Agrees, all_files, length_in}
 use Rattle.blk_disk.specs.Growth.{fit_steps, whole_length}
-use Rattle.blk_alloc.specs.Changes.{map_of, IsReady, IsMapInProgress}
+use Rattle.blk_alloc.specs.Changes.{map_of, CanChangeMarks, IsMapInProgress}
 use Rattle.blk_alloc.specs.Marking.{taking_of, MarksUsedInProgress}
 
 clash : true ≡ false → ⊥
@@ -52,7 +52,7 @@ module _ (files : BlockFiles) (n : ℕ) (from : Image) (agrees : Agrees files fr
       (λ i is. subst (λ (j : Image). Until P P j (fit_steps files n)) (some_inj (sym there ∙ is)) (fit_along P (all from (outside-refl (size_of (Block n)) from) (omega arith)) all))
 
 -- a header that is as it was is ready as it was
-pub ready_kept : (from mid : Image) (n start count : ℕ) (used : Bool) → SameOutside (size_of (Block n)) from mid → length_of from (Block n) ≤ length_of mid (Block n) → IsReady from n start count used → IsReady mid n start count used
+pub ready_kept : (from mid : Image) (n start count : ℕ) (used : Bool) → SameOutside (size_of (Block n)) from mid → length_of from (Block n) ≤ length_of mid (Block n) → CanChangeMarks from n start count used → CanChangeMarks mid n start count used
 unfolding EmptyAgrees max_entries_in
 ready_kept from mid n start count used same longer ready =
     let bytes : byte from (Block n) ≡ byte mid (Block n) = (λ j i. sym (same.bytes (Block n) i refl) j) in

@@ -19,7 +19,7 @@ use Rattle.blk_disk.specs.declared.tables.BlockFiles.{BlockFiles}
 use Rattle.blk_disk.specs.Tables.{Agrees, Resizes, all_files, files_of, length_in}
 use Rattle.blk_disk.specs.Growth.{fit_steps, whole_length}
 use Rattle.blk_alloc.specs.declared.blocks.Blocks.{Blocks}
-use Rattle.blk_alloc.specs.Changes.{IsMapInProgress, IsReady, IsChanged}
+use Rattle.blk_alloc.specs.Changes.{IsMapInProgress, CanChangeMarks, IsChanged}
 use Rattle.blk_alloc.specs.Fitting.{IsPlace}
 use Rattle.blk_alloc.specs.Marking.{CanBeMarked, CountsUsed, MarksUsedInProgress, MarksUsed}
 use Rattle.blk_alloc.proofs.Lists.{IsBlocks}
@@ -59,7 +59,7 @@ module _ (a b : Told) (old new : BlockFiles) (place : Blocks) (agrees : ForSome 
           clash h = cc
       by_files (Some from) e = let found = mid_of from e in (from, e, subst (IsMid from) (some_inj (sym found.1.now ∙ now)) found.1)
 
-  pub ready_after : ForSome a.files (λ image. CanBeMarked image place) → ForSome b.files (λ mid. IsReady mid n place.start place.count true)
+  pub ready_after : ForSome a.files (λ image. CanBeMarked image place) → ForSome b.files (λ mid. CanChangeMarks mid n place.start place.count true)
   ready_after takeable mid now = let was = from_of mid now in ready_kept was.0 mid n place.start place.count true was.2.same was.2.longer (takeable was.0 was.1).ready
 
   -- what is counted of the blocks, whatever the counters were

@@ -6,19 +6,18 @@ use Rattle.blk_image.specs.Image.{Block, Image, byte, length_of, word}
 use Rattle.blk_image.specs.Told.{Stays, Told}
 use Rattle.blk_image.specs.Footprint.{Footprint, SameOutside, either, one_word}
 use Rattle.blk_format.specs.Address.{file_selector, block_word, header_size}
-use Rattle.blk_format.specs.Headers.{allocations_of, updating_of}
+use Rattle.blk_format.specs.Headers.{allocations_of, updating_of, updating_place}
 use Rattle.blk_format.specs.BlockFiles.{is_among, most_blocks, most_files}
 use Rattle.blk_format.specs.Growth.{StaysWhole}
-use Rattle.blk_format.specs.Maps.{is_block_marked, AreAllocations, EmptyAgrees}
+use Rattle.blk_format.specs.Maps.{is_block_marked, AreAllocations, EmptyAgrees, HasAllocations, KeepsFile}
 use Rattle.blk_io.specs.declared.folder.FileId.TheVariants as names
 use Rattle.blk_io.specs.declared.fault.Damage.{Damage}
 use Rattle.blk_disk.specs.declared.tables.BlockFiles.{BlockFiles}
 use Rattle.blk_disk.specs.Tables.{all_files, blocks_of, files_of}
-use Rattle.blk_disk.specs.Growth.{IsLeastFree, addition_of, free_number, growth_of}
+use Rattle.blk_disk.specs.Growth.{IsLeastFileNumber, addition_of, free_number, growth_of}
 use Rattle.blk_alloc.specs.declared.blocks.Blocks.{Blocks}
 use Rattle.blk_alloc.specs.Counting.{IsCounted}
-use Rattle.blk_alloc.specs.Changes.{updating_place}
-use Rattle.blk_alloc.specs.Owning.{is_of, IsCause, KeepsFile}
+use Rattle.blk_alloc.specs.Owning.{is_of, IsCause}
 use Rattle.blk_alloc.specs.Fitting.{HasNoRoom, IsFirstFit, IsPlace, IsShortOf}
 use Rattle.blk_alloc.specs.Marking.{taking_of, CanBeMarked, MarksUsed, MarksUsedInProgress}
 use Rattle.blk_alloc.specs.Extending.{HasMostBlocks, HasNoHints, IsFirstGrowing, KeepsFiles, KeepsMarks}
@@ -28,12 +27,6 @@ use Rattle.blk_alloc.specs.Extending.{HasMostBlocks, HasNoHints, IsFirstGrowing,
 -- the most allocations of the files of a kind
 abbrev pub most_allocations : ℕ
 most_allocations = 655362
-
--- a file has a list of its allocations, and `empty` agrees with its map
-pub record HasAllocations (image : Image) (n : ℕ) : Type 0 where
-  pub words : List ℕ
-  pub are : AreAllocations image n words
-  pub empty : EmptyAgrees image n
 
 -- each file of a kind has its allocations, and all of them together are no more than 655362
 pub record AreCounted (files : BlockFiles) (kind : ℕ) (image : Image) : Type 0 where
@@ -51,7 +44,7 @@ pub record IsGrownPlace (files : BlockFiles) (kind : ℕ) (place : Blocks) : Typ
 pub record IsAddedPlace (files : BlockFiles) (kind : ℕ) (place : Blocks) : Type 0 where
   pub full : All (HasMostBlocks files) (files_of files kind)
   pub few : length (files_of files kind) < most_files
-  pub least : IsLeastFree files place.file
+  pub least : IsLeastFileNumber files place.file
   pub start : place.start ≡ 0
 
 -- no file of a kind has room for so many blocks
@@ -160,7 +153,7 @@ abbrev pub last_place : ℕ
 last_place = header_size - 4
 
 -- a kind has the most files, which are 60, and each has the most blocks: the damage has the place of the last word that was read, which is the last of the map of the last of them, and finds this word
-pub record IsFull (files : BlockFiles) (kind : ℕ) (told : Told) (damage : Damage) : Type 0 where
+pub record IsKindFull (files : BlockFiles) (kind : ℕ) (told : Told) (damage : Damage) : Type 0 where
   pub number : most_files ≤ length (files_of files kind)
   pub full : All (HasMostBlocks files) (files_of files kind)
   pub file : ℕ
@@ -180,4 +173,4 @@ pub record IsCauseOf (files : BlockFiles) (kind count : ℕ) (told : Told) (dama
 abbrev pub IsRefusal : BlockFiles → BlockFiles → ℕ → ℕ → Told → Told → Damage → Type 0
 IsRefusal old new kind count before after damage =
     IsCauseOf new kind count after damage
-    ⊎ (Stays before after × (IsShortOf old kind before damage ⊎ IsFull old kind before damage))
+    ⊎ (Stays before after × (IsShortOf old kind before damage ⊎ IsKindFull old kind before damage))

@@ -4,16 +4,12 @@ use Rattle.blk_image.specs.Bytes.{word_bytes}
 use Rattle.blk_image.specs.Image.{Block, Image, byte, length_of}
 use Rattle.blk_image.specs.Footprint.{Footprint, SameOutside, either, one_word, range}
 use Rattle.blk_format.specs.Address.{header_size}
-use Rattle.blk_format.specs.Headers.{allocations_of, empty_of, updating_of}
+use Rattle.blk_format.specs.Headers.{allocations_of, allocations_place, empty_of, empty_place, updating_of, updating_place}
 use Rattle.blk_format.specs.BlockFiles.{max_entries_in, most_blocks}
 use Rattle.blk_format.specs.Maps.{is_block_marked, longest_run, map_place, EmptyAgrees}
 use Rattle.blk_addr.specs.Bits.{has_bit, is_between}
 use Rattle.blk_alloc.specs.declared.plan.Plan.{Plan}
-use Rattle.blk_alloc.specs.Counting.{allocations_place, empty_place, counted, IsCounted, largest}
-
--- the place of `updating` in a header
-abbrev pub updating_place : ℕ
-updating_place = 56
+use Rattle.blk_alloc.specs.Counting.{counted, IsCounted, largest}
 
 -- the bytes of the map
 abbrev pub map_length : ℕ
@@ -50,7 +46,7 @@ pub record IsPlan (image : Image) (n start count : ℕ) (used : Bool) (plan : Pl
       ≡ empty_of (byte image (Block n)) i + counted (longest_run (with_marks (is_block_marked image n) start count used) (start / 4)) i
 
 -- a file whose marks may change: it has its header and whole groups, the blocks are below max_entries, and the counters are true
-pub record IsReady (image : Image) (n start count : ℕ) (used : Bool) : Type 0 where
+pub record CanChangeMarks (image : Image) (n start count : ℕ) (used : Bool) : Type 0 where
   pub header : 8192 ≤ length_of image (Block n)
   pub whole : max_entries_in image n % 4 ≡ 0
   pub most : max_entries_in image n ≤ most_blocks

@@ -1,16 +1,9 @@
 -- The counters of a block file's header: how many allocations it has, and how many groups have a longest free run of 1 to 4 blocks.
-use Rattle.std.specs.Prelude.{◌≡◌, ◌≢◌, ◌⊎◌, ℕ, ◌+◌, ◌-◌, ◌*◌, ◌^◌, ◌<◌, ◌≤◌, Bool, true, false, ◌==◌, if◌then◌else◌, slice_index}
-use Rattle.blk_format.specs.Headers.{allocations_of, empty_of}
+use Rattle.std.specs.Prelude.{◌≡◌, ◌≢◌, ◌⊎◌, ℕ, ◌+◌, ◌-◌, ◌^◌, ◌<◌, ◌≤◌, Bool, true, false, ◌==◌, if◌then◌else◌, slice_index}
+use Rattle.blk_format.specs.Headers.{allocations_of, allocations_place, empty_of, empty_place}
 use Rattle.blk_io.specs.declared.folder.FileId.TheVariants as names
 use Rattle.blk_io.specs.declared.fault.Damage.{Damage}
 use Rattle.blk_alloc.specs.declared.counters.Counters.{Counters}
-
--- the places of the counters in a header
-abbrev pub allocations_place : ℕ
-allocations_place = 16
-
-abbrev pub empty_place : ℕ → ℕ
-empty_place i = 24 + 4 * i
 
 -- the largest number of 32 bits
 abbrev pub largest : ℕ
@@ -30,12 +23,12 @@ abbrev pub IsCounted : Bool → ℕ → ℕ → Type 0
 IsCounted used old new = new + (if used then 0 else 1) ≡ old + (if used then 1 else 0)
 
 -- a group that had one longest free run has another, and one allocation is more or less
-pub record Moves (old new : Counters) (before later : ℕ) (used : Bool) : Type 0 where
+pub record MovesRun (old new : Counters) (before later : ℕ) (used : Bool) : Type 0 where
   pub allocations : IsCounted used old.allocations new.allocations
   pub empty : (i : ℕ) → i < 4 → slice_index new.empty i + counted before i ≡ slice_index old.empty i + counted later i
 
 -- each counter may move so, and stays in its range
-pub record MayMove (counters : Counters) (before later : ℕ) (used : Bool) : Type 0 where
+pub record MayMoveRun (counters : Counters) (before later : ℕ) (used : Bool) : Type 0 where
   pub more : used ≡ true → counters.allocations < largest
   pub less : used ≡ false → 0 < counters.allocations
   pub enough : (i : ℕ) → i < 4 → counted before i ≤ slice_index counters.empty i

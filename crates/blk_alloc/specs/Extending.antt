@@ -4,12 +4,11 @@ use Rattle.std.specs.List.{All}
 use Rattle.blk_image.specs.Image.{Block, Image, byte}
 use Rattle.blk_format.specs.Headers.{allocations_of, hints_of}
 use Rattle.blk_format.specs.BlockFiles.{is_among, most_blocks}
-use Rattle.blk_format.specs.Maps.{is_block_marked, AreAllocations, EmptyAgrees}
+use Rattle.blk_format.specs.Maps.{is_block_marked, AreAllocations, EmptyAgrees, KeepsFile}
 use Rattle.blk_disk.specs.declared.tables.BlockFiles.{BlockFiles}
 use Rattle.blk_disk.specs.Tables.{all_files, blocks_of, files_of, length_in, stands_among}
 use Rattle.blk_disk.specs.Growth.{whole_length}
 use Rattle.blk_alloc.specs.Counting.{largest}
-use Rattle.blk_alloc.specs.Owning.{KeepsFile}
 
 -- the counters of a file are true: there is a list of its allocations, `empty` agrees with the map, and one allocation more can be counted
 pub record HasCounters (image : Image) (n : ℕ) : Type 0 where

@@ -29,8 +29,12 @@ AllocatedMayBeFreed = (files : BlockFiles) (kind w : ℕ) (from image : Image) �
 
 -- counted files stay so under changes that spare headers and sizes
 abbrev pub CountedFilesStay : Type 0
-CountedFilesStay = (footprint : Footprint) (files : BlockFiles) (kind : ℕ) (from image : Image) → SparesHeadersAndSizes footprint → SameOutside footprint from image → Agrees files from → is_block_kind kind ≡ true → AreCounted files kind from → AreCounted files kind image
+CountedFilesStay =
+    (footprint : Footprint) (files : BlockFiles) (kind : ℕ) (from image : Image) → SparesHeadersAndSizes footprint → SameOutside footprint from image
+    → Agrees files from → is_block_kind kind ≡ true → AreCounted files kind from → AreCounted files kind image
 
 -- and what may be freed may be freed still
 abbrev pub MayBeFreedStill : Type 0
-MayBeFreedStill = (footprint : Footprint) (files : BlockFiles) (w : ℕ) (from image : Image) → SparesHeadersAndSizes footprint → SameOutside footprint from image → Agrees files from → stands_among files w ≡ true → CanBeFreed from w → CanBeFreed image w
+MayBeFreedStill =
+    (footprint : Footprint) (files : BlockFiles) (w : ℕ) (from image : Image) → SparesHeadersAndSizes footprint → SameOutside footprint from image
+    → Agrees files from → stands_among files w ≡ true → CanBeFreed from w → CanBeFreed image w

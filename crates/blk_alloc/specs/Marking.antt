@@ -3,19 +3,19 @@ use Rattle.std.specs.Prelude.{◌≡◌, ◌≢◌, ◌⊎◌, ℕ, ◌+◌, ◌
 use Rattle.blk_image.specs.Image.{Block, Image, byte, length_of}
 use Rattle.blk_image.specs.Footprint.{Footprint, SameOutside, either, one_word, size_of}
 use Rattle.blk_format.specs.Address.{file_selector}
-use Rattle.blk_format.specs.Headers.{allocations_of, empty_of, updating_of}
+use Rattle.blk_format.specs.Headers.{allocations_of, empty_of, updating_of, updating_place}
 use Rattle.blk_format.specs.BlockFiles.{is_among, most_blocks}
 use Rattle.blk_format.specs.Maps.{is_block_marked, are_free, longest_run, AreAllocations, EmptyAgrees}
 use Rattle.blk_disk.specs.declared.tables.BlockFiles.{BlockFiles}
 use Rattle.blk_disk.specs.Tables.{all_files}
 use Rattle.blk_alloc.specs.declared.blocks.Blocks.{Blocks}
-use Rattle.blk_alloc.specs.Changes.{map_of, updating_place, IsReady}
+use Rattle.blk_alloc.specs.Changes.{map_of, CanChangeMarks}
 use Rattle.blk_alloc.specs.Counting.{counted, IsCounted}
 use Rattle.blk_alloc.specs.Owning.{is_of}
 
 -- blocks that may be taken: they are free, and the counters of their file are true
 pub record CanBeMarked (image : Image) (place : Blocks) : Type 0 where
-  pub ready : IsReady image place.file place.start place.count true
+  pub ready : CanChangeMarks image place.file place.start place.count true
   pub free : are_free (is_block_marked image place.file) place.start place.count ≡ true
 
 -- what is touched: the length of the file, its map and its counters

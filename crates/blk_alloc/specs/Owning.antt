@@ -9,7 +9,7 @@ use Rattle.blk_format.specs.Address.{file_selector, first_block, block_count}
 use Rattle.blk_format.specs.Headers.{allocations_of, block_fields_length, empty_of, updating_of}
 use Rattle.blk_format.specs.BlockFiles.{is_among, most_blocks}
 use Rattle.blk_format.specs.Growth.{StaysWhole}
-use Rattle.blk_format.specs.Maps.{is_block_marked, longest_run, map_place, AreAllocations, EmptyAgrees}
+use Rattle.blk_format.specs.Maps.{is_block_marked, longest_run, map_place, AreAllocations, EmptyAgrees, KeepsFile}
 use Rattle.blk_addr.specs.Bits.{has_bit, is_between}
 use Rattle.blk_io.specs.declared.folder.FileId.TheVariants as names
 use Rattle.blk_io.specs.declared.fault.Damage.{Damage}
@@ -31,11 +31,6 @@ pub record IsAllocated (image : Image) (w : ℕ) : Type 0 where
 -- the address words of a list but for one
 abbrev pub others : ℕ → List ℕ → List ℕ
 others w words = filter (λ x. not (x == w)) words
-
--- the allocations of a file are as before, and so is what `empty` says of it
-pub record KeepsFile (from image : Image) (n : ℕ) : Type 0 where
-  pub allocations : (words : List ℕ) → AreAllocations from n words → AreAllocations image n words
-  pub empty : EmptyAgrees from n → EmptyAgrees image n
 
 -- an address may be freed: it is one of the allocations of its file, and `empty` agrees with the map
 pub record CanBeFreed (image : Image) (w : ℕ) : Type 0 where
@@ -69,7 +64,7 @@ abbrev pub FreesOrStops : ℕ → Image → Image → Type 0
 FreesOrStops w from image = FreesInProgress w from image ⊎ FreesAtLast w from image
 
 -- a counter of a file would leave its range where so many blocks from one on, in one group, come into use or go out of it: by the fields of the header that were read, and the four bytes of the map that have the blocks
-pub record IsCount (told : Told) (n start count : ℕ) (used : Bool) (damage : Damage) : Type 0 where
+pub record IsCounterDamage (told : Told) (n start count : ℕ) (used : Bool) (damage : Damage) : Type 0 where
   pub counters : Counters
   pub bytes : List ℕ
   pub are : ForSome told.files (λ image. AreCounters (byte image (Block n)) counters)
@@ -89,4 +84,4 @@ pub record IsShortHeader (told : Told) (n start : ℕ) (damage : Damage) : Type 
 
 -- why the header of a file is damaged where so many blocks from one on come into use or go out of it: a read of it gave too few bytes, or a counter would leave its range
 abbrev pub IsCause : Told → ℕ → ℕ → ℕ → Bool → Damage → Type 0
-IsCause told n start count used damage = IsShortHeader told n start damage ⊎ IsCount told n start count used damage
+IsCause told n start count used damage = IsShortHeader told n start damage ⊎ IsCounterDamage told n start count used damage

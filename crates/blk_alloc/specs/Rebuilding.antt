@@ -7,7 +7,7 @@ use Rattle.blk_image.specs.Footprint.{Footprint, SameOutside, either, one_word, 
 use Rattle.blk_format.specs.Growth.{StaysWhole}
 use Rattle.blk_format.specs.Address.{header_size}
 use Rattle.blk_format.specs.Claims.{BlockOf, is_in_file}
-use Rattle.blk_format.specs.Headers.{allocations_of, block_fields_length, empty_of, updating_of}
+use Rattle.blk_format.specs.Headers.{allocations_of, allocations_place, block_fields_length, empty_of, empty_place, updating_of, updating_place}
 use Rattle.blk_format.specs.BlockFiles.{is_among, max_entries_in, most_blocks, stands_in}
 use Rattle.blk_format.specs.Maps.{is_block_marked, groups_of, groups_with, map_place, AreAllocations, EmptyAgrees}
 use Rattle.blk_addr.specs.Bits.{has_bit, is_between}
@@ -20,8 +20,7 @@ use Rattle.blk_io.specs.Faults.{IsShort}
 use Rattle.blk_disk.specs.declared.tables.BlockFiles.{BlockFiles}
 use Rattle.blk_disk.specs.Tables.{files_of, all_files, blocks_of, length_in}
 use Rattle.blk_disk.specs.Growth.{whole_length}
-use Rattle.blk_alloc.specs.Counting.{allocations_place, empty_place}
-use Rattle.blk_alloc.specs.Changes.{map_length, map_of, updating_place}
+use Rattle.blk_alloc.specs.Changes.{map_length, map_of}
 use Rattle.blk_alloc.specs.Extending.{HasItsBlocks}
 
 -- whether a block of a file is claimed
@@ -32,18 +31,16 @@ is_block_claimed claims n b = contains_claim claims (BlockOf n b)
 abbrev pub AreMarked : Claims → Image → ℕ → Type 0
 AreMarked claims image n = (b : ℕ) → b < most_blocks → is_block_marked image n b ≡ is_block_claimed claims n b
 
--- the map and the counters of a file are those of claims: exactly the claimed blocks are marked, num_entries is the number of the addresses of the file that were added, `empty` agrees with the map, and updating is 0
-pub record IsRebuilt (claims : Claims) (image : Image) (n : ℕ) : Type 0 where
-  pub marks : AreMarked claims image n
-  pub allocations : allocations_of (byte image (Block n)) ≡ allocations_in claims n
-  pub empty : EmptyAgrees image n
-  pub updating : updating_of (byte image (Block n)) ≡ 0
-
--- the map and the counters of a file are those of claims, whatever updating is
+-- the map and the counters of a file are those of claims: exactly the claimed blocks are marked, num_entries is the number of the addresses of the file that were added, and `empty` agrees with the map
 pub record HasMarksOf (claims : Claims) (image : Image) (n : ℕ) : Type 0 where
   pub marks : AreMarked claims image n
   pub allocations : allocations_of (byte image (Block n)) ≡ allocations_in claims n
   pub empty : EmptyAgrees image n
+
+-- and updating is 0
+pub record IsRebuilt (claims : Claims) (image : Image) (n : ℕ) : Type 0 where
+  pub right : HasMarksOf claims image n
+  pub updating : updating_of (byte image (Block n)) ≡ 0
 
 -- a header with this content has these counters
 pub record HasTheseCounters (f : ℕ → ℕ) (count : ℕ) (runs : List ℕ) : Type 0 where
@@ -64,13 +61,13 @@ abbrev pub AreRight : Claims → BlockFiles → Image → Type 0
 AreRight claims files image = (n : ℕ) → is_among (all_files files) n ≡ true → HasItsBlocks files n × IsRebuilt claims image n
 
 -- the added addresses of blocks of a file
-abbrev pub words_in : ℕ → List ℕ → List ℕ
-words_in n words = filter (is_in_file n) words
+abbrev pub words_of_file : ℕ → List ℕ → List ℕ
+words_of_file n words = filter (is_in_file n) words
 
 -- the added addresses of each file, where they stood, are its allocations
 abbrev pub AreItsAllocations : Claims → List ℕ → Image → Image → Type 0
 AreItsAllocations claims numbers from image =
-    (words : List ℕ) → IsClaimsOf claims words → (n : ℕ) → is_among numbers n ≡ true → All (λ w. stands_in from w ≡ true) (words_in n words) → AreAllocations image n (words_in n words)
+    (words : List ℕ) → IsClaimsOf claims words → (n : ℕ) → is_among numbers n ≡ true → All (λ w. stands_in from w ≡ true) (words_of_file n words) → AreAllocations image n (words_of_file n words)
 
 -- each file that is kept has its length, or that of its header and all its blocks where this is greater; all else that is kept is as before
 pub record AreFitted (old new : BlockFiles) : Type 0 where

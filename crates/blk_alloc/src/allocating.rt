@@ -14,7 +14,7 @@ ghost use Rattle.blk_disk.specs.Tables.{Agrees, all_files, files_of, stands_amon
 ghost use Rattle.blk_alloc.specs.Fitting.{IsPlace};
 ghost use Rattle.blk_alloc.specs.Extending.{HasItsBlocks, HasMostBlocks, KeepsAll, KeepsLinks, KeepsStanding};
 ghost use Rattle.blk_alloc.specs.Marking.{taking_of};
-ghost use Rattle.blk_alloc.specs.Allocating.{AllocatesIn, AreCounted, ExtendsAnd, HaveNoRoom, IsAddedPlace, IsChosen, IsCountedOnce, IsFull, Allocates, AllocatesInProgress, AllocatesOrStops, IsGrownPlace, Extends, ExtendsAndAllocates, ExtendsInProgress, IsRefusal, MakesRoomInProgress, updating_word};
+ghost use Rattle.blk_alloc.specs.Allocating.{AllocatesIn, AreCounted, ExtendsAnd, HaveNoRoom, IsAddedPlace, IsChosen, IsCountedOnce, IsKindFull, Allocates, AllocatesInProgress, AllocatesOrStops, IsGrownPlace, Extends, ExtendsAndAllocates, ExtendsInProgress, IsRefusal, MakesRoomInProgress, updating_word};
 ghost use Rattle.blk_format.specs.Growth.{StaysWhole};
 
 use crate::blocks::Blocks;
@@ -37,8 +37,8 @@ fn full_damage<F: Folder>(f: &mut F, files: &BlockFiles, kind: Kind) -> Result<D
     requires block_kind { kind_number kind ≢ external }
     requires number { most_files ≤ length (files_of files.now (kind_number kind)) }
     requires full { All (HasMostBlocks files.now) (files_of files.now (kind_number kind)) }
-    ensures full { IfOk result (IsFull files.now (kind_number kind) (F.told f.old)) }
-    ensures cause { ForSome (F.told f.old).files (Agrees files.now) → IfDamaged result (IsFull files.now (kind_number kind) (F.told f.old)) }
+    ensures full { IfOk result (IsKindFull files.now (kind_number kind) (F.told f.old)) }
+    ensures cause { ForSome (F.told f.old).files (Agrees files.now) → IfDamaged result (IsKindFull files.now (kind_number kind) (F.told f.old)) }
     ensures stays { Stays (F.told f.old) (F.told f.new) }
     ensures later { F.faults f.old ≤ F.faults f.new }
     ensures device { IfDevice result (Rises (F.faults f.old) (F.faults f.new)) }
@@ -78,7 +78,7 @@ fn new_room<F: Folder>(
     ensures agrees { OnOk result (ForSome (F.told f.new).files (Agrees files.new)) }
     ensures stops { ForSome (F.told f.old).files (λ from. Passes (F.told f.old) (F.told f.new) (MakesRoomInProgress files.old (kind_number kind) from)) }
     ensures silent { (F.told f.old).files ≡ None → (F.told f.new).files ≡ None }
-    ensures cause { IfDamaged result (IsFull files.old (kind_number kind) (F.told f.old)) }
+    ensures cause { IfDamaged result (IsKindFull files.old (kind_number kind) (F.told f.old)) }
     ensures sixty { IfDamaged result (λ _. All (HasMostBlocks files.old) (files_of files.old (kind_number kind)) × (most_files ≤ length (files_of files.old (kind_number kind)))) }
     ensures unwritten { IfDamaged result (λ _. Stays (F.told f.old) (F.told f.new)) }
     ensures later { F.faults f.old ≤ F.faults f.new }

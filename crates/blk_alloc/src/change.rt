@@ -6,7 +6,7 @@ ghost use Rattle.blk_image.specs.Told.{PassesTo, Rises, Stays};
 ghost use Rattle.blk_format.specs.BlockFiles.{most_blocks};
 ghost use Rattle.blk_format.specs.Maps.{group_size};
 ghost use Rattle.blk_io.specs.Faults.{IfDamaged, IfDevice};
-ghost use Rattle.blk_alloc.specs.Changes.{IsReady, IsMapInProgress, IsChanged};
+ghost use Rattle.blk_alloc.specs.Changes.{CanChangeMarks, IsMapInProgress, IsChanged};
 ghost use Rattle.blk_alloc.specs.Owning.{IsCause};
 
 use crate::plan::Plan;
@@ -30,7 +30,7 @@ pub(crate) fn change<F: Folder>(
     ensures silent { (F.told f.old).files ≡ None → (F.told f.new).files ≡ None }
     ensures cause { IfDamaged result (IsCause (F.told f.old) file start count used) }
     ensures unwritten { IfDamaged result (λ _. Stays (F.told f.old) (F.told f.new)) }
-    ensures untold { IfDamaged result (λ _. ForSome (F.told f.old).files (λ image. IsReady image file start count used) → (F.told f.old).files ≡ None) }
+    ensures untold { IfDamaged result (λ _. ForSome (F.told f.old).files (λ image. CanChangeMarks image file start count used) → (F.told f.old).files ≡ None) }
     ensures later { F.faults f.old ≤ F.faults f.new }
     ensures device { IfDevice result (Rises (F.faults f.old) (F.faults f.new)) }
 {

@@ -19,7 +19,7 @@ pub(crate) struct Counters {
 }
 
 impl Counters {
-    ghost use Rattle.blk_alloc.specs.Counting.{AreCounters, counted, largest, IsCounted, Moves, MayMove, IsAtEnd, IsEmptyAt};
+    ghost use Rattle.blk_alloc.specs.Counting.{AreCounters, counted, largest, IsCounted, MovesRun, MayMoveRun, IsAtEnd, IsEmptyAt};
 
     // The counters that the header of a file has.
     pub(crate) fn read<F: Folder>(f: &mut F, file: u8) -> Result<Counters, Fault>
@@ -51,9 +51,9 @@ impl Counters {
     ) -> Result<Counters, Fault>
         requires before { before ≤ group_size }
         requires later { later ≤ group_size }
-        ensures moves { IfOk result (λ counters. Moves self counters before later used) }
+        ensures moves { IfOk result (λ counters. MovesRun self counters before later used) }
         ensures end { IfDamaged result (IsAtEnd self file before later used) }
-        ensures never { IfDamaged result (λ _. MayMove self before later used → ⊥) }
+        ensures never { IfDamaged result (λ _. MayMoveRun self before later used → ⊥) }
         ensures no_device { IfDevice result ⊥ }
     {
         let counters = self.counting(file, used)?;
@@ -68,7 +68,7 @@ impl Counters {
         ensures allocations { IfOk result (λ counters. IsCounted used self.allocations counters.allocations) }
         ensures same { IfOk result (λ counters. counters.empty ≡ self.empty) }
         ensures end { IfDamaged result (λ damage. (before later : ℕ) → IsAtEnd self file before later used damage) }
-        ensures never { IfDamaged result (λ _. (before later : ℕ) → MayMove self before later used → ⊥) }
+        ensures never { IfDamaged result (λ _. (before later : ℕ) → MayMoveRun self before later used → ⊥) }
         ensures no_device { IfDevice result ⊥ }
     {
         let old = self.allocations;

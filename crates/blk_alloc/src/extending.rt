@@ -9,7 +9,7 @@ ghost use Rattle.blk_format.specs.Growth.{StaysWholeOutside};
 ghost use Rattle.blk_addr.specs.Kind.{kind_number};
 ghost use Rattle.blk_format.specs.Maps.{group_size, AreAllocations};
 ghost use Rattle.blk_disk.specs.Tables.{Agrees, blocks_of, files_of};
-ghost use Rattle.blk_disk.specs.Growth.{IsLeastFree, addition_of, free_number, growth_of};
+ghost use Rattle.blk_disk.specs.Growth.{IsLeastFileNumber, addition_of, free_number, growth_of};
 ghost use Rattle.blk_alloc.specs.Fitting.{IsPlace};
 ghost use Rattle.blk_alloc.specs.Extending.{HasCounters, HasNoHints, IsGrowing, KeepsAll, KeepsFiles, KeepsLinks, KeepsLists, KeepsMarks, KeepsStanding};
 ghost use Rattle.blk_alloc.specs.Marking.{CanBeMarked};
@@ -75,7 +75,7 @@ pub(crate) fn add_room<F: Folder>(
     ensures marks { OnOk result (ForSome (F.told f.old).files (λ from. ForSome (F.told f.new).files (KeepsMarks files.old from))) }
     ensures fresh { OnOk result (ForSome (F.told f.old).files (λ from. ForSome (F.told f.new).files (λ image. AreAllocations image (free_number files.old) []))) }
     ensures hints { OnOk result (ForSome (F.told f.old).files (λ from. ForSome (F.told f.new).files (λ image. HasNoHints image (free_number files.old)))) }
-    ensures least { OnOk result (IsLeastFree files.old (free_number files.old)) }
+    ensures least { OnOk result (IsLeastFileNumber files.old (free_number files.old)) }
     ensures markable { IfOk result (λ place. ForSome (F.told f.old).files (λ from. ForSome (F.told f.new).files (λ image. CanBeMarked image place))) }
     ensures keeps { OnOk result (ForSome (F.told f.old).files (λ from. ForSome (F.told f.new).files (KeepsFiles files.old from))) }
     ensures agrees { OnOk result (ForSome (F.told f.new).files (Agrees files.new)) }

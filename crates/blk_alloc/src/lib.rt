@@ -23,6 +23,3 @@ pub use allocating::allocate;
 pub use freeing::free;
 pub use laws::{counted_files, counts_stay};
 pub use rebuilding::rebuild;
-
-#[cfg(test)]
-mod tests;

@@ -25,7 +25,7 @@ pub(crate) struct Plan {
 }
 
 impl Plan {
-    ghost use Rattle.blk_alloc.specs.Changes.{IsPlan, IsReady, plan_words};
+    ghost use Rattle.blk_alloc.specs.Changes.{IsPlan, CanChangeMarks, plan_words};
     ghost use Rattle.blk_alloc.specs.Owning.{IsCause};
 
     // The plan by which so many blocks from one on, which lie in one group, are all marked or all freed.
@@ -44,7 +44,7 @@ impl Plan {
         ensures fits { IfOk result (λ plan. plan.counters.allocations < 2 ^ 32) }
         ensures runs_fit { IfOk result (λ plan. (i : ℕ) → i < 4 → slice_index plan.counters.empty i < 2 ^ 32) }
         ensures cause { IfDamaged result (IsCause (F.told f.old) file start count used) }
-        ensures untold { IfDamaged result (λ _. ForSome (F.told f.old).files (λ image. IsReady image file start count used) → (F.told f.old).files ≡ None) }
+        ensures untold { IfDamaged result (λ _. ForSome (F.told f.old).files (λ image. CanChangeMarks image file start count used) → (F.told f.old).files ≡ None) }
         ensures stays { Stays (F.told f.old) (F.told f.new) }
         ensures later { F.faults f.old ≤ F.faults f.new }
         ensures device { IfDevice result (Rises (F.faults f.old) (F.faults f.new)) }

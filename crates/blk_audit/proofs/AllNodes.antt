@@ -19,9 +19,9 @@ use Rattle.blk_disk.proofs.SealedReads.{record_read}
 use Rattle.blk_disk.specs.declared.tables.BlockFiles.{BlockFiles}
 use Rattle.blk_disk.specs.Tables.{Agrees, is_node_among, stands_among, names_among}
 use Rattle.blk_lru.proofs.NodeWords.{stands_as_node, names_node, node_kind, node_stands, node_place}
-use Rattle.blk_audit.specs.Filling.{said_by}
+use Rattle.blk_audit.specs.Filling.{node_said}
 use Rattle.blk_audit.specs.Filled.{IsFilled}
-use Rattle.blk_audit.specs.Nodes.{node_of, node_at, said_at, AreNodesOf, HasNodes}
+use Rattle.blk_audit.specs.Nodes.{node_of, loaded_node, said_at, AreNodesOf, HasNodes}
 use Rattle.blk_audit.specs.Walking.{IsNodeWord}
 use Rattle.blk_audit.specs.declared.nodes.Node.{Node}
 use Rattle.blk_audit.specs.declared.nodes.Nodes.{Nodes}
@@ -53,10 +53,10 @@ module _ (image : Image) (w : ℕ) (small : AreBytes image) (kind : kind_of w �
   word_is : (q : ℕ) → q + 4 ≤ 36 → word_at (content bytes) q ≡ word image (Block (file_selector w)) (place w + q)
   word_is q inside = ap (λ (b : List ℕ). word_at (content b) q) bytes_are ∙ record_word image w q (let size = node_bytes w kind in omega (arith, size, inside))
 
-  said_is : said_by (range_at (byte image (Block (file_selector w))) (8192 + first_block w * 36) 36) ≡ said_at image w
+  said_is : node_said (range_at (byte image (Block (file_selector w))) (8192 + first_block w * 36) 36) ≡ said_at image w
   unfolding bytes node_in
   said_is =
-      same_fields (said_by bytes) (said_at image w)
+      same_fields (node_said bytes) (said_at image w)
       (sym (checks_bytes image w small kind ∙ ap (checks 32) (sym bytes_are)))
       (word_is 16 (omega arith)) (word_is 20 (omega arith)) (word_is 24 (omega arith)) (word_is 28 (omega arith))
 
@@ -90,11 +90,11 @@ module _ (files : BlockFiles) (image : Image) (nodes : Nodes) (agrees : Agrees f
   and_none true = refl
   and_none false = refl
 
-  no_node : (w : ℕ) → (kind_of w == rankings) ≡ false → node_at nodes w ≡ None
-  unfolding node_at node_of
+  no_node : (w : ℕ) → (kind_of w == rankings) ≡ false → loaded_node nodes w ≡ None
+  unfolding loaded_node node_of
   no_node w e = by (is_address w) refl
     where
-      by : (t : Bool) → is_address w ≡ t → node_at nodes w ≡ None
+      by : (t : Bool) → is_address w ≡ t → loaded_node nodes w ≡ None
       by true a = rw (a, e) refl
       by false a = rw a refl
 
@@ -108,14 +108,14 @@ module _ (files : BlockFiles) (image : Image) (nodes : Nodes) (agrees : Agrees f
   counted : (w : ℕ) → IsNodeWord w → stands_as image rankings w ≡ nat_lt (first_block w) (slice_index nodes.counts (file_selector w))
   counted w is = is_there w is ∙ ap (stands_among files) (sym (node_word w is)) ∙ (filled (file_selector w) (AreFields-of w).file).count (first_block w) (AreFields-of w).start
 
-  opened : (w : ℕ) → IsNodeWord w → node_at nodes w ≡ (if nat_lt (first_block w) (slice_index nodes.counts (file_selector w)) then slice_get nodes.nodes.items (slice_index nodes.begins (file_selector w) + first_block w) else None)
-  unfolding node_at node_of
+  opened : (w : ℕ) → IsNodeWord w → loaded_node nodes w ≡ (if nat_lt (first_block w) (slice_index nodes.counts (file_selector w)) then slice_get nodes.nodes.items (slice_index nodes.begins (file_selector w) + first_block w) else None)
+  unfolding loaded_node node_of
   opened w is = let k = eq-eqb (kind_of w) rankings is.kind in rw (is.address, k) refl
 
   below : (a b : ℕ) → nat_lt a b ≡ true → a < b
   below a b e = grind (arith, nat_tests)
 
-  at_node : (w : ℕ) → IsNodeWord w → (t : Bool) → nat_lt (first_block w) (slice_index nodes.counts (file_selector w)) ≡ t → node_at nodes w ≡ (if stands_as image rankings w then Some (said_at image w) else None)
+  at_node : (w : ℕ) → IsNodeWord w → (t : Bool) → nat_lt (first_block w) (slice_index nodes.counts (file_selector w)) ≡ t → loaded_node nodes w ≡ (if stands_as image rankings w then Some (said_at image w) else None)
   at_node w is true e =
       opened w is ∙ ap (λ (t : Bool). if t then slice_get nodes.nodes.items (slice_index nodes.begins (file_selector w) + first_block w) else None) e
       ∙ (filled (file_selector w) (AreFields-of w).file).some (first_block w) (below (first_block w) (slice_index nodes.counts (file_selector w)) e)
@@ -125,12 +125,12 @@ module _ (files : BlockFiles) (image : Image) (nodes : Nodes) (agrees : Agrees f
       opened w is ∙ ap (λ (t : Bool). if t then slice_get nodes.nodes.items (slice_index nodes.begins (file_selector w) + first_block w) else None) e
       ∙ sym (ap (λ (t : Bool). if t then Some (said_at image w) else None) (counted w is ∙ e))
 
-  by_kind : (w : ℕ) → is_address w ≡ true → (t : Bool) → (kind_of w == rankings) ≡ t → node_at nodes w ≡ (if stands_as image rankings w then Some (said_at image w) else None)
+  by_kind : (w : ℕ) → is_address w ≡ true → (t : Bool) → (kind_of w == rankings) ≡ t → loaded_node nodes w ≡ (if stands_as image rankings w then Some (said_at image w) else None)
   by_kind w address true e = at_node w (record { address = address; kind = eqb-true (kind_of w) rankings e }) (nat_lt (first_block w) (slice_index nodes.counts (file_selector w))) refl
   by_kind w address false e =
       no_node w e ∙ sym (ap (λ (t : Bool). if t then Some (said_at image w) else None) (ap (λ (t : Bool). stands_in image w && t) e ∙ and_none (stands_in image w)))
 
-  by_address : (w : ℕ) (t : Bool) → is_address w ≡ t → node_at nodes w ≡ (if stands_as image rankings w then Some (said_at image w) else None)
+  by_address : (w : ℕ) (t : Bool) → is_address w ≡ t → loaded_node nodes w ≡ (if stands_as image rankings w then Some (said_at image w) else None)
   by_address w true e = by_kind w e (kind_of w == rankings) refl
   by_address w false e = node_unnamed nodes w e ∙ sym (ap (λ (t : Bool). if t then Some (said_at image w) else None) (no_address w e))
 

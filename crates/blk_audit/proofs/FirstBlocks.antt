@@ -10,24 +10,24 @@ use Rattle.blk_volume.specs.Chains.{file_and_block}
 use Rattle.blk_addr.specs.Claims.{is_claimed}
 use Rattle.blk_addr.proofs.ClaimLemmas.{or_false, claims_of-blocks, has_claim-append}
 use Rattle.blk_addr.proofs.ClaimSetLemmas.{is_claimed-overlap}
-use Rattle.blk_audit.specs.Chaining.{AreReached, first_of, is_met}
+use Rattle.blk_audit.specs.Chaining.{AreReached, first_block_of, is_met}
 use Rattle.blk_audit.specs.declared.reaching.Reached.{Reached}
 use Rattle.blk_audit.proofs.Truths.{both_or_neither}
 
 fields : (w : ℕ) → AreFields 2 (file_selector w) (first_block w) 1
 fields w = record { kind = omega arith; file = (AreFields-of w).file; start = (AreFields-of w).start; some = omega arith; most = omega arith }
 
-some_first : (w : ℕ) → first_of w ≢ 0
+some_first : (w : ℕ) → first_block_of w ≢ 0
 unfolding block_word
 some_first w e = omega (arith, e)
 
-blocks_first : (w : ℕ) → kind_of (first_of w) ≢ external
+blocks_first : (w : ℕ) → kind_of (first_block_of w) ≢ external
 blocks_first w e = let h : ◌≡◌ {A = ℕ} 2 0 = sym (kind_of-block_word 2 (file_selector w) (first_block w) 1 (fields w)) ∙ e in omega (arith, h)
 
-claims_first : (w : ℕ) → claims_of (first_of w) ≡ BlockOf (file_selector w) (first_block w) ∷ []
+claims_first : (w : ℕ) → claims_of (first_block_of w) ≡ BlockOf (file_selector w) (first_block w) ∷ []
 claims_first w =
-    claims_of-blocks (first_of w) (some_first w) (blocks_first w)
-    ∙ ap₂ (λ (f s : ℕ). map (λ b. BlockOf f b) (range_with_len s (block_count (first_of w)))) (file_selector-block_word 2 (file_selector w) (first_block w) 1 (fields w)) (first_block-block_word 2 (file_selector w) (first_block w) 1 (fields w))
+    claims_of-blocks (first_block_of w) (some_first w) (blocks_first w)
+    ∙ ap₂ (λ (f s : ℕ). map (λ b. BlockOf f b) (range_with_len s (block_count (first_block_of w)))) (file_selector-block_word 2 (file_selector w) (first_block w) 1 (fields w)) (first_block-block_word 2 (file_selector w) (first_block w) 1 (fields w))
     ∙ ap (λ (n : ℕ). map (λ b. BlockOf (file_selector w) b) (range_with_len (first_block w) n)) (block_count-block_word 2 (file_selector w) (first_block w) 1 (fields w))
 
 whole : (w : ℕ) → file_and_block w ≡ file_selector w * 65536 + first_block w
@@ -66,22 +66,22 @@ one_first : (w v : ℕ) → has_claim (BlockOf (file_selector w) (first_block w)
 unfolding has_claim test
 one_first w v = refl
 
-has_first : (words : List ℕ) (v : ℕ) → has_claim (claims_of_all (map first_of words)) (BlockOf (file_selector v) (first_block v)) ≡ is_met words v
+has_first : (words : List ℕ) (v : ℕ) → has_claim (claims_of_all (map first_block_of words)) (BlockOf (file_selector v) (first_block v)) ≡ is_met words v
 unfolding has_claim
 has_first [] v = refl
 has_first (w ∷ words) v =
-    has_claim-append (claims_of (first_of w)) (claims_of_all (map first_of words)) (BlockOf (file_selector v) (first_block v))
+    has_claim-append (claims_of (first_block_of w)) (claims_of_all (map first_block_of words)) (BlockOf (file_selector v) (first_block v))
     ∙ ap₂ (λ (a b : Bool). a || b) (ap (λ (cs : List Claim). has_claim cs (BlockOf (file_selector v) (first_block v))) (claims_first w) ∙ one_first w v ∙ same_first w v) (has_first words v)
 
-first_met : (words : List ℕ) (v : ℕ) → overlap (claims_of_all (map first_of words)) (claims_of (first_of v)) ≡ is_met words v
+first_met : (words : List ℕ) (v : ℕ) → overlap (claims_of_all (map first_block_of words)) (claims_of (first_block_of v)) ≡ is_met words v
 unfolding overlap
 first_met words v =
-    ap (λ (cs : List Claim). list_any (has_claim (claims_of_all (map first_of words))) cs) (claims_first v)
-    ∙ or_false (has_claim (claims_of_all (map first_of words)) (BlockOf (file_selector v) (first_block v)))
+    ap (λ (cs : List Claim). list_any (has_claim (claims_of_all (map first_block_of words))) cs) (claims_first v)
+    ∙ or_false (has_claim (claims_of_all (map first_block_of words)) (BlockOf (file_selector v) (first_block v)))
     ∙ has_first words v
 
-pub claimed_first : (reached : Reached) (v : ℕ) → AreReached reached → is_claimed reached.met (first_of v) ≡ is_met reached.words.items v
-claimed_first reached v are = is_claimed-overlap reached.met (map first_of reached.words.items) (first_of v) are ∙ first_met reached.words.items v
+pub claimed_first : (reached : Reached) (v : ℕ) → AreReached reached → is_claimed reached.met (first_block_of v) ≡ is_met reached.words.items v
+claimed_first reached v are = is_claimed-overlap reached.met (map first_block_of reached.words.items) (first_block_of v) are ∙ first_met reached.words.items v
 
 pub map_last : (f : ℕ → ℕ) (xs : List ℕ) (x : ℕ) → map f (xs ++ x ∷ []) ≡ map f xs ++ f x ∷ []
 map_last f [] x = refl

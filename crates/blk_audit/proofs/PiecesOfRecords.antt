@@ -13,8 +13,8 @@ use Rattle.blk_disk.specs.declared.tables.BlockFiles.{BlockFiles}
 use Rattle.blk_disk.specs.Tables.{Agrees, stands_among}
 use Rattle.blk_disk.proofs.Ranges.{stands_range}
 use Rattle.blk_entry.proofs.KeyPlaces.{take-range, drop-range}
-use Rattle.blk_audit.specs.Chaining.{first_of}
-use Rattle.blk_audit.specs.Records.{AreRecordsOf, IsEntryOf, entry_said}
+use Rattle.blk_audit.specs.Chaining.{first_block_of}
+use Rattle.blk_audit.specs.Records.{AreRecordsOf, IsSaidBy, entry_said}
 use Rattle.blk_audit.specs.declared.records.Entry.{Entry}
 use Rattle.blk_audit.specs.declared.record_files.Placed.{Placed}
 use Rattle.blk_audit.specs.declared.record_files.Records.{Records}
@@ -41,31 +41,31 @@ unfolding place block_place block_size
 record_place w kind = rw kind refl
 
 -- the record at the first block of an address is that of the address
-same_entry : (image : Image) (w : ℕ) → kind_of w ≡ blocks_256 → entry_at image (first_of w) ≡ entry_at image w
+same_entry : (image : Image) (w : ℕ) → kind_of w ≡ blocks_256 → entry_at image (first_block_of w) ≡ entry_at image w
 same_entry image w kind =
     let small = AreFields-of w in
     let are = fields (file_selector w) (first_block w) small.file small.start in
     let file = file_selector-block_word 2 (file_selector w) (first_block w) 1 are in
-    let at : place (first_of w) ≡ place w = block_at (file_selector w) (first_block w) small.file small.start ∙ sym (record_place w kind) in
+    let at : place (first_block_of w) ≡ place w = block_at (file_selector w) (first_block w) small.file small.start ∙ sym (record_place w kind) in
     ap₂ (λ (f p : ℕ). entry_in (byte image (Block f)) p) file at
 
-first_there : (image : Image) (w : ℕ) → kind_of w ≡ blocks_256 → HasRange image (Block (file_selector (first_of w))) (place (first_of w)) 96 → HasRange image (Block (file_selector w)) (place w) 96
+first_there : (image : Image) (w : ℕ) → kind_of w ≡ blocks_256 → HasRange image (Block (file_selector (first_block_of w))) (place (first_block_of w)) 96 → HasRange image (Block (file_selector w)) (place w) 96
 first_there image w kind there =
     let small = AreFields-of w in
     let are = fields (file_selector w) (first_block w) small.file small.start in
     let file = file_selector-block_word 2 (file_selector w) (first_block w) 1 are in
-    let at : place (first_of w) ≡ place w = block_at (file_selector w) (first_block w) small.file small.start ∙ sym (record_place w kind) in
-    subst (λ (f : ℕ). HasRange image (Block f) (place w) 96) file (subst (λ (p : ℕ). HasRange image (Block (file_selector (first_of w))) p 96) at there)
+    let at : place (first_block_of w) ≡ place w = block_at (file_selector w) (first_block w) small.file small.start ∙ sym (record_place w kind) in
+    subst (λ (f : ℕ). HasRange image (Block f) (place w) 96) file (subst (λ (p : ℕ). HasRange image (Block (file_selector (first_block_of w))) p 96) at there)
 
-pub of_first : (image : Image) (w : ℕ) (said : Entry) → kind_of w ≡ blocks_256 → IsEntryOf image (first_of w) said → IsEntryOf image w said
+pub of_first : (image : Image) (w : ℕ) (said : Entry) → kind_of w ≡ blocks_256 → IsSaidBy image (first_block_of w) said → IsSaidBy image w said
 of_first image w said kind is =
     let same = same_entry image w kind in
     record { checks = is.checks ∙ ap entry_checks same; hash = is.hash ∙ ap (λ (e : formats.Entry). e.hash) same; next = is.next ∙ ap (λ (e : formats.Entry). e.next) same; there = first_there image w kind is.there }
 
 -- one of the records that were read
-pub listed : (image : Image) (records : Records) (i : ℕ) (p : Placed) → AreRecordsOf image records → slice_get records.placed.items i ≡ Some p → IsEntryOf image p.first p.entry
+pub listed : (image : Image) (records : Records) (i : ℕ) (p : Placed) → AreRecordsOf image records → slice_get records.placed.items i ≡ Some p → IsSaidBy image p.first p.entry
 listed image records i p are here =
-    subst (λ (q : Placed). IsEntryOf image q.first q.entry) (get_or_from_slice_get records.placed.items i p p here) (are i p (slice_get_within records.placed.items i p here))
+    subst (λ (q : Placed). IsSaidBy image q.first q.entry) (get_or_from_slice_get records.placed.items i p p here) (are i p (slice_get_within records.placed.items i p here))
 
 -- a block of a piece
 pub window_is : (f : ℕ → ℕ) (p i : ℕ) (bytes : List ℕ) → i < 128 → bytes ≡ range_at f p 32768 → take 96 (drop (256 * i) bytes) ≡ range_at f (p + 256 * i) 96
@@ -75,7 +75,7 @@ window_is f p i bytes below is =
     ∙ ap (take 96) (drop-range (256 * i) (32768 - 256 * i) p f)
     ∙ take-range 96 (32768 - 256 * i) (p + 256 * i) f (omega (arith, below))
 
-pub said_block : (image : Image) (n b at : ℕ) (window : List ℕ) → n < 256 → b < 65536 → at ≡ 8192 + b * 256 → AreBytes image → HasRange image (Block n) at 96 → window ≡ range_at (byte image (Block n)) at 96 → IsEntryOf image (block_word 2 n b 1) (entry_said window)
+pub said_block : (image : Image) (n b at : ℕ) (window : List ℕ) → n < 256 → b < 65536 → at ≡ 8192 + b * 256 → AreBytes image → HasRange image (Block n) at 96 → window ≡ range_at (byte image (Block n)) at 96 → IsSaidBy image (block_word 2 n b 1) (entry_said window)
 said_block image n b at window file block there small inside is =
     let are = fields n b file block in
     let here = block_at n b file block in

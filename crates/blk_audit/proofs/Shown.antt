@@ -26,7 +26,7 @@ use Rattle.blk_io.specs.declared.folder.FileId.TheVariants as names
 use Rattle.blk_io.specs.declared.fault.Damage.{Damage}
 use Rattle.blk_io.specs.Faults.{IsShort}
 use Rattle.blk_audit.specs.Faults.{IsRecordDamage}
-use Rattle.blk_audit.specs.Records.{entry_said, IsEntryOf}
+use Rattle.blk_audit.specs.Records.{entry_said, IsSaidBy}
 use Rattle.blk_audit.specs.Chaining.{AreOfFirst}
 use Rattle.blk_audit.specs.declared.records.Entry.{Entry}
 use Rattle.blk_audit.proofs.Truths.{or_first, or_second}
@@ -67,7 +67,7 @@ module _ (image : Image) (w : ℕ) (small : AreBytes image) (kind : kind_of w �
   word_is bytes q are inside = ap (λ (b : List ℕ). word_at (content b) q) are ∙ record_word image w q (let size = entry_bytes w kind in omega (arith, size, inside))
 
   -- the bytes that are read say what the record says
-  pub said_is : (bytes : List ℕ) → bytes ≡ range_at (byte image (Block (file_selector w))) (place w + 0) 96 → HasRange image (Block (file_selector w)) (place w) 96 → IsEntryOf image w (entry_said bytes)
+  pub said_is : (bytes : List ℕ) → bytes ≡ range_at (byte image (Block (file_selector w))) (place w + 0) 96 → HasRange image (Block (file_selector w)) (place w) 96 → IsSaidBy image w (entry_said bytes)
   unfolding entry_in
   said_is bytes is inside =
       let are : bytes ≡ record_at image w = record_read image w 96 bytes (sym (entry_bytes w kind)) is in
@@ -85,13 +85,13 @@ pub of_none : (image : Image) (bucket w : ℕ) → stands_as image blocks_256 w 
 unfolding store_of fields_at
 of_none image bucket w e = rw e refl
 
-pub of_is : (image : Image) (bucket w : ℕ) (said : Entry) → stands_as image blocks_256 w ≡ true → IsEntryOf image w said → is_of_bucket (store_of image) bucket w ≡ (said.checks && (said.hash % 65536 == bucket))
+pub of_is : (image : Image) (bucket w : ℕ) (said : Entry) → stands_as image blocks_256 w ≡ true → IsSaidBy image w said → is_of_bucket (store_of image) bucket w ≡ (said.checks && (said.hash % 65536 == bucket))
 unfolding store_of fields_at
 of_is image bucket w said e is =
     let shown : is_of_bucket (store_of image) bucket w ≡ (entry_checks (entry_at image w) && ((entry_at image w).hash % 65536 == bucket)) = rw e refl in
     shown ∙ ap₂ (λ (c : Bool) (h : ℕ). c && (h % 65536 == bucket)) (sym is.checks) (sym is.hash)
 
-pub next_is : (image : Image) (w : ℕ) (said : Entry) → stands_as image blocks_256 w ≡ true → IsEntryOf image w said → (store_of image).chain_next w ≡ said.next
+pub next_is : (image : Image) (w : ℕ) (said : Entry) → stands_as image blocks_256 w ≡ true → IsSaidBy image w said → (store_of image).chain_next w ≡ said.next
 unfolding store_of follow_at
 next_is image w said e is = let shown : (store_of image).chain_next w ≡ (entry_at image w).next = rw e refl in shown ∙ sym is.next
 

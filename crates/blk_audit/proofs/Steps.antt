@@ -7,7 +7,7 @@ use Rattle.blk_format.specs.Address.{is_address, kind_of, rankings, first_block,
 use Rattle.blk_format.specs.BlockFiles.{is_among}
 use Rattle.blk_volume.specs.ListView.{ListView, ListWrite, after_writes}
 use Rattle.blk_audit.specs.Changes.{head_written, next_written, prev_written}
-use Rattle.blk_audit.specs.Nodes.{node_of, node_at, list_in}
+use Rattle.blk_audit.specs.Nodes.{node_of, loaded_node, list_in}
 use Rattle.blk_audit.specs.Walking.{IsNodeWord}
 use Rattle.blk_audit.specs.declared.nodes.Node.{Node}
 use Rattle.blk_audit.specs.declared.nodes.Nodes.{Nodes}
@@ -23,15 +23,15 @@ fail_first : (a b c : Bool) → a ≡ false → (a && b && c) ≡ false
 fail_first a b c e = rw e refl
 
 module _ (writes : List ListWrite) (nodes : Nodes) (head : ℕ) where
-  checks_is : (w : ℕ) → (list_after writes nodes head).checks w ≡ option_map_or (λ n. n.checks) (node_at nodes w) false
+  checks_is : (w : ℕ) → (list_after writes nodes head).checks w ≡ option_map_or (λ n. n.checks) (loaded_node nodes w) false
   unfolding list_in
   checks_is w = ap (λ (checks : ℕ → Bool). checks w) (written.checks_after writes (list_in nodes head))
 
-  pub next_is : (w : ℕ) (node : Node) → node_at nodes w ≡ Some node → (list_after writes nodes head).next w ≡ next_written writes w node.next
+  pub next_is : (w : ℕ) (node : Node) → loaded_node nodes w ≡ Some node → (list_after writes nodes head).next w ≡ next_written writes w node.next
   unfolding list_in
   next_is w node at = written.next_after writes (list_in nodes head) w ∙ ap (λ (o : Option Node). next_written writes w (option_map_or (λ n. n.next) o 0)) at
 
-  prev_is : (w : ℕ) (node : Node) → node_at nodes w ≡ Some node → (list_after writes nodes head).prev w ≡ prev_written writes w node.prev
+  prev_is : (w : ℕ) (node : Node) → loaded_node nodes w ≡ Some node → (list_after writes nodes head).prev w ≡ prev_written writes w node.prev
   unfolding list_in
   prev_is w node at = written.prev_after writes (list_in nodes head) w ∙ ap (λ (o : Option Node). prev_written writes w (option_map_or (λ n. n.prev) o 0)) at
 
@@ -40,13 +40,13 @@ module _ (writes : List ListWrite) (nodes : Nodes) (head : ℕ) where
   head_is = written.head_after writes (list_in nodes head)
 
   -- no node stands there
-  pub link_none : (old : List ℕ) (link : Link) → node_at nodes link.word ≡ None → is_next (list_after writes nodes head) old link ≡ false
+  pub link_none : (old : List ℕ) (link : Link) → loaded_node nodes link.word ≡ None → is_next (list_after writes nodes head) old link ≡ false
   link_none old link at =
       fail_first ((list_after writes nodes head).checks link.word) (not (is_among old link.word)) ((list_after writes nodes head).prev link.word == link.before)
       (checks_is link.word ∙ ap (λ (o : Option Node). option_map_or (λ n. n.checks) o false) at)
 
   -- it doesn't check
-  pub link_unchecked : (old : List ℕ) (link : Link) (node : Node) → node_at nodes link.word ≡ Some node → node.checks ≡ false → is_next (list_after writes nodes head) old link ≡ false
+  pub link_unchecked : (old : List ℕ) (link : Link) (node : Node) → loaded_node nodes link.word ≡ Some node → node.checks ≡ false → is_next (list_after writes nodes head) old link ≡ false
   link_unchecked old link node at bad =
       fail_first ((list_after writes nodes head).checks link.word) (not (is_among old link.word)) ((list_after writes nodes head).prev link.word == link.before)
       (checks_is link.word ∙ ap (λ (o : Option Node). option_map_or (λ n. n.checks) o false) at ∙ bad)
@@ -57,7 +57,7 @@ module _ (writes : List ListWrite) (nodes : Nodes) (head : ℕ) where
   and_last false b = refl
 
   -- its prev is another node than the one before
-  pub link_far : (old : List ℕ) (link : Link) (node : Node) (prev : ℕ) → node_at nodes link.word ≡ Some node → prev ≡ prev_written writes link.word node.prev → (prev == link.before) ≡ false → is_next (list_after writes nodes head) old link ≡ false
+  pub link_far : (old : List ℕ) (link : Link) (node : Node) (prev : ℕ) → loaded_node nodes link.word ≡ Some node → prev ≡ prev_written writes link.word node.prev → (prev == link.before) ≡ false → is_next (list_after writes nodes head) old link ≡ false
   link_far old link node prev at is far =
       ap (λ (t : Bool). (list_after writes nodes head).checks link.word && not (is_among old link.word) && t) (ap (λ (p : ℕ). p == link.before) (prev_is link.word node at ∙ sym is) ∙ far)
       ∙ and_last ((list_after writes nodes head).checks link.word) (not (is_among old link.word))
@@ -73,19 +73,19 @@ module _ (writes : List ListWrite) (nodes : Nodes) (head : ℕ) where
       ∙ and_middle ((list_after writes nodes head).checks link.word) ((list_after writes nodes head).prev link.word == link.before)
 
   -- it is walked
-  pub link_next : (old : List ℕ) (link : Link) (node : Node) (prev : ℕ) → node_at nodes link.word ≡ Some node → node.checks ≡ true → prev ≡ prev_written writes link.word node.prev → prev ≡ link.before → is_among old link.word ≡ false → is_next (list_after writes nodes head) old link ≡ true
+  pub link_next : (old : List ℕ) (link : Link) (node : Node) (prev : ℕ) → loaded_node nodes link.word ≡ Some node → node.checks ≡ true → prev ≡ prev_written writes link.word node.prev → prev ≡ link.before → is_among old link.word ≡ false → is_next (list_after writes nodes head) old link ≡ true
   link_next old link node prev at good is near new =
       let checks = checks_is link.word ∙ ap (λ (o : Option Node). option_map_or (λ n. n.checks) o false) at ∙ good in
       let back = eq-eqb ((list_after writes nodes head).prev link.word) link.before (prev_is link.word node at ∙ sym is ∙ near) in
       rw (checks, new, back) refl
 
 -- the node of an address
-pub node_named : (nodes : Nodes) (w addr : ℕ) (said : Option Node) → is_address w ≡ true → addr ≡ w → said ≡ node_of nodes addr → node_at nodes w ≡ said
-unfolding node_at
+pub node_named : (nodes : Nodes) (w addr : ℕ) (said : Option Node) → is_address w ≡ true → addr ≡ w → said ≡ node_of nodes addr → loaded_node nodes w ≡ said
+unfolding loaded_node
 node_named nodes w addr said address is found = rw address (ap (node_of nodes) (sym is) ∙ sym found)
 
-pub node_unnamed : (nodes : Nodes) (w : ℕ) → is_address w ≡ false → node_at nodes w ≡ None
-unfolding node_at
+pub node_unnamed : (nodes : Nodes) (w : ℕ) → is_address w ≡ false → loaded_node nodes w ≡ None
+unfolding loaded_node
 node_unnamed nodes w none = rw none refl
 
 -- an address at which a node stands is that of a node

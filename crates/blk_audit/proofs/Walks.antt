@@ -8,7 +8,7 @@ use Rattle.blk_volume.specs.ListView.{ListView, most_nodes}
 use Rattle.blk_volume.specs.Walk.{walk_from, walk}
 use Rattle.blk_audit.specs.declared.list_walk.Walked.{Walked}
 use Rattle.blk_audit.specs.declared.list_walk.Link.{Link}
-use Rattle.blk_audit.specs.Walking.{AreMet, IsStep}
+use Rattle.blk_audit.specs.Walking.{AreMet, IsWalkStep}
 use Rattle.blk_audit.proofs.Truths.{or_swap}
 
 module _ (checks : ℕ → Bool) (next prev : ℕ → ℕ) where
@@ -44,13 +44,13 @@ among_last (x ∷ words) w v = or_swap (w == v) (x == v) (is_among words v) ∙ 
 abbrev pub is_next : ListView → List ℕ → Link → Bool
 is_next list met link = is_walked list.checks list.next list.prev met link.before link.word
 
-pub step_stops : (list : ListView) (old : List ℕ) (link : Link) → is_next list old link ≡ false → IsStep list old link old None
+pub step_stops : (list : ListView) (old : List ℕ) (link : Link) → is_next list old link ≡ false → IsWalkStep list old link old None
 step_stops list old link stop most = sym (append-nil old) ∙ ap (λ (t : List ℕ). old ++ t) (sym (walk_stops list.checks list.next list.prev most old link.before link.word stop))
 
-pub step_last : (list : ListView) (old new : List ℕ) (link : Link) → is_next list old link ≡ true → list.next link.word ≡ link.word → new ≡ old ++ link.word ∷ [] → IsStep list old link new None
+pub step_last : (list : ListView) (old new : List ℕ) (link : Link) → is_next list old link ≡ true → list.next link.word ≡ link.word → new ≡ old ++ link.word ∷ [] → IsWalkStep list old link new None
 step_last list old new link good last items most = items ∙ ap (λ (t : List ℕ). old ++ t) (sym (walk_last list.checks list.next list.prev most old link.before link.word good (eq-eqb (list.next link.word) link.word last)))
 
-pub step_on : (list : ListView) (old new : List ℕ) (link : Link) (on : ℕ) → is_next list old link ≡ true → list.next link.word ≡ on → (on == link.word) ≡ false → new ≡ old ++ link.word ∷ [] → IsStep list old link new (Some (record { word = on; before = link.word }))
+pub step_on : (list : ListView) (old new : List ℕ) (link : Link) (on : ℕ) → is_next list old link ≡ true → list.next link.word ≡ on → (on == link.word) ≡ false → new ≡ old ++ link.word ∷ [] → IsWalkStep list old link new (Some (record { word = on; before = link.word }))
 step_on list old new link on good is apart items = (
   items,
   λ most.
@@ -72,7 +72,7 @@ begins list walked word met items is = record {
       (ap (λ (h : ℕ). walk_from list.checks list.next list.prev most_nodes [] h h) (sym is));
 }
 
-pub goes_on : (list : ListView) (old new : Walked) (left more : ℕ) (link next : Link) → left ≡ suc more → IsOn list old left link.before link.word → AreMet new → IsStep list old.nodes.items link new.nodes.items (Some next) → IsOn list new more next.before next.word
+pub goes_on : (list : ListView) (old new : Walked) (left more : ℕ) (link next : Link) → left ≡ suc more → IsOn list old left link.before link.word → AreMet new → IsWalkStep list old.nodes.items link new.nodes.items (Some next) → IsOn list new more next.before next.word
 goes_on list old new left more link next e on met step = record {
   met = met;
   whole = on.whole
@@ -82,7 +82,7 @@ goes_on list old new left more link next e on met step = record {
       ∙ ap (λ (t : List ℕ). t ++ walk_from list.checks list.next list.prev more new.nodes.items next.before next.word) (sym step.0);
 }
 
-pub ends : (list : ListView) (old new : Walked) (left more : ℕ) (link : Link) → left ≡ suc more → IsOn list old left link.before link.word → IsStep list old.nodes.items link new.nodes.items None → new.nodes.items ≡ walk list
+pub ends : (list : ListView) (old new : Walked) (left more : ℕ) (link : Link) → left ≡ suc more → IsOn list old left link.before link.word → IsWalkStep list old.nodes.items link new.nodes.items None → new.nodes.items ≡ walk list
 ends list old new left more link e on step = sym (on.whole ∙ ap (λ (n : ℕ). old.nodes.items ++ walk_from list.checks list.next list.prev n old.nodes.items link.before link.word) e ∙ sym (step more))
 
 pub is_full : (list : ListView) (walked : Walked) (left before word : ℕ) → left ≡ 0 → IsOn list walked left before word → walked.nodes.items ≡ walk list

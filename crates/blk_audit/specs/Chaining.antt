@@ -19,16 +19,16 @@ reached_by store zero = []
 reached_by store (suc n) = reached_by store n ++ (chain store n).reached
 
 -- the reached records, in order
-abbrev pub words_of : Reached → List ℕ
-words_of reached = reached.words.items
+abbrev pub words_reached : Reached → List ℕ
+words_reached reached = reached.words.items
 
 -- the address of the first block of a record
-abbrev pub first_of : ℕ → ℕ
-first_of w = block_word blocks_256 (file_selector w) (first_block w) 1
+abbrev pub first_block_of : ℕ → ℕ
+first_block_of w = block_word blocks_256 (file_selector w) (first_block w) 1
 
 -- the first blocks of the reached records are those that were met
 abbrev pub AreReached : Reached → Type 0
-AreReached reached = IsClaimsOf reached.met (map first_of reached.words.items)
+AreReached reached = IsClaimsOf reached.met (map first_block_of reached.words.items)
 
 -- a record that checks is of one of the first n buckets
 pub record IsOfFirst (store : StoreView) (n w : ℕ) : Type 0 where

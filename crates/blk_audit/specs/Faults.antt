@@ -1,8 +1,9 @@
 -- The answers of calls that read, check and take memory.
 use Rattle.std.specs.Prelude.{ℕ, ◌≡◌, ◌⊎◌, ◌+◌, ◌*◌, true, Result, Ok, Err}
 use Rattle.blk_image.specs.Told.{Told}
-use Rattle.blk_format.specs.Address.{blocks_256, file_selector, kind_of, place}
+use Rattle.blk_format.specs.Address.{blocks_256, file_selector, header_size, kind_of, place}
 use Rattle.blk_format.specs.Headers.{place_of_bucket}
+use Rattle.blk_format.specs.Records.{entry_size, node_size}
 use Rattle.blk_record.specs.declared.index_head.TheConstants.IndexHead as IndexHead
 use Rattle.blk_io.specs.declared.folder.FileId.TheVariants as names
 use Rattle.blk_io.specs.declared.fault.Damage.{Damage}
@@ -38,7 +39,7 @@ IfScanDevice (Err Memory) P = Unit {0}
 pub record IsShortOfNodes (told : Told) (file : ℕ) (damage : Damage) : Type 0 where
   pub first : ℕ
   pub count : ℕ
-  pub short : IsShort told (names.Block file) (8192 + first * 36) (36 * count) damage
+  pub short : IsShort told (names.Block file) (header_size + first * node_size) (node_size * count) damage
 
 -- so it was in some file
 pub record IsNodesDamage (told : Told) (damage : Damage) : Type 0 where
@@ -54,13 +55,13 @@ pub record IsRecordDamage (files : BlockFiles) (told : Told) (damage : Damage) :
   pub entry : ℕ
   pub kind : kind_of entry ≡ blocks_256
   pub stands : stands_among files entry ≡ true
-  pub short : IsShort told (names.Block (file_selector entry)) (place entry) 96 damage
+  pub short : IsShort told (names.Block (file_selector entry)) (place entry) entry_size damage
 
 -- neighbouring blocks of a file were read, from one on, and their bytes are too few
 pub record IsRecordsDamage (told : Told) (damage : Damage) : Type 0 where
   pub file : ℕ
   pub first : ℕ
-  pub short : IsShort told (names.Block file) (8192 + first * 256) 32768 damage
+  pub short : IsShort told (names.Block file) (header_size + first * 256) 32768 damage
 
 -- the words of neighbouring buckets were read, from one on, and their bytes are too few
 pub record IsTableDamage (told : Told) (damage : Damage) : Type 0 where

@@ -13,7 +13,7 @@ abbrev pub entry_said : List ℕ → Entry
 entry_said bytes = record { checks = checks 92 bytes; hash = word_at (content bytes) 0; next = word_at (content bytes) 4 }
 
 -- that is what the record says that lies at the place that a word of an image names, and its bytes are there
-pub record IsEntryOf (image : Image) (w : ℕ) (said : Entry) : Type 0 where
+pub record IsSaidBy (image : Image) (w : ℕ) (said : Entry) : Type 0 where
   pub checks : said.checks ≡ entry_checks (entry_at image w)
   pub hash : said.hash ≡ (entry_at image w).hash
   pub next : said.next ≡ (entry_at image w).next
@@ -21,4 +21,4 @@ pub record IsEntryOf (image : Image) (w : ℕ) (said : Entry) : Type 0 where
 
 -- the records that were read in pieces are those of an image
 abbrev pub AreRecordsOf : Image → Records → Type 0
-AreRecordsOf image records = All (λ placed. IsEntryOf image placed.first placed.entry) records.placed.items
+AreRecordsOf image records = All (λ placed. IsSaidBy image placed.first placed.entry) records.placed.items

@@ -15,11 +15,11 @@ use Rattle.blk_audit.specs.declared.list_walk.Walked.{Walked}
 use Rattle.blk_audit.specs.declared.list_walk.Link.{Link}
 use Rattle.blk_audit.specs.declared.list_walk.Standing.{Standing}
 use Rattle.blk_audit.specs.declared.nodes.Nodes.{Nodes}
-use Rattle.blk_audit.specs.Nodes.{HasNodes, node_at}
+use Rattle.blk_audit.specs.Nodes.{HasNodes, loaded_node}
 
 -- the walked nodes, in order
-abbrev pub nodes_of : Walked → List ℕ
-nodes_of walk = walk.nodes.items
+abbrev pub nodes_walked : Walked → List ℕ
+nodes_walked walk = walk.nodes.items
 
 -- a word is the address of a node
 pub record IsNodeWord (w : ℕ) : Type 0 where
@@ -32,16 +32,16 @@ pub record AreMet (walk : Walked) : Type 0 where
   pub nodes : (w : ℕ) → is_among walk.nodes.items w ≡ true → IsNodeWord w
 
 -- a step of a walk: it ends with what is walked from the word on, or it goes on behind the node of the word
-abbrev pub IsStep : ListView → List ℕ → Link → List ℕ → Option Link → Type 0
-IsStep list old link new None = (most : ℕ) → new ≡ old ++ walk_from list.checks list.next list.prev (suc most) old link.before link.word
-IsStep list old link new (Some next) =
+abbrev pub IsWalkStep : ListView → List ℕ → Link → List ℕ → Option Link → Type 0
+IsWalkStep list old link new None = (most : ℕ) → new ≡ old ++ walk_from list.checks list.next list.prev (suc most) old link.before link.word
+IsWalkStep list old link new (Some next) =
     (new ≡ old ++ link.word ∷ [])
     × ((most : ℕ) → walk_from list.checks list.next list.prev (suc most) old link.before link.word ≡ link.word ∷ walk_from list.checks list.next list.prev most new next.before next.word)
 
 -- a node stands at the address that a word is
 pub record IsStanding (nodes : Nodes) (w : ℕ) (found : Standing) : Type 0 where
   pub addr : found.addr ≡ w
-  pub node : node_at nodes w ≡ Some found.node
+  pub node : loaded_node nodes w ≡ Some found.node
   pub is : IsNodeWord w
 
 -- a node was added to these, or it was among them

@@ -4,7 +4,7 @@ ghost use Rattle.std.specs.Option.{ForSome};
 ghost use Rattle.blk_image.specs.Image.{Block as block, HasRange, byte};
 ghost use Rattle.blk_image.specs.Told.{Rises, Stays};
 ghost use Rattle.blk_audit.specs.Faults.{IfScanDamaged, IfScanDevice, IsShortOfNodes};
-ghost use Rattle.blk_audit.specs.Filling.{said_by, nodes_in, nodes_from};
+ghost use Rattle.blk_audit.specs.Filling.{node_said, nodes_in, nodes_from};
 
 use crate::fault::ScanFault;
 use crate::nodes::Node;
@@ -18,7 +18,7 @@ const NODES_OF_PIECE: usize = 1024;
 // What a node with these bytes says.
 fn said(window: &[u8]) -> Node
     requires { length window.now ≡ 36 }
-    ensures { result ≡ said_by window.now }
+    ensures { result ≡ node_said window.now }
 {
     let Some(view) = NodeView::over(window) else {
         unreachable!();

@@ -21,6 +21,3 @@ pub use list_walk::Walked;
 pub use reaching::{Reached, chains};
 pub use scanning::{Lists, read_lists};
 pub use walking::walk;
-
-#[cfg(test)]
-mod tests;

@@ -7,8 +7,8 @@ ghost use Rattle.blk_volume.specs.ListPlans.{completion_writes};
 ghost use Rattle.blk_image.specs.Image.{Image};
 ghost use Rattle.blk_volume.specs.View.{list_of};
 ghost use Rattle.blk_volume.specs.ListImages.{completed_walk};
-ghost use Rattle.blk_audit.specs.Nodes.{list_in, node_at, AreNodesOf};
-ghost use Rattle.blk_audit.specs.Walking.{AreMet, IsAdded, IsNodeWord, IsStanding, IsStep};
+ghost use Rattle.blk_audit.specs.Nodes.{list_in, loaded_node, AreNodesOf};
+ghost use Rattle.blk_audit.specs.Walking.{AreMet, IsAdded, IsNodeWord, IsStanding, IsWalkStep};
 
 use crate::changes::{head_after, next_after, prev_after};
 use crate::nodes::{Node, Nodes};
@@ -81,7 +81,7 @@ fn visit(
 ) -> Result<Option<Link>, NoMemory>
     requires met { AreMet walk.old }
     ensures met { OnOk result (AreMet walk.new) }
-    ensures step { IfOk result (λ next. (head : ℕ) → IsStep (after_writes (map meant writes.now) (list_in nodes.now head)) walk.old.nodes.items link walk.new.nodes.items next) }
+    ensures step { IfOk result (λ next. (head : ℕ) → IsWalkStep (after_writes (map meant writes.now) (list_in nodes.now head)) walk.old.nodes.items link walk.new.nodes.items next) }
 {
     let Some(here) = node_named(nodes, link.word) else {
         return Ok(None);
@@ -109,7 +109,7 @@ fn visit(
 
 // The node that a word names, if one stands there.
 fn node_named(nodes: &Nodes, word: u32) -> Option<Standing>
-    ensures { MatchOption result (node_at nodes.now word ≡ None) (IsStanding nodes.now word) }
+    ensures { MatchOption result (loaded_node nodes.now word ≡ None) (IsStanding nodes.now word) }
 {
     let Some(addr) = Addr::from_word(word) else {
         return None;
@@ -121,18 +121,18 @@ fn node_named(nodes: &Nodes, word: u32) -> Option<Standing>
 }
 
 impl Walked {
-    ghost use Rattle.blk_audit.specs.Walking.{nodes_of};
+    ghost use Rattle.blk_audit.specs.Walking.{nodes_walked};
 
     /// The number of walked nodes.
     pub fn count(&self) -> usize
-        ensures { result ≡ length (nodes_of self.now) }
+        ensures { result ≡ length (nodes_walked self.now) }
     {
         self.nodes.len()
     }
 
     /// The address of one of the walked nodes, counted from 0.
     pub fn at(&self, i: usize) -> Option<Addr>
-        ensures { result ≡ slice_get (nodes_of self.now) i }
+        ensures { result ≡ slice_get (nodes_walked self.now) i }
     {
         self.nodes.get(i).copied()
     }

@@ -12,7 +12,7 @@ ghost use Rattle.blk_disk.specs.Tables.{Agrees};
 ghost use Rattle.blk_index.specs.Table.{AreBuckets};
 ghost use Rattle.blk_audit.specs.Faults.{IfScanDamaged, IfScanDevice, IsChainsDamage, IsRecordDamage};
 ghost use Rattle.blk_audit.specs.Records.{AreRecordsOf};
-ghost use Rattle.blk_audit.specs.Chaining.{AreOfFirst, AreReached, AreReachedThere, HasChains, HasEntry, HasFirst, HasRecords, IsLookedAt, IsReach, IsTaken, is_met, reached_by, words_of};
+ghost use Rattle.blk_audit.specs.Chaining.{AreOfFirst, AreReached, AreReachedThere, HasChains, HasEntry, HasFirst, HasRecords, IsLookedAt, IsReach, IsTaken, is_met, reached_by, words_reached};
 
 use crate::fault::ScanFault;
 use crate::record_files::{Records, read_records, record_of};
@@ -44,14 +44,14 @@ pub struct Reached {
 impl Reached {
     /// The number of reached records.
     pub fn count(&self) -> usize
-        ensures { result ≡ length (words_of self.now) }
+        ensures { result ≡ length (words_reached self.now) }
     {
         self.words.len()
     }
 
     /// The address of one of the reached records, counted from 0.
     pub fn at(&self, i: usize) -> Option<Addr>
-        ensures { result ≡ slice_get (words_of self.now) i }
+        ensures { result ≡ slice_get (words_reached self.now) i }
     {
         self.words.get(i).copied()
     }
@@ -59,7 +59,7 @@ impl Reached {
     // No record is reached.
     fn none(alloc: Global) -> Reached
         ensures reached { AreReached result }
-        ensures none { words_of result ≡ [] }
+        ensures none { words_reached result ≡ [] }
     {
         Reached {
             words: Vec::new(alloc),
@@ -71,7 +71,7 @@ impl Reached {
     fn has(&self, addr: Addr) -> bool
         requires kind { kind_of addr ≡ blocks_256 }
         requires reached { AreReached self.now }
-        ensures { result ≡ is_met (words_of self.now) addr }
+        ensures { result ≡ is_met (words_reached self.now) addr }
     {
         self.met.has(first_of_record(addr))
     }
@@ -80,9 +80,9 @@ impl Reached {
     fn add(&mut self, addr: Addr) -> Result<(), NoMemory>
         requires kind { kind_of addr ≡ blocks_256 }
         requires reached { AreReached self.old }
-        requires fresh { is_met (words_of self.old) addr ≡ false }
+        requires fresh { is_met (words_reached self.old) addr ≡ false }
         ensures reached { OnOk result (AreReached self.new) }
-        ensures added { OnOk result (words_of self.new ≡ words_of self.old ++ addr ∷ []) }
+        ensures added { OnOk result (words_reached self.new ≡ words_reached self.old ++ addr ∷ []) }
     {
         self.met.add(first_of_record(addr))?;
         self.words.push(addr)?;
@@ -102,9 +102,9 @@ pub fn chains<F: Folder>(
     files: &BlockFiles,
     named: &Claims,
 ) -> Result<Reached, ScanFault>
-    ensures reached { IfOk result (λ reached. ForSome (F.told f.old).files (λ image. Agrees files.now image → words_of reached ≡ reached_by (store_of image) table_length)) }
+    ensures reached { IfOk result (λ reached. ForSome (F.told f.old).files (λ image. Agrees files.now image → words_reached reached ≡ reached_by (store_of image) table_length)) }
     ensures met { IfOk result AreReached }
-    ensures checked { IfOk result (λ reached. ForSome (F.told f.old).files (λ image. HasChains files.now image (words_of reached))) }
+    ensures checked { IfOk result (λ reached. ForSome (F.told f.old).files (λ image. HasChains files.now image (words_reached reached))) }
     ensures stays { Stays (F.told f.old) (F.told f.new) }
 
     // A folder that tells its files gives a damage only where its index is too short or the block files don't agree with it.
@@ -134,12 +134,12 @@ fn follow_piece<F: Folder>(
     requires inside { first + 1024 ≤ table_length }
     requires records { ForSome (F.told f.old).files (λ image. AreRecordsOf image records.now) }
     requires met { AreReached reached.old }
-    requires there { ForSome (F.told f.old).files (λ image. HasFirst files.now image (words_of reached.old) first) }
-    requires before { ForSome (F.told f.old).files (λ image. Agrees files.now image → words_of reached.old ≡ reached_by (store_of image) first) }
+    requires there { ForSome (F.told f.old).files (λ image. HasFirst files.now image (words_reached reached.old) first) }
+    requires before { ForSome (F.told f.old).files (λ image. Agrees files.now image → words_reached reached.old ≡ reached_by (store_of image) first) }
     ensures met { OnOk result (AreReached reached.new) }
-    ensures checked { OnOk result (ForSome (F.told f.old).files (λ image. HasFirst files.now image (words_of reached.new) (first + 1024))) }
+    ensures checked { OnOk result (ForSome (F.told f.old).files (λ image. HasFirst files.now image (words_reached reached.new) (first + 1024))) }
     ensures table { OnOk result (ForSome (F.told f.old).files (λ image. HasRange image index (place_of_bucket first) 4096)) }
-    ensures reached { OnOk result (ForSome (F.told f.old).files (λ image. Agrees files.now image → words_of reached.new ≡ reached_by (store_of image) (first + 1024))) }
+    ensures reached { OnOk result (ForSome (F.told f.old).files (λ image. Agrees files.now image → words_reached reached.new ≡ reached_by (store_of image) (first + 1024))) }
     ensures stays { Stays (F.told f.old) (F.told f.new) }
     ensures damaged { IfScanDamaged result (IsChainsDamage files.now (F.told f.new)) }
     ensures untold { ForSome (F.told f.new).files (IsOpen files.now) → IfScanDamaged result (λ _. (F.told f.new).files ≡ None) }
@@ -165,11 +165,11 @@ fn follow_all<F: Folder>(
     requires records { ForSome (F.told f.old).files (λ image. AreRecordsOf image records.now) }
     requires words { ForSome (F.told f.old).files (λ image. AreBuckets image first table.now) }
     requires met { AreReached reached.old }
-    requires there { ForSome (F.told f.old).files (λ image. HasFirst files.now image (words_of reached.old) first) }
-    requires before { ForSome (F.told f.old).files (λ image. Agrees files.now image → words_of reached.old ≡ reached_by (store_of image) first) }
+    requires there { ForSome (F.told f.old).files (λ image. HasFirst files.now image (words_reached reached.old) first) }
+    requires before { ForSome (F.told f.old).files (λ image. Agrees files.now image → words_reached reached.old ≡ reached_by (store_of image) first) }
     ensures met { OnOk result (AreReached reached.new) }
-    ensures checked { OnOk result (ForSome (F.told f.old).files (λ image. HasFirst files.now image (words_of reached.new) (first + length table.now))) }
-    ensures reached { OnOk result (ForSome (F.told f.old).files (λ image. Agrees files.now image → words_of reached.new ≡ reached_by (store_of image) (first + length table.now))) }
+    ensures checked { OnOk result (ForSome (F.told f.old).files (λ image. HasFirst files.now image (words_reached reached.new) (first + length table.now))) }
+    ensures reached { OnOk result (ForSome (F.told f.old).files (λ image. Agrees files.now image → words_reached reached.new ≡ reached_by (store_of image) (first + length table.now))) }
     ensures stays { Stays (F.told f.old) (F.told f.new) }
     ensures damaged { IfScanDamaged result (IsRecordDamage files.now (F.told f.new)) }
     ensures untold { ForSome (F.told f.new).files (Agrees files.now) → IfScanDamaged result (λ _. (F.told f.new).files ≡ None) }
@@ -196,13 +196,13 @@ fn follow<F: Folder>(
     requires bucket { bucket < table_length }
     requires records { ForSome (F.told f.old).files (λ image. AreRecordsOf image records.now) }
     requires met { AreReached reached.old }
-    requires there { ForSome (F.told f.old).files (λ image. HasRecords files.now image (words_of reached.old)) }
-    requires others { ForSome (F.told f.old).files (λ image. Agrees files.now image → AreOfFirst (store_of image) bucket (words_of reached.old)) }
+    requires there { ForSome (F.told f.old).files (λ image. HasRecords files.now image (words_reached reached.old)) }
+    requires others { ForSome (F.told f.old).files (λ image. Agrees files.now image → AreOfFirst (store_of image) bucket (words_reached reached.old)) }
     ensures met { OnOk result (AreReached reached.new) }
-    ensures checked { OnOk result (ForSome (F.told f.old).files (λ image. HasRecords files.now image (words_of reached.new))) }
-    ensures looked { OnOk result (ForSome (F.told f.old).files (λ image. IsLookedAt files.now image (words_of reached.new) start)) }
-    ensures more { OnOk result (ForSome (F.told f.old).files (λ image. length (words_of reached.old) ≤ length (words_of reached.new))) }
-    ensures reached { OnOk result (ForSome (F.told f.old).files (λ image. Agrees files.now image → words_of reached.new ≡ words_of reached.old ++ (chain_from (store_of image) bucket most_records [] start).reached)) }
+    ensures checked { OnOk result (ForSome (F.told f.old).files (λ image. HasRecords files.now image (words_reached reached.new))) }
+    ensures looked { OnOk result (ForSome (F.told f.old).files (λ image. IsLookedAt files.now image (words_reached reached.new) start)) }
+    ensures more { OnOk result (ForSome (F.told f.old).files (λ image. length (words_reached reached.old) ≤ length (words_reached reached.new))) }
+    ensures reached { OnOk result (ForSome (F.told f.old).files (λ image. Agrees files.now image → words_reached reached.new ≡ words_reached reached.old ++ (chain_from (store_of image) bucket most_records [] start).reached)) }
     ensures stays { Stays (F.told f.old) (F.told f.new) }
     ensures damaged { IfScanDamaged result (IsRecordDamage files.now (F.told f.new)) }
     ensures untold { ForSome (F.told f.new).files (Agrees files.now) → IfScanDamaged result (λ _. (F.told f.new).files ≡ None) }
@@ -232,11 +232,11 @@ fn reach<F: Folder>(
     requires bucket { bucket < table_length }
     requires records { ForSome (F.told f.old).files (λ image. AreRecordsOf image records.now) }
     requires met { AreReached reached.old }
-    requires there { ForSome (F.told f.old).files (λ image. AreReachedThere files.now image (words_of reached.old)) }
+    requires there { ForSome (F.told f.old).files (λ image. AreReachedThere files.now image (words_reached reached.old)) }
     ensures met { OnOk result (AreReached reached.new) }
     ensures checked { OnOk result (ForSome (F.told f.old).files (λ image. HasEntry files.now image word)) }
-    ensures taken { IfOk result (λ next. ForSome (F.told f.old).files (λ image. IsTaken files.now image (words_of reached.old) word (words_of reached.new) next)) }
-    ensures step { IfOk result (λ next. ForSome (F.told f.old).files (λ image. Agrees files.now image → IsReach (store_of image) bucket (words_of reached.old) word (words_of reached.new) next)) }
+    ensures taken { IfOk result (λ next. ForSome (F.told f.old).files (λ image. IsTaken files.now image (words_reached reached.old) word (words_reached reached.new) next)) }
+    ensures step { IfOk result (λ next. ForSome (F.told f.old).files (λ image. Agrees files.now image → IsReach (store_of image) bucket (words_reached reached.old) word (words_reached reached.new) next)) }
     ensures stays { Stays (F.told f.old) (F.told f.new) }
     ensures damaged { IfScanDamaged result (IsRecordDamage files.now (F.told f.new)) }
     ensures untold { ForSome (F.told f.new).files (Agrees files.now) → IfScanDamaged result (λ _. (F.told f.new).files ≡ None) }

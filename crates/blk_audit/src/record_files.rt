@@ -8,7 +8,7 @@ ghost use Rattle.blk_format.specs.Address.{blocks_256, kind_of};
 ghost use Rattle.blk_io.specs.Faults.{IfDamaged, IfDevice};
 ghost use Rattle.blk_disk.specs.Tables.{Agrees, stands_among};
 ghost use Rattle.blk_audit.specs.Faults.{IfScanDamaged, IfScanDevice, IsRecordDamage, IsRecordsDamage};
-ghost use Rattle.blk_audit.specs.Records.{AreRecordsOf, IsEntryOf};
+ghost use Rattle.blk_audit.specs.Records.{AreRecordsOf, IsSaidBy};
 
 use crate::fault::ScanFault;
 use crate::records::{Entry, first_of_record, read_record, said};
@@ -45,7 +45,7 @@ impl Records {
     // The record of an address, if it was read in a piece.
     fn get(&self, addr: Addr) -> Option<Entry>
         requires kind { kind_of addr ≡ blocks_256 }
-        ensures { (image : Image) → AreRecordsOf image self.now → IfSome result (IsEntryOf image addr) }
+        ensures { (image : Image) → AreRecordsOf image self.now → IfSome result (IsSaidBy image addr) }
     {
         let first = first_of_record(addr);
         let Some(placed) = self.at(self.place_of(first.word())) else {
@@ -197,7 +197,7 @@ pub(crate) fn record_of<F: Folder>(
     requires kind { kind_of addr ≡ blocks_256 }
     requires stands { IsTrue (stands_among files.now addr) }
     requires records { ForSome (F.told f.old).files (λ image. AreRecordsOf image records.now) }
-    ensures said { IfOk result (λ said. ForSome (F.told f.old).files (λ image. IsEntryOf image addr said)) }
+    ensures said { IfOk result (λ said. ForSome (F.told f.old).files (λ image. IsSaidBy image addr said)) }
     ensures stays { Stays (F.told f.old) (F.told f.new) }
     ensures damaged { IfDamaged result (IsRecordDamage files.now (F.told f.new)) }
     ensures untold { ForSome (F.told f.new).files (Agrees files.now) → IfDamaged result (λ _. (F.told f.new).files ≡ None) }

@@ -6,8 +6,8 @@ ghost use Rattle.blk_format.specs.Address.{blocks_256, kind_of};
 ghost use Rattle.blk_io.specs.Faults.{IfDamaged, IfDevice};
 ghost use Rattle.blk_disk.specs.Tables.{Agrees, stands_among};
 ghost use Rattle.blk_audit.specs.Faults.{IsRecordDamage};
-ghost use Rattle.blk_audit.specs.Records.{IsEntryOf, entry_said};
-ghost use Rattle.blk_audit.specs.Chaining.{first_of};
+ghost use Rattle.blk_audit.specs.Records.{IsSaidBy, entry_said};
+ghost use Rattle.blk_audit.specs.Chaining.{first_block_of};
 
 use blk_addr::{Addr, FileId, Kind};
 use blk_disk::BlockFiles;
@@ -45,7 +45,7 @@ pub(crate) fn read_record<F: Folder>(
 ) -> Result<Entry, Fault>
     requires kind { kind_of addr ≡ blocks_256 }
     requires stands { IsTrue (stands_among files.now addr) }
-    ensures said { IfOk result (λ said. ForSome (F.told f.old).files (λ image. IsEntryOf image addr said)) }
+    ensures said { IfOk result (λ said. ForSome (F.told f.old).files (λ image. IsSaidBy image addr said)) }
     ensures stays { Stays (F.told f.old) (F.told f.new) }
     ensures damaged { IfDamaged result (IsRecordDamage files.now (F.told f.new)) }
     ensures untold { ForSome (F.told f.new).files (Agrees files.now) → IfDamaged result (λ _. (F.told f.new).files ≡ None) }
@@ -61,7 +61,7 @@ pub(crate) fn read_record<F: Folder>(
 #[tactic(auto, using(std::proofs::lemmas::Bool::Decides::nat_tests), unfolding(blk_addr::specs::FileId::file_of_word))]
 pub(crate) fn first_of_record(addr: Addr) -> Addr
     requires { kind_of addr ≡ blocks_256 }
-    ensures { result ≡ first_of addr }
+    ensures { result ≡ first_block_of addr }
 {
     let FileId::Block(file) = addr.file() else {
         unreachable!();

@@ -8,9 +8,9 @@ ghost use Rattle.blk_volume.specs.ListImages.{completed_walk};
 ghost use Rattle.blk_volume.specs.View.{store_of};
 ghost use Rattle.blk_disk.specs.Open.{IsOpen};
 ghost use Rattle.blk_disk.specs.Tables.{Agrees};
-ghost use Rattle.blk_audit.specs.Chaining.{HasChains, reached_by, words_of};
+ghost use Rattle.blk_audit.specs.Chaining.{HasChains, reached_by, words_reached};
 ghost use Rattle.blk_audit.specs.Faults.{IfScanDamaged, IfScanDevice, IsListsDamage};
-ghost use Rattle.blk_audit.specs.Walking.{HasUseList, nodes_of};
+ghost use Rattle.blk_audit.specs.Walking.{HasUseList, nodes_walked};
 
 use crate::fault::ScanFault;
 use crate::list_walk::Walked;
@@ -45,9 +45,9 @@ pub fn read_lists<F: Folder>(
     f: &mut F,
     files: &BlockFiles,
 ) -> Result<Lists, ScanFault>
-    ensures walked { IfOk result (λ lists. ForSome (F.told f.old).files (λ image. Agrees files.now image → nodes_of lists.walked ≡ completed_walk image)) }
-    ensures reached { IfOk result (λ lists. ForSome (F.told f.old).files (λ image. Agrees files.now image → words_of lists.reached ≡ reached_by (store_of image) table_length)) }
-    ensures checked { IfOk result (λ lists. ForSome (F.told f.old).files (λ image. HasUseList files.now image × HasChains files.now image (words_of lists.reached))) }
+    ensures walked { IfOk result (λ lists. ForSome (F.told f.old).files (λ image. Agrees files.now image → nodes_walked lists.walked ≡ completed_walk image)) }
+    ensures reached { IfOk result (λ lists. ForSome (F.told f.old).files (λ image. Agrees files.now image → words_reached lists.reached ≡ reached_by (store_of image) table_length)) }
+    ensures checked { IfOk result (λ lists. ForSome (F.told f.old).files (λ image. HasUseList files.now image × HasChains files.now image (words_reached lists.reached))) }
     ensures stays { Stays (F.told f.old) (F.told f.new) }
 
     // A folder that tells its files gives a damage only where its index is too short or the block files don't agree with it.

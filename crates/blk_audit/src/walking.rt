@@ -7,7 +7,7 @@ ghost use Rattle.blk_volume.specs.ListImages.{completed_walk};
 ghost use Rattle.blk_disk.specs.Open.{IsOpen};
 ghost use Rattle.blk_disk.specs.Tables.{Agrees};
 ghost use Rattle.blk_audit.specs.Nodes.{AreNodesOf};
-ghost use Rattle.blk_audit.specs.Walking.{AreMet, HasEnds, HasUseList, nodes_of};
+ghost use Rattle.blk_audit.specs.Walking.{AreMet, HasEnds, HasUseList, nodes_walked};
 
 use crate::fault::ScanFault;
 use crate::list_walk::{Walked, walk_nodes};
@@ -26,7 +26,7 @@ use std::alloc::Global;
 /// in flight and its nodes. A damage is a read that gave too few bytes, or a node of the operation that does not check; a
 /// folder whose files are those of `files` gives none. `Device` comes only where the folder failed in this call.
 pub fn walk<F: Folder>(alloc: Global, f: &mut F, files: &BlockFiles) -> Result<Walked, ScanFault>
-    ensures walked { IfOk result (λ walked. ForSome (F.told f.old).files (λ image. Agrees files.now image → nodes_of walked ≡ completed_walk image)) }
+    ensures walked { IfOk result (λ walked. ForSome (F.told f.old).files (λ image. Agrees files.now image → nodes_walked walked ≡ completed_walk image)) }
     ensures met { IfOk result AreMet }
     ensures checked { OnOk result (ForSome (F.told f.old).files (HasUseList files.now)) }
     ensures stays { Stays (F.told f.old) (F.told f.new) }
@@ -50,7 +50,7 @@ pub(crate) fn walk_over<F: Folder>(
     nodes: &Nodes,
 ) -> Result<Walked, ScanFault>
     requires nodes { ForSome (F.told f.old).files (λ image. Agrees files.now image → AreNodesOf image nodes.now) }
-    ensures walked { IfOk result (λ walked. ForSome (F.told f.old).files (λ image. Agrees files.now image → nodes_of walked ≡ completed_walk image)) }
+    ensures walked { IfOk result (λ walked. ForSome (F.told f.old).files (λ image. Agrees files.now image → nodes_walked walked ≡ completed_walk image)) }
     ensures met { IfOk result AreMet }
     ensures checked { OnOk result (ForSome (F.told f.old).files (HasEnds files.now)) }
     ensures stays { Stays (F.told f.old) (F.told f.new) }

@@ -14,7 +14,7 @@ use Rattle.blk_format.specs.Records.{entry_in}
 use Rattle.blk_format.specs.Headers.{place_of_bucket}
 use Rattle.blk_volume.specs.ListView.{put}
 use Rattle.blk_volume.specs.View.{StoreView, RecordFields, store_of}
-use Rattle.blk_volume.specs.Chains.{chain, IsChain}
+use Rattle.blk_volume.specs.Chains.{chain, IsChain, bucket_at}
 use Rattle.blk_laws.proofs.chains.ChainLinks.{first-leaves, others-stay}
 use Rattle.blk_laws.proofs.states.Changing.{at-itself}
 use Rattle.blk_laws.specs.IndexWrites.{IsIndexWord}
@@ -23,7 +23,7 @@ use Rattle.blk_disk.specs.declared.tables.BlockFiles.{BlockFiles}
 use Rattle.blk_disk.specs.Tables.{Agrees}
 use Rattle.blk_volume.specs.Entries.{stored_key}
 use Rattle.blk_volume.specs.Searches.{HasKey}
-use Rattle.blk_chain.specs.Linking.{bucket_at, chained_with, place_of_front}
+use Rattle.blk_chain.specs.Linking.{chained_with, place_of_front}
 use Rattle.blk_chain.specs.Unlinking.{CanBeUnlinked, IsStillLinked, IsUnlinked, next_record, unlink_range, unlink_steps}
 use Rattle.blk_chain.proofs.Links.{bucket_read, front_inside, index_agrees, index_word}
 use Rattle.blk_laws.proofs.chains.ChainWords.{IsShownOf, shown-of, shown-chain_next}

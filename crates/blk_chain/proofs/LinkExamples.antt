@@ -13,12 +13,12 @@ use Rattle.blk_format.specs.Headers.{index_length}
 use Rattle.blk_format.specs.NewFolder.{new_file_words, new_index}
 use Rattle.blk_format.specs.Records.{child, entry_in, entry_checks}
 use Rattle.blk_format.specs.Standing.{stands, stands_as_blocks}
-use Rattle.blk_volume.specs.Chains.{IsChain}
+use Rattle.blk_volume.specs.Chains.{IsChain, bucket_at}
 use Rattle.blk_volume.specs.Entries.{stored_key}
 use Rattle.blk_volume.specs.View.{RecordFields, fields_at, fields_of, entry_at, follow_at, key_place_at, store_of}
 use Rattle.blk_laws.proofs.examples.SmallFolder.{small_records, folder_with}
 use Rattle.blk_chain.specs.LinkExamples.{FirstCanBeLinked, NextCanBeLinked}
-use Rattle.blk_chain.specs.Linking.{CanBeLinked, bucket_at, chained_with}
+use Rattle.blk_chain.specs.Linking.{CanBeLinked, chained_with}
 use Rattle.blk_volume.specs.Searches.{HasKey}
 use Rattle.blk_chain.proofs.Pairs.{chain-words, one-name}
 

@@ -18,7 +18,7 @@ use Rattle.blk_format.specs.Records.{entry_in}
 use Rattle.blk_format.specs.Headers.{place_of_bucket}
 use Rattle.blk_format.specs.BlockFiles.{is_among}
 use Rattle.blk_volume.specs.View.{StoreView, RecordFields, store_of}
-use Rattle.blk_volume.specs.Chains.{bucket_of_hash, chain, file_and_block, is_of_bucket, IsChain}
+use Rattle.blk_volume.specs.Chains.{bucket_of_hash, chain, file_and_block, is_of_bucket, IsChain, bucket_at}
 use Rattle.blk_laws.proofs.chains.ChainLinks.{linked-front, others-stay}
 use Rattle.blk_laws.specs.IndexWrites.{IsIndexWord}
 use Rattle.blk_laws.proofs.updates.IndexWords.{buckets-written, buckets-unchecked}
@@ -26,7 +26,7 @@ use Rattle.blk_disk.specs.declared.tables.BlockFiles.{BlockFiles}
 use Rattle.blk_disk.specs.Tables.{Agrees}
 use Rattle.blk_format.proofs.SpareHeaders.{SparesHeaders}
 use Rattle.blk_disk.proofs.Agreeing.{agrees_still}
-use Rattle.blk_chain.specs.Linking.{bucket_at, chained_with, place_of_front, CanBeLinked, link_front_steps, IsLinkedInFront}
+use Rattle.blk_chain.specs.Linking.{chained_with, place_of_front, CanBeLinked, link_front_steps, IsLinkedInFront}
 use Rattle.blk_image.proofs.Commits.{commits_none, commits_prefix, commits_word}
 use Rattle.blk_laws.proofs.chains.ChainWords.{shown-fields, shown-of}
 use Rattle.blk_chain.proofs.Names.{same-name}

@@ -9,10 +9,10 @@ use Rattle.blk_format.specs.Hash.{hash as hash_of}
 use Rattle.blk_volume.specs.Entries.{stored_key}
 use Rattle.blk_volume.specs.ListView.{Distinct, put}
 use Rattle.blk_volume.specs.View.{StoreView, RecordFields, store_of, entry_at}
-use Rattle.blk_volume.specs.Chains.{Chain, bucket_of_hash, chain, file_and_block, IsChain}
+use Rattle.blk_volume.specs.Chains.{Chain, bucket_of_hash, chain, file_and_block, IsChain, bucket_at}
 use Rattle.blk_laws.proofs.chains.Chains.{chain-is}
 use Rattle.blk_volume.specs.Searches.{HasKey, bucket_of_key, chained_for}
-use Rattle.blk_chain.specs.Linking.{bucket_at, chained_with, CanBeLinked, IsLinkedInFront}
+use Rattle.blk_chain.specs.Linking.{chained_with, CanBeLinked, IsLinkedInFront}
 use Rattle.blk_chain.specs.Unlinking.{CanBeUnlinked, IsUnlinked, KeyIsApart, StandsBehind, without_record}
 use Rattle.blk_chain.specs.Mapping.{GainsOne, IsRecordOf, LosesOne}
 use Rattle.blk_chain.proofs.Apart.{among-blocks, still-there}

@@ -9,11 +9,10 @@ use Rattle.blk_format.specs.BlockFiles.{is_among}
 use Rattle.blk_format.specs.Hash.{hash as hash_of}
 use Rattle.blk_format.specs.Headers.{bucket_of}
 use Rattle.blk_volume.specs.View.{RecordFields, entry_at, store_of}
-use Rattle.blk_volume.specs.Chains.{bucket_of_hash, chain, is_of_bucket, IsChain, Linked}
+use Rattle.blk_volume.specs.Chains.{bucket_of_hash, chain, is_of_bucket, IsChain, Linked, bucket_at}
 use Rattle.blk_format.proofs.Among.{is_among_more}
 use Rattle.blk_disk.specs.Tables.{is_record_among}
 use Rattle.blk_volume.specs.Searches.{HasKey, bucket_of_key, chained_for, NoneHasKey}
-use Rattle.blk_chain.specs.Linking.{bucket_at}
 use Rattle.blk_chain.specs.Unlinking.{CanBeUnlinked, StandsBehind, next_record}
 use Rattle.blk_chain.specs.Finding.{last_passed, up_to, CanBeSearched, EndsWith, HasPassed, IsAnswer, IsFollowed, IsFound, IsKeyed, IsOnTheWay, IsOutcome, IsSought, Walks}
 use Rattle.blk_chain.proofs.Apart.{middle-there}

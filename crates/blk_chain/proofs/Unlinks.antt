@@ -17,7 +17,7 @@ use Rattle.blk_format.specs.Address.{kind_of, file_selector, place, blocks_256}
 use Rattle.blk_format.specs.BlockFiles.{is_among, stands_in}
 use Rattle.blk_format.specs.Records.{entry_in, checks}
 use Rattle.blk_volume.specs.View.{RecordFields, entry_at, store_of}
-use Rattle.blk_volume.specs.Chains.{bucket_of_hash, file_and_block, IsChain}
+use Rattle.blk_volume.specs.Chains.{bucket_of_hash, file_and_block, IsChain, bucket_at}
 use Rattle.blk_format.specs.Claims.{claims_of, has_claim}
 use Rattle.blk_volume.specs.Entries.{stored_key}
 use Rattle.blk_laws.proofs.chains.ChainLinks.{later-leaves}
@@ -33,7 +33,6 @@ use Rattle.blk_disk.specs.declared.tables.BlockFiles.{BlockFiles}
 use Rattle.blk_disk.specs.Tables.{Agrees, stands_among}
 use Rattle.blk_format.specs.Sealed.{RecordChecks, AreChanges, IsMidUpdate, IsUpdated, new_seal, placed, record_at, record_range, record_size, seal_place, sealed_steps, size_by_kind, seal_by_kind, update_steps, update_words}
 use Rattle.blk_format.proofs.SealedFields.{record_word, updated_is_new}
-use Rattle.blk_chain.specs.Linking.{bucket_at}
 use Rattle.blk_chain.specs.Unlinking.{CanBeUnlinked, first_claim, IsApart, NamesStay, IsStillLinked, IsUnlinked, KeepsRecords, next_record}
 use Rattle.blk_image.proofs.Commits.{commits_none, commits_prefix}
 use Rattle.blk_laws.proofs.lists.WriteSteps.{quiet-sealed}

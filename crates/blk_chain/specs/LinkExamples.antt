@@ -1,5 +1,5 @@
 -- What a link asks of a folder is met.
-use Rattle.std.specs.Prelude.{◌≡◌, ℕ, List, [], ◌∷◌}
+use Rattle.std.specs.Prelude.{◌≡◌, ℕ, [], ◌∷◌}
 use Rattle.blk_image.specs.Image.{Image}
 use Rattle.blk_format.specs.NewFolder.{new_index}
 use Rattle.blk_image.specs.Image.{Index}

@@ -8,15 +8,11 @@ use Rattle.blk_format.specs.Headers.{place_of_bucket}
 use Rattle.blk_format.specs.BlockFiles.{is_among, IsWellFormed}
 use Rattle.blk_format.specs.Records.{child}
 use Rattle.blk_volume.specs.ListView.{put}
-use Rattle.blk_volume.specs.View.{RecordFields, entry_at, list_of, store_of}
-use Rattle.blk_volume.specs.Chains.{bucket_of_hash, chain, IsChain}
+use Rattle.blk_volume.specs.View.{RecordFields, list_of, store_of}
+use Rattle.blk_volume.specs.Chains.{chain, IsChain, bucket_at}
 use Rattle.blk_volume.specs.Searches.{HasKey, IsWholeChain}
 
--- the bucket of the record that a word names
-abbrev pub bucket_at : Image → ℕ → ℕ
-bucket_at image w = bucket_of_hash (entry_at image w).hash
-
--- the records of its chain
+-- the records of the chain that the record of a word belongs to
 abbrev pub chained_with : Image → ℕ → List ℕ
 chained_with image w = (chain (store_of image) (bucket_at image w)).reached
 

@@ -15,11 +15,11 @@ use Rattle.blk_io.specs.Faults.{IsShort}
 use Rattle.blk_volume.specs.ListView.{put}
 use Rattle.blk_volume.specs.View.{RecordFields, StoreView, entry_at, list_of, store_of}
 use Rattle.blk_volume.specs.Entries.{is_key_length}
-use Rattle.blk_volume.specs.Chains.{chain, file_and_block, IsChain}
-use Rattle.blk_disk.specs.Unsealed.{IsUnsealed}
+use Rattle.blk_volume.specs.Chains.{chain, file_and_block, IsChain, bucket_at}
+use Rattle.blk_disk.specs.Damages.{IsFailedRecord}
 use Rattle.blk_format.specs.Sealed.{IsUpdated, RecordChecks, record_range, record_size, sealed_steps}
 use Rattle.blk_volume.specs.Searches.{HasKey, IsWholeChain}
-use Rattle.blk_chain.specs.Linking.{bucket_at, chained_with, place_of_front}
+use Rattle.blk_chain.specs.Linking.{chained_with, place_of_front}
 use Rattle.blk_format.specs.Storage.{longest_short_key}
 
 -- words have this one, with the word before it, if there is one, so many before that, and these behind
@@ -125,4 +125,4 @@ BeforeChecks (Some before) image = RecordChecks before image
 abbrev pub IsUnlinkDamage : Told → ℕ → Option ℕ → Damage → Type 0
 IsUnlinkDamage told entry None damage = IsShort told (names.Block (file_selector entry)) (place entry + 4) 4 damage ⊎ IsShort told (names.Block (file_selector entry)) (place entry) 4 damage
 IsUnlinkDamage told entry (Some before) damage =
-    IsShort told (names.Block (file_selector entry)) (place entry + 4) 4 damage ⊎ (IsShort told (names.Block (file_selector before)) (place before) (record_size before) damage ⊎ IsUnsealed told before damage)
+    IsShort told (names.Block (file_selector entry)) (place entry + 4) 4 damage ⊎ IsFailedRecord told before (record_size before) damage

@@ -10,7 +10,7 @@ ghost use Rattle.blk_io.specs.Faults.{IfDamaged, IfDevice};
 ghost use Rattle.blk_volume.specs.Chains.{bucket_of_hash};
 ghost use Rattle.blk_volume.specs.View.{store_of};
 ghost use Rattle.blk_disk.specs.Tables.{Agrees, is_record_among, stands_among};
-ghost use Rattle.blk_entry.specs.Keys.{CanBeRead, IsHead, IsPlaceDamage};
+ghost use Rattle.blk_entry.specs.Keys.{CanBeRead, IsRecordHead, IsPlaceDamage};
 ghost use Rattle.blk_chain.specs.Unlinking.{CanBeUnlinked};
 ghost use Rattle.blk_chain.specs.Finding.{CanBeSearched, IsAnswer, IsDanglingLink, IsChainDamage, IsKeyed, IsFaultOfLink, IsOutcome, IsSearchDamage, IsSought, IsSearchStep, StandsAt, StandsBefore};
 ghost use Rattle.blk_volume.specs.Searches.{bucket_of_key};
@@ -181,7 +181,7 @@ fn is_sought<F: Folder>(
     requires hash { sought.now.hash ≡ hash_of key.now }
     requires kind { kind_of entry ≡ blocks_256 }
     requires stands { IsTrue (stands_among files.now entry) }
-    requires head { ForSome (F.told f.old).files (λ image. IsHead image entry head.now) }
+    requires head { ForSome (F.told f.old).files (λ image. IsRecordHead image entry head.now) }
     ensures sought { IfOk result (λ same. ForSome (F.told f.old).files (λ image. IsTrue same ↔ IsSought key.now sought.now.child entry image)) }
     ensures stays { Stays (F.told f.old) (F.told f.new) }
     ensures damaged { IfDamaged result (IsPlaceDamage files.now (F.told f.old) entry (length key.now) head.now.long_key) }

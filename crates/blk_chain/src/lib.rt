@@ -14,8 +14,3 @@ pub use laws::chains_with_entries_can_be_searched;
 pub use link_laws::records_can_be_linked;
 pub use linking::link_front;
 pub use unlinking::unlink;
-
-#[cfg(test)]
-mod tests;
-#[cfg(test)]
-mod told_tests;

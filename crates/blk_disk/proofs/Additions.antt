@@ -17,7 +17,7 @@ use Rattle.blk_image.proofs.Words.{length-with_word, length-with_words, word-bes
 use Rattle.blk_format.specs.Address.{block_size}
 use Rattle.blk_format.specs.Headers.{block_magic, version, magic_of, version_of, this_file_of, next_file_of, entry_size_of, max_entries_of}
 use Rattle.blk_format.specs.BlockFiles.{file_checks, is_block_count}
-use Rattle.blk_disk.specs.Growth.{header_words, link_steps, make_steps}
+use Rattle.blk_disk.specs.Growth.{header_words, link_steps, file_steps}
 use Rattle.blk_disk.proofs.Ranges.{size_small}
 use Rattle.blk_format.proofs.Keeping.{checks_none, link_zero}
 
@@ -110,7 +110,7 @@ blank_file f n image =
     ∙ ap (λ (l : List ℕ). with_file image f (Some l)) (resized-empty n)
 
 -- the file is made
-pub made_is : (kind n : ℕ) (image : Image) → after (make_steps kind n) image ≡ with_file image (Block n) (Some (new_header kind n))
+pub made_is : (kind n : ℕ) (image : Image) → after (file_steps kind n) image ≡ with_file image (Block n) (Some (new_header kind n))
 made_is kind n image =
     ap (after (word_steps (Block n) (header_words kind n))) (blank_file (Block n) 8192 image)
     ∙ after-word_steps (Block n) (header_words kind n) (with_file image (Block n) (Some (zeros 8192))) (zeros 8192) (with_file-same image (Block n) _)
@@ -124,13 +124,13 @@ within_size : (s : Bool) → (s || (s || (false || (false || (false || (false ||
 within_size true e = refl
 within_size false e = e
 
-make_within : (kind n : ℕ) → IsWithin (touched_by_all (make_steps kind n)) (whole (Block n))
+make_within : (kind n : ℕ) → IsWithin (touched_by_all (file_steps kind n)) (whole (Block n))
 unfolding word_step
 make_within kind n = record { bytes = λ file i e. within_one (same_file (Block n) file) _ _ _ _ e; sizes = λ file e. within_size (same_file (Block n) file) e }
 
 -- nothing but the new file is touched while it is made
-pub making_outside : (kind n : ℕ) (image : Image) → Along (SameOutside (whole (Block n)) image) image (make_steps kind n)
-making_outside kind n image = outside_steps (whole (Block n)) (make_steps kind n) image image (make_within kind n) (outside-refl (whole (Block n)) image)
+pub making_outside : (kind n : ℕ) (image : Image) → Along (SameOutside (whole (Block n)) image) image (file_steps kind n)
+making_outside kind n image = outside_steps (whole (Block n)) (file_steps kind n) image image (make_within kind n) (outside-refl (whole (Block n)) image)
 
-pub making_quiet : (kind n : ℕ) → IsQuiet (make_steps kind n)
+pub making_quiet : (kind n : ℕ) → IsQuiet (file_steps kind n)
 making_quiet kind n = quiet-word_steps (Block n) (header_words kind n)

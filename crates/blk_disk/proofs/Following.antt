@@ -21,7 +21,7 @@ use Rattle.std.specs.Option.{ForSome}
 use Rattle.blk_io.specs.declared.fault.Fault.{Fault}
 use Rattle.blk_io.specs.declared.fault.Fault.TheVariants.{Device, Damaged}
 use Rattle.blk_io.specs.Faults.{IfDamaged, damage_of}
-use Rattle.blk_disk.specs.Loading.{Follows, IsFileNumber, IsHeaderDamage, IsLoadDamage, ReadsAs, IsHead, files_left, next_checks, checks_after, checks_from, links_from, next_of}
+use Rattle.blk_disk.specs.Loading.{Follows, IsFileNumber, IsHeaderDamage, IsLoadDamage, ReadsAs, IsFileHead, files_left, next_checks, checks_after, checks_from, links_from, next_of}
 use Rattle.blk_format.proofs.Among.{is_among_more}
 use Rattle.blk_format.proofs.Keeping.{last_link}
 use Rattle.blk_image.proofs.FirstChecks.{append_some, append_none}
@@ -94,7 +94,7 @@ module _ (new : BlockFiles) (image : Image) (kind : ℕ) (left next : ℕ) (is_l
 
 -- the next file of a kind is taken up, where its checks hold
 module _ (k : Kind) (files new : BlockFiles) (image : Image) (n : ℕ) (head : Head) (block_kind : kind_number k ≢ 0) (joins : Joins files new (kind_number k) n head.blocks head.size) (follows : Follows files image (kind_number k) (Some n))
-    (none : first_of (next_checks files image (kind_number k) n) ≡ None) (is : IsHead (byte image (Block n)) (length_of image (Block n)) head) where
+    (none : first_of (next_checks files image (kind_number k) n) ≡ None) (is : IsFileHead (byte image (Block n)) (length_of image (Block n)) head) where
   abbrev left : ℕ
   left = files_left files (kind_number k)
 

@@ -25,7 +25,7 @@ use Rattle.blk_addr.specs.Kind.{kind_number}
 use Rattle.blk_disk.specs.declared.tables.BlockFiles.{BlockFiles}
 use Rattle.blk_disk.specs.Tables.{Agrees, Joins, all_files, blocks_of, files_of, length_in}
 use Rattle.blk_format.specs.Growth.{HaveGrown, StaysWholeOutside}
-use Rattle.blk_disk.specs.Growth.{IsLeastFree, add_steps, addition_of, free_number, last_file, link_steps, make_steps}
+use Rattle.blk_disk.specs.Growth.{IsLeastFileNumber, add_steps, addition_of, free_number, last_file, link_steps, file_steps}
 use Rattle.blk_disk.proofs.Additions.{IsNew, header_new, header_size_is, made_is, making_outside, making_quiet, new_header, new_passes, next_is}
 use Rattle.blk_format.proofs.SpareHeaders.{other_file}
 use Rattle.blk_disk.proofs.Among.{all_files_among}
@@ -99,7 +99,7 @@ less_one : (n : ℕ) → suc n - 1 ≡ n
 less_one n = omega arith
 
 -- a kind with fewer than 60 files, where what is kept agrees
-module _ (files : BlockFiles) (image : Image) (p : ℕ) (small : p < 4) (agrees : Agrees files image) (room : length (files_of files (suc p)) < 60) (least : IsLeastFree files (free_number files)) where
+module _ (files : BlockFiles) (image : Image) (p : ℕ) (small : p < 4) (agrees : Agrees files image) (room : length (files_of files (suc p)) < 60) (least : IsLeastFileNumber files (free_number files)) where
   abbrev n : ℕ
   n = free_number files
 
@@ -232,10 +232,10 @@ module _ (files : BlockFiles) (image : Image) (p : ℕ) (small : p < 4) (agrees 
     making_formed formed = well_formed_still image b (λ i. same.bytes Index i refl) (same.lengths Index refl) (λ none. making_undamaged) formed
 
   abbrev made : Image
-  made = after (make_steps (suc p) n) image
+  made = after (file_steps (suc p) n) image
 
   pub made_same : SameOutside (whole (Block n)) image made
-  made_same = until_last (SameOutside (whole (Block n)) image) (SameOutside (whole (Block n)) image) (make_steps (suc p) n) image (making_outside (suc p) n image)
+  made_same = until_last (SameOutside (whole (Block n)) image) (SameOutside (whole (Block n)) image) (file_steps (suc p) n) image (making_outside (suc p) n image)
 
   made_file : made (Block n) ≡ Some (new_header (suc p) n)
   made_file = ap (λ (i : Image). i (Block n)) (made_is (suc p) n image) ∙ with_file-same image (Block n) (Some (new_header (suc p) n))
@@ -435,7 +435,7 @@ module _ (files : BlockFiles) (image : Image) (p : ℕ) (small : p < 4) (agrees 
     }
 
     pub agrees_joined : Agrees new (after (add_steps files (suc p)) image)
-    agrees_joined = subst (Agrees new) (sym (after-append (make_steps (suc p) n) (link_steps last n) image)) agrees_done
+    agrees_joined = subst (Agrees new) (sym (after-append (file_steps (suc p) n) (link_steps last n) image)) agrees_done
 
 -- an image while a file is added
 pub record IsAdding (files : BlockFiles) (kind : ℕ) (from image : Image) : Type 0 where
@@ -443,7 +443,7 @@ pub record IsAdding (files : BlockFiles) (kind : ℕ) (from image : Image) : Typ
   pub grown : HaveGrown from image
   pub formed : IsWellFormed from → IsWellFormed image
 
-module _ (files : BlockFiles) (image : Image) (p : ℕ) (small : p < 4) (agrees : Agrees files image) (room : length (files_of files (suc p)) < 60) (least : IsLeastFree files (free_number files)) where
+module _ (files : BlockFiles) (image : Image) (p : ℕ) (small : p < 4) (agrees : Agrees files image) (room : length (files_of files (suc p)) < 60) (least : IsLeastFileNumber files (free_number files)) where
   making_adds : (b : Image) → SameOutside (whole (Block (free_number files))) image b → IsAdding files (suc p) image b
   making_adds b same = record {
     outside = outside_wider (whole (Block (free_number files))) (addition_of files (suc p)) image b (within_left (whole (Block (free_number files))) (range (Block (last_file files (suc p))) 10 2)) same;
@@ -453,14 +453,14 @@ module _ (files : BlockFiles) (image : Image) (p : ℕ) (small : p < 4) (agrees 
 
   along_kind : Along (IsAdding files (suc p) image) image (add_steps files (suc p))
   along_kind =
-      until-append (IsAdding files (suc p) image) (IsAdding files (suc p) image) (make_steps (suc p) (free_number files)) (link_steps (last_file files (suc p)) (free_number files)) image
-      (until_weaker2 (SameOutside (whole (Block (free_number files))) image) (IsAdding files (suc p) image) (SameOutside (whole (Block (free_number files))) image) (IsAdding files (suc p) image) (make_steps (suc p) (free_number files)) image making_adds making_adds (making_outside (suc p) (free_number files) image)) (
-        making_adds (after (make_steps (suc p) (free_number files)) image) (made_same files image p small agrees room least),
+      until-append (IsAdding files (suc p) image) (IsAdding files (suc p) image) (file_steps (suc p) (free_number files)) (link_steps (last_file files (suc p)) (free_number files)) image
+      (until_weaker2 (SameOutside (whole (Block (free_number files))) image) (IsAdding files (suc p) image) (SameOutside (whole (Block (free_number files))) image) (IsAdding files (suc p) image) (file_steps (suc p) (free_number files)) image making_adds making_adds (making_outside (suc p) (free_number files) image)) (
+        making_adds (after (file_steps (suc p) (free_number files)) image) (made_same files image p small agrees room least),
         record { outside = done_outside files image p small agrees room least; grown = done_grown files image p small agrees room least; formed = done_formed files image p small agrees room least },
       )
 
-pub least_is : (files : BlockFiles) (n : ℕ) → n ≡ free_number files → IsLeastFree files n → IsLeastFree files (free_number files)
-least_is files n same least = subst (IsLeastFree files) same least
+pub least_is : (files : BlockFiles) (n : ℕ) → n ≡ free_number files → IsLeastFileNumber files n → IsLeastFileNumber files (free_number files)
+least_is files n same least = subst (IsLeastFileNumber files) same least
 
 -- each kind of blocks
 pub by_kind : (P : ℕ → Type 0) → ((p : ℕ) → p < 4 → P (suc p)) → (k : Kind) → kind_number k ≢ 0 → P (kind_number k)
@@ -471,7 +471,7 @@ by_kind P each B1K block_kind = each 2 (lit< tt)
 by_kind P each B4K block_kind = each 3 (lit< tt)
 
 -- a call that made the file, and then linked it
-module _ (files : BlockFiles) (k : Kind) (block_kind : kind_number k ≢ 0) (a : Told) (agrees : ForSome a.files (Agrees files)) (room : length (files_of files (kind_number k)) < 60) (least : IsLeastFree files (free_number files)) where
+module _ (files : BlockFiles) (k : Kind) (block_kind : kind_number k ≢ 0) (a : Told) (agrees : ForSome a.files (Agrees files)) (room : length (files_of files (kind_number k)) < 60) (least : IsLeastFileNumber files (free_number files)) where
   abbrev kind : ℕ
   kind = kind_number k
 
@@ -480,12 +480,12 @@ module _ (files : BlockFiles) (k : Kind) (block_kind : kind_number k ≢ 0) (a :
       by_kind (λ (j : ℕ). length (files_of files j) < 60 → Along (IsAdding files j image) image (add_steps files j)) (λ p small few. along_kind files image p small agree few least) k block_kind room
 
   add_quiet : IsQuiet (add_steps files kind)
-  add_quiet = quiet-append (make_steps kind (free_number files)) (link_steps (last_file files kind) (free_number files)) (making_quiet kind (free_number files)) tt
+  add_quiet = quiet-append (file_steps kind (free_number files)) (link_steps (last_file files kind) (free_number files)) (making_quiet kind (free_number files)) tt
 
-  pub add_room : {b : Told} → Applies a b (make_steps kind (free_number files)) → ForSome b.files (λ image. 10 + 2 ≤ length_of image (Block (last_file files kind)))
+  pub add_room : {b : Told} → Applies a b (file_steps kind (free_number files)) → ForSome b.files (λ image. 10 + 2 ≤ length_of image (Block (last_file files kind)))
   add_room grows =
       told_whole (λ image. 10 + 2 ≤ length_of image (Block (last_file files kind))) grows
-      (λ image there. by_kind (λ (j : ℕ). length (files_of files j) < 60 → 10 + 2 ≤ length_of (after (make_steps j (free_number files)) image) (Block (last_file files j)))
+      (λ image there. by_kind (λ (j : ℕ). length (files_of files j) < 60 → 10 + 2 ≤ length_of (after (file_steps j (free_number files)) image) (Block (last_file files j)))
       (λ p small few. let long = made_room files image p small (agrees image there) few least in omega (arith, long)) k block_kind room)
 
   passing : {d : Told} (P : Image → Type 0) (from : Image) → ((image : Image) → IsAdding files kind from image → P image) → a.files ≡ Some from → AppliesPrefix a d (add_steps files kind) → Passes a d P

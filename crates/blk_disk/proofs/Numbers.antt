@@ -8,7 +8,7 @@ use Rattle.std.proofs.lemmas.Map.Steps.{le-length_from_below}
 use Rattle.blk_format.specs.BlockFiles.{is_among}
 use Rattle.blk_disk.specs.declared.tables.BlockFiles.{BlockFiles}
 use Rattle.blk_disk.specs.Tables.{all_files}
-use Rattle.blk_disk.specs.Growth.{IsLeastFree, free_number, least_from}
+use Rattle.blk_disk.specs.Growth.{IsLeastFileNumber, free_number, least_from}
 
 differ : (b : Bool) → b ≡ true → b ≡ false → ⊥
 differ b e d = cc
@@ -24,7 +24,7 @@ least_is numbers (suc turns) start n low high free taken =
     by_test true e more = ⊎_elim (λ (less : start < n). more (omega arith)) (λ (upto : n ≤ start). let same : start ≡ n = omega arith in absurd (differ (is_among numbers n) (ap (is_among numbers) (sym same) ∙ e) free)) (cases_lt start n)
     by_test false e more = ⊎_elim (λ (less : start < n). absurd (differ (is_among numbers start) (taken start (omega arith) less) e)) (λ (upto : n ≤ start). omega arith) (cases_lt start n)
 
-pub free_is : (files : BlockFiles) (n : ℕ) → IsLeastFree files n → free_number files ≡ n
+pub free_is : (files : BlockFiles) (n : ℕ) → IsLeastFileNumber files n → free_number files ≡ n
 unfolding free_number
 free_is files n least = least_is (all_files files) 252 4 n least.least_number (let small = least.most_number in omega (arith, small)) least.free least.taken
 

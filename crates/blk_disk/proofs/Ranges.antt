@@ -13,7 +13,7 @@ use Rattle.blk_addr.specs.FileId.{file_of_word}
 use Rattle.blk_addr.specs.declared.file_id.FileId.TheVariants as words
 use Rattle.blk_io.specs.declared.folder.FileId.{FileId}
 use Rattle.blk_io.specs.declared.folder.FileId.TheVariants as folder
-use Rattle.blk_disk.specs.Names.{name_of}
+use Rattle.blk_disk.specs.Names.{folder_name}
 use Rattle.blk_disk.specs.declared.tables.BlockFiles.{BlockFiles}
 use Rattle.blk_disk.specs.Tables.{stands_among, files_of, all_files, blocks_of, length_in, Agrees}
 use Rattle.blk_disk.proofs.Among.{all_files_among}
@@ -103,11 +103,11 @@ room_small w =
     omega (arith, h)
 
 -- the name of its file
-pub name_is : (w : ℕ) (file : FileId) → kind_of w ≢ external → file ≡ name_of (file_of_word w) → file ≡ folder.Block (file_selector w)
+pub name_is : (w : ℕ) (file : FileId) → kind_of w ≢ external → file ≡ folder_name (file_of_word w) → file ≡ folder.Block (file_selector w)
 unfolding file_of_word
 name_is w file block_kind e =
     let t : (kind_of w == external) ≡ false = grind (arith, nat_tests) in
-    e ∙ ap (λ (b : Bool). name_of (if b then words.External (external_number w) else words.Block (file_selector w))) t
+    e ∙ ap (λ (b : Bool). folder_name (if b then words.External (external_number w) else words.Block (file_selector w))) t
 
 same_kinds : (f g : ℕ → List ℕ) (n : ℕ) → f 1 ≡ g 1 → f 2 ≡ g 2 → f 3 ≡ g 3 → f 4 ≡ g 4 → kind_among f n ≡ kind_among g n
 unfolding kind_among

@@ -18,7 +18,7 @@ use Rattle.blk_io.specs.declared.fault.Fault.{Fault}
 use Rattle.blk_disk.specs.declared.heads.Head.{Head}
 use Rattle.blk_disk.specs.declared.tables.BlockFiles.{BlockFiles}
 use Rattle.blk_disk.specs.Tables.{all_files}
-use Rattle.blk_disk.specs.Loading.{AreGiven, IsHead, Judges, ReadsAs, next_checks, files_left, next_of}
+use Rattle.blk_disk.specs.Loading.{AreGiven, IsFileHead, AnswersFileHeader, ReadsAs, next_checks, files_left, next_of}
 
 module _ (image : Image) (file : File) (new : List ℕ) (given : ℕ) (gives : GivesBytes image file 0 (zeros 80) new given) where
   -- how many bytes were given
@@ -78,7 +78,7 @@ module _ (f g : ℕ → ℕ) (same : (i : ℕ) → i < 80 → f i ≡ g i) where
   pub same_blocks : max_entries_of f ≡ max_entries_of g
   same_blocks = blocks_clipped f ∙ ap max_entries_of (same_clipped f g same) ∙ sym (blocks_clipped g)
 
-  pub same_head : (size size2 : ℕ) (head : Head) → size ≡ size2 → IsHead f size head → IsHead g size2 head
+  pub same_head : (size size2 : ℕ) (head : Head) → size ≡ size2 → IsFileHead f size head → IsFileHead g size2 head
   same_head size size2 head e is = record { next = is.next ∙ ap next_of same_next; blocks = is.blocks ∙ same_blocks; size = is.size ∙ e }
 
 -- the length of the file, as a call gives it
@@ -93,7 +93,7 @@ module _ (files : BlockFiles) (image : Image) (kind n given : ℕ) (new : List �
   are_given : AreGiven size given
   are_given whole = omega (arith, whole, is, given_is image (Block n) new given gives)
 
-  judged_as : (first : Option checks.Damage) → first ≡ first_of (next_checks files image kind n) → Judges first (content new) size given answer → ReadsAs files image kind n answer
+  judged_as : (first : Option checks.Damage) → first ≡ first_of (next_checks files image kind n) → AnswersFileHeader first (content new) size given answer → ReadsAs files image kind n answer
   judged_as None none judges =
       let good = judges are_given in
       let fits = λ (r : Result Head Fault). ReadsAs files image kind n r in
@@ -103,7 +103,7 @@ module _ (files : BlockFiles) (image : Image) (kind n given : ℕ) (new : List �
       let bad = judges are_given in
       subst fits (sym bad.1) (sym some ∙ ap Some (sym bad.2))
 
-  pub judged : Judges (first_of (file_checks kind (all_files files ++ n ∷ []) (files_left files kind) n (content new) size)) (content new) size given answer → ReadsAs files image kind n answer
+  pub judged : AnswersFileHeader (first_of (file_checks kind (all_files files ++ n ∷ []) (files_left files kind) n (content new) size)) (content new) size given answer → ReadsAs files image kind n answer
   judged judges =
       judged_as (first_of (file_checks kind (all_files files ++ n ∷ []) (files_left files kind) n (content new) size))
       (ap first_of (same_checks (content new) (byte image (Block n)) (window_is image (Block n) new given gives) kind (all_files files ++ n ∷ []) (files_left files kind) n size)

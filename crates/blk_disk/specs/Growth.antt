@@ -6,7 +6,7 @@ use Rattle.blk_image.specs.Image.{Image, Block, byte}
 use Rattle.blk_image.specs.Steps.{TrailStep, Word, SetLength, word_steps}
 use Rattle.blk_image.specs.Footprint.{Footprint, either, one_word, range, size_of, whole}
 use Rattle.blk_format.specs.Address.{block_size, header_size}
-use Rattle.blk_format.specs.Headers.{block_magic, version, empty_of}
+use Rattle.blk_format.specs.Headers.{block_magic, blocks_place, empty_of, empty_place, entry_size_place, magic_place, next_file_place, this_file_place, version, version_place}
 use Rattle.blk_format.specs.BlockFiles.{kind_among, is_among, blocks_a_growth, most_blocks}
 use Rattle.blk_disk.specs.declared.tables.BlockFiles.{BlockFiles}
 use Rattle.blk_disk.specs.Tables.{files_of, all_files, blocks_of, length_in}
@@ -42,9 +42,9 @@ grown_length files n = header_size + grown (blocks_of files n) * size_as (kind_a
 abbrev pub raised : Image → ℕ → ℕ → ℕ
 raised image n groups = (empty_of (byte image (Block n)) 3 + groups) % 2 ^ 32
 
--- the counter at place 36 is raised by so many groups, and then the number of blocks at place 20 is written
+-- the counter of the groups that are free is raised by so many, and then the number of blocks is written
 abbrev pub raise_steps : Image → ℕ → ℕ → ℕ → List TrailStep
-raise_steps image n groups blocks = word_steps (Block n) ((36, raised image n groups) ∷ (20, blocks) ∷ [])
+raise_steps image n groups blocks = word_steps (Block n) ((empty_place 3, raised image n groups) ∷ (blocks_place, blocks) ∷ [])
 
 -- a file that is shorter than this gets so long
 abbrev pub lengthen_steps : BlockFiles → ℕ → ℕ → List TrailStep
@@ -56,7 +56,7 @@ grow_steps files n image = lengthen_steps files n (grown_length files n) ++ rais
 
 -- what the growth of a file touches: its length, the counter, and the number of blocks
 abbrev pub growth_of : ℕ → Footprint
-growth_of n = either (size_of (Block n)) (either (one_word (Block n) 36) (one_word (Block n) 20))
+growth_of n = either (size_of (Block n)) (either (one_word (Block n) (empty_place 3)) (one_word (Block n) blocks_place))
 
 -- A file is added.
 
@@ -65,7 +65,7 @@ abbrev pub first_number : ℕ
 first_number = 4
 
 -- a number is the least from 4 on that no linked file has
-pub record IsLeastFree (files : BlockFiles) (n : ℕ) : Type 0 where
+pub record IsLeastFileNumber (files : BlockFiles) (n : ℕ) : Type 0 where
   pub least_number : first_number ≤ n
   pub most_number : n < 256
   pub free : is_among (all_files files) n ≡ false
@@ -78,7 +78,7 @@ least_from numbers (suc turns) n =
     let later = least_from numbers turns (n + 1) in
     if is_among numbers n then later else n
 
--- the number of the next new file, which is the least that IsLeastFree speaks of
+-- the number of the next new file, which is the least that IsLeastFileNumber speaks of
 unfoldable pub free_number : BlockFiles → ℕ
 free_number files = least_from (all_files files) 252 first_number
 
@@ -88,20 +88,20 @@ last_file files kind = get_or (files_of files kind) (length (files_of files kind
 
 -- the words of a new header that aren't 0, each with its place: magic, version, this_file with no next_file, entry_size
 abbrev pub header_words : ℕ → ℕ → List (ℕ × ℕ)
-header_words kind n = (0, block_magic) ∷ (4, version) ∷ (8, n) ∷ (12, block_size kind) ∷ []
+header_words kind n = (magic_place, block_magic) ∷ (version_place, version) ∷ (this_file_place, n) ∷ (entry_size_place, block_size kind) ∷ []
 
 -- a file gets the length 0, then that of a header, and then the words of the header
-abbrev pub make_steps : ℕ → ℕ → List TrailStep
-make_steps kind n = SetLength (Block n) 0 ∷ SetLength (Block n) header_size ∷ word_steps (Block n) (header_words kind n)
+abbrev pub file_steps : ℕ → ℕ → List TrailStep
+file_steps kind n = SetLength (Block n) 0 ∷ SetLength (Block n) header_size ∷ word_steps (Block n) (header_words kind n)
 
 -- a file names another as its next one: the two bytes of next_file
 abbrev pub link_steps : ℕ → ℕ → List TrailStep
-link_steps last n = Word (Block last) 10 (n % 256 ∷ n / 256 % 256 ∷ []) ∷ []
+link_steps last n = Word (Block last) next_file_place (n % 256 ∷ n / 256 % 256 ∷ []) ∷ []
 
 -- the new file is made, and then the last file of its kind names it
 abbrev pub add_steps : BlockFiles → ℕ → List TrailStep
-add_steps files kind = make_steps kind (free_number files) ++ link_steps (last_file files kind) (free_number files)
+add_steps files kind = file_steps kind (free_number files) ++ link_steps (last_file files kind) (free_number files)
 
 -- what a new file touches: all of it, and the next_file of the last file of its kind
 abbrev pub addition_of : BlockFiles → ℕ → Footprint
-addition_of files kind = either (whole (Block (free_number files))) (range (Block (last_file files kind)) 10 2)
+addition_of files kind = either (whole (Block (free_number files))) (range (Block (last_file files kind)) next_file_place 2)

@@ -1,8 +1,9 @@
-pub mod Names
-pub mod Tables
-pub mod Loading
+pub mod Damages
 pub mod Growth
-pub mod Unsealed
 pub mod Linked
+pub mod Loading
+pub mod Names
 pub mod Open
 pub mod Kept
+pub mod Tables
+pub mod Unsealed

@@ -29,7 +29,7 @@ abbrev pub next_of : ℕ → Option ℕ
 next_of next = if next == 0 then None else Some next
 
 -- what a header with this content says of a file of so many bytes
-pub record IsHead (f : ℕ → ℕ) (bytes : ℕ) (head : Head) : Type 0 where
+pub record IsFileHead (f : ℕ → ℕ) (bytes : ℕ) (head : Head) : Type 0 where
   pub next : head.next ≡ next_of (next_file_of f)
   pub blocks : head.blocks ≡ max_entries_of f
   pub size : head.size ≡ bytes
@@ -39,9 +39,9 @@ abbrev pub AreGiven : ℕ → ℕ → Type 0
 AreGiven size given = header_size ≤ size → block_fields_length ≤ given
 
 -- the answer for a header of which so many bytes were given, and whose first check that fails is this, if any does
-abbrev pub Judges : Option checks.Damage → (ℕ → ℕ) → ℕ → ℕ → Result Head Fault → Type 0
-Judges None f size given answer = AreGiven size given → (head : Head) × (answer ≡ Ok head) × IsHead f size head
-Judges (Some damage) f size given answer = AreGiven size given → (found : Damage) × (answer ≡ Err (Damaged found)) × (damage_of found ≡ damage)
+abbrev pub AnswersFileHeader : Option checks.Damage → (ℕ → ℕ) → ℕ → ℕ → Result Head Fault → Type 0
+AnswersFileHeader None f size given answer = AreGiven size given → (head : Head) × (answer ≡ Ok head) × IsFileHead f size head
+AnswersFileHeader (Some damage) f size given answer = AreGiven size given → (found : Damage) × (answer ≡ Err (Damaged found)) × (damage_of found ≡ damage)
 
 -- how many files of a kind may follow the next one
 abbrev pub files_left : BlockFiles → ℕ → ℕ
@@ -51,12 +51,8 @@ files_left files kind = most_files - 1 - length (files_of files kind)
 abbrev pub header_checks : BlockFiles → ℕ → ℕ → (ℕ → ℕ) → ℕ → List (Option checks.Damage)
 header_checks files kind n f size = file_checks kind (all_files files ++ n ∷ []) (files_left files kind) n f size
 
--- too few bytes of a header came: the damage has its place, and finds how many there were
-abbrev pub IsFew : ℕ → ℕ → Damage → Type 0
-IsFew n given damage = (given < block_fields_length) × (damage_of damage ≡ record { file = Block n; at = 0; found = given })
-
 -- the fields of this header and this length were read, of the next file of a kind, and the damage is the first check of them that fails
-pub record IsFailedHeader (files : BlockFiles) (kind n : ℕ) (damage : Damage) : Type 0 where
+pub record FailsFileCheck (files : BlockFiles) (kind n : ℕ) (damage : Damage) : Type 0 where
   pub header : List ℕ
   pub size : ℕ
   pub read : length header ≡ block_fields_length
@@ -64,7 +60,7 @@ pub record IsFailedHeader (files : BlockFiles) (kind n : ℕ) (damage : Damage) 
 
 -- why the next file of a kind can't be taken up, whether or not the folder tells its files: too few bytes of its header came, or a check of what was read fails
 abbrev pub IsHeaderDamage : Told → BlockFiles → ℕ → ℕ → Damage → Type 0
-IsHeaderDamage told files kind n damage = IsShort told (names.Block n) 0 block_fields_length damage ⊎ IsFailedHeader files kind n damage
+IsHeaderDamage told files kind n damage = IsShort told (names.Block n) 0 block_fields_length damage ⊎ FailsFileCheck files kind n damage
 
 -- the number that the next file of a kind may have: the one of its first file, or 4 to 255, which links have
 abbrev pub IsFileNumber : ℕ → ℕ → Type 0
@@ -103,7 +99,7 @@ next_checks files image kind n = header_checks files kind n (byte image (Block n
 
 -- the answer for the next file of an image: what its header says, where its checks hold, or the first that fails
 abbrev pub ReadsAs : BlockFiles → Image → ℕ → ℕ → Result Head Fault → Type 0
-ReadsAs files image kind n (Ok head) = (first_of (next_checks files image kind n) ≡ None) × IsHead (byte image (Block n)) (length_of image (Block n)) head
+ReadsAs files image kind n (Ok head) = (first_of (next_checks files image kind n) ≡ None) × IsFileHead (byte image (Block n)) (length_of image (Block n)) head
 ReadsAs files image kind n (Err Device) = Unit {0}
 ReadsAs files image kind n (Err (Damaged damage)) = first_of (next_checks files image kind n) ≡ Some (damage_of damage)
 

@@ -5,7 +5,7 @@ use Rattle.blk_io.specs.declared.folder.FileId as folder
 use Rattle.blk_io.specs.declared.folder.FileId.TheVariants as folder_names
 
 -- the name of the same variant and number
-abbrev pub name_of : FileId → folder.FileId
-name_of Index = folder_names.Index
-name_of (Block n) = folder_names.Block n
-name_of (External n) = folder_names.External n
+abbrev pub folder_name : FileId → folder.FileId
+folder_name Index = folder_names.Index
+folder_name (Block n) = folder_names.Block n
+folder_name (External n) = folder_names.External n

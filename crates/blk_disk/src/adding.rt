@@ -9,7 +9,7 @@ ghost use Rattle.blk_addr.specs.Kind.{kind_number};
 ghost use Rattle.blk_disk.specs.Tables.{Agrees, all_files, files_of, Joins};
 ghost use Rattle.blk_format.specs.Growth.{StaysWholeOutside};
 ghost use Rattle.blk_disk.specs.Growth as growth;
-ghost use Rattle.blk_disk.specs.Growth.{IsLeastFree, add_steps, addition_of, link_steps, make_steps};
+ghost use Rattle.blk_disk.specs.Growth.{IsLeastFileNumber, add_steps, addition_of, link_steps, file_steps};
 
 use crate::heads::block_size;
 use crate::load::first_file;
@@ -32,7 +32,7 @@ impl BlockFiles {
         requires room { length (files_of self.old (kind_number kind)) < most_files }
         requires agrees { ForSome (F.told f.old).files (Agrees self.old) }
         ensures number { IfOk result (λ n. n ≡ growth.free_number self.old) }
-        ensures least { IfOk result (IsLeastFree self.old) }
+        ensures least { IfOk result (IsLeastFileNumber self.old) }
         ensures steps { OnOk result (Applies (F.told f.old) (F.told f.new) (add_steps self.old (kind_number kind))) }
         ensures prefix { AppliesPrefix (F.told f.old) (F.told f.new) (add_steps self.old (kind_number kind)) }
         ensures kept { IfOk result (λ n. Joins self.old self.new (kind_number kind) n 0 header_size) }
@@ -56,7 +56,7 @@ impl BlockFiles {
     // The least number from 4 that no linked file has.
     fn free_number(&self) -> u8
         ensures number { result ≡ growth.free_number self.now }
-        ensures least { IsLeastFree self.now result }
+        ensures least { IsLeastFileNumber self.now result }
     {
         // One of these is free, as they are one more than the linked files.
         let end = FIRST_NUMBER + self.total() + 1;
@@ -92,8 +92,8 @@ impl BlockFiles {
 // Makes a file with a header and no blocks. The four fields that aren't 0 stand side by side, and are written by one call.
 fn make_file<F: Folder>(f: &mut F, kind: Kind, n: u8) -> Result<(), Failed>
     requires { kind_number kind ≢ external }
-    ensures steps { OnOk result (Applies (F.told f.old) (F.told f.new) (make_steps (kind_number kind) n)) }
-    ensures prefix { AppliesPrefix (F.told f.old) (F.told f.new) (make_steps (kind_number kind) n) }
+    ensures steps { OnOk result (Applies (F.told f.old) (F.told f.new) (file_steps (kind_number kind) n)) }
+    ensures prefix { AppliesPrefix (F.told f.old) (F.told f.new) (file_steps (kind_number kind) n) }
     ensures later { F.faults f.old ≤ F.faults f.new }
     ensures failed { OnErr result (Rises (F.faults f.old) (F.faults f.new)) }
 {

@@ -3,15 +3,17 @@ ghost use Rattle.std.specs.Prelude.{◌≡◌, ◌≢◌, ◌⊎◌, ◌+◌, �
 ghost use Rattle.std.specs.Option.{ForSome, option_map};
 ghost use Rattle.blk_image.specs.Bytes.{content, word_at};
 ghost use Rattle.blk_image.specs.Checks.{first_of};
+ghost use Rattle.blk_image.specs.Image.{Block as block_file};
 ghost use Rattle.blk_image.specs.Told.{Stays, Rises};
 ghost use Rattle.blk_format.specs.Address as address;
 ghost use Rattle.blk_format.specs.Address.{external};
 ghost use Rattle.blk_format.specs.BlockFiles as block_files;
 ghost use Rattle.blk_format.specs.BlockFiles.{most_files};
+ghost use Rattle.blk_format.specs.Headers.{block_fields_length};
 ghost use Rattle.blk_addr.specs.Kind.{kind_number};
-ghost use Rattle.blk_io.specs.Faults.{IfDamaged, IfDevice, damage_of};
+ghost use Rattle.blk_io.specs.Faults.{IfDamaged, IfDevice, IsShortFront, damage_of};
 ghost use Rattle.blk_disk.specs.Tables.{all_files, files_of};
-ghost use Rattle.blk_disk.specs.Loading.{HasRoom, IsFew, IsFresh, IsHeaderDamage, Judges, MayBeNext, ReadsAs, files_left, header_checks, next_of};
+ghost use Rattle.blk_disk.specs.Loading.{HasRoom, IsFresh, IsHeaderDamage, AnswersFileHeader, MayBeNext, ReadsAs, files_left, header_checks, next_of};
 
 use crate::tables::{BlockFiles, MOST_FILES};
 use blk_addr::Kind;
@@ -105,8 +107,8 @@ impl BlockFiles {
         ensures number { IfOk result (λ head. MayBeNext (kind_number kind) head.next) }
         ensures fresh { IfOk result (λ head. IsFresh (all_files self.now ++ n ∷ []) head.next) }
         ensures count { IfOk result (λ head. IsTrue (block_files.is_block_count head.blocks)) }
-        ensures judged { Judges (first_of (header_checks self.now (kind_number kind) n (content head.now) size)) (content head.now) size given result }
-        ensures cause { IfDamaged result (λ damage. IsFew n given damage ⊎ (first_of (header_checks self.now (kind_number kind) n (content head.now) size) ≡ Some (damage_of damage))) }
+        ensures judged { AnswersFileHeader (first_of (header_checks self.now (kind_number kind) n (content head.now) size)) (content head.now) size given result }
+        ensures cause { IfDamaged result (λ damage. IsShortFront (block_file n) block_fields_length given damage ⊎ (first_of (header_checks self.now (kind_number kind) n (content head.now) size) ≡ Some (damage_of damage))) }
         ensures device { IfDevice result ⊥ }
     {
         if BlockHead::HEADER_LEN <= size && given < BlockHead::LEN {
@@ -140,11 +142,31 @@ impl BlockFiles {
                 low,
                 BlockHead::HEADER_LEN <= size,
             ),
-            check_is(file, 0, head.magic(), BlockHead::MAGIC),
-            check_is(file, 4, head.version(), BlockHead::VERSION),
-            check(file, 8, numbers, head.this_file() == u16::from(n)),
-            check(file, 8, numbers, self.is_link(kind, n, head.next_file())),
-            check_is(file, 12, head.entry_size(), block_size(kind)),
+            check_is(file, BlockHead::MAGIC_PLACE, head.magic(), BlockHead::MAGIC),
+            check_is(
+                file,
+                BlockHead::VERSION_PLACE,
+                head.version(),
+                BlockHead::VERSION,
+            ),
+            check(
+                file,
+                BlockHead::THIS_FILE,
+                numbers,
+                head.this_file() == u16::from(n),
+            ),
+            check(
+                file,
+                BlockHead::THIS_FILE,
+                numbers,
+                self.is_link(kind, n, head.next_file()),
+            ),
+            check_is(
+                file,
+                BlockHead::ENTRY_SIZE,
+                head.entry_size(),
+                block_size(kind),
+            ),
             check(file, BlockHead::MAX_ENTRIES, blocks, is_block_count(blocks)),
         ])
     }

@@ -15,9 +15,5 @@ mod tables;
 
 pub use laws::{files_are_kept_once, files_are_linked_once};
 pub use names::file_of;
+pub use standing::room_of;
 pub use tables::{BlockFiles, MOST_FILES};
-
-#[cfg(test)]
-mod sealed_tests;
-#[cfg(test)]
-mod tests;

@@ -1,7 +1,7 @@
 // The files that addresses name, as a folder names them.
 ghost use Rattle.std.specs.Prelude.{◌≡◌};
 ghost use Rattle.blk_addr.specs.FileId.{file_of_word};
-ghost use Rattle.blk_disk.specs.Names.{name_of};
+ghost use Rattle.blk_disk.specs.Names.{folder_name};
 
 use blk_addr::Addr;
 use blk_io::FileId;
@@ -9,7 +9,7 @@ use blk_io::FileId;
 /// The file in which the blocks of an address are, or its external file: the same variant and
 /// number as `addr.file()`.
 pub fn file_of(addr: Addr) -> FileId
-    ensures { result ≡ name_of (file_of_word addr) }
+    ensures { result ≡ folder_name (file_of_word addr) }
 {
     match addr.file() {
         blk_addr::FileId::Index => FileId::Index,

@@ -8,11 +8,12 @@ ghost use Rattle.blk_format.specs.Records as records;
 ghost use Rattle.blk_addr.specs.Kind.{kind_number};
 ghost use Rattle.blk_record.specs.Fields.{IsField};
 ghost use Rattle.blk_io.specs.declared.folder.FileId.TheVariants as FileId;
-ghost use Rattle.blk_io.specs.Faults.{IfDamaged, IfDevice, IsShort};
+ghost use Rattle.blk_io.specs.Faults.{IfDamaged, IfDevice};
 ghost use Rattle.blk_disk.specs.Tables.{Agrees, stands_among};
 ghost use Rattle.blk_disk.specs.Unsealed as unsealed;
 ghost use Rattle.blk_format.specs.Sealed.{AreChanges, BeginsWithRecord, IsMidUpdate, IsUpdated, RecordChecks, placed, record_at, record_size, seal_by_kind, seal_place, seal_steps, sealed, sealed_steps, size_by_kind, steps_over, update_steps, update_words};
-ghost use Rattle.blk_disk.specs.Unsealed.{IsUnsealed, missing_steps};
+ghost use Rattle.blk_disk.specs.Damages.{IsFailedRecord};
+ghost use Rattle.blk_disk.specs.Unsealed.{missing_steps};
 
 use crate::names::file_of;
 use crate::standing::place_of;
@@ -55,7 +56,7 @@ impl BlockFiles {
         ensures stops { ForSome (F.told f.old).files (λ from. RecordChecks addr from → Passes (F.told f.old) (F.told f.new) (IsMidUpdate from addr changes.now)) }
 
         // A damage is a short read or a record that doesn't check, and nothing was written. A folder that tells its files gives one only for a record that doesn't check.
-        ensures damaged { IfDamaged result (λ damage. IsShort (F.told f.old) (FileId.Block (file_selector addr)) (place addr) (record_size addr) damage ⊎ IsUnsealed (F.told f.old) addr damage) }
+        ensures damaged { IfDamaged result (IsFailedRecord (F.told f.old) addr (record_size addr)) }
         ensures unwritten { IfDamaged result (λ _. Stays (F.told f.old) (F.told f.new)) }
         ensures untold { ForSome (F.told f.old).files (RecordChecks addr) → IfDamaged result (λ _. (F.told f.old).files ≡ None) }
 
@@ -89,7 +90,7 @@ impl BlockFiles {
         ensures bytes { OnOk result (ForSome (F.told f.old).files (λ image. bytes.new ≡ record_at image addr)) }
         ensures checked { OnOk result (ForSome (F.told f.old).files (RecordChecks addr)) }
         ensures stays { Stays (F.told f.old) (F.told f.new) }
-        ensures damaged { IfDamaged result (λ damage. IsShort (F.told f.old) (FileId.Block (file_selector addr)) (place addr) (record_size addr) damage ⊎ IsUnsealed (F.told f.old) addr damage) }
+        ensures damaged { IfDamaged result (IsFailedRecord (F.told f.old) addr (record_size addr)) }
         ensures untold { ForSome (F.told f.old).files (Agrees self.now) → ForSome (F.told f.old).files (RecordChecks addr) → IfDamaged result (λ _. (F.told f.old).files ≡ None) }
         ensures later { F.faults f.old ≤ F.faults f.new }
         ensures device { IfDevice result (Rises (F.faults f.old) (F.faults f.new)) }
@@ -151,7 +152,7 @@ impl BlockFiles {
 
         // Before and after the word the record checks with its fields, and nothing else has changed.
         ensures stops { ForSome (F.told f.old).files (λ from. RecordChecks addr from → Passes (F.told f.old) (F.told f.new) (IsMidUpdate from addr [])) }
-        ensures damaged { IfDamaged result (λ damage. IsShort (F.told f.old) (FileId.Block (file_selector addr)) (place addr) (record_size addr) damage ⊎ IsUnsealed (F.told f.old) addr damage) }
+        ensures damaged { IfDamaged result (IsFailedRecord (F.told f.old) addr (record_size addr)) }
         ensures unwritten { IfDamaged result (λ _. Stays (F.told f.old) (F.told f.new)) }
         ensures untold { ForSome (F.told f.old).files (RecordChecks addr) → IfDamaged result (λ _. (F.told f.old).files ≡ None) }
         ensures silent { (F.told f.old).files ≡ None → (F.told f.new).files ≡ None }

@@ -23,8 +23,8 @@ pub(crate) fn place_of(addr: Addr) -> u64
     BlockHead::HEADER_LEN + u64::from(addr.start()) * u64::from(block_size(addr.kind()))
 }
 
-// The number of bytes of the blocks of an address.
-pub(crate) fn room_of(addr: Addr) -> u64
+/// The number of bytes of the blocks of an address.
+pub fn room_of(addr: Addr) -> u64
     requires { kind_of addr ≢ external }
     ensures room { result ≡ byte_size addr }
     ensures small { result < 2 ^ 32 }

@@ -35,7 +35,7 @@ use Rattle.blk_io.specs.Faults.{IfDamaged, IsShort}
 use Rattle.blk_external.specs.Reading.{IsFew}
 use Rattle.blk_entry.specs.declared.keys.Head.{Head}
 use Rattle.blk_entry.specs.declared.keys.KeyPlace.{KeyPlace}
-use Rattle.blk_entry.specs.Keys.{IsCut, IsCutKey, IsCutPart, IsCutPiece, IsPlaced, data_name, IsPiece, IsPlaceOf, AreKeyBytes, HasData, HasKeyBytes, key_bytes, data_range, data_file, data_start, data_at, held, key_at, key_address, bytes_before, is_short, may_have, may_hold, stores, IsInside, IsInFile, IsHead, HasReadableKey}
+use Rattle.blk_entry.specs.Keys.{IsCut, IsCutKey, IsCutPart, IsCutPiece, IsPlaced, data_name, IsPiece, IsPlaceOfKey, AreKeyBytes, HasData, HasKeyBytes, key_bytes, data_range, data_file, data_start, data_at, held, key_at, key_address, bytes_before, is_short, may_have, may_hold, stores, IsInside, IsInFile, IsRecordHead, HasReadableKey}
 use Rattle.blk_entry.proofs.Windows.{entry_room}
 
 -- two numbers that a test tells apart
@@ -92,7 +92,7 @@ four_words image w q window kind inside read = λ i. word 0 q (place w + q) (ome
 pub head_is : (image : Image) (w : ℕ) (window : List ℕ) (head : Head) → kind_of w ≡ blocks_256 → window ≡ range_at (byte image (Block (file_selector w))) (place w + 0) 96
     → head.hash ≡ word_at (content window) 0 → head.next ≡ word_at (content window) 4 → head.node ≡ word_at (content window) 8 → head.key_len ≡ word_at (content window) 32 → head.long_key ≡ word_at (content window) 36
     → head.sizes ≡ words_at (content window) 40 4 → head.addrs ≡ words_at (content window) 56 4 → head.flags ≡ word_at (content window) 72
-    → IsHead image w head
+    → IsRecordHead image w head
 unfolding entry_in
 head_is image w window head kind read hash next node key_len long_key sizes addrs flags = record {
   hash = hash ∙ head_word image w 0 window kind (omega arith) read ∙ ap (word image (Block (file_selector w))) (add-zero (place w));
@@ -284,13 +284,13 @@ map_some f None y e = absurd (clash e)
 map_some f (Some x) y e = (x, (refl, cc))
 
 -- data that is stored as an address says
-record IsStored (image : Image) (size w : ℕ) (bytes : List ℕ) : Type 0 where
-  storage : is_storage size w ≡ true
-  stands_there : stands_in image w ≡ true
-  at : ((kind_of w ≡ external) × ((length_of image (External (external_number w)) ≡ size) × (bytes ≡ range_at (byte image (External (external_number w))) 0 size)))
+pub record IsStored (image : Image) (size w : ℕ) (bytes : List ℕ) : Type 0 where
+  pub storage : is_storage size w ≡ true
+  pub stands_there : stands_in image w ≡ true
+  pub at : ((kind_of w ≡ external) × ((length_of image (External (external_number w)) ≡ size) × (bytes ≡ range_at (byte image (External (external_number w))) 0 size)))
       ⊎ ((kind_of w ≢ external) × (bytes ≡ range_at (byte image (Block (file_selector w))) (place w) size))
 
-stored_is : (image : Image) (size w : ℕ) (bytes : List ℕ) → 0 < size → stored_at image size w ≡ Some bytes → IsStored image size w bytes
+pub stored_is : (image : Image) (size w : ℕ) (bytes : List ℕ) → 0 < size → stored_at image size w ≡ Some bytes → IsStored image size w bytes
 unfolding stored_at
 stored_is image size w bytes some e =
     by_tests (is_storage size w) (size == 0) (stands_in image w) (kind_of w == external) (length_of image (External (external_number w)) == size) refl refl refl refl (let z : (size == 0) ≡ false = grind (arith, nat_tests) in z) e
@@ -308,7 +308,7 @@ stored_is image size w bytes some e =
     by_tests true false true true true ea ec ed ex eb h = record { storage = ea; stands_there = ec; at = inl (eqb-true (kind_of w) external ed, (eqb-true (length_of image (External (external_number w))) size ex, cc)) }
     by_tests true false true false x ea ec ed ex eb h = record { storage = ea; stands_there = ec; at = inr ((λ same. let z : (kind_of w == external) ≡ true = grind (arith, nat_tests) in let y : true ≡ false = sym z ∙ ed in cc), cc) }
 
-blocks_stand : (files : BlockFiles) (image : Image) (w : ℕ) → Agrees files image → kind_of w ≢ external → stands_in image w ≡ true → stands_among files w ≡ true
+pub blocks_stand : (files : BlockFiles) (image : Image) (w : ℕ) → Agrees files image → kind_of w ≢ external → stands_in image w ≡ true → stands_among files w ≡ true
 unfolding stands
 blocks_stand files image w agrees block_kind st =
     let t : (kind_of w == external) ≡ false = grind (arith, nat_tests) in
@@ -404,7 +404,7 @@ module _ (files : BlockFiles) (image : Image) (entry : ℕ) (key : List ℕ) (k 
       by_test false z e h = let m = map_some (take k) (stored_at image (k + 1) l) key h in long_key e m.0 (stored_is image (k + 1) l m.0 (omega arith) m.1.0) m.1.1
 
 -- a length that is right for the record is one that it may have
-length_right : (entry : ℕ) (fields : RecordFields) → is_key_length entry fields ≡ true → may_have entry fields.key_len ≡ true
+pub length_right : (entry : ℕ) (fields : RecordFields) → is_key_length entry fields ≡ true → may_have entry fields.key_len ≡ true
 unfolding is_key_length may_have
 length_right entry fields e =
     let a = and_parts (nat_le 1 fields.key_len && nat_le fields.key_len (longest_key_with fields)) (block_count entry == entry_blocks fields.key_len) e in
@@ -468,7 +468,7 @@ few_is_cut told w at n d outside small few =
     rw (t, zero_at) (few_is_short told (external_number w) at n d small few)
 
 -- a read of a piece of the bytes at the place of a key
-pub key_is_cut : (files : BlockFiles) (told : Told) (entry k l : ℕ) (place : KeyPlace) (d : Damage) → IsPlaced files entry k l → IsPlaceOf entry k l place → IsCutPiece told place.addr place.skip place.len d → IsCutKey files told entry k l d
+pub key_is_cut : (files : BlockFiles) (told : Told) (entry k l : ℕ) (place : KeyPlace) (d : Damage) → IsPlaced files entry k l → IsPlaceOfKey entry k l place → IsCutPiece told place.addr place.skip place.len d → IsCutKey files told entry k l d
 key_is_cut files told entry k l place d placed is cut = record {
   placed = placed;
   cut = subst (λ (n : ℕ). IsCutPiece told (key_address entry k l) (bytes_before k) n d) is.len
@@ -476,7 +476,7 @@ key_is_cut files told entry k l place d placed is cut = record {
 }
 
 -- a read of the bytes from a place on, as many as there are and as fit
-pub part_is_cut : (files : BlockFiles) (told : Told) (entry k l : ℕ) (place : KeyPlace) (at size from n : ℕ) (d : Damage) → IsPlaced files entry k l → IsPlaceOf entry k l place → from ≡ min at place.len → n ≡ min (place.len - from) size → IsCut told place.addr (place.skip + from) n d
+pub part_is_cut : (files : BlockFiles) (told : Told) (entry k l : ℕ) (place : KeyPlace) (at size from n : ℕ) (d : Damage) → IsPlaced files entry k l → IsPlaceOfKey entry k l place → from ≡ min at place.len → n ≡ min (place.len - from) size → IsCut told place.addr (place.skip + from) n d
     → IsCutPart files told entry k l at size d
 part_is_cut files told entry k l place at size from n d placed is start count cut =
     let len = is.len in
@@ -520,7 +520,7 @@ damaged_any (Err Device) X x = tt
 damaged_any (Err (Damaged d)) X x = x
 
 -- the key of a record by the words that were read of it
-pub head_facts : (files : BlockFiles) (image : Image) (entry : ℕ) (head : Head) (key : List ℕ) → Agrees files image → kind_of entry ≡ blocks_256 → IsHead image entry head → key_at image entry ≡ Some key → IsKey files image entry key head.key_len head.long_key
+pub head_facts : (files : BlockFiles) (image : Image) (entry : ℕ) (head : Head) (key : List ℕ) → Agrees files image → kind_of entry ≡ blocks_256 → IsRecordHead image entry head → key_at image entry ≡ Some key → IsKey files image entry key head.key_len head.long_key
 head_facts files image entry head key agrees kind words is =
     subst (λ (l : ℕ). IsKey files image entry key head.key_len l) (sym words.long_key) (subst (λ (k : ℕ). IsKey files image entry key k (entry_at image entry).long_key) (sym words.key_len) (key_facts files image entry key agrees kind is))
 
@@ -552,10 +552,10 @@ piece_is key bytes old f i k at a n is clipped many read = record {
         ap (λ (m : ℕ). take m (drop at key)) none ∙ ap (λ (m : ℕ). range_at f (i + a) m) (sym none)
 
 -- a key by the place that was found for it
-pub key_in_place : (files : BlockFiles) (image : Image) (entry k l : ℕ) (key : List ℕ) (place : KeyPlace) → IsKey files image entry key k l → IsPlaceOf entry k l place → key ≡ data_at image place.addr place.skip place.len
+pub key_in_place : (files : BlockFiles) (image : Image) (entry k l : ℕ) (key : List ℕ) (place : KeyPlace) → IsKey files image entry key k l → IsPlaceOfKey entry k l place → key ≡ data_at image place.addr place.skip place.len
 key_in_place files image entry k l key place known at = known.is ∙ (λ j. data_at image (sym at.addr j) (sym at.skip j) (sym at.len j))
 
-pub piece_there : (files : BlockFiles) (image : Image) (entry k l : ℕ) (key : List ℕ) (place : KeyPlace) (a n : ℕ) → IsKey files image entry key k l → IsPlaceOf entry k l place → a + n ≤ place.len → IsInFile place.addr (place.skip + a) n image
+pub piece_there : (files : BlockFiles) (image : Image) (entry k l : ℕ) (key : List ℕ) (place : KeyPlace) (a n : ℕ) → IsKey files image entry key k l → IsPlaceOfKey entry k l place → a + n ≤ place.len → IsInFile place.addr (place.skip + a) n image
 piece_there files image entry k l key place a n known at within e =
     let h = subst (λ (w : ℕ). IsInFile w (bytes_before k) k image) (sym at.addr) known.there e in
     omega (arith, h, at.skip, at.len, within)
@@ -592,13 +592,13 @@ module _ (image : Image) (w at k : ℕ) (rest piece more : List ℕ) (front : pi
       (λ left. whole.0 (s.0 (sym back ∙ left ∙ sym there)), λ p. back ∙ s.1 (whole.1 p) ∙ there)
 
 -- all of a key is in the file
-pub whole_there : (files : BlockFiles) (image : Image) (entry k l : ℕ) (key : List ℕ) (place : KeyPlace) (n : ℕ) → IsKey files image entry key k l → IsPlaceOf entry k l place → n ≡ place.len → IsInFile place.addr place.skip n image
+pub whole_there : (files : BlockFiles) (image : Image) (entry k l : ℕ) (key : List ℕ) (place : KeyPlace) (n : ℕ) → IsKey files image entry key k l → IsPlaceOfKey entry k l place → n ≡ place.len → IsInFile place.addr place.skip n image
 whole_there files image entry k l key place n known at all e =
     let h = subst (λ (w : ℕ). IsInFile w (bytes_before k) k image) (sym at.addr) known.there e in
     omega (arith, h, at.skip, at.len, all)
 
 -- the bytes of a key by the place that was found for it
-pub bytes_in_place : (image : Image) (entry : ℕ) (head : Head) (place : KeyPlace) → IsHead image entry head → IsPlaceOf entry head.key_len head.long_key place → key_bytes image entry ≡ data_at image place.addr place.skip place.len
+pub bytes_in_place : (image : Image) (entry : ℕ) (head : Head) (place : KeyPlace) → IsRecordHead image entry head → IsPlaceOfKey entry head.key_len head.long_key place → key_bytes image entry ≡ data_at image place.addr place.skip place.len
 unfolding key_bytes
 bytes_in_place image entry head place words at =
     let a : place.addr ≡ key_address entry (entry_at image entry).key_len (entry_at image entry).long_key = at.addr ∙ (λ j. key_address entry (words.key_len j) (words.long_key j)) in
@@ -607,18 +607,18 @@ bytes_in_place image entry head place words at =
     λ j. data_at image (sym a j) (sym b j) (sym c j)
 
 -- a key has the bytes of a place exactly where they lie at the place of its length
-pub bytes_by_place : (image : Image) (entry k l : ℕ) (key : List ℕ) (place : KeyPlace) → IsPlaceOf entry k l place → k ≡ length key → (key ≡ data_at image place.addr place.skip (length key)) ↔ AreKeyBytes key entry k l image
+pub bytes_by_place : (image : Image) (entry k l : ℕ) (key : List ℕ) (place : KeyPlace) → IsPlaceOfKey entry k l place → k ≡ length key → (key ≡ data_at image place.addr place.skip (length key)) ↔ AreKeyBytes key entry k l image
 bytes_by_place image entry k l key place at size = (λ same. record { len = size; bytes = same ∙ there }, λ are. are.bytes ∙ sym there)
   where
     there : data_at image place.addr place.skip (length key) ≡ data_at image (key_address entry k l) (bytes_before k) k
     there = λ j. data_at image (at.addr j) (at.skip j) (sym size j)
 
 -- the words that were read are those of the record
-pub bytes_of_head : (image : Image) (entry : ℕ) (head : Head) (key : List ℕ) → IsHead image entry head → AreKeyBytes key entry head.key_len head.long_key image ↔ AreKeyBytes key entry (entry_at image entry).key_len (entry_at image entry).long_key image
+pub bytes_of_head : (image : Image) (entry : ℕ) (head : Head) (key : List ℕ) → IsRecordHead image entry head → AreKeyBytes key entry head.key_len head.long_key image ↔ AreKeyBytes key entry (entry_at image entry).key_len (entry_at image entry).long_key image
 bytes_of_head image entry head key words = (λ are. subst (λ (l : ℕ). AreKeyBytes key entry (entry_at image entry).key_len l image) words.long_key (subst (λ (k : ℕ). AreKeyBytes key entry k head.long_key image) words.key_len are), λ are. subst (λ (l : ℕ). AreKeyBytes key entry head.key_len l image) (sym words.long_key) (subst (λ (k : ℕ). AreKeyBytes key entry k (entry_at image entry).long_key image) (sym words.key_len) are))
 
 -- bytes of a key that are where the words that were read say are where the record's say
-pub key_bytes_there : (image : Image) (entry : ℕ) (head : Head) (n : ℕ) → IsHead image entry head → HasData (key_address entry head.key_len head.long_key) (bytes_before head.key_len) n image → HasKeyBytes entry 0 n image
+pub key_bytes_there : (image : Image) (entry : ℕ) (head : Head) (n : ℕ) → IsRecordHead image entry head → HasData (key_address entry head.key_len head.long_key) (bytes_before head.key_len) n image → HasKeyBytes entry 0 n image
 key_bytes_there image entry head n words has =
     let first : bytes_before head.key_len ≡ bytes_before (entry_at image entry).key_len + 0 = ap bytes_before words.key_len ∙ sym (add-zero (bytes_before (entry_at image entry).key_len)) in
     subst (λ (i : ℕ). HasData (key_address entry (entry_at image entry).key_len (entry_at image entry).long_key) i n image) first

@@ -31,7 +31,7 @@ use Rattle.blk_disk.proofs.SealedReads.{read_checks}
 use Rattle.blk_entry.specs.declared.writing.NewEntry.{NewEntry}
 use Rattle.blk_entry.specs.Keys.{IsInside, IsInFile, data_file, data_start, may_hold, stores}
 use Rattle.blk_entry.specs.Steps.{data_steps, ended_steps}
-use Rattle.blk_entry.specs.Writing.{AreWords, FitsKey, HasItsLength, IsLongPlace, IsWritten, LiesApart, ShareNoBlock, address_of_key, before_key, empty_key_place, entry_bytes, entry_steps, key_steps, longest_of, new_node, new_record, node_bytes, node_steps, record_steps}
+use Rattle.blk_entry.specs.Writing.{AreWords, FitsKey, HoldsLongKey, IsLongPlace, IsWritten, LiesApart, ShareNoBlock, address_of_key, before_key, empty_key_place, entry_bytes, entry_steps, key_steps, longest_of, new_node, new_record, node_bytes, node_steps, record_steps}
 use Rattle.blk_entry.proofs.KeyPlaces.{data_of_blocks, drop-range, storage_parts, take-range}
 use Rattle.blk_entry.proofs.NewPlaces.{file_of_blocks, file_of_external, key_is_inside, key_is_there, start_of_blocks, start_of_external}
 use Rattle.blk_entry.proofs.NewRecords.{entry_bytes_check, entry_of_bytes, node_bytes_check, node_of_bytes}
@@ -206,7 +206,7 @@ module _ (files : BlockFiles) (new : NewEntry) (key : List ℕ) (moment : ℕ) (
               apart_file B (data_file w) (place new.entry) (length (E ++ empty_key_place (Some w))) k (rw (file_of_blocks w block_kind) (other_file (file_selector new.entry) (file_selector w) (λ e. differ (sym e)))))
               (cases_eq (file_selector new.entry) (file_selector w))
 
-  module _ (from : Image) (agrees : Agrees files from) (has : HasItsLength new.long_key (length key) from) (apart : LiesApart new.entry new.long_key) where
+  module _ (from : Image) (agrees : Agrees files from) (has : HoldsLongKey new.long_key (length key) from) (apart : LiesApart new.entry new.long_key) where
     abbrev A : File
     A = data_file (address_of_key new.entry new.long_key)
 
@@ -345,6 +345,6 @@ module _ (files : BlockFiles) (new : NewEntry) (key : List ℕ) (moment : ℕ) (
           subst (IsWritten new key moment) (sym last) written_here
 
   -- where the folder tells its files
-  module _ (b c : Told) (are : AreWords new) (small : moment < 2 ^ 64) (agrees : ForSome b.files (Agrees files)) (has : ForSome b.files (HasItsLength new.long_key (length key))) (apart : ForSome b.files (λ _. LiesApart new.entry new.long_key)) (grown : Applies b c (entry_steps new key moment)) where
+  module _ (b c : Told) (are : AreWords new) (small : moment < 2 ^ 64) (agrees : ForSome b.files (Agrees files)) (has : ForSome b.files (HoldsLongKey new.long_key (length key))) (apart : ForSome b.files (λ _. LiesApart new.entry new.long_key)) (grown : Applies b c (entry_steps new key moment)) where
     pub written_there : ForSome c.files (IsWritten new key moment)
     written_there = told_whole (IsWritten new key moment) grown (λ from there. written_after from (agrees from there) (has from there) (apart from there) are small)

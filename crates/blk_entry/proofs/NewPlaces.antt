@@ -29,7 +29,7 @@ use Rattle.blk_format.proofs.SealedRecords.{node_bytes as node_size_is}
 use Rattle.blk_entry.specs.declared.writing.NewEntry.{NewEntry}
 use Rattle.blk_entry.specs.Keys.{IsInside, IsInFile, data_file, data_start, is_short, may_hold, stores}
 use Rattle.blk_entry.specs.Steps.{data_steps, ended_steps}
-use Rattle.blk_entry.specs.Writing.{FitsKey, HasItsLength, IsLongPlace, address_of_key, before_key, empty_key_place, entry_bytes, entry_steps, key_steps, long_range, longest_of, new_node, new_record, node_bytes, node_steps, places_of, record_steps}
+use Rattle.blk_entry.specs.Writing.{FitsKey, HoldsLongKey, IsLongPlace, address_of_key, before_key, empty_key_place, entry_bytes, entry_steps, key_steps, long_range, longest_of, new_node, new_record, node_bytes, node_steps, places_of, record_steps}
 use Rattle.blk_entry.proofs.KeyPlaces.{storage_room, short_room}
 use Rattle.blk_entry.proofs.NewSteps.{node_length, record_length}
 use Rattle.blk_entry.proofs.Windows.{entry_room_least, not_external}
@@ -84,10 +84,10 @@ key_is_inside files new key fits = by_place new.long_key fits.long
     by_place None is = short_is_inside files new.entry (length key) fits.entry_kind fits.entry_stands fits.blocks is
     by_place (Some w) is = long_is_inside files w (length key) most is.1
 
-pub key_is_there : (files : BlockFiles) (new : NewEntry) (key : List ℕ) (image : Image) → FitsKey files new key → HasItsLength new.long_key (length key) image → IsInFile (address_of_key new.entry new.long_key) (before_key new.long_key) (length key + 1) image
+pub key_is_there : (files : BlockFiles) (new : NewEntry) (key : List ℕ) (image : Image) → FitsKey files new key → HoldsLongKey new.long_key (length key) image → IsInFile (address_of_key new.entry new.long_key) (before_key new.long_key) (length key + 1) image
 key_is_there files new key image fits has = by_place new.long_key has
   where
-    by_place : (o : Option ℕ) → HasItsLength o (length key) image → IsInFile (address_of_key new.entry o) (before_key o) (length key + 1) image
+    by_place : (o : Option ℕ) → HoldsLongKey o (length key) image → IsInFile (address_of_key new.entry o) (before_key o) (length key + 1) image
     by_place None is e = absurd (not_external new.entry fits.entry_kind e)
     by_place (Some w) is e = let h = is e in omega (arith, h)
 

@@ -22,7 +22,7 @@ use Rattle.blk_disk.specs.Tables.{Agrees, stands_among}
 use Rattle.blk_disk.proofs.Ranges.{stands_agree}
 use Rattle.blk_entry.specs.declared.writing.NewEntry.{NewEntry}
 use Rattle.blk_entry.specs.Keys.{data_at, data_file, data_start, key_at, stores}
-use Rattle.blk_entry.specs.Writing.{AreWords, FitsKey, HasItsLength, IsLongPlace, IsShownNew, IsWritten, entry_steps, address_of_key, before_key, loaded_new, longest_of, new_node, new_record}
+use Rattle.blk_entry.specs.Writing.{AreWords, FitsKey, HoldsLongKey, IsLongPlace, IsShownNew, IsWritten, entry_steps, address_of_key, before_key, loaded_new, longest_of, new_node, new_record}
 use Rattle.blk_entry.proofs.KeyPlaces.{data_of_blocks, data_of_external, storage_parts, take-range}
 use Rattle.blk_image.specs.Steps.{after}
 use Rattle.blk_image.specs.Told.{Told, Applies}
@@ -51,7 +51,7 @@ pub stands_as_kind : (image : Image) (w kind : ℕ) → stands_in image w ≡ tr
 stands_as_kind image w kind st is = let e : (kind_of w == kind) ≡ true = eq-eqb (kind_of w) kind is in rw (st, e) refl
 
 -- an external file with bytes is there
-external_stands : (image : Image) (w : ℕ) → is_address w ≡ true → kind_of w ≡ external → 0 < length_of image (External (external_number w)) → stands_in image w ≡ true
+pub external_stands : (image : Image) (w : ℕ) → is_address w ≡ true → kind_of w ≡ external → 0 < length_of image (External (external_number w)) → stands_in image w ≡ true
 unfolding stands
 external_stands image w address is some =
     let there : has_file image (External (external_number w)) ≡ true = by_file (image (External (external_number w))) some in
@@ -89,7 +89,7 @@ pub checked_loads : (store : StoreView) (node contents dirty : ℕ) (fields : Re
 checked_loads store node contents dirty fields answer good is = ap (λ (b : Bool). demand b reason.Seal >>= (λ _. load_record store (unchained_rule entry_normal) node contents dirty fields)) good ∙ is
 
 -- data whose address is its storage, and stands
-stored_there : (image : Image) (size w : ℕ) → 0 < size → is_storage size w ≡ true → stands_in image w ≡ true → (kind_of w ≡ external → length_of image (External (external_number w)) ≡ size) → stored_at image size w ≡ Some (data_at image w 0 size)
+pub stored_there : (image : Image) (size w : ℕ) → 0 < size → is_storage size w ≡ true → stands_in image w ≡ true → (kind_of w ≡ external → length_of image (External (external_number w)) ≡ size) → stored_at image size w ≡ Some (data_at image w 0 size)
 unfolding stored_at
 stored_there image size w some storage st long =
     ⊎_elim
@@ -105,7 +105,7 @@ stored_there image size w some storage st long =
     none : (size == 0) ≡ false
     none = grind (arith, nat_tests)
 
-module _ (files : BlockFiles) (new : NewEntry) (key : List ℕ) (moment : ℕ) (fits : FitsKey files new key) (are : AreWords new) (image : Image) (agrees : Agrees files image) (has : HasItsLength new.long_key (length key) image) (done : IsWritten new key moment image) where
+module _ (files : BlockFiles) (new : NewEntry) (key : List ℕ) (moment : ℕ) (fits : FitsKey files new key) (are : AreWords new) (image : Image) (agrees : Agrees files image) (has : HoldsLongKey new.long_key (length key) image) (done : IsWritten new key moment image) where
   entry_stands_as : stands_as image blocks_256 new.entry ≡ true
   entry_stands_as = stands_as_kind image new.entry blocks_256 (stands_here files image new.entry agrees are.entry (not_external new.entry fits.entry_kind) fits.entry_stands) fits.entry_kind
 
@@ -148,7 +148,7 @@ module _ (files : BlockFiles) (new : NewEntry) (key : List ℕ) (moment : ℕ) (
   unfolding stored_key store_of new_record key_place_at stores
   key_found = by_place new.long_key fits.long has done.key_there
     where
-      by_place : (o : Option ℕ) → IsLongPlace files (length key) o → HasItsLength o (length key) image → data_at image (address_of_key new.entry o) (before_key o) (length key) ≡ key
+      by_place : (o : Option ℕ) → IsLongPlace files (length key) o → HoldsLongKey o (length key) image → data_at image (address_of_key new.entry o) (before_key o) (length key) ≡ key
           → (if nat_le (length key) 927 then (if unwrap_or o 0 == 0 then Some (key_place_at image new.entry (length key)) else None) else option_map (take (length key)) (stored_at image (length key + 1) (unwrap_or o 0))) ≡ Some key
       by_place None is file at = rw is (ap Some (sym (data_of_blocks image new.entry 96 (length key) (not_external new.entry fits.entry_kind)) ∙ at))
       by_place (Some w) is file at =
@@ -224,11 +224,11 @@ module _ (files : BlockFiles) (new : NewEntry) (key : List ℕ) (moment : ℕ) (
   unfolding load
   loads_here none = rw (shown_here.node_fields, shown_here.fields) (checked_loads (store_of image) new.node new.entry new.dirty (fields_of (new_record new key moment)) (Ok (loaded_new new key)) (record_is_good new key moment) (record_loads_here none))
 
-module _ (files : BlockFiles) (new : NewEntry) (key : List ℕ) (moment : ℕ) (fits : FitsKey files new key) (are : AreWords new) (b c : Told) (agrees : ForSome c.files (Agrees files)) (has : ForSome b.files (HasItsLength new.long_key (length key))) (grown : Applies b c (entry_steps new key moment)) (done : ForSome c.files (IsWritten new key moment)) where
-  lengths_last : ForSome c.files (HasItsLength new.long_key (length key))
-  lengths_last = told_whole (HasItsLength new.long_key (length key)) grown (λ from there. by_place new.long_key from (has from there))
+module _ (files : BlockFiles) (new : NewEntry) (key : List ℕ) (moment : ℕ) (fits : FitsKey files new key) (are : AreWords new) (b c : Told) (agrees : ForSome c.files (Agrees files)) (has : ForSome b.files (HoldsLongKey new.long_key (length key))) (grown : Applies b c (entry_steps new key moment)) (done : ForSome c.files (IsWritten new key moment)) where
+  lengths_last : ForSome c.files (HoldsLongKey new.long_key (length key))
+  lengths_last = told_whole (HoldsLongKey new.long_key (length key)) grown (λ from there. by_place new.long_key from (has from there))
     where
-      by_place : (o : Option ℕ) (from : Image) → HasItsLength o (length key) from → HasItsLength o (length key) (after (entry_steps new key moment) from)
+      by_place : (o : Option ℕ) (from : Image) → HoldsLongKey o (length key) from → HoldsLongKey o (length key) (after (entry_steps new key moment) from)
       by_place None from is = tt
       by_place (Some w) from is = λ x. length_kept files new key moment fits from (External (external_number w)) ∙ is x
 

@@ -17,7 +17,9 @@ NewPlacesAreCovered = (files : BlockFiles) (new : NewEntry) (key : List ℕ) (im
 
 -- so a change inside the three places is shown only there
 abbrev pub NewPlacesAreShownApart : Type 0
-NewPlacesAreShownApart = (files : BlockFiles) (new : NewEntry) (key : List ℕ) (from image : Image) → FitsKey files new key → AreWords new → Agrees files from → SameOutside (places_of new (length key)) from image → SameBut (has_claim (all_claims (loaded_new new key))) (view_of from) (view_of image)
+NewPlacesAreShownApart =
+    (files : BlockFiles) (new : NewEntry) (key : List ℕ) (from image : Image) → FitsKey files new key → AreWords new → Agrees files from
+    → SameOutside (places_of new (length key)) from image → SameBut (has_claim (all_claims (loaded_new new key))) (view_of from) (view_of image)
 
 -- no two of these claims are one
 abbrev pub NewClaimsAreSingle : Type 0

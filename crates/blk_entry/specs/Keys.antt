@@ -1,6 +1,6 @@
 -- The key of an entry record: where it lies, and what a read of it gives.
 use Rattle.std.specs.Prelude.{ℕ, ◌≡◌, ◌≢◌, ◌⊎◌, ◌+◌, ◌-◌, ◌*◌, ◌<◌, ◌≤◌, ◌^◌, min, List, length, take, drop, Bool, false, true, ◌&&◌, ◌||◌, nat_le, ◌==◌, if◌then◌else◌, Option, None, Some}
-use Rattle.std.specs.Option.{ForSome, option_and_then}
+use Rattle.std.specs.Option.{option_and_then}
 use Rattle.blk_image.specs.Bytes.{range_at}
 use Rattle.blk_image.specs.Image.{File, Block, External, Image, HasRange, byte}
 use Rattle.blk_image.specs.Footprint.{Footprint, range}
@@ -16,10 +16,10 @@ use Rattle.blk_io.specs.declared.folder.FileId.TheVariants as names
 use Rattle.blk_io.specs.declared.fault.Damage.{Damage}
 use Rattle.blk_io.specs.declared.fault.Fault.{Fault}
 use Rattle.blk_io.specs.declared.fault.Fault.TheVariants.{Damaged}
-use Rattle.blk_io.specs.Faults.{IsShort}
+use Rattle.blk_io.specs.Faults.{IsOfWord, IsShort}
 use Rattle.blk_disk.specs.declared.tables.BlockFiles.{BlockFiles}
-use Rattle.blk_disk.specs.Tables.{Agrees, is_node_among, stands_among}
-use Rattle.blk_disk.specs.Unsealed.{IsUnsealed}
+use Rattle.blk_disk.specs.Tables.{Agrees, stands_among}
+use Rattle.blk_disk.specs.Damages.{IsFailedRecord}
 use Rattle.blk_format.specs.Sealed.{RecordChecks}
 use Rattle.blk_entry.specs.declared.keys.Head.{Head}
 use Rattle.blk_entry.specs.declared.keys.KeyPlace.{KeyPlace}
@@ -27,10 +27,6 @@ use Rattle.blk_entry.specs.declared.keys.KeyPlace.{KeyPlace}
 -- the key of the record that a word names, where the length and the place of the key are right
 unfoldable pub key_at : Image → ℕ → Option (List ℕ)
 key_at image entry = option_and_then (λ fields. if is_key_length entry fields then stored_key (store_of image) entry fields else None) (fields_at image entry)
-
--- the bytes of the key's place in a record of one block
-abbrev pub key_place_bytes : ℕ
-key_place_bytes = 160
 
 -- a word names a record with a key
 pub record HasReadableKey (entry : ℕ) (image : Image) : Type 0 where
@@ -165,36 +161,25 @@ key_len_place = 32
 abbrev pub long_key_place : ℕ
 long_key_place = 36
 
--- the word of the node of a record is no address of a node that stands
-pub record IsDanglingNode (files : BlockFiles) (told : Told) (entry : ℕ) (damage : Damage) : Type 0 where
-  pub of_file : damage.file ≡ names.Block (file_selector entry)
-  pub at_place : damage.at ≡ place entry + node_place
-  pub of_word : ForSome told.files (λ image. damage.found ≡ (entry_at image entry).rankings_node)
-  pub dangling : is_node_among files damage.found ≡ false
+-- a damage is that of the word at a place of a record
+abbrev pub IsWordOf : (entry at found : ℕ) → Damage → Type 0
+IsWordOf entry at found damage = IsOfWord (names.Block (file_selector entry)) (place entry + at) found damage
 
--- the length of the key is one that the record can't have
-pub record IsUnfit (entry key_len : ℕ) (damage : Damage) : Type 0 where
-  pub of_file : damage.file ≡ names.Block (file_selector entry)
-  pub at_place : damage.at ≡ place entry + key_len_place
-  pub of_word : damage.found ≡ key_len
-  pub unfit : may_have entry key_len ≡ false
-
--- the word of a long key is no address that stands and stores a key of so many bytes
-pub record IsDanglingKey (files : BlockFiles) (entry key_len long_key : ℕ) (damage : Damage) : Type 0 where
-  pub of_file : damage.file ≡ names.Block (file_selector entry)
-  pub at_place : damage.at ≡ place entry + long_key_place
-  pub of_word : damage.found ≡ long_key
+-- a long key of a length that the record can have isn't stored at this word
+pub record IsLongKeyLost (files : BlockFiles) (entry key_len long_key : ℕ) : Type 0 where
   pub has : may_have entry key_len ≡ true
   pub long : is_short key_len ≡ false
-  pub dangling : may_hold files key_len long_key ≡ false
+  pub lost : may_hold files key_len long_key ≡ false
 
--- the key's length or the word of a long key is wrong
-abbrev pub IsMisplaced : BlockFiles → ℕ → ℕ → ℕ → Damage → Type 0
-IsMisplaced files entry key_len long_key damage = IsUnfit entry key_len damage ⊎ IsDanglingKey files entry key_len long_key damage
+-- the record can't have a key of this length; or it can, and the word of a long key is no address that stands and stores so many bytes
+abbrev pub IsMisplacedKey : BlockFiles → ℕ → ℕ → ℕ → Damage → Type 0
+IsMisplacedKey files entry key_len long_key damage =
+    ((may_have entry key_len ≡ false) × IsWordOf entry key_len_place key_len damage)
+    ⊎ (IsLongKeyLost files entry key_len long_key × IsWordOf entry long_key_place long_key damage)
 
 -- a damage of a key where the words of its record are known: its length, and the word of a long key
 abbrev pub IsPlaceDamage : BlockFiles → Told → ℕ → ℕ → ℕ → Damage → Type 0
-IsPlaceDamage files told entry key_len long_key damage = IsCutKey files told entry key_len long_key damage ⊎ IsMisplaced files entry key_len long_key damage
+IsPlaceDamage files told entry key_len long_key damage = IsCutKey files told entry key_len long_key damage ⊎ IsMisplacedKey files entry key_len long_key damage
 
 -- a damage of a key of so many bytes, with some word of a long key
 pub record IsWrongKey (files : BlockFiles) (told : Told) (entry key_len : ℕ) (damage : Damage) : Type 0 where
@@ -205,7 +190,7 @@ pub record IsWrongKey (files : BlockFiles) (told : Told) (entry key_len : ℕ) (
 pub record IsWrongPart (files : BlockFiles) (told : Told) (entry at size : ℕ) (damage : Damage) : Type 0 where
   pub key_len : ℕ
   pub long_key : ℕ
-  pub wrong : IsCutPart files told entry key_len long_key at size damage ⊎ IsMisplaced files entry key_len long_key damage
+  pub wrong : IsCutPart files told entry key_len long_key at size damage ⊎ IsMisplacedKey files entry key_len long_key damage
 
 -- the key of a record can be read: the block files agree with the folder, the record checks, and its key has a right length and place
 pub record CanBeRead (files : BlockFiles) (entry : ℕ) (image : Image) : Type 0 where
@@ -215,7 +200,7 @@ pub record CanBeRead (files : BlockFiles) (entry : ℕ) (image : Image) : Type 0
 
 -- a damage where the words of a record are read: too few bytes, or it doesn't check
 abbrev pub IsHeadDamage : Told → ℕ → Damage → Type 0
-IsHeadDamage told entry damage = IsShort told (names.Block (file_selector entry)) (place entry) entry_size damage ⊎ IsUnsealed told entry damage
+IsHeadDamage told entry damage = IsFailedRecord told entry entry_size damage
 
 -- a damage where a record is read, and its key of so many bytes
 abbrev pub IsKeyDamage : BlockFiles → Told → ℕ → ℕ → Damage → Type 0
@@ -228,7 +213,7 @@ IsPartDamage files told entry at size damage = IsHeadDamage told entry damage �
 -- Steps of the reading.
 
 -- the words of a record that say what it is, and where its chain goes on
-pub record IsHead (image : Image) (entry : ℕ) (head : Head) : Type 0 where
+pub record IsRecordHead (image : Image) (entry : ℕ) (head : Head) : Type 0 where
   pub hash : head.hash ≡ (entry_at image entry).hash
   pub next : head.next ≡ (entry_at image entry).next
   pub node : head.node ≡ (entry_at image entry).rankings_node
@@ -239,7 +224,7 @@ pub record IsHead (image : Image) (entry : ℕ) (head : Head) : Type 0 where
   pub flags : head.flags ≡ (entry_at image entry).flags
 
 -- a place is that of a key of so many bytes of a record with this word of a long key
-pub record IsPlaceOf (entry key_len long_key : ℕ) (place : KeyPlace) : Type 0 where
+pub record IsPlaceOfKey (entry key_len long_key : ℕ) (place : KeyPlace) : Type 0 where
   pub addr : place.addr ≡ key_address entry key_len long_key
   pub skip : place.skip ≡ bytes_before key_len
   pub len : place.len ≡ key_len
@@ -258,9 +243,7 @@ IsInFile w before n image = kind_of w ≡ external → HasRange image (External 
 pub record IsDamageAt (entry at found : ℕ) (fault : Fault) : Type 0 where
   pub damage : Damage
   pub is : fault ≡ Damaged damage
-  pub of_file : damage.file ≡ names.Block (file_selector entry)
-  pub at_place : damage.at ≡ place entry + at
-  pub of_word : damage.found ≡ found
+  pub word : IsWordOf entry at found damage
 
 -- a word that may hold a long key
 abbrev pub held : BlockFiles → ℕ → ℕ → Option ℕ

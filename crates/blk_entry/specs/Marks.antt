@@ -4,18 +4,15 @@ use Rattle.std.specs.Option.{ForSome}
 use Rattle.blk_image.specs.Image.{Image}
 use Rattle.blk_image.specs.Steps.{TrailStep}
 use Rattle.blk_image.specs.Told.{Told, Applies, AppliesPrefix, Passes, Stays}
-use Rattle.blk_format.specs.Address.{file_selector, place}
 use Rattle.blk_format.specs.Records.{Node, sealed_node}
 use Rattle.blk_format.specs.Sealed.{IsMidUpdate, RecordChecks, record_size, sealed_steps}
 use Rattle.blk_volume.specs.ShownChanges.{ChangesInside, OnlyNodeFieldsChange}
 use Rattle.blk_volume.specs.View.{node_at}
-use Rattle.blk_io.specs.declared.folder.FileId.TheVariants as names
-use Rattle.blk_io.specs.declared.fault.Damage.{Damage}
 use Rattle.blk_io.specs.declared.fault.Fault.{Fault}
-use Rattle.blk_io.specs.Faults.{IfDamaged, IsShort}
+use Rattle.blk_io.specs.Faults.{IfDamaged}
 use Rattle.blk_disk.specs.declared.tables.BlockFiles.{BlockFiles}
 use Rattle.blk_disk.specs.Tables.{Agrees}
-use Rattle.blk_disk.specs.Unsealed.{IsUnsealed}
+use Rattle.blk_disk.specs.Damages.{IsFailedRecord}
 
 -- the place of the dirty word in a node
 abbrev pub dirty_place : ℕ
@@ -45,10 +42,6 @@ pub record SetsDirtyInProgress (from : Image) (node mark : ℕ) (image : Image) 
 abbrev pub HasDirtySet : Image → ℕ → ℕ → Image → Type 0
 HasDirtySet from node mark image = node_at image node ≡ sealed_node (record (node_at from node) { dirty = mark })
 
--- a damage of the node: too few bytes, or it doesn't check
-abbrev pub IsNodeDamage : Told → ℕ → Damage → Type 0
-IsNodeDamage told node damage = IsShort told (names.Block (file_selector node)) (place node) (record_size node) damage ⊎ IsUnsealed told node damage
-
 -- what a call does that makes the dirty word of a node this one
 pub record SetsDirty {A : Type 0} (files : BlockFiles) (old new : Told) (node mark : ℕ) (result : Result A Fault) : Type 0 where
   -- done, the node had checked, and it is marked; the block files agree as before
@@ -61,7 +54,7 @@ pub record SetsDirty {A : Type 0} (files : BlockFiles) (old new : Told) (node ma
   pub prefix : ForSome old.files (λ from. AppliesPrefix old new (mark_steps from node mark))
   pub stops : ForSome old.files (λ from. RecordChecks node from → Passes old new (SetsDirtyInProgress from node mark))
   -- a damage is of the node, and nothing was written; a folder that tells its files gives one only for a node that doesn't check
-  pub damaged : IfDamaged result (IsNodeDamage old node)
+  pub damaged : IfDamaged result (IsFailedRecord old node (record_size node))
   pub unwritten : IfDamaged result (λ _. Stays old new)
   pub untold : ForSome old.files (RecordChecks node) → IfDamaged result (λ _. old.files ≡ None)
   -- a folder that tells no files goes on telling none

@@ -9,7 +9,7 @@ use Rattle.blk_format.specs.BlockFiles.{IsWellFormed}
 use Rattle.blk_format.specs.Headers.{HasWholeIndex}
 use Rattle.blk_format.specs.Hash.{hash as hash_of}
 use Rattle.blk_format.specs.Records.{Entry, Node, entry_body, entry_size, sealed_entry, node_body, sealed_node, entry_normal, plain, child}
-use Rattle.blk_format.specs.Storage.{entry_blocks}
+use Rattle.blk_format.specs.Storage.{entry_blocks, key_place_bytes}
 use Rattle.blk_volume.specs.View.{entry_at, node_at, fields_of, list_of, store_of}
 use Rattle.blk_volume.specs.Entries.{IsPlain, stored_streams}
 use Rattle.blk_volume.specs.Loads.{Loaded}
@@ -17,7 +17,7 @@ use Rattle.blk_disk.specs.declared.tables.BlockFiles.{BlockFiles}
 use Rattle.blk_disk.specs.Tables.{stands_among}
 use Rattle.blk_format.specs.Sealed.{RecordChecks, record_range}
 use Rattle.blk_entry.specs.declared.writing.NewEntry.{NewEntry}
-use Rattle.blk_entry.specs.Keys.{data_at, data_file, data_start, is_short, key_at, key_place_bytes, may_hold}
+use Rattle.blk_entry.specs.Keys.{data_at, data_file, data_start, is_short, key_at, may_hold}
 use Rattle.blk_entry.specs.Steps.{ended_steps}
 
 -- The three places.
@@ -59,9 +59,9 @@ pub record AreWords (new : NewEntry) : Type 0 where
   pub node : is_address new.node ≡ true
 
 -- an external file that holds a long key of so many bytes is there, and one byte longer
-abbrev pub HasItsLength : Option ℕ → ℕ → Image → Type 0
-HasItsLength None key_len image = Unit {0}
-HasItsLength (Some w) key_len image = kind_of w ≡ external → length_of image (External (external_number w)) ≡ key_len + 1
+abbrev pub HoldsLongKey : Option ℕ → ℕ → Image → Type 0
+HoldsLongKey None key_len image = Unit {0}
+HoldsLongKey (Some w) key_len image = kind_of w ≡ external → length_of image (External (external_number w)) ≡ key_len + 1
 
 -- the bytes of a long key and its zero byte
 abbrev pub long_range : Option ℕ → ℕ → Footprint

@@ -7,7 +7,7 @@ ghost use Rattle.blk_volume.specs.View.{entry_at};
 ghost use Rattle.blk_io.specs.Faults.{IfDamaged, IfDevice};
 ghost use Rattle.blk_disk.specs.Tables.{Agrees, stands_among};
 ghost use Rattle.blk_format.specs.Hash.{hash as hash_of};
-ghost use Rattle.blk_entry.specs.Keys.{AreKeyBytes, CanBeRead, HasBytesOf, HasData, HasKeyBytes, HasKeyPlace, HasReadableKey, HasRecord, IsCut, IsCutPiece, IsEntryOf, IsHead, IsInFile, IsInside, IsKeyDamage, IsPlaceDamage, IsPlaced, bytes_before, data_at, key_address, key_at};
+ghost use Rattle.blk_entry.specs.Keys.{AreKeyBytes, CanBeRead, HasBytesOf, HasData, HasKeyBytes, HasKeyPlace, HasReadableKey, HasRecord, IsCut, IsCutPiece, IsEntryOf, IsRecordHead, IsInFile, IsInside, IsKeyDamage, IsPlaceDamage, IsPlaced, bytes_before, data_at, key_address, key_at};
 
 use crate::data::read_data;
 use crate::keys::{Head, key_place, read_head};
@@ -76,7 +76,7 @@ pub fn key_is<F: Folder>(
 
     // The bytes where those words say that the key lies are the key, and so its key is where they are the record's.
     ensures bytes { IfOk result (λ same. ForSome (F.told f.old).files (λ image. IsTrue same ↔ AreKeyBytes key.now entry head.now.key_len head.now.long_key image)) }
-    ensures equal { IfOk result (λ same. ForSome (F.told f.old).files (λ image. IsHead image entry head.now → HasReadableKey entry image → IsTrue same ↔ (key_at image entry ≡ Some key.now))) }
+    ensures equal { IfOk result (λ same. ForSome (F.told f.old).files (λ image. IsRecordHead image entry head.now → HasReadableKey entry image → IsTrue same ↔ (key_at image entry ≡ Some key.now))) }
 
     // Where the length is the key's, the key has a place; where it is the same, its bytes are in the file.
     ensures placed { OnOk result (head.now.key_len ≡ length key.now → IsPlaced files.now entry head.now.key_len head.now.long_key) }
@@ -85,7 +85,7 @@ pub fn key_is<F: Folder>(
 
     // A folder that tells its files gives a damage only where the record has no key to read, or the words are others.
     ensures damaged { IfDamaged result (IsPlaceDamage files.now (F.told f.old) entry (length key.now) head.now.long_key) }
-    ensures untold { ForSome (F.told f.old).files (CanBeRead files.now entry) → ForSome (F.told f.old).files (λ image. IsHead image entry head.now) → IfDamaged result (λ _. (F.told f.old).files ≡ None) }
+    ensures untold { ForSome (F.told f.old).files (CanBeRead files.now entry) → ForSome (F.told f.old).files (λ image. IsRecordHead image entry head.now) → IfDamaged result (λ _. (F.told f.old).files ≡ None) }
 
     ensures later { F.faults f.old ≤ F.faults f.new }
     ensures device { IfDevice result (Rises (F.faults f.old) (F.faults f.new)) }

@@ -6,11 +6,12 @@ ghost use Rattle.blk_image.specs.Told.{Rises, Stays};
 ghost use Rattle.blk_format.specs.Address.{blocks_256, file_selector, kind_of, place, rankings};
 ghost use Rattle.blk_format.specs.Records.{entry_size};
 ghost use Rattle.blk_volume.specs.View.{entry_at};
-ghost use Rattle.blk_entry.specs.Keys.{IsDanglingNode, node_place};
+ghost use Rattle.blk_entry.specs.Keys.{node_place};
 ghost use Rattle.blk_record.specs.Fields.{IsField};
 ghost use Rattle.blk_io.specs.declared.folder.FileId.TheVariants as FileId;
 ghost use Rattle.blk_io.specs.Faults.{IfDamaged, IfDevice, IsShort};
 ghost use Rattle.blk_disk.specs.Tables.{Agrees, is_node_among, stands_among};
+ghost use Rattle.blk_disk.specs.Damages.{IsNodeWordDamage};
 
 use crate::keys::record_damage;
 use blk_addr::Addr;
@@ -55,7 +56,7 @@ pub fn node_of<F: Folder>(f: &mut F, files: &BlockFiles, entry: Addr) -> Result<
     ensures stays { Stays (F.told f.old) (F.told f.new) }
 
     // A folder that tells its files gives a damage only where the word is of no node that stands.
-    ensures damaged { IfDamaged result (λ damage. IsShort (F.told f.old) (FileId.Block (file_selector entry)) (place entry + node_place) 4 damage ⊎ IsDanglingNode files.now (F.told f.old) entry damage) }
+    ensures damaged { IfDamaged result (IsNodeWordDamage files.now (F.told f.old) (FileId.Block (file_selector entry)) (place entry + node_place)) }
     ensures untold { ForSome (F.told f.old).files (Agrees files.now) → ForSome (F.told f.old).files (λ image. is_node_among files.now (entry_at image entry).rankings_node ≡ true) → IfDamaged result (λ _. (F.told f.old).files ≡ None) }
 
     ensures later { F.faults f.old ≤ F.faults f.new }

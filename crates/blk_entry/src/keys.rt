@@ -13,7 +13,7 @@ ghost use Rattle.blk_disk.specs.Unsealed.{IsUnsealed};
 ghost use Rattle.blk_format.specs.Sealed.{RecordChecks};
 ghost use Rattle.blk_volume.specs.View.{entry_at};
 ghost use Rattle.blk_entry.specs.Keys as keys;
-ghost use Rattle.blk_entry.specs.Keys.{CanBeRead, HasKeyBytes, HasKeyPlace, HasRecord, IsHead, IsHeadDamage, IsInside, IsMisplaced, IsPiece, IsPlaceOf, is_short, key_at, key_address, key_bytes, bytes_before};
+ghost use Rattle.blk_entry.specs.Keys.{CanBeRead, HasKeyBytes, HasKeyPlace, HasRecord, IsRecordHead, IsHeadDamage, IsInside, IsMisplacedKey, IsPiece, IsPlaceOfKey, is_short, key_at, key_address, key_bytes, bytes_before};
 
 use crate::data::{is_of, read_data};
 use blk_addr::{Addr, Kind, blocks_for, entry_blocks, kind_for};
@@ -107,7 +107,7 @@ pub fn key_piece<F: Folder>(
 pub fn read_head<F: Folder>(f: &mut F, files: &BlockFiles, entry: Addr) -> Result<Head, Fault>
     requires kind { kind_of entry ≡ blocks_256 }
     requires stands { IsTrue (stands_among files.now entry) }
-    ensures head { IfOk result (λ head. ForSome (F.told f.old).files (λ image. IsHead image entry head)) }
+    ensures head { IfOk result (λ head. ForSome (F.told f.old).files (λ image. IsRecordHead image entry head)) }
     ensures checked { OnOk result (ForSome (F.told f.old).files (HasRecord entry)) }
     ensures stays { Stays (F.told f.old) (F.told f.new) }
 
@@ -138,8 +138,8 @@ pub fn read_head<F: Folder>(f: &mut F, files: &BlockFiles, entry: Addr) -> Resul
     })
 }
 
-// Four words of a record that lie one behind the other.
-fn four_words(view: &EntryView<'_>, at: usize) -> [u32; 4]
+/// Four words of a record that lie one behind the other.
+pub fn four_words(view: &EntryView<'_>, at: usize) -> [u32; 4]
     requires inside { at + 16 ≤ entry_size }
     requires aligned { at % 4 ≡ 0 }
     ensures { result ≡ words_at (content (entry_window view.now)) at 4 }
@@ -170,11 +170,11 @@ pub fn record_damage(entry: Addr, at: u32, found: u32) -> Fault
 pub(crate) fn key_place(files: &BlockFiles, entry: Addr, head: Head) -> Result<KeyPlace, Fault>
     requires kind { kind_of entry ≡ blocks_256 }
     requires stands { IsTrue (stands_among files.now entry) }
-    ensures place { IfOk result (IsPlaceOf entry head.key_len head.long_key) }
+    ensures place { IfOk result (IsPlaceOfKey entry head.key_len head.long_key) }
     ensures inside { IfOk result (λ key. IsInside files.now key.addr key.skip key.len) }
     ensures right { keys.may_have entry head.key_len ≡ true → (is_short head.key_len ≡ false → keys.may_hold files.now head.key_len head.long_key ≡ true) → IsOk result }
     ensures placed { IfOk result (λ _. keys.IsPlaced files.now entry head.key_len head.long_key) }
-    ensures damaged { IfDamaged result (IsMisplaced files.now entry head.key_len head.long_key) }
+    ensures damaged { IfDamaged result (IsMisplacedKey files.now entry head.key_len head.long_key) }
     ensures never { IfDevice result ⊥ }
 {
     if !may_have(entry, head.key_len) {
@@ -197,17 +197,17 @@ pub(crate) fn key_place(files: &BlockFiles, entry: Addr, head: Head) -> Result<K
     }
 }
 
-// Whether a record may have a key of so many bytes.
+/// Whether a record may have a key of so many bytes: 1 to 32796, in as many blocks.
 #[tactic(auto, unfolding(crate::specs::Keys::may_have))]
-pub(crate) fn may_have(entry: Addr, key_len: u32) -> bool
+pub fn may_have(entry: Addr, key_len: u32) -> bool
     requires { kind_of entry ≡ blocks_256 }
     ensures { result ≡ keys.may_have entry key_len }
 {
     1 <= key_len && key_len <= MOST_KEY && entry.blocks() == entry_blocks(key_len)
 }
 
-// The address of a long key of so many bytes, where the word is one that may hold it.
-pub(crate) fn long_key(files: &BlockFiles, key_len: u32, word: u32) -> Option<Addr>
+/// The address of a long key of so many bytes, where the word is one that may hold it.
+pub fn long_key(files: &BlockFiles, key_len: u32, word: u32) -> Option<Addr>
     requires { key_len ≤ keys.most_key }
     ensures { result ≡ keys.held files.now key_len word }
 {
@@ -219,8 +219,8 @@ pub(crate) fn long_key(files: &BlockFiles, key_len: u32, word: u32) -> Option<Ad
     }
 }
 
-// Whether an address is the storage of data of a size, and stands where it is one of blocks.
-fn stores(files: &BlockFiles, addr: Addr, size: u32) -> bool
+/// Whether an address is the storage of data of a size, and stands where it is one of blocks.
+pub fn stores(files: &BlockFiles, addr: Addr, size: u32) -> bool
     requires address { is_address addr ≡ true }
     requires some { 0 < size }
     ensures { result ≡ keys.stores files.now size addr }

@@ -8,13 +8,14 @@ ghost use Rattle.blk_image.specs.Told.{Applies, AppliesPrefix, Passes, Rises};
 ghost use Rattle.blk_format.specs.Address.{kind_of, rankings};
 ghost use Rattle.blk_format.specs.Headers.{HasWholeIndex};
 ghost use Rattle.blk_format.specs.Records as records;
+ghost use Rattle.blk_format.specs.Storage.{key_place_bytes};
 ghost use Rattle.blk_volume.specs.Loads.{unchained_rule, load};
 ghost use Rattle.blk_volume.specs.View.{store_of};
 ghost use Rattle.blk_record.specs.Fields.{IsField};
 ghost use Rattle.blk_io.specs.Faults.{IfDamaged, IfDevice};
 ghost use Rattle.blk_format.specs.Sealed as sealed;
 ghost use Rattle.blk_disk.specs.Tables.{Agrees, stands_among};
-ghost use Rattle.blk_entry.specs.Writing.{AreWords, FitsKey, HasItsLength, IsShownNew, IsWritten, LiesApart, WritesEntryInProgress, entry_bytes, entry_steps, key_steps, loaded_new, new_node, new_record, node_bytes, node_steps, record_steps};
+ghost use Rattle.blk_entry.specs.Writing.{AreWords, FitsKey, HoldsLongKey, IsShownNew, IsWritten, LiesApart, WritesEntryInProgress, entry_bytes, entry_steps, key_steps, loaded_new, new_node, new_record, node_bytes, node_steps, record_steps};
 
 use crate::data::write_ended;
 use bitflags::Flags;
@@ -62,7 +63,7 @@ pub fn write_entry<F: Folder>(
 ) -> Result<(), Fault>
     requires fits { FitsKey files.now new.now key.now }
     requires agrees { ForSome (F.told f.old).files (Agrees files.now) }
-    requires external { ForSome (F.told f.old).files (HasItsLength new.now.long_key (length key.now)) }
+    requires external { ForSome (F.told f.old).files (HoldsLongKey new.now.long_key (length key.now)) }
     requires apart { ForSome (F.told f.old).files (λ _. LiesApart new.now.entry new.now.long_key) }
     ensures written { OnOk result (ForSome (F.told f.new).files (IsWritten new.now key.now moment)) }
     ensures shown { OnOk result (ForSome (F.told f.new).files (IsShownNew new.now key.now moment)) }
@@ -102,7 +103,7 @@ fn write_places<F: Folder>(
 ) -> Result<(), Failed>
     requires fits { FitsKey files.now new key.now }
     requires agrees { ForSome (F.told f.old).files (Agrees files.now) }
-    requires external { ForSome (F.told f.old).files (HasItsLength new.long_key (length key.now)) }
+    requires external { ForSome (F.told f.old).files (HoldsLongKey new.long_key (length key.now)) }
     ensures steps { OnOk result (Applies (F.told f.old) (F.told f.new) (entry_steps new key.now moment)) }
     ensures prefix { AppliesPrefix (F.told f.old) (F.told f.new) (entry_steps new key.now moment) }
     ensures words { AreWords new }
@@ -122,7 +123,7 @@ fn write_key<F: Folder>(
 ) -> Result<(), Failed>
     requires fits { FitsKey files.now new.now key.now }
     requires agrees { ForSome (F.told f.old).files (Agrees files.now) }
-    requires external { ForSome (F.told f.old).files (HasItsLength new.now.long_key (length key.now)) }
+    requires external { ForSome (F.told f.old).files (HoldsLongKey new.now.long_key (length key.now)) }
     ensures steps { OnOk result (Applies (F.told f.old) (F.told f.new) (key_steps new.now key.now)) }
     ensures prefix { AppliesPrefix (F.told f.old) (F.told f.new) (key_steps new.now key.now) }
     ensures agrees { ForSome (F.told f.new).files (Agrees files.now) }
@@ -200,7 +201,7 @@ fn write_node<F: Folder>(
 // The bytes of the record, and zeros behind them to the end of a block.
 fn record_of(new: &NewEntry, key: &[u8], moment: u64) -> [u8; BLOCK]
     requires { length key.now ≤ 32796 }
-    ensures bytes { result ≡ entry_bytes (new_record new.now key.now moment) ++ zeros 160 }
+    ensures bytes { result ≡ entry_bytes (new_record new.now key.now moment) ++ zeros key_place_bytes }
     ensures size { length result ≡ 256 }
 {
     let words = [

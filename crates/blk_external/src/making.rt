@@ -5,8 +5,8 @@ ghost use Rattle.blk_image.specs.Told.{Applies, AppliesPrefix, Stays, Passes, Ri
 ghost use Rattle.blk_format.specs.Address.{kind_of, external, external_number};
 ghost use Rattle.blk_format.specs.Headers.{HasWholeIndex};
 ghost use Rattle.blk_io.specs.Faults.{IfDamaged, IfDevice, IsShort};
-ghost use Rattle.blk_external.specs.Numbers.{IsNumber, HasFreeNumber, IsFirstFree, IsSearched, IsLeastFree, most_number};
-ghost use Rattle.blk_external.specs.Making.{making, last_number, last_file_place, CreatesPrefix, CreatesInProgress, Creates, IsFull};
+ghost use Rattle.blk_external.specs.Numbers.{IsNumber, HasFreeNumber, IsFirstFree, IsSearched, IsLeastExternal, most_number};
+ghost use Rattle.blk_external.specs.Making.{making, last_number, last_file_place, CreatesPrefix, CreatesInProgress, Creates, AreNumbersUsedUp};
 
 use blk_addr::Addr;
 use blk_io::{Damage, Failed, Fault, FileId, Folder, read_word, write_word};
@@ -33,7 +33,7 @@ pub fn create<F: Folder>(f: &mut F) -> Result<Addr, Fault>
     ensures prefix { ForSome (F.told f.old).files HasFreeNumber → CreatesPrefix (F.told f.old) (F.told f.new) }
     ensures stops { ForSome (F.told f.old).files (λ from. HasFreeNumber from → Passes (F.told f.old) (F.told f.new) (CreatesInProgress from)) }
 
-    ensures damaged { IfDamaged result (λ damage. IsShort (F.told f.old) FileId.Index last_file_place 4 damage ⊎ IsFull (F.told f.old) damage) }
+    ensures damaged { IfDamaged result (λ damage. IsShort (F.told f.old) FileId.Index last_file_place 4 damage ⊎ AreNumbersUsedUp (F.told f.old) damage) }
     ensures unwritten { IfDamaged result (λ _. Stays (F.told f.old) (F.told f.new)) }
     ensures untold { ForSome (F.told f.old).files HasFreeNumber → IfDamaged result (λ _. (F.told f.old).files ≡ None) }
     ensures later { F.faults f.old ≤ F.faults f.new }
@@ -76,7 +76,7 @@ fn first_free<F: Folder>(f: &mut F, last: u32) -> Result<Option<u32>, Failed>
 // The least free number from one on and below another.
 pub(crate) fn least_free<F: Folder>(f: &mut F, low: u32, end: u32) -> Result<Option<u32>, Failed>
     ensures within { IfOk result (λ found. ForSome found (λ n. (low ≤ n) × (n < end))) }
-    ensures least { IfOk result (λ found. ForSome (F.told f.old).files (λ image. IsLeastFree image low end found)) }
+    ensures least { IfOk result (λ found. ForSome (F.told f.old).files (λ image. IsLeastExternal image low end found)) }
     ensures stays { Stays (F.told f.old) (F.told f.new) }
     ensures later { F.faults f.old ≤ F.faults f.new }
     ensures failed { OnErr result (Rises (F.faults f.old) (F.faults f.new)) }

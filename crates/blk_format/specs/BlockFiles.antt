@@ -6,7 +6,7 @@ use Rattle.std.specs.declared.option.Option.{Option}
 use Rattle.blk_image.specs.Image.{Index, Block, External, Image, has_file, length_of, byte}
 use Rattle.blk_image.specs.Checks.{Damage, first_of, check_word, check_length}
 use Rattle.blk_format.specs.Address.{rankings, blocks_256, blocks_1k, blocks_4k, block_size, header_size}
-use Rattle.blk_format.specs.Headers.{block_magic, version, magic_of, version_of, this_file_of, next_file_of, entry_size_of, max_entries_of, HasWholeIndex, IsUnfinished, head_checks, list_checks}
+use Rattle.blk_format.specs.Headers.{HasWholeIndex, IsUnfinished, block_magic, blocks_place, entry_size_of, entry_size_place, head_checks, list_checks, magic_of, magic_place, max_entries_of, next_file_of, this_file_of, this_file_place, version, version_of, version_place}
 use Rattle.blk_format.specs.Standing.{stands, stands_as_blocks}
 
 -- the most files of one kind
@@ -91,12 +91,12 @@ is_block_count n = ((n % blocks_a_growth == 0) && nat_le n most_whole_blocks) ||
 unfoldable pub file_checks : ℕ → List ℕ → ℕ → ℕ → (ℕ → ℕ) → ℕ → List (Option Damage)
 file_checks kind met left n f length =
     check_length (Block n) header_size length (nat_le header_size length)
-    ∷ check_word (Block n) f 0 (magic_of f == block_magic)
-    ∷ check_word (Block n) f 4 (version_of f == version)
-    ∷ check_word (Block n) f 8 (this_file_of f == n)
-    ∷ check_word (Block n) f 8 (is_link met left (next_file_of f))
-    ∷ check_word (Block n) f 12 (entry_size_of f == block_size kind)
-    ∷ check_word (Block n) f 20 (is_block_count (max_entries_of f))
+    ∷ check_word (Block n) f magic_place (magic_of f == block_magic)
+    ∷ check_word (Block n) f version_place (version_of f == version)
+    ∷ check_word (Block n) f this_file_place (this_file_of f == n)
+    ∷ check_word (Block n) f this_file_place (is_link met left (next_file_of f))
+    ∷ check_word (Block n) f entry_size_place (entry_size_of f == block_size kind)
+    ∷ check_word (Block n) f blocks_place (is_block_count (max_entries_of f))
     ∷ []
 
 -- the checks of file n of a kind and of those along its links, where these files were met before, and so many may follow

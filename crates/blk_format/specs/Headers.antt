@@ -36,23 +36,42 @@ version = 0x20000
 
 -- Both headers begin alike.
 
+abbrev pub magic_place : ℕ
+magic_place = 0
+
+abbrev pub version_place : ℕ
+version_place = 4
+
 -- the magic number
 abbrev pub magic_of : (ℕ → ℕ) → ℕ
-magic_of f = word_at f 0
+magic_of f = word_at f magic_place
 
 -- the version
 abbrev pub version_of : (ℕ → ℕ) → ℕ
-version_of f = word_at f 4
+version_of f = word_at f version_place
 
 -- The header of the index.
 
+-- the places of the counters: of the items, of their bytes, and of the nodes of the use list
+abbrev pub num_entries_place : ℕ
+num_entries_place = 8
+
+abbrev pub num_bytes_place : ℕ
+num_bytes_place = 12
+
+abbrev pub sizes_place : ℕ
+sizes_place = 268
+
+abbrev pub counter_places : List ℕ
+counter_places = num_entries_place ∷ num_bytes_place ∷ sizes_place ∷ []
+
 -- the number of listed items
 abbrev pub num_entries_of : (ℕ → ℕ) → ℕ
-num_entries_of f = word_at f 8
+num_entries_of f = word_at f num_entries_place
 
 -- the sum of their charges, modulo 2 ^ 32
 abbrev pub num_bytes_of : (ℕ → ℕ) → ℕ
-num_bytes_of f = word_at f 12
+num_bytes_of f = word_at f num_bytes_place
 
 -- the last external number that was made
 abbrev pub last_file_of : (ℕ → ℕ) → ℕ
@@ -96,7 +115,7 @@ filled_of f = word_at f 264
 
 -- word i of 5: the number of nodes, and then zeros
 abbrev pub sizes_of : (ℕ → ℕ) → ℕ → ℕ
-sizes_of f i = word_at f (268 + 4 * i)
+sizes_of f i = word_at f (sizes_place + 4 * i)
 
 -- the places of the four words that say where the use list begins and ends, and what is in flight
 abbrev pub heads_place : ℕ
@@ -145,29 +164,51 @@ bucket_of f b = word_at f (place_of_bucket b)
 
 -- The header of a block file.
 
+-- the places of its fields
+abbrev pub this_file_place : ℕ
+this_file_place = 8
+
+abbrev pub next_file_place : ℕ
+next_file_place = 10
+
+abbrev pub entry_size_place : ℕ
+entry_size_place = 12
+
+abbrev pub allocations_place : ℕ
+allocations_place = 16
+
+abbrev pub blocks_place : ℕ
+blocks_place = 20
+
+abbrev pub empty_place : ℕ → ℕ
+empty_place i = 24 + 4 * i
+
+abbrev pub updating_place : ℕ
+updating_place = 56
+
 -- its number
 abbrev pub this_file_of : (ℕ → ℕ) → ℕ
-this_file_of f = half_at f 8
+this_file_of f = half_at f this_file_place
 
 -- the number of the next file of its kind, or 0
 abbrev pub next_file_of : (ℕ → ℕ) → ℕ
-next_file_of f = half_at f 10
+next_file_of f = half_at f next_file_place
 
 -- the bytes of a block
 abbrev pub entry_size_of : (ℕ → ℕ) → ℕ
-entry_size_of f = word_at f 12
+entry_size_of f = word_at f entry_size_place
 
 -- the number of allocations
 abbrev pub allocations_of : (ℕ → ℕ) → ℕ
-allocations_of f = word_at f 16
+allocations_of f = word_at f allocations_place
 
 -- the number of blocks
 abbrev pub max_entries_of : (ℕ → ℕ) → ℕ
-max_entries_of f = word_at f 20
+max_entries_of f = word_at f blocks_place
 
 -- word i of 4: the number of groups whose longest free run is i + 1
 abbrev pub empty_of : (ℕ → ℕ) → ℕ → ℕ
-empty_of f i = word_at f (24 + 4 * i)
+empty_of f i = word_at f (empty_place i)
 
 -- word i of 4: the group where a search for i + 1 blocks begins
 abbrev pub hints_of : (ℕ → ℕ) → ℕ → ℕ
@@ -175,7 +216,7 @@ hints_of f i = word_at f (40 + 4 * i)
 
 -- 1 while the map and the counters change
 abbrev pub updating_of : (ℕ → ℕ) → ℕ
-updating_of f = word_at f 56
+updating_of f = word_at f updating_place
 
 -- word i of 5 that are not read
 abbrev pub user_of : (ℕ → ℕ) → ℕ → ℕ
@@ -202,9 +243,9 @@ UnfinishedAgrees = (image : Image) → IsTrue (unfinished image) ↔ IsUnfinishe
 -- the checks of a finished index's header and length, in their order: the magic, the length, and the fields that have one value, or one of two
 unfoldable pub head_checks : (ℕ → ℕ) → ℕ → List (Option Damage)
 head_checks f length =
-    check_word Index f 0 (magic_of f == index_magic)
+    check_word Index f magic_place (magic_of f == index_magic)
     ∷ check_length Index index_length length (length == index_length)
-    ∷ check_word Index f 4 (version_of f == version)
+    ∷ check_word Index f version_place (version_of f == version)
     ∷ check_word Index f 24 (stats_of f == 0)
     ∷ check_word Index f 28 ((table_len_of f == 0) || (table_len_of f == table_length))
     ∷ check_word Index f 36 (experiment_of f == 0)
@@ -236,4 +277,4 @@ is_shown_place i = is_in_word heads_place i || is_in_word tails_place i || is_in
 
 -- the places of a block file's header that say which blocks there are: next_file and max_entries
 abbrev pub is_extent_place : ℕ → Bool
-is_extent_place i = (i == 10) || (i == 11) || is_in_word 20 i
+is_extent_place i = (i == next_file_place) || (i == next_file_place + 1) || is_in_word blocks_place i

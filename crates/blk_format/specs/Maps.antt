@@ -63,3 +63,14 @@ pub record AreAllocations (image : Image) (n : ℕ) (words : List ℕ) : Type 0 
   pub apart : repeats (claims_of_all words) ≡ false
   pub marks : (b : ℕ) → b < most_blocks → is_block_marked image n b ≡ has_claim (claims_of_all words) (BlockOf n b)
   pub counted : allocations_of (byte image (Block n)) ≡ length words
+
+-- a file has a list of its allocations, and `empty` agrees with its map
+pub record HasAllocations (image : Image) (n : ℕ) : Type 0 where
+  pub words : List ℕ
+  pub are : AreAllocations image n words
+  pub empty : EmptyAgrees image n
+
+-- the allocations of a file are as before, and so is what `empty` says of it
+pub record KeepsFile (from image : Image) (n : ℕ) : Type 0 where
+  pub allocations : (words : List ℕ) → AreAllocations from n words → AreAllocations image n words
+  pub empty : EmptyAgrees from n → EmptyAgrees image n

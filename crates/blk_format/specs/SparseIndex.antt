@@ -5,7 +5,7 @@ use Rattle.std.specs.Int.{bit_at, cast_signed, w32, w64}
 use Rattle.std.specs.declared.option.Option.{Option}
 use Rattle.blk_image.specs.Bytes.{content, word_at, long_at, words_at}
 use Rattle.blk_format.specs.Headers.{index_magic}
-use Rattle.blk_model.specs.Sizes.{longest_key, signatures, part_count, part_blocks}
+use Rattle.blk_model.specs.Sizes.{blocks_index_charge, longest_key, part_blocks, part_count, parts_index_charge, signatures}
 
 -- the bytes before the bitmap
 abbrev pub sparse_head_length : ℕ
@@ -13,11 +13,11 @@ sparse_head_length = 64
 
 -- the bytes of a parent's index: a bit for each part
 abbrev pub parent_index_length : ℕ
-parent_index_length = 8256
+parent_index_length = parts_index_charge
 
 -- the bytes of a part's index: a bit for each block
 abbrev pub part_index_length : ℕ
-part_index_length = 192
+part_index_length = blocks_index_charge
 
 -- the signature, a signed number
 abbrev pub sparse_signature_of : (ℕ → ℕ) → ℤ
@@ -78,12 +78,20 @@ pub record PartIndex : Type 0 where
   pub present : ℕ → Bool
   pub partial : Option (ℕ × ℕ)
 
--- the partial block is -1 with length 0, or 0 to 1023 with a length of 1 to 1023 and the bit of that block 0
+-- the last block of a part
+abbrev pub last_block : ℕ
+last_block = 1023
+
+-- the longest piece of a partial block
+abbrev pub longest_piece : ℕ
+longest_piece = 1023
+
+-- the partial block is -1 with length 0, or 0 to the last with a length of 1 to the longest and the bit of that block 0
 abbrev pub is_partial : (ℕ → ℕ) → Bool
 is_partial f =
     let block = word_at f 16 in
     let len = last_block_len_of f in
-    ((block == minus_one) && (len == 0)) || (nat_le block 1023 && nat_le 1 len && nat_le len 1023 && not (map_bit f sparse_head_length block))
+    ((block == minus_one) && (len == 0)) || (nat_le block last_block && nat_le 1 len && nat_le len longest_piece && not (map_bit f sparse_head_length block))
 
 -- the part's index that some bytes are
 unfoldable pub read_part_index : List ℕ → Option PartIndex

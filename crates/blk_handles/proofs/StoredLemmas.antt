@@ -12,9 +12,9 @@ use Rattle.blk_model.specs.Sizes.{handle_names}
 use Rattle.blk_model.specs.State.{is_number}
 use Rattle.blk_handles.specs.declared.open_object.OpenObject.{OpenObject}
 use Rattle.blk_handles.specs.declared.open_object.Released.TheVariants.{Last, More}
-use Rattle.blk_handles.specs.Bindings.{Binding, AreShared, binding_of, has_entry, is_open, name_count, open_with, object_for, with_change, distinct_count, entries_of, open_count, open_object}
-use Rattle.blk_handles.specs.Stored.{binding, shown, bindings_of, names_under, IsSound}
-use Rattle.blk_handles.specs.Objects.{IsStoredAt, IsClosed, AreDistinct}
+use Rattle.blk_handles.specs.Bindings.{Binding, AreShared, binding_of, has_entry, is_open, name_count, open_with, binding_for, with_change, distinct_count, entries_of, open_count, open_object}
+use Rattle.blk_handles.specs.Stored.{binding, shown, bindings_of, names_under, AreNamesStored}
+use Rattle.blk_handles.specs.Objects.{IsObjectOf, IsClosed, AreDistinct}
 use Rattle.blk_handles.proofs.Basics.{some-inj, none-is-some, same-number, apart}
 use Rattle.blk_handles.proofs.SlotLemmas.{same-slots, list_any-map, count_by-map, list_any-same, count_by-same, list_any-counted, list_any-uncounted, not-counted, counted, count_by-set, distinct_count-set, distinct_count-free}
 
@@ -88,7 +88,7 @@ module _ (s : Slab OpenObject) where
           rw (slot-has (Some j), e) (ap (option_map binding) at-j)
 
   -- names of one record are bound to one object
-  pub are-shared : (ns : List (Option ℕ)) → IsSound ns s → AreShared (bindings_of ns s)
+  pub are-shared : (ns : List (Option ℕ)) → AreNamesStored ns s → AreShared (bindings_of ns s)
   are-shared ns sound = record {
     names = length-map ns (shown s) ∙ sound.all_names;
     shared = λ name other a b at-a at-b same. one (get_or ns name None) (get_or ns other None) a b (sym (binding-at s ns name) ∙ at-a) (sym (binding-at s ns other) ∙ at-b) same;
@@ -162,7 +162,7 @@ module _ (s t : Slab OpenObject) (k : ℕ) (o new : OpenObject) (here : get s k 
 other-key : (j k : ℕ) → j ≢ k → is_number j None ≡ is_number j (Some k)
 other-key j k other = sym (apart j k other)
 
-module _ (ns : List (Option ℕ)) (s : Slab OpenObject) (sound : IsSound ns s) where
+module _ (ns : List (Option ℕ)) (s : Slab OpenObject) (sound : AreNamesStored ns s) where
   -- a name that is bound
   pub within : (name : ℕ) → name < handle_names → name < length ns
   within name small = omega (arith, small, sound.all_names)
@@ -213,7 +213,7 @@ module _ (ns : List (Option ℕ)) (s : Slab OpenObject) (sound : IsSound ns s) w
     names-here = ap (λ p. option_map_or (λ (x : OpenObject). x.names) p 0) updates.changed
 
     -- the object under one key changes, and not the number of its names
-    pub sound-change : option_map_or (λ o. o.names) slot 0 ≡ names_under s k → slab_len t ≡ slab_len s → IsSound ns t
+    pub sound-change : option_map_or (λ o. o.names) slot 0 ≡ names_under s k → slab_len t ≡ slab_len s → AreNamesStored ns t
     sound-change same len = record {
       all_names = sound.all_names;
       distinct = distinct;
@@ -230,7 +230,7 @@ module _ (ns : List (Option ℕ)) (s : Slab OpenObject) (sound : IsSound ns s) w
         → ((j : ℕ) → j ≢ k → is_number j (get_or ns name None) ≡ is_number j key)
         → option_map_or (λ o. o.names) slot 0 + cond (is_number k (get_or ns name None)) 1 0 ≡ names_under s k + cond (is_number k key) 1 0
         → slab_len t ≡ distinct_count (set ns name key)
-        → IsSound (set ns name key) t
+        → AreNamesStored (set ns name key) t
     sound-written name key small others here count = record {
       all_names = length-set ns name key ∙ sound.all_names;
       distinct = distinct;
@@ -246,7 +246,7 @@ module _ (ns : List (Option ℕ)) (s : Slab OpenObject) (sound : IsSound ns s) w
 
   module _ (name k : ℕ) (small : name < handle_names) (free : get_or ns name None ≡ None) (t : Slab OpenObject) (new : OpenObject) (updates : Updates s t k (Some new)) (distinct : AreDistinct t) where
     -- a free name joins an object
-    pub sound-join : (o : OpenObject) → get s k ≡ Some o → new.names ≡ o.names + 1 → slab_len t ≡ slab_len s → IsSound (set ns name (Some k)) t
+    pub sound-join : (o : OpenObject) → get s k ≡ Some o → new.names ≡ o.names + 1 → slab_len t ≡ slab_len s → AreNamesStored (set ns name (Some k)) t
     sound-join o here more len =
         sound-written t k (Some new) updates distinct (λ p is. rw (← some-inj is) (omega (arith, more))) name (Some k) small
         (λ j other. rw free (other-key j k other))
@@ -254,7 +254,7 @@ module _ (ns : List (Option ℕ)) (s : Slab OpenObject) (sound : IsSound ns s) w
         (omega (arith, len, sound.object_count, distinct_count-set ns name k (within name small) free, ap {B = ℕ} (λ b. cond b 0 1) (object-named k o here)))
 
     -- a free name opens an object
-    pub sound-add : get s k ≡ None → new.names ≡ 1 → slab_len t ≡ slab_len s + 1 → IsSound (set ns name (Some k)) t
+    pub sound-add : get s k ≡ None → new.names ≡ 1 → slab_len t ≡ slab_len s + 1 → AreNamesStored (set ns name (Some k)) t
     sound-add vacant one len =
         sound-written t k (Some new) updates distinct (λ p is. rw (← some-inj is) (omega (arith, one))) name (Some k) small
         (λ j other. rw free (other-key j k other))
@@ -282,7 +282,7 @@ module _ (ns : List (Option ℕ)) (s : Slab OpenObject) (sound : IsSound ns s) w
     keys-left = ap distinct_count (sym written-back) ∙ distinct_count-set (set ns name None) name k (omega (arith, length-set ns name None, within name small)) freed
 
     -- one of several names of an object is released
-    pub sound-leave : (new : OpenObject) → Updates s t k (Some new) → new.names + 1 ≡ o.names → 0 < new.names → slab_len t ≡ slab_len s → IsSound (set ns name None) t
+    pub sound-leave : (new : OpenObject) → Updates s t k (Some new) → new.names + 1 ≡ o.names → 0 < new.names → slab_len t ≡ slab_len s → AreNamesStored (set ns name None) t
     sound-leave new updates less some len =
         sound-written t k (Some new) updates distinct (λ p e. rw (← some-inj e) some) name None small
         (λ j other. rw is (sym (other-key j k other)))
@@ -290,7 +290,7 @@ module _ (ns : List (Option ℕ)) (s : Slab OpenObject) (sound : IsSound ns s) w
         (omega (arith, len, sound.object_count, keys-left, ap {B = ℕ} (λ b. cond b 0 1) (list_any-counted (is_number k) (set ns name None) (omega (arith, recounted, less, some)))))
 
     -- the last name of an object is released, and the object is taken out
-    pub sound-last : o.names ≡ 1 → Updates s t k None → slab_len t + 1 ≡ slab_len s → IsSound (set ns name None) t
+    pub sound-last : o.names ≡ 1 → Updates s t k None → slab_len t + 1 ≡ slab_len s → AreNamesStored (set ns name None) t
     sound-last one updates len =
         sound-written t k None updates distinct (λ p e. absurd (none-is-some {A = OpenObject} None refl e)) name None small
         (λ j other. rw is (sym (other-key j k other)))
@@ -354,10 +354,10 @@ module _ (ns : List (Option ℕ)) (s : Slab OpenObject) (sound : IsSound ns s) w
   bound-slot name k o is here = binding-at s ns name ∙ ap (shown s) is ∙ ap (option_map binding) here
 
 -- the object under a key has the record that it is stored with
-pub entry-is : (s : Slab OpenObject) (entry k : ℕ) → IsStoredAt s entry k → (o : OpenObject) → get s k ≡ Some o → o.entry ≡ entry
+pub entry-is : (s : Slab OpenObject) (entry k : ℕ) → IsObjectOf s entry k → (o : OpenObject) → get s k ≡ Some o → o.entry ≡ entry
 entry-is s entry k at o here = ap (λ (x : OpenObject). x.entry) (some-inj (sym here ∙ at.here)) ∙ at.has_entry
 
-module _ (ns : List (Option ℕ)) (s : Slab OpenObject) (sound : IsSound ns s) (entry k : ℕ) (at : IsStoredAt s entry k) (o : OpenObject) (here : get s k ≡ Some o) where
+module _ (ns : List (Option ℕ)) (s : Slab OpenObject) (sound : AreNamesStored ns s) (entry k : ℕ) (at : IsObjectOf s entry k) (o : OpenObject) (here : get s k ≡ Some o) where
   -- a stored object is the open object with its record
   pub opened : open_with (bindings_of ns s) entry ≡ Some (binding o)
   opened = subst (λ e. open_with (bindings_of ns s) e ≡ Some (binding o)) (entry-is s entry k at o here) (with-here s sound.distinct k o here ns (object-named ns s sound k o here))
@@ -367,20 +367,20 @@ module _ (ns : List (Option ℕ)) (s : Slab OpenObject) (sound : IsSound ns s) (
 
 -- What calls leave.
 
-module _ (ns : List (Option ℕ)) (s : Slab OpenObject) (sound : IsSound ns s) (entry node : ℕ) (dirty : Bool) where
+module _ (ns : List (Option ℕ)) (s : Slab OpenObject) (sound : AreNamesStored ns s) (entry node : ℕ) (dirty : Bool) where
   -- a name joins the open object with the record
-  pub binds-open : (t : Slab OpenObject) (name k : ℕ) → IsStoredAt s entry k → (o new : OpenObject) → get s k ≡ Some o → Updates s t k (Some new) → binding new ≡ binding o
-      → bindings_of (set ns name (Some k)) t ≡ set (bindings_of ns s) name (Some (object_for (bindings_of ns s) entry node dirty))
+  pub binds-open : (t : Slab OpenObject) (name k : ℕ) → IsObjectOf s entry k → (o new : OpenObject) → get s k ≡ Some o → Updates s t k (Some new) → binding new ≡ binding o
+      → bindings_of (set ns name (Some k)) t ≡ set (bindings_of ns s) name (Some (binding_for (bindings_of ns s) entry node dirty))
   binds-open t name k at o new here updates same =
       rw (opened ns s sound entry k at o here) (shown-join ns s sound t name k o new here updates same)
 
   -- a name opens the object with the record
   pub binds-new : IsClosed s entry → (t : Slab OpenObject) (name k : ℕ) (new : OpenObject) → get s k ≡ None → Updates s t k (Some new) → binding new ≡ record { entry = entry; node = node; doomed = false; dirty = dirty }
-      → bindings_of (set ns name (Some k)) t ≡ set (bindings_of ns s) name (Some (object_for (bindings_of ns s) entry node dirty))
+      → bindings_of (set ns name (Some k)) t ≡ set (bindings_of ns s) name (Some (binding_for (bindings_of ns s) entry node dirty))
   binds-new closed t name k new vacant updates is =
       rw (closed-with s entry closed ns) (shown-add ns s sound t name k new vacant updates ∙ ap (λ b. set (bindings_of ns s) name (Some b)) is)
 
-module _ (ns : List (Option ℕ)) (s : Slab OpenObject) (sound : IsSound ns s) where
+module _ (ns : List (Option ℕ)) (s : Slab OpenObject) (sound : AreNamesStored ns s) where
   -- the object that a name is bound to, as it is told
   pub object-free : (name : ℕ) → get_or ns name None ≡ None → None ≡ option_map (open_object (bindings_of ns s)) (binding_of (bindings_of ns s) name)
   object-free name free = rw (binding-at s ns name, free) refl
@@ -394,11 +394,11 @@ module _ (ns : List (Option ℕ)) (s : Slab OpenObject) (sound : IsSound ns s) w
   pub object-closed : (entry : ℕ) → IsClosed s entry → None ≡ option_map (open_object (bindings_of ns s)) (open_with (bindings_of ns s) entry)
   object-closed entry closed = rw (closed-with s entry closed ns) refl
 
-  pub object-open : (entry k : ℕ) → IsStoredAt s entry k → get s k ≡ option_map (open_object (bindings_of ns s)) (open_with (bindings_of ns s) entry)
+  pub object-open : (entry k : ℕ) → IsObjectOf s entry k → get s k ≡ option_map (open_object (bindings_of ns s)) (open_with (bindings_of ns s) entry)
   object-open entry k at = rw (opened ns s sound entry k at at.object at.here) (at.here ∙ ap Some (sym (told ns s sound k at.object at.here)))
 
   -- a record is pinned exactly where the map has a key for it
-  pub pinned : (entry : ℕ) (key : Option ℕ) → IfSome key (IsStoredAt s entry) → IfNone key (IsClosed s entry) → is_some key ≡ is_open (bindings_of ns s) entry
+  pub pinned : (entry : ℕ) (key : Option ℕ) → IfSome key (IsObjectOf s entry) → IfNone key (IsClosed s entry) → is_some key ≡ is_open (bindings_of ns s) entry
   pinned entry None at closed = sym (closed-open s entry closed ns)
   pinned entry (Some k) at closed = sym (is-opened ns s sound entry k at at.object at.here)
 
@@ -427,7 +427,7 @@ pub shown-free : (s : Slab OpenObject) (n : ℕ) → bindings_of (replicate n No
 shown-free s zero = refl
 shown-free s (suc n) = ap (λ bs. None ∷ bs) (shown-free s n)
 
-pub sound-free : (s : Slab OpenObject) (n : ℕ) → n ≡ handle_names → s.slots ≡ [] → IsSound (replicate n None) s
+pub sound-free : (s : Slab OpenObject) (n : ℕ) → n ≡ handle_names → s.slots ≡ [] → AreNamesStored (replicate n None) s
 sound-free s n all empty = record {
   all_names = length-replicate n None ∙ all;
   distinct = λ j k a b at-j at-k same. absurd (none-is-some (get s j) (vacant j) at-j);
@@ -438,9 +438,9 @@ sound-free s n all empty = record {
   vacant : (key : ℕ) → get s key ≡ None
   vacant key = rw empty refl
 
-module _ (ns : List (Option ℕ)) (s : Slab OpenObject) (sound : IsSound ns s) (t : Slab OpenObject) (distinct : AreDistinct t) where
+module _ (ns : List (Option ℕ)) (s : Slab OpenObject) (sound : AreNamesStored ns s) (t : Slab OpenObject) (distinct : AreDistinct t) where
   -- an object with as many names as before
-  pub sound-marked : (k : ℕ) (o new : OpenObject) → get s k ≡ Some o → Updates s t k (Some new) → new.names ≡ o.names → slab_len t ≡ slab_len s → IsSound ns t
+  pub sound-marked : (k : ℕ) (o new : OpenObject) → get s k ≡ Some o → Updates s t k (Some new) → new.names ≡ o.names → slab_len t ≡ slab_len s → AreNamesStored ns t
   sound-marked k o new here updates same len =
       sound-change ns s sound t k (Some new) updates distinct (λ p is. rw (← some-inj is) (omega (arith, same, sound.some_name k o here))) (same ∙ ap (λ p. option_map_or (λ (x : OpenObject). x.names) p 0) (sym here)) len
 

@@ -49,12 +49,12 @@ open_with [] entry = None
 open_with (slot ∷ rest) entry = if has_entry entry slot then slot else open_with rest entry
 
 -- what a name is to be bound to: the open object with the record, or else a new one, which isn't doomed
-abbrev pub object_for : Bindings → ℕ → ℕ → Bool → Binding
-object_for bindings entry node dirty = unwrap_or (open_with bindings entry) (record { entry = entry; node = node; doomed = false; dirty = dirty })
+abbrev pub binding_for : Bindings → ℕ → ℕ → Bool → Binding
+binding_for bindings entry node dirty = unwrap_or (open_with bindings entry) (record { entry = entry; node = node; doomed = false; dirty = dirty })
 
 -- an object with other marks, or doomed
-abbrev pub with_marks : Bool → Bool → Binding → Binding
-with_marks doomed dirty object = record object { doomed = doomed; dirty = dirty }
+abbrev pub with_status : Bool → Bool → Binding → Binding
+with_status doomed dirty object = record object { doomed = doomed; dirty = dirty }
 
 abbrev pub with_doom : Binding → Binding
 with_doom object = record object { doomed = true }

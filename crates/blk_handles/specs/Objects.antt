@@ -3,10 +3,10 @@ use Rattle.std.specs.Prelude.{◌≡◌, ◌≢◌, ℕ, List, length, Some}
 use Rattle.slab.specs.Slab.{Slab, get, slab_len}
 use Rattle.blk_handles.specs.declared.open_object.OpenObject.{OpenObject}
 use Rattle.blk_handles.specs.declared.key_map.RecordKey.{RecordKey}
-use Rattle.blk_handles.specs.KeyMap.{key_of}
+use Rattle.blk_handles.specs.KeyMap.{key_for}
 
 -- the object with a record is stored under a key
-pub record IsStoredAt (objects : Slab OpenObject) (entry key : ℕ) : Type 0 where
+pub record IsObjectOf (objects : Slab OpenObject) (entry key : ℕ) : Type 0 where
   pub object : OpenObject
   pub here : get objects key ≡ Some object
   pub has_entry : object.entry ≡ entry
@@ -21,6 +21,6 @@ AreDistinct objects = (j k : ℕ) (a b : OpenObject) → get objects j ≡ Some 
 
 -- a map gives for each record the key of its object, if there is one
 pub record IsIndexOf (keys : List RecordKey) (objects : Slab OpenObject) : Type 0 where
-  pub stored : (entry key : ℕ) → key_of keys entry ≡ Some key → IsStoredAt objects entry key
-  pub found : (key : ℕ) (object : OpenObject) → get objects key ≡ Some object → key_of keys object.entry ≡ Some key
+  pub stored : (entry key : ℕ) → key_for keys entry ≡ Some key → IsObjectOf objects entry key
+  pub found : (key : ℕ) (object : OpenObject) → get objects key ≡ Some object → key_for keys object.entry ≡ Some key
   pub count : length keys ≡ slab_len objects

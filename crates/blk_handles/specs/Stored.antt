@@ -26,7 +26,7 @@ abbrev pub names_under : Slab OpenObject → ℕ → ℕ
 names_under objects key = option_map_or (λ object. object.names) (get objects key) 0
 
 -- no two objects have one record; each object counts its names, of which it has one at least, and each key that a name has is that of an object
-pub record IsSound (names : List (Option ℕ)) (objects : Slab OpenObject) : Type 0 where
+pub record AreNamesStored (names : List (Option ℕ)) (objects : Slab OpenObject) : Type 0 where
   pub all_names : length names ≡ handle_names
   pub distinct : AreDistinct objects
   pub counted : (key : ℕ) → names_under objects key ≡ count_by (is_number key) names

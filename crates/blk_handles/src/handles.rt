@@ -2,7 +2,7 @@
 ghost use Rattle.std.specs.Prelude.{◌≡◌, ◌<◌, Some, None, IsSome, IfSome, IfOk, is_some, position, slice_set, slice_index_or, if◌then◌else◌};
 ghost use Rattle.std.specs.Option.{option_map, ForSome};
 ghost use Rattle.blk_model.specs.Sizes.{handle_names};
-ghost use Rattle.blk_handles.specs.Bindings.{AreShared, all_free, binding_of, is_open, open_with, object_for, with_change, with_marks, with_doom, open_count, open_object};
+ghost use Rattle.blk_handles.specs.Bindings.{AreShared, all_free, binding_of, is_open, open_with, binding_for, with_change, with_status, with_doom, open_count, open_object};
 
 use crate::objects::Objects;
 use crate::open_object::{OpenObject, Released};
@@ -30,11 +30,11 @@ impl Model for Handles {
 
     ghost Value = { Bindings };
 
-    ghost use Rattle.blk_handles.specs.Stored.{bindings_of, IsSound};
+    ghost use Rattle.blk_handles.specs.Stored.{bindings_of, AreNamesStored};
 
     ghost view = { λ h. bindings_of h.names.items h.objects };
 
-    ghost invariant = { λ h. IsSound h.names.items h.objects };
+    ghost invariant = { λ h. AreNamesStored h.names.items h.objects };
 }
 
 impl Handles {
@@ -60,7 +60,7 @@ impl Handles {
         requires known { name < handle_names }
         requires free { binding_of self.old name ≡ None }
         requires same_node { ForSome (open_with self.old entry) (λ object. object.node ≡ node) }
-        ensures binds { self.new ≡ slice_set self.old name (Some (object_for self.old entry node dirty)) }
+        ensures binds { self.new ≡ slice_set self.old name (Some (binding_for self.old entry node dirty)) }
         ensures shared { AreShared self.new }
     {
         let slot = usize::from(name);
@@ -106,7 +106,7 @@ impl Handles {
     /// Sets both marks of the object that a name is bound to, for all its names.
     pub fn mark(&mut self, name: u16, doomed: bool, dirty: bool)
         requires bound { IsSome (binding_of self.old name) }
-        ensures marks { IfSome (binding_of self.old name) (λ object. self.new ≡ with_change (with_marks doomed dirty) object.entry self.old) }
+        ensures marks { IfSome (binding_of self.old name) (λ object. self.new ≡ with_change (with_status doomed dirty) object.entry self.old) }
         ensures shared { AreShared self.new }
     {
         let Some(key) = key_at(&self.names, name) else {

@@ -1,7 +1,7 @@
 // A map from the records of open objects to the keys under which they are stored.
 ghost use Rattle.std.specs.Prelude.{◌≡◌, ◌≢◌, ℕ, ◌+◌, ◌<◌, [], length, Some, None, IsSome, IfOk, IfErr};
 ghost use Rattle.blk_model.specs.Sizes.{handle_names};
-ghost use Rattle.blk_handles.specs.KeyMap.{key_of, IsAt, IsGapFor, SetsOnly};
+ghost use Rattle.blk_handles.specs.KeyMap.{key_for, IsAt, IsGapFor, SetsOnly};
 
 use crate::handles::NAMES;
 use blk_addr::{Addr, NoMemory};
@@ -49,7 +49,7 @@ impl KeyMap {
 
     // The key of a record, if the map has it.
     pub fn key_of(&self, entry: Addr) -> Option<usize>
-        ensures { result ≡ key_of self.now entry }
+        ensures { result ≡ key_for self.now entry }
     {
         match self.search(entry) {
             Ok(at) => Some(self.sorted[at].key),
@@ -59,7 +59,7 @@ impl KeyMap {
 
     // Adds a record with its key.
     pub fn insert(&mut self, entry: Addr, key: usize)
-        requires absent { key_of self.old entry ≡ None }
+        requires absent { key_for self.old entry ≡ None }
         requires fits { length self.old < handle_names }
         ensures sets { SetsOnly self.old self.new entry (Some key) }
         ensures len { length self.new ≡ length self.old + 1 }
@@ -75,7 +75,7 @@ impl KeyMap {
 
     // Takes a record out.
     pub fn remove(&mut self, entry: Addr)
-        requires { IsSome (key_of self.old entry) }
+        requires { IsSome (key_for self.old entry) }
         ensures sets { SetsOnly self.old self.new entry None }
         ensures len { length self.new + 1 ≡ length self.old }
     {

@@ -8,8 +8,6 @@ mod handles;
 mod key_map;
 mod objects;
 mod open_object;
-#[cfg(test)]
-mod tests;
 
 pub use handles::{Handles, NAMES};
 pub use open_object::{OpenObject, Released};

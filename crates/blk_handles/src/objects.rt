@@ -2,7 +2,7 @@
 ghost use Rattle.std.specs.Prelude.{◌≡◌, ◌+◌, ◌<◌, [], Some, None, IfSome, IfNone, IfOk};
 ghost use Rattle.slab.specs.Slab.{get, slab_len, ContainsKey, Updates};
 ghost use Rattle.blk_model.specs.Sizes.{handle_names};
-ghost use Rattle.blk_handles.specs.Objects.{IsStoredAt, IsClosed, AreDistinct};
+ghost use Rattle.blk_handles.specs.Objects.{IsObjectOf, IsClosed, AreDistinct};
 
 use crate::handles::NAMES;
 use crate::key_map::KeyMap;
@@ -55,7 +55,7 @@ impl Objects {
 
     // The key of the object with a record, if there is one.
     pub fn key_of(&self, entry: Addr) -> Option<usize>
-        ensures found { IfSome result (IsStoredAt self.now entry) }
+        ensures found { IfSome result (IsObjectOf self.now entry) }
         ensures absent { IfNone result (IsClosed self.now entry) }
     {
         self.keys.key_of(entry)
@@ -81,7 +81,7 @@ impl Objects {
 
     // Puts an object in the place of the one with its record.
     pub fn set(&mut self, key: usize, object: OpenObject)
-        requires { IsStoredAt self.old object.entry key }
+        requires { IsObjectOf self.old object.entry key }
         ensures updates { Updates self.old self.new key (Some object) }
         ensures len { slab_len self.new ≡ slab_len self.old }
         ensures distinct { AreDistinct self.new }

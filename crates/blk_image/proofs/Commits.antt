@@ -1,7 +1,7 @@
 -- Changes that take effect at one step.
 use Rattle.std.proofs.Common.{◌≡◌, ℕ, zero, suc, List, [], ◌∷◌, ◌++◌, Some, sym, ◌∙◌, subst}
 use Rattle.blk_image.specs.Image.{File, Image}
-use Rattle.blk_image.specs.Steps.{TrailStep, Word, SetLength, Delete, Note, applied, after, word_step}
+use Rattle.blk_image.specs.Steps.{TrailStep, applied, after, word_step}
 use Rattle.blk_image.specs.Told.{Told, AppliesPrefix, Along, IsQuiet, Passes, CommitsAt, Commits}
 use Rattle.blk_image.proofs.Runs.{grows_none, quiet_front, some_inj, until_front}
 

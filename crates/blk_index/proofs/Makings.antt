@@ -11,7 +11,7 @@ use Rattle.blk_image.proofs.Cuts.{word_steps-append}
 use Rattle.blk_image.proofs.Images.{same_file-true, with_file-other}
 use Rattle.blk_image.proofs.Orders.{before_past, before_trans}
 use Rattle.blk_image.proofs.Runs.{grows_then, part_only, part_then, part_whole, grows_none}
-use Rattle.blk_index.specs.Making.{Clears, ClearsUpTo, Lists, Makes, MakesPrefix, blank_steps, deletions, file_steps, files_steps, make_steps}
+use Rattle.blk_index.specs.Making.{Clears, ClearsUpTo, Lists, Makes, MakesPrefix, blank_steps, deletions, first_file_steps, files_steps, folder_steps}
 
 -- one file more is listed
 lists_more : (image : Image) (before : File) (files : List File) (last next : File) → Lists image before files last → IsNextFile image (Some last) (Some next) → Lists image before (files ++ next ∷ []) next
@@ -137,18 +137,18 @@ making_begun {a} {m} {b} blank clears = record {
   applies = subst (Applies a b) (sym (append-nil (blank_steps ++ deletions clears.deleted))) (grows_then blank clears.applies);
 }
 
-files_more : (n : ℕ) → files_steps (n + 1) ≡ files_steps n ++ file_steps n
+files_more : (n : ℕ) → files_steps (n + 1) ≡ files_steps n ++ first_file_steps n
 unfolding files_steps
 files_more n = let one : n + 1 ≡ suc n = omega arith in ap files_steps one
 
-pub making_more : {a b c : Told} (n : ℕ) → IsMaking a b n → Applies b c (file_steps n) → IsMaking a c (n + 1)
+pub making_more : {a b c : Told} (n : ℕ) → IsMaking a b n → Applies b c (first_file_steps n) → IsMaking a c (n + 1)
 making_more {a} {b} {c} n making applies = record {
   deleted = making.deleted;
   last = making.last;
   listed = making.listed;
   applies =
       subst (Applies a c)
-      (append_assoc (blank_steps ++ deletions making.deleted) (files_steps n) (file_steps n) ∙ ap (λ (s : List TrailStep). (blank_steps ++ deletions making.deleted) ++ s) (sym (files_more n)))
+      (append_assoc (blank_steps ++ deletions making.deleted) (files_steps n) (first_file_steps n) ∙ ap (λ (s : List TrailStep). (blank_steps ++ deletions making.deleted) ++ s) (sym (files_more n)))
       (grows_then making.applies applies);
 }
 
@@ -169,21 +169,21 @@ front_clear {a} {m} {b} {last} words blank cleared = record {
 }
 
 -- the block files after some of them
-files_left : (m n : ℕ) → n < m → (rest : List TrailStep) × (files_steps m ≡ (files_steps n ++ file_steps n) ++ rest)
+files_left : (m n : ℕ) → n < m → (rest : List TrailStep) × (files_steps m ≡ (files_steps n ++ first_file_steps n) ++ rest)
 unfolding files_steps
 files_left zero n small = absurd (omega arith)
 files_left (suc m) n small =
     ⊎_elim
-    (λ (below : n < m). let left = files_left m n below in (left.0 ++ file_steps m, ap (λ (s : List TrailStep). s ++ file_steps m) left.1 ∙ append_assoc (files_steps n ++ file_steps n) left.0 (file_steps m)))
-    (λ (upto : m ≤ n). let same : m ≡ n = omega arith in ([], ap (λ (k : ℕ). files_steps k ++ file_steps k) same ∙ sym (append-nil (files_steps n ++ file_steps n))))
+    (λ (below : n < m). let left = files_left m n below in (left.0 ++ first_file_steps m, ap (λ (s : List TrailStep). s ++ first_file_steps m) left.1 ∙ append_assoc (files_steps n ++ first_file_steps n) left.0 (first_file_steps m)))
+    (λ (upto : m ≤ n). let same : m ≡ n = omega arith in ([], ap (λ (k : ℕ). files_steps k ++ first_file_steps k) same ∙ sym (append-nil (files_steps n ++ first_file_steps n))))
     (cases_lt n m)
 
-pub front_file : {a b c : Told} (n : ℕ) (words : List (ℕ × ℕ)) → n < 4 → IsMaking a b n → AppliesPrefix b c (file_steps n) → MakesPrefix a c words
+pub front_file : {a b c : Told} (n : ℕ) (words : List (ℕ × ℕ)) → n < 4 → IsMaking a b n → AppliesPrefix b c (first_file_steps n) → MakesPrefix a c words
 front_file {a} {b} {c} n words small making front =
     let before : List TrailStep = blank_steps ++ deletions making.deleted in
     let left = files_left 4 n small in
-    let whole : (before ++ files_steps n) ++ file_steps n ++ left.0 ≡ before ++ files_steps 4 =
-    ap (λ (s : List TrailStep). s ++ left.0) (append_assoc before (files_steps n) (file_steps n)) ∙ append_assoc before (files_steps n ++ file_steps n) left.0 ∙ ap (λ (s : List TrailStep). before ++ s) (sym left.1) in
+    let whole : (before ++ files_steps n) ++ first_file_steps n ++ left.0 ≡ before ++ files_steps 4 =
+    ap (λ (s : List TrailStep). s ++ left.0) (append_assoc before (files_steps n) (first_file_steps n)) ∙ append_assoc before (files_steps n ++ first_file_steps n) left.0 ∙ ap (λ (s : List TrailStep). before ++ s) (sym left.1) in
     record {
       deleted = making.deleted;
       last = making.last;
@@ -203,7 +203,7 @@ front_words {a} {b} {c} n words all begun front = let making = subst (IsMaking a
 }
 
 -- one word more of the index
-word_more : (files : List File) (words : List (ℕ × ℕ)) (place value : ℕ) → make_steps files words ++ word_step Index place value ≡ make_steps files (words ++ (place, value) ∷ [])
+word_more : (files : List File) (words : List (ℕ × ℕ)) (place value : ℕ) → folder_steps files words ++ word_step Index place value ≡ folder_steps files (words ++ (place, value) ∷ [])
 word_more files words place value =
     let before : List TrailStep = (blank_steps ++ deletions files) ++ files_steps 4 in
     append_assoc before (word_steps Index words) (word_step Index place value)

@@ -1,5 +1,5 @@
 -- How a folder stands at the start.
-use Rattle.std.specs.Prelude.{◌≡◌, ◌≢◌, ◌≤◌, ◌<◌, ◌⊎◌, ℕ, List, length, ◌++◌, Result, Ok, Err, Option, None, Some}
+use Rattle.std.specs.Prelude.{◌≡◌, ◌≢◌, ◌≤◌, ◌⊎◌, ℕ, List, length, ◌++◌, Result, Ok, Err, Option, None, Some}
 use Rattle.blk_image.specs.Bytes.{content}
 use Rattle.blk_image.specs.Image.{Image, Index}
 use Rattle.blk_image.specs.Checks as checks
@@ -31,16 +31,12 @@ abbrev pub IsGiven : ℕ → ℕ → Type 0
 IsGiven size given = size ≡ index_length → header_length ≤ given
 
 -- the answer for a finished index of so many bytes, of which so many were given, and whose first damage is this, if it has any
-abbrev pub Judges : Option checks.Damage → ℕ → ℕ → Result Start Fault → Type 0
-Judges None size given answer = IsGiven size given → answer ≡ Ok Finished
-Judges (Some damage) size given answer = IsGiven size given → (found : Damage) × (answer ≡ Err (Damaged found)) × (damage_of found ≡ damage)
-
--- too few bytes of the header came: the damage has its place, and finds how many there were
-abbrev pub IsFew : ℕ → Damage → Type 0
-IsFew given damage = (given < header_length) × (damage_of damage ≡ record { file = Index; at = 0; found = given })
+abbrev pub AnswersIndexHeader : Option checks.Damage → ℕ → ℕ → Result Start Fault → Type 0
+AnswersIndexHeader None size given answer = IsGiven size given → answer ≡ Ok Finished
+AnswersIndexHeader (Some damage) size given answer = IsGiven size given → (found : Damage) × (answer ≡ Err (Damaged found)) × (damage_of found ≡ damage)
 
 -- this header and this length were read, of a finished index, and the damage is the first check of them that fails
-pub record IsFailedHeader (damage : Damage) : Type 0 where
+pub record FailsIndexCheck (damage : Damage) : Type 0 where
   pub header : List ℕ
   pub size : ℕ
   pub read : length header ≡ header_length
@@ -49,4 +45,4 @@ pub record IsFailedHeader (damage : Damage) : Type 0 where
 
 -- why a look finds a damage, whether or not the folder tells its files: too few bytes of the header came, or a check of what was read fails
 abbrev pub IsLookDamage : Told → Damage → Type 0
-IsLookDamage told damage = IsShort told names.Index 0 header_length damage ⊎ IsFailedHeader damage
+IsLookDamage told damage = IsShort told names.Index 0 header_length damage ⊎ FailsIndexCheck damage

@@ -1,7 +1,7 @@
 -- The answers of calls that read and check.
 use Rattle.std.specs.Prelude.{◌≡◌, ℕ, ◌-◌, ◌<◌, min, Result, Ok, Err}
 use Rattle.std.specs.Option.{ForSome}
-use Rattle.blk_image.specs.Image.{length_of}
+use Rattle.blk_image.specs.Image.{File, length_of}
 use Rattle.blk_image.specs.Told.{Told}
 use Rattle.blk_image.specs.Checks as checks
 use Rattle.blk_io.specs.declared.folder.FileId.{FileId}
@@ -32,3 +32,13 @@ pub record IsShort (told : Told) (file : FileId) (place count : ℕ) (damage : D
   pub at_place : damage.at ≡ place
   pub few : damage.found < count
   pub many : ForSome told.files (λ image. damage.found ≡ min count (length_of image (file_of file) - place))
+
+-- the same of a read at the front of a file, where so many bytes were given
+abbrev pub IsShortFront : File → (count given : ℕ) → Damage → Type 0
+IsShortFront file count given damage = (given < count) × (damage_of damage ≡ record { file = file; at = 0; found = given })
+
+-- a damage is that of a word at a place of a file
+pub record IsOfWord (file : FileId) (place found : ℕ) (damage : Damage) : Type 0 where
+  pub of_file : damage.file ≡ file
+  pub at_place : damage.at ≡ place
+  pub of_word : damage.found ≡ found

@@ -14,8 +14,8 @@ abbrev pub stop_counts : StopFolder → Counts
 stop_counts s = mem_counts s.inner
 
 -- how many steps may still pass
-abbrev pub left_of : StopFolder → ℕ
-left_of s = s.left
+abbrev pub steps_left : StopFolder → ℕ
+steps_left s = s.left
 
 -- how often it failed, inside or for want of steps
 abbrev pub stop_faults : StopFolder → ℕ
@@ -32,9 +32,9 @@ pub record IsStopped (old new : StopFolder) (failed : Bool) : Type 0 where
   pub fails : failed ≡ true
   pub told : stop_told new ≡ stop_told old
   pub counts : stop_counts new ≡ stop_counts old
-  pub left : left_of new ≡ left_of old
+  pub left : steps_left new ≡ steps_left old
 
 -- with no step left the call fails and changes nothing; otherwise it is counted inside, and this is the cause of a failure there
 pub record PassesOn (old new : StopFolder) (failed cause : Bool) : Type 0 where
-  pub stopped : left_of old ≡ 0 → IsStopped old new failed
-  pub passed : 0 < left_of old → CountsCall (stop_counts old) (stop_counts new) failed cause
+  pub stopped : steps_left old ≡ 0 → IsStopped old new failed
+  pub passed : 0 < steps_left old → CountsCall (stop_counts old) (stop_counts new) failed cause

@@ -21,13 +21,13 @@ pub struct StopFolder {
 
 impl StopFolder {
     ghost use Rattle.blk_io.specs.MemFolder.{mem_told, mem_counts};
-    ghost use Rattle.blk_io.specs.StopFolder.{stop_told, stop_counts, left_of};
+    ghost use Rattle.blk_io.specs.StopFolder.{stop_told, stop_counts, steps_left};
 
     /// Lets so many steps pass.
     pub fn new(inner: MemFolder, steps: u64) -> StopFolder
         ensures told { stop_told result ≡ mem_told inner }
         ensures counts { stop_counts result ≡ mem_counts inner }
-        ensures left { left_of result ≡ steps }
+        ensures left { steps_left result ≡ steps }
     {
         StopFolder {
             inner,
@@ -46,7 +46,7 @@ impl StopFolder {
 
     // Fails where no step is left.
     fn pass(&mut self) -> Result<(), Failed>
-        ensures exact { is_err result ≡ (left_of self.old == 0) }
+        ensures exact { is_err result ≡ (steps_left self.old == 0) }
         ensures inner { self.new.inner ≡ self.old.inner }
         ensures left { self.new.left ≡ self.old.left }
         ensures done { OnOk result (self.new.stops ≡ self.old.stops) }
@@ -62,7 +62,7 @@ impl StopFolder {
 }
 
 impl Folder for StopFolder {
-    ghost use Rattle.blk_io.specs.StopFolder.{stop_told, stop_counts, stop_faults, left_of, stop_agrees, stop_are_bytes, PassesOn};
+    ghost use Rattle.blk_io.specs.StopFolder.{stop_told, stop_counts, stop_faults, steps_left, stop_agrees, stop_are_bytes, PassesOn};
 
     ghost told = { stop_told };
 
@@ -78,7 +78,7 @@ impl Folder for StopFolder {
         ensures later { stop_faults self.old ≤ stop_faults self.new }
         ensures failed { OnErr result (Rises (stop_faults self.old) (stop_faults self.new)) }
         ensures passes { PassesOn self.old self.new (is_err result) (fails_next (stop_counts self.old)) }
-        ensures left { left_of self.new ≡ left_of self.old }
+        ensures left { steps_left self.new ≡ steps_left self.old }
     {
         self.pass()?;
         self.inner.length(file)
@@ -91,7 +91,7 @@ impl Folder for StopFolder {
         ensures later { stop_faults self.old ≤ stop_faults self.new }
         ensures failed { OnErr result (Rises (stop_faults self.old) (stop_faults self.new)) }
         ensures passes { PassesOn self.old self.new (is_err result) (fails_next (stop_counts self.old)) }
-        ensures left { left_of self.new ≡ left_of self.old }
+        ensures left { steps_left self.new ≡ steps_left self.old }
     {
         self.pass()?;
         self.inner.read_at(file, at, out)
@@ -103,12 +103,12 @@ impl Folder for StopFolder {
         ensures prefix { AppliesPrefix (stop_told self.old) (stop_told self.new) (words (file_of file) at bytes.now) }
         ensures later { stop_faults self.old ≤ stop_faults self.new }
         ensures failed { OnErr result (Rises (stop_faults self.old) (stop_faults self.new)) }
-        ensures passes { PassesOn self.old self.new (is_err result) (fails_next (stop_counts self.old) || nat_lt (left_of self.old) (length (words (file_of file) at bytes.now))) }
+        ensures passes { PassesOn self.old self.new (is_err result) (fails_next (stop_counts self.old) || nat_lt (steps_left self.old) (length (words (file_of file) at bytes.now))) }
 
         // The words that last are as many as are left, or fewer where a listed failure says so.
-        ensures lasted { FindsMemory (stop_counts self.old) (stop_counts self.new) → Applies (stop_told self.old) (stop_told self.new) (take (lasting (next_failure (stop_counts self.old)) (left_of self.old)) (words (file_of file) at bytes.now)) }
+        ensures lasted { FindsMemory (stop_counts self.old) (stop_counts self.new) → Applies (stop_told self.old) (stop_told self.new) (take (lasting (next_failure (stop_counts self.old)) (steps_left self.old)) (words (file_of file) at bytes.now)) }
         ensures lacking { (stop_counts self.old).lacks < (stop_counts self.new).lacks → Stays (stop_told self.old) (stop_told self.new) }
-        ensures left { UsesUp (stop_told self.old) (stop_told self.new) (words (file_of file) at bytes.now) (left_of self.old) (left_of self.new) }
+        ensures left { UsesUp (stop_told self.old) (stop_told self.new) (words (file_of file) at bytes.now) (steps_left self.old) (steps_left self.new) }
     {
         self.pass()?;
         self.inner.write_within(&mut self.left, file, at, bytes)
@@ -120,7 +120,7 @@ impl Folder for StopFolder {
         ensures later { stop_faults self.old ≤ stop_faults self.new }
         ensures failed { OnErr result (Rises (stop_faults self.old) (stop_faults self.new)) }
         ensures passes { PassesOn self.old self.new (is_err result) (fails_next (stop_counts self.old)) }
-        ensures left { left_of self.new + (if is_ok result then 1 else 0) ≡ left_of self.old }
+        ensures left { steps_left self.new + (if is_ok result then 1 else 0) ≡ steps_left self.old }
     {
         self.pass()?;
         self.inner.set_len(file, length)?;
@@ -134,7 +134,7 @@ impl Folder for StopFolder {
         ensures later { stop_faults self.old ≤ stop_faults self.new }
         ensures failed { OnErr result (Rises (stop_faults self.old) (stop_faults self.new)) }
         ensures passes { PassesOn self.old self.new (is_err result) (fails_next (stop_counts self.old)) }
-        ensures left { left_of self.new + (if is_ok result then 1 else 0) ≡ left_of self.old }
+        ensures left { steps_left self.new + (if is_ok result then 1 else 0) ≡ steps_left self.old }
     {
         self.pass()?;
         self.inner.delete(file)?;
@@ -149,7 +149,7 @@ impl Folder for StopFolder {
         ensures later { stop_faults self.old ≤ stop_faults self.new }
         ensures failed { OnErr result (Rises (stop_faults self.old) (stop_faults self.new)) }
         ensures passes { PassesOn self.old self.new (is_err result) (fails_next (stop_counts self.old)) }
-        ensures left { left_of self.new ≡ left_of self.old }
+        ensures left { steps_left self.new ≡ steps_left self.old }
     {
         self.pass()?;
         self.inner.list(after)
@@ -161,7 +161,7 @@ impl Folder for StopFolder {
         ensures later { stop_faults self.old ≤ stop_faults self.new }
         ensures failed { OnErr result (Rises (stop_faults self.old) (stop_faults self.new)) }
         ensures passes { PassesOn self.old self.new (is_err result) (fails_next (stop_counts self.old)) }
-        ensures left { left_of self.new + (if is_ok result then 1 else 0) ≡ left_of self.old }
+        ensures left { steps_left self.new + (if is_ok result then 1 else 0) ≡ steps_left self.old }
     {
         self.pass()?;
         self.inner.note(answered)?;

@@ -1,5 +1,5 @@
 -- States without one object, and with one object changed.
-use Rattle.std.proofs.Common.{◌≡◌, ◌≢◌, ℕ, List, refl, ap, sym, ◌∙◌, subst, true, false, Option, Some, None, ⊎_elim}
+use Rattle.std.proofs.Common.{◌≡◌, ◌≢◌, ℕ, ◌+◌, List, refl, ap, sym, ◌∙◌, subst, arith, true, false, Option, Some, None, ⊎_elim}
 use Rattle.std.specs.Prelude.{not, slice_set}
 use Rattle.std.specs.Option.{option_and_then, option_map}
 use Rattle.std.specs.Str.{bytes_eq}
@@ -7,9 +7,11 @@ use Rattle.std.proofs.lemmas.Bool.{and_parts, cases_eq}
 use Rattle.blk_image.proofs.Runs.{some_inj}
 use Rattle.blk_model.specs.Effects.{doomed, doomed_slot, with_slot}
 use Rattle.blk_model.specs.Holding as model
-use Rattle.blk_model.specs.Items.{Item, main, part, same_item}
+use Rattle.blk_model.specs.Items.{Item, main, main_row, part, same_item}
 use Rattle.blk_model.specs.State.{State, Object, IsValidState, has_item, is_named, object_at, slot_has_item}
 use Rattle.blk_model.specs.Totals.{is_doomed_slot}
+use Rattle.blk_model.proofs.Slots.{first_with_found}
+use Rattle.blk_model.proofs.States.{has_main}
 use Rattle.blk_volume.specs.Layout.{OneChanged, is_listed, settled_with}
 use Rattle.blk_volume.specs.Removal.{is_of_another, without_items}
 use Rattle.blk_laws.proofs.states.Changing.{first_with-set}
@@ -144,5 +146,13 @@ module _ (state : State) (number : ℕ) (object other : Object) (here : object_a
         (cases_eq n number);
   }
 
+  -- the main item has the new value
+  its-row : IsValidState state → model.row_of now (main object.key) ≡ Some (main_row object.key other.shape other.streams)
+  unfolding model.row_of
+  its-row valid =
+      let owner_is : model.owner state (main object.key) ≡ Some (0 + number) = first_with_found (main object.key) 0 number state.objects (ap (slot_has_item (main object.key)) here ∙ has_main object live) (omega (arith, valid.listed (main object.key), valid.once (main object.key))) in
+      ap (λ (w : Option ℕ). option_and_then (λ o. model.row_in o (main object.key)) (option_and_then (object_at now) w)) (owner-same (main object.key) ∙ owner_is)
+      ∙ ap (λ (o : Option Object). option_and_then (λ o. model.row_in o (main object.key)) o) (ap (object_at now) (let e : 0 + number ≡ number = omega arith in e) ∙ set-at state number object other here)
+
 pub main-changed : ObjectsChangeTheirMainItem
-main-changed state number object other here live lives key_is parts_are = one-changed state number object other here live lives key_is parts_are
+main-changed state number object other here live lives key_is parts_are = (one-changed state number object other here live lives key_is parts_are, its-row state number object other here live lives key_is parts_are)

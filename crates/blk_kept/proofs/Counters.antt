@@ -3,9 +3,10 @@ use Rattle.std.proofs.Common.{◌≡◌, ℕ, [], refl, ◌∙◌, subst, true, 
 use Rattle.std.specs.Prelude.{◌==◌, ◌%◌, ◌<◌}
 use Rattle.std.proofs.lemmas.Bool.{cases_Bool, eqb-true}
 use Rattle.blk_format.specs.BlockFiles.{is_among}
+use Rattle.blk_format.specs.Headers.{counter_places}
 use Rattle.blk_laws.specs.IndexWrites.{checked_words, shown_words}
 use Rattle.blk_kept.specs.ChangeLaws.{kept_words}
-use Rattle.blk_kept.specs.CounterLaws.{CountersMayBeWritten, WrittenCountersCount, counter_places}
+use Rattle.blk_kept.specs.CounterLaws.{CountersMayBeWritten, WrittenCountersCount}
 use Rattle.blk_kept.proofs.Free.{unlinked-change}
 use Rattle.blk_kept.proofs.Writes.{index-words, other-word}
 

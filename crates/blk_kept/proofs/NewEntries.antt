@@ -25,7 +25,7 @@ use Rattle.blk_format.specs.Sealed.{record_range}
 use Rattle.blk_format.proofs.Among.{is_among-append}
 use Rattle.blk_format.proofs.Finished.{well_formed-finished}
 use Rattle.blk_laws.specs.CommandLaws.{IsWrittenApart}
-use Rattle.blk_volume.specs.Chains.{bucket_of_hash}
+use Rattle.blk_volume.specs.Chains.{bucket_of_hash, bucket_at}
 use Rattle.blk_volume.specs.Completion.{insert}
 use Rattle.blk_volume.specs.Creation.{linked_front, with_new}
 use Rattle.blk_volume.specs.Found.{charge_of, completed, row_of_loaded}
@@ -58,7 +58,7 @@ use Rattle.blk_laws.proofs.lists.WriteSteps.{checked-kind}
 use Rattle.blk_kept.specs.Arranging.{IsArranged, LeavesFiles}
 use Rattle.blk_kept.specs.Changes.{Finds}
 use Rattle.blk_kept.specs.Keeping.{AllAreSealed, AreMarkedBy, KeepsUncounted, all_loaded, all_nodes, words_in_use}
-use Rattle.blk_kept.specs.NewEntryLaws.{InsertsFindTheSame, IsInsertDone, IsLinkedInFront, IsNewEntryOf, LinksFindTheSame, NewEntriesAreKept, NewEntriesAreOneMore, bucket_at}
+use Rattle.blk_kept.specs.NewEntryLaws.{InsertsFindTheSame, IsInsertDone, HasRecordInFront, IsNewEntryOf, LinksFindTheSame, NewEntriesAreKept, NewEntriesAreOneMore}
 use Rattle.blk_kept.proofs.Arranging.{rearranged}
 use Rattle.blk_kept.proofs.Headers.{stand-same}
 use Rattle.blk_kept.proofs.Leaving.{leaves-files, leaves-then}
@@ -118,7 +118,7 @@ module _ (state : State) (layout : Layout) (unlinked key : List ℕ) (l : Loaded
       ap (λ (h : ℕ). bucket_of_hash h) (ap (λ (x : RecordFields). x.hash) (shown-fields image l.contents e here) ∙ eqb-true e.hash (hash l.key) f.facts.keyed.hashed))
 
 module _ (state : State) (layout : Layout) (unlinked key : List ℕ) (l : Loaded) (handle : ℕ) (from between image : Image) (k : KeepsUncounted state layout unlinked from) (n : IsNewEntryOf state layout key l from)
-    (inserted : IsInsertDone from l.node between) (linked : IsLinkedInFront between l.contents image) where
+    (inserted : IsInsertDone from l.node between) (linked : HasRecordInFront between l.contents image) where
   order_is : order (created handle key state) (with_new layout key l) ≡ l.node ∷ order state layout
   order_is = order-after state layout k.represents.holds.lies (store_of from) handle key l n.entry n.missing
 
@@ -187,7 +187,7 @@ table-seals b from image l same s = record {
   bytes w = λ j i. same.bytes (Block (file_selector w)) i refl j
 
 module _ (state : State) (layout : Layout) (unlinked key : List ℕ) (l : Loaded) (handle : ℕ) (from between image : Image) (k : KeepsUncounted state layout (words_of l ++ unlinked) from) (n : IsNewEntryOf state layout key l from)
-    (valid : IsValidState (created handle key state)) (inserted : IsInsertDone from l.node between) (linked : IsLinkedInFront between l.contents image) where
+    (valid : IsValidState (created handle key state)) (inserted : IsInsertDone from l.node between) (linked : HasRecordInFront between l.contents image) where
   abbrev writes : List ListWrite
   writes = writes_of insert l.node (list_of from)
 

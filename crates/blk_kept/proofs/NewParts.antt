@@ -43,7 +43,7 @@ use Rattle.blk_laws.proofs.states.OthersHold.{laid-chained}
 use Rattle.blk_laws.proofs.walks.Loading.{load-from, load-one, load-clean}
 use Rattle.blk_laws.proofs.walks.Loads.{load-then}
 use Rattle.blk_laws.proofs.walks.Shown.{role-name}
-use Rattle.blk_kept.specs.NewPartLaws.{with_bit, with_bit_of, with_part, IsPartWritten, is_part_or_parent, IsMidPart, NewPartsHoldTheOthers, NewPartsAreAtRest, NewPartsAtEachWrite, NewPartsEnd, NewPartsAreLinked, NotedParentsAreChanges, IsOfParent, ParentsDataMayChange}
+use Rattle.blk_kept.specs.NewPartLaws.{with_bit, with_bit_of, with_new_part, IsPartWritten, is_part_or_parent, IsMidPart, NewPartsHoldTheOthers, NewPartsAreAtRest, NewPartsAtEachWrite, NewPartsEnd, NewPartsAreLinked, NotedParentsAreChanges, IsOfParent, ParentsDataMayChange}
 
 -- a record loads by itself whatever the table says
 load-table : (v : StoreView) (t : ℕ → ℕ) (rule : Rule) (w : ℕ) (l : Loaded) → rule.chained ≡ false → load v rule w ≡ Ok l → load (record v { table = t }) rule w ≡ Ok l
@@ -91,7 +91,7 @@ module _ (v : View) (m : State) (objects : List (Option Object)) (y : Layout) (k
   lies-bit = lies-changed m m.objects y (main key) was seen y.owner made.represents.holds.lies (record { rows = λ other e. refl; settled = λ k e. refl; doomed_same = λ number o is dead. is }) made.listed made.at_parent made.noted
 
   -- and with the part one of the state with the part
-  pub lies-part : IsLayoutOf (with_first m objects (part key n)) (with_part y key n seen l)
+  pub lies-part : IsLayoutOf (with_first m objects (part key n)) (with_new_part y key n seen l)
   lies-part = item-lies m objects (with_bit y key seen) (part key n) l lies-bit made.changed made.new
 
   -- nodes apart
@@ -106,18 +106,18 @@ module _ (v : View) (m : State) (objects : List (Option Object)) (y : Layout) (k
       (eqb_tells l.node (y.place (main key)))
 
   -- what lies elsewhere
-  at-other : (w : ℕ) (x : Loaded) → is_part_or_parent y key l w ≡ false → (with_part y key n seen l).at w ≡ Some x → y.at w ≡ Some x
+  at-other : (w : ℕ) (x : Loaded) → is_part_or_parent y key l w ≡ false → (with_new_part y key n seen l).at w ≡ Some x → y.at w ≡ Some x
   at-other w x out is =
       let both = or-false (l.node == w) (y.place (main key) == w) out in
       sym (at-elsewhere y.at (y.place (main key)) (Some seen) w both.1) ∙ sym (at-elsewhere (put y.at (y.place (main key)) (Some seen)) l.node (Some l) w both.0) ∙ is
 
-  rule-other : (w : ℕ) → (l.node == w) ≡ false → rule_of (with_part y key n seen l) w ≡ rule_of y w
+  rule-other : (w : ℕ) → (l.node == w) ≡ false → rule_of (with_new_part y key n seen l) w ≡ rule_of y w
   rule-other w e = ap (λ (z : ℕ). let q : Rule = record { state = z; clean = false; chained = false } in q) (at-elsewhere y.state l.node 0 w e)
 
-  pub order-is : order (with_first m objects (part key n)) (with_part y key n seen l) ≡ l.node ∷ order m y
+  pub order-is : order (with_first m objects (part key n)) (with_new_part y key n seen l) ≡ l.node ∷ order m y
   order-is = order-after m objects (with_bit y key seen) (part key n) l lies-bit made.changed made.new
 
-  node-was : (w : ℕ) → is_among (order (with_first m objects (part key n)) (with_part y key n seen l)) w ≡ true → (w ≡ l.node) ⊎ (is_among (order m y) w ≡ true)
+  node-was : (w : ℕ) → is_among (order (with_first m objects (part key n)) (with_new_part y key n seen l)) w ≡ true → (w ≡ l.node) ⊎ (is_among (order m y) w ≡ true)
   node-was w h = node-after m objects (with_bit y key seen) (part key n) l lies-bit made.changed made.new w h
 
   pub lacks : is_among (order m y) l.node ≡ false
@@ -129,16 +129,16 @@ module _ (v : View) (m : State) (objects : List (Option Object)) (y : Layout) (k
       (λ (e : is_among (order m y) l.node ≡ false). e)
       (cases_Bool (is_among (order m y) l.node))
 
-  once : Distinct (order (with_first m objects (part key n)) (with_part y key n seen l))
+  once : Distinct (order (with_first m objects (part key n)) (with_new_part y key n seen l))
   once = subst Distinct (sym order-is) (lacks, made.represents.list.distinct)
 
   module _ (s : StoreView) (chains : ℕ → List ℕ) (under : IsMidPart s y key l chains) where
-    pub holds-others : HoldsExcept (is_part_or_parent y key l) s (with_first m objects (part key n)) (record (with_part y key n seen l) { chains = chains })
+    pub holds-others : HoldsExcept (is_part_or_parent y key l) s (with_first m objects (part key n)) (record (with_new_part y key n seen l) { chains = chains })
     holds-others = record {
       no_record = under.no_record;
       each = λ w x is out. ap (λ (q : Rule). load s q w) (rule-other w (or-false (l.node == w) (y.place (main key) == w) out).0) ∙ under.others w x (at-other w x out is) out;
       chains = under.whole;
-      laid = λ i h. laid-chained (with_first m objects (part key n)) (with_part y key n seen l) chains i (lies-part.laid i h);
+      laid = λ i h. laid-chained (with_first m objects (part key n)) (with_new_part y key n seen l) chains i (lies-part.laid i h);
       normal = lies-part.normal;
       chained = λ w x there is out. ⊎_elim
           (λ (e : w ≡ l.node). absurd (let a : (l.node == w) ≡ true = eq-eqb l.node w (sym e) in let b : (l.node == w) ≡ false = (or-false (l.node == w) (y.place (main key) == w) out).0 in let c : true ≡ false = sym a ∙ b in cc))
@@ -155,35 +155,35 @@ module _ (v : View) (m : State) (objects : List (Option Object)) (y : Layout) (k
     listed-main : is_listed (with_first m objects (part key n)) (main key) ≡ true
     listed-main = listed-still m objects (with_bit y key seen) (part key n) l lies-bit made.changed made.new (main key) made.listed
 
-    place-part : (with_part y key n seen l).place (part key n) ≡ l.node
+    place-part : (with_new_part y key n seen l).place (part key n) ≡ l.node
     place-part = place-new m objects (with_bit y key seen) (part key n) l lies-bit made.changed made.new
 
-    which : (i : Item) → is_listed (with_first m objects (part key n)) i ≡ true → is_part_or_parent y key l ((with_part y key n seen l).place i) ≡ true → (i ≡ part key n) ⊎ (i ≡ main key)
+    which : (i : Item) → is_listed (with_first m objects (part key n)) i ≡ true → is_part_or_parent y key l ((with_new_part y key n seen l).place i) ≡ true → (i ≡ part key n) ⊎ (i ≡ main key)
     which i there h = ⊎_elim
-        (λ (e : (l.node == (with_part y key n seen l).place i) ≡ true). inl (same-place (with_first m objects (part key n)) (with_part y key n seen l) lies-part i (part key n) there listed-part (sym (eqb-true l.node ((with_part y key n seen l).place i) e) ∙ sym place-part)))
-        (λ (e : (y.place (main key) == (with_part y key n seen l).place i) ≡ true). inr (same-place (with_first m objects (part key n)) (with_part y key n seen l) lies-part i (main key) there listed-main (sym (eqb-true (y.place (main key)) ((with_part y key n seen l).place i) e))))
-        (or-true (l.node == (with_part y key n seen l).place i) (y.place (main key) == (with_part y key n seen l).place i) h)
+        (λ (e : (l.node == (with_new_part y key n seen l).place i) ≡ true). inl (same-place (with_first m objects (part key n)) (with_new_part y key n seen l) lies-part i (part key n) there listed-part (sym (eqb-true l.node ((with_new_part y key n seen l).place i) e) ∙ sym place-part)))
+        (λ (e : (y.place (main key) == (with_new_part y key n seen l).place i) ≡ true). inr (same-place (with_first m objects (part key n)) (with_new_part y key n seen l) lies-part i (main key) there listed-main (sym (eqb-true (y.place (main key)) ((with_new_part y key n seen l).place i) e))))
+        (or-true (l.node == (with_new_part y key n seen l).place i) (y.place (main key) == (with_new_part y key n seen l).place i) h)
 
     -- a part in the midst is the new one
-    is-new : (k : ℕ) → is_listed (with_first m objects (part key n)) (part key k) ≡ true → is_part_or_parent y key l ((with_part y key n seen l).place (part key k)) ≡ true → (with_part y key n seen l).place (part key k) ≡ l.node
+    is-new : (k : ℕ) → is_listed (with_first m objects (part key n)) (part key k) ≡ true → is_part_or_parent y key l ((with_new_part y key n seen l).place (part key k)) ≡ true → (with_new_part y key n seen l).place (part key k) ≡ l.node
     is-new k there h = ⊎_elim
-        (λ (e : part key k ≡ part key n). ap (with_part y key n seen l).place e ∙ place-part)
+        (λ (e : part key k ≡ part key n). ap (with_new_part y key n seen l).place e ∙ place-part)
         (λ (e : part key k ≡ main key). absurd (let c : true ≡ false = ap is_part_item e in cc))
         (which (part key k) there h) where
           is_part_item : Item → Bool
           is_part_item (main k) = false
           is_part_item (part k n) = true
 
-    at-part : (with_part y key n seen l).at l.node ≡ Some l
+    at-part : (with_new_part y key n seen l).at l.node ≡ Some l
     at-part = at-itself (put y.at (y.place (main key)) (Some seen)) l.node (Some l)
 
-    loaded-is : (x : Loaded) (w : ℕ) → w ≡ l.node → (with_part y key n seen l).at w ≡ Some x → l ≡ x
-    loaded-is x w e is = let c : ◌≡◌ {A = Option Loaded} (Some l) (Some x) = sym at-part ∙ ap (with_part y key n seen l).at (sym e) ∙ is in cc
+    loaded-is : (x : Loaded) (w : ℕ) → w ≡ l.node → (with_new_part y key n seen l).at w ≡ Some x → l ≡ x
+    loaded-is x w e is = let c : ◌≡◌ {A = Option Loaded} (Some l) (Some x) = sym at-part ∙ ap (with_new_part y key n seen l).at (sym e) ∙ is in cc
 
     parent-of : IsPartAt m (with_bit y key seen) key l
     parent-of = made.new.parent
 
-    midst : IsInProgress (is_part_or_parent y key l) s (with_first m objects (part key n)) (record (with_part y key n seen l) { chains = chains }) key
+    midst : IsInProgress (is_part_or_parent y key l) s (with_first m objects (part key n)) (record (with_new_part y key n seen l) { chains = chains }) key
     midst = record {
       of_key = λ i there h. ⊎_elim (λ (e : i ≡ part key n). ap key_of e) (λ (e : i ≡ main key). ap key_of e) (which i there h);
       unsettled = λ x is.
@@ -197,19 +197,19 @@ module _ (v : View) (m : State) (objects : List (Option Object)) (y : Layout) (k
       parts = λ k old now there h is ok.
           let here = is-new k there h in
           let same : l ≡ now = load-one s (unchained_rule entry_normal) held_rule l.node l now under.part_loads (subst (λ (w : ℕ). load s held_rule w ≡ Ok now) here ok) in
-          let same_old : l ≡ old = loaded-is old ((with_part y key n seen l).place (part key k)) here is in
+          let same_old : l ≡ old = loaded-is old ((with_new_part y key n seen l).place (part key k)) here is in
           (ap is_part (sym same) ∙ ap is_part_role parent-of.role, ap (λ (q : Loaded). q.key) (sym same) ∙ ap (λ (q : Loaded). q.key) same_old);
       names = λ k old name there h is read.
           let here = is-new k there h in
-          let same_old : l ≡ old = loaded-is old ((with_part y key n seen l).place (part key k)) here is in
+          let same_old : l ≡ old = loaded-is old ((with_new_part y key n seen l).place (part key k)) here is in
           let said : read_name l.key ≡ Some parent-of.name = load-then s (unchained_rule entry_normal) l.node l under.part_loads (λ q e f. role-name e l.key l.streams parent-of.name parent-of.index (f.facts.role ∙ ap Some parent-of.role)) in
           let c : ◌≡◌ {A = Option Name} (Some name) (Some parent-of.name) = sym read ∙ ap (λ (q : Loaded). read_name q.key) (sym same_old) ∙ said in
           let same : name ≡ parent-of.name = cc in
           ap (λ (q : Name). q.key) same ∙ parent-of.of_key;
     }
 
-    pub at-rest : map row_of_loaded (kept_among s held_rule (order (with_first m objects (part key n)) (with_part y key n seen l))) ≡ model.rest (with_first m objects (part key n))
-    at-rest = midst-rest (is_part_or_parent y key l) s (with_first m objects (part key n)) (record (with_part y key n seen l) { chains = chains }) holds-others made.valid_after key midst once
+    pub at-rest : map row_of_loaded (kept_among s held_rule (order (with_first m objects (part key n)) (with_new_part y key n seen l))) ≡ model.rest (with_first m objects (part key n))
+    at-rest = midst-rest (is_part_or_parent y key l) s (with_first m objects (part key n)) (record (with_new_part y key n seen l) { chains = chains }) holds-others made.valid_after key midst once
 
   -- before anything but the part's own places is written
   dirty-parent : (node_fields : NodeFields) → v.store.node_fields (y.place (main key)) ≡ Some node_fields → (node_fields.dirty == 0) ≡ false
@@ -264,7 +264,7 @@ module _ (v : View) (m : State) (objects : List (Option Object)) (y : Layout) (k
       (λ (e : (eqb (bucket_of_hash (hash l.key)) k ≡ false) × _). ap (λ (xs : List ℕ). is_among xs c) (at-elsewhere y.chains (bucket_of_hash (hash l.key)) (l.contents ∷ y.chains (bucket_of_hash (hash l.key))) k e.0) ∙ h)
       (eqb_tells (bucket_of_hash (hash l.key)) k)
 
-  pub linked-under : IsMidPart (linked_front v.store l) y key l (with_part y key n seen l).chains
+  pub linked-under : IsMidPart (linked_front v.store l) y key l (with_new_part y key n seen l).chains
   linked-under = record {
     no_record = made.represents.holds.shows.no_record;
     others = λ w x is out. load-table v.store (put v.store.table (bucket_of_hash (hash l.key)) l.contents) (rule_of y w) w x refl (made.represents.holds.shows.each w x is);
@@ -294,13 +294,13 @@ module _ (v : View) (m : State) (objects : List (Option Object)) (y : Layout) (k
         go false = ap (λ (ws : List ℕ). map row_of_loaded (kept_among s held_rule ws)) (sym order-is)
             ∙ at-rest s y.chains (parent-changes v.store s y.chains written (λ c. false) same.store same.table (record { others = λ c w h e. refl; part_clear = λ c h. refl; node_clear = λ c h. refl; chains_clear = λ b w below h c g. refl }))
 
-  module _ (s : StoreView) (under : IsMidPart s y key l (with_part y key n seen l).chains) (sees : load s (rule_of y (y.place (main key))) (y.place (main key)) ≡ Ok seen) where
-    pub each-loads : (w : ℕ) (x : Loaded) → (with_part y key n seen l).at w ≡ Some x → load s (rule_of (with_part y key n seen l) w) w ≡ Ok x
+  module _ (s : StoreView) (under : IsMidPart s y key l (with_new_part y key n seen l).chains) (sees : load s (rule_of y (y.place (main key))) (y.place (main key)) ≡ Ok seen) where
+    pub each-loads : (w : ℕ) (x : Loaded) → (with_new_part y key n seen l).at w ≡ Some x → load s (rule_of (with_new_part y key n seen l) w) w ≡ Ok x
     each-loads w x is = ⊎_elim
         (λ (e : (eqb l.node w ≡ true) × (l.node ≡ w)).
-        let same : l ≡ x = (let c : ◌≡◌ {A = Option Loaded} (Some l) (Some x) = sym (at-itself (put y.at (y.place (main key)) (Some seen)) l.node (Some l)) ∙ ap (with_part y key n seen l).at e.1 ∙ is in cc) in
-        let rule : rule_of (with_part y key n seen l) l.node ≡ unchained_rule entry_normal = ap (λ (z : ℕ). let q : Rule = record { state = z; clean = false; chained = false } in q) (at-itself y.state l.node 0) in
-        subst (λ (z : ℕ). load s (rule_of (with_part y key n seen l) z) z ≡ Ok x) e.1 (ap (λ (q : Rule). load s q l.node) rule ∙ under.part_loads ∙ ap Ok same))
+        let same : l ≡ x = (let c : ◌≡◌ {A = Option Loaded} (Some l) (Some x) = sym (at-itself (put y.at (y.place (main key)) (Some seen)) l.node (Some l)) ∙ ap (with_new_part y key n seen l).at e.1 ∙ is in cc) in
+        let rule : rule_of (with_new_part y key n seen l) l.node ≡ unchained_rule entry_normal = ap (λ (z : ℕ). let q : Rule = record { state = z; clean = false; chained = false } in q) (at-itself y.state l.node 0) in
+        subst (λ (z : ℕ). load s (rule_of (with_new_part y key n seen l) z) z ≡ Ok x) e.1 (ap (λ (q : Rule). load s q l.node) rule ∙ under.part_loads ∙ ap Ok same))
         (λ (e : (eqb l.node w ≡ false) × _). ⊎_elim
         (λ (f : (eqb (y.place (main key)) w ≡ true) × (y.place (main key) ≡ w)).
         let old : put y.at (y.place (main key)) (Some seen) w ≡ Some x = sym (at-elsewhere (put y.at (y.place (main key)) (Some seen)) l.node (Some l) w e.0) ∙ is in
@@ -312,7 +312,7 @@ module _ (v : View) (m : State) (objects : List (Option Object)) (y : Layout) (k
         (eqb_tells (y.place (main key)) w))
         (eqb_tells l.node w)
 
-    pub part-ends : Represents (record { list = after_writes (writes_of 1 l.node v.list) v.list; store = s }) (with_first m objects (part key n)) (with_part y key n seen l)
+    pub part-ends : Represents (record { list = after_writes (writes_of 1 l.node v.list) v.list; store = s }) (with_first m objects (part key n)) (with_new_part y key n seen l)
     part-ends =
         let e = insert_ends l.node v.list (order m y) made.represents.list made.represents.idle lacks made.good made.few in
         record {

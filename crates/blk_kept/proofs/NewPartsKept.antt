@@ -34,7 +34,7 @@ use Rattle.blk_laws.proofs.states.Laid.{is_among-node}
 use Rattle.blk_laws.proofs.states.Settling.{main-listed}
 use Rattle.blk_kept.specs.Arranging.{IsArranged}
 use Rattle.blk_kept.specs.Keeping.{AllAreSealed, AreMarkedBy, KeepsUncounted, all_loaded, all_nodes, words_in_use}
-use Rattle.blk_kept.specs.NewPartLaws.{IsPartWritten, with_part}
+use Rattle.blk_kept.specs.NewPartLaws.{IsPartWritten, with_new_part}
 use Rattle.blk_kept.specs.NewPartsKept.{IsPartMade, KeepsUnsettled, MakingPartsFindsTheNext, NewPartsAreKept, PartInsertsFindEither, PartValuesKeepUnsettled}
 use Rattle.blk_kept.specs.PartStates.{with_value}
 use Rattle.blk_kept.proofs.Arranging.{rearranged}
@@ -110,7 +110,7 @@ module _ (state : State) (objects : List (Option Object)) (layout : Layout) (unl
   after = with_first state objects (part key n)
 
   abbrev now : Layout
-  now = with_part layout key n seen l
+  now = with_new_part layout key n seen l
 
   abbrev p : ℕ
   p = layout.place (main key)

@@ -19,7 +19,7 @@ use Rattle.blk_model.proofs.Slots.{first_with_found}
 use Rattle.blk_volume.specs.Removal.{is_of_another}
 use Rattle.blk_laws.proofs.states.Changing.{first_with-set}
 use Rattle.blk_laws.proofs.claims.Owner.{IsOwned, filter_map-same, its-key, live, owned}
-use Rattle.blk_kept.specs.CommandStates.{IsUnsettled, KeepsOthers, amidst, with_names}
+use Rattle.blk_kept.specs.CommandStates.{IsUnsettled, KeepsOtherKeys, amidst, with_names}
 use Rattle.blk_kept.specs.StopLaws.{DoomedObjectsAreNotAtRest, HandlesAreNotAtRest, OwnUsesKeepOthers, UnsettledObjectsAreNotAtRest}
 
 -- ---- handles
@@ -161,7 +161,7 @@ module _ (m : State) (valid : IsValidState m) (number : ℕ) (o : Object) (here 
             absurd (q.1 (one-main j own.object old alive_j key_j)))
             (eqb_tells j number)
 
-  pub rests-same : (one two : Object) (uses items : List Item) → IsUnsettled one o.key → IsUnsettled two o.key → KeepsOthers m o.key uses → KeepsOthers m o.key items → rest (amidst m number one uses) ≡ rest (amidst m number two items)
+  pub rests-same : (one two : Object) (uses items : List Item) → IsUnsettled one o.key → IsUnsettled two o.key → KeepsOtherKeys m o.key uses → KeepsOtherKeys m o.key items → rest (amidst m number one uses) ≡ rest (amidst m number two items)
   unfolding rest
   rests-same one two uses items is_one is_two keeps_one keeps_two =
       filter_map-both (settled_row (amidst m number one uses)) (settled_row (amidst m number two items)) (is_of_another o.key) uses items

@@ -195,7 +195,7 @@ module _ (state : State) (layout : Layout) (keep : Item → Bool) (chains : ℕ 
   outside : SameOutside (touch_range writes node) from o.between
   outside = outside_wider (touched_by_writes writes) (touch_range writes node) from o.between (within_left (touched_by_writes writes) (record_range node)) o.unlisted.partly.outside
 
-  leaves : LeavesFiles from image
+  pub leaves : LeavesFiles from image
   leaves = leaves-then from o.between image (leaves-files (touch_range writes node) from o.between (touch_spares writes node) (touch_sizes writes node) outside
       (record { crash = counter-same writes node from o.between outside 32 (omega arith); id = counter-same writes node from o.between outside 20 (omega arith) }) o.unlisted.partly.well_formed) o.leaves
 

@@ -19,7 +19,7 @@ use Rattle.blk_model.proofs.EvictedFirst.{evictions-first}
 use Rattle.blk_model.proofs.Steps.{room_for_is_loose}
 use Rattle.blk_laws.specs.CommandLaws.{turned}
 use Rattle.blk_laws.proofs.states.DirtyWords.{after-turning}
-use Rattle.blk_kept.specs.CommandStates.{IsUnsettled, KeepsOthers, MayLeave, Unsettles, amidst, with_room}
+use Rattle.blk_kept.specs.CommandStates.{IsUnsettled, KeepsOtherKeys, MayLeave, Unsettles, amidst, with_room}
 use Rattle.blk_kept.specs.StopLaws.{OthersMayBeLeftOnceUnsettled, OthersMayBeLeftWhileDoomed}
 use Rattle.blk_kept.proofs.NotAtRest.{doomed-rest, unsettled-rest, within-slots}
 use Rattle.blk_kept.proofs.Orders.{all-first, room-left}
@@ -79,7 +79,7 @@ module _ (state : State) (valid : IsValidState state) (moment : ℕ) (request : 
   unfolding pick picked picked_by is_safe is_turned
   pick-same with items = λ i. filter_map (λ item. option_and_then (λ k. cond (is_live_and_settled (object_at base k) && ((alike k).0 i || not ((alike k).1 i)) || (with && (is_live (object_at base k) && (alike k).1 i && differ (is_live_and_settled (object_at base k)) ((alike k).0 i)))) (row_of base item) None) (owner base item)) items
 
-  left : (changed : Object) (uses : List Item) → IsUnsettled changed object.key → KeepsOthers base object.key uses → MayLeave state moment request (rest (amidst base number changed uses))
+  left : (changed : Object) (uses : List Item) → IsUnsettled changed object.key → KeepsOtherKeys base object.key uses → MayLeave state moment request (rest (amidst base number changed uses))
   left changed uses unsettled keeps =
       let base_valid = room-valid state moment request valid in
       let loose : IsUnsettled (record object { settled = false }) object.key = record { key_is = refl; live = is.affected.live; unsettled = refl } in

@@ -6,7 +6,7 @@ use Rattle.blk_format.specs.Address.{block_place, external, file_selector, kind_
 use Rattle.blk_format.specs.BlockFiles.{is_among, linked_as, max_entries_in, stands_in, IsWellFormed}
 use Rattle.blk_format.specs.Growth.{StaysWhole}
 use Rattle.blk_format.specs.Headers.{is_extent_place, updating_of}
-use Rattle.blk_format.specs.Maps.{AreAllocations, EmptyAgrees}
+use Rattle.blk_format.specs.Maps.{AreAllocations, EmptyAgrees, KeepsFile}
 use Rattle.blk_kept.specs.Changes.{AddsAllocation, RemovesAllocation}
 
 -- a change of the map and the counters of one block file
@@ -15,11 +15,6 @@ pub record IsOfMap (n : ℕ) (footprint : Footprint) : Type 0 where
   pub elsewhere : (m i : ℕ) → m ≢ n → footprint.bytes (Block m) i ≡ false
   pub index : (i : ℕ) → footprint.bytes Index i ≡ false
   pub sizes : (file : File) → footprint.sizes file ≡ false
-
--- the allocations of a file are as before, and so is what `empty` says of it
-pub record KeepsFile (from image : Image) (n : ℕ) : Type 0 where
-  pub allocations : (words : List ℕ) → AreAllocations from n words → AreAllocations image n words
-  pub empty : EmptyAgrees from n → EmptyAgrees image n
 
 -- the blocks of a word are freed: map and counters of its file change alone, and it has all allocations but this one
 pub record AreFreed (from : Image) (w : ℕ) (image : Image) : Type 0 where

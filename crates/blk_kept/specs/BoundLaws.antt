@@ -8,19 +8,13 @@ use Rattle.blk_image.specs.Image.{Block, Image, byte}
 use Rattle.blk_format.specs.Address.{is_block_kind}
 use Rattle.blk_format.specs.BlockFiles.{is_among, linked}
 use Rattle.blk_format.specs.Headers.{allocations_of}
-use Rattle.blk_format.specs.Maps.{AreAllocations, EmptyAgrees}
+use Rattle.blk_format.specs.Maps.{HasAllocations}
 use Rattle.blk_volume.specs.Layout.{Layout}
 use Rattle.blk_kept.specs.Keeping.{KeepsUncounted}
 
 -- the most words of one kind of what lies at a node: its record or its node, its long key, and three streams
 abbrev pub most_words : ℕ
 most_words = 5
-
--- a file has a list of its allocations, and `empty` agrees with its map
-pub record HasAllocations (image : Image) (n : ℕ) : Type 0 where
-  pub words : List ℕ
-  pub are : AreAllocations image n words
-  pub empty : EmptyAgrees image n
 
 -- each file that is linked as a kind has its allocations, and all of them together are no more than this
 pub record HaveFewAllocations (image : Image) (kind most : ℕ) : Type 0 where
@@ -33,4 +27,7 @@ KeptAllocationsAreFew = (state : State) (layout : Layout) (unlinked : List ℕ) 
 
 -- so while a command has so many items to add, and each of them has no more than its words unlinked, and two more words are, they are no more than the 655362 that always leave room
 abbrev pub KeptAllocationsLeaveRoom : Type 0
-KeptAllocationsLeaveRoom = (state : State) (layout : Layout) (unlinked : List ℕ) (image : Image) (kind more : ℕ) → KeepsUncounted state layout unlinked image → is_block_kind kind ≡ true → items state + more ≤ most_items → length unlinked ≤ most_words * more + 2 → HaveFewAllocations image kind (most_words * most_items + 2)
+KeptAllocationsLeaveRoom =
+    (state : State) (layout : Layout) (unlinked : List ℕ) (image : Image) (kind more : ℕ) → KeepsUncounted state layout unlinked image
+    → is_block_kind kind ≡ true → items state + more ≤ most_items → length unlinked ≤ most_words * more + 2
+    → HaveFewAllocations image kind (most_words * most_items + 2)

@@ -37,8 +37,8 @@ pub record IsUnsettled (object : Object) (key : List ℕ) : Type 0 where
   pub unsettled : object.settled ≡ false
 
 -- the items of other keys stand as in a state
-abbrev pub KeepsOthers : State → List ℕ → List Item → Type 0
-KeepsOthers state key uses = filter (is_of_another key) uses ≡ filter (is_of_another key) state.uses
+abbrev pub KeepsOtherKeys : State → List ℕ → List Item → Type 0
+KeepsOtherKeys state key uses = filter (is_of_another key) uses ≡ filter (is_of_another key) state.uses
 
 -- a number has this live object, once all that a request evicts is out
 pub record IsAffected (state : State) (moment : ℕ) (request : Request) (number : ℕ) (object : Object) : Type 0 where

@@ -1,19 +1,16 @@
 -- The counters of the index, which a command writes last.
-use Rattle.std.specs.Prelude.{◌≡◌, ℕ, ◌%◌, ◌^◌, List, [], ◌∷◌, length, true}
+use Rattle.std.specs.Prelude.{◌≡◌, ℕ, ◌%◌, ◌^◌, List, [], length, true}
 use Rattle.std.specs.List.{sum_by}
 use Rattle.blk_model.specs.State.{State}
 use Rattle.blk_image.specs.Image.{Image}
 use Rattle.blk_format.specs.BlockFiles.{is_among}
+use Rattle.blk_format.specs.Headers.{counter_places}
 use Rattle.blk_volume.specs.Found.{charge_of}
 use Rattle.blk_volume.specs.Layout.{Layout, order}
 use Rattle.blk_volume.specs.Tidy.{loaded_at}
 use Rattle.blk_laws.specs.IndexWrites.{IsIndexWord}
 use Rattle.blk_kept.specs.Changes.{KeepsWith}
 use Rattle.blk_kept.specs.Keeping.{Keeps, KeepsUncounted}
-
--- the places of the counters in the index: of the items, of their bytes, and of the nodes of the list
-abbrev pub counter_places : List ℕ
-counter_places = 8 ∷ 12 ∷ 268 ∷ []
 
 -- a counter that is written, whatever it is then, keeps each state that was kept
 abbrev pub CountersMayBeWritten : Type 0

@@ -16,7 +16,7 @@ use Rattle.blk_volume.specs.Tidy.{loaded_at}
 use Rattle.blk_volume.specs.View.{View}
 use Rattle.blk_kept.specs.GroupLaws.{gone_nodes, layout_less}
 use Rattle.blk_kept.specs.Keeping.{AreOwners}
-use Rattle.blk_kept.specs.NewPartLaws.{IsPartWritten, with_part}
+use Rattle.blk_kept.specs.NewPartLaws.{IsPartWritten, with_new_part}
 use Rattle.blk_kept.specs.PartlyOut.{keeps_but}
 use Rattle.blk_kept.specs.WholeRemovals.{layout_doomed_whole}
 
@@ -36,7 +36,9 @@ GoneItemsAreLess = (state : State) (layout : Layout) (numbers : List ℕ) (objec
 
 -- once an object that a handle names is doomed, its items are
 abbrev pub DoomedItemsAreLess : Type 0
-DoomedItemsAreLess = (state : State) (layout : Layout) (numbers : List ℕ) (number : ℕ) (object : Object) (loaded : Loaded) (chains : ℕ → List ℕ) → IsValidState state → IsLayoutOf state layout → AreOwners state layout numbers → IsPlacedAsLive state layout number object loaded → is_named state number ≡ true
+DoomedItemsAreLess =
+    (state : State) (layout : Layout) (numbers : List ℕ) (number : ℕ) (object : Object) (loaded : Loaded) (chains : ℕ → List ℕ) → IsValidState state
+    → IsLayoutOf state layout → AreOwners state layout numbers → IsPlacedAsLive state layout number object loaded → is_named state number ≡ true
     → IsLessBy (λ item. not (is_of_another object.key item)) state layout (doomed number state (Some object)) (layout_doomed_whole state layout number object.key chains)
 
 -- while items go out one after another, each is one item less of those that are listed, with its charge
@@ -54,4 +56,4 @@ pub record IsPartMore (state after : State) (layout now : Layout) (was seen load
 
 abbrev pub NewPartsAreOneMore : Type 0
 NewPartsAreOneMore = (view : View) (state : State) (objects : List (Option Object)) (layout : Layout) (key : List ℕ) (n : ℕ) (was seen loaded : Loaded) → IsPartWritten view state objects layout key n was seen loaded
-    → IsPartMore state (with_first state objects (part key n)) layout (with_part layout key n seen loaded) was seen loaded
+    → IsPartMore state (with_first state objects (part key n)) layout (with_new_part layout key n seen loaded) was seen loaded

@@ -18,7 +18,7 @@ use Rattle.blk_kept.specs.Commands.{MayStop}
 use Rattle.blk_kept.specs.CommandStates.{with_room}
 use Rattle.blk_kept.specs.CounterLaws.{counted_bytes}
 use Rattle.blk_kept.specs.Keeping.{Keeps, KeepsUncounted}
-use Rattle.blk_kept.specs.NewEntryLaws.{IsInsertDone, IsLinkedInFront, IsNewEntryOf}
+use Rattle.blk_kept.specs.NewEntryLaws.{IsInsertDone, HasRecordInFront, IsNewEntryOf}
 
 -- a Create that isn't refused, of a state that is valid, in a folder that keeps what it doesn't evict, with the words of its entry unlinked, and the entry is written
 pub record IsCreating (state : State) (moment handle : ℕ) (key : List ℕ) (layout : Layout) (unlinked : List ℕ) (loaded : Loaded) (from : Image) : Type 0 where
@@ -36,11 +36,13 @@ InsertsMayStop = (state : State) (moment handle : ℕ) (key : List ℕ) (layout 
 -- and where its record is linked after that
 abbrev pub LinksMayStop : Type 0
 LinksMayStop = (state : State) (moment handle : ℕ) (key : List ℕ) (layout : Layout) (unlinked : List ℕ) (loaded : Loaded) (from between image : Image) → IsCreating state moment handle key layout unlinked loaded from
-    → IsInsertDone from loaded.node between → IsLinkedInFront between loaded.contents image → MayStop state moment (to_create handle key) image
+    → IsInsertDone from loaded.node between → HasRecordInFront between loaded.contents image → MayStop state moment (to_create handle key) image
 
 -- once the three counters are written too, the state after it is kept
 abbrev pub CreatesEndOnceCounted : Type 0
 CreatesEndOnceCounted = (state : State) (moment handle : ℕ) (key : List ℕ) (layout : Layout) (unlinked : List ℕ) (loaded : Loaded) (from between linked first second image : Image) → IsCreating state moment handle key layout unlinked loaded from
-    → IsInsertDone from loaded.node between → IsLinkedInFront between loaded.contents linked
-    → IsIndexWord 8 (length (step state moment (to_create handle key)).state.uses) linked first → IsIndexWord 12 (counted_bytes (step state moment (to_create handle key)).state (with_new layout key loaded)) first second → IsIndexWord 268 (length (step state moment (to_create handle key)).state.uses) second image
+    → IsInsertDone from loaded.node between → HasRecordInFront between loaded.contents linked
+    → IsIndexWord 8 (length (step state moment (to_create handle key)).state.uses) linked first
+    → IsIndexWord 12 (counted_bytes (step state moment (to_create handle key)).state (with_new layout key loaded)) first second
+    → IsIndexWord 268 (length (step state moment (to_create handle key)).state.uses) second image
     → Keeps (step state moment (to_create handle key)).state (with_new layout key loaded) unlinked image

@@ -38,3 +38,4 @@ pub mod PartlyOut
 pub mod HeldPartlyOut
 pub mod PartlyOutStops
 pub mod CountsOfParts
+pub mod RestLaws

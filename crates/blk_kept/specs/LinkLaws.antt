@@ -56,7 +56,10 @@ ChainNextsLeaveSeals = (state : State) (layout : Layout) (unlinked : List ℕ) (
 
 -- a change that touches nobody else, and neither the node nor its record, is inside: of data
 abbrev pub DataChangesAreInside : Type 0
-DataChangesAreInside = (touched : Claim → Bool) (layout : Layout) (from image : Image) (node : ℕ) (loaded : Loaded) → ChangesOnly touched from image → IsFreeBut node touched layout → IsClear touched node → IsClear touched loaded.contents → IsInsideNode touched (view_of from) (view_of image) layout node loaded
+DataChangesAreInside =
+    (touched : Claim → Bool) (layout : Layout) (from image : Image) (node : ℕ) (loaded : Loaded) → ChangesOnly touched from image
+    → IsFreeBut node touched layout → IsClear touched node → IsClear touched loaded.contents
+    → IsInsideNode touched (view_of from) (view_of image) layout node loaded
 
 -- and so is an update of its record that leaves its hash
 abbrev pub RecordUpdatesAreInside : Type 0

@@ -10,7 +10,7 @@ use Rattle.blk_image.specs.Footprint.{SameOutside, one_word}
 use Rattle.blk_image.specs.Image.{Image, Index, byte}
 use Rattle.blk_format.specs.BlockFiles.{IsWellFormed}
 use Rattle.blk_format.specs.Headers.{place_of_bucket, this_id_of}
-use Rattle.blk_volume.specs.Chains.{bucket_of_hash}
+use Rattle.blk_volume.specs.Chains.{bucket_at}
 use Rattle.blk_volume.specs.Completion.{insert}
 use Rattle.blk_volume.specs.Creation.{IsFrontOfChain, IsNewEntry, with_new}
 use Rattle.blk_volume.specs.Found.{charge_of}
@@ -22,7 +22,7 @@ use Rattle.blk_volume.specs.ListView.{CanBeInserted, most_nodes, put}
 use Rattle.blk_volume.specs.Loads.{Loaded}
 use Rattle.blk_volume.specs.Sound.{AreSealed, words_of}
 use Rattle.blk_volume.specs.Tidy.{loaded_at}
-use Rattle.blk_volume.specs.View.{entry_at, list_of, store_of}
+use Rattle.blk_volume.specs.View.{list_of, store_of}
 use Rattle.blk_kept.specs.Changes.{Finds}
 use Rattle.blk_kept.specs.Keeping.{KeepsUncounted}
 
@@ -42,12 +42,8 @@ pub record IsInsertDone (from : Image) (node : ℕ) (image : Image) : Type 0 whe
   pub inserted : CanBeInserted (list_of from) (walked from) node → HasListAtRest (node ∷ walked from) image
   pub sealed : KeepsSealed from image
 
--- the bucket of the record of a word
-abbrev pub bucket_at : Image → ℕ → ℕ
-bucket_at image w = bucket_of_hash (entry_at image w).hash
-
 -- a record is linked in front of its chain: the word of its bucket is all that has changed
-pub record IsLinkedInFront (from : Image) (w : ℕ) (image : Image) : Type 0 where
+pub record HasRecordInFront (from : Image) (w : ℕ) (image : Image) : Type 0 where
   pub list : list_of image ≡ list_of from
   pub store : store_of image ≡ record (store_of from) { table = put (store_of from).table (bucket_at from w) w }
   pub well_formed : IsWellFormed from → IsWellFormed image
@@ -61,12 +57,12 @@ InsertsFindTheSame = (state : State) (layout : Layout) (unlinked key : List ℕ)
 -- and where the record is linked after it
 abbrev pub LinksFindTheSame : Type 0
 LinksFindTheSame = (state : State) (layout : Layout) (unlinked key : List ℕ) (loaded : Loaded) (handle : ℕ) (from between image : Image) → KeepsUncounted state layout unlinked from → IsNewEntryOf state layout key loaded from
-    → IsValidState (created handle key state) → IsInsertDone from loaded.node between → IsLinkedInFront between loaded.contents image → Finds (rest state) image
+    → IsValidState (created handle key state) → IsInsertDone from loaded.node between → HasRecordInFront between loaded.contents image → Finds (rest state) image
 
 -- then the state with the new object is kept, and its words are unlinked no longer
 abbrev pub NewEntriesAreKept : Type 0
 NewEntriesAreKept = (state : State) (layout : Layout) (unlinked key : List ℕ) (loaded : Loaded) (handle : ℕ) (from between image : Image) → KeepsUncounted state layout (words_of loaded ++ unlinked) from → IsNewEntryOf state layout key loaded from
-    → IsValidState (created handle key state) → IsInsertDone from loaded.node between → IsLinkedInFront between loaded.contents image → KeepsUncounted (created handle key state) (with_new layout key loaded) unlinked image
+    → IsValidState (created handle key state) → IsInsertDone from loaded.node between → HasRecordInFront between loaded.contents image → KeepsUncounted (created handle key state) (with_new layout key loaded) unlinked image
 
 -- one item more is to be counted, with its charge
 pub record IsOneMore (state : State) (layout : Layout) (key : List ℕ) (loaded : Loaded) (handle : ℕ) : Type 0 where

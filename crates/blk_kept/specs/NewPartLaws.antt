@@ -30,8 +30,8 @@ abbrev pub with_bit : Layout → List ℕ → Loaded → Layout
 with_bit layout key seen = changed_at layout (layout.place (main key)) seen layout.owner
 
 -- the layout with the part
-abbrev pub with_part : Layout → List ℕ → ℕ → Loaded → Loaded → Layout
-with_part layout key n seen loaded = with_item (with_bit layout key seen) (part key n) loaded
+abbrev pub with_new_part : Layout → List ℕ → ℕ → Loaded → Loaded → Layout
+with_new_part layout key n seen loaded = with_item (with_bit layout key seen) (part key n) loaded
 
 -- a part is made of an unsettled object, whose parent record was one thing and shall be seen with the part's bit; its own record and node are written, outside what is anybody's
 pub record IsPartWritten (view : View) (state : State) (objects : List (Option Object)) (layout : Layout) (key : List ℕ) (n : ℕ) (was seen loaded : Loaded) : Type 0 where
@@ -67,13 +67,13 @@ pub record IsMidPart (store : StoreView) (layout : Layout) (key : List ℕ) (loa
 abbrev pub NewPartsHoldTheOthers : Type 0
 NewPartsHoldTheOthers = (view : View) (state : State) (objects : List (Option Object)) (layout : Layout) (key : List ℕ) (n : ℕ) (was seen loaded : Loaded) → IsPartWritten view state objects layout key n was seen loaded
     → (store : StoreView) (chains : ℕ → List ℕ) → IsMidPart store layout key loaded chains
-    → HoldsExcept (is_part_or_parent layout key loaded) store (with_first state objects (part key n)) (record (with_part layout key n seen loaded) { chains = chains })
+    → HoldsExcept (is_part_or_parent layout key loaded) store (with_first state objects (part key n)) (record (with_new_part layout key n seen loaded) { chains = chains })
 
 -- and what is kept is what is at rest, whatever the parent's record says in the midst
 abbrev pub NewPartsAreAtRest : Type 0
 NewPartsAreAtRest = (view : View) (state : State) (objects : List (Option Object)) (layout : Layout) (key : List ℕ) (n : ℕ) (was seen loaded : Loaded) → IsPartWritten view state objects layout key n was seen loaded
     → (store : StoreView) (chains : ℕ → List ℕ) → IsMidPart store layout key loaded chains
-    → map row_of_loaded (kept_among store held_rule (order (with_first state objects (part key n)) (with_part layout key n seen loaded))) ≡ rest (with_first state objects (part key n))
+    → map row_of_loaded (kept_among store held_rule (order (with_first state objects (part key n)) (with_new_part layout key n seen loaded))) ≡ rest (with_first state objects (part key n))
 
 -- while its node is inserted and the same is shown beside the list, what is kept is what is at rest before, and from the second write on what is at rest after
 abbrev pub NewPartsAtEachWrite : Type 0
@@ -84,15 +84,15 @@ NewPartsAtEachWrite = (view : View) (state : State) (objects : List (Option Obje
 -- once its record is linked and its parent is seen with the bit, the state with the part is represented
 abbrev pub NewPartsEnd : Type 0
 NewPartsEnd = (view : View) (state : State) (objects : List (Option Object)) (layout : Layout) (key : List ℕ) (n : ℕ) (was seen loaded : Loaded) → IsPartWritten view state objects layout key n was seen loaded
-    → (store : StoreView) → IsMidPart store layout key loaded (with_part layout key n seen loaded).chains → load store (rule_of layout (layout.place (main key))) (layout.place (main key)) ≡ Ok seen
-    → Represents (record { list = after_writes (writes_of insert loaded.node view.list) view.list; store = store }) (with_first state objects (part key n)) (with_part layout key n seen loaded)
+    → (store : StoreView) → IsMidPart store layout key loaded (with_new_part layout key n seen loaded).chains → load store (rule_of layout (layout.place (main key))) (layout.place (main key)) ≡ Ok seen
+    → Represents (record { list = after_writes (writes_of insert loaded.node view.list) view.list; store = store }) (with_first state objects (part key n)) (with_new_part layout key n seen loaded)
 
 -- The moments between.
 
 -- its record linked, all others are still as they were
 abbrev pub NewPartsAreLinked : Type 0
 NewPartsAreLinked = (view : View) (state : State) (objects : List (Option Object)) (layout : Layout) (key : List ℕ) (n : ℕ) (was seen loaded : Loaded) → IsPartWritten view state objects layout key n was seen loaded
-    → IsMidPart (linked_front view.store loaded) layout key loaded (with_part layout key n seen loaded).chains
+    → IsMidPart (linked_front view.store loaded) layout key loaded (with_new_part layout key n seen loaded).chains
 
 -- a change that touches no node of the two, nothing of the part, no record of a chain, and nothing of any other: the parent's own data alone
 pub record IsOfParent (touched : Claim → Bool) (layout : Layout) (key : List ℕ) (loaded : Loaded) (chains : ℕ → List ℕ) : Type 0 where

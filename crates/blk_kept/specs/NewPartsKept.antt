@@ -21,7 +21,7 @@ use Rattle.blk_volume.specs.View.{list_of, store_of, view_of}
 use Rattle.blk_kept.specs.Arranging.{LeavesFiles}
 use Rattle.blk_kept.specs.Changes.{Finds}
 use Rattle.blk_kept.specs.Keeping.{KeepsUncounted}
-use Rattle.blk_kept.specs.NewPartLaws.{IsMidPart, IsPartWritten, with_part}
+use Rattle.blk_kept.specs.NewPartLaws.{IsMidPart, IsPartWritten, with_new_part}
 use Rattle.blk_kept.specs.PartStates.{with_value}
 
 -- at each word of the insert of the part's node what was at rest is found, and from the second write on what is at rest with the part, which is the same while its object is unsettled
@@ -37,7 +37,9 @@ pub record IsMakingPart (state : State) (layout : Layout) (key : List ℕ) (load
 
 -- from then on what is at rest with the part is found, while its record is linked and its parent's bit set
 abbrev pub MakingPartsFindsTheNext : Type 0
-MakingPartsFindsTheNext = (state : State) (objects : List (Option Object)) (layout : Layout) (unlinked key : List ℕ) (n : ℕ) (was seen loaded : Loaded) (chains : ℕ → List ℕ) (from image : Image) → KeepsUncounted state layout unlinked from → IsPartWritten (view_of from) state objects layout key n was seen loaded
+MakingPartsFindsTheNext =
+    (state : State) (objects : List (Option Object)) (layout : Layout) (unlinked key : List ℕ) (n : ℕ) (was seen loaded : Loaded) (chains : ℕ → List ℕ) (from image : Image)
+    → KeepsUncounted state layout unlinked from → IsPartWritten (view_of from) state objects layout key n was seen loaded
     → IsMakingPart state layout key loaded chains image → Finds (rest (with_first state objects (part key n))) image
 
 -- the objects of a state are others, by which none is doomed, and each unsettled one was so
@@ -54,7 +56,7 @@ PartValuesKeepUnsettled = (state : State) (number : ℕ) (object : Object) (n : 
 pub record IsPartMade (state : State) (layout : Layout) (key : List ℕ) (n : ℕ) (was seen loaded : Loaded) (from image : Image) : Type 0 where
   pub leaves : LeavesFiles from image
   pub list : HasListAtRest (loaded.node ∷ order state layout) image
-  pub others : IsMidPart (store_of image) layout key loaded (with_part layout key n seen loaded).chains
+  pub others : IsMidPart (store_of image) layout key loaded (with_new_part layout key n seen loaded).chains
   pub sees : load (store_of image) (rule_of layout (layout.place (main key))) (layout.place (main key)) ≡ Ok seen
   pub words : words_of seen ≡ words_of was
   pub part_sealed : AreSealed image loaded
@@ -63,5 +65,7 @@ pub record IsPartMade (state : State) (layout : Layout) (key : List ℕ) (n : �
 
 -- then the state with the part is kept, and its words are unlinked no longer
 abbrev pub NewPartsAreKept : Type 0
-NewPartsAreKept = (state : State) (objects : List (Option Object)) (layout : Layout) (unlinked key : List ℕ) (n : ℕ) (was seen loaded : Loaded) (from image : Image) → KeepsUncounted state layout (words_of loaded ++ unlinked) from → IsPartWritten (view_of from) state objects layout key n was seen loaded
-    → KeepsUnsettled state objects → IsPartMade state layout key n was seen loaded from image → KeepsUncounted (with_first state objects (part key n)) (with_part layout key n seen loaded) unlinked image
+NewPartsAreKept =
+    (state : State) (objects : List (Option Object)) (layout : Layout) (unlinked key : List ℕ) (n : ℕ) (was seen loaded : Loaded) (from image : Image)
+    → KeepsUncounted state layout (words_of loaded ++ unlinked) from → IsPartWritten (view_of from) state objects layout key n was seen loaded
+    → KeepsUnsettled state objects → IsPartMade state layout key n was seen loaded from image → KeepsUncounted (with_first state objects (part key n)) (with_new_part layout key n seen loaded) unlinked image

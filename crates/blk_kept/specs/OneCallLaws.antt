@@ -61,7 +61,10 @@ ClosesEndByMark = (state : State) (layout : Layout) (unlinked : List ℕ) (from 
 
 -- one of the last handle of a doomed object unlinks the object's words, and nothing is written for that
 abbrev pub ClosesOfDoomedUnlink : Type 0
-ClosesOfDoomedUnlink = (state : State) (layout : Layout) (unlinked : List ℕ) (image : Image) (moment handle number : ℕ) (object : Object) (was : Loaded) → Keeps state layout unlinked image → IsRequest (to_close handle) → named_by state handle ≡ Some number → is_named (with_name handle None state) number ≡ false
+ClosesOfDoomedUnlink =
+    (state : State) (layout : Layout) (unlinked : List ℕ) (image : Image) (moment handle number : ℕ) (object : Object) (was : Loaded)
+    → Keeps state layout unlinked image → IsRequest (to_close handle) → named_by state handle ≡ Some number
+    → is_named (with_name handle None state) number ≡ false
     → IsPlacedAsDoomed state layout number object was → Keeps (step state moment (to_close handle)).state (layout_without layout (layout.place_of_doomed number)) (words_of was ++ unlinked) image
 
 -- Unsettling.

@@ -1,8 +1,8 @@
--- The states inside a sparse write: one part of an object changed, one more, or its main item's value changed. Each is a premise of the laws on changed and new items.
+-- The states inside a sparse write: one part of an object changed, one more, or one that goes. Each is a premise of the laws on changed and new items.
 use Rattle.std.specs.Prelude.{◌≡◌, ℕ, ◌<◌, true, false, Some, is_some, not, slice_set}
 use Rattle.std.specs.Ordering.{nat_cmp}
 use Rattle.std.specs.FinMap.{put}
-use Rattle.blk_model.specs.Items.{IsPartValue, PartValue, Shape, Streams, is_sparse, main, main_row, part, part_row, same_item}
+use Rattle.blk_model.specs.Items.{IsPartValue, PartValue, is_sparse, part, part_row, same_item}
 use Rattle.blk_model.specs.Sizes.{part_count}
 use Rattle.blk_model.specs.State.{IsValidState, Object, State, object_at, part_at}
 use Rattle.blk_model.specs.Holding.{row_of}
@@ -20,10 +20,6 @@ with_object state number object = record state { objects = slice_set state.objec
 abbrev pub with_value : Object → ℕ → PartValue → Object
 with_value object n value = record object { parts = put nat_cmp n value object.parts }
 
--- the object with another value of its main item
-abbrev pub with_main : Object → Shape → Streams → Object
-with_main object shape streams = record object { shape = shape; streams = streams }
-
 -- a live object with a value for a part differs from what it was in that item alone, which has the value
 abbrev pub PartsChangeAlone : Type 0
 PartsChangeAlone = (state : State) → IsValidState state → (number : ℕ) (object : Object) → object_at state number ≡ Some object → object.live ≡ true → (n : ℕ) (value : PartValue)
@@ -37,8 +33,3 @@ NewPartsKeepValid = (state : State) → IsValidState state → (number : ℕ) (o
 -- a part that goes leaves all else in the list and in the objects
 abbrev pub PartsAreLeftOut : Type 0
 PartsAreLeftOut = (state : State) → IsValidState state → (number : ℕ) (object : Object) → object_at state number ≡ Some object → object.live ≡ true → (n : ℕ) → ListsLess state (slice_set state.objects number (Some (without_part object n))) (λ item. not (same_item item (part object.key n)))
-
--- a live object with another value of its main item differs in that alone
-abbrev pub MainsChangeAlone : Type 0
-MainsChangeAlone = (state : State) → IsValidState state → (number : ℕ) (object : Object) → object_at state number ≡ Some object → object.live ≡ true → (shape : Shape) (streams : Streams)
-    → OneChanged state (slice_set state.objects number (Some (with_main object shape streams))) (main object.key) × (row_of (with_object state number (with_main object shape streams)) (main object.key) ≡ Some (main_row object.key shape streams))

@@ -84,11 +84,17 @@ OneMoreGoesOut = (state : State) (layout : Layout) (keep : Item → Bool) (chain
 
 -- unlinked blocks may be freed
 abbrev pub BlocksAreFreedPartlyOut : Type 0
-BlocksAreFreedPartlyOut = (state : State) (layout : Layout) (keep : Item → Bool) (chains : ℕ → List ℕ) (w : ℕ) (unlinked : List ℕ) (from image : Image) → KeepsPartlyOut state layout keep chains (w ∷ unlinked) from → RemovesAllocation from w image → KeepsPartlyOut state layout keep chains unlinked image
+BlocksAreFreedPartlyOut =
+    (state : State) (layout : Layout) (keep : Item → Bool) (chains : ℕ → List ℕ) (w : ℕ) (unlinked : List ℕ) (from image : Image)
+    → KeepsPartlyOut state layout keep chains (w ∷ unlinked) from → RemovesAllocation from w image
+    → KeepsPartlyOut state layout keep chains unlinked image
 
 -- and an unlinked external file may be deleted
 abbrev pub FilesAreDeletedPartlyOut : Type 0
-FilesAreDeletedPartlyOut = (state : State) (layout : Layout) (keep : Item → Bool) (chains : ℕ → List ℕ) (w : ℕ) (unlinked : List ℕ) (from image : Image) → KeepsPartlyOut state layout keep chains (w ∷ unlinked) from → RemovesExternal from w image → KeepsPartlyOut state layout keep chains unlinked image
+FilesAreDeletedPartlyOut =
+    (state : State) (layout : Layout) (keep : Item → Bool) (chains : ℕ → List ℕ) (w : ℕ) (unlinked : List ℕ) (from image : Image)
+    → KeepsPartlyOut state layout keep chains (w ∷ unlinked) from → RemovesExternal from w image
+    → KeepsPartlyOut state layout keep chains unlinked image
 
 -- and what is out may change, in its blocks and external files or in unlinked ones, as its record that has state 2 then
 abbrev pub WhatIsOutMayChange : Type 0
@@ -97,7 +103,10 @@ WhatIsOutMayChange = (touched : Claim → Bool) (state : State) (layout : Layout
 
 -- which items that aren't listed are kept is nothing to it
 abbrev pub OnlyListedAreOut : Type 0
-OnlyListedAreOut = (state : State) (layout : Layout) (keep other : Item → Bool) (chains : ℕ → List ℕ) (unlinked : List ℕ) (image : Image) → KeepsPartlyOut state layout keep chains unlinked image → ((item : Item) → is_listed state item ≡ true → keep item ≡ other item) → KeepsPartlyOut state layout other chains unlinked image
+OnlyListedAreOut =
+    (state : State) (layout : Layout) (keep other : Item → Bool) (chains : ℕ → List ℕ) (unlinked : List ℕ) (image : Image)
+    → KeepsPartlyOut state layout keep chains unlinked image → ((item : Item) → is_listed state item ≡ true → keep item ≡ other item)
+    → KeepsPartlyOut state layout other chains unlinked image
 
 -- Where all items of an object that no handle names are out, and freed or not.
 
@@ -109,6 +118,8 @@ UnheldOutDoomsEnd = (state : State) (moment : ℕ) (request : Request) (layout :
 
 -- and the next group is gone
 abbrev pub OutGroupsAreGone : Type 0
-OutGroupsAreGone = (state : State) (first : List Group) (layout : Layout) (unlinked : List ℕ) (chains : ℕ → List ℕ) (image : Image) (number : ℕ) (object : Object) (parts : List ℕ) → object_at (without first state) number ≡ Some object → object.live ≡ true → is_named (without first state) number ≡ false
+OutGroupsAreGone =
+    (state : State) (first : List Group) (layout : Layout) (unlinked : List ℕ) (chains : ℕ → List ℕ) (image : Image) (number : ℕ) (object : Object) (parts : List ℕ)
+    → object_at (without first state) number ≡ Some object → object.live ≡ true → is_named (without first state) number ≡ false
     → KeepsPartlyOut (without first state) layout (is_of_another object.key) chains unlinked image
     → KeepsUncounted (without (first ++ whole object.key parts ∷ []) state) (layout_less layout (gone_nodes (without first state) layout (is_of_another object.key)) chains) unlinked image

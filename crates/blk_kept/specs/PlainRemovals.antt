@@ -49,7 +49,10 @@ RemovingFindsDoomed = (state : State) (layout : Layout) (unlinked : List ℕ) (f
 
 -- in the end the state with it doomed is kept, and its words are unlinked
 abbrev pub DoomedObjectsAreRemoved : Type 0
-DoomedObjectsAreRemoved = (state : State) (layout : Layout) (unlinked : List ℕ) (from image : Image) (number : ℕ) (object : Object) (was : Loaded) → KeepsUncounted state layout unlinked from → object_at state number ≡ Some object → object.live ≡ true → object.parts ≡ [] → is_named state number ≡ false
+DoomedObjectsAreRemoved =
+    (state : State) (layout : Layout) (unlinked : List ℕ) (from image : Image) (number : ℕ) (object : Object) (was : Loaded)
+    → KeepsUncounted state layout unlinked from → object_at state number ≡ Some object → object.live ≡ true → object.parts ≡ []
+    → is_named state number ≡ false
     → IsRemoved layout (main object.key) was from image → KeepsUncounted (doomed number state (Some object)) (layout_removed layout (layout.place (main object.key)) was.contents) (words_of was ++ unlinked) image
 
 -- and so of a part that goes alone

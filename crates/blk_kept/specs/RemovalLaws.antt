@@ -55,7 +55,9 @@ layout_removed layout node contents = placed_less layout (put layout.at node Non
 
 -- at each word of the removal what was at rest is found, and from the second write on what is at rest without the item
 abbrev pub RemovalsFindEither : Type 0
-RemovalsFindEither = (state : State) (layout : Layout) (unlinked : List ℕ) (objects : List (Option Object)) (keep : Item → Bool) (item : Item) (was : Loaded) (from image : Image) → KeepsUncounted state layout unlinked from → IsWithout state objects keep item → layout.at (layout.place item) ≡ Some was
+RemovalsFindEither =
+    (state : State) (layout : Layout) (unlinked : List ℕ) (objects : List (Option Object)) (keep : Item → Bool) (item : Item) (was : Loaded) (from image : Image)
+    → KeepsUncounted state layout unlinked from → IsWithout state objects keep item → layout.at (layout.place item) ≡ Some was
     → (partly : IsPartly from (writes_of remove (layout.place item) (list_of from)) image) → Finds (if nat_lt partly.made 2 then rest state else rest (without_items state objects keep)) image
 
 -- links of records, or a word of the table, change; the chains are the layout's, or those without a record
@@ -71,12 +73,16 @@ pub record IsUnlinking (layout : Layout) (chains : ℕ → List ℕ) (from image
 
 -- while its record goes out of its chain then, what is at rest without the item is found
 abbrev pub UnlinkingFindsTheOthers : Type 0
-UnlinkingFindsTheOthers = (state : State) (layout : Layout) (unlinked : List ℕ) (objects : List (Option Object)) (keep : Item → Bool) (item : Item) (was : Loaded) (from between image : Image) → KeepsUncounted state layout unlinked from → IsWithout state objects keep item → layout.at (layout.place item) ≡ Some was
+UnlinkingFindsTheOthers =
+    (state : State) (layout : Layout) (unlinked : List ℕ) (objects : List (Option Object)) (keep : Item → Bool) (item : Item) (was : Loaded) (from between image : Image)
+    → KeepsUncounted state layout unlinked from → IsWithout state objects keep item → layout.at (layout.place item) ≡ Some was
     → IsRemovalDone from (layout.place item) between
     → (IsUnlinking layout layout.chains between image → Finds (rest (without_items state objects keep)) image) × (IsUnlinking layout (chains_without layout was.contents) between image → Finds (rest (without_items state objects keep)) image)
 
 -- in the end the state without the item is kept, and its words are unlinked
 abbrev pub RemovedItemsAreUnlinked : Type 0
-RemovedItemsAreUnlinked = (state : State) (layout : Layout) (unlinked : List ℕ) (objects : List (Option Object)) (keep : Item → Bool) (item : Item) (was : Loaded) (from between image : Image) → KeepsUncounted state layout unlinked from → IsWithout state objects keep item → layout.at (layout.place item) ≡ Some was
+RemovedItemsAreUnlinked =
+    (state : State) (layout : Layout) (unlinked : List ℕ) (objects : List (Option Object)) (keep : Item → Bool) (item : Item) (was : Loaded) (from between image : Image)
+    → KeepsUncounted state layout unlinked from → IsWithout state objects keep item → layout.at (layout.place item) ≡ Some was
     → IsRemovalDone from (layout.place item) between → IsUnlinking layout (chains_without layout was.contents) between image → LeavesFiles between image → ((node : ℕ) (loaded : Loaded) → layout.at node ≡ Some loaded → AreSealed between loaded → AreSealed image loaded)
     → KeepsUncounted (without_items state objects keep) (layout_removed layout (layout.place item) was.contents) (words_of was ++ unlinked) image

@@ -13,7 +13,7 @@ use Rattle.blk_model.specs.Room.{Group, without}
 use Rattle.blk_model.specs.Stops.{is_live}
 use Rattle.blk_kept.specs.Changes.{Finds}
 use Rattle.blk_kept.specs.Commands.{MayStop}
-use Rattle.blk_kept.specs.CommandStates.{IsUnsettled, KeepsOthers, MayLeave, Unsettles, amidst, in_order, with_names, with_room}
+use Rattle.blk_kept.specs.CommandStates.{IsUnsettled, KeepsOtherKeys, MayLeave, Unsettles, amidst, in_order, with_names, with_room}
 
 -- where what a stop may leave is found, a request may be stopped
 abbrev pub WhatIsLeftMayStop : Type 0
@@ -52,18 +52,18 @@ DoomedObjectsAreNotAtRest = (state : State) (number : ℕ) (object : Object) (sl
 -- nor is an unsettled one, whatever it becomes but settled, nor where its items stand
 abbrev pub UnsettledObjectsAreNotAtRest : Type 0
 UnsettledObjectsAreNotAtRest = (state : State) (number : ℕ) (object one other : Object) (uses items : List Item) → IsValidState state → object_at state number ≡ Some object → object.live ≡ true → IsUnsettled one object.key → IsUnsettled other object.key
-    → KeepsOthers state object.key uses → KeepsOthers state object.key items → rest (amidst state number one uses) ≡ rest (amidst state number other items)
+    → KeepsOtherKeys state object.key uses → KeepsOtherKeys state object.key items → rest (amidst state number one uses) ≡ rest (amidst state number other items)
 
 -- an item of a key that is put in front, or used, leaves the items of other keys in their order
 abbrev pub OwnUsesKeepOthers : Type 0
-OwnUsesKeepOthers = (state : State) (key : List ℕ) (item : Item) (uses : List Item) → key_of item ≡ key → KeepsOthers state key uses → KeepsOthers state key (item ∷ uses) × KeepsOthers state key (used item uses)
+OwnUsesKeepOthers = (state : State) (key : List ℕ) (item : Item) (uses : List Item) → key_of item ≡ key → KeepsOtherKeys state key uses → KeepsOtherKeys state key (item ∷ uses) × KeepsOtherKeys state key (used item uses)
 
 -- Objects that a request changes.
 
 -- once the object that a request unsettles isn't settled, a stop may leave what is at rest, whatever became of it and of the places of its items
 abbrev pub OthersMayBeLeftOnceUnsettled : Type 0
 OthersMayBeLeftOnceUnsettled = (state : State) (moment : ℕ) (request : Request) (number : ℕ) (object : Object) → IsValidState state → Unsettles state moment request number object → (changed : Object) (uses : List Item) → IsUnsettled changed object.key
-    → KeepsOthers (with_room state moment request) object.key uses → MayLeave state moment request (rest (amidst (with_room state moment request) number changed uses))
+    → KeepsOtherKeys (with_room state moment request) object.key uses → MayLeave state moment request (rest (amidst (with_room state moment request) number changed uses))
 
 -- a stop may leave what is at rest, whatever becomes of a doomed object
 abbrev pub OthersMayBeLeftWhileDoomed : Type 0

@@ -84,7 +84,9 @@ WholeObjectsAreDoomed = (state : State) (layout : Layout) (unlinked : List ℕ) 
 
 -- so a Doom and a DoomKey of it end
 abbrev pub HeldWholeDoomsEnd : Type 0
-HeldWholeDoomsEnd = (state : State) (moment : ℕ) (request : Request) (layout : Layout) (unlinked : List ℕ) (chains : ℕ → List ℕ) (from image : Image) (number : ℕ) (object : Object) (loaded : Loaded) → KeepsUncounted state layout unlinked from → refused moment request state ≡ None → IsDoomOf request state number
+HeldWholeDoomsEnd =
+    (state : State) (moment : ℕ) (request : Request) (layout : Layout) (unlinked : List ℕ) (chains : ℕ → List ℕ) (from image : Image) (number : ℕ) (object : Object) (loaded : Loaded)
+    → KeepsUncounted state layout unlinked from → refused moment request state ≡ None → IsDoomOf request state number
     → IsPlacedAsLive state layout number object loaded → is_named state number ≡ true → IsWholeUnchained state layout object.key loaded chains from image
     → KeepsUncounted (step state moment request).state (layout_doomed_whole state layout number object.key chains) (words_of_parts state layout object.key ++ unlinked) image
 

@@ -21,7 +21,7 @@ use Rattle.blk_volume.specs.View.{list_of, store_of}
 use Rattle.blk_laws.specs.CommandLaws.{marked}
 use Rattle.blk_kept.specs.Changes.{Finds}
 use Rattle.blk_kept.specs.Commands.{MayStop}
-use Rattle.blk_kept.specs.CommandStates.{IsDoomOf, IsLast, IsUnsettled, KeepsOthers, Unsettles, amidst, in_order, with_room}
+use Rattle.blk_kept.specs.CommandStates.{IsDoomOf, IsLast, IsUnsettled, KeepsOtherKeys, Unsettles, amidst, in_order, with_room}
 use Rattle.blk_kept.specs.Keeping.{KeepsUncounted}
 
 -- Uses.
@@ -39,7 +39,7 @@ UsesMayStop = (state : State) (moment : ℕ) (request : Request) (first others :
 -- and at each word of that of an item of the object that it has unsettled
 abbrev pub UnsettledUsesMayStop : Type 0
 UnsettledUsesMayStop = (state : State) (moment : ℕ) (request : Request) (number : ℕ) (object changed : Object) (uses : List Item) (item : Item) (layout : Layout) (unlinked : List ℕ) (from image : Image) → IsValidState state → Unsettles state moment request number object
-    → IsUnsettled changed object.key → KeepsOthers (with_room state moment request) object.key uses → key_of item ≡ object.key → KeepsUncounted (amidst (with_room state moment request) number changed uses) layout unlinked from
+    → IsUnsettled changed object.key → KeepsOtherKeys (with_room state moment request) object.key uses → key_of item ≡ object.key → KeepsUncounted (amidst (with_room state moment request) number changed uses) layout unlinked from
     → is_listed (amidst (with_room state moment request) number changed uses) item ≡ true → IsMidUse layout item from image → MayStop state moment request image
 
 -- Dirty words.

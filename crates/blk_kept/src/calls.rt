@@ -154,7 +154,7 @@ pub fn removed_items_are_one_less()
     ensures { RemovedItemsAreOneLess }
 {}
 
-/// An object without handles goes whole, alone or with its parts, and another value of an object's main item changes nothing else.
+/// An object without handles goes whole, alone or with its parts, and another value of an object's main item changes nothing else, and is what the item has then.
 pub fn states_change_in_one_object()
     ensures without { UnheldObjectsGoWhole }
     ensures group { UnheldObjectsGoWithTheirParts }

@@ -1,7 +1,7 @@
 //! What a stop in a command may leave, and how commands end: laws, each the contract of a function with an empty body.
 ghost use Rattle.blk_kept.specs.CommandEnds.{PassedRequestsTakeEffect, GroupsGoInTurn, WholeGroupsGoAsDoomed, PartsGoAlone, MarkedStatesAreValid, UsesEnd, OnlyUsesMayBeLeft, OpensEndOnceUsed, OpensMayLeave, CreatesEndOnceMade, CreatesMayLeave, WritesUnsettle, WritesEndOnceWritten, DoomedWritesEnd, SparseWritesUnsettle, SparseWritesEnd, EmptySparseWritesEnd, ClosesFreeTheName, ClosesSettle, ClosesMayLeave, ClosesOfDoomedEnd, DoomsEndOnceDoomed, DoomsMayLeave, TrimsEndOnceOut, TrimsMayLeave};
 ghost use Rattle.blk_kept.specs.Keeping.{KeepsSome};
-ghost use Rattle.blk_kept.specs.PartStates.{PartsChangeAlone, NewPartsKeepValid, PartsAreLeftOut, MainsChangeAlone};
+ghost use Rattle.blk_kept.specs.PartStates.{PartsChangeAlone, NewPartsKeepValid, PartsAreLeftOut};
 ghost use Rattle.blk_kept.specs.StageLaws.{StagesGoOn, StagesMayStop, WhatIsFoundMayStop, CallsFollow, EndsAreKept, EffectsAreDone, NotesEndSteps};
 ghost use Rattle.blk_kept.specs.WordStops.{UsesMayStop, UnsettledUsesMayStop, UnsettlingMayStop, SettlingMayStop, DoomsFindEither, OutIsDoomed, DoomedPartsFindTheSame, DoomsMayStop, PartsFindEither, PartOutIsGone, GroupsMayStop, WholeGroupsMayStop};
 ghost use Rattle.blk_kept.specs.NextStates.{UsesKeepNext, OpensKeepNext, CreatesKeepNext, WritesKeepNext, DoomedWritesKeepNext, SparseWritesKeepNext, EmptySparseWritesKeepNext, ClosesOfManyKeepNext, ClosesKeepNext, DoomsKeepNext, TrimsKeepNext};
@@ -13,6 +13,7 @@ ghost use Rattle.blk_kept.specs.HeldPartlyOut.{HeldOutObjectsAreDoomed, HeldOutD
 ghost use Rattle.blk_kept.specs.PartlyOutStops.{ItemsOfAKeyLeaveOthers, PartlyOutIsOut, PartlyOutFindsDoomed, NextPartsFindDoomed, UnlinkingItemsFindsDoomed, FreeingFindsDoomed, DeletingFindsDoomed, PartlyOutDoomsMayStop, PartlyOutGroupsMayStop};
 ghost use Rattle.blk_kept.specs.CountsOfParts.{GoneItemsAreLess, DoomedItemsAreLess, NextItemsAreOneLess, NewPartsAreOneMore};
 ghost use Rattle.blk_kept.specs.CreateStops.{InsertsMayStop, LinksMayStop, CreatesEndOnceCounted};
+ghost use Rattle.blk_kept.specs.RestLaws.{RestsAreNotRefused, RestsEvictTheOthersOrNone, TrimsGoOn, RestsHaveTheLaterSteps, RestsEndAlike, StopsInRestsAreInTheWhole, StopOnlyInTheRest};
 ghost use Rattle.blk_kept.specs.StopLaws.{WhatIsLeftMayStop, OrdersMayBeLeft, UsesMayBeLeft, UsesGoOn, RoomMayBeLeft, HandlesAreNotAtRest, DoomedObjectsAreNotAtRest, UnsettledObjectsAreNotAtRest, OwnUsesKeepOthers, OthersMayBeLeftOnceUnsettled, OthersMayBeLeftWhileDoomed};
 
 /// Once some groups are out and some of the later list steps are made, a stop may leave what is at rest in that order; where that is found the request may be stopped.
@@ -73,12 +74,11 @@ pub fn writes_end_once_written()
     ensures empty { EmptySparseWritesEnd }
 {}
 
-/// Inside a sparse write one part changes alone, or one more keeps the state valid, or one goes and leaves all else, or the main item changes alone.
+/// Inside a sparse write one part changes alone, or one more keeps the state valid, or one goes and leaves all else.
 pub fn parts_change_alone()
     ensures alone { PartsChangeAlone }
     ensures more { NewPartsKeepValid }
     ensures less { PartsAreLeftOut }
-    ensures mains { MainsChangeAlone }
 {}
 
 /// A Close frees its name; of the last handle it settles a live object, whose rest a stop may leave, and ends without a doomed one.
@@ -217,4 +217,15 @@ pub fn creates_may_be_stopped()
     ensures inserts { InsertsMayStop }
     ensures links { LinksMayStop }
     ensures ends { CreatesEndOnceCounted }
+{}
+
+/// On the state without the first groups that it evicts a command isn't refused, and evicts the others, or nothing where all fits before they are out, which a Trim never does. Where it evicts the others its steps are the later ones, it ends alike, and a stop in it is one in the whole command; where it evicts nothing one need not be.
+pub fn rests_of_commands_may_be_stopped()
+    ensures passes { RestsAreNotRefused }
+    ensures evicts { RestsEvictTheOthersOrNone }
+    ensures trims { TrimsGoOn }
+    ensures steps { RestsHaveTheLaterSteps }
+    ensures ends { RestsEndAlike }
+    ensures stops { StopsInRestsAreInTheWhole }
+    ensures only_where { StopOnlyInTheRest }
 {}

@@ -25,7 +25,8 @@ pub use commands::{
     held_objects_go_part_after_part, objects_go_part_after_part, orders_may_be_left,
     others_may_be_left, parts_are_counted, parts_change_alone, parts_may_be_stopped_between,
     plain_objects_are_removed, reads_end_once_used, removals_may_be_stopped, requests_take_effect,
-    rests_leave_them_out, uses_may_be_stopped, whole_objects_are_removed, writes_end_once_written,
+    rests_leave_them_out, rests_of_commands_may_be_stopped, uses_may_be_stopped,
+    whole_objects_are_removed, writes_end_once_written,
 };
 
 /// What is found in a folder that keeps a state is what is at rest in it. With nothing unlinked the folder stands for the state, and it is sound where each object is live and settled.

@@ -8,7 +8,7 @@ use Rattle.blk_volume.specs.ListView.{ListWrite, CanBeInserted}
 use Rattle.blk_volume.specs.Completion.{insert, remove}
 use Rattle.blk_volume.specs.ListPlans.{writes_of, touch_writes, completion_writes}
 use Rattle.blk_volume.specs.View.{list_of}
-use Rattle.blk_volume.specs.ListSteps.{IsPartly, IsTouched, IsSealed, KeepsSealed, AreSealed, AreTimes, steps_of_writes}
+use Rattle.blk_volume.specs.ListSteps.{IsPartly, IsTouched, IsSealed, KeepsSealed, AreNodesSealed, AreTimes, steps_of_writes}
 use Rattle.blk_volume.specs.ListImages.{IsWritable, CanBeMade, CompletesTo, HasListAtRest, operation_steps, steps_of_touch, completion_steps, CompletesAlike, IsCompleted, stopped_folder, StopsAlike}
 use Rattle.blk_volume.specs.ShownChanges.{OnlyListChanges}
 
@@ -28,7 +28,7 @@ WritesCanGoOn = (image : Image) (writes : List ListWrite) → IsWritable image �
 
 -- in the end each node that is written is sealed
 abbrev pub WritesSealTheirNodes : Type 0
-WritesSealTheirNodes = (image : Image) (writes : List ListWrite) → IsWritable image → CanBeMade image writes → AreSealed writes (after (steps_of_writes writes image) image)
+WritesSealTheirNodes = (image : Image) (writes : List ListWrite) → IsWritable image → CanBeMade image writes → AreNodesSealed writes (after (steps_of_writes writes image) image)
 
 -- and each other node that was sealed is so still
 abbrev pub WritesKeepSeals : Type 0
@@ -96,7 +96,7 @@ TouchesSetTheTimes = (image : Image) (node moment : ℕ) (prefix suffix : List �
 -- and with seals on the node and on all that its writes are of
 abbrev pub TouchesSealTheirNodes : Type 0
 TouchesSealTheirNodes = (image : Image) (node moment : ℕ) (prefix suffix : List ℕ) → IsWritable image → HasListAtRest (prefix ++ node ∷ suffix) image
-    → AreSealed (touch_writes node (list_of image)) (after (steps_of_touch node moment image) image) × IsSealed (after (steps_of_touch node moment image) image) node
+    → AreNodesSealed (touch_writes node (list_of image)) (after (steps_of_touch node moment image) image) × IsSealed (after (steps_of_touch node moment image) image) node
 
 -- where each other node that was sealed is so still
 abbrev pub TouchesKeepSeals : Type 0

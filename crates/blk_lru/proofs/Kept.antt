@@ -26,7 +26,7 @@ module _ (files : BlockFiles) where
     agrees = agrees_still (range file at (length bytes)) image (applied (Word file at bytes) image) spares (outside_write file at bytes image) files (λ n. refl) kept.agrees;
   }
 
-  pub kept_index : (at x : ℕ) (image : Image) → IsOpen files image → Along (IsOpen files) image (word_step Index at x)
+  kept_index : (at x : ℕ) (image : Image) → IsOpen files image → Along (IsOpen files) image (word_step Index at x)
   unfolding word_step
   kept_index at x image kept = (kept, kept_word Index at (word_bytes x) image (record { bytes = λ n i small. refl }) kept)
 

@@ -1,40 +1,34 @@
 -- What is told of a damage that a call on the use list meets: it has the place that was read, and what was found there.
-use Rattle.blk_disk.specs.Tables.{is_node_among}
 use Rattle.std.specs.Prelude.{ℕ, ◌≡◌, ◌⊎◌, ◌+◌, true}
 use Rattle.blk_image.specs.Told.{Told, Stays}
 use Rattle.blk_format.specs.Address.{file_selector, place}
 use Rattle.blk_format.specs.Records.{node_size}
 use Rattle.blk_record.specs.declared.index_head.TheConstants.IndexHead as IndexHead
 use Rattle.blk_record.specs.declared.node.TheConstants.NodeView as NodeView
-use Rattle.blk_io.specs.declared.folder.FileId.{FileId}
 use Rattle.blk_io.specs.declared.folder.FileId.TheVariants as names
 use Rattle.blk_io.specs.declared.fault.Damage.{Damage}
 use Rattle.blk_io.specs.Faults.{IsShort}
 use Rattle.blk_disk.specs.declared.tables.BlockFiles.{BlockFiles}
-use Rattle.blk_disk.specs.Unsealed.{IsUnsealed}
-use Rattle.blk_lru.specs.Nodes.{NamesNoNode}
-
--- a word was read that is to name a node: its bytes are too few, or it names none
-abbrev pub IsWordDamage : BlockFiles → Told → FileId → (at : ℕ) → Damage → Type 0
-IsWordDamage files told file at damage = IsShort told file at 4 damage ⊎ NamesNoNode files told file at damage
+use Rattle.blk_disk.specs.Tables.{is_node_among}
+use Rattle.blk_disk.specs.Damages.{IsFailedRecord, IsNodeWordDamage}
 
 -- the head was read
 abbrev pub IsListHeadDamage : BlockFiles → Told → Damage → Type 0
-IsListHeadDamage files told damage = IsWordDamage files told names.Index IndexHead.HEADS damage
+IsListHeadDamage files told damage = IsNodeWordDamage files told names.Index IndexHead.HEADS damage
 
 -- the tail was read
 abbrev pub IsListTailDamage : BlockFiles → Told → Damage → Type 0
-IsListTailDamage files told damage = IsWordDamage files told names.Index IndexHead.TAILS damage
+IsListTailDamage files told damage = IsNodeWordDamage files told names.Index IndexHead.TAILS damage
 
 -- a link of a node was read, its next or its prev
 abbrev pub IsNodeLinkDamage : (node at : ℕ) → BlockFiles → Told → Damage → Type 0
-IsNodeLinkDamage node at files told damage = IsWordDamage files told (names.Block (file_selector node)) (place node + at) damage
+IsNodeLinkDamage node at files told damage = IsNodeWordDamage files told (names.Block (file_selector node)) (place node + at) damage
 
 -- a node that stands was read whole: its bytes are too few, or it doesn't check
 pub record IsWrongNode (files : BlockFiles) (told : Told) (damage : Damage) : Type 0 where
   pub node : ℕ
   pub stands : is_node_among files node ≡ true
-  pub failed : IsShort told (names.Block (file_selector node)) (place node) node_size damage ⊎ IsUnsealed told node damage
+  pub failed : IsFailedRecord told node node_size damage
 
 -- an insert was damaged at the head, before it wrote, or at a node, which is as it was read
 abbrev pub IsInsertDamage : BlockFiles → (old new : Told) → Damage → Type 0

@@ -1,26 +1,14 @@
 -- Words that name nodes, and the checks of what is read.
 use Rattle.std.specs.Prelude.{ℕ, ◌≡◌, ◌⊎◌, ◌+◌, true, false, ◌&&◌, if◌then◌else◌, Option, None, Some}
-use Rattle.std.specs.Option.{ForSome}
 use Rattle.blk_image.specs.Image.{Block, HasRange, Image, word}
-use Rattle.blk_image.specs.Told.{Told}
 use Rattle.blk_format.specs.Address.{file_selector, place}
 use Rattle.blk_format.specs.Records.{node_checks, node_size}
-use Rattle.blk_io.specs.declared.folder.FileId.{FileId}
-use Rattle.blk_io.specs.declared.fault.Damage.{Damage}
-use Rattle.blk_io.specs.FileNames.{file_of}
 use Rattle.blk_record.specs.declared.node.TheConstants.NodeView as NodeView
 use Rattle.blk_disk.specs.declared.tables.BlockFiles.{BlockFiles}
 use Rattle.blk_disk.specs.Tables.{is_node_among}
 use Rattle.blk_volume.specs.ListView.{ListView}
 use Rattle.blk_volume.specs.View.{list_of, node_at}
 use Rattle.blk_lru.specs.declared.nodes.Links.{Links}
-
--- the word at a place of a file was to name a node, and doesn't: the damage has the place, and finds the word
-pub record NamesNoNode (files : BlockFiles) (told : Told) (file : FileId) (at : ℕ) (damage : Damage) : Type 0 where
-  pub of_file : damage.file ≡ file
-  pub at_place : damage.at ≡ at
-  pub unlike : is_node_among files damage.found ≡ false
-  pub there : ForSome told.files (λ image. damage.found ≡ word image (file_of file) at)
 
 -- the places of a node's links: next, and prev
 abbrev pub IsLinkPlace : ℕ → Type 0

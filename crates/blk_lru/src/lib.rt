@@ -15,6 +15,3 @@ pub use completing::{complete, pending};
 pub use plans::Plan;
 pub use reading::{after, before, first, last};
 pub use writes::Write;
-
-#[cfg(test)]
-mod tests;

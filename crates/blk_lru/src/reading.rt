@@ -10,7 +10,8 @@ ghost use Rattle.blk_volume.specs.ListImages.{HasListAtRest, walked};
 ghost use Rattle.blk_io.specs.declared.folder.FileId.TheVariants as names;
 ghost use Rattle.blk_io.specs.Faults.{IfDamaged, IfDevice};
 ghost use Rattle.blk_disk.specs.Tables.{Agrees, is_node_among};
-ghost use Rattle.blk_lru.specs.Damages.{IsListHeadDamage, IsNodeLinkDamage, IsListTailDamage, IsWordDamage};
+ghost use Rattle.blk_disk.specs.Damages.{IsNodeWordDamage};
+ghost use Rattle.blk_lru.specs.Damages.{IsListHeadDamage, IsNodeLinkDamage, IsListTailDamage};
 ghost use Rattle.blk_lru.specs.Nodes.{link_at, IsNodeOrNone};
 ghost use Rattle.blk_lru.specs.Lists.{IsListed, IsListAtRest, first_node_of, last_node_of};
 ghost use Rattle.blk_lru.specs.Plans.{word_or_zero};
@@ -130,7 +131,7 @@ pub(crate) fn end_of_list<F: Folder>(
     ensures stands { IfOk result (λ node. IfSome node (λ n. IsTrue (is_node_among files.now n))) }
     ensures checked { OnOk result (ForSome (F.told f.old).files (λ image. HasRange image index at 4)) }
     ensures stays { Stays (F.told f.old) (F.told f.new) }
-    ensures damaged { IfDamaged result (IsWordDamage files.now (F.told f.old) names.Index at) }
+    ensures damaged { IfDamaged result (IsNodeWordDamage files.now (F.told f.old) names.Index at) }
     ensures untold { ForSome (F.told f.old).files HasWholeIndex → ForSome (F.told f.old).files (λ image. IsNodeOrNone files.now (image_word image index at)) → IfDamaged result (λ _. (F.told f.old).files ≡ None) }
     ensures later { F.faults f.old ≤ F.faults f.new }
     ensures device { IfDevice result (Rises (F.faults f.old) (F.faults f.new)) }

@@ -28,7 +28,9 @@ pub record LaterOutcome (state : State) (moment : ℕ) (request : Request) (firs
 
 -- once the first groups are out, what is at rest without them may be left by a stop in the command
 abbrev pub EvictionsMayStop : Type 0
-EvictionsMayStop = (state : State) (moment : ℕ) (request : Request) (first others : List Group) → IsValidState state → EvictsFirst state moment request first others → StopOutcome state moment request (step state moment request).state (rest (without first state))
+EvictionsMayStop =
+    (state : State) (moment : ℕ) (request : Request) (first others : List Group) → IsValidState state → EvictsFirst state moment request first others
+    → StopOutcome state moment request (step state moment request).state (rest (without first state))
 
 -- and so may what a stop in the rest of it leaves of the state without them
 abbrev pub EvictionsComeFirst : Type 0

@@ -39,6 +39,18 @@ impl<'a> BlockHead<'a> {
     /// The most blocks of a file.
     pub const MOST_BLOCKS: u32 = 64896;
 
+    /// The place of the magic number.
+    pub const MAGIC_PLACE: u64 = 0;
+
+    /// The place of the version.
+    pub const VERSION_PLACE: u64 = 4;
+
+    /// The place of the number of the file, which stands in a word with that of the next.
+    pub const THIS_FILE: u64 = 8;
+
+    /// The place of the bytes of a block.
+    pub const ENTRY_SIZE: u64 = 12;
+
     /// The place of the number of the next file of the kind.
     pub const NEXT_FILE: u64 = 10;
 

@@ -23,8 +23,3 @@ pub use index_head::IndexHead;
 pub use node::{NodeMut, NodeView};
 pub use record::{Record, RecordMut, lent_fields_are_set};
 pub use sparse_head::SparseHead;
-
-#[cfg(test)]
-mod record_tests;
-#[cfg(test)]
-mod tests;

@@ -1,11 +1,15 @@
 -- Steps that are made unless a word is right already, by what is read there.
-use Rattle.std.proofs.Common.{inl, inr, ◌≡◌, ◌≢◌, ◌⊎◌, ℕ, ◌+◌, Bool, true, false, List, [], ◌∷◌, None, refl, sym, ap, ◌∙◌, subst, arith}
+use Rattle.std.proofs.Common.{inl, inr, ◌≡◌, ◌≢◌, ◌⊎◌, ℕ, ◌+◌, Bool, true, false, List, [], ◌∷◌, length, None, refl, sym, ap, ◌∙◌, subst, arith}
 use Rattle.std.specs.Prelude.{◌==◌, if◌then◌else◌}
 use Rattle.std.specs.Option.{ForSome}
 use Rattle.std.proofs.lemmas.Bool.{eq-eqb, ne_eqb}
+use Rattle.blk_image.specs.Bytes.{word_bytes}
 use Rattle.blk_image.specs.Image.{Index, Block, Image, byte, word}
-use Rattle.blk_image.specs.Steps.{TrailStep, after, word_step}
+use Rattle.blk_image.specs.Footprint.{range}
+use Rattle.blk_image.specs.Steps.{TrailStep, Word, after, applied, word_step}
 use Rattle.blk_image.specs.Told.{Told, Along}
+use Rattle.blk_image.proofs.Footprints.{outside_write}
+use Rattle.blk_image.proofs.Images.{length-after_write}
 use Rattle.blk_image.proofs.Runs.{until-append, until_last}
 use Rattle.blk_volume.specs.ListView.{first_or}
 use Rattle.blk_format.specs.Address.{file_selector, kind_of, place, blocks_256}
@@ -16,10 +20,11 @@ use Rattle.blk_volume.specs.View.{stands_as, store_of, follow_at}
 use Rattle.blk_disk.specs.declared.tables.BlockFiles.{BlockFiles}
 use Rattle.blk_disk.specs.Tables.{Agrees, is_record_among, stands_among}
 use Rattle.blk_disk.specs.Open.{IsOpen}
-use Rattle.blk_lru.proofs.Kept.{kept_index, kept_sealed}
+use Rattle.blk_disk.proofs.Agreeing.{agrees_still}
+use Rattle.blk_lru.proofs.Kept.{kept_sealed}
 use Rattle.blk_audit.proofs.Shown.{names_stand}
 use Rattle.blk_chain.proofs.Heads.{names-parts}
-use Rattle.blk_repair_laws.specs.ChainRepair.{bucket_steps, chain_steps, link_steps, next_steps}
+use Rattle.blk_repair_laws.specs.ChainRepair.{bucket_steps, chain_steps, next_words_steps, next_steps}
 
 -- the word of a bucket
 bucket-by : (image : Image) (number w now : ℕ) → now ≡ bucket_of (byte image Index) number → (b : Bool) → (now == w) ≡ b → bucket_steps number w image ≡ (if b then [] else word_step Index (place_of_bucket number) w)
@@ -51,8 +56,16 @@ choice-open : (files : BlockFiles) (image : Image) (b : Bool) (steps : List Trai
 choice-open files image true steps is all = is
 choice-open files image false steps is all = all
 
+-- a word of the table is written into an open folder, which stays open
+table-open : (files : BlockFiles) (number w : ℕ) (image : Image) → IsOpen files image → Along (IsOpen files) image (word_step Index (place_of_bucket number) w)
+unfolding word_step
+table-open files number w image is = (is, record {
+  whole_index = length-after_write image Index Index (place_of_bucket number) (word_bytes w) ∙ is.whole_index;
+  agrees = agrees_still (range Index (place_of_bucket number) (length (word_bytes w))) image (applied (Word Index (place_of_bucket number) (word_bytes w)) image) (record { bytes = λ n i small. refl }) (outside_write Index (place_of_bucket number) (word_bytes w) image) files (λ n. refl) is.agrees;
+})
+
 pub bucket-open : (files : BlockFiles) (number w : ℕ) (image : Image) → IsOpen files image → Along (IsOpen files) image (bucket_steps number w image)
-bucket-open files number w image is = choice-open files image ((store_of image).table number == w) (word_step Index (place_of_bucket number) w) is (kept_index files (place_of_bucket number) w image is)
+bucket-open files number w image is = choice-open files image ((store_of image).table number == w) (word_step Index (place_of_bucket number) w) is (table-open files number w image is)
 
 pub next-open : (files : BlockFiles) (entry w : ℕ) (image : Image) → IsOpen files image → Along (IsOpen files) image (next_steps entry w image)
 next-open files entry w image is = choice-open files image ((store_of image).chain_next entry == w) (sealed_steps image entry ((entry_next_place, w) ∷ [])) is (kept_sealed files entry ((entry_next_place, w) ∷ []) image is)
@@ -72,15 +85,15 @@ next-later files a m entry w now P is_open stands read apart stays holds from th
     (subst (λ (t : Told). ForSome t.files (λ from. P t (sealed_steps from entry ((4, w) ∷ [])))) stays holds from there)
 
 -- and so does a chain of them
-links-open : (files : BlockFiles) (words : List ℕ) (image : Image) → IsOpen files image → Along (IsOpen files) image (link_steps words image)
+links-open : (files : BlockFiles) (words : List ℕ) (image : Image) → IsOpen files image → Along (IsOpen files) image (next_words_steps words image)
 links-open files [] image is = is
 links-open files (w ∷ words) image is =
     let first : List TrailStep = next_steps w (first_or 0 words) image in
     let all : Along (IsOpen files) image first = next-open files w (first_or 0 words) image is in
-    until-append (IsOpen files) (IsOpen files) first (link_steps words (after first image)) image all (links-open files words (after first image) (until_last (IsOpen files) (IsOpen files) first image all))
+    until-append (IsOpen files) (IsOpen files) first (next_words_steps words (after first image)) image all (links-open files words (after first image) (until_last (IsOpen files) (IsOpen files) first image all))
 
 pub chain-open : (files : BlockFiles) (number : ℕ) (words : List ℕ) (image : Image) → IsOpen files image → Along (IsOpen files) image (chain_steps number words image)
 chain-open files number words image is =
     let first : List TrailStep = bucket_steps number (first_or 0 words) image in
     let all : Along (IsOpen files) image first = bucket-open files number (first_or 0 words) image is in
-    until-append (IsOpen files) (IsOpen files) first (link_steps words (after first image)) image all (links-open files words (after first image) (until_last (IsOpen files) (IsOpen files) first image all))
+    until-append (IsOpen files) (IsOpen files) first (next_words_steps words (after first image)) image all (links-open files words (after first image) (until_last (IsOpen files) (IsOpen files) first image all))

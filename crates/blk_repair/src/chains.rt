@@ -8,7 +8,7 @@ ghost use Rattle.blk_io.specs.Faults.{IfDamaged, IfDevice};
 ghost use Rattle.blk_disk.specs.Tables.{is_record_among};
 ghost use Rattle.blk_disk.specs.Open.{IsOpen};
 ghost use Rattle.blk_repair_laws.specs.ListRepair.{HoldsTheSame};
-ghost use Rattle.blk_repair_laws.specs.ChainRepair.{HasChainsUpTo, chain_steps, link_steps};
+ghost use Rattle.blk_repair_laws.specs.ChainRepair.{HasChainsUpTo, chain_steps, next_words_steps};
 ghost use Rattle.blk_repair.specs.Damages.{AllCheck, IsChainDamage, IsWrongRecord};
 ghost use Rattle.blk_repair.specs.Chains.{IsNextChain};
 
@@ -55,12 +55,12 @@ pub fn mend_chain<F: Folder>(
 fn link<F: Folder>(f: &mut F, files: &BlockFiles, records: &[Addr]) -> Result<(), Fault>
     requires stand { All (λ w. is_record_among files.now w ≡ true) records.now }
     requires is_open { ForSome (F.told f.old).files (IsOpen files.now) }
-    ensures steps { OnOk result (ForSome (F.told f.old).files (λ from. Applies (F.told f.old) (F.told f.new) (link_steps records.now from))) }
-    ensures prefix { ForSome (F.told f.old).files (λ from. AppliesPrefix (F.told f.old) (F.told f.new) (link_steps records.now from)) }
+    ensures steps { OnOk result (ForSome (F.told f.old).files (λ from. Applies (F.told f.old) (F.told f.new) (next_words_steps records.now from))) }
+    ensures prefix { ForSome (F.told f.old).files (λ from. AppliesPrefix (F.told f.old) (F.told f.new) (next_words_steps records.now from)) }
     ensures damaged { IfDamaged result (IsWrongRecord files.now (F.told f.new)) }
 
     // A folder that tells its files gives a damage only where not all of them check at each word.
-    ensures untold { ForSome (F.told f.old).files (λ from. Along (AllCheck records.now) from (link_steps records.now from)) → IfDamaged result (λ _. (F.told f.old).files ≡ None) }
+    ensures untold { ForSome (F.told f.old).files (λ from. Along (AllCheck records.now) from (next_words_steps records.now from)) → IfDamaged result (λ _. (F.told f.old).files ≡ None) }
     ensures silent { (F.told f.old).files ≡ None → (F.told f.new).files ≡ None }
     ensures later { F.faults f.old ≤ F.faults f.new }
     ensures device { IfDevice result (Rises (F.faults f.old) (F.faults f.new)) }

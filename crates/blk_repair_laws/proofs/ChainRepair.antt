@@ -38,7 +38,7 @@ use Rattle.blk_laws.proofs.walks.Shown.{kept-given, is_among-filter}
 use Rattle.blk_volume.specs.Audit.{kept_as, is_kept, kept_nodes}
 use Rattle.blk_repair_laws.specs.ListRepair.{HoldsTheSame}
 use Rattle.blk_repair_laws.proofs.Paths.{Path, IsPath, skip}
-use Rattle.blk_repair_laws.specs.ChainRepair.{is_kept_record, kept_records, bucket_steps, next_steps, link_steps, chain_steps, chains_steps, chain_repair_steps, KeepsAll, ChainsAreRepaired, HasChainsUpTo, ChainsBegin, BucketsAreMended, WholeChainsNeedNoSteps, ChainsEnd, KeptRecordsStay, WholeChainsStay}
+use Rattle.blk_repair_laws.specs.ChainRepair.{is_kept_record, kept_records, bucket_steps, next_steps, next_words_steps, chain_steps, chains_steps, chain_repair_steps, KeepsAllWalked, ChainsAreRepaired, HasChainsUpTo, ChainsBegin, BucketsAreMended, WholeChainsNeedNoSteps, ChainRepairsEnd, KeptRecordsStay, WholeChainsStay}
 use Rattle.blk_repair_laws.proofs.KeptRecords.{IsGivenAt, given-at}
 use Rattle.blk_repair_laws.specs.RecordSeals.{KeepsRecordsSealed}
 use Rattle.blk_repair_laws.proofs.RecordSeals.{keeps-none, keeps-more, word-keeps}
@@ -113,7 +113,7 @@ skip-none : (test : ℕ → Bool) (xs : List ℕ) → filter test xs ≡ [] → 
 skip-none test [] e = refl
 skip-none test (x ∷ xs) e = ⊎_elim (λ (good : test x ≡ true). let is : x ∷ filter test xs ≡ [] = rw good at e in cc) (λ (bad : test x ≡ false). rw bad (skip-none test xs (rw bad at e))) (cases_Bool (test x))
 
-module _ (from : Image) (well_from : IsWellFormed from) (all : KeepsAll from) where
+module _ (from : Image) (well_from : IsWellFormed from) (all : KeepsAllWalked from) where
   abbrev pub given : ℕ → Option Loaded
   given = kept_as (store_of from) held_rule (walked from)
 
@@ -366,7 +366,7 @@ module _ (from : Image) (well_from : IsWellFormed from) (all : KeepsAll from) wh
     elsewhere : Elsewhere i j b
 
   links : (cs : List ℕ) (i : Image) (b : ℕ) (prefix : List ℕ) (c : ℕ) (suffix : List ℕ) → IsLinking i b prefix c suffix → filter test suffix ≡ cs
-      → Along (HoldsTheSame from) i (link_steps (c ∷ cs) i) × IsMade i b (prefix ++ c ∷ cs) (after (link_steps (c ∷ cs) i) i)
+      → Along (HoldsTheSame from) i (next_words_steps (c ∷ cs) i) × IsMade i b (prefix ++ c ∷ cs) (after (next_words_steps (c ∷ cs) i) i)
   links [] i b prefix c suffix l left =
       let none : skip test suffix ≡ [] = skip-none test suffix left in
       let zero_is : first_or 0 (skip test suffix) ≡ 0 = ap (first_or 0) none in
@@ -394,13 +394,13 @@ module _ (from : Image) (well_from : IsWellFormed from) (all : KeepsAll from) wh
         kept_c = of-test d s.good;
       } in
       let more = links cs j b (prefix ++ c ∷ []) d s.rest on s.left in
-      let end : Image = after (link_steps (d ∷ cs) j) j in
+      let end : Image = after (next_words_steps (d ∷ cs) j) j in
       let made : IsMade i b (prefix ++ c ∷ d ∷ cs) end = record {
         steady = more.1.steady;
         chain_is = subst (IsChain (store_of end) b) (append-one prefix c (d ∷ cs)) more.1.chain_is;
         elsewhere = elsewhere-more i j end b one.1.elsewhere more.1.elsewhere;
       } in
-      (until-append (HoldsTheSame from) (HoldsTheSame from) (next_steps c d i) (link_steps (d ∷ cs) j) i one.0 more.0, subst (IsMade i b (prefix ++ c ∷ d ∷ cs)) (sym (after-append (next_steps c d i) (link_steps (d ∷ cs) j) i)) made)
+      (until-append (HoldsTheSame from) (HoldsTheSame from) (next_steps c d i) (next_words_steps (d ∷ cs) j) i one.0 more.0, subst (IsMade i b (prefix ++ c ∷ d ∷ cs)) (sym (after-append (next_steps c d i) (next_words_steps (d ∷ cs) j) i)) made)
 
   -- ---- the word of the bucket
 
@@ -526,9 +526,9 @@ module _ (from : Image) (well_from : IsWellFormed from) (all : KeepsAll from) wh
             kept_c = of-test c st.good;
           } in
           let more = links cs j b [] c st.rest on st.left in
-          let end : Image = after (link_steps (c ∷ cs) j) j in
+          let end : Image = after (next_words_steps (c ∷ cs) j) j in
           let made : IsMade i b (c ∷ cs) end = record { steady = more.1.steady; chain_is = more.1.chain_is; elsewhere = elsewhere-more i j end b g.1.elsewhere more.1.elsewhere } in
-          (until-append (HoldsTheSame from) (HoldsTheSame from) (bucket_steps b c i) (link_steps (c ∷ cs) j) i g.0 more.0, subst (IsMade i b (c ∷ cs)) (sym (after-append (bucket_steps b c i) (link_steps (c ∷ cs) j) i)) made)
+          (until-append (HoldsTheSame from) (HoldsTheSame from) (bucket_steps b c i) (next_words_steps (c ∷ cs) j) i g.0 more.0, subst (IsMade i b (c ∷ cs)) (sym (after-append (bucket_steps b c i) (next_words_steps (c ∷ cs) j) i)) made)
 
   -- ---- all buckets
 
@@ -587,7 +587,7 @@ chains-begin image well ready all = record {
 pub buckets-mended : BucketsAreMended
 buckets-mended from image bucket well all below m = one-bucket from well all image bucket below m
 
-pub chains-end : ChainsEnd
+pub chains-end : ChainRepairsEnd
 chains-end from image m = record { list = m.list; seals = m.seals; chains = m.mended }
 
 pub chains-repaired : ChainsAreRepaired
@@ -601,7 +601,7 @@ chains-repaired image well ready all =
 unless-right : (word other : ℕ) (steps : List TrailStep) → word ≡ other → (if word == other then [] else steps) ≡ []
 unless-right word other steps same = rw (eq-eqb word other same) refl
 
-links-right : (image : Image) (bucket : ℕ) (words : List ℕ) (word : ℕ) → Linked (store_of image) bucket word words → (word ≡ first_or 0 words) × (link_steps words image ≡ [])
+links-right : (image : Image) (bucket : ℕ) (words : List ℕ) (word : ℕ) → Linked (store_of image) bucket word words → (word ≡ first_or 0 words) × (next_words_steps words image ≡ [])
 links-right image bucket [] word linked = (linked, refl)
 links-right image bucket (w ∷ words) word linked =
     let rest = links-right image bucket words ((store_of image).chain_next w) linked.2 in

@@ -26,7 +26,7 @@ use Rattle.blk_format.proofs.Finished.{whole_index}
 use Rattle.blk_laws.proofs.updates.Fronts.{AreSmall, small-take, small-words}
 use Rattle.blk_laws.proofs.examples.SmallFolder.{cut_to, cut_is_well_formed, cut_is_walked, cut_is_kept}
 use Rattle.blk_laws.proofs.examples.WholeFolder.{whole_folder, whole-is_well_formed, whole-linked}
-use Rattle.blk_repair_laws.specs.ListRepair.{HoldsTheSame, HasRemoved, IsListMended, dropped_nodes, ended_image, without}
+use Rattle.blk_repair_laws.specs.ListRepair.{HoldsTheSame, HasRemoved, IsListMended, dropped_nodes, ended_image, all_but}
 use Rattle.blk_repair_laws.specs.ChainRepair.{HasChainsUpTo}
 use Rattle.blk_repair_laws.specs.RecordSeals.{KeepsRecordsSealed}
 use Rattle.blk_laws.proofs.examples.OneEntry as one
@@ -135,7 +135,7 @@ cut-kept_nodes = ap (map (λ (k : Loaded). k.node)) cut_is_kept
 
 -- the second node is taken out
 cut-dropped : dropped_nodes (ended_image (cut_to 8448)) ≡ 0x90000001 ∷ []
-cut-dropped = dropped-are (cut_to 8448) cut_is_well_formed cut-writable ∙ ap (λ (nodes : List ℕ). without nodes (map (λ (k : Loaded). k.node) (kept (cut_to 8448)))) cut_is_walked ∙ ap (without (0x90000000 ∷ 0x90000001 ∷ [])) cut-kept_nodes
+cut-dropped = dropped-are (cut_to 8448) cut_is_well_formed cut-writable ∙ ap (λ (nodes : List ℕ). all_but nodes (map (λ (k : Loaded). k.node) (kept (cut_to 8448)))) cut_is_walked ∙ ap (all_but (0x90000000 ∷ 0x90000001 ∷ [])) cut-kept_nodes
 
 cut-begins : HasRemoved (cut_to 8448) [] (0x90000000 ∷ 0x90000001 ∷ []) (0x90000000 ∷ []) (ended_image (cut_to 8448))
 cut-begins =

@@ -40,7 +40,7 @@ use Rattle.blk_laws.proofs.lists.ListCompletions.{at_moment, walk_outcome, last_
 use Rattle.blk_laws.proofs.lists.WriteSteps.{checked-small, writes_show, writes-go_on, WritesShow}
 use Rattle.blk_repair_laws.specs.EndRepair.{unless, end_writes_of, end_writes}
 use Rattle.blk_volume.specs.Audit.{is_kept, kept_nodes}
-use Rattle.blk_repair_laws.specs.ListRepair.{end_steps, removal_steps, dropped_nodes, completed_image, ended_image, list_repair_steps, HoldsTheSame, IsListMended, ListsAreRepaired, CompletedListsAreEnded, ListsAtRestNeedNoEnd, without, is_first, DroppedNodesAreTheOthers, HasLeft, HasRemoved, RemovalsBegin, KeptNodesArePassed, OtherNodesAreRemoved, RemovalsEnd}
+use Rattle.blk_repair_laws.specs.ListRepair.{end_steps, removal_steps, dropped_nodes, completed_image, ended_image, list_repair_steps, HoldsTheSame, IsListMended, ListsAreRepaired, CompletedListsAreEnded, ListsAtRestNeedNoEnd, all_but, is_first, DroppedNodesAreTheOthers, HasLeft, HasRemoved, RemovalsBegin, KeptNodesArePassed, OtherNodesAreRemoved, ListRepairsEnd}
 use Rattle.blk_repair_laws.proofs.EndRepair.{IsWalked, walked-is, ends-mended}
 use Rattle.blk_laws.proofs.walks.Kept.{kept-without, kept-alone, kept-nodes}
 use Rattle.blk_repair_laws.specs.RecordSeals.{KeepsRecordsSealed}
@@ -91,11 +91,11 @@ lacks-filter p (y ∷ xs) x lacks =
     let parts = or_parts (y == x) (is_among xs x) lacks in
     ⊎_elim (λ (e : p y ≡ true). rw e (eqb-sym y x parts.0)) (λ (e : p y ≡ false). rw e (lacks-filter p xs x parts.1)) (cases_Bool (p y))
 
-without-other : (x : ℕ) (xs others : List ℕ) → is_first x others ≡ false → without (x ∷ xs) others ≡ x ∷ without xs others
+without-other : (x : ℕ) (xs others : List ℕ) → is_first x others ≡ false → all_but (x ∷ xs) others ≡ x ∷ all_but xs others
 without-other x xs [] other = refl
 without-other x xs (o ∷ others) other = rw other refl
 
-pub filter-without : (p : ℕ → Bool) (xs : List ℕ) → Distinct xs → filter (λ x. not (p x)) xs ≡ without xs (filter p xs)
+pub filter-without : (p : ℕ → Bool) (xs : List ℕ) → Distinct xs → filter (λ x. not (p x)) xs ≡ all_but xs (filter p xs)
 filter-without p [] once = refl
 filter-without p (x ∷ xs) once =
     ⊎_elim
@@ -430,11 +430,11 @@ module _ (image : Image) (well : IsWellFormed image) (ready : IsWritable image) 
       ∙ filter-same has.left.stays (is_kept (store_of e) held_rule (walked e)) (walked e) has.left.kept_stay
       (λ w stays among. has.were_kept w (in-before before w (ap (λ (ns : List ℕ). is_among ns w) has.left.are ∙ is_among-filter has.left.stays (walked e) w ∙ ap₂ (λ (a b : Bool). a && b) stays among)))
 
-  dropped-others : dropped_nodes e ≡ without (completed_walk image) (map (λ k. k.node) (kept image))
+  dropped-others : dropped_nodes e ≡ all_but (completed_walk image) (map (λ k. k.node) (kept image))
   dropped-others =
       ap (filter (λ node. not (is_kept (store_of e) held_rule (walked e) node))) walked-ended
       ∙ filter-without (is_kept (store_of e) held_rule (walked e)) (completed_walk image) (subst Distinct walked-ended rests.whole.distinct)
-      ∙ sym (ap (without (completed_walk image)) (nodes-are ∙ ap (filter (is_kept (store_of e) held_rule (walked e))) walked-ended))
+      ∙ sym (ap (all_but (completed_walk image)) (nodes-are ∙ ap (filter (is_kept (store_of e) held_rule (walked e))) walked-ended))
 
 pub lists-repaired : ListsAreRepaired
 lists-repaired = list-repaired
@@ -451,7 +451,7 @@ kept-passed_by from image before node nodes others well ready has = kept-passed 
 pub others-removed : OtherNodesAreRemoved
 others-removed from image before node nodes others well ready has other = other-removed from well ready before node nodes others image has other
 
-pub removals-end : RemovalsEnd
+pub removals-end : ListRepairsEnd
 removals-end from image before well ready has = list-mended from well ready image (subst (λ (ns : List ℕ). HasLeft (ended_image from) ns image) (kept-left from well ready before image has) has.left)
 
 pub dropped-are : DroppedNodesAreTheOthers

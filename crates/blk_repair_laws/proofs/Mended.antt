@@ -40,8 +40,8 @@ use Rattle.blk_laws.proofs.states.Bare.{no-record}
 use Rattle.blk_laws.proofs.walks.Loading.{load-rule}
 use Rattle.blk_laws.proofs.walks.Shown.{kept-given, dropped-none}
 use Rattle.blk_volume.specs.Audit.{kept_as}
-use Rattle.blk_repair_laws.specs.ChainRepair.{is_kept_record, kept_records, KeepsAll}
-use Rattle.blk_repair_laws.specs.MendedLinks.{HasMendedLinks, first_with, node_with, kept_layout}
+use Rattle.blk_repair_laws.specs.ChainRepair.{is_kept_record, kept_records, KeepsAllWalked}
+use Rattle.blk_repair_laws.specs.MendedLinks.{HasMendedLinks, first_that, node_with, kept_layout}
 use Rattle.blk_repair_laws.proofs.ChainRepair.{shown, given-some, kept-from, IsKeptRecord, of-test}
 use Rattle.blk_repair_laws.proofs.Frames.{load-chained}
 use Rattle.blk_repair_laws.proofs.MendedLinks.{all, node-of, IsFirst, first-here, at-node, order-is, mended-represents, all-live, chain-has-test}
@@ -80,7 +80,7 @@ module _ (image : Image) (limits : Bounds) (mended : IsMended image) (valid : Is
   abbrev links_of : HasMendedLinks image
   links_of = mended.links
 
-  abbrev all_of : KeepsAll image
+  abbrev all_of : KeepsAllWalked image
   all_of = all image limits mended.links valid
 
   abbrev state_of : State
@@ -111,13 +111,13 @@ module _ (image : Image) (limits : Bounds) (mended : IsMended image) (valid : Is
   unfolding kept_layout
   owner-some c = claimed-first (kept image) c
 
-  owner-first : (c : Claim) (node : ℕ) → layout_of.owner c ≡ Some node → (k : Loaded) × (first_with (λ k. has_claim (all_claims k) c) (kept image) ≡ Some k) × (k.node ≡ node)
+  owner-first : (c : Claim) (node : ℕ) → layout_of.owner c ≡ Some node → (k : Loaded) × (first_that (λ k. has_claim (all_claims k) c) (kept image) ≡ Some k) × (k.node ≡ node)
   unfolding kept_layout
-  owner-first c node e = go (first_with (λ k. has_claim (all_claims k) c) (kept image)) refl e where
+  owner-first c node e = go (first_that (λ k. has_claim (all_claims k) c) (kept image)) refl e where
     same : {a b : ℕ} → ◌≡◌ {A = Option ℕ} (Some a) (Some b) → a ≡ b
     same e = cc
 
-    go : (o : Option Loaded) → first_with (λ k. has_claim (all_claims k) c) (kept image) ≡ o → option_map (λ (k : Loaded). k.node) o ≡ Some node → (k : Loaded) × (first_with (λ k. has_claim (all_claims k) c) (kept image) ≡ Some k) × (k.node ≡ node)
+    go : (o : Option Loaded) → first_that (λ k. has_claim (all_claims k) c) (kept image) ≡ o → option_map (λ (k : Loaded). k.node) o ≡ Some node → (k : Loaded) × (first_that (λ k. has_claim (all_claims k) c) (kept image) ≡ Some k) × (k.node ≡ node)
     go None is h = cc
     go (Some k) is h = (k, is, same h)
 

@@ -62,7 +62,7 @@ use Rattle.blk_laws.proofs.claims.Outside.{AreClear, all-clear, load-outside, li
 use Rattle.blk_laws.proofs.walks.Shown.{kept-given}
 use Rattle.blk_laws.proofs.lists.Walks.{walk_list}
 use Rattle.blk_volume.specs.Audit.{kept_as}
-use Rattle.blk_repair_laws.specs.ChainRepair.{kept_records, KeepsAll}
+use Rattle.blk_repair_laws.specs.ChainRepair.{kept_records, KeepsAllWalked}
 use Rattle.blk_volume.specs.Footprint.{is_absent}
 use Rattle.blk_repair_laws.specs.MendedLinks.{HasMendedLinks}
 use Rattle.blk_repair_laws.specs.MendedChanges.{KeepsMendedLinks, RepairedLinksAreKept, MendedLinksGoOn, LinksAreMidRepair, MendedLinksAreMidRepair, IsUnkept, MendedLinksStayOutside, MendedLinksMayGrow, UnlinkedFilesMayBeDeleted, UnclaimedFilesMayChange, HiddenWordsMayChange, KeptNodesMayBeSealed, KeptRecordsMayBeSealed}
@@ -73,7 +73,7 @@ use Rattle.blk_repair_laws.proofs.LinkRepair.{rest-kept, records-still, kept-wal
 use Rattle.blk_repair_laws.proofs.MendedLinks.{chain-has-test, has-chain-of, node-at}
 
 module _ (from image : Image) (mended : HasMendedLinks from) (well : IsWellFormed image) where
-  abbrev all : KeepsAll from
+  abbrev all : KeepsAllWalked from
   all = record { idle = mended.rests.idle; all_kept = mended.all_kept }
 
   abbrev asked : ℕ → Option Loaded
@@ -186,7 +186,7 @@ links-outside touched from image mended well same unkept = stays-outside from im
 -- ---- growth
 
 module _ (from : Image) (mended : HasMendedLinks from) where
-  abbrev all-of : KeepsAll from
+  abbrev all-of : KeepsAllWalked from
   all-of = record { idle = mended.rests.idle; all_kept = mended.all_kept }
 
   abbrev asked-of : ℕ → Option Loaded

@@ -35,15 +35,15 @@ use Rattle.blk_laws.proofs.states.Laid.{parent-main}
 use Rattle.blk_laws.proofs.walks.Loading.{load-rule, load-clean}
 use Rattle.blk_laws.proofs.walks.Shown.{is_among-filter, node-is}
 use Rattle.blk_volume.specs.Audit.{kept_as}
-use Rattle.blk_repair_laws.specs.ChainRepair.{is_kept_record, kept_records, KeepsAll}
-use Rattle.blk_repair_laws.specs.MendedLinks.{HasMendedLinks, first_with, kept_layout, MendedLinksRepresent}
+use Rattle.blk_repair_laws.specs.ChainRepair.{is_kept_record, kept_records, KeepsAllWalked}
+use Rattle.blk_repair_laws.specs.MendedLinks.{HasMendedLinks, first_that, kept_layout, MendedLinksRepresent}
 use Rattle.blk_repair_laws.proofs.ChainRepair.{shown, given-some, kept-from, IsKeptRecord, test-of, of-test}
 use Rattle.blk_repair_laws.proofs.Frames.{load-chained, apart-claim}
 use Rattle.blk_repair_laws.proofs.OwnClaims.{all-once}
 
 -- ---- kept records and their chains
 
-abbrev all-kept : (image : Image) → HasMendedLinks image → KeepsAll image
+abbrev all-kept : (image : Image) → HasMendedLinks image → KeepsAllWalked image
 all-kept image mended = record { idle = mended.rests.idle; all_kept = mended.all_kept }
 
 pub chain-has-test : (image : Image) (bucket c : ℕ) → is_among (kept_records image bucket) c ≡ true → is_kept_record (kept image) c ≡ true
@@ -105,7 +105,7 @@ settled-in state item row e = go (model.owner_object state item) refl e where
       record { row_is = rw is both.0; settled = rw is both.1 }
 
 module _ (image : Image) (limits : Bounds) (mended : HasMendedLinks image) (valid : IsValidHolding (found image)) where
-  pub all : KeepsAll image
+  pub all : KeepsAllWalked image
   all = record { idle = mended.rests.idle; all_kept = mended.all_kept }
 
   abbrev asked : ℕ → Option Loaded
@@ -128,14 +128,14 @@ module _ (image : Image) (limits : Bounds) (mended : HasMendedLinks image) (vali
   node-of node k among is = node-is (store_of image) held_rule node k ((shown image mended.well_formed all).loads node k among is)
 
   -- the first that passes a test which no other passes
-  first-is : (xs : List ℕ) (test : Loaded → Bool) (node : ℕ) (k : Loaded) → is_among xs node ≡ true → asked node ≡ Some k → test k ≡ true → ((other : ℕ) (l : Loaded) → is_among xs other ≡ true → asked other ≡ Some l → test l ≡ true → other ≡ node) → first_with test (filter_map asked xs) ≡ Some k
+  first-is : (xs : List ℕ) (test : Loaded → Bool) (node : ℕ) (k : Loaded) → is_among xs node ≡ true → asked node ≡ Some k → test k ≡ true → ((other : ℕ) (l : Loaded) → is_among xs other ≡ true → asked other ≡ Some l → test l ≡ true → other ≡ node) → first_that test (filter_map asked xs) ≡ Some k
   first-is [] test node k among is good alone = cc
   first-is (x ∷ xs) test node k among is good alone =
       ⊎_elim
       (λ (e : (eqb x node ≡ true) × (x ≡ node)). rw (ap asked e.1 ∙ is, good) refl)
       (λ (e : (eqb x node ≡ false) × (x ≢ node)). go (asked x) refl (first-is xs test node k (rw e.0 at among) is good (λ o l h i g. alone o l (or_right (x == o) (is_among xs o) h) i g)) e.1)
       (eqb_tells x node) where
-        go : (o : Option Loaded) → asked x ≡ o → first_with test (filter_map asked xs) ≡ Some k → x ≢ node → first_with test (cons_option (asked x) (filter_map asked xs)) ≡ Some k
+        go : (o : Option Loaded) → asked x ≡ o → first_that test (filter_map asked xs) ≡ Some k → x ≢ node → first_that test (cons_option (asked x) (filter_map asked xs)) ≡ Some k
         go None is_x more ne = rw is_x more
         go (Some l) is_x more ne =
             ⊎_elim
@@ -150,7 +150,7 @@ module _ (image : Image) (limits : Bounds) (mended : HasMendedLinks image) (vali
     pub is : asked node ≡ Some k
     pub good : test k ≡ true
 
-  first-in : (xs : List ℕ) (test : Loaded → Bool) (k : Loaded) → ((x : ℕ) → is_among xs x ≡ true → is_among (walked image) x ≡ true) → first_with test (filter_map asked xs) ≡ Some k → IsFirst test k
+  first-in : (xs : List ℕ) (test : Loaded → Bool) (k : Loaded) → ((x : ℕ) → is_among xs x ≡ true → is_among (walked image) x ≡ true) → first_that test (filter_map asked xs) ≡ Some k → IsFirst test k
   first-in [] test k sub e = cc
   first-in (x ∷ xs) test k sub e = go (asked x) refl (first-in xs test k (λ y h. sub y (or_right (x == y) (is_among xs y) h))) e where
     here : is_among (walked image) x ≡ true
@@ -159,7 +159,7 @@ module _ (image : Image) (limits : Bounds) (mended : HasMendedLinks image) (vali
     same : {l : Loaded} → ◌≡◌ {A = Option Loaded} (Some l) (Some k) → l ≡ k
     same e = cc
 
-    go : (o : Option Loaded) → asked x ≡ o → (first_with test (filter_map asked xs) ≡ Some k → IsFirst test k) → first_with test (cons_option (asked x) (filter_map asked xs)) ≡ Some k → IsFirst test k
+    go : (o : Option Loaded) → asked x ≡ o → (first_that test (filter_map asked xs) ≡ Some k → IsFirst test k) → first_that test (cons_option (asked x) (filter_map asked xs)) ≡ Some k → IsFirst test k
     go None is more h = more (rw is at h)
     go (Some l) is more h =
         ⊎_elim
@@ -167,15 +167,15 @@ module _ (image : Image) (limits : Bounds) (mended : HasMendedLinks image) (vali
         (λ (t : test l ≡ false). more (rw (is, t) at h))
         (cases_Bool (test l))
 
-  pub first-here : (test : Loaded → Bool) (k : Loaded) → first_with test (kept image) ≡ Some k → IsFirst test k
-  first-here test k e = first-in (walked image) test k (λ x h. h) (ap (first_with test) (sym ks-are) ∙ e)
+  pub first-here : (test : Loaded → Bool) (k : Loaded) → first_that test (kept image) ≡ Some k → IsFirst test k
+  first-here test k e = first-in (walked image) test k (λ x h. h) (ap (first_that test) (sym ks-are) ∙ e)
 
   -- ---- what lies where
 
   pub at-node : (node : ℕ) (k : Loaded) → is_among (walked image) node ≡ true → asked node ≡ Some k → layout.at node ≡ Some k
   unfolding kept_layout
   at-node node k among is =
-      ap (first_with (λ l. l.node == node)) ks-are
+      ap (first_that (λ l. l.node == node)) ks-are
       ∙ first-is (walked image) (λ l. l.node == node) node k among is (eq-eqb k.node node (node-of node k among is)) (λ o l h i g. sym (node-of o l h i) ∙ eqb-true l.node node g)
 
   from-at : (node : ℕ) (k : Loaded) → layout.at node ≡ Some k → (is_among (walked image) node ≡ true) × (asked node ≡ Some k)
@@ -188,7 +188,7 @@ module _ (image : Image) (limits : Bounds) (mended : HasMendedLinks image) (vali
   owner-is : (node : ℕ) (k : Loaded) (claim : Claim) → is_among (walked image) node ≡ true → asked node ≡ Some k → has_claim (all_claims k) claim ≡ true → layout.owner claim ≡ Some node
   unfolding kept_layout
   owner-is node k claim among is there =
-      ap (option_map (λ l. l.node)) (ap (first_with (λ l. has_claim (all_claims l) claim)) ks-are ∙ first-is (walked image) (λ l. has_claim (all_claims l) claim) node k among is there alone)
+      ap (option_map (λ l. l.node)) (ap (first_that (λ l. has_claim (all_claims l) claim)) ks-are ∙ first-is (walked image) (λ l. has_claim (all_claims l) claim) node k among is there alone)
       ∙ ap (λ (x : ℕ). Some x) (node-of node k among is) where
         alone : (other : ℕ) (l : Loaded) → is_among (walked image) other ≡ true → asked other ≡ Some l → has_claim (all_claims l) claim ≡ true → other ≡ node
         alone other l h i g =
@@ -254,7 +254,7 @@ module _ (image : Image) (limits : Bounds) (mended : HasMendedLinks image) (vali
   unfolding kept_layout
   place-is node k among is =
       let item : Item = item_of (row_of_loaded k) in
-      ap (λ (o : Option Loaded). option_map_or (λ l. l.node) o 0) (ap (first_with (λ l. same_item item (item_of (row_of_loaded l)))) ks-are ∙ first-is (walked image) (λ l. same_item item (item_of (row_of_loaded l))) node k among is (same_item_self item) alone)
+      ap (λ (o : Option Loaded). option_map_or (λ l. l.node) o 0) (ap (first_that (λ l. same_item item (item_of (row_of_loaded l)))) ks-are ∙ first-is (walked image) (λ l. same_item item (item_of (row_of_loaded l))) node k among is (same_item_self item) alone)
       ∙ node-of node k among is where
         alone : (other : ℕ) (l : Loaded) → is_among (walked image) other ≡ true → asked other ≡ Some l → same_item (item_of (row_of_loaded k)) (item_of (row_of_loaded l)) ≡ true → other ≡ node
         alone other l h i g =

@@ -20,7 +20,7 @@ use Rattle.blk_format.specs.Maps.{EmptyAgrees, groups_of, groups_with, is_block_
 use Rattle.blk_volume.specs.Loads.{Loaded, claims_of_loaded}
 use Rattle.blk_volume.specs.Found.{kept}
 use Rattle.blk_volume.specs.Sound as sound
-use Rattle.blk_volume.specs.Sound.{OnlyLinked, words_of, CountersAgree}
+use Rattle.blk_volume.specs.Sound.{words_of, CountersAgree}
 use Rattle.blk_volume.specs.Tidy.{FilesStand}
 use Rattle.blk_laws.proofs.claims.ByteChanges.{same-links}
 use Rattle.std.specs.List.{sum_by}

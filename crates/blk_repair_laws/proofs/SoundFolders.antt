@@ -26,8 +26,8 @@ use Rattle.blk_laws.proofs.chains.ChainWords.{IsShownOf, shown-of}
 use Rattle.blk_laws.proofs.walks.Kept.{tried-among, kept-nodes}
 use Rattle.blk_laws.proofs.walks.Loads.{load-then}
 use Rattle.blk_laws.proofs.lists.Walked.{walk-once}
-use Rattle.blk_repair_laws.specs.ChainRepair.{is_kept_record, kept_records, chain_steps, chains_steps, chain_repair_steps, KeepsAll}
-use Rattle.blk_repair_laws.specs.ListRepair.{without, dropped_nodes, end_steps, removal_steps, list_repair_steps}
+use Rattle.blk_repair_laws.specs.ChainRepair.{is_kept_record, kept_records, chain_steps, chains_steps, chain_repair_steps, KeepsAllWalked}
+use Rattle.blk_repair_laws.specs.ListRepair.{all_but, dropped_nodes, end_steps, removal_steps, list_repair_steps}
 use Rattle.blk_repair_laws.specs.LinkRepair.{MendedLinksNeedNoSteps}
 use Rattle.blk_repair_laws.proofs.Mended.{append-none}
 use Rattle.blk_repair_laws.proofs.Paths.{Path, IsPath}
@@ -148,7 +148,7 @@ module _ (image : Image) (sound : IsSound image) where
   all-kept : kept_nodes store held_rule (walked image) ≡ walked image
   all-kept = all-kept_of store held_rule (walked image) (walk-once (list_of image)) (subst (λ (ns : List ℕ). dropped_among store held_rule ns ≡ []) walk-now parts.0)
 
-  keeps-all : KeepsAll image
+  keeps-all : KeepsAllWalked image
   keeps-all = record { idle = sound.transaction; all_kept = all-kept }
 
   nodes-kept : map (λ (k : Loaded). k.node) (kept image) ≡ walked image
@@ -219,8 +219,8 @@ chains-none image records none zero b few = refl
 chains-none image records none (suc count) b few = rw (none b (omega (arith, few))) (chains-none image records none count (b + 1) (omega (arith, few)))
 
 not-filter : (p : ℕ → Bool) (xs : List ℕ) → filter p xs ≡ xs → Distinct xs → filter (λ x. not (p x)) xs ≡ []
-not-filter p xs all once = filter-without p xs once ∙ ap (without xs) all ∙ without-self xs where
-  without-self : (ys : List ℕ) → without ys ys ≡ []
+not-filter p xs all once = filter-without p xs once ∙ ap (all_but xs) all ∙ without-self xs where
+  without-self : (ys : List ℕ) → all_but ys ys ≡ []
   without-self [] = refl
   without-self (y ∷ ys) = rw (eq-eqb y y refl) (without-self ys)
 

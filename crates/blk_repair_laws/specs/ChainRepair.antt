@@ -39,13 +39,13 @@ abbrev pub next_steps : ℕ → ℕ → Image → List TrailStep
 next_steps record_word w image = if (store_of image).chain_next record_word == w then [] else sealed_steps image record_word ((entry_next_place, w) ∷ [])
 
 -- each of some records gets the one behind it as its next, and the last gets 0
-abbrev pub link_steps : List ℕ → Image → List TrailStep
-link_steps [] image = []
-link_steps (w ∷ words) image = next_steps w (first_or 0 words) image ++ link_steps words (after (next_steps w (first_or 0 words) image) image)
+abbrev pub next_words_steps : List ℕ → Image → List TrailStep
+next_words_steps [] image = []
+next_words_steps (w ∷ words) image = next_steps w (first_or 0 words) image ++ next_words_steps words (after (next_steps w (first_or 0 words) image) image)
 
 -- a bucket is made the chain of some records, from the front
 abbrev pub chain_steps : ℕ → List ℕ → Image → List TrailStep
-chain_steps bucket words image = bucket_steps bucket (first_or 0 words) image ++ link_steps words (after (bucket_steps bucket (first_or 0 words) image) image)
+chain_steps bucket words image = bucket_steps bucket (first_or 0 words) image ++ next_words_steps words (after (bucket_steps bucket (first_or 0 words) image) image)
 
 -- and so is each of so many buckets from one on, in rising order
 abbrev pub chains_steps : (ℕ → List ℕ) → (bucket count : ℕ) → Image → List TrailStep
@@ -57,7 +57,7 @@ unfoldable pub chain_repair_steps : Image → List TrailStep
 chain_repair_steps image = chains_steps (kept_records image) 0 table_length image
 
 -- no operation is in flight, and all walked nodes are kept
-pub record KeepsAll (image : Image) : Type 0 where
+pub record KeepsAllWalked (image : Image) : Type 0 where
   pub idle : (list_of image).transaction ≡ 0
   pub all_kept : kept_nodes (store_of image) held_rule (walked image) ≡ walked image
 
@@ -69,7 +69,7 @@ pub record AreChainsMended (from image : Image) : Type 0 where
 
 -- at each word of the repair of the chains the same is held; in the end they are repaired
 abbrev pub ChainsAreRepaired : Type 0
-ChainsAreRepaired = (image : Image) → IsWellFormed image → IsWritable image → KeepsAll image → Along (HoldsTheSame image) image (chain_repair_steps image) × AreChainsMended image (after (chain_repair_steps image) image)
+ChainsAreRepaired = (image : Image) → IsWellFormed image → IsWritable image → KeepsAllWalked image → Along (HoldsTheSame image) image (chain_repair_steps image) × AreChainsMended image (after (chain_repair_steps image) image)
 
 -- The buckets, one after the other.
 
@@ -84,11 +84,11 @@ pub record HasChainsUpTo (from : Image) (bucket : ℕ) (image : Image) : Type 0 
 
 -- at first none is mended
 abbrev pub ChainsBegin : Type 0
-ChainsBegin = (image : Image) → IsWellFormed image → IsWritable image → KeepsAll image → HasChainsUpTo image 0 image
+ChainsBegin = (image : Image) → IsWellFormed image → IsWritable image → KeepsAllWalked image → HasChainsUpTo image 0 image
 
 -- a bucket is made the chain of its kept records, and the same is held at each word of that
 abbrev pub BucketsAreMended : Type 0
-BucketsAreMended = (from image : Image) (bucket : ℕ) → IsWellFormed from → KeepsAll from → bucket < table_length → HasChainsUpTo from bucket image
+BucketsAreMended = (from image : Image) (bucket : ℕ) → IsWellFormed from → KeepsAllWalked from → bucket < table_length → HasChainsUpTo from bucket image
     → Along (HoldsTheSame from) image (chain_steps bucket (kept_records from bucket) image) × HasChainsUpTo from (bucket + 1) (after (chain_steps bucket (kept_records from bucket) image) image)
 
 -- a bucket that is the chain of these records already needs no step
@@ -96,8 +96,8 @@ abbrev pub WholeChainsNeedNoSteps : Type 0
 WholeChainsNeedNoSteps = (image : Image) (bucket : ℕ) (words : List ℕ) → IsChain (store_of image) bucket words → chain_steps bucket words image ≡ []
 
 -- in the end all are mended
-abbrev pub ChainsEnd : Type 0
-ChainsEnd = (from image : Image) → HasChainsUpTo from table_length image → AreChainsMended from image
+abbrev pub ChainRepairsEnd : Type 0
+ChainRepairsEnd = (from image : Image) → HasChainsUpTo from table_length image → AreChainsMended from image
 
 -- What the repair of the list leaves of the chains.
 

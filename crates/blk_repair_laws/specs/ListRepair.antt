@@ -78,10 +78,10 @@ ListsAtRestNeedNoEnd = (image : Image) (nodes : List ℕ) → HasListAtRest node
 -- The removals, one after the other, while the walked nodes and the kept ones are gone through side by side.
 
 -- some numbers without others, which are some of them in the same order
-abbrev pub without : List ℕ → List ℕ → List ℕ
-without [] others = []
-without (node ∷ nodes) [] = node ∷ without nodes []
-without (node ∷ nodes) (other ∷ others) = if node == other then without nodes others else node ∷ without nodes (other ∷ others)
+abbrev pub all_but : List ℕ → List ℕ → List ℕ
+all_but [] others = []
+all_but (node ∷ nodes) [] = node ∷ all_but nodes []
+all_but (node ∷ nodes) (other ∷ others) = if node == other then all_but nodes others else node ∷ all_but nodes (other ∷ others)
 
 -- whether a number is the first of some
 abbrev pub is_first : ℕ → List ℕ → Bool
@@ -90,7 +90,7 @@ is_first node (other ∷ others) = node == other
 
 -- the nodes that are taken out are the walked ones without the kept ones
 abbrev pub DroppedNodesAreTheOthers : Type 0
-DroppedNodesAreTheOthers = (image : Image) → IsWellFormed image → IsWritable image → dropped_nodes (ended_image image) ≡ without (completed_walk image) (map (λ k. k.node) (kept image))
+DroppedNodesAreTheOthers = (image : Image) → IsWellFormed image → IsWritable image → dropped_nodes (ended_image image) ≡ all_but (completed_walk image) (map (λ k. k.node) (kept image))
 
 -- some dropped nodes are taken out of a list: it is whole and at rest with these nodes, among them all that are kept; nothing else is shown to change
 pub record HasLeft (from : Image) (nodes : List ℕ) (image : Image) : Type 0 where
@@ -124,5 +124,5 @@ OtherNodesAreRemoved = (from image : Image) (before : List ℕ) (node : ℕ) (no
     → Along (HoldsTheSame from) image (operation_steps remove node image) × HasRemoved from before nodes others (after (operation_steps remove node image) image)
 
 -- in the end the list is mended
-abbrev pub RemovalsEnd : Type 0
-RemovalsEnd = (from image : Image) (before : List ℕ) → IsWellFormed from → IsWritable from → HasRemoved from before [] [] image → IsListMended from image
+abbrev pub ListRepairsEnd : Type 0
+ListRepairsEnd = (from image : Image) (before : List ℕ) → IsWellFormed from → IsWritable from → HasRemoved from before [] [] image → IsListMended from image

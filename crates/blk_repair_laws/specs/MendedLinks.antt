@@ -27,20 +27,20 @@ pub record HasMendedLinks (image : Image) : Type 0 where
   pub chains : (bucket : ℕ) → bucket < table_length → IsChain (store_of image) bucket (kept_records image bucket)
 
 -- the first of some that passes a test
-abbrev pub first_with : (Loaded → Bool) → List Loaded → Option Loaded
-first_with test [] = None
-first_with test (k ∷ ks) = if test k then Some k else first_with test ks
+abbrev pub first_that : (Loaded → Bool) → List Loaded → Option Loaded
+first_that test [] = None
+first_that test (k ∷ ks) = if test k then Some k else first_that test ks
 
 -- its node
 abbrev pub node_with : (Loaded → Bool) → List Loaded → Option ℕ
-node_with test ks = option_map (λ k. k.node) (first_with test ks)
+node_with test ks = option_map (λ k. k.node) (first_that test ks)
 
 -- where what is kept lies
 unfoldable pub kept_layout : Image → Layout
 kept_layout image = record {
-  place = λ item. option_map_or (λ k. k.node) (first_with (λ k. same_item item (item_of (row_of_loaded k))) (kept image)) 0;
+  place = λ item. option_map_or (λ k. k.node) (first_that (λ k. same_item item (item_of (row_of_loaded k))) (kept image)) 0;
   place_of_doomed = λ number. 0;
-  at = λ node. first_with (λ k. k.node == node) (kept image);
+  at = λ node. first_that (λ k. k.node == node) (kept image);
   state = λ node. 0;
   chains = kept_records image;
   owner = λ claim. node_with (λ k. has_claim (all_claims k) claim) (kept image);

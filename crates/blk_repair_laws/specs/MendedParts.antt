@@ -1,5 +1,5 @@
 -- How the parts are mended that come behind the links, and what leaves them mended.
-use Rattle.std.specs.Prelude.{List, ◌≡◌, ◌%◌, ℕ, true, is_some, None, map, [], ◌∷◌, false}
+use Rattle.std.specs.Prelude.{◌≡◌, ◌%◌, ℕ, true, is_some, None, map, false}
 use Rattle.std.specs.List.{AllByRecursion, flat_map}
 use Rattle.blk_image.specs.Image.{Index, Block, External, Image, byte}
 use Rattle.blk_image.specs.Footprint.{Footprint, SameOutside, one_word, whole}
@@ -15,7 +15,7 @@ use Rattle.blk_repair_laws.specs.MendedLinks.{HasMendedLinks}
 use Rattle.blk_repair_laws.specs.MendedChanges.{KeepsMendedLinks}
 use Rattle.std.specs.Prelude.{◌≡◌}
 use Rattle.std.specs.List.{filter}
-use Rattle.blk_format.specs.Headers.{updating_of}
+use Rattle.blk_format.specs.Headers.{updating_of, counter_places}
 use Rattle.blk_format.specs.Claims.{claims_of_all, is_in_file}
 use Rattle.blk_format.specs.Maps.{AreAllocations, EmptyAgrees}
 use Rattle.blk_repair_laws.specs.RecordSeals.{IsSealedAt}
@@ -59,13 +59,9 @@ MendedFilesStand = (footprint : Footprint) (from image : Image) → IsBehindHead
 abbrev pub IndexWordsLeaveSeals : Type 0
 IndexWordsLeaveSeals = (from image : Image) (at : ℕ) → SameOutside (one_word Index at) from image → KeepsMendedLinks from image → AreKeptSealed from → AreKeptSealed image
 
--- the places of the counters of the index: num_entries, num_bytes, sizes
-abbrev pub counter_words : List ℕ
-counter_words = 8 ∷ 12 ∷ 268 ∷ []
-
 -- any other word of the index leaves them
 abbrev pub OtherWordsLeaveCounters : Type 0
-OtherWordsLeaveCounters = (from image : Image) (at : ℕ) → at % 4 ≡ 0 → is_among counter_words at ≡ false → SameOutside (one_word Index at) from image → KeepsMendedLinks from image → HasMendedCounters from → HasMendedCounters image
+OtherWordsLeaveCounters = (from image : Image) (at : ℕ) → at % 4 ≡ 0 → is_among counter_places at ≡ false → SameOutside (one_word Index at) from image → KeepsMendedLinks from image → HasMendedCounters from → HasMendedCounters image
 
 -- once the nodes and the records of what is kept are sealed, it is
 abbrev pub KeptAreSealed : Type 0

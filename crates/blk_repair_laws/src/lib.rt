@@ -3,8 +3,8 @@
 
 ghost use Rattle.blk_repair_laws.specs.RecordSeals.{SealsAreMade, SealsStand, GrowthLeavesSeals, UnlinkedFilesLeaveSeals, ExternalFilesLeaveSeals, RecordsAreBehindHeaders, IndexWordsAreBehindHeaders};
 ghost use Rattle.blk_repair_laws.specs.EndRepair.{EndsAreMended};
-ghost use Rattle.blk_repair_laws.specs.ListRepair.{ListsAreRepaired, CompletedListsAreEnded, ListsAtRestNeedNoEnd, DroppedNodesAreTheOthers, RemovalsBegin, KeptNodesArePassed, OtherNodesAreRemoved, RemovalsEnd};
-ghost use Rattle.blk_repair_laws.specs.ChainRepair.{ChainsAreRepaired, ChainsBegin, BucketsAreMended, WholeChainsNeedNoSteps, ChainsEnd, KeptRecordsStay, WholeChainsStay, KeptNodesCheck, KeptRecordsCheck};
+ghost use Rattle.blk_repair_laws.specs.ListRepair.{ListsAreRepaired, CompletedListsAreEnded, ListsAtRestNeedNoEnd, DroppedNodesAreTheOthers, RemovalsBegin, KeptNodesArePassed, OtherNodesAreRemoved, ListRepairsEnd};
+ghost use Rattle.blk_repair_laws.specs.ChainRepair.{ChainsAreRepaired, ChainsBegin, BucketsAreMended, WholeChainsNeedNoSteps, ChainRepairsEnd, KeptRecordsStay, WholeChainsStay, KeptNodesCheck, KeptRecordsCheck};
 ghost use Rattle.blk_repair_laws.specs.LinkRepair.{LinksAreRepaired, MendedChainsAreMendedLinks, MendedLinksNeedNoSteps, LinkRepairsMayBeStopped};
 ghost use Rattle.blk_repair_laws.specs.MendedLinks.{MendedLinksRepresent};
 ghost use Rattle.blk_repair_laws.specs.MendedChanges.{RepairedLinksAreKept, MendedLinksGoOn, LinksAreMidRepair, MendedLinksAreMidRepair, MendedLinksStayOutside, MendedLinksMayGrow, UnlinkedFilesMayBeDeleted, UnclaimedFilesMayChange, HiddenWordsMayChange, KeptNodesMayBeSealed, KeptRecordsMayBeSealed};
@@ -34,7 +34,7 @@ pub fn dropped_nodes_are_removed()
     ensures begins { RemovalsBegin }
     ensures passes { KeptNodesArePassed }
     ensures removes { OtherNodesAreRemoved }
-    ensures ends { RemovalsEnd }
+    ensures ends { ListRepairsEnd }
 {}
 
 /// At each word of the repair of the chains the same is kept and found; in the end each chain is that of the kept records of its bucket.
@@ -47,7 +47,7 @@ pub fn buckets_are_mended()
     ensures begins { ChainsBegin }
     ensures mends { BucketsAreMended }
     ensures none { WholeChainsNeedNoSteps }
-    ensures ends { ChainsEnd }
+    ensures ends { ChainRepairsEnd }
 {}
 
 /// What the repair of the list leaves of the chains: the kept records of each bucket, and whole chains.

@@ -13,13 +13,14 @@ use Rattle.blk_io.specs.Faults.{IfDamaged, damage_of}
 use Rattle.blk_io.specs.Streams.{Readings, reading_of}
 use Rattle.blk_index.specs.declared.start.Start.{Start}
 use Rattle.blk_format.specs.NewFolder.{IsMade}
+use Rattle.blk_format.specs.BlockFiles.{IsWhole}
 use Rattle.blk_index.specs.Start.{IsFinished, LooksAs}
 use Rattle.blk_disk.specs.Loading.{LoadsAs}
 use Rattle.blk_run.specs.declared.ending.Status.{Status}
 use Rattle.blk_run.specs.declared.ending.Status.TheVariants as status
 use Rattle.blk_run.specs.declared.used.Used.{Used}
 use Rattle.blk_run.specs.Used.{FirstUsed}
-use Rattle.blk_run.specs.Count.{AnswersFor, CountsAs, IsCountable, IsEmpty, IsNew, IsStartDamage, IsWhole, checked_place, checked_places}
+use Rattle.blk_run.specs.Count.{AnswersFor, CountsAs, IsCountable, IsEmpty, IsNew, IsStartDamage, checked_place, checked_places}
 use Rattle.blk_run.proofs.Made.{made_empty}
 use Rattle.blk_run.proofs.Whole.{damage_behind, damage_first}
 

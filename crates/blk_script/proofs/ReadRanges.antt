@@ -14,8 +14,8 @@ use Rattle.percent_encoding.proofs.PercentLemmas.{All-percent_decode}
 use Rattle.blk_model.specs.Request.{Request, IsRequest, to_create, to_open, to_read, to_write, to_size, to_sparse_write, to_sparse_read, to_sparse_range, to_doom, to_doom_key, to_close, to_list, to_trim, to_total}
 use Rattle.blk_script.specs.declared.fault.LineFault.{LineFault}
 use Rattle.blk_script.specs.declared.fault.LineFault.TheVariants as fault
-use Rattle.blk_script.specs.Fields.{◌>>=◌, is_space, fields_of, digits_say, is_number_text, number_field, data_field, decoded, longest_data, is_key_byte, are_escapes, key_field}
-use Rattle.blk_script.specs.Line.{no_fields, one_field, two_fields, three_fields, four_fields, handle_and_key, handle_alone, key_alone, number_alone, handle_and_stream, handle_and_range, handle_and_data, stream_and_range, stream_and_data, reading, words, by_word, by_fields, longest_line, read_text}
+use Rattle.blk_script.specs.Fields.{◌>>=◌, is_space, line_fields, digits_say, is_number_text, number_field, data_field, decoded, longest_data, is_key_byte, are_escapes, key_field}
+use Rattle.blk_script.specs.Line.{no_fields, one_field, two_fields, three_fields, four_fields, handle_and_key, handle_alone, key_alone, number_alone, handle_and_stream, handle_and_range, handle_and_data, stream_and_range, stream_and_data, reading, command_words, by_word, by_fields, longest_line, read_text}
 use Rattle.blk_model.specs.Items.{IsBytes}
 use Rattle.blk_script.proofs.Ranged.{AreSmall, small_from_bytes, bytes_from_small}
 use Rattle.blk_script.proofs.Printed.{bytes_by_index}
@@ -36,8 +36,8 @@ small_split (byte ∷ line) small =
       | false ↦ small_first byte (slice_split is_space line) small.0 (small_split line small.1)
     ]
 
-small_fields : (line : List ℕ) → AreSmall line → AreSmallFields (fields_of line)
-unfolding fields_of
+small_fields : (line : List ℕ) → AreSmall line → AreSmallFields (line_fields line)
+unfolding line_fields
 small_fields line small = small_split line small
 
 -- a step that gives what is asked of it, and the next
@@ -147,8 +147,8 @@ stream_data_read make is =
     four_read (stream_and_data make) (λ w x y z. gives (small 65535) IsRequest (number_field 65535 w) _ (number_small 65535 w) (λ h sh. gives (small 255) IsRequest (number_field 255 x) _ (number_small 255 x) (λ s ss. gives (small 18446744073709551615) IsRequest (number_field 18446744073709551615 y) _ (number_small 18446744073709551615 y) (λ o so. gives AreSmall IsRequest (data_field z) _ (data_small z) (λ d sd. is h s o d sh ss so sd)))))
 
 -- each line of the table
-words_read : AllByRecursion (λ (line : List ℕ × (List (List ℕ) → Result Request LineFault)). ReadsRanged line.1) words
-unfolding words reading
+words_read : AllByRecursion (λ (line : List ℕ × (List (List ℕ) → Result Request LineFault)). ReadsRanged line.1) command_words
+unfolding command_words reading
 words_read = (
   handle_key_read to_create (λ h k sh sk. (omega arith, bytes_from_small k sk)),
   (
@@ -206,7 +206,7 @@ word_read word fields (line ∷ table) all reads =
 
 by_fields_read : (fields : List (List ℕ)) → AreSmallFields fields → IfOk (by_fields fields) IsRequest
 by_fields_read [] all = tt
-by_fields_read (word ∷ fields) all = word_read word fields words all.1 words_read
+by_fields_read (word ∷ fields) all = word_read word fields command_words all.1 words_read
 
 line_tests : (long empty : Bool) (rest : Result Request LineFault) → IfOk rest IsRequest → IfOk (cond long (Err fault.TooLong) (cond empty (Err fault.Empty) rest)) IsRequest
 line_tests true empty rest is = tt
@@ -216,4 +216,4 @@ line_tests false false rest is = is
 -- what a line of bytes says is a command in the ranges of the types
 pub read_text-ranged : (line : List ℕ) → IsBytes line → IfOk (read_text line) IsRequest
 unfolding read_text
-read_text-ranged line bytes = line_tests (nat_lt longest_line (length line)) (length line == 0) (by_fields (fields_of line)) (by_fields_read (fields_of line) (small_fields line (small_from_bytes line bytes)))
+read_text-ranged line bytes = line_tests (nat_lt longest_line (length line)) (length line == 0) (by_fields (line_fields line)) (by_fields_read (line_fields line) (small_fields line (small_from_bytes line bytes)))

@@ -9,13 +9,13 @@ use Rattle.hex.specs.Hex.{encode_lower, encode_with, lower_digits, decode_of, Is
 use Rattle.hex.proofs.HexLemmas.{decode_of-encode_lower}
 use Rattle.percent_encoding.specs.Percent.{percent_encode_byte, percent_decode}
 use Rattle.percent_encoding.proofs.PercentLemmas.{percent_decode-percent_encode_byte, percent_decode_not_percent, percent_decode-nil}
-use Rattle.blk_script.specs.Fields.{fields_of, is_space, key_field, data_field, is_key_byte, are_escapes, begins_with_hex, decoded, longest_data}
+use Rattle.blk_script.specs.Fields.{line_fields, is_space, key_field, data_field, is_key_byte, are_escapes, begins_with_hex, decoded, longest_data}
 use Rattle.blk_script.specs.declared.fault.LineFault.TheVariants as fault
 use Rattle.std.specs.List.{slice_index}
 use Rattle.std.specs.Str.{bytes_eq}
 use Rattle.blk_script.proofs.Ranged.{AreSmall, IsRanged, ranged}
 use Rattle.blk_script.specs.Spelling.{line_of, data_in, fields_for, number_text, key_text, data_text, is_plain_byte, key_byte_text, spaced}
-use Rattle.blk_script.specs.Line.{by_fields, reading, words, read_text}
+use Rattle.blk_script.specs.Line.{by_fields, reading, command_words, read_text}
 use Rattle.blk_model.specs.Request.{Request, IsRequest, to_create, to_open, to_read, to_write, to_size, to_sparse_write, to_sparse_read, to_sparse_range, to_doom, to_doom_key, to_close, to_list, to_trim, to_total}
 use Rattle.std.proofs.lemmas.List.Splits.{slice_split_none, slice_split_at}
 use Rattle.blk_script.proofs.Numbers.{no_space, no_space-number, number_read}
@@ -27,16 +27,16 @@ spaces_none (byte ∷ field) none =
     let parts = and_parts (not (is_space byte)) (no_space field) none in
     All-cons (λ byte. is_space byte ≡ false) byte field (not-true (is_space byte) parts.0) (spaces_none field parts.1)
 
-fields_of-one : (field : List ℕ) → no_space field ≡ true → fields_of field ≡ field ∷ []
-unfolding fields_of
+fields_of-one : (field : List ℕ) → no_space field ≡ true → line_fields field ≡ field ∷ []
+unfolding line_fields
 fields_of-one field none = slice_split_none is_space field (spaces_none field none)
 
-fields_of-more : (field rest : List ℕ) → no_space field ≡ true → fields_of (field ++ (32 ∷ rest)) ≡ field ∷ fields_of rest
-unfolding fields_of
+fields_of-more : (field rest : List ℕ) → no_space field ≡ true → line_fields (field ++ (32 ∷ rest)) ≡ field ∷ line_fields rest
+unfolding line_fields
 fields_of-more field rest none = slice_split_at is_space field 32 rest (spaces_none field none) refl
 
 -- fields without spaces are those of the line that they make
-pub fields_of-spaced : (field : List ℕ) (fields : List (List ℕ)) → no_space field ≡ true → AllByRecursion (λ f. no_space f ≡ true) fields → fields_of (spaced (field ∷ fields)) ≡ field ∷ fields
+pub fields_of-spaced : (field : List ℕ) (fields : List (List ℕ)) → no_space field ≡ true → AllByRecursion (λ f. no_space f ≡ true) fields → line_fields (spaced (field ∷ fields)) ≡ field ∷ fields
 fields_of-spaced field [] none all = fields_of-one field none
 fields_of-spaced field (next ∷ fields) none all = fields_of-more field (spaced (next ∷ fields)) none ∙ ap (λ fs. field ∷ fs) (fields_of-spaced next fields all.0 all.1)
 
@@ -190,7 +190,7 @@ data_read (byte ∷ bytes) small few =
 
 -- what each field of a command is read as
 pub fields_read : (request : Request) → IsRanged request → length (data_text (data_in request)) ≤ 2097152 → by_fields (fields_for request) ≡ Ok request
-unfolding words reading
+unfolding command_words reading
 fields_read (to_create handle key) is few = rw (number_read 65535 handle is.0 (omega arith), key_read key is.1) refl
 fields_read (to_open handle key) is few = rw (number_read 65535 handle is.0 (omega arith), key_read key is.1) refl
 fields_read (to_read handle stream offset count) is few = rw (number_read 65535 handle is.0 (omega arith), number_read 255 stream is.1 (omega arith), number_read 18446744073709551615 offset is.2 (omega arith), number_read 18446744073709551615 count is.3 (omega arith)) refl
@@ -208,7 +208,7 @@ fields_read (to_trim bytes) is few = rw (number_read 18446744073709551615 bytes 
 fields_read to_total is few = refl
 
 -- the fields of a printed command
-pub fields_printed : (request : Request) → IsRanged request → fields_of (line_of request) ≡ fields_for request
+pub fields_printed : (request : Request) → IsRanged request → line_fields (line_of request) ≡ fields_for request
 unfolding line_of
 fields_printed (to_create handle key) is = fields_of-spaced (codes "create") (number_text handle ∷ key_text key ∷ []) refl (no_space-number handle (let few = is.0 in omega arith), (no_space-key key is.1, tt))
 fields_printed (to_open handle key) is = fields_of-spaced (codes "open") (number_text handle ∷ key_text key ∷ []) refl (no_space-number handle (let few = is.0 in omega arith), (no_space-key key is.1, tt))
@@ -255,6 +255,6 @@ unfolding read_text
 read_text-line_of request is short few =
     let line = line_of request in
     let some = line_is_some request in
-    ap (λ b. cond b (Err fault.TooLong) (cond (length line == 0) (Err fault.Empty) (by_fields (fields_of line)))) (le-ltb 2200000 (length line) short)
-    ∙ ap (λ b. cond b (Err fault.Empty) (by_fields (fields_of line))) (ne_eqb (length line) 0 (λ e. absurd (omega arith)))
+    ap (λ b. cond b (Err fault.TooLong) (cond (length line == 0) (Err fault.Empty) (by_fields (line_fields line)))) (le-ltb 2200000 (length line) short)
+    ∙ ap (λ b. cond b (Err fault.Empty) (by_fields (line_fields line))) (ne_eqb (length line) 0 (λ e. absurd (omega arith)))
     ∙ ap by_fields (fields_printed request (ranged request is)) ∙ fields_read request (ranged request is) few

@@ -8,11 +8,11 @@ use Rattle.std.proofs.lemmas.List.Elements.{All-from_get_or}
 use Rattle.std.proofs.lemmas.List.Quantifiers.{position-Some}
 use Rattle.std.proofs.lemmas.List.Sums.{fails_before_first}
 use Rattle.std.proofs.lemmas.List.Splits.{slice_split_none, slice_split_at, length-slice_split}
-use Rattle.blk_script.specs.Fields.{is_space, fields_of}
+use Rattle.blk_script.specs.Fields.{is_space, line_fields}
 
 -- the first field ends at the first space
-pub fields_of-at : (line : List ℕ) (i : ℕ) → position is_space line ≡ Some i → fields_of line ≡ take i line ∷ fields_of (drop (i + 1) line)
-unfolding fields_of
+pub fields_of-at : (line : List ℕ) (i : ℕ) → position is_space line ≡ Some i → line_fields line ≡ take i line ∷ line_fields (drop (i + 1) line)
+unfolding line_fields
 fields_of-at line i at =
     let here = position-Some is_space line i 0 at in
     let front : All (λ byte. is_space byte ≡ false) (take i line) =
@@ -25,8 +25,8 @@ not_some true i e = cc
 not_some false i e = refl
 
 -- without a space the line is one field
-pub fields_of-whole : (line : List ℕ) → position is_space line ≡ None → fields_of line ≡ line ∷ []
-unfolding fields_of
+pub fields_of-whole : (line : List ℕ) → position is_space line ≡ None → line_fields line ≡ line ∷ []
+unfolding line_fields
 fields_of-whole line none =
     let past : length line ≤ position_or_len is_space line = ltb-false _ _ (not_some (nat_lt (position_or_len is_space line) (length line)) (position_or_len is_space line) none) in
     slice_split_none is_space line (All-from_get_or (λ byte. is_space byte ≡ false) line 0 (λ k within. fails_before_first is_space line k 0 (omega arith)))
@@ -40,6 +40,6 @@ pub space_within : (line : List ℕ) (i : ℕ) → position is_space line ≡ So
 space_within line i at = let here = position-Some is_space line i 0 at in omega (arith, here.0)
 
 -- a line has a field
-pub fields_of-some : (line : List ℕ) → length (fields_of line) ≡ 0 → ⊥
-unfolding fields_of
+pub fields_of-some : (line : List ℕ) → length (line_fields line) ≡ 0 → ⊥
+unfolding line_fields
 fields_of-some line none = absurd (omega (arith, length-slice_split is_space line))

@@ -21,12 +21,12 @@ abbrev pub is_space : ℕ → Bool
 is_space byte = byte == 32
 
 -- the fields of a line, which one space each separates: as many as its spaces and one more
-unfoldable pub fields_of : List ℕ → List (List ℕ)
-fields_of line = slice_split is_space line
+unfoldable pub line_fields : List ℕ → List (List ℕ)
+line_fields line = slice_split is_space line
 
 -- the fields that are left behind those that were read
 abbrev pub fields_left : Fields → List (List ℕ)
-fields_left fields = unwrap_or (option_map (λ (left : Bor (List ℕ)). fields_of left.now) fields.left) []
+fields_left fields = unwrap_or (option_map (λ (left : Bor (List ℕ)). line_fields left.now) fields.left) []
 
 -- how many bytes are left behind the fields that were read
 abbrev pub length_left : Fields → ℕ

@@ -6,7 +6,7 @@ use Rattle.blk_script.specs.declared.fault.LineFault.{LineFault}
 use Rattle.blk_script.specs.declared.fault.LineFault.TheVariants as fault
 use Rattle.blk_script.specs.declared.words.Word.{Word}
 use Rattle.blk_script.specs.declared.words.Word.TheVariants as word
-use Rattle.blk_script.specs.Fields.{◌>>=◌, fields_of, number_field, data_field, key_field}
+use Rattle.blk_script.specs.Fields.{◌>>=◌, line_fields, number_field, data_field, key_field}
 
 -- the number of a handle
 abbrev pub handle_field : List ℕ → Result ℕ LineFault
@@ -130,8 +130,8 @@ reading word.List = no_fields to_list
 reading word.Total = no_fields to_total
 
 -- the words as they are written, each with what the fields behind it say
-unfoldable pub words : List (List ℕ × (List (List ℕ) → Result Request LineFault))
-words =
+unfoldable pub command_words : List (List ℕ × (List (List ℕ) → Result Request LineFault))
+command_words =
     (codes "create", reading word.Create)
     ∷ (codes "open", reading word.Open)
     ∷ (codes "read", reading word.Read)
@@ -157,7 +157,7 @@ by_word word fields (line ∷ table) = if bytes_eq word line.0 then line.1 field
 -- what the fields of a line say
 abbrev pub by_fields : List (List ℕ) → Result Request LineFault
 by_fields [] = Err fault.UnknownWord
-by_fields (word ∷ fields) = by_word word fields words
+by_fields (word ∷ fields) = by_word word fields command_words
 
 -- no line is longer, its end left aside
 abbrev pub longest_line : ℕ
@@ -168,4 +168,4 @@ unfoldable pub read_text : List ℕ → Result Request LineFault
 read_text line =
     if nat_lt longest_line (length line) then Err fault.TooLong
     else if length line == 0 then Err fault.Empty
-    else by_fields (fields_of line)
+    else by_fields (line_fields line)

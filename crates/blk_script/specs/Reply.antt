@@ -12,8 +12,8 @@ use Rattle.blk_script.specs.Faults.{fault_number, fault_name}
 use Rattle.blk_script.specs.Spelling.{number_text, key_text, data_text, line}
 
 -- the line of a fault, its line counted from 1
-abbrev pub fault_text : ℕ → LineFault → List ℕ
-fault_text number why = line (codes "fault" ∷ number_text number ∷ number_text (fault_number why) ∷ fault_name why ∷ [])
+abbrev pub line_fault_text : ℕ → LineFault → List ℕ
+line_fault_text number why = line (codes "fault" ∷ number_text number ∷ number_text (fault_number why) ∷ fault_name why ∷ [])
 
 -- the line of an evicted item
 abbrev pub evicted_line : Item → List ℕ

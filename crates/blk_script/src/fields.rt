@@ -1,6 +1,6 @@
 // The fields of a line, one by one.
 ghost use Rattle.std.specs.Prelude.{◌≡◌, ◌≤◌, ◌+◌, ◌↔◌, List, [], ◌∷◌, length, position, IsTrue, MatchResult};
-ghost use Rattle.blk_script.specs.Fields.{is_space, fields_of, fields_left, length_left, AreFields, LacksFields, SplitsField};
+ghost use Rattle.blk_script.specs.Fields.{is_space, line_fields, fields_left, length_left, AreFields, LacksFields, SplitsField};
 
 use crate::LineFault;
 
@@ -19,7 +19,7 @@ fn first_space(line: &[u8]) -> Option<usize>
 
 /// The first field of a line, and the others.
 pub fn first_field(line: &[u8]) -> (&[u8], Fields<'_>)
-    ensures fields { fields_of line.now ≡ result.0.now ∷ fields_left result.1 }
+    ensures fields { line_fields line.now ≡ result.0.now ∷ fields_left result.1 }
     ensures within { length result.0.now + length_left result.1 ≤ length line.now }
 {
     match first_space(line) {

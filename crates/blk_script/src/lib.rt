@@ -16,8 +16,6 @@ mod number;
 mod print;
 mod readers;
 mod shapes;
-#[cfg(test)]
-mod tests;
 mod words;
 
 pub use answers::print_reply;

@@ -1,6 +1,6 @@
 // The words that commands begin with.
 ghost use Rattle.std.specs.Prelude.{◌≡◌, ℕ, List, map};
-ghost use Rattle.blk_script.specs.Line.{by_word, words};
+ghost use Rattle.blk_script.specs.Line.{by_word, command_words};
 ghost use Rattle.blk_script.specs.Words.{by_known, word_line};
 
 /// A word that a command begins with.
@@ -59,7 +59,7 @@ const WORDS: [(&str, Word); 15] = [
 
 /// The word that a field is, where it is one.
 pub fn word_of(field: &[u8]) -> Option<Word>
-    ensures { (fields : List (List ℕ)) → by_word field.now fields words ≡ by_known result fields }
+    ensures { (fields : List (List ℕ)) → by_word field.now fields command_words ≡ by_known result fields }
 {
     word_in(field, &WORDS)
 }

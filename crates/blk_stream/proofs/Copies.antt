@@ -14,13 +14,15 @@ use Rattle.blk_image.proofs.WordSteps.{quiet-words}
 use Rattle.blk_image.proofs.Words.{content-range, length-range}
 use Rattle.blk_format.specs.Address.{kind_of, external, external_number, file_selector, first_block, block_count, block_place, block_size, place, byte_size}
 use Rattle.blk_format.proofs.SpareHeaders.{other_file}
+use Rattle.blk_io.specs.declared.fault.Damage.{Damage}
 use Rattle.blk_disk.specs.declared.tables.BlockFiles.{BlockFiles}
 use Rattle.blk_disk.specs.Tables.{Agrees}
 use Rattle.blk_disk.proofs.Ranges.{stands_range}
 use Rattle.blk_entry.specs.Keys.{data_at, data_file, data_start, IsInFile, IsInside}
 use Rattle.blk_entry.specs.Steps.{data_steps}
 use Rattle.blk_entry.proofs.NewImages.{same_kind}
-use Rattle.blk_stream.specs.Copying.{AreOldBytes, IsCopied, ShareNoData, data_byte, old_spans, span_of}
+use Rattle.blk_stream.specs.declared.places.Stored.{Stored}
+use Rattle.blk_stream.specs.Copying.{AreOldBytes, IsCopied, IsCutOld, IsCutRead, ShareNoData, data_byte, old_spans, span_of}
 use Rattle.blk_stream.proofs.Naming.{apart_place}
 use Rattle.blk_stream.proofs.InsideSteps.{apart_file}
 use Rattle.blk_stream.proofs.InsideData.{data_beside, data_there}
@@ -219,3 +221,11 @@ second_span other old size offset count q from image is same =
 
 pub both_spans : (other old size offset count : ℕ) (from mid image : Image) → SameOutside (old_spans other old size offset count) from mid → SameOutside (old_spans other old size offset count) mid image → SameOutside (old_spans other old size offset count) from image
 both_spans other old size offset count from mid image one two = outside-trans (old_spans other old size offset count) from mid image one two
+
+-- a read of some of them that gave fewer
+pub cut_old : (old : Stored) (w size : ℕ) (damage : Damage) → old.addr ≡ Some w → size ≤ old.size → IsCutRead w size damage → IsCutOld old damage
+cut_old old w size damage is few cut = record {
+  word = w;
+  is = is;
+  cut = record { at = cut.at; count = cut.count; within = (let h = cut.within in omega (arith, h, few)); of_file = cut.of_file; at_place = cut.at_place; few = cut.few };
+}

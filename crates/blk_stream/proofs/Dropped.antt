@@ -27,7 +27,7 @@ use Rattle.blk_stream.specs.Streams.{address_place, address_word, may_keep, size
 use Rattle.blk_stream.specs.Changing.{stream_words}
 use Rattle.blk_stream.specs.Freeing.{MayBeFreed, leaving_of, is_block_of, left_by}
 use Rattle.blk_stream.specs.Dropping.{AreDropped, DropsInProgress, DropsStream, DropsStreamInProgress, HaveOwnPlaces, IsEmptyStream, KeepsStream, StreamCanBeDropped, StreamsCanBeDropped, dropping_of, is_block_of_first, left_by_first}
-use Rattle.blk_stream.proofs.Drops.{leaving_off, told_back}
+use Rattle.blk_stream.proofs.PlacesLeft.{leaving_off, told_back}
 use Rattle.blk_stream.proofs.Naming.{words_off_other}
 use Rattle.blk_stream.proofs.PlacesFreed.{left_elsewhere, left_here}
 use Rattle.blk_stream.proofs.StreamPlaces.{IsStream, address_at, keeps_stands, size_at, stream_facts}
@@ -158,7 +158,7 @@ module _ (entry : ℕ) (from : Image) where
             (λ (e : i ≡ k). subst (λ (j : ℕ). IsEmptyStream entry j image) (sym e) drops.none)
             (λ (differs : i ≢ k). let before = was.none i (omega (arith, less, differs)) in
             let kept = stream_kept entry k _ mid image small drops.same i (omega (arith, less, small)) (λ e. differs (sym e)) in
-            record { no_bytes = kept.size ∙ before.no_bytes; no_place = kept.word ∙ before.no_place })
+            record { size_is = kept.size ∙ before.size_is; word_is = kept.word ∙ before.word_is })
             (cases_eq i k)
 
         gone_now : (i : ℕ) → i < suc k → kind_of (address_word from entry i) ≡ external → address_word from entry i ≢ 0 → has_file image (External (external_number (address_word from entry i))) ≡ false
@@ -202,7 +202,7 @@ module _ (entry : ℕ) (from : Image) where
         order_now i low = ⊎_elim
             (λ (less : i < k). let before = was.none i less in
             let kept = stream_kept entry k _ mid image small drops.same i low (omega (arith, less)) in
-            inr (record { no_bytes = kept.size ∙ before.no_bytes; no_place = kept.word ∙ before.no_place }))
+            inr (record { size_is = kept.size ∙ before.size_is; word_is = kept.word ∙ before.word_is }))
             (λ (more : k ≤ i). ⊎_elim
             (λ (e : i ≡ k). subst (λ (j : ℕ). SameOutside (either (dropping_of j entry from) (stream_words entry j)) from image ⊎ IsEmptyStream entry j image) (sym e)
             (⊎_elim

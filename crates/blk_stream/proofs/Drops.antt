@@ -1,151 +1,49 @@
 -- A stream is made empty, and its place is freed.
-use Rattle.std.proofs.Common.{◌≡◌, ◌≢◌, inl, inr, ⊎_elim, ℕ, ◌+◌, ◌<◌, ◌≤◌, Bool, true, false, if◌then◌else◌, List, Option, None, Some, Result, Ok, Err, refl, sym, ◌∙◌, ap, subst, arith}
+use Rattle.std.proofs.Common.{◌≡◌, ◌≢◌, inl, ⊎_elim, ℕ, Bool, true, false, if◌then◌else◌, List, refl, sym, ◌∙◌, ap, subst, arith}
 use Rattle.std.specs.Prelude.{◌==◌, nat_eq}
-use Rattle.std.specs.Option.{option_map, ForSome}
 use Rattle.std.proofs.lemmas.Bool.{cases_Bool, cases_eq, eqb-true}
 use Rattle.std.proofs.lemmas.Bool.Decides.{nat_tests}
-use Rattle.blk_image.specs.Bytes.{content, word_at}
-use Rattle.blk_image.specs.Image.{Index, Block, External, Image, byte, has_file, word}
-use Rattle.blk_image.specs.Steps.{after}
+use Rattle.blk_image.specs.Image.{External, Image, has_file, word}
 use Rattle.blk_image.specs.Footprint.{Footprint, SameOutside, either, whole}
-use Rattle.blk_image.specs.Told.{Told, Passes}
-use Rattle.blk_image.proofs.Footprints.{outside-refl, outside-trans, outside_wider, same_word_outside, within_left, within_right}
-use Rattle.blk_image.proofs.Words.{same-range}
-use Rattle.blk_format.specs.Address.{kind_of, external, external_number, file_selector, place, blocks_256}
-use Rattle.blk_format.specs.BlockFiles.{IsWellFormed, max_entries_in}
+use Rattle.blk_image.proofs.Footprints.{outside-refl}
+use Rattle.blk_format.specs.Address.{kind_of, external, external_number, file_selector}
 use Rattle.blk_format.specs.Claims.{is_in_file}
 use Rattle.blk_format.specs.Maps.{AreAllocations, is_block_marked}
-use Rattle.blk_format.specs.Sealed.{IsUpdated, RecordChecks, record_at, record_size}
-use Rattle.blk_format.proofs.Keeping.{undamaged_still}
-use Rattle.blk_format.proofs.SealedFields.{record_word as word_of_record}
-use Rattle.blk_format.proofs.SealedRecords.{entry_bytes}
-use Rattle.blk_format.proofs.SpareHeaders.{SparesHeaders, blocks_same, heads_still, next_same, past_header}
-use Rattle.blk_io.specs.declared.fault.Damage.{Damage}
-use Rattle.blk_io.specs.declared.fault.Fault.{Fault}
-use Rattle.blk_io.specs.declared.fault.Fault.TheVariants.{Device, Damaged}
-use Rattle.blk_io.specs.Faults.{IfDamaged}
-use Rattle.blk_disk.specs.declared.tables.BlockFiles.{BlockFiles}
-use Rattle.blk_disk.specs.Tables.{Agrees, stands_among}
-use Rattle.blk_disk.proofs.Enlarging.{well_formed_still}
+use Rattle.blk_format.specs.Sealed.{RecordChecks}
 use Rattle.blk_alloc.specs.Changes.{map_of}
-use Rattle.blk_alloc.proofs.Spared.{allocations_kept, empty_kept, freed_still, marks_kept}
-use Rattle.blk_alloc.proofs.Sparing.{blocks_spared, formed_spared, map_spares}
-use Rattle.blk_stream.specs.Streams.{address_place, address_word, size_place, size_word}
-use Rattle.blk_stream.specs.Changing.{NamesInProgress, place_changes, stream_words}
-use Rattle.blk_stream.specs.Freeing.{IsPlaceFreed, MayBeFreed, freeing_of, is_block_of, leaving_of, left_by}
-use Rattle.blk_stream.specs.Dropping.{DropsStream, DropsStreamInProgress, IsEmptyStream}
-use Rattle.blk_stream.proofs.Naming.{named_words, words_spare}
-use Rattle.blk_stream.proofs.PlacesFreed.{freeing_blocks, freeing_external, leaving_none, leaving_some}
-use Rattle.blk_stream.proofs.StreamPlaces.{address_at, size_at}
-
--- The words of a record that was read.
-
-pub read_size : (image : Image) (entry i : ℕ) (bytes : List ℕ) → kind_of entry ≡ blocks_256 → i < 3 → bytes ≡ record_at image entry → word_at (content bytes) (size_place i) ≡ size_word image entry i
-read_size image entry i bytes kind small read =
-    let n : record_size entry ≡ 96 = entry_bytes entry kind in
-    ap (λ (l : List ℕ). word_at (content l) (size_place i)) read ∙ word_of_record image entry (size_place i) (omega (arith, n, small)) ∙ sym (size_at image entry i small)
-
-pub read_word : (image : Image) (entry i : ℕ) (bytes : List ℕ) → kind_of entry ≡ blocks_256 → i < 3 → bytes ≡ record_at image entry → word_at (content bytes) (address_place i) ≡ address_word image entry i
-read_word image entry i bytes kind small read =
-    let n : record_size entry ≡ 96 = entry_bytes entry kind in
-    ap (λ (l : List ℕ). word_at (content l) (address_place i)) read ∙ word_of_record image entry (address_place i) (omega (arith, n, small)) ∙ sym (address_at image entry i small)
-
--- What freeing leaves.
-
-pub freeing_off : (w m i : ℕ) → 8192 ≤ i → (freeing_of w).bytes (Block m) i ≡ false
-freeing_off w m i low =
-    ⊎_elim
-    (λ (t : (kind_of w == external) ≡ true). subst (λ (F : Footprint). F.bytes (Block m) i ≡ false) (sym (freeing_external w (eqb-true (kind_of w) external t))) refl)
-    (λ (t : (kind_of w == external) ≡ false). subst (λ (F : Footprint). F.bytes (Block m) i ≡ false) (sym (freeing_blocks w (blocky_of w t))) ((map_spares (file_selector w)).blocks m i low))
-    (cases_Bool (kind_of w == external))
-  where
-    blocky_of : (w : ℕ) → (kind_of w == external) ≡ false → kind_of w ≢ external
-    blocky_of w t e = let z : (kind_of w == external) ≡ true = grind (arith, nat_tests) in let y : true ≡ false = sym z ∙ t in cc
-
-pub leaving_off : (w m i : ℕ) → 8192 ≤ i → (leaving_of w).bytes (Block m) i ≡ false
-leaving_off w m i low =
-    ⊎_elim
-    (λ (none : w ≡ 0). subst (λ (F : Footprint). F.bytes (Block m) i ≡ false) (sym (ap leaving_of none ∙ leaving_none)) refl)
-    (λ (some : w ≢ 0). subst (λ (F : Footprint). F.bytes (Block m) i ≡ false) (sym (leaving_some w some)) (freeing_off w m i low))
-    (cases_eq w 0)
-
-module _ (w : ℕ) (mid image : Image) (same : SameOutside (freeing_of w) mid image) where
-  pub record_freed : (entry : ℕ) → record_at image entry ≡ record_at mid entry
-  unfolding record_at
-  record_freed entry =
-      same-range (record_size entry) (place entry) (byte image (Block (file_selector entry))) (byte mid (Block (file_selector entry)))
-      (λ k low high. same.bytes (Block (file_selector entry)) k (freeing_off w (file_selector entry) k (let p = past_header entry in omega (arith, low, p))))
-
-  pub words_freed : (entry i : ℕ) → i < 3 → (size_word image entry i ≡ size_word mid entry i) × (address_word image entry i ≡ address_word mid entry i)
-  words_freed entry i small = (
-    size_at image entry i small ∙ word_same (size_place i) ∙ sym (size_at mid entry i small),
-    address_at image entry i small ∙ word_same (address_place i) ∙ sym (address_at mid entry i small),
-  )
-    where
-      word_same : (at : ℕ) → word image (Block (file_selector entry)) (place entry + at) ≡ word mid (Block (file_selector entry)) (place entry + at)
-      word_same at = same_word_outside (freeing_of w) mid image (Block (file_selector entry)) (place entry + at) same (λ k low high. freeing_off w (file_selector entry) k (let p = past_header entry in omega (arith, low, p)))
-
-  pub blocks_freed : (n : ℕ) → max_entries_in image n ≡ max_entries_in mid n
-  blocks_freed n =
-      ⊎_elim
-      (λ (t : (kind_of w == external) ≡ true). blocks_same (whole (External (external_number w))) mid image (record { bytes = λ m i small. refl }) (subst (λ (F : Footprint). SameOutside F mid image) (freeing_external w (eqb-true (kind_of w) external t)) same) n)
-      (λ (t : (kind_of w == external) ≡ false).
-      let maps : SameOutside (map_of (file_selector w)) mid image = subst (λ (F : Footprint). SameOutside F mid image) (freeing_blocks w (blocky_of t)) same in
-      blocks_spared (map_of (file_selector w)) mid image (map_spares (file_selector w)) maps (λ m. let e = maps.lengths (Block m) refl in omega (arith, e)) n)
-      (cases_Bool (kind_of w == external))
-    where
-      blocky_of : (kind_of w == external) ≡ false → kind_of w ≢ external
-      blocky_of t e = let z : (kind_of w == external) ≡ true = grind (arith, nat_tests) in let y : true ≡ false = sym z ∙ t in cc
-
--- a well-formed folder stays so
-
-formed_behind : (F : Footprint) (from image : Image) → SparesHeaders F → ((i : ℕ) → F.bytes Index i ≡ false) → F.sizes Index ≡ false → ((n : ℕ) → F.sizes (Block n) ≡ false) → SameOutside F from image → IsWellFormed from → IsWellFormed image
-formed_behind F from image spares index size sizes same formed =
-    well_formed_still from image (λ i. same.bytes Index i (index i)) (same.lengths Index size)
-    (undamaged_still from image (next_same F from image spares same) (heads_still F from image spares same (λ m. let e = same.lengths (Block m) (sizes m) in omega (arith, e)))) formed
-
-formed_named : (entry i : ℕ) (from mid : Image) → SameOutside (stream_words entry i) from mid → IsWellFormed from → IsWellFormed mid
-formed_named entry i from mid same formed = formed_behind (stream_words entry i) from mid (record { bytes = (words_spare entry i).headers }) (λ k. refl) refl (λ n. refl) same formed
-
-formed_freed : (w : ℕ) (mid image : Image) → SameOutside (freeing_of w) mid image → IsWellFormed mid → IsWellFormed image
-formed_freed w mid image same formed =
-    ⊎_elim
-    (λ (t : (kind_of w == external) ≡ true).
-    formed_behind (whole (External (external_number w))) mid image (record { bytes = λ m i small. refl }) (λ k. refl) refl (λ n. refl) (subst (λ (F : Footprint). SameOutside F mid image) (freeing_external w (eqb-true (kind_of w) external t)) same) formed)
-    (λ (t : (kind_of w == external) ≡ false).
-    let maps : SameOutside (map_of (file_selector w)) mid image = subst (λ (F : Footprint). SameOutside F mid image) (freeing_blocks w (blocky_of t)) same in
-    formed_spared (map_of (file_selector w)) mid image (map_spares (file_selector w)) maps (λ m. let e = maps.lengths (Block m) refl in omega (arith, e)) formed)
-    (cases_Bool (kind_of w == external))
-  where
-    blocky_of : (kind_of w == external) ≡ false → kind_of w ≢ external
-    blocky_of t e = let z : (kind_of w == external) ≡ true = grind (arith, nat_tests) in let y : true ≡ false = sym z ∙ t in cc
+use Rattle.blk_stream.specs.Streams.{address_word, size_word}
+use Rattle.blk_stream.specs.Changing.{stream_words}
+use Rattle.blk_stream.specs.Freeing.{freeing_of, is_block_of, leaving_of, left_by}
+use Rattle.blk_stream.specs.Moving.{LeavesPlace, LeavesPlaceInProgress}
+use Rattle.blk_stream.specs.Dropping.{DropsStream, DropsStreamInProgress}
+use Rattle.blk_stream.proofs.PlacesFreed.{freeing_blocks, freeing_external, leaving_some}
 
 -- no file comes to be
-absent_freed : (w : ℕ) (mid image : Image) → IsPlaceFreed w mid image → (number : ℕ) → has_file mid (External number) ≡ false → has_file image (External number) ≡ false
-absent_freed w mid image freed number none =
+absent_changed : (entry i old size word : ℕ) (from image : Image) → LeavesPlace entry i old size word from image → (number : ℕ) → has_file from (External number) ≡ false → has_file image (External number) ≡ false
+absent_changed entry i old size word from image changed number none =
     ⊎_elim
-    (λ (t : (kind_of w == external) ≡ true).
-    let kind : kind_of w ≡ external = eqb-true (kind_of w) external t in
-    let whole_only : SameOutside (whole (External (external_number w))) mid image = subst (λ (F : Footprint). SameOutside F mid image) (freeing_external w kind) freed.same in
+    (λ (t : (kind_of old == external) ≡ true).
+    let kind : kind_of old ≡ external = eqb-true (kind_of old) external t in
+    let only : SameOutside (either (stream_words entry i) (whole (External (external_number old)))) from image = subst (λ (F : Footprint). SameOutside (either (stream_words entry i) F) from image) (freeing_external old kind) changed.same in
     ⊎_elim
-    (λ (same : external_number w ≡ number). subst (λ (n : ℕ). has_file image (External n) ≡ false) same (freed.gone kind))
-    (λ (differs : external_number w ≢ number). whole_only.files (External number) (let e : nat_eq (external_number w) number ≡ false = grind (arith, nat_tests) in e) ∙ none)
-    (cases_eq (external_number w) number))
-    (λ (t : (kind_of w == external) ≡ false).
-    let maps : SameOutside (map_of (file_selector w)) mid image = subst (λ (F : Footprint). SameOutside F mid image) (freeing_blocks w (blocky_of t)) freed.same in
+    (λ (same : external_number old ≡ number). subst (λ (n : ℕ). has_file image (External n) ≡ false) same (changed.gone kind))
+    (λ (differs : external_number old ≢ number). only.files (External number) (let e : nat_eq (external_number old) number ≡ false = grind (arith, nat_tests) in e) ∙ none)
+    (cases_eq (external_number old) number))
+    (λ (t : (kind_of old == external) ≡ false).
+    let maps : SameOutside (either (stream_words entry i) (map_of (file_selector old))) from image = subst (λ (F : Footprint). SameOutside (either (stream_words entry i) F) from image) (freeing_blocks old (blocky_of t)) changed.same in
     maps.files (External number) refl ∙ none)
-    (cases_Bool (kind_of w == external))
+    (cases_Bool (kind_of old == external))
   where
-    blocky_of : (kind_of w == external) ≡ false → kind_of w ≢ external
-    blocky_of t e = let z : (kind_of w == external) ≡ true = grind (arith, nat_tests) in let y : true ≡ false = sym z ∙ t in cc
+    blocky_of : (kind_of old == external) ≡ false → kind_of old ≢ external
+    blocky_of t e = let z : (kind_of old == external) ≡ true = grind (arith, nat_tests) in let y : true ≡ false = sym z ∙ t in cc
 
 -- A stream that is dropped.
 
-no_block : (n b : ℕ) → is_block_of 0 n b ≡ false
+pub no_block : (n b : ℕ) → is_block_of 0 n b ≡ false
 unfolding is_block_of kind_of
 no_block n b = refl
 
-none_left : (n : ℕ) (words : List ℕ) → left_by 0 n words ≡ words
+pub none_left : (n : ℕ) (words : List ℕ) → left_by 0 n words ≡ words
 unfolding left_by is_in_file kind_of
 none_left n words = refl
 
@@ -162,7 +60,7 @@ module _ (entry i : ℕ) (from : Image) where
     same = outside-refl E from;
     checks = good;
     formed = λ formed. formed;
-    none = record { no_bytes = size; no_place = none };
+    none = record { size_is = size; word_is = none };
     marks = λ n b small. sym (ap (λ (t : Bool). if t then false else is_block_marked from n b) (ap (λ (w : ℕ). is_block_of w n b) none ∙ no_block n b));
     allocations = λ n words are among. subst (AreAllocations from n) (sym (ap (λ (w : ℕ). left_by w n words) none ∙ none_left n words)) are;
     blocks = λ n. refl;
@@ -174,61 +72,25 @@ module _ (entry i : ℕ) (from : Image) where
   pub stays_dropping : RecordChecks entry from → DropsStreamInProgress entry i from from
   stays_dropping good = record { same = outside-refl E from; checks = good; formed = λ formed. formed; order = inl (outside-refl (stream_words entry i) from) }
 
-  pub naming_drops : (image : Image) → NamesInProgress entry i from image → DropsStreamInProgress entry i from image
-  naming_drops image named = record { same = outside_wider (stream_words entry i) E from image (within_left (stream_words entry i) (leaving_of W)) named.same; checks = named.checks; formed = formed_named entry i from image named.same; order = inl named.same }
+  module _ (old : ℕ) (is : old ≡ W) (some : W ≢ 0) (image : Image) where
+    leaves : freeing_of old ≡ leaving_of W
+    leaves = ap freeing_of is ∙ sym (leaving_some W some)
 
-  module _ (mid : Image) (kind : kind_of entry ≡ blocks_256) (small : i < 3) (some : W ≢ 0) (named : NamesInProgress entry i from mid) (is : IsUpdated from entry (place_changes i 0 0) mid) where
-    empty_mid : (size_word mid entry i ≡ 0) × (address_word mid entry i ≡ 0)
-    empty_mid = named_words entry i 0 0 from mid kind small (omega arith) (omega arith) is
+    pub changing_drops : LeavesPlaceInProgress entry i old 0 0 from image → DropsStreamInProgress entry i from image
+    changing_drops h = record { same = subst (λ (F : Footprint). SameOutside (either (stream_words entry i) F) from image) leaves h.same; checks = h.checks; formed = h.formed; order = h.order }
 
-    both : (image : Image) → SameOutside (freeing_of W) mid image → SameOutside E from image
-    both image freed = outside-trans E from mid image (naming_drops mid named).same (outside_wider (leaving_of W) E mid image (within_right (stream_words entry i) (leaving_of W)) (subst (λ (F : Footprint). SameOutside F mid image) (sym (leaving_some W some)) freed))
-
-    still_empty : (image : Image) → SameOutside (freeing_of W) mid image → IsEmptyStream entry i image
-    still_empty image freed = let words = words_freed W mid image freed entry i small in record { no_bytes = words.0 ∙ empty_mid.0; no_place = words.1 ∙ empty_mid.1 }
-
-    still_checks : (image : Image) → SameOutside (freeing_of W) mid image → RecordChecks entry image
-    still_checks image freed = let e = record_freed W mid image freed entry in rw e named.checks
-
-    pub freeing_drops : (image : Image) → SameOutside (freeing_of W) mid image → DropsStreamInProgress entry i from image
-    freeing_drops image freed = record { same = both image freed; checks = still_checks image freed; formed = λ formed. formed_freed W mid image freed (formed_named entry i from mid named.same formed); order = inr (still_empty image freed) }
-
-    pub freed_drops : (image : Image) → IsPlaceFreed W mid image → DropsStream entry i from image
-    freed_drops image freed =
-        let F = stream_words entry i in
-        let spares = words_spare entry i in
-        let headers : SparesHeaders F = record { bytes = spares.headers } in
+    pub changed_drops : LeavesPlace entry i old 0 0 from image → DropsStream entry i from image
+    changed_drops h =
+        let here : LeavesPlace entry i W 0 0 from image = subst (λ (w : ℕ). LeavesPlace entry i w 0 0 from image) is h in
         record {
-          same = both image freed.same;
-          checks = still_checks image freed.same;
-          formed = λ formed. formed_freed W mid image freed.same (formed_named entry i from mid named.same formed);
-          none = still_empty image freed.same;
-          marks = λ n b low. freed.marks n b low ∙ ap (λ (t : Bool). if is_block_of W n b then false else t) (marks_kept F from mid spares named.same n b low);
-          allocations = λ n words are among. freed.allocations n words (allocations_kept F from mid spares named.same n words are) among;
-          blocks = λ n. blocks_freed W mid image freed.same n ∙ blocks_same F from mid headers named.same n;
-          empty = λ n few was. freed.empty n (empty_kept F from mid spares named.same n few was);
-          gone = λ kind other. freed.gone kind;
-          absent = λ number none. absent_freed W mid image freed number (named.same.files (External number) refl ∙ none);
+          same = subst (λ (F : Footprint). SameOutside (either (stream_words entry i) F) from image) leaves h.same;
+          checks = h.checks;
+          formed = h.formed;
+          none = h.named;
+          marks = here.marks;
+          allocations = here.allocations;
+          blocks = h.blocks;
+          empty = h.empty;
+          gone = λ kind other. here.gone kind;
+          absent = absent_changed entry i old 0 0 from image h;
         }
-
-  -- and its place may be freed as before
-  pub named_free : (files : BlockFiles) (mid : Image) → Agrees files from → SameOutside (stream_words entry i) from mid → (kind_of W ≢ external → stands_among files W ≡ true) → MayBeFreed W from → MayBeFreed W mid
-  named_free files mid agrees same there may blocky = freed_still (stream_words entry i) files W from mid (words_spare entry i) same agrees (there blocky) (may blocky)
-
--- Told and untold.
-
--- where no files are told after some steps, none were told before them
-pub told_back : (a b : Told) (P : Image → Image → Type 0) → ForSome a.files (λ from. Passes a b (P from)) → b.files ≡ None → a.files ≡ None
-told_back a b P passes none = by_files a.files refl
-  where
-    by_files : (o : Option Image) → a.files ≡ o → a.files ≡ None
-    by_files None e = e
-    by_files (Some from) e = absurd (some_none (sym (ap (option_map (after (passes from e).steps)) e) ∙ sym (passes from e).applies.files ∙ none))
-      where
-        some_none : Some (after (passes from e).steps from) ≡ None → ⊥
-        some_none h = cc
-
-pub both_damaged : {A : Type 0} (r : Result A Fault) (P Q R : Damage → Type 0) → ((damage : Damage) → P damage → Q damage → R damage) → IfDamaged r P → IfDamaged r Q → IfDamaged r R
-both_damaged (Ok a) P Q R join p q = tt
-both_damaged (Err Device) P Q R join p q = tt
-both_damaged (Err (Damaged d)) P Q R join p q = join d p q

@@ -18,7 +18,7 @@ use Rattle.blk_stream.specs.Streams.{address_place, address_word, size_place, si
 use Rattle.blk_stream.specs.Changing.{record_word}
 use Rattle.blk_stream.specs.Dropping.{dropping_of}
 use Rattle.blk_stream.specs.Shown.{DroppedStreamsAreEmpty}
-use Rattle.blk_stream.proofs.Drops.{leaving_off}
+use Rattle.blk_stream.proofs.PlacesLeft.{leaving_off}
 use Rattle.blk_stream.proofs.Naming.{apart_place}
 
 none_some : {A : Type 0} {x : A} → None ≡ Some x → ⊥
@@ -36,7 +36,7 @@ fourth_none image fields streams e = by_tests (data_size_of fields 3 == 0) (addr
     by_tests true false s t h = absurd (none_some h)
     by_tests false t s e h = absurd (none_some h)
 
-fourth_of : (image : Image) (entry : ℕ) (streams : List (List ℕ)) → streams_at image entry ≡ Some streams → (size_word image entry 3 ≡ 0) × (address_word image entry 3 ≡ 0)
+pub fourth_of : (image : Image) (entry : ℕ) (streams : List (List ℕ)) → streams_at image entry ≡ Some streams → (size_word image entry 3 ≡ 0) × (address_word image entry 3 ≡ 0)
 unfolding streams_at fields_at
 fourth_of image entry streams e = by_stands (stands_as image blocks_256 entry) e
   where
@@ -60,11 +60,11 @@ fourth_off entry at (suc i) from few is k first last =
     word_off q off = apart_place (Block (file_selector entry)) (Block (file_selector entry)) (place entry + q) 4 k off
 
 -- the words of the fourth stream
-fourth_size : (image : Image) (entry : ℕ) → size_word image entry 3 ≡ word image (Block (file_selector entry)) (place entry + 52)
+pub fourth_size : (image : Image) (entry : ℕ) → size_word image entry 3 ≡ word image (Block (file_selector entry)) (place entry + 52)
 unfolding entry_in words_at
 fourth_size image entry = ap (word image (Block (file_selector entry))) (let h : place entry + 40 + 4 + 4 + 4 ≡ place entry + 52 = omega arith in h)
 
-fourth_word : (image : Image) (entry : ℕ) → address_word image entry 3 ≡ word image (Block (file_selector entry)) (place entry + 68)
+pub fourth_word : (image : Image) (entry : ℕ) → address_word image entry 3 ≡ word image (Block (file_selector entry)) (place entry + 68)
 unfolding entry_in words_at
 fourth_word image entry = ap (word image (Block (file_selector entry))) (let h : place entry + 56 + 4 + 4 + 4 ≡ place entry + 68 = omega arith in h)
 
@@ -90,4 +90,4 @@ dropped-empty files from image entry kind address stands agrees has dropped =
     let b = dropped.none 1 (omega arith) in
     let c = dropped.none 2 (omega arith) in
     ap (λ (t : Bool). option_and_then (stored_streams (store_of image)) (if t then Some fields else None)) here
-    ∙ streams_known image fields size none (empty_stream image fields 0 a.no_bytes a.no_place) (empty_stream image fields 1 b.no_bytes b.no_place) (empty_stream image fields 2 c.no_bytes c.no_place)
+    ∙ streams_known image fields size none (empty_stream image fields 0 a.size_is a.word_is) (empty_stream image fields 1 b.size_is b.word_is) (empty_stream image fields 2 c.size_is c.word_is)

@@ -5,7 +5,7 @@ use Rattle.std.proofs.lemmas.Bool.{cases_eq, eqb-true}
 use Rattle.std.proofs.lemmas.Bool.Decides.{nat_tests}
 use Rattle.std.specs.Option.{option_map, ForSome}
 use Rattle.blk_image.specs.Image.{File, Block, External, Image, length_of}
-use Rattle.blk_image.specs.Steps.{after}
+use Rattle.blk_image.specs.Steps.{TrailStep, after}
 use Rattle.blk_image.specs.Footprint.{SameOutside, IsWithin, range, whole}
 use Rattle.blk_image.specs.Told.{Told, Along, Applies, AppliesPrefix, Passes}
 use Rattle.blk_image.proofs.Footprints.{outside-refl, outside-trans, outside_steps, outside_wider, range_within, within_both}
@@ -20,12 +20,20 @@ use Rattle.blk_entry.proofs.NewImages.{same_kind}
 use Rattle.blk_stream.specs.declared.places.Stored.{Stored}
 use Rattle.blk_stream.specs.Copying.{AreOldBytes, HasOldPlace, ShareNoData, ShareNoFile, old_spans, span_of}
 use Rattle.blk_stream.specs.Filling.{FillsPlace}
-use Rattle.blk_stream.specs.Inside.{HasItsLength, data_of, room_steps}
+use Rattle.blk_stream.specs.Inside.{HasStreamLength, data_of, room_steps}
 use Rattle.blk_stream.proofs.Copies.{blocks_before, blocky_of, has_data}
 use Rattle.blk_stream.proofs.InsideData.{HasMade, data_beside, data_long, data_outside, data_there, made_blocks, made_external, made_long, moved_data}
 use Rattle.blk_stream.proofs.InsideSteps.{apart_file, data_within, quiet_data, quiet_room, room_within}
 use Rattle.blk_stream.proofs.Joined.{then_passes, told_then}
 use Rattle.blk_stream.proofs.Naming.{apart_place}
+
+-- where no files are told after steps, none were told before
+pub none_before : {a b : Told} {s : List TrailStep} → Applies a b s → b.files ≡ None → a.files ≡ None
+none_before {a} {b} {s} steps none = by_files a.files refl
+  where
+    by_files : (o : Option Image) → a.files ≡ o → a.files ≡ None
+    by_files None e = e
+    by_files (Some from) e = absurd (let h : Some (after s from) ≡ None = sym (ap (option_map (after s)) e) ∙ sym steps.files ∙ none in cc)
 
 -- no bytes lie nowhere
 none_inside : (files : BlockFiles) (n : ℕ) → n ≡ 0 → IsInside files 0 0 n
@@ -41,7 +49,7 @@ old_inside files old has = by_addr old.addr refl
     by_addr (Some w) e = has.inside w e
 
 -- the length of another external file is off the data
-sizes_off : (v w : ℕ) → ShareNoFile v w → kind_of v ≡ external → (data_of w).sizes (External (external_number v)) ≡ false
+pub sizes_off : (v w : ℕ) → ShareNoFile v w → kind_of v ≡ external → (data_of w).sizes (External (external_number v)) ≡ false
 unfolding data_of
 sizes_off v w apart kind = by_test (kind_of w == external) refl
   where
@@ -120,7 +128,7 @@ module _ (files : BlockFiles) (u w old size offset : ℕ) (bytes : List ℕ) (u_
       by_test true e = omega (arith, e)
       by_test false e = omega (arith, e)
 
-  module _ (agrees : Agrees files from) (empty : HasItsLength w 0 from) where
+  module _ (agrees : Agrees files from) (empty : HasStreamLength w 0 from) where
     made : HasMade from one w start size offset
     made = by_test (kind_of w == external) refl
       where
@@ -131,7 +139,7 @@ module _ (files : BlockFiles) (u w old size offset : ℕ) (bytes : List ℕ) (u_
             made_external from w start size offset kind (subst (λ (g : File). length_of from g ≡ start) (sym (data_outside w kind).0) (empty kind ∙ sym none))
         by_test false t = made_blocks from w start size offset t (has_data files w w 0 size w_inside w_inside (omega arith) w w_inside from agrees (λ kind. absurd (blocky_of w t kind)))
 
-    pub one_long : HasItsLength w size one
+    pub one_long : HasStreamLength w size one
     one_long kind =
         let t : (kind_of w == external) ≡ true = grind (arith, nat_tests) in
         let none : start ≡ 0 = start_is ∙ ap (λ (b : Bool). if b then 0 else old) t in
@@ -191,7 +199,7 @@ module _ (files : BlockFiles) (u w old size offset : ℕ) (bytes : List ℕ) (u_
           then_passes a n b from P there old_passes
           (λ mid now before. passes_part P P prefix (quiet_data w offset bytes) (λ image h. h) (λ image here. subst (λ (i : Image). Along P i (data_steps w offset bytes)) (some_inj (sym now ∙ here)) (new_along mid before)))
 
-      pub fill_done : (b : Told) → Agrees files from → HasItsLength w 0 from → ShareNoData u w → ForSome m.files (λ mid. ForSome n.files (AreOldBytes u w old size offset (length bytes) mid)) → Applies n b (data_steps w offset bytes)
+      pub fill_done : (b : Told) → Agrees files from → HasStreamLength w 0 from → ShareNoData u w → ForSome m.files (λ mid. ForSome n.files (AreOldBytes u w old size offset (length bytes) mid)) → Applies n b (data_steps w offset bytes)
           → ForSome b.files (FillsPlace u w old size offset bytes from)
       fill_done b agrees empty apart copied steps_of_new image now =
           let is = one_is steps in

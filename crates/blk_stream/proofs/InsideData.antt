@@ -53,7 +53,7 @@ front_is old rest place k low =
 rest_is : (old rest : List ℕ) (place k : ℕ) → place ≤ k → content (front old place ++ rest) k ≡ content rest (k - place)
 rest_is old rest place k low = get_or-append_right (front old place) rest place k the_zero (length_front old place) low
 
-length_of_after : (cut : Bool) (old new : List ℕ) (place : ℕ) → length (stream_after cut old place new) ≡ size_after cut (length old) place (length new)
+pub length_of_after : (cut : Bool) (old new : List ℕ) (place : ℕ) → length (stream_after cut old place new) ≡ size_after cut (length old) place (length new)
 unfolding size_after
 length_of_after true old new place =
     let a = length-append (front old place) new in

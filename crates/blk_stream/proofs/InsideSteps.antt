@@ -153,7 +153,7 @@ place_of_entry w kind = rw kind (let h : 8192 + first_block w * 256 ≡ 8192 + 2
 
 -- the data of a word shares no byte with a record, where they share no block
 module _ (files : BlockFiles) (entry w size : ℕ) (kind : kind_of entry ≡ blocks_256) (stands : stands_among files entry ≡ true) (inside : IsInside files w 0 size) (apart : kind_of w ≢ external → ShareNoBlock entry w) where
-  record_off : (k : ℕ) → place entry ≤ k → k < place entry + 96 → (data_of w).bytes (Block (file_selector entry)) k ≡ false
+  pub record_off : (k : ℕ) → place entry ≤ k → k < place entry + 96 → (data_of w).bytes (Block (file_selector entry)) k ≡ false
   record_off k low high =
       ⊎_elim
       (λ (t : (kind_of w == external) ≡ true). subst (λ (F : Footprint). F.bytes (Block (file_selector entry)) k ≡ false) (sym (data_external w (eqb-true (kind_of w) external t))) refl)

@@ -27,16 +27,16 @@ use Rattle.blk_entry.proofs.NewImages.{same_kind}
 use Rattle.blk_entry.proofs.Windows.{entry_room, entry_room_least}
 use Rattle.blk_stream.specs.Streams.{size_place, size_word}
 use Rattle.blk_stream.specs.Changing.{record_word}
-use Rattle.blk_stream.specs.Inside.{HasItsLength, WritesInside, here_steps, inside_steps, room_steps, size_steps, size_words}
+use Rattle.blk_stream.specs.Inside.{HasStreamLength, WritesInside, data_of, here_steps, inside_steps, room_steps, size_steps, size_words}
 use Rattle.blk_entry.specs.Steps.{data_steps}
 use Rattle.blk_stream.proofs.Naming.{apart_place}
-use Rattle.blk_stream.proofs.InsideSteps.{apart_file, fits, mid_record, mid_sealed, place_of_entry, sealed_within, size_changes, size_none, size_some}
+use Rattle.blk_stream.proofs.InsideSteps.{apart_file, here_outside, fits, mid_record, mid_sealed, place_of_entry, sealed_within, size_changes, size_none, size_some}
 use Rattle.blk_stream.proofs.InsideData.{data_long, data_outside, here_data, HasMade, made_blocks, made_external, made_long}
 use Rattle.blk_stream.proofs.StreamPlaces.{size_at}
 
 -- the words of a record share no byte with the data of a word, where they share no block
 module _ (files : BlockFiles) (entry i w size : ℕ) (kind : kind_of entry ≡ blocks_256) (stands : stands_among files entry ≡ true) (small : i < 3) (inside : IsInside files w 0 size) (apart : kind_of w ≢ external → ShareNoBlock entry w) where
-  off_word : (at k : ℕ) → at + 4 ≤ 96 → k < size → (record_word entry at).bytes (data_file w) (data_start w + k) ≡ false
+  pub off_word : (at k : ℕ) → at + 4 ≤ 96 → k < size → (record_word entry at).bytes (data_file w) (data_start w + k) ≡ false
   unfolding data_file data_start
   off_word at k low high = by_test (kind_of w == external) refl
     where
@@ -84,7 +84,7 @@ data_inside w blocky = let t : (kind_of w == external) ≡ false = grind (arith,
 -- What both leave.
 module _ (files : BlockFiles) (entry i w old size offset : ℕ) (bytes : List ℕ) (kind : kind_of entry ≡ blocks_256) (stands : stands_among files entry ≡ true) (small : i < 3)
     (inside : IsInside files w 0 size) (few : offset + length bytes ≤ size) (apart : kind_of w ≢ external → ShareNoBlock entry w) (from : Image) (agrees : Agrees files from) (good : RecordChecks entry from)
-    (long : HasItsLength w old from) (record_bytes : List ℕ) (read : record_bytes ≡ record_at from entry) where
+    (long : HasStreamLength w old from) (record_bytes : List ℕ) (read : record_bytes ≡ record_at from entry) where
   abbrev mid : Image
   mid = after (here_steps w old size offset bytes) from
 
@@ -152,7 +152,7 @@ module _ (files : BlockFiles) (entry i w old size offset : ℕ) (bytes : List �
           ∙ sym (word_of_record (after steps mid) entry (size_place i) (let n : record_size entry ≡ 96 = entry_bytes entry kind in omega (arith, n, small)))
           ∙ updated_is_new mid (after steps mid) entry ((size_place i, size) ∷ []) (size_changes entry i (size_place i) size kind small refl) done 0 (size_place i, size) (omega arith) (All-cons (λ c. c.1 < 2 ^ 32) (size_place i, size) [] fit (All-nil (λ c. c.1 < 2 ^ 32)))
 
-  mid_long : HasItsLength w size mid
+  mid_long : HasStreamLength w size mid
   mid_long x =
       let f = data_outside w x in
       subst (λ (g : File). length_of mid g ≡ size) f.0
@@ -160,7 +160,7 @@ module _ (files : BlockFiles) (entry i w old size offset : ℕ) (bytes : List �
       ∙ data_long w offset bytes (after (room_steps w old size offset) from)
       ∙ made_long from w old size offset x (subst (λ (g : File). length_of from g ≡ old) (sym f.0) (long x)))
 
-  last_long : HasItsLength w size last
+  last_long : HasStreamLength w size last
   last_long x =
       last_same.lengths (External (external_number w)) refl ∙ mid_long x
 
@@ -169,4 +169,7 @@ module _ (files : BlockFiles) (entry i w old size offset : ℕ) (bytes : List �
     written = λ cut is. data_stays files entry i w size kind stands small inside apart mid last last_same ∙ here_data from w old size offset cut bytes made is;
     size_is = last_size fit;
     long = last_long;
+    middle = mid;
+    data_first = until_last (SameOutside (data_of w) from) (SameOutside (data_of w) from) (here_steps w old size offset bytes) from (here_outside from w old size offset bytes (λ blocky. let h = inside.room blocky in omega (arith, h)) few);
+    words_then = last_same;
   })

@@ -1,6 +1,8 @@
 pub mod StreamPlaces
+pub mod KeptFiles
 pub mod PlacesFreed
 pub mod Naming
+pub mod PlacesLeft
 pub mod Drops
 pub mod Dropped
 pub mod ShownDrops
@@ -11,3 +13,18 @@ pub mod InsideWritten
 pub mod Copies
 pub mod Joined
 pub mod Fillings
+pub mod Gained
+pub mod Placed
+pub mod Created
+pub mod Apart
+pub mod KeptMaps
+pub mod PlacesMoved
+pub mod WriteStages
+pub mod OtherStreams
+pub mod OwnedKept
+pub mod StreamsWritten
+pub mod StreamLists
+pub mod Placements
+pub mod Moved
+pub mod StreamMoved
+pub mod StreamInside

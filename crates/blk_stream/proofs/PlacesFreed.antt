@@ -1,29 +1,26 @@
 -- The place of data is freed.
-use Rattle.std.proofs.Common.{◌≡◌, ◌≢◌, ⊎_elim, ℕ, ◌+◌, ◌/◌, Bool, true, false, List, [], ◌∷◌, Option, None, refl, sym, ◌∙◌, ap, subst, arith}
-use Rattle.std.specs.Prelude.{◌==◌, ◌&&◌, not, is_some, unwrap_or}
+use Rattle.std.proofs.Common.{◌≡◌, ◌≢◌, ⊎_elim, ℕ, ◌+◌, ◌/◌, true, false, List, [], ◌∷◌, Option, None, refl, sym, ◌∙◌, ap, subst, arith}
+use Rattle.std.specs.Prelude.{◌==◌, is_some}
 use Rattle.std.specs.Option.{ForSome}
 use Rattle.std.proofs.lemmas.Bool.{cases_eq}
 use Rattle.std.proofs.lemmas.Bool.Decides.{nat_tests}
-use Rattle.blk_image.specs.Bytes.{content}
 use Rattle.blk_image.specs.Image.{Block, External, Image}
 use Rattle.blk_image.specs.Steps.{Delete, applied}
 use Rattle.blk_image.specs.Footprint.{Footprint, SameOutside, nothing, whole}
 use Rattle.blk_image.specs.Told.{Told, AppliesPrefix}
-use Rattle.blk_image.proofs.Footprints.{outside_step, same_file_outside}
+use Rattle.blk_image.proofs.Footprints.{outside_step}
 use Rattle.blk_image.proofs.Runs.{told_part}
-use Rattle.blk_format.specs.Address.{kind_of, is_address, external, external_number, file_selector}
-use Rattle.blk_format.specs.BlockFiles.{is_among, kind_among, max_entries_in, stands_in}
+use Rattle.blk_format.specs.Address.{kind_of, external, external_number, file_selector}
+use Rattle.blk_format.specs.BlockFiles.{is_among}
 use Rattle.blk_format.specs.Claims.{is_in_file}
-use Rattle.blk_format.specs.Headers.{allocations_of}
-use Rattle.blk_format.specs.Maps.{AreAllocations, EmptyAgrees, is_block_marked}
-use Rattle.blk_format.specs.Standing.{stands, stands_as_blocks}
-use Rattle.blk_format.proofs.SpareHeaders.{SparesHeaders, blocks_same, linked_same}
+use Rattle.blk_format.specs.Maps.{AreAllocations, EmptyAgrees}
 use Rattle.blk_disk.specs.declared.tables.BlockFiles.{BlockFiles}
 use Rattle.blk_disk.specs.Tables.{Agrees}
 use Rattle.blk_disk.proofs.Agreeing.{agrees_still}
 use Rattle.blk_alloc.specs.Changes.{map_of}
-use Rattle.blk_alloc.specs.Owning.{FreesAtLast, FreesInProgress, FreesOrStops, IsFreed, KeepsFile, others}
+use Rattle.blk_alloc.specs.Owning.{FreesAtLast, FreesInProgress, FreesOrStops, IsFreed, others}
 use Rattle.blk_alloc.proofs.Widening.{mark_kept}
+use Rattle.blk_stream.proofs.KeptFiles.{external_spares, file_kept, headers_spared}
 use Rattle.blk_stream.specs.Freeing.{IsPlaceFreed, freeing_of, is_block_of, leaving_of, left_by}
 
 pub freeing_external : (w : ℕ) → kind_of w ≡ external → freeing_of w ≡ whole (External (external_number w))
@@ -52,11 +49,11 @@ map_only w from image h = h.marks.same
 pub freed_only : (w : ℕ) (from image : Image) → FreesOrStops w from image → SameOutside (map_of (file_selector w)) from image
 freed_only w from image h = ⊎_elim (λ (midst : FreesInProgress w from image). map_only w from image midst) (λ (last : FreesAtLast w from image). last.freed.same) h
 
-in_file_blocks : (n w : ℕ) → kind_of w ≢ external → is_in_file n w ≡ (file_selector w == n)
+pub in_file_blocks : (n w : ℕ) → kind_of w ≢ external → is_in_file n w ≡ (file_selector w == n)
 unfolding is_in_file
 in_file_blocks n w blocky = let t : (kind_of w == external) ≡ false = grind (arith, nat_tests) in rw t refl
 
-in_file_external : (n w : ℕ) → kind_of w ≡ external → is_in_file n w ≡ false
+pub in_file_external : (n w : ℕ) → kind_of w ≡ external → is_in_file n w ≡ false
 unfolding is_in_file
 in_file_external n w kind = let t : (kind_of w == external) ≡ true = grind (arith, nat_tests) in rw t refl
 
@@ -103,38 +100,6 @@ module _ (w : ℕ) (from image : Image) (blocky : kind_of w ≢ external) (freed
 
 -- A file that is deleted.
 
-whole_spares : (number : ℕ) → SparesHeaders (whole (External number))
-whole_spares number = record { bytes = λ m i small. refl }
-
-module _ (number : ℕ) (from image : Image) (same : SameOutside (whole (External number)) from image) where
-  block_file : (n : ℕ) → image (Block n) ≡ from (Block n)
-  block_file n = same_file_outside (whole (External number)) from image (Block n) same (λ i. refl) refl
-
-  blocks_stand : (v : ℕ) → kind_of v ≢ external → stands_in image v ≡ stands_in from v
-  unfolding stands kind_among max_entries_in stands_as_blocks
-  blocks_stand v blocky =
-      let t : (kind_of v == external) ≡ false = grind (arith, nat_tests) in
-      rw t (λ j. is_address v && stands_as_blocks (kind_among (λ kind. linked_same (whole (External number)) from image (whole_spares number) same kind j)) (λ m. blocks_same (whole (External number)) from image (whole_spares number) same m j) (λ m. same.lengths (Block m) refl j) (λ number. false) v)
-
-  pub file_kept : (n : ℕ) → KeepsFile from image n
-  unfolding EmptyAgrees max_entries_in is_in_file
-  file_kept n = record {
-    allocations = λ words are. record {
-      stand = λ i d within. blocks_stand _ (in_blocks _ (are.here i d within)) ∙ are.stand i d within;
-      here = are.here;
-      apart = are.apart;
-      marks = λ b small. ap (λ (o : Option (List ℕ)). is_block_marked (λ file. o) n b) (block_file n) ∙ are.marks b small;
-      counted = ap (λ (o : Option (List ℕ)). allocations_of (content (unwrap_or o []))) (block_file n) ∙ are.counted;
-    };
-    empty = λ was. subst (λ (o : Option (List ℕ)). EmptyAgrees (λ file. o) n) (sym (block_file n)) was;
-  }
-    where
-      in_blocks : (v : ℕ) → is_in_file n v ≡ true → kind_of v ≢ external
-      in_blocks v t e = let z : (kind_of v == external) ≡ true = grind (arith, nat_tests) in clashes (kind_of v == external) (file_selector v == n) z t
-        where
-          clashes : (a b : Bool) → a ≡ true → (not a && b) ≡ true → ⊥
-          clashes a b e h = let k : false ≡ true = rw e at h in cc
-
 pub freed_file : (w : ℕ) (from image : Image) → kind_of w ≡ external → SameOutside (whole (External (external_number w))) from image → image (External (external_number w)) ≡ None → IsPlaceFreed w from image
 unfolding is_block_of
 freed_file w from image kind same none =
@@ -142,8 +107,8 @@ freed_file w from image kind same none =
     record {
       same = subst (λ (F : Footprint). SameOutside F from image) (sym (freeing_external w kind)) same;
       marks = λ n b small. rw t (mark_kept from image n b (same.bytes (Block n) (80 + b / 8) refl));
-      allocations = λ n words are among. subst (AreAllocations image n) (sym (left_elsewhere w n words (in_file_external n w kind))) ((file_kept (external_number w) from image same n).allocations words are);
-      empty = λ n was. (file_kept (external_number w) from image same n).empty was;
+      allocations = λ n words are among. subst (AreAllocations image n) (sym (left_elsewhere w n words (in_file_external n w kind))) ((file_kept (whole (External (external_number w))) from image (external_spares (external_number w)) same n).allocations words are);
+      empty = λ n was. (file_kept (whole (External (external_number w))) from image (external_spares (external_number w)) same n).empty was;
       gone = λ k. ap (λ (o : Option (List ℕ)). is_some o) none;
     }
 
@@ -153,4 +118,4 @@ agrees_deleted files a b n part agrees =
     told_part (Agrees files) part (λ image there. (agrees image there, kept image (applied (Delete (External n)) image) (outside_step (Delete (External n)) image) (agrees image there)))
   where
     kept : (from image : Image) → SameOutside (whole (External n)) from image → Agrees files from → Agrees files image
-    kept from image same was = agrees_still (whole (External n)) from image (whole_spares n) same files (λ m. refl) was
+    kept from image same was = agrees_still (whole (External n)) from image (headers_spared (whole (External n)) (external_spares n)) same files (λ m. refl) was

@@ -24,14 +24,14 @@ use Rattle.blk_stream.specs.Dropping.{dropping_of}
 use Rattle.blk_stream.specs.Shown.{DropsAreShownInside, is_of_entry}
 use Rattle.blk_stream.proofs.PlacesFreed.{freeing_blocks, freeing_external, leaving_none, leaving_some}
 
-claims-first : (u : ℕ) (words : List ℕ) (claim : Claim) → has_claim (claims_of u) claim ≡ true → has_claim (claims_of_all (u ∷ words)) claim ≡ true
+pub claims-first : (u : ℕ) (words : List ℕ) (claim : Claim) → has_claim (claims_of u) claim ≡ true → has_claim (claims_of_all (u ∷ words)) claim ≡ true
 claims-first u words claim e = claim-append (claims_of u) (claims_of_all words) claim ∙ or_left (has_claim (claims_of u) claim) (has_claim (claims_of_all words) claim) e
 
-claims-behind : (u : ℕ) (words : List ℕ) (claim : Claim) → has_claim (claims_of_all words) claim ≡ true → has_claim (claims_of_all (u ∷ words)) claim ≡ true
+pub claims-behind : (u : ℕ) (words : List ℕ) (claim : Claim) → has_claim (claims_of_all words) claim ≡ true → has_claim (claims_of_all (u ∷ words)) claim ≡ true
 claims-behind u words claim e = claim-append (claims_of u) (claims_of_all words) claim ∙ or_right (has_claim (claims_of u) claim) (has_claim (claims_of_all words) claim) e
 
 -- an external file's claim
-external-claim : (w : ℕ) (claim : Claim) → w ≢ 0 → kind_of w ≡ external → same_claim claim (ExternalOf (external_number w)) ≡ true → has_claim (claims_of w) claim ≡ true
+pub external-claim : (w : ℕ) (claim : Claim) → w ≢ 0 → kind_of w ≡ external → same_claim claim (ExternalOf (external_number w)) ≡ true → has_claim (claims_of w) claim ≡ true
 unfolding claims_of has_claim
 external-claim w claim other is e =
     let some : (w == 0) ≡ false = grind (arith, nat_tests) in

@@ -104,7 +104,7 @@ none_storage w e = eqb-true w 0 e
 both : (a b : Bool) → a ≡ true → b ≡ true → (a && b) ≡ true
 both a b e f = rw (e, f) refl
 
-zero_kept : (files : BlockFiles) → may_keep files 0 0 ≡ true
+pub zero_kept : (files : BlockFiles) → may_keep files 0 0 ≡ true
 unfolding may_keep stores is_storage kind_of
 zero_kept files = refl
 

@@ -1,10 +1,10 @@
 -- The record names another place for a stream.
-use Rattle.std.specs.Prelude.{ℕ, ◌+◌, List, [], ◌∷◌}
+use Rattle.std.specs.Prelude.{ℕ, ◌≡◌, ◌+◌, List, [], ◌∷◌}
 use Rattle.blk_image.specs.Image.{Block, Image}
 use Rattle.blk_image.specs.Footprint.{Footprint, SameOutside, either, one_word}
 use Rattle.blk_format.specs.Address.{file_selector, place}
 use Rattle.blk_format.specs.Sealed.{RecordChecks}
-use Rattle.blk_stream.specs.Streams.{address_place, size_place}
+use Rattle.blk_stream.specs.Streams.{address_place, address_word, size_place, size_word}
 
 -- a word of a record
 abbrev pub record_word : ℕ → ℕ → Footprint
@@ -17,6 +17,11 @@ stream_words entry i = either (record_word entry (size_place i)) (either (record
 -- the two changes of the record
 abbrev pub place_changes : ℕ → ℕ → ℕ → List (ℕ × ℕ)
 place_changes i size word = (size_place i, size) ∷ (address_place i, word) ∷ []
+
+-- the record has these words for a stream
+pub record HasWords (entry i size word : ℕ) (image : Image) : Type 0 where
+  pub size_is : size_word image entry i ≡ size
+  pub word_is : address_word image entry i ≡ word
 
 -- while a stream gets other words nothing else differs, and the record checks
 pub record NamesInProgress (entry i : ℕ) (from image : Image) : Type 0 where

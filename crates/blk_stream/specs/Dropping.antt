@@ -13,8 +13,8 @@ use Rattle.blk_disk.specs.declared.tables.BlockFiles.{BlockFiles}
 use Rattle.blk_disk.specs.Tables.{stands_among}
 use Rattle.blk_entry.specs.Keys.{IsHeadDamage}
 use Rattle.blk_alloc.specs.Owning.{IsCause}
-use Rattle.blk_stream.specs.Streams.{HasStreamPlace, HasStreams, IsMisplaced, address_word, size_word}
-use Rattle.blk_stream.specs.Changing.{stream_words}
+use Rattle.blk_stream.specs.Streams.{HasStreamPlace, HasStreams, IsMisplacedStream, address_word, size_word}
+use Rattle.blk_stream.specs.Changing.{HasWords, stream_words}
 use Rattle.blk_stream.specs.Freeing.{MayBeFreed, is_block_of, leaving_of, left_by}
 
 -- no two streams of a record have one address
@@ -51,9 +51,8 @@ left_by_first zero entry from n words = words
 left_by_first (suc i) entry from n words = left_by (address_word from entry i) n (left_by_first i entry from n words)
 
 -- a stream of a record has no bytes and no place
-pub record IsEmptyStream (entry i : ℕ) (image : Image) : Type 0 where
-  pub no_bytes : size_word image entry i ≡ 0
-  pub no_place : address_word image entry i ≡ 0
+abbrev pub IsEmptyStream : ℕ → ℕ → Image → Type 0
+IsEmptyStream entry i image = HasWords entry i 0 0 image
 
 -- and another one has the words that it had
 pub record KeepsStream (entry i : ℕ) (from image : Image) : Type 0 where
@@ -108,7 +107,7 @@ pub record StreamCanBeDropped (files : BlockFiles) (entry i : ℕ) (image : Imag
 -- why one is not dropped: its words are wrong, or the header of the file of its blocks is damaged
 abbrev pub IsStreamDropDamage : BlockFiles → Told → ℕ → ℕ → Damage → Type 0
 IsStreamDropDamage files after entry i damage =
-    IsMisplaced files entry i damage
+    IsMisplacedStream files entry i damage
     ⊎ ((w : ℕ) × (stands_among files w ≡ true) × IsCause after (file_selector w) (first_block w) (block_count w) false damage)
 
 -- why the streams of a record are not dropped: the record is damaged, and nothing was written; or the words of one of them are wrong, or the header of the file of its blocks is damaged

@@ -3,10 +3,10 @@ use Rattle.std.specs.Prelude.{ℕ, ◌≡◌, List, Bool, length}
 use Rattle.blk_model.specs.Effects.{stream_after}
 use Rattle.blk_image.specs.Image.{Image}
 use Rattle.blk_entry.specs.Keys.{data_at}
-use Rattle.blk_stream.specs.Inside.{HasItsLength}
+use Rattle.blk_stream.specs.Inside.{HasStreamLength}
 use Rattle.blk_stream.specs.Writing.{size_after}
 
 -- the data of one address is that of a stream after a write, whether or not it is cut, whose bytes before are those of another address; and an external file has its length
 pub record FillsPlace (one other old size offset : ℕ) (bytes : List ℕ) (from image : Image) : Type 0 where
   pub written : (cut : Bool) → size ≡ size_after cut old offset (length bytes) → data_at image other 0 size ≡ stream_after cut (data_at from one 0 old) offset bytes
-  pub long : HasItsLength other size image
+  pub long : HasStreamLength other size image

@@ -53,11 +53,14 @@ pub record WritesInProgress (entry i w : ℕ) (from image : Image) : Type 0 wher
   pub checks : RecordChecks entry image
 
 -- an external file has the length of its data
-abbrev pub HasItsLength : ℕ → ℕ → Image → Type 0
-HasItsLength w size image = kind_of w ≡ external → length_of image (External (external_number w)) ≡ size
+abbrev pub HasStreamLength : ℕ → ℕ → Image → Type 0
+HasStreamLength w size image = kind_of w ≡ external → length_of image (External (external_number w)) ≡ size
 
--- in the end the data is that of the stream after the write, whether or not it is cut, and the record has its size
+-- in the end the data is that of the stream after the write, whether or not it is cut, and the record has its size; only the data had changed before only these words did
 pub record WritesInside (entry i w old size offset : ℕ) (bytes : List ℕ) (from image : Image) : Type 0 where
   pub written : (cut : Bool) → size ≡ size_after cut old offset (length bytes) → data_at image w 0 size ≡ stream_after cut (data_at from w 0 old) offset bytes
   pub size_is : size_word from entry i ≡ old → size_word image entry i ≡ size
-  pub long : HasItsLength w size image
+  pub long : HasStreamLength w size image
+  pub middle : Image
+  pub data_first : SameOutside (data_of w) from middle
+  pub words_then : SameOutside (size_words entry i) middle image

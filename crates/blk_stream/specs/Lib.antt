@@ -1,9 +1,14 @@
 pub mod Streams
 pub mod Freeing
 pub mod Changing
+pub mod Moving
 pub mod Dropping
 pub mod Writing
 pub mod Inside
 pub mod Copying
 pub mod Filling
+pub mod Owned
+pub mod Written
+pub mod Loading
+pub mod Placing
 pub mod Shown

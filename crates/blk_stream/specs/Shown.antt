@@ -17,8 +17,12 @@ is_of_entry image entry = has_claim (claims_of_all (entry ∷ address_word image
 
 -- at each word of dropping the streams of a record that stands, and in the end, what is shown has changed only there
 abbrev pub DropsAreShownInside : Type 0
-DropsAreShownInside = (files : BlockFiles) (from image : Image) (entry : ℕ) → kind_of entry ≡ blocks_256 → is_address entry ≡ true → stands_among files entry ≡ true → Agrees files from → SameOutside (dropping_of 3 entry from) from image → SameBut (is_of_entry from entry) (view_of from) (view_of image)
+DropsAreShownInside =
+    (files : BlockFiles) (from image : Image) (entry : ℕ) → kind_of entry ≡ blocks_256 → is_address entry ≡ true → stands_among files entry ≡ true
+    → Agrees files from → SameOutside (dropping_of 3 entry from) from image → SameBut (is_of_entry from entry) (view_of from) (view_of image)
 
 -- once the streams of a record that had three are dropped, it has three empty ones
 abbrev pub DroppedStreamsAreEmpty : Type 0
-DroppedStreamsAreEmpty = (files : BlockFiles) (from image : Image) (entry : ℕ) → kind_of entry ≡ blocks_256 → is_address entry ≡ true → stands_among files entry ≡ true → Agrees files image → HasStreams entry from → AreDropped 3 entry from image → streams_at image entry ≡ Some ([] ∷ [] ∷ [] ∷ [])
+DroppedStreamsAreEmpty =
+    (files : BlockFiles) (from image : Image) (entry : ℕ) → kind_of entry ≡ blocks_256 → is_address entry ≡ true → stands_among files entry ≡ true
+    → Agrees files image → HasStreams entry from → AreDropped 3 entry from image → streams_at image entry ≡ Some ([] ∷ [] ∷ [] ∷ [])

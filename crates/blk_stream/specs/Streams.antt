@@ -3,15 +3,13 @@ use Rattle.std.specs.Prelude.{ℕ, ◌≡◌, ◌≢◌, ◌⊎◌, ◌+◌, ◌
 use Rattle.std.specs.Option.{option_and_then}
 use Rattle.blk_image.specs.Image.{Image}
 use Rattle.blk_image.specs.Told.{Told}
-use Rattle.blk_format.specs.Address.{file_selector, place}
 use Rattle.blk_format.specs.Sealed.{RecordChecks}
 use Rattle.blk_volume.specs.View.{fields_at, entry_at, store_of}
 use Rattle.blk_volume.specs.Entries.{most_stream_bytes, stored_streams}
-use Rattle.blk_io.specs.declared.folder.FileId.TheVariants as names
 use Rattle.blk_io.specs.declared.fault.Damage.{Damage}
 use Rattle.blk_disk.specs.declared.tables.BlockFiles.{BlockFiles}
 use Rattle.blk_disk.specs.Tables.{Agrees}
-use Rattle.blk_entry.specs.Keys.{IsCut, IsHeadDamage, data_at, stores}
+use Rattle.blk_entry.specs.Keys.{IsCut, IsHeadDamage, IsWordOf, data_at, stores}
 use Rattle.blk_stream.specs.declared.places.Stored.{Stored}
 
 -- the streams of the record that a word names
@@ -64,27 +62,21 @@ pub record IsStoredAt (size w : ℕ) (stored : Stored) : Type 0 where
 
 -- Why a stream can't be read.
 
--- a damage is that of the word at a place of a record
-pub record IsDamageOf (entry at found : ℕ) (damage : Damage) : Type 0 where
-  pub of_file : damage.file ≡ names.Block (file_selector entry)
-  pub at_place : damage.at ≡ place entry + at
-  pub of_word : damage.found ≡ found
-
 -- a size that no stream has, or an address word that isn't the storage of the size or doesn't stand
-abbrev pub IsMisplacedBy : BlockFiles → ℕ → ℕ → ℕ → ℕ → Damage → Type 0
-IsMisplacedBy files entry i size w damage =
-    ((most_stream_bytes < size) × IsDamageOf entry (size_place i) size damage)
-    ⊎ ((size ≤ most_stream_bytes) × (stores files size w ≡ false) × IsDamageOf entry (address_place i) w damage)
+abbrev pub IsMisplacedStreamBy : BlockFiles → ℕ → ℕ → ℕ → ℕ → Damage → Type 0
+IsMisplacedStreamBy files entry i size w damage =
+    ((most_stream_bytes < size) × IsWordOf entry (size_place i) size damage)
+    ⊎ ((size ≤ most_stream_bytes) × (stores files size w ≡ false) × IsWordOf entry (address_place i) w damage)
 
 -- the same, with some size and some address word
-pub record IsMisplaced (files : BlockFiles) (entry i : ℕ) (damage : Damage) : Type 0 where
+pub record IsMisplacedStream (files : BlockFiles) (entry i : ℕ) (damage : Damage) : Type 0 where
   pub size : ℕ
   pub word : ℕ
-  pub wrong : IsMisplacedBy files entry i size word damage
+  pub wrong : IsMisplacedStreamBy files entry i size word damage
 
 -- the words of a stream can't be had: too few bytes of the record, it doesn't check, or they are wrong
 abbrev pub IsWrongStream : BlockFiles → Told → ℕ → ℕ → Damage → Type 0
-IsWrongStream files told entry i damage = IsHeadDamage told entry damage ⊎ IsMisplaced files entry i damage
+IsWrongStream files told entry i damage = IsHeadDamage told entry damage ⊎ IsMisplacedStream files entry i damage
 
 -- so many bytes of a stream from an offset on, as many as there are and as fit, were read where its words say, and there were too few
 pub record IsCutStream (files : BlockFiles) (told : Told) (offset count : ℕ) (damage : Damage) : Type 0 where

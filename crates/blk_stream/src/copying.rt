@@ -5,9 +5,9 @@ ghost use Rattle.blk_image.specs.Footprint.{SameOutside};
 ghost use Rattle.blk_image.specs.Told.{Applies, AppliesPrefix, Passes, Rises};
 ghost use Rattle.blk_io.specs.Faults.{IfDamaged, IfDevice};
 ghost use Rattle.blk_disk.specs.Tables.{Agrees};
-ghost use Rattle.blk_entry.specs.Keys.{IsInFile, IsInside, data_at};
+ghost use Rattle.blk_entry.specs.Keys.{IsCut, IsInFile, IsInside, data_at};
 ghost use Rattle.blk_entry.specs.Steps.{data_steps};
-ghost use Rattle.blk_stream.specs.Copying.{AreOldBytes, HasOldPlace, IsCopied, IsOldThere, ShareNoData, old_spans, span_of};
+ghost use Rattle.blk_stream.specs.Copying.{AreOldBytes, HasOldPlace, IsCopied, IsCutOld, IsCutRead, IsOldThere, ShareNoData, old_spans, span_of};
 
 use crate::places::Stored;
 use blk_addr::Addr;
@@ -30,13 +30,13 @@ pub(crate) fn copy<F: Folder>(
     requires from_inside { IsInside files.now from 0 end }
     requires to_inside { IsInside files.now to 0 end }
     requires agrees { ForSome (F.told f.old).files (Agrees files.now) }
-    requires from_there { ForSome (F.told f.old).files (IsInFile from 0 end) }
     requires to_there { ForSome (F.told f.old).files (IsInFile to 0 end) }
     ensures copied { OnOk result (ForSome (F.told f.old).files (λ old. ShareNoData from to → ForSome (F.told f.new).files (IsCopied from to start end old))) }
     ensures stops { ForSome (F.told f.old).files (λ old. Passes (F.told f.old) (F.told f.new) (SameOutside (span_of to start end) old)) }
     ensures silent { (F.told f.old).files ≡ None → (F.told f.new).files ≡ None }
     ensures agrees { ForSome (F.told f.new).files (Agrees files.now) }
-    ensures untold { IfDamaged result (λ _. (F.told f.old).files ≡ None) }
+    ensures damaged { IfDamaged result (IsCutRead from end) }
+    ensures untold { ForSome (F.told f.old).files (IsInFile from 0 end) → IfDamaged result (λ _. (F.told f.old).files ≡ None) }
     ensures later { F.faults f.old ≤ F.faults f.new }
     ensures device { IfDevice result (Rises (F.faults f.old) (F.faults f.new)) }
 {
@@ -62,13 +62,13 @@ fn copy_piece<F: Folder>(
     requires from_inside { IsInside files.now from at (length piece.old) }
     requires to_inside { IsInside files.now to at (length piece.old) }
     requires agrees { ForSome (F.told f.old).files (Agrees files.now) }
-    requires from_there { ForSome (F.told f.old).files (IsInFile from at (length piece.old)) }
     requires to_there { ForSome (F.told f.old).files (IsInFile to at (length piece.old)) }
     ensures steps { OnOk result (ForSome (F.told f.old).files (λ old. Applies (F.told f.old) (F.told f.new) (data_steps to at (data_at old from at (length piece.old))))) }
     ensures prefix { ForSome (F.told f.old).files (λ old. AppliesPrefix (F.told f.old) (F.told f.new) (data_steps to at (data_at old from at (length piece.old)))) }
     ensures agrees { ForSome (F.told f.new).files (Agrees files.now) }
     ensures silent { (F.told f.old).files ≡ None → (F.told f.new).files ≡ None }
-    ensures untold { IfDamaged result (λ _. (F.told f.old).files ≡ None) }
+    ensures damaged { IfDamaged result (IsCut (F.told f.old) from at (length piece.old)) }
+    ensures untold { ForSome (F.told f.old).files (IsInFile from at (length piece.old)) → IfDamaged result (λ _. (F.told f.old).files ≡ None) }
     ensures later { F.faults f.old ≤ F.faults f.new }
     ensures device { IfDevice result (Rises (F.faults f.old) (F.faults f.new)) }
     ensures long { length piece.new ≡ length piece.old }
@@ -92,13 +92,13 @@ pub(crate) fn copy_old<F: Folder>(
     requires inside { IsInside files.now to 0 size }
     requires few { offset + count ≤ size }
     requires agrees { ForSome (F.told f.old).files (Agrees files.now) }
-    requires old_there { ForSome (F.told f.old).files (IsOldThere old) }
     requires there { ForSome (F.told f.old).files (IsInFile to 0 size) }
     ensures copied { OnOk result (ForSome (F.told f.old).files (λ from. ShareNoData (unwrap_or old.addr 0) to → ForSome (F.told f.new).files (AreOldBytes (unwrap_or old.addr 0) to old.size size offset count from))) }
     ensures stops { ForSome (F.told f.old).files (λ from. Passes (F.told f.old) (F.told f.new) (SameOutside (old_spans to old.size size offset count) from)) }
     ensures silent { (F.told f.old).files ≡ None → (F.told f.new).files ≡ None }
     ensures agrees { ForSome (F.told f.new).files (Agrees files.now) }
-    ensures untold { IfDamaged result (λ _. (F.told f.old).files ≡ None) }
+    ensures damaged { IfDamaged result (IsCutOld old) }
+    ensures untold { ForSome (F.told f.old).files (IsOldThere old) → IfDamaged result (λ _. (F.told f.old).files ≡ None) }
     ensures later { F.faults f.old ≤ F.faults f.new }
     ensures device { IfDevice result (Rises (F.faults f.old) (F.faults f.new)) }
 {

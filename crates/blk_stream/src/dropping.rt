@@ -9,9 +9,8 @@ ghost use Rattle.blk_io.specs.Faults.{IfDamaged, IfDevice};
 ghost use Rattle.blk_disk.specs.Tables.{Agrees, stands_among};
 ghost use Rattle.blk_stream.specs.Dropping.{AreDropped, DropsInProgress, DropsStream, DropsStreamInProgress, IsDropDamage, IsStreamDropDamage, StreamCanBeDropped, StreamsCanBeDropped};
 
-use crate::changing::name_place;
-use crate::freeing::free_place;
-use crate::places::{Stored, stored_in};
+use crate::moving::leave_place;
+use crate::places::stored_in;
 use blk_addr::Addr;
 use blk_disk::BlockFiles;
 use blk_io::{Fault, Folder};
@@ -62,13 +61,13 @@ fn drop_stream<F: Folder>(
     requires stream { stream < 3 }
     requires kind { kind_of entry ≡ blocks_256 }
     requires stands { IsTrue (stands_among files.now entry) }
-    requires size { length bytes.old ≡ entry_size }
+    requires long { length bytes.old ≡ entry_size }
     requires agrees { ForSome (F.told f.old).files (Agrees files.now) }
     requires read { ForSome (F.told f.old).files (λ image. bytes.old ≡ record_at image entry) }
     requires checks { ForSome (F.told f.old).files (RecordChecks entry) }
     ensures dropped { OnOk result (ForSome (F.told f.old).files (λ from. ForSome (F.told f.new).files (DropsStream entry stream from))) }
     ensures read { OnOk result (ForSome (F.told f.new).files (λ image. bytes.new ≡ record_at image entry)) }
-    ensures size { length bytes.new ≡ entry_size }
+    ensures long { length bytes.new ≡ entry_size }
     ensures stops { ForSome (F.told f.old).files (λ from. Passes (F.told f.old) (F.told f.new) (DropsStreamInProgress entry stream from)) }
     ensures agrees { ForSome (F.told f.new).files (Agrees files.now) }
     ensures damaged { IfDamaged result (IsStreamDropDamage files.now (F.told f.new) entry stream) }
@@ -81,10 +80,5 @@ fn drop_stream<F: Folder>(
     let Some(addr) = old.addr else {
         return Ok(());
     };
-    let none = Stored {
-        size: 0,
-        addr: None,
-    };
-    name_place(f, files, entry, stream, bytes, none)?;
-    free_place(f, files, addr)
+    leave_place(f, files, entry, stream, bytes, addr, 0, 0)
 }

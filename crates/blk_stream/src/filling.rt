@@ -7,8 +7,8 @@ ghost use Rattle.blk_format.specs.Address.{external, kind_of};
 ghost use Rattle.blk_io.specs.Faults.{IfDamaged, IfDevice};
 ghost use Rattle.blk_disk.specs.Tables.{Agrees};
 ghost use Rattle.blk_entry.specs.Keys.{IsInside};
-ghost use Rattle.blk_stream.specs.Copying.{HasOldPlace, IsOldThere, ShareNoData, ShareNoFile};
-ghost use Rattle.blk_stream.specs.Inside.{HasItsLength, data_of};
+ghost use Rattle.blk_stream.specs.Copying.{HasOldPlace, IsCutOld, IsOldThere, ShareNoData, ShareNoFile};
+ghost use Rattle.blk_stream.specs.Inside.{HasStreamLength, data_of};
 ghost use Rattle.blk_stream.specs.Filling.{FillsPlace};
 
 use crate::copying::copy_old;
@@ -33,12 +33,11 @@ pub(crate) fn fill<F: Folder>(
     requires inside { IsInside files.now addr 0 size }
     requires few { offset + length bytes.now ≤ size }
     requires agrees { ForSome (F.told f.old).files (Agrees files.now) }
-    requires old_there { ForSome (F.told f.old).files (IsOldThere old) }
-    requires apart { ForSome (F.told f.old).files (λ _. ShareNoFile (unwrap_or old.addr 0) addr) }
-    ensures filled { OnOk result (ForSome (F.told f.old).files (λ from. ShareNoData (unwrap_or old.addr 0) addr → HasItsLength addr 0 from → ForSome (F.told f.new).files (FillsPlace (unwrap_or old.addr 0) addr old.size size offset bytes.now from))) }
+    ensures filled { OnOk result (ForSome (F.told f.old).files (λ from. ShareNoData (unwrap_or old.addr 0) addr → HasStreamLength addr 0 from → ForSome (F.told f.new).files (FillsPlace (unwrap_or old.addr 0) addr old.size size offset bytes.now from))) }
     ensures stops { ForSome (F.told f.old).files (λ from. Passes (F.told f.old) (F.told f.new) (SameOutside (data_of addr) from)) }
     ensures agrees { ForSome (F.told f.new).files (Agrees files.now) }
-    ensures untold { IfDamaged result (λ _. (F.told f.old).files ≡ None) }
+    ensures damaged { IfDamaged result (IsCutOld old) }
+    ensures untold { ForSome (F.told f.old).files (IsOldThere old) → ShareNoFile (unwrap_or old.addr 0) addr → IfDamaged result (λ _. (F.told f.old).files ≡ None) }
     ensures silent { (F.told f.old).files ≡ None → (F.told f.new).files ≡ None }
     ensures later { F.faults f.old ≤ F.faults f.new }
     ensures device { IfDevice result (Rises (F.faults f.old) (F.faults f.new)) }

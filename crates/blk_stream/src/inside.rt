@@ -9,7 +9,7 @@ ghost use Rattle.blk_disk.specs.Tables.{Agrees, stands_among};
 ghost use Rattle.blk_entry.specs.Keys.{IsInFile, IsInside};
 ghost use Rattle.blk_entry.specs.Steps.{data_steps};
 ghost use Rattle.blk_entry.specs.Writing.{ShareNoBlock};
-ghost use Rattle.blk_stream.specs.Inside.{HasItsLength, WritesInProgress, WritesInside, gap_steps, here_steps, inside_steps, length_steps, room_steps, size_steps};
+ghost use Rattle.blk_stream.specs.Inside.{HasStreamLength, WritesInProgress, WritesInside, gap_steps, here_steps, inside_steps, length_steps, room_steps, size_steps};
 
 use crate::places::{is_of, size_at};
 use blk_addr::{Addr, Kind};
@@ -42,10 +42,10 @@ pub(crate) fn write_inside<F: Folder>(
     requires agrees { ForSome (F.told f.old).files (Agrees files.now) }
     requires read { ForSome (F.told f.old).files (λ image. record_bytes.old ≡ record_at image entry) }
     requires checks { ForSome (F.told f.old).files (RecordChecks entry) }
-    requires long { ForSome (F.told f.old).files (HasItsLength addr old) }
+    requires external { ForSome (F.told f.old).files (IsInFile addr 0 old) }
     ensures steps { OnOk result (Applies (F.told f.old) (F.told f.new) (inside_steps record_bytes.old entry stream addr old size offset bytes.now)) }
     ensures prefix { AppliesPrefix (F.told f.old) (F.told f.new) (inside_steps record_bytes.old entry stream addr old size offset bytes.now) }
-    ensures written { OnOk result (ForSome (F.told f.old).files (λ from. (kind_of addr ≢ external → ShareNoBlock entry addr) → ForSome (F.told f.new).files (WritesInside entry stream addr old size offset bytes.now from))) }
+    ensures written { OnOk result (ForSome (F.told f.old).files (λ from. HasStreamLength addr old from → (kind_of addr ≢ external → ShareNoBlock entry addr) → ForSome (F.told f.new).files (WritesInside entry stream addr old size offset bytes.now from))) }
     ensures stops { ForSome (F.told f.old).files (λ from. (kind_of addr ≢ external → ShareNoBlock entry addr) → Passes (F.told f.old) (F.told f.new) (WritesInProgress entry stream addr from)) }
     ensures agrees { ForSome (F.told f.new).files (Agrees files.now) }
     ensures silent { (F.told f.old).files ≡ None → (F.told f.new).files ≡ None }

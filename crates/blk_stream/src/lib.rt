@@ -1,7 +1,4 @@
 //! The streams of entries: each is a list of bytes, in the storage of its length.
-//!
-//! The call that writes a stream is not there yet, but parts of it are: `inside` writes in a place that stays,
-//! `copying` and `filling` give a new place its bytes. Nothing calls them so far.
 #![tactic(auto)]
 
 mod changing;
@@ -11,12 +8,16 @@ mod filling;
 mod freeing;
 mod inside;
 mod laws;
+mod moving;
 mod places;
+mod placing;
 mod reading;
+mod writing;
 
 pub use dropping::drop_streams;
 pub use laws::drops_are_shown_inside;
 pub use reading::read;
+pub use writing::write;
 
 #[cfg(test)]
 mod tests;

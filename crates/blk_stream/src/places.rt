@@ -1,12 +1,12 @@
 // Where the streams of a record lie.
-ghost use Rattle.std.specs.Prelude.{◌≡◌, ◌==◌, ◌≤◌, ◌<◌, IfOk, IsOk, OnOk, Some, true, length};
+ghost use Rattle.std.specs.Prelude.{◌≡◌, ◌==◌, ◌≤◌, ◌<◌, IfOk, IsOk, OnOk, Some, true, length, unwrap_or};
 ghost use Rattle.blk_image.specs.Bytes.{content, word_at};
 ghost use Rattle.blk_format.specs.Address.{blocks_256, is_address, kind_of};
 ghost use Rattle.blk_format.specs.Records.{entry_size};
 ghost use Rattle.blk_addr.specs.Kind.{kind_number};
 ghost use Rattle.blk_io.specs.Faults.{IfDamaged, IfDevice};
 ghost use Rattle.blk_entry.specs.Keys as keys;
-ghost use Rattle.blk_stream.specs.Streams.{IsMisplacedBy, IsStoredAt, address_place, may_keep, size_place, stored_by};
+ghost use Rattle.blk_stream.specs.Streams.{IsMisplacedStreamBy, IsStoredAt, address_place, may_keep, size_place, stored_by};
 
 use blk_addr::{Addr, Kind, blocks_for, kind_for};
 use blk_disk::BlockFiles;
@@ -53,7 +53,7 @@ pub(crate) fn stored_in(
     ensures stored { IfOk result (IsStoredAt (word_at (content bytes.now) (size_place stream)) (word_at (content bytes.now) (address_place stream))) }
     ensures keeps { OnOk result (may_keep files.now (word_at (content bytes.now) (size_place stream)) (word_at (content bytes.now) (address_place stream)) ≡ true) }
     ensures right { may_keep files.now (word_at (content bytes.now) (size_place stream)) (word_at (content bytes.now) (address_place stream)) ≡ true → IsOk result }
-    ensures damaged { IfDamaged result (IsMisplacedBy files.now entry stream (word_at (content bytes.now) (size_place stream)) (word_at (content bytes.now) (address_place stream))) }
+    ensures damaged { IfDamaged result (IsMisplacedStreamBy files.now entry stream (word_at (content bytes.now) (size_place stream)) (word_at (content bytes.now) (address_place stream))) }
     ensures never { IfDevice result ⊥ }
 {
     let view = EntryView::new(bytes);
@@ -75,7 +75,7 @@ pub(crate) fn place_of(
     ensures stored { IfOk result (IsStoredAt size word) }
     ensures keeps { OnOk result (may_keep files.now size word ≡ true) }
     ensures right { may_keep files.now size word ≡ true → IsOk result }
-    ensures damaged { IfDamaged result (IsMisplacedBy files.now entry stream size word) }
+    ensures damaged { IfDamaged result (IsMisplacedStreamBy files.now entry stream size word) }
     ensures never { IfDevice result ⊥ }
 {
     if size > MOST_BYTES {
@@ -100,7 +100,7 @@ fn no_place(files: &BlockFiles, entry: Addr, stream: u8, word: u32) -> Result<St
     ensures stored { IfOk result (IsStoredAt 0 word) }
     ensures keeps { OnOk result (may_keep files.now 0 word ≡ true) }
     ensures right { may_keep files.now 0 word ≡ true → IsOk result }
-    ensures damaged { IfDamaged result (IsMisplacedBy files.now entry stream 0 word) }
+    ensures damaged { IfDamaged result (IsMisplacedStreamBy files.now entry stream 0 word) }
     ensures never { IfDevice result ⊥ }
 {
     let _files = files;
@@ -136,6 +136,16 @@ fn stores(files: &BlockFiles, addr: Addr, size: u32) -> bool
         return false;
     }
     is_of(addr, Kind::External) || (addr.blocks() == blocks_for(size) && files.stands(addr))
+}
+
+// The word of an address, and 0 of none.
+pub(crate) fn word_of(addr: Option<Addr>) -> u32
+    ensures { result ≡ unwrap_or addr 0 }
+{
+    match addr {
+        Some(addr) => addr.word(),
+        None => 0,
+    }
 }
 
 // Whether an address is of a kind.

@@ -3,7 +3,7 @@ ghost use Rattle.std.specs.Prelude.{◌≡◌, ◌<◌, IfSome, IsTrue};
 ghost use Rattle.blk_format.specs.Address.{blocks_256, kind_of};
 ghost use Rattle.blk_disk.specs.Tables.{stands_among};
 
-use crate::{drop_streams, read};
+use crate::{drop_streams, read, write};
 use blk_addr::{Addr, Kind};
 use blk_disk::BlockFiles;
 use blk_io::{Damage, Failed, Fault, FileId, Folder, MemFolder, SilentFolder};
@@ -19,9 +19,10 @@ const BLOCKS: [u32; 4] = [36, 256, 1024, 4096];
 // The address of the record: the first block of 256 bytes.
 const ENTRY: u32 = 0xA001_0000;
 
-// A folder with a record, a stream of 1000 bytes in blocks 4 to 7 behind it, one of 20000 in a file, and one without bytes.
-fn folder(alloc: Global) -> Result<Mem, Failed> {
+// A folder with an index, and the headers of four block files: the first of records has 1024 blocks, of which these are marked.
+fn headers(alloc: Global, map: u32, words: [(u64, u32); 4]) -> Result<Mem, Failed> {
     let mut f = SilentFolder::new(MemFolder::new(alloc));
+    f.set_len(FileId::Index, 262_512)?;
     for (n, size) in BLOCKS.iter().enumerate() {
         let file = FileId::Block(n as u8);
         f.set_len(file, 8192)?;
@@ -30,17 +31,31 @@ fn folder(alloc: Global) -> Result<Mem, Failed> {
             f.write_at(file, 4 * i as u64, &word.to_le_bytes())?;
         }
     }
-
-    // Two allocations, 1024 blocks, one group with three free ones and 254 with four, and the map.
     let file = FileId::Block(1);
     f.set_len(file, 10240)?;
-    for (at, word) in [(16, 2u32), (20, 1024), (32, 1), (36, 254), (80, 0xF1)] {
+    for (at, word) in words {
         f.write_at(file, at, &word.to_le_bytes())?;
     }
-    f.write_at(file, 9216 + 996, b"last")?;
+    f.write_at(file, 80, &map.to_le_bytes())?;
+    Ok(f)
+}
+
+// A folder with a record, a stream of 1000 bytes in blocks 4 to 7 behind it, one of 20000 in a file, and one without bytes.
+fn folder(alloc: Global) -> Result<Mem, Failed> {
+    // Two allocations, 1024 blocks, one group with three free ones and 254 with four.
+    let mut f = headers(alloc, 0xF1, [(16, 2), (20, 1024), (32, 1), (36, 254)])?;
+    f.write_at(FileId::Block(1), 9216 + 996, b"last")?;
     f.set_len(FileId::External(1), 20000)?;
     f.write_at(FileId::External(1), 19997, b"end")?;
     put_record(&mut f, [1000, 20000, 0], [0xA301_0004, 0x8000_0001, 0])?;
+    Ok(f)
+}
+
+// A folder with a record that has no stream.
+fn bare(alloc: Global) -> Result<Mem, Failed> {
+    let mut f = headers(alloc, 1, [(16, 1), (20, 1024), (32, 1), (36, 255)])?;
+    f.set_len(FileId::Block(1), 270_336)?;
+    put_record(&mut f, [0, 0, 0], [0, 0, 0])?;
     Ok(f)
 }
 
@@ -90,6 +105,31 @@ fn get(f: &mut Mem, stream: u8, offset: u64, out: &mut [u8]) -> Result<(usize, u
     Ok((n, f.calls().wrapping_sub(before)))
 }
 
+// Writes to a stream.
+fn change<F: Folder>(
+    f: &mut F,
+    stream: u8,
+    offset: usize,
+    cut: bool,
+    bytes: &[u8],
+) -> Result<(), Fault> {
+    let mut files = BlockFiles::load(f)?;
+    let Some(entry) = entry_of(&files) else {
+        return Err(Fault::Device);
+    };
+    if stream > 2 || offset > 1_000_000 || bytes.len() > 1_000_000 {
+        return Err(Fault::Device);
+    }
+    write(f, &mut files, entry, stream, offset as u64, cut, bytes)
+}
+
+// The same, with the number of its folder calls, of which eight load the files.
+fn put(f: &mut Mem, stream: u8, offset: usize, cut: bool, bytes: &[u8]) -> Result<u64, Fault> {
+    let before = f.calls();
+    change(f, stream, offset, cut, bytes)?;
+    Ok(f.calls().wrapping_sub(before).wrapping_sub(8))
+}
+
 // Drops the streams, and gives the number of the folder calls.
 fn empty(f: &mut Mem) -> Result<u64, Fault> {
     let files = BlockFiles::load(f)?;
@@ -106,6 +146,136 @@ fn word(f: &mut Mem, at: u64) -> Result<u32, Failed> {
     let mut word = [0; 4];
     f.read_at(FileId::Block(1), at, &mut word)?;
     Ok(u32::from_le_bytes(word))
+}
+
+// Bytes that differ from place to place, from one place on.
+fn pattern(alloc: Global, start: usize, count: usize) -> Result<Vec<u8>, Fail> {
+    let mut bytes = Vec::new(alloc);
+    bytes.resize(count, 0)?;
+    for (j, byte) in bytes.iter_mut().enumerate() {
+        *byte = ((start % 65536 + j % 65536) % 251) as u8;
+    }
+    Ok(bytes)
+}
+
+// The allocations of the block files of data, and the marked blocks among the first 32 of each.
+fn used(f: &mut Mem) -> Result<[(u32, u32); 3], Failed> {
+    let mut all = [(0, 0); 3];
+    for (n, slot) in all.iter_mut().enumerate() {
+        let mut words = [0; 8];
+        f.read_at(FileId::Block(n as u8 + 1), 16, &mut words[..4])?;
+        f.read_at(FileId::Block(n as u8 + 1), 80, &mut words[4..])?;
+        let [a, b, c, d, e, g, h, i] = words;
+        *slot = (
+            u32::from_le_bytes([a, b, c, d]),
+            u32::from_le_bytes([e, g, h, i]).count_ones(),
+        );
+    }
+    Ok(all)
+}
+
+// What is used by a record of one block and data of a size.
+fn owned(size: usize) -> [(u32, u32); 3] {
+    let mut all = [(1, 1), (0, 0), (0, 0)];
+    match size {
+        0 => {}
+        1..=1023 => all[0] = (2, 1 + size.div_ceil(256) as u32),
+        1024..=4095 => all[1] = (1, size.div_ceil(1024) as u32),
+        4096..=16384 => all[2] = (1, size.div_ceil(4096) as u32),
+        _ => {}
+    }
+    all
+}
+
+// Gives stream 1, which had so many bytes, another size, and says whether bytes, map and counters are right then.
+fn resized(alloc: Global, f: &mut Mem, had: usize, size: usize) -> Result<bool, Fail> {
+    let kept = size.min(had);
+    let bytes = pattern(alloc, kept, size - kept)?;
+    let done = put(f, 1, kept, size < had, &bytes).is_ok();
+    let mut out = pattern(alloc, 9, size)?;
+    let read = get(f, 1, 0, &mut out).is_ok();
+    let same = out == pattern(alloc, 0, size)?;
+    Ok(done && read && same && used(f)? == owned(size))
+}
+
+#[test]
+fn streams_are_grown_and_cut_into_each_other(rt: HostRuntime) -> Result<(), Fail> {
+    let sizes = [0, 1, 1023, 1024, 4095, 4096, 16384, 16385];
+    let mut f = bare(rt.alloc())?;
+    let mut had = 0usize;
+    for old in sizes {
+        for new in sizes {
+            assert!(rt; resized(rt.alloc(), &mut f, had, old)?, "{had} {old}");
+            assert!(rt; resized(rt.alloc(), &mut f, old, new)?, "{old} {new}");
+            had = new;
+        }
+    }
+    Ok(())
+}
+
+// A list after a write.
+fn note(list: &mut Vec<u8>, offset: usize, cut: bool, bytes: &[u8]) -> Result<(), Fail> {
+    let end = offset.saturating_add(bytes.len());
+    let size = if cut { end } else { end.max(list.len()) };
+    list.resize(size, 0)?;
+    for (slot, byte) in list.iter_mut().skip(offset).zip(bytes) {
+        *slot = *byte;
+    }
+    Ok(())
+}
+
+// Writes to stream 1 and to a list, and says whether they are the same then.
+fn alike(
+    f: &mut Mem,
+    list: &mut Vec<u8>,
+    offset: usize,
+    cut: bool,
+    bytes: &[u8],
+) -> Result<bool, Fail> {
+    let done = put(f, 1, offset, cut, bytes).is_ok();
+    note(list, offset, cut, bytes)?;
+    let mut out = list.clone()?;
+    out.fill(7);
+    let read = get(f, 1, 0, &mut out).is_ok();
+    Ok(done && read && out == *list)
+}
+
+#[test]
+fn four_hundred_random_writes_leave_what_a_list_holds(rt: HostRuntime) -> Result<(), Fail> {
+    let mut f = bare(rt.alloc())?;
+    let mut list = Vec::new(rt.alloc());
+    let mut seed = 1u32;
+    for n in 0..400u32 {
+        seed = seed.wrapping_mul(1_103_515_245).wrapping_add(12345);
+        let offset = (seed >> 8) as usize % 18000;
+        let bytes = pattern(rt.alloc(), n as usize, (seed >> 4) as usize % 3000)?;
+        let cut = seed >= 0xC000_0000;
+        assert!(rt; alike(&mut f, &mut list, offset, cut, &bytes)?, "{n}");
+    }
+    Ok(())
+}
+
+#[test]
+fn few_calls_write_a_stream(rt: HostRuntime) -> Result<(), Fail> {
+    let mut f = bare(rt.alloc())?;
+    let cases = [
+        (0, 0, false, 1000, 14),
+        (0, 10, false, 100, 2),
+        (0, 1000, false, 5, 5),
+        (0, 1015, false, 5, 6),
+        (0, 1020, false, 980, 26),
+        (0, 2000, false, 18000, 20),
+        (0, 20000, false, 5, 6),
+        (0, 0, true, 10, 15),
+        (0, 0, true, 0, 12),
+        (1, 0, false, 20000, 11),
+        (1, 0, true, 0, 6),
+    ];
+    for (stream, offset, cut, count, calls) in cases {
+        let bytes = pattern(rt.alloc(), offset, count)?;
+        assert_eq!(rt; put(&mut f, stream, offset, cut, &bytes), Ok(calls));
+    }
+    Ok(())
 }
 
 #[test]

@@ -1,10 +1,11 @@
 -- The chains of the table.
 use Rattle.std.specs.Prelude.{◌≡◌, ℕ, zero, suc, ◌%◌, ◌^◌, List, [], ◌∷◌, map, Bool, true, false, not, ◌&&◌, ◌==◌, if◌then◌else◌}
 use Rattle.std.specs.Option.{option_map_or}
+use Rattle.blk_image.specs.Image.{Image}
 use Rattle.blk_format.specs.Headers.{table_length}
 use Rattle.blk_format.specs.BlockFiles.{is_among}
 use Rattle.blk_volume.specs.ListView.{Distinct}
-use Rattle.blk_volume.specs.View.{StoreView}
+use Rattle.blk_volume.specs.View.{StoreView, entry_at}
 
 -- the file and the first block that a word names
 abbrev pub file_and_block : ℕ → ℕ
@@ -17,6 +18,10 @@ most_records = 2 ^ 24
 -- the bucket of a hash: its low 16 bits
 abbrev pub bucket_of_hash : ℕ → ℕ
 bucket_of_hash hash = hash % table_length
+
+-- the bucket of the record that a word names
+abbrev pub bucket_at : Image → ℕ → ℕ
+bucket_at image w = bucket_of_hash (entry_at image w).hash
 
 -- a word names a record that checks and is of a bucket
 abbrev pub is_of_bucket : StoreView → ℕ → ℕ → Bool

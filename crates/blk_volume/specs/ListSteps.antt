@@ -67,12 +67,12 @@ abbrev pub KeepsSealed : Image → Image → Type 0
 KeepsSealed from image = (node : ℕ) → kind_of node ≡ rankings → IsSealed from node → IsSealed image node
 
 -- each node that is written is sealed
-abbrev pub AreSealed : List ListWrite → Image → Type 0
-AreSealed writes image = AreOf (IsSealed image) writes
+abbrev pub AreNodesSealed : List ListWrite → Image → Type 0
+AreNodesSealed writes image = AreOf (IsSealed image) writes
 
 -- the nodes that are written are sealed, and so is each that was
 pub record Seals (from : Image) (writes : List ListWrite) (image : Image) : Type 0 where
-  pub sealed : AreSealed writes image
+  pub sealed : AreNodesSealed writes image
   pub keeps : KeepsSealed from image
 
 -- both times of a node are a moment

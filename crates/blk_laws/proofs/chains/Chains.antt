@@ -1,5 +1,5 @@
 -- The chain of linked records.
-use Rattle.std.proofs.Common.{◌≡◌, ℕ, zero, suc, ◌≤◌, ◌^◌, List, [], ◌∷◌, length, map, refl, ap, Bool, true, false, not, ◌&&◌, arith, None}
+use Rattle.std.proofs.Common.{◌≡◌, ℕ, zero, suc, ◌≤◌, ◌^◌, List, [], ◌∷◌, length, map, refl, ap, false, not, arith, None}
 use Rattle.std.proofs.Math.Bool.{and-false}
 use Rattle.blk_volume.specs.ListView.{Distinct}
 use Rattle.blk_laws.proofs.chains.ChainSizes.{chains-short}

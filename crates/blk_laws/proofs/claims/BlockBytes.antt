@@ -1,7 +1,7 @@
 -- What is read of blocks whose bytes are the same, and how data fits into its blocks.
 use Rattle.std.proofs.Common.{◌≡◌, ℕ, zero, suc, ◌+◌, ◌-◌, ◌*◌, ◌/◌, ◌≤◌, ◌≢◌, List, ◌∷◌, refl, ap, ap₂, ◌∙◌, arith, ◌⊎◌, inl, inr, ⊎_elim, Bool, true, false, cond}
-use Rattle.std.specs.Prelude.{if◌then◌else◌, not, ◌==◌, nat_le}
-use Rattle.std.proofs.lemmas.Bool.{eq-eqb, not-false}
+use Rattle.std.specs.Prelude.{if◌then◌else◌, ◌==◌, nat_le}
+use Rattle.std.proofs.lemmas.Bool.{eq-eqb}
 use Rattle.std.proofs.lemmas.Bool.Decides.{nat_tests}
 use Rattle.blk_image.specs.Bytes.{word_at, words_at}
 use Rattle.blk_format.specs.Address.{kind_of, block_count, byte_size, external, block_size}

@@ -6,14 +6,13 @@ use Rattle.std.specs.List.{AllByRecursion, range_with_len}
 use Rattle.std.proofs.lemmas.Bool.{cases_Bool, eqb-true, eq-eqb, and_parts, le-leb, leb-true, or_left, or_right, or_parts, not-false}
 use Rattle.std.proofs.lemmas.Bool.Decides.{eqb_tells}
 use Rattle.std.proofs.Math.Dec.{eqb}
-use Rattle.std.proofs.Math.Nat.{mul-le-mul_left}
 use Rattle.std.specs.Cmp.Derive.{both_true}
 use Rattle.blk_image.specs.Image.{Index, Block, External, Image, byte, length_of}
 use Rattle.blk_image.specs.Checks.{Damage, first_of}
 use Rattle.blk_image.specs.Steps.{Delete, applied}
 use Rattle.blk_image.specs.Footprint.{Footprint, SameOutside}
 use Rattle.blk_image.proofs.Footprints.{same_file_outside}
-use Rattle.blk_format.specs.Address.{kind_of, file_selector, first_block, block_count, external_number, external, block_place, block_size}
+use Rattle.blk_format.specs.Address.{kind_of, file_selector, first_block, block_count, external_number, external, block_place}
 use Rattle.blk_format.specs.Standing.{is_linked_as}
 use Rattle.blk_format.specs.Claims.{Claim, BlockOf, ExternalOf, claims_of, claims_of_all, has_claim}
 use Rattle.blk_image.specs.Bytes.{content}

@@ -5,7 +5,7 @@ use Rattle.std.proofs.lemmas.Bool.{eqb-true, eq-eqb, cases_Bool, and_parts}
 use Rattle.blk_image.specs.Image.{Image}
 use Rattle.blk_format.specs.Address.{is_address, is_initialized, names_external, names_blocks, is_block_kind, kind_of, reserved_bits, block_count, file_selector, first_block, block_word, external, rankings}
 use Rattle.blk_format.specs.BlockFiles.{stands_in}
-use Rattle.blk_format.specs.Claims.{Claim, BlockOf, ExternalOf, same_claim, claims_of, has_claim}
+use Rattle.blk_format.specs.Claims.{Claim, BlockOf, same_claim, claims_of, has_claim}
 use Rattle.blk_format.proofs.Words.{block_word-of-fields}
 use Rattle.blk_volume.specs.View.{stands_as}
 use Rattle.blk_volume.specs.Footprint.{IsClear}

@@ -1,6 +1,6 @@
 -- The laws of covered changes at the whole folder: bytes of its stream, a field of a header and hidden words of the index are written.
-use Rattle.std.proofs.Common.{◌≡◌, inl, inr, ℕ, ◌+◌, ◌*◌, [], ◌∷◌, refl, sym, ◌∙◌, arith, lit≤, Bool, true, false}
-use Rattle.std.specs.Prelude.{◌||◌, ◌&&◌}
+use Rattle.std.proofs.Common.{◌≡◌, inl, inr, ℕ, ◌+◌, ◌*◌, [], ◌∷◌, refl, sym, ◌∙◌, arith, lit≤, true, false}
+use Rattle.std.specs.Prelude.{◌||◌}
 use Rattle.std.proofs.lemmas.Bool.Decides.{nat_tests}
 use Rattle.std.proofs.Math.Bool.{and-false}
 use Rattle.blk_image.specs.Bytes.{spliced, zeros}

@@ -21,7 +21,7 @@ use Rattle.blk_format.specs.Sealed.{AreChanges, IsMidUpdate, seal_place, sealed_
 use Rattle.blk_format.proofs.SealedRecords.{node_seal, moments, updated, whole_update}
 use Rattle.blk_laws.proofs.updates.NodeRecords.{one_change}
 use Rattle.blk_format.specs.NewFolder.{new_index_words, new_file_words}
-use Rattle.blk_volume.specs.ListSteps.{IsPartly, IsTouched, IsSealed, KeepsSealed, AreSealed, AreTimes}
+use Rattle.blk_volume.specs.ListSteps.{IsPartly, IsTouched, IsSealed, KeepsSealed, AreNodesSealed, AreTimes}
 use Rattle.blk_volume.specs.ListImages.{IsWritable, CanBeMade, CompletesTo, CompletesAlike, HasListAtRest, IsCompleted, StopsAlike, operation_steps, steps_of_touch, completion_steps, stopped_folder}
 use Rattle.blk_volume.specs.ShownChanges.{OnlyListChanges}
 use Rattle.blk_laws.proofs.examples.ExampleWrites.{small-zeros}
@@ -116,7 +116,7 @@ insert-made = writes-made pair (writes_of insert another (list_of pair)) (pair-w
 pub insert-goes_on : Along IsWritable pair (operation_steps insert another pair)
 insert-goes_on = writes-go_on pair (writes_of insert another (list_of pair)) (pair-writable [])
 
-pub insert-seals : AreSealed (writes_of insert another (list_of pair)) (after (operation_steps insert another pair) pair)
+pub insert-seals : AreNodesSealed (writes_of insert another (list_of pair)) (after (operation_steps insert another pair) pair)
 insert-seals = writes-seal pair (writes_of insert another (list_of pair)) (pair-writable []) insert-can
 
 pub insert-keeps_seals : KeepsSealed pair (after (operation_steps insert another pair) pair)
@@ -175,7 +175,7 @@ touch-ends = touches-rest pair last 70 (first ∷ []) [] (pair-writable []) pair
 pub touch-times : AreTimes last 70 (after (steps_of_touch last 70 pair) pair)
 touch-times = touches-times pair last 70 (first ∷ []) [] (pair-writable []) pair-at_rest (omega arith)
 
-pub touch-seals : AreSealed (touch_writes last (list_of pair)) (after (steps_of_touch last 70 pair) pair) × IsSealed (after (steps_of_touch last 70 pair) pair) last
+pub touch-seals : AreNodesSealed (touch_writes last (list_of pair)) (after (steps_of_touch last 70 pair) pair) × IsSealed (after (steps_of_touch last 70 pair) pair) last
 touch-seals = touches-seal pair last 70 (first ∷ []) [] (pair-writable []) pair-at_rest
 
 pub touch-keeps_seals : KeepsSealed pair (after (steps_of_touch last 70 pair) pair)

@@ -1,5 +1,5 @@
 -- Writes into the list touch no header of a block file, and no file's length.
-use Rattle.std.proofs.Common.{◌≡◌, ℕ, ◌+◌, ◌<◌, Bool, false, ◌||◌, List, [], ◌∷◌, refl, subst, arith}
+use Rattle.std.proofs.Common.{◌≡◌, ℕ, ◌+◌, ◌<◌, false, List, [], ◌∷◌, refl, subst, arith}
 use Rattle.std.proofs.lemmas.Bool.{or_from}
 use Rattle.blk_image.specs.Image.{File, Block}
 use Rattle.blk_image.specs.Footprint.{range}

@@ -1,14 +1,14 @@
 -- The dirty word of a node, from the footprint of its write.
-use Rattle.std.proofs.Common.{◌≡◌, ℕ, List, [], ◌∷◌, ◌++◌, refl, ap, ap₂, sym, ◌∙◌, subst, Bool, true, false, Option, Some, Ok, ⊎_elim}
+use Rattle.std.proofs.Common.{◌≡◌, ℕ, List, [], ◌∷◌, ◌++◌, refl, ap, sym, ◌∙◌, subst, Bool, true, false, Option, Some, Ok, ⊎_elim}
 use Rattle.std.specs.Prelude.{not, ◌&&◌, ◌||◌, ◌==◌, slice_index}
 use Rattle.std.specs.Option.{option_map_or}
 use Rattle.std.specs.List.{flat_map}
-use Rattle.std.proofs.lemmas.Bool.{cases_Bool, or_left, or_right, or_parts, and_parts, eqb-true, eq-eqb}
+use Rattle.std.proofs.lemmas.Bool.{cases_Bool, or_left, or_right, or_parts, eq-eqb}
 use Rattle.std.proofs.Common.{set, suc}
 use Rattle.blk_model.specs.Items.{main}
 use Rattle.blk_model.specs.State.{State, Object, IsValidState, object_at}
 use Rattle.blk_format.specs.BlockFiles.{is_among}
-use Rattle.blk_format.specs.Claims.{Claim, BlockOf, ExternalOf, same_claim, claims_of, has_claim, repeats}
+use Rattle.blk_format.specs.Claims.{Claim, same_claim, claims_of, has_claim, repeats}
 use Rattle.blk_volume.specs.View.{View, StoreView, NodeFields, RecordFields}
 use Rattle.blk_volume.specs.Chains.{chain, bucket_of_hash}
 use Rattle.blk_volume.specs.Loads.{Rule, Loaded, load, all_claims, record_claims}

@@ -2,23 +2,22 @@
 use Rattle.std.proofs.Common.{◌≡◌, ◌≢◌, ℕ, ◌+◌, ◌%◌, ◌^◌, ◌<◌, List, [], ◌∷◌, ◌++◌, length, refl, sym, ◌∙◌, ap, subst, Bool, true, false, arith, Option, Some, None, append_assoc, length-append}
 use Rattle.std.specs.Prelude.{◌&&◌, nat_le, nat_lt, is_some, if◌then◌else◌}
 use Rattle.std.specs.List.{flat_map, sum_by, count_by}
-use Rattle.std.proofs.lemmas.Bool.{and_parts, and_left, or_from}
+use Rattle.std.proofs.lemmas.Bool.{and_left, or_from}
 use Rattle.std.proofs.lemmas.Bool.Decides.{nat_tests}
 use Rattle.blk_image.specs.Bytes.{word_at}
 use Rattle.blk_image.specs.Image.{File, Index, Block, External, Image, byte, same_file}
-use Rattle.blk_image.specs.Footprint.{Footprint, SameOutside, either, range}
+use Rattle.blk_image.specs.Footprint.{Footprint, SameOutside, either}
 use Rattle.blk_image.proofs.Words.{same-word_at}
 use Rattle.blk_format.specs.Address.{kind_of, rankings, blocks_256, file_selector, place}
 use Rattle.blk_format.specs.Claims.{is_in_file}
 use Rattle.blk_format.specs.BlockFiles.{is_among, linked_as, IsWellFormed}
 use Rattle.blk_format.specs.Records.{entry_is_sealed, entry_in}
-use Rattle.blk_format.specs.Sealed.{record_range, record_size}
-use Rattle.blk_format.proofs.SpareHeaders.{SparesHeaders, blocks_spare, other_file}
+use Rattle.blk_format.specs.Sealed.{record_range}
+use Rattle.blk_format.proofs.SpareHeaders.{SparesHeaders, other_file}
 use Rattle.blk_image.proofs.Runs.{some_inj}
 use Rattle.blk_volume.specs.Layout.{Represents, rule_of}
 use Rattle.blk_volume.specs.Sound as sound
-use Rattle.blk_volume.specs.View.{NodeFields, checks_at, node_fields_at, view_of, stands_as}
-use Rattle.blk_format.specs.Records.{node_checks}
+use Rattle.blk_volume.specs.View.{NodeFields, node_fields_at, view_of, stands_as}
 use Rattle.blk_volume.specs.ListSteps.{AreOf}
 use Rattle.blk_laws.proofs.claims.ByteChanges.{stands-linked}
 use Rattle.blk_laws.proofs.walks.Loads.{load-then}

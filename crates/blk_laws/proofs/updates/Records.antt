@@ -1,15 +1,13 @@
 -- What an update of an entry record shows.
 use Rattle.std.proofs.Common.{◌≡◌, ◌≢◌, ◌⊎◌, inl, inr, ⊎_elim, ℕ, ◌+◌, ◌*◌, ◌^◌, ◌<◌, ◌≤◌, Bool, true, false, if◌then◌else◌, List, [], ◌∷◌, All, length, take, get_or, Some, None, refl, sym, ◌∙◌, ap, ap₂, subst, arith}
-use Rattle.std.specs.Prelude.{◌==◌, ◌&&◌, nat_le, nat_lt}
-use Rattle.std.proofs.lemmas.Bool.{and_parts, cases_Bool, cases_eq, leb-true, ltb-true, false_from_ne_true}
+use Rattle.std.specs.Prelude.{◌==◌}
+use Rattle.std.proofs.lemmas.Bool.{cases_Bool, cases_eq}
 use Rattle.blk_image.specs.Bytes.{content, words_at}
-use Rattle.blk_image.specs.Image.{File, Block, Image, byte, same_file}
-use Rattle.blk_image.specs.Footprint.{range}
+use Rattle.blk_image.specs.Image.{Block, Image, byte}
 use Rattle.blk_image.specs.Steps.{with_word, with_words}
-use Rattle.blk_image.proofs.Images.{same_file-true}
 use Rattle.blk_image.proofs.Runs.{some_inj}
 use Rattle.blk_image.proofs.Words.{same-range, word-beside, word-there}
-use Rattle.blk_format.specs.Address.{kind_of, file_selector, first_block, place, block_place, block_size, rankings, blocks_256}
+use Rattle.blk_format.specs.Address.{kind_of, file_selector, first_block, place, rankings, blocks_256}
 use Rattle.blk_format.specs.Records.{Entry, entry_in, entry_checks, entry_size}
 use Rattle.blk_format.specs.BlockFiles.{stands_in}
 use Rattle.blk_volume.specs.Chains.{file_and_block}

@@ -22,7 +22,7 @@ use Rattle.blk_format.proofs.SealedRecords.{node_seal, node_bytes, moments, upda
 use Rattle.blk_volume.specs.ListView.{IsAtRest, ListWrite, Next, Prev, Head, Tail, Transaction, Operation}
 use Rattle.blk_volume.specs.ListPlans.{touch_writes}
 use Rattle.blk_volume.specs.View.{list_of, node_at}
-use Rattle.blk_volume.specs.ListSteps.{AreOf, AreSealed, IsSealed, KeepsSealed, Seals, steps_of_writes, times_of, touch_steps, write_steps}
+use Rattle.blk_volume.specs.ListSteps.{AreOf, AreNodesSealed, IsSealed, KeepsSealed, Seals, steps_of_writes, times_of, touch_steps, write_steps}
 use Rattle.blk_volume.specs.ListImages.{IsWritable, CanBeMade, steps_of_touch}
 use Rattle.blk_laws.specs.ListWords.{WritesSealTheirNodes, WritesKeepSeals, NodeUpdatesKeepSeals, TouchesSealTheirNodes, TouchesKeepSeals}
 use Rattle.blk_laws.proofs.lists.ListCompletions.{listed}
@@ -150,7 +150,7 @@ write_seals (Transaction x) from ready can bytes = record { sealed = tt; keeps =
 write_seals (Operation x) from ready can bytes = record { sealed = tt; keeps = word_keeps from 332 x ready.bytes bytes }
 
 -- nodes that were sealed by writes stay so
-still_sealed : (checked : Image) (writes : List ListWrite) (between image : Image) → AreOf (λ n. (list_of checked).checks n ≡ true) writes → AreSealed writes between → KeepsSealed between image → AreSealed writes image
+still_sealed : (checked : Image) (writes : List ListWrite) (between image : Image) → AreOf (λ n. (list_of checked).checks n ≡ true) writes → AreNodesSealed writes between → KeepsSealed between image → AreNodesSealed writes image
 still_sealed checked [] between image good sealed keeps = tt
 still_sealed checked (Next w x ∷ writes) between image good sealed keeps = (keeps w (checked-kind checked w good.0) sealed.0, still_sealed checked writes between image good.1 sealed.1 keeps)
 still_sealed checked (Prev w x ∷ writes) between image good sealed keeps = (keeps w (checked-kind checked w good.0) sealed.0, still_sealed checked writes between image good.1 sealed.1 keeps)
@@ -159,7 +159,7 @@ still_sealed checked (Tail x ∷ writes) between image good sealed keeps = still
 still_sealed checked (Transaction x ∷ writes) between image good sealed keeps = still_sealed checked writes between image good sealed keeps
 still_sealed checked (Operation x ∷ writes) between image good sealed keeps = still_sealed checked writes between image good sealed keeps
 
-and_first : (write : ListWrite) (writes : List ListWrite) (image : Image) → AreSealed (write ∷ []) image → AreSealed writes image → AreSealed (write ∷ writes) image
+and_first : (write : ListWrite) (writes : List ListWrite) (image : Image) → AreNodesSealed (write ∷ []) image → AreNodesSealed writes image → AreNodesSealed (write ∷ writes) image
 and_first (Next w x) writes image first rest = (first.0, rest)
 and_first (Prev w x) writes image first rest = (first.0, rest)
 and_first (Head x) writes image first rest = rest

@@ -13,7 +13,7 @@ use Rattle.blk_format.specs.Claims.{Claim, BlockOf, ExternalOf, same_claim, has_
 use Rattle.blk_volume.specs.ListView.{Distinct}
 use Rattle.blk_volume.specs.View.{StoreView}
 use Rattle.blk_volume.specs.Entries.{IsPart}
-use Rattle.blk_volume.specs.Reasons.{Reason, ◌>>=◌, demand}
+use Rattle.blk_volume.specs.Reasons.{Reason}
 use Rattle.blk_volume.specs.Loads.{Rule, Loaded, load, is_part, record_claims, all_claims, claims_of_loaded}
 use Rattle.blk_volume.specs.Audit.{same_answer, admit, is_child, collides, shares_key, is_parent_of, is_orphan, is_orphan_role, verdict, with_verdict, verdicts, tried, verdict_on, judged, kept_of, kept_as, is_kept, kept_nodes, kept_among}
 use Rattle.blk_volume.specs.Shown.{Apart, IsShown}

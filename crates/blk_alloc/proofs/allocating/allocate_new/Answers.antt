@@ -15,7 +15,7 @@ use Rattle.blk_alloc.specs.Counting.{IsCounted}
 use Rattle.blk_alloc.specs.Owning.{IsCause}
 use Rattle.blk_alloc.specs.Extending.{HasItsBlocks, HasMostBlocks, KeepsLinks, KeepsLists}
 use Rattle.blk_alloc.specs.Marking.{CanBeMarked, CountsUsed, MarksUsed, taking_of}
-use Rattle.blk_alloc.specs.Allocating.{Allocates, AreCounted, ExtendsAnd, ExtendsAndAllocates, IsChosen, IsCountedOnce, IsFull, IsRefusal, MakesRoomInProgress, updating_word}
+use Rattle.blk_alloc.specs.Allocating.{Allocates, AreCounted, ExtendsAnd, ExtendsAndAllocates, IsChosen, IsCountedOnce, IsKindFull, IsRefusal, MakesRoomInProgress, updating_word}
 use Rattle.blk_alloc.proofs.Causes.{if_damaged_both}
 use Rattle.blk_io.proofs.Carried.{carried, if_damaged_weaker, untold_where}
 use Rattle.blk_alloc.proofs.Links.{if_ok_on, links_then}
@@ -59,7 +59,7 @@ pub returns-in_err-place-clause-cause : goal.returns-in_err-place-clause-cause
 returns-in_err-place-clause-cause g c =
     let kind = kind_number c.args.kind in
     carried c.new_room.result c.from_residual.result c.in_err-place.field-0.0 _ c.in_err-place.was c.from_residual.ensures.1
-    (if_damaged_both c.new_room.result (IsFull c.args.files.now kind (g.F.Folder.told c.args.f.now)) (λ _. Stays (g.F.Folder.told c.args.f.now) (g.F.Folder.told c.new_room.new.f))
+    (if_damaged_both c.new_room.result (IsKindFull c.args.files.now kind (g.F.Folder.told c.args.f.now)) (λ _. Stays (g.F.Folder.told c.args.f.now) (g.F.Folder.told c.new_room.new.f))
     (IsRefusal c.args.files.now c.new_room.new.files kind c.args.count (g.F.Folder.told c.args.f.now) (g.F.Folder.told c.new_room.new.f))
     (λ damage full stays. inr (stays, inr full)) c.new_room.ensures.cause c.new_room.ensures.unwritten)
 

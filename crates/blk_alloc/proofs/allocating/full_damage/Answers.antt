@@ -6,7 +6,7 @@ use Rattle.blk_io.proofs.Carried.{carried, if_damaged_weaker}
 use Rattle.blk_addr.specs.Kind.{kind_number}
 use Rattle.blk_disk.specs.Tables.{files_of}
 use Rattle.blk_format.specs.BlockFiles.{is_among}
-use Rattle.blk_alloc.specs.Allocating.{IsFull}
+use Rattle.blk_alloc.specs.Allocating.{IsKindFull}
 use Rattle.blk_alloc.proofs.Members.{member_at, member_head}
 use Rattle.blk_alloc.proofs.allocating.full_damage.Goals as goal
 
@@ -29,7 +29,7 @@ returns-in_err-found-clause-cause g c agrees =
     let among : is_among (files_of c.args.files.now kind) c.in-Some.last ≡ true = member_at (files_of c.args.files.now kind) 59 c.in-Some.last (sym c.file_at.ensures ∙ c.in-Some.is) in
     let long : (image : Image) → told.files ≡ Some image → 8192 ≤ length_of image (Block c.in-Some.last) = (λ image there. (member_head c.args.files.now image c.args.kind c.in-Some.last c.requires.block_kind (agrees image there) among).header) in
     carried c.read_word.result c.from_residual.result c.in_err-found.field-0.0 _ c.in_err-found.was c.from_residual.ensures.1
-    (if_damaged_weaker c.read_word.result (IsShort told (names.Block c.in-Some.last) 8188 4) (IsFull c.args.files.now kind told)
+    (if_damaged_weaker c.read_word.result (IsShort told (names.Block c.in-Some.last) 8188 4) (IsKindFull c.args.files.now kind told)
     (λ damage short. record {
       number = c.requires.number;
       full = c.requires.full;

@@ -4,7 +4,7 @@ use Rattle.blk_addr.specs.Kind.{kind_number}
 use Rattle.blk_format.specs.BlockFiles.{is_among}
 use Rattle.blk_format.specs.Maps.{AreAllocations}
 use Rattle.blk_disk.specs.Tables.{all_files, files_of, blocks_of}
-use Rattle.blk_disk.specs.Growth.{IsLeastFree}
+use Rattle.blk_disk.specs.Growth.{IsLeastFileNumber}
 use Rattle.std.specs.List.{All}
 use Rattle.blk_alloc.specs.Extending.{HasMostBlocks, HasNoHints, IsFirstGrowing, KeepsLinks}
 use Rattle.blk_alloc.specs.Allocating.{ExtendsAnd, MakesRoomInProgress, updating_word}
@@ -66,7 +66,7 @@ returns-clause-place g c image there =
     inr (record {
       full = c.in_default.ensures;
       few = few_files c.count.result (length (files_of c.args.files.now (kind_number c.args.kind))) c.count.ensures c.if-count-ge-MOST_FILES.false;
-      least = subst (IsLeastFree c.args.files.now) (sym file) c.in_ok-place-2.ensures.least;
+      least = subst (IsLeastFileNumber c.args.files.now) (sym file) c.in_ok-place-2.ensures.least;
       start = c.in_ok-place-2.ensures.place.1;
     })
 

@@ -7,7 +7,7 @@ use Rattle.blk_image.proofs.Footprints.{outside-refl, within_left}
 use Rattle.blk_image.proofs.Runs.{passes_end, passes_weaker}
 use Rattle.blk_addr.specs.Kind.{kind_number}
 use Rattle.blk_disk.specs.Tables.{Joins}
-use Rattle.blk_disk.specs.Growth.{IsLeastFree, addition_of, free_number, growth_of, add_steps, last_file}
+use Rattle.blk_disk.specs.Growth.{IsLeastFileNumber, addition_of, free_number, growth_of, add_steps, last_file}
 use Rattle.blk_alloc.specs.Extending.{HasCounters}
 use Rattle.blk_alloc.proofs.Adding.{added_counters, added_file, new_allocations, new_hints, new_among, join_keeps, join_widens, all_kept}
 use Rattle.blk_alloc.proofs.Links.{joined_links, links_then}
@@ -25,7 +25,7 @@ no_image file = None
 pub returns-clause-markable : goal.returns-clause-markable
 returns-clause-markable g c from there image last =
     let now = c.in_ok-file.ensures.steps.files ∙ ap (option_map (after (add_steps c.args.files.now (kind_number c.args.kind)))) there in
-    let least : IsLeastFree c.args.files.now (free_number c.args.files.now) = subst (IsLeastFree c.args.files.now) c.in_ok-file.ensures.number c.in_ok-file.ensures.least in
+    let least : IsLeastFileNumber c.args.files.now (free_number c.args.files.now) = subst (IsLeastFileNumber c.args.files.now) c.in_ok-file.ensures.number c.in_ok-file.ensures.least in
     c.in_ok-place.ensures.markable (after (add_steps c.args.files.now (kind_number c.args.kind)) from) now (subst (HasCounters (after (add_steps c.args.files.now (kind_number c.args.kind)) from)) (sym c.in_ok-file.ensures.number) (added_counters c.args.files.now from c.args.kind c.requires.block_kind (c.requires.agrees from there) c.requires.room least)) image last
 
 pub returns-clause-keeps : goal.returns-clause-keeps
@@ -35,7 +35,7 @@ returns-clause-keeps g c from there image last m among =
     let now = c.in_ok-file.ensures.steps.files ∙ ap (option_map (after (add_steps c.args.files.now kind))) there in
     let mid : Image = after (add_steps c.args.files.now kind) from in
     let joins : Joins c.args.files.now c.add_file.new.self kind n 0 8192 = subst (λ (k : ℕ). Joins c.args.files.now c.add_file.new.self kind k 0 8192) c.in_ok-file.ensures.number c.in_ok-file.ensures.kept in
-    let least : IsLeastFree c.args.files.now n = subst (IsLeastFree c.args.files.now) c.in_ok-file.ensures.number c.in_ok-file.ensures.least in
+    let least : IsLeastFileNumber c.args.files.now n = subst (IsLeastFileNumber c.args.files.now) c.in_ok-file.ensures.number c.in_ok-file.ensures.least in
     let same = (passes_end (c.in_ok-file.ensures.stops from there) mid now).outside in
     let first = join_keeps c.args.files.now c.add_file.new.self from mid kind n (last_file c.args.files.now kind) least.free joins same (c.requires.agrees from there) (c.in_ok-file.ensures.agrees mid now) m among in
     let counters : HasCounters mid c.in_ok-file.file = subst (HasCounters mid) (sym c.in_ok-file.ensures.number) (added_counters c.args.files.now from c.args.kind c.requires.block_kind (c.requires.agrees from there) c.requires.room least) in
@@ -47,7 +47,7 @@ returns-clause-all g c m among =
     let kind : ℕ = kind_number c.args.kind in
     let n : ℕ = free_number c.args.files.now in
     let joins : Joins c.args.files.now c.add_file.new.self kind n 0 8192 = subst (λ (k : ℕ). Joins c.args.files.now c.add_file.new.self kind k 0 8192) c.in_ok-file.ensures.number c.in_ok-file.ensures.kept in
-    let least : IsLeastFree c.args.files.now n = subst (IsLeastFree c.args.files.now) c.in_ok-file.ensures.number c.in_ok-file.ensures.least in
+    let least : IsLeastFileNumber c.args.files.now n = subst (IsLeastFileNumber c.args.files.now) c.in_ok-file.ensures.number c.in_ok-file.ensures.least in
     c.in_ok-place.ensures.all m (all_kept c.args.files.now c.add_file.new.self no_image no_image kind n (last_file c.args.files.now kind) least.free joins (outside-refl (addition_of c.args.files.now kind) no_image) m among)
 
 pub returns-clause-marks : goal.returns-clause-marks
@@ -57,7 +57,7 @@ returns-clause-marks g c from there image last m b among =
     let now = c.in_ok-file.ensures.steps.files ∙ ap (option_map (after (add_steps c.args.files.now kind))) there in
     let mid : Image = after (add_steps c.args.files.now kind) from in
     let joins : Joins c.args.files.now c.add_file.new.self kind n 0 8192 = subst (λ (k : ℕ). Joins c.args.files.now c.add_file.new.self kind k 0 8192) c.in_ok-file.ensures.number c.in_ok-file.ensures.kept in
-    let least : IsLeastFree c.args.files.now n = subst (IsLeastFree c.args.files.now) c.in_ok-file.ensures.number c.in_ok-file.ensures.least in
+    let least : IsLeastFileNumber c.args.files.now n = subst (IsLeastFileNumber c.args.files.now) c.in_ok-file.ensures.number c.in_ok-file.ensures.least in
     let same = (passes_end (c.in_ok-file.ensures.stops from there) mid now).outside in
     c.in_ok-place.ensures.marks mid now image last m b (all_kept c.args.files.now c.add_file.new.self from mid kind n (last_file c.args.files.now kind) least.free joins same m among)
     ∙ (join_widens c.args.files.now c.add_file.new.self from mid kind n (last_file c.args.files.now kind) least.free joins same).marks m b among
@@ -69,7 +69,7 @@ returns-clause-fresh g c from there image last =
     let now = c.in_ok-file.ensures.steps.files ∙ ap (option_map (after (add_steps c.args.files.now kind))) there in
     let mid : Image = after (add_steps c.args.files.now kind) from in
     let joins : Joins c.args.files.now c.add_file.new.self kind n 0 8192 = subst (λ (k : ℕ). Joins c.args.files.now c.add_file.new.self kind k 0 8192) c.in_ok-file.ensures.number c.in_ok-file.ensures.kept in
-    let least : IsLeastFree c.args.files.now n = subst (IsLeastFree c.args.files.now) c.in_ok-file.ensures.number c.in_ok-file.ensures.least in
+    let least : IsLeastFileNumber c.args.files.now n = subst (IsLeastFileNumber c.args.files.now) c.in_ok-file.ensures.number c.in_ok-file.ensures.least in
     let same = (passes_end (c.in_ok-file.ensures.stops from there) mid now).outside in
     let file = added_file c.args.files.now from c.args.kind c.requires.block_kind (c.requires.agrees from there) c.requires.room least in
     let linked = member_all c.add_file.new.self c.args.kind n c.requires.block_kind (new_among c.args.files.now c.add_file.new.self from mid kind n (last_file c.args.files.now kind) least.free joins same) in
@@ -82,7 +82,7 @@ returns-clause-hints g c from there image last =
     let n : ℕ = free_number c.args.files.now in
     let now = c.in_ok-file.ensures.steps.files ∙ ap (option_map (after (add_steps c.args.files.now kind))) there in
     let mid : Image = after (add_steps c.args.files.now kind) from in
-    let least : IsLeastFree c.args.files.now n = subst (IsLeastFree c.args.files.now) c.in_ok-file.ensures.number c.in_ok-file.ensures.least in
+    let least : IsLeastFileNumber c.args.files.now n = subst (IsLeastFileNumber c.args.files.now) c.in_ok-file.ensures.number c.in_ok-file.ensures.least in
     let file = added_file c.args.files.now from c.args.kind c.requires.block_kind (c.requires.agrees from there) c.requires.room least in
     grown_hints c.in_ok-file.file n mid image (passes_end (c.in_ok-place.ensures.stops mid now) image last).outside (new_hints mid kind n file)
 

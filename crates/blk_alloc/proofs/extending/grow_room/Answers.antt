@@ -6,7 +6,7 @@ use Rattle.blk_image.proofs.Runs.{passes_end, some_inj}
 use Rattle.blk_format.specs.Maps.{is_block_marked, are_free}
 use Rattle.blk_disk.specs.Tables.{blocks_of}
 use Rattle.blk_disk.specs.Growth.{growth_of, grow_steps}
-use Rattle.blk_alloc.specs.Changes.{IsReady}
+use Rattle.blk_alloc.specs.Changes.{CanChangeMarks}
 use Rattle.blk_alloc.proofs.Members.{member_all, member_head}
 use Rattle.blk_format.specs.BlockFiles.{is_among}
 use Rattle.blk_addr.specs.Kind.{kind_number}
@@ -50,7 +50,7 @@ returns-clause-markable g c from there counters mid now =
     let start : c.blocks_in-groups.result / 4 * 4 ≡ blocks_of c.args.files.now c.args.file =
     start_is c.blocks_in-groups.result (blocks_of c.args.files.now c.args.file) (c.blocks_in-groups.ensures.blocks all) c.requires.below ∙ whole_start (blocks_of c.args.files.now c.args.file) whole in
     record {
-      ready = subst (λ (s : ℕ). IsReady mid c.args.file s c.args.count true) (sym start) (grown_ready c.args.files.now c.grow.new.self from mid c.args.file agrees (c.in_ok-grow.ensures.agrees mid now) all c.in_ok-grow.ensures.kept c.requires.below head same is counters c.args.count c.requires.few);
+      ready = subst (λ (s : ℕ). CanChangeMarks mid c.args.file s c.args.count true) (sym start) (grown_ready c.args.files.now c.grow.new.self from mid c.args.file agrees (c.in_ok-grow.ensures.agrees mid now) all c.in_ok-grow.ensures.kept c.requires.below head same is counters c.args.count c.requires.few);
       free = subst (λ (s : ℕ). are_free (is_block_marked mid c.args.file) s c.args.count ≡ true) (sym start) (grown_free c.args.files.now c.grow.new.self from mid c.args.file agrees (c.in_ok-grow.ensures.agrees mid now) all c.in_ok-grow.ensures.kept c.requires.below head same is counters c.args.count c.requires.few);
     }
 

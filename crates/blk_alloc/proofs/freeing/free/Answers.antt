@@ -6,7 +6,7 @@ use Rattle.blk_image.proofs.Runs.{passes_weaker, passes_end}
 use Rattle.blk_format.specs.Address.{file_selector, first_block, block_count}
 use Rattle.blk_disk.specs.Tables.{Agrees}
 use Rattle.blk_disk.proofs.Ranges.{stands_blocky, stands_linked}
-use Rattle.blk_alloc.specs.Changes.{IsMapInProgress, IsReady, IsChanged, map_of}
+use Rattle.blk_alloc.specs.Changes.{IsMapInProgress, CanChangeMarks, IsChanged, map_of}
 use Rattle.std.specs.Option.{ForSome}
 use Rattle.blk_image.specs.Footprint.{SameOutside}
 use Rattle.blk_format.specs.BlockFiles.{max_entries_in, most_blocks}
@@ -74,8 +74,8 @@ returns-clause-agrees g c =
 pub returns-clause-untold : goal.returns-clause-untold
 returns-clause-untold g c may =
     let b = c.blocks_of-blocks in
-    if_damaged_weaker c.change.result (λ _. ForSome (g.F.Folder.told c.args.f.now).files (λ image. IsReady image b.result.file b.result.start b.result.count false) → (g.F.Folder.told c.args.f.now).files ≡ None) (λ _. (g.F.Folder.told c.args.f.now).files ≡ None)
-    (λ damage none. none (λ from there. (moved (λ n s k. IsReady from n s k false) c.args.addr b.result.file b.result.start b.result.count b.ensures.file b.ensures.start b.ensures.count
+    if_damaged_weaker c.change.result (λ _. ForSome (g.F.Folder.told c.args.f.now).files (λ image. CanChangeMarks image b.result.file b.result.start b.result.count false) → (g.F.Folder.told c.args.f.now).files ≡ None) (λ _. (g.F.Folder.told c.args.f.now).files ≡ None)
+    (λ damage none. none (λ from there. (moved (λ n s k. CanChangeMarks from n s k false) c.args.addr b.result.file b.result.start b.result.count b.ensures.file b.ensures.start b.ensures.count
     (free_ready from c.args.addr (stands_blocky c.args.files.now c.args.addr c.requires.stands) (c.requires.agrees from there).undamaged (may from there))))) c.change.ensures.untold
 
 pub returns-clause-cause : goal.returns-clause-cause

@@ -9,7 +9,7 @@ use Rattle.blk_image.proofs.Runs.{passes_to, passes_none, passes_end, passes_wea
 use Rattle.blk_disk.specs.Growth.{fit_steps}
 use Rattle.blk_disk.specs.declared.tables.BlockFiles.{BlockFiles}
 use Rattle.blk_alloc.specs.Marking.{CanBeMarked, MarksUsedInProgress, MarksUsed}
-use Rattle.blk_alloc.specs.Changes.{IsReady, map_of}
+use Rattle.blk_alloc.specs.Changes.{CanChangeMarks, map_of}
 use Rattle.blk_alloc.proofs.Formed.{agrees_kept}
 use Rattle.blk_alloc.proofs.Members.{member_all, member_head}
 use Rattle.blk_alloc.proofs.Kept.{fit_larger, standing_kept, standing_same}
@@ -93,7 +93,7 @@ returns-in_err-change-clause-cause g c =
 pub returns-in_err-change-clause-untold : goal.returns-in_err-change-clause-untold
 returns-in_err-change-clause-untold g c =
     carried c.change.result c.from_residual-in_err-change.result c.in_err-change.field-0.0 _ c.in_err-change.was c.from_residual-in_err-change.ensures.1
-    (if_damaged_weaker c.change.result (λ _. ForSome (g.F.Folder.told c.fit.new.f).files (λ image. IsReady image c.args.place.file c.args.place.start c.args.place.count true) → (g.F.Folder.told c.fit.new.f).files ≡ None)
+    (if_damaged_weaker c.change.result (λ _. ForSome (g.F.Folder.told c.fit.new.f).files (λ image. CanChangeMarks image c.args.place.file c.args.place.start c.args.place.count true) → (g.F.Folder.told c.fit.new.f).files ≡ None)
     (λ _. ForSome (g.F.Folder.told c.args.f.now).files (λ image. CanBeMarked image c.args.place) → (g.F.Folder.told c.args.f.now).files ≡ None)
     (λ damage none tk. none_before (after (fit_steps c.args.files.now c.args.place.file)) (g.F.Folder.told c.args.f.now).files (g.F.Folder.told c.fit.new.f).files c.in_ok-fit.ensures.fitted.files
     (none (ready_after (g.F.Folder.told c.args.f.now) (g.F.Folder.told c.fit.new.f) c.args.files.now c.fit.new.self c.args.place c.requires.agrees (member_all c.args.files.now c.args.kind c.args.place.file c.requires.block_kind c.requires.place.linked)

@@ -1,7 +1,7 @@
 use Rattle.std.proofs.Common.{◌≡◌, suc, ◌+◌, ◌-◌, Option, sym, subst, map, ◌∙◌, arith}
 use Rattle.blk_volume.specs.ListView.{ListView}
 use Rattle.blk_lru.specs.Writes.{meant}
-use Rattle.blk_audit.specs.Walking.{IsStep}
+use Rattle.blk_audit.specs.Walking.{IsWalkStep}
 use Rattle.blk_audit.specs.declared.list_walk.Link.{Link}
 use Rattle.blk_audit.proofs.Steps.{list_after, head_is}
 use Rattle.blk_audit.proofs.Completed.{completed_is}
@@ -20,14 +20,14 @@ loop-i-preserved c =
     let list : ListView = list_after (map meant c.args.writes.now) c.args.nodes.now c.args.head in
     let e : 131072 - c.loop-i.i ≡ suc (131072 - (c.loop-i.i + 1)) = omega (arith, c.loop-i-test.true) in
     goes_on list c.loop-i.walk c.visit.new.walk (131072 - c.loop-i.i) (131072 - (c.loop-i.i + 1)) c.loop-i.link c.in-Some.next e c.loop-i.invariant c.in_ok-next.ensures.met
-    (subst (λ (o : Option Link). IsStep list c.loop-i.walk.nodes.items c.loop-i.link c.visit.new.walk.nodes.items o) c.in-Some.is (c.in_ok-next.ensures.step c.args.head))
+    (subst (λ (o : Option Link). IsWalkStep list c.loop-i.walk.nodes.items c.loop-i.link c.visit.new.walk.nodes.items o) c.in-Some.is (c.in_ok-next.ensures.step c.args.head))
 
 pub returns-in-None-clause-walked : goal.returns-in-None-clause-walked
 returns-in-None-clause-walked c =
     let list : ListView = list_after (map meant c.args.writes.now) c.args.nodes.now c.args.head in
     let e : 131072 - c.loop-i.i ≡ suc (131072 - (c.loop-i.i + 1)) = omega (arith, c.loop-i-test.true) in
     ends list c.loop-i.walk c.visit.new.walk (131072 - c.loop-i.i) (131072 - (c.loop-i.i + 1)) c.loop-i.link e c.loop-i.invariant
-    (subst (λ (o : Option Link). IsStep list c.loop-i.walk.nodes.items c.loop-i.link c.visit.new.walk.nodes.items o) c.in-None.is (c.in_ok-next.ensures.step c.args.head))
+    (subst (λ (o : Option Link). IsWalkStep list c.loop-i.walk.nodes.items c.loop-i.link c.visit.new.walk.nodes.items o) c.in-None.is (c.in_ok-next.ensures.step c.args.head))
 
 pub returns-clause-walked : goal.returns-clause-walked
 returns-clause-walked c =

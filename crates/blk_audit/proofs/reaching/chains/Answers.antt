@@ -4,7 +4,7 @@ use Rattle.blk_disk.specs.Tables.{Agrees}
 use Rattle.blk_volume.specs.View.{store_of}
 use Rattle.blk_image.specs.Image.{Image}
 use Rattle.blk_lru.proofs.Conditions.{told_now, told_stays}
-use Rattle.blk_audit.specs.Chaining.{HasFirst, reached_by, words_of}
+use Rattle.blk_audit.specs.Chaining.{HasFirst, reached_by, words_reached}
 use Rattle.blk_audit.specs.Records.{AreRecordsOf}
 use Rattle.blk_audit.proofs.Carrying.{untold_on}
 use Rattle.blk_audit.proofs.ReadChains.{none_first}
@@ -15,7 +15,7 @@ unfolding reached_by
 loop-piece-init g c = record {
   met = c.none-reached.ensures.reached;
   reached = λ image there agrees. c.none-reached.ensures.none;
-  way = λ image there. none_first c.args.files.now image (words_of c.none-reached.result) c.none-reached.ensures.none;
+  way = λ image there. none_first c.args.files.now image (words_reached c.none-reached.result) c.none-reached.ensures.none;
   table = λ image there some. absurd (omega (arith, some));
   stays = c.in_ok-records.ensures.stays;
   later = c.in_ok-records.ensures.later;
@@ -27,7 +27,7 @@ loop-piece-preserved g c =
     record {
       met = c.in_ok-follow_piece.ensures.met;
       reached = λ image there agrees. c.in_ok-follow_piece.ensures.reached image (told_now image c.loop-piece.invariant.stays there) agrees ∙ ap (reached_by (store_of image)) next;
-      way = λ image there. subst (HasFirst c.args.files.now image (words_of c.follow_piece.new.reached)) next (c.in_ok-follow_piece.ensures.checked image (told_now image c.loop-piece.invariant.stays there));
+      way = λ image there. subst (HasFirst c.args.files.now image (words_reached c.follow_piece.new.reached)) next (c.in_ok-follow_piece.ensures.checked image (told_now image c.loop-piece.invariant.stays there));
       table = λ image there some. let more = c.in_ok-follow_piece.ensures.table image (told_now image c.loop-piece.invariant.stays there) in omega (arith, more);
       stays = c.in_ok-follow_piece.ensures.stays ∙ c.loop-piece.invariant.stays;
       later = omega (arith, c.in_ok-follow_piece.ensures.later, c.loop-piece.invariant.later);
@@ -37,7 +37,7 @@ pub follow_piece-requires-clause-records : goal.follow_piece-requires-clause-rec
 follow_piece-requires-clause-records g c = told_stays (λ (image : Image). AreRecordsOf image c.in_ok-records.records) c.loop-piece.invariant.stays c.in_ok-records.ensures.records
 
 pub follow_piece-requires-clause-there : goal.follow_piece-requires-clause-there
-follow_piece-requires-clause-there g c = told_stays (λ (image : Image). HasFirst c.args.files.now image (words_of c.loop-piece.reached) (c.loop-piece.piece * 1024)) c.loop-piece.invariant.stays c.loop-piece.invariant.way
+follow_piece-requires-clause-there g c = told_stays (λ (image : Image). HasFirst c.args.files.now image (words_reached c.loop-piece.reached) (c.loop-piece.piece * 1024)) c.loop-piece.invariant.stays c.loop-piece.invariant.way
 
 pub returns-clause-checked : goal.returns-clause-checked
 returns-clause-checked g c image there =
@@ -46,7 +46,7 @@ returns-clause-checked g c image there =
     let all : c.loop-piece.piece * 1024 ≡ 65536 = omega (arith, e) in
     record {
       table = omega (arith, table, e);
-      chains = subst (HasFirst c.args.files.now image (words_of c.loop-piece.reached)) all (c.loop-piece.invariant.way image there);
+      chains = subst (HasFirst c.args.files.now image (words_reached c.loop-piece.reached)) all (c.loop-piece.invariant.way image there);
     }
 
 pub returns-in_err-records-clause-untold : goal.returns-in_err-records-clause-untold

@@ -5,7 +5,7 @@ use Rattle.blk_volume.specs.View.{StoreView, store_of}
 use Rattle.blk_audit.specs.Records.{AreRecordsOf}
 use Rattle.blk_image.specs.Image.{Image}
 use Rattle.blk_lru.proofs.Conditions.{told_before, told_now, told_stays}
-use Rattle.blk_audit.specs.Chaining.{AreOfFirst, HasFirst, HasRecords, reached_by, words_of}
+use Rattle.blk_audit.specs.Chaining.{AreOfFirst, HasFirst, HasRecords, reached_by, words_reached}
 use Rattle.blk_audit.proofs.Chained.{first_of_all}
 use Rattle.blk_audit.proofs.ReadChains.{first_more}
 use Rattle.blk_audit.proofs.Shown.{table_is}
@@ -19,7 +19,7 @@ one_more store n = refl
 pub follow-requires-clause-others : goal.follow-requires-clause-others
 follow-requires-clause-others g c image there agrees =
     let all = c.loop-i.invariant.reached image (told_before image c.loop-i.invariant.stays there) agrees in
-    subst (λ (n : ℕ). AreOfFirst (store_of image) (n + c.loop-i.i) (words_of c.loop-i.reached)) (sym c.from.ensures)
+    subst (λ (n : ℕ). AreOfFirst (store_of image) (n + c.loop-i.i) (words_reached c.loop-i.reached)) (sym c.from.ensures)
     (subst (AreOfFirst (store_of image) (c.args.first + c.loop-i.i)) (sym all) (first_of_all (store_of image) (c.args.first + c.loop-i.i)))
 
 pub loop-i-preserved : goal.loop-i-preserved
@@ -37,8 +37,8 @@ loop-i-preserved g c = record {
   way = λ image there.
       let now = told_now image c.loop-i.invariant.stays there in
       let next : c.args.first + c.loop-i.i + 1 ≡ c.args.first + (c.loop-i.i + 1) = omega arith in
-      subst (HasFirst c.args.files.now image (words_of c.follow.new.reached)) next
-      (first_more c.args.files.now image (words_of c.loop-i.reached) (words_of c.follow.new.reached) (c.args.first + c.loop-i.i) (slice_index c.args.table.now c.loop-i.i) (c.loop-i.invariant.way image there) (c.in_ok-follow.ensures.checked image now) (c.in_ok-follow.ensures.looked image now)
+      subst (HasFirst c.args.files.now image (words_reached c.follow.new.reached)) next
+      (first_more c.args.files.now image (words_reached c.loop-i.reached) (words_reached c.follow.new.reached) (c.args.first + c.loop-i.i) (slice_index c.args.table.now c.loop-i.i) (c.loop-i.invariant.way image there) (c.in_ok-follow.ensures.checked image now) (c.in_ok-follow.ensures.looked image now)
       (c.requires.words image there c.loop-i.i c.loop-i-test.true) (c.in_ok-follow.ensures.more image now));
   stays = c.in_ok-follow.ensures.stays ∙ c.loop-i.invariant.stays;
   later = omega (arith, c.in_ok-follow.ensures.later, c.loop-i.invariant.later);
@@ -48,4 +48,4 @@ pub follow-requires-clause-records : goal.follow-requires-clause-records
 follow-requires-clause-records g c = told_stays (λ (image : Image). AreRecordsOf image c.args.records.now) c.loop-i.invariant.stays c.requires.records
 
 pub follow-requires-clause-there : goal.follow-requires-clause-there
-follow-requires-clause-there g c = told_stays (λ (image : Image). HasRecords c.args.files.now image (words_of c.loop-i.reached)) c.loop-i.invariant.stays (λ image there. (c.loop-i.invariant.way image there).records)
+follow-requires-clause-there g c = told_stays (λ (image : Image). HasRecords c.args.files.now image (words_reached c.loop-i.reached)) c.loop-i.invariant.stays (λ image there. (c.loop-i.invariant.way image there).records)

@@ -3,14 +3,14 @@ use Rattle.blk_format.specs.Headers.{HasWholeIndex}
 use Rattle.blk_disk.specs.Open.{IsOpen}
 use Rattle.blk_disk.specs.Tables.{Agrees}
 use Rattle.blk_audit.specs.Records.{AreRecordsOf}
-use Rattle.blk_audit.specs.Chaining.{HasFirst, words_of}
+use Rattle.blk_audit.specs.Chaining.{HasFirst, words_reached}
 use Rattle.blk_image.specs.Image.{Image}
 use Rattle.blk_lru.proofs.Conditions.{told_stays}
 use Rattle.blk_audit.proofs.Carrying.{untold_converted, untold_on}
 use Rattle.blk_audit.proofs.reaching.follow_piece.Goals as goal
 
 pub follow_all-requires-clause-there : goal.follow_all-requires-clause-there
-follow_all-requires-clause-there g c = told_stays (λ (image : Image). HasFirst c.args.files.now image (words_of c.args.reached.now) c.args.first) c.in_ok-buckets.ensures.stays c.requires.there
+follow_all-requires-clause-there g c = told_stays (λ (image : Image). HasFirst c.args.files.now image (words_reached c.args.reached.now) c.args.first) c.in_ok-buckets.ensures.stays c.requires.there
 
 pub follow_all-requires-clause-records : goal.follow_all-requires-clause-records
 follow_all-requires-clause-records g c = told_stays (λ (image : Image). AreRecordsOf image c.args.records.now) c.in_ok-buckets.ensures.stays c.requires.records

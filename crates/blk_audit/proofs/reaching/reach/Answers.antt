@@ -6,7 +6,7 @@ use Rattle.blk_volume.specs.Chains.{file_and_block, is_of_bucket}
 use Rattle.blk_volume.specs.View.{stands_as, store_of}
 use Rattle.blk_disk.specs.Tables.{is_record_among}
 use Rattle.blk_audit.specs.Chaining.{is_met}
-use Rattle.blk_audit.specs.Records.{IsEntryOf}
+use Rattle.blk_audit.specs.Records.{IsSaidBy}
 use Rattle.blk_audit.proofs.Carrying.{converted}
 use Rattle.blk_audit.proofs.Chained.{reach_stops, reach_on, not_reached, not_new, reached_new}
 use Rattle.blk_audit.proofs.ReadChains.{met_there, none_named}
@@ -37,7 +37,7 @@ returns-then-not-said-clause-step g c image there agrees =
     let named : c.in-Some.addr ≡ c.args.word = value_by (is_record_among c.args.files.now c.args.word) c.args.word c.in-Some.addr (sym c.in-Some.is ∙ c.entry.ensures.entry) in
     let stand : stands_as image blocks_256 c.args.word ≡ true =
     sym (names_stand c.args.files.now image c.args.word agrees) ∙ test_by (is_record_among c.args.files.now c.args.word) c.args.word c.in-Some.addr (sym c.in-Some.is ∙ c.entry.ensures.entry) in
-    let is : IsEntryOf image c.args.word c.in_ok-said.said = subst (λ (w : ℕ). IsEntryOf image w c.in_ok-said.said) named (c.in_ok-said.ensures.said image there) in
+    let is : IsSaidBy image c.args.word c.in_ok-said.said = subst (λ (w : ℕ). IsSaidBy image w c.in_ok-said.said) named (c.in_ok-said.ensures.said image there) in
     let bad : c.in_ok-said.said.checks ≡ false = true_not c.in_ok-said.said.checks (sym c.if-not-said.true) in
     reach_stops (store_of image) c.args.bucket c.args.reached.now.words.items c.args.word
     (not_reached (store_of image) c.args.bucket (map file_and_block c.args.reached.now.words.items) c.args.word
@@ -48,7 +48,7 @@ returns-then-said-bucket-clause-step g c image there agrees =
     let named : c.in-Some.addr ≡ c.args.word = value_by (is_record_among c.args.files.now c.args.word) c.args.word c.in-Some.addr (sym c.in-Some.is ∙ c.entry.ensures.entry) in
     let stand : stands_as image blocks_256 c.args.word ≡ true =
     sym (names_stand c.args.files.now image c.args.word agrees) ∙ test_by (is_record_among c.args.files.now c.args.word) c.args.word c.in-Some.addr (sym c.in-Some.is ∙ c.entry.ensures.entry) in
-    let is : IsEntryOf image c.args.word c.in_ok-said.said = subst (λ (w : ℕ). IsEntryOf image w c.in_ok-said.said) named (c.in_ok-said.ensures.said image there) in
+    let is : IsSaidBy image c.args.word c.in_ok-said.said = subst (λ (w : ℕ). IsSaidBy image w c.in_ok-said.said) named (c.in_ok-said.ensures.said image there) in
     let other : (c.in_ok-said.said.hash % 65536 == c.args.bucket) ≡ false = ne_eqb (c.in_ok-said.said.hash % 65536) c.args.bucket c.if-said-bucket.true in
     reach_stops (store_of image) c.args.bucket c.args.reached.now.words.items c.args.word
     (not_reached (store_of image) c.args.bucket (map file_and_block c.args.reached.now.words.items) c.args.word
@@ -59,7 +59,7 @@ returns-clause-step g c image there agrees =
     let named : c.in-Some.addr ≡ c.args.word = value_by (is_record_among c.args.files.now c.args.word) c.args.word c.in-Some.addr (sym c.in-Some.is ∙ c.entry.ensures.entry) in
     let stand : stands_as image blocks_256 c.args.word ≡ true =
     sym (names_stand c.args.files.now image c.args.word agrees) ∙ test_by (is_record_among c.args.files.now c.args.word) c.args.word c.in-Some.addr (sym c.in-Some.is ∙ c.entry.ensures.entry) in
-    let is : IsEntryOf image c.args.word c.in_ok-said.said = subst (λ (w : ℕ). IsEntryOf image w c.in_ok-said.said) named (c.in_ok-said.ensures.said image there) in
+    let is : IsSaidBy image c.args.word c.in_ok-said.said = subst (λ (w : ℕ). IsSaidBy image w c.in_ok-said.said) named (c.in_ok-said.ensures.said image there) in
     let fresh : is_met c.args.reached.now.words.items c.args.word ≡ false = sym (ap (is_met c.args.reached.now.words.items) named) ∙ sym c.has.ensures ∙ c.if-has.false in
     let good : c.in_ok-said.said.checks ≡ true = false_not c.in_ok-said.said.checks (sym c.if-not-said.false) in
     let of : is_of_bucket (store_of image) c.args.bucket c.args.word ≡ true =
@@ -85,24 +85,24 @@ returns-then-has-clause-checked g c image there =
 pub returns-then-not-said-clause-checked : goal.returns-then-not-said-clause-checked
 returns-then-not-said-clause-checked g c image there is =
     let named : c.in-Some.addr ≡ c.args.word = value_by (is_record_among c.args.files.now c.args.word) c.args.word c.in-Some.addr (sym c.in-Some.is ∙ c.entry.ensures.entry) in
-    let said : IsEntryOf image c.args.word c.in_ok-said.said = subst (λ (w : ℕ). IsEntryOf image w c.in_ok-said.said) named (c.in_ok-said.ensures.said image there) in
+    let said : IsSaidBy image c.args.word c.in_ok-said.said = subst (λ (w : ℕ). IsSaidBy image w c.in_ok-said.said) named (c.in_ok-said.ensures.said image there) in
     said.there
 
 pub returns-then-said-bucket-clause-checked : goal.returns-then-said-bucket-clause-checked
 returns-then-said-bucket-clause-checked g c image there is =
     let named : c.in-Some.addr ≡ c.args.word = value_by (is_record_among c.args.files.now c.args.word) c.args.word c.in-Some.addr (sym c.in-Some.is ∙ c.entry.ensures.entry) in
-    let said : IsEntryOf image c.args.word c.in_ok-said.said = subst (λ (w : ℕ). IsEntryOf image w c.in_ok-said.said) named (c.in_ok-said.ensures.said image there) in
+    let said : IsSaidBy image c.args.word c.in_ok-said.said = subst (λ (w : ℕ). IsSaidBy image w c.in_ok-said.said) named (c.in_ok-said.ensures.said image there) in
     said.there
 
 pub returns-clause-checked : goal.returns-clause-checked
 returns-clause-checked g c image there is =
     let named : c.in-Some.addr ≡ c.args.word = value_by (is_record_among c.args.files.now c.args.word) c.args.word c.in-Some.addr (sym c.in-Some.is ∙ c.entry.ensures.entry) in
-    let said : IsEntryOf image c.args.word c.in_ok-said.said = subst (λ (w : ℕ). IsEntryOf image w c.in_ok-said.said) named (c.in_ok-said.ensures.said image there) in
+    let said : IsSaidBy image c.args.word c.in_ok-said.said = subst (λ (w : ℕ). IsSaidBy image w c.in_ok-said.said) named (c.in_ok-said.ensures.said image there) in
     said.there
 
 pub returns-clause-taken : goal.returns-clause-taken
 returns-clause-taken g c image there =
     let named : c.in-Some.addr ≡ c.args.word = value_by (is_record_among c.args.files.now c.args.word) c.args.word c.in-Some.addr (sym c.in-Some.is ∙ c.entry.ensures.entry) in
-    let said : IsEntryOf image c.args.word c.in_ok-said.said = subst (λ (w : ℕ). IsEntryOf image w c.in_ok-said.said) named (c.in_ok-said.ensures.said image there) in
+    let said : IsSaidBy image c.args.word c.in_ok-said.said = subst (λ (w : ℕ). IsSaidBy image w c.in_ok-said.said) named (c.in_ok-said.ensures.said image there) in
     let items : c.add.new.self.words.items ≡ c.args.reached.now.words.items ++ c.args.word ∷ [] = c.in_ok-add.ensures.added ∙ ap (λ (w : ℕ). c.args.reached.now.words.items ++ w ∷ []) named in
     (items, (said.next, record { named = test_by (is_record_among c.args.files.now c.args.word) c.args.word c.in-Some.addr (sym c.in-Some.is ∙ c.entry.ensures.entry); there = said.there }))

@@ -5,7 +5,7 @@ use Rattle.blk_image.specs.Told.{Told}
 use Rattle.blk_io.proofs.Carried.{carried, if_damaged_weaker}
 use Rattle.blk_disk.specs.Tables.{Agrees}
 use Rattle.blk_lru.proofs.Conditions.{told_stays}
-use Rattle.blk_audit.specs.Records.{IsEntryOf}
+use Rattle.blk_audit.specs.Records.{IsSaidBy}
 use Rattle.blk_audit.proofs.Shown.{record_fits, said_is, short_record}
 use Rattle.blk_audit.proofs.records.read_record.Goals as goal
 
@@ -25,6 +25,6 @@ returns-in_err-read_block-clause-untold g c agrees =
 
 pub returns-clause-said : goal.returns-clause-said
 returns-clause-said g c image there =
-    subst (IsEntryOf image c.args.addr) (sym c.said.ensures)
+    subst (IsSaidBy image c.args.addr) (sym c.said.ensures)
     (said_is image c.args.addr (g.met.F.Folder.are_bytes c.args.f.now image there) c.requires.kind c.read_block.new.out (c.in_ok-read_block.ensures.bytes image there)
     (⊎_elim (λ (inside : place c.args.addr + 0 + 96 ≤ length_of image (Block (file_selector c.args.addr))). let h : place c.args.addr + 96 ≤ length_of image (Block (file_selector c.args.addr)) = omega (arith, inside) in h) (λ (none : ◌≡◌ {A = ℕ} 96 0). absurd (omega (arith, none))) (c.in_ok-read_block.ensures.checked image there)))

@@ -4,7 +4,7 @@ use Rattle.blk_image.specs.Told.{Told}
 use Rattle.blk_io.specs.Faults.{IfDamaged}
 use Rattle.blk_io.proofs.Carried.{carried, if_damaged_weaker, untold_where}
 use Rattle.blk_volume.specs.Chains.{bucket_of_hash}
-use Rattle.blk_entry.specs.Keys.{CanBeRead, IsHead, IsPlaceDamage}
+use Rattle.blk_entry.specs.Keys.{CanBeRead, IsRecordHead, IsPlaceDamage}
 use Rattle.blk_chain.specs.Finding.{IsDanglingLink, IsChainDamage, IsSought}
 use Rattle.blk_chain.specs.Unlinking.{next_record}
 use Rattle.blk_entry.proofs.KeyPlaces.{clash, damaged_any}
@@ -66,7 +66,7 @@ returns-in_err-is_sought-clause-untold g c agrees keyed =
     (c.is_sought.ensures.untold (subst (λ (t : Told). ForSome t.files (CanBeRead c.args.files.now c.in_ok-entry.entry)) (sym c.in_ok-head.ensures.stays) (λ image there. can-be-read c.args.files.now image c.in_ok-entry.entry c.args.link.now.word c.in_ok-entry.ensures.entry (g.met.F.Folder.are_bytes c.args.f.now image there) (agrees image there) (keyed image there)))))
 
 pub is_sought-requires-clause-head : goal.is_sought-requires-clause-head
-is_sought-requires-clause-head g c = subst (λ (t : Told). ForSome t.files (λ image. IsHead image c.in_ok-entry.entry c.in_ok-head.head)) (sym c.in_ok-head.ensures.stays) c.in_ok-head.ensures.head
+is_sought-requires-clause-head g c = subst (λ (t : Told). ForSome t.files (λ image. IsRecordHead image c.in_ok-entry.entry c.in_ok-head.head)) (sym c.in_ok-head.ensures.stays) c.in_ok-head.ensures.head
 
 pub returns-then-branch-clause-step : goal.returns-then-branch-clause-step
 returns-then-branch-clause-step g c image there =

@@ -7,7 +7,7 @@ use Rattle.blk_format.specs.Hash.{hash as hash_of}
 use Rattle.blk_volume.specs.View.{entry_at}
 use Rattle.blk_io.specs.Faults.{IfDamaged}
 use Rattle.blk_io.proofs.Carried.{carried, if_damaged_weaker}
-use Rattle.blk_entry.specs.Keys.{AreKeyBytes, CanBeRead, HasBytesOf, HasData, HasKeyBytes, HasReadableKey, IsEntryOf, IsHead, IsPlaceDamage, IsPlaced, bytes_before, key_address, key_at}
+use Rattle.blk_entry.specs.Keys.{AreKeyBytes, CanBeRead, HasBytesOf, HasData, HasKeyBytes, HasReadableKey, IsEntryOf, IsRecordHead, IsPlaceDamage, IsPlaced, bytes_before, key_address, key_at}
 use Rattle.blk_entry.proofs.KeyPlaces.{bytes_of_head, clash, key_bytes_there, ok_weaker}
 use Rattle.blk_entry.proofs.compare.key_equals.Given as given
 use Rattle.blk_entry.proofs.compare.key_equals.Goals as goal
@@ -21,7 +21,7 @@ pub returns-clause-untold : goal.returns-clause-untold
 returns-clause-untold g c can =
     subst (λ (t : Told). IfDamaged c.key_is.result (λ _. t.files ≡ None)) c.in_ok-head.ensures.stays
     (c.key_is.ensures.untold (subst (λ (t : Told). ForSome t.files (CanBeRead c.args.files.now c.args.entry)) (sym c.in_ok-head.ensures.stays) can)
-    (subst (λ (t : Told). ForSome t.files (λ image. IsHead image c.args.entry c.in_ok-head.head)) (sym c.in_ok-head.ensures.stays) c.in_ok-head.ensures.head))
+    (subst (λ (t : Told). ForSome t.files (λ image. IsRecordHead image c.args.entry c.in_ok-head.head)) (sym c.in_ok-head.ensures.stays) c.in_ok-head.ensures.head))
 
 pub returns-clause-damaged : goal.returns-clause-damaged
 returns-clause-damaged g c =
@@ -58,7 +58,7 @@ returns-clause-bytes g c =
 
 pub returns-clause-equal : goal.returns-clause-equal
 returns-clause-equal g c =
-    ok_weaker c.key_is.result (λ same. ForSome (g.F.Folder.told c.read_head.new.f).files (λ image. IsHead image c.args.entry c.in_ok-head.head → HasReadableKey c.args.entry image → IsTrue same ↔ (key_at image c.args.entry ≡ Some c.args.key.now)))
+    ok_weaker c.key_is.result (λ same. ForSome (g.F.Folder.told c.read_head.new.f).files (λ image. IsRecordHead image c.args.entry c.in_ok-head.head → HasReadableKey c.args.entry image → IsTrue same ↔ (key_at image c.args.entry ≡ Some c.args.key.now)))
     (λ same. ForSome (g.F.Folder.told c.args.f.now).files (λ image. HasReadableKey c.args.entry image → IsTrue same ↔ IsEntryOf c.args.key.now c.args.entry image))
     (λ same equal image there readable.
     let words = c.in_ok-head.ensures.head image there in

@@ -2,7 +2,7 @@ use Rattle.std.proofs.Common.{◌≡◌, ◌↔◌, ℕ, length, None, Some, inl
 use Rattle.std.proofs.lemmas.Result.{on_ok_weaker}
 use Rattle.std.specs.Option.{ForSome}
 use Rattle.std.specs.Prelude.{IsTrue}
-use Rattle.blk_entry.specs.Keys.{AreKeyBytes, HasData, HasReadableKey, IsCutKey, IsCutPiece, IsHead, IsMisplaced, IsPlaceDamage, bytes_before, data_at, key_address, key_at}
+use Rattle.blk_entry.specs.Keys.{AreKeyBytes, HasData, HasReadableKey, IsCutKey, IsCutPiece, IsRecordHead, IsMisplacedKey, IsPlaceDamage, bytes_before, data_at, key_address, key_at}
 use Rattle.blk_io.proofs.Carried.{carried, if_damaged_weaker, untold_where}
 use Rattle.blk_entry.proofs.KeyPlaces.{bytes_by_place, bytes_of_head, clash, damaged_any, head_facts, key_by_bytes, key_is_cut, ok_there, ok_weaker, whole_there}
 use Rattle.blk_entry.proofs.compare.key_is.Goals as goal
@@ -46,7 +46,7 @@ returns-clause-bytes g c =
 pub returns-clause-equal : goal.returns-clause-equal
 returns-clause-equal g c =
     ok_weaker c.data_is.result (λ same. ForSome (g.F.Folder.told c.args.f.now).files (λ image. IsTrue same ↔ (c.args.key.now ≡ data_at image c.in_ok-place.place.addr c.in_ok-place.place.skip (length c.args.key.now))))
-    (λ same. ForSome (g.F.Folder.told c.args.f.now).files (λ image. IsHead image c.args.entry c.args.head.now → HasReadableKey c.args.entry image → IsTrue same ↔ (key_at image c.args.entry ≡ Some c.args.key.now)))
+    (λ same. ForSome (g.F.Folder.told c.args.f.now).files (λ image. IsRecordHead image c.args.entry c.args.head.now → HasReadableKey c.args.entry image → IsTrue same ↔ (key_at image c.args.entry ≡ Some c.args.key.now)))
     (λ same read_as image there words has.
     let by_place = bytes_by_place image c.args.entry c.args.head.now.key_len c.args.head.now.long_key c.args.key.now c.in_ok-place.place c.in_ok-place.ensures.place c.if-head-key.false in
     let by_head = bytes_of_head image c.args.entry c.args.head.now c.args.key.now words in
@@ -69,7 +69,7 @@ returns-clause-there g c =
 pub returns-in_err-place-clause-damaged : goal.returns-in_err-place-clause-damaged
 returns-in_err-place-clause-damaged g c =
     carried c.key_place.result c.from_residual.result c.in_err-place.field-0.0 (IsPlaceDamage c.args.files.now (g.F.Folder.told c.args.f.now) c.args.entry (length c.args.key.now) c.args.head.now.long_key) c.in_err-place.was c.from_residual.ensures.1
-    (if_damaged_weaker c.key_place.result _ _ (λ damage wrong. inr (subst (λ (k : ℕ). IsMisplaced c.args.files.now c.args.entry k c.args.head.now.long_key damage) c.if-head-key.false wrong)) c.key_place.ensures.damaged)
+    (if_damaged_weaker c.key_place.result _ _ (λ damage wrong. inr (subst (λ (k : ℕ). IsMisplacedKey c.args.files.now c.args.entry k c.args.head.now.long_key damage) c.if-head-key.false wrong)) c.key_place.ensures.damaged)
 
 pub returns-clause-damaged : goal.returns-clause-damaged
 returns-clause-damaged g c =

@@ -2,14 +2,13 @@ use Rattle.std.proofs.Common.{◌≡◌, ◌⊎◌, ◌+◌, ◌≤◌, ⊎_elim
 use Rattle.blk_image.specs.Bytes.{content, word_at, words_at}
 use Rattle.blk_image.specs.Image.{Block, length_of}
 use Rattle.blk_format.specs.Address.{file_selector, place}
-use Rattle.blk_format.specs.Records.{entry_size, checks}
+use Rattle.blk_format.specs.Records.{checks}
 use Rattle.blk_format.specs.Sealed.{seal_place}
-use Rattle.blk_io.specs.declared.folder.FileId.TheVariants as FileId
-use Rattle.blk_io.specs.Faults.{IsShort}
 use Rattle.blk_disk.specs.Unsealed.{IsUnsealed}
 use Rattle.blk_format.proofs.SealedRecords.{entry_bytes, entry_seal}
 use Rattle.blk_disk.proofs.SealedReads.{record_read, unsealed_is, untold_unsealed}
 use Rattle.blk_entry.specs.declared.keys.Head.{Head}
+use Rattle.blk_entry.specs.Keys.{IsHeadDamage}
 use Rattle.blk_entry.proofs.Windows.{entry_room_least}
 use Rattle.blk_entry.proofs.KeyPlaces.{head_is, err_damaged}
 use Rattle.blk_entry.proofs.keys.read_head.Given as given
@@ -24,12 +23,12 @@ unsealed_here g c =
     let fails : checks 92 window ≡ false = ap (checks 92) (sym c.in-Some.ensures.same) ∙ sym c.checks.ensures ∙ c.if-not-checks.true in
     let found : c.word.result ≡ word_at (content window) 92 = c.word.ensures ∙ ap (λ (l : List ℕ). word_at (content l) 92) c.in-Some.ensures.same in
     unsealed_is (g.F.Folder.told c.args.f.now) c.args.entry 92 c.word.result window c.record_damage.ensures.damage (sym (entry_seal c.args.entry c.requires.kind))
-    (ap (λ (b : Bool). if b then None else Some (word_at (content window) 92)) fails ∙ ap Some (sym found)) c.record_damage.ensures.of_file c.record_damage.ensures.at_place c.record_damage.ensures.of_word
+    (ap (λ (b : Bool). if b then None else Some (word_at (content window) 92)) fails ∙ ap Some (sym found)) c.record_damage.ensures.word.of_file c.record_damage.ensures.word.at_place c.record_damage.ensures.word.of_word
     (λ image there. record_read image c.args.entry 96 window (sym (entry_bytes c.args.entry c.requires.kind)) (c.in_ok-read_block.ensures.bytes image there))
 
 pub returns-then-not-checks-clause-damaged : goal.returns-then-not-checks-clause-damaged
 returns-then-not-checks-clause-damaged g c =
-    err_damaged Head c.record_damage.result c.record_damage.ensures.damage (λ damage. IsShort (g.F.Folder.told c.args.f.now) (FileId.Block (file_selector c.args.entry)) (place c.args.entry) entry_size damage ⊎ IsUnsealed (g.F.Folder.told c.args.f.now) c.args.entry damage)
+    err_damaged Head c.record_damage.result c.record_damage.ensures.damage (IsHeadDamage (g.F.Folder.told c.args.f.now) c.args.entry)
     c.record_damage.ensures.is (inr (unsealed_here g c))
 
 pub returns-then-not-checks-clause-untold : goal.returns-then-not-checks-clause-untold

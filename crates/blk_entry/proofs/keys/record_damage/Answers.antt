@@ -10,4 +10,4 @@ returns c =
     let block_kind : kind_of c.args.entry ≢ external = not_external c.args.entry c.requires.kind in
     let start = start_is c.args.entry c.start.result block_kind c.start.ensures in
     let front : 8192 + c.from.result * 256 ≡ place c.args.entry = place_is c.args.entry c.from.result 256 (c.from.ensures ∙ start) (sym (size_of_entry c.args.entry c.requires.kind)) in
-    record { damage = _; is = refl; of_file = name_is c.args.entry c.file_of.result block_kind c.file_of.ensures; at_place = ap₂ (λ (n m : ℕ). n + m) front c.from-2.ensures; of_word = refl }
+    record { damage = _; is = refl; word = record { of_file = name_is c.args.entry c.file_of.result block_kind c.file_of.ensures; at_place = ap₂ (λ (n m : ℕ). n + m) front c.from-2.ensures; of_word = refl } }

@@ -1,7 +1,8 @@
 use Rattle.blk_disk.specs.Tables.{is_node_among}
+use Rattle.blk_disk.specs.Damages.{NamesNoNode}
 use Rattle.std.proofs.Common.{rules, inr, ⊎_elim, ◌≡◌, ◌+◌, ◌*◌, ◌≤◌, ◌∙◌, sym, ap, ap₂, arith, ℕ, true, false}
 use Rattle.blk_format.specs.Address.{place, byte_size}
-use Rattle.blk_lru.specs.Nodes.{link_at, NamesNoNode}
+use Rattle.blk_lru.specs.Nodes.{link_at}
 use Rattle.blk_disk.proofs.Ranges.{name_is, stands_blocky}
 use Rattle.blk_lru.proofs.NodeWords.{node_kind, node_stands, node_room, node_place}
 use Rattle.blk_lru.proofs.LinkReads.{read_link, dangling_untold}

@@ -6,7 +6,7 @@ use Rattle.blk_image.proofs.Runs.{part_whole}
 use Rattle.blk_io.proofs.Carried.{carried, if_damaged_weaker}
 use Rattle.blk_format.specs.Sealed.{RecordChecks}
 use Rattle.blk_disk.specs.Open.{IsOpen}
-use Rattle.blk_repair_laws.specs.ChainRepair.{link_steps, next_steps}
+use Rattle.blk_repair_laws.specs.ChainRepair.{next_words_steps, next_steps}
 use Rattle.blk_repair.specs.Damages.{AllCheck}
 use Rattle.blk_repair.proofs.Choices.{next-open}
 use Rattle.blk_repair.proofs.ChainRuns.{link-leads, links-end}
@@ -15,15 +15,15 @@ use Rattle.blk_repair.proofs.chains.link.Given as given
 use Rattle.blk_repair.proofs.chains.link.Goals as goal
 
 -- the step of one round
-leads : (g : given.Over) (c : goal.In_ok-set_next g) → Leads (link_steps (drop c.loop-i.i c.args.records.now)) (next_steps c.index-records-i.result c.first_word-behind.result) (link_steps (drop (c.loop-i.i + 1) c.args.records.now))
+leads : (g : given.Over) (c : goal.In_ok-set_next g) → Leads (next_words_steps (drop c.loop-i.i c.args.records.now)) (next_steps c.index-records-i.result c.first_word-behind.result) (next_words_steps (drop (c.loop-i.i + 1) c.args.records.now))
 leads g c = link-leads c.args.records.now c.loop-i.i c.index-records-i.result c.first_word-behind.result c.loop-i-test.true c.index-records-i.is c.first_word-behind.ensures
 
 pub loop-i-init : goal.loop-i-init
-loop-i-init g c = record { progress = begun (g.F.Folder.told c.args.f.now) (g.F.Folder.told c.args.f.now) (link_steps c.args.records.now) refl; is_open = c.requires.is_open; later = omega arith }
+loop-i-init g c = record { progress = begun (g.F.Folder.told c.args.f.now) (g.F.Folder.told c.args.f.now) (next_words_steps c.args.records.now) refl; is_open = c.requires.is_open; later = omega arith }
 
 pub returns-in_err-set_next-clause-prefix : goal.returns-in_err-set_next-clause-prefix
 returns-in_err-set_next-clause-prefix g c =
-    stopped c.loop-i.invariant.progress (next_steps c.index-records-i.result c.first_word-behind.result) (link_steps (drop (c.loop-i.i + 1) c.args.records.now)) (g.F.Folder.told c.set_next.new.f)
+    stopped c.loop-i.invariant.progress (next_steps c.index-records-i.result c.first_word-behind.result) (next_words_steps (drop (c.loop-i.i + 1) c.args.records.now)) (g.F.Folder.told c.set_next.new.f)
     (link-leads c.args.records.now c.loop-i.i c.index-records-i.result c.first_word-behind.result c.loop-i-test.true c.index-records-i.is c.first_word-behind.ensures) c.in_err-set_next.ensures.prefix
 
 pub returns-in_err-set_next-clause-untold : goal.returns-in_err-set_next-clause-untold
@@ -35,7 +35,7 @@ returns-in_err-set_next-clause-untold g c all =
 
 pub loop-i-preserved : goal.loop-i-preserved
 loop-i-preserved g c = record {
-  progress = went_on c.loop-i.invariant.progress (next_steps c.index-records-i.result c.first_word-behind.result) (link_steps (drop (c.loop-i.i + 1) c.args.records.now)) (g.F.Folder.told c.set_next.new.f) (leads g c) c.in_ok-set_next.ensures.steps c.in_ok-set_next.ensures.silent;
+  progress = went_on c.loop-i.invariant.progress (next_steps c.index-records-i.result c.first_word-behind.result) (next_words_steps (drop (c.loop-i.i + 1) c.args.records.now)) (g.F.Folder.told c.set_next.new.f) (leads g c) c.in_ok-set_next.ensures.steps c.in_ok-set_next.ensures.silent;
   is_open = open_now;
   later = omega (arith, c.loop-i.invariant.later, c.in_ok-set_next.ensures.later);
 }

@@ -7,7 +7,7 @@ use Rattle.blk_image.specs.Told.{Told, Along, Applies, AppliesPrefix}
 use Rattle.blk_io.proofs.Carried.{carried, if_damaged_weaker}
 use Rattle.blk_disk.specs.Open.{IsOpen}
 use Rattle.blk_volume.specs.ListView.{first_or}
-use Rattle.blk_repair_laws.specs.ChainRepair.{bucket_steps, chain_steps, link_steps}
+use Rattle.blk_repair_laws.specs.ChainRepair.{bucket_steps, chain_steps, next_words_steps}
 use Rattle.blk_repair.specs.Chains.{IsNextChain}
 use Rattle.blk_repair.specs.Damages.{AllCheck}
 use Rattle.blk_repair.proofs.Choices.{bucket-open, chain-open}
@@ -27,7 +27,7 @@ link-requires-clause-is_open g c =
 
 pub returns-in_err-set_front-clause-prefix : goal.returns-in_err-set_front-clause-prefix
 returns-in_err-set_front-clause-prefix g c =
-    stopped (begun (g.F.Folder.told c.args.f.now) (g.F.Folder.told c.args.f.now) (chain_steps c.args.bucket c.args.records.now) refl) (bucket_steps c.args.bucket (first_or 0 c.args.records.now)) (link_steps c.args.records.now) (g.F.Folder.told c.set_front.new.f)
+    stopped (begun (g.F.Folder.told c.args.f.now) (g.F.Folder.told c.args.f.now) (chain_steps c.args.bucket c.args.records.now) refl) (bucket_steps c.args.bucket (first_or 0 c.args.records.now)) (next_words_steps c.args.records.now) (g.F.Folder.told c.set_front.new.f)
     (chain-leads c.args.bucket c.args.records.now)
     (front c.args.records.now c.args.bucket c.first_word.result (λ (s : Image → List TrailStep). ForSome (g.F.Folder.told c.args.f.now).files (λ from. AppliesPrefix (g.F.Folder.told c.args.f.now) (g.F.Folder.told c.set_front.new.f) (s from))) c.first_word.ensures c.in_err-set_front.ensures.prefix)
 
@@ -49,9 +49,9 @@ returns-in_err-set_front-clause-untold g c next =
     carried c.set_front.result c.from_residual.result c.in_err-set_front.field-0.0 (λ _. (g.F.Folder.told c.args.f.now).files ≡ None) c.in_err-set_front.was c.from_residual.ensures.1 c.set_front.ensures.untold
 
 -- the word of the bucket was written, and the links are left
-half : (g : given.Over) (c : goal.After-link g) → Progress (g.F.Folder.told c.args.f.now) (g.F.Folder.told c.set_front.new.f) (chain_steps c.args.bucket c.args.records.now) (link_steps c.args.records.now)
+half : (g : given.Over) (c : goal.After-link g) → Progress (g.F.Folder.told c.args.f.now) (g.F.Folder.told c.set_front.new.f) (chain_steps c.args.bucket c.args.records.now) (next_words_steps c.args.records.now)
 half g c =
-    went_on (begun (g.F.Folder.told c.args.f.now) (g.F.Folder.told c.args.f.now) (chain_steps c.args.bucket c.args.records.now) refl) (bucket_steps c.args.bucket (first_or 0 c.args.records.now)) (link_steps c.args.records.now) (g.F.Folder.told c.set_front.new.f)
+    went_on (begun (g.F.Folder.told c.args.f.now) (g.F.Folder.told c.args.f.now) (chain_steps c.args.bucket c.args.records.now) refl) (bucket_steps c.args.bucket (first_or 0 c.args.records.now)) (next_words_steps c.args.records.now) (g.F.Folder.told c.set_front.new.f)
     (chain-leads c.args.bucket c.args.records.now)
     (front c.args.records.now c.args.bucket c.first_word.result (λ (s : Image → List TrailStep). ForSome (g.F.Folder.told c.args.f.now).files (λ from. Applies (g.F.Folder.told c.args.f.now) (g.F.Folder.told c.set_front.new.f) (s from))) c.first_word.ensures c.in_ok-set_front.ensures.steps)
     c.in_ok-set_front.ensures.silent
@@ -62,10 +62,10 @@ returns-clause-silent g c none = c.link.ensures.silent (c.in_ok-set_front.ensure
 pub returns-clause-steps : goal.returns-clause-steps
 returns-clause-steps g c =
     on_ok_weaker c.link.result
-    (λ made. ended (went_on (half g c) (link_steps c.args.records.now) (λ _. []) (g.F.Folder.told c.link.new.f) (links-lead c.args.records.now) made c.link.ensures.silent) (λ image. refl)) c.link.ensures.steps
+    (λ made. ended (went_on (half g c) (next_words_steps c.args.records.now) (λ _. []) (g.F.Folder.told c.link.new.f) (links-lead c.args.records.now) made c.link.ensures.silent) (λ image. refl)) c.link.ensures.steps
 
 pub returns-clause-prefix : goal.returns-clause-prefix
-returns-clause-prefix g c = stopped (half g c) (link_steps c.args.records.now) (λ _. []) (g.F.Folder.told c.link.new.f) (links-lead c.args.records.now) c.link.ensures.prefix
+returns-clause-prefix g c = stopped (half g c) (next_words_steps c.args.records.now) (λ _. []) (g.F.Folder.told c.link.new.f) (links-lead c.args.records.now) c.link.ensures.prefix
 
 pub returns-clause-mended : goal.returns-clause-mended
 returns-clause-mended g c = on_ok_weaker c.link.result (λ made. chain-mended (g.F.Folder.told c.args.f.now) (g.F.Folder.told c.link.new.f) c.args.bucket c.args.records.now c.ranges.bucket.fits made) (returns-clause-steps g c)
@@ -85,6 +85,6 @@ pub returns-clause-untold : goal.returns-clause-untold
 returns-clause-untold g c next =
     if_damaged_weaker c.link.result _ _ (λ damage none. was_untold (half g c) none)
     (c.link.ensures.untold
-    (now_has (g.F.Folder.told c.args.f.now) (g.F.Folder.told c.set_front.new.f) (bucket_steps c.args.bucket (first_or 0 c.args.records.now)) (λ image. Along (AllCheck c.args.records.now) image (link_steps c.args.records.now image))
+    (now_has (g.F.Folder.told c.args.f.now) (g.F.Folder.told c.set_front.new.f) (bucket_steps c.args.bucket (first_or 0 c.args.records.now)) (λ image. Along (AllCheck c.args.records.now) image (next_words_steps c.args.records.now image))
     (front c.args.records.now c.args.bucket c.first_word.result (λ (s : Image → List TrailStep). ForSome (g.F.Folder.told c.args.f.now).files (λ from. Applies (g.F.Folder.told c.args.f.now) (g.F.Folder.told c.set_front.new.f) (s from))) c.first_word.ensures c.in_ok-set_front.ensures.steps)
     c.in_ok-set_front.ensures.silent (λ image there. links-check (next image there).0 c.args.bucket c.args.records.now image c.ranges.bucket.fits (next image there).1)))

@@ -1,7 +1,7 @@
 use Rattle.std.proofs.Common.{◌≡◌, inl, Some, sym, ◌∙◌, ap}
+use Rattle.blk_format.specs.BlockFiles.{IsWhole}
 use Rattle.blk_image.specs.Image.{Image}
 use Rattle.blk_image.proofs.Runs.{passes_none}
-use Rattle.blk_run.specs.Count.{IsWhole}
 use Rattle.blk_run.proofs.Counted.{counts_fault, files, making, none_made, load_counts, look_counts, looked_ok, new_is, used_counts, used_empty}
 use Rattle.blk_run.proofs.Whole.{damage_behind, length_checked}
 use Rattle.blk_run.proofs.top.count.Given as given
@@ -52,7 +52,7 @@ whole : (g : given.Over) (c : After-first_used g) (image : Image) → (g.F.Folde
 whole g c image there =
     let there_look = sym (ap files c.in_ok-_files-in-Finished.ensures.stays) ∙ there in
     let finished = looked_ok _ _ image c.in-Finished.is (c.in_ok-look.ensures.looked image (sym (ap files c.in_ok-look.ensures.stays) ∙ there_look)) in
-    record { finished = finished.finished; undamaged = damage_behind image finished.undamaged ∙ (c.in_ok-_files-in-Finished.ensures.loaded image there_look).1 }
+    record { finished = finished.finished; well_formed = damage_behind image finished.undamaged ∙ (c.in_ok-_files-in-Finished.ensures.loaded image there_look).1 }
 
 pub first_used-requires : goal.first_used-requires
 first_used-requires g c image there =

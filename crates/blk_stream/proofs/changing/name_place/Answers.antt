@@ -1,26 +1,27 @@
-use Rattle.std.proofs.Common.{◌≡◌, ◌+◌, ◌*◌, ℕ, sym, ◌∙◌, ap, subst, List, [], ◌∷◌, refl}
+use Rattle.std.proofs.Common.{◌≡◌, ◌+◌, ◌*◌, ℕ, sym, ◌∙◌, ap, subst, List, [], ◌∷◌, arith, refl}
 use Rattle.std.proofs.lemmas.Result.{on_ok_weaker}
 use Rattle.blk_image.specs.Image.{Image}
-use Rattle.blk_image.specs.Steps.{with_words}
+use Rattle.blk_image.specs.Steps.{TrailStep, with_words}
 use Rattle.blk_image.specs.Told.{Along, AppliesPrefix}
 use Rattle.blk_image.proofs.Runs.{passes_part, some_inj}
-use Rattle.blk_format.specs.Sealed.{record_at, sealed, sealed_steps, seal_place}
-use Rattle.blk_io.proofs.Carried.{silent_part, told_at_end}
+use Rattle.blk_format.specs.Sealed.{IsUpdated, record_at, sealed, sealed_steps, seal_place}
+use Rattle.blk_io.proofs.Carried.{silent_part}
 use Rattle.blk_disk.proofs.SealedWrites.{front_read}
 use Rattle.blk_format.proofs.SealedRecords.{entry_bytes}
 use Rattle.blk_laws.proofs.lists.WriteSteps.{quiet-sealed}
 use Rattle.blk_stream.specs.Changing.{NamesInProgress, place_changes}
-use Rattle.blk_stream.proofs.Naming.{changed_long, naming_moments, place_are}
+use Rattle.blk_stream.proofs.Naming.{changed_long, named_words, naming_moments, place_are}
+use Rattle.blk_stream.proofs.changing.name_place.Given as given
 use Rattle.blk_stream.proofs.changing.name_place.Goals as goal
 
 pub update_record-requires-clause-changes : goal.update_record-requires-clause-changes
-update_record-requires-clause-changes g c = place_are c.args.entry c.args.stream c.size_at.result c.addr_at.result c.args.new.size c.word_of-word.result c.requires.kind c.requires.stream c.size_at.ensures c.addr_at.ensures
+update_record-requires-clause-changes g c = place_are c.args.entry c.args.stream c.size_at.result c.addr_at.result c.args.size c.args.word c.requires.kind c.requires.stream c.size_at.ensures c.addr_at.ensures
 
 pub update_record-requires-clause-size : goal.update_record-requires-clause-size
-update_record-requires-clause-size g c = c.requires.size ∙ sym (entry_bytes c.args.entry c.requires.kind)
+update_record-requires-clause-size g c = c.requires.long ∙ sym (entry_bytes c.args.entry c.requires.kind)
 
-pub returns-clause-size : goal.returns-clause-size
-returns-clause-size g c = changed_long (seal_place c.args.entry) ((c.size_at.result, c.args.new.size) ∷ (c.addr_at.result, c.word_of-word.result) ∷ []) c.args.bytes.now c.update_record.new.bytes c.update_record.ensures.bytes c.requires.size
+pub returns-clause-long : goal.returns-clause-long
+returns-clause-long g c = changed_long (seal_place c.args.entry) ((c.size_at.result, c.args.size) ∷ (c.addr_at.result, c.args.word) ∷ []) c.args.bytes.now c.update_record.new.bytes c.update_record.ensures.bytes c.requires.long
 
 pub returns-clause-silent : goal.returns-clause-silent
 returns-clause-silent g c none = silent_part c.update_record.ensures.prefix none
@@ -28,18 +29,31 @@ returns-clause-silent g c none = silent_part c.update_record.ensures.prefix none
 pub returns-clause-read : goal.returns-clause-read
 returns-clause-read g c =
     on_ok_weaker c.update_record.result
-    (λ updated. told_at_end (g.F.Folder.told c.args.f.now).files (g.F.Folder.told c.update_record.new.f).files (λ image. c.update_record.new.bytes ≡ record_at image c.args.entry)
-    (λ none. silent_part c.update_record.ensures.prefix none)
-    (λ from there image now.
-    c.update_record.ensures.bytes ∙ ap (λ (bytes : List ℕ). sealed (seal_place c.args.entry) (with_words ((c.size_at.result, c.args.new.size) ∷ (c.addr_at.result, c.word_of-word.result) ∷ []) bytes)) (c.requires.read from there) ∙ sym (updated from there (c.requires.read from there) image now)))
+    (λ updated from there read image now.
+    c.update_record.ensures.bytes ∙ ap (λ (bytes : List ℕ). sealed (seal_place c.args.entry) (with_words ((c.size_at.result, c.args.size) ∷ (c.addr_at.result, c.args.word) ∷ []) bytes)) read ∙ sym (updated from there read image now))
+    c.update_record.ensures.updated
+
+-- the changes that are made
+changes_are : (g : given.Over) (c : goal.After-slice_known-2-1 g) → (c.size_at.result, c.args.size) ∷ (c.addr_at.result, c.args.word) ∷ [] ≡ place_changes c.args.stream c.args.size c.args.word
+changes_are g c = ap (λ (p : ℕ). (p, c.args.size) ∷ (c.addr_at.result, c.args.word) ∷ []) c.size_at.ensures ∙ ap (λ (q : ℕ). (40 + 4 * c.args.stream, c.args.size) ∷ (q, c.args.word) ∷ []) c.addr_at.ensures
+
+pub returns-clause-named : goal.returns-clause-named
+returns-clause-named g c =
+    on_ok_weaker c.update_record.result
+    (λ updated from there read image now.
+    let words = named_words c.args.entry c.args.stream c.args.size c.args.word from image c.requires.kind c.requires.stream (omega (arith, c.ranges.size.fits)) (omega (arith, c.ranges.word.fits))
+    (subst (λ (l : List (ℕ × ℕ)). IsUpdated from c.args.entry l image) (changes_are g c) (updated from there read image now)) in
+    record { size_is = words.0; word_is = words.1 })
     c.update_record.ensures.updated
 
 pub returns-clause-stops : goal.returns-clause-stops
-returns-clause-stops g c from there =
-    let changes_are : List (ℕ × ℕ) = place_changes c.args.stream c.args.new.size c.word_of-word.result in
-    let part : AppliesPrefix (g.F.Folder.told c.args.f.now) (g.F.Folder.told c.update_record.new.f) (sealed_steps from c.args.entry changes_are) =
-    subst (λ (l : List (ℕ × ℕ)). AppliesPrefix (g.F.Folder.told c.args.f.now) (g.F.Folder.told c.update_record.new.f) (sealed_steps from c.args.entry l)) (ap (λ (p : ℕ). (p, c.args.new.size) ∷ (c.addr_at.result, c.word_of-word.result) ∷ []) c.size_at.ensures ∙ ap (λ (q : ℕ). (40 + 4 * c.args.stream, c.args.new.size) ∷ (q, c.word_of-word.result) ∷ []) c.addr_at.ensures)
-    (front_read c.args.entry ((c.size_at.result, c.args.new.size) ∷ (c.addr_at.result, c.word_of-word.result) ∷ []) c.args.bytes.now (g.F.Folder.told c.args.f.now) (g.F.Folder.told c.args.f.now) (g.F.Folder.told c.update_record.new.f) refl c.requires.read c.update_record.ensures.prefix from there) in
-    passes_part (NamesInProgress c.args.entry c.args.stream from) (NamesInProgress c.args.entry c.args.stream from) part (quiet-sealed from c.args.entry changes_are) (λ image h. h)
-    (λ image now. subst (λ (i : Image). Along (NamesInProgress c.args.entry c.args.stream from) i (sealed_steps from c.args.entry changes_are)) (some_inj (sym there ∙ now))
-    (naming_moments c.args.files.now c.args.entry c.args.stream c.args.new.size c.word_of-word.result from c.requires.kind c.requires.stands c.requires.stream (c.requires.agrees from there) (c.requires.checks from there)))
+returns-clause-stops g c from there read good =
+    let P : Image → Type 0 = NamesInProgress c.args.entry c.args.stream from in
+    let steps : List TrailStep = sealed_steps from c.args.entry (place_changes c.args.stream c.args.size c.args.word) in
+    let part : AppliesPrefix (g.F.Folder.told c.args.f.now) (g.F.Folder.told c.update_record.new.f) steps =
+    subst (λ (l : List (ℕ × ℕ)). AppliesPrefix (g.F.Folder.told c.args.f.now) (g.F.Folder.told c.update_record.new.f) (sealed_steps from c.args.entry l)) (changes_are g c)
+    (front_read c.args.entry ((c.size_at.result, c.args.size) ∷ (c.addr_at.result, c.args.word) ∷ []) c.args.bytes.now (g.F.Folder.told c.args.f.now) (g.F.Folder.told c.args.f.now) (g.F.Folder.told c.update_record.new.f) refl
+    (λ image now. subst (λ (i : Image). c.args.bytes.now ≡ record_at i c.args.entry) (some_inj (sym there ∙ now)) read) c.update_record.ensures.prefix from there) in
+    passes_part P P part (quiet-sealed from c.args.entry (place_changes c.args.stream c.args.size c.args.word)) (λ image h. h)
+    (λ image now. subst (λ (i : Image). Along P i steps) (some_inj (sym there ∙ now))
+    (naming_moments c.args.files.now c.args.entry c.args.stream c.args.size c.args.word from c.requires.kind c.requires.stands c.requires.stream (c.requires.agrees from there) good))

@@ -60,7 +60,7 @@ returns-in_err-drop_stream-clause-untold g c can =
 pub loop-stream-preserved : goal.loop-stream-preserved
 loop-stream-preserved g c = record {
   has = next_has (g.F.Folder.told c.read_record.new.f) (g.F.Folder.told c.loop-stream.f) (g.F.Folder.told c.drop_stream.new.f) c.args.files.now c.args.entry c.loop-stream.stream c.loop-stream.bytes c.drop_stream.new.bytes c.loop-stream-test.true c.loop-stream.invariant.has
-      c.drop_stream.ensures.stops c.in_ok-drop_stream.ensures.dropped c.in_ok-drop_stream.ensures.read c.drop_stream.ensures.agrees c.drop_stream.ensures.silent c.drop_stream.ensures.size;
+      c.drop_stream.ensures.stops c.in_ok-drop_stream.ensures.dropped c.in_ok-drop_stream.ensures.read c.drop_stream.ensures.agrees c.drop_stream.ensures.silent c.drop_stream.ensures.long;
   later = let one = c.loop-stream.invariant.later in let other = c.drop_stream.ensures.later in omega (arith, one, other);
 }
 

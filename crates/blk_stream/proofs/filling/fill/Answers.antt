@@ -1,21 +1,24 @@
-use Rattle.std.proofs.Common.{ℕ, refl, Option, ap, subst, arith}
+use Rattle.std.proofs.Common.{◌≡◌, ℕ, refl, Option, None, ap, subst, arith}
 use Rattle.std.specs.Prelude.{length, unwrap_or}
 use Rattle.blk_image.proofs.Runs.{passes_end}
-use Rattle.blk_io.proofs.Carried.{silent_part, told_at_end}
+use Rattle.blk_io.proofs.Carried.{carried, if_damaged_weaker, silent_part, told_at_end}
 use Rattle.blk_entry.specs.Keys.{IsInFile}
 use Rattle.blk_stream.specs.Copying.{IsOldThere, ShareNoFile, old_spans}
 use Rattle.blk_stream.proofs.Copies.{there_kept}
-use Rattle.blk_stream.proofs.Fillings.{fill_done, new_passes, old_inside, old_passes, room_keeps, room_passes}
+use Rattle.blk_stream.proofs.Fillings.{fill_done, new_passes, none_before, old_inside, old_passes, room_keeps, room_passes}
 use Rattle.blk_stream.proofs.filling.fill.Goals as goal
 
 pub returns-in_err-make_room-clause-stops : goal.returns-in_err-make_room-clause-stops
 returns-in_err-make_room-clause-stops g c from there = room_passes c.args.files.now (unwrap_or c.args.old.addr 0) c.args.addr c.args.old.size c.args.size c.args.offset c.args.bytes.now (old_inside c.args.files.now c.args.old c.requires.old) c.requires.inside c.requires.few c.room_start-start.result c.room_start-start.ensures from (g.F.Folder.told c.args.f.now) (g.F.Folder.told c.make_room.new.f) there c.in_err-make_room.ensures.prefix
 
-pub copy_old-requires-clause-old_there : goal.copy_old-requires-clause-old_there
-copy_old-requires-clause-old_there g c =
-    told_at_end (g.F.Folder.told c.args.f.now).files (g.F.Folder.told c.make_room.new.f).files (IsOldThere c.args.old) (λ none. silent_part c.in_ok-make_room.ensures.prefix none)
-    (λ from there mid now v is.
-    room_keeps c.args.files.now (unwrap_or c.args.old.addr 0) c.args.addr c.args.old.size c.args.size c.args.offset c.args.bytes.now (old_inside c.args.files.now c.args.old c.requires.old) c.requires.inside c.requires.few c.room_start-start.result c.room_start-start.ensures from (g.F.Folder.told c.args.f.now) (g.F.Folder.told c.make_room.new.f) there v c.args.old.size (subst (λ (u : ℕ). ShareNoFile u c.args.addr) (ap (λ (o : Option ℕ). unwrap_or o 0) is) (c.requires.apart from there)) c.in_ok-make_room.ensures.steps (c.requires.old_there from there v is) mid now)
+pub returns-in_err-copy_old-clause-untold : goal.returns-in_err-copy_old-clause-untold
+returns-in_err-copy_old-clause-untold g c there apart =
+    carried c.copy_old.result c.from_residual-in_err-copy_old.result c.in_err-copy_old.field-0.0 (λ _. (g.F.Folder.told c.args.f.now).files ≡ None) c.in_err-copy_old.was c.from_residual-in_err-copy_old.ensures.1
+    (if_damaged_weaker c.copy_old.result _ _ (λ damage none. none_before c.in_ok-make_room.ensures.steps none)
+    (c.copy_old.ensures.untold
+    (told_at_end (g.F.Folder.told c.args.f.now).files (g.F.Folder.told c.make_room.new.f).files (IsOldThere c.args.old) (λ none. silent_part c.in_ok-make_room.ensures.prefix none)
+    (λ from here mid now v is.
+    room_keeps c.args.files.now (unwrap_or c.args.old.addr 0) c.args.addr c.args.old.size c.args.size c.args.offset c.args.bytes.now (old_inside c.args.files.now c.args.old c.requires.old) c.requires.inside c.requires.few c.room_start-start.result c.room_start-start.ensures from (g.F.Folder.told c.args.f.now) (g.F.Folder.told c.make_room.new.f) here v c.args.old.size (subst (λ (u : ℕ). ShareNoFile u c.args.addr) (ap (λ (o : Option ℕ). unwrap_or o 0) is) apart) c.in_ok-make_room.ensures.steps (there from here v is) mid now))))
 
 pub returns-in_err-copy_old-clause-stops : goal.returns-in_err-copy_old-clause-stops
 returns-in_err-copy_old-clause-stops g c from there = old_passes c.args.files.now (unwrap_or c.args.old.addr 0) c.args.addr c.args.old.size c.args.size c.args.offset c.args.bytes.now (old_inside c.args.files.now c.args.old c.requires.old) c.requires.inside c.requires.few c.room_start-start.result c.room_start-start.ensures from (g.F.Folder.told c.args.f.now) (g.F.Folder.told c.make_room.new.f) there (g.F.Folder.told c.copy_old.new.f) c.in_ok-make_room.ensures.steps c.in_err-copy_old.ensures.stops

@@ -41,11 +41,8 @@ returns-clause-stops g c from there apart =
 pub returns-clause-written : goal.returns-clause-written
 returns-clause-written g c =
     on_ok_weaker c.write_size.result
-    (λ grown from there apart.
+    (λ grown from there full apart.
     told_whole (WritesInside c.args.entry c.args.stream c.args.addr c.args.old c.args.size c.args.offset c.args.bytes.now from) (grows_then c.in_ok-write_here.ensures.steps grown)
     (λ image now. subst (λ (i : Image). WritesInside c.args.entry c.args.stream c.args.addr c.args.old c.args.size c.args.offset c.args.bytes.now from (after (inside_steps c.args.record_bytes.now c.args.entry c.args.stream c.args.addr c.args.old c.args.size c.args.offset c.args.bytes.now) i)) (some_inj (sym there ∙ now))
-    (written_inside c.args.files.now c.args.entry c.args.stream c.args.addr c.args.old c.args.size c.args.offset c.args.bytes.now c.requires.kind c.requires.stands c.requires.stream c.requires.inside c.requires.few apart from (c.requires.agrees from there) (c.requires.checks from there) (c.requires.long from there) c.args.record_bytes.now (c.requires.read from there) (omega (arith, c.ranges.size.fits)))))
+    (written_inside c.args.files.now c.args.entry c.args.stream c.args.addr c.args.old c.args.size c.args.offset c.args.bytes.now c.requires.kind c.requires.stands c.requires.stream c.requires.inside c.requires.few apart from (c.requires.agrees from there) (c.requires.checks from there) full c.args.record_bytes.now (c.requires.read from there) (omega (arith, c.ranges.size.fits)))))
     c.write_size.ensures.steps
-
-pub write_here-requires-clause-external : goal.write_here-requires-clause-external
-write_here-requires-clause-external g c image there kind = let h = c.requires.long image there kind in omega (arith, h)

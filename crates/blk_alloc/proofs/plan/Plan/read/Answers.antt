@@ -11,20 +11,20 @@ use Rattle.blk_alloc.specs.Counting.{IsAtEnd}
 use Rattle.blk_alloc.specs.Owning.{IsCause}
 use Rattle.blk_format.specs.Maps.{longest_run}
 use Rattle.blk_addr.specs.Bits.{has_bit}
-use Rattle.blk_alloc.specs.Changes.{IsReady, with_marks}
+use Rattle.blk_alloc.specs.Changes.{CanChangeMarks, with_marks}
 use Rattle.blk_alloc.proofs.Plans.{may_move, plan_is, run_before}
 use Rattle.blk_alloc.proofs.plan.Plan.read.Goals as goal
 
 pub returns-in_err-counters-clause-untold : goal.returns-in_err-counters-clause-untold
 returns-in_err-counters-clause-untold g c =
     carried c.read.result c.from_residual.result c.in_err-counters.field-0.0 _ c.in_err-counters.was c.from_residual.ensures.1
-    (if_damaged c.read.result (ForSome (g.F.Folder.told c.args.f.now).files (λ image. IsReady image c.args.file c.args.start c.args.count c.args.used)) (λ _. (g.F.Folder.told c.args.f.now).files ≡ None)
+    (if_damaged c.read.result (ForSome (g.F.Folder.told c.args.f.now).files (λ image. CanChangeMarks image c.args.file c.args.start c.args.count c.args.used)) (λ _. (g.F.Folder.told c.args.f.now).files ≡ None)
     (λ ready. untold_if c.read.result (g.F.Folder.told c.args.f.now) (names.Block c.args.file) 0 80 c.read.ensures.short (λ image there. let long = (ready image there).header in omega (arith, long))))
 
 pub returns-in_err-read_exact-clause-untold : goal.returns-in_err-read_exact-clause-untold
 returns-in_err-read_exact-clause-untold g c =
     carried c.read_exact.result c.from_residual-in_err-read_exact.result c.in_err-read_exact.field-0.0 _ c.in_err-read_exact.was c.from_residual-in_err-read_exact.ensures.1
-    (if_damaged c.read_exact.result (ForSome (g.F.Folder.told c.args.f.now).files (λ image. IsReady image c.args.file c.args.start c.args.count c.args.used)) (λ _. (g.F.Folder.told c.args.f.now).files ≡ None)
+    (if_damaged c.read_exact.result (ForSome (g.F.Folder.told c.args.f.now).files (λ image. CanChangeMarks image c.args.file c.args.start c.args.count c.args.used)) (λ _. (g.F.Folder.told c.args.f.now).files ≡ None)
     (λ ready. let stays = c.in_ok-counters.ensures.stays in
     let none = untold_if c.read_exact.result (g.F.Folder.told c.read.new.f) (names.Block c.args.file) (80 + 4 * c.from.result) 4 c.read_exact.ensures.short
     (λ image there. let is = ready image (ap (λ (t : Told). t.files) (sym stays) ∙ there) in let long = is.header in let below = is.below in let most = is.most in let place = c.from.ensures in omega (arith, long, place, below, most, c.requires.some)) in
@@ -33,7 +33,7 @@ returns-in_err-read_exact-clause-untold g c =
 pub returns-in_err-counters-2-clause-untold : goal.returns-in_err-counters-2-clause-untold
 returns-in_err-counters-2-clause-untold g c =
     carried c.moved.result c.from_residual-in_err-counters-2.result c.in_err-counters-2.field-0.0 _ c.in_err-counters-2.was c.from_residual-in_err-counters-2.ensures.1
-    (if_damaged_weaker c.moved.result _ (λ _. ForSome (g.F.Folder.told c.args.f.now).files (λ image. IsReady image c.args.file c.args.start c.args.count c.args.used) → (g.F.Folder.told c.args.f.now).files ≡ None)
+    (if_damaged_weaker c.moved.result _ (λ _. ForSome (g.F.Folder.told c.args.f.now).files (λ image. CanChangeMarks image c.args.file c.args.start c.args.count c.args.used) → (g.F.Folder.told c.args.f.now).files ≡ None)
     (λ damage never ready. untold_where (g.F.Folder.told c.args.f.now).files
     (λ image there.
     let place : 80 + 4 * c.from.result ≡ 80 + 4 * (c.args.start / 32) = ap (λ (k : ℕ). 80 + 4 * k) c.from.ensures in

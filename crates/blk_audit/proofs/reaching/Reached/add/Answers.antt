@@ -1,6 +1,6 @@
 use Rattle.std.proofs.Common.{◌≡◌, ℕ, ◌++◌, ◌∷◌, [], Bool, true, false, map, not, sym, ap, subst, ◌∙◌, if◌then◌else◌}
 use Rattle.blk_addr.specs.Claims.{IsClaimsOf, is_claimed}
-use Rattle.blk_audit.specs.Chaining.{first_of}
+use Rattle.blk_audit.specs.Chaining.{first_block_of}
 use Rattle.blk_audit.proofs.FirstBlocks.{claimed_first, map_last}
 use Rattle.blk_audit.proofs.reaching.Reached.add.Goals as goal
 
@@ -8,8 +8,8 @@ pub returns-clause-reached : goal.returns-clause-reached
 returns-clause-reached c =
     let fresh : is_claimed c.args.self.now.met c.first_of_record.result ≡ false = ap (is_claimed c.args.self.now.met) c.first_of_record.ensures ∙ claimed_first c.args.self.now c.args.addr c.requires.reached ∙ c.requires.fresh in
     let added : c.in_ok-add.field-0 ≡ true = c.in_ok-add.ensures.told ∙ ap not fresh in
-    let claims : IsClaimsOf c.add.new.self (map first_of c.args.self.now.words.items ++ c.first_of_record.result ∷ []) =
-    subst (λ (t : Bool). IsClaimsOf c.add.new.self (map first_of c.args.self.now.words.items ++ (if t then c.first_of_record.result ∷ [] else []))) added (c.in_ok-add.ensures.listed (map first_of c.args.self.now.words.items) c.requires.reached) in
+    let claims : IsClaimsOf c.add.new.self (map first_block_of c.args.self.now.words.items ++ c.first_of_record.result ∷ []) =
+    subst (λ (t : Bool). IsClaimsOf c.add.new.self (map first_block_of c.args.self.now.words.items ++ (if t then c.first_of_record.result ∷ [] else []))) added (c.in_ok-add.ensures.listed (map first_block_of c.args.self.now.words.items) c.requires.reached) in
     subst (IsClaimsOf c.add.new.self)
-    (ap (λ (w : ℕ). map first_of c.args.self.now.words.items ++ w ∷ []) c.first_of_record.ensures ∙ sym (ap (map first_of) c.in_ok-push.ensures.items ∙ map_last first_of c.args.self.now.words.items c.args.addr))
+    (ap (λ (w : ℕ). map first_block_of c.args.self.now.words.items ++ w ∷ []) c.first_of_record.ensures ∙ sym (ap (map first_block_of) c.in_ok-push.ensures.items ∙ map_last first_block_of c.args.self.now.words.items c.args.addr))
     claims

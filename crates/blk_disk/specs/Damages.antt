@@ -1,0 +1,29 @@
+-- Why a record can't be used, or a word that is to name a node.
+use Rattle.std.specs.Prelude.{ℕ, ◌≡◌, ◌⊎◌, false}
+use Rattle.std.specs.Option.{ForSome}
+use Rattle.blk_image.specs.Image.{word}
+use Rattle.blk_image.specs.Told.{Told}
+use Rattle.blk_format.specs.Address.{file_selector, place}
+use Rattle.blk_io.specs.declared.folder.FileId.{FileId}
+use Rattle.blk_io.specs.declared.folder.FileId.TheVariants as names
+use Rattle.blk_io.specs.declared.fault.Damage.{Damage}
+use Rattle.blk_io.specs.FileNames.{file_of}
+use Rattle.blk_io.specs.Faults.{IsShort}
+use Rattle.blk_disk.specs.declared.tables.BlockFiles.{BlockFiles}
+use Rattle.blk_disk.specs.Tables.{is_node_among}
+use Rattle.blk_disk.specs.Unsealed.{IsUnsealed}
+
+-- a record of so many bytes was read: too few were given, or it doesn't check
+abbrev pub IsFailedRecord : Told → (w size : ℕ) → Damage → Type 0
+IsFailedRecord told w size damage = IsShort told (names.Block (file_selector w)) (place w) size damage ⊎ IsUnsealed told w damage
+
+-- the word at a place of a file was to name a node, and doesn't: the damage has the place, and finds the word
+pub record NamesNoNode (files : BlockFiles) (told : Told) (file : FileId) (at : ℕ) (damage : Damage) : Type 0 where
+  pub of_file : damage.file ≡ file
+  pub at_place : damage.at ≡ at
+  pub unlike : is_node_among files damage.found ≡ false
+  pub there : ForSome told.files (λ image. damage.found ≡ word image (file_of file) at)
+
+-- a word was read that is to name a node: its bytes are too few, or it names none
+abbrev pub IsNodeWordDamage : BlockFiles → Told → FileId → (at : ℕ) → Damage → Type 0
+IsNodeWordDamage files told file at damage = IsShort told file at 4 damage ⊎ NamesNoNode files told file at damage

@@ -1,0 +1,13 @@
+//! The tests of the crates of entries: records and keys, the use list, chains, the reading half of the audit.
+#![tactic(auto)]
+
+#[cfg(test)]
+mod audit;
+#[cfg(test)]
+mod chain;
+#[cfg(test)]
+mod chain_told;
+#[cfg(test)]
+mod entry;
+#[cfg(test)]
+mod lru;

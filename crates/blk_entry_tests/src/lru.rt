@@ -1,0 +1,657 @@
+// The use list of three nodes in a folder in memory, that tells nothing or all.
+ghost use Rattle.std.specs.Prelude.{IfOk, IfSome, IsTrue};
+ghost use Rattle.std.specs.Option.{ForSome};
+ghost use Rattle.blk_disk.specs.Tables.{is_node_among};
+ghost use Rattle.blk_disk.specs.Open.{IsOpen};
+
+use blk_addr::Addr;
+use blk_disk::BlockFiles;
+use blk_io::{
+    Damage, Failed, Fault, FileId, Folder, MemFolder, SilentFolder, StopFolder, read_exact,
+    read_word, write_word,
+};
+use blk_lru::{after, before, complete, first, insert_front, last, pending, remove, touch};
+use blk_record::{IndexHead, NodeView, Record};
+use std::alloc::Global;
+use std::test::Fail;
+
+const MAGIC: u32 = 0xC104_CAC3;
+
+const INDEX_LEN: usize = 262512;
+
+const NODES_LEN: usize = 45056;
+
+const SIZES: [u32; 4] = [36, 256, 1024, 4096];
+
+const NODES: [u32; 3] = [0x9000_0000, 0x9000_0001, 0x9000_0002];
+
+// The place of the first node, the bytes of a node, and the place of its seal.
+const NODES_AT: u64 = 8192;
+
+const NODE_LEN: usize = 36;
+
+const SEAL: u32 = 32;
+
+// The moment of a touch, and the four words of the times that it sets.
+const MOMENT: u64 = 0x0123_4567_89AB_CDEF;
+
+const TIMES: [u32; 4] = [0x89AB_CDEF, 0x0123_4567, 0x89AB_CDEF, 0x0123_4567];
+
+// A folder in memory that stops, and tells nothing.
+type Silent = SilentFolder<StopFolder>;
+
+// Lets so many steps pass.
+fn stopping(inner: MemFolder, steps: u64) -> Silent {
+    SilentFolder::new(StopFolder::new(inner, steps))
+}
+
+// The folder with what was written, where so many more steps pass.
+fn again(f: Silent, steps: u64) -> Silent {
+    stopping(f.into_inner().into_inner(), steps)
+}
+
+// A block file with these words at its front.
+fn block_file(alloc: Global, words: &[u32]) -> Result<Vec<u8>, Fail> {
+    let mut bytes = Vec::new(alloc);
+    bytes.resize(NODES_LEN, 0)?;
+    let front = words.iter().flat_map(|word| word.to_le_bytes());
+    for (slot, byte) in bytes.iter_mut().zip(front) {
+        *slot = byte;
+    }
+    Ok(bytes)
+}
+
+// The words of the header of a block file, of which the first has nodes.
+fn header(number: u32, size: u32) -> [u32; 6] {
+    let blocks = if number == 0 { 1024 } else { 0 };
+    [MAGIC, 0x20000, number, size, 0, blocks]
+}
+
+// A folder with an index of zeros and four block files, which tells its files.
+fn telling(alloc: Global) -> Result<MemFolder, Fail> {
+    let mut f = MemFolder::new(alloc);
+    let mut index = Vec::new(alloc);
+    index.resize(INDEX_LEN, 0)?;
+    f.add_file(FileId::Index, &index)?;
+    let first = block_file(alloc, &header(0, 36))?;
+    f.add_file(FileId::Block(0), &first)?;
+    let second = block_file(alloc, &header(1, 256))?;
+    f.add_file(FileId::Block(1), &second)?;
+    let third = block_file(alloc, &header(2, 1024))?;
+    f.add_file(FileId::Block(2), &third)?;
+    let fourth = block_file(alloc, &header(3, 4096))?;
+    f.add_file(FileId::Block(3), &fourth)?;
+    Ok(f)
+}
+
+// Such a folder, which tells nothing.
+fn folder(alloc: Global) -> Result<Silent, Failed> {
+    let mut f = stopping(MemFolder::without_trail(alloc), u64::MAX);
+    f.set_len(FileId::Index, INDEX_LEN as u64)?;
+    for (n, size) in SIZES.iter().enumerate() {
+        let file = FileId::Block(n as u8);
+        f.set_len(file, NODES_LEN as u64)?;
+        for (i, word) in header(n as u32, *size).iter().enumerate() {
+            f.write_at(file, 4 * i as u64, &word.to_le_bytes())?;
+        }
+    }
+    Ok(f)
+}
+
+// The place of a word of a node.
+fn place_of(word: u32, at: u32) -> u64 {
+    NODES_AT + 36 * u64::from(word % 0x1_0000) + u64::from(at)
+}
+
+// A word of a node.
+fn node_word<F: Folder>(f: &mut F, word: u32, at: u32) -> Result<u32, Fault> {
+    read_word(f, FileId::Block(0), place_of(word, at))
+}
+
+// The head, the tail, the transaction and the operation, and the next and the prev of each node.
+fn shown<F: Folder>(f: &mut F) -> Result<([u32; 4], [u32; 3], [u32; 3]), Fault> {
+    let mut words = [0; 4];
+    for (slot, at) in words.iter_mut().zip([
+        IndexHead::HEADS,
+        IndexHead::TAILS,
+        IndexHead::TRANSACTION,
+        IndexHead::OPERATION,
+    ]) {
+        *slot = read_word(f, FileId::Index, at)?;
+    }
+    let mut nexts = [0; 3];
+    let mut prevs = [0; 3];
+    for (slot, node) in nexts.iter_mut().zip(NODES) {
+        *slot = node_word(f, node, NodeView::NEXT)?;
+    }
+    for (slot, node) in prevs.iter_mut().zip(NODES) {
+        *slot = node_word(f, node, NodeView::PREV)?;
+    }
+    Ok((words, nexts, prevs))
+}
+
+// The words of a node's times.
+fn times<F: Folder>(f: &mut F, node: u32) -> Result<[u32; 4], Fault> {
+    let mut words = [0; 4];
+    for (slot, at) in words.iter_mut().zip([0, 4, 8, 12]) {
+        *slot = node_word(f, node, at)?;
+    }
+    Ok(words)
+}
+
+// The links and the seal of a node.
+#[derive(Clone, Copy)]
+struct Node {
+    next: u32,
+    prev: u32,
+    seal: u32,
+}
+
+// A node, where it checks.
+fn checked<F: Folder>(f: &mut F, word: u32) -> Result<Option<Node>, Fault> {
+    let mut window = [0; NODE_LEN];
+    read_exact(f, FileId::Block(0), place_of(word, 0), &mut window)?;
+    let Some(view) = NodeView::over(&window) else {
+        return Ok(None);
+    };
+    if !view.checks() {
+        return Ok(None);
+    }
+    Ok(Some(Node {
+        next: view.word(NodeView::NEXT as usize),
+        prev: view.word(NodeView::PREV as usize),
+        seal: view.word(SEAL as usize),
+    }))
+}
+
+// Whether each of these nodes checks by a seal that isn't 0.
+fn are_sealed<F: Folder>(f: &mut F, nodes: &[u32]) -> Result<bool, Fault> {
+    for word in nodes {
+        let Some(node) = checked(f, *word)? else {
+            return Ok(false);
+        };
+        if node.seal == 0 {
+            return Ok(false);
+        }
+    }
+    Ok(true)
+}
+
+// A change of the list.
+#[derive(Clone, Copy)]
+enum Change {
+    Insert,
+    Remove,
+    Touch,
+}
+
+// Makes a change by the node of a word, where that one stands.
+fn change_list(f: &mut Silent, files: &BlockFiles, change: Change, word: u32) -> Result<(), Fault> {
+    let Some(node) = files.node(word) else {
+        return Ok(());
+    };
+    match change {
+        Change::Insert => insert_front(f, files, node),
+        Change::Remove => remove(f, files, node),
+        Change::Touch => touch(f, files, node, MOMENT),
+    }
+}
+
+// The number of folder calls of a change.
+fn calls_of(f: &mut Silent, files: &BlockFiles, change: Change, word: u32) -> Result<u64, Fault> {
+    let start = f.calls();
+    change_list(f, files, change, word)?;
+    Ok(f.calls().wrapping_sub(start))
+}
+
+// A folder whose list has these nodes, the last of them in front.
+fn listing(alloc: Global, listed: &[u32]) -> Result<(Silent, BlockFiles), Fail> {
+    let mut f = folder(alloc)?;
+    let files = BlockFiles::load(&mut f)?;
+    for word in listed {
+        change_list(&mut f, &files, Change::Insert, *word)?;
+    }
+    Ok((f, files))
+}
+
+// Such a folder, with a change of which so many steps pass.
+fn stopped(
+    alloc: Global,
+    listed: &[u32],
+    change: Change,
+    word: u32,
+    steps: u64,
+) -> Result<(Silent, BlockFiles), Fail> {
+    let (f, files) = listing(alloc, listed)?;
+    let mut f = again(f, steps);
+    let _ = change_list(&mut f, &files, change, word);
+    Ok((f, files))
+}
+
+// The nodes of three words, where all stand.
+fn three(files: &BlockFiles) -> Option<(Addr, Addr, Addr)>
+    ensures first { IfSome result (λ nodes. IsTrue (is_node_among files.now nodes.0)) }
+    ensures second { IfSome result (λ nodes. IsTrue (is_node_among files.now nodes.1)) }
+    ensures third { IfSome result (λ nodes. IsTrue (is_node_among files.now nodes.2)) }
+{
+    let one = files.node(NODES[0])?;
+    let two = files.node(NODES[1])?;
+    let three = files.node(NODES[2])?;
+    Some((one, two, three))
+}
+
+#[test]
+fn three_nodes_are_inserted_one_is_touched_and_one_removed(rt: HostRuntime) -> Result<(), Fail> {
+    let [zero, one, two] = NODES;
+    let (mut f, files) = listing(rt.alloc(), &NODES)?;
+    assert_eq!(rt; change_list(&mut f, &files, Change::Touch, one), Ok(()));
+    let touched = ([one, zero, 0, 1], [zero, two, zero], [two, one, one]);
+    assert_eq!(rt; shown(&mut f), Ok(touched));
+    assert_eq!(rt; times(&mut f, one), Ok(TIMES));
+    assert_eq!(rt; change_list(&mut f, &files, Change::Remove, two), Ok(()));
+    let removed = ([one, zero, 0, 2], [zero, zero, 0], [one, one, one]);
+    assert_eq!(rt; shown(&mut f), Ok(removed));
+    Ok(())
+}
+
+#[test]
+fn reading_takes_one_call(rt: HostRuntime) -> Result<(), Fail> {
+    let (mut f, files) = listing(rt.alloc(), &NODES)?;
+    let Some((zero, one, two)) = three(&files) else {
+        panic!(rt; "the nodes stand");
+    };
+    let start = f.calls();
+    assert_eq!(rt; first(&mut f, &files), Ok(Some(two)));
+    assert_eq!(rt; f.calls().wrapping_sub(start), 1);
+    assert_eq!(rt; last(&mut f, &files), Ok(Some(zero)));
+    assert_eq!(rt; f.calls().wrapping_sub(start), 2);
+    assert_eq!(rt; before(&mut f, &files, one), Ok(Some(two)));
+    assert_eq!(rt; f.calls().wrapping_sub(start), 3);
+    assert_eq!(rt; after(&mut f, &files, one), Ok(Some(zero)));
+    assert_eq!(rt; f.calls().wrapping_sub(start), 4);
+    assert_eq!(rt; before(&mut f, &files, two), Ok(None));
+    assert_eq!(rt; after(&mut f, &files, zero), Ok(None));
+    Ok(())
+}
+
+#[test]
+fn changes_take_few_calls(rt: HostRuntime) -> Result<(), Fail> {
+    let [zero, one, two] = NODES;
+    let (mut f, files) = listing(rt.alloc(), &[zero, one])?;
+    assert_eq!(rt; calls_of(&mut f, &files, Change::Insert, two), Ok(17));
+    assert_eq!(rt; calls_of(&mut f, &files, Change::Touch, one), Ok(39));
+    assert_eq!(rt; calls_of(&mut f, &files, Change::Remove, two), Ok(17));
+    Ok(())
+}
+
+// The nodes from the head on, as far as each checks and has the one before it as its previous one, and then zeros.
+fn walked<F: Folder>(f: &mut F) -> Result<[u32; 3], Fault> {
+    let mut order = [0; 3];
+    let mut word = read_word(f, FileId::Index, IndexHead::HEADS)?;
+    let mut before = word;
+    for slot in order.iter_mut() {
+        if word == 0 {
+            break;
+        }
+        let Some(node) = checked(f, word)? else {
+            break;
+        };
+        if node.prev != before {
+            break;
+        }
+        *slot = word;
+        before = word;
+        word = if node.next == word { 0 } else { node.next };
+    }
+    Ok(order)
+}
+
+// The walk once the operation in flight is completed, where completing is stopped after so many steps first, again and again.
+fn completed(f: Silent, files: &BlockFiles, stops: &[u64]) -> Result<[u32; 3], Fault> {
+    let mut f = f;
+    for steps in stops {
+        f = again(f, *steps);
+        let _ = complete(&mut f, files);
+    }
+    f = again(f, u64::MAX);
+    complete(&mut f, files)?;
+    walked(&mut f)
+}
+
+#[test]
+fn touch_stopped_after_each_word_leaves_the_old_order_or_the_new(
+    rt: HostRuntime,
+) -> Result<(), Fail> {
+    let [zero, one, two] = NODES;
+    for (word, new) in [
+        (two, [two, one, zero]),
+        (one, [one, two, zero]),
+        (zero, [zero, two, one]),
+    ] {
+        for steps in 0..30 {
+            let (f, files) = stopped(rt.alloc(), &NODES, Change::Touch, word, steps)?;
+            let order = if steps < 2 { [two, one, zero] } else { new };
+            assert_eq!(rt; completed(f, &files, &[]), Ok(order));
+        }
+    }
+    Ok(())
+}
+
+// Whether a change that is stopped once its node is named gives this order, where completing it is
+// stopped twice before so many steps.
+fn gives_twice(
+    alloc: Global,
+    listed: &[u32],
+    change: Change,
+    word: u32,
+    most: u64,
+    new: [u32; 3],
+) -> Result<bool, Fail> {
+    for first in 0..most {
+        for second in 0..most {
+            let (f, files) = stopped(alloc, listed, change, word, 2)?;
+            if completed(f, &files, &[first, second])? != new {
+                return Ok(false);
+            }
+        }
+    }
+    Ok(true)
+}
+
+#[test]
+fn completing_an_insert_or_a_removal_may_be_stopped_twice(rt: HostRuntime) -> Result<(), Fail> {
+    let [zero, one, two] = NODES;
+    let inserted = [two, one, zero];
+    let removed = [two, zero, 0];
+    assert!(rt; gives_twice(rt.alloc(), &NODES[..2], Change::Insert, two, 12, inserted)?);
+    assert!(rt; gives_twice(rt.alloc(), &NODES, Change::Remove, one, 12, removed)?);
+    Ok(())
+}
+
+#[test]
+fn completing_a_touch_may_be_stopped_twice(rt: HostRuntime) -> Result<(), Fail> {
+    let [zero, one, two] = NODES;
+    assert!(rt;
+        gives_twice(
+            rt.alloc(),
+            &NODES,
+            Change::Touch,
+            zero,
+            20,
+            [zero, two, one]
+        )?
+    );
+    Ok(())
+}
+
+#[test]
+fn written_nodes_are_sealed(rt: HostRuntime) -> Result<(), Fail> {
+    let [zero, one, two] = NODES;
+    for (listed, change, word) in [
+        (&NODES[..2], Change::Insert, two),
+        (&NODES[..], Change::Remove, one),
+        (&NODES[..], Change::Touch, zero),
+    ] {
+        let (mut f, _) = stopped(rt.alloc(), listed, change, word, u64::MAX)?;
+        assert_eq!(rt; are_sealed(&mut f, &NODES), Ok(true));
+    }
+    Ok(())
+}
+
+#[test]
+fn completing_seals_the_nodes_of_the_list(rt: HostRuntime) -> Result<(), Fail> {
+    let [zero, one, two] = NODES;
+    let left = [zero, two];
+    for (listed, change, word, new) in [
+        (&NODES[..2], Change::Insert, two, &NODES[..]),
+        (&NODES[..], Change::Remove, one, &left[..]),
+        (&NODES[..], Change::Touch, zero, &NODES[..]),
+    ] {
+        for steps in 2..22 {
+            let (f, files) = stopped(rt.alloc(), listed, change, word, steps)?;
+            let mut f = again(f, u64::MAX);
+            assert_eq!(rt; complete(&mut f, &files), Ok(()));
+            assert_eq!(rt; are_sealed(&mut f, new), Ok(true));
+        }
+    }
+    Ok(())
+}
+
+// A folder whose list has the three nodes, with an operation in flight on a node; another one, if it is given, has a wrong seal.
+fn in_flight(
+    alloc: Global,
+    transaction: u32,
+    operation: u32,
+    broken: Option<u32>,
+) -> Result<(Silent, BlockFiles), Fail> {
+    let (mut f, files) = listing(alloc, &NODES)?;
+    write_word(&mut f, FileId::Index, IndexHead::OPERATION, operation)?;
+    write_word(&mut f, FileId::Index, IndexHead::TRANSACTION, transaction)?;
+    if let Some(node) = broken {
+        let seal = 1u32.to_le_bytes();
+        f.write_at(FileId::Block(0), place_of(node, SEAL), &seal)?;
+    }
+    Ok((f, files))
+}
+
+#[test]
+fn operation_that_does_not_count_is_given_up(rt: HostRuntime) -> Result<(), Fail> {
+    let [zero, one, two] = NODES;
+    for (transaction, operation, broken, calls) in [
+        (0x9000_0400, 1, None, 2),
+        (0x1234, 3, None, 2),
+        (one, 4, None, 4),
+        (zero, 0, None, 4),
+        (one, 2, Some(one), 3),
+        (zero, 1, Some(two), 6),
+        (one, 2, Some(zero), 5),
+    ] {
+        let (mut f, files) = in_flight(rt.alloc(), transaction, operation, broken)?;
+        let (_, nexts, prevs) = shown(&mut f)?;
+        let start = f.calls();
+        assert_eq!(rt; complete(&mut f, &files), Ok(()));
+        assert_eq!(rt; f.calls().wrapping_sub(start), calls);
+        assert_eq!(rt;
+            shown(&mut f),
+            Ok(([two, zero, 0, operation], nexts, prevs))
+        );
+    }
+    Ok(())
+}
+
+#[test]
+fn completing_takes_few_calls(rt: HostRuntime) -> Result<(), Fail> {
+    let (f, files) = stopped(rt.alloc(), &NODES, Change::Touch, NODES[1], 2)?;
+    let mut f = again(f, u64::MAX);
+    let start = f.calls();
+    assert_eq!(rt; complete(&mut f, &files), Ok(()));
+    assert_eq!(rt; f.calls().wrapping_sub(start), 34);
+    assert_eq!(rt; complete(&mut f, &files), Ok(()));
+    assert_eq!(rt; f.calls().wrapping_sub(start), 35);
+    Ok(())
+}
+
+// A call of the crate.
+#[derive(Clone, Copy)]
+enum Call {
+    First,
+    Last,
+    Before,
+    After,
+    Insert,
+    Remove,
+    Touch,
+    Pending,
+    Complete,
+}
+
+// What a call answers, where its node stands.
+fn outcome(f: &mut Silent, files: &BlockFiles, call: Call, word: u32) -> Result<(), Fault> {
+    let Some(node) = files.node(word) else {
+        return Ok(());
+    };
+    match call {
+        Call::First => first(f, files).map(|_| ()),
+        Call::Last => last(f, files).map(|_| ()),
+        Call::Before => before(f, files, node).map(|_| ()),
+        Call::After => after(f, files, node).map(|_| ()),
+        Call::Insert => insert_front(f, files, node),
+        Call::Remove => remove(f, files, node),
+        Call::Touch => touch(f, files, node, MOMENT),
+        Call::Pending => pending(f, files).map(|_| ()),
+        Call::Complete => complete(f, files),
+    }
+}
+
+// What a call on node 1 of three listed ones answers, where a word of a file is another one.
+fn with_word(
+    alloc: Global,
+    call: Call,
+    file: FileId,
+    at: u64,
+    word: u32,
+) -> Result<Result<(), Fault>, Fail> {
+    let (mut f, files) = listing(alloc, &NODES)?;
+    f.write_at(file, at, &word.to_le_bytes())?;
+    Ok(outcome(&mut f, &files, call, NODES[1]))
+}
+
+// And where a file is cut.
+fn cut(alloc: Global, call: Call, file: FileId, size: u64) -> Result<Result<(), Fault>, Fail> {
+    let (mut f, files) = listing(alloc, &NODES)?;
+    write_word(&mut f, FileId::Index, IndexHead::TRANSACTION, NODES[1])?;
+    f.set_len(file, size)?;
+    Ok(outcome(&mut f, &files, call, NODES[1]))
+}
+
+#[test]
+fn words_that_name_no_node_are_damages(rt: HostRuntime) -> Result<(), Fail> {
+    let nodes = FileId::Block(0);
+    let prev = place_of(NODES[1], NodeView::PREV);
+    let next = place_of(NODES[1], NodeView::NEXT);
+    for (call, file, at) in [
+        (Call::First, FileId::Index, IndexHead::HEADS),
+        (Call::Last, FileId::Index, IndexHead::TAILS),
+        (Call::Before, nodes, prev),
+        (Call::After, nodes, next),
+        (Call::Insert, FileId::Index, IndexHead::HEADS),
+        (Call::Remove, nodes, prev),
+        (Call::Remove, nodes, next),
+        (Call::Touch, FileId::Index, IndexHead::HEADS),
+        (Call::Touch, nodes, prev),
+    ] {
+        let found = 0x9000_0400;
+        let damage = Fault::Damaged(Damage { file, at, found });
+        assert_eq!(rt; with_word(rt.alloc(), call, file, at, found)?, Err(damage));
+    }
+    Ok(())
+}
+
+#[test]
+fn links_of_a_node_that_is_not_listed_are_damages(rt: HostRuntime) -> Result<(), Fail> {
+    let file = FileId::Block(0);
+    let at = place_of(NODES[1], NodeView::NEXT);
+    for call in [Call::After, Call::Remove, Call::Touch] {
+        let damage = Fault::Damaged(Damage { file, at, found: 0 });
+        assert_eq!(rt; with_word(rt.alloc(), call, file, at, 0)?, Err(damage));
+    }
+    Ok(())
+}
+
+#[test]
+fn nodes_that_do_not_check_are_not_written(rt: HostRuntime) -> Result<(), Fail> {
+    let file = FileId::Block(0);
+    for (call, node) in [
+        (Call::Insert, NODES[1]),
+        (Call::Insert, NODES[2]),
+        (Call::Remove, NODES[0]),
+        (Call::Remove, NODES[1]),
+        (Call::Remove, NODES[2]),
+        (Call::Touch, NODES[1]),
+        (Call::Touch, NODES[2]),
+    ] {
+        let at = place_of(node, SEAL);
+        let damage = Fault::Damaged(Damage { file, at, found: 1 });
+        assert_eq!(rt; with_word(rt.alloc(), call, file, at, 1)?, Err(damage));
+    }
+    Ok(())
+}
+
+#[test]
+fn short_reads_are_damages(rt: HostRuntime) -> Result<(), Fail> {
+    let nodes = FileId::Block(0);
+    let node = place_of(NODES[1], 0);
+    for (call, file, at, found) in [
+        (Call::First, FileId::Index, IndexHead::HEADS, 3),
+        (Call::Last, FileId::Index, IndexHead::TAILS, 0),
+        (Call::Before, nodes, place_of(NODES[1], NodeView::PREV), 2),
+        (Call::After, nodes, place_of(NODES[1], NodeView::NEXT), 1),
+        (Call::Insert, FileId::Index, IndexHead::HEADS, 2),
+        (Call::Remove, nodes, place_of(NODES[1], NodeView::NEXT), 3),
+        (Call::Touch, FileId::Index, IndexHead::HEADS, 0),
+        (Call::Pending, FileId::Index, IndexHead::TRANSACTION, 2),
+        (Call::Pending, FileId::Index, IndexHead::OPERATION, 1),
+        (Call::Pending, nodes, node, 35),
+        (Call::Complete, nodes, node, 20),
+    ] {
+        let size = at.wrapping_add(u64::from(found));
+        let damage = Fault::Damaged(Damage { file, at, found });
+        assert_eq!(rt; cut(rt.alloc(), call, file, size)?, Err(damage));
+    }
+    Ok(())
+}
+
+// The block files of a folder whose index has its length.
+fn opened<F: Folder>(f: &mut F) -> Result<Option<BlockFiles>, Fault>
+    ensures is_open { IfOk result (λ files. IfSome files (λ files. ForSome (F.told f.new).files (IsOpen files))) }
+{
+    if f.length(FileId::Index)? != Some(INDEX_LEN as u64) {
+        return Ok(None);
+    }
+    let files = BlockFiles::load(f)?;
+    Ok(Some(files))
+}
+
+// Inserts three nodes, touches the last one, and takes the first two out but for that one.
+fn change_each<F: Folder>(f: &mut F) -> Result<Option<BlockFiles>, Fault>
+    ensures is_open { IfOk result (λ files. IfSome files (λ files. ForSome (F.told f.new).files (IsOpen files))) }
+{
+    let Some(files) = opened(f)? else {
+        return Ok(None);
+    };
+    let Some((zero, one, two)) = three(&files) else {
+        return Ok(None);
+    };
+    insert_front(f, &files, zero)?;
+    insert_front(f, &files, one)?;
+    insert_front(f, &files, two)?;
+    touch(f, &files, zero, MOMENT)?;
+    remove(f, &files, two)?;
+    complete(f, &files)?;
+    Ok(Some(files))
+}
+
+// Each call once, on a folder whose conditions are checked: the first, the last, those beside the nodes 0 and 1, and the number of pending writes.
+fn each_call<F: Folder>(f: &mut F) -> Result<Option<([Option<u32>; 4], usize)>, Fault> {
+    let Some(files) = change_each(f)? else {
+        return Ok(None);
+    };
+    let Some((zero, one, _)) = three(&files) else {
+        return Ok(None);
+    };
+    let pending = pending(f, &files)?.len();
+    let first = first(f, &files)?.map(|node| node.word());
+    let last = last(f, &files)?.map(|node| node.word());
+    let before = before(f, &files, one)?.map(|node| node.word());
+    let after = after(f, &files, zero)?.map(|node| node.word());
+    Ok(Some(([first, last, before, after], pending)))
+}
+
+#[test]
+fn each_call_on_a_folder_that_tells_its_files(rt: HostRuntime) -> Result<(), Fail> {
+    let [zero, one, _] = NODES;
+    let mut f = telling(rt.alloc())?;
+    let words = [Some(zero), Some(one), Some(zero), Some(one)];
+    assert_eq!(rt; each_call(&mut f), Ok(Some((words, 0))));
+    Ok(())
+}

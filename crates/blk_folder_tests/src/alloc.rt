@@ -1,0 +1,311 @@
+// Blocks are allocated and freed, and maps are rebuilt, in a folder in memory.
+ghost use Rattle.std.specs.Prelude.{◌≤◌, ◌<◌};
+
+use blk_addr::{Addr, Claims, Kind};
+use blk_alloc::{allocate, free, rebuild};
+use blk_disk::BlockFiles;
+use blk_io::{Damage, Failed, Fault, FileId, Folder, MemFolder, SilentFolder};
+use std::alloc::Global;
+use std::test::Fail;
+
+const MAGIC: u32 = 0xC104_CAC3;
+
+const HEADER_LEN: usize = 8192;
+
+const MAP: usize = 80;
+
+// Writes a word over bytes, where they have it.
+fn put_word(bytes: &mut [u8], at: usize, word: u32) {
+    for (slot, byte) in bytes.iter_mut().skip(at).zip(word.to_le_bytes()) {
+        *slot = byte;
+    }
+}
+
+// A block file in which so many bytes of the map are 0xFF, with these words, each at its place.
+fn file_with(
+    alloc: Global,
+    size: usize,
+    marked: usize,
+    words: &[(usize, u32)],
+) -> Result<Vec<u8>, Fail> {
+    let mut bytes = Vec::new(alloc);
+    bytes.resize(size, 0)?;
+    for byte in bytes.iter_mut().skip(MAP).take(marked) {
+        *byte = 0xFF;
+    }
+    for (at, word) in words {
+        put_word(&mut bytes, *at, *word);
+    }
+    Ok(bytes)
+}
+
+// The words of a header that aren't 0 in a file without blocks.
+fn fields(number: u32, entry_size: u32) -> [(usize, u32); 4] {
+    [(0, MAGIC), (4, 0x20000), (8, number), (12, entry_size)]
+}
+
+// A folder just made, but for its `data_1`, which has these bytes.
+fn folder_of(alloc: Global, second: &[u8]) -> Result<MemFolder, Fail> {
+    let mut f = MemFolder::new(alloc);
+    let first = file_with(alloc, HEADER_LEN, 0, &fields(0, 36))?;
+    f.add_file(FileId::Block(0), &first)?;
+    f.add_file(FileId::Block(1), second)?;
+    let third = file_with(alloc, HEADER_LEN, 0, &fields(2, 1024))?;
+    f.add_file(FileId::Block(2), &third)?;
+    let fourth = file_with(alloc, HEADER_LEN, 0, &fields(3, 4096))?;
+    f.add_file(FileId::Block(3), &fourth)?;
+    Ok(f)
+}
+
+// The words of the header of a `data_1` with so many blocks and allocations, and these counters of groups.
+fn header(blocks: u32, entries: u32, empty: [u32; 4]) -> [(usize, u32); 10] {
+    [
+        (0, MAGIC),
+        (4, 0x20000),
+        (8, 1),
+        (12, 256),
+        (16, entries),
+        (20, blocks),
+        (24, empty[0]),
+        (28, empty[1]),
+        (32, empty[2]),
+        (36, empty[3]),
+    ]
+}
+
+// A folder whose `data_1` has 1024 blocks and this first byte of the map, and says that it has so many
+// allocations, and 254 free groups.
+fn folder_with(alloc: Global, entries: u32, map: u32) -> Result<MemFolder, Fail> {
+    let mut second = file_with(
+        alloc,
+        HEADER_LEN + 1024 * 256,
+        0,
+        &header(1024, entries, [0, 0, 0, 254]),
+    )?;
+    put_word(&mut second, MAP, map);
+    folder_of(alloc, &second)
+}
+
+// Whether a block file has these words, each at its place.
+fn has_words<F: Folder>(f: &mut F, file: u8, words: &[(u64, u32)]) -> Result<bool, Failed> {
+    for (at, word) in words {
+        let mut bytes = [0; 4];
+        f.read_at(FileId::Block(file), *at, &mut bytes)?;
+        if u32::from_le_bytes(bytes) != *word {
+            return Ok(false);
+        }
+    }
+    Ok(true)
+}
+
+// Loads the block files, and gives the word of so many blocks of 256 bytes that are allocated.
+fn give<F: Folder>(f: &mut F, blocks: u32) -> Result<u32, Fault>
+    requires some { 0 < blocks }
+    requires few { blocks ≤ 4 }
+{
+    let mut files = BlockFiles::load(f)?;
+    let addr = allocate(f, &mut files, Kind::B256, blocks)?;
+    Ok(addr.word())
+}
+
+// Loads the block files, and frees the blocks of a word, where it is an address that stands.
+fn free_word<F: Folder>(f: &mut F, word: u32) -> Result<bool, Fault> {
+    let files = BlockFiles::load(f)?;
+    let Some(addr) = Addr::from_word(word) else {
+        return Ok(false);
+    };
+    if !files.stands(addr) {
+        return Ok(false);
+    }
+    free(f, &files, addr)?;
+    Ok(true)
+}
+
+// Loads the block files, and makes their maps those of claims.
+fn rebuild_all<F: Folder>(f: &mut F, claims: &Claims) -> Result<(), Fault> {
+    let mut files = BlockFiles::load(f)?;
+    rebuild(f, &mut files, claims)
+}
+
+#[test]
+fn blocks_lie_at_the_first_place_inside_a_group_and_are_freed(rt: HostRuntime) -> Result<(), Fail> {
+    let second = file_with(rt.alloc(), HEADER_LEN, 0, &fields(1, 256))?;
+    let mut f = folder_of(rt.alloc(), &second)?;
+    assert_eq!(rt; give(&mut f, 4), Ok(0xA301_0000));
+    let before = f.calls();
+    assert_eq!(rt; give(&mut f, 1), Ok(0xA001_0004));
+
+    // Eight calls load the files; one read of the map, and two reads and five writes for the marks.
+    assert_eq!(rt; f.calls().wrapping_sub(before), 8 + 8);
+    assert_eq!(rt; give(&mut f, 3), Ok(0xA201_0005));
+    assert_eq!(rt; f.length(FileId::Block(1)), Ok(Some(270_336)));
+    let given = [(16, 3), (20, 1024), (24, 0), (36, 254), (56, 0), (80, 0xFF)];
+    assert_eq!(rt; has_words(&mut f, 1, &given), Ok(true));
+
+    assert_eq!(rt; free_word(&mut f, 0xA001_0004), Ok(true));
+    let freed = [(16, 2), (24, 1), (36, 254), (56, 0), (80, 0xEF)];
+    assert_eq!(rt; has_words(&mut f, 1, &freed), Ok(true));
+    Ok(())
+}
+
+#[test]
+fn a_file_grows_where_none_has_room_and_one_is_added_where_none_may_grow(
+    rt: HostRuntime,
+) -> Result<(), Fail> {
+    let full = file_with(rt.alloc(), HEADER_LEN, 128, &header(1024, 256, [0; 4]))?;
+    let mut f = folder_of(rt.alloc(), &full)?;
+    assert_eq!(rt; give(&mut f, 2), Ok(0xA101_0400));
+    let grown = [(16, 257), (20, 2048), (28, 1), (36, 255)];
+    assert_eq!(rt; has_words(&mut f, 1, &grown), Ok(true));
+
+    let most = file_with(
+        rt.alloc(),
+        HEADER_LEN,
+        8112,
+        &header(64_896, 16_224, [0; 4]),
+    )?;
+    let mut f = folder_of(rt.alloc(), &most)?;
+    assert_eq!(rt; give(&mut f, 1), Ok(0xA004_0000));
+
+    // Eight reads of the map, four calls for the file and four for its growth, two reads and five writes for the marks.
+    assert_eq!(rt; f.calls(), 8 + 23);
+    assert_eq!(rt; has_words(&mut f, 1, &[(8, 0x4_0001)]), Ok(true));
+    let added = [(16, 1), (20, 1024), (32, 1), (36, 255), (80, 1)];
+    assert_eq!(rt; has_words(&mut f, 4, &added), Ok(true));
+    Ok(())
+}
+
+#[test]
+fn a_counter_at_its_end_is_a_damage(rt: HostRuntime) -> Result<(), Fail> {
+    // No allocation is counted; then no group with a longest free run of 3, as the freed block's group has it.
+    let file = FileId::Block(1);
+    let mut f = folder_with(rt.alloc(), 0, 0xFF)?;
+    let damage = Damage {
+        file,
+        at: 16,
+        found: 0,
+    };
+    assert_eq!(rt; free_word(&mut f, 0xA301_0000), Err(Fault::Damaged(damage)));
+    let mut f = folder_with(rt.alloc(), 2, 0xF1)?;
+    let damage = Damage {
+        file,
+        at: 32,
+        found: 0,
+    };
+    assert_eq!(rt; free_word(&mut f, 0xA001_0000), Err(Fault::Damaged(damage)));
+    assert_eq!(rt; has_words(&mut f, 1, &[(16, 2), (80, 0xF1)]), Ok(true));
+    Ok(())
+}
+
+// Whether each of some words is an address that joins the claims.
+fn add_words(claims: &mut Claims, words: &[u32]) -> bool {
+    for word in words {
+        let Some(addr) = Addr::from_word(*word) else {
+            return false;
+        };
+        let Ok(true) = claims.add(addr) else {
+            return false;
+        };
+    }
+    true
+}
+
+#[test]
+fn a_wrong_map_is_made_that_of_the_claims(rt: HostRuntime) -> Result<(), Fail> {
+    // The header is wrong but for its hints and its number of blocks, and the last block is cut.
+    let mut second = file_with(
+        rt.alloc(),
+        HEADER_LEN + 1000 * 256,
+        8112,
+        &header(1024, 77, [9, 0, 0, 9]),
+    )?;
+    put_word(&mut second, 40, 5);
+    put_word(&mut second, 52, 7);
+    let mut f = folder_of(rt.alloc(), &second)?;
+
+    // A whole group, a block that leaves runs of 1 and 2, two blocks that leave a run of 2, and an external file.
+    let mut claims = Claims::new(rt.alloc());
+    let words = [0xA301_0000, 0xA001_0005, 0xA101_0102, 0x8000_0001];
+    assert!(rt; add_words(&mut claims, &words));
+    assert_eq!(rt; rebuild_all(&mut f, &claims), Ok(()));
+
+    // Two reads of each file; of one its length, each word of its map, four counters, and updating twice.
+    assert_eq!(rt; f.calls(), 8 + 8 + 1 + 2028 + 4 + 2);
+    assert_eq!(rt; f.length(FileId::Block(1)), Ok(Some(270_336)));
+    let mut expected = file_with(rt.alloc(), HEADER_LEN, 0, &header(1024, 3, [0, 2, 0, 253]))?;
+    put_word(&mut expected, 40, 5);
+    put_word(&mut expected, 52, 7);
+    put_word(&mut expected, 80, 0x2F);
+    put_word(&mut expected, 112, 0x0C);
+    let mut found = Vec::new(rt.alloc());
+    found.resize(HEADER_LEN, 0)?;
+    f.read_at(FileId::Block(1), 0, &mut found)?;
+    assert!(rt; found == expected);
+
+    // Nothing is written where all are right: two reads of each file.
+    let before = f.calls();
+    assert_eq!(rt; rebuild_all(&mut f, &claims), Ok(()));
+    assert_eq!(rt; f.calls().wrapping_sub(before), 8 + 8);
+
+    // With a block more a word of the map differs, and three counters; updating is written twice.
+    assert!(rt; add_words(&mut claims, &[0xA001_0200]));
+    let before = f.calls();
+    assert_eq!(rt; rebuild_all(&mut f, &claims), Ok(()));
+    assert_eq!(rt; f.calls().wrapping_sub(before), 8 + 8 + 4 + 2);
+    Ok(())
+}
+
+// Loads the block files of a folder that tells nothing, cuts `data_1`, and allocates a block.
+fn give_cut(f: &mut SilentFolder<MemFolder>, length: u64) -> Result<u32, Fault> {
+    let mut files = BlockFiles::load(f)?;
+    f.set_len(FileId::Block(1), length)?;
+    let addr = allocate(f, &mut files, Kind::B256, 1)?;
+    Ok(addr.word())
+}
+
+// The same, and frees a word.
+fn free_cut(f: &mut SilentFolder<MemFolder>, length: u64, word: u32) -> Result<bool, Fault> {
+    let files = BlockFiles::load(f)?;
+    f.set_len(FileId::Block(1), length)?;
+    let Some(addr) = Addr::from_word(word) else {
+        return Ok(false);
+    };
+    if !files.stands(addr) {
+        return Ok(false);
+    }
+    free(f, &files, addr)?;
+    Ok(true)
+}
+
+#[test]
+fn a_map_that_is_too_short_is_a_damage_and_no_lack_of_room(rt: HostRuntime) -> Result<(), Fail> {
+    let full = file_with(rt.alloc(), HEADER_LEN, 128, &header(1024, 256, [0; 4]))?;
+    let mut f = SilentFolder::new(folder_of(rt.alloc(), &full)?);
+    let damage = Damage {
+        file: FileId::Block(1),
+        at: 80,
+        found: 20,
+    };
+    assert_eq!(rt; give_cut(&mut f, 100), Err(Fault::Damaged(damage)));
+    assert_eq!(rt; f.length(FileId::Block(1)), Ok(Some(100)));
+    Ok(())
+}
+
+#[test]
+fn a_header_that_is_too_short_is_a_damage(rt: HostRuntime) -> Result<(), Fail> {
+    // The word of the map that has blocks 4 to 7 is cut, and then the fields.
+    for (length, at, found) in [(82, 80, 2), (50, 0, 50)] {
+        let mut f = SilentFolder::new(folder_with(rt.alloc(), 3, 0xFF)?);
+        let damage = Damage {
+            file: FileId::Block(1),
+            at,
+            found,
+        };
+        assert_eq!(rt;
+            free_cut(&mut f, length, 0xA001_0004),
+            Err(Fault::Damaged(damage)),
+            "{length}"
+        );
+    }
+    Ok(())
+}

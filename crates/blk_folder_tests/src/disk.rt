@@ -1,0 +1,324 @@
+// Block files in a folder in memory.
+ghost use Rattle.std.specs.Prelude.{◌≡◌, IfOk};
+ghost use Rattle.std.specs.Option.{ForSome};
+ghost use Rattle.blk_disk.specs.Tables.{Agrees};
+
+use blk_addr::{Addr, Kind};
+use blk_disk::{BlockFiles, file_of, room_of};
+use blk_io::{Damage, Fault, FileId, Folder, MemFolder, SilentFolder, read_word};
+use std::alloc::Global;
+use std::test::Fail;
+
+const MAGIC: u32 = 0xC104_CAC3;
+
+const HEADER_LEN: usize = 8192;
+
+// A block file: its number, the next one, the bytes of a block and the number of blocks.
+type Header = (u8, u16, u32, u32);
+
+// The first four files, where file 2 leads to file 6 and that to file 4.
+const FILES: [Header; 6] = [
+    (0, 0, 36, 1024),
+    (1, 0, 256, 0),
+    (2, 6, 1024, 64896),
+    (3, 0, 4096, 0),
+    (6, 4, 1024, 1024),
+    (4, 0, 1024, 0),
+];
+
+// Writes a word over bytes, where they have it.
+fn put_word(bytes: &mut [u8], at: usize, word: u32) {
+    for (slot, byte) in bytes.iter_mut().skip(at).zip(word.to_le_bytes()) {
+        *slot = byte;
+    }
+}
+
+// The bytes of a header, with room for some blocks.
+fn bytes_of(alloc: Global, header: Header, size: usize) -> Result<Vec<u8>, Fail> {
+    let (number, next, entry_size, blocks) = header;
+    let mut bytes = Vec::new(alloc);
+    bytes.resize(size, 0)?;
+    let numbers = u32::from(number) + 0x1_0000 * u32::from(next);
+    for (at, word) in [
+        (0, MAGIC),
+        (4, 0x20000),
+        (8, numbers),
+        (12, entry_size),
+        (20, blocks),
+    ] {
+        put_word(&mut bytes, at, word);
+    }
+    Ok(bytes)
+}
+
+// A folder of these files, each of so many bytes.
+pub(crate) fn folder_of(alloc: Global, headers: &[Header], size: usize) -> Result<MemFolder, Fail> {
+    let mut f = MemFolder::new(alloc);
+    for header in headers {
+        let bytes = bytes_of(alloc, *header, size)?;
+        f.add_file(FileId::Block(header.0), &bytes)?;
+    }
+    Ok(f)
+}
+
+// The place and the word of the damage of a file, with which its folder is refused.
+fn damage_of(f: &mut MemFolder, file: u8) -> Option<(u64, u32)> {
+    match BlockFiles::load(f) {
+        Err(Fault::Damaged(damage)) if damage.file == FileId::Block(file) => Some((
+            damage.at,
+            damage.found,
+        )),
+        _ => None,
+    }
+}
+
+#[test]
+fn files_are_found_in_the_order_of_the_links(rt: HostRuntime) -> Result<(), Fail> {
+    let mut f = folder_of(rt.alloc(), &FILES, HEADER_LEN)?;
+    let Ok(files) = BlockFiles::load(&mut f) else {
+        panic!(rt; "the files are whole");
+    };
+    assert_eq!(rt; files.files(Kind::B1K), [2, 6, 4].as_slice());
+    assert_eq!(rt; files.max_entries(2), Some(64896));
+    assert_eq!(rt; files.max_entries(5), None);
+    Ok(())
+}
+
+// A folder in which file 6 has another word.
+fn with_word(alloc: Global, at: usize, word: u32) -> Result<MemFolder, Fail> {
+    let mut f = MemFolder::new(alloc);
+    for header in FILES {
+        let mut bytes = bytes_of(alloc, header, HEADER_LEN)?;
+        if header.0 == 6 {
+            put_word(&mut bytes, at, word);
+        }
+        f.add_file(FileId::Block(header.0), &bytes)?;
+    }
+    Ok(f)
+}
+
+#[test]
+fn each_check_of_a_header_names_its_word(rt: HostRuntime) -> Result<(), Fail> {
+    let cases = [
+        (0, 0xC103_CAC3),
+        (4, 0x20001),
+        (8, 0x0004_0005),
+        (8, 0x0001_0006),
+        (8, 0x0003_0006),
+        (8, 0x0006_0006),
+        (8, 0x0100_0006),
+        (12, 256),
+        (20, 1408),
+        (20, 65536),
+    ];
+    for (at, word) in cases {
+        let mut f = with_word(rt.alloc(), at, word)?;
+        assert_eq!(rt;
+            damage_of(&mut f, 6),
+            Some((at as u64, word)),
+            "{at} {word}"
+        );
+    }
+
+    // A file that ends inside its header, one that is missing, and one that was taken up before.
+    let mut f = folder_of(rt.alloc(), &FILES, HEADER_LEN - 1)?;
+    assert_eq!(rt; damage_of(&mut f, 0), Some((8192, 8191)));
+    let mut f = folder_of(rt.alloc(), &[FILES[0], FILES[1], FILES[3]], HEADER_LEN)?;
+    assert_eq!(rt; damage_of(&mut f, 2), Some((8192, 0)));
+    let mut headers = FILES;
+    headers[3] = (3, 6, 4096, 0);
+    let mut f = folder_of(rt.alloc(), &headers, HEADER_LEN)?;
+    assert_eq!(rt; damage_of(&mut f, 3), Some((8, 0x0006_0003)));
+    Ok(())
+}
+
+#[test]
+fn the_sixtieth_file_of_a_kind_has_no_next_one(rt: HostRuntime) -> Result<(), Fail> {
+    let alloc = rt.alloc();
+    let mut headers = Vec::new(alloc);
+    headers.push((0u8, 4u16, 36u32, 0u32))?;
+    for n in 4..63u8 {
+        headers.push((n, u16::from(n) + 1, 36, 0))?;
+    }
+    let mut f = folder_of(alloc, &headers, HEADER_LEN)?;
+    assert_eq!(rt; damage_of(&mut f, 62), Some((8, 0x003F_003E)));
+
+    // Without that link all sixty are taken up, and the next file is missing.
+    if let Some(last) = headers.last_mut() {
+        last.1 = 0;
+    }
+    let mut f = folder_of(alloc, &headers, HEADER_LEN)?;
+    assert_eq!(rt; damage_of(&mut f, 1), Some((8192, 0)));
+    Ok(())
+}
+
+// Loads the block files, writes bytes to the blocks of an address, and reads bytes of them.
+fn write_and_read<F: Folder>(
+    f: &mut F,
+    word: u32,
+    at: u32,
+    bytes: &[u8],
+    out: &mut [u8],
+) -> Result<bool, Fault> {
+    let files = BlockFiles::load(f)?;
+    let Some(addr) = Addr::from_word(word) else {
+        return Ok(false);
+    };
+    if !files.stands(addr) || at > 4096 || bytes.len() > 4096 || out.len() > 4096 {
+        return Ok(false);
+    }
+    let room = room_of(addr);
+    if u64::from(at) + bytes.len() as u64 > room || out.len() as u64 > room {
+        return Ok(false);
+    }
+    files.write_block(f, addr, at, bytes)?;
+    files.read_block(f, addr, 0, out)?;
+    Ok(file_of(addr) == FileId::Block(1))
+}
+
+#[test]
+fn bytes_are_written_over_the_end_of_a_block(rt: HostRuntime) -> Result<(), Fail> {
+    let headers = [FILES[0], (1, 0, 256, 1024), (2, 0, 1024, 0), FILES[3]];
+    let mut f = folder_of(rt.alloc(), &headers, HEADER_LEN + 1024)?;
+    let mut out = [7; 512];
+    let done = write_and_read(&mut f, 0xA101_0001, 254, b"abcd", &mut out);
+    assert_eq!(rt; done, Ok(true));
+    assert_eq!(rt; &out[252..260], b"\0\0abcd\0\0".as_slice());
+
+    // Block 3 is the last that ends inside the file.
+    let done = write_and_read(&mut f, 0xA001_0004, 0, b"z", &mut out);
+    assert_eq!(rt; done, Ok(false));
+    Ok(())
+}
+
+// Loads the block files and fits one of them, where it is linked.
+fn fit_file<F: Folder>(f: &mut F, file: u8) -> Result<bool, Fault> {
+    let mut files = BlockFiles::load(f)?;
+    if files.max_entries(file).is_none() {
+        return Ok(false);
+    }
+    files.fit(f, file)?;
+    Ok(true)
+}
+
+#[test]
+fn a_short_file_is_fitted_to_its_blocks(rt: HostRuntime) -> Result<(), Fail> {
+    let headers = [FILES[0], (1, 0, 256, 1024), (2, 0, 1024, 0), FILES[3]];
+    let mut f = folder_of(rt.alloc(), &headers, HEADER_LEN)?;
+    assert_eq!(rt; fit_file(&mut f, 1), Ok(true));
+    assert_eq!(rt; f.length(FileId::Block(1)), Ok(Some(270_336)));
+    Ok(())
+}
+
+// The first four files, with no blocks.
+const EMPTY: [Header; 4] = [
+    (0, 0, 36, 0),
+    (1, 0, 256, 0),
+    (2, 0, 1024, 0),
+    (3, 0, 4096, 0),
+];
+
+// Loads the block files and grows one of them, where it is linked and may grow.
+fn grow_file<F: Folder>(f: &mut F, file: u8) -> Result<bool, Fault> {
+    let mut files = BlockFiles::load(f)?;
+    let Some(blocks) = files.max_entries(file) else {
+        return Ok(false);
+    };
+    if blocks >= 64896 {
+        return Ok(false);
+    }
+    files.grow(f, file)?;
+    Ok(files.max_entries(file).is_some())
+}
+
+// A word of a block file, where the file has it.
+pub(crate) fn word_of(f: &mut MemFolder, file: u8, at: u64) -> Option<u32> {
+    read_word(f, FileId::Block(file), at).ok()
+}
+
+// A folder in which data_1 has so many blocks and this counter of empty groups.
+fn with_counter(alloc: Global, blocks: u32, empty: u32) -> Result<MemFolder, Fail> {
+    let mut f = MemFolder::new(alloc);
+    for header in [(0, 0, 36, 0), (1, 0, 256, blocks), EMPTY[2], EMPTY[3]] {
+        let mut bytes = bytes_of(alloc, header, HEADER_LEN)?;
+        if header.0 == 1 {
+            put_word(&mut bytes, 36, empty);
+        }
+        f.add_file(FileId::Block(header.0), &bytes)?;
+    }
+    Ok(f)
+}
+
+#[test]
+fn a_file_grows_by_1024_and_at_last_by_384_blocks(rt: HostRuntime) -> Result<(), Fail> {
+    // The counter is raised modulo 2^32, by 256 groups and then by 96.
+    let mut f = with_counter(rt.alloc(), 63488, 0xFFFF_FFFF)?;
+    assert_eq!(rt; grow_file(&mut f, 1), Ok(true));
+    assert_eq!(rt; word_of(&mut f, 1, 36), Some(255));
+    assert_eq!(rt; grow_file(&mut f, 1), Ok(true));
+    assert_eq!(rt; word_of(&mut f, 1, 36), Some(351));
+    assert_eq!(rt; word_of(&mut f, 1, 20), Some(64896));
+    assert_eq!(rt; f.length(FileId::Block(1)), Ok(Some(16_621_568)));
+    Ok(())
+}
+
+// Loads the block files and adds one of a kind, where it may have one more.
+fn add_to<F: Folder>(f: &mut F, kind: Kind) -> Result<Option<u8>, Fault> {
+    let mut files = BlockFiles::load(f)?;
+    if kind == Kind::External || files.count(kind) >= 60 {
+        return Ok(None);
+    }
+    let n = files.add_file(f, kind)?;
+    Ok(Some(n))
+}
+
+#[test]
+fn the_first_new_file_is_data_4(rt: HostRuntime) -> Result<(), Fail> {
+    // There is a file of that number that isn't linked.
+    let headers = [EMPTY[0], EMPTY[1], EMPTY[2], EMPTY[3], (4, 9, 4096, 77)];
+    let mut f = folder_of(rt.alloc(), &headers, 9000)?;
+    assert_eq!(rt; add_to(&mut f, Kind::B256), Ok(Some(4)));
+    assert_eq!(rt; word_of(&mut f, 1, 8), Some(0x0004_0001));
+    for (at, word) in [(0, MAGIC), (4, 0x20000), (8, 4), (12, 256), (20, 0)] {
+        assert_eq!(rt; word_of(&mut f, 4, at), Some(word), "{at}");
+    }
+    assert_eq!(rt; f.length(FileId::Block(4)), Ok(Some(8192)));
+    Ok(())
+}
+
+// Reads the first node in a folder that tells nothing, once its file has this length.
+fn read_cut(f: &mut SilentFolder<MemFolder>, length: u64) -> Result<bool, Fault> {
+    let files = BlockFiles::load(f)?;
+    let Some(addr) = files.node(0x9000_0000) else {
+        return Ok(false);
+    };
+    f.set_len(FileId::Block(0), length)?;
+    let mut out = [0; 36];
+    files.read_block(f, addr, 0, &mut out)?;
+    Ok(true)
+}
+
+#[test]
+fn too_few_bytes_are_a_damage(rt: HostRuntime) -> Result<(), Fail> {
+    let alloc = rt.alloc();
+    let file = FileId::Block(0);
+    let mut f = SilentFolder::new(folder_of(alloc, &FILES, HEADER_LEN + 36)?);
+    let at = HEADER_LEN as u64;
+    let found = 35;
+    assert_eq!(rt;
+        read_cut(&mut f, at + 35),
+        Err(Fault::Damaged(Damage { file, at, found }))
+    );
+
+    // Of a file that ends inside the fields of its header the length is the damage.
+    assert_eq!(rt; f.set_len(file, 79), Ok(()));
+    assert_eq!(rt;
+        BlockFiles::load(&mut f).err(),
+        Some(Fault::Damaged(Damage {
+            file,
+            at,
+            found: 79
+        }))
+    );
+    Ok(())
+}

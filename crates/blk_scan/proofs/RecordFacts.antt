@@ -1,0 +1,42 @@
+-- The words of a record by its bytes.
+use Rattle.std.proofs.Common.{◌≡◌, ◌+◌, ℕ, List, refl, arith}
+use Rattle.blk_image.specs.Bytes.{content, range_at, word_at}
+use Rattle.blk_image.specs.Image.{AreBytes, Block, Image, byte}
+use Rattle.blk_format.specs.Address.{blocks_256, file_selector, kind_of, place}
+use Rattle.blk_format.specs.Records.{entry_in}
+use Rattle.blk_volume.specs.View.{entry_at}
+use Rattle.blk_entry.specs.declared.keys.Head.{Head}
+use Rattle.blk_entry.proofs.KeyPlaces.{head_is, head_word}
+use Rattle.blk_audit.proofs.Shown.{said_is}
+use Rattle.blk_scan.specs.Records.{AreWordsOf, words_in}
+
+pub are_words : (image : Image) (w : ℕ) (window : List ℕ) → AreBytes image → kind_of w ≡ blocks_256 → window ≡ range_at (byte image (Block (file_selector w))) (place w + 0) 96 → AreWordsOf image w (words_in window)
+unfolding entry_in
+are_words image w window small kind is =
+    let said : Head = record {
+      hash = (words_in window).hash;
+      next = (words_in window).next;
+      node = (words_in window).node;
+      key_len = (words_in window).key_len;
+      long_key = (words_in window).long_key;
+      sizes = (words_in window).sizes;
+      addrs = (words_in window).addrs;
+      flags = (words_in window).flags;
+    } in
+    let head = head_is image w window said kind is refl refl refl refl refl refl refl refl in
+    let checks = said_is image w small kind window is in
+    let state : word_at (content window) 20 ≡ (entry_at image w).state = head_word image w 20 window kind (omega arith) is in
+    record {
+      fields = λ i. record {
+        checks = checks.checks i;
+        hash = head.hash i;
+        rankings_node = head.node i;
+        state = state i;
+        key_len = head.key_len i;
+        long_key = head.long_key i;
+        data_size = head.sizes i;
+        data_addr = head.addrs i;
+        flags = head.flags i;
+      };
+      next = head.next;
+    }

@@ -1,0 +1,8 @@
+// The laws of loaded records, the contract of a function with an empty body.
+ghost use Rattle.blk_scan.specs.KeptKeys.{LoadedIndexesAreFound, LoadedKeysAreFound};
+
+/// What is kept in memory of a loaded node leads to the key of its record, and to the index of a parent.
+pub fn loaded_keys_are_found()
+    ensures keys { LoadedKeysAreFound }
+    ensures indexes { LoadedIndexesAreFound }
+{}

@@ -1,0 +1,26 @@
+//! Which walked nodes of a cache folder are kept, and why the others are dropped.
+#![tactic(auto)]
+
+mod covers;
+mod keys;
+mod laws;
+mod loading;
+mod parts;
+mod reason;
+mod record_words;
+mod roles;
+mod same_keys;
+mod storage;
+mod streams;
+mod words;
+
+pub use laws::loaded_keys_are_found;
+pub use loading::{Loaded, Verdict, load, load_words};
+pub use parts::has_part;
+pub use reason::Reason;
+pub use record_words::{RecordWords, read_words};
+pub use roles::Role;
+pub use same_keys::has_this_key;
+
+#[cfg(test)]
+mod tests;

@@ -1,0 +1,88 @@
+// The words of a record, as they are read.
+ghost use Rattle.std.specs.Prelude.{◌≡◌, ◌≤◌, IfOk, IsTrue, None, OnOk, length};
+ghost use Rattle.std.specs.Option.{ForSome};
+ghost use Rattle.blk_image.specs.Image.{Block as block, HasRange};
+ghost use Rattle.blk_image.specs.Told.{Rises, Stays};
+ghost use Rattle.blk_format.specs.Address.{blocks_256, file_selector, kind_of, place};
+ghost use Rattle.blk_format.specs.Records.{entry_size};
+ghost use Rattle.blk_io.specs.declared.folder.FileId.TheVariants as FileId;
+ghost use Rattle.blk_io.specs.Faults.{IfDamaged, IfDevice, IsShort};
+ghost use Rattle.blk_disk.specs.Tables.{Agrees, stands_among};
+ghost use Rattle.blk_scan.specs.Records.{AreWordsOf, words_in};
+
+use blk_addr::Addr;
+use blk_disk::BlockFiles;
+use blk_entry::four_words;
+use blk_io::{Fault, Folder};
+use blk_record::{EntryView, Record};
+
+// The place of the state in a record.
+const STATE: usize = 20;
+
+/// The words of a record that say what it is, where its chain goes on, and whether it checks.
+#[derive(Clone, Copy, Debug)]
+pub struct RecordWords {
+    /// Whether its seal is 0 or the hash of the bytes before it.
+    pub checks: bool,
+    /// The hash of the key.
+    pub hash: u32,
+    /// The word of the next record in the chain, or 0.
+    pub next: u32,
+    /// The word of the rankings node.
+    pub node: u32,
+    /// 0 where the entry is live.
+    pub state: u32,
+    /// The number of the key's bytes.
+    pub key_len: u32,
+    /// The word of the storage of a long key, or 0.
+    pub long_key: u32,
+    /// The sizes of the streams in bytes; the last is of no stream.
+    pub sizes: [u32; 4],
+    /// The words of the storage of the streams, or 0; the last is of no stream.
+    pub addrs: [u32; 4],
+    /// 1 where the record is of a sparse entry, 2 where it is of a part of one.
+    pub flags: u32,
+}
+
+/// Reads the words of a record that stands, by one folder call.
+///
+/// A damage is a read that gave too few bytes; a folder whose files are those of `files` gives none.
+pub fn read_words<F: Folder>(
+    f: &mut F,
+    files: &BlockFiles,
+    entry: Addr,
+) -> Result<RecordWords, Fault>
+    requires kind { kind_of entry ≡ blocks_256 }
+    requires stands { IsTrue (stands_among files.now entry) }
+    ensures words { IfOk result (λ words. ForSome (F.told f.old).files (λ image. AreWordsOf image entry words)) }
+    ensures checked { OnOk result (ForSome (F.told f.old).files (λ image. HasRange image (block (file_selector entry)) (place entry) entry_size)) }
+    ensures stays { Stays (F.told f.old) (F.told f.new) }
+    ensures short { IfDamaged result (IsShort (F.told f.old) (FileId.Block (file_selector entry)) (place entry) entry_size) }
+    ensures untold { ForSome (F.told f.old).files (Agrees files.now) → IfDamaged result (λ _. (F.told f.old).files ≡ None) }
+    ensures later { F.faults f.old ≤ F.faults f.new }
+    ensures device { IfDevice result (Rises (F.faults f.old) (F.faults f.new)) }
+{
+    let mut bytes = [0u8; EntryView::SIZE];
+    files.read_block(f, entry, 0, &mut bytes)?;
+    Ok(words_of(&bytes))
+}
+
+// The words of a record with these bytes.
+fn words_of(window: &[u8]) -> RecordWords
+    requires { length window.now ≡ 96 }
+    ensures { result ≡ words_in window.now }
+{
+    let view = EntryView::new(window);
+    RecordWords {
+        checks: view.checks(),
+        hash: view.word(EntryView::HASH as usize),
+        next: view.word(EntryView::NEXT as usize),
+        node: view.word(EntryView::NODE as usize),
+        state: view.word(STATE),
+        key_len: view.word(EntryView::KEY_LEN as usize),
+        long_key: view.word(EntryView::LONG_KEY as usize),
+        sizes: four_words(&view, EntryView::DATA_SIZE as usize),
+        addrs: four_words(&view, EntryView::DATA_ADDR as usize),
+        flags: view.word(EntryView::FLAGS as usize),
+    }
+}

@@ -1,0 +1,79 @@
+// Whether data is where an address word says.
+ghost use Rattle.std.specs.Prelude.{◌≡◌, ◌<◌, ◌≤◌, ◌==◌, ℕ, IfOk, IfSome, IsTrue, OnErr, true, false, is_some, if◌then◌else◌, Some, None};
+ghost use Rattle.std.specs.Option.{ForSome};
+ghost use Rattle.blk_image.specs.Image.{External as outside, Image, length_of};
+ghost use Rattle.blk_image.specs.Told.{Rises, Stays};
+ghost use Rattle.blk_format.specs.Address.{external, external_number, kind_of};
+ghost use Rattle.blk_format.specs.Storage.{is_storage};
+ghost use Rattle.blk_volume.specs.View.{stored_at};
+ghost use Rattle.blk_disk.specs.Tables.{Agrees};
+ghost use Rattle.blk_entry.specs.Keys as keys;
+
+use blk_addr::{Addr, Kind};
+use blk_disk::{BlockFiles, file_of};
+use blk_entry::stores;
+use blk_io::{Failed, Folder};
+
+/// Whether data of a size is stored as an address word says: the word is the right storage of the
+/// size and stands, and an external file has this length.
+///
+/// One folder call asks for the length of an external file; none is made for blocks.
+pub(crate) fn is_stored<F: Folder>(
+    f: &mut F,
+    files: &BlockFiles,
+    size: u32,
+    word: u32,
+) -> Result<bool, Failed>
+    ensures stored { IfOk result (λ there. ForSome (F.told f.old).files (λ image. Agrees files.now image → there ≡ is_some (stored_at image size word))) }
+    ensures stores { IfOk result (λ there. IsTrue there → keys.stores files.now size word ≡ true) }
+    ensures stays { Stays (F.told f.old) (F.told f.new) }
+    ensures later { F.faults f.old ≤ F.faults f.new }
+    ensures failed { OnErr result (Rises (F.faults f.old) (F.faults f.new)) }
+{
+    if size == 0 {
+        return Ok(word == 0);
+    }
+    let Some(addr) = storage(files, size, word) else {
+        return Ok(false);
+    };
+    if is_external(addr) {
+        has_length(f, addr, size)
+    } else {
+        Ok(true)
+    }
+}
+
+// The address that a word is, where it is the storage of data of a size, and stands where it is one of blocks.
+fn storage(files: &BlockFiles, size: u32, word: u32) -> Option<Addr>
+    requires { 0 < size }
+    ensures { result ≡ (if keys.stores files.now size word then Some word else None) }
+{
+    let addr = Addr::from_word(word)?;
+    if stores(files, addr, size) {
+        Some(addr)
+    } else {
+        None
+    }
+}
+
+// Whether an address is that of an external file.
+fn is_external(addr: Addr) -> bool
+    ensures { result ≡ (kind_of addr == external) }
+{
+    addr.kind() == Kind::External
+}
+
+// Whether an external file has a length above 0.
+fn has_length<F: Folder>(f: &mut F, addr: Addr, size: u32) -> Result<bool, Failed>
+    requires kind { kind_of addr ≡ external }
+    requires some { 0 < size }
+    ensures length { IfOk result (λ has. ForSome (F.told f.old).files (λ image. has ≡ (length_of image (outside (external_number addr)) == size))) }
+    ensures stays { Stays (F.told f.old) (F.told f.new) }
+    ensures later { F.faults f.old ≤ F.faults f.new }
+    ensures failed { OnErr result (Rises (F.faults f.old) (F.faults f.new)) }
+{
+    match f.length(file_of(addr))? {
+        Some(length) => Ok(length == u64::from(size)),
+        None => Ok(false),
+    }
+}

@@ -1,0 +1,151 @@
+// The verdict on a node, in a small folder in memory that tells nothing.
+ghost use Rattle.std.specs.Prelude.{◌<◌, length};
+
+use crate::{Role, Verdict, has_part, load};
+use blk_addr::{Addr, Kind};
+use blk_disk::BlockFiles;
+use blk_io::{Failed, Fault, FileId, Folder, MemFolder, SilentFolder};
+use std::alloc::Global;
+use std::test::Fail;
+
+type Mem = SilentFolder<MemFolder>;
+
+// The bytes of a block of each of the four files.
+const BLOCKS: [u32; 4] = [36, 256, 1024, 4096];
+
+// The address of the record: the first block of 256 bytes.
+const ENTRY: u32 = 0xA001_0000;
+
+const RECORDS: FileId = FileId::Block(1);
+
+// A folder with the record of an entry of a key with this hash.
+fn folder(alloc: Global, key: &[u8], hash: u32) -> Result<Mem, Failed>
+    requires { length key.now < 100 }
+{
+    let mut f = SilentFolder::new(MemFolder::new(alloc));
+    for (n, size) in BLOCKS.iter().enumerate() {
+        let file = FileId::Block(n as u8);
+        f.set_len(file, 20480)?;
+        let words = [0xC104_CAC3, 0x20000, n as u32, *size, 0, 1024];
+        for (i, word) in words.iter().enumerate() {
+            f.write_at(file, 4 * i as u64, &word.to_le_bytes())?;
+        }
+    }
+    put(&mut f, RECORDS, 8192, 0, hash)?;
+    put(&mut f, RECORDS, 8192, 8, 0x9000_0000)?;
+    put(&mut f, RECORDS, 8192, 32, key.len() as u32)?;
+    f.write_at(RECORDS, 8192 + 96, key)?;
+    Ok(f)
+}
+
+// The verdict on node 0.
+fn verdict(f: &mut Mem, contents: u32, dirty: u32, reached: bool) -> Result<Verdict, Fault> {
+    let files = BlockFiles::load(f)?;
+    let node = Addr::of_blocks(Kind::Rankings, 0, 0, 1);
+    load(f, &files, node, contents, dirty, reached)
+}
+
+// The number of the reason, or 0.
+fn number(f: &mut Mem, contents: u32, dirty: u32, reached: bool) -> Result<u32, Fault> {
+    match verdict(f, contents, dirty, reached)? {
+        Verdict::Loaded(_) => Ok(0),
+        Verdict::Dropped(reason) => Ok(reason.number()),
+    }
+}
+
+// Whether the record is a parent with a part.
+fn has(f: &mut Mem, part: u32) -> Result<bool, Fault>
+    requires { part < 65536 }
+{
+    let files = BlockFiles::load(f)?;
+    let node = Addr::of_blocks(Kind::Rankings, 0, 0, 1);
+    match load(f, &files, node, ENTRY, 0, true)? {
+        Verdict::Loaded(loaded) => match loaded.role {
+            Role::Parent(_) => has_part(f, &files, loaded.addrs[2], part),
+            _ => Ok(false),
+        },
+        Verdict::Dropped(_) => Ok(false),
+    }
+}
+
+// Writes a word behind a place.
+fn put(f: &mut Mem, file: FileId, place: u64, at: u64, word: u32) -> Result<(), Failed> {
+    f.write_at(file, place.wrapping_add(at), &word.to_le_bytes())
+}
+
+// Writes the index of a sparse entry or of a part, with the signature 1 and the key's length 1.
+fn put_index(f: &mut Mem, file: FileId, place: u64) -> Result<(), Failed> {
+    for (at, word) in [
+        (0, 1u32),
+        (8, 0xC103_CAC3),
+        (12, 1),
+        (16, 0xFFFF_FFFF),
+        (64, 1),
+    ] {
+        put(f, file, place, at, word)?;
+    }
+    Ok(())
+}
+
+#[test]
+fn a_wrong_word_is_a_reason(rt: HostRuntime) -> Result<(), Fail> {
+    let mut f = folder(rt.alloc(), b"abc", 0xD2BE_198A)?;
+    assert_eq!(rt; number(&mut f, ENTRY, 0, true)?, 0);
+    assert_eq!(rt; number(&mut f, 0x9000_0000, 0, true)?, 1);
+    assert_eq!(rt; number(&mut f, ENTRY, 1, true)?, 6);
+    assert_eq!(rt; number(&mut f, ENTRY, 0, false)?, 10);
+    for (at, old, word, reason) in [
+        (92, 0u32, 1u32, 2u32),
+        (20, 0, 1, 3),
+        (8, 0x9000_0000, 0x9000_0001, 4),
+        (72, 0, 3, 5),
+        (32, 3, 0, 7),
+        (36, 0, 1, 8),
+        (32, 3, 2, 9),
+        (40, 0, 5, 11),
+        (72, 0, 1, 12),
+        (72, 0, 2, 12),
+    ] {
+        put(&mut f, RECORDS, 8192, at, word)?;
+        assert_eq!(rt; number(&mut f, ENTRY, 0, true)?, reason);
+        put(&mut f, RECORDS, 8192, at, old)?;
+    }
+    put(&mut f, RECORDS, 8192, 40, 16385)?;
+    put(&mut f, RECORDS, 8192, 56, 0x8000_0001)?;
+    assert_eq!(rt; number(&mut f, ENTRY, 0, true)?, 11);
+    f.set_len(FileId::External(1), 16385)?;
+    assert_eq!(rt; number(&mut f, ENTRY, 0, true)?, 0);
+    Ok(())
+}
+
+#[test]
+fn a_parent_and_a_part_have_their_index(rt: HostRuntime) -> Result<(), Fail> {
+    let mut f = folder(rt.alloc(), b"k", 0x4EA5_85C0)?;
+    put(&mut f, RECORDS, 8192, 72, 1)?;
+    put(&mut f, RECORDS, 8192, 48, 8256)?;
+    put(&mut f, RECORDS, 8192, 64, 0xC203_0000)?;
+    put_index(&mut f, FileId::Block(3), 8192)?;
+    assert_eq!(rt; (has(&mut f, 0)?, has(&mut f, 1)?), (true, false));
+    let mut f = folder(rt.alloc(), b"Range_k:1:0", 0x216A_AC0E)?;
+    for (at, word) in [
+        (72, 2u32),
+        (44, 1024),
+        (60, 0xB002_0000),
+        (48, 192),
+        (64, 0xA001_0001),
+    ] {
+        put(&mut f, RECORDS, 8192, at, word)?;
+    }
+    put_index(&mut f, RECORDS, 8192 + 256)?;
+    match verdict(&mut f, ENTRY, 0, true)? {
+        Verdict::Loaded(loaded) => match loaded.role {
+            Role::Part(name) => assert_eq!(rt; name.part, 0),
+            _ => panic!(rt; "it is a part"),
+        },
+        Verdict::Dropped(_) => panic!(rt; "it is loaded"),
+    }
+    put(&mut f, RECORDS, 8192, 44, 1023)?;
+    put(&mut f, RECORDS, 8192, 60, 0xA301_0004)?;
+    assert_eq!(rt; number(&mut f, ENTRY, 0, true)?, 12);
+    Ok(())
+}

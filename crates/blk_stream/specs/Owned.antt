@@ -1,0 +1,26 @@
+-- What stays where a stream is written: all that has an owner.
+use Rattle.std.specs.Prelude.{ℕ, ◌≡◌, ◌≢◌, ◌+◌, ◌<◌, ◌≤◌, true, false}
+use Rattle.blk_image.specs.Image.{Block, External, Image, byte, has_file}
+use Rattle.blk_format.specs.Address.{byte_size, external, external_number, file_selector, kind_of, place}
+use Rattle.blk_format.specs.Maps.{is_block_marked}
+use Rattle.blk_disk.specs.declared.tables.BlockFiles.{BlockFiles}
+use Rattle.blk_disk.specs.Tables.{stands_among}
+use Rattle.blk_entry.specs.Writing.{ShareNoBlock}
+use Rattle.blk_stream.specs.Changing.{stream_words}
+use Rattle.blk_stream.specs.Freeing.{is_block_of}
+
+-- the blocks of an address are marked
+abbrev pub AreMarked : ℕ → Image → Type 0
+AreMarked v image = (b : ℕ) → is_block_of v (file_selector v) b ≡ true → is_block_marked image (file_selector v) b ≡ true
+
+-- these blocks stand and are marked, and share none with the old place of a stream
+pub record AreOthers (files : BlockFiles) (v old : ℕ) (image : Image) : Type 0 where
+  pub block_kind : kind_of v ≢ external
+  pub stand : stands_among files v ≡ true
+  pub marked : AreMarked v image
+  pub apart : kind_of old ≢ external → ShareNoBlock old v
+
+-- but for the words of a stream in its record, such blocks keep their bytes; and external files that were there are as before, but for the old one
+pub record KeepsOwned (files : BlockFiles) (entry i old : ℕ) (from image : Image) : Type 0 where
+  pub blocks : (v k : ℕ) → AreOthers files v old from → place v ≤ k → k < place v + byte_size v → (stream_words entry i).bytes (Block (file_selector v)) k ≡ false → byte image (Block (file_selector v)) k ≡ byte from (Block (file_selector v)) k
+  pub externals : (number : ℕ) → has_file from (External number) ≡ true → (kind_of old ≡ external → external_number old ≢ number) → image (External number) ≡ from (External number)

@@ -1,0 +1,105 @@
+-- A stream is written: what is asked, what is left, and what holds at each word.
+use Rattle.std.specs.Prelude.{ℕ, ◌≡◌, ◌≢◌, ◌⊎◌, ◌<◌, ◌≤◌, List, [], ◌∷◌, length, Bool, ◌==◌, false, true, if◌then◌else◌}
+use Rattle.blk_model.specs.Effects.{stream_after}
+use Rattle.blk_image.specs.Image.{External, Image, has_file}
+use Rattle.blk_image.specs.Footprint.{Footprint, SameOutside, either, nothing}
+use Rattle.blk_image.specs.Told.{Stays, Told}
+use Rattle.blk_format.specs.Address.{block_count, external, external_number, file_selector, first_block, kind_of}
+use Rattle.blk_format.specs.BlockFiles.{IsWellFormed, is_among, max_entries_in, most_blocks}
+use Rattle.blk_format.specs.Claims.{claims_of_all, is_in_file, repeats}
+use Rattle.blk_format.specs.Maps.{AreAllocations, EmptyAgrees, is_block_marked}
+use Rattle.blk_format.specs.Sealed.{RecordChecks}
+use Rattle.blk_format.specs.Storage.{kind_for}
+use Rattle.blk_io.specs.declared.fault.Damage.{Damage}
+use Rattle.blk_disk.specs.declared.tables.BlockFiles.{BlockFiles}
+use Rattle.blk_disk.specs.Tables.{all_files, stands_among}
+use Rattle.blk_entry.specs.Keys.{IsHeadDamage, data_at}
+use Rattle.blk_alloc.specs.Owning.{IsCause}
+use Rattle.blk_stream.specs.Streams.{HasStreamPlace, HasStreams, IsMisplacedStream, address_word, size_word, stream_bytes}
+use Rattle.blk_stream.specs.Changing.{HasWords, stream_words}
+use Rattle.blk_stream.specs.Copying.{IsCutRead}
+use Rattle.blk_stream.specs.Dropping.{KeepsStream}
+use Rattle.blk_stream.specs.Freeing.{MayBeFreed, is_block_of, leaving_of, left_by}
+use Rattle.blk_stream.specs.Owned.{KeepsOwned}
+use Rattle.blk_stream.specs.Moving.{HasPlaceLength, data_at_place}
+use Rattle.blk_stream.specs.Placing.{CanBePlaced, IsPlaceRefusal, IsSite, Site, gained_by, placing_of}
+use Rattle.blk_stream.specs.Writing.{have_one_storage, size_after}
+
+-- the record and the places of its streams
+abbrev pub places_of : ℕ → Image → List ℕ
+places_of entry image = entry ∷ address_word image entry 0 ∷ address_word image entry 1 ∷ address_word image entry 2 ∷ []
+
+-- a stream can get a size: the record checks and has three streams, no two of these share a block or an external file, those in blocks are allocations of their files, and there is room where the storage changes
+pub record CanBeWritten (files : BlockFiles) (entry i size : ℕ) (image : Image) : Type 0 where
+  pub checks : RecordChecks entry image
+  pub has : HasStreams entry image
+  pub apart : repeats (claims_of_all (places_of entry image)) ≡ false
+  pub owned : (w : ℕ) → is_among (places_of entry image) w ≡ true → MayBeFreed w image
+  pub room : have_one_storage (size_word image entry i) size ≡ false → 0 < size → CanBePlaced files size image
+
+-- What is left.
+
+-- the allocations of a file that come of some, once one place was given for another; nothing changes where the two are one
+unfoldable pub moved_by : ℕ → ℕ → ℕ → List ℕ → List ℕ
+moved_by old new n words = if old == new then words else left_by old n (gained_by new n words)
+
+-- of all files that were kept, exactly the blocks of the new place are marked anew and exactly those of the old one are not marked any more, the allocations are those with the new address and without the old one, and `empty` agrees where it did; in a file that was added the new address is the only allocation; and the old external file is gone
+pub record MovesPlace (files : BlockFiles) (old new : ℕ) (from image : Image) : Type 0 where
+  pub marks : (n b : ℕ) → is_among (all_files files) n ≡ true → b < most_blocks → is_block_marked image n b ≡ (if is_block_of new n b then true else if is_block_of old n b then false else is_block_marked from n b)
+  pub allocations : (n : ℕ) (words : List ℕ) → is_among (all_files files) n ≡ true → AreAllocations from n words → (is_in_file n old ≡ true → is_among words old ≡ true) → AreAllocations image n (moved_by old new n words)
+  pub fresh : (n : ℕ) → is_among (all_files files) n ≡ false → is_in_file n new ≡ true → AreAllocations image n (new ∷ [])
+  pub empty : (n : ℕ) → is_among (all_files files) n ≡ true → max_entries_in from n ≤ most_blocks → EmptyAgrees from n → EmptyAgrees image n
+  pub gone : old ≢ new → old ≢ 0 → kind_of old ≡ external → has_file image (External (external_number old)) ≡ false
+
+-- what giving up a place for another touches, which is nothing where the two are one
+unfoldable pub giving_up_of : ℕ → ℕ → Footprint
+giving_up_of old new = if old == new then nothing else leaving_of old
+
+-- what is touched: the words of the record, the old place, the data of the new one, and its site
+abbrev pub writing_of : BlockFiles → ℕ → ℕ → ℕ → ℕ → ℕ → Site → Footprint
+writing_of files entry i old new size site = either (stream_words entry i) (either (giving_up_of old new) (either (data_at_place new) (placing_of files (kind_for size) site)))
+
+-- a stream of a record has the words and the bytes that it had
+pub record HoldsStream (entry i : ℕ) (from image : Image) : Type 0 where
+  pub words : KeepsStream entry i from image
+  pub bytes : stream_bytes image entry i ≡ stream_bytes from entry i
+  pub long : HasPlaceLength (address_word from entry i) (size_word from entry i) from → HasPlaceLength (address_word from entry i) (size_word from entry i) image
+
+-- a stream is written: it has the bytes after the write, in the storage of their number; the other two are as before, maps and files as they have to be, the record checks, a well-formed folder is well formed, and what has an owner stays as before; a storage that stays has its place
+pub record StreamIsWritten (files kept : BlockFiles) (entry i offset : ℕ) (cut : Bool) (bytes : List ℕ) (from image : Image) : Type 0 where
+  pub site : Site
+  pub right : IsSite files (kind_for (size_word image entry i)) from site
+  pub same : SameOutside (writing_of files entry i (address_word from entry i) (address_word image entry i) (size_word image entry i) site) from image
+  pub checks : RecordChecks entry image
+  pub formed : IsWellFormed from → IsWellFormed image
+  pub size : size_word image entry i ≡ size_after cut (size_word from entry i) offset (length bytes)
+  pub written : stream_bytes image entry i ≡ stream_after cut (stream_bytes from entry i) offset bytes
+  pub place : HasStreamPlace kept entry i image
+  pub long : HasPlaceLength (address_word image entry i) (size_word image entry i) image
+  pub stays : have_one_storage (size_word from entry i) (size_word image entry i) ≡ true → address_word image entry i ≡ address_word from entry i
+  pub others : (j : ℕ) → j < 3 → j ≢ i → HoldsStream entry j from image
+  pub moves : MovesPlace files (address_word from entry i) (address_word image entry i) from image
+  pub owned : KeepsOwned files entry i (address_word from entry i) from image
+
+-- What holds at each word.
+
+-- nothing but the words of the record, the old place and the new one has changed, the record checks, and a well-formed folder is well formed; where the place changes, the record has its words until the new place has the bytes after the write, and the old place is as it was until the record has its new words
+pub record WritesStream (files : BlockFiles) (entry i size offset : ℕ) (cut : Bool) (bytes : List ℕ) (from image : Image) : Type 0 where
+  pub new : ℕ
+  pub site : Site
+  pub right : IsSite files (kind_for size) from site
+  pub same : SameOutside (writing_of files entry i (address_word from entry i) new size site) from image
+  pub checks : RecordChecks entry image
+  pub formed : IsWellFormed from → IsWellFormed image
+  pub filled : address_word from entry i ≢ new → SameOutside (either (data_at_place new) (placing_of files (kind_for size) site)) from image ⊎ (data_at image new 0 size ≡ stream_after cut (stream_bytes from entry i) offset bytes)
+  pub order : address_word from entry i ≢ new → SameOutside (either (stream_words entry i) (either (data_at_place new) (placing_of files (kind_for size) site))) from image ⊎ HasWords entry i size new image
+
+-- Why a stream is not written.
+
+-- the record is damaged or the words of the stream are wrong, and nothing was written; or there is no new place; or old bytes are not in their file; or the header of the file of the old blocks is damaged
+abbrev pub IsWriteDamage : BlockFiles → BlockFiles → Told → Told → ℕ → ℕ → Damage → Type 0
+IsWriteDamage files kept before after entry i damage =
+    (Stays before after × (IsHeadDamage before entry damage ⊎ IsMisplacedStream files entry i damage))
+    ⊎ ((size : ℕ) × IsPlaceRefusal files kept size before after damage)
+    ⊎ ((w : ℕ) × (size : ℕ) × IsCutRead w size damage)
+    ⊎ ((w : ℕ) × (stands_among kept w ≡ true) × IsCause after (file_selector w) (first_block w) (block_count w) false damage)

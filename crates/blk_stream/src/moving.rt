@@ -1,0 +1,141 @@
+// A stream gets another place.
+ghost use Rattle.std.specs.Prelude.{ℕ, ◌≡◌, ◌≢◌, ◌+◌, ◌<◌, ◌≤◌, Bool, false, true, IfOk, IsTrue, None, Some, OnOk, length, unwrap_or};
+ghost use Rattle.std.specs.Option.{ForSome};
+ghost use Rattle.blk_image.specs.Told.{Passes, Rises};
+ghost use Rattle.blk_format.specs.Address.{block_count, blocks_256, external, file_selector, first_block, kind_of};
+ghost use Rattle.blk_format.specs.Headers.{HasWholeIndex};
+ghost use Rattle.blk_format.specs.Records.{entry_size};
+ghost use Rattle.blk_format.specs.Sealed.{RecordChecks, record_at};
+ghost use Rattle.blk_volume.specs.Entries.{most_stream_bytes};
+ghost use Rattle.blk_io.specs.Faults.{IfDamaged, IfDevice};
+ghost use Rattle.blk_disk.specs.Tables.{Agrees, stands_among};
+ghost use Rattle.blk_alloc.specs.Extending.{KeepsStanding};
+ghost use Rattle.blk_alloc.specs.Owning.{IsCause};
+ghost use Rattle.blk_stream.specs.Streams.{may_keep};
+ghost use Rattle.blk_stream.specs.Changing.{HasWords};
+ghost use Rattle.blk_stream.specs.Copying.{HasOldPlace};
+ghost use Rattle.blk_stream.specs.Freeing.{MayBeFreed};
+ghost use Rattle.blk_stream.specs.Moving.{CanBeFilled, FillsInProgress, IsFillDamage, IsFilled, LeavesPlace, LeavesPlaceInProgress};
+ghost use Rattle.blk_stream.specs.Writing.{have_one_storage, size_after};
+ghost use Rattle.blk_stream.specs.Written.{CanBeWritten, IsWriteDamage, StreamIsWritten, WritesStream};
+
+use crate::changing::name_place;
+use crate::filling::fill;
+use crate::freeing::free_place;
+use crate::places::{Stored, word_of};
+use crate::placing::new_place;
+use blk_addr::Addr;
+use blk_disk::BlockFiles;
+use blk_io::{Fault, Folder};
+
+// The record, whose bytes were read, names another place for a stream, and then the old one is freed.
+pub(crate) fn leave_place<F: Folder>(
+    f: &mut F,
+    files: &BlockFiles,
+    entry: Addr,
+    stream: u8,
+    bytes: &mut [u8],
+    old: Addr,
+    size: u32,
+    word: u32,
+) -> Result<(), Fault>
+    requires stream { stream < 3 }
+    requires kind { kind_of entry ≡ blocks_256 }
+    requires stands { IsTrue (stands_among files.now entry) }
+    requires long { length bytes.old ≡ entry_size }
+    requires old { kind_of old ≢ external → IsTrue (stands_among files.now old) }
+    requires agrees { ForSome (F.told f.old).files (Agrees files.now) }
+    ensures changed { OnOk result (ForSome (F.told f.old).files (λ from. bytes.old ≡ record_at from entry → RecordChecks entry from → ForSome (F.told f.new).files (LeavesPlace entry stream old size word from))) }
+    ensures read { OnOk result (ForSome (F.told f.old).files (λ from. bytes.old ≡ record_at from entry → ForSome (F.told f.new).files (λ image. bytes.new ≡ record_at image entry))) }
+    ensures long { length bytes.new ≡ entry_size }
+    ensures stops { ForSome (F.told f.old).files (λ from. bytes.old ≡ record_at from entry → RecordChecks entry from → Passes (F.told f.old) (F.told f.new) (LeavesPlaceInProgress entry stream old size word from)) }
+    ensures agrees { ForSome (F.told f.new).files (Agrees files.now) }
+    ensures cause { IfDamaged result (λ damage. (kind_of old ≢ external) × IsCause (F.told f.new) (file_selector old) (first_block old) (block_count old) false damage) }
+    ensures untold { ForSome (F.told f.old).files (λ from. bytes.old ≡ record_at from entry × RecordChecks entry from × MayBeFreed old from) → IfDamaged result (λ _. (F.told f.old).files ≡ None) }
+    ensures silent { (F.told f.old).files ≡ None → (F.told f.new).files ≡ None }
+    ensures later { F.faults f.old ≤ F.faults f.new }
+    ensures device { IfDevice result (Rises (F.faults f.old) (F.faults f.new)) }
+{
+    name_place(f, files, entry, stream, bytes, size, word)?;
+    free_place(f, files, old)
+}
+
+// A new place for data of a size, with what of the old bytes stays and with the new ones; none for no bytes.
+fn filled_place<F: Folder>(
+    f: &mut F,
+    files: &mut BlockFiles,
+    old: Stored,
+    size: u32,
+    offset: u32,
+    bytes: &[u8],
+) -> Result<Option<Addr>, Fault>
+    requires old { HasOldPlace files.old old }
+    requires size { size ≤ most_stream_bytes }
+    requires few { offset + length bytes.now ≤ size }
+    requires agrees { ForSome (F.told f.old).files (Agrees files.old) }
+    requires complete { ForSome (F.told f.old).files HasWholeIndex }
+    ensures fits { IfOk result (λ addr. may_keep files.new size (unwrap_or addr 0) ≡ true) }
+    ensures keeps { KeepsStanding files.old files.new }
+    ensures filled { IfOk result (λ addr. ForSome (F.told f.old).files (λ from. CanBeFilled files.old old size from → ForSome (F.told f.new).files (IsFilled files.old old (unwrap_or addr 0) size offset bytes.now from))) }
+    ensures agrees { OnOk result (ForSome (F.told f.new).files (Agrees files.new)) }
+    ensures stops { ForSome (F.told f.old).files (λ from. CanBeFilled files.old old size from → Passes (F.told f.old) (F.told f.new) (FillsInProgress files.old files.new size from)) }
+    ensures damaged { IfDamaged result (IsFillDamage files.old files.new old size (F.told f.old) (F.told f.new)) }
+    ensures untold { ForSome (F.told f.old).files (CanBeFilled files.old old size) → IfDamaged result (λ _. (F.told f.old).files ≡ None) }
+    ensures silent { (F.told f.old).files ≡ None → (F.told f.new).files ≡ None }
+    ensures later { F.faults f.old ≤ F.faults f.new }
+    ensures device { IfDevice result (Rises (F.faults f.old) (F.faults f.new)) }
+{
+    if size == 0 {
+        return Ok(None);
+    }
+    let addr = new_place(f, files, size)?;
+    fill(f, files, old, addr, size, offset, bytes)?;
+    Ok(Some(addr))
+}
+
+// Writes bytes of a stream whose new size has another storage than the old one: a new place is filled, then the record names it, and then the old place is freed.
+pub(crate) fn write_moved<F: Folder>(
+    f: &mut F,
+    files: &mut BlockFiles,
+    entry: Addr,
+    stream: u8,
+    record_bytes: &mut [u8],
+    old: Stored,
+    size: u32,
+    offset: u32,
+    bytes: &[u8],
+) -> Result<(), Fault>
+    requires stream { stream < 3 }
+    requires kind { kind_of entry ≡ blocks_256 }
+    requires stands { IsTrue (stands_among files.old entry) }
+    requires long { length record_bytes.old ≡ entry_size }
+    requires old { HasOldPlace files.old old }
+    requires some { (addr : ℕ) → old.addr ≡ Some addr → addr ≢ 0 }
+    requires size { size ≤ most_stream_bytes }
+    requires few { offset + length bytes.now ≤ size }
+    requires other { have_one_storage old.size size ≡ false }
+    requires agrees { ForSome (F.told f.old).files (Agrees files.old) }
+    requires complete { ForSome (F.told f.old).files HasWholeIndex }
+    requires read { ForSome (F.told f.old).files (λ image. record_bytes.old ≡ record_at image entry) }
+    requires words { ForSome (F.told f.old).files (HasWords entry stream old.size (unwrap_or old.addr 0)) }
+    ensures written { OnOk result (ForSome (F.told f.old).files (λ from. CanBeWritten files.old entry stream size from → (cut : Bool) → size ≡ size_after cut old.size offset (length bytes.now) → ForSome (F.told f.new).files (StreamIsWritten files.old files.new entry stream offset cut bytes.now from))) }
+    ensures keeps { KeepsStanding files.old files.new }
+    ensures agrees { OnOk result (ForSome (F.told f.new).files (Agrees files.new)) }
+    ensures stops { ForSome (F.told f.old).files (λ from. CanBeWritten files.old entry stream size from → (cut : Bool) → size ≡ size_after cut old.size offset (length bytes.now) → Passes (F.told f.old) (F.told f.new) (WritesStream files.old entry stream size offset cut bytes.now from)) }
+    ensures damaged { IfDamaged result (IsWriteDamage files.old files.new (F.told f.old) (F.told f.new) entry stream) }
+    ensures untold { ForSome (F.told f.old).files (CanBeWritten files.old entry stream size) → IfDamaged result (λ _. (F.told f.old).files ≡ None) }
+    ensures silent { (F.told f.old).files ≡ None → (F.told f.new).files ≡ None }
+    ensures later { F.faults f.old ≤ F.faults f.new }
+    ensures device { IfDevice result (Rises (F.faults f.old) (F.faults f.new)) }
+{
+    let place = old.addr;
+    let new = filled_place(f, files, old, size, offset, bytes)?;
+    let word = word_of(new);
+    match place {
+        Some(addr) => leave_place(f, files, entry, stream, record_bytes, addr, size, word),
+        None => {
+            name_place(f, files, entry, stream, record_bytes, size, word)?;
+            Ok(())
+        }
+    }
+}

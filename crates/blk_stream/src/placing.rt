@@ -1,0 +1,54 @@
+// A new place for data.
+ghost use Rattle.std.specs.Prelude.{◌≡◌, ◌≢◌, ◌==◌, ◌<◌, ◌≤◌, true, IfOk, None, OnOk};
+ghost use Rattle.std.specs.Option.{ForSome};
+ghost use Rattle.blk_image.specs.Told.{Passes, Rises};
+ghost use Rattle.blk_format.specs.Address.{external, file_selector, kind_of};
+ghost use Rattle.blk_format.specs.Headers.{HasWholeIndex};
+ghost use Rattle.blk_addr.specs.Kind.{kind_number};
+ghost use Rattle.blk_io.specs.Faults.{IfDamaged, IfDevice};
+ghost use Rattle.blk_disk.specs.Tables.{Agrees};
+ghost use Rattle.blk_entry.specs.Keys as keys;
+ghost use Rattle.blk_alloc.specs.Extending.{HasItsBlocks, KeepsStanding};
+ghost use Rattle.blk_stream.specs.Placing.{CanBePlaced, IsPlaceRefusal, IsPlaced, KeepsOtherLinks, PlacesInProgress};
+
+use blk_addr::{Addr, Kind, blocks_for, kind_for};
+use blk_disk::BlockFiles;
+use blk_io::{Fault, Folder};
+
+// A new place for data of a size: blocks, or an external file without bytes.
+pub(crate) fn new_place<F: Folder>(
+    f: &mut F,
+    files: &mut BlockFiles,
+    size: u32,
+) -> Result<Addr, Fault>
+    requires some { 0 < size }
+    requires agrees { ForSome (F.told f.old).files (Agrees files.old) }
+    requires complete { ForSome (F.told f.old).files HasWholeIndex }
+    ensures stores { IfOk result (λ addr. keys.stores files.new size addr ≡ true) }
+    ensures long { IfOk result (λ addr. kind_of addr ≢ external → HasItsBlocks files.new (file_selector addr)) }
+    ensures keeps { KeepsStanding files.old files.new }
+    ensures links { IfOk result (λ addr. KeepsOtherLinks files.old files.new addr) }
+    ensures placed { IfOk result (λ addr. ForSome (F.told f.old).files (λ from. CanBePlaced files.old size from → ForSome (F.told f.new).files (IsPlaced files.old addr from))) }
+    ensures agrees { OnOk result (ForSome (F.told f.new).files (Agrees files.new)) }
+    ensures stops { ForSome (F.told f.old).files (λ from. CanBePlaced files.old size from → Passes (F.told f.old) (F.told f.new) (PlacesInProgress files.old size from)) }
+    ensures cause { IfDamaged result (IsPlaceRefusal files.old files.new size (F.told f.old) (F.told f.new)) }
+    ensures untold { ForSome (F.told f.old).files (CanBePlaced files.old size) → IfDamaged result (λ _. (F.told f.old).files ≡ None) }
+    ensures silent { (F.told f.old).files ≡ None → (F.told f.new).files ≡ None }
+    ensures later { F.faults f.old ≤ F.faults f.new }
+    ensures device { IfDevice result (Rises (F.faults f.old) (F.faults f.new)) }
+{
+    let kind = kind_for(size);
+    if is_external(kind) {
+        let addr = blk_external::create(f)?;
+        let _word = addr.word();
+        return Ok(addr);
+    }
+    blk_alloc::allocate(f, files, kind, blocks_for(size))
+}
+
+// Whether a kind is that of external files.
+fn is_external(kind: Kind) -> bool
+    ensures { result ≡ (kind_number kind == external) }
+{
+    kind == Kind::External
+}

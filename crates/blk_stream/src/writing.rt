@@ -1,0 +1,176 @@
+// The bytes of a stream are written.
+ghost use Rattle.std.specs.Prelude.{ℕ, ◌≡◌, ◌≢◌, ◌+◌, ◌<◌, ◌≤◌, true, IsTrue, None, Some, OnOk, length, unwrap_or};
+ghost use Rattle.std.specs.Option.{ForSome};
+ghost use Rattle.blk_image.specs.Told.{Passes, Rises};
+ghost use Rattle.blk_format.specs.Address.{blocks_256, kind_of};
+ghost use Rattle.blk_format.specs.Headers.{HasWholeIndex};
+ghost use Rattle.blk_format.specs.Records.{entry_size};
+ghost use Rattle.blk_format.specs.Sealed.{RecordChecks, record_at};
+ghost use Rattle.blk_volume.specs.Entries.{most_stream_bytes};
+ghost use Rattle.blk_io.specs.Faults.{IfDamaged, IfDevice};
+ghost use Rattle.blk_disk.specs.Tables.{Agrees, stands_among};
+ghost use Rattle.blk_entry.specs.Keys.{IsInFile};
+ghost use Rattle.blk_alloc.specs.Extending.{KeepsStanding};
+ghost use Rattle.blk_stream.specs.Streams.{HasStreamPlace, address_word, may_keep, size_word};
+ghost use Rattle.blk_stream.specs.Changing.{HasWords};
+ghost use Rattle.blk_stream.specs.Writing as writes;
+ghost use Rattle.blk_stream.specs.Written.{CanBeWritten, IsWriteDamage, StreamIsWritten, WritesStream};
+
+use crate::inside::write_inside;
+use crate::moving::write_moved;
+use crate::places::{Stored, stored_in};
+use blk_addr::{Addr, blocks_for, kind_for};
+use blk_disk::BlockFiles;
+use blk_io::{Fault, Folder};
+use blk_record::{EntryView, Record};
+
+/// Writes bytes over a stream from an offset on, with zeros before them where it ends there; it ends with them where it
+/// is cut, and else keeps what lies behind them.
+///
+/// Where the storage of the new length is that of the old one, they are written in its place, and then the record gets
+/// the length. Else a new place is filled, then the record gets its address and the length by one sealed update, and
+/// then the old place is freed.
+///
+/// A damage is a read of the record that gave too few bytes, a record that doesn't check, or words of the stream that
+/// don't give it its storage, and nothing is written then; or a cause of `allocate`, `free` or `create`, or old bytes
+/// that are not in their file.
+pub fn write<F: Folder>(
+    f: &mut F,
+    files: &mut BlockFiles,
+    entry: Addr,
+    stream: u8,
+    offset: u64,
+    cut: bool,
+    bytes: &[u8],
+) -> Result<(), Fault>
+    requires stream { stream < 3 }
+    requires kind { kind_of entry ≡ blocks_256 }
+    requires stands { IsTrue (stands_among files.old entry) }
+    requires most { offset + length bytes.now ≤ most_stream_bytes }
+    requires agrees { ForSome (F.told f.old).files (Agrees files.old) }
+    requires complete { ForSome (F.told f.old).files HasWholeIndex }
+    requires there { ForSome (F.told f.old).files (λ image. IsInFile (address_word image entry stream) 0 (size_word image entry stream) image) }
+    ensures checked { OnOk result (ForSome (F.told f.old).files (RecordChecks entry)) }
+    ensures placed { OnOk result (ForSome (F.told f.old).files (HasStreamPlace files.old entry stream)) }
+
+    // The stream has the bytes after the write, in the storage of their number; maps and files have its new place and not the old one, and all else is as before.
+    ensures written { OnOk result (ForSome (F.told f.old).files (λ from. CanBeWritten files.old entry stream (writes.size_after cut (size_word from entry stream) offset (length bytes.now)) from → ForSome (F.told f.new).files (StreamIsWritten files.old files.new entry stream offset cut bytes.now from))) }
+    ensures keeps { KeepsStanding files.old files.new }
+    ensures agrees { OnOk result (ForSome (F.told f.new).files (Agrees files.new)) }
+
+    // At each word the record checks, and nothing but its words of the stream and the two places has changed; the old place is as it was until the record names the new one, which then has the bytes.
+    ensures stops { ForSome (F.told f.old).files (λ from. CanBeWritten files.old entry stream (writes.size_after cut (size_word from entry stream) offset (length bytes.now)) from → Passes (F.told f.old) (F.told f.new) (WritesStream files.old entry stream (writes.size_after cut (size_word from entry stream) offset (length bytes.now)) offset cut bytes.now from)) }
+
+    ensures damaged { IfDamaged result (IsWriteDamage files.old files.new (F.told f.old) (F.told f.new) entry stream) }
+    ensures untold { ForSome (F.told f.old).files (λ from. CanBeWritten files.old entry stream (writes.size_after cut (size_word from entry stream) offset (length bytes.now)) from) → IfDamaged result (λ _. (F.told f.old).files ≡ None) }
+    ensures silent { (F.told f.old).files ≡ None → (F.told f.new).files ≡ None }
+    ensures later { F.faults f.old ≤ F.faults f.new }
+    ensures device { IfDevice result (Rises (F.faults f.old) (F.faults f.new)) }
+{
+    let mut record_bytes = [0u8; EntryView::SIZE];
+    files.read_record(f, entry, &mut record_bytes)?;
+    let old = stored_in(files, entry, stream, &record_bytes)?;
+    write_stored(
+        f,
+        files,
+        entry,
+        stream,
+        &mut record_bytes,
+        old,
+        offset as u32,
+        cut,
+        bytes,
+    )
+}
+
+// Writes bytes over a stream, by the bytes of its record and where it lies, which were read.
+fn write_stored<F: Folder>(
+    f: &mut F,
+    files: &mut BlockFiles,
+    entry: Addr,
+    stream: u8,
+    record_bytes: &mut [u8],
+    old: Stored,
+    offset: u32,
+    cut: bool,
+    bytes: &[u8],
+) -> Result<(), Fault>
+    requires stream { stream < 3 }
+    requires kind { kind_of entry ≡ blocks_256 }
+    requires stands { IsTrue (stands_among files.old entry) }
+    requires long { length record_bytes.old ≡ entry_size }
+    requires place { may_keep files.old old.size (unwrap_or old.addr 0) ≡ true }
+    requires none { old.addr ≡ None → old.size ≡ 0 }
+    requires some { (addr : ℕ) → old.addr ≡ Some addr → addr ≢ 0 }
+    requires most { offset + length bytes.now ≤ most_stream_bytes }
+    requires agrees { ForSome (F.told f.old).files (Agrees files.old) }
+    requires complete { ForSome (F.told f.old).files HasWholeIndex }
+    requires there { ForSome (F.told f.old).files (IsInFile (unwrap_or old.addr 0) 0 old.size) }
+    requires read { ForSome (F.told f.old).files (λ image. record_bytes.old ≡ record_at image entry) }
+    requires checks { ForSome (F.told f.old).files (RecordChecks entry) }
+    requires words { ForSome (F.told f.old).files (HasWords entry stream old.size (unwrap_or old.addr 0)) }
+    ensures written { OnOk result (ForSome (F.told f.old).files (λ from. CanBeWritten files.old entry stream (writes.size_after cut old.size offset (length bytes.now)) from → ForSome (F.told f.new).files (StreamIsWritten files.old files.new entry stream offset cut bytes.now from))) }
+    ensures keeps { KeepsStanding files.old files.new }
+    ensures agrees { OnOk result (ForSome (F.told f.new).files (Agrees files.new)) }
+    ensures stops { ForSome (F.told f.old).files (λ from. CanBeWritten files.old entry stream (writes.size_after cut old.size offset (length bytes.now)) from → Passes (F.told f.old) (F.told f.new) (WritesStream files.old entry stream (writes.size_after cut old.size offset (length bytes.now)) offset cut bytes.now from)) }
+    ensures damaged { IfDamaged result (IsWriteDamage files.old files.new (F.told f.old) (F.told f.new) entry stream) }
+    ensures untold { ForSome (F.told f.old).files (CanBeWritten files.old entry stream (writes.size_after cut old.size offset (length bytes.now))) → IfDamaged result (λ _. (F.told f.old).files ≡ None) }
+    ensures silent { (F.told f.old).files ≡ None → (F.told f.new).files ≡ None }
+    ensures later { F.faults f.old ≤ F.faults f.new }
+    ensures device { IfDevice result (Rises (F.faults f.old) (F.faults f.new)) }
+{
+    let place = old.addr;
+    let size = size_after(cut, old.size, offset, bytes.len() as u32);
+    if !have_one_storage(old.size, size) {
+        return write_moved(
+            f,
+            files,
+            entry,
+            stream,
+            record_bytes,
+            old,
+            size,
+            offset,
+            bytes,
+        );
+    }
+    match place {
+        Some(addr) => {
+            write_inside(
+                f,
+                files,
+                entry,
+                stream,
+                record_bytes,
+                addr,
+                old.size,
+                size,
+                offset,
+                bytes,
+            )?;
+            Ok(())
+        }
+        None => Ok(()),
+    }
+}
+
+// The size of a stream after so many bytes are written from an offset on.
+#[tactic(auto, unfolding(crate::specs::Writing::size_after))]
+fn size_after(cut: bool, old: u32, offset: u32, count: u32) -> u32
+    requires { offset + count ≤ most_stream_bytes }
+    ensures { result ≡ writes.size_after cut old offset count }
+{
+    let end = offset + count;
+    if cut { end } else { end.max(old) }
+}
+
+// Whether data of two sizes has one storage.
+#[tactic(auto, unfolding(crate::specs::Writing::have_one_storage))]
+fn have_one_storage(one: u32, other: u32) -> bool
+    ensures { result ≡ writes.have_one_storage one other }
+{
+    if one == 0 || other == 0 {
+        return one == other;
+    }
+    kind_for(one) == kind_for(other) && blocks_for(one) == blocks_for(other)
+}

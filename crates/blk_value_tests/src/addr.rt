@@ -1,0 +1,182 @@
+// Words, sizes and claims from the description of the forms.
+use blk_addr::laws::from_word_of_word;
+use blk_addr::{Addr, Claims, FileId, Kind, blocks_for, entry_blocks, kind_for};
+use std::test::Fail;
+
+#[test]
+fn words_are_addresses(rt: HostRuntime) {
+    let words = [
+        (0x9000_0000, Kind::Rankings, FileId::Block(0), 0, 1),
+        (0xA101_0004, Kind::B256, FileId::Block(1), 4, 2),
+        (0xB002_0000, Kind::B1K, FileId::Block(2), 0, 1),
+        (0xC203_0000, Kind::B4K, FileId::Block(3), 0, 3),
+        (0x8000_0001, Kind::External, FileId::External(1), 0, 0),
+    ];
+    for (word, kind, file, start, blocks) in words {
+        match Addr::from_word(word) {
+            None => assert!(rt; false, "{word} is an address"),
+            Some(addr) => {
+                assert_eq!(rt; addr.word(), word);
+                assert_eq!(rt; addr.kind(), kind);
+                assert_eq!(rt; addr.file(), file);
+                assert_eq!(rt; addr.start(), start);
+                assert_eq!(rt; addr.blocks(), blocks);
+                assert_eq!(rt; from_word_of_word(addr), Some(addr));
+            }
+        }
+    }
+}
+
+#[test]
+fn words_are_no_addresses(rt: HostRuntime) {
+    for word in [
+        0xA401_0000,
+        0xD000_0000,
+        0x2001_0000,
+        0x9100_0000,
+        0xA101_0003,
+        0x8000_0000,
+        0,
+    ] {
+        assert_eq!(rt; Addr::from_word(word), None, "{word}");
+    }
+}
+
+#[test]
+fn addresses_are_put_together(rt: HostRuntime) {
+    for (addr, word) in [
+        (Addr::of_blocks(Kind::Rankings, 0, 0, 1), 0x9000_0000),
+        (Addr::of_blocks(Kind::B256, 1, 4, 2), 0xA101_0004),
+        (Addr::of_blocks(Kind::B1K, 2, 65535, 1), 0xB002_FFFF),
+        (Addr::of_blocks(Kind::B4K, 255, 65532, 4), 0xC3FF_FFFC),
+        (Addr::of_external(1), 0x8000_0001),
+        (Addr::of_external(0x0FFF_FFFF), 0x8FFF_FFFF),
+    ] {
+        assert_eq!(rt; addr.word(), word);
+        assert_eq!(rt; Addr::from_word(word), Some(addr));
+    }
+}
+
+#[test]
+fn kinds_have_numbers_and_sizes(rt: HostRuntime) {
+    for (kind, number, size) in [
+        (Kind::External, 0, None),
+        (Kind::Rankings, 1, Some(36)),
+        (Kind::B256, 2, Some(256)),
+        (Kind::B1K, 3, Some(1024)),
+        (Kind::B4K, 4, Some(4096)),
+    ] {
+        assert_eq!(rt; kind.number(), number);
+        assert_eq!(rt; kind.block_size(), size);
+    }
+}
+
+#[test]
+fn keys_take_blocks(rt: HostRuntime) {
+    for (key_len, blocks) in [
+        (1, 1),
+        (159, 1),
+        (160, 2),
+        (415, 2),
+        (416, 3),
+        (671, 3),
+        (672, 4),
+        (927, 4),
+        (928, 1),
+        (32768, 1),
+    ] {
+        assert_eq!(rt; entry_blocks(key_len), blocks, "a key of {key_len} bytes");
+    }
+}
+
+#[test]
+fn sizes_take_blocks(rt: HostRuntime) {
+    let sizes = [
+        (0, None),
+        (1023, Some((Kind::B256, 4))),
+        (1024, Some((Kind::B1K, 1))),
+        (4095, Some((Kind::B1K, 4))),
+        (4096, Some((Kind::B4K, 1))),
+        (16384, Some((Kind::B4K, 4))),
+        (16385, Some((Kind::External, 0))),
+    ];
+    for (size, storage) in sizes {
+        assert_eq!(rt; storage_of(size), storage, "{size} bytes");
+    }
+}
+
+// The kind and the blocks of data, and none of no data.
+fn storage_of(size: u32) -> Option<(Kind, u32)> {
+    (size > 0).then(|| (kind_for(size), blocks_for(size)))
+}
+
+#[test]
+fn overlapping_claims_change_nothing(rt: HostRuntime) -> Result<(), Fail> {
+    let mut claims = Claims::new(rt.alloc());
+    // blocks 4 and 5 of data_1; then 5 to 7, of which 5 is claimed; then 6 and 7
+    assert_eq!(rt; add(&mut claims, 0xA101_0004)?, true);
+    assert_eq!(rt; add(&mut claims, 0xA201_0005)?, false);
+    assert_eq!(rt; claims.allocations(1), 1);
+    assert_eq!(rt; add(&mut claims, 0xA101_0006)?, true);
+    assert_eq!(rt; claims.allocations(1), 2);
+    assert_eq!(rt; claims.allocations(2), 0);
+    Ok(())
+}
+
+#[test]
+fn claims_are_found(rt: HostRuntime) -> Result<(), Fail> {
+    let mut claims = Claims::new(rt.alloc());
+    // blocks 4 to 7 of data_3, the last block of data_255, f_000001
+    for word in [0xC303_0004, 0xA0FF_FFFF, 0x8000_0001] {
+        assert_eq!(rt; has(&claims, word)?, false, "{word}");
+        assert_eq!(rt; add(&mut claims, word)?, true, "{word}");
+        assert_eq!(rt; has(&claims, word)?, true, "{word}");
+        assert_eq!(rt; add(&mut claims, word)?, false, "{word}");
+    }
+    for (file, block, claimed) in [
+        (3, 3, false),
+        (3, 4, true),
+        (3, 7, true),
+        (3, 8, false),
+        (2, 65536 + 4, false),
+        (4, 7, false),
+        (255, 65535, true),
+    ] {
+        assert_eq!(rt;
+            claims.has_block(file, block),
+            claimed,
+            "block {block} of {file}"
+        );
+    }
+    // block 7 of data_3, block 7 of data_4, block 8 of data_3, block 0 of data_255, f_000002
+    assert_eq!(rt; has(&claims, 0xC003_0007)?, true);
+    assert_eq!(rt; has(&claims, 0xC004_0007)?, false);
+    assert_eq!(rt; has(&claims, 0xC003_0008)?, false);
+    assert_eq!(rt; has(&claims, 0xA0FF_0000)?, false);
+    assert_eq!(rt; has(&claims, 0x8000_0002)?, false);
+    Ok(())
+}
+
+#[test]
+fn a_full_list_is_claimed(rt: HostRuntime) -> Result<(), Fail> {
+    let mut claims = Claims::new(rt.alloc());
+    // 131072 nodes: each block that an address can name in data_0 and data_4
+    for start in 0..65536 {
+        assert_eq!(rt; add(&mut claims, 0x9000_0000 + start)?, true);
+        assert_eq!(rt; add(&mut claims, 0x9004_0000 + start)?, true);
+    }
+    assert_eq!(rt; claims.allocations(0), 65536);
+    assert_eq!(rt; claims.allocations(4), 65536);
+    assert_eq!(rt; add(&mut claims, 0x9004_FFFF)?, false);
+    Ok(())
+}
+
+fn add(claims: &mut Claims, word: u32) -> Result<bool, Fail> {
+    let addr = Addr::from_word(word).ok_or("an address")?;
+    Ok(claims.add(addr)?)
+}
+
+fn has(claims: &Claims, word: u32) -> Result<bool, Fail> {
+    let addr = Addr::from_word(word).ok_or("an address")?;
+    Ok(claims.has(addr))
+}

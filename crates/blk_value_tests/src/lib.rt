@@ -1,0 +1,15 @@
+//! The tests of the crates of values: addresses, records, handles, lines, maps of parts.
+#![tactic(auto)]
+
+#[cfg(test)]
+mod addr;
+#[cfg(test)]
+mod handles;
+#[cfg(test)]
+mod ranges;
+#[cfg(test)]
+mod record;
+#[cfg(test)]
+mod record_views;
+#[cfg(test)]
+mod script;
