@@ -59,10 +59,13 @@ choice-open files image false steps is all = all
 -- a word of the table is written into an open folder, which stays open
 table-open : (files : BlockFiles) (number w : ℕ) (image : Image) → IsOpen files image → Along (IsOpen files) image (word_step Index (place_of_bucket number) w)
 unfolding word_step
-table-open files number w image is = (is, record {
-  whole_index = length-after_write image Index Index (place_of_bucket number) (word_bytes w) ∙ is.whole_index;
-  agrees = agrees_still (range Index (place_of_bucket number) (length (word_bytes w))) image (applied (Word Index (place_of_bucket number) (word_bytes w)) image) (record { bytes = λ n i small. refl }) (outside_write Index (place_of_bucket number) (word_bytes w) image) files (λ n. refl) is.agrees;
-})
+table-open files number w image is = (
+  is,
+  record {
+    whole_index = length-after_write image Index Index (place_of_bucket number) (word_bytes w) ∙ is.whole_index;
+    agrees = agrees_still (range Index (place_of_bucket number) (length (word_bytes w))) image (applied (Word Index (place_of_bucket number) (word_bytes w)) image) (record { bytes = λ n i small. refl }) (outside_write Index (place_of_bucket number) (word_bytes w) image) files (λ n. refl) is.agrees;
+  },
+)
 
 pub bucket-open : (files : BlockFiles) (number w : ℕ) (image : Image) → IsOpen files image → Along (IsOpen files) image (bucket_steps number w image)
 bucket-open files number w image is = choice-open files image ((store_of image).table number == w) (word_step Index (place_of_bucket number) w) is (table-open files number w image is)
