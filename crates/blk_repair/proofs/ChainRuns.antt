@@ -1,0 +1,108 @@
+-- How a chain is linked record by record, and what is held on the way.
+use Rattle.std.proofs.Common.{◌≡◌, ℕ, ◌+◌, ◌-◌, ◌<◌, ◌≤◌, Bool, true, false, List, [], ◌∷◌, ◌++◌, length, take, drop, get_or, refl, sym, ◌∙◌, ap, subst, arith}
+use Rattle.std.specs.Prelude.{All, ◌==◌, if◌then◌else◌}
+use Rattle.std.specs.Option.{ForSome}
+use Rattle.std.proofs.lemmas.List.{append-nil, drop_more, drop_all, length-drop, take_all}
+use Rattle.std.proofs.lemmas.List.Elements.{All-weaker, filter_passes}
+use Rattle.blk_image.specs.Image.{Image, Index}
+use Rattle.blk_image.specs.Steps.{TrailStep, after, applied, word_step}
+use Rattle.blk_image.specs.Told.{Told, Along, Applies, AppliesPrefix, IsQuiet, Passes}
+use Rattle.blk_image.proofs.Runs.{passes_part, quiet-append, some_inj, told_whole, until_weaker2}
+use Rattle.blk_image.proofs.WordSteps.{quiet-word_step}
+use Rattle.blk_format.specs.Headers.{place_of_bucket}
+use Rattle.blk_format.specs.Records.{entry_next_place}
+use Rattle.blk_format.specs.Sealed.{RecordChecks, sealed_steps}
+use Rattle.blk_volume.specs.Chains.{chain}
+use Rattle.blk_volume.specs.Found.{kept}
+use Rattle.blk_volume.specs.ListView.{first_or}
+use Rattle.blk_volume.specs.Loads.{Loaded}
+use Rattle.blk_volume.specs.View.{store_of}
+use Rattle.blk_laws.proofs.lists.WriteSteps.{quiet-sealed}
+use Rattle.blk_repair_laws.specs.ChainRepair.{HasChainsUpTo, bucket_steps, chain_steps, is_kept_record, kept_records, next_words_steps, next_steps}
+use Rattle.blk_repair_laws.specs.ListRepair.{HoldsTheSame}
+use Rattle.blk_repair_laws.proofs.ChainRepair.{buckets-mended}
+use Rattle.blk_repair_laws.proofs.KeptRecords.{kept-records-check}
+use Rattle.blk_repair.specs.Chains.{IsNextChain}
+use Rattle.blk_repair.specs.Damages.{AllCheck}
+use Rattle.blk_repair.proofs.Progress.{Leads}
+
+-- the next of one record, and then those of the records behind it
+pub link-leads : (words : List ℕ) (i w behind : ℕ) → i < length words → w ≡ get_or words i w → behind ≡ first_or 0 (take (length words - (i + 1)) (drop (i + 1) words)) → Leads (next_words_steps (drop i words)) (next_steps w behind) (next_words_steps (drop (i + 1) words))
+link-leads words i w behind inside is next image =
+    let more : List ℕ = drop (i + 1) words in
+    let all : take (length words - (i + 1)) more ≡ more = take_all (length words - (i + 1)) more (let n = length-drop (i + 1) words in omega (arith, n)) in
+    let split : drop i words ≡ w ∷ more = drop_more words i w inside ∙ ap (λ (v : ℕ). v ∷ more) (sym is) in
+    subst (λ (b : ℕ). next_words_steps (drop i words) image ≡ next_steps w b image ++ next_words_steps more (after (next_steps w b image) image)) (sym (next ∙ ap (first_or 0) all)) (ap (λ (l : List ℕ). next_words_steps l image) split)
+
+pub links-end : (words : List ℕ) (i : ℕ) → length words ≤ i → (image : Image) → next_words_steps (drop i words) image ≡ []
+links-end words i past image = ap (λ (l : List ℕ). next_words_steps l image) (drop_all i words past)
+
+-- what is held behind the first steps
+pub along_behind : (P : Image → Type 0) (s t : List TrailStep) (image : Image) → Along P image (s ++ t) → Along P (after s image) t
+along_behind P [] t image all = all
+along_behind P (x ∷ s) t image all = along_behind P s t (applied x image) all.1
+
+-- no step of a chain is a note
+quiet-choice : (b : Bool) (steps : List TrailStep) → IsQuiet steps → IsQuiet (if b then [] else steps)
+quiet-choice true steps quiet = tt
+quiet-choice false steps quiet = quiet
+
+quiet-next : (entry w : ℕ) (image : Image) → IsQuiet (next_steps entry w image)
+quiet-next entry w image = quiet-choice ((store_of image).chain_next entry == w) (sealed_steps image entry ((entry_next_place, w) ∷ [])) (quiet-sealed image entry ((entry_next_place, w) ∷ []))
+
+quiet-links : (words : List ℕ) (image : Image) → IsQuiet (next_words_steps words image)
+quiet-links [] image = tt
+quiet-links (w ∷ words) image =
+    let first : List TrailStep = next_steps w (first_or 0 words) image in
+    quiet-append first (next_words_steps words (after first image)) (quiet-next w (first_or 0 words) image) (quiet-links words (after first image))
+
+pub quiet-chain : (bucket : ℕ) (words : List ℕ) (image : Image) → IsQuiet (chain_steps bucket words image)
+quiet-chain bucket words image =
+    let first : List TrailStep = bucket_steps bucket (first_or 0 words) image in
+    quiet-append first (next_words_steps words (after first image)) (quiet-choice ((store_of image).table bucket == first_or 0 words) (word_step Index (place_of_bucket bucket) (first_or 0 words)) (quiet-word_step Index (place_of_bucket bucket) (first_or 0 words)))
+    (quiet-links words (after first image))
+
+-- the next chain is mended, and the same is held at each word
+pub mends-next : (from : Image) (bucket : ℕ) (words : List ℕ) (image : Image) → bucket < 65536 → IsNextChain from bucket words image → Along (HoldsTheSame from) image (chain_steps bucket words image) × HasChainsUpTo from (bucket + 1) (after (chain_steps bucket words image) image)
+mends-next from bucket words image inside next =
+    subst (λ (l : List ℕ). Along (HoldsTheSame from) image (chain_steps bucket l image) × HasChainsUpTo from (bucket + 1) (after (chain_steps bucket l image) image)) (sym next.are_kept)
+    (buckets-mended from image bucket next.well_formed next.keeps_all inside next.up_to)
+
+-- the kept records of a bucket are kept
+are-kept : (from : Image) (bucket : ℕ) → All (λ w. is_kept_record (kept from) w ≡ true) (kept_records from bucket)
+unfolding kept_records
+are-kept from bucket = filter_passes (is_kept_record (kept from)) (chain (store_of from) bucket).reached
+
+-- so they check where the same is held
+pub kept-check : (from : Image) (bucket : ℕ) (words : List ℕ) → words ≡ kept_records from bucket → (image : Image) → HoldsTheSame from image → AllCheck words image
+kept-check from bucket words are image holds =
+    subst (λ (l : List ℕ). AllCheck l image) (sym are)
+    (All-weaker (λ w. is_kept_record (kept from) w ≡ true) (λ w. RecordChecks w image)
+    (λ w is. (kept-records-check image holds.writable w (subst (λ (ks : List Loaded). is_kept_record ks w ≡ true) (sym holds.kept_same) is)).checks) (kept_records from bucket) (are-kept from bucket))
+
+-- at each word of the links
+pub links-check : (from : Image) (bucket : ℕ) (words : List ℕ) (image : Image) → bucket < 65536 → IsNextChain from bucket words image
+    → Along (AllCheck words) (after (bucket_steps bucket (first_or 0 words) image) image) (next_words_steps words (after (bucket_steps bucket (first_or 0 words) image) image))
+links-check from bucket words image inside next =
+    let first : List TrailStep = bucket_steps bucket (first_or 0 words) image in
+    let between : Image = after first image in
+    until_weaker2 (HoldsTheSame from) (AllCheck words) (HoldsTheSame from) (AllCheck words) (next_words_steps words between) between (kept-check from bucket words next.are_kept) (kept-check from bucket words next.are_kept)
+    (along_behind (HoldsTheSame from) first (next_words_steps words between) image (mends-next from bucket words image inside next).0)
+
+-- the word of the bucket, and then the links
+pub chain-leads : (bucket : ℕ) (words : List ℕ) → Leads (chain_steps bucket words) (bucket_steps bucket (first_or 0 words)) (next_words_steps words)
+chain-leads bucket words image = refl
+
+pub links-lead : (words : List ℕ) → Leads (next_words_steps words) (next_words_steps words) (λ _. [])
+links-lead words image = sym (append-nil (next_words_steps words image))
+
+-- what a front of the steps passes, and where all of them lead
+pub chain-passes : (a b : Told) (bucket : ℕ) (words : List ℕ) → bucket < 65536 → ForSome a.files (λ image. AppliesPrefix a b (chain_steps bucket words image)) → ForSome a.files (λ image. (from : Image) → IsNextChain from bucket words image → Passes a b (HoldsTheSame from))
+chain-passes a b bucket words inside part image there from next =
+    passes_part (HoldsTheSame from) (HoldsTheSame from) (part image there) (quiet-chain bucket words image) (λ i h. h)
+    (λ i is_there. subst (λ (x : Image). Along (HoldsTheSame from) x (chain_steps bucket words image)) (some_inj (sym there ∙ is_there)) (mends-next from bucket words image inside next).0)
+
+pub chain-mended : (a b : Told) (bucket : ℕ) (words : List ℕ) → bucket < 65536 → ForSome a.files (λ image. Applies a b (chain_steps bucket words image)) → ForSome a.files (λ image. (from : Image) → IsNextChain from bucket words image → ForSome b.files (HasChainsUpTo from (bucket + 1)))
+chain-mended a b bucket words inside all image there from next =
+    told_whole (HasChainsUpTo from (bucket + 1)) (all image there)
+    (λ i is_there. subst (λ (x : Image). HasChainsUpTo from (bucket + 1) (after (chain_steps bucket words image) x)) (some_inj (sym there ∙ is_there)) (mends-next from bucket words image inside next).1)

@@ -1,0 +1,28 @@
+-- What is told of a damage that repair meets.
+use Rattle.std.specs.Prelude.{ℕ, ◌≡◌, ◌⊎◌, ◌+◌, List, All, true}
+use Rattle.blk_image.specs.Image.{Image}
+use Rattle.blk_image.specs.Told.{Told}
+use Rattle.blk_format.specs.Address.{file_selector, place}
+use Rattle.blk_format.specs.Headers.{place_of_bucket}
+use Rattle.blk_format.specs.Records.{entry_next_place}
+use Rattle.blk_format.specs.Sealed.{RecordChecks, record_size}
+use Rattle.blk_io.specs.declared.folder.FileId.TheVariants as names
+use Rattle.blk_io.specs.declared.fault.Damage.{Damage}
+use Rattle.blk_io.specs.Faults.{IsShort}
+use Rattle.blk_disk.specs.declared.tables.BlockFiles.{BlockFiles}
+use Rattle.blk_disk.specs.Tables.{is_record_among}
+use Rattle.blk_disk.specs.Unsealed.{IsUnsealed}
+
+-- the records of some addresses check
+abbrev pub AllCheck : List ℕ → Image → Type 0
+AllCheck words image = All (λ w. RecordChecks w image) words
+
+-- a record that stands was read, its next or the whole of it: its bytes are too few, or it doesn't check
+pub record IsWrongRecord (files : BlockFiles) (told : Told) (damage : Damage) : Type 0 where
+  pub entry : ℕ
+  pub stands : is_record_among files entry ≡ true
+  pub failed : IsShort told (names.Block (file_selector entry)) (place entry + entry_next_place) 4 damage ⊎ (IsShort told (names.Block (file_selector entry)) (place entry) (record_size entry) damage ⊎ IsUnsealed told entry damage)
+
+-- a chain was damaged at the word of its bucket, or at a record
+abbrev pub IsChainDamage : ℕ → BlockFiles → Told → Damage → Type 0
+IsChainDamage bucket files told damage = IsShort told names.Index (place_of_bucket bucket) 4 damage ⊎ IsWrongRecord files told damage

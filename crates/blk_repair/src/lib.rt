@@ -1,0 +1,10 @@
+//! Repair of a folder, part by part.
+//!
+//! The call that repairs a whole folder is not there yet, but parts of it are: `chains` makes a bucket the chain of
+//! its kept records. Nothing calls them so far.
+#![tactic(auto)]
+
+mod chains;
+mod links;
+
+pub use chains::mend_chain;

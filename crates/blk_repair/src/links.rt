@@ -1,0 +1,75 @@
+// The words by which chains are linked: those of the table, and the nexts of records. One is written only where it differs.
+ghost use Rattle.std.specs.Prelude.{◌≡◌, ◌+◌, ◌≤◌, ◌⊎◌, None, OnOk, true};
+ghost use Rattle.std.specs.Option.{ForSome};
+ghost use Rattle.blk_image.specs.Told.{Applies, AppliesPrefix, Rises};
+ghost use Rattle.blk_format.specs.Headers.{HasWholeIndex, place_of_bucket};
+ghost use Rattle.blk_format.specs.Sealed.{RecordChecks};
+ghost use Rattle.blk_volume.specs.View.{store_of};
+ghost use Rattle.blk_volume.specs.ListView.{first_or};
+ghost use Rattle.blk_io.specs.declared.folder.FileId.TheVariants as FileId;
+ghost use Rattle.blk_io.specs.Faults.{IfDamaged, IfDevice, IsShort};
+ghost use Rattle.blk_disk.specs.Tables.{is_record_among};
+ghost use Rattle.blk_disk.specs.Open.{IsOpen};
+ghost use Rattle.blk_repair_laws.specs.ChainRepair.{bucket_steps, next_steps};
+ghost use Rattle.blk_repair.specs.Damages.{IsWrongRecord};
+
+use blk_addr::Addr;
+use blk_disk::BlockFiles;
+use blk_entry::field;
+use blk_index::{bucket, set_bucket};
+use blk_io::{Fault, Folder};
+use blk_record::EntryView;
+
+// The word of the first of some records, or 0.
+pub(crate) fn first_word(records: &[Addr]) -> u32
+    ensures { result ≡ first_or 0 records.now }
+{
+    match records.first() {
+        Some(record) => record.word(),
+        None => 0,
+    }
+}
+
+// The word of a bucket becomes this one, unless it is.
+pub(crate) fn set_front<F: Folder>(f: &mut F, number: u16, word: u32) -> Result<(), Fault>
+    requires complete { ForSome (F.told f.old).files HasWholeIndex }
+    ensures steps { OnOk result (ForSome (F.told f.old).files (λ from. Applies (F.told f.old) (F.told f.new) (bucket_steps number word from))) }
+    ensures prefix { ForSome (F.told f.old).files (λ from. AppliesPrefix (F.told f.old) (F.told f.new) (bucket_steps number word from)) }
+    ensures damaged { IfDamaged result (IsShort (F.told f.new) FileId.Index (place_of_bucket number) 4) }
+    ensures untold { IfDamaged result (λ _. (F.told f.old).files ≡ None) }
+    ensures silent { (F.told f.old).files ≡ None → (F.told f.new).files ≡ None }
+    ensures later { F.faults f.old ≤ F.faults f.new }
+    ensures device { IfDevice result (Rises (F.faults f.old) (F.faults f.new)) }
+{
+    let now = bucket(f, number)?;
+    if now == word {
+        return Ok(());
+    }
+    set_bucket(f, number, word)?;
+    Ok(())
+}
+
+// The next of a record becomes this word by a sealed update, unless it is.
+pub(crate) fn set_next<F: Folder>(
+    f: &mut F,
+    files: &BlockFiles,
+    entry: Addr,
+    word: u32,
+) -> Result<(), Fault>
+    requires stands { is_record_among files.now entry ≡ true }
+    requires is_open { ForSome (F.told f.old).files (IsOpen files.now) }
+    ensures checked { OnOk result (ForSome (F.told f.old).files (λ image. ((store_of image).chain_next entry ≡ word) ⊎ RecordChecks entry image)) }
+    ensures steps { OnOk result (ForSome (F.told f.old).files (λ from. Applies (F.told f.old) (F.told f.new) (next_steps entry word from))) }
+    ensures prefix { ForSome (F.told f.old).files (λ from. AppliesPrefix (F.told f.old) (F.told f.new) (next_steps entry word from)) }
+    ensures damaged { IfDamaged result (IsWrongRecord files.now (F.told f.new)) }
+    ensures untold { ForSome (F.told f.old).files (RecordChecks entry) → IfDamaged result (λ _. (F.told f.old).files ≡ None) }
+    ensures silent { (F.told f.old).files ≡ None → (F.told f.new).files ≡ None }
+    ensures later { F.faults f.old ≤ F.faults f.new }
+    ensures device { IfDevice result (Rises (F.faults f.old) (F.faults f.new)) }
+{
+    let now = field(f, files, entry, EntryView::NEXT)?;
+    if now == word {
+        return Ok(());
+    }
+    files.update_sealed(f, entry, &[(EntryView::NEXT, word)])
+}
