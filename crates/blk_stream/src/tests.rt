@@ -105,29 +105,18 @@ fn get(f: &mut Mem, stream: u8, offset: u64, out: &mut [u8]) -> Result<(usize, u
     Ok((n, f.calls().wrapping_sub(before)))
 }
 
-// Writes to a stream.
-fn change<F: Folder>(
-    f: &mut F,
-    stream: u8,
-    offset: usize,
-    cut: bool,
-    bytes: &[u8],
-) -> Result<(), Fault> {
+// Writes to a stream, and gives the number of the folder calls.
+fn put(f: &mut Mem, stream: u8, offset: usize, cut: bool, bytes: &[u8]) -> Result<u64, Fault> {
     let mut files = BlockFiles::load(f)?;
+    let before = f.calls();
     let Some(entry) = entry_of(&files) else {
         return Err(Fault::Device);
     };
     if stream > 2 || offset > 1_000_000 || bytes.len() > 1_000_000 {
         return Err(Fault::Device);
     }
-    write(f, &mut files, entry, stream, offset as u64, cut, bytes)
-}
-
-// The same, with the number of its folder calls, of which eight load the files.
-fn put(f: &mut Mem, stream: u8, offset: usize, cut: bool, bytes: &[u8]) -> Result<u64, Fault> {
-    let before = f.calls();
-    change(f, stream, offset, cut, bytes)?;
-    Ok(f.calls().wrapping_sub(before).wrapping_sub(8))
+    write(f, &mut files, entry, stream, offset as u64, cut, bytes)?;
+    Ok(f.calls().wrapping_sub(before))
 }
 
 // Drops the streams, and gives the number of the folder calls.
